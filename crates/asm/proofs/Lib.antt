@@ -1,0 +1,9 @@
+pub mod Tables
+pub mod Grow
+pub mod Ends
+pub mod Widening
+pub mod Emitting
+pub mod Standing
+pub mod WordLemmas
+pub mod Listings
+pub mod WriterLemmas

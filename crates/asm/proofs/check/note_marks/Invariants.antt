@@ -1,0 +1,5 @@
+use Rattle.asm.specs.Choice.{Notes}
+use Rattle.asm.proofs.check.note_marks.Given as goal
+
+abbrev pub invariant-loop-i : goal.invariant-loop-i
+invariant-loop-i l = Notes l.homes l.items l.i

@@ -1,0 +1,11 @@
+pub mod Layout
+pub mod Choice
+pub mod Placed
+pub mod Code
+pub mod Listing
+pub mod Refusals
+pub mod Draft
+pub mod Sole
+pub use Rattle.rv32.specs.Space
+pub use Rattle.rv32.specs.Words
+pub use Rattle.srcset.specs.Fault

@@ -1,0 +1,79 @@
+//! Machine code of items.
+
+ghost use Rattle.std.specs.Prelude.{◌≡◌, ◌<◌, ◌+◌, ◌*◌, ◌-◌, ◌/◌, ◌%◌, ◌^◌, length, map, OnOk, IfOk, IfErr, [], ◌++◌};
+ghost use Rattle.rv32.specs.Words.{word_of};
+ghost use Rattle.srcset.specs.Fault.{IsMemoryFault};
+ghost use Rattle.asm.specs.Layout.{IsLow, IsSized, SomeMisses, AllReach};
+ghost use Rattle.asm.specs.Choice.{IsTable};
+ghost use Rattle.asm.specs.Placed.{Assembles, IsFewest};
+ghost use Rattle.asm.specs.Code.{AllDecode, bytes_of, word_bytes};
+ghost use Rattle.asm.specs.Refusals.{IfFar, IsRefused};
+
+use crate::emit::resolve;
+use crate::item::Item;
+use crate::items::Items;
+use crate::refusal::Refusal;
+use rv32::{Instr, encode};
+use srcset::Fault;
+use std::alloc::{AllocError, Global};
+
+fn put_word(bytes: &mut Vec<u8>, word: u32) -> Result<(), AllocError>
+    ensures { OnOk result (bytes.new.items ≡ bytes.old.items ++ word_bytes word) }
+{
+    bytes.extend_from_slice(&[
+        (word % 0x100) as u8,
+        (word / 0x100 % 0x100) as u8,
+        (word / 0x1_0000 % 0x100) as u8,
+        (word / 0x100_0000) as u8,
+    ])
+}
+
+/// The words of the instructions, the lowest byte first.
+fn write_words(alloc: Global, instrs: &[Instr]) -> Result<Vec<u8>, AllocError>
+    ensures bytes { IfOk result (λ v. v.items ≡ bytes_of (map word_of instrs.now)) }
+    ensures decode { IfOk result (λ v. AllDecode instrs.now (length instrs.now)) }
+{
+    let mut bytes = Vec::with_capacity(alloc, instrs.len().saturating_mul(4))?;
+    for instr in instrs {
+        put_word(&mut bytes, encode(*instr))?;
+    }
+    Ok(bytes)
+}
+
+fn assemble_parts(
+    alloc: Global,
+    items: &[Item],
+    homes: &[usize],
+    base: u32,
+) -> Result<Vec<u8>, Refusal>
+    requires table { IsTable homes.now items.now }
+    requires aligned { base % 4 ≡ 0 }
+    requires low { IsLow base items.now }
+    ensures ok { IfOk result (λ bytes. IsFewest items.now base bytes.items) }
+    ensures err { IfErr result (IfFar (SomeMisses base items.now)) }
+{
+    let instrs = resolve(alloc, items, homes, base)?;
+    let bytes = write_words(alloc, &instrs)?;
+    Ok(bytes)
+}
+
+/// The machine code of the items at the address `base`, each word with its lowest byte first, and
+/// as many branches short as can be (RISC-V unprivileged ISA manual, "RV32I Base Integer Instruction
+/// Set": a branch reaches -4096 to 4094 bytes, a jump -1048576 to 1048574).
+///
+/// Refuses with 716 only where a jump does not reach though all branches are long, and with 801
+/// where there is no memory.
+pub fn assemble(alloc: Global, items: &Items, base: u32) -> Result<Vec<u8>, Fault>
+    requires aligned { base % 4 ≡ 0 }
+    requires low { IsLow base items.now }
+    ensures placed { IfOk result (λ bytes. Assembles items.now base bytes.items) }
+    ensures fewest { IfOk result (λ bytes. IsFewest items.now base bytes.items) }
+    ensures size { IfOk result (λ bytes. IsSized base items.now (length bytes.items)) }
+    ensures refused { IfErr result (IsRefused base items.now) }
+    ensures reaches { AllReach base items.now → IfErr result IsMemoryFault }
+{
+    match assemble_parts(alloc, items.as_slice(), items.homes(), base) {
+        Ok(bytes) => Ok(bytes),
+        Err(refusal) => Err(refusal.to_fault(alloc)),
+    }
+}

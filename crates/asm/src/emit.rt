@@ -1,0 +1,234 @@
+//! From items to instructions.
+
+ghost use Rattle.std.specs.Prelude.{◌≡◌, ◌≤◌, ◌<◌, ◌+◌, ◌*◌, ◌-◌, ◌/◌, ◌%◌, ◌^◌, ℕ, true, false, length, OnOk, IfOk, IfErr, ◌↔◌, [], ◌∷◌, ◌++◌};
+ghost use Rattle.asm.specs.Layout.{IsLow, Refers, Reach, Near, SomeMisses};
+ghost use Rattle.asm.specs.Choice.{IsTable, IsChosen};
+ghost use Rattle.asm.specs.Placed as placed;
+ghost use Rattle.asm.specs.Code.{item_code, address, NearIfShort, Misses, IsGood, load_code, branch_code, jump_code, call_code, whole_code, IsResolved};
+ghost use Rattle.asm.specs.Refusals.{IfFar};
+
+use crate::item::{Item, Label};
+use crate::layout::choose;
+use crate::offset::{branch_offset, jump_offset, split};
+use crate::refusal::Refusal;
+use rv32::{BranchOffset, Five, ImmediateOp, Instr, Test};
+use std::alloc::Global;
+
+/// The test that is true exactly where `test` is not.
+fn opposite(test: Test) -> Test
+    ensures { result ≡ placed.opposite test }
+{
+    match test {
+        Test::Equal => Test::NotEqual,
+        Test::NotEqual => Test::Equal,
+        Test::Less => Test::GreaterEqual,
+        Test::GreaterEqual => Test::Less,
+        Test::LessUnsigned => Test::GreaterEqualUnsigned,
+        Test::GreaterEqualUnsigned => Test::LessUnsigned,
+    }
+}
+
+fn put(code: &mut Vec<Instr>, instr: Instr) -> Result<(), Refusal>
+    ensures ok { OnOk result (code.new.items ≡ code.old.items ++ instr ∷ []) }
+    ensures err { IfErr result (λ e. e ≡ Refusal.Memory) }
+{
+    code.push(instr)?;
+    Ok(())
+}
+
+fn does_reach(from: u32, to: u32) -> bool
+    requires small { (from < 0x70000010) × (to < 0x70000000) }
+    ensures { result ≡ true ↔ Reach from to }
+{
+    from <= to + 0x10_0000 && to <= from + 0xf_fffe
+}
+
+/// The jump from `from` to `to`.
+fn put_jump(code: &mut Vec<Instr>, from: u32, to: u32) -> Result<(), Refusal>
+    requires small { (from < 0x70000010) × (to < 0x70000000) }
+    requires even { (from % 4 ≡ 0) × (to % 4 ≡ 0) }
+    ensures ok { OnOk result (code.new.items ≡ code.old.items ++ jump_code from to) }
+    ensures err { IfErr result (IfFar (Reach from to → ⊥)) }
+{
+    if !does_reach(from, to) {
+        return Err(Refusal::Far);
+    }
+    put(
+        code,
+        Instr::Jal {
+            rd: Five::new(0),
+            offset: jump_offset(from, to),
+        },
+    )
+}
+
+/// LUI and ADDI that put `value` in `rd`.
+fn put_load(code: &mut Vec<Instr>, rd: Five, value: u32) -> Result<(), Refusal>
+    ensures ok { OnOk result (code.new.items ≡ code.old.items ++ load_code rd value) }
+    ensures err { IfErr result (λ e. e ≡ Refusal.Memory) }
+{
+    let (upper, low) = split(value);
+    put(code, Instr::Lui { rd, upper })?;
+    put(
+        code,
+        Instr::Immediate {
+            op: ImmediateOp::Add,
+            rd,
+            left: rd,
+            right: low,
+        },
+    )
+}
+
+/// AUIPC and JALR from `from` to `to`.
+fn put_call(code: &mut Vec<Instr>, from: u32, to: u32) -> Result<(), Refusal>
+    ensures ok { OnOk result (code.new.items ≡ code.old.items ++ call_code from to) }
+    ensures err { IfErr result (λ e. e ≡ Refusal.Memory) }
+{
+    let (upper, low) = split(to.wrapping_sub(from));
+    let link = Five::new(1);
+    put(code, Instr::Auipc { rd: link, upper })?;
+    put(
+        code,
+        Instr::Jalr {
+            rd: link,
+            base: link,
+            offset: low,
+        },
+    )
+}
+
+/// A branch from `from` to `to`, or its opposite over a jump.
+fn put_branch(
+    code: &mut Vec<Instr>,
+    long: bool,
+    test: Test,
+    left: Five,
+    right: Five,
+    from: u32,
+    to: u32,
+) -> Result<(), Refusal>
+    requires small { (from < 0x70000000) × (to < 0x70000000) }
+    requires even { (from % 4 ≡ 0) × (to % 4 ≡ 0) }
+    requires near { long ≡ false → Near from to }
+    ensures ok { OnOk result (code.new.items ≡ code.old.items ++ branch_code long test left right from to) }
+    ensures err { IfErr result (IfFar ((long ≡ true) × (Reach (from + 4) to → ⊥))) }
+{
+    if long {
+        put(
+            code,
+            Instr::Branch {
+                test: opposite(test),
+                left,
+                right,
+                offset: BranchOffset::new(8),
+            },
+        )?;
+        put_jump(code, from + 4, to)
+    } else {
+        put(
+            code,
+            Instr::Branch {
+                test,
+                left,
+                right,
+                offset: branch_offset(from, to),
+            },
+        )
+    }
+}
+
+/// The address where the label is marked.
+fn address_of(homes: &[usize], places: &[u32], label: Label) -> u32
+    requires good { IsGood homes.now places.now }
+    requires known { label < length homes.now }
+    ensures value { result ≡ address homes.now places.now label }
+    ensures low { result < 0x70000000 }
+    ensures even { result % 4 ≡ 0 }
+{
+    places[homes[label.number()]]
+}
+
+/// The instructions of one item.
+fn put_item(
+    code: &mut Vec<Instr>,
+    item: Item,
+    long: bool,
+    at: u32,
+    homes: &[usize],
+    places: &[u32],
+    data_start: u32,
+) -> Result<(), Refusal>
+    requires good { IsGood homes.now places.now }
+    requires refers { Refers (length homes.now) item }
+    requires small { (at < 0x70000000) × (at % 4 ≡ 0) × (data_start < 0x70001000) }
+    requires near { NearIfShort long at (address homes.now places.now) item }
+    ensures ok { OnOk result (code.new.items ≡ code.old.items ++ item_code (address homes.now places.now) data_start long at item) }
+    ensures err { IfErr result (IfFar (Misses long at (address homes.now places.now) item)) }
+{
+    match item {
+        Item::Mark(_) => Ok(()),
+        Item::Plain(instr) => put(code, instr),
+        Item::Branch {
+            test,
+            left,
+            right,
+            to,
+        } => put_branch(
+            code,
+            long,
+            test,
+            left,
+            right,
+            at,
+            address_of(homes, places, to),
+        ),
+        Item::Jump { to } => put_jump(code, at, address_of(homes, places, to)),
+        Item::Call { to } => put_call(code, at, address_of(homes, places, to)),
+        Item::Constant { rd, value } => put_load(code, rd, value),
+        Item::LabelAddress { rd, of } => put_load(code, rd, address_of(homes, places, of)),
+        Item::DataAddress { rd, offset } => put_load(code, rd, data_start + offset),
+    }
+}
+
+/// The instructions of all items, with the fewest long branches.
+pub fn resolve(
+    alloc: Global,
+    items: &[Item],
+    homes: &[usize],
+    base: u32,
+) -> Result<Vec<Instr>, Refusal>
+    requires table { IsTable homes.now items.now }
+    requires aligned { base % 4 ≡ 0 }
+    requires low { IsLow base items.now }
+    ensures err { IfErr result (IfFar (SomeMisses base items.now)) }
+    ensures ok { IfOk result (λ v. IsResolved homes.now base items.now v.items) }
+{
+    let layout = choose(alloc, items, homes, base)?;
+    emit(alloc, items, homes, base, &layout.long, &layout.places)
+}
+
+fn emit(
+    alloc: Global,
+    items: &[Item],
+    homes: &[usize],
+    base: u32,
+    long: &[bool],
+    places: &[u32],
+) -> Result<Vec<Instr>, Refusal>
+    requires table { IsTable homes.now items.now }
+    requires aligned { base % 4 ≡ 0 }
+    requires low { IsLow base items.now }
+    requires chosen { IsChosen base items.now long.now places.now }
+    ensures err { IfErr result (IfFar (SomeMisses base items.now)) }
+    ensures ok { IfOk result (λ v. v.items ≡ whole_code homes.now long.now places.now base items.now) }
+{
+    let data_start = (places[items.len()] + 0xfff) / 0x1000 * 0x1000;
+    let mut code = Vec::with_capacity(alloc, items.len())?;
+    for (i, item) in items.iter().enumerate() {
+        put_item(
+            &mut code, *item, long[i], places[i], homes, places, data_start,
+        )?;
+    }
+    Ok(code)
+}

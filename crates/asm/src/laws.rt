@@ -1,0 +1,14 @@
+//! Laws of placed code, for proofs about code that is made of parts.
+
+ghost use Rattle.asm.specs.Layout.{EndsAfterLongest};
+ghost use Rattle.asm.specs.Placed.{StandsInParts};
+
+/// A list of items stands in parts exactly where it stands.
+pub fn stands_in_parts()
+    ensures { StandsInParts }
+{}
+
+/// With all branches long the items end after the sum of their greatest sizes.
+pub fn ends_after_longest()
+    ensures { EndsAfterLongest }
+{}

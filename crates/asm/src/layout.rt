@@ -1,0 +1,220 @@
+//! Where the items stand, and which branches are long.
+
+ghost use Rattle.std.specs.Prelude.{◌≡◌, ◌≤◌, ◌<◌, ◌+◌, ◌*◌, ◌-◌, ◌/◌, ◌%◌, ◌^◌, ℕ, true, false, Bool, length, not, slice_index, slice_index_or, sum_by, slice_set, vec_len, IfOk};
+ghost use Rattle.std.specs.Bool.{OnTrue, OnFalse};
+ghost use Rattle.asm.specs.Layout as spec;
+ghost use Rattle.asm.specs.Layout.{place, Fits, Near, IsBelowAll, IsLow};
+ghost use Rattle.asm.specs.Choice.{longs, shorts, IsTable, IsMeasured, Widens, IsChosen, Counted};
+
+use crate::item::Item;
+use std::alloc::{AllocError, Global};
+
+/// The bytes of an item, which may be a long branch.
+pub fn size(long: bool, item: Item) -> u32
+    ensures value { result ≡ spec.size long item }
+    ensures small { result ≤ spec.size true item }
+{
+    match item {
+        Item::Mark(_) => 0,
+        Item::Plain(_) | Item::Jump { .. } => 4,
+        Item::Branch { .. } => if long { 8 } else { 4 },
+        Item::Call { .. }
+        | Item::Constant { .. }
+        | Item::LabelAddress { .. }
+        | Item::DataAddress { .. } => 8,
+    }
+}
+
+/// Puts at each number the address of that item, and at last the end.
+pub fn measure(items: &[Item], long: &[bool], base: u32, places: &mut [u32])
+    requires room { length places.old ≡ length items.now + 1 }
+    requires longs { length long.now ≡ length items.now }
+    requires low { IsLow base items.now }
+    ensures { IsMeasured places.new (longs long.now) base items.now }
+{
+    let mut at = base;
+    for (i, item) in items.iter().enumerate() {
+        places[i] = at;
+        at += size(long[i], *item);
+    }
+    places[items.len()] = at;
+}
+
+/// Whether a branch at `from` reaches `to`.
+fn is_near(from: u32, to: u32) -> bool
+    ensures near { OnTrue result (Near from to) }
+    ensures far { OnFalse result (Near from to → ⊥) }
+{
+    u64::from(from) <= u64::from(to) + 4096 && u64::from(to) <= u64::from(from) + 4094
+}
+
+/// Makes long each short branch that is too far from its label; says whether there was one.
+fn widen(items: &[Item], homes: &[usize], base: u32, places: &[u32], long: &mut [bool]) -> bool
+    requires table { IsTable homes.now items.now }
+    requires room { length places.now ≡ length items.now + 1 }
+    requires longs { length long.old ≡ length items.now }
+    requires low { IsLow base items.now }
+    requires measured { IsMeasured places.now (longs long.old) base items.now }
+    ensures widens { Widens base items.now (longs long.old) (longs long.new) }
+    ensures fewer { OnTrue result (shorts long.new < shorts long.old) }
+    ensures same { OnFalse result (long.new ≡ long.old) }
+    ensures settled { OnFalse result (Fits (longs long.old) base items.now) }
+{
+    let mut changed = false;
+    for i in 0..items.len() {
+        if let Item::Branch { to, .. } = items[i] {
+            let home = homes[to.number()];
+            if !long[i] && !is_near(places[i], places[home]) {
+                long[i] = true;
+                changed = true;
+            }
+        }
+    }
+    changed
+}
+
+/// Puts at each number from `low` up to `high` the address of that item, counted from `low`.
+fn count(items: &[Item], long: &[bool], base: u32, low: usize, high: usize, places: &mut [u32])
+    requires part { (low ≤ high) × (high ≤ length items.now) }
+    requires room { length places.old ≡ length items.now + 1 }
+    requires longs { length long.now ≡ length items.now }
+    requires low { IsLow base items.now }
+    ensures { Counted places.new (longs long.now) base items.now low high }
+{
+    let mut at = 0;
+    for i in low..high {
+        places[i] = at;
+        at += size(long[i], items[i]);
+    }
+}
+
+/// As `widen`, for the branches between `low` and `high` whose labels lie there too.
+fn widen_part(
+    items: &[Item],
+    homes: &[usize],
+    base: u32,
+    low: usize,
+    high: usize,
+    places: &mut [u32],
+    long: &mut [bool],
+) -> bool
+    requires part { (low ≤ high) × (high ≤ length items.now) }
+    requires table { IsTable homes.now items.now }
+    requires room { length places.old ≡ length items.now + 1 }
+    requires longs { length long.old ≡ length items.now }
+    requires low { IsLow base items.now }
+    ensures { Widens base items.now (longs long.old) (longs long.new) }
+{
+    count(items, long, base, low, high, places);
+    let mut changed = false;
+    for i in low..high {
+        if let Item::Branch { to, .. } = items[i] {
+            let home = homes[to.number()];
+            if !long[i] && low <= home && home < high && !is_near(places[i], places[home]) {
+                long[i] = true;
+                changed = true;
+            }
+        }
+    }
+    changed
+}
+
+/// The bytes of a part: as far as a branch reaches.
+const PART: u32 = 4096;
+
+/// The number of the first item that stands `bytes` or more after the item `low`, or the end.
+fn item_after(items: &[Item], long: &[bool], low: usize, bytes: u32) -> usize
+    requires longs { length long.now ≡ length items.now }
+    requires inside { low ≤ length items.now }
+    ensures { (low ≤ result) × (result ≤ length items.now) }
+{
+    let mut at: u32 = 0;
+    for i in low..items.len() {
+        if at >= bytes {
+            return i;
+        }
+        at = at.saturating_add(size(long[i], items[i]));
+    }
+    items.len()
+}
+
+/// The number of the last item that stands `bytes` or more before the item `high`, or the begin.
+fn item_before(items: &[Item], long: &[bool], high: usize, bytes: u32) -> usize
+    requires longs { length long.now ≡ length items.now }
+    requires inside { high ≤ length items.now }
+    ensures { result ≤ high }
+{
+    let mut at: u32 = 0;
+    for back in 0..high {
+        let i = high - 1 - back;
+        at = at.saturating_add(size(long[i], items[i]));
+        if at >= bytes {
+            return i;
+        }
+    }
+    0
+}
+
+/// Walks over the parts, three at a time, and back where a branch became long, so that a chain of
+/// branches that push one another costs little.
+fn widen_parts(items: &[Item], homes: &[usize], base: u32, places: &mut [u32], long: &mut [bool])
+    requires table { IsTable homes.now items.now }
+    requires room { length places.old ≡ length items.now + 1 }
+    requires longs { length long.old ≡ length items.now }
+    requires low { IsLow base items.now }
+    ensures { Widens base items.now (longs long.old) (longs long.new) }
+{
+    let mut low = 0;
+    for _turn in 0..items.len().saturating_mul(8) {
+        if low >= items.len() {
+            return;
+        }
+        let middle = item_after(items, long, low, PART);
+        let high = item_after(items, long, middle, 2 * PART);
+        low = if widen_part(items, homes, base, low, high, places, long) {
+            item_before(items, long, low, PART)
+        } else {
+            middle
+        };
+    }
+}
+
+/// The branches that are long, and the addresses of the items and of the end.
+#[derive(Drop)]
+pub struct Layout {
+    pub long: Vec<bool>,
+    pub places: Vec<u32>,
+}
+
+/// Makes long what must be long, and measures.
+fn relax(items: &[Item], homes: &[usize], base: u32, places: &mut [u32], long: &mut [bool])
+    requires table { IsTable homes.now items.now }
+    requires room { length places.old ≡ length items.now + 1 }
+    requires longs { length long.old ≡ length items.now }
+    requires least { IsBelowAll (longs long.old) base items.now }
+    requires low { IsLow base items.now }
+    ensures { IsChosen base items.now long.new places.new }
+{
+    widen_parts(items, homes, base, places, long);
+    measure(items, long, base, places);
+    while widen(items, homes, base, places, long) {
+        measure(items, long, base, places);
+    }
+}
+
+/// The fewest long branches with which all short ones reach.
+pub fn choose(
+    alloc: Global,
+    items: &[Item],
+    homes: &[usize],
+    base: u32,
+) -> Result<Layout, AllocError>
+    requires table { IsTable homes.now items.now }
+    requires low { IsLow base items.now }
+    ensures { IfOk result (λ y. IsChosen base items.now y.long.items y.places.items) }
+{
+    let mut long = vec![in alloc; false; items.len()]?;
+    let mut places = vec![in alloc; 0u32; items.len() + 1]?;
+    relax(items, homes, base, &mut places, &mut long);
+    Ok(Layout { long, places })
+}

@@ -1,0 +1,11 @@
+pub mod Tree
+pub mod Spelling
+pub mod Reading
+pub mod Meaning
+pub mod Range
+pub mod Selected
+pub mod Weight
+pub mod Machine
+pub mod Compiled
+pub mod Transfer
+pub mod Performed

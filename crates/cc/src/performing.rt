@@ -1,0 +1,137 @@
+//! One command over a port and two writers.
+
+ghost use Rattle.std.specs.Prelude.{◌≡◌, ◌≢◌, ◌⊎◌, List, ℕ, IfOk, IfErr, OnOk, Some, Ok};
+ghost use Rattle.srcset.specs.Files.{file_of};
+ghost use Rattle.cc.specs.Performed.{Performs, RunsFile, BuildsInto, exit_status};
+
+use crate::compiling::compile;
+use crate::reporting::{say_budget, say_fault, say_port, say_trap};
+use crate::transfer::put_all;
+use loader::{LoadFault, load};
+use sim::{Machine, Outcome, Port, PortFault};
+use srcset::{Fault, FileSet};
+use std::alloc::Global;
+use std::io::Write;
+
+/// What is asked of the program.
+#[derive(Clone, Copy, Debug, PartialEq, Eq)]
+pub enum Cmd<'c> {
+    /// Compile the main file; the executable file goes to the port, which writes the file of this name.
+    Build(&'c str),
+    /// Run the executable file over the port, for at most so many instructions.
+    Run(u64),
+}
+
+/// Carries a command out, and answers the exit status.
+///
+/// `Build` compiles the file `main` of the set, and puts the executable file on the port: 0, or 1 with the
+/// line of the fault on `err`. `Run` runs the executable file of the name `main` and the bytes `file` over
+/// the port: the program's status, or, each with one line on `err`, 1 where the file is refused, 124 where
+/// it did not end within the instructions allowed, 125 where it trapped, and 126 where the port refused.
+/// What `err` refuses is left out. `out` is for the text that a command prints; these print none.
+pub fn perform<P: Port, W: Write, E: Write>(
+    alloc: Global,
+    command: Cmd<'_>,
+    set: &FileSet,
+    main: &str,
+    file: &[u8],
+    port: &mut P,
+    _out: &mut W,
+    err: &mut E,
+) -> u8
+    ensures { Performs command.entry (file_of set.now main.now) file.now (P.seen port.old) (P.seen port.new) result }
+{
+    match command {
+        Cmd::Build(name) => build(alloc, set, main, name, port, err),
+        Cmd::Run(max) => run(alloc, main, file, port, max, err),
+    }
+}
+
+fn build<P: Port, E: Write>(
+    alloc: Global,
+    set: &FileSet,
+    main: &str,
+    name: &str,
+    port: &mut P,
+    err: &mut E,
+) -> u8
+    ensures { result ≡ 0 → BuildsInto (file_of set.now main.now) (P.seen port.old) (P.seen port.new) }
+{
+    match build_into(alloc, set, main, name, port) {
+        Ok(()) => 0,
+        Err(fault) => {
+            say_fault(alloc, &fault, err);
+            1
+        }
+    }
+}
+
+/// Puts the executable file on the port.
+fn build_into<P: Port>(
+    alloc: Global,
+    set: &FileSet,
+    main: &str,
+    name: &str,
+    port: &mut P,
+) -> Result<(), Fault>
+    ensures { OnOk result (BuildsInto (file_of set.now main.now) (P.seen port.old) (P.seen port.new)) }
+{
+    let built = compile(alloc, set, main)?;
+    match put_all(port, built.elf.as_slice()) {
+        Ok(()) => Ok(()),
+        Err(PortFault::Memory) => Err(Fault::memory(alloc)),
+        Err(_) => Err(Fault::at(alloc, 803, name, 0)),
+    }
+}
+
+fn run<P: Port, E: Write>(
+    alloc: Global,
+    name: &str,
+    file: &[u8],
+    port: &mut P,
+    max: u64,
+    err: &mut E,
+) -> u8
+    ensures { RunsFile file.now max (P.seen port.old) (P.seen port.new) result }
+{
+    match load(alloc, file) {
+        Ok(program) => {
+            let mut machine = Machine::new(program);
+            let outcome = machine.run(port, max);
+            status(alloc, outcome, err)
+        }
+        Err(fault) => {
+            say_fault(alloc, &load_fault(alloc, name, fault), err);
+            1
+        }
+    }
+}
+
+/// The fault of a file that is no executable file for the machine.
+fn load_fault(alloc: Global, name: &str, fault: LoadFault) -> Fault {
+    match fault {
+        LoadFault::Memory => Fault::memory(alloc),
+        _ => Fault::at(alloc, fault.code(), name, 0),
+    }
+}
+
+/// The exit status of a run, and its line where the program did not end by itself.
+fn status<E: Write>(alloc: Global, outcome: Outcome, err: &mut E) -> u8
+    ensures { result ≡ exit_status outcome }
+{
+    match outcome {
+        Outcome::Ended(status) => status,
+        Outcome::Budget => {
+            say_budget(err);
+            124
+        }
+        Outcome::Trapped(pc, cause) => {
+            say_trap(alloc, pc, cause, err);
+            125
+        }
+        Outcome::Port(fault) => {
+            say_port(alloc, fault, err);
+            126
+        }
+    }
+}

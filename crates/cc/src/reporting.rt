@@ -1,0 +1,75 @@
+//! What the program says on standard error.
+
+ghost use Rattle.std.specs.Prelude.{◌≡◌};
+
+use crate::transfer::write_text;
+use rv32::Cause;
+use sim::PortFault;
+use srcset::Fault;
+use std::alloc::{AllocError, Global};
+use std::io::Write;
+
+/// The line for want of memory, which takes none.
+const OUT_OF_MEMORY: &[u8] = b"cc: 801 out of memory\n";
+
+/// Writes a text, or in its place, where it found no memory, the line that says so. What the writer refuses
+/// is left out.
+fn say<E: Write>(err: &mut E, text: Result<Vec<u8>, AllocError>) {
+    match text {
+        Ok(text) => {
+            let _whole = write_text(err, text.as_slice());
+        }
+        Err(_) => {
+            let _whole = write_text(err, OUT_OF_MEMORY);
+        }
+    }
+}
+
+/// The line of a fault.
+pub fn say_fault<E: Write>(alloc: Global, fault: &Fault, err: &mut E) {
+    say(err, fault_text(alloc, fault));
+}
+
+fn fault_text(alloc: Global, fault: &Fault) -> Result<Vec<u8>, AllocError> {
+    let mut line = fault.to_line(alloc)?;
+    line.push(b'\n')?;
+    Ok(line)
+}
+
+/// That the instructions allowed were not enough.
+pub fn say_budget<E: Write>(err: &mut E) {
+    let _whole = write_text(err, b"cc: budget used\n");
+}
+
+/// Why and where the program trapped.
+pub fn say_trap<E: Write>(alloc: Global, pc: u32, cause: Cause, err: &mut E) {
+    say(err, trap_text(alloc, pc, cause));
+}
+
+fn trap_text(alloc: Global, pc: u32, cause: Cause) -> Result<Vec<u8>, AllocError> {
+    let line = format!(in alloc; "cc: trap {} at 0x{pc:08X}\n", cause_name(cause))?;
+    Ok(line.into_bytes())
+}
+
+/// That the port refused.
+pub fn say_port<E: Write>(alloc: Global, fault: PortFault, err: &mut E) {
+    say(err, port_text(alloc, fault));
+}
+
+fn port_text(alloc: Global, fault: PortFault) -> Result<Vec<u8>, AllocError> {
+    let line = format!(in alloc; "cc: port fault {}\n", fault.code())?;
+    Ok(line.into_bytes())
+}
+
+fn cause_name(cause: Cause) -> &'static str {
+    match cause {
+        Cause::Illegal => "Illegal",
+        Cause::FetchFault => "FetchFault",
+        Cause::Target => "Target",
+        Cause::Misaligned => "Misaligned",
+        Cause::LoadFault => "LoadFault",
+        Cause::StoreFault => "StoreFault",
+        Cause::Break => "Break",
+        Cause::BadCall => "BadCall",
+    }
+}

@@ -1,0 +1,172 @@
+//! The program `cc`.
+#![tactic(auto)]
+
+mod late_file;
+mod words;
+
+use anyhow::Result;
+use cc::{Cmd, perform};
+use clap::ArgMatches;
+use late_file::LateFile;
+use sim::{IoPort, PortFault};
+use srcset::{Fault, FileSet, MAX_FILE_BYTES};
+use std::alloc::Global;
+use std::env::Args;
+use std::io::{BufReader, BufWriter, ErrorKind};
+use std::process::ExitCode;
+use std::rt::Files;
+use std::{env, fs, io};
+use words::{Request, further_files, read_request};
+
+fn main(rt: HostRuntime) -> ExitCode {
+    match env::args(&rt) {
+        Ok(words) => ExitCode::from(obey(&rt, words)),
+        Err(error) => ExitCode::from(unread_words(&rt, &error)),
+    }
+}
+
+/// The exit status where an argument is no text, or there is no memory for the arguments.
+fn unread_words(rt: &HostRuntime, error: &io::Error) -> u8 {
+    if error.kind() == ErrorKind::OutOfMemory {
+        return say(rt, &Fault::memory(rt.alloc()));
+    }
+    let _said = eprintln!(rt; "error: an argument is no text");
+    2
+}
+
+/// The exit status of the words. What was not foreseen is want of memory.
+fn obey(rt: &HostRuntime, words: Args<Global>) -> u8 {
+    match parse(rt, words) {
+        Ok(status) => status,
+        Err(_) => say(rt, &Fault::memory(rt.alloc())),
+    }
+}
+
+fn parse(rt: &HostRuntime, words: Args<Global>) -> Result<u8> {
+    let alloc = rt.alloc();
+    let mut words: Vec<String> = words.collect(alloc)?;
+    if let Some(name) = words.first_mut() {
+        *name = String::from_str(alloc, "cc")?;
+    }
+    let command = words::command(alloc)?;
+    match command.try_get_matches_from(words.as_slice()) {
+        Ok(matches) => answer(rt, &matches),
+        Err(error) => {
+            error.print(rt)?;
+            Ok(error.exit_code() as u8)
+        }
+    }
+}
+
+fn answer(rt: &HostRuntime, matches: &ArgMatches<'_>) -> Result<u8> {
+    let Some(request) = read_request(matches) else {
+        return Ok(2);
+    };
+    match request.command {
+        Cmd::Build(out) => build(rt, request, out, matches),
+        Cmd::Run(_) => run(rt, request),
+    }
+}
+
+/// Compiles the files, and writes the executable file. What was buffered is written before the status is answered.
+fn build(
+    rt: &HostRuntime,
+    request: Request<'_>,
+    out: &str,
+    matches: &ArgMatches<'_>,
+) -> Result<u8> {
+    let mut set = FileSet::new(rt.alloc());
+    if let Err(fault) = read_files(rt, request.main, matches, &mut set) {
+        return Ok(say(rt, &fault));
+    }
+    let writer = BufWriter::new(rt.alloc(), LateFile::new(rt, out))?;
+    let mut port = IoPort::new(io::empty(), writer);
+    let status = perform(
+        rt.alloc(),
+        request.command,
+        &set,
+        request.main,
+        b"",
+        &mut port,
+        &mut io::sink(),
+        &mut rt.stderr(),
+    );
+    if status == 0 && port.finish().is_err() {
+        return Ok(say(rt, &Fault::at(rt.alloc(), 803, out, 0)));
+    }
+    Ok(status)
+}
+
+/// Runs the executable file over standard input and output.
+fn run(rt: &HostRuntime, request: Request<'_>) -> Result<u8> {
+    let file = match fs::read(rt, request.main) {
+        Ok(file) => file,
+        Err(error) => return Ok(say(rt, &unread(rt.alloc(), request.main, &error))),
+    };
+    let input = BufReader::new(rt.alloc(), rt.stdin())?;
+    let output = BufWriter::new(rt.alloc(), rt.stdout())?;
+    let mut port = IoPort::new(input, output);
+    let status = perform(
+        rt.alloc(),
+        request.command,
+        &FileSet::new(rt.alloc()),
+        request.main,
+        file.as_slice(),
+        &mut port,
+        &mut io::sink(),
+        &mut rt.stderr(),
+    );
+    match port.finish() {
+        Ok(()) => Ok(status),
+        Err(_) if status == 126 => Ok(126),
+        Err(fault) => Ok(say_port(rt, fault)),
+    }
+}
+
+/// Says that the output was refused at last.
+fn say_port(rt: &HostRuntime, fault: PortFault) -> u8 {
+    let _said = eprintln!(rt; "cc: port fault {}", fault.code());
+    126
+}
+
+fn say(rt: &HostRuntime, fault: &Fault) -> u8 {
+    let _said = eprintln!(rt; "{fault}");
+    1
+}
+
+fn read_files<R: Files + AllocGlobal>(
+    rt: &R,
+    main: &str,
+    matches: &ArgMatches<'_>,
+    set: &mut FileSet,
+) -> Result<(), Fault> {
+    read_file(rt, main, set)?;
+    let Some(files) = further_files(matches) else {
+        return Ok(());
+    };
+    for name in files {
+        read_file(rt, name, set)?;
+    }
+    Ok(())
+}
+
+/// Adds the file at a path to the set. A file that is too large is refused before its name is looked at.
+fn read_file<R: Files + AllocGlobal>(rt: &R, name: &str, set: &mut FileSet) -> Result<(), Fault> {
+    let bytes = match fs::read(rt, name) {
+        Ok(bytes) => bytes,
+        Err(error) => return Err(unread(rt.alloc(), name, &error)),
+    };
+    if bytes.len() > MAX_FILE_BYTES {
+        return Err(Fault::at(rt.alloc(), 701, name, 0));
+    }
+    set.add(name, bytes)
+}
+
+/// Why a file was not read: it can't be, or there is no memory for it.
+fn unread(alloc: Global, name: &str, error: &io::Error) -> Fault {
+    if error.kind() == ErrorKind::OutOfMemory {
+        Fault::memory(alloc)
+    } else {
+        Fault::at(alloc, 802, name, 0)
+    }
+}

@@ -1,0 +1,78 @@
+//! The command line.
+
+use cc::Cmd;
+use clap::{Arg, ArgAction, ArgMatches, Command, value_parser};
+use std::alloc::{AllocError, Global};
+
+/// What the words of a command line ask for.
+#[derive(Clone, Copy)]
+pub struct Request<'a> {
+    pub command: Cmd<'a>,
+    /// The main file, or the executable file.
+    pub main: &'a str,
+}
+
+/// The command line's form.
+pub fn command<'a>(alloc: Global) -> Result<Command<'a>, AllocError> {
+    Command::new(alloc, "cc")
+        .about("Compiles C11 programs for RV32IM, and runs them")
+        .subcommand_required(true)
+        .disable_help_subcommand(true)
+        .subcommand(build(alloc)?)?
+        .subcommand(run(alloc)?)
+}
+
+fn build<'a>(alloc: Global) -> Result<Command<'a>, AllocError> {
+    let main = Arg::new(alloc, "MAIN").help("The main file").required(true);
+    let files = Arg::new(alloc, "FILES")
+        .help("Further files")
+        .action(ArgAction::Append)
+        .num_args(0..);
+    let out = Arg::new(alloc, "OUT")
+        .short('o')
+        .help("The executable file to write")
+        .required(true);
+    Command::new(alloc, "build")
+        .about("Compiles a program to an executable file")
+        .arg(main)?
+        .arg(files)?
+        .arg(out)
+}
+
+fn run<'a>(alloc: Global) -> Result<Command<'a>, AllocError> {
+    let file = Arg::new(alloc, "FILE")
+        .help("The executable file")
+        .required(true);
+    let max = Arg::new(alloc, "max")
+        .long("max")
+        .value_name("N")
+        .help("At most this many instructions")
+        .value_parser(value_parser!(u64).range(1..=9223372036854775807))
+        .default_value("1000000000");
+    Command::new(alloc, "run")
+        .about("Runs an executable file over standard input and output")
+        .arg(file)?
+        .arg(max)
+}
+
+/// The request that a parse found.
+pub fn read_request<'a>(matches: &ArgMatches<'a>) -> Option<Request<'a>> {
+    let (name, inner) = matches.subcommand()?;
+    match name {
+        "build" => Some(Request {
+            command: Cmd::Build(inner.get_str("OUT")?),
+            main: inner.get_str("MAIN")?,
+        }),
+        "run" => Some(Request {
+            command: Cmd::Run(inner.get_one::<u64>("max")?),
+            main: inner.get_str("FILE")?,
+        }),
+        _ => None,
+    }
+}
+
+/// The further files that a parse found.
+pub fn further_files<'m, 'a>(matches: &'m ArgMatches<'a>) -> Option<&'m [&'a str]> {
+    let (_, inner) = matches.subcommand()?;
+    inner.get_strs("FILES")
+}

@@ -1,0 +1,12 @@
+//! Writes a program as an ELF32 executable for RISC-V.
+#![tactic(auto)]
+
+mod image;
+mod layout;
+mod writer;
+
+pub use image::Image;
+pub use writer::write_elf;
+
+#[cfg(test)]
+mod tests;

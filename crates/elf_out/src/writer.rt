@@ -1,0 +1,186 @@
+//! The file of a program.
+//!
+//! System V gABI, chapter 4, "ELF Header", and chapter 5, "Program Header"; RISC-V ELF psABI, "ELF Object Files".
+
+ghost use Rattle.std.specs.Prelude.{◌≡◌, ◌≢◌, ◌≤◌, ◌+◌, ◌++◌, length, vec_len, Ok, Err, IfOk, IfErr, OnOk};
+ghost use Rattle.srcset.specs.Fault.{IsMemoryFault};
+ghost use Rattle.loader.specs.declared.fault.LoadFault.{LoadFault};
+ghost use Rattle.loader.specs.File.{file_image};
+ghost use Rattle.elf_out.specs.Written as written;
+ghost use Rattle.elf_out.specs.Written.{file_of, headers_of};
+ghost use Rattle.elf_out.specs.Program.{program_image};
+
+use crate::image::Image;
+use crate::layout::{
+    DATA_GUARD, OFFSET_TO_ADDRESS, PAGE, STACK_SIZE, STACK_START, TEXT_OFFSET, TEXT_START,
+    data_start,
+};
+use byteorder::{ByteOrder, LittleEndian};
+use srcset::Fault;
+use std::alloc::{AllocError, Global};
+
+/// `ELFCLASS32`, `ELFDATA2LSB` and `EV_CURRENT`, after the four bytes that mark an ELF file.
+const IDENTIFICATION: [u8; 16] = [0x7F, 0x45, 0x4C, 0x46, 1, 1, 1, 0, 0, 0, 0, 0, 0, 0, 0, 0];
+
+/// `ET_EXEC`
+const EXECUTABLE: u16 = 2;
+
+/// `EM_RISCV`
+const RISC_V: u16 = 243;
+
+/// `PT_LOAD`
+const LOAD: u32 = 1;
+
+/// `PF_X`
+const EXECUTE: u32 = 1;
+
+/// `PF_R` and `PF_W`
+const READ_AND_WRITE: u32 = 6;
+
+const ELF_HEADER_SIZE: u16 = 52;
+
+const PROGRAM_HEADER_SIZE: u16 = 32;
+
+/// How many program headers there are.
+const SEGMENTS: u16 = 3;
+
+/// What a program header of type `PT_LOAD` says.
+#[derive(Clone, Copy)]
+struct Segment {
+    offset: u32,
+    address: u32,
+    file_size: u32,
+    memory_size: u32,
+    flags: u32,
+}
+
+/// The stack, of which the file holds nothing.
+const STACK: Segment = Segment {
+    offset: 0,
+    address: STACK_START,
+    file_size: 0,
+    memory_size: STACK_SIZE,
+    flags: READ_AND_WRITE,
+};
+
+/// The ELF32 executable of an image.
+///
+/// It has three segments: the text from 0x00011000 on, where the program begins, which may only be
+/// executed; the data, from the first multiple of 4096 not below the text's end on, 16 zero bytes and
+/// then the statics, which may be read and written; and the stack, from 0x7FF00000 to 0x80000000, which
+/// may be read and written and of which the file holds nothing. The file ends with the last byte of the
+/// data. It is refused only for want of memory, with code 801.
+pub fn write_elf(alloc: Global, image: &Image) -> Result<Vec<u8>, Fault>
+    ensures bytes { IfOk result (λ file. file.items ≡ file_of image.now) }
+    ensures image { IfOk result (λ file. file_image file.items ≡ Ok (program_image image.now)) }
+    ensures loads { IfOk result (λ file. (fault : LoadFault) → file_image file.items ≢ Err fault) }
+    ensures memory { IfErr result IsMemoryFault }
+{
+    match file_bytes(alloc, image.text(), image.statics()) {
+        Ok(file) => Ok(file),
+        Err(_) => Err(Fault::memory(alloc)),
+    }
+}
+
+fn file_bytes(alloc: Global, text: &[u8], statics: &[u8]) -> Result<Vec<u8>, AllocError>
+    requires { length text.now + length statics.now ≤ 117440512 }
+    ensures { IfOk result (λ file. file.items ≡ file_of (record { text = text.now; statics = statics.now })) }
+{
+    let data_offset = (data_start(text.len() as u32) - OFFSET_TO_ADDRESS) as usize;
+    let size = data_offset + DATA_GUARD + statics.len();
+    let mut file = Vec::with_capacity(alloc, size)?;
+    push_headers(&mut file, text.len() as u32, statics.len() as u32)?;
+    file.resize(TEXT_OFFSET as usize, 0)?;
+    file.extend_from_slice(text)?;
+    file.resize(data_offset, 0)?;
+    file.extend_from_slice(&[0; DATA_GUARD])?;
+    file.extend_from_slice(statics)?;
+    Ok(file)
+}
+
+/// The ELF header and the three program headers.
+#[tactic(auto, unfolding(crate::specs::Written::headers_of))]
+fn push_headers(file: &mut Vec<u8>, text_size: u32, statics_size: u32) -> Result<(), AllocError>
+    requires { text_size + statics_size ≤ 117440512 }
+    ensures { OnOk result (file.new.items ≡ file.old.items ++ headers_of text_size statics_size) }
+{
+    let data_address = data_start(text_size);
+    let data_size = DATA_GUARD as u32 + statics_size;
+    push_elf_header(file)?;
+    push_segment(
+        file,
+        &Segment {
+            offset: TEXT_OFFSET,
+            address: TEXT_START,
+            file_size: text_size,
+            memory_size: text_size,
+            flags: EXECUTE,
+        },
+    )?;
+    push_segment(
+        file,
+        &Segment {
+            offset: data_address - OFFSET_TO_ADDRESS,
+            address: data_address,
+            file_size: data_size,
+            memory_size: data_size,
+            flags: READ_AND_WRITE,
+        },
+    )?;
+    push_segment(file, &STACK)?;
+    Ok(())
+}
+
+fn push_elf_header(file: &mut Vec<u8>) -> Result<(), AllocError>
+    ensures { OnOk result (file.new.items ≡ file.old.items ++ written.elf_header) }
+{
+    file.extend_from_slice(&IDENTIFICATION)?;
+    push_halves(file, &[EXECUTABLE, RISC_V])?;
+    push_words(file, &[1, TEXT_START, ELF_HEADER_SIZE as u32, 0, 0])?;
+    push_halves(
+        file,
+        &[ELF_HEADER_SIZE, PROGRAM_HEADER_SIZE, SEGMENTS, 0, 0, 0],
+    )
+}
+
+fn push_segment(file: &mut Vec<u8>, segment: &Segment) -> Result<(), AllocError>
+    ensures { OnOk result (file.new.items ≡ file.old.items ++ written.program_header segment.now.offset segment.now.address segment.now.file_size segment.now.memory_size segment.now.flags) }
+{
+    push_words(
+        file,
+        &[
+            LOAD,
+            segment.offset,
+            segment.address,
+            segment.address,
+            segment.file_size,
+            segment.memory_size,
+            segment.flags,
+            PAGE,
+        ],
+    )
+}
+
+/// Each number in two bytes, the lowest first.
+fn push_halves(file: &mut Vec<u8>, halves: &[u16]) -> Result<(), AllocError>
+    ensures { OnOk result (file.new.items ≡ file.old.items ++ written.halves halves.now) }
+{
+    for half in halves {
+        let mut bytes = [0; 2];
+        LittleEndian::write_u16(&mut bytes, *half);
+        file.extend_from_slice(&bytes)?;
+    }
+    Ok(())
+}
+
+/// Each number in four bytes, the lowest first.
+fn push_words(file: &mut Vec<u8>, words: &[u32]) -> Result<(), AllocError>
+    ensures { OnOk result (file.new.items ≡ file.old.items ++ written.words words.now) }
+{
+    for word in words {
+        let mut bytes = [0; 4];
+        LittleEndian::write_u32(&mut bytes, *word);
+        file.extend_from_slice(&bytes)?;
+    }
+    Ok(())
+}

@@ -1,0 +1,61 @@
+//! A loaded program.
+
+ghost use Rattle.std.specs.Prelude.{◌≡◌, ◌⊎◌, Ok, Err, MatchResult};
+ghost use Rattle.rv32.specs.Space.{space_of};
+ghost use Rattle.loader.specs.File.{file_image};
+ghost use Rattle.loader.specs.Loading.{loaded_image};
+
+use crate::checks::read_loads;
+use crate::fault::LoadFault;
+use crate::header::word;
+use crate::segments::segments_of;
+use rv32::memory::Memory;
+use std::alloc::Global;
+
+/// What a file loads: the address of its first instruction, and its memory.
+#[derive(Drop)]
+pub struct Loaded {
+    entry: u32,
+    memory: Memory,
+}
+
+impl Loaded {
+    /// The address of the first instruction.
+    pub fn entry(&self) -> u32
+        ensures { result ≡ (loaded_image self.now).entry }
+    {
+        self.entry
+    }
+
+    /// The memory, which a machine then owns.
+    pub fn into_memory(self) -> Memory
+        ensures { space_of result.segments.items ≡ (loaded_image self).space }
+    {
+        let Loaded { entry: _, memory } = self;
+        memory
+    }
+}
+
+/// The image of an ELF32 executable for RISC-V, or the first fault that stands.
+///
+/// The whole file is tested for each code in the order 901 to 907. Headers that are not `PT_LOAD`,
+/// `p_paddr` and `p_align` are not looked at. A segment that takes no memory is nothing, and bytes
+/// past a segment's file size are zero. The entry may lie anywhere. `LoadFault::Memory` is answered
+/// only where an allocation was refused. System V gABI, chapters 4 and 5.
+#[tactic(auto, unfolding(crate::specs::File::file_image))]
+pub fn load(alloc: Global, bytes: &[u8]) -> Result<Loaded, LoadFault>
+    ensures { MatchResult result
+        (λ loaded. file_image bytes.now ≡ Ok (loaded_image loaded))
+        (λ fault. (fault ≡ LoadFault.Memory) ⊎ (file_image bytes.now ≡ Err fault)) }
+{
+    match read_loads(alloc, bytes) {
+        Ok(loads) => match segments_of(alloc, bytes, loads.as_slice()) {
+            Ok(segments) => Ok(Loaded {
+                entry: word(bytes, 24),
+                memory: Memory::new(segments),
+            }),
+            Err(_) => Err(LoadFault::Memory),
+        },
+        Err(fault) => Err(fault),
+    }
+}

@@ -1,0 +1,5 @@
+pub mod Steps
+pub mod Bridge
+pub mod Fields
+pub mod Worlds
+pub mod Placing

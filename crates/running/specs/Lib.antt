@@ -1,0 +1,4 @@
+pub mod Light
+pub mod Whole
+pub mod Laws
+pub mod Worlds

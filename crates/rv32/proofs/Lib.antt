@@ -1,0 +1,5 @@
+pub mod Inverse
+pub mod Spaces
+pub mod Stays
+pub mod Uses
+pub mod Tables

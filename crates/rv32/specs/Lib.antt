@@ -1,0 +1,6 @@
+pub mod Words
+pub mod Space
+pub mod Arithmetic
+pub mod Step
+pub mod Table
+pub mod Laws

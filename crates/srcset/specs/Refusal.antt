@@ -1,0 +1,11 @@
+-- How a refusal inside the compiler becomes a fault.
+use Rattle.srcset.specs.Fault.{IsFaultOrMemory, IsMemoryFault}
+use Rattle.srcset.specs.NameTable.{Texts, file_name_of}
+use Rattle.srcset.specs.declared.fault.Fault.{Fault}
+use Rattle.srcset.specs.declared.refusal.Refusal.{Refusal}
+use Rattle.srcset.specs.declared.refusal.Refusal.TheVariants.{Memory, At}
+
+-- the fault that stands for the refusal, where these texts name the files; or out of memory
+abbrev pub IsFaultOfRefusal : Fault → Texts → Refusal → Type 0
+IsFaultOfRefusal fault texts Memory = IsMemoryFault fault
+IsFaultOfRefusal fault texts (At code pos) = IsFaultOrMemory fault code (file_name_of texts pos.file) pos.line

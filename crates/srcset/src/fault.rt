@@ -1,0 +1,104 @@
+//! Faults: what the compiler says where it refuses its input.
+ghost use Rattle.std.specs.Prelude.{◌≡◌, ◌++◌, IfOk, OnOk, Some};
+ghost use Rattle.srcset.specs.Fault.{IsFaultOrMemory, IsMemoryFault, fault_line, place_text};
+
+use crate::messages::message;
+use itoa::Buffer;
+use std::alloc::{AllocError, Global};
+use std::fmt;
+use thiserror::Error;
+
+/// Why the compiler refused its input, and where.
+///
+/// It is shown as the one line `FILE:LINE: CODE TEXT`, or `cc: CODE TEXT` where `file` is empty.
+/// TEXT is the text of the code, as `message` gives it, followed by `text`.
+#[derive(Debug, Drop, Error)]
+pub struct Fault {
+    /// The code, 101 to 907.
+    pub code: u16,
+    /// The name of the file, as the source presumes it to be (ISO/IEC 9899:2011 6.10.4). Empty where
+    /// no file is to blame, and where the presumed name is not UTF-8.
+    pub file: String,
+    /// The line, counted from 1, or 0 where the fault concerns no line.
+    pub line: u32,
+    /// What this fault adds to the text of its code: the tokens of an `#error`, each after a space,
+    /// and else nothing.
+    pub text: String,
+}
+
+impl Fault {
+    /// Want of memory: code 801, no file, line 0. Takes no memory.
+    pub fn memory(alloc: Global) -> Fault
+        ensures { IsMemoryFault result }
+    {
+        Fault {
+            code: 801,
+            file: String::new(alloc),
+            line: 0,
+            text: String::new(alloc),
+        }
+    }
+
+    /// The fault with this code at a line of a file, and no text of its own.
+    ///
+    /// Where the copy of the file's name finds no memory, the fault is 801 in its place.
+    pub fn at(alloc: Global, code: u16, file: &str, line: u32) -> Fault
+        ensures { IsFaultOrMemory result code file.now line }
+    {
+        match String::from_str(alloc, file) {
+            Ok(file) => Fault {
+                code,
+                file,
+                line,
+                text: String::new(alloc),
+            },
+            Err(_) => Fault::memory(alloc),
+        }
+    }
+
+    /// The bytes of the line that shows the fault, without a newline at its end.
+    ///
+    /// Fails only where memory runs out.
+    pub fn to_line(&self, alloc: Global) -> Result<Vec<u8>, AllocError>
+        ensures { IfOk result (λ line. line.items ≡ fault_line self.now) }
+    {
+        let mut number = Buffer::new();
+        let mut line = Vec::new(alloc);
+        push_place(&mut line, self.file.as_str(), self.line)?;
+        line.extend_from_slice(number.format(self.code).as_bytes())?;
+        line.extend_from_slice(b" ")?;
+        line.extend_from_slice(message(self.code).as_bytes())?;
+        line.extend_from_slice(self.text.as_bytes())?;
+        Ok(line)
+    }
+}
+
+/// Shows the line that `Fault::to_line` gives.
+impl fmt::Display for Fault {
+    ghost output = { λ fault. Some (fault_line fault) };
+
+    fn fmt<W: fmt::Write>(&self, f: &mut fmt::Formatter<W>) -> fmt::Result {
+        if self.file.is_empty() {
+            write!(f, "cc: ")?;
+        } else {
+            write!(f, "{}:{}: ", self.file, self.line)?;
+        }
+        write!(f, "{} {}{}", self.code, message(self.code), self.text)
+    }
+}
+
+// Adds where a fault stands: `FILE:LINE: `, or `cc: ` where there is no file.
+fn push_place(text: &mut Vec<u8>, file: &str, line: u32) -> Result<(), AllocError>
+    ensures { OnOk result (text.new.items ≡ text.old.items ++ place_text file.now line) }
+{
+    if file.is_empty() {
+        text.extend_from_slice(b"cc: ")?;
+        return Ok(());
+    }
+    let mut number = Buffer::new();
+    text.extend_from_slice(file.as_bytes())?;
+    text.extend_from_slice(b":")?;
+    text.extend_from_slice(number.format(line).as_bytes())?;
+    text.extend_from_slice(b": ")?;
+    Ok(())
+}

@@ -1,0 +1,64 @@
+//! Refusals inside the compiler, which name no file and take no memory.
+ghost use Rattle.std.specs.Prelude.{◌≡◌};
+ghost use Rattle.srcset.specs.declared.refusal.Refusal.TheVariants.{Memory};
+ghost use Rattle.srcset.specs.Refusal.{IsFaultOfRefusal};
+
+use crate::fault::Fault;
+use crate::names::Names;
+use std::alloc::{AllocError, AllocFailed, Global};
+
+/// A place in the sources.
+#[derive(Clone, Copy, Debug, PartialEq, Eq)]
+pub struct Pos {
+    /// A number of `Names`, whose text is the name of the file.
+    pub file: usize,
+    /// The line, counted from 1.
+    pub line: u32,
+}
+
+/// Why an inner step was refused. The call that answers to the outside makes a `Fault` of it, once.
+#[derive(Clone, Copy, Debug, PartialEq, Eq)]
+pub enum Refusal {
+    /// Memory ran out.
+    Memory,
+    /// The fault with this code stands here.
+    At {
+        /// The code, 101 to 907.
+        code: u16,
+        /// The place of the fault.
+        pos: Pos,
+    },
+}
+
+impl From<AllocError> for Refusal {
+    ghost from_gives = { λ _ refusal. refusal ≡ Memory };
+
+    fn from(_error: AllocError) -> Refusal {
+        Refusal::Memory
+    }
+}
+
+impl<T: Drop> From<AllocFailed<T>> for Refusal {
+    ghost from_gives = { λ _ refusal. refusal ≡ Memory };
+
+    fn from(_error: AllocFailed<T>) -> Refusal {
+        Refusal::Memory
+    }
+}
+
+impl Refusal {
+    /// The fault that this refusal stands for, with no text of its own.
+    ///
+    /// Its file is the text that `names` has for the number of the place's file, or empty where there
+    /// is none or it is not UTF-8. It is 801 for `Memory`, and where the copy of the name finds no memory.
+    pub fn to_fault(self, alloc: Global, names: &Names) -> Fault
+        ensures { IsFaultOfRefusal result names.now self }
+    {
+        match self {
+            Refusal::Memory => Fault::memory(alloc),
+            Refusal::At { code, pos } => {
+                Fault::at(alloc, code, names.file_name(pos.file), pos.line)
+            }
+        }
+    }
+}
