@@ -1,0 +1,8 @@
+use Rattle.std.proofs.Common.{ap, ◌∙◌}
+use Rattle.ctypes.specs.declared.operators.Undef.TheVariants.{U1}
+use Rattle.ctypes.specs.Arithmetic.{in_range}
+use Rattle.ctypes.proofs.Exact.{near, sum_is}
+use Rattle.ctypes.proofs.arithmetic.add.Goals as goal
+
+pub returns : goal.returns
+returns c = c.in_range.ensures ∙ ap (λ v. in_range U1 c.args.ty v v) (sum_is c.args.a c.args.b (near c.args.ty c.args.a c.requires.left) (near c.args.ty c.args.b c.requires.right))

@@ -1,0 +1,3 @@
+pub mod Types
+pub mod Arithmetic
+pub mod Laws

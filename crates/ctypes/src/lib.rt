@@ -1,0 +1,16 @@
+//! The integer types of C and their arithmetic, over whole numbers within each type's range.
+//!
+//! The public source is ISO/IEC 9899:2011, "the standard" below; sizes are those of the RISC-V
+//! ABI ILP32. Where the standard leaves a choice, the choice of this profile is said with the item.
+#![tactic(auto)]
+
+pub mod arithmetic;
+pub mod laws;
+pub mod operators;
+#[cfg(test)]
+mod tests;
+pub mod types;
+
+pub use arithmetic::binary;
+pub use operators::{BinOp, Undef};
+pub use types::{IntType, compatible, convert, promote, size_of, usual};
