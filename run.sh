@@ -22,5 +22,7 @@ cat examples/hello.c
 bin/cc build examples/hello.c -o "$work/hello"
 status=0
 bin/cc run "$work/hello" >"$work/written" || status=$?
-echo "bytes written: $(od -An -tu1 "$work/written" | tr -s ' \n' ' ' | sed 's/^ //; s/ $//')"
+written=$(od -An -tu1 "$work/written" | tr -s ' \n' ' ' | sed 's/^ //; s/ $//')
+echo "bytes written: $written"
 echo "status: $status"
+[ "$written" = 72 ] && [ "$status" = 42 ]

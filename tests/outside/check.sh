@@ -493,8 +493,17 @@ if [ -c /dev/full ]; then
     $limit "$cc" run hello 2>err </dev/null >/dev/full
     status=$?; : >out
     expect 'output to a full device' 126 - 'cc: port fault 803'
+    $limit "$cc" run hello --max 34 2>err </dev/null >/dev/full
+    status=$?; : >out
+    expect 'output to a full device, and the budget used' 126 - 'cc: port fault 803'
+    $limit "$cc" --help 2>err </dev/null >/dev/full
+    status=$?; : >out
+    expect 'help to a full device' 1 - 'cc: 803 cannot write'
+    $limit "$cc" </dev/null >out 2>/dev/full
+    status=$?; : >err
+    expect 'usage to a full device' 2 - ''
 else
-    skip 1
+    skip 4
 fi
 mkfifo pipe
 : <pipe &

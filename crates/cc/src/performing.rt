@@ -1,8 +1,8 @@
 //! One command over a port and two writers.
 
-ghost use Rattle.std.specs.Prelude.{◌≡◌, ◌≢◌, ◌⊎◌, List, ℕ, IfOk, IfErr, OnOk, Some, Ok};
+ghost use Rattle.std.specs.Prelude.{◌≡◌, ◌≢◌, ◌⊎◌, List, ℕ, MatchResult, Some, Ok};
 ghost use Rattle.srcset.specs.Files.{file_of};
-ghost use Rattle.cc.specs.Performed.{Performs, RunsFile, BuildsInto, exit_status};
+ghost use Rattle.cc.specs.Performed.{Performs, Runs, Builds, BuildsInto, BuildsSome, exit_status};
 
 use crate::compiling::compile;
 use crate::reporting::{say_budget, say_fault, say_port, say_trap};
@@ -39,7 +39,8 @@ pub fn perform<P: Port, W: Write, E: Write>(
     _out: &mut W,
     err: &mut E,
 ) -> u8
-    ensures { Performs command.entry (file_of set.now main.now) file.now (P.seen port.old) (P.seen port.new) result }
+    ensures performs { Performs command.entry (file_of set.now main.now) file.now (P.seen port.old) (P.seen port.new) result }
+    ensures out { W.contents _out.new ≡ W.contents _out.old }
 {
     match command {
         Cmd::Build(name) => build(alloc, set, main, name, port, err),
@@ -55,7 +56,7 @@ fn build<P: Port, E: Write>(
     port: &mut P,
     err: &mut E,
 ) -> u8
-    ensures { result ≡ 0 → BuildsInto (file_of set.now main.now) (P.seen port.old) (P.seen port.new) }
+    ensures { Builds (file_of set.now main.now) (P.seen port.old) (P.seen port.new) result }
 {
     match build_into(alloc, set, main, name, port) {
         Ok(()) => 0,
@@ -74,7 +75,9 @@ fn build_into<P: Port>(
     name: &str,
     port: &mut P,
 ) -> Result<(), Fault>
-    ensures { OnOk result (BuildsInto (file_of set.now main.now) (P.seen port.old) (P.seen port.new)) }
+    ensures { MatchResult result
+        (λ _. BuildsInto (file_of set.now main.now) (P.seen port.old) (P.seen port.new))
+        (λ _. (P.seen port.new ≡ P.seen port.old) ⊎ BuildsSome (file_of set.now main.now) (P.seen port.old) (P.seen port.new)) }
 {
     let built = compile(alloc, set, main)?;
     match put_all(port, built.elf.as_slice()) {
@@ -92,7 +95,7 @@ fn run<P: Port, E: Write>(
     max: u64,
     err: &mut E,
 ) -> u8
-    ensures { RunsFile file.now max (P.seen port.old) (P.seen port.new) result }
+    ensures { Runs file.now max (P.seen port.old) (P.seen port.new) result }
 {
     match load(alloc, file) {
         Ok(program) => {

@@ -210,7 +210,6 @@ fn frame_slots(program: &Program) -> u32
 }
 
 /// The most slots that one of the expressions needs.
-
 fn most_put_slots(exprs: &[Expr]) -> u32
     requires { most_slots (map tree_of exprs.now) ≤ 256 }
     ensures { result ≡ most_slots (map tree_of exprs.now) }

@@ -12,7 +12,7 @@ use sim::{IoPort, PortFault};
 use srcset::{Fault, FileSet, MAX_FILE_BYTES};
 use std::alloc::Global;
 use std::env::Args;
-use std::io::{BufReader, BufWriter, ErrorKind};
+use std::io::{BufReader, BufWriter, ErrorKind, Read, Write};
 use std::process::ExitCode;
 use std::rt::Files;
 use std::{env, fs, io};
@@ -34,7 +34,8 @@ fn unread_words(rt: &HostRuntime, error: &io::Error) -> u8 {
     2
 }
 
-/// The exit status of the words. What was not foreseen is want of memory.
+/// The exit status of the words. The errors that are handed on are all want of memory: for the words, for the
+/// command line's form, for a buffer.
 fn obey(rt: &HostRuntime, words: Args<Global>) -> u8 {
     match parse(rt, words) {
         Ok(status) => status,
@@ -51,10 +52,19 @@ fn parse(rt: &HostRuntime, words: Args<Global>) -> Result<u8> {
     let command = words::command(alloc)?;
     match command.try_get_matches_from(words.as_slice()) {
         Ok(matches) => answer(rt, &matches),
-        Err(error) => {
-            error.print(rt)?;
-            Ok(error.exit_code() as u8)
-        }
+        Err(error) => Ok(show(rt, &error)),
+    }
+}
+
+/// Prints the help that was asked for, or what is wrong with the words.
+fn show(rt: &HostRuntime, error: &clap::Error) -> u8 {
+    let printed = error.print(rt);
+    if error.exit_code() != 0 {
+        return 2;
+    }
+    match printed {
+        Ok(()) => 0,
+        Err(_) => say(rt, &Fault::at(rt.alloc(), 803, "", 0)),
     }
 }
 
@@ -97,7 +107,8 @@ fn build(
     Ok(status)
 }
 
-/// Runs the executable file over standard input and output.
+/// Runs the executable file over standard input and output. One line at the most is said: that the output was
+/// refused at last goes before how the run stopped.
 fn run(rt: &HostRuntime, request: Request<'_>) -> Result<u8> {
     let file = match fs::read(rt, request.main) {
         Ok(file) => file,
@@ -106,6 +117,7 @@ fn run(rt: &HostRuntime, request: Request<'_>) -> Result<u8> {
     let input = BufReader::new(rt.alloc(), rt.stdin())?;
     let output = BufWriter::new(rt.alloc(), rt.stdout())?;
     let mut port = IoPort::new(input, output);
+    let mut line = Vec::new(rt.alloc());
     let status = perform(
         rt.alloc(),
         request.command,
@@ -114,12 +126,14 @@ fn run(rt: &HostRuntime, request: Request<'_>) -> Result<u8> {
         file.as_slice(),
         &mut port,
         &mut io::sink(),
-        &mut rt.stderr(),
+        &mut line,
     );
     match port.finish() {
-        Ok(()) => Ok(status),
-        Err(_) if status == 126 => Ok(126),
-        Err(fault) => Ok(say_port(rt, fault)),
+        Err(fault) if status != 126 || line.is_empty() => Ok(say_port(rt, fault)),
+        _ => {
+            let _said = rt.stderr().write_all(line.as_slice());
+            Ok(status)
+        }
     }
 }
 
@@ -152,7 +166,7 @@ fn read_files<R: Files + AllocGlobal>(
 
 /// Adds the file at a path to the set. A file that is too large is refused before its name is looked at.
 fn read_file<R: Files + AllocGlobal>(rt: &R, name: &str, set: &mut FileSet) -> Result<(), Fault> {
-    let bytes = match fs::read(rt, name) {
+    let bytes = match read_start(rt, name) {
         Ok(bytes) => bytes,
         Err(error) => return Err(unread(rt.alloc(), name, &error)),
     };
@@ -160,6 +174,15 @@ fn read_file<R: Files + AllocGlobal>(rt: &R, name: &str, set: &mut FileSet) -> R
         return Err(Fault::at(rt.alloc(), 701, name, 0));
     }
     set.add(name, bytes)
+}
+
+/// The bytes of a file, up to the first that is too many.
+fn read_start<R: Files + AllocGlobal>(rt: &R, name: &str) -> io::Result<Vec<u8>> {
+    let mut bytes = Vec::new(rt.alloc());
+    let file = fs::open(rt, name)?;
+    file.take(MAX_FILE_BYTES as u64 + 1)
+        .read_to_end(&mut bytes)?;
+    Ok(bytes)
 }
 
 /// Why a file was not read: it can't be, or there is no memory for it.

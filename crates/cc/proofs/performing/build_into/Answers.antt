@@ -1,5 +1,5 @@
-use Rattle.std.proofs.Common.{subst}
-use Rattle.cc.specs.Transfer.{PutsAll}
+use Rattle.std.proofs.Common.{inr, subst}
+use Rattle.cc.specs.Transfer.{PutsAll, PutsSome}
 use Rattle.cc.proofs.performing.build_into.Goals as goal
 
 pub returns-in-Ok : goal.returns-in-Ok
@@ -8,3 +8,19 @@ returns-in-Ok g c = record {
   compiles = c.in_ok-built.ensures.built;
   puts = subst (PutsAll (g.P.Port.seen c.args.port.now) (g.P.Port.seen c.put_all.new.port)) c.as_slice.ensures.value c.in-Ok.ensures;
 }
+
+pub returns-in-Err-Memory : goal.returns-in-Err-Memory
+returns-in-Err-Memory g c = inr (record {
+  built = c.in_ok-built.built;
+  compiles = c.in_ok-built.ensures.built;
+  count = c.in-Err-Memory.ensures.0;
+  puts = subst (λ bytes. PutsSome (g.P.Port.seen c.args.port.now) (g.P.Port.seen c.put_all.new.port) bytes c.in-Err-Memory.ensures.0) c.as_slice.ensures.value c.in-Err-Memory.ensures.1;
+})
+
+pub returns : goal.returns
+returns g c = inr (record {
+  built = c.in_ok-built.built;
+  compiles = c.in_ok-built.ensures.built;
+  count = c.in-Err.ensures.0;
+  puts = subst (λ bytes. PutsSome (g.P.Port.seen c.args.port.now) (g.P.Port.seen c.put_all.new.port) bytes c.in-Err.ensures.0) c.as_slice.ensures.value c.in-Err.ensures.1;
+})
