@@ -1,0 +1,12 @@
+pub mod TextLemmas
+pub mod ReadingLemmas
+pub mod LexicalLemmas
+pub mod PunctuatorLemmas
+pub mod PieceLemmas
+pub mod SpellingLemmas
+pub mod ScanLemmas
+pub mod LongestLemmas
+pub mod PrefixLemmas
+pub mod DominanceLemmas
+pub mod FrontLemmas
+pub mod ClosingLemmas

@@ -1,0 +1,63 @@
+-- Laws of reading a text character by character.
+use Rattle.std.proofs.Common.{◌≡◌, ℕ, ◌+◌, true, List, [], ◌∷◌, ◌++◌, length, take, drop, refl, ap, ◌∙◌, arith}
+use Rattle.std.proofs.lemmas.List.{append_assoc, length-append, map-append, drop_at, take_at, length-map}
+use Rattle.phases.specs.Text.{Char, logical, bytes_of}
+use Rattle.phases.specs.Plain.{is_plain}
+use Rattle.phases.specs.declared.cursor.Cursor.{Cursor}
+use Rattle.phases.specs.declared.cursor.Step.{Step}
+use Rattle.phases.specs.Reading.{text_at, bytes_at, char_of, MapsTo, Skips, IsNoSplice, EndsSplice, Reads, IsStep, Spans}
+use Rattle.phases.proofs.TextLemmas.{stands, goes, ends, plain_first}
+
+pub skips_none : (a : Cursor) → Skips a a
+skips_none a = record { text_is = refl; least = omega arith; plain = λ h. refl }
+
+pub skips_more : (a b c : Cursor) (s : Step) → Skips a b → MapsTo b s → EndsSplice s c → Skips a c
+skips_more a b c s p m e =
+    let f : text_at b ≡ text_at c = goes b.line s.next.line c.line b.rest.now s.next.rest.now c.rest.now (char_of s) (record { byte = 10; line = e.line }) m.text_is e.text_is e.is_backslash refl in
+    record { text_is = p.text_is ∙ f; least = omega (arith, p.least, m.least, e.least); plain = λ h. absurd (omega (arith, p.least, m.least, e.least)) }
+
+pub step_after : (a b : Cursor) (s : Step) → Skips a b → MapsTo b s → IsNoSplice s → IsStep a s
+step_after a b s p m n =
+    let f : text_at b ≡ char_of s ∷ text_at s.next = stands b.line s.next.line b.rest.now s.next.rest.now (char_of s) m.text_is n in
+    record { text_is = p.text_is ∙ f; least = omega (arith, p.least, m.least); plain = λ h. p.plain (omega (arith, p.least, m.least)) ∙ m.plain (omega (arith, p.least, m.least)) }
+
+pub end_after : (a b : Cursor) → Skips a b → b.rest.now ≡ [] → text_at a ≡ []
+end_after a b p e = p.text_is ∙ ap (logical b.line) e ∙ ends b.line
+
+-- a plain byte is the first character
+pub plain_step : (a : Cursor) (s : Step) → is_plain s.byte ≡ true → a.rest.now ≡ s.byte ∷ s.next.rest.now → s.line ≡ a.line → s.next.line ≡ a.line → IsStep a s
+plain_step a s p e l m =
+    let f : text_at a ≡ char_of s ∷ text_at s.next = ap (logical a.line) e ∙ plain_first a.line s.byte s.next.rest.now p ∙ rw (l, m) refl in
+    record { text_is = f; least = omega (arith, ap length e); plain = λ h. e }
+
+pub reads_none : (a : Cursor) → Reads a [] a
+reads_none a = record { text_is = refl; least = omega arith; plain = λ h. refl }
+
+pub reads_more : (a b c : Cursor) (f g : List Char) → Reads a f b → Reads b g c → Reads a (f ++ g) c
+reads_more a b c f g p q =
+    let n = length-append f g in
+    record {
+      text_is = rw append_assoc (p.text_is ∙ ap (λ t. f ++ t) q.text_is);
+      least = omega (arith, n, p.least, q.least);
+      plain = λ h. let x : length a.rest.now ≡ length f + length b.rest.now = omega (arith, n, p.least, q.least) in
+          let y : length b.rest.now ≡ length g + length c.rest.now = omega (arith, n, p.least, q.least) in
+          rw (map-append, append_assoc) (p.plain x ∙ ap (λ t. bytes_of f ++ t) (q.plain y));
+    }
+
+pub spans_none : (a : Cursor) → Spans a 0 a
+spans_none a = record { front = []; count = refl; reads = reads_none a }
+
+pub spans_join : (a b c : Cursor) (m n : ℕ) → Spans a m b → Spans b n c → Spans a (m + n) c
+spans_join a b c m n p q =
+    record { front = p.front ++ q.front; count = length-append p.front q.front ∙ rw (p.count, q.count) refl; reads = reads_more a b c p.front q.front p.reads q.reads }
+
+pub spans_step : (a : Cursor) (s : Step) → IsStep a s → Spans a 1 s.next
+spans_step a s p = record { front = char_of s ∷ []; count = refl; reads = p }
+
+pub spans_drop : (a b : Cursor) (n : ℕ) → Spans a n b → drop n (bytes_at a) ≡ bytes_at b
+spans_drop a b n p =
+    ap (λ t. drop n (bytes_of t)) p.reads.text_is ∙ rw map-append (drop_at (bytes_of p.front) (bytes_at b) n (length-map p.front (λ c. c.byte) ∙ p.count))
+
+pub spans_take : (a b : Cursor) (n : ℕ) → (p : Spans a n b) → take n (bytes_at a) ≡ bytes_of (p.front)
+spans_take a b n p =
+    ap (λ t. take n (bytes_of t)) p.reads.text_is ∙ rw map-append (take_at (bytes_of p.front) (bytes_at b) n (length-map p.front (λ c. c.byte) ∙ p.count))

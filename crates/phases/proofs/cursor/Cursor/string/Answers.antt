@@ -1,0 +1,13 @@
+use Rattle.phases.proofs.ClosingLemmas.{hopeless_literal}
+use Rattle.std.proofs.Common.{true, arith}
+use Rattle.phases.specs.Lexical.{enclosed}
+use Rattle.phases.proofs.LexicalLemmas.{prefixed}
+use Rattle.phases.proofs.cursor.Cursor.string.Goals as goal
+
+pub returns : goal.returns
+returns c =
+    prefixed c.args.self c.string_prefix-prefix.result c.in-Some.tail _ (λ bs. enclosed 34 34 0 true bs) c.string_prefix-prefix.ensures c.in-Some.ensures
+
+pub returns-then-prefix-hopeless : goal.returns-then-prefix-hopeless
+returns-then-prefix-hopeless c =
+    hopeless_literal 34 0 c.args.hopeless _ _ c.requires (omega (arith, c.string_prefix-prefix.ensures.count_is))

@@ -1,0 +1,8 @@
+use Rattle.phases.proofs.FrontLemmas.{front_longest}
+use Rattle.phases.proofs.lines.scan.Goals as goal
+
+pub returns-in-Ok-clause-longest : goal.returns-in-Ok-clause-longest
+returns-in-Ok-clause-longest c = front_longest
+
+pub returns-in-Err-clause-longest : goal.returns-in-Err-clause-longest
+returns-in-Err-clause-longest c = front_longest

@@ -1,0 +1,25 @@
+use Rattle.std.proofs.Common.{◌≡◌, Ok, Err, IfOk, IfErr, ◌⊎◌, sym, subst, ◌∙◌}
+use Rattle.srcset.specs.declared.refusal.Refusal.TheVariants.{Memory}
+use Rattle.phases.specs.Lines.{lines_or_fault}
+use Rattle.phases.proofs.ClosingLemmas.{hopeless_more}
+use Rattle.phases.proofs.ScanLemmas.{scan_step, scan_end}
+use Rattle.phases.proofs.lines.token_lines.Goals as goal
+
+pub loop-first-preserved : goal.loop-first-preserved
+loop-first-preserved c =
+    let puts = c.in_ok-put.ensures.ok in
+    record {
+      known_is = hopeless_more c.hopeless-hopeless.result c.behind-known.result c.loop-first.at c.front-front.result.span.after c.front-front.result.span.count c.hopeless-hopeless.ensures c.front-front.ensures.spans c.behind-known.ensures.single c.behind-known.ensures.double;
+      file_is = puts.file_is ∙ c.loop-first.invariant.file_is;
+      whole_is = scan_step c.args.file c.loop-first.scanner c.put.new.self _ c.loop-first.at c.in-Some.first c.front-front.result c.loop-first.invariant.file_is c.loop-first.invariant.whole_is c.in-Some.ensures c.front-front.ensures puts;
+    }
+
+pub returns-clause-ok : goal.returns-clause-ok
+returns-clause-ok c =
+    let e = scan_end c.args.file c.loop-first.scanner _ c.loop-first.at c.loop-first.invariant.whole_is c.in_default.ensures in
+    subst (λ f. IfOk c.finish.result (λ lines. lines_or_fault f ≡ Ok lines.items)) (sym e) c.finish.ensures.ok
+
+pub returns-clause-err : goal.returns-clause-err
+returns-clause-err c =
+    let e = scan_end c.args.file c.loop-first.scanner _ c.loop-first.at c.loop-first.invariant.whole_is c.in_default.ensures in
+    subst (λ f. IfErr c.finish.result (λ r. (r ≡ Memory) ⊎ (lines_or_fault f ≡ Err r))) (sym e) c.finish.ensures.err

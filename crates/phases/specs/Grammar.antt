@@ -1,0 +1,66 @@
+-- The token grammar of ISO/IEC 9899:2011 6.4, of whole texts, and what it is to be the longest front.
+use Rattle.std.specs.Prelude.{◌≡◌, ℕ, ◌<◌, ◌≤◌, ◌==◌, ◌&&◌, ◌||◌, nat_lt, Bool, true, false, not, if◌then◌else◌, List, [], ◌∷◌, length, take, drop}
+use Rattle.phases.specs.declared.token.Place.{Place}
+use Rattle.phases.specs.declared.token.Place.TheVariants.{AfterInclude}
+use Rattle.phases.specs.Lexical.{is_letter, is_word, goes_on, begins_number, closes, escapes_next, character_prefix, string_prefix, is_single, is_pair, is_triple, is_quadruple, token_front}
+
+abbrev pub all_word : List ℕ → Bool
+all_word [] = true
+all_word (b ∷ bs) = is_word b && all_word bs
+
+abbrev pub is_identifier : List ℕ → Bool
+is_identifier [] = false
+is_identifier (b ∷ bs) = is_letter b && all_word bs
+
+abbrev pub continues : ℕ → List ℕ → Bool
+continues last [] = true
+continues last (b ∷ bs) = goes_on last b && continues b bs
+
+abbrev pub is_number : List ℕ → Bool
+is_number [] = false
+is_number (a ∷ bs) = begins_number a bs && continues a bs
+
+abbrev pub is_empty : List ℕ → Bool
+is_empty [] = true
+is_empty (b ∷ bs) = false
+
+-- the closing byte comes last, and only there, on one line
+abbrev pub closes_last : ℕ → Bool → Bool → List ℕ → Bool
+closes_last close escapes escaped [] = false
+closes_last close escapes escaped (b ∷ bs) =
+    not (b == 10) && (if closes close escaped b then is_empty bs else closes_last close escapes (escapes_next escapes escaped b) bs)
+
+abbrev pub is_enclosed : ℕ → ℕ → ℕ → Bool → List ℕ → Bool
+is_enclosed first close least escapes [] = false
+is_enclosed first close least escapes (b ∷ bs) =
+    (b == first) && (nat_lt least (length bs) && closes_last close escapes false bs)
+
+abbrev pub is_character : List ℕ → Bool
+is_character bs = is_enclosed 39 39 1 true (drop (character_prefix bs) bs)
+
+abbrev pub is_string : List ℕ → Bool
+is_string bs = is_enclosed 34 34 0 true (drop (string_prefix bs) bs)
+
+abbrev pub is_header : List ℕ → Bool
+is_header bs = is_enclosed 60 62 1 false bs || is_enclosed 34 34 1 false bs
+
+abbrev pub is_punctuator : List ℕ → Bool
+is_punctuator [] = false
+is_punctuator (a ∷ []) = is_single a
+is_punctuator (a ∷ b ∷ []) = is_pair a b
+is_punctuator (a ∷ b ∷ c ∷ []) = is_triple a b c
+is_punctuator (a ∷ b ∷ c ∷ d ∷ []) = is_quadruple a b c d
+is_punctuator (a ∷ b ∷ c ∷ d ∷ e ∷ bs) = false
+
+-- the text is no token of any kind that may stand at this place
+pub record IsNoToken (place : Place) (text : List ℕ) : Type 0 where
+  pub no_identifier : is_identifier text ≡ false
+  pub no_number : is_number text ≡ false
+  pub no_character : is_character text ≡ false
+  pub no_string : is_string text ≡ false
+  pub no_punctuator : is_punctuator text ≡ false
+  pub no_header : place ≡ AfterInclude → is_header text ≡ false
+
+-- no front of the text that is longer than the one found is a token
+abbrev pub IsLongest : Place → List ℕ → Type 0
+IsLongest place text = (m : ℕ) → (token_front place text).1 < m → m ≤ length text → IsNoToken place (take m text)

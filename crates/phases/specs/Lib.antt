@@ -1,0 +1,15 @@
+pub mod Text
+pub mod Lexical
+pub mod Grammar
+pub mod Token
+pub mod Spelled
+pub mod Lines
+pub mod Plain
+pub mod Reading
+pub mod Fronts
+pub mod Along
+pub mod Scanning
+pub mod Closing
+pub mod Scanned
+pub mod TextRows
+pub mod LineRows

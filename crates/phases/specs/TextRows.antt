@@ -1,0 +1,7 @@
+-- Rows of the logical text.
+use Rattle.std.specs.Prelude.{◌≡◌, refl, codes}
+use Rattle.phases.specs.Text.{logical, bytes_of, trigraph}
+
+pub row_trigraphs : bytes_of (logical 1 (codes "??=??(??/??)??'??<??!??>??-??????a?")) ≡ codes "#[\\]^{|}~??????a?"
+unfolding logical trigraph
+row_trigraphs = refl

@@ -1,0 +1,21 @@
+//! From the bytes of a source file to its token lines: translation phases 1 to 3 of
+//! ISO/IEC 9899:2011 5.1.1.2.
+#![tactic(auto)]
+
+mod closing;
+mod cursor;
+mod lexical;
+mod lines;
+mod pieces;
+mod punctuators;
+mod reading;
+mod scanner;
+mod scanning;
+mod spelling;
+#[cfg(test)]
+mod tests;
+mod token;
+
+pub use lines::scan;
+pub use scanning::MAX_SPELLING_BYTES;
+pub use token::{Kind, Line, PpToken};

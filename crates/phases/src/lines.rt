@@ -1,0 +1,170 @@
+//! The token lines of a file.
+ghost use Rattle.std.specs.Prelude.{ℕ, List, ◌≡◌, ◌≤◌, ◌-◌, ◌+◌, ◌<◌, ◌^◌, Ok, Err, IfOk, IfErr, false, ◌⊎◌, length, take};
+ghost use Rattle.srcset.specs.declared.refusal.Refusal.TheVariants.{Memory};
+ghost use Rattle.phases.specs.declared.token.Place.TheVariants.{Start};
+ghost use Rattle.phases.specs.Text.{line_after, last_line, from_end, ends_open, backslash_at, ends_spliced};
+ghost use Rattle.phases.specs.Lines.{found, lines_or_fault, scanned};
+ghost use Rattle.phases.specs.Reading.{text_at};
+ghost use Rattle.phases.specs.Scanned.{IsScanFault};
+ghost use Rattle.phases.specs.Grammar.{IsLongest};
+ghost use Rattle.phases.specs.declared.token.Place.{Place};
+
+use crate::cursor::{Cursor, Hopeless};
+use crate::scanner::Scanner;
+use crate::token::Line;
+use srcset::{Fault, Names, Pos, Refusal};
+use std::alloc::Global;
+
+// The line behind these bytes, which begin on line 1.
+fn line_behind(bytes: &[u8]) -> u32
+    requires { length bytes.now < 2 ^ 31 }
+    ensures { result ≡ line_after 1 bytes.now }
+{
+    let mut line = 1;
+    for byte in bytes {
+        if *byte == b'\n' {
+            line += 1;
+        }
+    }
+    line
+}
+
+// The line on which the last byte stands.
+fn last_line(bytes: &[u8]) -> u32
+    requires { length bytes.now < 2 ^ 31 }
+    ensures { result ≡ last_line bytes.now }
+{
+    if bytes.is_empty() {
+        return 1;
+    }
+    line_behind(&bytes[..bytes.len() - 1])
+}
+
+// The byte that is so many places before the end, or 0.
+fn from_end(k: usize, bytes: &[u8]) -> u8
+    requires { 0 < k }
+    ensures { result ≡ from_end k bytes.now }
+{
+    if k <= bytes.len() {
+        bytes[bytes.len() - k]
+    } else {
+        0
+    }
+}
+
+// Whether there are bytes and the last of them ends no line.
+fn ends_open(bytes: &[u8]) -> bool
+    ensures { result ≡ ends_open bytes.now }
+{
+    bytes.len() > 0 && !(from_end(1, bytes) == b'\n')
+}
+
+// Whether a backslash, or the trigraph for one, ends so many places before the end.
+fn backslash_at(k: usize, bytes: &[u8]) -> bool
+    requires low { 0 < k }
+    requires high { k < 8 }
+    ensures { result ≡ backslash_at k bytes.now }
+{
+    from_end(k, bytes) == b'\\'
+        || (from_end(k, bytes) == b'/'
+            && (from_end(k + 1, bytes) == b'?' && from_end(k + 2, bytes) == b'?'))
+}
+
+// Whether the bytes end in a splice.
+fn ends_spliced(bytes: &[u8]) -> bool
+    ensures { result ≡ ends_spliced bytes.now }
+{
+    let before = if from_end(2, bytes) == b'\r' { 3 } else { 2 };
+    from_end(1, bytes) == b'\n' && backslash_at(before, bytes)
+}
+
+// What is known so many characters further on.
+fn behind(known: Hopeless, count: usize) -> Hopeless
+    ensures single { result.single ≡ known.single - count }
+    ensures double { result.double ≡ known.double - count }
+{
+    Hopeless {
+        single: known.single.saturating_sub(count),
+        double: known.double.saturating_sub(count),
+    }
+}
+
+// The token lines of the text from here on.
+fn token_lines<'a>(alloc: Global, start: Cursor<'a>, file: usize) -> Result<Vec<Line<'a>>, Refusal>
+    ensures ok { IfOk result (λ lines. lines_or_fault (found file 0 Start false (text_at start.entry)) ≡ Ok lines.items) }
+    ensures err { IfErr result (λ e. (e ≡ Memory) ⊎ (lines_or_fault (found file 0 Start false (text_at start.entry)) ≡ Err e)) }
+{
+    let mut scanner = Scanner::new(alloc, file);
+    let mut at = start;
+    let mut known = Hopeless {
+        single: 0,
+        double: 0,
+    };
+    while let Some(first) = at.read() {
+        let hopeless = at.hopeless(first, known);
+        let front = at.front(scanner.place, first, hopeless);
+        scanner.put(alloc, at, first, front)?;
+        known = behind(hopeless, front.span.count);
+        at = front.span.after;
+    }
+    scanner.finish(alloc)
+}
+
+// The token lines of a file.
+fn file_lines<'a>(alloc: Global, bytes: &'a [u8], file: usize) -> Result<Vec<Line<'a>>, Refusal>
+    requires { length bytes.now ≤ 1048576 }
+    ensures ok { IfOk result (λ lines. scanned file bytes.now ≡ Ok lines.items) }
+    ensures err { IfErr result (λ e. (e ≡ Memory) ⊎ (scanned file bytes.now ≡ Err e)) }
+{
+    if ends_open(bytes) {
+        let pos = Pos {
+            file,
+            line: last_line(bytes),
+        };
+        return Err(Refusal::At { code: 111, pos });
+    }
+    if ends_spliced(bytes) {
+        let pos = Pos {
+            file,
+            line: last_line(bytes),
+        };
+        return Err(Refusal::At { code: 112, pos });
+    }
+    token_lines(
+        alloc,
+        Cursor {
+            rest: bytes,
+            line: 1,
+        },
+        file,
+    )
+}
+
+/// The token lines of a file: translation phases 1 to 3 (ISO/IEC 9899:2011 5.1.1.2), for a file of at
+/// most 1,048,576 bytes. `file` is the number of its name in `names`.
+///
+/// A line ends in a line feed, or in a carriage return and a line feed. Comments and white space are no
+/// tokens; they show in the marks of the tokens behind them. A line with no token is empty, not absent.
+///
+/// Fails with the lowest of these codes that stands, under the file's name:
+/// 111 where the last line does not end, and 112 where the file ends in a splice, both at the last line;
+/// 113 where a comment is not closed, at the line where it opens; 703 where a spelling is longer than
+/// 4,095 bytes, at the line of the first such token. Fails with 801 where memory runs out.
+///
+/// Each token is the longest one that can stand where it begins (6.4, clause `longest`).
+pub fn scan<'a>(
+    alloc: Global,
+    bytes: &'a [u8],
+    file: usize,
+    names: &Names,
+) -> Result<Vec<Line<'a>>, Fault>
+    requires { length bytes.now ≤ 1048576 }
+    ensures ok { IfOk result (λ lines. scanned file bytes.now ≡ Ok lines.items) }
+    ensures err { IfErr result (λ fault. IsScanFault fault names.now (scanned file bytes.now)) }
+    ensures longest { (place : Place) (text : List ℕ) → IsLongest place text }
+{
+    match file_lines(alloc, bytes, file) {
+        Ok(lines) => Ok(lines),
+        Err(refusal) => Err(refusal.to_fault(alloc, names)),
+    }
+}

@@ -1,0 +1,171 @@
+//! Scanning a file piece by piece.
+ghost use Rattle.std.specs.Prelude.{◌≡◌, ◌⊎◌, Ok, Err, IfOk, IfErr, OnOk, Some, take};
+ghost use Rattle.srcset.specs.declared.refusal.Refusal.TheVariants.{Memory};
+ghost use Rattle.phases.specs.Lines.{after_first, after_hash, next_place, lines_or_fault, nothing};
+ghost use Rattle.phases.specs.Reading.{bytes_at, Spans};
+ghost use Rattle.phases.specs.Scanning.{Puts, IsNew, EndsLine, AddsWord, EndsLastLine, or_later, whole};
+
+use crate::cursor::{Cursor, Front, Span, Step};
+use crate::scanner::Scanner;
+use crate::token::{Kind, Line, Piece, Place, PpToken};
+use srcset::{Pos, Refusal};
+use std::alloc::Global;
+use std::mem;
+
+/// The greatest number of bytes in the spelling of a token.
+pub const MAX_SPELLING_BYTES: usize = 4095;
+
+// Where the token behind this one stands.
+fn next_place(place: Place, spelling: &[u8]) -> Place
+    ensures { result ≡ next_place place spelling.now }
+{
+    match place {
+        Place::Start => after_first(spelling),
+        Place::AfterHash => after_hash(spelling),
+        Place::AfterInclude => Place::Elsewhere,
+        Place::Elsewhere => Place::Elsewhere,
+    }
+}
+
+// Where the second token of a line stands.
+fn after_first(spelling: &[u8]) -> Place
+    ensures { result ≡ after_first spelling.now }
+{
+    if spelling == b"#".as_slice() || spelling == b"%:".as_slice() {
+        return Place::AfterHash;
+    }
+    Place::Elsewhere
+}
+
+// Where the token behind a `#` and this one stands.
+fn after_hash(spelling: &[u8]) -> Place
+    ensures { result ≡ after_hash spelling.now }
+{
+    if spelling == b"include".as_slice() {
+        return Place::AfterInclude;
+    }
+    Place::Elsewhere
+}
+
+// The first of two places.
+fn or_later(first: Option<Pos>, later: Pos) -> Option<Pos>
+    ensures { result ≡ or_later first (Some later) }
+{
+    match first {
+        Some(pos) => Some(pos),
+        None => Some(later),
+    }
+}
+
+impl<'a> Scanner<'a> {
+    // Nothing is scanned yet.
+    pub(crate) fn new(alloc: Global, file: usize) -> Scanner<'a>
+        ensures { IsNew file result }
+    {
+        Scanner {
+            file,
+            lines: Vec::new(alloc),
+            line: Vec::new(alloc),
+            place: Place::Start,
+            space: false,
+            overlong: None,
+            unclosed: None,
+        }
+    }
+
+    fn end_line(&mut self, alloc: Global) -> Result<(), Refusal>
+        ensures ok { OnOk result (EndsLine self.old self.new) }
+        ensures err { IfErr result (λ e. e ≡ Memory) }
+    {
+        let tokens = mem::replace(&mut self.line, Vec::new(alloc));
+        self.lines.push(Line { tokens })?;
+        self.place = Place::Start;
+        self.space = false;
+        Ok(())
+    }
+
+    // Adds a token that begins at this place, on this line.
+    fn add_word(
+        &mut self,
+        alloc: Global,
+        at: Cursor<'a>,
+        line: u32,
+        kind: Kind,
+        span: Span<'a>,
+    ) -> Result<(), Refusal>
+        requires { Spans at span.count span.after }
+        ensures ok { OnOk result (AddsWord self.old self.new kind (take span.entry.count (bytes_at at.entry)) line) }
+        ensures err { IfErr result (λ e. e ≡ Memory) }
+    {
+        let spelling = at.spelling(alloc, span)?;
+        let pos = Pos {
+            file: self.file,
+            line,
+        };
+        if span.count > MAX_SPELLING_BYTES {
+            self.overlong = or_later(self.overlong, pos);
+        }
+        self.place = next_place(self.place, spelling.as_slice());
+        let token = PpToken::new(kind, spelling, self.space, pos);
+        self.space = false;
+        self.line.push(token)?;
+        Ok(())
+    }
+
+    /// Adds the piece that stands at this place.
+    pub(crate) fn put(
+        &mut self,
+        alloc: Global,
+        at: Cursor<'a>,
+        first: Step<'a>,
+        front: Front<'a>,
+    ) -> Result<(), Refusal>
+        requires { Spans at front.span.count front.span.after }
+        ensures ok { OnOk result (Puts self.old self.new at.entry first.entry front.entry) }
+        ensures err { IfErr result (λ e. e ≡ Memory) }
+    {
+        match front.piece {
+            Piece::Newline => self.end_line(alloc),
+            Piece::Gap => {
+                self.space = true;
+                Ok(())
+            }
+            Piece::Unclosed => {
+                let pos = Pos {
+                    file: self.file,
+                    line: first.line,
+                };
+                self.unclosed = or_later(self.unclosed, pos);
+                self.space = true;
+                Ok(())
+            }
+            Piece::Word(kind) => self.add_word(alloc, at, first.line, kind, front.span),
+        }
+    }
+
+    // Ends the last line, if it has tokens.
+    fn end_last_line(&mut self, alloc: Global) -> Result<(), Refusal>
+        ensures ok { OnOk result (EndsLastLine self.old self.new) }
+        ensures err { IfErr result (λ e. e ≡ Memory) }
+    {
+        if self.line.is_empty() {
+            return Ok(());
+        }
+        self.end_line(alloc)
+    }
+
+    /// The lines of a file that is all scanned, or the fault of a comment or a token.
+    pub(crate) fn finish(mut self, alloc: Global) -> Result<Vec<Line<'a>>, Refusal>
+        ensures ok { IfOk result (λ lines. lines_or_fault (whole self.entry nothing) ≡ Ok lines.items) }
+        ensures err { IfErr result (λ e. (e ≡ Memory) ⊎ (lines_or_fault (whole self.entry nothing) ≡ Err e)) }
+    {
+        if let Some(pos) = self.unclosed {
+            return Err(Refusal::At { code: 113, pos });
+        }
+        if let Some(pos) = self.overlong {
+            return Err(Refusal::At { code: 703, pos });
+        }
+        self.end_last_line(alloc)?;
+        Ok(self.lines)
+    }
+}

@@ -1,0 +1,248 @@
+//! Tests: texts whose tokens were listed by hand from ISO/IEC 9899:2011 6.4, and each limit at it and
+//! one past it.
+use crate::{Kind, Line, MAX_SPELLING_BYTES, PpToken, scan};
+use srcset::{Names, Pos};
+use std::alloc::Global;
+use std::borrow::CowSlice;
+use std::process::Abort;
+use std::test::Fail;
+
+// A text, and its tokens, each with a space behind it and each line with a newline.
+const TEXTS: [(&[u8], &[u8]); 44] = [
+    (b"", b""),
+    (b"\n", b"\n"),
+    (b"\n\n", b"\n\n"),
+    (b"a\r\nb\n", b"a \nb \n"),
+    (
+        b"int main(void) { re\\\nturn 3; }\n",
+        b"int main ( void ) { return 3 ; } \n",
+    ),
+    (b"??=define X 7\n", b"# define X 7 \n"),
+    (b"re\\\r\nturn\n", b"return \n"),
+    (b"re??/\nturn\n", b"return \n"),
+    (b"a\\\n\\\nb\n", b"ab \n"),
+    (b"a \\\n b\n", b"a b \n"),
+    (b"a\\b\n", b"a \\ b \n"),
+    (b"a /* b\nc */ d\n", b"a d \n"),
+    (b"a/**/b\n", b"a b \n"),
+    (b"a/***/b\n", b"a b \n"),
+    (b"a/*/b*/c\n", b"a c \n"),
+    (b"a // b\nc\n", b"a \nc \n"),
+    (b"a // b\\\nc\nd\n", b"a \nd \n"),
+    (b"a /\\\n/ b\n", b"a \n"),
+    (b"a / / b\n", b"a / / b \n"),
+    (b"\"/*\" '//'\n", b"\"/*\" '//' \n"),
+    (b"\"a\\\"b\" c\n", b"\"a\\\"b\" c \n"),
+    (b"\"a??/\"b\"\n", b"\"a\\\"b\" \n"),
+    (b"\"??=\"\n", b"\"#\" \n"),
+    (
+        b"L'a' u'b' U'c' L\"d\" u\"e\" U\"f\" u8\"g\"\n",
+        b"L'a' u'b' U'c' L\"d\" u\"e\" U\"f\" u8\"g\" \n",
+    ),
+    (b"u8'a' LL'b'\n", b"u8 'a' LL 'b' \n"),
+    (b"'' 'a\n", b"' ' ' a \n"),
+    (b"\"\" \"a\n", b"\"\" \" a \n"),
+    (b"'\\'' '\\\\'\n", b"'\\'' '\\\\' \n"),
+    (
+        b"1 .5 1. 1.5e+3 0x1p-2 1e 12ab_.x ..1\n",
+        b"1 .5 1. 1.5e+3 0x1p-2 1e 12ab_.x . .1 \n",
+    ),
+    (
+        b"1+2 1e+2+3 0xe+1 1f+2\n",
+        b"1 + 2 1e+2 + 3 0xe+1 1f + 2 \n",
+    ),
+    (b"a>>=b>>c>=d>e\n", b"a >>= b >> c >= d > e \n"),
+    (b"a<<=b<<c<=d<e\n", b"a <<= b << c <= d < e \n"),
+    (b"a+++++b---->c\n", b"a ++ ++ + b -- -- > c \n"),
+    (b"...... .. .\n", b"... ... . . . \n"),
+    (b"%:%:%: %:<%%><::><:\n", b"%:%: %: %: <% %> <: :> <: \n"),
+    (
+        b"*=/=%=^=!===&=|=&&&|||\n",
+        b"*= /= %= ^= != == &= |= && & || | \n",
+    ),
+    (b"[](){}~?:;,##=#\n", b"[ ] ( ) { } ~ ? : ; , ## = # \n"),
+    (b"#include <a/*b>c>\n", b"# include <a/*b> c > \n"),
+    (b"%:include \"a\\b\"\n", b"%: include \"a\\b\" \n"),
+    (b"??=include <x>\n", b"# include <x> \n"),
+    (b"#define <a>\n", b"# define < a > \n"),
+    (b"x #include <a>\n", b"x # include < a > \n"),
+    (b"#include <>\n", b"# include < > \n"),
+    (b"$@`\x01\xff\n", b"$ @ ` \x01 \xff \n"),
+];
+
+// A text, and the code and the line of its fault.
+const FAULTS: [(&[u8], u16, u32); 12] = [
+    (b"a", 111, 1),
+    (b"a\nb", 111, 2),
+    (b"a\r", 111, 1),
+    (b"a\\\n", 112, 1),
+    (b"a\nb??/\n", 112, 2),
+    (b"a\nb\\\r\n", 112, 2),
+    (b"a\nb???/\r\n", 112, 2),
+    (b"a\n /*\nb\n", 113, 2),
+    (b"a /\\\n*\n", 113, 1),
+    (b"/*", 111, 1),
+    (b"/*\\\n", 112, 1),
+    (b"/*/\n", 113, 1),
+];
+
+// The tokens, each with a space behind it and each line with a newline.
+fn shown(alloc: Global, lines: &[Line]) -> Result<Vec<u8>, Fail> {
+    let mut text = Vec::new(alloc);
+    for line in lines {
+        for token in line.tokens() {
+            text.extend_from_slice(token.spelling())?;
+            text.push(b' ')?;
+        }
+        text.push(b'\n')?;
+    }
+    Ok(text)
+}
+
+// The names, with that of the file as number 0.
+fn names(alloc: Global) -> Result<Names, Fail> {
+    let mut names = Names::new(alloc);
+    names.intern(b"a.c")?;
+    Ok(names)
+}
+
+fn expect_tokens(rt: &(impl Abort + AllocGlobal), text: &[u8], tokens: &[u8]) -> Result<(), Fail> {
+    assert!(rt; text.len() < 100);
+    let names = names(rt.alloc())?;
+    let lines = scan(rt.alloc(), text, 0, &names)?;
+    let found = shown(rt.alloc(), lines.as_slice())?;
+    assert!(rt; found.as_slice() == tokens);
+    Ok(())
+}
+
+fn expect_fault(
+    rt: &(impl Abort + AllocGlobal),
+    text: &[u8],
+    code: u16,
+    line: u32,
+) -> Result<(), Fail> {
+    assert!(rt; text.len() < 100_000);
+    let names = names(rt.alloc())?;
+    match scan(rt.alloc(), text, 0, &names) {
+        Ok(_) => assert!(rt; false),
+        Err(fault) => {
+            assert_eq!(rt; fault.code, code);
+            assert_eq!(rt; fault.line, line);
+            assert_eq!(rt; fault.file.as_str(), "a.c");
+        }
+    }
+    Ok(())
+}
+
+#[test]
+fn tokens_of_texts(rt: HostRuntime) -> Result<(), Fail> {
+    for (text, tokens) in &TEXTS {
+        expect_tokens(&rt, *text, *tokens)?;
+    }
+    Ok(())
+}
+
+#[test]
+fn faults_of_texts(rt: HostRuntime) -> Result<(), Fail> {
+    for (text, code, line) in &FAULTS {
+        expect_fault(&rt, *text, *code, *line)?;
+    }
+    Ok(())
+}
+
+// The nine trigraphs of 5.2.1.1, and two question marks before each other printable character.
+#[test]
+fn trigraphs(rt: HostRuntime) -> Result<(), Fail> {
+    for byte in 0x20..0x7f_u8 {
+        let text = [b'"', b'?', b'?', byte, b'x', b'"', b'\n'];
+        let names = names(rt.alloc())?;
+        let lines = scan(rt.alloc(), &text, 0, &names)?;
+        let found = shown(rt.alloc(), lines.as_slice())?;
+        let replaced = match byte {
+            b'=' => b'#',
+            b'(' => b'[',
+            b'/' => b'\\',
+            b')' => b']',
+            b'\'' => b'^',
+            b'<' => b'{',
+            b'!' => b'|',
+            b'>' => b'}',
+            b'-' => b'~',
+            _ => byte,
+        };
+        if replaced != byte {
+            assert!(rt; found.as_slice() == [b'"', replaced, b'x', b'"', b' ', b'\n'].as_slice());
+        } else if byte != b'"' {
+            assert!(rt;
+                found.as_slice() == [b'"', b'?', b'?', byte, b'x', b'"', b' ', b'\n'].as_slice()
+            );
+        }
+    }
+    Ok(())
+}
+
+#[test]
+fn spellings_at_the_limit(rt: HostRuntime) -> Result<(), Fail> {
+    let mut text = vec![in rt.alloc(); b'a'; MAX_SPELLING_BYTES]?;
+    text.push(b'\n')?;
+    let names = names(rt.alloc())?;
+    assert!(rt; text.len() < 5000);
+    let lines = scan(rt.alloc(), text.as_slice(), 0, &names)?;
+    assert_eq!(rt; lines.len(), 1);
+    let mut long = vec![in rt.alloc(); b'\n'; 2]?;
+    long.extend_from_slice(text.as_slice())?;
+    long.insert(2, b'a')?;
+    expect_fault(&rt, long.as_slice(), 703, 3)?;
+    long.extend_from_slice(b"/*\n")?;
+    expect_fault(&rt, long.as_slice(), 113, 4)
+}
+
+// Kinds, marks and places.
+#[test]
+fn parts_of_tokens(rt: HostRuntime) -> Result<(), Fail> {
+    let names = names(rt.alloc())?;
+    let lines = scan(rt.alloc(), b"a\\\nb +/**/1\n", 7, &names)?;
+    assert_eq!(rt; lines.len(), 1);
+    let tokens = lines[0].tokens();
+    assert_eq!(rt; tokens.len(), 3);
+    assert!(rt; tokens[0].kind() == Kind::Identifier);
+    assert!(rt; tokens[0].pos() == Pos { file: 7, line: 1 });
+    assert!(rt; tokens[1].kind() == Kind::Punctuator && tokens[1].space_before());
+    assert!(rt; tokens[1].pos() == Pos { file: 7, line: 2 });
+    assert!(rt; tokens[2].kind() == Kind::Number && tokens[2].space_before());
+    assert!(rt; !tokens[0].space_before());
+    let copy = tokens[0].copy()?;
+    assert!(rt; copy.spelling() == b"ab".as_slice());
+    Ok(())
+}
+
+#[test]
+fn made_tokens(rt: HostRuntime) -> Result<(), Fail> {
+    let pos = Pos { file: 1, line: 2 };
+    let token = PpToken::new(Kind::Other, CowSlice::Borrowed(b"@"), true, pos);
+    assert!(rt; token.spelling() == b"@".as_slice());
+    let names = names(rt.alloc())?;
+    let mut lines = scan(rt.alloc(), b"a b\n", 0, &names)?;
+    let Some(line) = lines.pop() else {
+        assert!(rt; false);
+        return Ok(());
+    };
+    assert_eq!(rt; line.into_tokens().len(), 2);
+    Ok(())
+}
+
+// A long line of quotes that are never closed is not searched again from each of them.
+#[test]
+fn unclosed_quotes(rt: HostRuntime) -> Result<(), Fail> {
+    let names = names(rt.alloc())?;
+    let mut text = vec![in rt.alloc(); b'\''; 1]?;
+    for _ in 0..250_000 {
+        text.extend_from_slice(b"\\'\\\"")?;
+    }
+    text.push(b'\n')?;
+    assert!(rt; text.len() <= 1_048_576);
+    let lines = scan(rt.alloc(), text.as_slice(), 0, &names)?;
+    assert_eq!(rt; lines.len(), 1);
+    assert_eq!(rt; lines[0].tokens().len(), 1_000_001);
+    Ok(())
+}
