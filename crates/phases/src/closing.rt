@@ -7,6 +7,7 @@ use crate::cursor::{Cursor, Hopeless, Step};
 
 impl<'a> Cursor<'a> {
     // How many characters from here on hold no such quote that is closed, of which `known` is known.
+    #[inline(always)]
     fn hopeless_of(self, first: Step<'a>, quote: u8, known: usize) -> usize
         requires step { IsStep self first }
         requires known { unclosed_for quote known (bytes_at self) ≡ true }
@@ -22,6 +23,7 @@ impl<'a> Cursor<'a> {
     }
 
     /// What is known from here on, after a look at the first character.
+    #[inline(always)]
     pub(crate) fn hopeless(self, first: Step<'a>, known: Hopeless) -> Hopeless
         requires step { IsStep self first }
         requires known { IsHopeless known (bytes_at self) }

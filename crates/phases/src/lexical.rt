@@ -7,36 +7,42 @@ ghost use Rattle.phases.specs.Closing.{unclosed_for};
 
 use crate::cursor::{Cursor, Span, Step};
 
+#[inline(always)]
 fn is_digit(byte: u8) -> bool
     ensures { result ≡ is_digit byte }
 {
     byte >= b'0' && byte <= b'9'
 }
 
+#[inline(always)]
 fn is_letter(byte: u8) -> bool
     ensures { result ≡ is_letter byte }
 {
     (byte >= b'a' && byte <= b'z') || (byte >= b'A' && byte <= b'Z') || byte == b'_'
 }
 
+#[inline(always)]
 fn is_word(byte: u8) -> bool
     ensures { result ≡ is_word byte }
 {
     is_letter(byte) || is_digit(byte)
 }
 
+#[inline(always)]
 fn is_sign(byte: u8) -> bool
     ensures { result ≡ is_sign byte }
 {
     byte == b'+' || byte == b'-'
 }
 
+#[inline(always)]
 fn is_exponent(byte: u8) -> bool
     ensures { result ≡ is_exponent byte }
 {
     byte == b'e' || byte == b'E' || byte == b'p' || byte == b'P'
 }
 
+#[inline(always)]
 pub(crate) fn is_white(byte: u8) -> bool
     ensures { result ≡ is_white byte }
 {
@@ -44,12 +50,14 @@ pub(crate) fn is_white(byte: u8) -> bool
 }
 
 // Whether a preprocessing number goes on with `byte` after `last`.
+#[inline(always)]
 fn goes_on(last: u8, byte: u8) -> bool
     ensures { result ≡ goes_on last byte }
 {
     is_word(byte) || byte == b'.' || (is_sign(byte) && is_exponent(last))
 }
 
+#[inline(always)]
 fn is_prefix(byte: u8) -> bool
     ensures { result ≡ is_prefix byte }
 {
@@ -57,6 +65,7 @@ fn is_prefix(byte: u8) -> bool
 }
 
 // Whether `byte` closes what `close` closes, after a backslash or not.
+#[inline(always)]
 fn closes(close: u8, escaped: bool, byte: u8) -> bool
     ensures { result ≡ closes close escaped byte }
 {
@@ -64,6 +73,7 @@ fn closes(close: u8, escaped: bool, byte: u8) -> bool
 }
 
 // Whether the byte after `byte` is escaped.
+#[inline(always)]
 fn escapes_next(escapes: bool, escaped: bool, byte: u8) -> bool
     ensures { result ≡ escapes_next escapes escaped byte }
 {
@@ -131,6 +141,7 @@ impl<'a> Cursor<'a> {
     }
 
     // An identifier.
+    #[inline(always)]
     pub(crate) fn name(self) -> Option<Span<'a>>
         ensures { MatchOption result (name_len (bytes_at self.entry) ≡ 0) (IsSomeFront self.entry (name_len (bytes_at self.entry))) }
     {
@@ -148,6 +159,7 @@ impl<'a> Cursor<'a> {
     }
 
     // Whether the first character is a digit.
+    #[inline(always)]
     fn begins_digit(self) -> bool
         ensures { result ≡ begins_digit (bytes_at self.entry) }
     {
@@ -158,6 +170,7 @@ impl<'a> Cursor<'a> {
     }
 
     // A preprocessing number.
+    #[inline(always)]
     pub(crate) fn number(self) -> Option<Span<'a>>
         ensures { MatchOption result (number_len (bytes_at self.entry) ≡ 0) (IsSomeFront self.entry (number_len (bytes_at self.entry))) }
     {
@@ -175,6 +188,7 @@ impl<'a> Cursor<'a> {
     }
 
     // What `first` opens and `close` closes, if more than `least` characters are behind `first`.
+    #[inline(always)]
     fn enclosed(self, first: u8, close: u8, least: usize, escapes: bool) -> Option<Span<'a>>
         ensures { MatchOption result (enclosed first close least escapes (bytes_at self.entry) ≡ 0) (IsSomeFront self.entry (enclosed first close least escapes (bytes_at self.entry))) }
     {
@@ -197,6 +211,7 @@ impl<'a> Cursor<'a> {
     }
 
     // The prefix that a character constant may have.
+    #[inline(always)]
     fn character_prefix(self) -> Span<'a>
         ensures { IsFront self.entry (character_prefix (bytes_at self.entry)) result }
     {
@@ -237,6 +252,7 @@ impl<'a> Cursor<'a> {
     }
 
     // The next character and the place behind it, or 0 and this place at the end.
+    #[inline(always)]
     pub(crate) fn ahead(self) -> Step<'a>
         ensures { IsAhead self.entry result }
     {
@@ -251,6 +267,7 @@ impl<'a> Cursor<'a> {
     }
 
     // The prefix that a string literal may have.
+    #[inline(always)]
     fn string_prefix(self) -> Span<'a>
         ensures { IsFront self.entry (string_prefix (bytes_at self.entry)) result }
     {
@@ -310,6 +327,7 @@ impl<'a> Cursor<'a> {
 }
 
 // Whether a preprocessing number begins with this character.
+#[inline(always)]
 fn begins_number<'a>(first: Step<'a>) -> bool
     ensures { result ≡ begins_number first.entry.byte (bytes_at first.entry.next) }
 {

@@ -12,6 +12,7 @@ use crate::lexical::is_white;
 use crate::token::{Kind, Piece, Place};
 
 // Whether a slash and this byte stand here.
+#[inline(always)]
 fn opens<'a>(second: u8, first: Step<'a>) -> bool
     ensures { result ≡ opens second first.entry.byte (bytes_at first.entry.next) }
 {
@@ -211,6 +212,7 @@ impl<'a> Cursor<'a> {
 }
 
 // Whether `byte` ends a comment, after a `*` or not.
+#[inline(always)]
 fn ends_comment(star: bool, byte: u8) -> bool
     ensures { result ≡ ends_comment star byte }
 {

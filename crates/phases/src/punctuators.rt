@@ -37,12 +37,14 @@ fn seconds(first: u8) -> &'static [u8]
     }
 }
 
+#[inline(always)]
 fn is_pair(first: u8, second: u8) -> bool
     ensures { result ≡ is_pair first second }
 {
     seconds(first).contains(&second)
 }
 
+#[inline(always)]
 fn is_triple(first: u8, second: u8, third: u8) -> bool
     ensures { result ≡ is_triple first second third }
 {
@@ -50,6 +52,7 @@ fn is_triple(first: u8, second: u8, third: u8) -> bool
         && ((first == b'.' && third == b'.') || ((first == b'<' || first == b'>') && third == b'='))
 }
 
+#[inline(always)]
 fn is_quadruple(first: u8, second: u8, third: u8, fourth: u8) -> bool
     ensures { result ≡ is_quadruple first second third fourth }
 {

@@ -50,6 +50,7 @@ fn after_return<'a>(first: u8, rest: &'a [u8]) -> Option<&'a [u8]>
     if first == b'\r' { Some(after) } else { None }
 }
 
+#[inline(always)]
 fn is_plain(byte: u8) -> bool
     ensures { result ≡ is_plain byte }
 {
