@@ -1,6 +1,6 @@
 //! Many bytes through a port or a writer.
 
-ghost use Rattle.std.specs.Prelude.{◌≡◌, ℕ, MatchResult, true};
+ghost use Rattle.std.specs.Prelude.{◌≡◌, ℕ, MatchResult, IfErr, true};
 ghost use Rattle.std.specs.Io.KnownBytes.{Appends};
 ghost use Rattle.cc.specs.Transfer.{PutsAll, PutsSome, WritesBeginning};
 
@@ -9,8 +9,9 @@ use std::io::Write;
 
 /// Puts all bytes, up to the first that the port refuses.
 pub fn put_all<P: Port>(port: &mut P, bytes: &[u8]) -> Result<(), PortFault>
-    ensures { MatchResult result (λ _. PutsAll (P.seen port.old) (P.seen port.new) bytes.now)
+    ensures puts { MatchResult result (λ _. PutsAll (P.seen port.old) (P.seen port.new) bytes.now)
         (λ _. (count : ℕ) × PutsSome (P.seen port.old) (P.seen port.new) bytes.now count) }
+    ensures fault { IfErr result (P.refused_with port.new) }
 {
     for byte in bytes {
         port.put(*byte)?;

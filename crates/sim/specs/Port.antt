@@ -37,7 +37,7 @@ pub record Puts (old new : PortView) (byte : ℕ) : Type 0 where
   pub output_grows : Appends old.output new.output (byte ∷ [])
   pub not_counted : new.failures ≡ old.failures
 
--- bytes taken so far were handed on
+-- an answered flush: what is told stays, and no failure is counted
 pub record Flushes (old new : PortView) : Type 0 where
   pub input_stays : Keeps old.input new.input
   pub output_stays : Keeps old.output new.output
