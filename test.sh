@@ -10,8 +10,12 @@ trap 'rm -rf "$logs"' EXIT
 gate=$(tail -n 1 "$logs/ci" | grep -E '^[0-9]+ passed, [0-9]+ failed')
 [ -n "$gate" ] || gate='0 passed, 1 failed'
 
-# The program that is checked is the one that was built from this tree.
+# The program that is checked is the one that rt ci proved and built from this tree.
 rm -f bin/cc
+if [ -x crates/cc_program/out/cc_program ]; then
+    mkdir -p bin
+    cp crates/cc_program/out/cc_program bin/cc
+fi
 if sh run.sh >"$logs/run" 2>&1; then
     run='1 passed, 0 failed'
 else

@@ -142,6 +142,13 @@ building() {
 }
 
 cp "$root/examples/hello.c" hello.c
-awk -f "$root/tests/outside/largest.awk" </dev/null >largest.c
+# 5,000 lines: 2,498 statements over two lines each.
+awk 'BEGIN {
+    print "void rv_putbyte(int c);"
+    print "int main(void) {"
+    for (k = 0; k < 2498; k++) printf "    rv_putbyte(%d\n    );\n", k
+    print "    return 0;"
+    print "}"
+}' </dev/null >lines.c
 building hello.c
-building largest.c
+building lines.c

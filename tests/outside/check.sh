@@ -206,6 +206,7 @@ built() {
 
 built examples/hello.c "$root/examples/hello.c" 48 42
 built examples/sums.c "$root/examples/sums.c" 342b333d370a4869210a 7
+built examples/nested.c "$root/examples/nested.c" 320a 4
 
 if [ -n "$hostgcc" ]; then
     printf '#include <stdio.h>\nvoid rv_putbyte(int c) { putchar(c & 255); }\n' >port.c
@@ -222,19 +223,73 @@ while IFS= read -r line; do
     printf '%b' "$source" >main.c
     built "$f1" main.c "$f2" "$expected"
     if [ -n "$hostgcc" ]; then
-        $hostgcc -w main.c port.o -o host 2>/dev/null
+        $hostgcc -std=c11 -w main.c port.o -o host 2>/dev/null
         go ./host
         expect "$f1, the host's gcc" "$expected" "$f2" ''
     else
         skip 1
     fi
 done <"$here/programs.txt"
-holds "programs.txt has $count programs, not 40" [ "$count" = 40 ]
+holds "programs.txt has $count programs, not 65" [ "$count" = 65 ]
 
-# The largest source that is built, and one byte more.
+# 32 statements and a return of 64 constants each.
 awk -f "$here/largest.awk" </dev/null >largest.c
 built largest largest.c 6162636465666768696a6b6c6d6e6f707172737475767778797a616263646566 42
-holds 'largest.c has not 65536 bytes' [ "$(size largest.c)" = 65536 ]
+
+# nodes STATEMENTS SUM: a main of 3 nodes for each statement, those of the sum, and 3.
+nodes() {
+    awk -v n="$1" -v sum="$2" 'BEGIN {
+        printf "void rv_putbyte(int c);\nint main(void) {\n"
+        for (k = 0; k < n; k++) print "rv_putbyte(65);"
+        print "return " sum "; }" }' </dev/null
+}
+
+# 8,000 nodes are a function, one more is not: 710 at its last line.
+nodes 2664 '1 + 1 + 1' >many.c
+go "$cc" build many.c -o program
+expect '8000 nodes' 0 - ''
+nodes 2665 '1 + 1' >many.c
+go "$cc" build many.c -o program
+expect '8001 nodes' 1 - 'many.c:2668: 710 limit: nodes of a function'
+
+# functions STATEMENTS: 32 functions of 7,998 empty statements, and so of 8,000 nodes, and one of so many.
+functions() {
+    awk -v last="$1" 'BEGIN {
+        for (f = 0; f < 33; f++) {
+            printf "int m(void) {"
+            for (k = 0; k < (f < 32 ? 7998 : last); k++) printf ";"
+            print "}"
+        } }' </dev/null
+}
+
+# 262,144 nodes are a program, one more is not: 711 where the declaration ends that is too many. A function that is too
+# large itself is said before.
+functions 6142 >many.c
+go "$cc" build many.c -o program
+expect '262144 nodes' 1 - 'many.c:1: 699 not built yet'
+printf 'int\na\n; int b;\n' >>many.c
+go "$cc" build many.c -o program
+expect '262145 nodes' 1 - 'many.c:36: 711 limit: nodes of the program'
+functions 7999 >many.c
+go "$cc" build many.c -o program
+expect 'a function of 8001 nodes in a program that is too large' 1 - 'many.c:33: 710 limit: nodes of a function'
+
+# pairs NUMBER: a return of 0 in so many pairs of parentheses.
+pairs() {
+    awk -v n="$1" 'BEGIN { printf "int main(void) { return "
+        for (k = 0; k < n; k++) printf "("
+        printf "0"
+        for (k = 0; k < n; k++) printf ")"
+        print "; }" }' </dev/null
+}
+pairs 252 >main.c
+built '252 pairs of parentheses' main.c - 0
+pairs 253 >main.c
+go "$cc" build main.c -o program
+expect '253 pairs of parentheses' 1 - 'main.c:1: 709 limit: depth'
+pairs 200000 >main.c
+go "$cc" build main.c -o program
+expect '200000 pairs of parentheses' 1 - 'main.c:1: 709 limit: depth'
 
 # A sum past int has no meaning in C, but it builds.
 echo 'int main(void) { return 2147483647 + 1; }' >main.c
@@ -279,8 +334,6 @@ done <"$here/refused.txt"
 
 : >main.c
 refused 'an empty source' 'main.c:1: 699 not built yet' main.c
-{ echo; cat largest.c; } >main.c
-refused 'a source of 65537 bytes' 'main.c:1: 699 not built yet' main.c
 cp "$root/examples/hello.c" other.c
 cp "$root/examples/hello.c" main.c
 echo '/* nothing */' >rest.c
@@ -316,7 +369,7 @@ refused 'a name of 256 bytes' "$long:0: 102 bad file name" "$long"
 
 # 1,048,576 bytes may be read, one more not.
 dd if=/dev/zero of=large.c bs=1048576 count=1 2>/dev/null
-refused 'a source of 1048576 bytes' 'large.c:1: 699 not built yet' large.c
+refused 'a source of 1048576 bytes' 'large.c:1: 111 file does not end in a newline' large.c
 go "$cc" build main.c large.c -o program
 expect 'a further file of 1048576 bytes' 0 - ''
 echo >>large.c

@@ -1,4 +1,4 @@
-# Prints the largest source that is built today: 32 statements and a return,
+# Prints a source of 32 statements and a return,
 # each of 64 constants, and white space up to 65,536 bytes. It writes the
 # letters a to z and a to f, and returns 42.
 #

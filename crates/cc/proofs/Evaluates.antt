@@ -11,9 +11,9 @@ use Rattle.asm.specs.Placed.{Stands}
 use Rattle.running.specs.Light.{Fixed, Light, Go, with_reg, with_word, Comes}
 use Rattle.running.proofs.Steps.{comes_some, comes_by, on_lui, on_immediate, on_load, on_store, on_op}
 use Rattle.running.proofs.Placing.{after_items, stands_parts}
-use Rattle.cc.specs.declared.tree.BinaryOperator.{BinaryOperator}
-use Rattle.cc.specs.declared.tree.BinaryOperator.TheVariants as operator
-use Rattle.cc.specs.Tree.{Tree, constant, binary}
+use Rattle.cc.specs.declared.program.BinaryOperator.{BinaryOperator}
+use Rattle.cc.specs.declared.program.BinaryOperator.TheVariants as operator
+use Rattle.cc.specs.Sums.{SumTree, constant, binary}
 use Rattle.cc.specs.Meaning.{value, combined, result}
 use Rattle.cc.specs.Selected.{slots, expr_items, register_op_of}
 use Rattle.cc.specs.Range.{AreInts}
@@ -41,7 +41,7 @@ result_fits : (op : BinaryOperator) (a b z : ℤ) → result op a b ≡ Some z �
 result_fits operator.Add a b z e = let q = in_int_is (a +ℤ b) z e in subst (FitsSigned w32) q.0 (int_fits (a +ℤ b) q.1)
 result_fits operator.Subtract a b z e = let q = in_int_is (a -ℤ b) z e in subst (FitsSigned w32) q.0 (int_fits (a -ℤ b) q.1)
 
-pub value_fits : (t : Tree) (z : ℤ) → AreInts t → value t ≡ Some z → FitsSigned w32 z
+pub value_fits : (t : SumTree) (z : ℤ) → AreInts t → value t ≡ Some z → FitsSigned w32 z
 value_fits (constant v) z small e = subst (FitsSigned w32) (some_is (pos v) z e) (record { sfits = grind (arith, nat_tests) })
 value_fits (binary op left right) z small e =
     let c = combined_is op (value left) (value right) z e in
@@ -76,11 +76,11 @@ four_true p a e0 e1 e2 e3 = rw (e0, e1, e2, e3) refl
 -- ---- expressions
 
 -- the instructions that evaluate an expression
-abbrev pub cost : Tree → ℕ
+abbrev pub cost : SumTree → ℕ
 cost (constant v) = 3
 cost (binary op left right) = cost left + cost right + 4
 
-pub slots_some : (t : Tree) → 1 ≤ slots t
+pub slots_some : (t : SumTree) → 1 ≤ slots t
 slots_some (constant v) = omega arith
 slots_some (binary op left right) = omega (arith, slots_some left)
 
@@ -105,7 +105,7 @@ module _ (F : Fixed) (stack : HasStack F) (env : ℕ → ℕ) (seg entry sp : �
   pub holds : (x : ℕ) → x ≡ sp → sp ≤ 2 ^ 31 → (pc : ℕ) → entry ≤ pc → IsSp sp x
   holds x e small pc in_main = (omega (arith, e), omega (arith, e, small), omega (arith, e, aligned))
 
-  pub evaluates : (t : Tree) (k : ℕ) (z : ℤ) → AreInts t → value t ≡ Some z → sp + 4 * (k + slots t) ≤ 2 ^ 31 → (a e : ℕ) → a % 4 ≡ 0 → Stands F.text env seg (expr_items t k) a e → (r b : ℕ → ℕ) (i : List ℕ) (h : List Event) → r 2 ≡ sp → (n : ℕ) (Q : Light → Type 0) → ((s c : ℕ → ℕ) → SameCall r s → HasWord c (sp + 4 * k) (word z) → SameBelow (sp + 4 * k) b c → Comes F I 0 n (Go s e c i h) Q) → Comes F I 0 (cost t + n) (Go r a b i h) Q
+  pub evaluates : (t : SumTree) (k : ℕ) (z : ℤ) → AreInts t → value t ≡ Some z → sp + 4 * (k + slots t) ≤ 2 ^ 31 → (a e : ℕ) → a % 4 ≡ 0 → Stands F.text env seg (expr_items t k) a e → (r b : ℕ → ℕ) (i : List ℕ) (h : List Event) → r 2 ≡ sp → (n : ℕ) (Q : Light → Type 0) → ((s c : ℕ → ℕ) → SameCall r s → HasWord c (sp + 4 * k) (word z) → SameBelow (sp + 4 * k) b c → Comes F I 0 n (Go s e c i h) Q) → Comes F I 0 (cost t + n) (Go r a b i h) Q
   evaluates (constant v) k z small ev room a e al st r b i h at n Q next =
       let q = st.1 in
       let p : (pc : ℕ) → entry ≤ pc → IsSp sp (r 2) = holds (r 2) at (omega (arith, room)) in

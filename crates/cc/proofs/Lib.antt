@@ -1,14 +1,4 @@
 pub mod Views
-pub mod Runs
-pub mod Constants
-pub mod Fronts
-pub mod Scans
-pub mod Fits
-pub mod Sums
-pub mod Calls
-pub mod Files
-pub mod Programs
-pub mod Rows
 pub mod Words
 pub mod Evaluates
 pub mod Mains
@@ -18,3 +8,7 @@ pub mod Sound
 pub mod Sizes
 pub mod Transfers
 pub mod Outcomes
+pub mod Narrows
+pub mod Bounds
+pub mod FrontFaults
+pub mod Refusals

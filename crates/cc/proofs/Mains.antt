@@ -7,7 +7,7 @@ use Rattle.asm.specs.Placed.{Stands}
 use Rattle.running.specs.Light.{Fixed, Light, Go, Done, with_reg, sum32, Comes}
 use Rattle.running.proofs.Steps.{comes_now, comes_some, comes_by, on_lui, on_auipc, on_immediate, on_load, on_put, on_exit, on_jump_register}
 use Rattle.running.proofs.Placing.{after_items, stands_parts}
-use Rattle.cc.specs.Tree.{Tree, Main}
+use Rattle.cc.specs.Sums.{SumTree, Main}
 use Rattle.cc.specs.Meaning.{value, low_byte, and_then, bytes_put, ending, meaning, Ending}
 use Rattle.cc.specs.Selected.{slots, most_slots, main_slots, expr_items, puts_items, main_items, program_items}
 use Rattle.cc.specs.Range.{AllInts, MainIsInts}
@@ -51,7 +51,7 @@ ended (Some a) (Some z) bytes status e =
 some_list : (x y : List ℕ) → Some x ≡ Some y → x ≡ y
 some_list x y e = cc
 
-abbrev pub puts_cost : List Tree → ℕ
+abbrev pub puts_cost : List SumTree → ℕ
 puts_cost [] = 0
 puts_cost (tree ∷ trees) = cost tree + (5 + puts_cost trees)
 
@@ -59,7 +59,7 @@ module _ (F : Fixed) (stack : HasStack F) (env : ℕ → ℕ) (seg entry sp : �
   abbrev I : Light → Type 0
   I = HoldsSp entry sp
 
-  pub puts : (trees : List Tree) (bytes : List ℕ) → AllInts trees → bytes_put trees ≡ Some bytes → sp + 4 * most_slots trees ≤ 2 ^ 31 → sp + 4 ≤ 2 ^ 31 → (a e : ℕ) → a % 4 ≡ 0 → Stands F.text env seg (puts_items trees) a e → (r b : ℕ → ℕ) (i : List ℕ) (h : List Event) → r 2 ≡ sp → (n : ℕ) (Q : Light → Type 0) → ((s c : ℕ → ℕ) → SameCall r s → Comes F I 0 n (Go s e c i (after_puts bytes h)) Q) → Comes F I 0 (puts_cost trees + n) (Go r a b i h) Q
+  pub puts : (trees : List SumTree) (bytes : List ℕ) → AllInts trees → bytes_put trees ≡ Some bytes → sp + 4 * most_slots trees ≤ 2 ^ 31 → sp + 4 ≤ 2 ^ 31 → (a e : ℕ) → a % 4 ≡ 0 → Stands F.text env seg (puts_items trees) a e → (r b : ℕ → ℕ) (i : List ℕ) (h : List Event) → r 2 ≡ sp → (n : ℕ) (Q : Light → Type 0) → ((s c : ℕ → ℕ) → SameCall r s → Comes F I 0 n (Go s e c i (after_puts bytes h)) Q) → Comes F I 0 (puts_cost trees + n) (Go r a b i h) Q
   puts [] bytes ints ev room some a e al st r b i h at n Q next =
       let none : [] ≡ bytes = some_list [] bytes ev in
       let done = next r b (refl, refl) in

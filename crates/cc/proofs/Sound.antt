@@ -3,7 +3,7 @@ use Rattle.std.proofs.Common.{◌≡◌, ℕ, zero, suc, ◌+◌, ◌<◌, ◌^�
 use Rattle.asm.specs.declared.item.Item.{Item}
 use Rattle.asm.specs.declared.item.Item.TheVariants.{Mark, Plain, Branch, Jump, Call, Constant, LabelAddress, DataAddress}
 use Rattle.asm.specs.Layout.{item_at, Refers, IsSound, MissesMark, AllReach}
-use Rattle.cc.specs.Tree.{Tree, constant, binary, Main}
+use Rattle.cc.specs.Sums.{SumTree, constant, binary, Main}
 use Rattle.cc.specs.Range.{AreInts, AllInts, MainIsInts}
 use Rattle.cc.specs.Selected.{expr_items, puts_items, main_items, program_items}
 
@@ -30,12 +30,12 @@ both_plain (Call to ∷ xs) ys p q = absurd p
 both_plain (LabelAddress rd l ∷ xs) ys p q = absurd p
 both_plain (DataAddress rd o ∷ xs) ys p q = absurd p
 
-expr_plain : (t : Tree) (k : ℕ) → AreInts t → AllPlain (expr_items t k)
+expr_plain : (t : SumTree) (k : ℕ) → AreInts t → AllPlain (expr_items t k)
 expr_plain (constant v) k small = (omega (arith, small), tt)
 expr_plain (binary op left right) k ints =
     both_plain (expr_items left k) _ (expr_plain left k ints.0) (both_plain (expr_items right (k + 1)) _ (expr_plain right (k + 1) ints.1) tt)
 
-puts_plain : (trees : List Tree) → AllInts trees → AllPlain (puts_items trees)
+puts_plain : (trees : List SumTree) → AllInts trees → AllPlain (puts_items trees)
 puts_plain [] ints = tt
 puts_plain (tree ∷ trees) ints = both_plain (expr_items tree 0) _ (expr_plain tree 0 ints.0) (puts_plain trees ints.1)
 

@@ -20,12 +20,10 @@ use Rattle.running.specs.Laws.{AgreeOn}
 use Rattle.running.proofs.Worlds.{real_follows}
 use Rattle.running.proofs.Placing.{stands_in}
 use Rattle.running.proofs.Bridge.{and_left, and_right}
-use Rattle.cc.specs.Tree.{Main}
+use Rattle.cc.specs.Sums.{Main}
 use Rattle.cc.specs.Meaning.{meaning}
-use Rattle.cc.specs.Spelling.{IsThin}
 use Rattle.cc.specs.Selected.{main_slots, frame_of, program_items}
-use Rattle.cc.proofs.Sizes.{thin_slots, thin_ints}
-use Rattle.cc.specs.Range.{MainIsInts}
+use Rattle.cc.specs.Range.{MainIsInts, IsBuildable}
 use Rattle.cc.specs.Machine.{HasStack, IsSp, HoldsSp, after_puts}
 use Rattle.cc.specs.Compiled.{EndsAs, RunsAs}
 use Rattle.cc.proofs.Mains.{sp, sp_is, runs_program}
@@ -167,12 +165,10 @@ module _ (p : Parts) (size : length p.text + length p.statics ≤ 117440512) whe
             keeps_sp = λ k w le e in_main. subst (λ x. IsSp x (register w.machine 2)) bottom_is (sp_kept permits (text_start + 24) _ (light_run F k (Go (λ k. 0) text_start space.byte input [])) (rvrun k start) w (real k) (c.kept k le) e in_main);
           }
 
--- the file of a thin program's code runs as the program means
-pub runs_as : (declared : Bool) (main : Main) → IsThin declared main → (frame : ℕ) (p : Parts) (elf : List ℕ) → length p.text + length p.statics ≤ 117440512 → frame ≡ frame_of (main_slots main) → Assembles (program_items frame main) text_start p.text → file_image elf ≡ Ok (program_image p) → RunsAs main elf frame
-runs_as declared main thin frame p elf size is assembled loads =
-    let slots = thin_slots declared main thin in
-    record {
-      image = program_image p;
-      loads = loads;
-      ends = λ input ending means. ends_as p size frame (omega (arith, is, slots)) (omega (arith, is)) main (thin_ints declared main thin) (omega (arith, is)) assembled input ending.written ending.status means;
-    }
+-- the file of a program's code runs as the program means
+pub runs_as : (main : Main) → IsBuildable main → (frame : ℕ) (p : Parts) (elf : List ℕ) → length p.text + length p.statics ≤ 117440512 → frame ≡ frame_of (main_slots main) → Assembles (program_items frame main) text_start p.text → file_image elf ≡ Ok (program_image p) → RunsAs main elf frame
+runs_as main can frame p elf size is assembled loads = record {
+  image = program_image p;
+  loads = loads;
+  ends = λ input ending means. ends_as p size frame (omega (arith, is, can.slots)) (omega (arith, is)) main can.ints (omega (arith, is)) assembled input ending.written ending.status means;
+}

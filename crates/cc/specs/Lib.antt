@@ -1,6 +1,7 @@
-pub mod Tree
-pub mod Spelling
-pub mod Reading
+pub mod Sums
+pub mod Thin
+pub mod Narrowed
+pub mod Unprocessed
 pub mod Meaning
 pub mod Range
 pub mod Selected

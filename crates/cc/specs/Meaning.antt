@@ -1,9 +1,9 @@
 -- What a program means: the bytes that it writes and its status, over whole numbers.
 use Rattle.std.specs.Prelude.{ℕ, ℤ, pos, negsuc, ◌+ℤ◌, ◌-ℤ◌, ◌-◌, ◌%◌, ◌^◌, ◌&&◌, Bool, int_le, if◌then◌else◌, List, [], ◌∷◌, Option, Some, None}
 use Rattle.std.specs.Int.{w32, cast_unsigned}
-use Rattle.cc.specs.declared.tree.BinaryOperator.{BinaryOperator}
-use Rattle.cc.specs.declared.tree.BinaryOperator.TheVariants.{Add, Subtract}
-use Rattle.cc.specs.Tree.{Tree, constant, binary, Main}
+use Rattle.cc.specs.declared.program.BinaryOperator.{BinaryOperator}
+use Rattle.cc.specs.declared.program.BinaryOperator.TheVariants.{Add, Subtract}
+use Rattle.cc.specs.Sums.{SumTree, constant, binary, Main}
 
 -- a number that int can represent: -2147483648 to 2147483647 (6.2.6.2)
 abbrev pub is_int : ℤ → Bool
@@ -25,7 +25,7 @@ combined operator (Some a) None = None
 combined operator (Some a) (Some b) = result operator a b
 
 -- the value of an expression; none where it meets something undefined
-abbrev pub value : Tree → Option ℤ
+abbrev pub value : SumTree → Option ℤ
 value (constant v) = Some (pos v)
 value (binary operator left right) = combined operator (value left) (value right)
 
@@ -39,7 +39,7 @@ and_then (Some v) None = None
 and_then (Some v) (Some bytes) = Some (low_byte v ∷ bytes)
 
 -- the bytes that the calls of rv_putbyte write, in order
-abbrev pub bytes_put : List Tree → Option (List ℕ)
+abbrev pub bytes_put : List SumTree → Option (List ℕ)
 bytes_put [] = Some []
 bytes_put (tree ∷ trees) = and_then (value tree) (bytes_put trees)
 

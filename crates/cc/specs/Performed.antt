@@ -16,22 +16,22 @@ use Rattle.cc.specs.Transfer.{PutsAll, PutsSome}
 -- ---- building
 
 -- the source is a program, and its whole file was put
-pub record BuildsInto (source : Option (List ℕ)) (old new : PortView) : Type 0 where
+pub record BuildsInto (source : Option (List ℕ)) (name : List ℕ) (old new : PortView) : Type 0 where
   pub built : Built
-  pub compiles : Compiles source built
+  pub compiles : Compiles source name built
   pub puts : PutsAll old new built.elf.items
 
 -- the source is a program, and the port refused its file after a beginning
-pub record BuildsSome (source : Option (List ℕ)) (old new : PortView) : Type 0 where
+pub record BuildsSome (source : Option (List ℕ)) (name : List ℕ) (old new : PortView) : Type 0 where
   pub built : Built
-  pub compiles : Compiles source built
+  pub compiles : Compiles source name built
   pub count : ℕ
   pub puts : PutsSome old new built.elf.items count
 
 -- 0, and the whole file was put; or 1, and nothing was put or a beginning
-abbrev pub Builds : Option (List ℕ) → PortView → PortView → ℕ → Type 0
-Builds source old new status =
-    ((status ≡ 0) × BuildsInto source old new) ⊎ ((status ≡ 1) × ((new ≡ old) ⊎ BuildsSome source old new))
+abbrev pub Builds : Option (List ℕ) → List ℕ → PortView → PortView → ℕ → Type 0
+Builds source name old new status =
+    ((status ≡ 0) × BuildsInto source name old new) ⊎ ((status ≡ 1) × ((new ≡ old) ⊎ BuildsSome source name old new))
 
 -- ---- running
 
@@ -56,6 +56,7 @@ abbrev pub Runs : List ℕ → ℕ → PortView → PortView → ℕ → Type 0
 Runs file max old new status =
     ((image : Image) × (file_image file ≡ Ok image) × RanAs image max old new status) ⊎ ((status ≡ 1) × (new ≡ old))
 
-abbrev pub Performs : Cmd → Option (List ℕ) → List ℕ → PortView → PortView → ℕ → Type 0
-Performs (Build name) source file old new status = Builds source old new status
-Performs (Run max) source file old new status = Runs file max old new status
+-- by the main file's name
+abbrev pub Performs : Cmd → Option (List ℕ) → List ℕ → List ℕ → PortView → PortView → ℕ → Type 0
+Performs (Build output) source name file old new status = Builds source name old new status
+Performs (Run max) source name file old new status = Runs file max old new status

@@ -8,17 +8,17 @@ use Rattle.rv32.specs.declared.instr.LoadKind.TheVariants as load_kind
 use Rattle.rv32.specs.declared.instr.StoreKind.TheVariants as store_kind
 use Rattle.asm.specs.declared.item.Item.{Item}
 use Rattle.asm.specs.declared.item.Item.TheVariants.{Mark, Plain, Call, Constant}
-use Rattle.cc.specs.declared.tree.BinaryOperator.{BinaryOperator}
-use Rattle.cc.specs.declared.tree.BinaryOperator.TheVariants as operator
-use Rattle.cc.specs.Tree.{Tree, constant, binary, Main}
+use Rattle.cc.specs.declared.program.BinaryOperator.{BinaryOperator}
+use Rattle.cc.specs.declared.program.BinaryOperator.TheVariants as operator
+use Rattle.cc.specs.Sums.{SumTree, constant, binary, Main}
 
 -- the slots of four bytes that an expression is evaluated in: its value goes to the first,
 -- a right operand's into the one after its left operand's
-abbrev pub slots : Tree → ℕ
+abbrev pub slots : SumTree → ℕ
 slots (constant value) = 1
 slots (binary operator left right) = max (slots left) (slots right + 1)
 
-abbrev pub most_slots : List Tree → ℕ
+abbrev pub most_slots : List SumTree → ℕ
 most_slots [] = 0
 most_slots (tree ∷ trees) = max (slots tree) (most_slots trees)
 
@@ -45,7 +45,7 @@ register_op_of operator.Add = register_op.Add
 register_op_of operator.Subtract = register_op.Sub
 
 -- the value of the expression goes to slot k; slots below k stay
-abbrev pub expr_items : Tree → ℕ → List Item
+abbrev pub expr_items : SumTree → ℕ → List Item
 expr_items (constant value) k = Constant 5 value ∷ store_slot 5 k ∷ []
 expr_items (binary operator left right) k =
     expr_items left k ++ (expr_items right (k + 1) ++ (load_slot 5 k ∷ load_slot 6 (k + 1) ∷ Plain (Op (register_op_of operator) 5 5 6) ∷ store_slot 5 k ∷ []))
@@ -54,7 +54,7 @@ expr_items (binary operator left right) k =
 abbrev pub put_items : List Item
 put_items = add_to 11 2 0 ∷ add_to 10 0 1 ∷ add_to 12 0 1 ∷ add_to 17 0 64 ∷ Plain Ecall ∷ []
 
-abbrev pub puts_items : List Tree → List Item
+abbrev pub puts_items : List SumTree → List Item
 puts_items [] = []
 puts_items (tree ∷ trees) = expr_items tree 0 ++ (put_items ++ puts_items trees)
 

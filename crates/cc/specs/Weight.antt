@@ -1,14 +1,14 @@
 -- Nodes of a program, and the weight of main: what a call of it may take of the stack, by its source alone.
 use Rattle.std.specs.Prelude.{ℕ, ◌+◌, ◌*◌, ◌/◌, List, [], ◌∷◌}
-use Rattle.cc.specs.Tree.{Tree, constant, binary, Main}
+use Rattle.cc.specs.Sums.{SumTree, constant, binary, Main}
 
 -- one for each constant and operator
-abbrev pub nodes : Tree → ℕ
+abbrev pub nodes : SumTree → ℕ
 nodes (constant value) = 1
 nodes (binary operator left right) = nodes left + nodes right + 1
 
 -- an expression statement and its call, for each
-abbrev pub puts_nodes : List Tree → ℕ
+abbrev pub puts_nodes : List SumTree → ℕ
 puts_nodes [] = 0
 puts_nodes (tree ∷ trees) = nodes tree + 2 + puts_nodes trees
 

@@ -3,23 +3,27 @@
 ghost use Rattle.std.specs.Prelude.{◌≡◌, ◌≤◌, ◌<◌, ◌+◌, ◌*◌, ◌/◌, ◌^◌, map, Bool, length, IfOk, IfErr, codes, List, ℕ, [], ◌∷◌, vec_len};
 ghost use Rattle.srcset.specs.Fault.{IsMemoryFault};
 ghost use Rattle.srcset.specs.Files.{file_of};
-ghost use Rattle.cc.specs.Tree.{tree_of, main_of};
-ghost use Rattle.cc.specs.Compiled.{IsThinMain};
+ghost use Rattle.cc.specs.Sums.{sum_of, main_of};
+ghost use Rattle.cc.specs.Range.{IsBuildable};
 ghost use Rattle.cc.specs.Selected.{program_items, frame_of, main_slots};
 ghost use Rattle.asm.specs.Placed.{Assembles};
 ghost use Rattle.elf_out.specs.Layout.{text_start};
 ghost use Rattle.std.specs.String.{string_bytes};
 ghost use Rattle.cc.specs.Weight as weights;
 ghost use Rattle.cc.specs.Compiled.{IsBuiltOf, Compiles, IsRefused};
+ghost use Rattle.tree.specs.View.{unit_of};
+ghost use Rattle.cc.specs.Compiled.{IsWithinLimits, BuildsUnit, RefusesUnit};
 
-use crate::parsing::parse;
+use crate::front::syntax_tree;
+use crate::narrowing::narrow;
+use crate::program::Program;
 use crate::selection::{Selected, select};
-use crate::tree::Program;
 use crate::weighing::main_weight;
 use asm::assemble;
 use elf_out::{Image, write_elf};
-use srcset::{Fault, FileSet};
+use srcset::{Fault, FileSet, Names};
 use std::alloc::{AllocError, Global};
+use tree::Unit;
 
 /// The address of the text, which begins with the program's entry.
 const TEXT_START: u32 = 0x1_1000;
@@ -36,27 +40,40 @@ pub struct Built {
 
 /// The executable file of the program in the file `main` of the set.
 ///
-/// Refuses with 103 where the set has no such file, with 699 where that file holds no program of the form
-/// that is built today, and with 801 where there is no memory.
+/// Refuses with 103 where the set has no such file; with the fault of its lines (111 to 113, 703), of its
+/// tokens (301 to 303, 601 to 609) or of its tree (401, 709 to 711), in this order; with 699 where it has
+/// a directive or names a predefined macro, once it has lines, and where its tree is not of the form that
+/// is built today; and with 801 where there is no memory.
 pub fn compile(alloc: Global, set: &FileSet, main: &str) -> Result<Built, Fault>
-    ensures built { IfOk result (λ built. Compiles (file_of set.now main.now) built) }
+    ensures built { IfOk result (λ built. Compiles (file_of set.now main.now) main.now built) }
     ensures refused { IfErr result (λ fault. IsRefused (file_of set.now main.now) main.now fault) }
 {
     let Some(source) = set.get(main) else {
         return Err(Fault::at(alloc, 103, main, 0));
     };
-    let Ok(found) = parse(alloc, source) else {
-        return Err(Fault::memory(alloc));
-    };
-    match found {
-        Some(program) => build(alloc, &program),
-        None => Err(Fault::at(alloc, 699, main, 1)),
+    let mut names = Names::new(alloc);
+    match syntax_tree(alloc, source, main, &mut names) {
+        Ok(unit) => build_unit(alloc, &unit, main, &names),
+        Err(fault) => Err(fault),
+    }
+}
+
+/// The executable file of a translation unit.
+fn build_unit(alloc: Global, unit: &Unit, main: &str, names: &Names) -> Result<Built, Fault>
+    requires { IsWithinLimits (unit_of unit.now) }
+    ensures built { IfOk result (λ built. BuildsUnit names.now (unit_of unit.now) built) }
+    ensures refused { IfErr result (λ fault. RefusesUnit names.now (unit_of unit.now) main.now fault) }
+{
+    match narrow(alloc, unit, names) {
+        Ok(Some(program)) => build(alloc, &program),
+        Ok(None) => Err(Fault::at(alloc, 699, main, 1)),
+        Err(_) => Err(Fault::memory(alloc)),
     }
 }
 
 /// The executable file of a program.
 fn build(alloc: Global, program: &Program) -> Result<Built, Fault>
-    requires { IsThinMain (main_of program.now) }
+    requires { IsBuildable (main_of program.now) }
     ensures built { IfOk result (λ built. IsBuiltOf (main_of program.now) built) }
     ensures memory { IfErr result IsMemoryFault }
 {
@@ -77,7 +94,7 @@ struct Assembled {
 
 /// The code of a program in its place.
 fn assemble_program(alloc: Global, program: &Program) -> Result<Assembled, Fault>
-    requires { IsThinMain (main_of program.now) }
+    requires { IsBuildable (main_of program.now) }
     ensures code { IfOk result (λ done. Assembles (program_items done.frame (main_of program.now)) text_start done.image.text) }
     ensures statics { IfOk result (λ done. done.image.statics ≡ []) }
     ensures size { IfOk result (λ done. length done.image.text ≤ 128 * weights.main_nodes (main_of program.now) + 1024) }

@@ -2,16 +2,16 @@
 #![tactic(auto)]
 
 mod compiling;
-mod parsing;
+mod front;
+mod narrowing;
 mod performing;
+mod program;
 mod reporting;
-mod scanning;
 mod selection;
 #[cfg(test)]
 mod tests;
-mod token;
 mod transfer;
-mod tree;
+mod unprocessed;
 mod weighing;
 
 pub use compiling::{Built, compile};

@@ -39,7 +39,7 @@ pub fn perform<P: Port, W: Write, E: Write>(
     _out: &mut W,
     err: &mut E,
 ) -> u8
-    ensures performs { Performs command.entry (file_of set.now main.now) file.now (P.seen port.old) (P.seen port.new) result }
+    ensures performs { Performs command.entry (file_of set.now main.now) main.now file.now (P.seen port.old) (P.seen port.new) result }
     ensures out { W.contents _out.new ≡ W.contents _out.old }
 {
     match command {
@@ -56,7 +56,7 @@ fn build<P: Port, E: Write>(
     port: &mut P,
     err: &mut E,
 ) -> u8
-    ensures { Builds (file_of set.now main.now) (P.seen port.old) (P.seen port.new) result }
+    ensures { Builds (file_of set.now main.now) main.now (P.seen port.old) (P.seen port.new) result }
 {
     match build_into(alloc, set, main, name, port) {
         Ok(()) => 0,
@@ -76,8 +76,8 @@ fn build_into<P: Port>(
     port: &mut P,
 ) -> Result<(), Fault>
     ensures { MatchResult result
-        (λ _. BuildsInto (file_of set.now main.now) (P.seen port.old) (P.seen port.new))
-        (λ _. (P.seen port.new ≡ P.seen port.old) ⊎ BuildsSome (file_of set.now main.now) (P.seen port.old) (P.seen port.new)) }
+        (λ _. BuildsInto (file_of set.now main.now) main.now (P.seen port.old) (P.seen port.new))
+        (λ _. (P.seen port.new ≡ P.seen port.old) ⊎ BuildsSome (file_of set.now main.now) main.now (P.seen port.old) (P.seen port.new)) }
 {
     let built = compile(alloc, set, main)?;
     match put_all(port, built.elf.as_slice()) {

@@ -4,12 +4,12 @@
 //! operands that wait, so that trees of any form have code.
 
 ghost use Rattle.std.specs.Prelude.{◌≡◌, ◌≤◌, ◌<◌, ◌+◌, ◌*◌, ◌-◌, ◌/◌, ◌%◌, ◌^◌, ◌++◌, ◌∷◌, [], map, IfOk, OnOk, length};
-ghost use Rattle.cc.specs.Tree.{tree_of, main_of};
+ghost use Rattle.cc.specs.Sums.{sum_of, main_of};
 ghost use Rattle.cc.specs.Range.{MainIsInts};
 ghost use Rattle.cc.specs.Selected as selected;
 ghost use Rattle.cc.specs.Selected.{expr_items, puts_items, put_items, main_items, main_slots, most_slots, program_items, frame_of};
 
-use crate::tree::{BinaryOperator, Expr, Program};
+use crate::program::{BinaryOperator, Program, Sum};
 use asm::{Item, Items, ItemsBuilder, Label};
 use rv32::{Five, ImmediateOp, Instr, LoadKind, RegisterOp, Short, StoreKind};
 use std::alloc::{AllocError, Global};
@@ -111,30 +111,30 @@ fn operate(operator: BinaryOperator) -> Item
 }
 
 /// The slots that an expression is evaluated in.
-fn slots(expr: &Expr) -> u32
-    requires { selected.slots (tree_of expr.now) ≤ 256 }
-    ensures { result ≡ selected.slots (tree_of expr.now) }
+fn slots(expr: &Sum) -> u32
+    requires { selected.slots (sum_of expr.now) ≤ 256 }
+    ensures { result ≡ selected.slots (sum_of expr.now) }
 {
     match expr {
-        Expr::Constant(_) => 1,
-        Expr::Binary { left, right, .. } => slots(left).max(slots(right) + 1),
+        Sum::Constant(_) => 1,
+        Sum::Binary { left, right, .. } => slots(left).max(slots(right) + 1),
     }
 }
 
 /// The items that put an expression's value into a slot.
-fn evaluate(items: &mut ItemsBuilder, expr: &Expr, slot: u32) -> Result<(), AllocError>
-    requires { slot + selected.slots (tree_of expr.now) ≤ 256 }
-    ensures { OnOk result (items.new ≡ record items.old { items = items.old.items ++ expr_items (tree_of expr.now) slot }) }
+fn evaluate(items: &mut ItemsBuilder, expr: &Sum, slot: u32) -> Result<(), AllocError>
+    requires { slot + selected.slots (sum_of expr.now) ≤ 256 }
+    ensures { OnOk result (items.new ≡ record items.old { items = items.old.items ++ expr_items (sum_of expr.now) slot }) }
 {
     match expr {
-        Expr::Constant(value) => {
+        Sum::Constant(value) => {
             items.push(Item::Constant {
                 rd: temporary(0),
                 value: *value,
             })?;
             items.push(store_slot(temporary(0), slot))
         }
-        Expr::Binary {
+        Sum::Binary {
             operator,
             left,
             right,
@@ -161,9 +161,9 @@ fn put_byte(items: &mut ItemsBuilder) -> Result<(), AllocError>
 }
 
 /// The items that write the value of each expression, in order.
-fn put_all(items: &mut ItemsBuilder, exprs: &[Expr]) -> Result<(), AllocError>
-    requires { most_slots (map tree_of exprs.now) ≤ 256 }
-    ensures { OnOk result (items.new ≡ record items.old { items = items.old.items ++ puts_items (map tree_of exprs.now) }) }
+fn put_all(items: &mut ItemsBuilder, exprs: &[Sum]) -> Result<(), AllocError>
+    requires { most_slots (map sum_of exprs.now) ≤ 256 }
+    ensures { OnOk result (items.new ≡ record items.old { items = items.old.items ++ puts_items (map sum_of exprs.now) }) }
 {
     for expr in exprs {
         evaluate(items, expr, 0)?;
@@ -210,9 +210,9 @@ fn frame_slots(program: &Program) -> u32
 }
 
 /// The most slots that one of the expressions needs.
-fn most_put_slots(exprs: &[Expr]) -> u32
-    requires { most_slots (map tree_of exprs.now) ≤ 256 }
-    ensures { result ≡ most_slots (map tree_of exprs.now) }
+fn most_put_slots(exprs: &[Sum]) -> u32
+    requires { most_slots (map sum_of exprs.now) ≤ 256 }
+    ensures { result ≡ most_slots (map sum_of exprs.now) }
 {
     let mut most = 0;
     for expr in exprs {

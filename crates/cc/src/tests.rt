@@ -7,6 +7,7 @@ use srcset::FileSet;
 use std::alloc::Global;
 use std::io;
 use std::io::{ErrorKind, Write};
+use std::process::Abort;
 use std::test::Fail;
 
 /// What a command came to.
@@ -200,6 +201,163 @@ fn refused_sources(rt: HostRuntime) -> Result<(), Fail> {
     assert_eq!(rt;
         line.as_slice(),
         b"a.c:0: 103 main file not given\n".as_slice()
+    );
+    Ok(())
+}
+
+/// Builds each source; the line of its fault must be the one beside it.
+fn all_refused(rt: &(impl Abort + AllocGlobal), rows: &[(&[u8], &[u8])]) -> Result<(), Fail> {
+    for (source, line) in rows {
+        let done = build(rt.alloc(), *source)?;
+        assert_eq!(rt; done.status, 1);
+        assert_eq!(rt; done.output.len(), 0);
+        assert_eq!(rt; done.line.as_slice(), *line);
+    }
+    Ok(())
+}
+
+#[test]
+fn what_the_grammar_leaves_out(rt: HostRuntime) -> Result<(), Fail> {
+    let line = b"main.c:1: 401 syntax error\n".as_slice();
+    let sources = [
+        b"int main(void) { int a = 1; return *a; }\n".as_slice(),
+        b"int (x); int main(void) { return 0; }\n".as_slice(),
+        b"int *p; int main(void) { return 0; }\n".as_slice(),
+        b"int f(); int main(void) { return 0; }\n".as_slice(),
+        b"int f(int a, ...); int main(void) { return 0; }\n".as_slice(),
+        b"int main(void) { a: return 0; }\n".as_slice(),
+        b"int main(void) { return (int){1}; }\n".as_slice(),
+        b"int a[2] = { [1] = 5 }; int main(void) { return 0; }\n".as_slice(),
+        b"int f(int p[const 3]); int main(void) { return 0; }\n".as_slice(),
+        b"int main(void) { int f(int a); return 0; }\n".as_slice(),
+        b"int main(void) { extern int a; return 0; }\n".as_slice(),
+    ];
+    for source in sources {
+        let done = build(rt.alloc(), source)?;
+        assert_eq!(rt; done.status, 1);
+        assert_eq!(rt; done.line.as_slice(), line);
+    }
+    Ok(())
+}
+
+#[test]
+fn what_is_no_token(rt: HostRuntime) -> Result<(), Fail> {
+    let not_a_token = b"main.c:1: 301 not a token\n".as_slice();
+    let floating = b"main.c:1: 606 left out: floating constant\n".as_slice();
+    let range = b"main.c:1: 303 constant out of range\n".as_slice();
+    let literal = b"main.c:1: 607 left out: prefixed or multi-character literal\n".as_slice();
+    let escape = b"main.c:1: 302 bad escape or byte in a literal\n".as_slice();
+    let long_long = b"main.c:1: 609 left out: long long constant\n".as_slice();
+    all_refused(
+        &rt,
+        [
+            (b"int main(void) {return 08;}\n".as_slice(), not_a_token),
+            (b"int main(void) {return 0x;}\n".as_slice(), not_a_token),
+            (b"int main(void) {return 1x;}\n".as_slice(), not_a_token),
+            (b"int main(void) {return 1.5;}\n".as_slice(), floating),
+            (b"int main(void) {return 1e;}\n".as_slice(), floating),
+            (b"int main(void) {return 0x1p3;}\n".as_slice(), floating),
+            (
+                b"int main(void) {return 18446744073709551616;}\n".as_slice(),
+                range,
+            ),
+            (b"int main(void) {return '\\400';}\n".as_slice(), range),
+            (b"int main(void) {return '\\x100';}\n".as_slice(), range),
+            (b"int main(void) {return 'ab';}\n".as_slice(), literal),
+            (b"int main(void) {return L\"x\";}\n".as_slice(), literal),
+            (b"int main(void) {return \"\\q\";}\n".as_slice(), escape),
+            (
+                b"int main(void) {return -2147483648;}\n".as_slice(),
+                long_long,
+            ),
+        ]
+        .as_slice(),
+    )
+}
+
+#[test]
+fn the_first_failing_step_is_answered(rt: HostRuntime) -> Result<(), Fail> {
+    let not_built = b"main.c:1: 699 not built yet\n".as_slice();
+    all_refused(
+        &rt,
+        [
+            // 111 to 113 before a directive, a directive before tokens, tokens before the tree.
+            (
+                b"int main(void) {return 0;}".as_slice(),
+                b"main.c:1: 111 file does not end in a newline\n".as_slice(),
+            ),
+            (
+                b"#if\n/* 08\n".as_slice(),
+                b"main.c:2: 113 comment not closed\n".as_slice(),
+            ),
+            (
+                b"#define X 08\nint main(void) {return 08;}\n".as_slice(),
+                not_built,
+            ),
+            (b"int main(void) {return __LINE__;}\n".as_slice(), not_built),
+            (
+                b"int main(void) {\n return return;\n 08; }\n".as_slice(),
+                b"main.c:3: 301 not a token\n".as_slice(),
+            ),
+            (
+                b"int main(void) {\n\n return return; }\n".as_slice(),
+                b"main.c:3: 401 syntax error\n".as_slice(),
+            ),
+            // A tree of another form, last.
+            (b"int main(void) {return 1 * 2;}\n".as_slice(), not_built),
+            (b"int main(void) {return 1u;}\n".as_slice(), not_built),
+            (
+                b"long long x; int main(void) {return 0;}\n".as_slice(),
+                not_built,
+            ),
+            (
+                b"int main(void) {rv_putbyte(1); return 0;}\n".as_slice(),
+                not_built,
+            ),
+            (b"int main(void) { }\n".as_slice(), not_built),
+        ]
+        .as_slice(),
+    )
+}
+
+#[test]
+fn sources_as_phases_1_to_3_leave_them(rt: HostRuntime) -> Result<(), Fail> {
+    let alloc = rt.alloc();
+    assert_eq!(rt;
+        whole(alloc, b"int main(void) { re\\\nturn 3; }\n")?.status,
+        3
+    );
+    let done = whole(
+        alloc,
+        b"/* first */ void rv_putbyte(int c); // then\nint main(void) <% rv_putbyte('A'); return (1 + 2) - (3 - (4 - (5 - 6))); %>\n",
+    )?;
+    assert_eq!(rt; done.output.as_slice(), [65u8].as_slice());
+    assert_eq!(rt; done.status, 5);
+    Ok(())
+}
+
+/// `return` of 0 in so many pairs of parentheses.
+fn nested(alloc: Global, pairs: usize) -> Result<Vec<u8>, Fail> {
+    let mut source = b"int main(void) {return ".as_slice().to_vec(alloc)?;
+    for _ in 0..pairs {
+        source.push(b'(')?;
+    }
+    source.push(b'0')?;
+    for _ in 0..pairs {
+        source.push(b')')?;
+    }
+    source.extend_from_slice(b";}\n".as_slice())?;
+    Ok(source)
+}
+
+#[test]
+fn the_greatest_depth(rt: HostRuntime) -> Result<(), Fail> {
+    let alloc = rt.alloc();
+    assert_eq!(rt; whole(alloc, nested(alloc, 252)?.as_slice())?.status, 0);
+    let done = build(alloc, nested(alloc, 253)?.as_slice())?;
+    assert_eq!(rt;
+        done.line.as_slice(),
+        b"main.c:1: 709 limit: depth\n".as_slice()
     );
     Ok(())
 }

@@ -4,7 +4,7 @@ use Rattle.std.proofs.lemmas.Bool.{cases_lt, ne_eqb, eqb-true, lt-ltb, le-ltb, a
 use Rattle.phases.specs.Lexical.{is_digit, is_letter, is_word, word_len, name_len, number_len, begins_number, begins_digit, enclosed, behind, is_prefix, character_len, string_len, seconds, is_single, is_pair, is_triple, is_quadruple, punctuator_of, punctuator_len, first_kind, plain_token}
 
 -- a byte of a word is no other byte
-not_word : (b k : ℕ) → is_word b ≡ true → is_word k ≡ false → eqb b k ≡ false
+pub not_word : (b k : ℕ) → is_word b ≡ true → is_word k ≡ false → eqb b k ≡ false
 not_word b k h z = ne_eqb b k (λ e. both_ways (is_word k) z (subst (λ x. is_word x ≡ true) e h))
 
 -- no punctuator of two characters begins with a byte of a word
@@ -37,7 +37,7 @@ letter_word b h = or_left (is_letter b) (is_digit b) h
 prefix_word : (b : ℕ) → is_prefix b ≡ true → is_word b ≡ true
 prefix_word b h = letter_word b (prefix_letter b h)
 
-letter_above : (b : ℕ) → is_letter b ≡ true → 57 < b
+pub letter_above : (b : ℕ) → is_letter b ≡ true → 57 < b
 letter_above b h =
     elim (or_cases ((leb 97 b && leb b 122) || (leb 65 b && leb b 90)) (eqb b 95) h) [ inl u ↦ elim (or_cases (leb 97 b && leb b 122) (leb 65 b && leb b 90) u) [ inl e ↦ (let x = leb-true 97 b (and_parts (leb 97 b) (leb b 122) e).0 in omega arith) | inr e ↦ (let x = leb-true 65 b (and_parts (leb 65 b) (leb b 90) e).0 in omega arith) ] | inr e ↦ (let x = eqb-true b 95 e in omega arith) ]
 

@@ -1,5 +1,5 @@
 -- Laws of the fronts of a text, a character at a time.
-use Rattle.std.proofs.Common.{◌≡◌, ℕ, zero, suc, slice_index, ◌+◌, ◌<◌, Bool, true, false, List, drop, refl, sym, ap, ◌∙◌, Option, None, Some, arith, eq-eqb}
+use Rattle.std.proofs.Common.{◌≡◌, ℕ, zero, suc, slice_index, ◌+◌, ◌<◌, Bool, true, false, List, drop, refl, sym, ap, ◌∙◌, Option, None, Some, subst, arith, eq-eqb}
 use Rattle.std.proofs.lemmas.Bool.{ne_eqb, lt-ltb}
 use Rattle.phases.specs.Text.{bytes_of}
 use Rattle.phases.specs.Lexical.{is_word, is_letter, word_len, name_len, goes_on, number_more, begins_number, number_len, behind, enclosed, string_prefix, closes, escapes_next, to_close, one_more}
@@ -78,3 +78,20 @@ pub enclosed_some : (a : Cursor) (s : Step) (first close least : ℕ) (escapes :
 enclosed_some a s first close least escapes t p e f l =
     let total : enclosed first close least escapes (bytes_at a) ≡ suc t.count = ap (λ x. enclosed first close least escapes (bytes_of x)) p.text_is ∙ rw (eq-eqb s.byte first e, f.count_is, lt-ltb least t.count l) refl in
     some_after a s t.count (enclosed first close least escapes (bytes_at a)) t p refl f.spans total
+
+plus_plus : (n k : ℕ) (o : Option ℕ) → plus n (plus k o) ≡ plus (n + k) o
+plus_plus n k None = refl
+plus_plus n k (Some m) = ap Some (omega arith)
+
+-- one character, and a run behind it
+pub close_far : (a b : Cursor) (s : Step) (r : Span) (total : Option ℕ) (n : ℕ) (left m o : Option ℕ) → AlongClose a total n b left → IsStep b s → left ≡ one_more m → Spans s.next r.count r.after → m ≡ plus r.count o → AlongClose a total (n + (1 + r.count)) r.after o
+close_far a b s r total n left m o p q e u f =
+    let x = close_more a b s total n left m p q e in
+    let y : n + 1 + r.count ≡ n + (1 + r.count) = omega arith in
+    subst (λ k. AlongClose a total k r.after o) y (record { spans = spans_join a s.next r.after (n + 1) r.count x.spans u; sum_is = x.sum_is ∙ ap (plus (n + 1)) f ∙ plus_plus (n + 1) r.count o })
+
+pub along_far : (a b : Cursor) (s : Step) (r : Span) (total n left m o : ℕ) → Along a total n b left → IsStep b s → left ≡ suc m → Spans s.next r.count r.after → m ≡ r.count + o → Along a total (n + (1 + r.count)) r.after o
+along_far a b s r total n left m o p q e u f =
+    let x = along_more a b s total n left m p q e in
+    let y : n + 1 + r.count ≡ n + (1 + r.count) = omega arith in
+    subst (λ k. Along a total k r.after o) y (record { spans = spans_join a s.next r.after (n + 1) r.count x.spans u; sum_is = omega (arith, x.sum_is, f) })

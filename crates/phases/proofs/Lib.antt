@@ -1,5 +1,7 @@
 pub mod TextLemmas
 pub mod ReadingLemmas
+pub mod RunLemmas
+pub mod QuickLemmas
 pub mod LexicalLemmas
 pub mod PunctuatorLemmas
 pub mod PieceLemmas
@@ -9,4 +11,5 @@ pub mod LongestLemmas
 pub mod PrefixLemmas
 pub mod DominanceLemmas
 pub mod FrontLemmas
+pub mod WholeLemmas
 pub mod ClosingLemmas

@@ -13,7 +13,7 @@ use Rattle.phases.specs.declared.token.Kind.{Kind}
 use Rattle.phases.specs.declared.token.Kind.TheVariants.{Punctuator}
 use Rattle.phases.specs.declared.token.Place.{Place}
 use Rattle.phases.specs.declared.token.Piece.TheVariants.{Gap, Unclosed}
-use Rattle.phases.specs.Reading.{bytes_at, IsStep}
+use Rattle.phases.specs.Reading.{bytes_at, IsStep, Spans}
 use Rattle.phases.specs.Fronts.{IsFront, IsSomeFront, IsCommentFront, IsLexeme, IsPiece, IsAhead}
 use Rattle.phases.specs.Along.{AlongComment, longer}
 use Rattle.phases.proofs.ReadingLemmas.{spans_join, spans_step}
@@ -33,6 +33,16 @@ longer_one n t = let e : n + suc t.1 ≡ n + 1 + t.1 = omega arith in ap (λ k. 
 pub comment_more : (a b : Cursor) (s : Step) (total left m : Bool × ℕ) (n : ℕ) → AlongComment a total n b left → IsStep b s → left ≡ also m → AlongComment a total (n + 1) s.next m
 comment_more a b s total left m n p q e =
     record { spans = spans_join a b s.next n 1 p.spans (spans_step b s q); sum_is = p.sum_is ∙ ap (longer n) e ∙ longer_one n m }
+
+longer_longer : (n k : ℕ) (t : Bool × ℕ) → longer n (longer k t) ≡ longer (n + k) t
+longer_longer n k t = let e : n + (k + t.1) ≡ n + k + t.1 = omega arith in ap (λ j. (t.0, j)) e
+
+-- one character, and a run behind it
+pub comment_far : (a b : Cursor) (s : Step) (r : Span) (total left m o : Bool × ℕ) (n : ℕ) → AlongComment a total n b left → IsStep b s → left ≡ also m → Spans s.next r.count r.after → m ≡ longer r.count o → AlongComment a total (n + (1 + r.count)) r.after o
+comment_far a b s r total left m o n p q e u f =
+    let x = comment_more a b s total left m n p q e in
+    let y : n + 1 + r.count ≡ n + (1 + r.count) = omega arith in
+    subst (λ k. AlongComment a total k r.after o) y (record { spans = spans_join a s.next r.after (n + 1) r.count x.spans u; sum_is = x.sum_is ∙ ap (longer (n + 1)) f ∙ longer_longer (n + 1) r.count o })
 
 pub comment_closed : (a b : Cursor) (s : Step) (total left : Bool × ℕ) (n : ℕ) → AlongComment a total n b left → IsStep b s → left ≡ (true, 1) → IsCommentFront a total (record { closed = true; span = record { count = n + 1; after = s.next } })
 comment_closed a b s total left n p q e =

@@ -1,52 +1,67 @@
 -- Laws of punctuators.
-use Rattle.std.proofs.Common.{◌≡◌, ℕ, suc, slice_index, eqb, ◌||◌, ◌&&◌, Bool, true, false, cond, List, [], ◌∷◌, drop, refl, sym, ap, ◌∙◌, subst, arith, ⊎_elim}
+use Rattle.std.proofs.Common.{◌≡◌, ℕ, suc, ◌<◌, slice_index, eqb, ◌||◌, ◌&&◌, Bool, true, false, cond, List, [], ◌∷◌, drop, refl, sym, ap, ◌∙◌, subst, arith, ⊎_elim}
 use Rattle.std.specs.Prelude.{codes}
-use Rattle.std.proofs.lemmas.Bool.{both_ways, and_parts, or_cases, eqb-true}
+use Rattle.std.proofs.lemmas.Bool.{both_ways, and_parts, or_cases, eqb-true, ne_eqb, agree_below_at}
 use Rattle.phases.specs.Lexical.{one_of, seconds, is_single, is_pair, is_triple, is_quadruple, punctuator_of, punctuator_len}
+use Rattle.phases.specs.Quick.{is_mark, is_second}
 use Rattle.phases.specs.declared.cursor.Cursor.{Cursor}
 use Rattle.phases.specs.declared.cursor.Step.{Step}
 use Rattle.phases.specs.Reading.{bytes_at, Spans}
 use Rattle.phases.specs.Fronts.{IsSomeFront, IsAhead}
 use Rattle.phases.proofs.ReadingLemmas.{spans_join, spans_step}
 
-if_not : (t : Bool) (x y : List ℕ) → one_of 0 x ≡ false → one_of 0 y ≡ false → one_of 0 (cond t x y) ≡ false
-if_not true x y p q = p
-if_not false x y p q = q
+if_not : (b : ℕ) (t : Bool) (x y : List ℕ) → one_of b x ≡ false → one_of b y ≡ false → one_of b (cond t x y) ≡ false
+if_not b true x y p q = p
+if_not b false x y p q = q
 
-no_zero_second : (a : ℕ) → one_of 0 (seconds a) ≡ false
+other : (b k : ℕ) → is_second b ≡ false → is_second k ≡ true → eqb k b ≡ false
+other b k h z = ne_eqb k b (λ e. both_ways (is_second b) h (subst (λ x. is_second x ≡ true) e z))
+
+-- no other byte comes second
+no_second : (a b : ℕ) → is_second b ≡ false → one_of b (seconds a) ≡ false
 unfolding seconds
-no_zero_second a =
+no_second a b h =
     let r14 : List ℕ = [] in
-    let p14 : one_of 0 r14 ≡ false = refl in
+    let p14 : one_of b r14 ≡ false = refl in
     let r13 : List ℕ = cond (eqb a 33) (codes "=") r14 in
-    let p13 : one_of 0 r13 ≡ false = if_not (eqb a 33) (codes "=") r14 refl p14 in
+    let p13 : one_of b r13 ≡ false = if_not b (eqb a 33) (codes "=") r14 (rw (other b 61 h refl) refl) p14 in
     let r12 : List ℕ = cond (eqb a 61) (codes "=") r13 in
-    let p12 : one_of 0 r12 ≡ false = if_not (eqb a 61) (codes "=") r13 refl p13 in
+    let p12 : one_of b r12 ≡ false = if_not b (eqb a 61) (codes "=") r13 (rw (other b 61 h refl) refl) p13 in
     let r11 : List ℕ = cond (eqb a 94) (codes "=") r12 in
-    let p11 : one_of 0 r11 ≡ false = if_not (eqb a 94) (codes "=") r12 refl p12 in
+    let p11 : one_of b r11 ≡ false = if_not b (eqb a 94) (codes "=") r12 (rw (other b 61 h refl) refl) p12 in
     let r10 : List ℕ = cond (eqb a 47) (codes "=") r11 in
-    let p10 : one_of 0 r10 ≡ false = if_not (eqb a 47) (codes "=") r11 refl p11 in
+    let p10 : one_of b r10 ≡ false = if_not b (eqb a 47) (codes "=") r11 (rw (other b 61 h refl) refl) p11 in
     let r9 : List ℕ = cond (eqb a 42) (codes "=") r10 in
-    let p9 : one_of 0 r9 ≡ false = if_not (eqb a 42) (codes "=") r10 refl p10 in
+    let p9 : one_of b r9 ≡ false = if_not b (eqb a 42) (codes "=") r10 (rw (other b 61 h refl) refl) p10 in
     let r8 : List ℕ = cond (eqb a 35) (codes "#") r9 in
-    let p8 : one_of 0 r8 ≡ false = if_not (eqb a 35) (codes "#") r9 refl p9 in
+    let p8 : one_of b r8 ≡ false = if_not b (eqb a 35) (codes "#") r9 (rw (other b 35 h refl) refl) p9 in
     let r7 : List ℕ = cond (eqb a 58) (codes ">") r8 in
-    let p7 : one_of 0 r7 ≡ false = if_not (eqb a 58) (codes ">") r8 refl p8 in
+    let p7 : one_of b r7 ≡ false = if_not b (eqb a 58) (codes ">") r8 (rw (other b 62 h refl) refl) p8 in
     let r6 : List ℕ = cond (eqb a 37) (codes "=>:") r7 in
-    let p6 : one_of 0 r6 ≡ false = if_not (eqb a 37) (codes "=>:") r7 refl p7 in
+    let p6 : one_of b r6 ≡ false = if_not b (eqb a 37) (codes "=>:") r7 (rw (other b 61 h refl, other b 62 h refl, other b 58 h refl) refl) p7 in
     let r5 : List ℕ = cond (eqb a 62) (codes ">=") r6 in
-    let p5 : one_of 0 r5 ≡ false = if_not (eqb a 62) (codes ">=") r6 refl p6 in
+    let p5 : one_of b r5 ≡ false = if_not b (eqb a 62) (codes ">=") r6 (rw (other b 62 h refl, other b 61 h refl) refl) p6 in
     let r4 : List ℕ = cond (eqb a 60) (codes "<=:%") r5 in
-    let p4 : one_of 0 r4 ≡ false = if_not (eqb a 60) (codes "<=:%") r5 refl p5 in
+    let p4 : one_of b r4 ≡ false = if_not b (eqb a 60) (codes "<=:%") r5 (rw (other b 60 h refl, other b 61 h refl, other b 58 h refl, other b 37 h refl) refl) p5 in
     let r3 : List ℕ = cond (eqb a 124) (codes "|=") r4 in
-    let p3 : one_of 0 r3 ≡ false = if_not (eqb a 124) (codes "|=") r4 refl p4 in
+    let p3 : one_of b r3 ≡ false = if_not b (eqb a 124) (codes "|=") r4 (rw (other b 124 h refl, other b 61 h refl) refl) p4 in
     let r2 : List ℕ = cond (eqb a 38) (codes "&=") r3 in
-    let p2 : one_of 0 r2 ≡ false = if_not (eqb a 38) (codes "&=") r3 refl p3 in
+    let p2 : one_of b r2 ≡ false = if_not b (eqb a 38) (codes "&=") r3 (rw (other b 38 h refl, other b 61 h refl) refl) p3 in
     let r1 : List ℕ = cond (eqb a 43) (codes "+=") r2 in
-    let p1 : one_of 0 r1 ≡ false = if_not (eqb a 43) (codes "+=") r2 refl p2 in
+    let p1 : one_of b r1 ≡ false = if_not b (eqb a 43) (codes "+=") r2 (rw (other b 43 h refl, other b 61 h refl) refl) p2 in
     let r0 : List ℕ = cond (eqb a 45) (codes ">-=") r1 in
-    let p0 : one_of 0 r0 ≡ false = if_not (eqb a 45) (codes ">-=") r1 refl p1 in
+    let p0 : one_of b r0 ≡ false = if_not b (eqb a 45) (codes ">-=") r1 (rw (other b 62 h refl, other b 45 h refl, other b 61 h refl) refl) p1 in
     p0
+
+pub no_zero_second : (a : ℕ) → one_of 0 (seconds a) ≡ false
+no_zero_second a = no_second a 0 refl
+
+-- a byte that no punctuator has second makes no pair
+pub no_pair : (a b : ℕ) (t : Bool) → t ≡ is_second b → t ≡ false → t ≡ is_pair a b
+no_pair a b t e h = h ∙ sym (no_second a b (sym e ∙ h))
+
+pub mark_single : (b : ℕ) → b < 256 → is_mark b ≡ is_single b
+mark_single b h = agree_below_at is_mark is_single 256 b refl h
 
 not_first : (f : ℕ → Bool) (b : ℕ) → f 0 ≡ false → f b ≡ true → b ≡ 0 → ⊥
 not_first f b z h e = both_ways (f 0) z (subst (λ x. f x ≡ true) e h)

@@ -1,12 +1,11 @@
 -- Laws of reading a text character by character.
-use Rattle.std.proofs.Common.{◌≡◌, ℕ, ◌+◌, true, List, [], ◌∷◌, ◌++◌, length, take, drop, refl, ap, ◌∙◌, arith}
+use Rattle.std.proofs.Common.{◌≡◌, ℕ, ◌+◌, List, [], ◌∷◌, ◌++◌, length, take, drop, refl, ap, ◌∙◌, arith}
 use Rattle.std.proofs.lemmas.List.{append_assoc, length-append, map-append, drop_at, take_at, length-map}
 use Rattle.phases.specs.Text.{Char, logical, bytes_of}
-use Rattle.phases.specs.Plain.{is_plain}
 use Rattle.phases.specs.declared.cursor.Cursor.{Cursor}
 use Rattle.phases.specs.declared.cursor.Step.{Step}
 use Rattle.phases.specs.Reading.{text_at, bytes_at, char_of, MapsTo, Skips, IsNoSplice, EndsSplice, Reads, IsStep, Spans}
-use Rattle.phases.proofs.TextLemmas.{stands, goes, ends, plain_first}
+use Rattle.phases.proofs.TextLemmas.{stands, goes, ends}
 
 pub skips_none : (a : Cursor) → Skips a a
 skips_none a = record { text_is = refl; least = omega arith; plain = λ h. refl }
@@ -23,12 +22,6 @@ step_after a b s p m n =
 
 pub end_after : (a b : Cursor) → Skips a b → b.rest.now ≡ [] → text_at a ≡ []
 end_after a b p e = p.text_is ∙ ap (logical b.line) e ∙ ends b.line
-
--- a plain byte is the first character
-pub plain_step : (a : Cursor) (s : Step) → is_plain s.byte ≡ true → a.rest.now ≡ s.byte ∷ s.next.rest.now → s.line ≡ a.line → s.next.line ≡ a.line → IsStep a s
-plain_step a s p e l m =
-    let f : text_at a ≡ char_of s ∷ text_at s.next = ap (logical a.line) e ∙ plain_first a.line s.byte s.next.rest.now p ∙ rw (l, m) refl in
-    record { text_is = f; least = omega (arith, ap length e); plain = λ h. e }
 
 pub reads_none : (a : Cursor) → Reads a [] a
 reads_none a = record { text_is = refl; least = omega arith; plain = λ h. refl }

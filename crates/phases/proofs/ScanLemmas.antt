@@ -1,5 +1,5 @@
 -- Laws of scanning a file piece by piece.
-use Rattle.std.proofs.Common.{◌≡◌, ℕ, zero, suc, ◌-◌, ◌<◌, Bool, List, [], ◌∷◌, take, drop, refl, sym, ap, ◌∙◌, arith}
+use Rattle.std.proofs.Common.{◌≡◌, ℕ, zero, suc, ◌+◌, ◌-◌, ◌<◌, Bool, List, [], ◌∷◌, take, drop, refl, sym, ap, ◌∙◌, arith}
 use Rattle.std.proofs.lemmas.List.{drop_at}
 use Rattle.phases.specs.declared.cursor.Cursor.{Cursor}
 use Rattle.phases.specs.declared.cursor.Step.{Step}
@@ -12,7 +12,11 @@ use Rattle.phases.specs.Token.{Token}
 use Rattle.phases.specs.Lines.{Found, found, front, nothing, with_piece, kind_of, place_after, space_after}
 use Rattle.phases.specs.Reading.{text_at, bytes_at, char_of, IsStep, Spans}
 use Rattle.phases.specs.Fronts.{IsPiece}
-use Rattle.phases.specs.Scanning.{whole, token_at, Puts}
+use Rattle.phases.specs.Scanning.{whole, token_at, Puts, Goes}
+use Rattle.phases.specs.Runs.{IsSureStep}
+use Rattle.phases.proofs.ReadingLemmas.{spans_none, spans_join}
+use Rattle.phases.proofs.RunLemmas.{sure_step}
+use Rattle.phases.specs.declared.cursor.Span.{Span}
 
 found_skip : (file k : ℕ) (place : Place) (space : Bool) (cs : List Char) → found file k place space cs ≡ found file 0 place space (drop k cs)
 unfolding found
@@ -61,3 +65,18 @@ scan_step file old new total a s x f t p q u =
 pub scan_end : (file : ℕ) (s : Scanner) (total : Found) (a : Cursor) → total ≡ whole s (found file 0 s.place s.space (text_at a)) → text_at a ≡ [] → total ≡ whole s nothing
 unfolding found
 scan_end file s total a t e = t ∙ ap (λ k. whole s (found file 0 s.place s.space k)) e
+
+pub goes_none : (s : Scanner) (a : Cursor) → Goes s s a (record { count = 0; after = a })
+goes_none s a = record { spans = spans_none a; file_is = refl; whole_is = refl }
+
+pub goes_more : (old mid new : Scanner) (a b : Cursor) (s : Step) (x : Front) (n : ℕ) → Goes old mid a (record { count = n; after = b }) → IsSureStep b s → IsPiece b (front mid.place s.byte (bytes_at s.next)) x → Puts mid new b s x → Goes old new a (record { count = n + x.span.count; after = x.span.after })
+goes_more old mid new a b s x n g p q u =
+    record {
+      spans = spans_join a b x.span.after n x.span.count g.spans q.spans;
+      file_is = u.file_is ∙ g.file_is;
+      whole_is = scan_step old.file mid new (whole old (found old.file 0 old.place old.space (text_at a))) b s x g.file_is g.whole_is (sure_step b s p) q u;
+    }
+
+pub goes_after : (file : ℕ) (old new : Scanner) (total : Found) (a : Cursor) (s : Span) → old.file ≡ file → total ≡ whole old (found file 0 old.place old.space (text_at a)) → Goes old new a s → total ≡ whole new (found file 0 new.place new.space (text_at s.after))
+goes_after file old new total a s f t g =
+    t ∙ ap (λ k. whole old (found k 0 old.place old.space (text_at a))) (sym f) ∙ g.whole_is ∙ ap (λ k. whole new (found k 0 new.place new.space (text_at s.after))) f

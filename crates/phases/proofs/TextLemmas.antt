@@ -1,5 +1,5 @@
 -- Laws of the logical text.
-use Rattle.std.proofs.Common.{◌≡◌, ℕ, eqb, ◌||◌, Bool, true, false, not, List, [], ◌∷◌, refl, None}
+use Rattle.std.proofs.Common.{◌≡◌, ℕ, ◌+◌, eqb, ◌||◌, Bool, true, false, not, cond, List, [], ◌∷◌, refl, sym, subst, None}
 use Rattle.phases.specs.Text.{Char, phase1, logical, is_splice, trigraph_at, is_return}
 use Rattle.phases.specs.Plain.{is_plain}
 
@@ -43,3 +43,15 @@ plain_first l b bs p =
     let h = not_or (eqb b 63) (eqb b 92) (eqb b 13) (eqb b 10) p in
     let e : phase1 0 l (b ∷ bs) ≡ record { byte = b; line = l } ∷ phase1 0 l bs = rw (no_trigraph b bs h.0, no_return b bs h.2, h.3) refl in
     stands l l (b ∷ bs) bs (record { byte = b; line = l }) e (no_splice (record { byte = b; line = l }) (phase1 0 l bs) h.1)
+
+pub plain_no_line : (b : ℕ) → is_plain b ≡ true → eqb b 10 ≡ false
+plain_no_line b p = (not_or (eqb b 63) (eqb b 92) (eqb b 13) (eqb b 10) p).3
+
+-- so does a line feed, which ends its line
+pub line_first : (l b : ℕ) (bs : List ℕ) → b ≡ 10 → logical l (b ∷ bs) ≡ record { byte = b; line = l } ∷ logical (cond (eqb b 10) (l + 1) l) bs
+line_first l b bs p =
+    let e : phase1 0 l (10 ∷ bs) ≡ record { byte = 10; line = l } ∷ phase1 0 (l + 1) bs = rw (no_trigraph 10 bs refl, no_return 10 bs refl) refl in
+    subst (λ x. logical l (x ∷ bs) ≡ record { byte = x; line = l } ∷ logical (cond (eqb x 10) (l + 1) l) bs) (sym p) (stands l (l + 1) (10 ∷ bs) bs (record { byte = 10; line = l }) e (no_splice (record { byte = 10; line = l }) (phase1 0 (l + 1) bs) refl))
+
+pub plain_no_escape : (b : ℕ) → is_plain b ≡ true → eqb b 92 ≡ false
+plain_no_escape b p = (not_or (eqb b 63) (eqb b 92) (eqb b 13) (eqb b 10) p).1

@@ -1,5 +1,7 @@
 -- The token grammar of ISO/IEC 9899:2011 6.4, of whole texts, and what it is to be the longest front.
 use Rattle.std.specs.Prelude.{◌≡◌, ℕ, ◌<◌, ◌≤◌, ◌==◌, ◌&&◌, ◌||◌, nat_lt, Bool, true, false, not, if◌then◌else◌, List, [], ◌∷◌, length, take, drop}
+use Rattle.phases.specs.declared.token.Kind.{Kind}
+use Rattle.phases.specs.declared.token.Kind.TheVariants.{Identifier, Number, CharacterConstant, StringLiteral, HeaderName, Punctuator, Other}
 use Rattle.phases.specs.declared.token.Place.{Place}
 use Rattle.phases.specs.declared.token.Place.TheVariants.{AfterInclude}
 use Rattle.phases.specs.Lexical.{is_letter, is_word, goes_on, begins_number, closes, escapes_next, character_prefix, string_prefix, is_single, is_pair, is_triple, is_quadruple, token_front}
@@ -64,3 +66,27 @@ pub record IsNoToken (place : Place) (text : List ℕ) : Type 0 where
 -- no front of the text that is longer than the one found is a token
 abbrev pub IsLongest : Place → List ℕ → Type 0
 IsLongest place text = (m : ℕ) → (token_front place text).1 < m → m ≤ length text → IsNoToken place (take m text)
+
+abbrev pub is_one : List ℕ → Bool
+is_one [] = false
+is_one (b ∷ bs) = is_empty bs
+
+-- the text is a token of this kind
+abbrev pub is_of : Kind → List ℕ → Bool
+is_of Identifier text = is_identifier text
+is_of Number text = is_number text
+is_of CharacterConstant text = is_character text
+is_of StringLiteral text = is_string text
+is_of HeaderName text = is_header text
+is_of Punctuator text = is_punctuator text
+is_of Other text = is_one text
+
+-- so long a front is there, and it is a token of this kind
+pub record IsWhole (t : Kind × ℕ) (text : List ℕ) : Type 0 where
+  pub some : 0 < t.1
+  pub room : t.1 ≤ length text
+  pub token : is_of t.0 (take t.1 text) ≡ true
+
+-- the front found is a whole token of its kind
+abbrev pub IsWholeFront : Place → List ℕ → Type 0
+IsWholeFront place text = 0 < length text → IsWhole (token_front place text) text

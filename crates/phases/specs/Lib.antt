@@ -5,6 +5,8 @@ pub mod Token
 pub mod Spelled
 pub mod Lines
 pub mod Plain
+pub mod Runs
+pub mod Quick
 pub mod Reading
 pub mod Fronts
 pub mod Along

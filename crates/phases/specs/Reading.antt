@@ -1,9 +1,8 @@
 -- What reading a text character by character says.
-use Rattle.std.specs.Prelude.{◌≡◌, ℕ, ◌+◌, ◌≤◌, ◌<◌, true, false, List, [], ◌∷◌, ◌++◌, length}
+use Rattle.std.specs.Prelude.{◌≡◌, ℕ, ◌+◌, ◌≤◌, ◌<◌, false, List, [], ◌∷◌, ◌++◌, length}
 use Rattle.phases.specs.declared.cursor.Cursor.{Cursor}
 use Rattle.phases.specs.declared.cursor.Step.{Step}
 use Rattle.phases.specs.Text.{Char, phase1, logical, bytes_of, is_splice}
-use Rattle.phases.specs.Plain.{is_plain}
 
 -- the text from here on, after phase 1 alone and after both
 abbrev pub mapped_at : Cursor → List Char
@@ -50,13 +49,6 @@ pub record Reads (from : Cursor) (front : List Char) (to : Cursor) : Type 0 wher
 -- the step reads the first character
 abbrev pub IsStep : Cursor → Step → Type 0
 IsStep from s = Reads from (char_of s ∷ []) s.next
-
--- the step reads one plain byte
-pub record IsPlainStep (from : Cursor) (s : Step) : Type 0 where
-  pub is_plain_byte : is_plain s.byte ≡ true
-  pub rest_is : from.rest.now ≡ s.byte ∷ s.next.rest.now
-  pub line_is : s.line ≡ from.line
-  pub next_line_is : s.next.line ≡ from.line
 
 -- so many characters stand between these places
 pub record Spans (from : Cursor) (n : ℕ) (to : Cursor) : Type 0 where

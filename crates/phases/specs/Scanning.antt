@@ -3,13 +3,14 @@ use Rattle.std.specs.Prelude.{◌≡◌, ℕ, false, Option, None, Some, List, [
 use Rattle.srcset.specs.declared.refusal.Pos.{Pos}
 use Rattle.phases.specs.declared.cursor.Cursor.{Cursor}
 use Rattle.phases.specs.declared.cursor.Step.{Step}
+use Rattle.phases.specs.declared.cursor.Span.{Span}
 use Rattle.phases.specs.declared.cursor.Front.{Front}
 use Rattle.phases.specs.declared.token.Kind.{Kind}
 use Rattle.phases.specs.declared.token.Place.TheVariants.{Start}
 use Rattle.phases.specs.declared.scanner.Scanner.{Scanner}
 use Rattle.phases.specs.Token.{Token}
-use Rattle.phases.specs.Lines.{Found, before, with_piece, kind_of, next_place, first_overlong, place_after, space_after}
-use Rattle.phases.specs.Reading.{bytes_at}
+use Rattle.phases.specs.Lines.{Found, found, before, with_piece, kind_of, next_place, first_overlong, place_after, space_after}
+use Rattle.phases.specs.Reading.{text_at, bytes_at, Spans}
 
 abbrev pub or_later : Option Pos → Option Pos → Option Pos
 or_later None p = p
@@ -69,3 +70,9 @@ pub record Puts (old : Scanner) (new : Scanner) (at : Cursor) (first : Step) (fr
 -- the line that is not ended comes last, if it has tokens
 pub record EndsLastLine (old : Scanner) (new : Scanner) : Type 0 where
   pub lines_is : new.lines.items ≡ old.lines.items ++ before old.line.items []
+
+-- so many characters from here on are scanned
+pub record Goes (old : Scanner) (new : Scanner) (from : Cursor) (s : Span) : Type 0 where
+  pub spans : Spans from s.count s.after
+  pub file_is : new.file ≡ old.file
+  pub whole_is : whole old (found old.file 0 old.place old.space (text_at from)) ≡ whole new (found old.file 0 new.place new.space (text_at s.after))

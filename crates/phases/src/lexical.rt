@@ -1,28 +1,29 @@
 //! The fronts of a text that are tokens (ISO/IEC 9899:2011 6.4).
 ghost use Rattle.std.specs.Prelude.{◌≡◌, ◌+◌, ◌<◌, true, false, Some, None, MatchOption};
 ghost use Rattle.phases.specs.Lexical.{is_digit, is_letter, is_word, is_sign, is_exponent, is_white, goes_on, word_len, name_len, number_more, number_len, closes, escapes_next, to_close, enclosed, character_prefix, character_len, string_prefix, string_len, header_len, is_prefix, begins_digit, begins_number};
-ghost use Rattle.phases.specs.Reading.{bytes_at, IsStep};
+ghost use Rattle.phases.specs.Reading.{bytes_at, IsStep, Spans};
+ghost use Rattle.phases.specs.Along.{plus};
 ghost use Rattle.phases.specs.Fronts.{IsFront, IsSomeFront, IsCloseFront, IsAhead};
 ghost use Rattle.phases.specs.Closing.{unclosed_for};
 
 use crate::cursor::{Cursor, Span, Step};
 
 #[inline(always)]
-fn is_digit(byte: u8) -> bool
+pub(crate) fn is_digit(byte: u8) -> bool
     ensures { result ≡ is_digit byte }
 {
     byte >= b'0' && byte <= b'9'
 }
 
 #[inline(always)]
-fn is_letter(byte: u8) -> bool
+pub(crate) fn is_letter(byte: u8) -> bool
     ensures { result ≡ is_letter byte }
 {
     (byte >= b'a' && byte <= b'z') || (byte >= b'A' && byte <= b'Z') || byte == b'_'
 }
 
 #[inline(always)]
-fn is_word(byte: u8) -> bool
+pub(crate) fn is_word(byte: u8) -> bool
     ensures { result ≡ is_word byte }
 {
     is_letter(byte) || is_digit(byte)
@@ -51,7 +52,7 @@ pub(crate) fn is_white(byte: u8) -> bool
 
 // Whether a preprocessing number goes on with `byte` after `last`.
 #[inline(always)]
-fn goes_on(last: u8, byte: u8) -> bool
+pub(crate) fn goes_on(last: u8, byte: u8) -> bool
     ensures { result ≡ goes_on last byte }
 {
     is_word(byte) || byte == b'.' || (is_sign(byte) && is_exponent(last))
@@ -134,10 +135,26 @@ impl<'a> Cursor<'a> {
                 });
             }
             escaped = escapes_next(escapes, escaped, step.byte);
-            count += 1;
-            at = step.next;
+            let run = step.next.within_literal(close, escapes, escaped);
+            count += 1 + run.count;
+            at = run.after;
         }
         None
+    }
+
+    // The plain characters here that neither close, after a backslash or not, nor escape.
+    #[inline(always)]
+    fn within_literal(self, close: u8, escapes: bool, escaped: bool) -> Span<'a>
+        ensures spans { Spans self.entry result.count result.after }
+        ensures left { to_close close escapes escaped (bytes_at self.entry) ≡ plus result.count (to_close close escapes escaped (bytes_at result.after)) }
+    {
+        if escaped {
+            return Span {
+                count: 0,
+                after: self,
+            };
+        }
+        self.ordinary(close)
     }
 
     // An identifier.

@@ -7,8 +7,12 @@ mod cursor;
 mod lexical;
 mod lines;
 mod pieces;
+#[cfg(test)]
+mod plain;
 mod punctuators;
+mod quick;
 mod reading;
+mod runs;
 mod scanner;
 mod scanning;
 mod spelling;

@@ -6,7 +6,7 @@ ghost use Rattle.phases.specs.Text.{line_after, last_line, from_end, ends_open, 
 ghost use Rattle.phases.specs.Lines.{found, lines_or_fault, scanned};
 ghost use Rattle.phases.specs.Reading.{text_at};
 ghost use Rattle.phases.specs.Scanned.{IsScanFault};
-ghost use Rattle.phases.specs.Grammar.{IsLongest};
+ghost use Rattle.phases.specs.Grammar.{IsLongest, IsWholeFront};
 ghost use Rattle.phases.specs.declared.token.Place.{Place};
 
 use crate::cursor::{Cursor, Hopeless};
@@ -95,7 +95,7 @@ fn token_lines<'a>(alloc: Global, start: Cursor<'a>, file: usize) -> Result<Vec<
     ensures err { IfErr result (λ e. (e ≡ Memory) ⊎ (lines_or_fault (found file 0 Start false (text_at start.entry)) ≡ Err e)) }
 {
     let mut scanner = Scanner::new(alloc, file);
-    let mut at = start;
+    let mut at = scanner.put_quick(alloc, start)?.after;
     let mut known = Hopeless {
         single: 0,
         double: 0,
@@ -104,8 +104,9 @@ fn token_lines<'a>(alloc: Global, start: Cursor<'a>, file: usize) -> Result<Vec<
         let hopeless = at.hopeless(first, known);
         let front = at.front(scanner.place, first, hopeless);
         scanner.put(alloc, at, first, front)?;
-        known = behind(hopeless, front.span.count);
-        at = front.span.after;
+        let quick = scanner.put_quick(alloc, front.span.after)?;
+        known = behind(behind(hopeless, front.span.count), quick.count);
+        at = quick.after;
     }
     scanner.finish(alloc)
 }
@@ -151,7 +152,7 @@ fn file_lines<'a>(alloc: Global, bytes: &'a [u8], file: usize) -> Result<Vec<Lin
 /// 113 where a comment is not closed, at the line where it opens; 703 where a spelling is longer than
 /// 4,095 bytes, at the line of the first such token. Fails with 801 where memory runs out.
 ///
-/// Each token is the longest one that can stand where it begins (6.4, clause `longest`).
+/// Each token is the longest one that can stand where it begins (6.4, clauses `longest` and `whole`).
 pub fn scan<'a>(
     alloc: Global,
     bytes: &'a [u8],
@@ -162,6 +163,7 @@ pub fn scan<'a>(
     ensures ok { IfOk result (λ lines. scanned file bytes.now ≡ Ok lines.items) }
     ensures err { IfErr result (λ fault. IsScanFault fault names.now (scanned file bytes.now)) }
     ensures longest { (place : Place) (text : List ℕ) → IsLongest place text }
+    ensures whole { (place : Place) (text : List ℕ) → IsWholeFront place text }
 {
     match file_lines(alloc, bytes, file) {
         Ok(lines) => Ok(lines),

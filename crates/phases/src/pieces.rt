@@ -5,6 +5,7 @@ ghost use Rattle.phases.specs.Lexical.{plain_token, header_or, header_len, token
 ghost use Rattle.phases.specs.Lines.{line_len, ends_comment, comment_len, comment_piece, opens, front};
 ghost use Rattle.phases.specs.Reading.{bytes_at, IsStep, Spans};
 ghost use Rattle.phases.specs.Closing.{IsHopeless};
+ghost use Rattle.phases.specs.Along.{longer};
 ghost use Rattle.phases.specs.Fronts.{IsFront, IsCommentFront, IsLexeme, IsPiece};
 
 use crate::cursor::{Comment, Cursor, Front, Hopeless, Lexeme, Span, Step};
@@ -109,10 +110,26 @@ impl<'a> Cursor<'a> {
             if step.byte == b'\n' {
                 return Span { count, after: at };
             }
-            count += 1;
-            at = step.next;
+            let run = step.next.ordinary(b'\n');
+            count += 1 + run.count;
+            at = run.after;
         }
         Span { count, after: at }
+    }
+
+    // The plain characters here that neither end a comment, after a `*` or not, nor may begin its end.
+    #[inline(always)]
+    fn within_comment(self, star: bool) -> Span<'a>
+        ensures spans { Spans self.entry result.count result.after }
+        ensures left { comment_len star (bytes_at self.entry) ≡ longer result.count (comment_len star (bytes_at result.after)) }
+    {
+        if star {
+            return Span {
+                count: 0,
+                after: self,
+            };
+        }
+        self.ordinary(b'*')
     }
 
     // The rest of a comment that is not ended by a line.
@@ -131,8 +148,9 @@ impl<'a> Cursor<'a> {
                 return Comment { closed: true, span };
             }
             star = step.byte == b'*';
-            count += 1;
-            at = step.next;
+            let run = step.next.within_comment(star);
+            count += 1 + run.count;
+            at = run.after;
         }
         Comment {
             closed: false,

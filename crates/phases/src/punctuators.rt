@@ -1,16 +1,50 @@
 //! Punctuators (ISO/IEC 9899:2011 6.4.6).
 ghost use Rattle.std.specs.Prelude.{◌≡◌, MatchOption};
 ghost use Rattle.phases.specs.Lexical.{is_single, seconds, is_pair, is_triple, is_quadruple, punctuator_len};
+ghost use Rattle.phases.specs.Quick.{is_mark, is_second};
 ghost use Rattle.phases.specs.Reading.{bytes_at};
 ghost use Rattle.phases.specs.Fronts.{IsSomeFront};
 
 use crate::cursor::{Cursor, Span};
 
+// The same set as `is_single`, test by test.
+#[inline(always)]
+fn is_mark(byte: u8) -> bool
+    ensures { result ≡ is_mark byte }
+{
+    byte == b'['
+        || byte == b']'
+        || byte == b'('
+        || byte == b')'
+        || byte == b'{'
+        || byte == b'}'
+        || byte == b'.'
+        || byte == b'&'
+        || byte == b'*'
+        || byte == b'+'
+        || byte == b'-'
+        || byte == b'~'
+        || byte == b'!'
+        || byte == b'/'
+        || byte == b'%'
+        || byte == b'<'
+        || byte == b'>'
+        || byte == b'^'
+        || byte == b'|'
+        || byte == b'?'
+        || byte == b':'
+        || byte == b';'
+        || byte == b'='
+        || byte == b','
+        || byte == b'#'
+}
+
 // The punctuators of one character.
-fn is_single(byte: u8) -> bool
+#[inline(always)]
+pub(crate) fn is_single(byte: u8) -> bool
     ensures { result ≡ is_single byte }
 {
-    b"[](){}.&*+-~!/%<>^|?:;=,#".contains(&byte)
+    is_mark(byte)
 }
 
 // The characters that make a punctuator of two behind this one.
@@ -37,11 +71,28 @@ fn seconds(first: u8) -> &'static [u8]
     }
 }
 
+// Whether some punctuator has this as its second character.
 #[inline(always)]
-fn is_pair(first: u8, second: u8) -> bool
+fn is_second(byte: u8) -> bool
+    ensures { result ≡ is_second byte }
+{
+    byte == b'>'
+        || byte == b'-'
+        || byte == b'='
+        || byte == b'+'
+        || byte == b'&'
+        || byte == b'|'
+        || byte == b'<'
+        || byte == b':'
+        || byte == b'%'
+        || byte == b'#'
+}
+
+#[inline(always)]
+pub(crate) fn is_pair(first: u8, second: u8) -> bool
     ensures { result ≡ is_pair first second }
 {
-    seconds(first).contains(&second)
+    is_second(second) && seconds(first).contains(&second)
 }
 
 #[inline(always)]

@@ -2,9 +2,11 @@
 ghost use Rattle.std.specs.Prelude.{◌≡◌, ◌+◌, ◌∷◌, [], false, true, drop, length, MatchOption, Some, None};
 ghost use Rattle.phases.specs.Text.{trigraph, trigraph_at, is_return};
 ghost use Rattle.phases.specs.Plain.{is_plain};
-ghost use Rattle.phases.specs.Reading.{IsNoSplice, EndsSplice, text_at, MapsTo, IsPlainStep, IsStep};
+ghost use Rattle.phases.specs.Reading.{IsNoSplice, EndsSplice, text_at, MapsTo, IsStep};
+ghost use Rattle.phases.specs.Runs.{next_line, IsSureStep};
 
 use crate::cursor::{Cursor, Step};
+use crate::runs::{is_sure, next_line};
 
 #[tactic(auto, unfolding(crate::specs::Text::trigraph))]
 fn trigraph(third: u8) -> Option<u8>
@@ -51,7 +53,7 @@ fn after_return<'a>(first: u8, rest: &'a [u8]) -> Option<&'a [u8]>
 }
 
 #[inline(always)]
-fn is_plain(byte: u8) -> bool
+pub(crate) fn is_plain(byte: u8) -> bool
     ensures { result ≡ is_plain byte }
 {
     !(byte == b'?' || byte == b'\\' || byte == b'\r' || byte == b'\n')
@@ -104,26 +106,24 @@ impl<'a> Cursor<'a> {
         None
     }
 
-    // The first character, where it is a plain byte.
+    /// The first character, where its byte alone says what it is.
     #[inline(always)]
-    fn read_plain(self) -> Option<Step<'a>>
-        ensures { MatchOption result (Unit {0}) (IsPlainStep self.entry) }
+    pub(crate) fn read_sure(self) -> Option<Step<'a>>
+        ensures { MatchOption result (Unit {0}) (IsSureStep self.entry) }
     {
         let [first, rest @ ..] = self.rest else {
             return None;
         };
-        if !is_plain(*first) {
+        let byte = *first;
+        if !is_sure(byte) {
             return None;
         }
+        let line = self.line;
         let next = Cursor {
             rest,
-            line: self.line,
+            line: next_line(byte, line),
         };
-        Some(Step {
-            byte: *first,
-            line: self.line,
-            next,
-        })
+        Some(Step { byte, line, next })
     }
 
     /// The first character, or `None` at the end of the text.
@@ -131,7 +131,7 @@ impl<'a> Cursor<'a> {
     pub(crate) fn read(self) -> Option<Step<'a>>
         ensures { MatchOption result (text_at self.entry ≡ []) (IsStep self.entry) }
     {
-        if let Some(step) = self.read_plain() {
+        if let Some(step) = self.read_sure() {
             return Some(step);
         }
         self.read_slowly()

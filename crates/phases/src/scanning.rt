@@ -3,19 +3,19 @@ ghost use Rattle.std.specs.Prelude.{◌≡◌, ◌⊎◌, Ok, Err, IfOk, IfErr, 
 ghost use Rattle.srcset.specs.declared.refusal.Refusal.TheVariants.{Memory};
 ghost use Rattle.phases.specs.Lines.{after_first, after_hash, next_place, lines_or_fault, nothing};
 ghost use Rattle.phases.specs.Reading.{bytes_at, Spans};
-ghost use Rattle.phases.specs.Scanning.{Puts, IsNew, EndsLine, AddsWord, EndsLastLine, or_later, whole};
+ghost use Rattle.phases.specs.Scanning.{Puts, IsNew, EndsLine, AddsWord, EndsLastLine, or_later, whole, Goes};
 
 use crate::cursor::{Cursor, Front, Span, Step};
 use crate::scanner::Scanner;
 use crate::token::{Kind, Line, Piece, Place, PpToken};
 use srcset::{Pos, Refusal};
 use std::alloc::Global;
-use std::mem;
 
 /// The greatest number of bytes in the spelling of a token.
 pub const MAX_SPELLING_BYTES: usize = 4095;
 
 // Where the token behind this one stands.
+#[inline(always)]
 fn next_place(place: Place, spelling: &[u8]) -> Place
     ensures { result ≡ next_place place spelling.now }
 {
@@ -77,7 +77,9 @@ impl<'a> Scanner<'a> {
         ensures ok { OnOk result (EndsLine self.old self.new) }
         ensures err { IfErr result (λ e. e ≡ Memory) }
     {
-        let tokens = mem::replace(&mut self.line, Vec::new(alloc));
+        let mut tokens = Vec::new(alloc);
+        tokens.reserve_exact(self.line.len())?;
+        tokens.append(&mut self.line)?;
         self.lines.push(Line { tokens })?;
         self.place = Place::Start;
         self.space = false;
@@ -85,6 +87,7 @@ impl<'a> Scanner<'a> {
     }
 
     // Adds a token that begins at this place, on this line.
+    #[inline(always)]
     fn add_word(
         &mut self,
         alloc: Global,
@@ -113,6 +116,7 @@ impl<'a> Scanner<'a> {
     }
 
     /// Adds the piece that stands at this place.
+    #[inline(always)]
     pub(crate) fn put(
         &mut self,
         alloc: Global,
@@ -141,6 +145,29 @@ impl<'a> Scanner<'a> {
             }
             Piece::Word(kind) => self.add_word(alloc, at, first.line, kind, front.span),
         }
+    }
+
+    /// Adds the pieces from here on, as long as the bytes alone show them.
+    #[inline(always)]
+    pub(crate) fn put_quick(
+        &mut self,
+        alloc: Global,
+        start: Cursor<'a>,
+    ) -> Result<Span<'a>, Refusal>
+        ensures ok { IfOk result (Goes self.old self.new start.entry) }
+        ensures err { IfErr result (λ e. e ≡ Memory) }
+    {
+        let mut count = 0;
+        let mut at = start;
+        while let Some(first) = at.read_sure() {
+            let Some(front) = at.quick(self.place, first) else {
+                return Ok(Span { count, after: at });
+            };
+            self.put(alloc, at, first, front)?;
+            count += front.span.count;
+            at = front.span.after;
+        }
+        Ok(Span { count, after: at })
     }
 
     // Ends the last line, if it has tokens.

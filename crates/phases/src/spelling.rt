@@ -25,6 +25,7 @@ impl<'a> Cursor<'a> {
     }
 
     /// The spelling of a token that begins here. It is lent where each character takes one byte.
+    #[inline(always)]
     pub(crate) fn spelling(
         self,
         alloc: Global,

@@ -1,5 +1,6 @@
-//! Tests: texts whose tokens were listed by hand from ISO/IEC 9899:2011 6.4, and each limit at it and
-//! one past it.
+//! Tests: texts whose tokens were listed from outside, all texts of two bytes beside a plain program, and each limit
+//! at it and one past it.
+use crate::plain::{PlainFile, PlainToken, plain_scan};
 use crate::{Kind, Line, MAX_SPELLING_BYTES, PpToken, scan};
 use srcset::{Names, Pos};
 use std::alloc::Global;
@@ -7,8 +8,10 @@ use std::borrow::CowSlice;
 use std::process::Abort;
 use std::test::Fail;
 
-// A text, and its tokens, each with a space behind it and each line with a newline.
-const TEXTS: [(&[u8], &[u8]); 44] = [
+// A text, and its tokens, each with a space behind it and each line with a newline. The first 44 and the last two were
+// listed by hand from ISO/IEC 9899:2011 5.1.1.2 and 6.4; between them stand 18 whose tokens are those that clang 14
+// lists (`-std=c11 -fno-dollars-in-identifiers -Xclang -dump-raw-tokens`).
+const TEXTS: [(&[u8], &[u8]); 64] = [
     (b"", b""),
     (b"\n", b"\n"),
     (b"\n\n", b"\n\n"),
@@ -68,6 +71,47 @@ const TEXTS: [(&[u8], &[u8]); 44] = [
     (b"x #include <a>\n", b"x # include < a > \n"),
     (b"#include <>\n", b"# include < > \n"),
     (b"$@`\x01\xff\n", b"$ @ ` \x01 \xff \n"),
+    (
+        b"for(i=0;i<10;++i)a[i]*=2;\n",
+        b"for ( i = 0 ; i < 10 ; ++ i ) a [ i ] *= 2 ; \n",
+    ),
+    (
+        b"p->x.y=&q[-1]->z;\n",
+        b"p -> x . y = & q [ - 1 ] -> z ; \n",
+    ),
+    (b"a?b:c?d:e;\n", b"a ? b : c ? d : e ; \n"),
+    (b"x=y/ *z;\n", b"x = y / * z ; \n"),
+    (
+        b"u8 u8x u8\"x\" uU\"y\" L L\"z\"\n",
+        b"u8 u8x u8\"x\" uU \"y\" L L\"z\" \n",
+    ),
+    (
+        b"0x1.8p+3f 1e+5L 0b11 1..2 .5.5 1_000\n",
+        b"0x1.8p+3f 1e+5L 0b11 1..2 .5.5 1_000 \n",
+    ),
+    (b"a<b>c<=d>=e<:f:>g\n", b"a < b > c <= d >= e <: f :> g \n"),
+    (b"a%=b%c%>d%:e\n", b"a %= b % c %> d %: e \n"),
+    (b"f(a,b)...g....h\n", b"f ( a , b ) ... g ... . h \n"),
+    (b"~!a^b|c||d|=e^=f\n", b"~ ! a ^ b | c || d |= e ^= f \n"),
+    (
+        b"\"a\" \"b\\\\\" '\\\\' 'ab'\n",
+        b"\"a\" \"b\\\\\" '\\\\' 'ab' \n",
+    ),
+    (b"x=a---b;y=a- -b;\n", b"x = a -- - b ; y = a - - b ; \n"),
+    (b"#pragma once\n", b"# pragma once \n"),
+    (
+        b"#define F(x,...)#x##__VA_ARGS__\n",
+        b"# define F ( x , ... ) # x ## __VA_ARGS__ \n",
+    ),
+    (
+        b"goto l;l:;return(-1);\n",
+        b"goto l ; l : ; return ( - 1 ) ; \n",
+    ),
+    (b"a/**/+/**/+b//c\nd\n", b"a + + b \nd \n"),
+    (b"_a1 $b 1a 1.a .a\n", b"_a1 $ b 1a 1.a . a \n"),
+    (b"a&&b&c&=d<<e>>f\n", b"a && b & c &= d << e >> f \n"),
+    (b"int/*\n*/x\\\n=\\\n1;\n", b"int x = 1 ; \n"),
+    (b"\tif (a)\n\n\x0c{\x0b}\n", b"if ( a ) \n\n{ } \n"),
 ];
 
 // A text, and the code and the line of its fault.
@@ -244,5 +288,83 @@ fn unclosed_quotes(rt: HostRuntime) -> Result<(), Fail> {
     let lines = scan(rt.alloc(), text.as_slice(), 0, &names)?;
     assert_eq!(rt; lines.len(), 1);
     assert_eq!(rt; lines[0].tokens().len(), 1_000_001);
+    Ok(())
+}
+
+fn is_same(token: &PpToken, plain: &PlainToken) -> bool {
+    token.kind() == plain.kind
+        && token.spelling() == plain.text.as_slice()
+        && token.space_before() == plain.space
+        && token.pos().line == plain.line
+}
+
+fn are_same(tokens: &[PpToken], plain: &[PlainToken]) -> bool {
+    for (token, other) in tokens.iter().zip(plain.iter()) {
+        if !is_same(token, other) {
+            return false;
+        }
+    }
+    tokens.len() == plain.len()
+}
+
+fn is_same_file(lines: &[Line], file: &PlainFile) -> bool {
+    for (line, other) in lines.iter().zip(file.lines.iter()) {
+        if !are_same(line.tokens(), other.as_slice()) {
+            return false;
+        }
+    }
+    lines.len() == file.lines.len() && file.fault.is_none()
+}
+
+// Whether the scan answers as the plain program does.
+fn agrees(alloc: Global, names: &Names, text: &[u8]) -> Result<bool, Fail> {
+    let file = plain_scan(alloc, text)?;
+    if text.len() > 8 {
+        return Ok(false);
+    }
+    match scan(alloc, text, 0, names) {
+        Ok(lines) => Ok(is_same_file(lines.as_slice(), &file)),
+        Err(fault) => match file.fault {
+            Some(other) => Ok(fault.code == other.code && fault.line == other.line),
+            None => Ok(false),
+        },
+    }
+}
+
+// All 65,536 texts of two bytes, and each followed by a newline.
+#[test]
+fn texts_of_two_bytes(rt: HostRuntime) -> Result<(), Fail> {
+    let names = names(rt.alloc())?;
+    for first in 0..=255_u8 {
+        for second in 0..=255_u8 {
+            assert!(rt;
+                agrees(rt.alloc(), &names, &[first, second])?,
+                "at {first} {second}"
+            );
+            assert!(rt;
+                agrees(rt.alloc(), &names, &[first, second, b'\n'])?,
+                "at {first} {second} 10"
+            );
+        }
+    }
+    Ok(())
+}
+
+// The plain program lists the tokens of the table as well.
+#[test]
+fn plain_texts(rt: HostRuntime) -> Result<(), Fail> {
+    for (text, tokens) in &TEXTS {
+        let file = plain_scan(rt.alloc(), *text)?;
+        assert!(rt; file.fault.is_none());
+        let mut found = Vec::new(rt.alloc());
+        for line in &file.lines {
+            for token in line {
+                found.extend_from_slice(token.text.as_slice())?;
+                found.push(b' ')?;
+            }
+            found.push(b'\n')?;
+        }
+        assert!(rt; found.as_slice() == *tokens);
+    }
     Ok(())
 }

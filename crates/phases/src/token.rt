@@ -59,8 +59,8 @@ pub enum Piece {
 #[derive(Drop)]
 pub struct PpToken<'a> {
     pub(crate) kind: Kind,
-    pub(crate) spelling: CowSlice<'a, u8>,
     pub(crate) space_before: bool,
+    pub(crate) spelling: CowSlice<'a, u8>,
     pub(crate) pos: Pos,
 }
 

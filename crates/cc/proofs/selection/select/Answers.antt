@@ -1,5 +1,5 @@
 use Rattle.std.proofs.Common.{arith}
-use Rattle.cc.specs.Tree.{main_of}
+use Rattle.cc.specs.Sums.{main_of}
 use Rattle.cc.proofs.Evaluates.{slots_some}
 use Rattle.cc.proofs.Sound.{is_sound}
 use Rattle.cc.proofs.selection.select.Goals as goal

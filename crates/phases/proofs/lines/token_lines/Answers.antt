@@ -2,16 +2,21 @@ use Rattle.std.proofs.Common.{◌≡◌, Ok, Err, IfOk, IfErr, ◌⊎◌, sym, s
 use Rattle.srcset.specs.declared.refusal.Refusal.TheVariants.{Memory}
 use Rattle.phases.specs.Lines.{lines_or_fault}
 use Rattle.phases.proofs.ClosingLemmas.{hopeless_more}
-use Rattle.phases.proofs.ScanLemmas.{scan_step, scan_end}
+use Rattle.phases.proofs.ScanLemmas.{scan_step, scan_end, goes_after}
 use Rattle.phases.proofs.lines.token_lines.Goals as goal
 
 pub loop-first-preserved : goal.loop-first-preserved
 loop-first-preserved c =
     let puts = c.in_ok-put.ensures.ok in
+    let goes = c.in_ok-quick.ensures.ok in
+    let after = c.front-front.result.span.after in
+    let file = puts.file_is ∙ c.loop-first.invariant.file_is in
+    let known = hopeless_more c.hopeless-hopeless.result c.behind.result c.loop-first.at after c.front-front.result.span.count c.hopeless-hopeless.ensures c.front-front.ensures.spans c.behind.ensures.single c.behind.ensures.double in
+    let whole = scan_step c.args.file c.loop-first.scanner c.put.new.self _ c.loop-first.at c.in-Some.first c.front-front.result c.loop-first.invariant.file_is c.loop-first.invariant.whole_is c.in-Some.ensures c.front-front.ensures puts in
     record {
-      known_is = hopeless_more c.hopeless-hopeless.result c.behind-known.result c.loop-first.at c.front-front.result.span.after c.front-front.result.span.count c.hopeless-hopeless.ensures c.front-front.ensures.spans c.behind-known.ensures.single c.behind-known.ensures.double;
-      file_is = puts.file_is ∙ c.loop-first.invariant.file_is;
-      whole_is = scan_step c.args.file c.loop-first.scanner c.put.new.self _ c.loop-first.at c.in-Some.first c.front-front.result c.loop-first.invariant.file_is c.loop-first.invariant.whole_is c.in-Some.ensures c.front-front.ensures puts;
+      known_is = hopeless_more c.behind.result c.behind-known.result after c.in_ok-quick.quick.after c.in_ok-quick.quick.count known goes.spans c.behind-known.ensures.single c.behind-known.ensures.double;
+      file_is = goes.file_is ∙ file;
+      whole_is = goes_after c.args.file c.put.new.self c.put_quick-in-Some.new.self _ after c.in_ok-quick.quick file whole goes;
     }
 
 pub returns-clause-ok : goal.returns-clause-ok

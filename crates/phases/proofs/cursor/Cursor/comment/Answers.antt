@@ -1,4 +1,4 @@
-use Rattle.phases.proofs.PieceLemmas.{comment_more, comment_step, comment_closed, comment_end}
+use Rattle.phases.proofs.PieceLemmas.{comment_far, comment_step, comment_closed, comment_end}
 use Rattle.phases.proofs.cursor.Cursor.comment.Goals as goal
 
 pub returns-then-ends_comment : goal.returns-then-ends_comment
@@ -7,4 +7,4 @@ returns-then-ends_comment c =
 
 pub loop-step-preserved : goal.loop-step-preserved
 loop-step-preserved c =
-    comment_more c.args.self c.loop-step.at c.in-Some.step _ _ _ c.loop-step.count c.loop-step.invariant c.in-Some.ensures (comment_step c.loop-step.star c.loop-step.at c.in-Some.step c.in-Some.ensures (cc))
+    comment_far c.args.self c.loop-step.at c.in-Some.step c.within_comment-run.result _ _ _ _ c.loop-step.count c.loop-step.invariant c.in-Some.ensures (comment_step c.loop-step.star c.loop-step.at c.in-Some.step c.in-Some.ensures (cc)) c.within_comment-run.ensures.spans c.within_comment-run.ensures.left

@@ -1,6 +1,6 @@
 use Rattle.std.proofs.Common.{refl, ap, ◌∙◌}
 use Rattle.phases.specs.Along.{plus}
-use Rattle.phases.proofs.LexicalLemmas.{close_more, close_here, close_step}
+use Rattle.phases.proofs.LexicalLemmas.{close_far, close_here, close_step}
 use Rattle.phases.proofs.ReadingLemmas.{spans_join, spans_step}
 use Rattle.phases.proofs.cursor.Cursor.to_close.Goals as goal
 
@@ -13,4 +13,4 @@ returns-then-closes c =
 
 pub loop-step-preserved : goal.loop-step-preserved
 loop-step-preserved c =
-    close_more c.args.self c.loop-step.at c.in-Some.step _ _ _ _ c.loop-step.invariant c.in-Some.ensures (close_step _ _ _ c.loop-step.at c.in-Some.step c.in-Some.ensures c.if-step-eq10.false (cc) ∙ rw c.escapes_next-escaped.ensures refl)
+    close_far c.args.self c.loop-step.at c.in-Some.step c.within_literal-run.result _ _ _ _ _ c.loop-step.invariant c.in-Some.ensures (close_step _ _ _ c.loop-step.at c.in-Some.step c.in-Some.ensures c.if-step-eq10.false (cc) ∙ rw c.escapes_next-escaped.ensures refl) c.within_literal-run.ensures.spans c.within_literal-run.ensures.left

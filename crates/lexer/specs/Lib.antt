@@ -1,0 +1,10 @@
+pub mod Meanings
+pub mod Words
+pub mod Punctuators
+pub mod Digits
+pub mod Numbers
+pub mod Literals
+pub mod Decoding
+pub mod CTokens
+pub mod Numbering
+pub mod Carrying

@@ -1,0 +1,15 @@
+//! From preprocessing tokens to C tokens: translation phases 5 to 7 of ISO/IEC 9899:2011 5.1.1.2.
+#![tactic(auto)]
+
+mod lexing;
+mod literals;
+mod numbers;
+mod punctuators;
+#[cfg(test)]
+mod tests;
+mod token;
+mod translation;
+mod words;
+
+pub use token::{Keyword, Kind, Punctuator, Token};
+pub use translation::tokens;

@@ -1,0 +1,6 @@
+use Rattle.std.proofs.Common.{ℕ, ◌∷◌}
+use Rattle.parser.proofs.SpecifierParts.{no_keyword, none_alone, alone_reads}
+use Rattle.parser.proofs.specifiers.specifier.Goals as goal
+
+pub returns-clause-answer : goal.returns-clause-answer
+returns-clause-answer c = alone_reads _ _ _ _ _ _ _ c.in-Some-specifier_alone.ensures c.in-Some.ensures c.requires

@@ -1,0 +1,16 @@
+pub mod Grammar
+pub mod Declarations
+pub mod Statements
+pub mod Answer
+pub mod ExpressionLeads
+pub mod ExpressionAnswers
+pub mod PartAnswers
+pub mod DeclarationAnswers
+pub mod DeclarationParts
+pub mod InitAnswers
+pub mod ItemAnswers
+pub mod DeclarationFronts
+pub mod StatementAnswers
+pub mod StmtParts
+pub mod Units
+pub mod UnitAnswers

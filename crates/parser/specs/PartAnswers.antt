@@ -1,0 +1,43 @@
+-- What the functions answer that read the arguments of a call (ISO/IEC 9899:2011 6.5.2.2) and the name of a type in
+-- parentheses (6.5.3.4, 6.5.4), each up to the closing parenthesis.
+use Rattle.std.specs.Prelude.{ℕ, Option, None, List, map, Result, Ok, Err}
+use Rattle.lexer.specs.declared.token.Token.{Token}
+use Rattle.lexer.specs.declared.token.Punctuator.TheVariants as sign
+use Rattle.tree.specs.declared.expression.TypeName.{TypeName}
+use Rattle.tree.specs.Tree.{Trees, TypeTree, type_name}
+use Rattle.tree.specs.Counts.{depths, type_depth}
+use Rattle.tree.specs.View.{tree_of, trees_of}
+use Rattle.parser.specs.declared.refusal.Refusal.{Refusal}
+use Rattle.parser.specs.declared.expressions.ArgumentsPart.{ArgumentsPart}
+use Rattle.parser.specs.declared.expressions.TypePart.{TypePart}
+use Rattle.parser.specs.Grammar.{Sign, SpellsArguments, SpellsType}
+use Rattle.parser.specs.Answer.{ReadsOf, FailsOf, StandsOf}
+
+-- what ends in a token of its own can end before any other
+abbrev pub BeforeAny : {A : Type 0} → A → List Token → Type 0
+BeforeAny x rest = Unit {0}
+
+-- arguments, and the parenthesis that closes them
+abbrev pub SpellsClosed : Option (List Token) → Trees → List Token → List Token → Type 0
+SpellsClosed b es ts rest = (t1 : List Token) × SpellsArguments b es ts t1 × Sign b sign.ParenClose t1 rest
+
+abbrev pub AnswersArguments : ℕ → List Token → Result ArgumentsPart Refusal → Type 0
+AnswersArguments d ts (Ok p) = ReadsOf (SpellsClosed None) BeforeAny depths d ts (trees_of (map tree_of p.list.items)) p.depth p.rest.now
+AnswersArguments d ts (Err f) = FailsOf (SpellsClosed None) BeforeAny depths d ts f
+
+abbrev pub StandsArguments : ℕ → List Token → Refusal → Type 0
+StandsArguments d ts f = StandsOf SpellsClosed depths d ts f
+
+abbrev pub type_of : TypeName → TypeTree
+type_of t = type_name t.specifiers.pos t.specifiers.list.items (trees_of (map tree_of t.sizes.items))
+
+-- a type name, and the parenthesis that closes it
+abbrev pub SpellsNamed : Option (List Token) → TypeTree → List Token → List Token → Type 0
+SpellsNamed b ty ts rest = (t1 : List Token) × SpellsType b ty ts t1 × Sign b sign.ParenClose t1 rest
+
+abbrev pub AnswersType : ℕ → List Token → Result TypePart Refusal → Type 0
+AnswersType d ts (Ok p) = ReadsOf (SpellsNamed None) BeforeAny type_depth d ts (type_of p.name) p.depth p.rest.now
+AnswersType d ts (Err f) = FailsOf (SpellsNamed None) BeforeAny type_depth d ts f
+
+abbrev pub StandsType : ℕ → List Token → Refusal → Type 0
+StandsType d ts f = StandsOf SpellsNamed type_depth d ts f

@@ -1,0 +1,81 @@
+-- The tree of a whole list of tokens, its limits, and why a list is refused (ISO/IEC 9899:2011 6.9; the limits are of
+-- this compiler, 5.2.4.1).
+use Rattle.std.specs.Prelude.{◌≡◌, ℕ, ◌≤◌, None, Some, ◌⊎◌, List, [], ◌∷◌}
+use Rattle.srcset.specs.declared.refusal.Pos.{Pos}
+use Rattle.srcset.specs.declared.refusal.Refusal.{Refusal}
+use Rattle.srcset.specs.declared.refusal.Refusal.TheVariants.{Memory, At}
+use Rattle.srcset.specs.declared.fault.Fault.{Fault}
+use Rattle.srcset.specs.NameTable.{Texts}
+use Rattle.srcset.specs.Refusal.{IsFaultOfRefusal}
+use Rattle.lexer.specs.declared.token.Token.{Token}
+use Rattle.lexer.specs.declared.token.Kind.{Kind}
+use Rattle.tree.specs.Tree.{ExternalTree, definition, declaration}
+use Rattle.tree.specs.Counts.{function_nodes, unit_nodes, unit_depth}
+use Rattle.parser.specs.Statements.{SpellsUnit}
+use Rattle.parser.specs.Answer.{Reaches}
+
+-- the whole list is this unit
+abbrev pub IsUnitOf : List Token → List ExternalTree → Type 0
+IsUnitOf ts es = SpellsUnit None es ts []
+
+-- ---- limits
+
+pub data Limit : Type 0 where
+  of_depth : Limit
+  of_function : Limit
+  of_program : Limit
+
+abbrev pub code_of : Limit → ℕ
+code_of of_depth = 709
+code_of of_function = 710
+code_of of_program = 711
+
+abbrev pub IsSmall : ExternalTree → Type 0
+IsSmall (definition f) = function_nodes f ≤ 8000
+IsSmall (declaration d) = Unit {0}
+
+abbrev pub AreSmall : List ExternalTree → Type 0
+AreSmall [] = Unit {0}
+AreSmall (e ∷ es) = IsSmall e × AreSmall es
+
+-- the unit, whole or begun, keeps the limit
+abbrev pub Keeps : Limit → List ExternalTree → Type 0
+Keeps of_depth es = unit_depth es ≤ 256
+Keeps of_function es = AreSmall es
+Keeps of_program es = unit_nodes es ≤ 262144
+
+-- ---- answers
+
+-- the unit is a tree of the list, and keeps each limit
+pub record IsTreeWithin (ts : List Token) (es : List ExternalTree) : Type 0 where
+  pub spelled : IsUnitOf ts es
+  pub within : (l : Limit) → Keeps l es
+
+-- no tree of the list is another, whether it keeps the limits or not
+abbrev pub IsOnly : List Token → List ExternalTree → Type 0
+IsOnly ts es = (us : List ExternalTree) → IsUnitOf ts us → us ≡ es
+
+-- the list has no tree
+abbrev pub HasNoTree : List Token → Type 0
+HasNoTree ts = (es : List ExternalTree) → IsUnitOf ts es → ⊥
+
+-- no tree of the list keeps the limit, and a begun one, whose front ends at this place, passes it
+pub record Exceeds (l : Limit) (ts : List Token) (at : Pos) : Type 0 where
+  pub none : (es : List ExternalTree) → IsUnitOf ts es → Keeps l es → ⊥
+  pub tree : List ExternalTree
+  pub cut : List Token
+  pub last : Kind
+  pub begun : SpellsUnit (Some cut) tree ts cut
+  pub reaches : Reaches ts (record { kind = last; pos = at } ∷ cut)
+  pub passes : Keeps l tree → ⊥
+
+-- the refusal of the list stands
+abbrev pub IsRefused : List Token → Refusal → Type 0
+IsRefused ts Memory = Unit {0}
+IsRefused ts (At code at) = ((code ≡ 401) × HasNoTree ts) ⊎ ((l : Limit) × (code ≡ code_of l) × Exceeds l ts at)
+
+-- the fault of such a refusal, under the names of these texts
+pub record IsFaultOfUnit (fault : Fault) (texts : Texts) (ts : List Token) : Type 0 where
+  pub refusal : Refusal
+  pub refused : IsRefused ts refusal
+  pub shown : IsFaultOfRefusal fault texts refusal

@@ -1,0 +1,34 @@
+//! Why there is no tree.
+
+ghost use Rattle.std.specs.Prelude.{◌≡◌};
+ghost use Rattle.parser.specs.declared.refusal.Refusal.TheVariants.{Memory};
+
+use srcset::Pos;
+use std::alloc::{AllocError, AllocFailed};
+
+/// Why there is no tree.
+#[derive(Clone, Copy, PartialEq, Eq, Debug)]
+pub(crate) enum Refusal {
+    /// No tree goes on with the token at this place, or, without one, at the end of the tokens.
+    Syntax(Option<Pos>),
+    /// With the token at this place a tree becomes too deep.
+    Depth(Pos),
+    /// No memory.
+    Memory,
+}
+
+impl From<AllocError> for Refusal {
+    ghost from_gives = { λ _ e. e ≡ Memory };
+
+    fn from(_error: AllocError) -> Refusal {
+        Refusal::Memory
+    }
+}
+
+impl<T: Drop> From<AllocFailed<T>> for Refusal {
+    ghost from_gives = { λ _ e. e ≡ Memory };
+
+    fn from(_error: AllocFailed<T>) -> Refusal {
+        Refusal::Memory
+    }
+}

@@ -1,0 +1,105 @@
+//! Runs of plain bytes, which need no look at trigraphs and splices.
+ghost use Rattle.std.specs.Prelude.{◌≡◌, ◌≤◌, ◌<◌, ◌+◌, ◌^◌, drop, length};
+ghost use Rattle.phases.specs.Lexical.{word_len, number_more};
+ghost use Rattle.phases.specs.Runs.{is_sure, next_line, is_ordinary, ordinary_len, IsRun};
+
+use crate::cursor::{Cursor, Span};
+use crate::lexical::{goes_on, is_word};
+use crate::reading::is_plain;
+
+/// Whether the byte is the first character of each text that begins with it.
+#[inline(always)]
+pub(crate) fn is_sure(byte: u8) -> bool
+    ensures { result ≡ is_sure byte }
+{
+    is_plain(byte) || byte == b'\n'
+}
+
+/// The line behind a sure byte on this line.
+#[inline(always)]
+pub(crate) fn next_line(byte: u8, line: u32) -> u32
+    requires { line + 1 < 2 ^ 32 }
+    ensures { result ≡ next_line byte line }
+{
+    if byte == b'\n' { line + 1 } else { line }
+}
+
+#[inline(always)]
+fn is_ordinary(stop: u8, byte: u8) -> bool
+    ensures { result ≡ is_ordinary stop byte }
+{
+    is_plain(byte) && !(byte == stop)
+}
+
+// How many bytes from the first on are plain and not `stop`.
+#[inline(always)]
+fn ordinary_bytes(bytes: &[u8], stop: u8) -> usize
+    ensures { result ≡ ordinary_len stop bytes.now }
+{
+    let mut count = 0;
+    for byte in bytes {
+        if !is_ordinary(stop, *byte) {
+            return count;
+        }
+        count += 1;
+    }
+    count
+}
+
+/// How many bytes from the first on go on with a word.
+#[inline(always)]
+pub(crate) fn word_bytes(bytes: &[u8]) -> usize
+    ensures { result ≡ word_len bytes.now }
+{
+    let mut count = 0;
+    for byte in bytes {
+        if !is_word(*byte) {
+            return count;
+        }
+        count += 1;
+    }
+    count
+}
+
+/// How many bytes from the first on go on with a preprocessing number after the byte `first`.
+pub(crate) fn number_bytes(bytes: &[u8], first: u8) -> usize
+    ensures { result ≡ number_more first bytes.now }
+{
+    let mut last = first;
+    let mut count = 0;
+    for byte in bytes {
+        if !goes_on(last, *byte) {
+            return count;
+        }
+        last = *byte;
+        count += 1;
+    }
+    count
+}
+
+impl<'a> Cursor<'a> {
+    /// The place so many bytes further on, on the same line.
+    #[inline(always)]
+    pub(crate) fn past(self, count: usize) -> Cursor<'a>
+        requires { count ≤ length self.rest.now }
+        ensures rest { result.rest.now ≡ drop count self.entry.rest.now }
+        ensures line { result.line ≡ self.entry.line }
+    {
+        Cursor {
+            rest: &self.rest[count..],
+            line: self.line,
+        }
+    }
+
+    /// The plain bytes from here on up to `stop`.
+    #[inline(always)]
+    pub(crate) fn ordinary(self, stop: u8) -> Span<'a>
+        ensures { IsRun self.entry stop result }
+    {
+        let count = ordinary_bytes(self.rest, stop);
+        Span {
+            count,
+            after: self.past(count),
+        }
+    }
+}

@@ -1,0 +1,5 @@
+pub mod Tree
+pub mod Capped
+pub mod Counts
+pub mod View
+pub mod Rows

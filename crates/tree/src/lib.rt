@@ -1,0 +1,24 @@
+//! The syntax tree of a translation unit (ISO/IEC 9899:2011 6.5 to 6.9, in the profile).
+#![tactic(auto)]
+
+mod declaration;
+mod depths;
+mod expression;
+pub mod laws;
+mod node_counts;
+mod statement;
+#[cfg(test)]
+mod tests;
+mod unit;
+mod weights;
+
+pub use declaration::{
+    Declaration, Enumerator, FunctionDeclarator, Initialiser, Item, ObjectDeclarator, Parameter,
+    Specifier, Specifiers,
+};
+pub use expression::{
+    AssignOp, BinaryOp, Expr, PrefixOp, StepOp, TypeName, TypeSpecifier, TypeSpecifiers, Word,
+};
+pub use statement::{BlockItem, ForStart, Stmt};
+pub use unit::{External, Function, Unit};
+pub use weights::weight;

@@ -1,0 +1,21 @@
+#!/bin/sh
+# Tries the edits of this folder as rt ci tries those of crates/NAME/must-fail: the prover must refuse each.
+#
+#   sh tests/edits/run.sh [CRATE..]     every crate with a folder here, by default
+#
+# The gate leaves them out for their time; crates/NAME/must-fail has one for each public function, and those that a
+# wrong compiler would most likely have.
+set -eu
+cd "$(dirname "$0")/../.."
+
+[ $# -gt 0 ] || set -- $(cd tests/edits && ls -d */ | tr -d /)
+copy=$(mktemp -d)
+trap 'rm -rf "$copy"' EXIT
+cp -R HANDLES crates.txt crates "$copy"
+for crate do
+    rm -rf "$copy/crates/$crate/must-fail"
+    cp -R "tests/edits/$crate" "$copy/crates/$crate/must-fail"
+done
+cd "$copy"
+git init -q .
+rt must-fail "$@"
