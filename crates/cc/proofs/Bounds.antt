@@ -1,5 +1,5 @@
 -- How deep and how large the program of a thin unit is.
-use Rattle.std.proofs.Common.{◌≡◌, ◌≤◌, ◌<◌, ◌^◌, ℕ, ◌+◌, max, Bool, true, false, ◌&&◌, List, [], ◌∷◌, Option, Some, None, refl, sym, ap, ◌∙◌, subst, arith}
+use Rattle.std.proofs.Common.{◌≡◌, ◌≤◌, ◌<◌, ◌^◌, ℕ, ◌+◌, Bool, true, false, List, [], ◌∷◌, Option, Some, None, refl, subst, arith}
 use Rattle.std.specs.Prelude.{if◌then◌else◌, nat_lt}
 use Rattle.std.proofs.lemmas.Bool.Decides.{nat_tests}
 use Rattle.srcset.specs.NameTable.{Texts}
@@ -11,10 +11,10 @@ use Rattle.tree.specs.Counts as counts
 use Rattle.cc.specs.declared.program.BinaryOperator.{BinaryOperator}
 use Rattle.cc.specs.Sums.{SumTree, constant, binary, Main}
 use Rattle.parser.specs.Units.{Limit, of_depth, of_function, Keeps}
-use Rattle.cc.specs.Range.{AreInts, AllInts, MainIsInts, IsBuildable}
-use Rattle.cc.specs.Selected.{slots, most_slots, main_slots}
+use Rattle.cc.specs.Range.{AreInts, MainIsInts, IsBuildable}
+use Rattle.cc.specs.Selected.{slots, main_slots}
 use Rattle.cc.specs.Weight.{nodes, puts_nodes, main_nodes}
-use Rattle.cc.specs.Thin.{constant_in, operator_in, joined, sum_in, is_named, only_argument, put_in, put_piece, status_piece, begun_with, ended_with, piece_before, body_in, main_in, is_main, if_no_puts, without_puts, declares_put, thin_in}
+use Rattle.cc.specs.Thin.{constant_in, operator_in, joined, sum_in, only_argument, put_piece, status_piece, begun_with, ended_with, body_in, main_in, is_main, without_puts, declares_put, thin_in}
 
 some_sum : (x y : SumTree) → Some x ≡ Some y → x ≡ y
 some_sum x y e = cc

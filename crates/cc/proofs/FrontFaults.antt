@@ -1,8 +1,8 @@
 -- Why a main file has no tokens.
-use Rattle.std.proofs.Common.{◌≡◌, ℕ, zero, suc, List, [], ◌∷◌, Bool, true, false, Option, Some, None, ◌⊎◌, inl, inr, ⊎_elim, refl, sym, ap, ◌∙◌, subst}
+use Rattle.std.proofs.Common.{◌≡◌, ℕ, zero, suc, List, [], ◌∷◌, Bool, true, false, Option, Some, None, inl, inr, ⊎_elim, refl, sym, ◌∙◌, subst}
 use Rattle.std.specs.Prelude.{Result, Ok, Err, slice_get}
 use Rattle.srcset.specs.declared.fault.Fault.{Fault}
-use Rattle.srcset.specs.Fault.{IsFaultOrMemory, IsMemoryFault}
+use Rattle.srcset.specs.Fault.{IsFaultOrMemory}
 use Rattle.srcset.specs.NameTable.{Texts, KeepsNumbers, with_text}
 use Rattle.srcset.specs.declared.refusal.Refusal.{Refusal}
 use Rattle.phases.specs.Token.{Token as PpToken}
@@ -11,7 +11,7 @@ use Rattle.phases.specs.Scanned.{IsScanFault}
 use Rattle.lexer.specs.CTokens.{ctokens}
 use Rattle.lexer.specs.Numbering.{IsTokenFault}
 use Rattle.cc.specs.Unprocessed.{is_unprocessed, all_tokens}
-use Rattle.cc.specs.Compiled.{LacksTokens, FailsLines, NeedsPreprocessor, FailsTokens}
+use Rattle.cc.specs.Compiled.{LacksTokens}
 
 scan_fault : (name bytes : List ℕ) (fault : Fault) (r : Result (List (List PpToken)) Refusal) → scanned 0 bytes ≡ r → IsScanFault fault (name ∷ []) r → LacksTokens name bytes fault
 scan_fault name bytes fault (Ok lines) e h = inr (inr (inr h))

@@ -1,5 +1,5 @@
 -- A block read piece by piece.
-use Rattle.std.proofs.Common.{◌≡◌, ◌≤◌, List, [], ◌∷◌, ◌++◌, length, map, Option, Some, None, refl, sym, ap, ◌∙◌, append_assoc, arith}
+use Rattle.std.proofs.Common.{◌≡◌, ◌≤◌, List, [], ◌∷◌, ◌++◌, length, map, Option, Some, None, refl, sym, ap, append_assoc, arith}
 use Rattle.tree.specs.declared.expression.Expr.{Expr}
 use Rattle.tree.specs.View.{tree_of, trees_of}
 use Rattle.cc.specs.Sums.{SumTree, Main}

@@ -1,6 +1,8 @@
 -- Why a main file is refused, and what a unit that was narrowed holds.
-use Rattle.std.proofs.Common.{◌≡◌, ℕ, List, Option, Some, None, inl, inr, ⊎_elim, refl, sym, ap, ◌∙◌, subst}
+use Rattle.std.proofs.Common.{◌≡◌, ℕ, List, Option, Some, inl, inr, ⊎_elim, sym, ap, ◌∙◌}
 use Rattle.std.specs.Prelude.{Result, Ok, Err, IfErr}
+use Rattle.std.specs.Result.{IsErrAnd}
+use Rattle.std.proofs.lemmas.Result.{err_from_is_err_and}
 use Rattle.srcset.specs.declared.fault.Fault.{Fault}
 use Rattle.srcset.specs.NameTable.{Texts}
 use Rattle.tree.specs.Tree.{ExternalTree}
@@ -17,6 +19,10 @@ narrowed found program x e is = sym e ∙ ap option_main is
 pub error_means : {A : Type 0} (r : Result A Fault) (P Q : Fault → Type 0) → ((f : Fault) → P f → Q f) → IfErr r P → IfErr r Q
 error_means (Ok x) P Q means h = h
 error_means (Err f) P Q means h = means f h
+
+-- what is said of an error that `?` hands on
+pub handed_on : {A : Type 0} (r : Result A Fault) (f : Fault) (P : Fault → Type 0) → IsErrAnd r (λ e. e ≡ f) → P f → IfErr r P
+handed_on r f P is h = let p = err_from_is_err_and r is in rw (p.1, p.2) h
 
 pub tree_refused : (source : Option (List ℕ)) (name bytes : List ℕ) (fault : Fault) → source ≡ Some bytes → LacksTree name bytes fault → IsRefused source name fault
 tree_refused source name bytes fault given h = inr (inl (record { bytes = bytes; given = given; why = inl h }))

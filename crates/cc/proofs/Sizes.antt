@@ -1,5 +1,5 @@
 -- How large the code and the frame of a program are.
-use Rattle.std.proofs.Common.{◌≡◌, ℕ, ◌+◌, ◌*◌, ◌≤◌, List, [], ◌∷◌, ◌++◌, length, Bool, true, refl, arith}
+use Rattle.std.proofs.Common.{◌≡◌, ℕ, ◌+◌, ◌*◌, ◌≤◌, List, [], ◌∷◌, ◌++◌, true, refl, arith}
 use Rattle.std.proofs.lemmas.List.Sums.{sum_by-cons}
 use Rattle.rv32.specs.declared.instr.Instr.TheVariants.{Op, Jalr}
 use Rattle.asm.specs.declared.item.Item.TheVariants.{Plain}

@@ -1,9 +1,9 @@
 -- Sources that ask nothing of translation phase 4: no directive, and no macro.
-use Rattle.std.specs.Prelude.{ℕ, Bool, true, false, ◌&&◌, ◌||◌, not, List, [], ◌∷◌, ◌++◌, codes}
+use Rattle.std.specs.Prelude.{ℕ, Bool, false, ◌||◌, not, List, [], ◌∷◌, codes}
 use Rattle.std.specs.List.{list_all, list_any, flat_map}
 use Rattle.std.specs.Str.{bytes_eq}
 use Rattle.phases.specs.declared.token.Kind.{Kind}
-use Rattle.phases.specs.declared.token.Kind.TheVariants.{Identifier, Number, CharacterConstant, StringLiteral, HeaderName, Punctuator, Other}
+use Rattle.phases.specs.declared.token.Kind.TheVariants.{Identifier, Punctuator}
 use Rattle.phases.specs.Token.{Token}
 
 -- # or its digraph (6.4.6p3)

@@ -20,20 +20,14 @@ fn c_tokens(alloc: Global, bytes: &[u8], name: &str, names: &mut Names) -> Resul
     ensures err { IfErr result (λ fault. LacksTokens name.now bytes.now fault) }
 {
     let file = names.intern(name.as_bytes())?;
-    let lines = match scan(alloc, bytes, file, names) {
-        Ok(lines) => lines,
-        Err(fault) => return Err(fault),
-    };
+    let lines = scan(alloc, bytes, file, names)?;
     if !is_unprocessed(lines.as_slice()) {
         return Err(Fault::at(alloc, 699, name, 1));
     }
     let Ok(list) = all_tokens(alloc, lines) else {
         return Err(Fault::memory(alloc));
     };
-    match tokens(alloc, list.as_slice(), names) {
-        Ok(tokens) => Ok(tokens),
-        Err(fault) => Err(fault),
-    }
+    tokens(alloc, list.as_slice(), names)
 }
 
 /// The syntax tree of the main file, of this name.
@@ -48,8 +42,6 @@ pub fn syntax_tree(
     ensures ok { IfOk result (λ unit. HasTree name.now bytes.now names.new (unit_of unit)) }
     ensures err { IfErr result (λ fault. LacksTree name.now bytes.now fault) }
 {
-    match c_tokens(alloc, bytes, name, names) {
-        Ok(tokens) => parse(alloc, tokens.as_slice(), names),
-        Err(fault) => Err(fault),
-    }
+    let tokens = c_tokens(alloc, bytes, name, names)?;
+    parse(alloc, tokens.as_slice(), names)
 }

@@ -1,12 +1,12 @@
 -- What a block consists of.
 use Rattle.std.specs.Prelude.{Option, None, Some}
-use Rattle.std.proofs.Common.{◌≡◌, ℕ, ◌+◌, ◌<◌, ◌≤◌, max, inl, inr, List, [], ◌∷◌, ◌++◌, refl, sym, ap, ◌∙◌, subst, arith}
+use Rattle.std.proofs.Common.{◌≡◌, ℕ, ◌+◌, ◌≤◌, max, inl, inr, List, [], ◌∷◌, ◌++◌, refl, sym, ap, ◌∙◌, subst, arith}
 use Rattle.srcset.specs.declared.refusal.Pos.{Pos}
 use Rattle.lexer.specs.declared.token.Token.{Token}
 use Rattle.lexer.specs.declared.token.Kind.TheVariants as kind
 use Rattle.lexer.specs.declared.token.Keyword.TheVariants as keyword
 use Rattle.lexer.specs.declared.token.Punctuator.TheVariants as sign
-use Rattle.tree.specs.Tree.{StmtTree, blank, block, empty, act, branch, fork, select, label, otherwise, repeat, until, turns, quit, resume, give, DeclarationTree, PieceTree, local, run, Pieces, no_pieces, and_piece}
+use Rattle.tree.specs.Tree.{StmtTree, blank, DeclarationTree, PieceTree, local, run, Pieces, no_pieces, and_piece}
 use Rattle.tree.specs.Counts.{stmt_depth, piece_depth, pieces_depth, declaration_depth}
 use Rattle.tree.specs.View.{pieces_of}
 use Rattle.parser.specs.declared.refusal.Refusal.{Refusal}
@@ -15,7 +15,7 @@ use Rattle.parser.specs.declared.scope.Scope.TheVariants.{Block}
 use Rattle.parser.specs.Grammar.{Own, Sign}
 use Rattle.parser.specs.Declarations.{SpellsDeclaration}
 use Rattle.parser.specs.Statements.{SpellsStmt, SpellsPiece, SpellsPieces}
-use Rattle.parser.specs.Answer.{NotFront, Reaches, Excuses, ReadsOf, FailsOf, PassesOf, StandsOf}
+use Rattle.parser.specs.Answer.{NotFront, Reaches, Excuses, ReadsOf, FailsOf, StandsOf}
 use Rattle.parser.specs.DeclarationAnswers.{Anywhere}
 use Rattle.parser.specs.StatementAnswers.{EndsStmt, SpellsBody}
 use Rattle.parser.specs.DeclarationFronts.{BeginsDeclaration}

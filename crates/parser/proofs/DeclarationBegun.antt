@@ -1,20 +1,15 @@
 -- Whole declarations are begun ones, and what they spell is a front.
 use Rattle.std.specs.Prelude.{Option, None, Some}
-use Rattle.std.proofs.Common.{◌≡◌, ℕ, ◌+◌, ◌<◌, ◌≤◌, ◌⊎◌, inl, inr, List, [], ◌∷◌, ◌++◌, length, refl, sym, ap, ◌∙◌, subst, arith}
-use Rattle.srcset.specs.declared.refusal.Pos.{Pos}
+use Rattle.std.proofs.Common.{ℕ, inl, inr, List, [], ◌∷◌}
 use Rattle.lexer.specs.declared.token.Token.{Token}
-use Rattle.lexer.specs.declared.token.Kind.{Kind}
-use Rattle.lexer.specs.declared.token.Kind.TheVariants as kind
-use Rattle.lexer.specs.declared.token.Keyword.TheVariants as keyword
-use Rattle.lexer.specs.declared.token.Punctuator.TheVariants as sign
 use Rattle.tree.specs.declared.expression.TypeSpecifier.{TypeSpecifier}
 use Rattle.tree.specs.declared.expression.TypeSpecifier.TheVariants as specifier
 use Rattle.tree.specs.Tree.{Tree, Init, gap, one, braced, Inits, no_inits, and_init, EnumeratorTree, SpecifierTree, outside, static, plain, listed, ParameterTree, ItemTree, object, function, DeclarationTree, declared, assertion}
 use Rattle.parser.specs.declared.scope.Scope.{Scope}
-use Rattle.parser.specs.Grammar.{layer, Own, Missing, Mark, Sign, StartsAt, SpellsSpecifier, SpellsSpecifiers, Spells}
+use Rattle.parser.specs.Grammar.{SpellsSpecifier, SpellsSpecifiers}
 use Rattle.parser.specs.Declarations.{SpellsMoreOf, SpellsSeries, Trailing, SpellsValue, SpellsEnumerator, SpellsTag, SpellsDeclarationSpecifier, SpellsDeclarationSpecifiers, SpellsBound, SpellsBounds, SpellsParameterName, SpellsParameter, SpellsParameters, SpellsInit, SpellsInits, SpellsMoreInits, SpellsInitialiser, SpellsItem, SpellsItems, SpellsDeclaration}
 use Rattle.parser.specs.Answer.{Reaches}
-use Rattle.parser.proofs.SeriesFacts.{mark_is_begun, reaches_itself, reaches_far, token_reaches, mark_front}
+use Rattle.parser.proofs.SeriesFacts.{mark_is_begun, reaches_far, token_reaches, mark_front}
 use Rattle.parser.proofs.Leads.{whole_is_begun, whole_reaches}
 
 -- ---- lists with a comma between any two

@@ -1,30 +1,22 @@
 -- Lists of enumerators.
-use Rattle.std.specs.Prelude.{Option, None, Some, Result, Ok, Err, max}
-use Rattle.std.proofs.Common.{◌≡◌, ℕ, ◌+◌, ◌<◌, ◌≤◌, ◌⊎◌, inl, inr, List, [], ◌∷◌, ◌++◌, length, refl, sym, ap, ◌∙◌, subst, arith}
+use Rattle.std.specs.Prelude.{None, max}
+use Rattle.std.proofs.Common.{◌≡◌, ℕ, inl, inr, List, [], ◌∷◌, ◌++◌, refl, sym, ap, ◌∙◌, subst, arith}
 use Rattle.srcset.specs.declared.refusal.Pos.{Pos}
 use Rattle.lexer.specs.declared.token.Token.{Token}
-use Rattle.lexer.specs.declared.token.Kind.{Kind}
 use Rattle.lexer.specs.declared.token.Kind.TheVariants as kind
-use Rattle.lexer.specs.declared.token.Keyword.{Keyword}
-use Rattle.lexer.specs.declared.token.Keyword.TheVariants as keyword
-use Rattle.lexer.specs.declared.token.Punctuator.{Punctuator}
 use Rattle.lexer.specs.declared.token.Punctuator.TheVariants as sign
-use Rattle.tree.specs.declared.expression.TypeSpecifier.{TypeSpecifier}
-use Rattle.tree.specs.declared.expression.TypeSpecifier.TheVariants as specifier
-use Rattle.tree.specs.Tree.{Tree, EnumeratorTree, SpecifierTree, ParameterTree}
-use Rattle.tree.specs.Counts.{depth, option_depth, sizes_depth, enumerator_depth, enumerators_depth, specifier_depth, specifiers_depth, parameter_depth, parameters_depth}
+use Rattle.tree.specs.Tree.{EnumeratorTree}
+use Rattle.tree.specs.Counts.{enumerator_depth, enumerators_depth}
 use Rattle.parser.specs.declared.refusal.Refusal.{Refusal}
 use Rattle.parser.specs.declared.refusal.Refusal.TheVariants.{Syntax, Depth, Memory}
-use Rattle.parser.specs.Grammar.{layer, Own, Missing, Mark, Sign, StartsAt, SpellsSpecifier, SpellsSpecifiers, Spells}
-use Rattle.parser.specs.Declarations.{SpellsMoreOf, SpellsSeries, Trailing, SpellsValue, SpellsEnumerator, SpellsTag, SpellsDeclarationSpecifier, SpellsDeclarationSpecifiers, SpellsBound, SpellsBounds, SpellsParameterName, SpellsParameter, IsVoid, IsVoidAlone, SpellsParameters}
-use Rattle.parser.specs.Answer.{NotFront, Reaches, Excuses, ReadsOf, FailsOf, PassesOf, StandsOf}
-use Rattle.parser.specs.ExpressionAnswers.{power, Stops, Front, Reads, Fails, Passes, Stands, BeginsType, ReadsSpecifiers, FailsSpecifiers, NotDepth}
-use Rattle.parser.specs.ExpressionLeads.{KindBeginsExpression}
-use Rattle.parser.specs.DeclarationAnswers.{Anywhere, EndsBounds, SpellsParameterList, SpellsSomeSpecifiers, EndsSpecifiers, BeginsSpecifier}
-use Rattle.parser.specs.DeclarationParts.{EndsEnumerator, SpellsEnumeratorList, EndsSpecifier, IsAlone, IsNoneAlone, SpellsClosedBound, EndsParameter, EndsFirstAt}
-use Rattle.parser.proofs.SeriesFacts.{same_token, whole_mark, mark_is_begun, reaches_itself, reaches_far, token_reaches, token_last, mark_front, excuses_grow}
-use Rattle.parser.proofs.Series.{Chain, tallest, Going, going_starts, going_more, going_fails, going_stuck, going_ends, going_stands, CommaThen, SeriesOf, series_begins, series_fails, series_first_stands, series_more, series_more_fails, series_more_stands}
-use Rattle.parser.proofs.Leads.{whole_is_begun, whole_reaches, no_begin, begins_apart, specifier_begins, specifiers_reach, specifier_reaches}
+use Rattle.parser.specs.Grammar.{Own}
+use Rattle.parser.specs.Declarations.{Trailing, SpellsEnumerator}
+use Rattle.parser.specs.Answer.{NotFront, Excuses, ReadsOf, FailsOf, StandsOf}
+use Rattle.parser.specs.ExpressionAnswers.{Stops}
+use Rattle.parser.specs.DeclarationAnswers.{Anywhere}
+use Rattle.parser.specs.DeclarationParts.{EndsEnumerator, SpellsEnumeratorList}
+use Rattle.parser.proofs.SeriesFacts.{same_token, whole_mark}
+use Rattle.parser.proofs.Series.{tallest, Going, going_stuck, going_ends, CommaThen, SeriesOf, series_begins, series_fails, series_first_stands, series_more, series_more_fails, series_more_stands}
 use Rattle.parser.proofs.EnumeratorParts.{stops_at_sign, enumerator_is_begun, enumerator_reaches}
 
 -- where a list of enumerators ends: before its brace, with a comma or without

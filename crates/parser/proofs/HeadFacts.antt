@@ -1,34 +1,29 @@
 -- What follows the specifiers at file scope, and the front of a translation unit.
-use Rattle.std.specs.Prelude.{Option, None, Some, max, Result, Ok, Err}
-use Rattle.std.proofs.Common.{◌≡◌, ℕ, ◌+◌, ◌<◌, ◌≤◌, ◌⊎◌, inl, inr, List, [], ◌∷◌, ◌++◌, map, length, refl, sym, ap, ◌∙◌, subst, arith, append_assoc}
+use Rattle.std.specs.Prelude.{None, Some, max, Result, Ok, Err}
+use Rattle.std.proofs.Common.{◌≡◌, ℕ, ◌+◌, ◌<◌, ◌≤◌, inr, List, [], ◌∷◌, length, refl, sym, ap, ◌∙◌, subst, arith}
 use Rattle.srcset.specs.declared.refusal.Pos.{Pos}
 use Rattle.lexer.specs.declared.token.Token.{Token}
-use Rattle.lexer.specs.declared.token.Kind.{Kind}
 use Rattle.lexer.specs.declared.token.Kind.TheVariants as kind
-use Rattle.lexer.specs.declared.token.Keyword.{Keyword}
 use Rattle.lexer.specs.declared.token.Keyword.TheVariants as keyword
-use Rattle.lexer.specs.declared.token.Punctuator.{Punctuator}
 use Rattle.lexer.specs.declared.token.Punctuator.TheVariants as sign
-use Rattle.tree.specs.Tree.{Tree, hole, Init, gap, one, braced, Inits, no_inits, and_init, SpecifierTree, ParameterTree, ItemTree, object, function, DeclarationTree, declared, assertion}
-use Rattle.tree.specs.Counts.{depth, sizes_depth, init_depth, inits_depth, option_init_depth, specifiers_depth, parameters_depth, item_depth, items_depth, declaration_depth}
-use Rattle.tree.specs.View.{inits_of}
+use Rattle.tree.specs.Tree.{SpecifierTree, ParameterTree, ItemTree, object, function, DeclarationTree, declared, assertion}
+use Rattle.tree.specs.Counts.{specifiers_depth, item_depth, items_depth, declaration_depth}
 use Rattle.parser.specs.declared.refusal.Refusal.{Refusal}
-use Rattle.parser.specs.declared.refusal.Refusal.TheVariants.{Syntax, Depth, Memory}
+use Rattle.parser.specs.declared.refusal.Refusal.TheVariants.{Syntax, Depth}
 use Rattle.parser.specs.declared.scope.Scope.{Scope}
-use Rattle.parser.specs.declared.scope.Scope.TheVariants.{File, Block}
-use Rattle.parser.specs.Grammar.{layer, Own, Missing, Mark, Sign, StartsAt, Spells}
-use Rattle.parser.specs.Declarations.{SpellsMoreOf, SpellsSeries, Trailing, SpellsDeclarationSpecifiers, SpellsBounds, SpellsParameters, SpellsInit, SpellsInits, SpellsMoreInits, SpellsInitialiser, SpellsItem, SpellsItems, SpellsDeclaration}
-use Rattle.parser.specs.Answer.{NotFront, Reaches, Excuses, ReadsOf, FailsOf, PassesOf, StandsOf}
-use Rattle.parser.specs.ExpressionAnswers.{power, Stops, Front, Reads, Fails, Passes, Stands}
-use Rattle.parser.specs.DeclarationAnswers.{Anywhere, EndsBounds, SpellsParameterList}
-use Rattle.parser.specs.ExpressionLeads.{KindBeginsExpression}
-use Rattle.parser.proofs.SeriesFacts.{same_token, whole_mark, reaches_itself, reaches_far, token_reaches, token_last, excuses_grow, passed_on}
-use Rattle.parser.proofs.Leads.{own_once, own_kinds, no_begin, whole_begins}
+use Rattle.parser.specs.declared.scope.Scope.TheVariants.{File}
+use Rattle.parser.specs.Grammar.{Own, StartsAt}
+use Rattle.parser.specs.Declarations.{SpellsDeclarationSpecifiers, SpellsItem, SpellsDeclaration}
+use Rattle.parser.specs.Answer.{NotFront, ReadsOf, FailsOf, PassesOf, StandsOf}
+use Rattle.parser.specs.ExpressionAnswers.{Stops}
+use Rattle.parser.specs.DeclarationAnswers.{Anywhere}
+use Rattle.parser.proofs.SeriesFacts.{whole_mark, reaches_itself, reaches_far, token_last}
+use Rattle.parser.proofs.Leads.{own_kinds}
 use Rattle.std.specs.Prelude.{IfOk, IfErr}
-use Rattle.tree.specs.Tree.{FunctionTree, ExternalTree, definition, declaration, no_pieces}
+use Rattle.tree.specs.Tree.{definition, declaration, no_pieces}
 use Rattle.tree.specs.Counts.{external_depth}
 use Rattle.parser.specs.Statements.{SpellsExternal}
-use Rattle.parser.specs.DeclarationAnswers.{SpellsSomeSpecifiers, EndsSpecifiers, HeadTree, whole, opening, OpeningTree, SpellsHead, EndsHead, head_depth, head_of, AnswersHead, StandsHead}
+use Rattle.parser.specs.DeclarationAnswers.{SpellsSomeSpecifiers, EndsSpecifiers, HeadTree, whole, opening, SpellsHead, EndsHead, head_depth, head_of, AnswersHead, StandsHead}
 use Rattle.parser.specs.DeclarationFronts.{Behind, TailTree, listing, defining, SpellsTail, BraceAt, EndsTail, tail_depth, tail_of, HasBrace, Defines, IsObject, head_tree, specifiers_height, AnswersTail}
 use Rattle.parser.specs.ItemAnswers.{EndsItem, SpellsFurther, SpellsItemList, StandsItems}
 use Rattle.parser.specs.declared.declarations.TailPart.{TailPart}

@@ -1,29 +1,22 @@
 -- Initialisers.
-use Rattle.std.specs.Prelude.{Option, None, Some, max, Result, Ok, Err}
-use Rattle.std.proofs.Common.{◌≡◌, ℕ, ◌+◌, ◌<◌, ◌≤◌, ◌⊎◌, inl, inr, List, [], ◌∷◌, ◌++◌, map, length, refl, sym, ap, ◌∙◌, subst, arith, append_assoc}
+use Rattle.std.specs.Prelude.{Option, None, Some, max}
+use Rattle.std.proofs.Common.{◌≡◌, ℕ, ◌+◌, ◌≤◌, inl, inr, List, [], ◌∷◌, ◌++◌, map, refl, sym, ap, ◌∙◌, subst, arith}
 use Rattle.srcset.specs.declared.refusal.Pos.{Pos}
 use Rattle.lexer.specs.declared.token.Token.{Token}
-use Rattle.lexer.specs.declared.token.Kind.{Kind}
 use Rattle.lexer.specs.declared.token.Kind.TheVariants as kind
-use Rattle.lexer.specs.declared.token.Keyword.{Keyword}
-use Rattle.lexer.specs.declared.token.Keyword.TheVariants as keyword
-use Rattle.lexer.specs.declared.token.Punctuator.{Punctuator}
 use Rattle.lexer.specs.declared.token.Punctuator.TheVariants as sign
-use Rattle.tree.specs.Tree.{Tree, Init, gap, one, braced, Inits, no_inits, and_init, SpecifierTree, ParameterTree, ItemTree, object, function, DeclarationTree, declared, assertion}
-use Rattle.tree.specs.Counts.{depth, sizes_depth, init_depth, inits_depth, option_init_depth, specifiers_depth, parameters_depth, item_depth, items_depth, declaration_depth}
+use Rattle.tree.specs.Tree.{Tree, Init, gap, one, braced, Inits, no_inits, and_init}
+use Rattle.tree.specs.Counts.{depth, init_depth, inits_depth, option_init_depth}
 use Rattle.tree.specs.View.{inits_of}
 use Rattle.parser.specs.declared.refusal.Refusal.{Refusal}
-use Rattle.parser.specs.declared.refusal.Refusal.TheVariants.{Syntax, Depth, Memory}
-use Rattle.parser.specs.declared.scope.Scope.{Scope}
-use Rattle.parser.specs.declared.scope.Scope.TheVariants.{File, Block}
-use Rattle.parser.specs.Grammar.{layer, Own, Missing, Mark, Sign, StartsAt, Spells}
-use Rattle.parser.specs.Declarations.{SpellsMoreOf, SpellsSeries, Trailing, SpellsDeclarationSpecifiers, SpellsBounds, SpellsParameters, SpellsInit, SpellsInits, SpellsMoreInits, SpellsInitialiser, SpellsItem, SpellsItems, SpellsDeclaration}
-use Rattle.parser.specs.Answer.{NotFront, Reaches, Excuses, ReadsOf, FailsOf, PassesOf, StandsOf}
-use Rattle.parser.specs.ExpressionAnswers.{power, Stops, Front, Reads, Fails, Passes, Stands}
-use Rattle.parser.specs.DeclarationAnswers.{Anywhere, EndsBounds, SpellsParameterList}
-use Rattle.parser.specs.ExpressionLeads.{KindBeginsExpression}
-use Rattle.parser.proofs.SeriesFacts.{same_token, whole_mark, reaches_itself, reaches_far, token_reaches, token_last, excuses_grow, passed_on}
-use Rattle.parser.proofs.Leads.{own_once, own_kinds, no_begin, whole_begins}
+use Rattle.parser.specs.declared.refusal.Refusal.TheVariants.{Depth}
+use Rattle.parser.specs.Grammar.{Own, Spells}
+use Rattle.parser.specs.Declarations.{SpellsMoreOf, SpellsSeries, Trailing, SpellsInit, SpellsInits, SpellsMoreInits, SpellsInitialiser}
+use Rattle.parser.specs.Answer.{NotFront, Excuses, ReadsOf, FailsOf, StandsOf}
+use Rattle.parser.specs.ExpressionAnswers.{Stops, Reads, Fails, Stands}
+use Rattle.parser.specs.DeclarationAnswers.{Anywhere}
+use Rattle.parser.proofs.SeriesFacts.{whole_mark, reaches_itself, token_reaches}
+use Rattle.parser.proofs.Leads.{own_once, own_kinds, no_begin}
 use Rattle.std.specs.Prelude.{Vec}
 use Rattle.std.proofs.Common.{Global, rules}
 use Rattle.tree.specs.declared.expression.Expr.{Expr}
@@ -31,9 +24,9 @@ use Rattle.tree.specs.declared.declaration.Initialiser.{Initialiser, the_lemmas}
 use Rattle.tree.specs.declared.declaration.Initialiser.TheVariants as W
 use Rattle.tree.specs.View.{tree_of, init_of}
 use Rattle.parser.specs.InitAnswers.{EndsInit, EndsInitialiser, Goes, Closes, SpellsInitList}
-use Rattle.parser.proofs.Series.{tallest, Chain, CommaThen, SeriesOf, Going, going_ends, going_stuck, series_begins, series_fails, series_first_stands, series_more, series_more_fails, series_more_stands}
+use Rattle.parser.proofs.Series.{tallest, CommaThen, SeriesOf, Going, going_ends, going_stuck, series_begins, series_fails, series_first_stands, series_more, series_more_fails, series_more_stands}
 use Rattle.parser.proofs.DeclarationBegun.{init_is_begun, init_reaches}
-use Rattle.parser.proofs.ItemParts.{Layered, StopsAt, reads_of, fails_of, stands_of, stops_own, stops_not, part_fails, part_stands, full_fails, full_stands}
+use Rattle.parser.proofs.ItemParts.{Layered, stands_of, stops_own, stops_not, part_fails, part_stands, full_fails, full_stands}
 
 -- ---- one initialiser
 

@@ -1,32 +1,27 @@
 -- Declarators.
-use Rattle.std.specs.Prelude.{Option, None, Some, max, Result, Ok, Err}
-use Rattle.std.proofs.Common.{◌≡◌, ℕ, ◌+◌, ◌<◌, ◌≤◌, ◌⊎◌, inl, inr, List, [], ◌∷◌, ◌++◌, map, length, refl, sym, ap, ◌∙◌, subst, arith, append_assoc}
+use Rattle.std.specs.Prelude.{Option, None, Some, max}
+use Rattle.std.proofs.Common.{◌≡◌, ℕ, ◌+◌, ◌≤◌, inl, inr, List, [], ◌∷◌, ◌++◌, refl, sym, ap, ◌∙◌, subst, arith}
 use Rattle.srcset.specs.declared.refusal.Pos.{Pos}
 use Rattle.lexer.specs.declared.token.Token.{Token}
 use Rattle.lexer.specs.declared.token.Kind.{Kind}
 use Rattle.lexer.specs.declared.token.Kind.TheVariants as kind
-use Rattle.lexer.specs.declared.token.Keyword.{Keyword}
-use Rattle.lexer.specs.declared.token.Keyword.TheVariants as keyword
-use Rattle.lexer.specs.declared.token.Punctuator.{Punctuator}
 use Rattle.lexer.specs.declared.token.Punctuator.TheVariants as sign
-use Rattle.tree.specs.Tree.{Tree, Init, gap, one, braced, Inits, no_inits, and_init, SpecifierTree, ParameterTree, ItemTree, object, function, DeclarationTree, declared, assertion}
-use Rattle.tree.specs.Counts.{depth, sizes_depth, init_depth, inits_depth, option_init_depth, specifiers_depth, parameters_depth, item_depth, items_depth, declaration_depth}
-use Rattle.tree.specs.View.{inits_of}
+use Rattle.tree.specs.Tree.{Tree, Init, ParameterTree, ItemTree, object, function}
+use Rattle.tree.specs.Counts.{sizes_depth, option_init_depth, parameters_depth, item_depth, items_depth}
 use Rattle.parser.specs.declared.refusal.Refusal.{Refusal}
-use Rattle.parser.specs.declared.refusal.Refusal.TheVariants.{Syntax, Depth, Memory}
+use Rattle.parser.specs.declared.refusal.Refusal.TheVariants.{Depth}
 use Rattle.parser.specs.declared.scope.Scope.{Scope}
-use Rattle.parser.specs.declared.scope.Scope.TheVariants.{File, Block}
-use Rattle.parser.specs.Grammar.{layer, Own, Missing, Mark, Sign, StartsAt, Spells}
-use Rattle.parser.specs.Declarations.{SpellsMoreOf, SpellsSeries, Trailing, SpellsDeclarationSpecifiers, SpellsBounds, SpellsParameters, SpellsInit, SpellsInits, SpellsMoreInits, SpellsInitialiser, SpellsItem, SpellsItems, SpellsDeclaration}
-use Rattle.parser.specs.Answer.{NotFront, Reaches, Excuses, ReadsOf, FailsOf, PassesOf, StandsOf}
-use Rattle.parser.specs.ExpressionAnswers.{power, Stops, Front, Reads, Fails, Passes, Stands}
+use Rattle.parser.specs.declared.scope.Scope.TheVariants.{File}
+use Rattle.parser.specs.Grammar.{Own}
+use Rattle.parser.specs.Declarations.{SpellsMoreOf, SpellsBounds, SpellsParameters, SpellsInitialiser, SpellsItem}
+use Rattle.parser.specs.Answer.{NotFront, ReadsOf, FailsOf, StandsOf}
+use Rattle.parser.specs.ExpressionAnswers.{Stops}
 use Rattle.parser.specs.DeclarationAnswers.{Anywhere, EndsBounds, SpellsParameterList}
-use Rattle.parser.specs.ExpressionLeads.{KindBeginsExpression}
-use Rattle.parser.proofs.SeriesFacts.{same_token, whole_mark, reaches_itself, reaches_far, token_reaches, token_last, excuses_grow, passed_on}
-use Rattle.parser.proofs.Leads.{own_once, own_kinds, no_begin, whole_begins}
+use Rattle.parser.proofs.SeriesFacts.{same_token, whole_mark, reaches_itself, reaches_far, token_reaches}
+use Rattle.parser.proofs.Leads.{own_once, own_kinds}
 use Rattle.parser.specs.InitAnswers.{EndsInitialiser}
 use Rattle.parser.specs.ItemAnswers.{EndsItem, SpellsFurther, SpellsItemList}
-use Rattle.parser.proofs.Series.{tallest, Chain, CommaThen, Going, more_chain, chain_more, going_starts, going_more, going_fails, going_stuck, going_ends, going_stands, comma_reads, comma_fails, comma_stands, comma_is_begun}
+use Rattle.parser.proofs.Series.{tallest, CommaThen, Going, more_chain, chain_more, going_starts, going_more, going_fails, going_stuck, going_ends, going_stands, comma_reads, comma_fails, comma_stands, comma_is_begun}
 use Rattle.parser.proofs.DeclarationBegun.{bounds_are_begun, bounds_reach, item_is_begun, item_reaches}
 use Rattle.parser.proofs.ItemParts.{stops_own, stops_not, never_reads, part_fails, part_stands, full_fails, full_stands}
 

@@ -1,14 +1,12 @@
 -- What stands at the front of an expression's tokens, and whole trees as begun ones.
-use Rattle.std.specs.Prelude.{Option, None, Some}
-use Rattle.std.proofs.Common.{◌≡◌, ℕ, ◌+◌, ◌<◌, ◌≤◌, ◌⊎◌, inl, inr, List, [], ◌∷◌, ◌++◌, length, refl, sym, ap, ◌∙◌, subst, arith, append_assoc}
+use Rattle.std.specs.Prelude.{None, Some}
+use Rattle.std.proofs.Common.{◌≡◌, ◌<◌, ◌≤◌, inl, inr, List, [], ◌∷◌, ◌++◌, length, refl, sym, ap, ◌∙◌, subst, arith, append_assoc}
 use Rattle.srcset.specs.declared.refusal.Pos.{Pos}
 use Rattle.lexer.specs.declared.token.Token.{Token}
 use Rattle.lexer.specs.declared.token.Kind.{Kind}
 use Rattle.lexer.specs.declared.token.Kind.TheVariants as kind
 use Rattle.lexer.specs.declared.token.Keyword.{Keyword}
 use Rattle.lexer.specs.declared.token.Keyword.TheVariants as keyword
-use Rattle.lexer.specs.declared.token.Punctuator.{Punctuator}
-use Rattle.lexer.specs.declared.token.Punctuator.TheVariants as sign
 use Rattle.tree.specs.declared.expression.Word.{Word}
 use Rattle.tree.specs.declared.expression.Word.TheVariants as word
 use Rattle.tree.specs.declared.expression.TypeSpecifier.{TypeSpecifier}
@@ -18,8 +16,8 @@ use Rattle.tree.specs.declared.expression.PrefixOp.TheVariants as prefix_op
 use Rattle.tree.specs.declared.expression.StepOp.{StepOp}
 use Rattle.tree.specs.declared.expression.StepOp.TheVariants as step_op
 use Rattle.tree.specs.Tree.{Tree, hole, identifier, constant, string, paren, call, subscript, after, before, prefix, size_of, size_of_type, cast, binary, choice, assign, Trees, no_trees, one_more, TypeTree, type_name}
-use Rattle.tree.specs.Counts.{depth, depths, type_depth}
-use Rattle.parser.specs.Grammar.{prefix_sign, step_sign, word_keyword, Own, Missing, Mark, Sign, StartsAt, SpellsSpecifier, SpellsSpecifiers, Spells, SpellsArguments, SpellsMore, SpellsType, SpellsSizes}
+use Rattle.tree.specs.Counts.{depth}
+use Rattle.parser.specs.Grammar.{prefix_sign, step_sign, word_keyword, Own, Mark, SpellsSpecifier, SpellsSpecifiers, Spells, SpellsArguments, SpellsMore, SpellsType, SpellsSizes}
 use Rattle.parser.specs.Answer.{Reaches, NotFront}
 use Rattle.parser.specs.ExpressionAnswers.{KeywordBeginsType, KindBeginsType, BeginsType}
 use Rattle.parser.specs.ExpressionLeads.{SignBeginsExpression, KeywordBeginsExpression, KindBeginsExpression, BeginsExpression}

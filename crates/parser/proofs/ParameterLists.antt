@@ -1,9 +1,8 @@
 -- Lists of parameters.
-use Rattle.std.specs.Prelude.{Option, None, Some, Result, Ok, Err, max}
-use Rattle.std.proofs.Common.{◌≡◌, ℕ, ◌+◌, ◌<◌, ◌≤◌, ◌⊎◌, inl, inr, List, [], ◌∷◌, ◌++◌, length, refl, sym, ap, ◌∙◌, subst, arith}
+use Rattle.std.specs.Prelude.{Option, None, Some, max}
+use Rattle.std.proofs.Common.{◌≡◌, ℕ, ◌+◌, ◌<◌, ◌≤◌, inl, inr, List, [], ◌∷◌, ◌++◌, length, refl, sym, ap, ◌∙◌, subst, arith}
 use Rattle.srcset.specs.declared.refusal.Pos.{Pos}
 use Rattle.lexer.specs.declared.token.Token.{Token}
-use Rattle.lexer.specs.declared.token.Kind.{Kind}
 use Rattle.lexer.specs.declared.token.Kind.TheVariants as kind
 use Rattle.lexer.specs.declared.token.Keyword.{Keyword}
 use Rattle.lexer.specs.declared.token.Keyword.TheVariants as keyword
@@ -11,20 +10,19 @@ use Rattle.lexer.specs.declared.token.Punctuator.{Punctuator}
 use Rattle.lexer.specs.declared.token.Punctuator.TheVariants as sign
 use Rattle.tree.specs.declared.expression.TypeSpecifier.{TypeSpecifier}
 use Rattle.tree.specs.declared.expression.TypeSpecifier.TheVariants as specifier
-use Rattle.tree.specs.Tree.{Tree, EnumeratorTree, SpecifierTree, ParameterTree}
-use Rattle.tree.specs.Counts.{depth, option_depth, sizes_depth, enumerator_depth, enumerators_depth, specifier_depth, specifiers_depth, parameter_depth, parameters_depth}
+use Rattle.tree.specs.Tree.{Tree, ParameterTree}
+use Rattle.tree.specs.Counts.{sizes_depth, parameter_depth, parameters_depth}
 use Rattle.parser.specs.declared.refusal.Refusal.{Refusal}
 use Rattle.parser.specs.declared.refusal.Refusal.TheVariants.{Syntax, Depth, Memory}
-use Rattle.parser.specs.Grammar.{layer, Own, Missing, Mark, Sign, StartsAt, SpellsSpecifier, SpellsSpecifiers, Spells}
-use Rattle.parser.specs.Declarations.{SpellsMoreOf, SpellsSeries, Trailing, SpellsValue, SpellsEnumerator, SpellsTag, SpellsDeclarationSpecifier, SpellsDeclarationSpecifiers, SpellsBound, SpellsBounds, SpellsParameterName, SpellsParameter, IsVoid, IsVoidAlone, SpellsParameters}
-use Rattle.parser.specs.Answer.{NotFront, Reaches, Excuses, ReadsOf, FailsOf, PassesOf, StandsOf}
-use Rattle.parser.specs.ExpressionAnswers.{power, Stops, Front, Reads, Fails, Passes, Stands, BeginsType, ReadsSpecifiers, FailsSpecifiers, NotDepth}
-use Rattle.parser.specs.ExpressionLeads.{KindBeginsExpression}
-use Rattle.parser.specs.DeclarationAnswers.{Anywhere, EndsBounds, SpellsParameterList, SpellsSomeSpecifiers, EndsSpecifiers, BeginsSpecifier}
-use Rattle.parser.specs.DeclarationParts.{EndsEnumerator, SpellsEnumeratorList, EndsSpecifier, IsAlone, IsNoneAlone, SpellsClosedBound, EndsParameter, EndsFirstAt, NameThere}
-use Rattle.parser.proofs.SeriesFacts.{same_token, whole_mark, mark_is_begun, reaches_itself, reaches_far, token_reaches, token_last, mark_front, excuses_grow}
-use Rattle.parser.proofs.Series.{Chain, tallest, Going, going_starts, going_more, going_fails, going_stuck, going_ends, going_stands, CommaThen, SeriesOf, series_begins, series_fails, series_first_stands, series_more, series_more_fails, series_more_stands}
-use Rattle.parser.proofs.Leads.{whole_is_begun, whole_reaches, no_begin, begins_apart, specifier_begins, specifiers_reach, specifier_reaches}
+use Rattle.parser.specs.Grammar.{Own, SpellsSpecifier, SpellsSpecifiers}
+use Rattle.parser.specs.Declarations.{SpellsMoreOf, SpellsBounds, SpellsParameterName, SpellsParameter, IsVoid, IsVoidAlone, SpellsParameters}
+use Rattle.parser.specs.Answer.{NotFront, Excuses, ReadsOf, FailsOf, PassesOf, StandsOf}
+use Rattle.parser.specs.ExpressionAnswers.{BeginsType}
+use Rattle.parser.specs.DeclarationAnswers.{Anywhere, SpellsParameterList}
+use Rattle.parser.specs.DeclarationParts.{EndsParameter}
+use Rattle.parser.proofs.SeriesFacts.{same_token, whole_mark}
+use Rattle.parser.proofs.Series.{tallest, Going, going_stuck, going_ends, CommaThen, SeriesOf, series_begins, series_fails, series_first_stands, series_more, series_more_fails, series_more_stands}
+use Rattle.parser.proofs.Leads.{specifier_begins}
 use Rattle.tree.specs.declared.expression.Word.{Word}
 use Rattle.tree.specs.declared.expression.Word.TheVariants as word
 use Rattle.parser.specs.Grammar.{word_keyword}

@@ -1,37 +1,33 @@
 -- Each production of the grammar: what stands there is it, and no other.
-use Rattle.std.specs.Prelude.{Option, None, Some, Result, Ok, Err, IfErr}
+use Rattle.std.specs.Prelude.{None, Result, Ok, Err}
 use Rattle.std.specs.Result.{IsErrAnd}
-use Rattle.std.proofs.Common.{◌≡◌, ℕ, zero, suc, ◌+◌, ◌<◌, ◌≤◌, max, Bool, true, false, IsTrue, ◌⊎◌, inl, inr, List, [], ◌∷◌, ◌++◌, length, refl, sym, ap, ◌∙◌, subst, ⊎_elim, arith}
-use Rattle.std.proofs.lemmas.Bool.{cases_lt}
+use Rattle.std.proofs.Common.{◌≡◌, ℕ, ◌+◌, ◌≤◌, inl, List, [], ◌∷◌, refl, sym, ap, ◌∙◌, subst, arith}
 use Rattle.std.proofs.lemmas.Result.{err_from_is_err_and}
 use Rattle.srcset.specs.declared.refusal.Pos.{Pos}
 use Rattle.ctypes.specs.declared.types.IntType.{IntType}
 use Rattle.lexer.specs.declared.token.Token.{Token}
 use Rattle.lexer.specs.declared.token.Kind.{Kind}
 use Rattle.lexer.specs.declared.token.Kind.TheVariants as kind
-use Rattle.lexer.specs.declared.token.Keyword.{Keyword}
 use Rattle.lexer.specs.declared.token.Keyword.TheVariants as keyword
 use Rattle.lexer.specs.declared.token.Punctuator.{Punctuator}
 use Rattle.lexer.specs.declared.token.Punctuator.TheVariants as sign
-use Rattle.tree.specs.declared.expression.BinaryOp.{BinaryOp}
-use Rattle.tree.specs.declared.expression.BinaryOp.TheVariants as binary_op
 use Rattle.tree.specs.declared.expression.PrefixOp.{PrefixOp}
 use Rattle.tree.specs.declared.expression.PrefixOp.TheVariants as prefix_op
 use Rattle.tree.specs.declared.expression.StepOp.{StepOp}
 use Rattle.tree.specs.declared.expression.StepOp.TheVariants as step_op
 use Rattle.tree.specs.declared.expression.AssignOp.{AssignOp}
 use Rattle.tree.specs.declared.expression.AssignOp.TheVariants as assign_op
-use Rattle.tree.specs.Tree.{Tree, hole, identifier, constant, string, paren, call, subscript, after, before, prefix, size_of, size_of_type, cast, binary, choice, assign, Trees, no_trees, one_more, TypeTree, type_name}
-use Rattle.tree.specs.Counts.{depth, depths, type_depth}
+use Rattle.tree.specs.Tree.{Tree, hole, identifier, constant, string, paren, call, subscript, after, before, prefix, size_of, size_of_type, cast, binary, choice, assign}
+use Rattle.tree.specs.Counts.{depth}
 use Rattle.parser.specs.declared.refusal.Refusal.{Refusal}
-use Rattle.parser.specs.declared.refusal.Refusal.TheVariants.{Syntax, Depth, Memory}
+use Rattle.parser.specs.declared.refusal.Refusal.TheVariants.{Depth}
 use Rattle.parser.specs.declared.expressions.Part.{Part}
-use Rattle.parser.specs.Grammar.{binary_sign, prefix_sign, step_sign, assign_sign, layer_of, layer, Own, Missing, Mark, Sign, StartsAt, SpellsSpecifiers, Spells, SpellsArguments, SpellsMore, SpellsType, SpellsSizes}
-use Rattle.parser.specs.Answer.{NotFront, Reaches, Excuses, ReadsOf, FailsOf, PassesOf, StandsOf}
-use Rattle.parser.specs.ExpressionAnswers.{sign_power, power, Stops, Front, Reads, Fails, Answers, Passes, Stands, BeginsType}
-use Rattle.parser.proofs.Leads.{no_hole, own_kind, own_once, own_kinds, mark_own, mark_not, mark_once, mark_begun, reaches_on, reaches_self, own_reaches, own_last, mark_reaches, whole_is_begun, arguments_begun, more_begun, type_is_begun, sizes_begun, whole_reaches, arguments_reach, more_reach, type_reaches, sizes_reach, whole_deep, whole_begins, no_begin, begins_apart, type_begins}
+use Rattle.parser.specs.Grammar.{prefix_sign, step_sign, assign_sign, layer, Own, Spells}
+use Rattle.parser.specs.Answer.{NotFront}
+use Rattle.parser.specs.ExpressionAnswers.{sign_power, power, Stops, Front, Reads, Fails, Answers, BeginsType}
+use Rattle.parser.proofs.Leads.{no_hole, own_once, own_kinds, mark_own, whole_deep, whole_begins, begins_apart}
 use Rattle.parser.specs.ExpressionLeads.{BeginsExpression}
-use Rattle.parser.proofs.Spine.{layer_of_most, power_sign, stops_at, stops_more, excuses_more}
+use Rattle.parser.proofs.Spine.{layer_of_most, stops_at, stops_more, excuses_more}
 
 abbrev pub tag : Kind → ℕ
 tag (kind.Identifier n) = 1

@@ -3,17 +3,16 @@
 -- Throughout, `P b x ts rest` says that the part x spells the front of ts up to rest, `W` the same of the whole
 -- list from its start, `E` where a whole list can end, `PE` where a part can end, and `h` how deep a part is.
 use Rattle.std.specs.Prelude.{Option, None, Some, max}
-use Rattle.std.proofs.Common.{◌≡◌, ℕ, ◌+◌, ◌<◌, ◌≤◌, ◌⊎◌, inl, inr, List, [], ◌∷◌, ◌++◌, length, refl, sym, ap, ◌∙◌, subst, arith, append_assoc}
+use Rattle.std.proofs.Common.{◌≡◌, ℕ, ◌+◌, ◌≤◌, inl, List, [], ◌∷◌, ◌++◌, refl, sym, ap, ◌∙◌, subst, arith, append_assoc}
 use Rattle.srcset.specs.declared.refusal.Pos.{Pos}
 use Rattle.lexer.specs.declared.token.Token.{Token}
-use Rattle.lexer.specs.declared.token.Kind.{Kind}
 use Rattle.lexer.specs.declared.token.Kind.TheVariants as kind
 use Rattle.lexer.specs.declared.token.Punctuator.TheVariants as sign
 use Rattle.parser.specs.declared.refusal.Refusal.{Refusal}
 use Rattle.parser.specs.declared.refusal.Refusal.TheVariants.{Syntax, Depth, Memory}
-use Rattle.parser.specs.Grammar.{Own, Missing, Mark, Sign}
+use Rattle.parser.specs.Grammar.{Own, Sign}
 use Rattle.parser.specs.Declarations.{SpellsMoreOf, SpellsSeries}
-use Rattle.parser.specs.Answer.{Reaches, Excuses, ReadsOf, FailsOf, PassesOf, StandsOf}
+use Rattle.parser.specs.Answer.{Reaches, Excuses, ReadsOf, FailsOf, StandsOf}
 use Rattle.parser.proofs.SeriesFacts.{same_token, whole_mark, mark_is_begun, reaches_far, token_reaches, excuses_grow}
 
 -- parts one behind another

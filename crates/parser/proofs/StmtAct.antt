@@ -1,6 +1,6 @@
 -- Expression statements.
-use Rattle.std.specs.Prelude.{Option, None, Some}
-use Rattle.std.proofs.Common.{◌≡◌, ℕ, ◌+◌, ◌<◌, ◌≤◌, inl, inr, List, [], ◌∷◌, refl, sym, ap, ◌∙◌, subst, arith, slice_index_or}
+use Rattle.std.specs.Prelude.{None, Some}
+use Rattle.std.proofs.Common.{◌≡◌, ℕ, ◌+◌, ◌<◌, ◌≤◌, inr, List, [], ◌∷◌, refl, sym, ap, ◌∙◌, subst, arith, slice_index_or}
 use Rattle.srcset.specs.declared.refusal.Pos.{Pos}
 use Rattle.lexer.specs.declared.token.Token.{Token}
 use Rattle.lexer.specs.declared.token.Kind.{Kind}
@@ -19,7 +19,7 @@ use Rattle.parser.specs.declared.statement_parts.Form.{Form}
 use Rattle.parser.specs.declared.statement_parts.Form.TheVariants as form
 use Rattle.parser.specs.Grammar.{Own, StartsAt, Spells}
 use Rattle.parser.specs.Statements.{SpellsStmt}
-use Rattle.parser.specs.Answer.{NotFront, Excuses, ReadsOf, FailsOf, PassesOf, StandsOf}
+use Rattle.parser.specs.Answer.{NotFront, ReadsOf, FailsOf, StandsOf}
 use Rattle.parser.specs.ExpressionLeads.{KeywordBeginsExpression, SignBeginsExpression, KindBeginsExpression, BeginsExpression}
 use Rattle.parser.specs.StatementAnswers.{EndsStmt}
 use Rattle.parser.specs.StmtParts.{form_kind, SpellsClosed}

@@ -1,6 +1,6 @@
 -- What the functions that read statements answer at each exit, from what their parts answered.
-use Rattle.std.specs.Prelude.{Option, None, Some, Box, Vec}
-use Rattle.std.proofs.Common.{◌≡◌, ℕ, ◌+◌, ◌<◌, ◌≤◌, Bool, true, false, max, inl, inr, List, [], ◌∷◌, map, refl, sym, ap, ◌∙◌, subst, arith, Global}
+use Rattle.std.specs.Prelude.{Option, None, Box, Vec}
+use Rattle.std.proofs.Common.{◌≡◌, ℕ, ◌+◌, ◌<◌, ◌≤◌, max, inr, List, ◌∷◌, map, refl, arith, Global}
 use Rattle.srcset.specs.declared.refusal.Pos.{Pos}
 use Rattle.lexer.specs.declared.token.Token.{Token}
 use Rattle.lexer.specs.declared.token.Kind.{Kind}
@@ -13,21 +13,21 @@ use Rattle.tree.specs.declared.statement.BlockItem.{BlockItem}
 use Rattle.tree.specs.declared.statement.Stmt.{Stmt}
 use Rattle.tree.specs.declared.statement.Stmt as V
 use Rattle.tree.specs.declared.statement.Stmt.TheVariants as W
-use Rattle.tree.specs.Tree.{Tree, hole, StartTree, start_with, StmtTree, blank, Pieces, no_pieces}
-use Rattle.tree.specs.Counts.{depth, option_depth, start_depth, stmt_depth, pieces_depth}
+use Rattle.tree.specs.Tree.{Tree, hole, start_with, StmtTree, blank, no_pieces}
+use Rattle.tree.specs.Counts.{depth, option_depth, stmt_depth, pieces_depth}
 use Rattle.tree.specs.View.{tree_of, option_tree, start_of, pieces_of, stmt_of, piece_of}
 use Rattle.parser.specs.declared.refusal.Refusal.{Refusal}
-use Rattle.parser.specs.declared.refusal.Refusal.TheVariants.{Syntax, Depth, Memory}
+use Rattle.parser.specs.declared.refusal.Refusal.TheVariants.{Depth}
 use Rattle.parser.specs.declared.statement_parts.Form.{Form}
 use Rattle.parser.specs.Grammar.{Own, StartsAt}
-use Rattle.parser.specs.Statements.{is_open, SpellsTest, SpellsStmt}
+use Rattle.parser.specs.Statements.{SpellsTest, SpellsStmt}
 use Rattle.parser.specs.Answer.{NotFront, ReadsOf, FailsOf, StandsOf}
 use Rattle.parser.specs.ExpressionAnswers.{Reads, Fails, Stands}
 use Rattle.parser.specs.DeclarationAnswers.{Anywhere}
 use Rattle.parser.specs.StatementAnswers.{EndsStmt, SpellsBody}
 use Rattle.parser.specs.StmtParts.{form_kind, SpellsClosed, SpellsEnded, SpellsDoEnd, ForHeadTree, SpellsForHead, for_head_depth, SpellsLabelled, TestedTree, SpellsTested, EndsTested, tested_depth}
 use Rattle.parser.proofs.StmtSequence.{pair_reads, pair_first_fails, pair_second_fails, pair_first_stands, pair_second_stands, head_reads, head_fails, head_stands, head_full}
-use Rattle.parser.proofs.StmtSorts.{not_true, expr_reads, expr_fails, expr_stands, expr_whole, mark_reads, mark_fails, mark_whole, test_whole, hole_test, hole_do_end, none_ended, for_head_whole, head_with, turning, gap_head}
+use Rattle.parser.proofs.StmtSorts.{not_true, expr_reads, expr_fails, expr_stands, expr_whole, mark_reads, mark_fails, mark_whole, test_whole, hole_do_end, none_ended, for_head_whole, head_with, turning, gap_head}
 use Rattle.parser.proofs.StmtForms.{stmt_whole, labelled_pairs, blank_labelled, tested, tested_pairs, gap_tested, block_heads, gap_body, switch_heads, while_heads, case_pairs, case_heads, gap_case, default_heads, do_pairs, do_heads, for_pairs, for_heads, break_heads, continue_heads, return_heads, nothing_reads, empty_heads}
 use Rattle.parser.proofs.StmtIf.{if_reads, fork_reads}
 use Rattle.parser.proofs.StmtAct.{act_reads}

@@ -1,39 +1,25 @@
 -- The forms of statements.
 use Rattle.std.specs.Prelude.{Option, None, Some}
-use Rattle.std.proofs.Common.{◌≡◌, ℕ, ◌+◌, ◌<◌, ◌≤◌, Bool, true, false, max, ◌⊎◌, inl, inr, List, [], ◌∷◌, refl, sym, ap, ◌∙◌, subst, arith}
+use Rattle.std.proofs.Common.{◌≡◌, ℕ, ◌≤◌, inr, List, [], refl, sym, ap, subst, arith}
 use Rattle.srcset.specs.declared.refusal.Pos.{Pos}
 use Rattle.lexer.specs.declared.token.Token.{Token}
-use Rattle.lexer.specs.declared.token.Kind.{Kind}
 use Rattle.lexer.specs.declared.token.Kind.TheVariants as kind
-use Rattle.lexer.specs.declared.token.Keyword.{Keyword}
 use Rattle.lexer.specs.declared.token.Keyword.TheVariants as keyword
-use Rattle.lexer.specs.declared.token.Punctuator.{Punctuator}
 use Rattle.lexer.specs.declared.token.Punctuator.TheVariants as sign
-use Rattle.tree.specs.declared.expression.PrefixOp.TheVariants as prefix_op
-use Rattle.tree.specs.declared.expression.StepOp.TheVariants as step_op
-use Rattle.tree.specs.Tree.{Tree, hole, identifier, constant, string, paren, before, prefix, size_of, StartTree, start_with, start_local, StmtTree, blank, block, empty, act, branch, fork, select, label, otherwise, repeat, until, turns, quit, resume, give, DeclarationTree, PieceTree, local, run, Pieces, no_pieces, and_piece}
-use Rattle.tree.specs.Counts.{depth, option_depth, start_depth, stmt_depth, piece_depth, pieces_depth, declaration_depth}
-use Rattle.parser.specs.declared.refusal.Refusal.{Refusal}
-use Rattle.parser.specs.declared.refusal.Refusal.TheVariants.{Syntax, Depth, Memory}
-use Rattle.parser.specs.declared.statement_parts.Form.{Form}
-use Rattle.parser.specs.declared.statement_parts.Form.TheVariants as form
+use Rattle.tree.specs.Tree.{Tree, hole, StmtTree, blank, block, empty, act, branch, fork, select, label, otherwise, repeat, until, turns, quit, resume, give, PieceTree, local, run, Pieces, no_pieces, and_piece}
+use Rattle.tree.specs.Counts.{stmt_depth, pieces_depth}
 use Rattle.parser.specs.declared.scope.Scope.TheVariants.{Block}
-use Rattle.parser.specs.Grammar.{layer, Own, Mark, Sign, StartsAt, Spells}
-use Rattle.parser.specs.Declarations.{SpellsDeclaration}
-use Rattle.parser.specs.Statements.{is_open, Word, SpellsTest, SpellsOption, SpellsStart, SpellsStmt, SpellsPiece, SpellsPieces}
-use Rattle.parser.specs.Answer.{NotFront, Reaches, Excuses, ReadsOf, FailsOf, PassesOf, StandsOf}
+use Rattle.parser.specs.Grammar.{Own, Mark, Sign, Spells}
+use Rattle.parser.specs.Statements.{SpellsTest, SpellsOption, SpellsStmt, SpellsPiece, SpellsPieces}
+use Rattle.parser.specs.Answer.{NotFront, Reaches, ReadsOf}
 use Rattle.parser.specs.ExpressionAnswers.{Stops}
-use Rattle.parser.specs.ExpressionLeads.{KindBeginsExpression, BeginsExpression}
-use Rattle.parser.specs.DeclarationAnswers.{Anywhere}
 use Rattle.parser.specs.StatementAnswers.{EndsStmt, SpellsBody}
-use Rattle.parser.specs.DeclarationFronts.{BeginsDeclaration}
-use Rattle.parser.specs.StmtParts.{form_kind, SpellsClosed, SpellsEnded, SpellsDoEnd, ForHeadTree, SpellsForHead, SpellsLabelled, TestedTree, SpellsTested, EndsTested, tested_depth, EndsPiece}
-use Rattle.parser.proofs.SeriesFacts.{excuses_grow, token_last}
-use Rattle.parser.proofs.Leads.{own_kind, own_once, own_kinds, mark_own, mark_begun, mark_reaches, own_reaches, reaches_on, reaches_self, whole_is_begun, whole_reaches, whole_begins}
-use Rattle.parser.proofs.StmtSequence.{Sort, Whole, Split, Pairs, Two, two, Both, both_sort, both_pairs, Splits, Heads}
-use Rattle.parser.proofs.StmtLeading.{tag, same_form, stmt_no_else}
+use Rattle.parser.specs.StmtParts.{ForHeadTree, SpellsLabelled, TestedTree, SpellsTested, EndsTested, tested_depth}
+use Rattle.parser.proofs.Leads.{own_once, own_kinds, mark_own, mark_begun, mark_reaches, own_reaches, reaches_on, whole_is_begun, whole_reaches}
+use Rattle.parser.proofs.StmtSequence.{Sort, Whole, Pairs, Two, Both, both_sort, both_pairs, Splits, Heads}
+use Rattle.parser.proofs.StmtLeading.{tag, same_form}
 use Rattle.parser.proofs.DeclarationBegun.{declaration_is_begun, declaration_reaches}
-use Rattle.parser.proofs.StmtSorts.{Layered, expr_sort, mark_sort, test_sort, do_end_sort, ended_sort, for_head_sort, for_head_whole, start_whole, ended_whole, test_whole, hole_test}
+use Rattle.parser.proofs.StmtSorts.{expr_sort, mark_sort, test_sort, do_end_sort, ended_sort, for_head_sort, start_whole, ended_whole, test_whole, hole_test}
 
 -- ---- whole statements as begun ones, and as fronts
 

@@ -1,17 +1,17 @@
 -- if, with and without else: an else belongs to the nearest if.
-use Rattle.std.specs.Prelude.{Option, None, Some}
-use Rattle.std.proofs.Common.{◌≡◌, ℕ, ◌+◌, ◌<◌, ◌≤◌, Bool, true, false, max, List, [], ◌∷◌, refl, sym, ap, ◌∙◌, subst, arith}
+use Rattle.std.specs.Prelude.{None}
+use Rattle.std.proofs.Common.{◌≡◌, ℕ, ◌+◌, ◌≤◌, Bool, true, false, max, List, refl, sym, ap, ◌∙◌, subst, arith}
 use Rattle.srcset.specs.declared.refusal.Pos.{Pos}
 use Rattle.lexer.specs.declared.token.Token.{Token}
 use Rattle.lexer.specs.declared.token.Kind.TheVariants as kind
 use Rattle.lexer.specs.declared.token.Keyword.TheVariants as keyword
-use Rattle.tree.specs.Tree.{Tree, hole, StmtTree, blank, block, empty, act, branch, fork, select, label, otherwise, repeat, until, turns, quit, resume, give}
-use Rattle.tree.specs.Counts.{depth, stmt_depth}
+use Rattle.tree.specs.Tree.{hole, StmtTree, blank, branch, fork}
+use Rattle.tree.specs.Counts.{stmt_depth}
 use Rattle.parser.specs.declared.refusal.Refusal.{Refusal}
 use Rattle.parser.specs.declared.refusal.Refusal.TheVariants.{Syntax, Depth, Memory}
 use Rattle.parser.specs.Grammar.{Own}
 use Rattle.parser.specs.Statements.{is_open, SpellsTest, SpellsStmt}
-use Rattle.parser.specs.Answer.{NotFront, Reaches, Excuses, ReadsOf, FailsOf, PassesOf, StandsOf}
+use Rattle.parser.specs.Answer.{NotFront, Excuses, ReadsOf, FailsOf, StandsOf}
 use Rattle.parser.specs.StatementAnswers.{EndsStmt}
 use Rattle.parser.specs.StmtParts.{TestedTree, SpellsTested, EndsTested, tested_depth}
 use Rattle.parser.proofs.SeriesFacts.{excuses_grow, token_last, token_reaches, reaches_far}

@@ -1,6 +1,6 @@
 -- The first token of a statement tells its form.
-use Rattle.std.specs.Prelude.{Option, None, Some}
-use Rattle.std.proofs.Common.{◌≡◌, ℕ, ◌+◌, ◌<◌, ◌≤◌, List, [], ◌∷◌, refl, sym, ap, ◌∙◌, subst, arith}
+use Rattle.std.specs.Prelude.{None}
+use Rattle.std.proofs.Common.{◌≡◌, ℕ, List, [], ◌∷◌, refl, sym, ap, ◌∙◌, subst, arith}
 use Rattle.srcset.specs.declared.refusal.Pos.{Pos}
 use Rattle.lexer.specs.declared.token.Token.{Token}
 use Rattle.lexer.specs.declared.token.Kind.{Kind}
@@ -9,10 +9,9 @@ use Rattle.lexer.specs.declared.token.Keyword.{Keyword}
 use Rattle.lexer.specs.declared.token.Keyword.TheVariants as keyword
 use Rattle.lexer.specs.declared.token.Punctuator.{Punctuator}
 use Rattle.lexer.specs.declared.token.Punctuator.TheVariants as sign
-use Rattle.tree.specs.Tree.{Tree, StmtTree, blank, block, empty, act, branch, fork, select, label, otherwise, repeat, until, turns, quit, resume, give, PieceTree, local, run, Pieces, no_pieces, and_piece}
+use Rattle.tree.specs.Tree.{Tree, StmtTree, blank, block, empty, act, branch, fork, select, label, otherwise, repeat, until, turns, quit, resume, give, PieceTree, local, run}
 use Rattle.parser.specs.declared.scope.Scope.TheVariants.{Block}
 use Rattle.parser.specs.Grammar.{Own, Spells}
-use Rattle.parser.specs.Declarations.{SpellsDeclaration}
 use Rattle.parser.specs.Statements.{SpellsStmt, SpellsPiece}
 use Rattle.parser.specs.Answer.{NotFront}
 use Rattle.parser.specs.ExpressionLeads.{SignBeginsExpression, KeywordBeginsExpression, KindBeginsExpression, BeginsExpression}

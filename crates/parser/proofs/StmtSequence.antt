@@ -1,16 +1,16 @@
 -- Parts in sequence: what is answered for two of them, and for a statement whose own token stands before them.
 use Rattle.std.specs.Prelude.{Option, None, Some}
-use Rattle.std.proofs.Common.{◌≡◌, ℕ, ◌+◌, ◌<◌, ◌≤◌, max, List, [], ◌∷◌, refl, sym, ap, ◌∙◌, subst, arith}
+use Rattle.std.proofs.Common.{◌≡◌, ℕ, ◌+◌, ◌<◌, ◌≤◌, max, List, refl, sym, ap, ◌∙◌, subst, arith}
 use Rattle.srcset.specs.declared.refusal.Pos.{Pos}
 use Rattle.lexer.specs.declared.token.Token.{Token}
 use Rattle.lexer.specs.declared.token.Kind.{Kind}
-use Rattle.tree.specs.Tree.{StmtTree, blank, block, empty, act, branch, fork, select, label, otherwise, repeat, until, turns, quit, resume, give}
+use Rattle.tree.specs.Tree.{StmtTree, blank}
 use Rattle.tree.specs.Counts.{stmt_depth}
 use Rattle.parser.specs.declared.refusal.Refusal.{Refusal}
 use Rattle.parser.specs.declared.refusal.Refusal.TheVariants.{Syntax, Depth, Memory}
 use Rattle.parser.specs.Grammar.{Own}
 use Rattle.parser.specs.Statements.{SpellsStmt}
-use Rattle.parser.specs.Answer.{NotFront, Reaches, Excuses, ReadsOf, FailsOf, PassesOf, StandsOf}
+use Rattle.parser.specs.Answer.{Reaches, ReadsOf, FailsOf, StandsOf}
 use Rattle.parser.specs.StatementAnswers.{EndsStmt}
 use Rattle.parser.proofs.SeriesFacts.{reaches_far, token_reaches, token_last, excuses_grow}
 

@@ -1,8 +1,8 @@
 -- The parts of statements as sorts, and how they follow each other.
-use Rattle.std.specs.Prelude.{Option, None, Some, Result, Ok, Err, IfErr}
+use Rattle.std.specs.Prelude.{Option, None, Some, Result, IfErr}
 use Rattle.std.specs.Result.{IsErrAnd}
 use Rattle.std.proofs.lemmas.Result.{err_from_is_err_and}
-use Rattle.std.proofs.Common.{◌≡◌, ℕ, ◌+◌, ◌<◌, ◌≤◌, Bool, true, false, max, ◌⊎◌, inl, inr, List, [], ◌∷◌, refl, sym, ap, ◌∙◌, subst, arith}
+use Rattle.std.proofs.Common.{◌≡◌, ℕ, ◌≤◌, true, false, max, inl, inr, List, [], refl, sym, ap, subst, arith}
 use Rattle.srcset.specs.declared.refusal.Pos.{Pos}
 use Rattle.lexer.specs.declared.token.Token.{Token}
 use Rattle.lexer.specs.declared.token.Kind.{Kind}
@@ -10,23 +10,21 @@ use Rattle.lexer.specs.declared.token.Kind.TheVariants as kind
 use Rattle.lexer.specs.declared.token.Keyword.TheVariants as keyword
 use Rattle.lexer.specs.declared.token.Punctuator.{Punctuator}
 use Rattle.lexer.specs.declared.token.Punctuator.TheVariants as sign
-use Rattle.tree.specs.Tree.{Tree, hole, StartTree, start_with, start_local, StmtTree, blank, block, empty, act, branch, fork, select, label, otherwise, repeat, until, turns, quit, resume, give, DeclarationTree, PieceTree, local, run, Pieces, no_pieces, and_piece}
-use Rattle.tree.specs.Counts.{depth, option_depth, start_depth, stmt_depth, piece_depth, pieces_depth, declaration_depth}
+use Rattle.tree.specs.Tree.{Tree, hole, StartTree, start_with, start_local, DeclarationTree}
+use Rattle.tree.specs.Counts.{depth, option_depth, start_depth, declaration_depth}
 use Rattle.parser.specs.declared.refusal.Refusal.{Refusal}
 use Rattle.parser.specs.declared.refusal.Refusal.TheVariants.{Syntax, Depth, Memory}
 use Rattle.parser.specs.declared.scope.Scope.TheVariants.{Block}
 use Rattle.parser.specs.Grammar.{layer, Own, Mark, Sign, Spells}
 use Rattle.parser.specs.Declarations.{SpellsDeclaration}
-use Rattle.parser.specs.Statements.{is_open, SpellsTest, SpellsOption, SpellsStart, SpellsStmt, SpellsPiece, SpellsPieces}
-use Rattle.parser.specs.Answer.{NotFront, Reaches, Excuses, ReadsOf, FailsOf, PassesOf, StandsOf}
-use Rattle.parser.specs.ExpressionAnswers.{sign_power, power, Stops, Front, Reads, Fails, Passes, Stands}
+use Rattle.parser.specs.Statements.{SpellsTest, SpellsOption, SpellsStart}
+use Rattle.parser.specs.Answer.{NotFront, Reaches, Excuses, ReadsOf, FailsOf, StandsOf}
+use Rattle.parser.specs.ExpressionAnswers.{sign_power, power, Stops, Reads, Fails, Stands}
 use Rattle.parser.specs.DeclarationAnswers.{Anywhere}
-use Rattle.parser.specs.StatementAnswers.{EndsStmt, SpellsBody}
 use Rattle.parser.specs.DeclarationFronts.{BeginsDeclaration}
-use Rattle.parser.specs.StmtParts.{EndsExpression, SpellsClosed, SpellsEnded, SpellsDoEnd, ForHeadTree, SpellsForHeadParts, SpellsForHead, for_head_depth, SpellsLabelled, TestedTree, SpellsTested, EndsTested, tested_depth, EndsPiece}
-use Rattle.parser.proofs.SeriesFacts.{excuses_grow}
-use Rattle.parser.proofs.Leads.{own_once, mark_own, mark_begun, mark_reaches, own_reaches, reaches_on, reaches_self, whole_is_begun, whole_reaches, no_begin}
-use Rattle.parser.proofs.StmtSequence.{Sort, Whole, Split, Pairs, pair_reads, pair_first_fails, pair_second_fails, pair_first_stands, pair_second_stands}
+use Rattle.parser.specs.StmtParts.{EndsExpression, SpellsClosed, SpellsEnded, SpellsDoEnd, ForHeadTree, SpellsForHeadParts, SpellsForHead, for_head_depth}
+use Rattle.parser.proofs.Leads.{own_once, mark_own, mark_begun, mark_reaches, reaches_on, whole_is_begun, whole_reaches}
+use Rattle.parser.proofs.StmtSequence.{Sort, Whole, Pairs, pair_reads, pair_first_fails, pair_second_fails, pair_first_stands, pair_second_stands}
 use Rattle.parser.proofs.DeclarationBegun.{declaration_is_begun, declaration_reaches}
 use Rattle.parser.proofs.DeclarationFacts.{declaration_begins}
 use Rattle.parser.proofs.StmtLeading.{own_tag, whole_tagged, declaration_tagged, no_expression_declares}

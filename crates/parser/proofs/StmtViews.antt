@@ -1,6 +1,6 @@
 -- The tree of each kind of statement.
 use Rattle.std.specs.Prelude.{Box, Vec, Option}
-use Rattle.std.proofs.Common.{◌≡◌, ℕ, rules, refl, map, ap, sym, ◌∙◌, Global}
+use Rattle.std.proofs.Common.{◌≡◌, rules, map, ap, ◌∙◌, Global}
 use Rattle.srcset.specs.declared.refusal.Pos.{Pos}
 use Rattle.tree.specs.declared.expression.Expr.{Expr}
 use Rattle.tree.specs.declared.declaration.Declaration.{Declaration}
@@ -10,7 +10,7 @@ use Rattle.tree.specs.declared.statement.BlockItem.TheVariants as item
 use Rattle.tree.specs.declared.statement.Stmt.{Stmt, the_lemmas}
 use Rattle.tree.specs.declared.statement.Stmt as V
 use Rattle.tree.specs.declared.statement.Stmt.TheVariants as W
-use Rattle.tree.specs.Tree.{StmtTree, block, empty, act, branch, fork, select, label, otherwise, repeat, until, turns, quit, resume, give, PieceTree, local, run}
+use Rattle.tree.specs.Tree.{block, empty, act, branch, fork, select, label, otherwise, repeat, until, turns, quit, resume, give, local, run}
 use Rattle.tree.specs.View.{tree_of, option_tree, declaration_of, start_of, pieces_of, stmt_of, piece_of}
 
 pub stmt_Empty : (p : Pos) → stmt_of (W.Empty p) ≡ empty p

@@ -1,9 +1,8 @@
 -- The tree of each kind of expression.
-use Rattle.std.proofs.Common.{◌≡◌, ℕ, rules, refl, map, ap, sym, ◌∙◌, Global}
+use Rattle.std.proofs.Common.{◌≡◌, ℕ, rules, map, ap, ◌∙◌, Global}
 use Rattle.std.specs.Prelude.{Box, Vec}
 use Rattle.srcset.specs.declared.refusal.Pos.{Pos}
 use Rattle.ctypes.specs.declared.types.IntType.{IntType}
-use Rattle.tree.specs.declared.expression.BinaryOp.{BinaryOp}
 use Rattle.tree.specs.declared.expression.PrefixOp.{PrefixOp}
 use Rattle.tree.specs.declared.expression.StepOp.{StepOp}
 use Rattle.tree.specs.declared.expression.AssignOp.{AssignOp}
@@ -11,7 +10,7 @@ use Rattle.tree.specs.declared.expression.TypeName.{TypeName}
 use Rattle.tree.specs.declared.expression.Expr.{Expr, the_lemmas}
 use Rattle.tree.specs.declared.expression.Expr.TheViews as V
 use Rattle.tree.specs.declared.expression.Expr.TheVariants as W
-use Rattle.tree.specs.Tree.{Tree, identifier, constant, string, paren, call, subscript, after, before, prefix, size_of, size_of_type, cast, binary, choice, assign, Trees}
+use Rattle.tree.specs.Tree.{identifier, constant, string, paren, call, before, prefix, size_of, size_of_type, cast, choice, assign}
 use Rattle.tree.specs.View.{tree_of, trees_of}
 use Rattle.parser.specs.PartAnswers.{type_of}
 

@@ -1,6 +1,5 @@
 -- What the functions that read declarations answer.
-use Rattle.std.specs.Prelude.{◌≡◌, ℕ, ◌+◌, ◌<◌, ◌≤◌, Option, None, Some, max, List, [], ◌∷◌, map, length, Result, Ok, Err}
-use Rattle.std.specs.Borrow.{Bor}
+use Rattle.std.specs.Prelude.{ℕ, ◌+◌, ◌<◌, Option, None, max, List, [], ◌∷◌, map, length, Result, Ok, Err}
 use Rattle.srcset.specs.declared.refusal.Pos.{Pos}
 use Rattle.lexer.specs.declared.token.Token.{Token}
 use Rattle.lexer.specs.declared.token.Kind.{Kind}
@@ -25,7 +24,7 @@ use Rattle.parser.specs.Grammar.{Own, Sign, StartsAt}
 use Rattle.parser.specs.Declarations.{SpellsDeclarationSpecifiers, SpellsBounds, SpellsParameters, SpellsDeclaration}
 use Rattle.parser.specs.Statements.{SpellsExternal}
 use Rattle.parser.specs.ExpressionAnswers.{KeywordBeginsType}
-use Rattle.parser.specs.Answer.{NotFront, ReadsOf, FailsOf, PassesOf, StandsOf}
+use Rattle.parser.specs.Answer.{NotFront, ReadsOf, FailsOf, StandsOf}
 
 -- what ends in a token of its own can end anywhere
 abbrev pub Anywhere : {A : Type 0} → A → List Token → Type 0

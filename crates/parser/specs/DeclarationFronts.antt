@@ -1,6 +1,5 @@
 -- Where declarations begin, and what the functions that read their parts answer.
-use Rattle.std.specs.Prelude.{◌≡◌, ℕ, ◌+◌, ◌≤◌, Option, None, Some, List, [], ◌∷◌, map, Result, Ok, Err}
-use Rattle.std.specs.Borrow.{Bor}
+use Rattle.std.specs.Prelude.{◌≡◌, ℕ, ◌+◌, Option, None, List, [], ◌∷◌, map, Result, Ok, Err}
 use Rattle.srcset.specs.declared.refusal.Pos.{Pos}
 use Rattle.lexer.specs.declared.token.Token.{Token}
 use Rattle.lexer.specs.declared.token.Kind.{Kind}
@@ -8,7 +7,7 @@ use Rattle.lexer.specs.declared.token.Kind.TheVariants as kind
 use Rattle.lexer.specs.declared.token.Keyword.{Keyword}
 use Rattle.lexer.specs.declared.token.Keyword.TheVariants as keyword
 use Rattle.lexer.specs.declared.token.Punctuator.TheVariants as sign
-use Rattle.tree.specs.Tree.{Tree, ParameterTree, SpecifierTree, ItemTree, object, function, DeclarationTree, declared, assertion}
+use Rattle.tree.specs.Tree.{ParameterTree, SpecifierTree, ItemTree, object, function, declared}
 use Rattle.tree.specs.Counts.{items_depth, parameters_depth, declaration_depth}
 use Rattle.tree.specs.View.{item_of, parameter_of, declaration_of}
 use Rattle.parser.specs.declared.refusal.Refusal.{Refusal}
@@ -21,7 +20,7 @@ use Rattle.parser.specs.declared.declarations.TailPart.{TailPart}
 use Rattle.parser.specs.Grammar.{Own, Mark, Sign}
 use Rattle.parser.specs.Declarations.{SpellsItem, SpellsDeclaration}
 use Rattle.parser.specs.Answer.{ReadsOf, FailsOf, StandsOf}
-use Rattle.parser.specs.DeclarationAnswers.{Anywhere, KeywordBeginsSpecifier, HeadTree, whole, opening, OpeningTree}
+use Rattle.parser.specs.DeclarationAnswers.{Anywhere, KeywordBeginsSpecifier, HeadTree, whole, opening}
 use Rattle.parser.specs.ItemAnswers.{SpellsItemList}
 
 -- a declaration may begin with this keyword

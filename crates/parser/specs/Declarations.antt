@@ -1,5 +1,5 @@
 -- The grammar of declarations (ISO/IEC 9899:2011 6.7), by cases on the tree.
-use Rattle.std.specs.Prelude.{◌≡◌, ℕ, ◌+◌, ◌<◌, ◌≤◌, Option, None, Some, ◌⊎◌, List, [], ◌∷◌, length}
+use Rattle.std.specs.Prelude.{◌≡◌, ℕ, ◌<◌, ◌≤◌, Option, None, Some, ◌⊎◌, List, [], ◌∷◌, length}
 use Rattle.srcset.specs.declared.refusal.Pos.{Pos}
 use Rattle.lexer.specs.declared.token.Token.{Token}
 use Rattle.lexer.specs.declared.token.Kind.TheVariants as kind
@@ -9,7 +9,7 @@ use Rattle.tree.specs.declared.expression.Word.TheVariants as word
 use Rattle.tree.specs.declared.expression.TypeSpecifier.TheVariants as specifier
 use Rattle.tree.specs.Tree.{Tree, Init, gap, one, braced, Inits, no_inits, and_init, EnumeratorTree, SpecifierTree, outside, static, plain, listed, ParameterTree, ItemTree, object, function, DeclarationTree, declared, assertion}
 use Rattle.parser.specs.declared.scope.Scope.{Scope}
-use Rattle.parser.specs.declared.scope.Scope.TheVariants.{File, Block}
+use Rattle.parser.specs.declared.scope.Scope.TheVariants.{File}
 use Rattle.parser.specs.Grammar.{layer, Own, Missing, Mark, Sign, StartsAt, SpellsSpecifiers, SpellsSpecifier, Spells}
 
 -- ---- lists with a comma between any two

@@ -1,6 +1,5 @@
 -- What the functions that read expressions and type names answer.
-use Rattle.std.specs.Prelude.{◌≡◌, ℕ, ◌+◌, ◌<◌, ◌≤◌, Option, None, Some, ◌⊎◌, List, [], ◌∷◌, ◌++◌, map, length, Result, Ok, Err}
-use Rattle.std.specs.Borrow.{Bor}
+use Rattle.std.specs.Prelude.{◌≡◌, ℕ, ◌+◌, ◌<◌, ◌≤◌, None, Some, List, [], ◌∷◌, length, Result, Ok, Err}
 use Rattle.srcset.specs.declared.refusal.Pos.{Pos}
 use Rattle.lexer.specs.declared.token.Token.{Token}
 use Rattle.lexer.specs.declared.token.Kind.{Kind}
@@ -10,14 +9,14 @@ use Rattle.lexer.specs.declared.token.Keyword.TheVariants as keyword
 use Rattle.lexer.specs.declared.token.Punctuator.{Punctuator}
 use Rattle.lexer.specs.declared.token.Punctuator.TheVariants as sign
 use Rattle.tree.specs.declared.expression.TypeSpecifier.{TypeSpecifier}
-use Rattle.tree.specs.Tree.{Tree, Trees}
-use Rattle.tree.specs.Counts.{depth, depths}
-use Rattle.tree.specs.View.{tree_of, trees_of}
+use Rattle.tree.specs.Tree.{Tree}
+use Rattle.tree.specs.Counts.{depth}
+use Rattle.tree.specs.View.{tree_of}
 use Rattle.parser.specs.declared.refusal.Refusal.{Refusal}
 use Rattle.parser.specs.declared.refusal.Refusal.TheVariants.{Syntax, Depth, Memory}
 use Rattle.parser.specs.declared.expressions.Part.{Part}
 use Rattle.parser.specs.declared.type_specifiers.SpecifiersPart.{SpecifiersPart}
-use Rattle.parser.specs.Grammar.{layer, Own, StartsAt, SpellsSpecifiers, Spells}
+use Rattle.parser.specs.Grammar.{layer, StartsAt, SpellsSpecifiers, Spells}
 use Rattle.parser.specs.Answer.{Excuses, Reaches}
 
 -- one more than the tightest layer that goes on at this punctuator, or 0

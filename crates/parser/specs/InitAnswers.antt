@@ -1,6 +1,5 @@
 -- What the functions that read initialisers answer.
-use Rattle.std.specs.Prelude.{ℕ, Option, None, Some, List, map, Result, Ok, Err}
-use Rattle.std.specs.Borrow.{Bor}
+use Rattle.std.specs.Prelude.{ℕ, Option, None, List, map, Result, Ok, Err}
 use Rattle.srcset.specs.declared.refusal.Pos.{Pos}
 use Rattle.lexer.specs.declared.token.Token.{Token}
 use Rattle.lexer.specs.declared.token.Kind.TheVariants as kind

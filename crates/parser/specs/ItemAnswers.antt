@@ -1,23 +1,18 @@
 -- What the functions that read declarators answer.
-use Rattle.std.specs.Prelude.{◌≡◌, ℕ, ◌+◌, Option, None, Some, List, [], ◌∷◌, map, Result, Ok, Err}
-use Rattle.std.specs.Borrow.{Bor}
-use Rattle.srcset.specs.declared.refusal.Pos.{Pos}
+use Rattle.std.specs.Prelude.{◌≡◌, ℕ, Option, None, List, ◌∷◌, map, Result, Ok, Err}
 use Rattle.lexer.specs.declared.token.Token.{Token}
-use Rattle.lexer.specs.declared.token.Kind.TheVariants as kind
-use Rattle.lexer.specs.declared.token.Keyword.TheVariants as keyword
 use Rattle.lexer.specs.declared.token.Punctuator.TheVariants as sign
-use Rattle.tree.specs.Tree.{ParameterTree, ItemTree, function}
-use Rattle.tree.specs.Counts.{item_depth, items_depth, parameters_depth}
-use Rattle.tree.specs.View.{item_of, parameter_of}
+use Rattle.tree.specs.Tree.{ItemTree}
+use Rattle.tree.specs.Counts.{item_depth, items_depth}
+use Rattle.tree.specs.View.{item_of}
 use Rattle.parser.specs.declared.refusal.Refusal.{Refusal}
 use Rattle.parser.specs.declared.scope.Scope.{Scope}
-use Rattle.parser.specs.declared.scope.Scope.TheVariants.{File}
 use Rattle.parser.specs.declared.items.ItemPart.{ItemPart}
 use Rattle.parser.specs.declared.items.ItemsPart.{ItemsPart}
-use Rattle.parser.specs.Grammar.{Own, Mark, Sign}
+use Rattle.parser.specs.Grammar.{Sign}
 use Rattle.parser.specs.Declarations.{SpellsMoreOf, SpellsItem, SpellsItems}
 use Rattle.parser.specs.ExpressionAnswers.{Stops}
-use Rattle.parser.specs.Answer.{NotFront, ReadsOf, FailsOf, StandsOf}
+use Rattle.parser.specs.Answer.{ReadsOf, FailsOf, StandsOf}
 use Rattle.parser.specs.DeclarationAnswers.{Anywhere}
 
 -- neither an assignment expression nor a declarator goes on here

@@ -1,7 +1,5 @@
 -- The parts of which statements are put together (ISO/IEC 9899:2011 6.8), and what the functions that read them answer.
-use Rattle.std.specs.Prelude.{◌≡◌, ℕ, Bool, true, false, max, Option, None, Some, List, [], ◌∷◌, Result, Ok, Err}
-use Rattle.std.specs.Borrow.{Bor}
-use Rattle.srcset.specs.declared.refusal.Pos.{Pos}
+use Rattle.std.specs.Prelude.{ℕ, max, Option, None, List, Result, Ok, Err}
 use Rattle.lexer.specs.declared.token.Token.{Token}
 use Rattle.lexer.specs.declared.token.Kind.{Kind}
 use Rattle.lexer.specs.declared.token.Kind.TheVariants as kind
@@ -21,9 +19,9 @@ use Rattle.parser.specs.declared.statement_parts.Form.TheVariants as form
 use Rattle.parser.specs.declared.statements.StmtPart.{StmtPart}
 use Rattle.parser.specs.declared.statements.TestedPart.{TestedPart}
 use Rattle.parser.specs.declared.statements.BlockItemPart.{BlockItemPart}
-use Rattle.parser.specs.Grammar.{Own, Mark, Sign, Spells}
-use Rattle.parser.specs.Statements.{is_open, SpellsTest, SpellsOption, SpellsStart, SpellsStmt, SpellsPiece}
-use Rattle.parser.specs.Answer.{NotFront, ReadsOf, FailsOf, StandsOf}
+use Rattle.parser.specs.Grammar.{Mark, Sign, Spells}
+use Rattle.parser.specs.Statements.{SpellsTest, SpellsOption, SpellsStart, SpellsStmt, SpellsPiece}
+use Rattle.parser.specs.Answer.{ReadsOf, FailsOf, StandsOf}
 use Rattle.parser.specs.DeclarationAnswers.{Anywhere}
 use Rattle.parser.specs.StatementAnswers.{EndsStmt}
 

@@ -1,4 +1,4 @@
-use Rattle.std.proofs.Common.{◌≡◌, ℕ, ◌+◌, sym, IfErr}
+use Rattle.std.proofs.Common.{◌+◌, sym, IfErr}
 use Rattle.tree.specs.View.{tree_of}
 use Rattle.parser.specs.ExpressionAnswers.{Reads}
 use Rattle.parser.specs.DeclarationFronts.{AnswersAsserted, StandsAsserted}

@@ -1,4 +1,3 @@
-use Rattle.std.proofs.Common.{IsTrue}
 use Rattle.parser.proofs.DeclarationFacts.{no_keyword}
 use Rattle.parser.proofs.declarations.begins_declaration.Goals as goal
 

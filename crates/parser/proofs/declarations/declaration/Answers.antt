@@ -1,4 +1,4 @@
-use Rattle.std.proofs.Common.{◌≡◌, ℕ, ◌+◌, sym, ap, map, IfErr}
+use Rattle.std.proofs.Common.{IfErr}
 use Rattle.parser.specs.DeclarationAnswers.{AnswersDeclaration, StandsDeclaration}
 use Rattle.parser.proofs.SeriesFacts.{passed_on}
 use Rattle.parser.proofs.DeclarationFacts.{asserted_block, asserted_block_stands, specifiers_stand, items_stand, declared_items_fail, declared_reads}

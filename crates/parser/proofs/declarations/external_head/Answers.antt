@@ -1,4 +1,4 @@
-use Rattle.std.proofs.Common.{◌≡◌, ℕ, ◌+◌, sym, ap, map, IfErr}
+use Rattle.std.proofs.Common.{IfErr}
 use Rattle.parser.specs.DeclarationAnswers.{AnswersHead, StandsHead}
 use Rattle.parser.proofs.SeriesFacts.{passed_on}
 use Rattle.parser.proofs.HeadFacts.{assertion_head_fails, assertion_head_stands, assertion_head_reads, head_specifiers_stand, head_tail_fails, head_tail_stands, head_answers, head_stands, brace_ends}

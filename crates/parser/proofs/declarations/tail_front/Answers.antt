@@ -1,4 +1,4 @@
-use Rattle.std.proofs.Common.{◌≡◌, ℕ, ◌+◌, sym, ap, map, IfErr}
+use Rattle.std.proofs.Common.{IfErr}
 use Rattle.parser.specs.declared.scope.Scope.TheVariants.{File}
 use Rattle.parser.specs.ItemAnswers.{StandsItems}
 use Rattle.parser.specs.DeclarationFronts.{AnswersTail}

@@ -1,9 +1,7 @@
-use Rattle.std.proofs.Common.{ℕ, ◌+◌, sym, subst, refl}
-use Rattle.tree.specs.View.{tree_of}
-use Rattle.parser.specs.ExpressionAnswers.{Reads, Fails, Stands}
+use Rattle.std.proofs.Common.{sym}
 use Rattle.parser.specs.DeclarationParts.{AnswersEnumerator, StandsEnumerator}
 use Rattle.parser.proofs.SeriesFacts.{passed_on, err_passed_on}
-use Rattle.parser.proofs.EnumeratorParts.{enumerator_none, enumerator_full, enumerator_full_stands, enumerator_plain, enumerator_value, enumerator_value_fails, enumerator_value_stands}
+use Rattle.parser.proofs.EnumeratorParts.{enumerator_full, enumerator_full_stands, enumerator_value, enumerator_value_fails, enumerator_value_stands}
 use Rattle.parser.proofs.enumerators.enumerator.Goals as goal
 
 pub returns-in_err-below-clause-answer : goal.returns-in_err-below-clause-answer

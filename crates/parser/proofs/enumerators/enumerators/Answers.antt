@@ -1,4 +1,4 @@
-use Rattle.std.proofs.Common.{ℕ, ◌+◌, ◌<◌, length, map, List, [], ◌∷◌, ◌++◌, sym, ap, arith}
+use Rattle.std.proofs.Common.{length, [], ◌∷◌, ap, arith}
 use Rattle.std.proofs.lemmas.List.{map-append}
 use Rattle.tree.specs.View.{enumerator_of}
 use Rattle.parser.specs.DeclarationParts.{AnswersEnumerators, StandsEnumerators}

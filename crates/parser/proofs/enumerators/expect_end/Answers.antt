@@ -1,4 +1,4 @@
-use Rattle.std.proofs.Common.{◌≡◌, List, inl, inr, refl, Bor}
+use Rattle.std.proofs.Common.{List, inl, inr, refl}
 use Rattle.srcset.specs.declared.refusal.Pos.{Pos}
 use Rattle.lexer.specs.declared.token.Token.{Token}
 use Rattle.lexer.specs.declared.token.Kind.TheVariants as kind

@@ -1,18 +1,12 @@
-use Rattle.std.proofs.Common.{rules, ◌≡◌, ℕ, ◌<◌, ◌≤◌, ◌+◌, length, ◌∷◌, List, [], ◌++◌, sym, ap, subst, refl, ◌∙◌, arith, ⊎_elim}
+use Rattle.std.proofs.Common.{◌+◌, length, ◌∷◌, [], sym, ap, refl, arith}
 use Rattle.std.proofs.lemmas.List.{map-append}
-use Rattle.lexer.specs.declared.token.Token.{Token}
-use Rattle.tree.specs.Tree.{Tree, identifier, constant, paren, call, before, prefix, size_of, size_of_type, cast, binary, choice, assign}
-use Rattle.tree.specs.Counts.{depth}
 use Rattle.tree.specs.View.{tree_of}
-use Rattle.tree.specs.declared.expression.Expr.{Expr}
 use Rattle.tree.specs.declared.expression.BinaryOp.TheVariants as binary_op
-use Rattle.parser.specs.Grammar.{layer_of, binary_sign, prefix_sign, step_sign, assign_sign}
-use Rattle.parser.specs.ExpressionAnswers.{Answers, Reads, Fails}
 use Rattle.parser.proofs.Views.{tree_SizeofType, tree_Name, tree_Constant, tree_StringLiteral, tree_Cast, tree_Paren, tree_Before, tree_Prefix, tree_Assign, tree_Conditional, tree_SizeofExpr, tree_Call}
 use Rattle.parser.proofs.Begun.{lift_layer, lift_result, pass_stands, full_stands, passes_stands, cast_full, cast_type_lift, cast_lift, before_full, before_lift, prefix_full, prefix_lift, size_full, size_lift, size_type_lift, identifier_full, constant_full, string_full, paren_full, paren_lift, call_lift, loop_passes, loop_stands, choice_passes, choice_yes_lift, choice_no_lift, assign_passes, assign_lift, growing_step_passes, growing_index_passes, growing_index_lift}
 use Rattle.parser.proofs.Arguments.{pass_arguments, pass_stands_arguments, arguments_first_lift, arguments_next_lift, arguments_first_fails, arguments_next_fails, arguments_open, arguments_end, arguments_begin, arguments_next, arguments_none}
-use Rattle.parser.proofs.Spine.{Loop, comma_climbs, cast_climbs, below_cast, comma_only, drop_last, loop_begins, loop_fails, loop_goes_on, loop_ends, loop_operand, loop_full}
-use Rattle.parser.proofs.Postfix.{Growing, growing_begins, growing_none, growing_step, growing_index, growing_ends, growing_step_full, growing_index_full, growing_index_fails, growing_index_open}
+use Rattle.parser.proofs.Spine.{comma_climbs, cast_climbs, below_cast, comma_only, drop_last, loop_begins, loop_fails, loop_goes_on, loop_ends, loop_operand, loop_full}
+use Rattle.parser.proofs.Postfix.{growing_begins, growing_none, growing_step, growing_index, growing_ends, growing_step_full, growing_index_full, growing_index_fails, growing_index_open}
 use Rattle.parser.proofs.TypeNames.{cast_reads, cast_type_fails, cast_fails, no_cast, size_type_reads, size_type_fails, size_reads, size_fails, sizes_begin, sizes_next, sizes_next_fails, sizes_next_open, sizes_open, sizes_end, sizes_next_lift, plain_lift, type_none, pass_type, pass_stands_type}
 use Rattle.parser.proofs.Productions.{pass, raise, full, never, before_reads, before_fails, prefix_reads, prefix_fails, no_prefix, paren_reads, paren_fails, paren_open, no_primary}
 use Rattle.parser.proofs.Parts.{cond_ends, cond_fails, cond_full, cond_yes_fails, cond_colon, cond_no_fails, cond_reads, assign_ends, assign_left_fails, assign_no_left, assign_full, assign_right_fails, assign_reads, identifier_reads, call_reads, call_fails, constant_reads, string_reads}

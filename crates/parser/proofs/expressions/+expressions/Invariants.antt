@@ -1,4 +1,4 @@
-use Rattle.std.proofs.Common.{◌≡◌, ℕ, ◌<◌, ◌≤◌, ◌+◌, length, ◌-◌, ◌*◌, map}
+use Rattle.std.proofs.Common.{◌<◌, ◌+◌, length, ◌*◌, map}
 use Rattle.tree.specs.View.{tree_of}
 use Rattle.parser.proofs.Spine.{Loop}
 use Rattle.parser.proofs.Postfix.{Growing}

@@ -1,4 +1,4 @@
-use Rattle.std.proofs.Common.{◌≡◌, ℕ, ◌+◌, ◌<◌, List, [], ◌∷◌, ◌++◌, length, sym, ap, arith, IfErr}
+use Rattle.std.proofs.Common.{[], ◌∷◌, length, sym, ap, arith, IfErr}
 use Rattle.std.proofs.lemmas.List.{map-append}
 use Rattle.tree.specs.View.{init_of}
 use Rattle.parser.specs.InitAnswers.{AnswersInit, StandsInit, AnswersInitList, StandsInitList}

@@ -1,4 +1,4 @@
-use Rattle.std.proofs.Common.{ℕ, ◌<◌, ◌+◌, ◌*◌, length, map}
+use Rattle.std.proofs.Common.{◌<◌, ◌+◌, ◌*◌, length, map}
 use Rattle.tree.specs.View.{init_of}
 use Rattle.parser.proofs.InitFacts.{InitLoop}
 use Rattle.parser.proofs.initialisers.+initialisers.Given as goal

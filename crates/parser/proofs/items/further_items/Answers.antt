@@ -1,4 +1,4 @@
-use Rattle.std.proofs.Common.{◌≡◌, ℕ, ◌+◌, ◌<◌, ◌≤◌, List, [], ◌∷◌, ◌++◌, length, map, refl, sym, ap, ◌∙◌, arith, IfErr}
+use Rattle.std.proofs.Common.{[], ◌∷◌, ◌++◌, length, map, ap, ◌∙◌, arith, IfErr}
 use Rattle.std.proofs.lemmas.List.{map-append}
 use Rattle.tree.specs.View.{item_of}
 use Rattle.parser.specs.ItemAnswers.{AnswersFurther, StandsFurther}

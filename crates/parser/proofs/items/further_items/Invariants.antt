@@ -1,4 +1,4 @@
-use Rattle.std.proofs.Common.{◌≡◌, ℕ, ◌≤◌, List, ◌∷◌, length, map}
+use Rattle.std.proofs.Common.{◌≡◌, ◌≤◌, List, ◌∷◌, length, map}
 use Rattle.tree.specs.Tree.{ItemTree}
 use Rattle.tree.specs.View.{item_of}
 use Rattle.parser.proofs.ItemFacts.{ItemLoop}

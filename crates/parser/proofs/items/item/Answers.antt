@@ -1,5 +1,5 @@
 use Rattle.std.specs.Prelude.{None}
-use Rattle.std.proofs.Common.{◌≡◌, ℕ, ◌+◌, sym, map, IfErr}
+use Rattle.std.proofs.Common.{◌+◌, sym, map, IfErr}
 use Rattle.tree.specs.Counts.{sizes_depth}
 use Rattle.tree.specs.View.{option_tree}
 use Rattle.parser.specs.Answer.{ReadsOf}

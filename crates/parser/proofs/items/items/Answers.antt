@@ -1,5 +1,4 @@
-use Rattle.std.proofs.Common.{◌≡◌, ℕ, ◌+◌, sym, ap, map, IfErr}
-use Rattle.tree.specs.View.{item_of}
+use Rattle.std.proofs.Common.{IfErr}
 use Rattle.parser.specs.ItemAnswers.{AnswersItems, StandsItems}
 use Rattle.parser.proofs.SeriesFacts.{passed_on}
 use Rattle.parser.proofs.ItemFacts.{items_none, items_first_fails, items_first_stands, items_further_fails, items_further_stands, items_read}

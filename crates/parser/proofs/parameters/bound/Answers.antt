@@ -1,4 +1,3 @@
-use Rattle.std.proofs.Common.{ℕ, ◌+◌}
 use Rattle.parser.specs.DeclarationParts.{AnswersBound, StandsBound}
 use Rattle.parser.proofs.SeriesFacts.{passed_on, err_passed_on}
 use Rattle.parser.proofs.BoundsParts.{bound_none, bound_fails, bound_stands, bound_open, bound_reads}

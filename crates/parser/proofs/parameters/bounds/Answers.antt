@@ -1,4 +1,4 @@
-use Rattle.std.proofs.Common.{ℕ, ◌+◌, ◌≤◌, length, map, List, [], ◌∷◌, ◌++◌, sym, ap, arith}
+use Rattle.std.proofs.Common.{length, [], ◌∷◌, ap, arith}
 use Rattle.std.proofs.lemmas.List.{map-append}
 use Rattle.tree.specs.View.{option_tree}
 use Rattle.parser.specs.DeclarationAnswers.{AnswersBounds, StandsBounds}

@@ -1,4 +1,4 @@
-use Rattle.std.proofs.Common.{ℕ, ◌+◌, sym}
+use Rattle.std.proofs.Common.{sym}
 use Rattle.parser.specs.DeclarationParts.{AnswersParameter, StandsParameter}
 use Rattle.parser.proofs.SeriesFacts.{passed_on, err_passed_on}
 use Rattle.tree.specs.Counts.{parameter_depth}

@@ -1,4 +1,4 @@
-use Rattle.std.proofs.Common.{IsTrue, subst, ℕ, ◌+◌, ◌<◌, length, map, List, [], ◌∷◌, ◌++◌, sym, ap, arith}
+use Rattle.std.proofs.Common.{[], ◌∷◌, arith}
 use Rattle.std.proofs.lemmas.List.{map-append}
 use Rattle.tree.specs.View.{specifier_of}
 use Rattle.parser.specs.DeclarationAnswers.{AnswersDeclarationSpecifiers, StandsDeclarationSpecifiers}

@@ -1,9 +1,9 @@
-use Rattle.std.proofs.Common.{ℕ, ◌∷◌}
+use Rattle.std.proofs.Common.{◌∷◌}
 use Rattle.lexer.specs.declared.token.Kind.TheVariants as kind
 use Rattle.lexer.specs.declared.token.Keyword.TheVariants as keyword
 use Rattle.parser.specs.DeclarationParts.{AnswersSpecifier, StandsSpecifier}
 use Rattle.parser.proofs.SeriesFacts.{passed_on, err_passed_on}
-use Rattle.parser.proofs.SpecifierParts.{TagThere, enum_list_fails, enum_list_stands, enum_list_reads, enum_nothing, enum_bare}
+use Rattle.parser.proofs.SpecifierParts.{enum_list_fails, enum_list_stands, enum_list_reads}
 use Rattle.parser.proofs.specifiers.enum_specifier.Goals as goal
 
 pub returns-in_err-part-clause-answer : goal.returns-in_err-part-clause-answer

@@ -1,5 +1,4 @@
-use Rattle.std.proofs.Common.{ℕ, ◌∷◌}
-use Rattle.parser.proofs.SpecifierParts.{no_keyword, none_alone, alone_reads}
+use Rattle.parser.proofs.SpecifierParts.{alone_reads}
 use Rattle.parser.proofs.specifiers.specifier.Goals as goal
 
 pub returns-clause-answer : goal.returns-clause-answer

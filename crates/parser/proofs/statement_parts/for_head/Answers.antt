@@ -1,4 +1,4 @@
-use Rattle.std.proofs.Common.{arith, ◌≡◌, ℕ}
+use Rattle.std.proofs.Common.{arith}
 use Rattle.parser.specs.StmtParts.{AnswersForHead, StandsForHead}
 use Rattle.parser.proofs.SeriesFacts.{passed_on}
 use Rattle.parser.proofs.StmtSorts.{passed_err, head_start_stands, head_test_fails, head_test_stands, head_step_fails, head_step_stands, head_reads_all}

@@ -1,7 +1,3 @@
-use Rattle.lexer.specs.declared.token.Kind.TheVariants as kind
-use Rattle.lexer.specs.declared.token.Punctuator.TheVariants as sign
-use Rattle.tree.specs.View.{tree_of}
-use Rattle.std.proofs.Common.{refl, arith}
 use Rattle.parser.specs.StmtParts.{AnswersTest, StandsTest}
 use Rattle.parser.proofs.SeriesFacts.{passed_on}
 use Rattle.parser.proofs.StmtSorts.{passed_err, test_fails, test_stands, test_reads}

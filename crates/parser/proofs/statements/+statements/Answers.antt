@@ -1,4 +1,4 @@
-use Rattle.std.proofs.Common.{◌≡◌, ℕ, ◌+◌, ◌≤◌, ◌<◌, List, [], ◌∷◌, refl, ap, arith, map}
+use Rattle.std.proofs.Common.{◌+◌, [], ◌∷◌, refl, ap, arith}
 use Rattle.std.proofs.lemmas.List.{map-append}
 use Rattle.tree.specs.View.{piece_of}
 use Rattle.parser.specs.StatementAnswers.{AnswersStmt, StandsStmt, AnswersBody, StandsBody}

@@ -1,4 +1,4 @@
-use Rattle.std.proofs.Common.{◌≡◌, ℕ, ◌<◌, ◌≤◌, ◌+◌, ◌*◌, length, map}
+use Rattle.std.proofs.Common.{◌≤◌, ◌+◌, ◌*◌, length, map}
 use Rattle.tree.specs.View.{piece_of}
 use Rattle.parser.proofs.BlockParts.{BlockLoop}
 use Rattle.parser.proofs.statements.+statements.Given as goal

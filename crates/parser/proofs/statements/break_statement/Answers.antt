@@ -1,4 +1,3 @@
-use Rattle.std.proofs.Common.{refl}
 use Rattle.parser.specs.StatementAnswers.{AnswersStmt, StandsStmt}
 use Rattle.parser.proofs.SeriesFacts.{passed_on}
 use Rattle.parser.proofs.StmtSequence.{full_stmt}

@@ -1,4 +1,3 @@
-use Rattle.std.proofs.Common.{rules, ◌≡◌}
 use Rattle.parser.proofs.TypeSpecifierFacts.{no_type_front}
 use Rattle.parser.proofs.type_specifiers.begins_type.Goals as goal
 

@@ -1,5 +1,4 @@
-use Rattle.std.proofs.Common.{rules, ◌≡◌}
-use Rattle.parser.proofs.TypeSpecifierFacts.{no_specifier, no_tag}
+use Rattle.parser.proofs.TypeSpecifierFacts.{no_specifier}
 use Rattle.parser.proofs.type_specifiers.specifier_front.Goals as goal
 
 pub returns-in_default-plain_specifier-clause-err : goal.returns-in_default-plain_specifier-clause-err

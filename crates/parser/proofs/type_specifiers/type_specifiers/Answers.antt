@@ -1,5 +1,4 @@
-use Rattle.std.proofs.Common.{rules, ◌≡◌, ℕ, ◌<◌, ◌+◌, length, arith}
-use Rattle.parser.specs.ExpressionAnswers.{BeginsType, AnswersSpecifiers}
+use Rattle.std.proofs.Common.{arith}
 use Rattle.parser.proofs.Leads.{specifier_shorter}
 use Rattle.parser.proofs.TypeSpecifierFacts.{specifiers_begin, specifiers_next, specifiers_end, specifiers_none, specifiers_next_fails, pass_specifiers}
 use Rattle.parser.proofs.type_specifiers.type_specifiers.Goals as goal

@@ -1,5 +1,4 @@
-use Rattle.std.proofs.Common.{◌≡◌, ℕ, ◌<◌, ◌≤◌, ◌+◌, length}
-use Rattle.parser.specs.Grammar.{StartsAt}
+use Rattle.std.proofs.Common.{◌<◌, length}
 use Rattle.parser.proofs.TypeSpecifierFacts.{SpecifiersLoop}
 use Rattle.parser.proofs.type_specifiers.type_specifiers.Given as goal
 
