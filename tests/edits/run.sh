@@ -11,7 +11,8 @@ cd "$(dirname "$0")/../.."
 [ $# -gt 0 ] || set -- $(cd tests/edits && ls -d */ | tr -d /)
 copy=$(mktemp -d)
 trap 'rm -rf "$copy"' EXIT
-cp -R HANDLES crates.txt crates "$copy"
+# What the crates below were proved to be is taken along, where it is there.
+tar --exclude=incremental -cf - HANDLES crates.txt crates | tar -C "$copy" -xf -
 for crate do
     rm -rf "$copy/crates/$crate/must-fail"
     cp -R "tests/edits/$crate" "$copy/crates/$crate/must-fail"
