@@ -3,8 +3,7 @@
 #
 #   sh tests/edits/run.sh [CRATE..]     every crate with a folder here, by default
 #
-# The gate leaves them out for their time; crates/NAME/must-fail has one for each public function, and those that a
-# wrong compiler would most likely have.
+# The gate leaves them out for their time.
 set -eu
 cd "$(dirname "$0")/../.."
 
