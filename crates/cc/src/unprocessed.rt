@@ -67,12 +67,22 @@ pub fn is_unprocessed(lines: &[Line]) -> bool
     lines.iter().all(|line| is_unprocessed_line(line.tokens()))
 }
 
+// How many tokens the lines have in all.
+fn token_count(lines: &[Line]) -> usize {
+    lines.iter().fold(
+        0,
+        |count: usize, line| count.saturating_add(line.tokens().len()),
+    )
+}
+
 /// The tokens of all lines, in their order.
 pub fn all_tokens<'a>(alloc: Global, lines: Vec<Line<'a>>) -> Result<Vec<PpToken<'a>>, AllocError>
     ensures { IfOk result (λ tokens. tokens.items ≡ unprocessed.all_tokens lines.entry.items) }
 {
-    lines
-        .into_iter()
-        .flat_map(|line| line.into_tokens())
-        .collect(alloc)
+    let mut tokens = Vec::new(alloc);
+    tokens.reserve_exact(token_count(&lines))?;
+    for line in lines {
+        tokens.append(&mut line.into_tokens())?;
+    }
+    Ok(tokens)
 }

@@ -20,11 +20,11 @@ use Rattle.lexer.specs.Words.{keyword_of, left_out_of, identifier, word_as}
 use Rattle.lexer.specs.Punctuators.{mark_as, punctuator_of}
 use Rattle.lexer.specs.Numbers.{number}
 use Rattle.lexer.specs.Literals.{character}
-use Rattle.lexer.specs.Decoding.{IsAppended, IsRefusal}
+use Rattle.lexer.specs.Decoding.{IsRefusal}
 use Rattle.lexer.specs.Meanings.{Meaning, keyword, name, constant, text, punctuator, CToken}
 use Rattle.lexer.specs.CTokens.{CTokens, nothing, join, before, put, as_constant, meaning, ctokens}
 use Rattle.lexer.specs.Numbering.{IsKindOf, IsTokenOf, AreTokensOf, texts_in, texts_of, with_texts, AreAll, TakesUp}
-use Rattle.lexer.specs.Carrying.{pending_before, is_text, begins_text, has_no_text, is_string, IsKindFor, with_meaning, IsPushed, Carries, Passes, PassesText, Closes, Stops, StopsClosing}
+use Rattle.lexer.specs.Carrying.{pending_before, is_text, begins_text, has_no_text, is_string, IsKindFor, with_meaning, IsPushed, Carries, Passes, Closes, Stops, StopsClosing}
 
 -- a longer table shows the same
 kind_kept : (old new : Texts) → KeepsNumbers old new → (m : Meaning) (k : Kind) → IsKindOf old m k → IsKindOf new m k
@@ -87,18 +87,6 @@ text_before bytes p (d ∷ ds) e = by d.meaning e
     by (text bytes) e = absurd (cc)
     by (punctuator x) e = refl
 
--- literals are joined one by one as well as all at once
-text_before_text : (xs ys : List ℕ) (p q : Pos) (cs : List CToken) → before (record { meaning = text xs; pos = p }) (before (record { meaning = text ys; pos = q }) cs) ≡ before (record { meaning = text (xs ++ ys); pos = p }) cs
-text_before_text xs ys p q [] = refl
-text_before_text xs ys p q (d ∷ ds) = by d.meaning
-  where
-    by : (m : Meaning) → before (record { meaning = text xs; pos = p }) (join (text ys) m (record { meaning = text ys; pos = q }) d ds) ≡ join (text (xs ++ ys)) m (record { meaning = text (xs ++ ys); pos = p }) d ds
-    by (keyword x) = refl
-    by (name s) = refl
-    by (constant t v) = refl
-    by (text bytes) = ap (λ x. record { meaning = text x; pos = p } ∷ ds) (sym (append_assoc xs ys bytes))
-    by (punctuator x) = refl
-
 begins_no_text : (c : CToken) (cs : List CToken) → is_text c.meaning ≡ false → begins_text (before c cs) ≡ false
 begins_no_text c cs e = ap begins_text (before_no_text c cs e) ∙ e
 
@@ -139,31 +127,6 @@ begins_after pos (Err code) rest e = refl
 -- of what is carried, the table has taken up the texts
 pub takes_up : (old texts : Texts) (lexer : Lexer) (rest total : CTokens) → Carries old texts lexer rest total → TakesUp old texts total.tokens
 takes_up old texts lexer rest total q = record { front = q.done; back = pending_before lexer.pending lexer.bytes.items rest.tokens; splits = q.tokens_are; texts_are = q.texts_are }
-
--- a first string literal, and a further one
-pub passes_first : (texts : Texts) (lexer lexer' : Lexer) (pos : Pos) (r : Result (List ℕ) ℕ) → lexer.pending ≡ None → lexer'.pending ≡ Some pos → lexer'.tokens.items ≡ lexer.tokens.items → IsAppended r [] lexer'.bytes.items → PassesText texts lexer lexer' pos r
-passes_first texts lexer lexer' pos (Err code) e f g h = absurd h
-passes_first texts lexer lexer' pos (Ok bs) e f g h = λ old rest total q. record {
-  done = q.done;
-  done_is = subst (AreTokensOf texts q.done) (sym g) q.done_is;
-  texts_are = q.texts_are;
-  tokens_are =
-      let c : CToken = record { meaning = text bs; pos = pos } in
-      q.tokens_are ∙ ap (λ p. q.done ++ pending_before p lexer.bytes.items (before c rest.tokens)) e ∙ sym (ap (λ x. q.done ++ pending_before (Some pos) x rest.tokens) h) ∙ sym (ap (λ p. q.done ++ pending_before p lexer'.bytes.items rest.tokens) f);
-  fault_is = q.fault_is;
-}
-
-pub passes_further : (texts : Texts) (lexer lexer' : Lexer) (p pos : Pos) (r : Result (List ℕ) ℕ) → lexer.pending ≡ Some p → lexer'.pending ≡ Some p → lexer'.tokens.items ≡ lexer.tokens.items → IsAppended r lexer.bytes.items lexer'.bytes.items → PassesText texts lexer lexer' pos r
-passes_further texts lexer lexer' p pos (Err code) e f g h = absurd h
-passes_further texts lexer lexer' p pos (Ok bs) e f g h = λ old rest total q. record {
-  done = q.done;
-  done_is = subst (AreTokensOf texts q.done) (sym g) q.done_is;
-  texts_are = q.texts_are;
-  tokens_are =
-      let c : CToken = record { meaning = text bs; pos = pos } in
-      q.tokens_are ∙ ap (λ p. q.done ++ pending_before p lexer.bytes.items (before c rest.tokens)) e ∙ ap (λ x. q.done ++ x) (text_before_text lexer.bytes.items bs p pos rest.tokens) ∙ sym (ap (λ x. q.done ++ pending_before (Some p) x rest.tokens) h) ∙ sym (ap (λ p. q.done ++ pending_before p lexer'.bytes.items rest.tokens) f);
-  fault_is = q.fault_is;
-}
 
 -- a string literal that is whole becomes a token
 total_closed : (texts : Texts) (lexer : Lexer) (p : Pos) (old : Texts) (rest total : CTokens) → lexer.pending ≡ Some p → begins_text rest.tokens ≡ false → (q : Carries old texts lexer rest total) → total.tokens ≡ (q.done ++ record { meaning = text lexer.bytes.items; pos = p } ∷ []) ++ rest.tokens

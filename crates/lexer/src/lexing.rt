@@ -105,15 +105,18 @@ fn kind_of(token: &PpToken, names: &mut Names) -> Result<Kind, Refusal>
 }
 
 impl Lexer {
-    /// No token.
-    pub(crate) fn new(alloc: Global) -> Lexer
-        ensures { (texts : Texts) (total : CTokens) → Carries texts texts result total total }
+    /// No token, and room for as many as are given.
+    pub(crate) fn new(alloc: Global, room: usize) -> Result<Lexer, Refusal>
+        ensures ok { IfOk result (λ lexer. (texts : Texts) (total : CTokens) → Carries texts texts lexer total total) }
+        ensures err { IfErr result (λ e. e ≡ Memory) }
     {
-        Lexer {
-            tokens: Vec::new(alloc),
+        let mut tokens = Vec::new(alloc);
+        tokens.reserve_exact(room)?;
+        Ok(Lexer {
+            tokens,
             pending: None,
             bytes: Vec::new(alloc),
-        }
+        })
     }
 
     // Puts a token last.

@@ -18,7 +18,7 @@ fn all_tokens(alloc: Global, list: &[PpToken], names: &mut Names) -> Result<Vec<
     ensures stops { OnErr result (TakesUp names.old names.new (ctokens list.now).tokens) }
     ensures keeps { KeepsNumbers names.old names.new }
 {
-    let mut lexer = Lexer::new(alloc);
+    let mut lexer = Lexer::new(alloc, list.len())?;
     for token in list {
         lexer.take(token, names)?;
     }

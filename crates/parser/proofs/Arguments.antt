@@ -18,7 +18,7 @@ use Rattle.parser.proofs.Leads.{own_once, own_kinds, mark_own, mark_not, reaches
 use Rattle.tree.specs.View.{trees_of}
 use Rattle.parser.specs.declared.expressions.ArgumentsPart.{ArgumentsPart}
 use Rattle.parser.specs.ExpressionLeads.{SignBeginsExpression}
-use Rattle.parser.specs.PartAnswers.{BeforeAny, SpellsClosed, AnswersArguments, StandsArguments}
+use Rattle.parser.specs.PartAnswers.{Anywhere, SpellsClosed, AnswersArguments, StandsArguments}
 use Rattle.parser.proofs.Spine.{stops_at, excuses_more}
 
 -- trees before others
@@ -100,7 +100,7 @@ arguments_begin d ts e k cur none h = record {
         let u = h.only x g.0 g.1 in
         (es, subst (λ y. MoreClosed es y r) u.1 g.2, ap (λ y. one_more y es) u.0)
 
-pub arguments_first_fails : (d : ℕ) (ts : List Token) (f : Refusal) → NotFront (kind.Punctuator sign.ParenClose) ts → Fails 1 d ts f → FailsOf (SpellsClosed None) BeforeAny depths d ts f
+pub arguments_first_fails : (d : ℕ) (ts : List Token) (f : Refusal) → NotFront (kind.Punctuator sign.ParenClose) ts → Fails 1 d ts f → FailsOf (SpellsClosed None) Anywhere depths d ts f
 arguments_first_fails d ts f none h = record { each = λ us r c end. first us r (closed us ts r c) }
   where
     first : (us : Trees) (r : List Token) → Closed us ts r → Excuses f d (depths us)
@@ -110,7 +110,7 @@ arguments_first_fails d ts f none h = record { each = λ us r c end. first us r 
 close_begins : SignBeginsExpression sign.ParenClose → ⊥
 close_begins h = h
 
-pub arguments_none : (d : ℕ) (ts rest : List Token) (q : Pos) → Own (kind.Punctuator sign.ParenClose) q ts rest → d ≤ 256 → ReadsOf (SpellsClosed None) BeforeAny depths d ts no_trees 0 rest
+pub arguments_none : (d : ℕ) (ts rest : List Token) (q : Pos) → Own (kind.Punctuator sign.ParenClose) q ts rest → d ≤ 256 → ReadsOf (SpellsClosed None) Anywhere depths d ts no_trees 0 rest
 arguments_none d ts rest q own le = record {
   spelled = (ts, refl, inl (q, own));
   tall = refl;
@@ -139,7 +139,7 @@ arguments_next d ts cur us xs k at e j rest m own h r em = record {
         let u = r.only b g.0 g.1 in
         (n, subst (λ y. MoreClosed n y x) u.1 g.2, ev ∙ ap (λ y. add xs (one_more y n)) u.0 ∙ sym (add_push xs e n))
 
-pub arguments_next_fails : (d : ℕ) (ts cur us : List Token) (xs : List Tree) (k : ℕ) (at : Pos) (f : Refusal) → Own (kind.Punctuator sign.Comma) at cur us → ArgumentsLoop d ts xs k cur → Fails 1 d us f → FailsOf (SpellsClosed None) BeforeAny depths d ts f
+pub arguments_next_fails : (d : ℕ) (ts cur us : List Token) (xs : List Tree) (k : ℕ) (at : Pos) (f : Refusal) → Own (kind.Punctuator sign.Comma) at cur us → ArgumentsLoop d ts xs k cur → Fails 1 d us f → FailsOf (SpellsClosed None) Anywhere depths d ts f
 arguments_next_fails d ts cur us xs k at f own h bad = record { each = λ vs x c end. let i = h.only vs x (closed vs ts x c) in next vs x i.0 i.1 i.2 }
   where
     next : (vs : Trees) (x : List Token) → (n : Trees) → MoreClosed n cur x → vs ≡ add xs n → Excuses f d (depths vs)
@@ -149,14 +149,14 @@ arguments_next_fails d ts cur us xs k at f own h bad = record { each = λ vs x c
         let deep : depth b ≤ depths vs = subst (λ y. depth b ≤ depths y) (sym ev) (depths_add xs b n) in
         excuses_more f d d _ _ (omega (arith, deep)) (bad.each b g.0 g.1)
 
-pub arguments_open : (d : ℕ) (ts cur : List Token) (xs : List Tree) (k : ℕ) (f : Refusal) → NotFront (kind.Punctuator sign.Comma) cur → NotFront (kind.Punctuator sign.ParenClose) cur → ArgumentsLoop d ts xs k cur → FailsOf (SpellsClosed None) BeforeAny depths d ts f
+pub arguments_open : (d : ℕ) (ts cur : List Token) (xs : List Tree) (k : ℕ) (f : Refusal) → NotFront (kind.Punctuator sign.Comma) cur → NotFront (kind.Punctuator sign.ParenClose) cur → ArgumentsLoop d ts xs k cur → FailsOf (SpellsClosed None) Anywhere depths d ts f
 arguments_open d ts cur xs k f n1 n2 h = record { each = λ vs x c end. let i = h.only vs x (closed vs ts x c) in next vs x i.0 i.1 }
   where
     next : (vs : Trees) (x : List Token) → (n : Trees) → MoreClosed n cur x → Excuses f d (depths vs)
     next vs x no_trees c = absurd (n2 c.1 x (no_more cur x c))
     next vs x (one_more b n) c = absurd (mark_not (kind.Punctuator sign.Comma) cur c.2.0 n1 c.2.2)
 
-pub arguments_end : (d : ℕ) (ts cur rest : List Token) (xs : List Tree) (k : ℕ) (q : Pos) → NotFront (kind.Punctuator sign.Comma) cur → Own (kind.Punctuator sign.ParenClose) q cur rest → ArgumentsLoop d ts xs k cur → ReadsOf (SpellsClosed None) BeforeAny depths d ts (trees_of xs) k rest
+pub arguments_end : (d : ℕ) (ts cur rest : List Token) (xs : List Tree) (k : ℕ) (q : Pos) → NotFront (kind.Punctuator sign.Comma) cur → Own (kind.Punctuator sign.ParenClose) q cur rest → ArgumentsLoop d ts xs k cur → ReadsOf (SpellsClosed None) Anywhere depths d ts (trees_of xs) k rest
 arguments_end d ts cur rest xs k q none own h = record {
   spelled = (cur, subst (λ y. SpellsArguments None y ts cur) (add_none xs) (h.spells no_trees cur refl), inl (q, own));
   tall = h.height;
@@ -169,7 +169,7 @@ arguments_end d ts cur rest xs k q none own h = record {
     next vs x (one_more b n) c ev = absurd (mark_not (kind.Punctuator sign.Comma) cur c.2.0 none c.2.2)
 
 -- the exit of a `?`
-pub pass_arguments : (d : ℕ) (ts : List Token) (r : Result ArgumentsPart Refusal) (f : Refusal) → IsErrAnd r (λ e. e ≡ f) → FailsOf (SpellsClosed None) BeforeAny depths d ts f → AnswersArguments d ts r
+pub pass_arguments : (d : ℕ) (ts : List Token) (r : Result ArgumentsPart Refusal) (f : Refusal) → IsErrAnd r (λ e. e ≡ f) → FailsOf (SpellsClosed None) Anywhere depths d ts f → AnswersArguments d ts r
 pass_arguments d ts r f is h = let p = err_from_is_err_and r is in rw (p.1, p.2) h
 
 pub pass_stands_arguments : (d : ℕ) (ts : List Token) (r : Result ArgumentsPart Refusal) (f : Refusal) → IsErrAnd r (λ e. e ≡ f) → StandsArguments d ts f → IfErr r (λ e. StandsArguments d ts e)

@@ -23,7 +23,7 @@ use Rattle.parser.specs.Grammar.{binary_sign, prefix_sign, step_sign, assign_sig
 use Rattle.parser.specs.Answer.{Reaches, ReadsOf}
 use Rattle.parser.specs.ExpressionAnswers.{Reads, Passes, Stands}
 use Rattle.parser.proofs.Leads.{mark_begun, reaches_on, own_reaches, own_last, mark_reaches, whole_is_begun, type_is_begun, whole_reaches, type_reaches}
-use Rattle.parser.specs.PartAnswers.{BeforeAny, SpellsNamed, StandsArguments, StandsType}
+use Rattle.parser.specs.PartAnswers.{Anywhere, SpellsNamed, StandsArguments, StandsType}
 use Rattle.parser.proofs.Spine.{Loop, layer_of_most}
 use Rattle.parser.proofs.Postfix.{Growing}
 
@@ -175,7 +175,7 @@ cast_type_lift d at ts us (Depth x) own h = record {
   deep = omega (arith, h.deep);
 }
 
-pub cast_lift : (d n : ℕ) (at : Pos) (ts us mid : List Token) (ty : TypeTree) (j : ℕ) (f : Refusal) → Own (kind.Punctuator sign.ParenOpen) at ts us → ReadsOf (SpellsNamed None) BeforeAny type_depth n us ty j mid → Stands 13 (d + 1) mid f → Stands 13 d ts f
+pub cast_lift : (d n : ℕ) (at : Pos) (ts us mid : List Token) (ty : TypeTree) (j : ℕ) (f : Refusal) → Own (kind.Punctuator sign.ParenOpen) at ts us → ReadsOf (SpellsNamed None) Anywhere type_depth n us ty j mid → Stands 13 (d + 1) mid f → Stands 13 d ts f
 cast_lift d n at ts us mid ty j f own named h = lift 13 13 d ts mid f (cast at ty) (reaches_on ts us mid (own_reaches _ _ _ _ own) (reaches_on us named.spelled.0 mid (type_reaches ty us named.spelled.0 named.spelled.1) (mark_reaches _ _ _ named.spelled.2))) (λ b cut le sp. (us, named.spelled.0, mid, own, type_is_begun cut ty us named.spelled.0 named.spelled.1, mark_begun cut _ _ _ named.spelled.2, le, sp)) (λ b. omega arith) (λ b. omega arith) h
 
 pub paren_lift : (d : ℕ) (at : Pos) (ts us : List Token) (f : Refusal) → Own (kind.Punctuator sign.ParenOpen) at ts us → Stands 0 (d + 1) us f → Stands 16 d ts f

@@ -16,7 +16,7 @@ use Rattle.parser.specs.Grammar.{Own, Sign}
 use Rattle.parser.specs.Declarations.{SpellsDeclaration}
 use Rattle.parser.specs.Statements.{SpellsStmt, SpellsPiece, SpellsPieces}
 use Rattle.parser.specs.Answer.{NotFront, Reaches, Excuses, ReadsOf, FailsOf, StandsOf}
-use Rattle.parser.specs.DeclarationAnswers.{Anywhere}
+use Rattle.parser.specs.PartAnswers.{Anywhere}
 use Rattle.parser.specs.StatementAnswers.{EndsStmt, SpellsBody}
 use Rattle.parser.specs.DeclarationFronts.{BeginsDeclaration}
 use Rattle.parser.specs.StmtParts.{EndsPiece}

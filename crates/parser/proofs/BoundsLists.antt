@@ -12,7 +12,8 @@ use Rattle.parser.specs.declared.refusal.Refusal.TheVariants.{Syntax, Depth, Mem
 use Rattle.parser.specs.Grammar.{Own, Sign}
 use Rattle.parser.specs.Declarations.{SpellsBounds}
 use Rattle.parser.specs.Answer.{NotFront, Reaches, Excuses, ReadsOf, FailsOf, StandsOf}
-use Rattle.parser.specs.DeclarationAnswers.{Anywhere, EndsBounds}
+use Rattle.parser.specs.PartAnswers.{Anywhere}
+use Rattle.parser.specs.DeclarationAnswers.{EndsBounds}
 use Rattle.parser.specs.DeclarationParts.{SpellsClosedBound}
 use Rattle.parser.proofs.SeriesFacts.{same_token, whole_mark, mark_is_begun, reaches_far, token_reaches, mark_front}
 use Rattle.parser.proofs.Series.{Chain, tallest, Going, going_starts, going_more, going_fails, going_ends, going_stands}

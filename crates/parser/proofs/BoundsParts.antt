@@ -12,7 +12,7 @@ use Rattle.parser.specs.declared.refusal.Refusal.TheVariants.{Syntax, Depth, Mem
 use Rattle.parser.specs.Grammar.{Own}
 use Rattle.parser.specs.Answer.{NotFront, Reaches, Excuses, ReadsOf, FailsOf, StandsOf}
 use Rattle.parser.specs.ExpressionAnswers.{Front, Reads, Fails, Stands}
-use Rattle.parser.specs.DeclarationAnswers.{Anywhere}
+use Rattle.parser.specs.PartAnswers.{Anywhere}
 use Rattle.parser.specs.DeclarationParts.{SpellsClosedBound}
 use Rattle.parser.proofs.SeriesFacts.{same_token, whole_mark, mark_is_begun, reaches_far, mark_front}
 use Rattle.parser.proofs.Leads.{whole_is_begun, whole_reaches, no_begin}

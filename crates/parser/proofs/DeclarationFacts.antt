@@ -18,7 +18,7 @@ use Rattle.parser.specs.Grammar.{Own, StartsAt}
 use Rattle.parser.specs.Declarations.{SpellsDeclarationSpecifiers, SpellsItem, SpellsDeclaration}
 use Rattle.parser.specs.Answer.{NotFront, ReadsOf, FailsOf, StandsOf}
 use Rattle.parser.specs.ExpressionAnswers.{power, Stops, Front, Reads, Fails, Stands}
-use Rattle.parser.specs.DeclarationAnswers.{Anywhere}
+use Rattle.parser.specs.PartAnswers.{Anywhere}
 use Rattle.parser.proofs.SeriesFacts.{same_token, whole_mark, reaches_itself, reaches_far, token_reaches, excuses_grow}
 use Rattle.parser.proofs.Leads.{own_once, own_kinds}
 use Rattle.std.specs.Prelude.{IfOk, IfErr}

@@ -13,7 +13,7 @@ use Rattle.parser.specs.Grammar.{Own}
 use Rattle.parser.specs.Declarations.{Trailing, SpellsEnumerator}
 use Rattle.parser.specs.Answer.{NotFront, Excuses, ReadsOf, FailsOf, StandsOf}
 use Rattle.parser.specs.ExpressionAnswers.{Stops}
-use Rattle.parser.specs.DeclarationAnswers.{Anywhere}
+use Rattle.parser.specs.PartAnswers.{Anywhere}
 use Rattle.parser.specs.DeclarationParts.{EndsEnumerator, SpellsEnumeratorList}
 use Rattle.parser.proofs.SeriesFacts.{same_token, whole_mark}
 use Rattle.parser.proofs.Series.{tallest, Going, going_stuck, going_ends, CommaThen, SeriesOf, series_begins, series_fails, series_first_stands, series_more, series_more_fails, series_more_stands}

@@ -16,7 +16,7 @@ use Rattle.parser.specs.Grammar.{Own, StartsAt}
 use Rattle.parser.specs.Declarations.{SpellsDeclarationSpecifiers, SpellsItem, SpellsDeclaration}
 use Rattle.parser.specs.Answer.{NotFront, ReadsOf, FailsOf, PassesOf, StandsOf}
 use Rattle.parser.specs.ExpressionAnswers.{Stops}
-use Rattle.parser.specs.DeclarationAnswers.{Anywhere}
+use Rattle.parser.specs.PartAnswers.{Anywhere}
 use Rattle.parser.proofs.SeriesFacts.{whole_mark, reaches_itself, reaches_far, token_last}
 use Rattle.parser.proofs.Leads.{own_kinds}
 use Rattle.std.specs.Prelude.{IfOk, IfErr}

@@ -14,7 +14,7 @@ use Rattle.parser.specs.Grammar.{Own, Spells}
 use Rattle.parser.specs.Declarations.{SpellsMoreOf, SpellsSeries, Trailing, SpellsInit, SpellsInits, SpellsMoreInits, SpellsInitialiser}
 use Rattle.parser.specs.Answer.{NotFront, Excuses, ReadsOf, FailsOf, StandsOf}
 use Rattle.parser.specs.ExpressionAnswers.{Stops, Reads, Fails, Stands}
-use Rattle.parser.specs.DeclarationAnswers.{Anywhere}
+use Rattle.parser.specs.PartAnswers.{Anywhere}
 use Rattle.parser.proofs.SeriesFacts.{whole_mark, reaches_itself, token_reaches}
 use Rattle.parser.proofs.Leads.{own_once, own_kinds, no_begin}
 use Rattle.std.specs.Prelude.{Vec}

@@ -16,7 +16,8 @@ use Rattle.parser.specs.Grammar.{Own}
 use Rattle.parser.specs.Declarations.{SpellsMoreOf, SpellsBounds, SpellsParameters, SpellsInitialiser, SpellsItem}
 use Rattle.parser.specs.Answer.{NotFront, ReadsOf, FailsOf, StandsOf}
 use Rattle.parser.specs.ExpressionAnswers.{Stops}
-use Rattle.parser.specs.DeclarationAnswers.{Anywhere, EndsBounds, SpellsParameterList}
+use Rattle.parser.specs.PartAnswers.{Anywhere}
+use Rattle.parser.specs.DeclarationAnswers.{EndsBounds, SpellsParameterList}
 use Rattle.parser.proofs.SeriesFacts.{same_token, whole_mark, reaches_itself, reaches_far, token_reaches}
 use Rattle.parser.proofs.Leads.{own_once, own_kinds}
 use Rattle.parser.specs.InitAnswers.{EndsInitialiser}

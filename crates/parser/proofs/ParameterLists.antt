@@ -18,7 +18,8 @@ use Rattle.parser.specs.Grammar.{Own, SpellsSpecifier, SpellsSpecifiers}
 use Rattle.parser.specs.Declarations.{SpellsMoreOf, SpellsBounds, SpellsParameterName, SpellsParameter, IsVoid, IsVoidAlone, SpellsParameters}
 use Rattle.parser.specs.Answer.{NotFront, Excuses, ReadsOf, FailsOf, PassesOf, StandsOf}
 use Rattle.parser.specs.ExpressionAnswers.{BeginsType}
-use Rattle.parser.specs.DeclarationAnswers.{Anywhere, SpellsParameterList}
+use Rattle.parser.specs.PartAnswers.{Anywhere}
+use Rattle.parser.specs.DeclarationAnswers.{SpellsParameterList}
 use Rattle.parser.specs.DeclarationParts.{EndsParameter}
 use Rattle.parser.proofs.SeriesFacts.{same_token, whole_mark}
 use Rattle.parser.proofs.Series.{tallest, Going, going_stuck, going_ends, CommaThen, SeriesOf, series_begins, series_fails, series_first_stands, series_more, series_more_fails, series_more_stands}

@@ -19,7 +19,7 @@ use Rattle.parser.specs.Grammar.{assign_sign, layer_of, layer, Own, Spells}
 use Rattle.parser.specs.Answer.{NotFront, ReadsOf, FailsOf}
 use Rattle.parser.specs.ExpressionAnswers.{power, Stops, Front, Reads, Fails}
 use Rattle.parser.proofs.Leads.{no_hole, own_kind, own_once, own_kinds, mark_own}
-use Rattle.parser.specs.PartAnswers.{BeforeAny, SpellsClosed}
+use Rattle.parser.specs.PartAnswers.{Anywhere, SpellsClosed}
 use Rattle.parser.proofs.Spine.{layer_of_most, stops_at, stops_more, excuses_more}
 use Rattle.parser.proofs.Productions.{assign_once, tags, never, wrap_fails}
 
@@ -251,7 +251,7 @@ after_paren t n at p ts us vs r own open_own f =
     ⊎_elim (λ i. let st : 17 ≤ 16 = subst (Stops 16) (i.1 ∙ open_own) f.stops in absurd (omega (arith, st))) (λ i.
     let e = own_once (kind.Punctuator sign.ParenOpen) i.2 p us i.1 vs i.3 open_own in (i.0, subst (λ x. SpellsClosed None i.0 x r) e.1 i.4, i.5)) (identifier_inverts t n at ts us r own f)
 
-pub call_reads : (d n : ℕ) (at p : Pos) (ts us vs : List Token) (es : Trees) (k : ℕ) (rest : List Token) → Own (kind.Identifier n) at ts us → Own (kind.Punctuator sign.ParenOpen) p us vs → ReadsOf (SpellsClosed None) BeforeAny depths (d + 1) vs es k rest → Reads 16 d ts (call at n es) (k + 1) rest
+pub call_reads : (d n : ℕ) (at p : Pos) (ts us vs : List Token) (es : Trees) (k : ℕ) (rest : List Token) → Own (kind.Identifier n) at ts us → Own (kind.Punctuator sign.ParenOpen) p us vs → ReadsOf (SpellsClosed None) Anywhere depths (d + 1) vs es k rest → Reads 16 d ts (call at n es) (k + 1) rest
 call_reads d n at p ts us vs es k rest own op h = record {
   tight = omega arith;
   spells = (us, vs, h.spelled.0, own, inl (p, op), h.spelled.1, h.spelled.2);
@@ -260,7 +260,7 @@ call_reads d n at p ts us vs es k rest own op h = record {
   only = λ t r f. let i = after_paren t n at p ts us vs r own op f in let u = h.only i.0 r i.1 tt in (i.2 ∙ ap (λ x. call at n x) u.0, u.1);
 }
 
-pub call_fails : (d n : ℕ) (at p : Pos) (ts us vs : List Token) (x : Refusal) → Own (kind.Identifier n) at ts us → Own (kind.Punctuator sign.ParenOpen) p us vs → FailsOf (SpellsClosed None) BeforeAny depths (d + 1) vs x → Fails 16 d ts x
+pub call_fails : (d n : ℕ) (at p : Pos) (ts us vs : List Token) (x : Refusal) → Own (kind.Identifier n) at ts us → Own (kind.Punctuator sign.ParenOpen) p us vs → FailsOf (SpellsClosed None) Anywhere depths (d + 1) vs x → Fails 16 d ts x
 call_fails d n at p ts us vs x own op h = record {
   each = λ t r f. let i = after_paren t n at p ts us vs r own op f in
       let deep : depths i.0 + 1 ≤ depth t = subst (λ y. depths i.0 + 1 ≤ depth y) (sym i.2) (omega arith) in

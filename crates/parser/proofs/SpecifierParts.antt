@@ -16,7 +16,8 @@ use Rattle.parser.specs.declared.refusal.Refusal.TheVariants.{Syntax, Depth, Mem
 use Rattle.parser.specs.Grammar.{Own}
 use Rattle.parser.specs.Declarations.{SpellsMoreOf, SpellsSeries, Trailing, SpellsEnumerator, SpellsTag, SpellsDeclarationSpecifier}
 use Rattle.parser.specs.Answer.{NotFront, Reaches, Excuses, ReadsOf, FailsOf, StandsOf}
-use Rattle.parser.specs.DeclarationAnswers.{Anywhere, BeginsSpecifier}
+use Rattle.parser.specs.PartAnswers.{Anywhere}
+use Rattle.parser.specs.DeclarationAnswers.{BeginsSpecifier}
 use Rattle.parser.specs.DeclarationParts.{SpellsEnumeratorList, EndsSpecifier, IsAlone, IsNoneAlone}
 use Rattle.parser.proofs.SeriesFacts.{same_token, whole_mark, mark_is_begun, reaches_far, token_reaches, mark_front}
 use Rattle.parser.proofs.Leads.{specifier_reaches}

@@ -23,7 +23,7 @@ use Rattle.parser.specs.Grammar.{Own, StartsAt}
 use Rattle.parser.specs.Statements.{SpellsTest, SpellsStmt}
 use Rattle.parser.specs.Answer.{NotFront, ReadsOf, FailsOf, StandsOf}
 use Rattle.parser.specs.ExpressionAnswers.{Reads, Fails, Stands}
-use Rattle.parser.specs.DeclarationAnswers.{Anywhere}
+use Rattle.parser.specs.PartAnswers.{Anywhere}
 use Rattle.parser.specs.StatementAnswers.{EndsStmt, SpellsBody}
 use Rattle.parser.specs.StmtParts.{form_kind, SpellsClosed, SpellsEnded, SpellsDoEnd, ForHeadTree, SpellsForHead, for_head_depth, SpellsLabelled, TestedTree, SpellsTested, EndsTested, tested_depth}
 use Rattle.parser.proofs.StmtSequence.{pair_reads, pair_first_fails, pair_second_fails, pair_first_stands, pair_second_stands, head_reads, head_fails, head_stands, head_full}

@@ -20,7 +20,7 @@ use Rattle.parser.specs.Declarations.{SpellsDeclaration}
 use Rattle.parser.specs.Statements.{SpellsTest, SpellsOption, SpellsStart}
 use Rattle.parser.specs.Answer.{NotFront, Reaches, Excuses, ReadsOf, FailsOf, StandsOf}
 use Rattle.parser.specs.ExpressionAnswers.{sign_power, power, Stops, Reads, Fails, Stands}
-use Rattle.parser.specs.DeclarationAnswers.{Anywhere}
+use Rattle.parser.specs.PartAnswers.{Anywhere}
 use Rattle.parser.specs.DeclarationFronts.{BeginsDeclaration}
 use Rattle.parser.specs.StmtParts.{EndsExpression, SpellsClosed, SpellsEnded, SpellsDoEnd, ForHeadTree, SpellsForHeadParts, SpellsForHead, for_head_depth}
 use Rattle.parser.proofs.Leads.{own_once, mark_own, mark_begun, mark_reaches, reaches_on, whole_is_begun, whole_reaches}

@@ -21,7 +21,7 @@ use Rattle.tree.specs.declared.expression.TypeSpecifier.{TypeSpecifier}
 use Rattle.tree.specs.View.{trees_of}
 use Rattle.parser.specs.declared.expressions.TypePart.{TypePart}
 use Rattle.parser.specs.ExpressionAnswers.{KindBeginsType, ReadsSpecifiers, FailsSpecifiers, NotDepth}
-use Rattle.parser.specs.PartAnswers.{BeforeAny, SpellsNamed, AnswersType, StandsType}
+use Rattle.parser.specs.PartAnswers.{Anywhere, SpellsNamed, AnswersType, StandsType}
 use Rattle.parser.proofs.Leads.{specifiers_reach}
 use Rattle.parser.proofs.Spine.{layer_of_most, stops_at, excuses_more}
 use Rattle.parser.proofs.Productions.{no_type, step_tag, prefix_tag, tags, low_tag, wrap_fails, wrap_reads}
@@ -86,7 +86,7 @@ excuses_type (Syntax at) d k nd h = h
 excuses_type (Depth at) d k nd h = absurd nd
 excuses_type Memory d k nd h = tt
 
-pub type_none : (d : ℕ) (ts : List Token) (f : Refusal) → NotDepth f → FailsSpecifiers ts f → FailsOf (SpellsNamed None) BeforeAny type_depth d ts f
+pub type_none : (d : ℕ) (ts : List Token) (f : Refusal) → NotDepth f → FailsSpecifiers ts f → FailsOf (SpellsNamed None) Anywhere type_depth d ts f
 type_none d ts f nd h = record { each = λ u r n end. first u r n }
   where
     first : (u : TypeTree) (r : List Token) → SpellsNamed None u ts r → Excuses f d (type_depth u)
@@ -129,7 +129,7 @@ sizes_next d ts at ss cur us mid rest xs k p q e j m own h r close em = record {
         let o = own_once (kind.Punctuator sign.BracketClose) g.2 q mid g.1 rest (subst (λ y. Own (kind.Punctuator sign.BracketClose) g.2 y g.1) v.1 g.4) close in
         (n, subst (λ y. MoreSizes n y x) o.1 g.5, ev ∙ ap (λ y. type_name at ss (add xs (one_more y n))) v.0 ∙ ap (type_name at ss) (sym (add_push xs e n)))
 
-pub sizes_next_fails : (d : ℕ) (ts : List Token) (at : Pos) (ss : List TypeSpecifier) (cur us : List Token) (xs : List Tree) (k : ℕ) (p : Pos) (f : Refusal) → Own (kind.Punctuator sign.BracketOpen) p cur us → SizesLoop d ts at ss xs k cur → Fails 2 d us f → FailsOf (SpellsNamed None) BeforeAny type_depth d ts f
+pub sizes_next_fails : (d : ℕ) (ts : List Token) (at : Pos) (ss : List TypeSpecifier) (cur us : List Token) (xs : List Tree) (k : ℕ) (p : Pos) (f : Refusal) → Own (kind.Punctuator sign.BracketOpen) p cur us → SizesLoop d ts at ss xs k cur → Fails 2 d us f → FailsOf (SpellsNamed None) Anywhere type_depth d ts f
 sizes_next_fails d ts at ss cur us xs k p f own h bad = record { each = λ u x n end. let i = h.only u x n in next u x i.0 i.1 i.2 }
   where
     next : (u : TypeTree) (x : List Token) → (n : Trees) → MoreSizes n cur x → u ≡ type_name at ss (add xs n) → Excuses f d (type_depth u)
@@ -139,7 +139,7 @@ sizes_next_fails d ts at ss cur us xs k p f own h bad = record { each = λ u x n
         let deep : depth b ≤ type_depth u = subst (λ y. depth b ≤ type_depth y) (sym ev) (depths_add xs b n) in
         excuses_more f d d _ _ (omega (arith, deep)) (bad.each b g.0 g.3)
 
-pub sizes_next_open : (d n : ℕ) (ts : List Token) (at : Pos) (ss : List TypeSpecifier) (cur us mid : List Token) (xs : List Tree) (k : ℕ) (p : Pos) (e : Tree) (j : ℕ) (f : Refusal) → Own (kind.Punctuator sign.BracketOpen) p cur us → SizesLoop d ts at ss xs k cur → Reads 2 n us e j mid → NotFront (kind.Punctuator sign.BracketClose) mid → FailsOf (SpellsNamed None) BeforeAny type_depth d ts f
+pub sizes_next_open : (d n : ℕ) (ts : List Token) (at : Pos) (ss : List TypeSpecifier) (cur us mid : List Token) (xs : List Tree) (k : ℕ) (p : Pos) (e : Tree) (j : ℕ) (f : Refusal) → Own (kind.Punctuator sign.BracketOpen) p cur us → SizesLoop d ts at ss xs k cur → Reads 2 n us e j mid → NotFront (kind.Punctuator sign.BracketClose) mid → FailsOf (SpellsNamed None) Anywhere type_depth d ts f
 sizes_next_open d n ts at ss cur us mid xs k p e j f own h r none = record { each = λ u x named end. let i = h.only u x named in next u x i.0 i.1 }
   where
     next : (u : TypeTree) (x : List Token) → (m : Trees) → MoreSizes m cur x → Excuses f d (type_depth u)
@@ -149,14 +149,14 @@ sizes_next_open d n ts at ss cur us mid xs k p e j f own h r none = record { eac
         let v = r.only b g.0 g.3 in
         absurd (none g.2 g.1 (subst (λ y. Own (kind.Punctuator sign.BracketClose) g.2 y g.1) v.1 g.4))
 
-pub sizes_open : (d : ℕ) (ts : List Token) (at : Pos) (ss : List TypeSpecifier) (cur : List Token) (xs : List Tree) (k : ℕ) (f : Refusal) → NotFront (kind.Punctuator sign.BracketOpen) cur → NotFront (kind.Punctuator sign.ParenClose) cur → SizesLoop d ts at ss xs k cur → FailsOf (SpellsNamed None) BeforeAny type_depth d ts f
+pub sizes_open : (d : ℕ) (ts : List Token) (at : Pos) (ss : List TypeSpecifier) (cur : List Token) (xs : List Tree) (k : ℕ) (f : Refusal) → NotFront (kind.Punctuator sign.BracketOpen) cur → NotFront (kind.Punctuator sign.ParenClose) cur → SizesLoop d ts at ss xs k cur → FailsOf (SpellsNamed None) Anywhere type_depth d ts f
 sizes_open d ts at ss cur xs k f n1 n2 h = record { each = λ u x named end. let i = h.only u x named in next u x i.0 i.1 }
   where
     next : (u : TypeTree) (x : List Token) → (m : Trees) → MoreSizes m cur x → Excuses f d (type_depth u)
     next u x no_trees c = absurd (n2 c.1 x (no_size cur x c))
     next u x (one_more b m) c = absurd (mark_not (kind.Punctuator sign.BracketOpen) cur c.2.0 n1 c.2.3)
 
-pub sizes_end : (d : ℕ) (ts : List Token) (at : Pos) (ss : List TypeSpecifier) (cur rest : List Token) (xs : List Tree) (k : ℕ) (q : Pos) → NotFront (kind.Punctuator sign.BracketOpen) cur → Own (kind.Punctuator sign.ParenClose) q cur rest → SizesLoop d ts at ss xs k cur → ReadsOf (SpellsNamed None) BeforeAny type_depth d ts (type_name at ss (trees_of xs)) k rest
+pub sizes_end : (d : ℕ) (ts : List Token) (at : Pos) (ss : List TypeSpecifier) (cur rest : List Token) (xs : List Tree) (k : ℕ) (q : Pos) → NotFront (kind.Punctuator sign.BracketOpen) cur → Own (kind.Punctuator sign.ParenClose) q cur rest → SizesLoop d ts at ss xs k cur → ReadsOf (SpellsNamed None) Anywhere type_depth d ts (type_name at ss (trees_of xs)) k rest
 sizes_end d ts at ss cur rest xs k q none own h = record {
   spelled = (cur, subst (λ y. SpellsType None (type_name at ss y) ts cur) (add_none xs) (h.spells no_trees cur refl), inl (q, own));
   tall = h.height;
@@ -188,7 +188,7 @@ plain_lift d ts Memory h = tt
 plain_lift d ts (Depth x) h = absurd h
 
 -- the exit of a `?`
-pub pass_type : (d : ℕ) (ts : List Token) (r : Result TypePart Refusal) (f : Refusal) → IsErrAnd r (λ e. e ≡ f) → FailsOf (SpellsNamed None) BeforeAny type_depth d ts f → AnswersType d ts r
+pub pass_type : (d : ℕ) (ts : List Token) (r : Result TypePart Refusal) (f : Refusal) → IsErrAnd r (λ e. e ≡ f) → FailsOf (SpellsNamed None) Anywhere type_depth d ts f → AnswersType d ts r
 pass_type d ts r f is h = let p = err_from_is_err_and r is in rw (p.1, p.2) h
 
 pub pass_stands_type : (d : ℕ) (ts : List Token) (r : Result TypePart Refusal) (f : Refusal) → IsErrAnd r (λ e. e ≡ f) → StandsType d ts f → IfErr r (λ e. StandsType d ts e)
@@ -206,7 +206,7 @@ cast_inverts (choice o a c e) at ts us r own b f = absurd (omega (arith, f.tight
 cast_inverts (assign o op a c) at ts us r own b f = absurd (omega (arith, f.tight))
 cast_inverts t at ts us r own b f = absurd (no_type t at ts us r own b (omega arith) f.spells)
 
-pub cast_reads : (d : ℕ) (at : Pos) (ts us mid : List Token) (ty : TypeTree) (j : ℕ) (e : Tree) (k : ℕ) (rest : List Token) (m : ℕ) → Own (kind.Punctuator sign.ParenOpen) at ts us → BeginsType us → ReadsOf (SpellsNamed None) BeforeAny type_depth (d + 1) us ty j mid → Reads 13 (d + 1) mid e k rest → m ≡ max j k + 1 → Reads 13 d ts (cast at ty e) m rest
+pub cast_reads : (d : ℕ) (at : Pos) (ts us mid : List Token) (ty : TypeTree) (j : ℕ) (e : Tree) (k : ℕ) (rest : List Token) (m : ℕ) → Own (kind.Punctuator sign.ParenOpen) at ts us → BeginsType us → ReadsOf (SpellsNamed None) Anywhere type_depth (d + 1) us ty j mid → Reads 13 (d + 1) mid e k rest → m ≡ max j k + 1 → Reads 13 d ts (cast at ty e) m rest
 cast_reads d at ts us mid ty j e k rest m own b named h em = record {
   tight = omega arith;
   spells = (us, named.spelled.0, mid, own, named.spelled.1, named.spelled.2, h.tight, h.spells);
@@ -218,14 +218,14 @@ cast_reads d at ts us mid ty j e k rest m own b named h em = record {
       (i.5 ∙ ap (λ x. cast at x i.1) u.0 ∙ ap (λ x. cast at ty x) v.0, v.1);
 }
 
-pub cast_type_fails : (d : ℕ) (at : Pos) (ts us : List Token) (x : Refusal) → Own (kind.Punctuator sign.ParenOpen) at ts us → BeginsType us → FailsOf (SpellsNamed None) BeforeAny type_depth (d + 1) us x → Fails 13 d ts x
+pub cast_type_fails : (d : ℕ) (at : Pos) (ts us : List Token) (x : Refusal) → Own (kind.Punctuator sign.ParenOpen) at ts us → BeginsType us → FailsOf (SpellsNamed None) Anywhere type_depth (d + 1) us x → Fails 13 d ts x
 cast_type_fails d at ts us x own b bad = record {
   each = λ t r f. let i = cast_inverts t at ts us r own b f in
       let deep : type_depth i.0 + 1 ≤ depth t = subst (λ y. type_depth i.0 + 1 ≤ depth y) (sym i.5) (omega arith) in
       excuses_more x (d + 1) d _ _ (omega (arith, deep)) (bad.each i.0 i.2 i.3 tt);
 }
 
-pub cast_fails : (d n : ℕ) (at : Pos) (ts us mid : List Token) (ty : TypeTree) (j : ℕ) (x : Refusal) → Own (kind.Punctuator sign.ParenOpen) at ts us → BeginsType us → ReadsOf (SpellsNamed None) BeforeAny type_depth n us ty j mid → Fails 13 (d + 1) mid x → Fails 13 d ts x
+pub cast_fails : (d n : ℕ) (at : Pos) (ts us mid : List Token) (ty : TypeTree) (j : ℕ) (x : Refusal) → Own (kind.Punctuator sign.ParenOpen) at ts us → BeginsType us → ReadsOf (SpellsNamed None) Anywhere type_depth n us ty j mid → Fails 13 (d + 1) mid x → Fails 13 d ts x
 cast_fails d n at ts us mid ty j x own b named bad = wrap_fails 13 13 d ts mid x (λ t r f. let i = cast_inverts t at ts us r own b f in
     let u = named.only i.0 i.2 i.3 tt in
     (i.1, r, subst (λ y. Front 13 i.1 y r) u.1 i.4, subst (λ y. depth i.1 + 1 ≤ depth y) (sym i.5) (omega arith))) bad
@@ -266,7 +266,7 @@ size_expr : (t : Tree) (at : Pos) (ts us r : List Token) → Own (kind.Keyword k
 size_expr t at ts us r own none f =
     ⊎_elim (λ i. i) (λ i. absurd (none i.2 i.1 i.3 (type_begins i.0 i.1 i.4.0 i.4.1))) (size_inverts t at ts us r own f)
 
-pub size_type_reads : (d : ℕ) (at p : Pos) (ts us x rest : List Token) (ty : TypeTree) (j : ℕ) → Own (kind.Keyword keyword.Sizeof) at ts us → Own (kind.Punctuator sign.ParenOpen) p us x → BeginsType x → ReadsOf (SpellsNamed None) BeforeAny type_depth (d + 1) x ty j rest → Reads 14 d ts (size_of_type at ty) (j + 1) rest
+pub size_type_reads : (d : ℕ) (at p : Pos) (ts us x rest : List Token) (ty : TypeTree) (j : ℕ) → Own (kind.Keyword keyword.Sizeof) at ts us → Own (kind.Punctuator sign.ParenOpen) p us x → BeginsType x → ReadsOf (SpellsNamed None) Anywhere type_depth (d + 1) x ty j rest → Reads 14 d ts (size_of_type at ty) (j + 1) rest
 size_type_reads d at p ts us x rest ty j own o1 b named = record {
   tight = omega arith;
   spells = (us, x, named.spelled.0, own, inl (p, o1), named.spelled.1, named.spelled.2);
@@ -276,7 +276,7 @@ size_type_reads d at p ts us x rest ty j own o1 b named = record {
       let u = named.only i.0 r i.1 tt in (i.2 ∙ ap (size_of_type at) u.0, u.1);
 }
 
-pub size_type_fails : (d : ℕ) (at p : Pos) (ts us x : List Token) (f : Refusal) → Own (kind.Keyword keyword.Sizeof) at ts us → Own (kind.Punctuator sign.ParenOpen) p us x → BeginsType x → FailsOf (SpellsNamed None) BeforeAny type_depth (d + 1) x f → Fails 14 d ts f
+pub size_type_fails : (d : ℕ) (at p : Pos) (ts us x : List Token) (f : Refusal) → Own (kind.Keyword keyword.Sizeof) at ts us → Own (kind.Punctuator sign.ParenOpen) p us x → BeginsType x → FailsOf (SpellsNamed None) Anywhere type_depth (d + 1) x f → Fails 14 d ts f
 size_type_fails d at p ts us x f own o1 b bad = record {
   each = λ t r fr. let i = size_type t at p ts us x r own o1 b fr in
       let deep : type_depth i.0 + 1 ≤ depth t = subst (λ y. type_depth i.0 + 1 ≤ depth y) (sym i.2) (omega arith) in

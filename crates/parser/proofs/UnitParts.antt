@@ -15,7 +15,8 @@ use Rattle.parser.specs.declared.refusal.Refusal.TheVariants.{Syntax, Depth, Mem
 use Rattle.parser.specs.Grammar.{Own}
 use Rattle.parser.specs.Statements.{SpellsFunction, SpellsExternal}
 use Rattle.parser.specs.StatementAnswers.{SpellsBody}
-use Rattle.parser.specs.DeclarationAnswers.{Anywhere, HeadTree, whole, opening, OpeningTree, SpellsOpening, SpellsHead, EndsHead, head_depth}
+use Rattle.parser.specs.PartAnswers.{Anywhere}
+use Rattle.parser.specs.DeclarationAnswers.{HeadTree, whole, opening, OpeningTree, SpellsOpening, SpellsHead, EndsHead, head_depth}
 use Rattle.parser.specs.Answer.{Reaches, Excuses, ReadsOf, FailsOf}
 use Rattle.parser.specs.UnitAnswers.{ReadsBody, FailsBody, ReadsExternal, FailsExternal, StandsExternal}
 use Rattle.parser.proofs.Leads.{own_once, own_reaches, reaches_on}

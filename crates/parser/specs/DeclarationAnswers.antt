@@ -25,10 +25,7 @@ use Rattle.parser.specs.Declarations.{SpellsDeclarationSpecifiers, SpellsBounds,
 use Rattle.parser.specs.Statements.{SpellsExternal}
 use Rattle.parser.specs.ExpressionAnswers.{KeywordBeginsType}
 use Rattle.parser.specs.Answer.{NotFront, ReadsOf, FailsOf, StandsOf}
-
--- what ends in a token of its own can end anywhere
-abbrev pub Anywhere : {A : Type 0} → A → List Token → Type 0
-Anywhere x rest = Unit {0}
+use Rattle.parser.specs.PartAnswers.{Anywhere}
 
 -- ---- specifiers of a declaration
 

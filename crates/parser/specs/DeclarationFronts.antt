@@ -20,7 +20,8 @@ use Rattle.parser.specs.declared.declarations.TailPart.{TailPart}
 use Rattle.parser.specs.Grammar.{Own, Mark, Sign}
 use Rattle.parser.specs.Declarations.{SpellsItem, SpellsDeclaration}
 use Rattle.parser.specs.Answer.{ReadsOf, FailsOf, StandsOf}
-use Rattle.parser.specs.DeclarationAnswers.{Anywhere, KeywordBeginsSpecifier, HeadTree, whole, opening}
+use Rattle.parser.specs.PartAnswers.{Anywhere}
+use Rattle.parser.specs.DeclarationAnswers.{KeywordBeginsSpecifier, HeadTree, whole, opening}
 use Rattle.parser.specs.ItemAnswers.{SpellsItemList}
 
 -- a declaration may begin with this keyword

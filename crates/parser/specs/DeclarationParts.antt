@@ -22,7 +22,7 @@ use Rattle.parser.specs.Grammar.{Own, Sign, SpellsSpecifier}
 use Rattle.parser.specs.Declarations.{SpellsSeries, Trailing, SpellsEnumerator, SpellsDeclarationSpecifier, SpellsBound, SpellsParameter}
 use Rattle.parser.specs.ExpressionAnswers.{Stops, BeginsType}
 use Rattle.parser.specs.Answer.{NotFront, Reaches, ReadsOf, FailsOf, StandsOf}
-use Rattle.parser.specs.DeclarationAnswers.{Anywhere}
+use Rattle.parser.specs.PartAnswers.{Anywhere}
 
 -- ---- enumerators
 

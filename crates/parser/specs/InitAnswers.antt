@@ -15,7 +15,7 @@ use Rattle.parser.specs.Grammar.{Own, Sign}
 use Rattle.parser.specs.Declarations.{Trailing, SpellsInit, SpellsInits, SpellsInitialiser}
 use Rattle.parser.specs.ExpressionAnswers.{Stops}
 use Rattle.parser.specs.Answer.{NotFront, ReadsOf, FailsOf, StandsOf}
-use Rattle.parser.specs.DeclarationAnswers.{Anywhere}
+use Rattle.parser.specs.PartAnswers.{Anywhere}
 
 -- no assignment expression goes on here
 abbrev pub EndsInit : Init → List Token → Type 0

@@ -13,7 +13,7 @@ use Rattle.parser.specs.Grammar.{Sign}
 use Rattle.parser.specs.Declarations.{SpellsMoreOf, SpellsItem, SpellsItems}
 use Rattle.parser.specs.ExpressionAnswers.{Stops}
 use Rattle.parser.specs.Answer.{ReadsOf, FailsOf, StandsOf}
-use Rattle.parser.specs.DeclarationAnswers.{Anywhere}
+use Rattle.parser.specs.PartAnswers.{Anywhere}
 
 -- neither an assignment expression nor a declarator goes on here
 abbrev pub EndsItem : ItemTree → List Token → Type 0

@@ -13,17 +13,17 @@ use Rattle.parser.specs.declared.expressions.TypePart.{TypePart}
 use Rattle.parser.specs.Grammar.{Sign, SpellsArguments, SpellsType}
 use Rattle.parser.specs.Answer.{ReadsOf, FailsOf, StandsOf}
 
--- what ends in a token of its own can end before any other
-abbrev pub BeforeAny : {A : Type 0} → A → List Token → Type 0
-BeforeAny x rest = Unit {0}
+-- what ends in a token of its own can end anywhere
+abbrev pub Anywhere : {A : Type 0} → A → List Token → Type 0
+Anywhere x rest = Unit {0}
 
 -- arguments, and the parenthesis that closes them
 abbrev pub SpellsClosed : Option (List Token) → Trees → List Token → List Token → Type 0
 SpellsClosed b es ts rest = (t1 : List Token) × SpellsArguments b es ts t1 × Sign b sign.ParenClose t1 rest
 
 abbrev pub AnswersArguments : ℕ → List Token → Result ArgumentsPart Refusal → Type 0
-AnswersArguments d ts (Ok p) = ReadsOf (SpellsClosed None) BeforeAny depths d ts (trees_of (map tree_of p.list.items)) p.depth p.rest.now
-AnswersArguments d ts (Err f) = FailsOf (SpellsClosed None) BeforeAny depths d ts f
+AnswersArguments d ts (Ok p) = ReadsOf (SpellsClosed None) Anywhere depths d ts (trees_of (map tree_of p.list.items)) p.depth p.rest.now
+AnswersArguments d ts (Err f) = FailsOf (SpellsClosed None) Anywhere depths d ts f
 
 abbrev pub StandsArguments : ℕ → List Token → Refusal → Type 0
 StandsArguments d ts f = StandsOf SpellsClosed depths d ts f
@@ -36,8 +36,8 @@ abbrev pub SpellsNamed : Option (List Token) → TypeTree → List Token → Lis
 SpellsNamed b ty ts rest = (t1 : List Token) × SpellsType b ty ts t1 × Sign b sign.ParenClose t1 rest
 
 abbrev pub AnswersType : ℕ → List Token → Result TypePart Refusal → Type 0
-AnswersType d ts (Ok p) = ReadsOf (SpellsNamed None) BeforeAny type_depth d ts (type_of p.name) p.depth p.rest.now
-AnswersType d ts (Err f) = FailsOf (SpellsNamed None) BeforeAny type_depth d ts f
+AnswersType d ts (Ok p) = ReadsOf (SpellsNamed None) Anywhere type_depth d ts (type_of p.name) p.depth p.rest.now
+AnswersType d ts (Err f) = FailsOf (SpellsNamed None) Anywhere type_depth d ts f
 
 abbrev pub StandsType : ℕ → List Token → Refusal → Type 0
 StandsType d ts f = StandsOf SpellsNamed type_depth d ts f

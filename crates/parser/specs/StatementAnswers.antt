@@ -13,7 +13,7 @@ use Rattle.parser.specs.declared.statements.BlockPart.{BlockPart}
 use Rattle.parser.specs.Grammar.{Sign}
 use Rattle.parser.specs.Statements.{is_open, SpellsStmt, SpellsPieces}
 use Rattle.parser.specs.Answer.{NotFront, ReadsOf, FailsOf, StandsOf}
-use Rattle.parser.specs.DeclarationAnswers.{Anywhere}
+use Rattle.parser.specs.PartAnswers.{Anywhere}
 
 -- a statement that an else could go on with does not end before one
 abbrev pub EndsStmt : StmtTree → List Token → Type 0

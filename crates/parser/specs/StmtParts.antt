@@ -22,7 +22,7 @@ use Rattle.parser.specs.declared.statements.BlockItemPart.{BlockItemPart}
 use Rattle.parser.specs.Grammar.{Mark, Sign, Spells}
 use Rattle.parser.specs.Statements.{SpellsTest, SpellsOption, SpellsStart, SpellsStmt, SpellsPiece}
 use Rattle.parser.specs.Answer.{ReadsOf, FailsOf, StandsOf}
-use Rattle.parser.specs.DeclarationAnswers.{Anywhere}
+use Rattle.parser.specs.PartAnswers.{Anywhere}
 use Rattle.parser.specs.StatementAnswers.{EndsStmt}
 
 -- the token with which a statement of this form begins

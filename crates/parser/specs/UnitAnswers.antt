@@ -17,7 +17,7 @@ use Rattle.parser.specs.declared.unit.ExternalPart.{ExternalPart}
 use Rattle.parser.specs.Grammar.{Own}
 use Rattle.parser.specs.Statements.{SpellsExternal}
 use Rattle.parser.specs.StatementAnswers.{SpellsBody}
-use Rattle.parser.specs.DeclarationAnswers.{Anywhere}
+use Rattle.parser.specs.PartAnswers.{Anywhere}
 use Rattle.parser.specs.Answer.{Reaches, ReadsOf, FailsOf, StandsOf}
 use Rattle.parser.specs.Units.{IsSmall}
 

@@ -1,7 +1,7 @@
 -- Laws of runs of plain bytes.
-use Rattle.std.proofs.Common.{◌≡◌, ℕ, suc, ◌+◌, ◌≤◌, eqb, ◌&&◌, Bool, true, false, not, cond, List, [], ◌∷◌, ◌++◌, length, take, drop, map, refl, sym, ap, ◌∙◌, subst, arith, inl, inr, slice_index, Option, None, Some}
+use Rattle.std.proofs.Common.{◌≡◌, ℕ, zero, suc, ◌+◌, ◌-◌, ◌≤◌, eqb, ◌&&◌, Bool, true, false, not, cond, List, [], ◌∷◌, ◌++◌, length, take, drop, map, refl, sym, ap, ◌∙◌, subst, arith, inl, inr, slice_index, Option, None, Some}
 use Rattle.std.proofs.lemmas.Bool.{cases_Bool, and_parts, and_from, or_cases, eqb-true, both_ways, ne_eqb, not-true, and_right}
-use Rattle.std.proofs.lemmas.List.{take-append-drop, map-append, length-append, length-take-le, length-map}
+use Rattle.std.proofs.lemmas.List.{take-append-drop, map-append, length-append, length-take-le, length-drop, drop-drop, take_all, length-map}
 use Rattle.phases.specs.Text.{Char, logical, bytes_of}
 use Rattle.phases.specs.Lexical.{is_word, word_len, goes_on, number_more, one_more, escapes_next, to_close}
 use Rattle.phases.specs.Lines.{also, line_len, comment_len}
@@ -106,6 +106,27 @@ number_more_most last (b ∷ bs) = cond_most (goes_on last b) (number_more b bs)
 pub ordinary_most : (stop : ℕ) (bs : List ℕ) → ordinary_len stop bs ≤ length bs
 ordinary_most stop [] = omega arith
 ordinary_most stop (b ∷ bs) = cond_most (is_ordinary stop b) (ordinary_len stop bs) (length bs) (ordinary_most stop bs)
+
+-- a front of ordinary bytes is counted whole
+ordinary_passes : (stop n : ℕ) (bs : List ℕ) → n ≤ length bs → all_ordinary stop (take n bs) ≡ true → ordinary_len stop bs ≡ n + ordinary_len stop (drop n bs)
+ordinary_passes stop zero bs m h = omega arith
+ordinary_passes stop (suc n) [] m h = absurd (omega (arith, m))
+ordinary_passes stop (suc n) (b ∷ bs) m h =
+    let p = and_parts (is_ordinary stop b) (all_ordinary stop (take n bs)) h in
+    rw p.0 (omega (arith, ordinary_passes stop n bs (omega (arith, m)) p.1))
+
+-- one block more
+pub ordinary_block : (stop count k : ℕ) (bs : List ℕ) → count ≤ length bs → ordinary_len stop bs ≡ count + ordinary_len stop (drop count bs) → k ≤ length bs - count → all_ordinary stop (take (count + k - count) (drop count bs)) ≡ true → ordinary_len stop bs ≡ count + k + ordinary_len stop (drop (count + k) bs)
+ordinary_block stop count k bs m e room h =
+    let o : all_ordinary stop (take k (drop count bs)) ≡ true = subst (λ n. all_ordinary stop (take n (drop count bs)) ≡ true) (omega arith) h in
+    let q = ordinary_passes stop k (drop count bs) (rw (length-drop count bs) room) o in
+    omega (arith, e, q, ap (ordinary_len stop) (drop-drop k count bs))
+
+-- the front, and what is counted behind it
+pub ordinary_rest : (stop count : ℕ) (bs : List ℕ) (n : ℕ) → n ≡ ordinary_len stop (take (length bs - count) (drop count bs)) → ordinary_len stop bs ≡ count + ordinary_len stop (drop count bs) → count + n ≤ length bs
+ordinary_rest stop count bs n r e =
+    let t : take (length bs - count) (drop count bs) ≡ drop count bs = take_all (length bs - count) (drop count bs) (rw (length-drop count bs) (omega arith)) in
+    omega (arith, e, r, ap (ordinary_len stop) t, ordinary_most stop bs)
 
 pub split : (a b : Cursor) (n : ℕ) → b.rest.now ≡ drop n a.rest.now → a.rest.now ≡ take n a.rest.now ++ b.rest.now
 split a b n e = rw e (sym (take-append-drop n a.rest.now))

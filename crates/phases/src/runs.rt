@@ -1,7 +1,7 @@
 //! Runs of plain bytes, which need no look at trigraphs and splices.
 ghost use Rattle.std.specs.Prelude.{◌≡◌, ◌≤◌, ◌<◌, ◌+◌, ◌^◌, drop, length};
 ghost use Rattle.phases.specs.Lexical.{word_len, number_more};
-ghost use Rattle.phases.specs.Runs.{is_sure, next_line, is_ordinary, ordinary_len, IsRun};
+ghost use Rattle.phases.specs.Runs.{is_sure, next_line, is_ordinary, all_ordinary, ordinary_len, IsRun};
 
 use crate::cursor::{Cursor, Span};
 use crate::lexical::{goes_on, is_word};
@@ -31,9 +31,24 @@ fn is_ordinary(stop: u8, byte: u8) -> bool
     is_plain(byte) && !(byte == stop)
 }
 
-// How many bytes from the first on are plain and not `stop`.
+// How many bytes are looked at side by side.
+const BLOCK: usize = 16;
+
+// Whether all bytes are plain and not `stop`. Each is looked at, so that the processor may take them at once.
 #[inline(always)]
-fn ordinary_bytes(bytes: &[u8], stop: u8) -> usize
+fn all_ordinary(bytes: &[u8], stop: u8) -> bool
+    ensures { result ≡ all_ordinary stop bytes.now }
+{
+    let mut all = true;
+    for byte in bytes {
+        all = all & is_ordinary(stop, *byte);
+    }
+    all
+}
+
+// How many bytes from the first on are plain and not `stop`, one by one.
+#[inline(always)]
+fn ordinary_front(bytes: &[u8], stop: u8) -> usize
     ensures { result ≡ ordinary_len stop bytes.now }
 {
     let mut count = 0;
@@ -44,6 +59,19 @@ fn ordinary_bytes(bytes: &[u8], stop: u8) -> usize
         count += 1;
     }
     count
+}
+
+// How many bytes from the first on are plain and not `stop`.
+#[inline(always)]
+fn ordinary_bytes(bytes: &[u8], stop: u8) -> usize
+    ensures { result ≡ ordinary_len stop bytes.now }
+{
+    let size = bytes.len();
+    let mut count = 0;
+    while size - count >= BLOCK && all_ordinary(&bytes[count..count + BLOCK], stop) {
+        count += BLOCK;
+    }
+    count + ordinary_front(&bytes[count..], stop)
 }
 
 /// How many bytes from the first on go on with a word.

@@ -7,7 +7,7 @@ use Rattle.lexer.proofs.translation.all_tokens.Goals as goal
 pub returns-in_err-take-clause-stops : goal.returns-in_err-take-clause-stops
 returns-in_err-take-clause-stops c =
     let l = c.loop-token in
-    on_err_any c.from_residual.result (c.in_err-take.ensures.stops c.args.names.now (ctokens (drop (l.token-index + 1) c.args.list.now)) (ctokens c.args.list.now) (at_token c.args.names.now l.names l.lexer c.args.list.now l.token-index c.token-item.result c.loop-token-test.true c.token-item.is l.invariant.carries))
+    on_err_any c.from_residual-in_err-take.result (c.in_err-take.ensures.stops c.args.names.now (ctokens (drop (l.token-index + 1) c.args.list.now)) (ctokens c.args.list.now) (at_token c.args.names.now l.names l.lexer c.args.list.now l.token-index c.token-item.result c.loop-token-test.true c.token-item.is l.invariant.carries))
 
 pub loop-token-preserved : goal.loop-token-preserved
 loop-token-preserved c =
