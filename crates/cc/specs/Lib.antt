@@ -9,4 +9,5 @@ pub mod Weight
 pub mod Machine
 pub mod Compiled
 pub mod Transfer
+pub mod Reported
 pub mod Performed

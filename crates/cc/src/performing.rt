@@ -2,7 +2,8 @@
 
 ghost use Rattle.std.specs.Prelude.{◌≡◌, ◌≢◌, ◌⊎◌, List, ℕ, MatchResult, Some, Ok};
 ghost use Rattle.srcset.specs.Files.{file_of};
-ghost use Rattle.cc.specs.Performed.{Performs, Runs, Builds, BuildsInto, BuildsSome, exit_status};
+ghost use Rattle.cc.specs.Performed.{Performs, Runs, Builds, BuildsInto, FailsBuild, IsLoadFault, exit_status};
+ghost use Rattle.cc.specs.Reported.{SaysOutcome};
 
 use crate::compiling::compile;
 use crate::reporting::{say_budget, say_fault, say_port, say_trap};
@@ -39,7 +40,7 @@ pub fn perform<P: Port, W: Write, E: Write>(
     _out: &mut W,
     err: &mut E,
 ) -> u8
-    ensures performs { Performs command.entry (file_of set.now main.now) main.now file.now (P.seen port.old) (P.seen port.new) result }
+    ensures performs { Performs command.entry (file_of set.now main.now) main.now file.now (P.seen port.old) (P.seen port.new) (record { before = E.contents err.old; after = E.contents err.new }) result }
     ensures out { W.contents _out.new ≡ W.contents _out.old }
 {
     match command {
@@ -56,7 +57,7 @@ fn build<P: Port, E: Write>(
     port: &mut P,
     err: &mut E,
 ) -> u8
-    ensures { Builds (file_of set.now main.now) main.now (P.seen port.old) (P.seen port.new) result }
+    ensures { Builds (file_of set.now main.now) main.now name.now (P.seen port.old) (P.seen port.new) (record { before = E.contents err.old; after = E.contents err.new }) result }
 {
     match build_into(alloc, set, main, name, port) {
         Ok(()) => 0,
@@ -77,7 +78,7 @@ fn build_into<P: Port>(
 ) -> Result<(), Fault>
     ensures { MatchResult result
         (λ _. BuildsInto (file_of set.now main.now) main.now (P.seen port.old) (P.seen port.new))
-        (λ _. (P.seen port.new ≡ P.seen port.old) ⊎ BuildsSome (file_of set.now main.now) main.now (P.seen port.old) (P.seen port.new)) }
+        (FailsBuild (file_of set.now main.now) main.now name.now (P.seen port.old) (P.seen port.new)) }
 {
     let built = compile(alloc, set, main)?;
     match put_all(port, built.elf.as_slice()) {
@@ -95,7 +96,7 @@ fn run<P: Port, E: Write>(
     max: u64,
     err: &mut E,
 ) -> u8
-    ensures { Runs file.now max (P.seen port.old) (P.seen port.new) result }
+    ensures { Runs file.now name.now max (P.seen port.old) (P.seen port.new) (record { before = E.contents err.old; after = E.contents err.new }) result }
 {
     match load(alloc, file) {
         Ok(program) => {
@@ -111,7 +112,9 @@ fn run<P: Port, E: Write>(
 }
 
 /// The fault of a file that is no executable file for the machine.
-fn load_fault(alloc: Global, name: &str, fault: LoadFault) -> Fault {
+fn load_fault(alloc: Global, name: &str, fault: LoadFault) -> Fault
+    ensures { IsLoadFault name.now fault result }
+{
     match fault {
         LoadFault::Memory => Fault::memory(alloc),
         _ => Fault::at(alloc, fault.code(), name, 0),
@@ -120,7 +123,8 @@ fn load_fault(alloc: Global, name: &str, fault: LoadFault) -> Fault {
 
 /// The exit status of a run, and its line where the program did not end by itself.
 fn status<E: Write>(alloc: Global, outcome: Outcome, err: &mut E) -> u8
-    ensures { result ≡ exit_status outcome }
+    ensures status { result ≡ exit_status outcome }
+    ensures says { SaysOutcome (record { before = E.contents err.old; after = E.contents err.new }) outcome }
 {
     match outcome {
         Outcome::Ended(status) => status,

@@ -1,6 +1,8 @@
 //! What the program says on standard error.
 
-ghost use Rattle.std.specs.Prelude.{◌≡◌};
+ghost use Rattle.std.specs.Prelude.{◌≡◌, IfOk, MatchResult};
+ghost use Rattle.cc.specs.Reported.{Says, fault_text, memory_text, budget_text, trap_text, port_text, cause_name};
+ghost use Rattle.cc.specs.Transfer.{WritesBeginning};
 
 use crate::transfer::write_text;
 use rv32::Cause;
@@ -14,7 +16,11 @@ const OUT_OF_MEMORY: &[u8] = b"cc: 801 out of memory\n";
 
 /// Writes a text, or in its place, where it found no memory, the line that says so. What the writer refuses
 /// is left out.
-fn say<E: Write>(err: &mut E, text: Result<Vec<u8>, AllocError>) {
+fn say<E: Write>(err: &mut E, text: Result<Vec<u8>, AllocError>)
+    ensures { MatchResult text
+        (λ t. WritesBeginning (E.contents err.old) (E.contents err.new) t.items)
+        (λ _. WritesBeginning (E.contents err.old) (E.contents err.new) memory_text) }
+{
     match text {
         Ok(text) => {
             let _whole = write_text(err, text.as_slice());
@@ -26,42 +32,58 @@ fn say<E: Write>(err: &mut E, text: Result<Vec<u8>, AllocError>) {
 }
 
 /// The line of a fault.
-pub fn say_fault<E: Write>(alloc: Global, fault: &Fault, err: &mut E) {
+pub fn say_fault<E: Write>(alloc: Global, fault: &Fault, err: &mut E)
+    ensures { Says (record { before = E.contents err.old; after = E.contents err.new }) (fault_text fault.now) }
+{
     say(err, fault_text(alloc, fault));
 }
 
-fn fault_text(alloc: Global, fault: &Fault) -> Result<Vec<u8>, AllocError> {
+fn fault_text(alloc: Global, fault: &Fault) -> Result<Vec<u8>, AllocError>
+    ensures { IfOk result (λ t. t.items ≡ fault_text fault.now) }
+{
     let mut line = fault.to_line(alloc)?;
     line.push(b'\n')?;
     Ok(line)
 }
 
 /// That the instructions allowed were not enough.
-pub fn say_budget<E: Write>(err: &mut E) {
+pub fn say_budget<E: Write>(err: &mut E)
+    ensures { WritesBeginning (E.contents err.old) (E.contents err.new) budget_text }
+{
     let _whole = write_text(err, b"cc: budget used\n");
 }
 
 /// Why and where the program trapped.
-pub fn say_trap<E: Write>(alloc: Global, pc: u32, cause: Cause, err: &mut E) {
+pub fn say_trap<E: Write>(alloc: Global, pc: u32, cause: Cause, err: &mut E)
+    ensures { Says (record { before = E.contents err.old; after = E.contents err.new }) (trap_text pc cause) }
+{
     say(err, trap_text(alloc, pc, cause));
 }
 
-fn trap_text(alloc: Global, pc: u32, cause: Cause) -> Result<Vec<u8>, AllocError> {
+fn trap_text(alloc: Global, pc: u32, cause: Cause) -> Result<Vec<u8>, AllocError>
+    ensures { IfOk result (λ t. t.items ≡ trap_text pc cause) }
+{
     let line = format!(in alloc; "cc: trap {} at 0x{pc:08X}\n", cause_name(cause))?;
     Ok(line.into_bytes())
 }
 
 /// That the port refused.
-pub fn say_port<E: Write>(alloc: Global, fault: PortFault, err: &mut E) {
+pub fn say_port<E: Write>(alloc: Global, fault: PortFault, err: &mut E)
+    ensures { Says (record { before = E.contents err.old; after = E.contents err.new }) (port_text fault) }
+{
     say(err, port_text(alloc, fault));
 }
 
-fn port_text(alloc: Global, fault: PortFault) -> Result<Vec<u8>, AllocError> {
+fn port_text(alloc: Global, fault: PortFault) -> Result<Vec<u8>, AllocError>
+    ensures { IfOk result (λ t. t.items ≡ port_text fault) }
+{
     let line = format!(in alloc; "cc: port fault {}\n", fault.code())?;
     Ok(line.into_bytes())
 }
 
-fn cause_name(cause: Cause) -> &'static str {
+fn cause_name(cause: Cause) -> &'static str
+    ensures { result.now ≡ cause_name cause }
+{
     match cause {
         Cause::Illegal => "Illegal",
         Cause::FetchFault => "FetchFault",

@@ -1,5 +1,5 @@
 -- What follows the specifiers at file scope, and the front of a translation unit.
-use Rattle.std.specs.Prelude.{None, Some, max, Result, Ok, Err}
+use Rattle.std.specs.Prelude.{None, max, Result, Ok, Err}
 use Rattle.std.proofs.Common.{◌≡◌, ℕ, ◌+◌, ◌<◌, ◌≤◌, inr, List, [], ◌∷◌, length, refl, sym, ap, ◌∙◌, subst, arith}
 use Rattle.srcset.specs.declared.refusal.Pos.{Pos}
 use Rattle.lexer.specs.declared.token.Token.{Token}
@@ -93,13 +93,13 @@ defines_reads d ts (object q m es o) t k cur at none first brace h = absurd h
 defines_reads d ts (function q m qs) t k cur at none first brace h = subst (λ z. ReadsOf SpellsTail EndsTail tail_depth d ts z k cur) (sym h) (defining_reads d ts q m qs k cur at none first brace)
 
 -- what `defined` answers is the answer
-pub tail_defined : (d : ℕ) (ts : List Token) (i : ItemTree) (k : ℕ) (cur : List Token) (at : Pos) (r : Result TailPart Refusal) → NotFront (kind.Punctuator sign.Semicolon) ts → ReadsOf (SpellsItem None File) EndsItem item_depth d ts i k cur → BraceAt at cur → IfOk r (λ p. Defines i (tail_of p.tail)) → IfOk r (λ p. HasBrace p.tail p.rest.now) → IfOk r (λ p. p.depth ≡ k) → IfOk r (λ p. p.rest.now ≡ cur) → IfErr r (λ f. IsObject i × (f ≡ Syntax (Some at))) → AnswersTail d ts r
+pub tail_defined : (d : ℕ) (ts : List Token) (i : ItemTree) (k : ℕ) (cur : List Token) (at : Pos) (r : Result TailPart Refusal) → NotFront (kind.Punctuator sign.Semicolon) ts → ReadsOf (SpellsItem None File) EndsItem item_depth d ts i k cur → BraceAt at cur → IfOk r (λ p. Defines i (tail_of p.tail)) → IfOk r (λ p. HasBrace p.tail p.rest.now) → IfOk r (λ p. p.depth ≡ k) → IfOk r (λ p. p.rest.now ≡ cur) → IfErr r (λ f. IsObject i × ((left : ℕ) × (f ≡ Syntax left))) → AnswersTail d ts r
 tail_defined d ts i k cur at (Ok p) none first brace h b ed er e = (rw (ed, er) (defines_reads d ts i (tail_of p.tail) k cur at none first brace h), b)
 tail_defined d ts i k cur at (Err f) none first brace h b ed er e = object_fails d ts i k cur at f none first brace e.0
 
-pub tail_defined_stands : (d : ℕ) (ts : List Token) (i : ItemTree) (at : Pos) (r : Result TailPart Refusal) → IfErr r (λ f. IsObject i × (f ≡ Syntax (Some at))) → IfErr r (λ f. StandsItems File d ts f)
+pub tail_defined_stands : (d : ℕ) (ts : List Token) (i : ItemTree) (at : Pos) (r : Result TailPart Refusal) → IfErr r (λ f. IsObject i × ((left : ℕ) × (f ≡ Syntax left))) → IfErr r (λ f. StandsItems File d ts f)
 tail_defined_stands d ts i at (Ok p) e = tt
-tail_defined_stands d ts i at (Err f) e = rw e.1 tt
+tail_defined_stands d ts i at (Err f) e = rw e.1.1 tt
 
 pub tail_defined_shorter : (ts cur : List Token) (r : Result TailPart Refusal) → length cur < length ts → IfOk r (λ p. p.rest.now ≡ cur) → IfOk r (λ p. length p.rest.now < length ts)
 tail_defined_shorter ts cur (Ok p) lt er = rw er lt

@@ -1,5 +1,5 @@
 -- Specifiers of types.
-use Rattle.std.specs.Prelude.{Option, Result, IfErr}
+use Rattle.std.specs.Prelude.{Result, IfErr}
 use Rattle.std.specs.Result.{IsErrAnd}
 use Rattle.std.proofs.Common.{◌≡◌, ℕ, ◌<◌, List, [], ◌∷◌, ◌++◌, length, refl, sym, ap, ◌∙◌, subst, arith}
 use Rattle.std.proofs.lemmas.Result.{err_from_is_err_and}
@@ -192,5 +192,5 @@ specifiers_next_fails ts cur ss f h begins none = record { each = λ us r sp lt 
 pub pass_specifiers : (ts : List Token) (r : Result SpecifiersPart Refusal) (f : Refusal) → IsErrAnd r (λ e. e ≡ f) → FailsSpecifiers ts f → AnswersSpecifiers ts r
 pass_specifiers ts r f is h = let p = err_from_is_err_and r is in rw (p.1, p.2) h
 
-pub pass_syntax : (r : Result SpecifiersPart Refusal) (f : Refusal) → IsErrAnd r (λ e. e ≡ f) → (at : Option Pos) → f ≡ Syntax at → IfErr r NotDepth
+pub pass_syntax : (r : Result SpecifiersPart Refusal) (f : Refusal) → IsErrAnd r (λ e. e ≡ f) → (left : ℕ) → f ≡ Syntax left → IfErr r NotDepth
 pass_syntax r f is at e = let p = err_from_is_err_and r is in rw (p.1, p.2, e) tt

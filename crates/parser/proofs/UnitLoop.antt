@@ -141,8 +141,8 @@ too_deep es vs v us e = let d = ap unit_depth e ∙ depth_append es (v ∷ vs) i
 too_many : (es vs : List ExternalTree) (v : ExternalTree) (us : List ExternalTree) → us ≡ es ++ v ∷ vs → unit_nodes es + external_nodes v ≤ unit_nodes us
 too_many es vs v us e = let d = ap unit_nodes e ∙ nodes_append es (v ∷ vs) in omega (arith, d)
 
-no_tree : (ts : List Token) (es : List ExternalTree) (n : ℕ) (rest : List Token) (at : Option Pos) → Going ts es n rest → 0 < length rest → FailsExternal rest (Syntax at) → HasNoTree ts
-no_tree ts es n rest at g some fails us h =
+no_tree : (ts : List Token) (es : List ExternalTree) (n : ℕ) (rest : List Token) (left : ℕ) → Going ts es n rest → 0 < length rest → FailsExternal rest (Syntax left) → HasNoTree ts
+no_tree ts es n rest left g some fails us h =
     let o = g.only us h in
     let x = next o.0 rest some o.2 in
     fails.each x.first x.behind x.spelled tt
@@ -166,7 +166,7 @@ deep_tree ts es n rest at g some fails p = record {
 
 pub going_fails : (ts : List Token) (es : List ExternalTree) (n : ℕ) (rest : List Token) (f : Refusal) (r : Fault)
     → Going ts es n rest → 0 < length rest → FailsExternal rest f → StandsExternal rest f → IsLocated ts f r → IsRefused ts r
-going_fails ts es n rest (Syntax place) r g some fails stands e = subst (IsRefused ts) (sym e.2) (inl (refl, no_tree ts es n rest place g some fails))
+going_fails ts es n rest (Syntax left) r g some fails stands e = subst (IsRefused ts) (sym e.2) (inl (refl, no_tree ts es n rest left g some fails, e.1))
 going_fails ts es n rest (Depth at) r g some fails stands e = subst (IsRefused ts) (sym e) (inr (of_depth, refl, deep_tree ts es n rest at g some fails stands))
 going_fails ts es n rest Memory r g some fails stands e = subst (IsRefused ts) (sym e) tt
 

@@ -1,9 +1,9 @@
 -- External declarations: from a head and a body.
 use Rattle.std.specs.Prelude.{Option, None, Some}
-use Rattle.std.proofs.Common.{◌≡◌, ℕ, ◌+◌, ◌≤◌, List, [], ◌∷◌, ◌++◌, length, get_or, take, drop, refl, sym, ap, ◌∙◌, subst, arith}
+use Rattle.std.proofs.Common.{◌≡◌, ℕ, ◌+◌, ◌≤◌, List, ◌∷◌, ◌++◌, length, get_or, take, drop, refl, sym, ap, ◌∙◌, subst, arith}
 use Rattle.std.proofs.Math.Seq.{drop-append_seam, drop-cons}
 use Rattle.std.proofs.lemmas.List.{take-append-drop}
-use Rattle.std.proofs.Common.{suc, append-nil, length-append}
+use Rattle.std.proofs.Common.{suc, ◌-◌, length-append, length-drop}
 use Rattle.srcset.specs.declared.refusal.Pos.{Pos}
 use Rattle.lexer.specs.declared.token.Token.{Token}
 use Rattle.lexer.specs.declared.token.Kind.TheVariants as kind
@@ -33,9 +33,11 @@ token_before ts us i d n r =
     let next : drop (suc i) ts ≡ us = ap (λ (j : ℕ). drop j ts) one ∙ behind in
     (take i ts, sym (take-append-drop i ts) ∙ ap (λ (x : List Token). take i ts ++ x) (here ∙ ap (λ (x : List Token). get_or ts i d ∷ x) next))
 
--- each list ends
-pub reaches_end : (ts : List Token) → Reaches ts []
-reaches_end ts = (ts, sym (append-nil ts))
+-- a list has a tail of each length up to its own
+pub tail_of_length : (ts : List Token) (n : ℕ) → n ≤ length ts → (us : List Token) × (length us ≡ n) × Reaches ts us
+tail_of_length ts n le =
+    let long : length (drop (length ts - n) ts) ≡ length ts - (length ts - n) = length-drop (length ts - n) ts in
+    (drop (length ts - n) ts, omega (arith, long), (take (length ts - n) ts, sym (take-append-drop (length ts - n) ts)))
 
 excuses_more : (f : Refusal) (a b j k : ℕ) → a + j ≤ b + k → Excuses f a j → Excuses f b k
 excuses_more (Syntax at) a b j k le h = h

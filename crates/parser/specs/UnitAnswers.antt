@@ -1,10 +1,9 @@
 -- What the functions that read external declarations answer.
-use Rattle.std.specs.Prelude.{◌≡◌, ℕ, ◌+◌, ◌<◌, ◌≤◌, Option, None, Some, ◌⊎◌, List, [], ◌∷◌, map, Result, Ok, Err}
+use Rattle.std.specs.Prelude.{◌≡◌, ℕ, ◌+◌, ◌<◌, ◌≤◌, None, ◌⊎◌, List, map, Result, Ok, Err}
 use Rattle.srcset.specs.declared.refusal.Pos.{Pos}
 use Rattle.srcset.specs.declared.refusal.Refusal.{Refusal as Fault}
 use Rattle.srcset.specs.declared.refusal.Refusal.TheVariants as fault
 use Rattle.lexer.specs.declared.token.Token.{Token}
-use Rattle.lexer.specs.declared.token.Kind.{Kind}
 use Rattle.lexer.specs.declared.token.Kind.TheVariants as kind
 use Rattle.lexer.specs.declared.token.Punctuator.TheVariants as sign
 use Rattle.tree.specs.Tree.{Pieces, ExternalTree}
@@ -18,8 +17,8 @@ use Rattle.parser.specs.Grammar.{Own}
 use Rattle.parser.specs.Statements.{SpellsExternal}
 use Rattle.parser.specs.StatementAnswers.{SpellsBody}
 use Rattle.parser.specs.PartAnswers.{Anywhere}
-use Rattle.parser.specs.Answer.{Reaches, ReadsOf, FailsOf, StandsOf}
-use Rattle.parser.specs.Units.{IsSmall}
+use Rattle.parser.specs.Answer.{ReadsOf, FailsOf, StandsOf}
+use Rattle.parser.specs.Units.{IsSmall, HasTokenAt}
 
 -- ---- the body of a function definition, two nodes down
 
@@ -55,14 +54,9 @@ StandsExternal ts f = StandsOf SpellsExternal external_depth 0 ts f
 
 -- ---- places and counts
 
--- the place of a token that nothing goes on with; at the end of the tokens, that of the last of them
-abbrev pub IsSyntaxPlace : List Token → Option Pos → Pos → Type 0
-IsSyntaxPlace ts (Some at) found = found ≡ at
-IsSyntaxPlace ts None found = (last : Kind) × Reaches ts (record { kind = last; pos = found } ∷ [])
-
 -- the refusal under its code, at its place
 abbrev pub IsLocated : List Token → Refusal → Fault → Type 0
-IsLocated ts (Syntax place) f = (at : Pos) × IsSyntaxPlace ts place at × (f ≡ fault.At 401 at)
+IsLocated ts (Syntax left) f = (at : Pos) × HasTokenAt ts at × (f ≡ fault.At 401 at)
 IsLocated ts (Depth at) f = f ≡ fault.At 709 at
 IsLocated ts Memory f = f ≡ fault.Memory
 

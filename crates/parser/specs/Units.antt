@@ -59,6 +59,10 @@ IsOnly ts es = (us : List ExternalTree) → IsUnitOf ts us → us ≡ es
 abbrev pub HasNoTree : List Token → Type 0
 HasNoTree ts = (es : List ExternalTree) → IsUnitOf ts es → ⊥
 
+-- some token of the list stands at this place
+abbrev pub HasTokenAt : List Token → Pos → Type 0
+HasTokenAt ts at = (kind : Kind) × (behind : List Token) × Reaches ts (record { kind = kind; pos = at } ∷ behind)
+
 -- no tree of the list keeps the limit, and a begun one, whose front ends at this place, passes it
 pub record Exceeds (l : Limit) (ts : List Token) (at : Pos) : Type 0 where
   pub none : (es : List ExternalTree) → IsUnitOf ts es → Keeps l es → ⊥
@@ -72,7 +76,7 @@ pub record Exceeds (l : Limit) (ts : List Token) (at : Pos) : Type 0 where
 -- the refusal of the list stands
 abbrev pub IsRefused : List Token → Refusal → Type 0
 IsRefused ts Memory = Unit {0}
-IsRefused ts (At code at) = ((code ≡ 401) × HasNoTree ts) ⊎ ((l : Limit) × (code ≡ code_of l) × Exceeds l ts at)
+IsRefused ts (At code at) = ((code ≡ 401) × HasNoTree ts × HasTokenAt ts at) ⊎ ((l : Limit) × (code ≡ code_of l) × Exceeds l ts at)
 
 -- the fault of such a refusal, under the names of these texts
 pub record IsFaultOfUnit (fault : Fault) (texts : Texts) (ts : List Token) : Type 0 where

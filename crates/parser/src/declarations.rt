@@ -1,6 +1,6 @@
 //! Declarations (ISO/IEC 9899:2011 6.7).
 
-ghost use Rattle.std.specs.Prelude.{◌≡◌, ◌<◌, ◌≤◌, ◌↔◌, ◌+◌, ℕ, max, map, IsTrue, List, Option, Some, None, length, IfOk, IfErr, MatchOption};
+ghost use Rattle.std.specs.Prelude.{◌≡◌, ◌<◌, ◌≤◌, ◌↔◌, ◌+◌, ℕ, max, map, IsTrue, List, None, length, IfOk, IfErr, MatchOption};
 ghost use Rattle.srcset.specs.declared.refusal.Pos.{Pos};
 ghost use Rattle.lexer.specs.declared.token.Token.{Token};
 ghost use Rattle.lexer.specs.declared.token.Kind.TheVariants as kind;
@@ -15,7 +15,7 @@ ghost use Rattle.parser.specs.declared.scope.Scope.TheVariants.{File};
 
 use crate::expressions::conditional;
 use crate::fronts::{
-    above, any_keyword_front, down, expect_sign, keyword_front, place, sign_front, string_front,
+    above, any_keyword_front, down, expect_sign, keyword_front, sign_front, string_front,
 };
 use crate::items::{ItemPart, further_items, item, items};
 use crate::refusal::Refusal;
@@ -92,11 +92,11 @@ pub(crate) fn begins_declaration(tokens: &[Token]) -> bool
 /// The text of a static assertion, behind the comma and up to the semicolon, and what follows it.
 fn text_end<'t>(tokens: &'t [Token]) -> Result<(usize, &'t [Token]), Refusal>
     ensures ok { IfOk result (λ p. SpellsText None p.0 tokens.now p.1.now) }
-    ensures err { IfErr result (λ f. ((n : ℕ) (rest : List Token) → SpellsText None n tokens.now rest → ⊥) × ((at : Option Pos) × (f ≡ Syntax at))) }
+    ensures err { IfErr result (λ f. ((n : ℕ) (rest : List Token) → SpellsText None n tokens.now rest → ⊥) × ((left : ℕ) × (f ≡ Syntax left))) }
 {
     let rest = expect_sign(tokens, Punctuator::Comma)?;
     let Some((_, text, rest)) = string_front(rest) else {
-        return Err(Refusal::Syntax(place(rest)));
+        return Err(Refusal::Syntax(rest.len()));
     };
     let rest = expect_sign(rest, Punctuator::ParenClose)?;
     let rest = expect_sign(rest, Punctuator::Semicolon)?;
@@ -157,7 +157,7 @@ fn defined<'t>(first: ItemPart<'t>, brace: Pos) -> Result<TailPart<'t>, Refusal>
     ensures brace { IfOk result (λ p. HasBrace p.tail p.rest.now) }
     ensures depth { IfOk result (λ p. p.depth ≡ first.entry.depth) }
     ensures rest { IfOk result (λ p. p.rest.now ≡ first.entry.rest.now) }
-    ensures err { IfErr result (λ f. IsObject (item_of first.entry.item) × (f ≡ Syntax (Some brace))) }
+    ensures err { IfErr result (λ f. IsObject (item_of first.entry.item) × ((left : ℕ) × (f ≡ Syntax left))) }
 {
     let ItemPart { item, depth, rest } = first;
     match item {
@@ -166,7 +166,7 @@ fn defined<'t>(first: ItemPart<'t>, brace: Pos) -> Result<TailPart<'t>, Refusal>
             depth,
             rest,
         }),
-        Item::Object(_) => Err(Refusal::Syntax(Some(brace))),
+        Item::Object(_) => Err(Refusal::Syntax(rest.len())),
     }
 }
 

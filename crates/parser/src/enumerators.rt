@@ -12,7 +12,7 @@ ghost use Rattle.parser.specs.DeclarationParts.{AnswersEnumerator, StandsEnumera
 ghost use Rattle.parser.specs.ExpressionAnswers.{NotDepth};
 
 use crate::expressions::conditional;
-use crate::fronts::{down, expect_sign, identifier_front, place, sign_front};
+use crate::fronts::{down, expect_sign, identifier_front, sign_front};
 use crate::refusal::Refusal;
 use lexer::{Punctuator, Token};
 use srcset::Pos;
@@ -47,7 +47,7 @@ fn enumerator<'t>(
     ensures shorter { IfOk result (λ p. length p.rest.now < length tokens.now) }
 {
     let Some((pos, name, rest)) = identifier_front(tokens) else {
-        return Err(Refusal::Syntax(place(tokens)));
+        return Err(Refusal::Syntax(tokens.len()));
     };
     let below = down(depth, pos)?;
     let Some((_, after)) = sign_front(rest, Punctuator::Assign) else {

@@ -17,7 +17,7 @@ ghost use Rattle.parser.specs.PartAnswers.{AnswersArguments, StandsArguments, An
 ghost use Rattle.parser.specs.declared.refusal.Refusal.TheVariants.{Memory};
 
 use crate::fronts::{
-    above, constant_front, down, expect_sign, identifier_front, keyword_front, place, sign_front,
+    above, constant_front, down, expect_sign, identifier_front, keyword_front, sign_front,
     string_front,
 };
 use crate::operators::{
@@ -212,7 +212,7 @@ pub(crate) fn assignment<'t>(
         return Ok(left);
     };
     if !is_unary(&left.expr) {
-        return Err(Refusal::Syntax(Some(pos)));
+        return Err(Refusal::Syntax(left.rest.len()));
     }
     let below = above(depth, left.depth, pos)?;
     let right = assignment(alloc, rest, below)?;
@@ -456,7 +456,7 @@ fn primary<'t>(alloc: Global, tokens: &'t [Token], depth: u32) -> Result<Part<'t
         });
     }
     let Some((pos, rest)) = sign_front(tokens, Punctuator::ParenOpen) else {
-        return Err(Refusal::Syntax(place(tokens)));
+        return Err(Refusal::Syntax(tokens.len()));
     };
     let below = down(depth, pos)?;
     let inner = expression(alloc, rest, below)?;

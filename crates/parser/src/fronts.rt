@@ -1,6 +1,6 @@
 //! Tests of the token at the front of a list.
 
-ghost use Rattle.std.specs.Prelude.{◌≡◌, ◌≤◌, ◌<◌, ◌+◌, ◌∷◌, ℕ, Option, IfOk, IfErr, MatchOption};
+ghost use Rattle.std.specs.Prelude.{◌≡◌, ◌≤◌, ◌<◌, ◌+◌, ℕ, IfOk, IfErr, MatchOption};
 ghost use Rattle.srcset.specs.declared.refusal.Pos.{Pos};
 ghost use Rattle.ctypes.specs.declared.types.IntType.{IntType};
 ghost use Rattle.lexer.specs.declared.token.Kind.TheVariants as kind;
@@ -17,14 +17,6 @@ use srcset::Pos;
 
 /// The greatest depth of a tree.
 pub(crate) const MAX_DEPTH: u32 = 256;
-
-/// The place of the first token, if there is one.
-pub(crate) fn place(tokens: &[Token]) -> Option<Pos> {
-    match tokens {
-        [first, ..] => Some(first.pos),
-        [] => None,
-    }
-}
 
 /// One level down.
 pub(crate) fn down(depth: u32, at: Pos) -> Result<u32, Refusal>
@@ -105,11 +97,11 @@ pub(crate) fn keyword_front<'t>(tokens: &'t [Token], keyword: Keyword) -> Option
 /// What follows this punctuator, which stands at the front.
 pub(crate) fn expect_sign<'t>(tokens: &'t [Token], sign: Punctuator) -> Result<&'t [Token], Refusal>
     ensures ok { IfOk result (λ rest. (at : Pos) × Own (kind.Punctuator sign) at tokens.now rest.now) }
-    ensures err { IfErr result (λ f. NotFront (kind.Punctuator sign) tokens.now × ((at : Option Pos) × (f ≡ Syntax at))) }
+    ensures err { IfErr result (λ f. NotFront (kind.Punctuator sign) tokens.now × ((left : ℕ) × (f ≡ Syntax left))) }
 {
     match sign_front(tokens, sign) {
         Some((_, rest)) => Ok(rest),
-        None => Err(Refusal::Syntax(place(tokens))),
+        None => Err(Refusal::Syntax(tokens.len())),
     }
 }
 
@@ -119,11 +111,11 @@ pub(crate) fn expect_keyword<'t>(
     keyword: Keyword,
 ) -> Result<&'t [Token], Refusal>
     ensures ok { IfOk result (λ rest. (at : Pos) × Own (kind.Keyword keyword) at tokens.now rest.now) }
-    ensures err { IfErr result (λ f. NotFront (kind.Keyword keyword) tokens.now × ((at : Option Pos) × (f ≡ Syntax at))) }
+    ensures err { IfErr result (λ f. NotFront (kind.Keyword keyword) tokens.now × ((left : ℕ) × (f ≡ Syntax left))) }
 {
     match keyword_front(tokens, keyword) {
         Some((_, rest)) => Ok(rest),
-        None => Err(Refusal::Syntax(place(tokens))),
+        None => Err(Refusal::Syntax(tokens.len())),
     }
 }
 

@@ -1,7 +1,6 @@
 //! Initialisers (ISO/IEC 9899:2011 6.7.9).
 
-ghost use Rattle.std.specs.Prelude.{◌≡◌, ◌<◌, ◌≤◌, List, Option, length, IfOk, IfErr, MatchOption};
-ghost use Rattle.srcset.specs.declared.refusal.Pos.{Pos};
+ghost use Rattle.std.specs.Prelude.{◌≡◌, ◌<◌, ◌≤◌, ℕ, List, length, IfOk, IfErr, MatchOption};
 ghost use Rattle.lexer.specs.declared.token.Token.{Token};
 ghost use Rattle.parser.specs.declared.refusal.Refusal.TheVariants.{Syntax};
 ghost use Rattle.parser.specs.InitAnswers.{AnswersInit, StandsInit, AnswersInitList, StandsInitList, AnswersInitialiser, StandsInitialiser, Goes, Closes};
@@ -51,7 +50,7 @@ fn further_front<'t>(tokens: &'t [Token]) -> Option<&'t [Token]>
 /// What follows the end of a braced list: its closing brace, and before it a comma or none.
 fn list_end<'t>(tokens: &'t [Token]) -> Result<&'t [Token], Refusal>
     ensures ok { IfOk result (λ rest. Closes tokens.now rest.now) }
-    ensures err { IfErr result (λ f. ((rest : List Token) → Closes tokens.now rest → ⊥) × ((at : Option Pos) × (f ≡ Syntax at))) }
+    ensures err { IfErr result (λ f. ((rest : List Token) → Closes tokens.now rest → ⊥) × ((left : ℕ) × (f ≡ Syntax left))) }
 {
     match sign_front(tokens, Punctuator::Comma) {
         Some((_, rest)) => expect_sign(rest, Punctuator::BraceClose),

@@ -9,7 +9,7 @@ ghost use Rattle.parser.specs.Grammar.{Own};
 ghost use Rattle.parser.specs.Answer.{NotFront};
 ghost use Rattle.parser.specs.ItemAnswers.{AnswersItem, StandsItem, AnswersFurther, StandsFurther, AnswersItems, StandsItems};
 
-use crate::fronts::{down, expect_sign, identifier_front, place, sign_front};
+use crate::fronts::{down, expect_sign, identifier_front, sign_front};
 use crate::initialisers::optional_initialiser;
 use crate::parameters::{bounds, parameters};
 use crate::refusal::Refusal;
@@ -62,7 +62,7 @@ pub(crate) fn item<'t>(
     ensures shorter { IfOk result (λ p. length p.rest.now < length tokens.now) }
 {
     let Some((pos, name, rest)) = identifier_front(tokens) else {
-        return Err(Refusal::Syntax(place(tokens)));
+        return Err(Refusal::Syntax(tokens.len()));
     };
     let below = down(depth, pos)?;
     if let Some(inside) = parameters_front(rest, scope) {

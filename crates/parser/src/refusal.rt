@@ -9,8 +9,8 @@ use std::alloc::{AllocError, AllocFailed};
 /// Why there is no tree.
 #[derive(Clone, Copy, PartialEq, Eq, Debug)]
 pub(crate) enum Refusal {
-    /// No tree goes on with the token at this place, or, without one, at the end of the tokens.
-    Syntax(Option<Pos>),
+    /// So many tokens are left where no tree goes on: with the first of them, or, at 0, at the end.
+    Syntax(usize),
     /// With the token at this place a tree becomes too deep.
     Depth(Pos),
     /// No memory.

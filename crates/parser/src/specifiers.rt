@@ -12,7 +12,7 @@ ghost use Rattle.parser.specs.DeclarationAnswers.{BeginsSpecifier, KeywordBegins
 ghost use Rattle.parser.specs.DeclarationParts.{AnswersSpecifier, StandsSpecifier, IsAlone, IsNoneAlone};
 
 use crate::enumerators::enumerators;
-use crate::fronts::{any_keyword_front, identifier_front, place, sign_front};
+use crate::fronts::{any_keyword_front, identifier_front, sign_front};
 use crate::refusal::Refusal;
 use crate::scope::Scope;
 use lexer::{Keyword, Kind, Punctuator, Token};
@@ -130,7 +130,7 @@ fn enum_specifier<'t>(
         });
     }
     let Some(name) = tag else {
-        return Err(Refusal::Syntax(place(rest)));
+        return Err(Refusal::Syntax(rest.len()));
     };
     Ok(SpecifierPart {
         specifier: Specifier::Plain(TypeSpecifier::Enum(name)),
@@ -152,13 +152,13 @@ fn specifier<'t>(
     ensures shorter { IfOk result (λ p. length p.rest.now < length tokens.now) }
 {
     let Some((pos, keyword, rest)) = any_keyword_front(tokens) else {
-        return Err(Refusal::Syntax(place(tokens)));
+        return Err(Refusal::Syntax(tokens.len()));
     };
     if keyword == Keyword::Enum {
         return enum_specifier(alloc, pos, rest, depth, scope);
     }
     let Some(specifier) = specifier_alone(keyword, scope) else {
-        return Err(Refusal::Syntax(Some(pos)));
+        return Err(Refusal::Syntax(tokens.len()));
     };
     Ok(SpecifierPart {
         specifier,
@@ -180,7 +180,7 @@ pub(crate) fn declaration_specifiers<'t>(
     ensures shorter { IfOk result (λ p. length p.rest.now < length tokens.now) }
 {
     let Some((pos, _, _)) = any_keyword_front(tokens) else {
-        return Err(Refusal::Syntax(place(tokens)));
+        return Err(Refusal::Syntax(tokens.len()));
     };
     let first = specifier(alloc, tokens, depth, scope)?;
     let mut list = Vec::new(alloc);

@@ -10,7 +10,7 @@ ghost use Rattle.parser.specs.StmtParts.{form_kind, AnswersLabelled, StandsLabel
 
 use crate::declarations::{begins_declaration, declaration};
 use crate::expressions::conditional;
-use crate::fronts::{down, expect_sign, keyword_front, place, sign_front};
+use crate::fronts::{down, expect_sign, keyword_front, sign_front};
 use crate::refusal::Refusal;
 use crate::statement_parts::{
     Form, closed_expression, do_end, expression_place, for_head, form_front, optional_expression,
@@ -471,7 +471,7 @@ fn expression_statement<'t>(
     ensures shorter { IfOk result (λ p. length p.rest.now < length tokens.now) }
 {
     let Some(pos) = expression_place(tokens) else {
-        return Err(Refusal::Syntax(place(tokens)));
+        return Err(Refusal::Syntax(tokens.len()));
     };
     let below = down(depth, pos)?;
     let part = closed_expression(alloc, tokens, below, Punctuator::Semicolon)?;

@@ -1,7 +1,6 @@
 //! Specifiers of types that bring no list of enumerators.
 
-ghost use Rattle.std.specs.Prelude.{◌≡◌, ◌<◌, ◌↔◌, Option, List, length, IsTrue, IfOk, IfErr, MatchOption};
-ghost use Rattle.srcset.specs.declared.refusal.Pos.{Pos};
+ghost use Rattle.std.specs.Prelude.{◌≡◌, ◌<◌, ◌↔◌, ℕ, List, length, IsTrue, IfOk, IfErr, MatchOption};
 ghost use Rattle.lexer.specs.declared.token.Token.{Token};
 ghost use Rattle.tree.specs.declared.expression.TypeSpecifier.{TypeSpecifier};
 ghost use Rattle.parser.specs.Grammar.{StartsAt, SpellsSpecifier};
@@ -9,7 +8,7 @@ ghost use Rattle.parser.specs.ExpressionAnswers.{KeywordBeginsType, BeginsType, 
 ghost use Rattle.parser.specs.ExpressionLeads.{IsPlain};
 ghost use Rattle.parser.specs.declared.refusal.Refusal.TheVariants.{Syntax};
 
-use crate::fronts::{any_keyword_front, identifier_front, keyword_front, place};
+use crate::fronts::{any_keyword_front, identifier_front, keyword_front};
 use crate::refusal::Refusal;
 use lexer::{Keyword, Token};
 use srcset::Pos;
@@ -74,19 +73,19 @@ fn specifier_front<'t>(tokens: &'t [Token]) -> Result<(Pos, TypeSpecifier, &'t [
     ensures place { IfOk result (λ p. StartsAt p.0 tokens.now) }
     ensures ok { IfOk result (λ p. SpellsSpecifier p.1 tokens.now p.2.now) }
     ensures err { IfErr result (λ f. (s : TypeSpecifier) (rest : List Token) → SpellsSpecifier s tokens.now rest → ⊥) }
-    ensures syntax { IfErr result (λ f. (at : Option Pos) × (f ≡ Syntax at)) }
+    ensures syntax { IfErr result (λ f. (left : ℕ) × (f ≡ Syntax left)) }
 {
     if let Some((pos, rest)) = keyword_front(tokens, Keyword::Enum) {
         let Some((_, tag, rest)) = identifier_front(rest) else {
-            return Err(Refusal::Syntax(place(rest)));
+            return Err(Refusal::Syntax(rest.len()));
         };
         return Ok((pos, TypeSpecifier::Enum(tag), rest));
     }
     let Some((pos, keyword, rest)) = any_keyword_front(tokens) else {
-        return Err(Refusal::Syntax(place(tokens)));
+        return Err(Refusal::Syntax(tokens.len()));
     };
     let Some(specifier) = plain_specifier(keyword) else {
-        return Err(Refusal::Syntax(Some(pos)));
+        return Err(Refusal::Syntax(tokens.len()));
     };
     Ok((pos, specifier, rest))
 }

@@ -7,11 +7,11 @@ ghost use Rattle.tree.specs.Capped.{capped};
 ghost use Rattle.tree.specs.Counts.{external_nodes};
 ghost use Rattle.tree.specs.View.{external_of, unit_of};
 ghost use Rattle.parser.specs.Answer.{Reaches};
-ghost use Rattle.parser.specs.Units.{IsSmall, IsTreeWithin, IsOnly, IsRefused, IsFaultOfUnit};
-ghost use Rattle.parser.specs.UnitAnswers.{AnswersFunctionBody, AnswersExternal, StandsExternal, IsSyntaxPlace, IsLocated, Counts, CountsTooMany};
+ghost use Rattle.parser.specs.Units.{IsSmall, IsTreeWithin, IsOnly, HasTokenAt, IsRefused, IsFaultOfUnit};
+ghost use Rattle.parser.specs.UnitAnswers.{AnswersFunctionBody, AnswersExternal, StandsExternal, IsLocated, Counts, CountsTooMany};
 
 use crate::declarations::{Head, HeadPart, external_head};
-use crate::fronts::{place, sign_front};
+use crate::fronts::sign_front;
 use crate::refusal::Refusal;
 use crate::statements::block_items;
 use lexer::{Punctuator, Token};
@@ -48,15 +48,12 @@ fn place_before(tokens: &[Token], behind: usize) -> Pos
     tokens[tokens.len() - 1 - behind].pos
 }
 
-/// The place of the token with which nothing goes on, or, at the end of the tokens, of the last of them.
-fn syntax_place(found: Option<Pos>, tokens: &[Token]) -> Pos
+/// The place of the first of so many tokens at the end, or, at 0, of the last of them.
+fn syntax_place(tokens: &[Token], left: usize) -> Pos
     requires { 0 < length tokens.now }
-    ensures { IsSyntaxPlace tokens.now found result }
+    ensures { HasTokenAt tokens.now result }
 {
-    match found {
-        Some(pos) => pos,
-        None => place_before(tokens, 0),
-    }
+    place_before(tokens, left.saturating_sub(1).min(tokens.len() - 1))
 }
 
 /// The refusal with its code.
@@ -65,9 +62,9 @@ fn located(refusal: Refusal, tokens: &[Token]) -> srcset::Refusal
     ensures { IsLocated tokens.now refusal result }
 {
     match refusal {
-        Refusal::Syntax(found) => srcset::Refusal::At {
+        Refusal::Syntax(left) => srcset::Refusal::At {
             code: 401,
-            pos: syntax_place(found, tokens),
+            pos: syntax_place(tokens, left),
         },
         Refusal::Depth(pos) => srcset::Refusal::At { code: 709, pos },
         Refusal::Memory => srcset::Refusal::Memory,
@@ -80,7 +77,7 @@ fn function_body<'t>(alloc: Global, tokens: &'t [Token]) -> Result<BodyPart<'t>,
     ensures shorter { IfOk result (λ p. length p.rest.now < length tokens.now) }
 {
     let Some((pos, inside)) = sign_front(tokens, Punctuator::BraceOpen) else {
-        return Err(Refusal::Syntax(place(tokens)));
+        return Err(Refusal::Syntax(tokens.len()));
     };
     let part = block_items(alloc, inside, 2)?;
     Ok(BodyPart {

@@ -1,9 +1,9 @@
 -- Laws of punctuators.
-use Rattle.std.proofs.Common.{◌≡◌, ℕ, suc, ◌<◌, slice_index, eqb, ◌||◌, ◌&&◌, Bool, true, false, cond, List, [], ◌∷◌, drop, refl, sym, ap, ◌∙◌, subst, arith, ⊎_elim}
+use Rattle.std.proofs.Common.{◌≡◌, ℕ, suc, slice_index, eqb, ◌||◌, ◌&&◌, Bool, true, false, cond, List, [], ◌∷◌, drop, refl, sym, ap, ◌∙◌, subst, arith, ⊎_elim}
 use Rattle.std.specs.Prelude.{codes}
-use Rattle.std.proofs.lemmas.Bool.{both_ways, and_parts, or_cases, eqb-true, ne_eqb, agree_below_at}
+use Rattle.std.proofs.lemmas.Bool.{both_ways, and_parts, or_cases, eqb-true, ne_eqb}
 use Rattle.phases.specs.Lexical.{one_of, seconds, is_single, is_pair, is_triple, is_quadruple, punctuator_of, punctuator_len}
-use Rattle.phases.specs.Quick.{is_mark, is_second}
+use Rattle.phases.specs.Quick.{is_second}
 use Rattle.phases.specs.declared.cursor.Cursor.{Cursor}
 use Rattle.phases.specs.declared.cursor.Step.{Step}
 use Rattle.phases.specs.Reading.{bytes_at, Spans}
@@ -59,9 +59,6 @@ no_zero_second a = no_second a 0 refl
 -- a byte that no punctuator has second makes no pair
 pub no_pair : (a b : ℕ) (t : Bool) → t ≡ is_second b → t ≡ false → t ≡ is_pair a b
 no_pair a b t e h = h ∙ sym (no_second a b (sym e ∙ h))
-
-pub mark_single : (b : ℕ) → b < 256 → is_mark b ≡ is_single b
-mark_single b h = agree_below_at is_mark is_single 256 b refl h
 
 not_first : (f : ℕ → Bool) (b : ℕ) → f 0 ≡ false → f b ≡ true → b ≡ 0 → ⊥
 not_first f b z h e = both_ways (f 0) z (subst (λ x. f x ≡ true) e h)

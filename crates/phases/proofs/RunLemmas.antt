@@ -3,11 +3,11 @@ use Rattle.std.proofs.Common.{◌≡◌, ℕ, zero, suc, ◌+◌, ◌-◌, ◌�
 use Rattle.std.proofs.lemmas.Bool.{cases_Bool, and_parts, and_from, or_cases, eqb-true, both_ways, ne_eqb, not-true, and_right}
 use Rattle.std.proofs.lemmas.List.{take-append-drop, map-append, length-append, length-take-le, length-drop, drop-drop, take_all, length-map}
 use Rattle.phases.specs.Text.{Char, logical, bytes_of}
-use Rattle.phases.specs.Lexical.{is_word, word_len, goes_on, number_more, one_more, escapes_next, to_close}
+use Rattle.phases.specs.Lexical.{is_word, is_white, word_len, goes_on, number_more, one_more, escapes_next, to_close}
 use Rattle.phases.specs.Lines.{also, line_len, comment_len}
 use Rattle.phases.specs.Along.{longer, plus}
 use Rattle.phases.specs.Plain.{is_plain}
-use Rattle.phases.specs.Runs.{is_sure, is_ordinary, ordinary_len, all_ordinary, IsSureStep, IsRun}
+use Rattle.phases.specs.Runs.{is_sure, is_ordinary, ordinary_len, all_ordinary, white_len, all_white, IsSureStep, IsRun, IsWhiteRun}
 use Rattle.phases.specs.declared.cursor.Cursor.{Cursor}
 use Rattle.phases.specs.declared.cursor.Step.{Step}
 use Rattle.phases.specs.declared.cursor.Span.{Span}
@@ -64,6 +64,23 @@ exclude b k f h z = ne_eqb b k (λ e. both_ways (f k) z (subst (λ x. f x ≡ tr
 
 goes_on_plain : (last b : ℕ) → goes_on last b ≡ true → is_plain b ≡ true
 goes_on_plain last b h = rw (exclude b 63 (goes_on last) h refl, exclude b 92 (goes_on last) h refl, exclude b 13 (goes_on last) h refl, exclude b 10 (goes_on last) h refl) refl
+
+pub white_plain : (b : ℕ) → is_white b ≡ true → is_plain b ≡ true
+white_plain b h = rw (exclude b 63 is_white h refl, exclude b 92 is_white h refl, exclude b 13 is_white h refl, exclude b 10 is_white h refl) refl
+
+pub white_all_plain : (bs : List ℕ) → all_white bs ≡ true → all_plain bs ≡ true
+white_all_plain [] h = refl
+white_all_plain (b ∷ bs) h =
+    let p = and_parts (is_white b) (all_white bs) h in
+    and_from (is_plain b) (all_plain bs) (white_plain b p.0) (white_all_plain bs p.1)
+
+white_front : (bs : List ℕ) → all_white (take (white_len bs) bs) ≡ true
+white_front [] = refl
+white_front (b ∷ bs) = white_cond (is_white b) (white_len bs) b bs (λ h. h) (white_front bs)
+  where
+    white_cond : (t : Bool) (n b : ℕ) (bs : List ℕ) → (t ≡ true → is_white b ≡ true) → all_white (take n bs) ≡ true → all_white (take (cond t (suc n) 0) (b ∷ bs)) ≡ true
+    white_cond true n b bs f h = and_from (is_white b) (all_white (take n bs)) (f refl) h
+    white_cond false n b bs f h = refl
 
 and_cond : (t x : Bool) (n : ℕ) (b : ℕ) (bs : List ℕ) → (t ≡ true → is_plain b ≡ true) → all_plain (take n bs) ≡ true → all_plain (take (cond t (suc n) 0) (b ∷ bs)) ≡ true
 and_cond true x n b bs f h = and_from (is_plain b) (all_plain (take n bs)) (f refl) h
@@ -128,6 +145,10 @@ ordinary_rest stop count bs n r e =
     let t : take (length bs - count) (drop count bs) ≡ drop count bs = take_all (length bs - count) (drop count bs) (rw (length-drop count bs) (omega arith)) in
     omega (arith, e, r, ap (ordinary_len stop) t, ordinary_most stop bs)
 
+pub white_most : (bs : List ℕ) → white_len bs ≤ length bs
+white_most [] = omega arith
+white_most (b ∷ bs) = cond_most (is_white b) (white_len bs) (length bs) (white_most bs)
+
 pub split : (a b : Cursor) (n : ℕ) → b.rest.now ≡ drop n a.rest.now → a.rest.now ≡ take n a.rest.now ++ b.rest.now
 split a b n e = rw e (sym (take-append-drop n a.rest.now))
 
@@ -139,6 +160,17 @@ ordinary_run a b stop n e r l =
     let p = ordinary_plain stop f o in
     let m : length f ≡ n = length-take-le n a.rest.now (omega (arith, e, ordinary_most stop a.rest.now)) in
     record { front = f; ordinary = o; count_is = m; bytes_is = run_bytes a b f p (split a b n r) l; spans = run_spans a b f n p (split a b n r) l m }
+
+-- the white space from here on
+pub white_run : (a b : Cursor) (n : ℕ) → n ≡ white_len a.rest.now → b.rest.now ≡ drop n a.rest.now → b.line ≡ a.line → IsWhiteRun a (record { count = n; after = b })
+white_run a b n e r l =
+    record {
+      front = take n a.rest.now;
+      white = subst (λ k. all_white (take k a.rest.now) ≡ true) (sym e) (white_front a.rest.now);
+      count_is = length-take-le n a.rest.now (omega (arith, e, white_most a.rest.now));
+      rest_is = split a b n r;
+      line_is = l;
+    }
 
 -- a word that ends before a sure byte
 pub word_stop : (bs x r : List ℕ) (e : ℕ) → drop (word_len bs) bs ≡ e ∷ r → word_len (take (word_len bs) bs ++ e ∷ x) ≡ word_len bs

@@ -1,5 +1,6 @@
 -- Laws of scanning a file piece by piece.
-use Rattle.std.proofs.Common.{◌≡◌, ℕ, zero, suc, ◌+◌, ◌-◌, ◌<◌, Bool, List, [], ◌∷◌, take, drop, refl, sym, ap, ◌∙◌, arith}
+use Rattle.std.proofs.Common.{◌≡◌, ℕ, zero, suc, ◌+◌, ◌-◌, ◌<◌, Bool, List, [], ◌∷◌, ◌++◌, ◌||◌, ltb, true, false, length, take, drop, refl, sym, ap, ◌∙◌, arith}
+use Rattle.std.proofs.lemmas.Bool.{and_parts, or_right, lt-ltb}
 use Rattle.std.proofs.lemmas.List.{drop_at}
 use Rattle.phases.specs.declared.cursor.Cursor.{Cursor}
 use Rattle.phases.specs.declared.cursor.Step.{Step}
@@ -7,15 +8,18 @@ use Rattle.phases.specs.declared.cursor.Front.{Front}
 use Rattle.phases.specs.declared.scanner.Scanner.{Scanner}
 use Rattle.phases.specs.declared.token.Place.{Place}
 use Rattle.phases.specs.declared.token.Piece.{Piece}
-use Rattle.phases.specs.Text.{Char, bytes_of}
+use Rattle.phases.specs.declared.token.Piece.TheVariants.{Gap}
+use Rattle.phases.specs.Text.{Char, logical, bytes_of}
+use Rattle.phases.specs.Lexical.{is_white}
 use Rattle.phases.specs.Token.{Token}
 use Rattle.phases.specs.Lines.{Found, found, front, nothing, with_piece, kind_of, place_after, space_after}
 use Rattle.phases.specs.Reading.{text_at, bytes_at, char_of, IsStep, Spans}
 use Rattle.phases.specs.Fronts.{IsPiece}
-use Rattle.phases.specs.Scanning.{whole, token_at, Puts, Goes}
-use Rattle.phases.specs.Runs.{IsSureStep}
+use Rattle.phases.specs.Scanning.{whole, token_at, Puts, PassesWhite, Goes}
+use Rattle.phases.specs.Runs.{all_white, IsSureStep, IsWhiteRun}
+use Rattle.phases.proofs.TextLemmas.{plain_first}
 use Rattle.phases.proofs.ReadingLemmas.{spans_none, spans_join}
-use Rattle.phases.proofs.RunLemmas.{sure_step}
+use Rattle.phases.proofs.RunLemmas.{sure_step, exclude, run_spans, white_plain, white_all_plain}
 use Rattle.phases.specs.declared.cursor.Span.{Span}
 
 found_skip : (file k : ℕ) (place : Place) (space : Bool) (cs : List Char) → found file k place space cs ≡ found file 0 place space (drop k cs)
@@ -80,3 +84,33 @@ goes_more old mid new a b s x n g p q u =
 pub goes_after : (file : ℕ) (old new : Scanner) (total : Found) (a : Cursor) (s : Span) → old.file ≡ file → total ≡ whole old (found file 0 old.place old.space (text_at a)) → Goes old new a s → total ≡ whole new (found file 0 new.place new.space (text_at s.after))
 goes_after file old new total a s f t g =
     t ∙ ap (λ k. whole old (found k 0 old.place old.space (text_at a))) (sym f) ∙ g.whole_is ∙ ap (λ k. whole new (found k 0 new.place new.space (text_at s.after))) f
+
+or_none : (t : Bool) → (t || false) ≡ t
+or_none true = refl
+or_none false = refl
+
+-- white space is gaps
+white_found : (file : ℕ) (place : Place) (space : Bool) (l : ℕ) (f q : List ℕ) → all_white f ≡ true → found file 0 place space (logical l (f ++ q)) ≡ found file 0 place (space || ltb 0 (length f)) (logical l q)
+white_found file place space l [] q h = ap (λ k. found file 0 place k (logical l q)) (sym (or_none space))
+white_found file place space l (b ∷ f) q h =
+    let p = and_parts (is_white b) (all_white f) h in
+    let e : logical l (b ∷ f ++ q) ≡ record { byte = b; line = l } ∷ logical l (f ++ q) = plain_first l b (f ++ q) (white_plain b p.0) in
+    let g : front place b (bytes_of (logical l (f ++ q))) ≡ (Gap, 1) = rw (exclude b 10 is_white p.0 refl, p.0) refl in
+    let one : found file 0 place space (logical l (b ∷ f ++ q)) ≡ found file 0 place true (logical l (f ++ q)) = ap (λ k. found file 0 place space k) e ∙ first_piece file place space (record { byte = b; line = l }) (logical l (f ++ q)) Gap 1 g (omega arith) in
+    let some : (space || ltb 0 (length (b ∷ f))) ≡ true = or_right space (ltb 0 (length (b ∷ f))) (lt-ltb 0 (suc (length f)) (omega arith)) in
+    one ∙ white_found file place true l f q p.1 ∙ ap (λ k. found file 0 place k (logical l q)) (sym some)
+
+same_whole : (old new : Scanner) (n : ℕ) (f : Found) → PassesWhite old new n → whole new f ≡ whole old f
+same_whole old new n f p = rw (p.lines_is, p.line_is, p.overlong_is, p.unclosed_is) refl
+
+pub goes_white : (old mid new : Scanner) (a b : Cursor) (n : ℕ) (s : Span) → Goes old mid a (record { count = n; after = b }) → IsWhiteRun b s → PassesWhite mid new s.count → Goes old new a (record { count = n + s.count; after = s.after })
+goes_white old mid new a b n s g w p =
+    let t : found old.file 0 mid.place mid.space (text_at b) ≡ found old.file 0 new.place new.space (text_at s.after) =
+    ap (λ k. found old.file 0 mid.place mid.space (logical b.line k)) w.rest_is
+    ∙ white_found old.file mid.place mid.space b.line w.front s.after.rest.now w.white
+    ∙ rw (p.place_is, p.space_is, w.line_is, w.count_is) refl in
+    record {
+      spans = spans_join a b s.after n s.count g.spans (run_spans b s.after w.front s.count (white_all_plain w.front w.white) w.rest_is w.line_is w.count_is);
+      file_is = p.file_is ∙ g.file_is;
+      whole_is = g.whole_is ∙ ap (whole mid) t ∙ sym (same_whole mid new s.count (found old.file 0 new.place new.space (text_at s.after)) p);
+    }

@@ -15,14 +15,6 @@ is_further b = (b == 46) || (b == 47) || (b == 42) || (b == 60) || (b == 62) || 
 abbrev pub may_go_on : ℕ → ℕ → Bool
 may_go_on a b = is_opening a && is_further b
 
--- the punctuators of one character, test by test
-abbrev pub is_mark : ℕ → Bool
-is_mark b =
-    (b == 91) || (b == 93) || (b == 40) || (b == 41) || (b == 123) || (b == 125) || (b == 46)
-    || (b == 38) || (b == 42) || (b == 43) || (b == 45) || (b == 126) || (b == 33) || (b == 47)
-    || (b == 37) || (b == 60) || (b == 62) || (b == 94) || (b == 124) || (b == 63) || (b == 58)
-    || (b == 59) || (b == 61) || (b == 44) || (b == 35)
-
 -- some punctuator has this as its second character
 abbrev pub is_second : ℕ → Bool
 is_second b = (b == 62) || (b == 45) || (b == 61) || (b == 43) || (b == 38) || (b == 124) || (b == 60) || (b == 58) || (b == 37) || (b == 35)

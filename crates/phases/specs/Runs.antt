@@ -3,6 +3,7 @@ use Rattle.std.specs.Prelude.{◌≡◌, ℕ, suc, ◌+◌, ◌==◌, ◌&&◌, 
 use Rattle.phases.specs.declared.cursor.Cursor.{Cursor}
 use Rattle.phases.specs.declared.cursor.Span.{Span}
 use Rattle.phases.specs.declared.cursor.Step.{Step}
+use Rattle.phases.specs.Lexical.{is_white}
 use Rattle.phases.specs.Plain.{is_plain}
 use Rattle.phases.specs.Reading.{bytes_at, Spans}
 
@@ -21,6 +22,14 @@ abbrev pub all_ordinary : ℕ → List ℕ → Bool
 all_ordinary stop [] = true
 all_ordinary stop (b ∷ bs) = is_ordinary stop b && all_ordinary stop bs
 
+abbrev pub all_white : List ℕ → Bool
+all_white [] = true
+all_white (b ∷ bs) = is_white b && all_white bs
+
+abbrev pub white_len : List ℕ → ℕ
+white_len [] = 0
+white_len (b ∷ bs) = if is_white b then suc (white_len bs) else 0
+
 abbrev pub next_line : ℕ → ℕ → ℕ
 next_line b line = if b == 10 then line + 1 else line
 
@@ -38,3 +47,11 @@ pub record IsRun (from : Cursor) (stop : ℕ) (s : Span) : Type 0 where
   pub count_is : length front ≡ s.count
   pub bytes_is : bytes_at from ≡ front ++ bytes_at s.after
   pub spans : Spans from s.count s.after
+
+-- white space on one line stands between these places
+pub record IsWhiteRun (from : Cursor) (s : Span) : Type 0 where
+  pub front : List ℕ
+  pub white : all_white front ≡ true
+  pub count_is : length front ≡ s.count
+  pub rest_is : from.rest.now ≡ front ++ s.after.rest.now
+  pub line_is : s.after.line ≡ from.line

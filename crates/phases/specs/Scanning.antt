@@ -1,5 +1,5 @@
 -- How far a file is scanned.
-use Rattle.std.specs.Prelude.{◌≡◌, ℕ, false, Option, None, Some, List, [], ◌∷◌, ◌++◌, take}
+use Rattle.std.specs.Prelude.{◌≡◌, ℕ, ◌||◌, nat_lt, false, Option, None, Some, List, [], ◌∷◌, ◌++◌, take}
 use Rattle.srcset.specs.declared.refusal.Pos.{Pos}
 use Rattle.phases.specs.declared.cursor.Cursor.{Cursor}
 use Rattle.phases.specs.declared.cursor.Step.{Step}
@@ -58,6 +58,16 @@ pub record AddsWord (old : Scanner) (new : Scanner) (kind : Kind) (spelling : Li
   pub place_is : new.place ≡ next_place old.place spelling
   pub space_is : new.space ≡ false
   pub overlong_is : new.overlong ≡ or_later old.overlong (first_overlong (word_at old kind spelling line) None)
+  pub unclosed_is : new.unclosed ≡ old.unclosed
+
+-- so much white space is passed
+pub record PassesWhite (old : Scanner) (new : Scanner) (count : ℕ) : Type 0 where
+  pub file_is : new.file ≡ old.file
+  pub lines_is : new.lines.items ≡ old.lines.items
+  pub line_is : new.line.items ≡ old.line.items
+  pub place_is : new.place ≡ old.place
+  pub space_is : new.space ≡ (old.space || nat_lt 0 count)
+  pub overlong_is : new.overlong ≡ old.overlong
   pub unclosed_is : new.unclosed ≡ old.unclosed
 
 -- the piece is scanned

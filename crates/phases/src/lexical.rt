@@ -1,11 +1,12 @@
 //! The fronts of a text that are tokens (ISO/IEC 9899:2011 6.4).
 ghost use Rattle.std.specs.Prelude.{◌≡◌, ◌+◌, ◌<◌, true, false, Some, None, MatchOption};
-ghost use Rattle.phases.specs.Lexical.{is_digit, is_letter, is_word, is_sign, is_exponent, is_white, goes_on, word_len, name_len, number_more, number_len, closes, escapes_next, to_close, enclosed, character_prefix, character_len, string_prefix, string_len, header_len, is_prefix, begins_digit, begins_number};
+ghost use Rattle.phases.specs.Lexical.{is_digit, is_sign, is_exponent, goes_on, word_len, name_len, number_more, number_len, closes, escapes_next, to_close, enclosed, character_prefix, character_len, string_prefix, string_len, header_len, is_prefix, begins_digit, begins_number};
 ghost use Rattle.phases.specs.Reading.{bytes_at, IsStep, Spans};
 ghost use Rattle.phases.specs.Along.{plus};
 ghost use Rattle.phases.specs.Fronts.{IsFront, IsSomeFront, IsCloseFront, IsAhead};
 ghost use Rattle.phases.specs.Closing.{unclosed_for};
 
+use crate::classes::{is_letter, is_word};
 use crate::cursor::{Cursor, Span, Step};
 
 #[inline(always)]
@@ -13,20 +14,6 @@ pub(crate) fn is_digit(byte: u8) -> bool
     ensures { result ≡ is_digit byte }
 {
     byte >= b'0' && byte <= b'9'
-}
-
-#[inline(always)]
-pub(crate) fn is_letter(byte: u8) -> bool
-    ensures { result ≡ is_letter byte }
-{
-    (byte >= b'a' && byte <= b'z') || (byte >= b'A' && byte <= b'Z') || byte == b'_'
-}
-
-#[inline(always)]
-pub(crate) fn is_word(byte: u8) -> bool
-    ensures { result ≡ is_word byte }
-{
-    is_letter(byte) || is_digit(byte)
 }
 
 #[inline(always)]
@@ -41,13 +28,6 @@ fn is_exponent(byte: u8) -> bool
     ensures { result ≡ is_exponent byte }
 {
     byte == b'e' || byte == b'E' || byte == b'p' || byte == b'P'
-}
-
-#[inline(always)]
-pub(crate) fn is_white(byte: u8) -> bool
-    ensures { result ≡ is_white byte }
-{
-    byte == b' ' || byte == b'\t' || byte == 11 || byte == 12
 }
 
 // Whether a preprocessing number goes on with `byte` after `last`.

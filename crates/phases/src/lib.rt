@@ -2,6 +2,7 @@
 //! ISO/IEC 9899:2011 5.1.1.2.
 #![tactic(auto)]
 
+mod classes;
 mod closing;
 mod cursor;
 mod lexical;

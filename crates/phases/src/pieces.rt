@@ -8,8 +8,8 @@ ghost use Rattle.phases.specs.Closing.{IsHopeless};
 ghost use Rattle.phases.specs.Along.{longer};
 ghost use Rattle.phases.specs.Fronts.{IsFront, IsCommentFront, IsLexeme, IsPiece};
 
+use crate::classes::is_white;
 use crate::cursor::{Comment, Cursor, Front, Hopeless, Lexeme, Span, Step};
-use crate::lexical::is_white;
 use crate::token::{Kind, Piece, Place};
 
 // Whether a slash and this byte stand here.

@@ -1,51 +1,12 @@
 //! Punctuators (ISO/IEC 9899:2011 6.4.6).
 ghost use Rattle.std.specs.Prelude.{◌≡◌, MatchOption};
-ghost use Rattle.phases.specs.Lexical.{is_single, seconds, is_pair, is_triple, is_quadruple, punctuator_len};
-ghost use Rattle.phases.specs.Quick.{is_mark, is_second};
+ghost use Rattle.phases.specs.Lexical.{seconds, is_pair, is_triple, is_quadruple, punctuator_len};
+ghost use Rattle.phases.specs.Quick.{is_second};
 ghost use Rattle.phases.specs.Reading.{bytes_at};
 ghost use Rattle.phases.specs.Fronts.{IsSomeFront};
 
+use crate::classes::is_single;
 use crate::cursor::{Cursor, Span};
-
-// The same set as `is_single`, test by test.
-#[inline(always)]
-fn is_mark(byte: u8) -> bool
-    ensures { result ≡ is_mark byte }
-{
-    byte == b'['
-        || byte == b']'
-        || byte == b'('
-        || byte == b')'
-        || byte == b'{'
-        || byte == b'}'
-        || byte == b'.'
-        || byte == b'&'
-        || byte == b'*'
-        || byte == b'+'
-        || byte == b'-'
-        || byte == b'~'
-        || byte == b'!'
-        || byte == b'/'
-        || byte == b'%'
-        || byte == b'<'
-        || byte == b'>'
-        || byte == b'^'
-        || byte == b'|'
-        || byte == b'?'
-        || byte == b':'
-        || byte == b';'
-        || byte == b'='
-        || byte == b','
-        || byte == b'#'
-}
-
-// The punctuators of one character.
-#[inline(always)]
-pub(crate) fn is_single(byte: u8) -> bool
-    ensures { result ≡ is_single byte }
-{
-    is_mark(byte)
-}
 
 // The characters that make a punctuator of two behind this one.
 #[tactic(auto, unfolding(crate::specs::Lexical::seconds))]

@@ -8,9 +8,10 @@ ghost use Rattle.phases.specs.Reading.{bytes_at, IsStep};
 ghost use Rattle.phases.specs.Fronts.{IsPiece};
 ghost use Rattle.phases.specs.Quick.{is_quote, is_opening, is_further, may_go_on};
 
+use crate::classes::{is_letter, is_single, is_white};
 use crate::cursor::{Cursor, Front, Span, Step};
-use crate::lexical::{is_digit, is_letter, is_white};
-use crate::punctuators::{is_pair, is_single};
+use crate::lexical::is_digit;
+use crate::punctuators::is_pair;
 use crate::runs::{number_bytes, word_bytes};
 use crate::token::{Kind, Piece, Place};
 

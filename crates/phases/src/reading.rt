@@ -5,8 +5,9 @@ ghost use Rattle.phases.specs.Plain.{is_plain};
 ghost use Rattle.phases.specs.Reading.{IsNoSplice, EndsSplice, text_at, MapsTo, IsStep};
 ghost use Rattle.phases.specs.Runs.{next_line, IsSureStep};
 
+use crate::classes::is_sure;
 use crate::cursor::{Cursor, Step};
-use crate::runs::{is_sure, next_line};
+use crate::runs::next_line;
 
 #[tactic(auto, unfolding(crate::specs::Text::trigraph))]
 fn trigraph(third: u8) -> Option<u8>

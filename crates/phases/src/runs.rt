@@ -1,19 +1,12 @@
 //! Runs of plain bytes, which need no look at trigraphs and splices.
 ghost use Rattle.std.specs.Prelude.{◌≡◌, ◌≤◌, ◌<◌, ◌+◌, ◌^◌, drop, length};
 ghost use Rattle.phases.specs.Lexical.{word_len, number_more};
-ghost use Rattle.phases.specs.Runs.{is_sure, next_line, is_ordinary, all_ordinary, ordinary_len, IsRun};
+ghost use Rattle.phases.specs.Runs.{next_line, is_ordinary, all_ordinary, ordinary_len, white_len, IsRun, IsWhiteRun};
 
+use crate::classes::{is_white, is_word};
 use crate::cursor::{Cursor, Span};
-use crate::lexical::{goes_on, is_word};
+use crate::lexical::goes_on;
 use crate::reading::is_plain;
-
-/// Whether the byte is the first character of each text that begins with it.
-#[inline(always)]
-pub(crate) fn is_sure(byte: u8) -> bool
-    ensures { result ≡ is_sure byte }
-{
-    is_plain(byte) || byte == b'\n'
-}
 
 /// The line behind a sure byte on this line.
 #[inline(always)]
@@ -74,6 +67,21 @@ fn ordinary_bytes(bytes: &[u8], stop: u8) -> usize
     count + ordinary_front(&bytes[count..], stop)
 }
 
+// How many bytes from the first on are white space.
+#[inline(always)]
+fn white_bytes(bytes: &[u8]) -> usize
+    ensures { result ≡ white_len bytes.now }
+{
+    let mut count = 0;
+    for byte in bytes {
+        if !is_white(*byte) {
+            return count;
+        }
+        count += 1;
+    }
+    count
+}
+
 /// How many bytes from the first on go on with a word.
 #[inline(always)]
 pub(crate) fn word_bytes(bytes: &[u8]) -> usize
@@ -116,6 +124,18 @@ impl<'a> Cursor<'a> {
         Cursor {
             rest: &self.rest[count..],
             line: self.line,
+        }
+    }
+
+    /// The white space from here on.
+    #[inline(always)]
+    pub(crate) fn white(self) -> Span<'a>
+        ensures { IsWhiteRun self.entry result }
+    {
+        let count = white_bytes(self.rest);
+        Span {
+            count,
+            after: self.past(count),
         }
     }
 

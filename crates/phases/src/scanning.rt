@@ -3,7 +3,7 @@ ghost use Rattle.std.specs.Prelude.{◌≡◌, ◌⊎◌, Ok, Err, IfOk, IfErr, 
 ghost use Rattle.srcset.specs.declared.refusal.Refusal.TheVariants.{Memory};
 ghost use Rattle.phases.specs.Lines.{after_first, after_hash, next_place, lines_or_fault, nothing};
 ghost use Rattle.phases.specs.Reading.{bytes_at, Spans};
-ghost use Rattle.phases.specs.Scanning.{Puts, IsNew, EndsLine, AddsWord, EndsLastLine, or_later, whole, Goes};
+ghost use Rattle.phases.specs.Scanning.{Puts, IsNew, EndsLine, AddsWord, EndsLastLine, PassesWhite, or_later, whole, Goes};
 
 use crate::cursor::{Cursor, Front, Span, Step};
 use crate::scanner::Scanner;
@@ -147,6 +147,14 @@ impl<'a> Scanner<'a> {
         }
     }
 
+    // Passes so much white space.
+    #[inline(always)]
+    fn pass_white(&mut self, count: usize)
+        ensures { PassesWhite self.old self.new count }
+    {
+        self.space = self.space || count > 0;
+    }
+
     /// Adds the pieces from here on, as long as the bytes alone show them.
     #[inline(always)]
     pub(crate) fn put_quick(
@@ -164,8 +172,11 @@ impl<'a> Scanner<'a> {
                 return Ok(Span { count, after: at });
             };
             self.put(alloc, at, first, front)?;
+            let white = front.span.after.white();
+            self.pass_white(white.count);
             count += front.span.count;
-            at = front.span.after;
+            count += white.count;
+            at = white.after;
         }
         Ok(Span { count, after: at })
     }

@@ -64,7 +64,7 @@ fn syntax_tree(
 ) -> std::result::Result<Unit, Fault> {
     let file = names.intern(b"row.c")?;
     if source.len() > MAX_FILE_BYTES {
-        return Err(Fault::at(alloc, 702, "row.c", 0));
+        return Err(Fault::at(alloc, 701, "row.c", 0));
     }
     let mut list = Vec::new(alloc);
     for line in scan(alloc, source, file, names)? {

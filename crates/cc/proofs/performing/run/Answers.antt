@@ -1,6 +1,6 @@
-use Rattle.std.proofs.Common.{inl}
+use Rattle.std.proofs.Common.{inl, inr, refl}
 use Rattle.sim.specs.Runs.{start_world}
-use Rattle.cc.proofs.Outcomes.{begins}
+use Rattle.cc.proofs.Outcomes.{begins, load_fails}
 use Rattle.cc.proofs.performing.run.Goals as goal
 
 pub returns-in-Ok : goal.returns-in-Ok
@@ -13,8 +13,12 @@ returns-in-Ok g c =
       record {
         run = c.run-outcome.result;
         machine = _;
-        status_is = c.status.ensures;
+        status_is = c.status.ensures.status;
+        says = c.status.ensures.says;
         meets = λ input told. c.run-outcome.ensures.meets fresh old.output (start_world _ input) (begins old _ input _ c.new-machine.ensures.start told);
         counts = c.run-outcome.ensures.counts fresh;
       },
     )
+
+pub returns-in-Err : goal.returns-in-Err
+returns-in-Err g c = inr (refl, refl, (c.load_fault.result, load_fails _ _ _ _ c.in-Err.ensures c.load_fault.ensures, c.say_fault.ensures))

@@ -1,9 +1,9 @@
-use Rattle.std.specs.Prelude.{Option}
-use Rattle.std.proofs.Common.{[], refl, sym, subst}
-use Rattle.srcset.specs.declared.refusal.Pos.{Pos}
-use Rattle.parser.specs.UnitAnswers.{IsSyntaxPlace}
-use Rattle.parser.proofs.UnitParts.{reaches_end}
+use Rattle.std.proofs.Common.{arith}
+use Rattle.parser.proofs.UnitParts.{tail_of_length}
 use Rattle.parser.proofs.unit.syntax_place.Goals as goal
 
-pub returns-in-None : goal.returns-in-None
-returns-in-None c = subst (λ (o : Option Pos). IsSyntaxPlace c.args.tokens.now o c.place_before.result) (sym c.in-None.is) (c.place_before.ensures [] refl (reaches_end c.args.tokens.now))
+pub returns : goal.returns
+returns c =
+    let t = tail_of_length c.args.tokens.now c.min.result (omega arith) in
+    let last = c.place_before.ensures t.0 t.1 t.2 in
+    (last.0, t.0, last.1)

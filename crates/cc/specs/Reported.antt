@@ -1,0 +1,61 @@
+-- What the program says on standard error.
+use Rattle.std.specs.Prelude.{◌≡◌, ◌⊎◌, ℕ, ◌-◌, ◌^◌, List, ◌++◌, Option, codes, decimal, true, false, []}
+use Rattle.std.specs.Fmt.{digits, padded_integral, format_spec}
+use Rattle.srcset.specs.declared.fault.Fault.{Fault}
+use Rattle.srcset.specs.Fault.{fault_line}
+use Rattle.rv32.specs.declared.state.Cause.{Cause}
+use Rattle.rv32.specs.declared.state.Cause.TheVariants as cause
+use Rattle.sim.specs.Port.{code_of}
+use Rattle.sim.specs.declared.port.PortFault.{PortFault}
+use Rattle.sim.specs.declared.machine.Outcome.{Outcome}
+use Rattle.sim.specs.declared.machine.Outcome.TheVariants as outcome
+use Rattle.cc.specs.Transfer.{WritesBeginning}
+
+-- ---- the lines
+
+abbrev pub fault_text : Fault → List ℕ
+fault_text fault = fault_line fault ++ codes "\n"
+
+abbrev pub memory_text : List ℕ
+memory_text = codes "cc: 801 out of memory\n"
+
+abbrev pub budget_text : List ℕ
+budget_text = codes "cc: budget used\n"
+
+abbrev pub cause_name : Cause → List ℕ
+cause_name cause.Illegal = codes "Illegal"
+cause_name cause.FetchFault = codes "FetchFault"
+cause_name cause.Target = codes "Target"
+cause_name cause.Misaligned = codes "Misaligned"
+cause_name cause.LoadFault = codes "LoadFault"
+cause_name cause.StoreFault = codes "StoreFault"
+cause_name cause.Break = codes "Break"
+cause_name cause.BadCall = codes "BadCall"
+
+-- eight digits to the base 16, in capitals
+abbrev pub address : ℕ → List ℕ
+address a = padded_integral (format_spec 32 0 4 8 (2 ^ 64 - 1)) false [] (digits 16 true a)
+
+abbrev pub trap_text : ℕ → Cause → List ℕ
+trap_text pc cause = codes "cc: trap " ++ cause_name cause ++ codes " at 0x" ++ address pc ++ codes "\n"
+
+abbrev pub port_text : PortFault → List ℕ
+port_text fault = codes "cc: port fault " ++ decimal (code_of fault) ++ codes "\n"
+
+-- ---- what is written of them
+
+-- what a writer took before a call and after it, where that is told
+pub record Said : Type 0 where
+  pub before : Option (List ℕ)
+  pub after : Option (List ℕ)
+
+-- the text, or the beginning of it that the writer took; where there was no memory for it, the same of the line of 801
+abbrev pub Says : Said → List ℕ → Type 0
+Says said text = WritesBeginning said.before said.after text ⊎ WritesBeginning said.before said.after memory_text
+
+-- why a run did not end by itself
+abbrev pub SaysOutcome : Said → Outcome → Type 0
+SaysOutcome said (outcome.Ended status) = said.after ≡ said.before
+SaysOutcome said outcome.Budget = WritesBeginning said.before said.after budget_text
+SaysOutcome said (outcome.Trapped pc cause) = Says said (trap_text pc cause)
+SaysOutcome said (outcome.Port fault) = Says said (port_text fault)
