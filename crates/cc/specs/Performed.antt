@@ -1,4 +1,4 @@
--- What a command leaves of its port, and its exit status.
+-- What a command leaves of its port, what it says, and its exit status.
 use Rattle.std.specs.Prelude.{◌≡◌, ◌⊎◌, ℕ, List, Option, Some, Ok, Err}
 use Rattle.rv32.specs.Step.{Machine}
 use Rattle.loader.specs.File.{Image, file_image}
@@ -35,12 +35,12 @@ pub record BuildsSome (source : Option (List ℕ)) (name : List ℕ) (old new : 
   pub puts : PutsSome old new built.elf.items count
 
 -- the source is refused with this fault, and nothing was put; or the file was not put whole, and this fault says so
--- under the file's name
+-- under the file's name, or that memory ran out
 abbrev pub FailsBuild : Option (List ℕ) → List ℕ → List ℕ → PortView → PortView → Fault → Type 0
 FailsBuild source name output old new fault =
     ((new ≡ old) × IsRefused source name fault) ⊎ (BuildsSome source name old new × IsFaultOrMemory fault 803 output 0)
 
--- 0, and the whole file was put; or 1 and a fault
+-- 0, and the whole file was put and nothing said; or 1 and a fault, which is said
 abbrev pub Builds : Option (List ℕ) → List ℕ → List ℕ → PortView → PortView → Said → ℕ → Type 0
 Builds source name output old new said status =
     ((status ≡ 0) × BuildsInto source name old new × (said.after ≡ said.before))
@@ -70,11 +70,11 @@ abbrev pub FailsLoad : List ℕ → List ℕ → Fault → Type 0
 FailsLoad file name fault =
     ((why : LoadFault) × (file_image file ≡ Err why) × IsFault fault (code_of why) name 0) ⊎ IsMemoryFault fault
 
--- the fault that says why
+-- the fault that says why, or that memory ran out
 abbrev pub IsLoadFault : List ℕ → LoadFault → Fault → Type 0
 IsLoadFault name why fault = (IsFault fault (code_of why) name 0 × (why ≡ Memory → ⊥)) ⊎ IsMemoryFault fault
 
--- the file has an image, from which the run went; or 1 and a fault, and the port was not touched
+-- the file has an image, from which the run went; or 1 and a fault, which is said, and the port was not touched
 abbrev pub Runs : List ℕ → List ℕ → ℕ → PortView → PortView → Said → ℕ → Type 0
 Runs file name max old new said status =
     ((image : Image) × (file_image file ≡ Ok image) × RanAs image max old new said status)

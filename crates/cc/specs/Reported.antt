@@ -49,11 +49,11 @@ pub record Said : Type 0 where
   pub before : Option (List ℕ)
   pub after : Option (List ℕ)
 
--- the text, or the beginning of it that the writer took; where there was no memory for it, the same of the line of 801
+-- the text, or the beginning of it that the writer took; or the same of the line of 801, for want of memory for the text
 abbrev pub Says : Said → List ℕ → Type 0
 Says said text = WritesBeginning said.before said.after text ⊎ WritesBeginning said.before said.after memory_text
 
--- why a run did not end by itself
+-- nothing where a run ended by itself, and else why it did not
 abbrev pub SaysOutcome : Said → Outcome → Type 0
 SaysOutcome said (outcome.Ended status) = said.after ≡ said.before
 SaysOutcome said outcome.Budget = WritesBeginning said.before said.after budget_text

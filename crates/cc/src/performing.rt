@@ -27,9 +27,10 @@ pub enum Cmd<'c> {
 ///
 /// `Build` compiles the file `main` of the set, and puts the executable file on the port: 0, or 1 with the
 /// line of the fault on `err`. `Run` runs the executable file of the name `main` and the bytes `file` over
-/// the port: the program's status, or, each with one line on `err`, 1 where the file is refused, 124 where
-/// it did not end within the instructions allowed, 125 where it trapped, and 126 where the port refused.
-/// What `err` refuses is left out. `out` is for the text that a command prints; these print none.
+/// the port: the program's status, or, each with one line on `err`, 1 where the file is refused or memory runs
+/// out, 124 where it did not end within the instructions allowed, 125 where it trapped, and 126 where the port
+/// refused. In place of a line for which there is no memory, that of 801 is written. What `err` refuses is left
+/// out. `out` is for the text that a command prints; these print none.
 pub fn perform<P: Port, W: Write, E: Write>(
     alloc: Global,
     command: Cmd<'_>,

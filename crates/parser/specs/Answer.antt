@@ -17,7 +17,7 @@ Reaches ts us = (before : List Token) × (ts ≡ before ++ us)
 
 -- what stands against a tree of depth k that lies below d nodes
 abbrev pub Excuses : Refusal → ℕ → ℕ → Type 0
-Excuses (Syntax at) d k = ⊥
+Excuses (Syntax left) d k = ⊥
 Excuses (Depth at) d k = 256 < d + k
 Excuses Memory d k = Unit {0}
 
@@ -46,6 +46,6 @@ pub record PassesOf {A : Type 0} (begun : Option (List Token) → A → List Tok
 
 -- the refusal stands: of a depth, some begun tree passes it
 abbrev pub StandsOf : {A : Type 0} (begun : Option (List Token) → A → List Token → List Token → Type 0) (height : A → ℕ) → ℕ → List Token → Refusal → Type 0
-StandsOf begun height d ts (Syntax at) = Unit {0}
+StandsOf begun height d ts (Syntax left) = Unit {0}
 StandsOf begun height d ts (Depth at) = PassesOf begun height d ts at
 StandsOf begun height d ts Memory = Unit {0}

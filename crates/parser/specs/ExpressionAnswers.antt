@@ -101,7 +101,7 @@ pub record Passes (n d : ℕ) (ts : List Token) (at : Pos) : Type 0 where
 
 -- the refusal stands: of a depth, some begun tree passes it
 abbrev pub Stands : ℕ → ℕ → List Token → Refusal → Type 0
-Stands n d ts (Syntax at) = Unit {0}
+Stands n d ts (Syntax left) = Unit {0}
 Stands n d ts (Depth at) = Passes n d ts at
 Stands n d ts Memory = Unit {0}
 
@@ -146,6 +146,6 @@ AnswersSpecifiers ts (Err f) = FailsSpecifiers ts f
 
 -- refusals of what is never too deep
 abbrev pub NotDepth : Refusal → Type 0
-NotDepth (Syntax at) = Unit {0}
+NotDepth (Syntax left) = Unit {0}
 NotDepth (Depth at) = ⊥
 NotDepth Memory = Unit {0}

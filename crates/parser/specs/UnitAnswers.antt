@@ -54,7 +54,7 @@ StandsExternal ts f = StandsOf SpellsExternal external_depth 0 ts f
 
 -- ---- places and counts
 
--- the refusal under its code, at its place
+-- the refusal under its code: a depth at its place, a syntax error at that of some token
 abbrev pub IsLocated : List Token → Refusal → Fault → Type 0
 IsLocated ts (Syntax left) f = (at : Pos) × HasTokenAt ts at × (f ≡ fault.At 401 at)
 IsLocated ts (Depth at) f = f ≡ fault.At 709 at

@@ -48,7 +48,8 @@ fn place_before(tokens: &[Token], behind: usize) -> Pos
     tokens[tokens.len() - 1 - behind].pos
 }
 
-/// The place of the first of so many tokens at the end, or, at 0, of the last of them.
+/// The place of the first of so many tokens at the end, or, at 0, of the last token. No clause of the descent says that there
+/// are so many; the least of both is taken.
 fn syntax_place(tokens: &[Token], left: usize) -> Pos
     requires { 0 < length tokens.now }
     ensures { HasTokenAt tokens.now result }

@@ -1,4 +1,4 @@
-//! What a byte may be a part of, by one table.
+//! Five classes of bytes, by one table.
 ghost use Rattle.std.specs.Prelude.{◌≡◌};
 ghost use Rattle.phases.specs.Lexical.{is_letter, is_single, is_white, is_word};
 ghost use Rattle.phases.specs.Runs.{is_sure};

@@ -155,7 +155,7 @@ impl<'a> Scanner<'a> {
         self.space = self.space || count > 0;
     }
 
-    /// Adds the pieces from here on, as long as the bytes alone show them.
+    /// Adds the pieces from here on, each with the white space behind it, as long as the bytes alone show them.
     #[inline(always)]
     pub(crate) fn put_quick(
         &mut self,
