@@ -60,9 +60,9 @@ module _ (name bytes text : List ℕ) (fault : Fault) (old new : Texts) (file : 
   pub lines_fail : IsScanFault fault new (scanned file bytes) → LacksTokens name bytes fault
   lines_fail h = scan_fails name bytes fault new file texts_are first h
 
-  pub lines_are_processed : (lines slice : List (List PpToken)) (b : Bool) → scanned file bytes ≡ Ok lines → slice ≡ lines → b ≡ is_unprocessed slice → b ≡ false → IsFaultOrMemory fault 699 name 1 → LacksTokens name bytes fault
-  lines_are_processed lines slice b e se be wants h = not_processed name bytes fault file lines first e (subst (λ l. is_unprocessed l ≡ false) se (sym be ∙ wants)) h
+  pub lines_are_processed : (lines : List (List PpToken)) (b : Bool) → scanned file bytes ≡ Ok lines → b ≡ is_unprocessed lines → b ≡ false → IsFaultOrMemory fault 699 name 1 → LacksTokens name bytes fault
+  lines_are_processed lines b e be wants h = not_processed name bytes fault file lines first e (sym be ∙ wants) h
 
-  pub token_fails : (lines slice : List (List PpToken)) (b : Bool) (list list_slice : List PpToken) (texts : Texts) → scanned file bytes ≡ Ok lines → slice ≡ lines → b ≡ is_unprocessed slice → b ≡ true → list ≡ all_tokens lines → list_slice ≡ list → KeepsNumbers new texts → IsTokenFault fault texts (ctokens list_slice).fault → LacksTokens name bytes fault
-  token_fails lines slice b list list_slice texts e se be yes_ le ls keeps h =
-      tokens_fail name bytes fault file lines list_slice new texts first texts_are e (subst (λ l. is_unprocessed l ≡ true) se (sym be ∙ yes_)) (ls ∙ le) keeps h
+  pub token_fails : (lines : List (List PpToken)) (b : Bool) (list : List PpToken) (texts : Texts) → scanned file bytes ≡ Ok lines → b ≡ is_unprocessed lines → b ≡ true → list ≡ all_tokens lines → KeepsNumbers new texts → IsTokenFault fault texts (ctokens list).fault → LacksTokens name bytes fault
+  token_fails lines b list texts e be yes_ le keeps h =
+      tokens_fail name bytes fault file lines list new texts first texts_are e (sym be ∙ yes_) le keeps h

@@ -1,3 +1,4 @@
+pub mod LineWalk
 pub mod Views
 pub mod Words
 pub mod Evaluates

@@ -4,7 +4,7 @@ ghost use Rattle.std.specs.Prelude.{◌≡◌, ◌≤◌, [], ◌∷◌, length,
 ghost use Rattle.tree.specs.View.{unit_of};
 ghost use Rattle.cc.specs.Compiled.{HasTokens, HasTree, LacksTokens, LacksTree};
 
-use crate::unprocessed::{all_tokens, is_unprocessed};
+use crate::unprocessed::is_unprocessed;
 use lexer::{Token, tokens};
 use parser::parse;
 use phases::scan;
@@ -21,13 +21,10 @@ fn c_tokens(alloc: Global, bytes: &[u8], name: &str, names: &mut Names) -> Resul
 {
     let file = names.intern(name.as_bytes())?;
     let lines = scan(alloc, bytes, file, names)?;
-    if !is_unprocessed(lines.as_slice()) {
+    if !is_unprocessed(&lines) {
         return Err(Fault::at(alloc, 699, name, 1));
     }
-    let Ok(list) = all_tokens(alloc, lines) else {
-        return Err(Fault::memory(alloc));
-    };
-    tokens(alloc, list.as_slice(), names)
+    tokens(alloc, lines.tokens(), names)
 }
 
 /// The syntax tree of the main file, of this name.

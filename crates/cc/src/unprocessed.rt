@@ -1,10 +1,9 @@
 //! Sources that ask nothing of a preprocessor, which is not built yet.
 
-ghost use Rattle.std.specs.Prelude.{◌≡◌, ◌++◌, IfOk, OnOk};
+ghost use Rattle.std.specs.Prelude.{◌≡◌};
 ghost use Rattle.cc.specs.Unprocessed as unprocessed;
 
-use phases::{Kind, Line, PpToken};
-use std::alloc::{AllocError, Global};
+use phases::{Kind, Lines, PpToken};
 
 /// Whether a token is `#`, also as its digraph (ISO/IEC 9899:2011 6.4.6).
 fn is_hash(token: &PpToken) -> bool
@@ -61,28 +60,16 @@ fn is_unprocessed_line(tokens: &[PpToken]) -> bool
 }
 
 /// Whether no line is a directive, and no token names a predefined macro.
-pub fn is_unprocessed(lines: &[Line]) -> bool
+pub fn is_unprocessed(lines: &Lines) -> bool
     ensures { result ≡ unprocessed.is_unprocessed lines.now }
 {
-    lines.iter().all(|line| is_unprocessed_line(line.tokens()))
-}
-
-// How many tokens the lines have in all.
-fn token_count(lines: &[Line]) -> usize {
-    lines.iter().fold(
-        0,
-        |count: usize, line| count.saturating_add(line.tokens().len()),
-    )
-}
-
-/// The tokens of all lines, in their order.
-pub fn all_tokens<'a>(alloc: Global, lines: Vec<Line<'a>>) -> Result<Vec<PpToken<'a>>, AllocError>
-    ensures { IfOk result (λ tokens. tokens.items ≡ unprocessed.all_tokens lines.entry.items) }
-{
-    let mut tokens = Vec::new(alloc);
-    tokens.reserve_exact(token_count(&lines))?;
-    for line in lines {
-        tokens.append(&mut line.into_tokens())?;
+    for index in 0..lines.len() {
+        let Some(line) = lines.get(index) else {
+            return true;
+        };
+        if !is_unprocessed_line(line) {
+            return false;
+        }
     }
-    Ok(tokens)
+    true
 }

@@ -33,13 +33,7 @@ fn scanned<'a>(
 ) -> Result<Vec<PpToken<'a>>, Fail> {
     assert!(rt; text.len() <= 1_048_576);
     let lines = scan(rt.alloc(), text, 0, names)?;
-    let mut list = Vec::new(rt.alloc());
-    for line in lines {
-        for token in line.into_tokens() {
-            list.push(token)?;
-        }
-    }
-    Ok(list)
+    Ok(lines.into_tokens())
 }
 
 // The C tokens of a text, or their fault.

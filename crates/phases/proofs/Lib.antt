@@ -6,6 +6,7 @@ pub mod LexicalLemmas
 pub mod PunctuatorLemmas
 pub mod PieceLemmas
 pub mod SpellingLemmas
+pub mod CutLemmas
 pub mod ScanLemmas
 pub mod LongestLemmas
 pub mod PrefixLemmas

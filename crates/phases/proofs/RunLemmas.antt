@@ -1,7 +1,7 @@
 -- Laws of runs of plain bytes.
-use Rattle.std.proofs.Common.{◌≡◌, ℕ, zero, suc, ◌+◌, ◌-◌, ◌≤◌, eqb, ◌&&◌, Bool, true, false, not, cond, List, [], ◌∷◌, ◌++◌, length, take, drop, map, refl, sym, ap, ◌∙◌, subst, arith, inl, inr, slice_index, Option, None, Some}
+use Rattle.std.proofs.Common.{◌<◌, ◌≡◌, ℕ, zero, suc, ◌+◌, ◌-◌, ◌≤◌, eqb, ◌&&◌, Bool, true, false, not, cond, List, [], ◌∷◌, ◌++◌, length, take, drop, map, refl, sym, ap, ◌∙◌, subst, arith, inl, inr, slice_index, Option, None, Some}
 use Rattle.std.proofs.lemmas.Bool.{cases_Bool, and_parts, and_from, or_cases, eqb-true, both_ways, ne_eqb, not-true, and_right}
-use Rattle.std.proofs.lemmas.List.{take-append-drop, map-append, length-append, length-take-le, length-drop, drop-drop, take_all, length-map}
+use Rattle.std.proofs.lemmas.List.{length-take, take-append-drop, map-append, length-append, length-take-le, length-drop, drop-drop, take_all, length-map}
 use Rattle.phases.specs.Text.{Char, logical, bytes_of}
 use Rattle.phases.specs.Lexical.{is_word, is_white, word_len, goes_on, number_more, one_more, escapes_next, to_close}
 use Rattle.phases.specs.Lines.{also, line_len, comment_len}
@@ -160,6 +160,9 @@ ordinary_run a b stop n e r l =
     let p = ordinary_plain stop f o in
     let m : length f ≡ n = length-take-le n a.rest.now (omega (arith, e, ordinary_most stop a.rest.now)) in
     record { front = f; ordinary = o; count_is = m; bytes_is = run_bytes a b f p (split a b n r) l; spans = run_spans a b f n p (split a b n r) l m }
+
+pub white_within : (one n : ℕ) (bs : List ℕ) → one < length bs → n ≡ white_len (take (length bs - one) (drop one bs)) → one + n ≤ length bs
+white_within one n bs h e = omega (arith, h, e, white_most (take (length bs - one) (drop one bs)), length-take (length bs - one) (drop one bs))
 
 -- the white space from here on
 pub white_run : (a b : Cursor) (n : ℕ) → n ≡ white_len a.rest.now → b.rest.now ≡ drop n a.rest.now → b.line ≡ a.line → IsWhiteRun a (record { count = n; after = b })

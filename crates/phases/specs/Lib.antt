@@ -2,7 +2,9 @@ pub mod Text
 pub mod Lexical
 pub mod Grammar
 pub mod Token
+pub mod Held
 pub mod Spelled
+pub mod Cut
 pub mod Lines
 pub mod Plain
 pub mod Runs

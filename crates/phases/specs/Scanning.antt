@@ -19,7 +19,7 @@ or_later (Some q) p = Some q
 -- what a file holds, by what is scanned of it and what the rest of it holds
 abbrev pub whole : Scanner → Found → Found
 whole s f =
-    record { lines = s.lines.items ++ before s.line.items f.lines; overlong = or_later s.overlong f.overlong; unclosed = or_later s.unclosed f.unclosed }
+    record { lines = s.list.lines ++ before s.list.line f.lines; overlong = or_later s.overlong f.overlong; unclosed = or_later s.unclosed f.unclosed }
 
 -- the token that a word at this place is
 abbrev pub token_at : Scanner → Cursor → Step → Front → Token
@@ -29,8 +29,8 @@ token_at s at first front =
 -- nothing is scanned
 pub record IsNew (file : ℕ) (s : Scanner) : Type 0 where
   pub file_is : s.file ≡ file
-  pub lines_is : s.lines.items ≡ []
-  pub line_is : s.line.items ≡ []
+  pub lines_is : s.list.lines ≡ []
+  pub line_is : s.list.line ≡ []
   pub place_is : s.place ≡ Start
   pub space_is : s.space ≡ false
   pub overlong_is : s.overlong ≡ None
@@ -39,8 +39,8 @@ pub record IsNew (file : ℕ) (s : Scanner) : Type 0 where
 -- the line has ended
 pub record EndsLine (old : Scanner) (new : Scanner) : Type 0 where
   pub file_is : new.file ≡ old.file
-  pub lines_is : new.lines.items ≡ old.lines.items ++ old.line.items ∷ []
-  pub line_is : new.line.items ≡ []
+  pub lines_is : new.list.lines ≡ old.list.lines ++ old.list.line ∷ []
+  pub line_is : new.list.line ≡ []
   pub place_is : new.place ≡ Start
   pub space_is : new.space ≡ false
   pub overlong_is : new.overlong ≡ old.overlong
@@ -53,8 +53,8 @@ word_at s kind spelling line =
 -- a token with this kind and spelling, on this line, comes last
 pub record AddsWord (old : Scanner) (new : Scanner) (kind : Kind) (spelling : List ℕ) (line : ℕ) : Type 0 where
   pub file_is : new.file ≡ old.file
-  pub lines_is : new.lines.items ≡ old.lines.items
-  pub line_is : new.line.items ≡ old.line.items ++ word_at old kind spelling line ∷ []
+  pub lines_is : new.list.lines ≡ old.list.lines
+  pub line_is : new.list.line ≡ old.list.line ++ word_at old kind spelling line ∷ []
   pub place_is : new.place ≡ next_place old.place spelling
   pub space_is : new.space ≡ false
   pub overlong_is : new.overlong ≡ or_later old.overlong (first_overlong (word_at old kind spelling line) None)
@@ -63,8 +63,8 @@ pub record AddsWord (old : Scanner) (new : Scanner) (kind : Kind) (spelling : Li
 -- so much white space is passed
 pub record PassesWhite (old : Scanner) (new : Scanner) (count : ℕ) : Type 0 where
   pub file_is : new.file ≡ old.file
-  pub lines_is : new.lines.items ≡ old.lines.items
-  pub line_is : new.line.items ≡ old.line.items
+  pub lines_is : new.list.lines ≡ old.list.lines
+  pub line_is : new.list.line ≡ old.list.line
   pub place_is : new.place ≡ old.place
   pub space_is : new.space ≡ (old.space || nat_lt 0 count)
   pub overlong_is : new.overlong ≡ old.overlong
@@ -76,10 +76,6 @@ pub record Puts (old : Scanner) (new : Scanner) (at : Cursor) (first : Step) (fr
   pub place_is : new.place ≡ place_after front.piece old.place (take front.span.count (bytes_at at))
   pub space_is : new.space ≡ space_after front.piece
   pub file_is : new.file ≡ old.file
-
--- the line that is not ended comes last, if it has tokens
-pub record EndsLastLine (old : Scanner) (new : Scanner) : Type 0 where
-  pub lines_is : new.lines.items ≡ old.lines.items ++ before old.line.items []
 
 -- so many characters from here on are scanned
 pub record Goes (old : Scanner) (new : Scanner) (from : Cursor) (s : Span) : Type 0 where

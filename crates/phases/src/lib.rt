@@ -6,6 +6,7 @@ mod classes;
 mod closing;
 mod cursor;
 mod lexical;
+mod line_list;
 mod lines;
 mod pieces;
 #[cfg(test)]
@@ -21,6 +22,7 @@ mod spelling;
 mod tests;
 mod token;
 
+pub use line_list::Lines;
 pub use lines::scan;
 pub use scanning::MAX_SPELLING_BYTES;
-pub use token::{Kind, Line, PpToken};
+pub use token::{Kind, PpToken};

@@ -10,8 +10,8 @@ ghost use Rattle.phases.specs.Grammar.{IsLongest, IsWholeFront};
 ghost use Rattle.phases.specs.declared.token.Place.{Place};
 
 use crate::cursor::{Cursor, Hopeless};
+use crate::line_list::Lines;
 use crate::scanner::Scanner;
-use crate::token::Line;
 use srcset::{Fault, Names, Pos, Refusal};
 use std::alloc::Global;
 
@@ -90,11 +90,11 @@ fn behind(known: Hopeless, count: usize) -> Hopeless
 }
 
 // The token lines of the text from here on.
-fn token_lines<'a>(alloc: Global, start: Cursor<'a>, file: usize) -> Result<Vec<Line<'a>>, Refusal>
-    ensures ok { IfOk result (λ lines. lines_or_fault (found file 0 Start false (text_at start.entry)) ≡ Ok lines.items) }
+fn token_lines<'a>(alloc: Global, start: Cursor<'a>, file: usize) -> Result<Lines<'a>, Refusal>
+    ensures ok { IfOk result (λ lines. lines_or_fault (found file 0 Start false (text_at start.entry)) ≡ Ok lines) }
     ensures err { IfErr result (λ e. (e ≡ Memory) ⊎ (lines_or_fault (found file 0 Start false (text_at start.entry)) ≡ Err e)) }
 {
-    let mut scanner = Scanner::new(alloc, file);
+    let mut scanner = Scanner::new(alloc, file, start.rest.len())?;
     let mut at = scanner.put_quick(alloc, start)?.after;
     let mut known = Hopeless {
         single: 0,
@@ -108,13 +108,13 @@ fn token_lines<'a>(alloc: Global, start: Cursor<'a>, file: usize) -> Result<Vec<
         known = behind(behind(hopeless, front.span.count), quick.count);
         at = quick.after;
     }
-    scanner.finish(alloc)
+    scanner.finish()
 }
 
 // The token lines of a file.
-fn file_lines<'a>(alloc: Global, bytes: &'a [u8], file: usize) -> Result<Vec<Line<'a>>, Refusal>
+fn file_lines<'a>(alloc: Global, bytes: &'a [u8], file: usize) -> Result<Lines<'a>, Refusal>
     requires { length bytes.now ≤ 1048576 }
-    ensures ok { IfOk result (λ lines. scanned file bytes.now ≡ Ok lines.items) }
+    ensures ok { IfOk result (λ lines. scanned file bytes.now ≡ Ok lines) }
     ensures err { IfErr result (λ e. (e ≡ Memory) ⊎ (scanned file bytes.now ≡ Err e)) }
 {
     if ends_open(bytes) {
@@ -158,9 +158,9 @@ pub fn scan<'a>(
     bytes: &'a [u8],
     file: usize,
     names: &Names,
-) -> Result<Vec<Line<'a>>, Fault>
+) -> Result<Lines<'a>, Fault>
     requires { length bytes.now ≤ 1048576 }
-    ensures ok { IfOk result (λ lines. scanned file bytes.now ≡ Ok lines.items) }
+    ensures ok { IfOk result (λ lines. scanned file bytes.now ≡ Ok lines) }
     ensures err { IfErr result (λ fault. IsScanFault fault names.now (scanned file bytes.now)) }
     ensures longest { (place : Place) (text : List ℕ) → IsLongest place text }
     ensures whole { (place : Place) (text : List ℕ) → IsWholeFront place text }

@@ -67,9 +67,9 @@ fn ordinary_bytes(bytes: &[u8], stop: u8) -> usize
     count + ordinary_front(&bytes[count..], stop)
 }
 
-// How many bytes from the first on are white space.
+// How many bytes from the first on are white space, one by one.
 #[inline(always)]
-fn white_bytes(bytes: &[u8]) -> usize
+fn white_front(bytes: &[u8]) -> usize
     ensures { result ≡ white_len bytes.now }
 {
     let mut count = 0;
@@ -80,6 +80,22 @@ fn white_bytes(bytes: &[u8]) -> usize
         count += 1;
     }
     count
+}
+
+// How many bytes from the first on are white space. Mostly it is one or none, and which of the two the processor
+// cannot foresee: so no branch asks for it.
+#[inline(always)]
+fn white_bytes(bytes: &[u8]) -> usize
+    ensures { result ≡ white_len bytes.now }
+{
+    let Some(first) = bytes.first() else {
+        return 0;
+    };
+    let one = is_white(*first) as usize;
+    if one < bytes.len() && is_white(bytes[one]) {
+        return one + white_front(&bytes[one..]);
+    }
+    one
 }
 
 /// How many bytes from the first on go on with a word.

@@ -1,5 +1,6 @@
 //! The token lines so far.
-use crate::token::{Line, Place, PpToken};
+use crate::line_list::LineBuilder;
+use crate::token::Place;
 use srcset::Pos;
 
 /// What is scanned of a file.
@@ -7,9 +8,7 @@ use srcset::Pos;
 pub struct Scanner<'a> {
     // The number of the file's name.
     pub(crate) file: usize,
-    pub(crate) lines: Vec<Line<'a>>,
-    // The tokens of the line that is not ended yet.
-    pub(crate) line: Vec<PpToken<'a>>,
+    pub(crate) list: LineBuilder<'a>,
     // Where the next token stands, and whether white space stands before it.
     pub(crate) place: Place,
     pub(crate) space: bool,

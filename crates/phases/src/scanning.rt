@@ -3,16 +3,20 @@ ghost use Rattle.std.specs.Prelude.{◌≡◌, ◌⊎◌, Ok, Err, IfOk, IfErr, 
 ghost use Rattle.srcset.specs.declared.refusal.Refusal.TheVariants.{Memory};
 ghost use Rattle.phases.specs.Lines.{after_first, after_hash, next_place, lines_or_fault, nothing};
 ghost use Rattle.phases.specs.Reading.{bytes_at, Spans};
-ghost use Rattle.phases.specs.Scanning.{Puts, IsNew, EndsLine, AddsWord, EndsLastLine, PassesWhite, or_later, whole, Goes};
+ghost use Rattle.phases.specs.Scanning.{Puts, IsNew, EndsLine, AddsWord, PassesWhite, or_later, whole, Goes};
 
 use crate::cursor::{Cursor, Front, Span, Step};
+use crate::line_list::{LineBuilder, Lines};
 use crate::scanner::Scanner;
-use crate::token::{Kind, Line, Piece, Place, PpToken};
+use crate::token::{Kind, Piece, Place, PpToken};
 use srcset::{Pos, Refusal};
 use std::alloc::Global;
 
 /// The greatest number of bytes in the spelling of a token.
 pub const MAX_SPELLING_BYTES: usize = 4095;
+
+// Few texts have more tokens than one in so many bytes. Room for that many is asked for once.
+const BYTES_A_TOKEN: usize = 4;
 
 // Where the token behind this one stands.
 #[inline(always)]
@@ -58,29 +62,28 @@ fn or_later(first: Option<Pos>, later: Pos) -> Option<Pos>
 }
 
 impl<'a> Scanner<'a> {
-    // Nothing is scanned yet.
-    pub(crate) fn new(alloc: Global, file: usize) -> Scanner<'a>
-        ensures { IsNew file result }
+    // Nothing is scanned yet, of a file of so many bytes.
+    pub(crate) fn new(alloc: Global, file: usize, size: usize) -> Result<Scanner<'a>, Refusal>
+        ensures ok { IfOk result (IsNew file) }
+        ensures err { IfErr result (λ e. e ≡ Memory) }
     {
-        Scanner {
+        let list = LineBuilder::new(alloc, size / BYTES_A_TOKEN)?;
+        Ok(Scanner {
             file,
-            lines: Vec::new(alloc),
-            line: Vec::new(alloc),
+            list,
             place: Place::Start,
             space: false,
             overlong: None,
             unclosed: None,
-        }
+        })
     }
 
-    fn end_line(&mut self, alloc: Global) -> Result<(), Refusal>
+    #[inline(always)]
+    fn end_line(&mut self) -> Result<(), Refusal>
         ensures ok { OnOk result (EndsLine self.old self.new) }
         ensures err { IfErr result (λ e. e ≡ Memory) }
     {
-        let mut tokens = Vec::new(alloc);
-        tokens.reserve_exact(self.line.len())?;
-        tokens.append(&mut self.line)?;
-        self.lines.push(Line { tokens })?;
+        self.list.end_line()?;
         self.place = Place::Start;
         self.space = false;
         Ok(())
@@ -109,9 +112,9 @@ impl<'a> Scanner<'a> {
             self.overlong = or_later(self.overlong, pos);
         }
         self.place = next_place(self.place, spelling.as_slice());
-        let token = PpToken::new(kind, spelling, self.space, pos);
+        let token = PpToken::new(alloc, kind, spelling, self.space, pos)?;
         self.space = false;
-        self.line.push(token)?;
+        self.list.push(token)?;
         Ok(())
     }
 
@@ -129,7 +132,7 @@ impl<'a> Scanner<'a> {
         ensures err { IfErr result (λ e. e ≡ Memory) }
     {
         match front.piece {
-            Piece::Newline => self.end_line(alloc),
+            Piece::Newline => self.end_line(),
             Piece::Gap => {
                 self.space = true;
                 Ok(())
@@ -181,20 +184,9 @@ impl<'a> Scanner<'a> {
         Ok(Span { count, after: at })
     }
 
-    // Ends the last line, if it has tokens.
-    fn end_last_line(&mut self, alloc: Global) -> Result<(), Refusal>
-        ensures ok { OnOk result (EndsLastLine self.old self.new) }
-        ensures err { IfErr result (λ e. e ≡ Memory) }
-    {
-        if self.line.is_empty() {
-            return Ok(());
-        }
-        self.end_line(alloc)
-    }
-
     /// The lines of a file that is all scanned, or the fault of a comment or a token.
-    pub(crate) fn finish(mut self, alloc: Global) -> Result<Vec<Line<'a>>, Refusal>
-        ensures ok { IfOk result (λ lines. lines_or_fault (whole self.entry nothing) ≡ Ok lines.items) }
+    pub(crate) fn finish(self) -> Result<Lines<'a>, Refusal>
+        ensures ok { IfOk result (λ lines. lines_or_fault (whole self.entry nothing) ≡ Ok lines) }
         ensures err { IfErr result (λ e. (e ≡ Memory) ⊎ (lines_or_fault (whole self.entry nothing) ≡ Err e)) }
     {
         if let Some(pos) = self.unclosed {
@@ -203,7 +195,7 @@ impl<'a> Scanner<'a> {
         if let Some(pos) = self.overlong {
             return Err(Refusal::At { code: 703, pos });
         }
-        self.end_last_line(alloc)?;
-        Ok(self.lines)
+        let lines = self.list.finish()?;
+        Ok(lines)
     }
 }

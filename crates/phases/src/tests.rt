@@ -1,7 +1,7 @@
 //! Tests: texts whose tokens were listed from outside, all texts of two bytes beside a plain program, and each limit
 //! at it and one past it.
 use crate::plain::{PlainFile, PlainToken, plain_scan};
-use crate::{Kind, Line, MAX_SPELLING_BYTES, PpToken, scan};
+use crate::{Kind, Lines, MAX_SPELLING_BYTES, PpToken, scan};
 use srcset::{Names, Pos};
 use std::alloc::Global;
 use std::borrow::CowSlice;
@@ -131,10 +131,13 @@ const FAULTS: [(&[u8], u16, u32); 12] = [
 ];
 
 // The tokens, each with a space behind it and each line with a newline.
-fn shown(alloc: Global, lines: &[Line]) -> Result<Vec<u8>, Fail> {
+fn shown(alloc: Global, lines: &Lines) -> Result<Vec<u8>, Fail> {
     let mut text = Vec::new(alloc);
-    for line in lines {
-        for token in line.tokens() {
+    for index in 0..lines.len() {
+        let Some(line) = lines.get(index) else {
+            return Ok(text);
+        };
+        for token in line {
             text.extend_from_slice(token.spelling())?;
             text.push(b' ')?;
         }
@@ -154,7 +157,7 @@ fn expect_tokens(rt: &(impl Abort + AllocGlobal), text: &[u8], tokens: &[u8]) ->
     assert!(rt; text.len() < 100);
     let names = names(rt.alloc())?;
     let lines = scan(rt.alloc(), text, 0, &names)?;
-    let found = shown(rt.alloc(), lines.as_slice())?;
+    let found = shown(rt.alloc(), &lines)?;
     assert!(rt; found.as_slice() == tokens);
     Ok(())
 }
@@ -201,7 +204,7 @@ fn trigraphs(rt: HostRuntime) -> Result<(), Fail> {
         let text = [b'"', b'?', b'?', byte, b'x', b'"', b'\n'];
         let names = names(rt.alloc())?;
         let lines = scan(rt.alloc(), &text, 0, &names)?;
-        let found = shown(rt.alloc(), lines.as_slice())?;
+        let found = shown(rt.alloc(), &lines)?;
         let replaced = match byte {
             b'=' => b'#',
             b'(' => b'[',
@@ -247,7 +250,7 @@ fn parts_of_tokens(rt: HostRuntime) -> Result<(), Fail> {
     let names = names(rt.alloc())?;
     let lines = scan(rt.alloc(), b"a\\\nb +/**/1\n", 7, &names)?;
     assert_eq!(rt; lines.len(), 1);
-    let tokens = lines[0].tokens();
+    let tokens = lines.tokens();
     assert_eq!(rt; tokens.len(), 3);
     assert!(rt; tokens[0].kind() == Kind::Identifier);
     assert!(rt; tokens[0].pos() == Pos { file: 7, line: 1 });
@@ -255,7 +258,7 @@ fn parts_of_tokens(rt: HostRuntime) -> Result<(), Fail> {
     assert!(rt; tokens[1].pos() == Pos { file: 7, line: 2 });
     assert!(rt; tokens[2].kind() == Kind::Number && tokens[2].space_before());
     assert!(rt; !tokens[0].space_before());
-    let copy = tokens[0].copy()?;
+    let copy = tokens[0].copy(rt.alloc())?;
     assert!(rt; copy.spelling() == b"ab".as_slice());
     Ok(())
 }
@@ -263,15 +266,14 @@ fn parts_of_tokens(rt: HostRuntime) -> Result<(), Fail> {
 #[test]
 fn made_tokens(rt: HostRuntime) -> Result<(), Fail> {
     let pos = Pos { file: 1, line: 2 };
-    let token = PpToken::new(Kind::Other, CowSlice::Borrowed(b"@"), true, pos);
+    let token = PpToken::new(rt.alloc(), Kind::Other, CowSlice::Borrowed(b"@"), true, pos)?;
     assert!(rt; token.spelling() == b"@".as_slice());
     let names = names(rt.alloc())?;
-    let mut lines = scan(rt.alloc(), b"a b\n", 0, &names)?;
-    let Some(line) = lines.pop() else {
-        assert!(rt; false);
-        return Ok(());
-    };
-    assert_eq!(rt; line.into_tokens().len(), 2);
+    let lines = scan(rt.alloc(), b"a b\n\nc\n", 0, &names)?;
+    assert_eq!(rt; lines.len(), 3);
+    assert!(rt; shown(rt.alloc(), &lines)?.as_slice() == b"a b \n\nc \n".as_slice());
+    assert!(rt; lines.get(3).is_none());
+    assert_eq!(rt; lines.into_tokens().len(), 3);
     Ok(())
 }
 
@@ -287,7 +289,7 @@ fn unclosed_quotes(rt: HostRuntime) -> Result<(), Fail> {
     assert!(rt; text.len() <= 1_048_576);
     let lines = scan(rt.alloc(), text.as_slice(), 0, &names)?;
     assert_eq!(rt; lines.len(), 1);
-    assert_eq!(rt; lines[0].tokens().len(), 1_000_001);
+    assert_eq!(rt; lines.tokens().len(), 1_000_001);
     Ok(())
 }
 
@@ -307,9 +309,12 @@ fn are_same(tokens: &[PpToken], plain: &[PlainToken]) -> bool {
     tokens.len() == plain.len()
 }
 
-fn is_same_file(lines: &[Line], file: &PlainFile) -> bool {
-    for (line, other) in lines.iter().zip(file.lines.iter()) {
-        if !are_same(line.tokens(), other.as_slice()) {
+fn is_same_file(lines: &Lines, file: &PlainFile) -> bool {
+    for (index, other) in file.lines.iter().enumerate() {
+        let Some(line) = lines.get(index) else {
+            return false;
+        };
+        if !are_same(line, other.as_slice()) {
             return false;
         }
     }
@@ -323,7 +328,7 @@ fn agrees(alloc: Global, names: &Names, text: &[u8]) -> Result<bool, Fail> {
         return Ok(false);
     }
     match scan(alloc, text, 0, names) {
-        Ok(lines) => Ok(is_same_file(lines.as_slice(), &file)),
+        Ok(lines) => Ok(is_same_file(&lines, &file)),
         Err(fault) => match file.fault {
             Some(other) => Ok(fault.code == other.code && fault.line == other.line),
             None => Ok(false),

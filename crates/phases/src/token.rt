@@ -1,10 +1,11 @@
 //! Preprocessing tokens.
-ghost use Rattle.std.specs.Prelude.{◌≡◌, IfOk};
-ghost use Rattle.phases.specs.Spelled.{token_of};
+ghost use Rattle.std.specs.Prelude.{◌≡◌, true, IfOk, IsOk};
+ghost use Rattle.phases.specs.Spelled.{token_of, is_lent};
 
 use srcset::Pos;
-use std::alloc::AllocError;
+use std::alloc::{AllocError, Global};
 use std::borrow::CowSlice;
+use std::boxed::Box;
 use std::marker::Model;
 
 /// The kinds of preprocessing tokens (ISO/IEC 9899:2011 6.4).
@@ -52,117 +53,138 @@ pub enum Piece {
     Word(Kind),
 }
 
+/// A preprocessing token, by whose the bytes of its spelling are. In this order nothing is left empty between the
+/// fields: it takes 32 bytes.
+#[derive(Drop)]
+enum Held<'a> {
+    /// Lent from the bytes of the file.
+    Lent {
+        kind: Kind,
+        space_before: bool,
+        line: u32,
+        file: usize,
+        spelling: &'a [u8],
+    },
+    /// Its own.
+    Owned {
+        kind: Kind,
+        space_before: bool,
+        line: u32,
+        file: usize,
+        spelling: Box<Vec<u8>>,
+    },
+}
+
 /// A preprocessing token (ISO/IEC 9899:2011 6.4).
 ///
 /// Its spelling has no trigraphs and no splices. It is lent from the bytes of the file, and owned only
 /// where something was rewritten inside it.
 #[derive(Drop)]
 pub struct PpToken<'a> {
-    pub(crate) spelling: CowSlice<'a, u8>,
-    // The parts of its place. In this order nothing is left empty between the fields: a token takes 48 bytes.
-    pub(crate) file: usize,
-    pub(crate) line: u32,
-    pub(crate) kind: Kind,
-    pub(crate) space_before: bool,
+    held: Held<'a>,
 }
 
 impl<'a> Model for PpToken<'a> {
-    ghost use Rattle.std.specs.Cow.{cow_slice_items};
     ghost use Rattle.phases.specs.Token.{Token};
+    ghost use Rattle.phases.specs.Held.{token_held};
 
     ghost Value = { Token };
 
-    ghost view = { λ t. record { kind = t.kind; spelling = cow_slice_items t.spelling; space_before = t.space_before; pos = record { file = t.file; line = t.line } } };
+    ghost view = { λ t. token_held t.held };
 }
 
 impl<'a> PpToken<'a> {
     /// The token with this kind and spelling, at this place. `space_before` says whether white space or
-    /// a comment stands directly before it.
-    pub fn new(kind: Kind, spelling: CowSlice<'a, u8>, space_before: bool, pos: Pos) -> PpToken<'a>
-        ensures { result ≡ token_of kind spelling.entry space_before pos }
+    /// a comment stands directly before it. Fails only where memory runs out, which only an owned spelling
+    /// can meet.
+    #[inline(always)]
+    pub fn new(
+        alloc: Global,
+        kind: Kind,
+        spelling: CowSlice<'a, u8>,
+        space_before: bool,
+        pos: Pos,
+    ) -> Result<PpToken<'a>, AllocError>
+        ensures ok { IfOk result (λ t. t ≡ token_of kind spelling.entry space_before pos) }
+        ensures lent { is_lent spelling.entry ≡ true → IsOk result }
     {
-        PpToken {
-            kind,
-            spelling,
-            space_before,
-            file: pos.file,
-            line: pos.line,
-        }
+        let Pos { file, line } = pos;
+        let held = match spelling {
+            CowSlice::Borrowed(spelling) => Held::Lent {
+                kind,
+                space_before,
+                line,
+                file,
+                spelling,
+            },
+            CowSlice::Owned(spelling) => Held::Owned {
+                kind,
+                space_before,
+                line,
+                file,
+                spelling: Box::new(alloc, spelling)?,
+            },
+        };
+        Ok(PpToken { held })
     }
 
     /// What kind of token it is.
     pub fn kind(&self) -> Kind
         ensures { result ≡ self.now.kind }
     {
-        self.kind
+        match &self.held {
+            Held::Lent { kind, .. } => *kind,
+            Held::Owned { kind, .. } => *kind,
+        }
     }
 
     /// Its text, after phases 1 and 2.
     pub fn spelling(&self) -> &[u8]
         ensures { result.now ≡ self.now.spelling }
     {
-        self.spelling.as_slice()
+        match &self.held {
+            Held::Lent { spelling, .. } => spelling,
+            Held::Owned { spelling, .. } => spelling.as_slice(),
+        }
     }
 
     /// Whether white space or a comment stands directly before it on its line.
     pub fn space_before(&self) -> bool
         ensures { result ≡ self.now.space_before }
     {
-        self.space_before
+        match &self.held {
+            Held::Lent { space_before, .. } => *space_before,
+            Held::Owned { space_before, .. } => *space_before,
+        }
     }
 
     /// Its file, and the physical line of its first character, counted from 1.
     pub fn pos(&self) -> Pos
         ensures { result ≡ self.now.pos }
     {
-        Pos {
-            file: self.file,
-            line: self.line,
-        }
+        let (file, line) = match &self.held {
+            Held::Lent { file, line, .. } => (*file, *line),
+            Held::Owned { file, line, .. } => (*file, *line),
+        };
+        Pos { file, line }
     }
 
     /// The same token once more. Fails only where memory runs out, which only an owned spelling can meet.
-    pub fn copy(&self) -> Result<PpToken<'a>, AllocError>
+    pub fn copy(&self, alloc: Global) -> Result<PpToken<'a>, AllocError>
         ensures { IfOk result (λ t. t ≡ self.now) }
     {
-        let spelling = self.spelling.clone()?;
-        Ok(PpToken {
-            kind: self.kind,
+        let spelling = match &self.held {
+            Held::Lent { spelling, .. } => CowSlice::Borrowed(*spelling),
+            Held::Owned { spelling, .. } => {
+                CowSlice::Owned(Vec::from_slice(alloc, spelling.as_slice())?)
+            }
+        };
+        PpToken::new(
+            alloc,
+            self.kind(),
             spelling,
-            space_before: self.space_before,
-            file: self.file,
-            line: self.line,
-        })
-    }
-}
-
-/// One token line: the tokens up to the end of a line that is in no comment.
-#[derive(Drop)]
-pub struct Line<'a> {
-    pub(crate) tokens: Vec<PpToken<'a>>,
-}
-
-impl<'a> Model for Line<'a> {
-    ghost use Rattle.std.specs.Prelude.{List};
-    ghost use Rattle.phases.specs.Token.{Token};
-
-    ghost Value = { List Token };
-
-    ghost view = { λ l. l.tokens.items };
-}
-
-impl<'a> Line<'a> {
-    /// The tokens, in their order.
-    pub fn tokens(&self) -> &[PpToken<'a>]
-        ensures { result.now ≡ self.now }
-    {
-        self.tokens.as_slice()
-    }
-
-    /// The tokens, in their order.
-    pub fn into_tokens(self) -> Vec<PpToken<'a>>
-        ensures { result.items ≡ self.entry }
-    {
-        self.tokens
+            self.space_before(),
+            self.pos(),
+        )
     }
 }

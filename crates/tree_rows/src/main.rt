@@ -66,14 +66,7 @@ fn syntax_tree(
     if source.len() > MAX_FILE_BYTES {
         return Err(Fault::at(alloc, 701, "row.c", 0));
     }
-    let mut list = Vec::new(alloc);
-    for line in scan(alloc, source, file, names)? {
-        for token in line.into_tokens() {
-            if list.push(token).is_err() {
-                return Err(Fault::memory(alloc));
-            }
-        }
-    }
-    let tokens = lexer::tokens(alloc, list.as_slice(), names)?;
+    let lines = scan(alloc, source, file, names)?;
+    let tokens = lexer::tokens(alloc, lines.tokens(), names)?;
     parser::parse(alloc, tokens.as_slice(), names)
 }

@@ -12,10 +12,10 @@ pub returns-then-not-is_unprocessed-clause-err : goal.returns-then-not-is_unproc
 returns-then-not-is_unprocessed-clause-err c =
     let t = c.if-not-is_unprocessed.true in
     let wants : c.is_unprocessed.result ≡ false = grind (arith, t) in
-    lines_are_processed c.args.name.now c.args.bytes.now c.as_bytes.result.now c.at.result c.args.names.now c.intern.new.self c.in_ok-file.file c.as_bytes.ensures.value c.requires.new c.in_ok-file.ensures.grows c.in_ok-file.ensures.text c.in_ok-lines.lines.items c.as_slice.result.now c.is_unprocessed.result c.in_ok-lines.ensures.ok c.as_slice.ensures.value c.is_unprocessed.ensures wants c.at.ensures
+    lines_are_processed c.args.name.now c.args.bytes.now c.as_bytes.result.now c.at.result c.args.names.now c.intern.new.self c.in_ok-file.file c.as_bytes.ensures.value c.requires.new c.in_ok-file.ensures.grows c.in_ok-file.ensures.text c.in_ok-lines.lines c.is_unprocessed.result c.in_ok-lines.ensures.ok c.is_unprocessed.ensures wants c.at.ensures
 
 pub returns-clause-err : goal.returns-clause-err
 returns-clause-err c =
     let t = c.if-not-is_unprocessed.false in
     let fine : c.is_unprocessed.result ≡ true = grind (arith, t) in
-    error_means c.tokens.result _ _ (λ f h. token_fails c.args.name.now c.args.bytes.now c.as_bytes.result.now f c.args.names.now c.intern.new.self c.in_ok-file.file c.as_bytes.ensures.value c.requires.new c.in_ok-file.ensures.grows c.in_ok-file.ensures.text c.in_ok-lines.lines.items c.as_slice.result.now c.is_unprocessed.result c.in-Ok.list.items c.as_slice-2.result.now c.tokens.new.names c.in_ok-lines.ensures.ok c.as_slice.ensures.value c.is_unprocessed.ensures fine c.in-Ok.ensures c.as_slice-2.ensures.value c.tokens.ensures.keeps h) c.tokens.ensures.err
+    error_means c.tokens-2.result _ _ (λ f h. token_fails c.args.name.now c.args.bytes.now c.as_bytes.result.now f c.args.names.now c.intern.new.self c.in_ok-file.file c.as_bytes.ensures.value c.requires.new c.in_ok-file.ensures.grows c.in_ok-file.ensures.text c.in_ok-lines.lines c.is_unprocessed.result c.tokens.result.now c.tokens-2.new.names c.in_ok-lines.ensures.ok c.is_unprocessed.ensures fine c.tokens.ensures c.tokens-2.ensures.keeps h) c.tokens-2.ensures.err

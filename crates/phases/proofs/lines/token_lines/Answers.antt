@@ -22,7 +22,7 @@ loop-first-preserved c =
 pub returns-clause-ok : goal.returns-clause-ok
 returns-clause-ok c =
     let e = scan_end c.args.file c.loop-first.scanner _ c.loop-first.at c.loop-first.invariant.whole_is c.in_default.ensures in
-    subst (λ f. IfOk c.finish.result (λ lines. lines_or_fault f ≡ Ok lines.items)) (sym e) c.finish.ensures.ok
+    subst (λ f. IfOk c.finish.result (λ lines. lines_or_fault f ≡ Ok lines)) (sym e) c.finish.ensures.ok
 
 pub returns-clause-err : goal.returns-clause-err
 returns-clause-err c =

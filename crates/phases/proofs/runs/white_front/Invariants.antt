@@ -1,6 +1,6 @@
 use Rattle.std.proofs.Common.{◌≡◌, ◌+◌, drop}
 use Rattle.phases.specs.Runs.{white_len}
-use Rattle.phases.proofs.runs.white_bytes.Given as goal
+use Rattle.phases.proofs.runs.white_front.Given as goal
 
 abbrev pub invariant-loop-byte : goal.invariant-loop-byte
 invariant-loop-byte l =

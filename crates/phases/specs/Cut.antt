@@ -1,0 +1,24 @@
+-- Token lines, one behind another in one list.
+use Rattle.std.specs.Prelude.{◌≡◌, ℕ, zero, suc, ◌≤◌, List, [], ◌∷◌, slice_range}
+use Rattle.phases.specs.Token.{Token}
+
+-- the lines of a list of tokens, from here on, by how many tokens there are up to the end of each line
+abbrev pub cut : ℕ → List ℕ → List Token → List (List Token)
+cut start [] tokens = []
+cut start (e ∷ es) tokens = slice_range tokens start e ∷ cut e es tokens
+
+-- the ends stand in order, from here to the last of them
+abbrev pub Ascend : ℕ → List ℕ → ℕ → Type 0
+Ascend start [] last = start ≡ last
+Ascend start (e ∷ es) last = (start ≤ e) × Ascend e es last
+
+-- where the line with this number begins
+abbrev pub line_start : ℕ → List ℕ → ℕ → ℕ
+line_start start es zero = start
+line_start start [] (suc i) = start
+line_start start (e ∷ es) (suc i) = line_start e es i
+
+-- lines, and the tokens of the line that is not ended yet
+pub record Begun : Type 0 where
+  pub lines : List (List Token)
+  pub line : List Token

@@ -1,0 +1,10 @@
+-- What a token says, by whose its spelling is.
+use Rattle.phases.specs.declared.token.Held.{Held}
+use Rattle.phases.specs.declared.token.Held.TheVariants.{Lent, Owned}
+use Rattle.phases.specs.Token.{Token}
+
+abbrev pub token_held : Held → Token
+token_held (Lent kind space_before line file spelling) =
+    record { kind = kind; spelling = spelling.now; space_before = space_before; pos = record { file = file; line = line } }
+token_held (Owned kind space_before line file spelling) =
+    record { kind = kind; spelling = spelling.value.items; space_before = space_before; pos = record { file = file; line = line } }
