@@ -3,9 +3,10 @@
 # the preprocessors of gcc and tcc, then scan, tokens and parse together beside the
 # syntax checks of clang and tcc.
 #
-#   bash bench/front.sh [TURNS]
+#   bash bench/front.sh [TURNS [FILE..]]
 #
-# Called from the repository's root.
+# Called from the repository's root. Each FILE, of at most 1,048,576 bytes, is
+# then scanned as it stands, and not given to the others.
 # The measuring program (bench/front_bench.txt) is proved and built from a copy of
 # the crates in a temporary folder. TURNS is 7 by default; of each measurement
 # the best is printed. What needs a missing tool is left out, and said so.
@@ -16,6 +17,8 @@ export LC_ALL
 root=$(pwd)
 turns=${1:-7}
 rounds=40
+files=()
+for file in "${@:2}"; do files+=("$(realpath "$file")"); done
 
 work=$(mktemp -d) || exit 1
 trap 'rm -rf "$work"' EXIT
@@ -90,6 +93,11 @@ spent() {
     { time "$@" >/dev/null 2>err; } 2>&1 | awk '{ print $1 + $2, $3 }'
 }
 
+# many ROUNDS FILE: twenty processes.
+many() {
+    for _ in {1..20}; do "$scan" scan "$1" <"$2"; done
+}
+
 least() { awk -v a="$1" -v b="$2" 'BEGIN { print (a == "" || b + 0 < a + 0) ? b : a }'; }
 
 # measure TEXT
@@ -101,6 +109,7 @@ measure() {
     best=()
     for ((turn = 0; turn < turns; turn++)); do
         times=($(spent "$scan" scan 1 <"$1") $(spent "$scan" scan $((rounds + 1)) <"$1")
+            $(spent many 0 "$1") $(spent many 1 "$1")
             $(spent gcc -E -fpreprocessed "$1") $(spent gcc -E -fpreprocessed eight.c))
         has tcc && times+=($(spent tcc -E "$1") $(spent tcc -E eight.c))
         for place in "${!times[@]}"; do
@@ -108,9 +117,10 @@ measure() {
         done
     done
     show 'scan' "${best[0]}" "${best[2]}" "${best[1]}" "${best[3]}" $rounds
-    show 'gcc -E -fpreprocessed' "${best[4]}" "${best[6]}" "${best[5]}" "${best[7]}" 7
+    show 'first scan' "${best[4]}" "${best[6]}" "${best[5]}" "${best[7]}" 20
+    show 'gcc -E -fpreprocessed' "${best[8]}" "${best[10]}" "${best[9]}" "${best[11]}" 7
     if has tcc; then
-        show 'tcc -E' "${best[8]}" "${best[10]}" "${best[9]}" "${best[11]}" 7
+        show 'tcc -E' "${best[12]}" "${best[14]}" "${best[13]}" "${best[15]}" 7
     else
         echo '  tcc -E: left out'
     fi
@@ -130,6 +140,24 @@ show() {
 
 measure with.c
 measure without.c
+
+# alone FILE: scan alone.
+alone() {
+    bytes=$(wc -c <"$1")
+    echo "$(basename "$1"): $bytes bytes, $(wc -l <"$1") lines"
+    best=()
+    for ((turn = 0; turn < turns; turn++)); do
+        times=($(spent "$scan" scan 1 <"$1") $(spent "$scan" scan $((rounds + 1)) <"$1")
+            $(spent many 0 "$1") $(spent many 1 "$1"))
+        for place in "${!times[@]}"; do
+            best[place]=$(least "${best[place]:-}" "${times[place]}")
+        done
+    done
+    show 'scan' "${best[0]}" "${best[2]}" "${best[1]}" "${best[3]}" $rounds
+    show 'first scan' "${best[4]}" "${best[6]}" "${best[5]}" "${best[7]}" 20
+}
+
+for file in ${files[@]+"${files[@]}"}; do alone "$file"; done
 
 # ------------------------------------------------------------- the tree
 

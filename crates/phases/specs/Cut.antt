@@ -2,17 +2,17 @@
 use Rattle.std.specs.Prelude.{◌≡◌, ℕ, zero, suc, ◌≤◌, List, [], ◌∷◌, slice_range}
 use Rattle.phases.specs.Token.{Token}
 
--- the lines of a list of tokens, from here on, by how many tokens there are up to the end of each line
+-- the lines of a list of tokens from number `start` on, by how many tokens there are up to the end of each line
 abbrev pub cut : ℕ → List ℕ → List Token → List (List Token)
 cut start [] tokens = []
 cut start (e ∷ es) tokens = slice_range tokens start e ∷ cut e es tokens
 
--- the ends stand in order, from here to the last of them
+-- the ends stand in order, none below `start`, and the last of them is `last` (`start` where there is none)
 abbrev pub Ascend : ℕ → List ℕ → ℕ → Type 0
 Ascend start [] last = start ≡ last
 Ascend start (e ∷ es) last = (start ≤ e) × Ascend e es last
 
--- where the line with this number begins
+-- where the line with this number begins, counted from 0; past the last line, the end of the last
 abbrev pub line_start : ℕ → List ℕ → ℕ → ℕ
 line_start start es zero = start
 line_start start [] (suc i) = start

@@ -1,4 +1,4 @@
--- What a token says, by whose its spelling is.
+-- The token that its parts make, with a spelling that is lent or owned.
 use Rattle.phases.specs.declared.token.Held.{Held}
 use Rattle.phases.specs.declared.token.Held.TheVariants.{Lent, Owned}
 use Rattle.phases.specs.Token.{Token}

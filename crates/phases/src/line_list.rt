@@ -8,8 +8,8 @@ use crate::token::PpToken;
 use std::alloc::{AllocError, Global};
 use std::marker::Model;
 
-/// The token lines of a file: each holds the tokens up to the end of a line that is in no comment. A line
-/// with no token is empty, not absent. All tokens lie in one list, so that a line takes no memory of its own.
+/// The token lines of a file: each holds the tokens up to the next end of a line that lies in no comment. A line
+/// with no token is empty, not absent. All tokens lie in one list, and a line is one number beside it.
 #[derive(Drop)]
 pub struct Lines<'a> {
     // The tokens of all lines, in their order.
@@ -69,8 +69,7 @@ impl<'a> Lines<'a> {
     pub fn into_tokens(self) -> Vec<PpToken<'a>>
         ensures { result.items ≡ flat_map (λ line. line) self.entry }
     {
-        let tokens = self.tokens;
-        tokens
+        self.tokens
     }
 }
 

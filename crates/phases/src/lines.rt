@@ -1,5 +1,5 @@
 //! The token lines of a file.
-ghost use Rattle.std.specs.Prelude.{ℕ, List, ◌≡◌, ◌≤◌, ◌-◌, ◌+◌, ◌<◌, ◌^◌, Ok, Err, IfOk, IfErr, false, ◌⊎◌, length, take};
+ghost use Rattle.std.specs.Prelude.{ℕ, List, ◌≡◌, ◌≤◌, ◌-◌, ◌+◌, ◌<◌, ◌^◌, Ok, Err, IfOk, IfErr, false, ◌⊎◌, length};
 ghost use Rattle.srcset.specs.declared.refusal.Refusal.TheVariants.{Memory};
 ghost use Rattle.phases.specs.declared.token.Place.TheVariants.{Start};
 ghost use Rattle.phases.specs.Text.{line_after, last_line, from_end, ends_open, backslash_at, ends_spliced};

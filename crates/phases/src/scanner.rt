@@ -8,6 +8,7 @@ use srcset::Pos;
 pub struct Scanner<'a> {
     // The number of the file's name.
     pub(crate) file: usize,
+    // The lines so far, and the tokens of the line that is not ended yet.
     pub(crate) list: LineBuilder<'a>,
     // Where the next token stands, and whether white space stands before it.
     pub(crate) place: Place,

@@ -15,8 +15,8 @@ use std::alloc::Global;
 /// The greatest number of bytes in the spelling of a token.
 pub const MAX_SPELLING_BYTES: usize = 4095;
 
-// Few texts have more tokens than one in so many bytes. Room for that many is asked for once.
-const BYTES_A_TOKEN: usize = 4;
+// Room for one token in so many bytes of the file is asked for at first. A file with more tokens asks for more.
+const BYTES_PER_TOKEN: usize = 4;
 
 // Where the token behind this one stands.
 #[inline(always)]
@@ -62,12 +62,12 @@ fn or_later(first: Option<Pos>, later: Pos) -> Option<Pos>
 }
 
 impl<'a> Scanner<'a> {
-    // Nothing is scanned yet, of a file of so many bytes.
+    /// A scanner of a file of `size` bytes, of which nothing is scanned yet.
     pub(crate) fn new(alloc: Global, file: usize, size: usize) -> Result<Scanner<'a>, Refusal>
         ensures ok { IfOk result (IsNew file) }
         ensures err { IfErr result (λ e. e ≡ Memory) }
     {
-        let list = LineBuilder::new(alloc, size / BYTES_A_TOKEN)?;
+        let list = LineBuilder::new(alloc, size / BYTES_PER_TOKEN)?;
         Ok(Scanner {
             file,
             list,

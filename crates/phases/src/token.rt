@@ -53,8 +53,9 @@ pub enum Piece {
     Word(Kind),
 }
 
-/// A preprocessing token, by whose the bytes of its spelling are. In this order nothing is left empty between the
-/// fields: it takes 32 bytes.
+/// The parts of a preprocessing token; the variant says whether the bytes of its spelling are lent or its own.
+/// All parts stand in each variant so that the tag, the kind and the mark share four bytes: with the fields in
+/// this order a token takes 32 bytes.
 #[derive(Drop)]
 enum Held<'a> {
     /// Lent from the bytes of the file.
@@ -65,7 +66,7 @@ enum Held<'a> {
         file: usize,
         spelling: &'a [u8],
     },
-    /// Its own.
+    /// Owned by the token, behind a box, so that this variant is no larger than the other.
     Owned {
         kind: Kind,
         space_before: bool,

@@ -1,4 +1,4 @@
-use Rattle.std.proofs.Common.{◌≡◌, [], ap, ◌∙◌}
+use Rattle.std.proofs.Common.{ap, ◌∙◌}
 use Rattle.phases.proofs.CutLemmas.{ascend_all}
 use Rattle.phases.proofs.line_list.LineBuilder.into_lines.Goals as goal
 
