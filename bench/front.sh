@@ -100,6 +100,28 @@ many() {
 
 least() { awk -v a="$1" -v b="$2" 'BEGIN { print (a == "" || b + 0 < a + 0) ? b : a }'; }
 
+# keep TIME..: the least of each so far, in best.
+keep() {
+    local place=0 time
+    for time in "$@"; do
+        best[place]=$(least "${best[place]:-}" "$time")
+        place=$((place + 1))
+    done
+}
+
+# scan_times TEXT: the eight times that show_scans reads.
+scan_times() {
+    spent "$scan" scan 1 <"$1"
+    spent "$scan" scan $((rounds + 1)) <"$1"
+    spent many 0 "$1"
+    spent many 1 "$1"
+}
+
+show_scans() {
+    show 'scan' "${best[0]}" "${best[2]}" "${best[1]}" "${best[3]}" $rounds
+    show 'first scan' "${best[4]}" "${best[6]}" "${best[5]}" "${best[7]}" 20
+}
+
 # measure TEXT
 measure() {
     bytes=$(wc -c <"$1")
@@ -108,16 +130,12 @@ measure() {
     for _ in 1 2 3 4 5 6 7 8; do cat "$1"; done >eight.c
     best=()
     for ((turn = 0; turn < turns; turn++)); do
-        times=($(spent "$scan" scan 1 <"$1") $(spent "$scan" scan $((rounds + 1)) <"$1")
-            $(spent many 0 "$1") $(spent many 1 "$1")
+        times=($(scan_times "$1")
             $(spent gcc -E -fpreprocessed "$1") $(spent gcc -E -fpreprocessed eight.c))
         has tcc && times+=($(spent tcc -E "$1") $(spent tcc -E eight.c))
-        for place in "${!times[@]}"; do
-            best[place]=$(least "${best[place]:-}" "${times[place]}")
-        done
+        keep "${times[@]}"
     done
-    show 'scan' "${best[0]}" "${best[2]}" "${best[1]}" "${best[3]}" $rounds
-    show 'first scan' "${best[4]}" "${best[6]}" "${best[5]}" "${best[7]}" 20
+    show_scans
     show 'gcc -E -fpreprocessed' "${best[8]}" "${best[10]}" "${best[9]}" "${best[11]}" 7
     if has tcc; then
         show 'tcc -E' "${best[12]}" "${best[14]}" "${best[13]}" "${best[15]}" 7
@@ -147,14 +165,10 @@ alone() {
     echo "$(basename "$1"): $bytes bytes, $(wc -l <"$1") lines"
     best=()
     for ((turn = 0; turn < turns; turn++)); do
-        times=($(spent "$scan" scan 1 <"$1") $(spent "$scan" scan $((rounds + 1)) <"$1")
-            $(spent many 0 "$1") $(spent many 1 "$1"))
-        for place in "${!times[@]}"; do
-            best[place]=$(least "${best[place]:-}" "${times[place]}")
-        done
+        times=($(scan_times "$1"))
+        keep "${times[@]}"
     done
-    show 'scan' "${best[0]}" "${best[2]}" "${best[1]}" "${best[3]}" $rounds
-    show 'first scan' "${best[4]}" "${best[6]}" "${best[5]}" "${best[7]}" 20
+    show_scans
 }
 
 for file in ${files[@]+"${files[@]}"}; do alone "$file"; done
