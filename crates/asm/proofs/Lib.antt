@@ -1,3 +1,4 @@
+pub mod TextLemmas
 pub mod Tables
 pub mod Grow
 pub mod Ends

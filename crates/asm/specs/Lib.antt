@@ -2,6 +2,8 @@ pub mod Layout
 pub mod Choice
 pub mod Placed
 pub mod Code
+pub mod Text
+pub mod TextRows
 pub mod Listing
 pub mod Refusals
 pub mod Draft

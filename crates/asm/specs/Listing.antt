@@ -1,7 +1,10 @@
 -- The lines of a listing.
-use Rattle.std.specs.Prelude.{◌≡◌, ℕ, ◌+◌, ◌/◌, ◌%◌, ◌^◌, nat_lt, if◌then◌else◌, List, [], ◌∷◌, ◌++◌, Option}
+use Rattle.std.specs.Prelude.{◌≡◌, ℕ, ◌+◌, ◌/◌, ◌%◌, ◌^◌, nat_lt, if◌then◌else◌, List, [], ◌∷◌, ◌++◌, Option, Some}
 use Rattle.std.specs.Io.KnownBytes.{Appends}
 use Rattle.asm.specs.declared.item.Item.{Item}
+use Rattle.rv32.specs.declared.instr.Instr.{Instr}
+use Rattle.rv32.specs.Words.{decode_of}
+use Rattle.asm.specs.Text.{text_of}
 use Rattle.asm.specs.Code.{bytes_of}
 use Rattle.asm.specs.Placed.{IsFewest}
 
@@ -13,14 +16,14 @@ digit d = if nat_lt d 10 then 48 + d else 55 + d
 unfoldable pub hex : ℕ → List ℕ
 hex w = digit (w / 2 ^ 28) ∷ digit (w / 2 ^ 24 % 2 ^ 4) ∷ digit (w / 2 ^ 20 % 2 ^ 4) ∷ digit (w / 2 ^ 16 % 2 ^ 4) ∷ digit (w / 2 ^ 12 % 2 ^ 4) ∷ digit (w / 2 ^ 8 % 2 ^ 4) ∷ digit (w / 2 ^ 4 % 2 ^ 4) ∷ digit (w % 2 ^ 4) ∷ []
 
--- address, a space, word, two spaces, some text, a newline
+-- address, a space, word, two spaces, a text, a newline
 abbrev pub line : ℕ → ℕ → List ℕ → List ℕ
 line a w text = hex a ++ 32 ∷ [] ++ hex w ++ 32 ∷ 32 ∷ [] ++ text ++ 10 ∷ []
 
--- a line for each word from address a
+-- a line for each word from address a, with the text of the instruction that the word is
 abbrev pub IsListing : ℕ → List ℕ → List ℕ → Type 0
 IsListing a [] bs = bs ≡ []
-IsListing a (w ∷ ws) bs = (text : List ℕ) × (rest : List ℕ) × (bs ≡ line a w text ++ rest) × IsListing (a + 4) ws rest
+IsListing a (w ∷ ws) bs = (i : Instr) × (decode_of w ≡ Some i) × (rest : List ℕ) × (bs ≡ line a w (text_of i) ++ rest) × IsListing (a + 4) ws rest
 
 -- the listing of the words that the items are from base, with the fewest long branches
 pub record IsListingOf (base : ℕ) (xs : List Item) (listing : List ℕ) : Type 0 where

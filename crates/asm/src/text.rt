@@ -1,9 +1,15 @@
 //! The texts of instructions, as an assembler for RISC-V reads them.
 
+ghost use Rattle.std.specs.Prelude.{◌≡◌, ◌++◌, codes, decimal, IfOk};
+ghost use Rattle.std.specs.Fmt.{signed_decimal};
+ghost use Rattle.asm.specs.Text.{test_name, load_name, store_name, immediate_name, shift_name, op_name, register, upper_bits, memory, text_of};
+
 use rv32::{ImmediateOp, Instr, LoadKind, RegisterOp, ShiftOp, StoreKind, Test};
 use std::alloc::{AllocError, Global};
 
-fn test_name(test: Test) -> &'static str {
+fn test_name(test: Test) -> &'static str
+    ensures { result.now ≡ test_name test }
+{
     match test {
         Test::Equal => "beq",
         Test::NotEqual => "bne",
@@ -14,7 +20,9 @@ fn test_name(test: Test) -> &'static str {
     }
 }
 
-fn load_name(kind: LoadKind) -> &'static str {
+fn load_name(kind: LoadKind) -> &'static str
+    ensures { result.now ≡ load_name kind }
+{
     match kind {
         LoadKind::Byte => "lb",
         LoadKind::Half => "lh",
@@ -24,7 +32,9 @@ fn load_name(kind: LoadKind) -> &'static str {
     }
 }
 
-fn store_name(kind: StoreKind) -> &'static str {
+fn store_name(kind: StoreKind) -> &'static str
+    ensures { result.now ≡ store_name kind }
+{
     match kind {
         StoreKind::Byte => "sb",
         StoreKind::Half => "sh",
@@ -32,7 +42,9 @@ fn store_name(kind: StoreKind) -> &'static str {
     }
 }
 
-fn immediate_name(op: ImmediateOp) -> &'static str {
+fn immediate_name(op: ImmediateOp) -> &'static str
+    ensures { result.now ≡ immediate_name op }
+{
     match op {
         ImmediateOp::Add => "addi",
         ImmediateOp::Less => "slti",
@@ -43,7 +55,9 @@ fn immediate_name(op: ImmediateOp) -> &'static str {
     }
 }
 
-fn shift_name(op: ShiftOp) -> &'static str {
+fn shift_name(op: ShiftOp) -> &'static str
+    ensures { result.now ≡ shift_name op }
+{
     match op {
         ShiftOp::Left => "slli",
         ShiftOp::Right => "srli",
@@ -51,7 +65,9 @@ fn shift_name(op: ShiftOp) -> &'static str {
     }
 }
 
-fn op_name(op: RegisterOp) -> &'static str {
+fn op_name(op: RegisterOp) -> &'static str
+    ensures { result.now ≡ op_name op }
+{
     match op {
         RegisterOp::Add => "add",
         RegisterOp::Sub => "sub",
@@ -74,108 +90,144 @@ fn op_name(op: RegisterOp) -> &'static str {
     }
 }
 
+// A name, a register and the upper 20 bits of a number.
+fn upper_text(alloc: Global, name: &str, rd: u8, upper: u32) -> Result<String, AllocError>
+    ensures { IfOk result (λ t. t.bytes.items ≡ name.now ++ codes " " ++ register rd ++ codes "," ++ upper_bits upper) }
+{
+    format!(in alloc; "{name} x{},0x{:x}", rd, upper / 0x1000)
+}
+
+// A name, a register and a signed number.
+fn jump_text(alloc: Global, name: &str, rd: u8, offset: i32) -> Result<String, AllocError>
+    ensures { IfOk result (λ t. t.bytes.items ≡ name.now ++ codes " " ++ register rd ++ codes "," ++ signed_decimal offset) }
+{
+    format!(in alloc; "{name} x{},{}", rd, offset)
+}
+
+// A name, a register and a place in memory.
+fn memory_text(
+    alloc: Global,
+    name: &str,
+    value: u8,
+    base: u8,
+    offset: i32,
+) -> Result<String, AllocError>
+    ensures { IfOk result (λ t. t.bytes.items ≡ name.now ++ codes " " ++ register value ++ codes "," ++ memory base offset) }
+{
+    format!(in alloc; "{name} x{},{}(x{})", value, offset, base)
+}
+
+// A name, two registers and a signed number.
+fn number_text(
+    alloc: Global,
+    name: &str,
+    first: u8,
+    second: u8,
+    number: i32,
+) -> Result<String, AllocError>
+    ensures { IfOk result (λ t. t.bytes.items ≡ name.now ++ codes " " ++ register first ++ codes "," ++ register second ++ codes "," ++ signed_decimal number) }
+{
+    format!(in alloc; "{name} x{},x{},{}", first, second, number)
+}
+
+// A name, two registers and the distance of a shift.
+fn shift_text(alloc: Global, name: &str, rd: u8, left: u8, amount: u8) -> Result<String, AllocError>
+    ensures { IfOk result (λ t. t.bytes.items ≡ name.now ++ codes " " ++ register rd ++ codes "," ++ register left ++ codes "," ++ decimal amount) }
+{
+    format!(in alloc; "{name} x{},x{},{}", rd, left, amount)
+}
+
+// A name and three registers.
+fn op_text(alloc: Global, name: &str, rd: u8, left: u8, right: u8) -> Result<String, AllocError>
+    ensures { IfOk result (λ t. t.bytes.items ≡ name.now ++ codes " " ++ register rd ++ codes "," ++ register left ++ codes "," ++ register right) }
+{
+    format!(in alloc; "{name} x{},x{},x{}", rd, left, right)
+}
+
 /// The text of an instruction, as `addi x1,x0,1` or `lw x5,-4(x2)`.
-pub fn text(alloc: Global, instr: Instr) -> Result<String, AllocError> {
+pub fn text(alloc: Global, instr: Instr) -> Result<String, AllocError>
+    ensures { IfOk result (λ t. t.bytes.items ≡ text_of instr) }
+{
     match instr {
-        Instr::Lui { rd, upper } => format!(in alloc;
-            "lui x{},{:#x}",
+        Instr::Lui { rd, upper } => upper_text(alloc, "lui", rd.get(), upper.get()),
+        Instr::Auipc { rd, upper } => upper_text(alloc, "auipc", rd.get(), upper.get()),
+        Instr::Jal { rd, offset } => jump_text(alloc, "jal", rd.get(), offset.get().cast_signed()),
+        Instr::Jalr { rd, base, offset } => memory_text(
+            alloc,
+            "jalr",
             rd.get(),
-            upper.get() / 0x1000
-        ),
-        Instr::Auipc { rd, upper } => format!(in alloc;
-            "auipc x{},{:#x}",
-            rd.get(),
-            upper.get() / 0x1000
-        ),
-        Instr::Jal { rd, offset } => format!(in alloc;
-            "jal x{},{}",
-            rd.get(),
-            offset.get().cast_signed()
-        ),
-        Instr::Jalr { rd, base, offset } => format!(in alloc;
-            "jalr x{},{}(x{})",
-            rd.get(),
+            base.get(),
             offset.get().cast_signed(),
-            base.get()
         ),
         Instr::Branch {
             test,
             left,
             right,
             offset,
-        } => format!(in alloc;
-            "{} x{},x{},{}",
+        } => number_text(
+            alloc,
             test_name(test),
             left.get(),
             right.get(),
-            offset.get().cast_signed()
+            offset.get().cast_signed(),
         ),
         Instr::Load {
             kind,
             rd,
             base,
             offset,
-        } => format!(in alloc;
-            "{} x{},{}(x{})",
+        } => memory_text(
+            alloc,
             load_name(kind),
             rd.get(),
+            base.get(),
             offset.get().cast_signed(),
-            base.get()
         ),
         Instr::Store {
             kind,
             source,
             base,
             offset,
-        } => format!(in alloc;
-            "{} x{},{}(x{})",
+        } => memory_text(
+            alloc,
             store_name(kind),
             source.get(),
+            base.get(),
             offset.get().cast_signed(),
-            base.get()
         ),
         Instr::Immediate {
             op,
             rd,
             left,
             right,
-        } => format!(in alloc;
-            "{} x{},x{},{}",
+        } => number_text(
+            alloc,
             immediate_name(op),
             rd.get(),
             left.get(),
-            right.get().cast_signed()
+            right.get().cast_signed(),
         ),
         Instr::Shift {
             op,
             rd,
             left,
             amount,
-        } => format!(in alloc;
-            "{} x{},x{},{}",
-            shift_name(op),
-            rd.get(),
-            left.get(),
-            amount.get()
-        ),
+        } => shift_text(alloc, shift_name(op), rd.get(), left.get(), amount.get()),
         Instr::Op {
             op,
             rd,
             left,
             right,
-        } => format!(in alloc;
-            "{} x{},x{},x{}",
-            op_name(op),
-            rd.get(),
-            left.get(),
-            right.get()
-        ),
-        Instr::Fence { rd, source, bits } => format!(in alloc;
-            "fence x{},x{},{}",
-            rd.get(),
-            source.get(),
-            bits.get().cast_signed()
-        ),
+        } => op_text(alloc, op_name(op), rd.get(), left.get(), right.get()),
+        Instr::Fence { rd, source, bits } => {
+            number_text(
+                alloc,
+                "fence",
+                rd.get(),
+                source.get(),
+                bits.get().cast_signed(),
+            )
+        }
         Instr::Ecall => String::from_str(alloc, "ecall"),
         Instr::Ebreak => String::from_str(alloc, "ebreak"),
     }

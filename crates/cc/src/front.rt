@@ -1,6 +1,6 @@
 //! From the bytes of the main file to its syntax tree.
 
-ghost use Rattle.std.specs.Prelude.{◌≡◌, ◌≤◌, [], ◌∷◌, length, IfOk, IfErr};
+ghost use Rattle.std.specs.Prelude.{◌≡◌, ◌≤◌, [], length, IfOk, IfErr};
 ghost use Rattle.tree.specs.View.{unit_of};
 ghost use Rattle.cc.specs.Compiled.{HasTokens, HasTree, LacksTokens, LacksTree};
 
