@@ -1,10 +1,10 @@
 -- Laws of reading a text character by character.
-use Rattle.std.proofs.Common.{◌≡◌, ℕ, ◌+◌, List, [], ◌∷◌, ◌++◌, length, take, drop, refl, ap, ◌∙◌, arith}
+use Rattle.std.proofs.Common.{◌≡◌, ℕ, suc, ◌+◌, List, [], ◌∷◌, ◌++◌, length, take, drop, refl, sym, ap, ◌∙◌, arith, Bool, false, Option, Some, None, MatchOption}
 use Rattle.std.proofs.lemmas.List.{append_assoc, length-append, map-append, drop_at, take_at, length-map}
-use Rattle.phases.specs.Text.{Char, logical, bytes_of}
+use Rattle.phases.specs.Text.{Char, phase1, logical, bytes_of, is_splice}
 use Rattle.phases.specs.declared.cursor.Cursor.{Cursor}
 use Rattle.phases.specs.declared.cursor.Step.{Step}
-use Rattle.phases.specs.Reading.{text_at, bytes_at, char_of, MapsTo, Skips, IsNoSplice, EndsSplice, Reads, IsStep, Spans}
+use Rattle.phases.specs.Reading.{mapped_at, text_at, bytes_at, char_of, MapsTo, Skips, IsNoSplice, IsPastSplices, EndsSplice, Reads, IsStep, Spans}
 use Rattle.phases.proofs.TextLemmas.{stands, goes, ends}
 
 pub skips_none : (a : Cursor) → Skips a a
@@ -15,6 +15,18 @@ skips_more a b c s p m e =
     let f : text_at b ≡ text_at c = goes b.line s.next.line c.line b.rest.now s.next.rest.now c.rest.now (char_of s) (record { byte = 10; line = e.line }) m.text_is e.text_is e.is_backslash refl in
     record { text_is = p.text_is ∙ f; least = omega (arith, p.least, m.least, e.least); plain = λ h. absurd (omega (arith, p.least, m.least, e.least)) }
 
+abbrev splice_first : List Char → Bool
+splice_first [] = false
+splice_first (c ∷ cs) = is_splice c cs
+
+pub past_at : (a : Cursor) (s : Step) → MapsTo a s → IsNoSplice s → IsPastSplices a
+past_at a s m n = λ t q. sym (ap splice_first (sym m.text_is ∙ q.text_is)) ∙ n
+
+pub past_at_end : (a : Cursor) → a.rest.now ≡ [] → IsPastSplices a
+past_at_end a e = λ t q.
+    let none : 0 ≡ suc (length (mapped_at t.next)) = ap (λ l. length l) (sym (ap (phase1 0 a.line) e) ∙ q.text_is) in
+    absurd (omega (arith, none))
+
 pub step_after : (a b : Cursor) (s : Step) → Skips a b → MapsTo b s → IsNoSplice s → IsStep a s
 step_after a b s p m n =
     let f : text_at b ≡ char_of s ∷ text_at s.next = stands b.line s.next.line b.rest.now s.next.rest.now (char_of s) m.text_is n in
@@ -22,6 +34,11 @@ step_after a b s p m n =
 
 pub end_after : (a b : Cursor) → Skips a b → b.rest.now ≡ [] → text_at a ≡ []
 end_after a b p e = p.text_is ∙ ap (logical b.line) e ∙ ends b.line
+
+pub read_after : (a b : Cursor) (r : Option Step) → Skips a b → IsPastSplices b → MatchOption r (b.rest.now ≡ []) (MapsTo b)
+    → MatchOption r (text_at a ≡ []) (IsStep a)
+read_after a b (Some s) p q m = step_after a b s p m (q s m)
+read_after a b None p q m = end_after a b p m
 
 pub reads_none : (a : Cursor) → Reads a [] a
 reads_none a = record { text_is = refl; least = omega arith; plain = λ h. refl }

@@ -33,6 +33,10 @@ pub record Skips (from : Cursor) (to : Cursor) : Type 0 where
 abbrev pub IsNoSplice : Step → Type 0
 IsNoSplice s = is_splice (char_of s) (mapped_at s.next) ≡ false
 
+-- no splice stands at this place
+abbrev pub IsPastSplices : Cursor → Type 0
+IsPastSplices c = (s : Step) → MapsTo c s → IsNoSplice s
+
 -- the step is a backslash, and the line ends directly behind it, before this place
 pub record EndsSplice (s : Step) (to : Cursor) : Type 0 where
   pub is_backslash : s.byte ≡ 92

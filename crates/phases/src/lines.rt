@@ -95,7 +95,8 @@ fn token_lines<'a>(alloc: Global, start: Cursor<'a>, file: usize) -> Result<Line
     ensures err { IfErr result (λ e. (e ≡ Memory) ⊎ (lines_or_fault (found file 0 Start false (text_at start.entry)) ≡ Err e)) }
 {
     let mut scanner = Scanner::new(alloc, file, start.rest.len())?;
-    let mut at = scanner.put_quick(alloc, start)?.after;
+    let begun = scanner.put_quick(alloc, start)?;
+    let mut at = begun.after.past_splices();
     let mut known = Hopeless {
         single: 0,
         double: 0,
@@ -106,7 +107,7 @@ fn token_lines<'a>(alloc: Global, start: Cursor<'a>, file: usize) -> Result<Line
         scanner.put(alloc, at, first, front)?;
         let quick = scanner.put_quick(alloc, front.span.after)?;
         known = behind(behind(hopeless, front.span.count), quick.count);
-        at = quick.after;
+        at = quick.after.past_splices();
     }
     scanner.finish()
 }

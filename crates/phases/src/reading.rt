@@ -2,7 +2,7 @@
 ghost use Rattle.std.specs.Prelude.{◌≡◌, ◌+◌, ◌∷◌, [], false, true, drop, length, MatchOption, Some, None};
 ghost use Rattle.phases.specs.Text.{trigraph, trigraph_at, is_return};
 ghost use Rattle.phases.specs.Plain.{is_plain};
-ghost use Rattle.phases.specs.Reading.{IsNoSplice, EndsSplice, text_at, MapsTo, IsStep};
+ghost use Rattle.phases.specs.Reading.{IsNoSplice, EndsSplice, Skips, IsPastSplices, text_at, MapsTo, IsStep};
 ghost use Rattle.phases.specs.Runs.{next_line, IsSureStep};
 
 use crate::classes::is_sure;
@@ -93,18 +93,26 @@ impl<'a> Cursor<'a> {
         })
     }
 
-    // The first character, where splices or trigraphs may stand before it.
-    fn read_slowly(self) -> Option<Step<'a>>
-        ensures { MatchOption result (text_at self.entry ≡ []) (IsStep self.entry) }
+    /// The place behind the splices here.
+    pub(crate) fn past_splices(self) -> Cursor<'a>
+        ensures skips { Skips self.entry result }
+        ensures past { IsPastSplices result }
     {
         let mut at = self;
         while let Some(step) = at.mapped() {
             match after_splice(step) {
                 Some(after) => at = after,
-                None => return Some(step),
+                None => return at,
             }
         }
-        None
+        at
+    }
+
+    // The first character, where splices or trigraphs may stand before it.
+    fn read_slowly(self) -> Option<Step<'a>>
+        ensures { MatchOption result (text_at self.entry ≡ []) (IsStep self.entry) }
+    {
+        self.past_splices().mapped()
     }
 
     /// The first character, where its byte alone says what it is.

@@ -8,10 +8,10 @@ use std::borrow::CowSlice;
 use std::process::Abort;
 use std::test::Fail;
 
-// A text, and its tokens, each with a space behind it and each line with a newline. The first 44 and the last two were
+// A text, and its tokens, each with a space behind it and each line with a newline. The first 44 and the last three were
 // listed by hand from ISO/IEC 9899:2011 5.1.1.2 and 6.4; between them stand 18 whose tokens are those that clang 14
 // lists (`-std=c11 -fno-dollars-in-identifiers -Xclang -dump-raw-tokens`).
-const TEXTS: [(&[u8], &[u8]); 64] = [
+const TEXTS: [(&[u8], &[u8]); 65] = [
     (b"", b""),
     (b"\n", b"\n"),
     (b"\n\n", b"\n\n"),
@@ -112,6 +112,7 @@ const TEXTS: [(&[u8], &[u8]); 64] = [
     (b"a&&b&c&=d<<e>>f\n", b"a && b & c &= d << e >> f \n"),
     (b"int/*\n*/x\\\n=\\\n1;\n", b"int x = 1 ; \n"),
     (b"\tif (a)\n\n\x0c{\x0b}\n", b"if ( a ) \n\n{ } \n"),
+    (b"a+=b-=c\n", b"a += b -= c \n"),
 ];
 
 // A text, and the code and the line of its fault.
@@ -219,7 +220,9 @@ fn trigraphs(rt: HostRuntime) -> Result<(), Fail> {
         };
         if replaced != byte {
             assert!(rt; found.as_slice() == [b'"', replaced, b'x', b'"', b' ', b'\n'].as_slice());
-        } else if byte != b'"' {
+        } else if byte == b'"' {
+            assert!(rt; found.as_slice() == b"\"??\" x \" \n".as_slice());
+        } else {
             assert!(rt;
                 found.as_slice() == [b'"', b'?', b'?', byte, b'x', b'"', b' ', b'\n'].as_slice()
             );
@@ -236,6 +239,8 @@ fn spellings_at_the_limit(rt: HostRuntime) -> Result<(), Fail> {
     assert!(rt; text.len() < 5000);
     let lines = scan(rt.alloc(), text.as_slice(), 0, &names)?;
     assert_eq!(rt; lines.len(), 1);
+    assert_eq!(rt; lines.tokens().len(), 1);
+    assert_eq!(rt; lines.tokens()[0].spelling().len(), MAX_SPELLING_BYTES);
     let mut long = vec![in rt.alloc(); b'\n'; 2]?;
     long.extend_from_slice(text.as_slice())?;
     long.insert(2, b'a')?;

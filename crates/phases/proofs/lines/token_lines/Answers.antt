@@ -1,6 +1,9 @@
-use Rattle.std.proofs.Common.{◌≡◌, Ok, Err, IfOk, IfErr, ◌⊎◌, sym, subst, ◌∙◌}
+use Rattle.std.proofs.Common.{◌≡◌, Ok, Err, IfOk, IfErr, ◌⊎◌, sym, ap, subst, ◌∙◌}
 use Rattle.srcset.specs.declared.refusal.Refusal.TheVariants.{Memory}
-use Rattle.phases.specs.Lines.{lines_or_fault}
+use Rattle.phases.specs.Text.{bytes_of}
+use Rattle.phases.specs.Lines.{found, lines_or_fault}
+use Rattle.phases.specs.Closing.{IsHopeless}
+use Rattle.phases.specs.Scanning as spec
 use Rattle.phases.proofs.ClosingLemmas.{hopeless_more}
 use Rattle.phases.proofs.ScanLemmas.{scan_step, scan_end, goes_after}
 use Rattle.phases.proofs.lines.token_lines.Goals as goal
@@ -13,10 +16,13 @@ loop-first-preserved c =
     let file = puts.file_is ∙ c.loop-first.invariant.file_is in
     let known = hopeless_more c.hopeless-hopeless.result c.behind.result c.loop-first.at after c.front-front.result.span.count c.hopeless-hopeless.ensures c.front-front.ensures.spans c.behind.ensures.single c.behind.ensures.double in
     let whole = scan_step c.args.file c.loop-first.scanner c.put.new.self _ c.loop-first.at c.in-Some.first c.front-front.result c.loop-first.invariant.file_is c.loop-first.invariant.whole_is c.in-Some.ensures c.front-front.ensures puts in
+    let scanner = c.put_quick-in-Some.new.self in
+    let skips = c.past_splices-at-in-Some.ensures.skips in
     record {
-      known_is = hopeless_more c.behind.result c.behind-known.result after c.in_ok-quick.quick.after c.in_ok-quick.quick.count known goes.spans c.behind-known.ensures.single c.behind-known.ensures.double;
+      known_is = subst (λ t. IsHopeless c.behind-known.result (bytes_of t)) skips.text_is (hopeless_more c.behind.result c.behind-known.result after c.in_ok-quick.quick.after c.in_ok-quick.quick.count known goes.spans c.behind-known.ensures.single c.behind-known.ensures.double);
       file_is = goes.file_is ∙ file;
-      whole_is = goes_after c.args.file c.put.new.self c.put_quick-in-Some.new.self _ after c.in_ok-quick.quick file whole goes;
+      whole_is = goes_after c.args.file c.put.new.self scanner _ after c.in_ok-quick.quick file whole goes
+          ∙ ap (λ t. spec.whole scanner (found c.args.file 0 scanner.place scanner.space t)) skips.text_is;
     }
 
 pub returns-clause-ok : goal.returns-clause-ok

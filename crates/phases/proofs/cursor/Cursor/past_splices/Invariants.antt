@@ -1,6 +1,6 @@
 use Rattle.std.proofs.Common.{length}
 use Rattle.phases.specs.Reading.{Skips}
-use Rattle.phases.proofs.cursor.Cursor.read_slowly.Given as goal
+use Rattle.phases.proofs.cursor.Cursor.past_splices.Given as goal
 
 abbrev pub invariant-loop-step : goal.invariant-loop-step
 invariant-loop-step l = Skips l.initial.self l.at
