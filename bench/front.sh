@@ -175,7 +175,7 @@ for file in ${files[@]+"${files[@]}"}; do alone "$file"; done
 
 # ------------------------------------------------------------- the tree
 
-# 50,000 lines: functions of 1,000 statements of four tokens each.
+# 50,000 lines: functions of 1,000 statements of four or six tokens each.
 awk 'BEGIN {
     for (line = 0; line < 50000; line += 1002) {
         printf "int f%d(int x) {\n", line

@@ -1,4 +1,4 @@
--- Rows of the texts of instructions, those of GNU as.
+-- Rows of the texts of instructions: texts that assemblers take for these words (branches and JAL as LLVM's does).
 use Rattle.std.specs.Prelude.{◌≡◌, refl, codes, ℕ, List, Option, Some, option_map}
 use Rattle.std.specs.Fmt.{digits}
 use Rattle.rv32.specs.Words.{decode_of}

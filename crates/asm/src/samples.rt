@@ -68,7 +68,8 @@ pub const SAMPLES: &str = "69632|B 4 15 24 0;N 1021;L 0;I 1048691|2139614435 19*
     1877999616|D 16 65535;D 7 2047;I 2148075667;L 0;J 0;D 29 268435455;B 0 4 22 0;J 0;C 0|1878071351 4294445075 1878004663 2146665363 2148075667 111 2146442935 4294872723 4284615395 4280283247 151 4274028775\n\
     1024|J 1;C 0;A 17 0;B 1 6 26 1;J 1;B 5 27 2 1;A 4 1;B 1 16 10 0;L 1;C 1;B 0 15 7 0;L 0|46137455 151 54558951 2231 1133021331 27466851 20971631 3012707 567 1120010771 11016291 151 32999 7832163";
 
-/// Words and their texts, `word|text` a line.
+/// Words, and texts that assemblers take for them, `word|text` a line. The numbers of branches and JAL are offsets,
+/// as LLVM's assembler reads them.
 pub const TEXTS: &str = "2882397111|lui x7,0xabcde\n\
     5143|auipc x8,0x1\n\
     32871|jalr x0,0(x1)\n\

@@ -1,4 +1,5 @@
--- The token grammar of ISO/IEC 9899:2011 6.4, of whole texts, and what it is to be the longest front.
+-- The token grammar of ISO/IEC 9899:2011 6.4, of whole texts, and what it is to be the longest front. It has no universal
+-- character names (6.4.3), and in a literal any byte may follow a backslash.
 use Rattle.std.specs.Prelude.{◌≡◌, ℕ, ◌<◌, ◌≤◌, ◌==◌, ◌&&◌, ◌||◌, nat_lt, Bool, true, false, not, if◌then◌else◌, List, [], ◌∷◌, length, take, drop}
 use Rattle.phases.specs.declared.token.Kind.{Kind}
 use Rattle.phases.specs.declared.token.Kind.TheVariants.{Identifier, Number, CharacterConstant, StringLiteral, HeaderName, Punctuator, Other}
