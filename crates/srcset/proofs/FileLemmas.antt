@@ -8,6 +8,8 @@ use Rattle.std.specs.Option.{option_map}
 use Rattle.std.specs.Str.{bytes_eq}
 use Rattle.std.specs.String.{string_bytes, string_eq}
 use Rattle.srcset.specs.Files.{Files, file_of, names_of, add_fault, is_file_name, max_file_bytes, max_files, IsWithinLimits, IsFileMap}
+use Rattle.srcset.specs.declared.code.Code.{Code}
+use Rattle.srcset.specs.declared.code.Code.TheVariants.{BadFileName, FileGivenTwice, FileSizeLimit, FileLimit}
 use Rattle.srcset.specs.NameTable.{NumbersOnce}
 use Rattle.srcset.proofs.NameLemmas.{same_text, numbers_once_push}
 use Rattle.indexmap.specs.IndexMap.{IndexMap, get, insert_entry}
@@ -50,8 +52,8 @@ list_all_push p (x ∷ xs) y all here =
     let split = both (p x) _ all in
     rw (split.0, list_all_push p xs y split.1 here) refl
 
-first_fault : Bool → Bool → Bool → Bool → Option ℕ
-first_fault a b c d = if not a then Some 102 else if b then Some 101 else if c then Some 701 else if d then Some 702 else None
+first_fault : Bool → Bool → Bool → Bool → Option Code
+first_fault a b c d = if not a then Some BadFileName else if b then Some FileGivenTwice else if c then Some FileSizeLimit else if d then Some FileLimit else None
 
 passes : (a b c d : Bool) → first_fault a b c d ≡ None → (b ≡ false) × (c ≡ false) × (d ≡ false) × (a ≡ true)
 unfolding first_fault

@@ -3,6 +3,8 @@ use Rattle.std.specs.Prelude.{◌≤◌, ℕ, List, Bool, IsTrue, Option, Some, 
 use Rattle.std.specs.List.{list_all}
 use Rattle.std.specs.Map.{lookup}
 use Rattle.std.specs.Str.{bytes_eq}
+use Rattle.srcset.specs.declared.code.Code.{Code}
+use Rattle.srcset.specs.declared.code.Code.TheVariants.{BadFileName, FileGivenTwice, FileSizeLimit, FileLimit}
 use Rattle.srcset.specs.NameTable.{Texts, NumbersOnce}
 
 -- the names and the bytes, in order
@@ -31,12 +33,12 @@ abbrev pub is_file_name : List ℕ → Bool
 is_file_name name = nat_le 1 (length name) && nat_le (length name) 255 && list_all is_name_byte name
 
 -- the code of the fault at adding a file, by the first rule that is broken
-abbrev pub add_fault : Files → List ℕ → List ℕ → Option ℕ
+abbrev pub add_fault : Files → List ℕ → List ℕ → Option Code
 add_fault files name bytes =
-    if not (is_file_name name) then Some 102
-    else if is_some (file_of files name) then Some 101
-    else if nat_lt max_file_bytes (length bytes) then Some 701
-    else if nat_le max_files (length files) then Some 702
+    if not (is_file_name name) then Some BadFileName
+    else if is_some (file_of files name) then Some FileGivenTwice
+    else if nat_lt max_file_bytes (length bytes) then Some FileSizeLimit
+    else if nat_le max_files (length files) then Some FileLimit
     else None
 
 -- neither the files are too many nor is one too large

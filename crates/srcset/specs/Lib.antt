@@ -1,6 +1,7 @@
 pub mod Files
 pub mod Fault
 pub mod NameTable
-pub mod Messages
+pub mod Codes
 pub mod Headers
 pub mod Refusal
+pub mod Writing

@@ -23,6 +23,10 @@ abbrev pub utf8_or_empty : Option (List ℕ) → List ℕ
 utf8_or_empty None = []
 utf8_or_empty (Some text) = if is_utf8 text then text else []
 
+-- the text with this number, as a fault shows it
+abbrev pub shown_text : Texts → ℕ → List ℕ
+shown_text texts n = utf8_or_empty (slice_get texts n)
+
 -- the name of the file with this number, as a fault shows it
 abbrev pub file_name_of : Texts → ℕ → List ℕ
-file_name_of texts n = utf8_or_empty (slice_get texts n)
+file_name_of texts n = shown_text texts n

@@ -1,8 +1,9 @@
 //! Faults: what the compiler says where it refuses its input.
 ghost use Rattle.std.specs.Prelude.{◌≡◌, ◌++◌, IfOk, OnOk, Some};
-ghost use Rattle.srcset.specs.Fault.{IsFaultOrMemory, IsMemoryFault, fault_line, place_text};
+ghost use Rattle.std.specs.Prelude.{◌⊎◌};
+ghost use Rattle.srcset.specs.Fault.{IsFaultOrMemory, IsFaultWith, IsMemoryFault, fault_line, place_text};
 
-use crate::messages::message;
+use crate::code::{Code, message};
 use itoa::Buffer;
 use std::alloc::{AllocError, Global};
 use std::fmt;
@@ -32,7 +33,7 @@ impl Fault {
         ensures { IsMemoryFault result }
     {
         Fault {
-            code: 801,
+            code: Code::OutOfMemory.number(),
             file: String::new(alloc),
             line: 0,
             text: String::new(alloc),
@@ -42,17 +43,37 @@ impl Fault {
     /// The fault with this code at a line of a file, and no text of its own.
     ///
     /// Where the copy of the file's name finds no memory, the fault is 801 in its place.
-    pub fn at(alloc: Global, code: u16, file: &str, line: u32) -> Fault
+    pub fn at(alloc: Global, code: Code, file: &str, line: u32) -> Fault
         ensures { IsFaultOrMemory result code file.now line }
     {
         match String::from_str(alloc, file) {
             Ok(file) => Fault {
-                code,
+                code: code.number(),
                 file,
                 line,
                 text: String::new(alloc),
             },
             Err(_) => Fault::memory(alloc),
+        }
+    }
+
+    /// The fault with this code at a line of a file, which adds a text to that of its code.
+    ///
+    /// Where a copy of the file's name or of the text finds no memory, the fault is 801 in its place.
+    pub fn with_text(alloc: Global, code: Code, file: &str, line: u32, text: &str) -> Fault
+        ensures { IsFaultWith result code file.now line text.now ⊎ IsMemoryFault result }
+    {
+        let Ok(file) = String::from_str(alloc, file) else {
+            return Fault::memory(alloc);
+        };
+        let Ok(text) = String::from_str(alloc, text) else {
+            return Fault::memory(alloc);
+        };
+        Fault {
+            code: code.number(),
+            file,
+            line,
+            text,
         }
     }
 

@@ -6,6 +6,7 @@ ghost use Rattle.srcset.specs.Files.{add_fault, file_of, names_of, max_file_byte
 ghost use Rattle.srcset.specs.NameTable.{NumbersOnce};
 ghost use Rattle.srcset.specs.Fault.{IsFaultOf};
 
+use crate::code::Code;
 use crate::fault::Fault;
 use indexmap::IndexMap;
 use std::alloc::Global;
@@ -112,20 +113,20 @@ impl FileSet {
     }
 
     // The code of the first rule that adding a file of this size breaks.
-    fn add_fault_code(&self, name: &str, size: usize) -> Option<u16>
+    fn add_fault_code(&self, name: &str, size: usize) -> Option<Code>
         ensures { (bytes : List ℕ) → length bytes ≡ size → result ≡ add_fault self.now name.now bytes }
     {
         if !is_file_name(name) {
-            return Some(102);
+            return Some(Code::BadFileName);
         }
         if self.contains(name) {
-            return Some(101);
+            return Some(Code::FileGivenTwice);
         }
         if size > MAX_FILE_BYTES {
-            return Some(701);
+            return Some(Code::FileSizeLimit);
         }
         if self.len() >= MAX_FILES {
-            return Some(702);
+            return Some(Code::FileLimit);
         }
         None
     }

@@ -1,7 +1,8 @@
 //! The built-in headers.
-ghost use Rattle.std.specs.Prelude.{◌≡◌};
+ghost use Rattle.std.specs.Prelude.{◌≡◌, ◌≤◌, length, IfSome};
 ghost use Rattle.std.specs.Option.{option_copied};
 ghost use Rattle.srcset.specs.Headers.{header_of};
+ghost use Rattle.srcset.specs.Files.{max_file_bytes};
 
 const RVIO: &[u8] = b"int rv_getbyte(void);\n\
 void rv_putbyte(int c);\n\
@@ -49,7 +50,8 @@ const ISO646: &[u8] = b"#define and &&\n\
 /// and the end of the program. Each line ends in a newline.
 #[tactic(auto, unfolding(crate::specs::Headers::rvio_h, crate::specs::Headers::limits_h, crate::specs::Headers::stdbool_h, crate::specs::Headers::iso646_h))]
 pub fn builtin(name: &str) -> Option<&'static [u8]>
-    ensures { option_copied result ≡ header_of name.now }
+    ensures text { option_copied result ≡ header_of name.now }
+    ensures small { IfSome result (λ bytes. length bytes.now ≤ max_file_bytes) }
 {
     match name {
         "rvio.h" => Some(RVIO),

@@ -1,7 +1,7 @@
 //! Numbers that stand for texts.
 ghost use Rattle.std.specs.Prelude.{◌≡◌, ◌↔◌, ℕ, [], ◌∷◌, ◌++◌, Some, Ok, IsTrue, slice_get, IfOk, IfErr, OnOk, OnErr, length};
 ghost use Rattle.std.specs.Option.{option_copied};
-ghost use Rattle.srcset.specs.NameTable.{with_text, file_name_of, KeepsNumbers, NumbersOnce};
+ghost use Rattle.srcset.specs.NameTable.{with_text, shown_text, file_name_of, KeepsNumbers, NumbersOnce};
 ghost use Rattle.srcset.specs.Fault.{IsMemoryFault};
 
 use crate::fault::Fault;
@@ -65,10 +65,10 @@ impl Names {
         }
     }
 
-    /// The text of a number as the name of a file: empty where no text has the number, and where its
+    /// The text of a number as a fault shows it: empty where no text has the number, and where its
     /// text is not UTF-8. Takes no memory.
-    pub fn file_name(&self, n: usize) -> &str
-        ensures { result.now ≡ file_name_of self.now n }
+    pub fn shown_text(&self, n: usize) -> &str
+        ensures { result.now ≡ shown_text self.now n }
     {
         let Some(text) = self.text(n) else {
             return "";
@@ -77,6 +77,13 @@ impl Names {
             Ok(name) => name,
             Err(_) => "",
         }
+    }
+
+    /// The text of a number as the name of a file, in the same way.
+    pub fn file_name(&self, n: usize) -> &str
+        ensures { result.now ≡ file_name_of self.now n }
+    {
+        self.shown_text(n)
     }
 
     /// The number of a text, or `None` where it has none. Takes no memory.

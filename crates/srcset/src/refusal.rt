@@ -3,6 +3,7 @@ ghost use Rattle.std.specs.Prelude.{◌≡◌};
 ghost use Rattle.srcset.specs.declared.refusal.Refusal.TheVariants.{Memory};
 ghost use Rattle.srcset.specs.Refusal.{IsFaultOfRefusal};
 
+use crate::code::Code;
 use crate::fault::Fault;
 use crate::names::Names;
 use std::alloc::{AllocError, AllocFailed, Global};
@@ -23,10 +24,19 @@ pub enum Refusal {
     Memory,
     /// The fault with this code stands here.
     At {
-        /// The code, 101 to 907.
-        code: u16,
+        /// What is wrong.
+        code: Code,
         /// The place of the fault.
         pos: Pos,
+    },
+    /// The same, and the fault adds a text to that of its code.
+    Told {
+        /// What is wrong.
+        code: Code,
+        /// The place of the fault.
+        pos: Pos,
+        /// A number of `Names`, whose text is added.
+        text: usize,
     },
 }
 
@@ -47,17 +57,23 @@ impl<T: Drop> From<AllocFailed<T>> for Refusal {
 }
 
 impl Refusal {
-    /// The fault that this refusal stands for, with no text of its own.
+    /// The fault that this refusal stands for.
     ///
     /// Its file is the text that `names` has for the number of the place's file, or empty where there
-    /// is none or it is not UTF-8. It is 801 for `Memory`, and where the copy of the name finds no memory.
+    /// is none or it is not UTF-8; the text that it adds likewise. It is 801 for `Memory`, and where a copy
+    /// of these texts finds no memory.
     pub fn to_fault(self, alloc: Global, names: &Names) -> Fault
         ensures { IsFaultOfRefusal result names.now self }
     {
         match self {
             Refusal::Memory => Fault::memory(alloc),
             Refusal::At { code, pos } => {
-                Fault::at(alloc, code, names.file_name(pos.file), pos.line)
+                let file = names.file_name(pos.file);
+                Fault::at(alloc, code, file, pos.line)
+            }
+            Refusal::Told { code, pos, text } => {
+                let name = names.file_name(pos.file);
+                Fault::with_text(alloc, code, name, pos.line, names.shown_text(text))
             }
         }
     }

@@ -1,6 +1,7 @@
 //! Tests: the texts and headers against lists typed anew, each limit at it and one past it.
-use crate::{Fault, FileSet, Names, Pos, Refusal, builtin, message};
+use crate::{Code, Fault, FileSet, Names, Pos, Refusal, TRIES, builtin, message, write_text};
 use std::alloc::{AllocError, Global};
+use std::io::{self, ErrorKind, Write};
 use std::process::Abort;
 use std::test::Fail;
 
@@ -131,7 +132,9 @@ fn each_code_has_its_text(rt: HostRuntime) -> Result<(), Fail> {
     let mut listed = 0u32;
     for row in TEXTS.lines() {
         let (code, text) = row.split_once(' ').ok_or("a row without a space")?;
-        assert_eq!(rt; message(code.parse::<u16>()?), text);
+        let number = code.parse::<u16>()?;
+        assert_eq!(rt; message(number), text);
+        assert_eq!(rt; Code::with_number(number).map(|c| c.number()), Some(number));
         listed = listed.saturating_add(1);
     }
     let mut shown = 0u32;
@@ -263,14 +266,20 @@ fn faults_show_one_line(rt: HostRuntime) -> Result<(), Fail> {
     let alloc = rt.alloc();
     for (code, file, line, text, want) in [
         (
-            234,
+            Code::ErrorDirective,
             "b.c",
             4294967295,
             " no way",
             "b.c:4294967295: 234 #error no way",
         ),
-        (803, "", 0, "", "cc: 803 cannot write"),
-        (401, "a b.c", 1, "", "a b.c:1: 401 syntax error"),
+        (Code::CannotWrite, "", 0, "", "cc: 803 cannot write"),
+        (
+            Code::SyntaxError,
+            "a b.c",
+            1,
+            "",
+            "a b.c:1: 401 syntax error",
+        ),
     ] {
         let mut fault = Fault::at(alloc, code, file, line);
         fault.text.push_str(text)?;
@@ -335,12 +344,69 @@ fn refusals_become_faults(rt: HostRuntime) -> Result<(), Fail> {
         (99, "cc: 401 syntax error"),
     ] {
         let refusal = Refusal::At {
-            code: 401,
+            code: Code::SyntaxError,
             pos: Pos { file, line: 7 },
         };
         shows(&rt, alloc, &refusal.to_fault(alloc, &names), line)?;
     }
+    let told = Refusal::Told {
+        code: Code::ErrorDirective,
+        pos: Pos { file, line: 7 },
+        text: names.intern(b" no way")?,
+    };
+    shows(
+        &rt,
+        alloc,
+        &told.to_fault(alloc, &names),
+        "z.c:7: 234 #error no way",
+    )?;
     let fault = Refusal::from(AllocError).to_fault(alloc, &names);
     shows(&rt, alloc, &fault, "cc: 801 out of memory")?;
+    Ok(())
+}
+
+/// A writer that is interrupted so often, then takes two bytes at a time, so many in all.
+#[derive(Drop)]
+struct Halting {
+    interrupts: u32,
+    room: usize,
+    taken: Vec<u8>,
+}
+
+impl Write for Halting {
+    fn write(&mut self, bytes: &[u8]) -> io::Result<usize> {
+        if self.interrupts > 0 {
+            self.interrupts -= 1;
+            return Err(io::Error::from(ErrorKind::Interrupted));
+        }
+        let count = bytes.len().min(2).min(self.room);
+        self.room -= count;
+        self.taken.extend_from_slice(&bytes[..count])?;
+        Ok(count)
+    }
+
+    fn flush(&mut self) -> io::Result<()> {
+        Ok(())
+    }
+}
+
+// A write that was interrupted is tried again, up to the last try.
+#[test]
+fn writes_go_on(rt: HostRuntime) -> Result<(), Fail> {
+    let alloc = rt.alloc();
+    for (interrupts, room, whole, taken) in [
+        (0, 9, true, b"abcde".as_slice()),
+        (TRIES - 1, 9, true, b"abcde".as_slice()),
+        (TRIES, 9, false, b"".as_slice()),
+        (3, 4, false, b"abcd".as_slice()),
+    ] {
+        let mut writer = Halting {
+            interrupts,
+            room,
+            taken: Vec::new(alloc),
+        };
+        assert_eq!(rt; write_text(&mut writer, b"abcde"), whole);
+        assert_eq!(rt; writer.taken.as_slice(), taken);
+    }
     Ok(())
 }

@@ -1,0 +1,9 @@
+-- What a call that writes many bytes leaves.
+use Rattle.std.specs.Prelude.{ℕ, ◌≤◌, List, Option, take, length}
+use Rattle.std.specs.Io.KnownBytes.{Appends}
+
+-- the writer took a beginning of the bytes
+pub record TakesBeginning (before after : Option (List ℕ)) (bytes : List ℕ) : Type 0 where
+  pub count : ℕ
+  pub within : count ≤ length bytes
+  pub taken : Appends before after (take count bytes)
