@@ -7,8 +7,6 @@
 pub mod arithmetic;
 pub mod laws;
 pub mod operators;
-#[cfg(test)]
-mod tests;
 pub mod types;
 
 pub use arithmetic::binary;

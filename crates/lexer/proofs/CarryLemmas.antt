@@ -1,5 +1,6 @@
 -- Lemmas on carrying tokens.
-use Rattle.std.proofs.Common.{◌≡◌, ℕ, suc, Bool, true, false, not, Option, Some, None, Result, Ok, Err, ◌+◌, ◌<◌, ◌≤◌, ◌⊎◌, inl, inr, OnErr, List, [], ◌∷◌, ◌++◌, length, drop, get_or, slice_get, add-one, refl, sym, ap, ◌∙◌, subst, append_assoc, append-nil}
+use Rattle.std.proofs.Common.{◌≡◌, ℕ, suc, Bool, true, false, not, Option, Some, None, Result, Ok, Err, ◌+◌, ◌<◌, ◌≤◌, ◌⊎◌, inl, inr, OnErr, IfErr, List, [], ◌∷◌, ◌++◌, length, drop, get_or, slice_get, add-one, refl, sym, ap, ◌∙◌, subst, append_assoc, append-nil}
+use Rattle.srcset.specs.declared.code.Code.{Code}
 use Rattle.std.proofs.Math.Seq.{drop-cons}
 use Rattle.std.proofs.lemmas.List.{drop_all}
 use Rattle.srcset.specs.declared.refusal.Pos.{Pos}
@@ -19,12 +20,12 @@ use Rattle.lexer.specs.declared.numbers.Constant.{Constant as Number}
 use Rattle.lexer.specs.Words.{keyword_of, left_out_of, identifier, word_as}
 use Rattle.lexer.specs.Punctuators.{mark_as, punctuator_of}
 use Rattle.lexer.specs.Numbers.{number}
-use Rattle.lexer.specs.Literals.{character}
-use Rattle.lexer.specs.Decoding.{IsRefusal}
+use Rattle.lexer.specs.Literals.{character, string}
+use Rattle.lexer.specs.inside.Decoding.{IsRefusal}
 use Rattle.lexer.specs.Meanings.{Meaning, keyword, name, constant, text, punctuator, CToken}
-use Rattle.lexer.specs.CTokens.{CTokens, nothing, join, before, put, as_constant, meaning, ctokens}
+use Rattle.lexer.specs.CTokens.{CTokens, nothing, join, before, put, as_constant, as_text, meaning, ctokens}
 use Rattle.lexer.specs.Numbering.{IsKindOf, IsTokenOf, AreTokensOf, texts_in, texts_of, with_texts, AreAll, TakesUp}
-use Rattle.lexer.specs.Carrying.{pending_before, is_text, begins_text, has_no_text, is_string, IsKindFor, with_meaning, IsPushed, Carries, Passes, Closes, Stops, StopsClosing}
+use Rattle.lexer.specs.inside.Carrying.{pending_before, is_text, begins_text, has_no_text, is_string, IsKindFor, with_meaning, IsPushed, Carries, Passes, Closes, Stops, StopsClosing}
 
 -- a longer table shows the same
 kind_kept : (old new : Texts) → KeepsNumbers old new → (m : Meaning) (k : Kind) → IsKindOf old m k → IsKindOf new m k
@@ -91,7 +92,7 @@ begins_no_text : (c : CToken) (cs : List CToken) → is_text c.meaning ≡ false
 begins_no_text c cs e = ap begins_text (before_no_text c cs e) ∙ e
 
 -- no token but a string literal means a text
-no_text_identifier : (o : Option ℕ) (s : List ℕ) → has_no_text (identifier o s) ≡ true
+no_text_identifier : (o : Option Code) (s : List ℕ) → has_no_text (identifier o s) ≡ true
 no_text_identifier None s = refl
 no_text_identifier (Some code) s = refl
 
@@ -99,7 +100,7 @@ no_text_word : (o : Option Word) (s : List ℕ) → has_no_text (word_as o s) �
 no_text_word None s = no_text_identifier (left_out_of s) s
 no_text_word (Some k) s = refl
 
-no_text_constant : (r : Result Number ℕ) → has_no_text (as_constant r) ≡ true
+no_text_constant : (r : Result Number Code) → has_no_text (as_constant r) ≡ true
 no_text_constant (Ok c) = refl
 no_text_constant (Err code) = refl
 
@@ -120,7 +121,7 @@ not_false : (b : Bool) → not b ≡ true → b ≡ false
 not_false true e = sym e
 not_false false e = refl
 
-begins_after : (pos : Pos) (r : Result Meaning ℕ) (rest : CTokens) → has_no_text r ≡ true → begins_text (put pos r rest).tokens ≡ false
+begins_after : (pos : Pos) (r : Result Meaning Code) (rest : CTokens) → has_no_text r ≡ true → begins_text (put pos r rest).tokens ≡ false
 begins_after pos (Ok m) rest e = begins_no_text (record { meaning = m; pos = pos }) rest.tokens (not_false (is_text m) e)
 begins_after pos (Err code) rest e = refl
 
@@ -157,7 +158,7 @@ total_pushed texts lexer pos m old rest total e b q =
     let c : CToken = record { meaning = m; pos = pos } in
     q.tokens_are ∙ ap (λ x. q.done ++ pending_before x lexer.bytes.items (before c rest.tokens)) e ∙ ap (λ x. q.done ++ x) (before_no_text c rest.tokens b) ∙ sym (append_assoc q.done (c ∷ []) rest.tokens)
 
-pub pushes : (texts texts' : Texts) (lexer lexer' : Lexer) (pos : Pos) (r : Result Meaning ℕ) (k : Kind) → lexer.pending ≡ None → has_no_text r ≡ true → IsKindFor texts' r k → texts' ≡ with_meaning texts r → KeepsNumbers texts texts' → IsPushed lexer lexer' (record { kind = k; pos = pos }) → (old : Texts) (rest total : CTokens) → Carries old texts lexer (put pos r rest) total → Carries old texts' lexer' rest total
+pub pushes : (texts texts' : Texts) (lexer lexer' : Lexer) (pos : Pos) (r : Result Meaning Code) (k : Kind) → lexer.pending ≡ None → has_no_text r ≡ true → IsKindFor texts' r k → texts' ≡ with_meaning texts r → KeepsNumbers texts texts' → IsPushed lexer lexer' (record { kind = k; pos = pos }) → (old : Texts) (rest total : CTokens) → Carries old texts lexer (put pos r rest) total → Carries old texts' lexer' rest total
 pushes texts texts' lexer lexer' pos (Err code) k e b i w keeps g = absurd i
 pushes texts texts' lexer lexer' pos (Ok m) k e b i w keeps g = λ old rest total q.
     let c : CToken = record { meaning = m; pos = pos } in
@@ -171,7 +172,7 @@ pushes texts texts' lexer lexer' pos (Ok m) k e b i w keeps g = λ old rest tota
       fault_is = q.fault_is;
     }
 
-pub pushes_stops : (texts texts' : Texts) (lexer : Lexer) (pos : Pos) (r : Result Meaning ℕ) → lexer.pending ≡ None → has_no_text r ≡ true → texts' ≡ with_meaning texts r → (old : Texts) (rest total : CTokens) → Carries old texts lexer (put pos r rest) total → TakesUp old texts' total.tokens
+pub pushes_stops : (texts texts' : Texts) (lexer : Lexer) (pos : Pos) (r : Result Meaning Code) → lexer.pending ≡ None → has_no_text r ≡ true → texts' ≡ with_meaning texts r → (old : Texts) (rest total : CTokens) → Carries old texts lexer (put pos r rest) total → TakesUp old texts' total.tokens
 pushes_stops texts texts' lexer pos (Err code) e b w = λ old rest total q. subst (λ x. TakesUp old x total.tokens) (sym w) (takes_up old texts lexer (put pos (Err code) rest) total q)
 pushes_stops texts texts' lexer pos (Ok m) e b w = λ old rest total q.
     let c : CToken = record { meaning = m; pos = pos } in
@@ -231,10 +232,31 @@ pub at_end : (old texts : Texts) (lexer : Lexer) (list : List PpToken) (i : ℕ)
 at_end old texts lexer list i h q = subst (λ x. Carries old texts lexer (ctokens x) (ctokens list)) (drop_all i list h) q
 
 -- the fault of a token is that of the list
-pub refused : (old texts : Texts) (lexer : Lexer) (pos : Pos) (r : Result Meaning ℕ) (rest total : CTokens) (e : Refusal) → Carries old texts lexer (put pos r rest) total → IsRefusal e pos r → (e ≡ Memory) ⊎ (total.fault ≡ Some e)
+pub refused : (old texts : Texts) (lexer : Lexer) (pos : Pos) (r : Result Meaning Code) (rest total : CTokens) (e : Refusal) → Carries old texts lexer (put pos r rest) total → IsRefusal e pos r → (e ≡ Memory) ⊎ (total.fault ≡ Some e)
 refused old texts lexer pos (Ok m) rest total e q h = inl h
 refused old texts lexer pos (Err code) rest total e q h = by h
   where
     by : (e ≡ Memory) ⊎ (e ≡ At code pos) → (e ≡ Memory) ⊎ (total.fault ≡ Some e)
     by (inl x) = inl x
     by (inr x) = inr (q.fault_is ∙ ap Some (sym x))
+
+-- ---- the refusal of a string literal
+
+text_refused : (e : Refusal) (pos : Pos) (r : Result (List ℕ) Code) → IsRefusal e pos r → IsRefusal e pos (as_text r)
+text_refused e pos (Ok bytes) h = h
+text_refused e pos (Err code) h = h
+
+string_kind : (k : PpKind) → is_string k ≡ true → k ≡ pp.StringLiteral
+string_kind pp.Identifier h = absurd (cc)
+string_kind pp.Number h = absurd (cc)
+string_kind pp.CharacterConstant h = absurd (cc)
+string_kind pp.StringLiteral h = refl
+string_kind pp.HeaderName h = absurd (cc)
+string_kind pp.Punctuator h = absurd (cc)
+string_kind pp.Other h = absurd (cc)
+
+pub string_refused : (t : PpToken) (k : PpKind) (pos : Pos) (s : List ℕ) → k ≡ t.kind → is_string k ≡ true → pos ≡ t.pos → s ≡ t.spelling → (r : Result (Unit {0}) Refusal) → IfErr r (λ e. IsRefusal e pos (string s)) → IfErr r (λ e. IsRefusal e t.pos (meaning t.kind t.spelling))
+string_refused t k pos s a b c d (Ok x) h = tt
+string_refused t k pos s a b c d (Err e) h =
+    let f : t.kind ≡ pp.StringLiteral = sym a ∙ string_kind k b in
+    subst (λ x. IsRefusal e t.pos (meaning x t.spelling)) (sym f) (text_refused e t.pos (string t.spelling) (subst (λ x. IsRefusal e x (string t.spelling)) c (subst (λ x. IsRefusal e pos (string x)) d h)))

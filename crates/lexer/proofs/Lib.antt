@@ -1,3 +1,4 @@
 pub mod NumberLemmas
 pub mod LiteralLemmas
 pub mod CarryLemmas
+pub mod LawLemmas

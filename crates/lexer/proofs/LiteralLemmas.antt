@@ -1,5 +1,7 @@
 -- Lemmas on reading a literal part by part.
 use Rattle.std.proofs.Common.{◌≡◌, ℕ, zero, suc, ◌-◌, ◌<◌, ◌==◌, ◌||◌, Bool, true, false, cond, Option, Some, None, Result, Ok, Err, List, [], ◌∷◌, ◌++◌, length, drop, refl, sym, ap, ◌∙◌, subst, arith, inl, inr, append_assoc, append-nil}
+use Rattle.srcset.specs.declared.code.Code.{Code}
+use Rattle.srcset.specs.declared.code.Code.TheVariants.{BadLiteral, ConstantOutOfRange, LeftOutLiteral}
 use Rattle.std.proofs.lemmas.Bool.{eqb-true}
 use Rattle.std.specs.List.{list_any}
 use Rattle.srcset.specs.declared.refusal.Pos.{Pos}
@@ -10,7 +12,7 @@ use Rattle.lexer.specs.declared.literals.Element.TheVariants.{Byte, Large, Unrea
 use Rattle.lexer.specs.declared.literals.Met.{Met}
 use Rattle.lexer.specs.declared.literals.Part.{Part}
 use Rattle.lexer.specs.Literals.{first_part, elements, is_universal, is_unreadable, is_large, bytes_of, string_of}
-use Rattle.lexer.specs.Decoding.{part_at, met_with, IsDecoded, by_fault, fault_of, IsAppended, IsRefusal}
+use Rattle.lexer.specs.inside.Decoding.{part_at, met_with, IsDecoded, by_fault, fault_of, IsAppended, IsRefusal}
 
 pub elements_skip : (k : ℕ) (bs : List ℕ) → elements k bs ≡ elements 0 (drop k bs)
 unfolding elements
@@ -95,10 +97,10 @@ decoded_turn old between new met meanwhile after bs rest p e some h r d q =
     decoded_part old between new met meanwhile after bs h some' (subst (λ x. IsDecoded old met (x.element ∷ []) between meanwhile) e d) (subst (λ x. IsDecoded between meanwhile (elements 0 x) new after) r' q)
 
 -- the faults of all elements, in their order
-pub string_is : (prefixed : Bool) (es : List Element) → (f : Option ℕ) → f ≡ fault_of (met_with (record { universal = prefixed; unreadable = false; large = false }) es) → string_of prefixed es ≡ by_fault f (bytes_of es)
+pub string_is : (prefixed : Bool) (es : List Element) → (f : Option Code) → f ≡ fault_of (met_with (record { universal = prefixed; unreadable = false; large = false }) es) → string_of prefixed es ≡ by_fault f (bytes_of es)
 string_is prefixed es f e = by (prefixed || list_any is_universal es) (list_any is_unreadable es) (list_any is_large es) (bytes_of es) ∙ sym (ap (λ x. by_fault x (bytes_of es)) e)
   where
-    by : (u r l : Bool) (bs : List ℕ) → cond u (Err 607) (cond r (Err 302) (cond l (Err 303) (Ok bs))) ≡ by_fault (fault_of (record { universal = u; unreadable = r; large = l })) bs
+    by : (u r l : Bool) (bs : List ℕ) → cond u (Err LeftOutLiteral) (cond r (Err BadLiteral) (cond l (Err ConstantOutOfRange) (Ok bs))) ≡ by_fault (fault_of (record { universal = u; unreadable = r; large = l })) bs
     by true r l bs = refl
     by false true l bs = refl
     by false false true bs = refl
@@ -109,11 +111,11 @@ pub string_read : (prefixed : Bool) (es : List Element) (met : Met) (old new : L
 string_read prefixed es met old new d f =
     subst (λ x. IsAppended x old new) (sym (string_is prefixed es None (f ∙ ap fault_of d.met_is))) d.bytes_are
 
-pub string_refused : (prefixed : Bool) (es : List Element) (met : Met) (old new : List ℕ) (code : ℕ) (pos : Pos) → IsDecoded old (record { universal = prefixed; unreadable = false; large = false }) es new met → Some code ≡ fault_of met → IsRefusal (At code pos) pos (string_of prefixed es)
+pub string_refused : (prefixed : Bool) (es : List Element) (met : Met) (old new : List ℕ) (code : Code) (pos : Pos) → IsDecoded old (record { universal = prefixed; unreadable = false; large = false }) es new met → Some code ≡ fault_of met → IsRefusal (At code pos) pos (string_of prefixed es)
 string_refused prefixed es met old new code pos d f =
     subst (λ x. IsRefusal (At code pos) pos x) (sym (string_is prefixed es (Some code) (f ∙ ap fault_of d.met_is))) (inr refl)
 
 -- out of memory is always allowed
-pub memory_refused : {X : Type 0} (e : Refusal) (pos : Pos) (r : Result X ℕ) → e ≡ Memory → IsRefusal e pos r
+pub memory_refused : {X : Type 0} (e : Refusal) (pos : Pos) (r : Result X Code) → e ≡ Memory → IsRefusal e pos r
 memory_refused e pos (Ok x) h = h
 memory_refused e pos (Err code) h = inl h

@@ -1,5 +1,6 @@
 -- Lemmas on digits and the values of constants.
 use Rattle.std.proofs.Common.{◌≡◌, ℕ, suc, ◌+◌, ◌*◌, ◌<◌, ◌≤◌, nat_lt, Bool, true, false, pos, Err, List, [], ◌∷◌, length, get_or, drop, refl, sym, ap, ◌∙◌, arith}
+use Rattle.srcset.specs.declared.code.Code.TheVariants.{LeftOutLongLong}
 use Rattle.std.specs.List.{prefix_len}
 use Rattle.std.proofs.Math.Seq.{drop-cons}
 use Rattle.std.proofs.Math.Nat.{le-mul_of_pos_right}
@@ -47,12 +48,12 @@ not_fits ty.UInt v h = grind (arith, nat_tests)
 not_fits ty.Long v h = grind (arith, nat_tests)
 not_fits ty.ULong v h = grind (arith, nat_tests)
 
-none_fits : (v : ℕ) (types : List IntType) → 4294967296 ≤ v → typed v types ≡ Err 609
+none_fits : (v : ℕ) (types : List IntType) → 4294967296 ≤ v → typed v types ≡ Err LeftOutLongLong
 none_fits v [] h = refl
 none_fits v (t ∷ ts) h = rw (not_fits t v h) (none_fits v ts h)
 
 -- nor has one of the standard's
-pub too_long : (v : ℕ) (types : List IntType) → 4294967296 ≤ v → v ≤ 18446744073709551615 → Err 609 ≡ in_range v types
+pub too_long : (v : ℕ) (types : List IntType) → 4294967296 ≤ v → v ≤ 18446744073709551615 → Err LeftOutLongLong ≡ in_range v types
 too_long v types low high =
     let e : nat_lt 18446744073709551615 v ≡ false = grind (arith, nat_tests) in
     rw e (sym (none_fits v types low))

@@ -1,5 +1,7 @@
 -- C tokens: translation phases 5 to 7 (ISO/IEC 9899:2011 5.1.1.2).
 use Rattle.std.specs.Prelude.{ℕ, Option, Some, None, Result, Ok, Err, List, [], ◌∷◌, ◌++◌}
+use Rattle.srcset.specs.declared.code.Code.{Code}
+use Rattle.srcset.specs.declared.code.Code.TheVariants.{NotAToken}
 use Rattle.srcset.specs.declared.refusal.Pos.{Pos}
 use Rattle.srcset.specs.declared.refusal.Refusal.{Refusal}
 use Rattle.srcset.specs.declared.refusal.Refusal.TheVariants.{At}
@@ -13,23 +15,23 @@ use Rattle.lexer.specs.Punctuators.{mark}
 use Rattle.lexer.specs.Numbers.{number}
 use Rattle.lexer.specs.Literals.{character, string}
 
-abbrev pub as_constant : Result Constant ℕ → Result Meaning ℕ
+abbrev pub as_constant : Result Constant Code → Result Meaning Code
 as_constant (Ok c) = Ok (constant c.of c.value)
 as_constant (Err code) = Err code
 
-abbrev pub as_text : Result (List ℕ) ℕ → Result Meaning ℕ
+abbrev pub as_text : Result (List ℕ) Code → Result Meaning Code
 as_text (Ok bytes) = Ok (text bytes)
 as_text (Err code) = Err code
 
 -- what a preprocessing token is, by its kind and spelling, or the code of its fault (6.4p3, and phases 5 and 7)
-abbrev pub meaning : Kind → List ℕ → Result Meaning ℕ
+abbrev pub meaning : Kind → List ℕ → Result Meaning Code
 meaning Identifier s = word s
 meaning Number s = as_constant (number s)
 meaning CharacterConstant s = as_constant (character s)
 meaning StringLiteral s = as_text (string s)
 meaning Punctuator s = mark s
-meaning HeaderName s = Err 301
-meaning Other s = Err 301
+meaning HeaderName s = Err NotAToken
+meaning Other s = Err NotAToken
 
 -- phase 6: string literals side by side are one, which stands where the first of them stands
 abbrev pub join : Meaning → Meaning → CToken → CToken → List CToken → List CToken
@@ -49,7 +51,7 @@ abbrev pub nothing : CTokens
 nothing = record { tokens = []; fault = None }
 
 -- a token at its place, before what comes behind it
-abbrev pub put : Pos → Result Meaning ℕ → CTokens → CTokens
+abbrev pub put : Pos → Result Meaning Code → CTokens → CTokens
 put pos (Ok m) r = record { tokens = before (record { meaning = m; pos = pos }) r.tokens; fault = r.fault }
 put pos (Err code) r = record { tokens = []; fault = Some (At code pos) }
 

@@ -1,13 +1,14 @@
 -- Digits, and the numbers that they stand for (ISO/IEC 9899:2011 6.4.4.1).
 use Rattle.std.specs.Prelude.{ℕ, ◌+◌, ◌-◌, ◌*◌, nat_le, nat_lt, ◌&&◌, Bool, List, [], ◌∷◌, if◌then◌else◌}
 use Rattle.std.specs.List.{prefix_len}
+use Rattle.std.specs.Str.{byte}
 
 -- the value of a byte as a digit of a base up to 16; 16 where it is none
 abbrev pub digit_value : ℕ → ℕ
 digit_value b =
-    if nat_le 48 b && nat_le b 57 then b - 48 else
-    if nat_le 97 b && nat_le b 102 then b - 97 + 10 else
-    if nat_le 65 b && nat_le b 70 then b - 65 + 10 else
+    if nat_le (byte "0") b && nat_le b (byte "9") then b - byte "0" else
+    if nat_le (byte "a") b && nat_le b (byte "f") then b - byte "a" + 10 else
+    if nat_le (byte "A") b && nat_le b (byte "F") then b - byte "A" + 10 else
     16
 
 abbrev pub is_digit : ℕ → ℕ → Bool

@@ -1,6 +1,10 @@
 -- Character constants and string literals (ISO/IEC 9899:2011 6.4.4.4, 6.4.5).
 use Rattle.std.specs.Prelude.{ℕ, zero, suc, ◌+◌, ◌-◌, ◌==◌, nat_le, nat_lt, ◌&&◌, ◌||◌, not, Bool, true, false, List, [], ◌∷◌, length, take, drop, slice_index, Result, Ok, Err, if◌then◌else◌}
+use Rattle.srcset.specs.declared.code.Code.{Code}
+use Rattle.srcset.specs.declared.code.Code.TheVariants.{BadLiteral, ConstantOutOfRange, LeftOutLiteral}
 use Rattle.std.specs.List.{list_any}
+use Rattle.std.specs.Str.{byte}
+use Rattle.phases.specs.Characters.{alert, backspace, newline, carriage_return, horizontal_tab, vertical_tab, form_feed, backslash, single_quote, double_quote}
 use Rattle.ctypes.specs.declared.types.IntType.TheVariants as ty
 use Rattle.lexer.specs.declared.numbers.Constant.{Constant}
 use Rattle.lexer.specs.declared.literals.Element.{Element}
@@ -20,19 +24,19 @@ numbered v = if nat_le v 255 then Byte v else Large
 -- (6.4.3), or neither
 unfoldable pub simple : ℕ → Element
 simple b =
-    if b == 39 then Byte 39 else
-    if b == 34 then Byte 34 else
-    if b == 63 then Byte 63 else
-    if b == 92 then Byte 92 else
-    if b == 97 then Byte 7 else
-    if b == 98 then Byte 8 else
-    if b == 116 then Byte 9 else
-    if b == 110 then Byte 10 else
-    if b == 118 then Byte 11 else
-    if b == 102 then Byte 12 else
-    if b == 114 then Byte 13 else
-    if b == 117 then Universal else
-    if b == 85 then Universal else
+    if b == single_quote then Byte single_quote else
+    if b == double_quote then Byte double_quote else
+    if b == byte "?" then Byte (byte "?") else
+    if b == backslash then Byte backslash else
+    if b == byte "a" then Byte alert else
+    if b == byte "b" then Byte backspace else
+    if b == byte "t" then Byte horizontal_tab else
+    if b == byte "n" then Byte newline else
+    if b == byte "v" then Byte vertical_tab else
+    if b == byte "f" then Byte form_feed else
+    if b == byte "r" then Byte carriage_return else
+    if b == byte "u" then Universal else
+    if b == byte "U" then Universal else
     Unreadable
 
 -- behind a backslash, one to three octal digits
@@ -48,16 +52,16 @@ abbrev pub escape : List ℕ → Part
 escape [] = part 1 Unreadable
 escape (b ∷ bs) =
     if is_digit 8 b then octal (b ∷ bs)
-    else if b == 120 then hexadecimal bs
+    else if b == byte "x" then hexadecimal bs
     else part 2 (simple b)
 
 -- a tab, or a printable character
 abbrev pub is_plain : ℕ → Bool
-is_plain b = (b == 9) || (nat_le 32 b && nat_lt b 127)
+is_plain b = (b == horizontal_tab) || (nat_le (byte " ") b && nat_le b (byte "~"))
 
 -- what stands first in the text b ∷ bs
 abbrev pub first_part : ℕ → List ℕ → Part
-first_part b bs = if b == 92 then escape bs else part 1 (if is_plain b then Byte b else Unreadable)
+first_part b bs = if b == backslash then escape bs else part 1 (if is_plain b then Byte b else Unreadable)
 
 -- what stands between the quotes, in order; the first `skip` bytes belong to the part before
 unfoldable pub elements : ℕ → List ℕ → List Element
@@ -90,27 +94,27 @@ abbrev pub between_quotes : List ℕ → List ℕ
 between_quotes s = take (length s - 2) (drop 1 s)
 
 -- the bytes of a string literal, without the zero byte behind them
-abbrev pub string_of : Bool → List Element → Result (List ℕ) ℕ
+abbrev pub string_of : Bool → List Element → Result (List ℕ) Code
 string_of prefixed es =
-    if prefixed || list_any is_universal es then Err 607
-    else if list_any is_unreadable es then Err 302
-    else if list_any is_large es then Err 303
+    if prefixed || list_any is_universal es then Err LeftOutLiteral
+    else if list_any is_unreadable es then Err BadLiteral
+    else if list_any is_large es then Err ConstantOutOfRange
     else Ok (bytes_of es)
 
-abbrev pub string : List ℕ → Result (List ℕ) ℕ
-string s = string_of (is_prefixed 34 s) (elements 0 (between_quotes s))
+abbrev pub string : List ℕ → Result (List ℕ) Code
+string s = string_of (is_prefixed double_quote s) (elements 0 (between_quotes s))
 
 -- a character constant has the type int and the value of a char (6.4.4.4p10), which is unsigned here
-abbrev pub character_of : Element → Result Constant ℕ
-character_of Universal = Err 607
-character_of Unreadable = Err 302
-character_of Large = Err 303
+abbrev pub character_of : Element → Result Constant Code
+character_of Universal = Err LeftOutLiteral
+character_of Unreadable = Err BadLiteral
+character_of Large = Err ConstantOutOfRange
 character_of (Byte b) = Ok (record { of = ty.Int; value = b })
 
 -- one character, and nothing behind it
-abbrev pub lone : List ℕ → Result Constant ℕ
-lone [] = Err 607
-lone (b ∷ bs) = let p = first_part b bs in if nat_lt p.count (suc (length bs)) then Err 607 else character_of p.element
+abbrev pub lone : List ℕ → Result Constant Code
+lone [] = Err LeftOutLiteral
+lone (b ∷ bs) = let p = first_part b bs in if nat_lt p.count (suc (length bs)) then Err LeftOutLiteral else character_of p.element
 
-abbrev pub character : List ℕ → Result Constant ℕ
-character s = if is_prefixed 39 s then Err 607 else lone (between_quotes s)
+abbrev pub character : List ℕ → Result Constant Code
+character s = if is_prefixed single_quote s then Err LeftOutLiteral else lone (between_quotes s)

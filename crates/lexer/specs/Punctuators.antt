@@ -1,5 +1,7 @@
 -- Punctuators (ISO/IEC 9899:2011 6.4.6).
 use Rattle.std.specs.Prelude.{ℕ, List, codes, Option, Some, None, Result, Ok, Err, if◌then◌else◌}
+use Rattle.srcset.specs.declared.code.Code.{Code}
+use Rattle.srcset.specs.declared.code.Code.TheVariants.{NotAToken}
 use Rattle.std.specs.Str.{bytes_eq}
 use Rattle.lexer.specs.declared.token.Punctuator.{Punctuator}
 use Rattle.lexer.specs.declared.token.Punctuator.TheVariants as p
@@ -81,9 +83,9 @@ or_else None other = other
 abbrev pub punctuator_of : List ℕ → Option Punctuator
 punctuator_of s = or_else (single_of s) (or_else (pair_of s) (longer_of s))
 
-abbrev pub mark_as : Option Punctuator → Result Meaning ℕ
+abbrev pub mark_as : Option Punctuator → Result Meaning Code
 mark_as (Some x) = Ok (punctuator x)
-mark_as None = Err 301
+mark_as None = Err NotAToken
 
-abbrev pub mark : List ℕ → Result Meaning ℕ
+abbrev pub mark : List ℕ → Result Meaning Code
 mark s = mark_as (punctuator_of s)

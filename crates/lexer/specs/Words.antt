@@ -1,5 +1,7 @@
 -- Keywords and identifiers (ISO/IEC 9899:2011 6.4.1, 6.4.2).
 use Rattle.std.specs.Prelude.{ℕ, List, codes, Option, Some, None, Result, Ok, Err, if◌then◌else◌}
+use Rattle.srcset.specs.declared.code.Code.{Code}
+use Rattle.srcset.specs.declared.code.Code.TheVariants.{LeftOutFloating, LeftOutStructures, LeftOutGoto, LeftOutQualifiers, LeftOutSpecifiers, LeftOutPragmaOperator}
 use Rattle.std.specs.Str.{bytes_eq}
 use Rattle.lexer.specs.declared.token.Keyword.{Keyword}
 use Rattle.lexer.specs.declared.token.Keyword.TheVariants as kw
@@ -36,39 +38,39 @@ keyword_of s =
     None
 
 -- the code of a word that this profile leaves out: the other keywords, `_Pragma` (6.10.9) and `__func__` (6.4.2.2)
-unfoldable pub left_out_of : List ℕ → Option ℕ
+unfoldable pub left_out_of : List ℕ → Option Code
 left_out_of s =
-    if bytes_eq s (codes "float") then Some 601 else
-    if bytes_eq s (codes "double") then Some 601 else
-    if bytes_eq s (codes "_Complex") then Some 601 else
-    if bytes_eq s (codes "_Imaginary") then Some 601 else
-    if bytes_eq s (codes "struct") then Some 602 else
-    if bytes_eq s (codes "union") then Some 602 else
-    if bytes_eq s (codes "typedef") then Some 602 else
-    if bytes_eq s (codes "goto") then Some 603 else
-    if bytes_eq s (codes "volatile") then Some 604 else
-    if bytes_eq s (codes "restrict") then Some 604 else
-    if bytes_eq s (codes "_Atomic") then Some 604 else
-    if bytes_eq s (codes "_Thread_local") then Some 604 else
-    if bytes_eq s (codes "auto") then Some 604 else
-    if bytes_eq s (codes "register") then Some 604 else
-    if bytes_eq s (codes "inline") then Some 605 else
-    if bytes_eq s (codes "_Noreturn") then Some 605 else
-    if bytes_eq s (codes "_Alignas") then Some 605 else
-    if bytes_eq s (codes "_Alignof") then Some 605 else
-    if bytes_eq s (codes "_Generic") then Some 605 else
-    if bytes_eq s (codes "_Pragma") then Some 608 else
-    if bytes_eq s (codes "__func__") then Some 608 else
+    if bytes_eq s (codes "float") then Some LeftOutFloating else
+    if bytes_eq s (codes "double") then Some LeftOutFloating else
+    if bytes_eq s (codes "_Complex") then Some LeftOutFloating else
+    if bytes_eq s (codes "_Imaginary") then Some LeftOutFloating else
+    if bytes_eq s (codes "struct") then Some LeftOutStructures else
+    if bytes_eq s (codes "union") then Some LeftOutStructures else
+    if bytes_eq s (codes "typedef") then Some LeftOutStructures else
+    if bytes_eq s (codes "goto") then Some LeftOutGoto else
+    if bytes_eq s (codes "volatile") then Some LeftOutQualifiers else
+    if bytes_eq s (codes "restrict") then Some LeftOutQualifiers else
+    if bytes_eq s (codes "_Atomic") then Some LeftOutQualifiers else
+    if bytes_eq s (codes "_Thread_local") then Some LeftOutQualifiers else
+    if bytes_eq s (codes "auto") then Some LeftOutQualifiers else
+    if bytes_eq s (codes "register") then Some LeftOutQualifiers else
+    if bytes_eq s (codes "inline") then Some LeftOutSpecifiers else
+    if bytes_eq s (codes "_Noreturn") then Some LeftOutSpecifiers else
+    if bytes_eq s (codes "_Alignas") then Some LeftOutSpecifiers else
+    if bytes_eq s (codes "_Alignof") then Some LeftOutSpecifiers else
+    if bytes_eq s (codes "_Generic") then Some LeftOutSpecifiers else
+    if bytes_eq s (codes "_Pragma") then Some LeftOutPragmaOperator else
+    if bytes_eq s (codes "__func__") then Some LeftOutPragmaOperator else
     None
 
 -- a word that is no keyword is an identifier
-abbrev pub identifier : Option ℕ → List ℕ → Result Meaning ℕ
+abbrev pub identifier : Option Code → List ℕ → Result Meaning Code
 identifier (Some code) s = Err code
 identifier None s = Ok (name s)
 
-abbrev pub word_as : Option Keyword → List ℕ → Result Meaning ℕ
+abbrev pub word_as : Option Keyword → List ℕ → Result Meaning Code
 word_as (Some k) s = Ok (keyword k)
 word_as None s = identifier (left_out_of s) s
 
-abbrev pub word : List ℕ → Result Meaning ℕ
+abbrev pub word : List ℕ → Result Meaning Code
 word s = word_as (keyword_of s) s

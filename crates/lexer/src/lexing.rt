@@ -5,10 +5,10 @@ ghost use Rattle.srcset.specs.declared.refusal.Refusal.TheVariants.{Memory};
 ghost use Rattle.lexer.specs.CTokens.{CTokens, nothing, meaning, as_constant};
 ghost use Rattle.lexer.specs.Words.{word};
 ghost use Rattle.lexer.specs.Punctuators.{mark};
-ghost use Rattle.lexer.specs.Decoding.{IsRefusal};
+ghost use Rattle.lexer.specs.inside.Decoding.{IsRefusal, IsFaultAt, IsFaultFirst};
 ghost use Rattle.lexer.specs.Literals.{string};
 ghost use Rattle.lexer.specs.Numbering.{AreAll};
-ghost use Rattle.lexer.specs.Carrying.{is_string, IsKindFor, with_meaning, Carries, IsPushed, Passes, PassesText, Closes, Stops, StopsClosing};
+ghost use Rattle.lexer.specs.inside.Carrying.{is_string, IsKindFor, with_meaning, Carries, IsPushed, Passes, PassesText, Closes, Stops, StopsClosing};
 
 use crate::literals::{character, string};
 use crate::numbers::{Constant, number};
@@ -16,7 +16,7 @@ use crate::punctuators::punctuator;
 use crate::token::{Kind, Token};
 use crate::words::{keyword, left_out};
 use phases::{Kind as PpKind, PpToken};
-use srcset::{Names, Pos, Refusal};
+use srcset::{Code, Names, Pos, Refusal};
 use std::alloc::Global;
 
 /// The tokens so far.
@@ -33,7 +33,7 @@ pub struct Lexer {
 // The kind of a keyword or an identifier.
 fn word(spelling: &[u8], pos: Pos, names: &mut Names) -> Result<Kind, Refusal>
     ensures ok { IfOk result (λ k. IsKindFor names.new (word spelling.now) k) }
-    ensures err { IfErr result (λ e. IsRefusal e pos (word spelling.now)) }
+    ensures err { IfErr result (λ e. IsFaultFirst e pos (word spelling.now)) }
     ensures texts { OnOk result (names.new ≡ with_meaning names.old (word spelling.now)) }
     ensures same { OnErr result (names.new ≡ names.old) }
     ensures keeps { KeepsNumbers names.old names.new }
@@ -51,9 +51,9 @@ fn word(spelling: &[u8], pos: Pos, names: &mut Names) -> Result<Kind, Refusal>
 }
 
 // The kind of a constant.
-fn constant(constant: Result<Constant, u16>, pos: Pos) -> Result<Kind, Refusal>
+fn constant(constant: Result<Constant, Code>, pos: Pos) -> Result<Kind, Refusal>
     ensures ok { IfOk result (λ k. (texts : Texts) → IsKindFor texts (as_constant constant) k) }
-    ensures err { IfErr result (λ e. IsRefusal e pos (as_constant constant)) }
+    ensures err { IfErr result (λ e. IsFaultAt e pos (as_constant constant)) }
 {
     match constant {
         Ok(constant) => Ok(Kind::Constant(constant.of, constant.value)),
@@ -64,11 +64,14 @@ fn constant(constant: Result<Constant, u16>, pos: Pos) -> Result<Kind, Refusal>
 // The kind of a punctuator.
 fn mark(spelling: &[u8], pos: Pos) -> Result<Kind, Refusal>
     ensures ok { IfOk result (λ k. (texts : Texts) → IsKindFor texts (mark spelling.now) k) }
-    ensures err { IfErr result (λ e. IsRefusal e pos (mark spelling.now)) }
+    ensures err { IfErr result (λ e. IsFaultAt e pos (mark spelling.now)) }
 {
     match punctuator(spelling) {
         Some(punctuator) => Ok(Kind::Punctuator(punctuator)),
-        None => Err(Refusal::At { code: 301, pos }),
+        None => Err(Refusal::At {
+            code: Code::NotAToken,
+            pos,
+        }),
     }
 }
 
@@ -87,7 +90,7 @@ fn is_string(kind: PpKind) -> bool
 fn kind_of(token: &PpToken, names: &mut Names) -> Result<Kind, Refusal>
     requires { is_string token.now.kind ≡ false }
     ensures ok { IfOk result (λ k. IsKindFor names.new (meaning token.now.kind token.now.spelling) k) }
-    ensures err { IfErr result (λ e. IsRefusal e token.now.pos (meaning token.now.kind token.now.spelling)) }
+    ensures err { IfErr result (λ e. IsFaultFirst e token.now.pos (meaning token.now.kind token.now.spelling)) }
     ensures texts { OnOk result (names.new ≡ with_meaning names.old (meaning token.now.kind token.now.spelling)) }
     ensures same { OnErr result (names.new ≡ names.old) }
     ensures keeps { KeepsNumbers names.old names.new }
@@ -98,8 +101,14 @@ fn kind_of(token: &PpToken, names: &mut Names) -> Result<Kind, Refusal>
         PpKind::Number => constant(number(token.spelling()), pos),
         PpKind::CharacterConstant => constant(character(token.spelling()), pos),
         PpKind::Punctuator => mark(token.spelling(), pos),
-        PpKind::HeaderName => Err(Refusal::At { code: 301, pos }),
-        PpKind::Other => Err(Refusal::At { code: 301, pos }),
+        PpKind::HeaderName => Err(Refusal::At {
+            code: Code::NotAToken,
+            pos,
+        }),
+        PpKind::Other => Err(Refusal::At {
+            code: Code::NotAToken,
+            pos,
+        }),
         PpKind::StringLiteral => unreachable!(),
     }
 }

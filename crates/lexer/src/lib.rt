@@ -5,8 +5,6 @@ mod lexing;
 mod literals;
 mod numbers;
 mod punctuators;
-#[cfg(test)]
-mod tests;
 mod token;
 mod translation;
 mod words;

@@ -2,11 +2,11 @@
 ghost use Rattle.std.specs.Prelude.{◌≡◌, ◌<◌, ℕ, ◌∷◌, [], if◌then◌else◌, MatchOption, IfOk, IfErr, OnOk, length, drop, take, slice_index};
 ghost use Rattle.lexer.specs.Digits.{value_of};
 ghost use Rattle.lexer.specs.Literals.{numbered, simple, octal, hexadecimal, escape, is_plain, is_prefixed, between_quotes, character_of, character, string, elements};
-ghost use Rattle.lexer.specs.Decoding.{part_at, fault_of, IsDecoded, IsAppended, IsRefusal};
+ghost use Rattle.lexer.specs.inside.Decoding.{part_at, fault_of, IsDecoded, IsAppended, IsRefusal};
 
 use crate::numbers::{Constant, behind, byte_at, digit_count, is_digit, value};
 use ctypes::IntType;
-use srcset::{Pos, Refusal};
+use srcset::{Code, Pos, Refusal};
 use std::alloc::AllocError;
 
 /// What stands in a literal for one character.
@@ -143,7 +143,7 @@ fn escape(text: &[u8]) -> Part
 fn is_plain(byte: u8) -> bool
     ensures { result ≡ is_plain byte }
 {
-    byte == b'\t' || (0x20 <= byte && byte < 0x7f)
+    byte == b'\t' || (b' ' <= byte && byte <= b'~')
 }
 
 // What stands for itself.
@@ -188,13 +188,13 @@ fn between_quotes(spelling: &[u8]) -> &[u8]
 }
 
 // The constant that one character makes.
-fn character_of(element: Element) -> Result<Constant, u16>
+fn character_of(element: Element) -> Result<Constant, Code>
     ensures { result ≡ character_of element }
 {
     match element {
-        Element::Universal => Err(607),
-        Element::Unreadable => Err(302),
-        Element::Large => Err(303),
+        Element::Universal => Err(Code::LeftOutLiteral),
+        Element::Unreadable => Err(Code::BadLiteral),
+        Element::Large => Err(Code::ConstantOutOfRange),
         Element::Byte(byte) => Ok(Constant {
             of: IntType::Int,
             value: u32::from(byte),
@@ -203,19 +203,19 @@ fn character_of(element: Element) -> Result<Constant, u16>
 }
 
 /// The constant that a character constant is, or the code of its fault.
-pub(crate) fn character(spelling: &[u8]) -> Result<Constant, u16>
+pub(crate) fn character(spelling: &[u8]) -> Result<Constant, Code>
     ensures { result ≡ character spelling.now }
 {
     if is_prefixed(b'\'', spelling) {
-        return Err(607);
+        return Err(Code::LeftOutLiteral);
     }
     let text = between_quotes(spelling);
     if text.is_empty() {
-        return Err(607);
+        return Err(Code::LeftOutLiteral);
     }
     let part = first_part(text);
     if part.count < text.len() {
-        return Err(607);
+        return Err(Code::LeftOutLiteral);
     }
     character_of(part.element)
 }
@@ -256,15 +256,15 @@ fn decode(text: &[u8], before: Met, bytes: &mut Vec<u8>) -> Result<Met, AllocErr
 }
 
 // The code of the fault that comes first.
-fn fault_of(met: Met) -> Option<u16>
+fn fault_of(met: Met) -> Option<Code>
     ensures { result ≡ fault_of met }
 {
     if met.universal {
-        Some(607)
+        Some(Code::LeftOutLiteral)
     } else if met.unreadable {
-        Some(302)
+        Some(Code::BadLiteral)
     } else if met.large {
-        Some(303)
+        Some(Code::ConstantOutOfRange)
     } else {
         None
     }

@@ -6,6 +6,7 @@ ghost use Rattle.lexer.specs.Digits.{digit_value, is_digit, digit_count, value_o
 ghost use Rattle.lexer.specs.Numbers.{is_hexadecimal, base_of, unprefixed, suffix_of, types_of, typed, in_range, is_exponent, is_floating, no_integer, suffix_behind, number};
 
 use ctypes::IntType;
+use srcset::Code;
 
 /// A constant: its type, and its value, which the type can represent.
 #[derive(Clone, Copy, PartialEq, Eq, Debug)]
@@ -247,7 +248,7 @@ fn types(decimal: bool, suffix: Suffix) -> &'static [IntType]
 }
 
 // The constant with the first type that has the value.
-fn typed(value: u32, types: &[IntType]) -> Result<Constant, u16>
+fn typed(value: u32, types: &[IntType]) -> Result<Constant, Code>
     ensures { result ≡ typed value types.now }
 {
     for of in types {
@@ -255,19 +256,19 @@ fn typed(value: u32, types: &[IntType]) -> Result<Constant, u16>
             return Ok(Constant { of: *of, value });
         }
     }
-    Err(609)
+    Err(Code::LeftOutLongLong)
 }
 
 // The same, of the value of digits, which is `None` where it is over 18446744073709551615.
-fn in_range(value: Option<u64>, types: &[IntType]) -> Result<Constant, u16>
+fn in_range(value: Option<u64>, types: &[IntType]) -> Result<Constant, Code>
     ensures { (v : ℕ) → MatchOption value (18446744073709551615 < v) (λ w. w ≡ v) → result ≡ in_range v types.now }
 {
     let Some(value) = value else {
-        return Err(303);
+        return Err(Code::ConstantOutOfRange);
     };
     match u32::try_from(value) {
         Ok(value) => typed(value, types),
-        Err(_) => Err(609),
+        Err(_) => Err(Code::LeftOutLongLong),
     }
 }
 
@@ -292,14 +293,18 @@ fn is_floating(spelling: &[u8]) -> bool
 }
 
 // The code of a preprocessing number that is no integer constant.
-fn no_integer(spelling: &[u8]) -> u16
+fn no_integer(spelling: &[u8]) -> Code
     ensures { result ≡ no_integer spelling.now }
 {
-    if is_floating(spelling) { 606 } else { 301 }
+    if is_floating(spelling) {
+        Code::LeftOutFloatingConstant
+    } else {
+        Code::NotAToken
+    }
 }
 
 /// The constant that a preprocessing number is, or the code of its fault.
-pub(crate) fn number(spelling: &[u8]) -> Result<Constant, u16>
+pub(crate) fn number(spelling: &[u8]) -> Result<Constant, Code>
     ensures { result ≡ number spelling.now }
 {
     let base = base_of(spelling);

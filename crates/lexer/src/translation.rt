@@ -1,8 +1,9 @@
 //! C tokens of a list of preprocessing tokens.
-ghost use Rattle.std.specs.Prelude.{◌≡◌, ◌⊎◌, Some, IfOk, IfErr, OnErr};
+ghost use Rattle.std.specs.Prelude.{◌≡◌, ℕ, List, ◌⊎◌, Some, IfOk, IfErr, OnErr};
 ghost use Rattle.srcset.specs.NameTable.{KeepsNumbers};
 ghost use Rattle.srcset.specs.declared.refusal.Refusal.TheVariants.{Memory};
 ghost use Rattle.lexer.specs.CTokens.{ctokens};
+ghost use Rattle.lexer.specs.Laws.{AreInTheirTypes, DigitsStandForTheirNumber, HasBytes, IsItself, GoesOnBehind};
 ghost use Rattle.lexer.specs.Numbering.{AreAll, TakesUp, IsTokenFault};
 
 use crate::lexing::Lexer;
@@ -38,11 +39,20 @@ fn all_tokens(alloc: Global, list: &[PpToken], names: &mut Names) -> Result<Vec<
 /// constant that needs `long long`, which this profile leaves out. Of several faults of one literal 607
 /// comes first, then 302. Fails with 801 where memory runs out. In any case `names` has taken up the
 /// texts of some of the first tokens, in their order, and no others.
+///
+/// A constant is a value of its type (clause `constants`). The clauses behind it are laws of the definitions: the
+/// digits of a number stand for it (6.4.4.1), the characters of a literal are bytes, a literal without escape
+/// sequences stands for its own characters, and one with some is read sequence by sequence (6.4.4.4, 6.4.5).
 pub fn tokens(alloc: Global, list: &[PpToken], names: &mut Names) -> Result<Vec<Token>, Fault>
     ensures ok { IfOk result (λ ts. AreAll names.old names.new (ctokens list.now) ts.items) }
     ensures err { IfErr result (λ fault. IsTokenFault fault names.new (ctokens list.now).fault) }
     ensures stops { OnErr result (TakesUp names.old names.new (ctokens list.now).tokens) }
     ensures keeps { KeepsNumbers names.old names.new }
+    ensures constants { IfOk result (λ ts. AreInTheirTypes ts.items) }
+    ensures digits { (n : ℕ) → DigitsStandForTheirNumber n }
+    ensures bytes { (spelling : List ℕ) → HasBytes spelling }
+    ensures plain { (text : List ℕ) → IsItself text }
+    ensures behind { (b : ℕ) (bs rest : List ℕ) → GoesOnBehind b bs rest }
 {
     match all_tokens(alloc, list, names) {
         Ok(tokens) => Ok(tokens),

@@ -3,6 +3,7 @@ ghost use Rattle.std.specs.Prelude.{◌≡◌};
 ghost use Rattle.lexer.specs.Words.{keyword_of, left_out_of};
 
 use crate::token::Keyword;
+use srcset::Code;
 
 /// The keyword with this spelling.
 #[tactic(auto, unfolding(crate::specs::Words::keyword_of))]
@@ -89,71 +90,71 @@ pub(crate) fn keyword(spelling: &[u8]) -> Option<Keyword>
 
 /// The code of a word that this profile leaves out, 601 to 605 or 608.
 #[tactic(auto, unfolding(crate::specs::Words::left_out_of))]
-pub(crate) fn left_out(spelling: &[u8]) -> Option<u16>
+pub(crate) fn left_out(spelling: &[u8]) -> Option<Code>
     ensures { result ≡ left_out_of spelling.now }
 {
     if spelling == b"float".as_slice() {
-        return Some(601);
+        return Some(Code::LeftOutFloating);
     }
     if spelling == b"double".as_slice() {
-        return Some(601);
+        return Some(Code::LeftOutFloating);
     }
     if spelling == b"_Complex".as_slice() {
-        return Some(601);
+        return Some(Code::LeftOutFloating);
     }
     if spelling == b"_Imaginary".as_slice() {
-        return Some(601);
+        return Some(Code::LeftOutFloating);
     }
     if spelling == b"struct".as_slice() {
-        return Some(602);
+        return Some(Code::LeftOutStructures);
     }
     if spelling == b"union".as_slice() {
-        return Some(602);
+        return Some(Code::LeftOutStructures);
     }
     if spelling == b"typedef".as_slice() {
-        return Some(602);
+        return Some(Code::LeftOutStructures);
     }
     if spelling == b"goto".as_slice() {
-        return Some(603);
+        return Some(Code::LeftOutGoto);
     }
     if spelling == b"volatile".as_slice() {
-        return Some(604);
+        return Some(Code::LeftOutQualifiers);
     }
     if spelling == b"restrict".as_slice() {
-        return Some(604);
+        return Some(Code::LeftOutQualifiers);
     }
     if spelling == b"_Atomic".as_slice() {
-        return Some(604);
+        return Some(Code::LeftOutQualifiers);
     }
     if spelling == b"_Thread_local".as_slice() {
-        return Some(604);
+        return Some(Code::LeftOutQualifiers);
     }
     if spelling == b"auto".as_slice() {
-        return Some(604);
+        return Some(Code::LeftOutQualifiers);
     }
     if spelling == b"register".as_slice() {
-        return Some(604);
+        return Some(Code::LeftOutQualifiers);
     }
     if spelling == b"inline".as_slice() {
-        return Some(605);
+        return Some(Code::LeftOutSpecifiers);
     }
     if spelling == b"_Noreturn".as_slice() {
-        return Some(605);
+        return Some(Code::LeftOutSpecifiers);
     }
     if spelling == b"_Alignas".as_slice() {
-        return Some(605);
+        return Some(Code::LeftOutSpecifiers);
     }
     if spelling == b"_Alignof".as_slice() {
-        return Some(605);
+        return Some(Code::LeftOutSpecifiers);
     }
     if spelling == b"_Generic".as_slice() {
-        return Some(605);
+        return Some(Code::LeftOutSpecifiers);
     }
     if spelling == b"_Pragma".as_slice() {
-        return Some(608);
+        return Some(Code::LeftOutPragmaOperator);
     }
     if spelling == b"__func__".as_slice() {
-        return Some(608);
+        return Some(Code::LeftOutPragmaOperator);
     }
     None
 }

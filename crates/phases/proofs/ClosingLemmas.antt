@@ -1,12 +1,12 @@
 -- Laws of quotes that are not closed on their line.
 use Rattle.std.proofs.Common.{◌≡◌, ℕ, zero, suc, ◌+◌, ◌-◌, ◌≤◌, ◌<◌, eqb, ◌&&◌, Bool, true, false, not, cond, List, [], ◌∷◌, drop, refl, ap, subst, arith, Option, None, Some, is_none}
 use Rattle.std.proofs.lemmas.Bool.{and_parts, and_from}
-use Rattle.phases.specs.Lexical.{one_more, closes, escapes_next, to_close, closed_over, enclosed, behind}
+use Rattle.phases.specs.inside.Lexical.{one_more, closes, escapes_next, to_close, closed_over, enclosed, behind}
 use Rattle.phases.specs.Lines.{line_len}
-use Rattle.phases.specs.Closing.{unclosed_for, IsHopeless}
+use Rattle.phases.specs.inside.Closing.{unclosed_for, IsHopeless}
 use Rattle.phases.specs.declared.cursor.Hopeless.{Hopeless}
 use Rattle.phases.specs.declared.cursor.Cursor.{Cursor}
-use Rattle.phases.specs.Reading.{bytes_at, Spans}
+use Rattle.phases.specs.inside.Reading.{bytes_at, Spans}
 use Rattle.phases.proofs.ReadingLemmas.{spans_drop}
 
 unclosed_end : (q m : ℕ) → unclosed_for q m [] ≡ true

@@ -7,7 +7,7 @@ use Rattle.std.proofs.lemmas.Option.{slice_get_past}
 use Rattle.std.proofs.lemmas.List.{take-append-le, drop-append-le, take_rest, drop_all, length-drop}
 use Rattle.std.proofs.lemmas.List.Folds.{drop_split}
 use Rattle.phases.specs.Token.{Token}
-use Rattle.phases.specs.Cut.{cut, Ascend, Begun, line_start}
+use Rattle.phases.specs.inside.Cut.{cut, Ascend, Begun, line_start}
 
 pub ascend_low : (a : ℕ) (es : List ℕ) (s : ℕ) → Ascend a es s → a ≤ s
 ascend_low a [] s h = omega (arith, h)

@@ -1,7 +1,7 @@
 -- The kind that comes first is the longest of all kinds.
 use Rattle.std.proofs.Common.{◌≡◌, ℕ, zero, suc, slice_index, ◌≤◌, ◌<◌, eqb, leb, ◌||◌, ◌&&◌, Bool, true, false, cond, List, [], ◌∷◌, drop, refl, sym, subst, arith, inl, inr}
 use Rattle.std.proofs.lemmas.Bool.{cases_lt, ne_eqb, eqb-true, lt-ltb, le-ltb, and_right, and_left, and_parts, or_cases, or_left, or_right, or_from, lt-leb, leb-true, both_ways}
-use Rattle.phases.specs.Lexical.{is_digit, is_letter, is_word, word_len, name_len, number_len, begins_number, begins_digit, enclosed, behind, is_prefix, character_len, string_len, seconds, is_single, is_pair, is_triple, is_quadruple, punctuator_of, punctuator_len, first_kind, plain_token}
+use Rattle.phases.specs.inside.Lexical.{is_digit, is_letter, is_word, word_len, name_len, number_len, begins_number, begins_digit, enclosed, behind, is_prefix, character_len, string_len, seconds, is_single, is_pair, is_triple, is_quadruple, punctuator_of, punctuator_len, first_kind, plain_token}
 
 -- a byte of a word is no other byte
 pub not_word : (b k : ℕ) → is_word b ≡ true → is_word k ≡ false → eqb b k ≡ false

@@ -4,8 +4,8 @@ use Rattle.std.proofs.lemmas.Bool.{cases_Bool, leb-true, leb-false, eqb-true, or
 use Rattle.phases.specs.declared.token.Kind.{Kind}
 use Rattle.phases.specs.declared.token.Place.{Place}
 use Rattle.phases.specs.declared.token.Place.TheVariants.{Start, AfterHash, AfterInclude, Elsewhere}
-use Rattle.phases.specs.Lexical.{character_len, string_len, name_len, number_len, punctuator_len, enclosed, header_len, header_or, plain_token}
-use Rattle.phases.specs.Grammar.{is_header, IsNoToken, IsLongest}
+use Rattle.phases.specs.inside.Lexical.{character_len, string_len, name_len, number_len, punctuator_len, enclosed, header_len, header_or, plain_token}
+use Rattle.phases.specs.inside.Grammar.{is_header, IsNoToken, IsLongest}
 use Rattle.phases.proofs.LongestLemmas.{name_longest, number_longest, punctuator_longest, enclosed_longest}
 use Rattle.phases.proofs.PrefixLemmas.{character_longest, string_longest}
 use Rattle.phases.proofs.DominanceLemmas.{Within, plain_most}
@@ -29,7 +29,7 @@ angle_header false b bs e =
     let y : header_len (b ∷ bs) ≡ enclosed 34 34 1 false (b ∷ bs) = rw e refl in
     (omega (arith, x), omega (arith, y))
 
-header_longest : (bs : List ℕ) (m : ℕ) → header_len bs < m → m ≤ length bs → is_header (take m bs) ≡ false
+pub header_longest : (bs : List ℕ) (m : ℕ) → header_len bs < m → m ≤ length bs → is_header (take m bs) ≡ false
 header_longest [] m h l = absurd (omega arith)
 header_longest (b ∷ bs) m h l =
     let w = angle_header (eqb b 60) b bs refl in

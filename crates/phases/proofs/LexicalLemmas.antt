@@ -2,13 +2,13 @@
 use Rattle.std.proofs.Common.{◌≡◌, ℕ, zero, suc, slice_index, ◌+◌, ◌<◌, Bool, true, false, List, drop, refl, sym, ap, ◌∙◌, Option, None, Some, subst, arith, eq-eqb}
 use Rattle.std.proofs.lemmas.Bool.{ne_eqb, lt-ltb}
 use Rattle.phases.specs.Text.{bytes_of}
-use Rattle.phases.specs.Lexical.{is_word, is_letter, word_len, name_len, goes_on, number_more, begins_number, number_len, behind, enclosed, string_prefix, closes, escapes_next, to_close, one_more}
+use Rattle.phases.specs.inside.Lexical.{is_word, is_letter, word_len, name_len, goes_on, number_more, begins_number, number_len, behind, enclosed, string_prefix, closes, escapes_next, to_close, one_more}
 use Rattle.phases.specs.declared.cursor.Cursor.{Cursor}
 use Rattle.phases.specs.declared.cursor.Step.{Step}
-use Rattle.phases.specs.Reading.{bytes_at, IsStep, Spans}
+use Rattle.phases.specs.inside.Reading.{bytes_at, IsStep, Spans}
 use Rattle.phases.specs.declared.cursor.Span.{Span}
-use Rattle.phases.specs.Fronts.{IsFront, IsSomeFront, IsCloseFront, IsAhead}
-use Rattle.phases.specs.Along.{Along, AlongClose, plus}
+use Rattle.phases.specs.inside.Fronts.{IsFront, IsSomeFront, IsCloseFront, IsAhead}
+use Rattle.phases.specs.inside.Along.{Along, AlongClose, plus}
 use Rattle.phases.proofs.ReadingLemmas.{spans_join, spans_step, spans_drop}
 
 pub along_more : (a b : Cursor) (s : Step) (total n left m : ℕ) → Along a total n b left → IsStep b s → left ≡ suc m → Along a total (n + 1) s.next m

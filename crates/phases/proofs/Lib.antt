@@ -14,3 +14,7 @@ pub mod DominanceLemmas
 pub mod FrontLemmas
 pub mod WholeLemmas
 pub mod ClosingLemmas
+pub mod PunctuatorTable
+pub mod GrammarLemmas
+pub mod CommentLemmas
+pub mod EndLemmas

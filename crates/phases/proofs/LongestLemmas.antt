@@ -2,8 +2,8 @@
 use Rattle.std.proofs.Common.{◌≡◌, ℕ, zero, suc, ◌≤◌, ◌<◌, eqb, ltb, ◌||◌, ◌&&◌, Bool, true, false, not, cond, List, [], ◌∷◌, length, take, refl, subst, arith, Option, None, Some, inl, inr}
 use Rattle.std.proofs.lemmas.Bool.{ltb-true, ltb-false, cases_Bool, and_right}
 use Rattle.std.proofs.lemmas.List.{length-take-le}
-use Rattle.phases.specs.Lexical.{is_letter, is_word, word_len, name_len, goes_on, begins_digit, begins_number, is_digit, number_more, number_len, one_more, closes, escapes_next, to_close, closed_over, enclosed, is_single, is_pair, is_triple, is_quadruple, punctuator_len}
-use Rattle.phases.specs.Grammar.{all_word, is_identifier, continues, is_number, is_empty, closes_last, is_enclosed, is_punctuator}
+use Rattle.phases.specs.inside.Lexical.{is_letter, is_word, word_len, name_len, goes_on, begins_digit, begins_number, is_digit, number_more, number_len, one_more, closes, escapes_next, to_close, closed_over, enclosed, is_single, is_pair, is_triple, is_quadruple, punctuator_len}
+use Rattle.phases.specs.inside.Grammar.{all_word, is_identifier, continues, is_number, is_empty, closes_last, is_enclosed, is_punctuator}
 
 and_step : (t u x : Bool) (k m : ℕ) → (t ≡ false → u ≡ false) → cond t (suc k) 0 < suc m → (k < m → x ≡ false) → (u && x) ≡ false
 and_step true u x k m f h g = and_right u x (g (omega arith))

@@ -2,8 +2,8 @@
 use Rattle.std.proofs.Common.{◌≡◌, ℕ, suc, slice_index, ◌+◌, ◌<◌, eqb, Bool, true, false, cond, drop, refl, sym, ap, ◌∙◌, subst, arith}
 use Rattle.std.proofs.lemmas.Bool.{ne_eqb, lt-ltb, lt-leb, and_parts, eqb-true}
 use Rattle.phases.specs.Text.{bytes_of}
-use Rattle.phases.specs.Lexical.{is_white, character_len, string_len, name_len, number_len, punctuator_len, first_kind, plain_token, header_or}
-use Rattle.phases.specs.Lines.{line_len, also, ends_comment, comment_len, comment_piece, opens, front}
+use Rattle.phases.specs.inside.Lexical.{is_white, character_len, string_len, name_len, number_len, punctuator_len, first_kind, plain_token, header_or}
+use Rattle.phases.specs.inside.Pieces.{line_len, also, ends_comment, comment_len, comment_piece, opens, front}
 use Rattle.phases.specs.declared.cursor.Cursor.{Cursor}
 use Rattle.phases.specs.declared.cursor.Step.{Step}
 use Rattle.phases.specs.declared.cursor.Span.{Span}
@@ -13,9 +13,9 @@ use Rattle.phases.specs.declared.token.Kind.{Kind}
 use Rattle.phases.specs.declared.token.Kind.TheVariants.{Punctuator}
 use Rattle.phases.specs.declared.token.Place.{Place}
 use Rattle.phases.specs.declared.token.Piece.TheVariants.{Gap, Unclosed}
-use Rattle.phases.specs.Reading.{bytes_at, IsStep, Spans}
-use Rattle.phases.specs.Fronts.{IsFront, IsSomeFront, IsCommentFront, IsLexeme, IsPiece, IsAhead}
-use Rattle.phases.specs.Along.{AlongComment, longer}
+use Rattle.phases.specs.inside.Reading.{bytes_at, IsStep, Spans}
+use Rattle.phases.specs.inside.Fronts.{IsFront, IsSomeFront, IsCommentFront, IsLexeme, IsPiece, IsAhead}
+use Rattle.phases.specs.inside.Along.{AlongComment, longer}
 use Rattle.phases.proofs.ReadingLemmas.{spans_join, spans_step}
 
 pub line_step : (a : Cursor) (s : Step) → IsStep a s → (s.byte ≡ 10 → ⊥) → line_len (bytes_at a) ≡ suc (line_len (bytes_at s.next))

@@ -1,8 +1,8 @@
 -- Literals with a prefix that are found are the longest of their kind.
 use Rattle.std.proofs.Common.{◌≡◌, ℕ, zero, suc, ◌+◌, ◌≤◌, ◌<◌, eqb, ◌&&◌, Bool, true, false, cond, List, [], ◌∷◌, length, take, drop, refl, subst, arith, inl, inr}
 use Rattle.std.proofs.lemmas.Bool.{cases_Bool}
-use Rattle.phases.specs.Lexical.{enclosed, behind, is_prefix, character_len, string_len}
-use Rattle.phases.specs.Grammar.{is_enclosed, is_character, is_string}
+use Rattle.phases.specs.inside.Lexical.{enclosed, behind, is_prefix, character_len, string_len}
+use Rattle.phases.specs.inside.Grammar.{is_enclosed, is_character, is_string}
 use Rattle.phases.proofs.LongestLemmas.{enclosed_longest}
 
 behind_below : (k n m : ℕ) → behind k n < k + m → 0 < m → n < m

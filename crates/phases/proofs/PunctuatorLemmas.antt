@@ -2,12 +2,12 @@
 use Rattle.std.proofs.Common.{◌≡◌, ℕ, suc, slice_index, eqb, ◌||◌, ◌&&◌, Bool, true, false, cond, List, [], ◌∷◌, drop, refl, sym, ap, ◌∙◌, subst, arith, ⊎_elim}
 use Rattle.std.specs.Prelude.{codes}
 use Rattle.std.proofs.lemmas.Bool.{both_ways, and_parts, or_cases, eqb-true, ne_eqb}
-use Rattle.phases.specs.Lexical.{one_of, seconds, is_single, is_pair, is_triple, is_quadruple, punctuator_of, punctuator_len}
-use Rattle.phases.specs.Quick.{is_second}
+use Rattle.phases.specs.inside.Lexical.{one_of, seconds, is_single, is_pair, is_triple, is_quadruple, punctuator_of, punctuator_len}
+use Rattle.phases.specs.inside.Quick.{is_second}
 use Rattle.phases.specs.declared.cursor.Cursor.{Cursor}
 use Rattle.phases.specs.declared.cursor.Step.{Step}
-use Rattle.phases.specs.Reading.{bytes_at, Spans}
-use Rattle.phases.specs.Fronts.{IsSomeFront, IsAhead}
+use Rattle.phases.specs.inside.Reading.{bytes_at, Spans}
+use Rattle.phases.specs.inside.Fronts.{IsSomeFront, IsAhead}
 use Rattle.phases.proofs.ReadingLemmas.{spans_join, spans_step}
 
 if_not : (b : ℕ) (t : Bool) (x y : List ℕ) → one_of b x ≡ false → one_of b y ≡ false → one_of b (cond t x y) ≡ false

@@ -4,10 +4,10 @@ use Rattle.std.specs.Prelude.{codes}
 use Rattle.std.proofs.lemmas.Bool.{cases_Bool, and_parts, and_cases, and_left, and_right, or_parts, or_cases, eqb-true, ne_eqb, both_ways, not-true, leb-true, lt-ltb, lt-leb}
 use Rattle.std.proofs.lemmas.List.{drop_at, length-take-le}
 use Rattle.phases.specs.Text.{bytes_of}
-use Rattle.phases.specs.Lexical.{is_digit, is_letter, is_word, is_white, is_prefix, word_len, number_more, begins_digit, enclosed, behind, one_of, is_single, is_pair, is_triple, is_quadruple, first_kind, character_len, string_len, name_len, number_len, punctuator_len, header_len, header_or, plain_token, token_front}
-use Rattle.phases.specs.Lines.{word_piece, front}
-use Rattle.phases.specs.Quick.{is_quote, is_opening, is_further, may_go_on}
-use Rattle.phases.specs.Runs.{IsSureStep}
+use Rattle.phases.specs.inside.Lexical.{is_digit, is_letter, is_word, is_white, is_prefix, word_len, number_more, begins_digit, enclosed, behind, one_of, is_single, is_pair, is_triple, is_quadruple, first_kind, character_len, string_len, name_len, number_len, punctuator_len, header_len, header_or, plain_token, token_front}
+use Rattle.phases.specs.inside.Pieces.{word_piece, front}
+use Rattle.phases.specs.inside.Quick.{is_quote, is_opening, is_further, may_go_on}
+use Rattle.phases.specs.inside.Runs.{IsSureStep}
 use Rattle.phases.specs.declared.cursor.Cursor.{Cursor}
 use Rattle.phases.specs.declared.cursor.Step.{Step}
 use Rattle.phases.specs.declared.token.Kind.{Kind}
@@ -16,8 +16,8 @@ use Rattle.phases.specs.declared.token.Place.{Place}
 use Rattle.phases.specs.declared.token.Place.TheVariants.{Start, AfterHash, AfterInclude, Elsewhere}
 use Rattle.phases.specs.declared.token.Piece.{Piece}
 use Rattle.phases.specs.declared.token.Piece.TheVariants.{Word}
-use Rattle.phases.specs.Reading.{bytes_at, IsStep, Spans}
-use Rattle.phases.specs.Fronts.{IsPiece}
+use Rattle.phases.specs.inside.Reading.{bytes_at, IsStep, Spans}
+use Rattle.phases.specs.inside.Fronts.{IsPiece}
 use Rattle.phases.proofs.ReadingLemmas.{spans_none, spans_join, spans_step}
 use Rattle.phases.proofs.RunLemmas.{all_plain, exclude, sure_step, split, run_spans, run_bytes, word_front_plain, number_front_plain, word_stop, number_stop, word_most, number_more_most}
 use Rattle.phases.proofs.DominanceLemmas.{letter_above}

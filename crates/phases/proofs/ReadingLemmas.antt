@@ -4,7 +4,7 @@ use Rattle.std.proofs.lemmas.List.{append_assoc, length-append, map-append, drop
 use Rattle.phases.specs.Text.{Char, phase1, logical, bytes_of, is_splice}
 use Rattle.phases.specs.declared.cursor.Cursor.{Cursor}
 use Rattle.phases.specs.declared.cursor.Step.{Step}
-use Rattle.phases.specs.Reading.{mapped_at, text_at, bytes_at, char_of, MapsTo, Skips, IsNoSplice, IsPastSplices, EndsSplice, Reads, IsStep, Spans}
+use Rattle.phases.specs.inside.Reading.{mapped_at, text_at, bytes_at, char_of, MapsTo, Skips, IsNoSplice, IsPastSplices, EndsSplice, Reads, IsStep, Spans}
 use Rattle.phases.proofs.TextLemmas.{stands, goes, ends}
 
 pub skips_none : (a : Cursor) → Skips a a

@@ -3,15 +3,15 @@ use Rattle.std.proofs.Common.{◌<◌, ◌≡◌, ℕ, zero, suc, ◌+◌, ◌-�
 use Rattle.std.proofs.lemmas.Bool.{cases_Bool, and_parts, and_from, or_cases, eqb-true, both_ways, ne_eqb, not-true, and_right}
 use Rattle.std.proofs.lemmas.List.{length-take, take-append-drop, map-append, length-append, length-take-le, length-drop, drop-drop, take_all, length-map}
 use Rattle.phases.specs.Text.{Char, logical, bytes_of}
-use Rattle.phases.specs.Lexical.{is_word, is_white, word_len, goes_on, number_more, one_more, escapes_next, to_close}
-use Rattle.phases.specs.Lines.{also, line_len, comment_len}
-use Rattle.phases.specs.Along.{longer, plus}
-use Rattle.phases.specs.Plain.{is_plain}
-use Rattle.phases.specs.Runs.{is_sure, is_ordinary, ordinary_len, all_ordinary, white_len, all_white, IsSureStep, IsRun, IsWhiteRun}
+use Rattle.phases.specs.inside.Lexical.{is_word, is_white, word_len, goes_on, number_more, one_more, escapes_next, to_close}
+use Rattle.phases.specs.inside.Pieces.{also, line_len, comment_len}
+use Rattle.phases.specs.inside.Along.{longer, plus}
+use Rattle.phases.specs.inside.Plain.{is_plain}
+use Rattle.phases.specs.inside.Runs.{is_sure, is_ordinary, ordinary_len, all_ordinary, white_len, all_white, IsSureStep, IsRun, IsWhiteRun}
 use Rattle.phases.specs.declared.cursor.Cursor.{Cursor}
 use Rattle.phases.specs.declared.cursor.Step.{Step}
 use Rattle.phases.specs.declared.cursor.Span.{Span}
-use Rattle.phases.specs.Reading.{text_at, bytes_at, char_of, Reads, IsStep, Spans}
+use Rattle.phases.specs.inside.Reading.{text_at, bytes_at, char_of, Reads, IsStep, Spans}
 use Rattle.phases.proofs.TextLemmas.{plain_first, plain_no_line, plain_no_escape, line_first}
 use Rattle.phases.proofs.DominanceLemmas.{not_word}
 

@@ -10,14 +10,16 @@ use Rattle.phases.specs.declared.token.Place.{Place}
 use Rattle.phases.specs.declared.token.Piece.{Piece}
 use Rattle.phases.specs.declared.token.Piece.TheVariants.{Gap}
 use Rattle.phases.specs.Text.{Char, logical, bytes_of}
-use Rattle.phases.specs.Lexical.{is_white}
+use Rattle.phases.specs.inside.Lexical.{is_white}
 use Rattle.phases.specs.Token.{Token}
-use Rattle.phases.specs.Lines.{Found, found, front, nothing, with_piece, kind_of, place_after, space_after}
-use Rattle.phases.specs.Reading.{text_at, bytes_at, char_of, IsStep, Spans}
-use Rattle.phases.specs.Fronts.{IsPiece}
-use Rattle.phases.specs.Scanning.{whole, token_at, Puts, PassesWhite, Goes}
-use Rattle.phases.specs.Runs.{all_white, IsSureStep, IsWhiteRun}
+use Rattle.phases.specs.Lines.{Found, found, piece_at, nothing, with_piece, kind_of, place_after, space_after}
+use Rattle.phases.specs.inside.Pieces.{front}
+use Rattle.phases.specs.inside.Reading.{text_at, bytes_at, char_of, IsStep, Spans}
+use Rattle.phases.specs.inside.Fronts.{IsPiece}
+use Rattle.phases.specs.inside.Scanning.{whole, token_at, Puts, PassesWhite, Goes}
+use Rattle.phases.specs.inside.Runs.{all_white, IsSureStep, IsWhiteRun}
 use Rattle.phases.proofs.TextLemmas.{plain_first}
+use Rattle.phases.proofs.CommentLemmas.{piece_law}
 use Rattle.phases.proofs.ReadingLemmas.{spans_none, spans_join}
 use Rattle.phases.proofs.RunLemmas.{sure_step, exclude, run_spans, white_plain, white_all_plain}
 use Rattle.phases.specs.declared.cursor.Span.{Span}
@@ -42,7 +44,7 @@ abbrev by_piece : ℕ → Place → Bool → ℕ → Piece → ℕ → List Char
 by_piece file place space line p n cs rest =
     with_piece p (token_in file space line p n cs) (found file 0 (place_after p place (take n (bytes_of cs))) (space_after p) rest)
 
-first_piece : (file : ℕ) (place : Place) (space : Bool) (c : Char) (cs : List Char) (p : Piece) (n : ℕ) → front place c.byte (bytes_of cs) ≡ (p, n) → 0 < n → found file 0 place space (c ∷ cs) ≡ by_piece file place space c.line p n (c ∷ cs) (drop n (c ∷ cs))
+first_piece : (file : ℕ) (place : Place) (space : Bool) (c : Char) (cs : List Char) (p : Piece) (n : ℕ) → piece_at place c.byte (bytes_of cs) ≡ (p, n) → 0 < n → found file 0 place space (c ∷ cs) ≡ by_piece file place space c.line p n (c ∷ cs) (drop n (c ∷ cs))
 unfolding found
 first_piece file place space c cs p n e h =
     let G : Piece × ℕ → Found = λ x. with_piece x.0 (token_in file space c.line x.0 x.1 (c ∷ cs)) (found file (x.1 - 1) (place_after x.0 place (take x.1 (bytes_of (c ∷ cs)))) (space_after x.0) cs) in
@@ -55,7 +57,7 @@ found_step : (file : ℕ) (place : Place) (space : Bool) (a : Cursor) (s : Step)
 found_step file place space a s x p q =
     let e = p.text_is in
     let t = front place s.byte (bytes_at s.next) in
-    let g : t ≡ (x.piece, x.span.count) = ap (λ k. (k, t.1)) (sym q.piece_is) ∙ ap (λ k. (x.piece, k)) (sym q.count_is) in
+    let g : piece_at place s.byte (bytes_at s.next) ≡ (x.piece, x.span.count) = piece_law place s.byte (bytes_at s.next) ∙ ap (λ k. (k, t.1)) (sym q.piece_is) ∙ ap (λ k. (x.piece, k)) (sym q.count_is) in
     ap (λ k. found file 0 place space k) e ∙ first_piece file place space (char_of s) (text_at s.next) x.piece x.span.count g q.some ∙ sym (ap (λ k. by_piece file place space s.line x.piece x.span.count k (drop x.span.count k)) e) ∙ ap (λ k. by_piece file place space s.line x.piece x.span.count (text_at a) k) (spans_drop_text a x.span.after x.span.count q.spans)
 
 pub scan_step : (file : ℕ) (old new : Scanner) (total : Found) (a : Cursor) (s : Step) (x : Front) → old.file ≡ file → total ≡ whole old (found file 0 old.place old.space (text_at a)) → IsStep a s → IsPiece a (front old.place s.byte (bytes_at s.next)) x → Puts old new a s x → total ≡ whole new (found file 0 new.place new.space (text_at x.span.after))
@@ -95,7 +97,7 @@ white_found file place space l [] q h = ap (λ k. found file 0 place k (logical 
 white_found file place space l (b ∷ f) q h =
     let p = and_parts (is_white b) (all_white f) h in
     let e : logical l (b ∷ f ++ q) ≡ record { byte = b; line = l } ∷ logical l (f ++ q) = plain_first l b (f ++ q) (white_plain b p.0) in
-    let g : front place b (bytes_of (logical l (f ++ q))) ≡ (Gap, 1) = rw (exclude b 10 is_white p.0 refl, p.0) refl in
+    let g : piece_at place b (bytes_of (logical l (f ++ q))) ≡ (Gap, 1) = rw (exclude b 10 is_white p.0 refl, p.0) refl in
     let one : found file 0 place space (logical l (b ∷ f ++ q)) ≡ found file 0 place true (logical l (f ++ q)) = ap (λ k. found file 0 place space k) e ∙ first_piece file place space (record { byte = b; line = l }) (logical l (f ++ q)) Gap 1 g (omega arith) in
     let some : (space || ltb 0 (length (b ∷ f))) ≡ true = or_right space (ltb 0 (length (b ∷ f))) (lt-ltb 0 (suc (length f)) (omega arith)) in
     one ∙ white_found file place true l f q p.1 ∙ ap (λ k. found file 0 place k (logical l q)) (sym some)

@@ -4,8 +4,8 @@ use Rattle.std.proofs.lemmas.List.{map-append, length-map, take_at, take_all, ap
 use Rattle.phases.specs.Text.{bytes_of}
 use Rattle.phases.specs.declared.cursor.Cursor.{Cursor}
 use Rattle.phases.specs.declared.cursor.Step.{Step}
-use Rattle.phases.specs.Reading.{text_at, bytes_at, char_of, IsStep, Spans}
-use Rattle.phases.specs.Along.{Copied}
+use Rattle.phases.specs.inside.Reading.{text_at, bytes_at, char_of, IsStep, Spans}
+use Rattle.phases.specs.inside.Along.{Copied}
 use Rattle.phases.proofs.ReadingLemmas.{reads_none, reads_more, spans_take}
 
 pub copied_none : (a : Cursor) → Copied a [] a

@@ -1,7 +1,7 @@
 -- Laws of the logical text.
 use Rattle.std.proofs.Common.{◌≡◌, ℕ, ◌+◌, eqb, ◌||◌, Bool, true, false, not, cond, List, [], ◌∷◌, refl, sym, subst, None}
 use Rattle.phases.specs.Text.{Char, phase1, logical, is_splice, trigraph_at, is_return}
-use Rattle.phases.specs.Plain.{is_plain}
+use Rattle.phases.specs.inside.Plain.{is_plain}
 
 pub no_splice : (c : Char) (cs : List Char) → eqb c.byte 92 ≡ false → is_splice c cs ≡ false
 no_splice c [] h = refl

@@ -6,12 +6,12 @@ use Rattle.phases.specs.declared.token.Kind.{Kind}
 use Rattle.phases.specs.declared.token.Kind.TheVariants.{Identifier, Number, CharacterConstant, StringLiteral, HeaderName, Punctuator, Other}
 use Rattle.phases.specs.declared.token.Place.{Place}
 use Rattle.phases.specs.declared.token.Place.TheVariants.{Start, AfterHash, AfterInclude, Elsewhere}
-use Rattle.phases.specs.Lexical.{is_digit, is_letter, is_word, word_len, name_len, goes_on, number_more, begins_digit, begins_number, number_len, one_more, closes, escapes_next, to_close, closed_over, enclosed, behind, is_prefix, character_len, string_len, header_len, is_single, is_pair, is_triple, is_quadruple, punctuator_len, first_kind, plain_token, header_or}
-use Rattle.phases.specs.Grammar.{all_word, is_identifier, continues, is_number, closes_last, is_enclosed, is_character, is_string, is_header, is_punctuator, is_of, IsWhole, IsWholeFront}
+use Rattle.phases.specs.inside.Lexical.{is_digit, is_letter, is_word, word_len, name_len, goes_on, number_more, begins_digit, begins_number, number_len, one_more, closes, escapes_next, to_close, closed_over, enclosed, behind, is_prefix, character_len, string_len, header_len, is_single, is_pair, is_triple, is_quadruple, punctuator_len, first_kind, plain_token, header_or}
+use Rattle.phases.specs.inside.Grammar.{all_word, is_identifier, continues, is_number, closes_last, is_enclosed, is_character, is_string, is_header, is_punctuator, is_of, IsWhole, IsWholeFront}
 use Rattle.phases.proofs.PunctuatorLemmas.{no_zero_second}
 
 -- so many characters are there, and they are a token by this test
-record Good (test : List ℕ → Bool) (bs : List ℕ) (n : ℕ) : Type 0 where
+pub record Good (test : List ℕ → Bool) (bs : List ℕ) (n : ℕ) : Type 0 where
   pub room : n ≤ length bs
   pub holds : test (take n bs) ≡ true
 
@@ -21,7 +21,7 @@ word_good (b ∷ bs) =
     let i = word_good bs in
     elim (cases_Bool (is_word b)) [ inl t ↦ subst (λ k. Good all_word (b ∷ bs) (cond k (suc (word_len bs)) 0)) (sym t) (record { room = omega (arith, i.room); holds = and_from (is_word b) (all_word (take (word_len bs) bs)) t i.holds }) | inr t ↦ subst (λ k. Good all_word (b ∷ bs) (cond k (suc (word_len bs)) 0)) (sym t) (record { room = omega arith; holds = refl }) ]
 
-name_good : (bs : List ℕ) → 0 < name_len bs → Good is_identifier bs (name_len bs)
+pub name_good : (bs : List ℕ) → 0 < name_len bs → Good is_identifier bs (name_len bs)
 name_good [] h = absurd (omega arith)
 name_good (b ∷ bs) h =
     let i = word_good bs in
@@ -47,7 +47,7 @@ number_kept : (a : ℕ) (bs : List ℕ) → begins_number a bs ≡ true → begi
 number_kept a bs h =
     elim (or_cases (is_digit a) (eqb a 46 && begins_digit bs) h) [ inl t ↦ or_left (is_digit a) _ t | inr t ↦ (let p = and_parts (eqb a 46) (begins_digit bs) t in or_right (is_digit a) _ (and_from (eqb a 46) _ p.0 (digit_kept a bs p.1))) ]
 
-number_good : (bs : List ℕ) → 0 < number_len bs → Good is_number bs (number_len bs)
+pub number_good : (bs : List ℕ) → 0 < number_len bs → Good is_number bs (number_len bs)
 number_good [] h = absurd (omega arith)
 number_good (a ∷ bs) h =
     let i = more_good a bs in
@@ -102,7 +102,7 @@ character_kept false b (suc m) cs e p l h =
     let z : 0 + suc m ≡ suc m = omega arith in
     subst (λ k. Good is_character (b ∷ cs) k) (sym z) (record { room = omega (arith, l); holds = rw e h })
 
-character_good : (bs : List ℕ) → 0 < character_len bs → Good is_character bs (character_len bs)
+pub character_good : (bs : List ℕ) → 0 < character_len bs → Good is_character bs (character_len bs)
 character_good [] h = absurd (omega arith)
 character_good (b ∷ cs) h =
     behind_good (cond (is_prefix b) 1 0) (enclosed 39 39 1 true (drop (cond (is_prefix b) 1 0) (b ∷ cs))) (is_enclosed 39 39 1 true) (b ∷ cs) is_character h (enclosed_good 39 39 1 true (drop (cond (is_prefix b) 1 0) (b ∷ cs))) (λ m p l g. character_kept (is_prefix b) b m cs refl p l g)
@@ -125,7 +125,7 @@ string_kept false false b (suc m) cs e f p l h =
     let z : 0 + suc m ≡ suc m = omega arith in
     subst (λ k. Good is_string (b ∷ cs) k) (sym z) (record { room = omega (arith, l); holds = rw (not_eight (eqb b 117) m cs e, f) h })
 
-string_good : (bs : List ℕ) → 0 < string_len bs → Good is_string bs (string_len bs)
+pub string_good : (bs : List ℕ) → 0 < string_len bs → Good is_string bs (string_len bs)
 string_good [] h = absurd (omega arith)
 string_good (b ∷ cs) h =
     let x = eqb b 117 && eqb (slice_index cs 0) 56 in
@@ -136,7 +136,7 @@ either_good : (t : Bool) (m n : ℕ) (bs : List ℕ) → (0 < m → Good (is_enc
 either_good true m n bs f g h = let i = f h in record { room = i.room; holds = or_left (is_enclosed 60 62 1 false (take m bs)) (is_enclosed 34 34 1 false (take m bs)) i.holds }
 either_good false m n bs f g h = let i = g h in record { room = i.room; holds = or_right (is_enclosed 60 62 1 false (take n bs)) (is_enclosed 34 34 1 false (take n bs)) i.holds }
 
-header_good : (bs : List ℕ) → 0 < header_len bs → Good is_header bs (header_len bs)
+pub header_good : (bs : List ℕ) → 0 < header_len bs → Good is_header bs (header_len bs)
 header_good bs h = either_good (eqb (slice_index bs 0) 60) (enclosed 60 62 1 false bs) (enclosed 34 34 1 false bs) bs (enclosed_good 60 62 1 false bs) (enclosed_good 34 34 1 false bs) h
 
 -- the punctuator of this length, where the texts are long enough
@@ -156,7 +156,7 @@ no_fourth a b c = rw (and_right (eqb c 37) false refl) (and_right (eqb a 37 && e
 not_both : (t : Bool) (P : Type 0) → t ≡ false → t ≡ true → P
 not_both t P f h = absurd (both_ways t f h)
 
-punctuator_good : (bs : List ℕ) → 0 < punctuator_len bs → Good is_punctuator bs (punctuator_len bs)
+pub punctuator_good : (bs : List ℕ) → 0 < punctuator_len bs → Good is_punctuator bs (punctuator_len bs)
 punctuator_good [] h = marks (is_quadruple 0 0 0 0) (is_triple 0 0 0) (is_pair 0 0) (is_single 0) [] (not_both _ _ refl) (not_both _ _ refl) (not_both _ _ (no_zero_second 0)) (not_both _ _ refl) h
 punctuator_good (a ∷ []) h = marks (is_quadruple a 0 0 0) (is_triple a 0 0) (is_pair a 0) (is_single a) (a ∷ []) (not_both _ _ (no_fourth a 0 0)) (not_both _ _ (no_third a 0)) (not_both _ _ (no_zero_second a)) (λ e. record { room = omega arith; holds = e }) h
 punctuator_good (a ∷ b ∷ []) h = marks (is_quadruple a b 0 0) (is_triple a b 0) (is_pair a b) (is_single a) (a ∷ b ∷ []) (not_both _ _ (no_fourth a b 0)) (not_both _ _ (no_third a b)) (λ e. record { room = omega arith; holds = e }) (λ e. record { room = omega arith; holds = e }) h

@@ -1,5 +1,8 @@
 -- The token lines of a file: translation phase 3 of ISO/IEC 9899:2011 5.1.1.2.
-use Rattle.std.specs.Prelude.{ℕ, zero, suc, ◌-◌, ◌==◌, ◌&&◌, ◌||◌, nat_lt, Bool, true, false, if◌then◌else◌, Option, None, Some, Result, Ok, Err, List, [], ◌∷◌, ◌++◌, length, take, drop, slice_index, codes, bytes_eq}
+use Rattle.std.specs.Prelude.{◌≡◌, ℕ, zero, suc, ◌-◌, ◌==◌, ◌&&◌, ◌||◌, nat_lt, Bool, true, false, if◌then◌else◌, Option, None, Some, Result, Ok, Err, List, [], ◌∷◌, ◌++◌, length, take, drop, slice_index, codes, bytes_eq}
+use Rattle.std.specs.Str.{byte}
+use Rattle.srcset.specs.declared.code.Code.{Code}
+use Rattle.srcset.specs.declared.code.Code.TheVariants.{NoFinalNewline, FinalSplice, OpenComment, TokenLengthLimit}
 use Rattle.srcset.specs.declared.refusal.Pos.{Pos}
 use Rattle.srcset.specs.declared.refusal.Refusal.{Refusal}
 use Rattle.srcset.specs.declared.refusal.Refusal.TheVariants.{At}
@@ -10,44 +13,61 @@ use Rattle.phases.specs.declared.token.Place.TheVariants.{Start, AfterHash, Afte
 use Rattle.phases.specs.declared.token.Piece.{Piece}
 use Rattle.phases.specs.declared.token.Piece.TheVariants.{Newline, Gap, Unclosed, Word}
 use Rattle.phases.specs.Token.{Token}
-use Rattle.phases.specs.Text.{Char, logical, bytes_of, last_line, ends_open, ends_spliced}
-use Rattle.phases.specs.Lexical.{is_white, token_front}
+use Rattle.phases.specs.Text.{Char, phase1, logical, bytes_of, last_line, ends_open, ends_spliced}
+use Rattle.phases.specs.Characters.{newline, is_white}
+use Rattle.phases.specs.Grammar.{longest_token}
 
 -- up to the end of the line
 abbrev pub line_len : List ℕ → ℕ
 line_len [] = 0
-line_len (b ∷ bs) = if b == 10 then 0 else suc (line_len bs)
+line_len (b ∷ bs) = if b == newline then 0 else suc (line_len bs)
 
-abbrev pub also : Bool × ℕ → Bool × ℕ
-also t = (t.0, suc t.1)
+-- `*/` comes first
+abbrev pub ends_comment : List ℕ → Bool
+ends_comment [] = false
+ends_comment (b ∷ bs) = (b == byte "*") && (slice_index bs 0 == byte "/")
 
-abbrev pub ends_comment : Bool → ℕ → Bool
-ends_comment star b = star && (b == 47)
+-- `*/` stands somewhere in the text
+abbrev pub has_comment_end : List ℕ → Bool
+has_comment_end [] = false
+has_comment_end (b ∷ bs) = ends_comment (b ∷ bs) || has_comment_end bs
 
--- through the end of a comment, after a `*` or not: whether it is closed, and how far it goes
-abbrev pub comment_len : Bool → List ℕ → Bool × ℕ
-comment_len star [] = (false, 0)
-comment_len star (b ∷ bs) = if ends_comment star b then (true, 1) else also (comment_len (b == 42) bs)
+abbrev pub further : Option ℕ → Option ℕ
+further None = None
+further (Some n) = Some (suc n)
 
-abbrev pub comment_piece : Bool × ℕ → Piece × ℕ
-comment_piece t = (if t.0 then Gap else Unclosed, suc (suc t.1))
+-- how many characters stand before the first `*/`, if there is one
+abbrev pub body_len : List ℕ → Option ℕ
+body_len [] = None
+body_len (b ∷ bs) = if ends_comment (b ∷ bs) then Some 0 else further (body_len bs)
+
+-- a comment that is closed is `/*`, a body without `*/`, and `*/`; one that is not takes all (6.4.9p1)
+abbrev pub comment_at : Option ℕ → ℕ → Piece × ℕ
+comment_at (Some body) rest = (Gap, suc (suc (suc (suc body))))
+comment_at None rest = (Unclosed, suc (suc rest))
 
 abbrev pub word_piece : Kind × ℕ → Piece × ℕ
 word_piece t = (Word t.0, t.1)
 
 -- a slash and this byte
 abbrev pub opens : ℕ → ℕ → List ℕ → Bool
-opens second b bs = (b == 47) && (slice_index bs 0 == second)
+opens second b bs = (b == byte "/") && (slice_index bs 0 == second)
 
--- what stands at the front of a text, by its first byte and the rest, and how long it is; a comment that is not
--- closed takes all
-abbrev pub front : Place → ℕ → List ℕ → Piece × ℕ
-front place b bs =
-    if b == 10 then (Newline, 1)
+-- what stands at the front of a text, by its first byte and the rest, and how long it is
+abbrev pub piece_at : Place → ℕ → List ℕ → Piece × ℕ
+piece_at place b bs =
+    if b == newline then (Newline, 1)
     else if is_white b then (Gap, 1)
-    else if opens 47 b bs then (Gap, suc (line_len bs))
-    else if opens 42 b bs then comment_piece (comment_len false (drop 1 bs))
-    else word_piece (token_front place (b ∷ bs))
+    else if opens (byte "/") b bs then (Gap, suc (line_len bs))
+    else if opens (byte "*") b bs then comment_at (body_len (drop 1 bs)) (length (drop 1 bs))
+    else word_piece (longest_token place (b ∷ bs))
+
+-- a body without `*/` is closed by the next `*/`; a text without one is not closed
+abbrev pub AreComments : Place → List ℕ → List ℕ → Type 0
+AreComments place body rest =
+    has_comment_end body ≡ false
+    → (piece_at place (byte "/") (byte "*" ∷ body ++ byte "*" ∷ byte "/" ∷ rest) ≡ (Gap, suc (suc (suc (suc (length body))))))
+    × (piece_at place (byte "/") (byte "*" ∷ body) ≡ (Unclosed, suc (suc (length body))))
 
 -- where the next token stands
 abbrev pub after_first : List ℕ → Place
@@ -108,26 +128,26 @@ unfoldable pub found : ℕ → ℕ → Place → Bool → List Char → Found
 found file skip place space [] = nothing
 found file (suc k) place space (c ∷ cs) = found file k place space cs
 found file zero place space (c ∷ cs) =
-    let piece = front place c.byte (bytes_of cs) in
+    let piece = piece_at place c.byte (bytes_of cs) in
     let text = take piece.1 (bytes_of (c ∷ cs)) in
     with_piece piece.0
     (record { kind = kind_of piece.0; spelling = text; space_before = space; pos = record { file = file; line = c.line } })
     (found file (piece.1 - 1) (place_after piece.0 place text) (space_after piece.0) cs)
 
-abbrev pub fault_or : ℕ → Option Pos → Result (List (List Token)) Refusal → Result (List (List Token)) Refusal
+abbrev pub fault_or : Code → Option Pos → Result (List (List Token)) Refusal → Result (List (List Token)) Refusal
 fault_or code None r = r
 fault_or code (Some p) r = Err (At code p)
 
 -- the fault of an end that is no end of a line, or of a splice
 abbrev pub at_end : Bool → Bool → ℕ → ℕ → Result (List (List Token)) Refusal → Result (List (List Token)) Refusal
-at_end true spliced file line r = Err (At 111 (record { file = file; line = line }))
-at_end false true file line r = Err (At 112 (record { file = file; line = line }))
+at_end true spliced file line r = Err (At NoFinalNewline (record { file = file; line = line }))
+at_end false true file line r = Err (At FinalSplice (record { file = file; line = line }))
 at_end false false file line r = r
 
 abbrev pub lines_or_fault : Found → Result (List (List Token)) Refusal
-lines_or_fault f = fault_or 113 f.unclosed (fault_or 703 f.overlong (Ok f.lines))
+lines_or_fault f = fault_or OpenComment f.unclosed (fault_or TokenLengthLimit f.overlong (Ok f.lines))
 
 -- the token lines of a file, or its fault with the lowest code
 abbrev pub scanned : ℕ → List ℕ → Result (List (List Token)) Refusal
 scanned file bytes =
-    at_end (ends_open bytes) (ends_spliced bytes) file (last_line bytes) (lines_or_fault (found file 0 Start false (logical 1 bytes)))
+    at_end (ends_open (phase1 0 1 bytes)) (ends_spliced (phase1 0 1 bytes)) file (last_line bytes) (lines_or_fault (found file 0 Start false (logical 1 bytes)))

@@ -1,7 +1,7 @@
 //! Five classes of bytes, by one table.
 ghost use Rattle.std.specs.Prelude.{◌≡◌};
-ghost use Rattle.phases.specs.Lexical.{is_letter, is_single, is_white, is_word};
-ghost use Rattle.phases.specs.Runs.{is_sure};
+ghost use Rattle.phases.specs.inside.Lexical.{is_letter, is_single, is_white, is_word};
+ghost use Rattle.phases.specs.inside.Runs.{is_sure};
 
 // It goes on with a word.
 const WORD: u8 = 1;

@@ -3,25 +3,21 @@
 #![tactic(auto)]
 
 mod classes;
-mod closing;
 mod cursor;
+mod kinds;
 mod lexical;
 mod line_list;
 mod lines;
 mod pieces;
-#[cfg(test)]
-mod plain;
 mod punctuators;
 mod quick;
 mod reading;
 mod runs;
 mod scanner;
 mod scanning;
-mod spelling;
-#[cfg(test)]
-mod tests;
 mod token;
 
+pub use kinds::token_kind;
 pub use line_list::Lines;
 pub use lines::scan;
 pub use scanning::MAX_SPELLING_BYTES;

@@ -1,7 +1,7 @@
 //! Token lines, one behind another in one list.
 ghost use Rattle.std.specs.Prelude.{◌≡◌, ◌≤◌, ◌==◌, [], ◌∷◌, ◌++◌, length, slice_get, IfOk, OnOk, option_map};
 ghost use Rattle.std.specs.List.{flat_map};
-ghost use Rattle.phases.specs.Cut.{line_start};
+ghost use Rattle.phases.specs.inside.Cut.{line_start};
 ghost use Rattle.phases.specs.Lines.{before};
 
 use crate::token::PpToken;
@@ -21,7 +21,7 @@ pub struct Lines<'a> {
 impl<'a> Model for Lines<'a> {
     ghost use Rattle.std.specs.Prelude.{List, length};
     ghost use Rattle.phases.specs.Token.{Token};
-    ghost use Rattle.phases.specs.Cut.{cut, Ascend};
+    ghost use Rattle.phases.specs.inside.Cut.{cut, Ascend};
 
     ghost Value = { List (List Token) };
 
@@ -84,7 +84,7 @@ pub struct LineBuilder<'a> {
 
 impl<'a> Model for LineBuilder<'a> {
     ghost use Rattle.std.specs.Prelude.{◌≤◌, length, drop};
-    ghost use Rattle.phases.specs.Cut.{cut, Ascend, Begun};
+    ghost use Rattle.phases.specs.inside.Cut.{cut, Ascend, Begun};
 
     ghost Value = { Begun };
 

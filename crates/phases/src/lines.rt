@@ -2,17 +2,17 @@
 ghost use Rattle.std.specs.Prelude.{ℕ, List, ◌≡◌, ◌≤◌, ◌-◌, ◌+◌, ◌<◌, ◌^◌, Ok, Err, IfOk, IfErr, false, ◌⊎◌, length};
 ghost use Rattle.srcset.specs.declared.refusal.Refusal.TheVariants.{Memory};
 ghost use Rattle.phases.specs.declared.token.Place.TheVariants.{Start};
-ghost use Rattle.phases.specs.Text.{line_after, last_line, from_end, ends_open, backslash_at, ends_spliced};
-ghost use Rattle.phases.specs.Lines.{found, lines_or_fault, scanned};
-ghost use Rattle.phases.specs.Reading.{text_at};
+ghost use Rattle.phases.specs.Text.{phase1, line_after, last_line, ends_open, ends_spliced};
+ghost use Rattle.phases.specs.Lines.{found, lines_or_fault, scanned, AreComments};
+ghost use Rattle.phases.specs.inside.Reading.{text_at};
 ghost use Rattle.phases.specs.Scanned.{IsScanFault};
-ghost use Rattle.phases.specs.Grammar.{IsLongest, IsWholeFront};
+ghost use Rattle.phases.specs.Grammar.{IsLongest, IsWholeFront, IsOtherAlone};
 ghost use Rattle.phases.specs.declared.token.Place.{Place};
 
 use crate::cursor::{Cursor, Hopeless};
 use crate::line_list::Lines;
 use crate::scanner::Scanner;
-use srcset::{Fault, Names, Pos, Refusal};
+use srcset::{Code, Fault, Names, Pos, Refusal};
 use std::alloc::Global;
 
 // The line behind these bytes, which begin on line 1.
@@ -40,42 +40,25 @@ fn last_line(bytes: &[u8]) -> u32
     line_behind(&bytes[..bytes.len() - 1])
 }
 
-// The byte that is so many places before the end, or 0.
-fn from_end(k: usize, bytes: &[u8]) -> u8
-    requires { 0 < k }
-    ensures { result ≡ from_end k bytes.now }
-{
-    if k <= bytes.len() {
-        bytes[bytes.len() - k]
-    } else {
-        0
-    }
-}
-
 // Whether there are bytes and the last of them ends no line.
 fn ends_open(bytes: &[u8]) -> bool
-    ensures { result ≡ ends_open bytes.now }
+    ensures { result ≡ ends_open (phase1 0 1 bytes.now) }
 {
-    bytes.len() > 0 && !(from_end(1, bytes) == b'\n')
+    if bytes.is_empty() {
+        return false;
+    }
+    !bytes.ends_with(b"\n")
 }
 
-// Whether a backslash, or the trigraph for one, ends so many places before the end.
-fn backslash_at(k: usize, bytes: &[u8]) -> bool
-    requires low { 0 < k }
-    requires high { k < 8 }
-    ensures { result ≡ backslash_at k bytes.now }
-{
-    from_end(k, bytes) == b'\\'
-        || (from_end(k, bytes) == b'/'
-            && (from_end(k + 1, bytes) == b'?' && from_end(k + 2, bytes) == b'?'))
-}
-
-// Whether the bytes end in a splice.
+// Whether the bytes end in a backslash, or the trigraph for one, and the end of a line.
 fn ends_spliced(bytes: &[u8]) -> bool
-    ensures { result ≡ ends_spliced bytes.now }
+    ensures { result ≡ ends_spliced (phase1 0 1 bytes.now) }
 {
-    let before = if from_end(2, bytes) == b'\r' { 3 } else { 2 };
-    from_end(1, bytes) == b'\n' && backslash_at(before, bytes)
+    let backslash = bytes.ends_with(b"\\\n");
+    let backslash_return = bytes.ends_with(b"\\\r\n");
+    let trigraph = bytes.ends_with(b"??/\n");
+    let trigraph_return = bytes.ends_with(b"??/\r\n");
+    backslash | (backslash_return | (trigraph | trigraph_return))
 }
 
 // What is known so many characters further on.
@@ -109,7 +92,7 @@ fn token_lines<'a>(alloc: Global, start: Cursor<'a>, file: usize) -> Result<Line
         known = behind(behind(hopeless, front.span.count), quick.count);
         at = quick.after.past_splices();
     }
-    scanner.finish()
+    scanner.end_file()
 }
 
 // The token lines of a file.
@@ -123,14 +106,20 @@ fn file_lines<'a>(alloc: Global, bytes: &'a [u8], file: usize) -> Result<Lines<'
             file,
             line: last_line(bytes),
         };
-        return Err(Refusal::At { code: 111, pos });
+        return Err(Refusal::At {
+            code: Code::NoFinalNewline,
+            pos,
+        });
     }
     if ends_spliced(bytes) {
         let pos = Pos {
             file,
             line: last_line(bytes),
         };
-        return Err(Refusal::At { code: 112, pos });
+        return Err(Refusal::At {
+            code: Code::FinalSplice,
+            pos,
+        });
     }
     token_lines(
         alloc,
@@ -153,7 +142,8 @@ fn file_lines<'a>(alloc: Global, bytes: &'a [u8], file: usize) -> Result<Lines<'
 /// 113 where a comment is not closed, at the line where it opens; 703 where a spelling is longer than
 /// 4,095 bytes, at the line of the first such token. Fails with 801 where memory runs out.
 ///
-/// Each token is the longest one that can stand where it begins (6.4, clauses `longest` and `whole`).
+/// Each token is the longest one that can stand where it begins (6.4, clauses `longest`, `whole` and `other`). A
+/// comment is `/*`, a body without `*/`, and `*/` (6.4.9, clause `comments`).
 pub fn scan<'a>(
     alloc: Global,
     bytes: &'a [u8],
@@ -165,6 +155,8 @@ pub fn scan<'a>(
     ensures err { IfErr result (λ fault. IsScanFault fault names.now (scanned file bytes.now)) }
     ensures longest { (place : Place) (text : List ℕ) → IsLongest place text }
     ensures whole { (place : Place) (text : List ℕ) → IsWholeFront place text }
+    ensures other { (place : Place) (text : List ℕ) → IsOtherAlone place text }
+    ensures comments { (place : Place) (body rest : List ℕ) → AreComments place body rest }
 {
     match file_lines(alloc, bytes, file) {
         Ok(lines) => Ok(lines),

@@ -1,7 +1,7 @@
 //! Runs of plain bytes, which need no look at trigraphs and splices.
 ghost use Rattle.std.specs.Prelude.{◌≡◌, ◌≤◌, ◌<◌, ◌+◌, ◌^◌, drop, length};
-ghost use Rattle.phases.specs.Lexical.{word_len, number_more};
-ghost use Rattle.phases.specs.Runs.{next_line, is_ordinary, all_ordinary, ordinary_len, white_len, IsRun, IsWhiteRun};
+ghost use Rattle.phases.specs.inside.Lexical.{word_len, number_more};
+ghost use Rattle.phases.specs.inside.Runs.{next_line, is_ordinary, all_ordinary, ordinary_len, white_len, IsRun, IsWhiteRun};
 
 use crate::classes::{is_white, is_word};
 use crate::cursor::{Cursor, Span};
@@ -56,7 +56,7 @@ fn ordinary_front(bytes: &[u8], stop: u8) -> usize
 
 // How many bytes from the first on are plain and not `stop`.
 #[inline(always)]
-fn ordinary_bytes(bytes: &[u8], stop: u8) -> usize
+pub(crate) fn ordinary_bytes(bytes: &[u8], stop: u8) -> usize
     ensures { result ≡ ordinary_len stop bytes.now }
 {
     let size = bytes.len();
@@ -85,7 +85,7 @@ fn white_front(bytes: &[u8]) -> usize
 // How many bytes from the first on are white space. Mostly it is one or none, and which of the two the processor
 // cannot foresee: so no branch asks for it.
 #[inline(always)]
-fn white_bytes(bytes: &[u8]) -> usize
+pub(crate) fn white_bytes(bytes: &[u8]) -> usize
     ensures { result ≡ white_len bytes.now }
 {
     let Some(first) = bytes.first() else {
@@ -127,43 +127,4 @@ pub(crate) fn number_bytes(bytes: &[u8], first: u8) -> usize
         count += 1;
     }
     count
-}
-
-impl<'a> Cursor<'a> {
-    /// The place so many bytes further on, on the same line.
-    #[inline(always)]
-    pub(crate) fn past(self, count: usize) -> Cursor<'a>
-        requires { count ≤ length self.rest.now }
-        ensures rest { result.rest.now ≡ drop count self.entry.rest.now }
-        ensures line { result.line ≡ self.entry.line }
-    {
-        Cursor {
-            rest: &self.rest[count..],
-            line: self.line,
-        }
-    }
-
-    /// The white space from here on.
-    #[inline(always)]
-    pub(crate) fn white(self) -> Span<'a>
-        ensures { IsWhiteRun self.entry result }
-    {
-        let count = white_bytes(self.rest);
-        Span {
-            count,
-            after: self.past(count),
-        }
-    }
-
-    /// The plain bytes from here on up to `stop`.
-    #[inline(always)]
-    pub(crate) fn ordinary(self, stop: u8) -> Span<'a>
-        ensures { IsRun self.entry stop result }
-    {
-        let count = ordinary_bytes(self.rest, stop);
-        Span {
-            count,
-            after: self.past(count),
-        }
-    }
 }

@@ -2,14 +2,14 @@
 ghost use Rattle.std.specs.Prelude.{◌≡◌, ◌⊎◌, Ok, Err, IfOk, IfErr, OnOk, Some, take};
 ghost use Rattle.srcset.specs.declared.refusal.Refusal.TheVariants.{Memory};
 ghost use Rattle.phases.specs.Lines.{after_first, after_hash, next_place, lines_or_fault, nothing};
-ghost use Rattle.phases.specs.Reading.{bytes_at, Spans};
-ghost use Rattle.phases.specs.Scanning.{Puts, IsNew, EndsLine, AddsWord, PassesWhite, or_later, whole, Goes};
+ghost use Rattle.phases.specs.inside.Reading.{bytes_at, Spans};
+ghost use Rattle.phases.specs.inside.Scanning.{Puts, IsNew, EndsLine, AddsWord, PassesWhite, or_later, whole, Goes};
 
 use crate::cursor::{Cursor, Front, Span, Step};
 use crate::line_list::{LineBuilder, Lines};
 use crate::scanner::Scanner;
 use crate::token::{Kind, Piece, Place, PpToken};
-use srcset::{Pos, Refusal};
+use srcset::{Code, Pos, Refusal};
 use std::alloc::Global;
 
 /// The greatest number of bytes in the spelling of a token.
@@ -79,7 +79,7 @@ impl<'a> Scanner<'a> {
     }
 
     #[inline(always)]
-    fn end_line(&mut self) -> Result<(), Refusal>
+    fn take_newline(&mut self) -> Result<(), Refusal>
         ensures ok { OnOk result (EndsLine self.old self.new) }
         ensures err { IfErr result (λ e. e ≡ Memory) }
     {
@@ -103,7 +103,7 @@ impl<'a> Scanner<'a> {
         ensures ok { OnOk result (AddsWord self.old self.new kind (take span.entry.count (bytes_at at.entry)) line) }
         ensures err { IfErr result (λ e. e ≡ Memory) }
     {
-        let spelling = at.spelling(alloc, span)?;
+        let spelling = at.spelled(alloc, span)?;
         let pos = Pos {
             file: self.file,
             line,
@@ -132,7 +132,7 @@ impl<'a> Scanner<'a> {
         ensures err { IfErr result (λ e. e ≡ Memory) }
     {
         match front.piece {
-            Piece::Newline => self.end_line(),
+            Piece::Newline => self.take_newline(),
             Piece::Gap => {
                 self.space = true;
                 Ok(())
@@ -185,15 +185,21 @@ impl<'a> Scanner<'a> {
     }
 
     /// The lines of a file that is all scanned, or the fault of a comment or a token.
-    pub(crate) fn finish(self) -> Result<Lines<'a>, Refusal>
+    pub(crate) fn end_file(self) -> Result<Lines<'a>, Refusal>
         ensures ok { IfOk result (λ lines. lines_or_fault (whole self.entry nothing) ≡ Ok lines) }
         ensures err { IfErr result (λ e. (e ≡ Memory) ⊎ (lines_or_fault (whole self.entry nothing) ≡ Err e)) }
     {
         if let Some(pos) = self.unclosed {
-            return Err(Refusal::At { code: 113, pos });
+            return Err(Refusal::At {
+                code: Code::OpenComment,
+                pos,
+            });
         }
         if let Some(pos) = self.overlong {
-            return Err(Refusal::At { code: 703, pos });
+            return Err(Refusal::At {
+                code: Code::TokenLengthLimit,
+                pos,
+            });
         }
         let lines = self.list.finish()?;
         Ok(lines)

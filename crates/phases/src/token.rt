@@ -87,7 +87,7 @@ pub struct PpToken<'a> {
 
 impl<'a> Model for PpToken<'a> {
     ghost use Rattle.phases.specs.Token.{Token};
-    ghost use Rattle.phases.specs.Held.{token_held};
+    ghost use Rattle.phases.specs.inside.Held.{token_held};
 
     ghost Value = { Token };
 

@@ -1,7 +1,7 @@
 use Rattle.std.proofs.Common.{ℕ, List, length}
 use Rattle.lexer.specs.declared.literals.Met.{Met}
 use Rattle.lexer.specs.Literals.{elements}
-use Rattle.lexer.specs.Decoding.{IsDecoded}
+use Rattle.lexer.specs.inside.Decoding.{IsDecoded}
 use Rattle.lexer.proofs.literals.decode.Given as goal
 
 abbrev pub invariant-loop-rest : goal.invariant-loop-rest

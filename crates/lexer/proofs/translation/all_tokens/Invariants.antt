@@ -1,7 +1,7 @@
 use Rattle.std.proofs.Common.{drop}
 use Rattle.srcset.specs.NameTable.{KeepsNumbers}
 use Rattle.lexer.specs.CTokens.{ctokens}
-use Rattle.lexer.specs.Carrying.{Carries}
+use Rattle.lexer.specs.inside.Carrying.{Carries}
 use Rattle.lexer.proofs.translation.all_tokens.Given as goal
 
 abbrev pub invariant-loop-token : goal.invariant-loop-token

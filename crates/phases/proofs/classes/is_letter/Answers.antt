@@ -1,7 +1,7 @@
 use Rattle.std.proofs.Common.{ℕ, not, nat_eq, bit_and, get_or, refl, arith}
 use Rattle.std.proofs.lemmas.Bool.{agree_below_at}
 use Rattle.phases.specs.declared.classes.TheConstants.{CLASSES}
-use Rattle.phases.specs.Lexical.{is_letter}
+use Rattle.phases.specs.inside.Lexical.{is_letter}
 use Rattle.phases.proofs.classes.is_letter.Goals as goal
 
 pub returns : goal.returns

@@ -1,5 +1,5 @@
 use Rattle.std.proofs.Common.{◌≡◌, suc, ◌-◌, sym, ap, ◌∙◌, arith}
-use Rattle.phases.specs.Cut.{line_start}
+use Rattle.phases.specs.inside.Cut.{line_start}
 use Rattle.phases.proofs.CutLemmas.{line_start_is}
 use Rattle.phases.proofs.line_list.line_start.Goals as goal
 

@@ -2,8 +2,8 @@ use Rattle.std.proofs.Common.{◌≡◌, Ok, Err, IfOk, IfErr, ◌⊎◌, sym, a
 use Rattle.srcset.specs.declared.refusal.Refusal.TheVariants.{Memory}
 use Rattle.phases.specs.Text.{bytes_of}
 use Rattle.phases.specs.Lines.{found, lines_or_fault}
-use Rattle.phases.specs.Closing.{IsHopeless}
-use Rattle.phases.specs.Scanning as spec
+use Rattle.phases.specs.inside.Closing.{IsHopeless}
+use Rattle.phases.specs.inside.Scanning as spec
 use Rattle.phases.proofs.ClosingLemmas.{hopeless_more}
 use Rattle.phases.proofs.ScanLemmas.{scan_step, scan_end, goes_after}
 use Rattle.phases.proofs.lines.token_lines.Goals as goal
@@ -28,9 +28,9 @@ loop-first-preserved c =
 pub returns-clause-ok : goal.returns-clause-ok
 returns-clause-ok c =
     let e = scan_end c.args.file c.loop-first.scanner _ c.loop-first.at c.loop-first.invariant.whole_is c.in_default.ensures in
-    subst (λ f. IfOk c.finish.result (λ lines. lines_or_fault f ≡ Ok lines)) (sym e) c.finish.ensures.ok
+    subst (λ f. IfOk c.end_file.result (λ lines. lines_or_fault f ≡ Ok lines)) (sym e) c.end_file.ensures.ok
 
 pub returns-clause-err : goal.returns-clause-err
 returns-clause-err c =
     let e = scan_end c.args.file c.loop-first.scanner _ c.loop-first.at c.loop-first.invariant.whole_is c.in_default.ensures in
-    subst (λ f. IfErr c.finish.result (λ r. (r ≡ Memory) ⊎ (lines_or_fault f ≡ Err r))) (sym e) c.finish.ensures.err
+    subst (λ f. IfErr c.end_file.result (λ r. (r ≡ Memory) ⊎ (lines_or_fault f ≡ Err r))) (sym e) c.end_file.ensures.err

@@ -1,9 +1,9 @@
 use Rattle.std.proofs.Common.{◌≡◌, false, length}
 use Rattle.phases.specs.declared.token.Place.TheVariants.{Start}
 use Rattle.phases.specs.Lines.{found}
-use Rattle.phases.specs.Reading.{text_at, bytes_at}
-use Rattle.phases.specs.Closing.{IsHopeless}
-use Rattle.phases.specs.Scanning.{whole}
+use Rattle.phases.specs.inside.Reading.{text_at, bytes_at}
+use Rattle.phases.specs.inside.Closing.{IsHopeless}
+use Rattle.phases.specs.inside.Scanning.{whole}
 use Rattle.phases.proofs.lines.token_lines.Given as goal
 
 abbrev pub invariant-loop-first : goal.invariant-loop-first

@@ -1,5 +1,5 @@
 use Rattle.std.proofs.Common.{◌≡◌, ◌&&◌, drop}
-use Rattle.phases.specs.Runs.{all_ordinary}
+use Rattle.phases.specs.inside.Runs.{all_ordinary}
 use Rattle.phases.proofs.runs.all_ordinary.Given as goal
 
 abbrev pub invariant-loop-byte : goal.invariant-loop-byte

@@ -1,5 +1,5 @@
 use Rattle.std.proofs.Common.{◌≡◌, ◌+◌, drop}
-use Rattle.phases.specs.Lexical.{number_more}
+use Rattle.phases.specs.inside.Lexical.{number_more}
 use Rattle.phases.proofs.runs.number_bytes.Given as goal
 
 abbrev pub invariant-loop-byte : goal.invariant-loop-byte

@@ -1,5 +1,5 @@
 use Rattle.std.proofs.Common.{◌≡◌, ◌≤◌, ◌+◌, ◌-◌, drop, length}
-use Rattle.phases.specs.Runs.{ordinary_len}
+use Rattle.phases.specs.inside.Runs.{ordinary_len}
 use Rattle.phases.proofs.runs.ordinary_bytes.Given as goal
 
 abbrev pub invariant-loop-count : goal.invariant-loop-count

@@ -1,5 +1,5 @@
 use Rattle.std.proofs.Common.{◌≡◌, ◌+◌, drop}
-use Rattle.phases.specs.Runs.{white_len}
+use Rattle.phases.specs.inside.Runs.{white_len}
 use Rattle.phases.proofs.runs.white_front.Given as goal
 
 abbrev pub invariant-loop-byte : goal.invariant-loop-byte

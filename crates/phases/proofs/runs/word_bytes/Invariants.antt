@@ -1,5 +1,5 @@
 use Rattle.std.proofs.Common.{◌≡◌, ◌+◌, drop}
-use Rattle.phases.specs.Lexical.{word_len}
+use Rattle.phases.specs.inside.Lexical.{word_len}
 use Rattle.phases.proofs.runs.word_bytes.Given as goal
 
 abbrev pub invariant-loop-byte : goal.invariant-loop-byte

@@ -1,6 +1,6 @@
 use Rattle.phases.proofs.ClosingLemmas.{hopeless_literal}
 use Rattle.std.proofs.Common.{true, arith}
-use Rattle.phases.specs.Lexical.{enclosed}
+use Rattle.phases.specs.inside.Lexical.{enclosed}
 use Rattle.phases.proofs.LexicalLemmas.{prefixed}
 use Rattle.phases.proofs.cursor.Cursor.character.Goals as goal
 

@@ -1,7 +1,7 @@
 use Rattle.std.proofs.Common.{length, false}
-use Rattle.phases.specs.Lines.{comment_len}
-use Rattle.phases.specs.Reading.{bytes_at}
-use Rattle.phases.specs.Along.{AlongComment}
+use Rattle.phases.specs.inside.Pieces.{comment_len}
+use Rattle.phases.specs.inside.Reading.{bytes_at}
+use Rattle.phases.specs.inside.Along.{AlongComment}
 use Rattle.phases.proofs.cursor.Cursor.comment.Given as goal
 
 abbrev pub invariant-loop-step : goal.invariant-loop-step

@@ -1,5 +1,5 @@
 use Rattle.std.proofs.Common.{length, ◌≤◌}
-use Rattle.phases.specs.Along.{Copied}
+use Rattle.phases.specs.inside.Along.{Copied}
 use Rattle.phases.proofs.cursor.Cursor.copied.Given as goal
 
 abbrev pub invariant-loop-at : goal.invariant-loop-at

@@ -1,7 +1,7 @@
 use Rattle.std.proofs.Common.{length}
 use Rattle.phases.specs.Lines.{line_len}
-use Rattle.phases.specs.Reading.{bytes_at}
-use Rattle.phases.specs.Along.{Along}
+use Rattle.phases.specs.inside.Reading.{bytes_at}
+use Rattle.phases.specs.inside.Along.{Along}
 use Rattle.phases.proofs.cursor.Cursor.line.Given as goal
 
 abbrev pub invariant-loop-step : goal.invariant-loop-step

@@ -1,5 +1,5 @@
 use Rattle.std.proofs.Common.{length}
-use Rattle.phases.specs.Reading.{Skips}
+use Rattle.phases.specs.inside.Reading.{Skips}
 use Rattle.phases.proofs.cursor.Cursor.past_splices.Given as goal
 
 abbrev pub invariant-loop-step : goal.invariant-loop-step

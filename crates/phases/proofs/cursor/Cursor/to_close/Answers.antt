@@ -1,5 +1,5 @@
 use Rattle.std.proofs.Common.{refl, ap, ◌∙◌}
-use Rattle.phases.specs.Along.{plus}
+use Rattle.phases.specs.inside.Along.{plus}
 use Rattle.phases.proofs.LexicalLemmas.{close_far, close_here, close_step}
 use Rattle.phases.proofs.ReadingLemmas.{spans_join, spans_step}
 use Rattle.phases.proofs.cursor.Cursor.to_close.Goals as goal

@@ -1,7 +1,7 @@
 use Rattle.std.proofs.Common.{length, false}
-use Rattle.phases.specs.Lexical.{to_close}
-use Rattle.phases.specs.Reading.{bytes_at}
-use Rattle.phases.specs.Along.{AlongClose}
+use Rattle.phases.specs.inside.Lexical.{to_close}
+use Rattle.phases.specs.inside.Reading.{bytes_at}
+use Rattle.phases.specs.inside.Along.{AlongClose}
 use Rattle.phases.proofs.cursor.Cursor.to_close.Given as goal
 
 abbrev pub invariant-loop-step : goal.invariant-loop-step

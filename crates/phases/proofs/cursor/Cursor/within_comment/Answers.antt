@@ -1,7 +1,7 @@
 use Rattle.std.proofs.Common.{◌≡◌, sym, subst}
-use Rattle.phases.specs.Along.{longer}
-use Rattle.phases.specs.Lines.{comment_len}
-use Rattle.phases.specs.Reading.{bytes_at}
+use Rattle.phases.specs.inside.Along.{longer}
+use Rattle.phases.specs.inside.Pieces.{comment_len}
+use Rattle.phases.specs.inside.Reading.{bytes_at}
 use Rattle.phases.proofs.RunLemmas.{comment_pass}
 use Rattle.phases.proofs.cursor.Cursor.within_comment.Goals as goal
 

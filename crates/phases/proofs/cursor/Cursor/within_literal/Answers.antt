@@ -1,7 +1,7 @@
 use Rattle.std.proofs.Common.{◌≡◌, sym, subst}
-use Rattle.phases.specs.Along.{plus}
-use Rattle.phases.specs.Lexical.{to_close}
-use Rattle.phases.specs.Reading.{bytes_at}
+use Rattle.phases.specs.inside.Along.{plus}
+use Rattle.phases.specs.inside.Lexical.{to_close}
+use Rattle.phases.specs.inside.Reading.{bytes_at}
 use Rattle.phases.proofs.RunLemmas.{close_pass}
 use Rattle.phases.proofs.cursor.Cursor.within_literal.Goals as goal
 

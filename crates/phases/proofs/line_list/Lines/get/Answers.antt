@@ -1,5 +1,5 @@
 use Rattle.std.proofs.Common.{◌≡◌, ◌<◌, length, arith, sym, ap, ◌∙◌, get_or, Some, slice_range}
-use Rattle.phases.specs.Cut.{line_start}
+use Rattle.phases.specs.inside.Cut.{line_start}
 use Rattle.phases.proofs.CutLemmas.{cut_past, cut_get, ascend_get, lent_range}
 use Rattle.phases.proofs.line_list.Lines.get.Goals as goal
 

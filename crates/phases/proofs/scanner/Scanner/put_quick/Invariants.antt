@@ -1,5 +1,5 @@
 use Rattle.std.proofs.Common.{length}
-use Rattle.phases.specs.Scanning.{Goes}
+use Rattle.phases.specs.inside.Scanning.{Goes}
 use Rattle.phases.proofs.scanner.Scanner.put_quick.Given as goal
 
 abbrev pub invariant-loop-first : goal.invariant-loop-first

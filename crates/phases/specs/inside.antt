@@ -1,0 +1,15 @@
+pub mod Held
+pub mod Cut
+pub mod Lexical
+pub mod Grammar
+pub mod Pieces
+pub mod Plain
+pub mod Runs
+pub mod Quick
+pub mod Reading
+pub mod Fronts
+pub mod Along
+pub mod Scanning
+pub mod Closing
+pub mod Ends
+pub mod Kinds
