@@ -6,65 +6,69 @@ use Rattle.lexer.specs.declared.token.Token.{Token}
 use Rattle.lexer.specs.declared.token.Kind.TheVariants as kind
 use Rattle.lexer.specs.declared.token.Keyword.TheVariants as keyword
 use Rattle.lexer.specs.declared.token.Punctuator.TheVariants as sign
-use Rattle.tree.specs.Tree.{StmtTree, blank, DeclarationTree, PieceTree, local, run, Pieces, no_pieces, and_piece}
+use Rattle.tree.specs.Tree.{StmtTree, stmt_hole, DeclarationTree, PieceTree, declaration_item, statement_item, Pieces, no_pieces, and_piece}
 use Rattle.tree.specs.Counts.{stmt_depth, piece_depth, pieces_depth, declaration_depth}
 use Rattle.tree.specs.View.{pieces_of}
-use Rattle.parser.specs.declared.refusal.Refusal.{Refusal}
-use Rattle.parser.specs.declared.refusal.Refusal.TheVariants.{Syntax, Depth, Memory}
-use Rattle.parser.specs.declared.scope.Scope.TheVariants.{Block}
-use Rattle.parser.specs.Grammar.{Own, Sign}
-use Rattle.parser.specs.Declarations.{SpellsDeclaration}
-use Rattle.parser.specs.Statements.{SpellsStmt, SpellsPiece, SpellsPieces}
-use Rattle.parser.specs.Answer.{NotFront, Reaches, Excuses, ReadsOf, FailsOf, StandsOf}
-use Rattle.parser.specs.PartAnswers.{Anywhere}
-use Rattle.parser.specs.StatementAnswers.{EndsStmt, SpellsBody}
-use Rattle.parser.specs.DeclarationFronts.{BeginsDeclaration}
-use Rattle.parser.specs.StmtParts.{EndsPiece}
-use Rattle.parser.proofs.SeriesFacts.{excuses_grow}
-use Rattle.parser.proofs.Leads.{own_once, own_kinds, mark_own, reaches_on, reaches_self}
+use Rattle.grammar.specs.declared.refusal.Refusal.{Refusal}
+use Rattle.grammar.specs.declared.refusal.Refusal.TheVariants.{Syntax, Depth, Memory}
+use Rattle.grammar.specs.declared.scope.Scope.TheVariants.{Block}
+use Rattle.grammar.specs.Tokens.{Own, Sign, NotFront, Reaches}
+use Rattle.grammar.specs.Declarations.{SpellsDeclaration}
+use Rattle.grammar.specs.Statements.{SpellsStmt, SpellsPiece, SpellsPieces}
+use Rattle.grammar.specs.inside.Answer.{Excuses, ReadsOf, FailsOf, StandsOf, Anywhere}
+use Rattle.parser.specs.inside.StatementAnswers.{EndsStmt, SpellsBody}
+use Rattle.declaration_parser.specs.DeclarationAnswers.{BeginsDeclaration}
+use Rattle.parser.specs.inside.StmtParts.{EndsPiece}
+use Rattle.grammar.proofs.Exits.{excuses_grow}
+use Rattle.grammar.proofs.Tokens.{own_once, own_kinds, mark_own, reaches_on, reaches_self}
 use Rattle.parser.proofs.StmtLeading.{tag, own_tag, declaration_tagged, stmt_tag, stmt_tagged, piece_no_else, no_stmt_declares}
-use Rattle.parser.proofs.DeclarationFacts.{declaration_begins}
-use Rattle.parser.proofs.StmtForms.{piece_begun, piece_reaches}
+use Rattle.declaration_parser.proofs.DeclarationFacts.{declaration_begins}
+use Rattle.grammar.proofs.UnitBegun.{piece_is_begun, piece_reaches}
 
 -- ---- one of them
 
-pub local_reads : (d : ℕ) (ts : List Token) (x : DeclarationTree) (k : ℕ) (rest : List Token) → BeginsDeclaration ts → ReadsOf (SpellsDeclaration None Block) Anywhere declaration_depth d ts x k rest → ReadsOf (SpellsPiece None) EndsPiece piece_depth d ts (local x) k rest
+pub local_reads : (d : ℕ) (ts : List Token) (x : DeclarationTree) (k : ℕ) (rest : List Token) → BeginsDeclaration ts → ReadsOf (SpellsDeclaration None Block)
+    Anywhere declaration_depth d ts x k rest → ReadsOf (SpellsPiece None) EndsPiece piece_depth d ts (declaration_item x) k rest
 local_reads d ts x k rest b h = record { spelled = h.spelled; tall = h.tall; fits = h.fits; only = λ p r sp en. each p r sp }
   where
-    each : (p : PieceTree) (r : List Token) → SpellsPiece None p ts r → (p ≡ local x) × (r ≡ rest)
-    each (local y) r sp = let u = h.only y r sp tt in (ap local u.0, u.1)
-    each (run s) r sp = absurd (no_stmt_declares s ts r b sp)
+    each : (p : PieceTree) (r : List Token) → SpellsPiece None p ts r → (p ≡ declaration_item x) × (r ≡ rest)
+    each (declaration_item y) r sp = let u = h.only y r sp tt in (ap declaration_item u.0, u.1)
+    each (statement_item s) r sp = absurd (no_stmt_declares s ts r b sp)
 
-pub local_fails : (d : ℕ) (ts : List Token) (f : Refusal) → BeginsDeclaration ts → FailsOf (SpellsDeclaration None Block) Anywhere declaration_depth d ts f → FailsOf (SpellsPiece None) EndsPiece piece_depth d ts f
+pub local_fails : (d : ℕ) (ts : List Token) (f : Refusal) → BeginsDeclaration ts → FailsOf (SpellsDeclaration None Block) Anywhere declaration_depth d ts f →
+    FailsOf (SpellsPiece None) EndsPiece piece_depth d ts f
 local_fails d ts f b h = record { each = λ p r sp en. each p r sp }
   where
     each : (p : PieceTree) (r : List Token) → SpellsPiece None p ts r → Excuses f d (piece_depth p)
-    each (local y) r sp = h.each y r sp tt
-    each (run s) r sp = absurd (no_stmt_declares s ts r b sp)
+    each (declaration_item y) r sp = h.each y r sp tt
+    each (statement_item s) r sp = absurd (no_stmt_declares s ts r b sp)
 
-pub local_stands : (d : ℕ) (ts : List Token) (f : Refusal) → StandsOf (λ b. SpellsDeclaration b Block) declaration_depth d ts f → StandsOf SpellsPiece piece_depth d ts f
+pub local_stands : (d : ℕ) (ts : List Token) (f : Refusal) → StandsOf (λ b. SpellsDeclaration b Block) declaration_depth d ts f →
+    StandsOf SpellsPiece piece_depth d ts f
 local_stands d ts (Syntax at) h = tt
 local_stands d ts Memory h = tt
-local_stands d ts (Depth at) h = record { tree = local h.tree; cut = h.cut; last = h.last; spelled = h.spelled; reaches = h.reaches; deep = h.deep }
+local_stands d ts (Depth at) h = record { tree = declaration_item h.tree; cut = h.cut; last = h.last; spelled = h.spelled; reaches = h.reaches; deep = h.deep }
 
-pub run_reads : (d : ℕ) (ts : List Token) (x : StmtTree) (k : ℕ) (rest : List Token) → (BeginsDeclaration ts → ⊥) → ReadsOf (SpellsStmt None) EndsStmt stmt_depth d ts x k rest → ReadsOf (SpellsPiece None) EndsPiece piece_depth d ts (run x) k rest
+pub run_reads : (d : ℕ) (ts : List Token) (x : StmtTree) (k : ℕ) (rest : List Token) → (BeginsDeclaration ts → ⊥) → ReadsOf (SpellsStmt None) EndsStmt
+    stmt_depth d ts x k rest → ReadsOf (SpellsPiece None) EndsPiece piece_depth d ts (statement_item x) k rest
 run_reads d ts x k rest b h = record { spelled = h.spelled; tall = h.tall; fits = h.fits; only = λ p r sp en. each p r sp en }
   where
-    each : (p : PieceTree) (r : List Token) → SpellsPiece None p ts r → EndsPiece p r → (p ≡ run x) × (r ≡ rest)
-    each (local y) r sp en = absurd (b (declaration_begins Block y ts r sp))
-    each (run s) r sp en = let u = h.only s r sp en in (ap run u.0, u.1)
+    each : (p : PieceTree) (r : List Token) → SpellsPiece None p ts r → EndsPiece p r → (p ≡ statement_item x) × (r ≡ rest)
+    each (declaration_item y) r sp en = absurd (b (declaration_begins Block y ts r sp))
+    each (statement_item s) r sp en = let u = h.only s r sp en in (ap statement_item u.0, u.1)
 
-pub run_fails : (d : ℕ) (ts : List Token) (f : Refusal) → (BeginsDeclaration ts → ⊥) → FailsOf (SpellsStmt None) EndsStmt stmt_depth d ts f → FailsOf (SpellsPiece None) EndsPiece piece_depth d ts f
+pub run_fails : (d : ℕ) (ts : List Token) (f : Refusal) → (BeginsDeclaration ts → ⊥) → FailsOf (SpellsStmt None) EndsStmt stmt_depth d ts f →
+    FailsOf (SpellsPiece None) EndsPiece piece_depth d ts f
 run_fails d ts f b h = record { each = λ p r sp en. each p r sp en }
   where
     each : (p : PieceTree) (r : List Token) → SpellsPiece None p ts r → EndsPiece p r → Excuses f d (piece_depth p)
-    each (local y) r sp en = absurd (b (declaration_begins Block y ts r sp))
-    each (run s) r sp en = h.each s r sp en
+    each (declaration_item y) r sp en = absurd (b (declaration_begins Block y ts r sp))
+    each (statement_item s) r sp en = h.each s r sp en
 
 pub run_stands : (d : ℕ) (ts : List Token) (f : Refusal) → StandsOf SpellsStmt stmt_depth d ts f → StandsOf SpellsPiece piece_depth d ts f
 run_stands d ts (Syntax at) h = tt
 run_stands d ts Memory h = tt
-run_stands d ts (Depth at) h = record { tree = run h.tree; cut = h.cut; last = h.last; spelled = h.spelled; reaches = h.reaches; deep = h.deep }
+run_stands d ts (Depth at) h = record { tree = statement_item h.tree; cut = h.cut; last = h.last; spelled = h.spelled; reaches = h.reaches; deep = h.deep }
 
 -- ---- the closing brace begins none
 
@@ -72,12 +76,13 @@ stmt_no_close : (u : StmtTree) (ts r : List Token) → SpellsStmt None u ts r �
 stmt_no_close u ts r h at us own = different u h (own_tag (stmt_tag u) (kind.Punctuator sign.BraceClose) at ts us own (stmt_tagged u ts r h))
   where
     different : (v : StmtTree) → SpellsStmt None v ts r → 0 ≡ stmt_tag v → ⊥
-    different blank i e = i
+    different stmt_hole i e = i
     different v i e = omega (arith, e)
 
 piece_no_close : (p : PieceTree) (ts r : List Token) → SpellsPiece None p ts r → NotFront (kind.Punctuator sign.BraceClose) ts
-piece_no_close (run s) ts r h = stmt_no_close s ts r h
-piece_no_close (local d) ts r h = λ at us own. let e : 0 ≡ 14 = own_tag 14 (kind.Punctuator sign.BraceClose) at ts us own (declaration_tagged ts (declaration_begins Block d ts r h)) in omega (arith, e)
+piece_no_close (statement_item s) ts r h = stmt_no_close s ts r h
+piece_no_close (declaration_item d) ts r h = λ at us own. let e : 0 ≡ 14 = own_tag 14 (kind.Punctuator sign.BraceClose) at ts us own
+    (declaration_tagged ts (declaration_begins Block d ts r h)) in omega (arith, e)
 
 -- ---- the loop
 
@@ -121,7 +126,7 @@ block_starts d ts le = record {
 
 piece_any : (o : Option (List Token)) (p : PieceTree) (ts r : List Token) → SpellsPiece None p ts r → SpellsPiece o p ts r
 piece_any None p ts r h = h
-piece_any (Some c) p ts r h = piece_begun c p ts r h
+piece_any (Some c) p ts r h = piece_is_begun c p ts r h
 
 close_no_else : (ts us : List Token) → Sign None sign.BraceClose ts us → NotFront (kind.Keyword keyword.Else) ts
 close_no_else ts us h at vs own = let m = mark_own (kind.Punctuator sign.BraceClose) ts us h in
@@ -132,17 +137,21 @@ body_no_else no_pieces ts r h = subst (NotFront (kind.Keyword keyword.Else)) (sy
 body_no_else (and_piece p ps) ts r h = piece_no_else p ts h.1.0 h.1.1
 
 ends_before : (p : PieceTree) (rest : List Token) → NotFront (kind.Keyword keyword.Else) rest → EndsPiece p rest
-ends_before (local d) rest none = tt
-ends_before (run s) rest none = λ op. none
+ends_before (declaration_item d) rest none = tt
+ends_before (statement_item s) rest none = λ op. none
 
 -- the next piece of a block
-piece_front : (p : PieceTree) (ps : Pieces) (ts r : List Token) → SpellsBody None (and_piece p ps) ts r → (mid : List Token) × SpellsPiece None p ts mid × EndsPiece p mid × SpellsBody None ps mid r
+piece_front : (p : PieceTree) (ps : Pieces) (ts r : List Token) → SpellsBody None (and_piece p ps) ts r → (mid : List Token) × SpellsPiece None p ts mid
+    × EndsPiece p mid × SpellsBody None ps mid r
 piece_front p ps ts r h = let b : SpellsBody None ps h.1.0 r = (h.0, h.1.2, h.2) in (h.1.0, h.1.1, ends_before p h.1.0 (body_no_else ps h.1.0 r b), b)
 
 no_close : (ts r : List Token) → NotFront (kind.Punctuator sign.BraceClose) ts → SpellsBody None no_pieces ts r → ⊥
-no_close ts r none h = let m = mark_own (kind.Punctuator sign.BraceClose) h.0 r h.2 in none m.0 r (subst (λ x. Own (kind.Punctuator sign.BraceClose) m.0 x r) (sym h.1) m.1)
+no_close ts r none h = let m = mark_own (kind.Punctuator sign.BraceClose) h.0 r h.2 in
+    none m.0 r (subst (λ x. Own (kind.Punctuator sign.BraceClose) m.0 x r) (sym h.1) m.1)
 
-pub block_goes_on : (d : ℕ) (ts cur : List Token) (xs : List PieceTree) (k : ℕ) (p : PieceTree) (j : ℕ) (rest : List Token) (m : ℕ) → NotFront (kind.Punctuator sign.BraceClose) cur → BlockLoop d ts xs k cur → ReadsOf (SpellsPiece None) EndsPiece piece_depth d cur p j rest → m ≡ max k j → BlockLoop d ts (xs ++ p ∷ []) m rest
+pub block_goes_on : (d : ℕ) (ts cur : List Token) (xs : List PieceTree) (k : ℕ) (p : PieceTree) (j : ℕ) (rest : List Token) (m : ℕ) →
+    NotFront (kind.Punctuator sign.BraceClose) cur → BlockLoop d ts xs k cur → ReadsOf (SpellsPiece None) EndsPiece piece_depth d cur p j rest → m ≡ max k j →
+    BlockLoop d ts (xs ++ p ∷ []) m rest
 block_goes_on d ts cur xs k p j rest m none h i em = record {
   spells = λ o n r s. subst (λ y. SpellsPieces o y ts r) (sym (add_push xs p n)) (h.spells o (and_piece p n) r (rest, piece_any o p cur rest i.spelled, s));
   reaches = reaches_on ts cur rest h.reaches (piece_reaches p cur rest i.spelled);
@@ -151,14 +160,16 @@ block_goes_on d ts cur xs k p j rest m none h i em = record {
   only = λ us r b. let g = h.only us r b in next us r g.0 g.1 g.2;
 }
   where
-    next : (us : Pieces) (r : List Token) (n : Pieces) → SpellsBody None n cur r → us ≡ add xs n → (n' : Pieces) × SpellsBody None n' rest r × (us ≡ add (xs ++ p ∷ []) n')
+    next : (us : Pieces) (r : List Token) (n : Pieces) → SpellsBody None n cur r → us ≡ add xs n → (n' : Pieces) × SpellsBody None n' rest r
+        × (us ≡ add (xs ++ p ∷ []) n')
     next us r no_pieces b e = absurd (no_close cur r none b)
     next us r (and_piece q n) b e =
         let g = piece_front q n cur r b in
         let u = i.only q g.0 g.1 g.2 in
         (n, subst (λ y. SpellsBody None n y r) u.1 g.3, e ∙ ap (λ y. add xs (and_piece y n)) u.0 ∙ sym (add_push xs p n))
 
-pub block_fails : (d : ℕ) (ts cur : List Token) (xs : List PieceTree) (k : ℕ) (f : Refusal) → NotFront (kind.Punctuator sign.BraceClose) cur → BlockLoop d ts xs k cur → FailsOf (SpellsPiece None) EndsPiece piece_depth d cur f → FailsOf (SpellsBody None) Anywhere pieces_depth d ts f
+pub block_fails : (d : ℕ) (ts cur : List Token) (xs : List PieceTree) (k : ℕ) (f : Refusal) → NotFront (kind.Punctuator sign.BraceClose) cur →
+    BlockLoop d ts xs k cur → FailsOf (SpellsPiece None) EndsPiece piece_depth d cur f → FailsOf (SpellsBody None) Anywhere pieces_depth d ts f
 block_fails d ts cur xs k f none h bad = record { each = λ us r b en. let g = h.only us r b in next us r g.0 g.1 g.2 }
   where
     next : (us : Pieces) (r : List Token) (n : Pieces) → SpellsBody None n cur r → us ≡ add xs n → Excuses f d (pieces_depth us)
@@ -168,7 +179,8 @@ block_fails d ts cur xs k f none h bad = record { each = λ us r b en. let g = h
         let deep : piece_depth q ≤ pieces_depth us = subst (λ y. piece_depth q ≤ pieces_depth y) (sym e) (depth_add xs q n) in
         excuses_grow f d d (piece_depth q) (pieces_depth us) (omega (arith, deep)) (bad.each q g.0 g.1 g.2)
 
-pub block_stands : (d : ℕ) (ts cur : List Token) (xs : List PieceTree) (k : ℕ) (f : Refusal) → BlockLoop d ts xs k cur → StandsOf SpellsPiece piece_depth d cur f → StandsOf SpellsBody pieces_depth d ts f
+pub block_stands : (d : ℕ) (ts cur : List Token) (xs : List PieceTree) (k : ℕ) (f : Refusal) → BlockLoop d ts xs k cur → StandsOf SpellsPiece piece_depth d cur
+    f → StandsOf SpellsBody pieces_depth d ts f
 block_stands d ts cur xs k (Syntax at) h s = tt
 block_stands d ts cur xs k Memory h s = tt
 block_stands d ts cur xs k (Depth at) h s = let deep = depth_add xs s.tree no_pieces in record {
@@ -180,7 +192,8 @@ block_stands d ts cur xs k (Depth at) h s = let deep = depth_add xs s.tree no_pi
   deep = omega (arith, s.deep, deep);
 }
 
-pub block_ends : (d : ℕ) (at : Pos) (ts cur : List Token) (xs : List PieceTree) (k : ℕ) (rest : List Token) → Own (kind.Punctuator sign.BraceClose) at cur rest → BlockLoop d ts xs k cur → ReadsOf (SpellsBody None) Anywhere pieces_depth d ts (pieces_of xs) k rest
+pub block_ends : (d : ℕ) (at : Pos) (ts cur : List Token) (xs : List PieceTree) (k : ℕ) (rest : List Token) → Own (kind.Punctuator sign.BraceClose) at cur rest
+    → BlockLoop d ts xs k cur → ReadsOf (SpellsBody None) Anywhere pieces_depth d ts (pieces_of xs) k rest
 block_ends d at ts cur xs k rest own h = record {
   spelled = (cur, subst (λ y. SpellsPieces None y ts cur) (add_none xs) (h.spells None no_pieces cur refl), inl (at, own));
   tall = h.height;
@@ -189,6 +202,9 @@ block_ends d at ts cur xs k rest own h = record {
 }
   where
     next : (us : Pieces) (r : List Token) (n : Pieces) → SpellsBody None n cur r → us ≡ add xs n → (us ≡ pieces_of xs) × (r ≡ rest)
-    next us r no_pieces b e = let m = mark_own (kind.Punctuator sign.BraceClose) b.0 r b.2 in
-        (e ∙ add_none xs, (own_once (kind.Punctuator sign.BraceClose) m.0 at cur r rest (subst (λ x. Own (kind.Punctuator sign.BraceClose) m.0 x r) (sym b.1) m.1) own).1)
+    next us r no_pieces b e = let m = mark_own (kind.Punctuator sign.BraceClose) b.0 r b.2 in (
+      e ∙ add_none xs,
+      (own_once (kind.Punctuator sign.BraceClose) m.0 at cur r rest (subst (λ x. Own (kind.Punctuator sign.BraceClose) m.0 x r) (sym b.1)
+          m.1) own).1,
+    )
     next us r (and_piece q n) b e = let g = piece_front q n cur r b in absurd (piece_no_close q cur g.0 g.1 at rest own)

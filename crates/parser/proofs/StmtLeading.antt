@@ -9,15 +9,15 @@ use Rattle.lexer.specs.declared.token.Keyword.{Keyword}
 use Rattle.lexer.specs.declared.token.Keyword.TheVariants as keyword
 use Rattle.lexer.specs.declared.token.Punctuator.{Punctuator}
 use Rattle.lexer.specs.declared.token.Punctuator.TheVariants as sign
-use Rattle.tree.specs.Tree.{Tree, StmtTree, blank, block, empty, act, branch, fork, select, label, otherwise, repeat, until, turns, quit, resume, give, PieceTree, local, run}
-use Rattle.parser.specs.declared.scope.Scope.TheVariants.{Block}
-use Rattle.parser.specs.Grammar.{Own, Spells}
-use Rattle.parser.specs.Statements.{SpellsStmt, SpellsPiece}
-use Rattle.parser.specs.Answer.{NotFront}
-use Rattle.parser.specs.ExpressionLeads.{SignBeginsExpression, KeywordBeginsExpression, KindBeginsExpression, BeginsExpression}
-use Rattle.parser.specs.DeclarationFronts.{KeywordBeginsDeclaration, BeginsDeclaration}
-use Rattle.parser.proofs.Leads.{whole_begins}
-use Rattle.parser.proofs.DeclarationFacts.{declaration_begins}
+use Rattle.tree.specs.Tree.{Tree, StmtTree, stmt_hole, block_stmt, empty_stmt, expression_stmt, if_stmt, if_else_stmt, switch_stmt, case_stmt, default_stmt, while_stmt, do_while_stmt, for_stmt, break_stmt, continue_stmt, return_stmt, PieceTree, declaration_item, statement_item}
+use Rattle.grammar.specs.declared.scope.Scope.TheVariants.{Block}
+use Rattle.grammar.specs.Tokens.{Own, NotFront}
+use Rattle.grammar.specs.Expressions.{Spells}
+use Rattle.grammar.specs.Statements.{SpellsStmt, SpellsPiece}
+use Rattle.expression_parser.specs.ExpressionLeads.{SignBeginsExpression, KeywordBeginsExpression, KindBeginsExpression, BeginsExpression}
+use Rattle.declaration_parser.specs.DeclarationAnswers.{KeywordBeginsDeclaration, BeginsDeclaration}
+use Rattle.expression_parser.proofs.Leads.{whole_begins}
+use Rattle.declaration_parser.proofs.DeclarationFacts.{declaration_begins}
 
 abbrev pub sign_tag : Punctuator → ℕ
 sign_tag sign.BraceOpen = 1
@@ -108,7 +108,8 @@ keyword_declaration keyword.Sizeof h = absurd h
 keyword_declaration k h = refl
 
 kind_declaration : (t : Token) (ts : List Token) (k : Kind) → k ≡ t.kind → BeginsDeclaration (t ∷ ts) → tag t.kind ≡ 14
-kind_declaration t ts (kind.Keyword k) e h = sym (ap tag e) ∙ keyword_declaration k (subst (λ x. BeginsDeclaration (record { kind = x; pos = t.pos } ∷ ts)) (sym e) h)
+kind_declaration t ts (kind.Keyword k) e h = sym (ap tag e) ∙ keyword_declaration k (subst (λ x. BeginsDeclaration (record { kind = x; pos = t.pos } ∷ ts))
+    (sym e) h)
 kind_declaration t ts (kind.Punctuator p) e h = absurd (subst (λ x. BeginsDeclaration (record { kind = x; pos = t.pos } ∷ ts)) (sym e) h)
 kind_declaration t ts (kind.Identifier n) e h = absurd (subst (λ x. BeginsDeclaration (record { kind = x; pos = t.pos } ∷ ts)) (sym e) h)
 kind_declaration t ts (kind.Constant ty n) e h = absurd (subst (λ x. BeginsDeclaration (record { kind = x; pos = t.pos } ∷ ts)) (sym e) h)
@@ -119,38 +120,38 @@ declaration_tagged [] h = absurd h
 declaration_tagged (t ∷ ts) h = kind_declaration t ts t.kind refl h
 
 abbrev pub stmt_tag : StmtTree → ℕ
-stmt_tag blank = 0
-stmt_tag (block at ps) = 1
-stmt_tag (empty at) = 2
-stmt_tag (act at e) = 15
-stmt_tag (branch at e a) = 3
-stmt_tag (fork at e a c) = 3
-stmt_tag (select at e a) = 4
-stmt_tag (label at e a) = 5
-stmt_tag (otherwise at a) = 6
-stmt_tag (repeat at e a) = 7
-stmt_tag (until at a e) = 8
-stmt_tag (turns at start test step a) = 9
-stmt_tag (quit at) = 10
-stmt_tag (resume at) = 11
-stmt_tag (give at e) = 12
+stmt_tag stmt_hole = 0
+stmt_tag (block_stmt at ps) = 1
+stmt_tag (empty_stmt at) = 2
+stmt_tag (expression_stmt at e) = 15
+stmt_tag (if_stmt at e a) = 3
+stmt_tag (if_else_stmt at e a c) = 3
+stmt_tag (switch_stmt at e a) = 4
+stmt_tag (case_stmt at e a) = 5
+stmt_tag (default_stmt at a) = 6
+stmt_tag (while_stmt at e a) = 7
+stmt_tag (do_while_stmt at a e) = 8
+stmt_tag (for_stmt at start test step a) = 9
+stmt_tag (break_stmt at) = 10
+stmt_tag (continue_stmt at) = 11
+stmt_tag (return_stmt at e) = 12
 
 pub stmt_tagged : (u : StmtTree) (ts r : List Token) → SpellsStmt None u ts r → Tagged (stmt_tag u) ts
-stmt_tagged blank ts r h = absurd h
-stmt_tagged (block at ps) ts r h = own_tagged 1 _ at ts h.0 refl h.2
-stmt_tagged (empty at) ts r h = own_tagged 2 _ at ts r refl h
-stmt_tagged (act at e) ts r h = whole_tagged e ts h.0 h.3
-stmt_tagged (branch at e a) ts r h = own_tagged 3 _ at ts h.0 refl h.2
-stmt_tagged (fork at e a c) ts r h = own_tagged 3 _ at ts h.0 refl h.5
-stmt_tagged (select at e a) ts r h = own_tagged 4 _ at ts h.0 refl h.2
-stmt_tagged (label at e a) ts r h = own_tagged 5 _ at ts h.0 refl h.3
-stmt_tagged (otherwise at a) ts r h = own_tagged 6 _ at ts h.0 refl h.2
-stmt_tagged (repeat at e a) ts r h = own_tagged 7 _ at ts h.0 refl h.2
-stmt_tagged (until at a e) ts r h = own_tagged 8 _ at ts h.0 refl h.4
-stmt_tagged (turns at start test step a) ts r h = own_tagged 9 _ at ts h.0 refl h.7
-stmt_tagged (quit at) ts r h = own_tagged 10 _ at ts h.0 refl h.1
-stmt_tagged (resume at) ts r h = own_tagged 11 _ at ts h.0 refl h.1
-stmt_tagged (give at e) ts r h = own_tagged 12 _ at ts h.0 refl h.2
+stmt_tagged stmt_hole ts r h = absurd h
+stmt_tagged (block_stmt at ps) ts r h = own_tagged 1 _ at ts h.0 refl h.2
+stmt_tagged (empty_stmt at) ts r h = own_tagged 2 _ at ts r refl h
+stmt_tagged (expression_stmt at e) ts r h = whole_tagged e ts h.0 h.3
+stmt_tagged (if_stmt at e a) ts r h = own_tagged 3 _ at ts h.0 refl h.2
+stmt_tagged (if_else_stmt at e a c) ts r h = own_tagged 3 _ at ts h.0 refl h.5
+stmt_tagged (switch_stmt at e a) ts r h = own_tagged 4 _ at ts h.0 refl h.2
+stmt_tagged (case_stmt at e a) ts r h = own_tagged 5 _ at ts h.0 refl h.3
+stmt_tagged (default_stmt at a) ts r h = own_tagged 6 _ at ts h.0 refl h.2
+stmt_tagged (while_stmt at e a) ts r h = own_tagged 7 _ at ts h.0 refl h.2
+stmt_tagged (do_while_stmt at a e) ts r h = own_tagged 8 _ at ts h.0 refl h.4
+stmt_tagged (for_stmt at start test step a) ts r h = own_tagged 9 _ at ts h.0 refl h.7
+stmt_tagged (break_stmt at) ts r h = own_tagged 10 _ at ts h.0 refl h.1
+stmt_tagged (continue_stmt at) ts r h = own_tagged 11 _ at ts h.0 refl h.1
+stmt_tagged (return_stmt at e) ts r h = own_tagged 12 _ at ts h.0 refl h.2
 
 -- the statement at a token is of its form
 pub same_form : (k : Kind) (at : Pos) (ts us r : List Token) (u : StmtTree) → Own k at ts us → SpellsStmt None u ts r → tag k ≡ stmt_tag u
@@ -161,19 +162,20 @@ pub stmt_no_else : (u : StmtTree) (ts r : List Token) → SpellsStmt None u ts r
 stmt_no_else u ts r h at us own = different u (own_tag (stmt_tag u) (kind.Keyword keyword.Else) at ts us own (stmt_tagged u ts r h))
   where
     different : (v : StmtTree) → 13 ≡ stmt_tag v → ⊥
-    different blank e = omega (arith, e)
+    different stmt_hole e = omega (arith, e)
     different v e = omega (arith, e)
 
 pub piece_no_else : (p : PieceTree) (ts r : List Token) → SpellsPiece None p ts r → NotFront (kind.Keyword keyword.Else) ts
-piece_no_else (run s) ts r h = stmt_no_else s ts r h
-piece_no_else (local d) ts r h = λ at us own. let e : 13 ≡ 14 = own_tag 14 (kind.Keyword keyword.Else) at ts us own (declaration_tagged ts (declaration_begins Block d ts r h)) in omega (arith, e)
+piece_no_else (statement_item s) ts r h = stmt_no_else s ts r h
+piece_no_else (declaration_item d) ts r h = λ at us own. let e : 13 ≡ 14 = own_tag 14 (kind.Keyword keyword.Else) at ts us own
+    (declaration_tagged ts (declaration_begins Block d ts r h)) in omega (arith, e)
 
 -- a declaration is no statement
 pub no_stmt_declares : (u : StmtTree) (ts r : List Token) → BeginsDeclaration ts → SpellsStmt None u ts r → ⊥
 no_stmt_declares u ts r b h = different u (tagged_once 14 (stmt_tag u) ts (declaration_tagged ts b) (stmt_tagged u ts r h))
   where
     different : (v : StmtTree) → 14 ≡ stmt_tag v → ⊥
-    different blank e = omega (arith, e)
+    different stmt_hole e = omega (arith, e)
     different v e = omega (arith, e)
 
 -- and begins no expression

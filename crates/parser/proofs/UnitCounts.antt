@@ -3,10 +3,11 @@ use Rattle.std.proofs.Common.{◌≡◌, ℕ, ◌+◌, ◌-◌, ◌<◌, ◌≤�
 use Rattle.std.proofs.lemmas.Bool.Decides.{nat_tests}
 use Rattle.srcset.specs.declared.refusal.Pos.{Pos}
 use Rattle.srcset.specs.declared.refusal.Refusal.TheVariants as fault
+use Rattle.srcset.specs.declared.code.Code.TheVariants.{ProgramNodeLimit}
 use Rattle.tree.specs.Tree.{ExternalTree}
 use Rattle.tree.specs.Counts.{external_nodes}
 use Rattle.parser.specs.Units.{IsSmall}
-use Rattle.parser.specs.UnitAnswers.{Counts, CountsTooMany}
+use Rattle.parser.specs.inside.UnitAnswers.{Counts, CountsTooMany}
 use Rattle.std.specs.Prelude.{IsTrue, ◌↔◌}
 use Rattle.std.proofs.Math.Dec.{leb}
 use Rattle.std.proofs.lemmas.Bool.{leb-true, le-leb}
@@ -31,9 +32,11 @@ past_limit n x m e lt = omega arith
 
 -- one external declaration more is within the limit, or is not
 pub counts_more : (n more : ℕ) (e : ExternalTree) → IsSmall e → more ≡ capped (external_nodes e) → n ≤ 262144 → more ≤ 262144 - n → Counts n e (n + more)
-counts_more n more e small count le fits = let exact = within_exact more (external_nodes e) 262144 count (omega arith) (omega arith) in record { small = small; total = ap (λ (k : ℕ). n + k) exact; few = omega arith }
+counts_more n more e small count le fits = let exact = within_exact more (external_nodes e) 262144 count (omega arith) (omega arith) in
+    record { small = small; total = ap (λ (k : ℕ). n + k) exact; few = omega arith }
 
-pub counts_passes : (n more : ℕ) (e : ExternalTree) (at : Pos) → more ≡ capped (external_nodes e) → n ≤ 262144 → 262144 - n < more → CountsTooMany n e at (fault.At 711 at)
+pub counts_passes : (n more : ℕ) (e : ExternalTree) (at : Pos) → more ≡ capped (external_nodes e) → n ≤ 262144 → 262144 - n < more →
+    CountsTooMany n e at (fault.At ProgramNodeLimit at)
 counts_passes n more e at count le lt = let past = past_limit more (external_nodes e) (262144 - n) count lt in inr (refl, omega arith)
 
 -- a list that is not empty has a token

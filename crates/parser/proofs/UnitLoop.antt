@@ -10,18 +10,19 @@ use Rattle.tree.specs.declared.unit.External.{External}
 use Rattle.tree.specs.View.{external_of}
 use Rattle.tree.specs.Tree.{ExternalTree, definition, declaration, declared, assertion}
 use Rattle.tree.specs.Counts.{external_depth, unit_depth, external_nodes, unit_nodes}
-use Rattle.parser.specs.declared.refusal.Refusal.{Refusal}
-use Rattle.parser.specs.declared.refusal.Refusal.TheVariants.{Syntax, Depth, Memory}
-use Rattle.parser.specs.Statements.{SpellsExternal, SpellsUnit}
-use Rattle.parser.specs.Answer.{Reaches}
+use Rattle.grammar.specs.declared.refusal.Refusal.{Refusal}
+use Rattle.grammar.specs.declared.refusal.Refusal.TheVariants.{Syntax, Depth, Memory}
+use Rattle.grammar.specs.Statements.{SpellsExternal, SpellsUnit}
+use Rattle.grammar.specs.Tokens.{Reaches}
 use Rattle.parser.specs.Units.{Limit, of_depth, of_function, of_program, IsSmall, AreSmall, Keeps, IsTreeWithin, IsOnly, HasNoTree, Exceeds, IsRefused}
-use Rattle.parser.specs.UnitAnswers.{ReadsExternal, FailsExternal, StandsExternal, IsLocated, Counts, CountsTooMany}
-use Rattle.parser.proofs.Leads.{reaches_on}
-use Rattle.parser.proofs.UnitBegun.{external_is_begun, external_reaches, unit_is_begun, unit_reaches}
+use Rattle.parser.specs.inside.UnitAnswers.{ReadsExternal, FailsExternal, StandsExternal, IsLocated, Counts, CountsTooMany}
+use Rattle.grammar.proofs.Tokens.{reaches_on}
+use Rattle.grammar.proofs.UnitBegun.{external_is_begun, external_reaches, unit_is_begun, unit_reaches}
 
 -- ---- lists of external declarations
 
-unit_append : (b : Option (List Token)) (es fs : List ExternalTree) (ts us rest : List Token) → SpellsUnit b es ts us → SpellsUnit b fs us rest → SpellsUnit b (es ++ fs) ts rest
+unit_append : (b : Option (List Token)) (es fs : List ExternalTree) (ts us rest : List Token) → SpellsUnit b es ts us → SpellsUnit b fs us rest →
+    SpellsUnit b (es ++ fs) ts rest
 unit_append b [] fs ts us rest h g = subst (λ (x : List Token). SpellsUnit b fs x rest) (sym h) g
 unit_append b (e ∷ es) fs ts us rest h g = (h.0, h.1, unit_append b es fs h.0 us rest h.2 g)
 
@@ -97,13 +98,15 @@ going_more ts es n rest e m after g some reads counts = record {
 
 -- the same, where the list is pushed on
 pub going_pushed : (ts : List Token) (xs ys : List External) (n : ℕ) (rest : List Token) (x : External) (m : ℕ) (after : List Token)
-    → Going ts (map external_of xs) n rest → 0 < length rest → ReadsExternal rest (external_of x) after → Counts n (external_of x) m → ys ≡ xs ++ x ∷ [] → Going ts (map external_of ys) m after
+    → Going ts (map external_of xs) n rest → 0 < length rest → ReadsExternal rest (external_of x) after → Counts n (external_of x) m → ys ≡ xs ++ x ∷ [] →
+    Going ts (map external_of ys) m after
 going_pushed ts xs ys n rest x m after g some reads counts e =
     subst (λ (es : List ExternalTree). Going ts es m after) (sym (ap (map external_of) e ∙ map-append external_of xs (x ∷ [])))
     (going_more ts (map external_of xs) n rest (external_of x) m after g some reads counts)
 
 -- what is left after one more is a tail
-pub going_reaches : (ts : List Token) (es : List ExternalTree) (n : ℕ) (rest : List Token) (e : ExternalTree) (after : List Token) → Going ts es n rest → ReadsExternal rest e after → Reaches ts after
+pub going_reaches : (ts : List Token) (es : List ExternalTree) (n : ℕ) (rest : List Token) (e : ExternalTree) (after : List Token) → Going ts es n rest →
+    ReadsExternal rest e after → Reaches ts after
 going_reaches ts es n rest e after g reads = reaches_on ts rest after (unit_reaches es ts rest g.spelled) (external_reaches e rest after reads.spelled)
 
 -- what is left is no longer than the list
@@ -141,13 +144,15 @@ too_deep es vs v us e = let d = ap unit_depth e ∙ depth_append es (v ∷ vs) i
 too_many : (es vs : List ExternalTree) (v : ExternalTree) (us : List ExternalTree) → us ≡ es ++ v ∷ vs → unit_nodes es + external_nodes v ≤ unit_nodes us
 too_many es vs v us e = let d = ap unit_nodes e ∙ nodes_append es (v ∷ vs) in omega (arith, d)
 
-no_tree : (ts : List Token) (es : List ExternalTree) (n : ℕ) (rest : List Token) (left : ℕ) → Going ts es n rest → 0 < length rest → FailsExternal rest (Syntax left) → HasNoTree ts
+no_tree : (ts : List Token) (es : List ExternalTree) (n : ℕ) (rest : List Token) (left : ℕ) → Going ts es n rest → 0 < length rest →
+    FailsExternal rest (Syntax left) → HasNoTree ts
 no_tree ts es n rest left g some fails us h =
     let o = g.only us h in
     let x = next o.0 rest some o.2 in
     fails.each x.first x.behind x.spelled tt
 
-deep_tree : (ts : List Token) (es : List ExternalTree) (n : ℕ) (rest : List Token) (at : Pos) → Going ts es n rest → 0 < length rest → FailsExternal rest (Depth at) → StandsExternal rest (Depth at)
+deep_tree : (ts : List Token) (es : List ExternalTree) (n : ℕ) (rest : List Token) (at : Pos) → Going ts es n rest → 0 < length rest →
+    FailsExternal rest (Depth at) → StandsExternal rest (Depth at)
     → Exceeds of_depth ts at
 deep_tree ts es n rest at g some fails p = record {
   none = λ us h keeps.
@@ -183,7 +188,8 @@ full l ts es n rest e after last end g some reads reaches passes = record {
   tree = es ++ e ∷ [];
   cut = after;
   last = last;
-  begun = unit_append (Some after) es (e ∷ []) ts rest after (unit_is_begun after es ts rest g.spelled) (after, external_is_begun after e rest after reads.spelled, refl);
+  begun = unit_append (Some after) es (e ∷ []) ts rest after (unit_is_begun after es ts rest g.spelled)
+      (after, external_is_begun after e rest after reads.spelled, refl);
   reaches = reaches;
   passes = passes [];
 }
@@ -192,7 +198,12 @@ pub going_full : (ts : List Token) (es : List ExternalTree) (n : ℕ) (rest : Li
     → Going ts es n rest → 0 < length rest → ReadsExternal rest e after → (last : Kind) × Reaches ts (record { kind = last; pos = end } ∷ after)
     → CountsTooMany n e end r → IsRefused ts r
 going_full ts es n rest e after end r g some reads reaches (inl h) =
-    subst (IsRefused ts) (sym h.0) (inr (of_function, refl, full of_function ts es n rest e after reaches.0 end g some reads reaches.1 (λ vs keeps. h.1 (small_part es e vs keeps))))
+    subst (IsRefused ts) (sym h.0) (inr (
+      of_function,
+      refl,
+      full of_function ts es n rest e after reaches.0 end g some reads reaches.1
+          (λ vs keeps. h.1 (small_part es e vs keeps)),
+    ))
 going_full ts es n rest e after end r g some reads reaches (inr h) =
     subst (IsRefused ts) (sym h.0) (inr (
       of_program,

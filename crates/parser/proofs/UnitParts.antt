@@ -1,26 +1,24 @@
 -- External declarations: from a head and a body.
 use Rattle.std.specs.Prelude.{Option, None, Some}
-use Rattle.std.proofs.Common.{◌≡◌, ℕ, ◌+◌, ◌≤◌, List, ◌∷◌, ◌++◌, length, get_or, take, drop, refl, sym, ap, ◌∙◌, subst, arith}
+use Rattle.std.proofs.Common.{◌≡◌, ℕ, ◌+◌, ◌≤◌, List, ◌∷◌, ◌++◌, length, get_or, take, drop, refl, sym, ap, ◌∙◌, subst, arith, suc, ◌-◌, length-append, length-drop}
 use Rattle.std.proofs.Math.Seq.{drop-append_seam, drop-cons}
 use Rattle.std.proofs.lemmas.List.{take-append-drop}
-use Rattle.std.proofs.Common.{suc, ◌-◌, length-append, length-drop}
 use Rattle.srcset.specs.declared.refusal.Pos.{Pos}
 use Rattle.lexer.specs.declared.token.Token.{Token}
 use Rattle.lexer.specs.declared.token.Kind.TheVariants as kind
 use Rattle.lexer.specs.declared.token.Punctuator.TheVariants as sign
 use Rattle.tree.specs.Tree.{Pieces, DeclarationTree, FunctionTree, ExternalTree, definition, declaration}
 use Rattle.tree.specs.Counts.{pieces_depth, function_depth, external_depth}
-use Rattle.parser.specs.declared.refusal.Refusal.{Refusal}
-use Rattle.parser.specs.declared.refusal.Refusal.TheVariants.{Syntax, Depth, Memory}
-use Rattle.parser.specs.Grammar.{Own}
-use Rattle.parser.specs.Statements.{SpellsFunction, SpellsExternal}
-use Rattle.parser.specs.StatementAnswers.{SpellsBody}
-use Rattle.parser.specs.PartAnswers.{Anywhere}
-use Rattle.parser.specs.DeclarationAnswers.{HeadTree, whole, opening, OpeningTree, SpellsOpening, SpellsHead, EndsHead, head_depth}
-use Rattle.parser.specs.Answer.{Reaches, Excuses, ReadsOf, FailsOf}
-use Rattle.parser.specs.UnitAnswers.{ReadsBody, FailsBody, ReadsExternal, FailsExternal, StandsExternal}
-use Rattle.parser.proofs.Leads.{own_once, own_reaches, reaches_on}
-use Rattle.parser.proofs.UnitBegun.{opening_is_begun, opening_reaches}
+use Rattle.grammar.specs.declared.refusal.Refusal.{Refusal}
+use Rattle.grammar.specs.declared.refusal.Refusal.TheVariants.{Syntax, Depth, Memory}
+use Rattle.grammar.specs.Tokens.{Own, Reaches}
+use Rattle.grammar.specs.Statements.{SpellsFunction, SpellsExternal}
+use Rattle.parser.specs.inside.StatementAnswers.{SpellsBody}
+use Rattle.grammar.specs.inside.Answer.{Anywhere, Excuses, ReadsOf, FailsOf}
+use Rattle.declaration_parser.specs.DeclarationAnswers.{HeadTree, whole, opening, OpeningTree, SpellsOpening, SpellsHead, EndsHead, head_depth}
+use Rattle.parser.specs.inside.UnitAnswers.{ReadsBody, FailsBody, ReadsExternal, FailsExternal, StandsExternal}
+use Rattle.grammar.proofs.Tokens.{own_once, own_reaches, reaches_on}
+use Rattle.parser.proofs.OpeningBegun.{opening_is_begun, opening_reaches}
 
 -- the token before the last ones
 pub token_before : (ts us : List Token) (i : ℕ) (d : Token) → i + 1 + length us ≡ length ts → Reaches ts us → Reaches ts (get_or ts i d ∷ us)
@@ -91,9 +89,11 @@ head_fails ts f fails = record { each = each }
     each (declaration d) r h any = fails.each (whole d) r h tt
     each (definition g) r h any =
         let s = split None g ts r h in
-        excuses_more f 0 0 (head_depth (opening (opening_of g))) (function_depth g) (omega arith) (fails.each (opening (opening_of g)) s.behind s.head (g.brace, s.inside, s.brace))
+        excuses_more f 0 0 (head_depth (opening (opening_of g))) (function_depth g) (omega arith)
+        (fails.each (opening (opening_of g)) s.behind s.head (g.brace, s.inside, s.brace))
 
-declaration_reads : (ts : List Token) (d : DeclarationTree) (k : ℕ) (rest : List Token) → ReadsOf (SpellsHead None) EndsHead head_depth 0 ts (whole d) k rest → ReadsExternal ts (declaration d) rest
+declaration_reads : (ts : List Token) (d : DeclarationTree) (k : ℕ) (rest : List Token) → ReadsOf (SpellsHead None) EndsHead head_depth 0 ts (whole d) k rest →
+    ReadsExternal ts (declaration d) rest
 declaration_reads ts d k rest reads = record { spelled = reads.spelled; tall = refl; fits = omega (arith, reads.tall, reads.fits); only = only }
   where
     only : (y : ExternalTree) (r : List Token) → SpellsExternal None y ts r → Anywhere y r → (y ≡ declaration d) × (r ≡ rest)
@@ -105,18 +105,22 @@ declaration_reads ts d k rest reads = record { spelled = reads.spelled; tall = r
 -- ---- a head and a body
 
 -- a function definition behind this head has this head and this brace
-same_head : (ts : List Token) (o : OpeningTree) (k : ℕ) (behind : List Token) (at : Pos) (inside : List Token) → ReadsOf (SpellsHead None) EndsHead head_depth 0 ts (opening o) k behind
-    → Own (kind.Punctuator sign.BraceOpen) at behind inside → (g : FunctionTree) (r : List Token) → SpellsFunction None g ts r → (g ≡ with_body o at g.body) × SpellsBody None g.body inside r
+same_head : (ts : List Token) (o : OpeningTree) (k : ℕ) (behind : List Token) (at : Pos) (inside : List Token) → ReadsOf (SpellsHead None) EndsHead head_depth 0
+    ts (opening o) k behind
+    → Own (kind.Punctuator sign.BraceOpen) at behind inside → (g : FunctionTree) (r : List Token) → SpellsFunction None g ts r → (g ≡ with_body o at g.body)
+    × SpellsBody None g.body inside r
 same_head ts o k behind at inside reads own g r h =
     let s = split None g ts r h in
     let p = reads.only (opening (opening_of g)) s.behind s.head (g.brace, s.inside, s.brace) in
-    let q = own_once _ g.brace at behind s.inside inside (subst (λ (x : List Token). Own (kind.Punctuator sign.BraceOpen) g.brace x s.inside) p.1 s.brace) own in (
+    let q = own_once _ g.brace at behind s.inside inside (subst (λ (x : List Token). Own (kind.Punctuator sign.BraceOpen) g.brace x s.inside) p.1 s.brace) own
+    in (
       ap (λ (x : OpeningTree). with_body x g.brace g.body) (same_opening (opening_of g) o p.0) ∙ ap (λ (x : Pos). with_body o x g.body) q.0,
       subst (λ (x : List Token). SpellsBody None g.body x r) q.1 s.body,
     )
 
 function_reads : (ts : List Token) (o : OpeningTree) (k : ℕ) (behind : List Token) (at : Pos) (ps : Pieces) (rest : List Token)
-    → ReadsOf (SpellsHead None) EndsHead head_depth 0 ts (opening o) k behind → ReadsBody behind at ps rest → ReadsExternal ts (definition (with_body o at ps)) rest
+    → ReadsOf (SpellsHead None) EndsHead head_depth 0 ts (opening o) k behind → ReadsBody behind at ps rest → ReadsExternal ts (definition (with_body o at ps))
+    rest
 function_reads ts o k behind at ps rest head body = record {
   spelled = join None o at ps ts behind body.inside rest head.spelled body.brace body.reads.spelled;
   tall = refl;
@@ -131,7 +135,8 @@ function_reads ts o k behind at ps rest head body = record {
         let q = body.reads.only g.body r p.1 tt in
         (ap definition (p.0 ∙ ap (λ (x : Pieces). with_body o at x) q.0), q.1)
 
-body_fails : (ts : List Token) (o : OpeningTree) (k : ℕ) (behind : List Token) (f : Refusal) → ReadsOf (SpellsHead None) EndsHead head_depth 0 ts (opening o) k behind
+body_fails : (ts : List Token) (o : OpeningTree) (k : ℕ) (behind : List Token) (f : Refusal) → ReadsOf (SpellsHead None) EndsHead head_depth 0 ts (opening o) k
+    behind
     → EndsHead (opening o) behind → FailsBody behind f → FailsExternal ts f
 body_fails ts o k behind f head ends body = record { each = each }
   where
@@ -142,7 +147,8 @@ body_fails ts o k behind f head ends body = record { each = each }
         let e = (body.fails ends.0 ends.1 ends.2).each g.body r p.1 tt in
         excuses_more f 2 0 (pieces_depth g.body) (function_depth g) (omega arith) e
 
-body_stands : (ts : List Token) (o : OpeningTree) (k : ℕ) (behind : List Token) (f : Refusal) → ReadsOf (SpellsHead None) EndsHead head_depth 0 ts (opening o) k behind
+body_stands : (ts : List Token) (o : OpeningTree) (k : ℕ) (behind : List Token) (f : Refusal) → ReadsOf (SpellsHead None) EndsHead head_depth 0 ts (opening o) k
+    behind
     → EndsHead (opening o) behind → FailsBody behind f → StandsExternal ts f
 body_stands ts o k behind (Syntax at) head ends body = tt
 body_stands ts o k behind Memory head ends body = tt
@@ -160,16 +166,20 @@ body_stands ts o k behind (Depth at) head ends body =
 
 -- ---- the same, of a head that is known by an equation
 
-pub declaration_part : (ts : List Token) (h : HeadTree) (d : DeclarationTree) (k : ℕ) (rest : List Token) → h ≡ whole d → ReadsOf (SpellsHead None) EndsHead head_depth 0 ts h k rest × EndsHead h rest
+pub declaration_part : (ts : List Token) (h : HeadTree) (d : DeclarationTree) (k : ℕ) (rest : List Token) → h ≡ whole d → ReadsOf (SpellsHead None) EndsHead
+    head_depth 0 ts h k rest × EndsHead h rest
     → ReadsExternal ts (declaration d) rest
 declaration_part ts h d k rest e r = declaration_reads ts d k rest (subst (λ (x : HeadTree). ReadsOf (SpellsHead None) EndsHead head_depth 0 ts x k rest) e r.0)
 
-known_head : (ts : List Token) (h : HeadTree) (o : OpeningTree) (k : ℕ) (rest : List Token) → h ≡ opening o → ReadsOf (SpellsHead None) EndsHead head_depth 0 ts h k rest × EndsHead h rest
+known_head : (ts : List Token) (h : HeadTree) (o : OpeningTree) (k : ℕ) (rest : List Token) → h ≡ opening o → ReadsOf (SpellsHead None) EndsHead head_depth 0 ts
+    h k rest × EndsHead h rest
     → ReadsOf (SpellsHead None) EndsHead head_depth 0 ts (opening o) k rest × EndsHead (opening o) rest
 known_head ts h o k rest e r = subst (λ (x : HeadTree). ReadsOf (SpellsHead None) EndsHead head_depth 0 ts x k rest × EndsHead x rest) e r
 
-pub function_part : (ts : List Token) (h : HeadTree) (o : OpeningTree) (k : ℕ) (behind : List Token) (at : Pos) (ps : Pieces) (rest : List Token) → h ≡ opening o
-    → ReadsOf (SpellsHead None) EndsHead head_depth 0 ts h k behind × EndsHead h behind → ReadsBody behind at ps rest → ReadsExternal ts (definition (with_body o at ps)) rest
+pub function_part : (ts : List Token) (h : HeadTree) (o : OpeningTree) (k : ℕ) (behind : List Token) (at : Pos) (ps : Pieces) (rest : List Token) →
+    h ≡ opening o
+    → ReadsOf (SpellsHead None) EndsHead head_depth 0 ts h k behind × EndsHead h behind → ReadsBody behind at ps rest →
+    ReadsExternal ts (definition (with_body o at ps)) rest
 function_part ts h o k behind at ps rest e r body = let p = known_head ts h o k behind e r in function_reads ts o k behind at ps rest p.0 body
 
 pub body_fails_part : (ts : List Token) (h : HeadTree) (o : OpeningTree) (k : ℕ) (behind : List Token) (f : Refusal) → h ≡ opening o

@@ -1,9 +1,11 @@
 -- The tree of a whole list of tokens, its limits, and why a list is refused (ISO/IEC 9899:2011 6.9; the limits are of
 -- this compiler, 5.2.4.1).
-use Rattle.std.specs.Prelude.{◌≡◌, ℕ, ◌≤◌, None, Some, ◌⊎◌, List, [], ◌∷◌}
+use Rattle.std.specs.Prelude.{◌≡◌, ◌≤◌, None, Some, ◌⊎◌, List, [], ◌∷◌}
 use Rattle.srcset.specs.declared.refusal.Pos.{Pos}
 use Rattle.srcset.specs.declared.refusal.Refusal.{Refusal}
-use Rattle.srcset.specs.declared.refusal.Refusal.TheVariants.{Memory, At}
+use Rattle.srcset.specs.declared.refusal.Refusal.TheVariants.{Memory, At, Told}
+use Rattle.srcset.specs.declared.code.Code.{Code}
+use Rattle.srcset.specs.declared.code.Code.TheVariants.{SyntaxError, DepthLimit, FunctionNodeLimit, ProgramNodeLimit}
 use Rattle.srcset.specs.declared.fault.Fault.{Fault}
 use Rattle.srcset.specs.NameTable.{Texts}
 use Rattle.srcset.specs.Refusal.{IsFaultOfRefusal}
@@ -11,8 +13,8 @@ use Rattle.lexer.specs.declared.token.Token.{Token}
 use Rattle.lexer.specs.declared.token.Kind.{Kind}
 use Rattle.tree.specs.Tree.{ExternalTree, definition, declaration}
 use Rattle.tree.specs.Counts.{function_nodes, unit_nodes, unit_depth}
-use Rattle.parser.specs.Statements.{SpellsUnit}
-use Rattle.parser.specs.Answer.{Reaches}
+use Rattle.grammar.specs.Statements.{SpellsUnit}
+use Rattle.grammar.specs.Tokens.{Reaches}
 
 -- the whole list is this unit
 abbrev pub IsUnitOf : List Token → List ExternalTree → Type 0
@@ -25,10 +27,10 @@ pub data Limit : Type 0 where
   of_function : Limit
   of_program : Limit
 
-abbrev pub code_of : Limit → ℕ
-code_of of_depth = 709
-code_of of_function = 710
-code_of of_program = 711
+abbrev pub code_of : Limit → Code
+code_of of_depth = DepthLimit
+code_of of_function = FunctionNodeLimit
+code_of of_program = ProgramNodeLimit
 
 abbrev pub IsSmall : ExternalTree → Type 0
 IsSmall (definition f) = function_nodes f ≤ 8000
@@ -73,10 +75,11 @@ pub record Exceeds (l : Limit) (ts : List Token) (at : Pos) : Type 0 where
   pub reaches : Reaches ts (record { kind = last; pos = at } ∷ cut)
   pub passes : Keeps l tree → ⊥
 
--- the refusal of the list stands
+-- the refusal of the list stands; none adds a text
 abbrev pub IsRefused : List Token → Refusal → Type 0
 IsRefused ts Memory = Unit {0}
-IsRefused ts (At code at) = ((code ≡ 401) × HasNoTree ts × HasTokenAt ts at) ⊎ ((l : Limit) × (code ≡ code_of l) × Exceeds l ts at)
+IsRefused ts (At code at) = ((code ≡ SyntaxError) × HasNoTree ts × HasTokenAt ts at) ⊎ ((l : Limit) × (code ≡ code_of l) × Exceeds l ts at)
+IsRefused ts (Told code at text) = ⊥
 
 -- the fault of such a refusal, under the names of these texts
 pub record IsFaultOfUnit (fault : Fault) (texts : Texts) (ts : List Token) : Type 0 where

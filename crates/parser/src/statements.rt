@@ -4,18 +4,18 @@ ghost use Rattle.std.specs.Prelude.{◌≡◌, ◌<◌, ◌≤◌, ◌∷◌, le
 ghost use Rattle.lexer.specs.declared.token.Token.{Token};
 ghost use Rattle.parser.specs.declared.statement_parts.Form.{Form};
 ghost use Rattle.parser.specs.declared.statement_parts.Form.TheVariants as form;
-ghost use Rattle.parser.specs.Answer.{NotFront};
-ghost use Rattle.parser.specs.StatementAnswers.{AnswersStmt, StandsStmt, AnswersBody, StandsBody};
-ghost use Rattle.parser.specs.StmtParts.{form_kind, AnswersLabelled, StandsLabelled, AnswersTested, StandsTested, AnswersPiece, StandsPiece};
+ghost use Rattle.grammar.specs.Tokens.{NotFront};
+ghost use Rattle.parser.specs.inside.StatementAnswers.{AnswersStmt, StandsStmt, AnswersBody, StandsBody};
+ghost use Rattle.parser.specs.inside.StmtParts.{form_kind, AnswersLabelled, StandsLabelled, AnswersTested, StandsTested, AnswersPiece, StandsPiece};
 
-use crate::declarations::{begins_declaration, declaration};
-use crate::expressions::conditional;
-use crate::fronts::{down, expect_sign, keyword_front, sign_front};
-use crate::refusal::Refusal;
 use crate::statement_parts::{
     Form, closed_expression, do_end, expression_place, for_head, form_front, optional_expression,
     test_expression,
 };
+use declaration_parser::declarations::{begins_declaration, declaration};
+use expression_parser::expressions::conditional;
+use expression_parser::fronts::{down, expect_sign, keyword_front, sign_front};
+use grammar::Refusal;
 use lexer::{Keyword, Punctuator, Token};
 use srcset::Pos;
 use std::alloc::Global;

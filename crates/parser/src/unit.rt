@@ -6,16 +6,16 @@ ghost use Rattle.lexer.specs.declared.token.Kind.{Kind};
 ghost use Rattle.tree.specs.Capped.{capped};
 ghost use Rattle.tree.specs.Counts.{external_nodes};
 ghost use Rattle.tree.specs.View.{external_of, unit_of};
-ghost use Rattle.parser.specs.Answer.{Reaches};
+ghost use Rattle.grammar.specs.Tokens.{Reaches};
 ghost use Rattle.parser.specs.Units.{IsSmall, IsTreeWithin, IsOnly, HasTokenAt, IsRefused, IsFaultOfUnit};
-ghost use Rattle.parser.specs.UnitAnswers.{AnswersFunctionBody, AnswersExternal, StandsExternal, IsLocated, Counts, CountsTooMany};
+ghost use Rattle.parser.specs.inside.UnitAnswers.{AnswersFunctionBody, AnswersExternal, StandsExternal, IsLocated, Counts, CountsTooMany};
 
-use crate::declarations::{Head, HeadPart, external_head};
-use crate::fronts::sign_front;
-use crate::refusal::Refusal;
 use crate::statements::block_items;
+use declaration_parser::declarations::{Head, HeadPart, external_head};
+use expression_parser::fronts::sign_front;
+use grammar::Refusal;
 use lexer::{Punctuator, Token};
-use srcset::{Fault, Names, Pos};
+use srcset::{Code, Fault, Names, Pos};
 use std::alloc::Global;
 use tree::{BlockItem, External, Function, Unit};
 
@@ -64,10 +64,13 @@ fn located(refusal: Refusal, tokens: &[Token]) -> srcset::Refusal
 {
     match refusal {
         Refusal::Syntax(left) => srcset::Refusal::At {
-            code: 401,
+            code: Code::SyntaxError,
             pos: syntax_place(tokens, left),
         },
-        Refusal::Depth(pos) => srcset::Refusal::At { code: 709, pos },
+        Refusal::Depth(pos) => srcset::Refusal::At {
+            code: Code::DepthLimit,
+            pos,
+        },
         Refusal::Memory => srcset::Refusal::Memory,
     }
 }
@@ -135,13 +138,13 @@ fn counted(nodes: u64, external: &External, end: Pos) -> Result<u64, srcset::Ref
     let more = external.nodes();
     if !is_small(external, more) {
         return Err(srcset::Refusal::At {
-            code: 710,
+            code: Code::FunctionNodeLimit,
             pos: end,
         });
     }
     if more > MAX_NODES - nodes {
         return Err(srcset::Refusal::At {
-            code: 711,
+            code: Code::ProgramNodeLimit,
             pos: end,
         });
     }

@@ -48,7 +48,8 @@ sum_so_far F f none step xs i d l =
 pub next_sum : {X : Type 0} (F : List X → ℕ) (f : X → ℕ) (none : F [] ≡ 0) (step : (x : X) (xs : List X) → F (x ∷ xs) ≡ f x + F xs)
     (xs : List X) (i : ℕ) (x : X) → i < length xs → (total next more : ℕ) → total ≡ capped (F (take i xs)) → x ≡ get_or xs i x → more ≡ capped (f x)
     → ((x y : ℕ) → total ≡ capped x → more ≡ capped y → next ≡ capped (x + y)) → next ≡ capped (F (take (i + 1) xs))
-next_sum F f none step xs i x l total next more t e m s = s (F (take i xs)) (f x) t m ∙ ap (λ n. capped (F (take i xs) + f n)) e ∙ ap capped (sym (sum_so_far F f none step xs i x l))
+next_sum F f none step xs i x l total next more t e m s = s (F (take i xs)) (f x) t m ∙ ap (λ n. capped (F (take i xs) + f n)) e
+    ∙ ap capped (sym (sum_so_far F f none step xs i x l))
 
 max_so_far : {X : Type 0} (F : List X → ℕ) (f : X → ℕ) (none : F [] ≡ 0) (step : (x : X) (xs : List X) → F (x ∷ xs) ≡ max (f x) (F xs))
     (xs : List X) (i : ℕ) (d : X) → i < length xs → F (take (i + 1) xs) ≡ max (F (take i xs)) (f (get_or xs i d))
@@ -57,4 +58,5 @@ max_so_far F f none step xs i d l = ap F (take_more xs i d l) ∙ max_push F f n
 pub next_max : {X : Type 0} (F : List X → ℕ) (f : X → ℕ) (none : F [] ≡ 0) (step : (x : X) (xs : List X) → F (x ∷ xs) ≡ max (f x) (F xs))
     (xs : List X) (i : ℕ) (x : X) → i < length xs → (deepest next more : ℕ) → deepest ≡ capped32 (F (take i xs)) → x ≡ get_or xs i x → more ≡ capped32 (f x)
     → ((x y : ℕ) → deepest ≡ capped32 x → more ≡ capped32 y → next ≡ capped32 (max x y)) → next ≡ capped32 (F (take (i + 1) xs))
-next_max F f none step xs i x l deepest next more t e m s = s (F (take i xs)) (f x) t m ∙ ap (λ n. capped32 (max (F (take i xs)) (f n))) e ∙ ap capped32 (sym (max_so_far F f none step xs i x l))
+next_max F f none step xs i x l deepest next more t e m s = s (F (take i xs)) (f x) t m ∙ ap (λ n. capped32 (max (F (take i xs)) (f n))) e
+    ∙ ap capped32 (sym (max_so_far F f none step xs i x l))

@@ -4,7 +4,7 @@
 -- assertion, braced list of initialisers, statement and expression. A pair of parentheses around an expression
 -- is no node, but counts for the depth; so is nothing else.
 use Rattle.std.specs.Prelude.{ℕ, ◌+◌, ◌*◌, ◌/◌, max, List, [], ◌∷◌, Option, Some, None}
-use Rattle.tree.specs.Tree.{Tree, hole, identifier, constant, string, paren, call, subscript, after, before, prefix, size_of, size_of_type, cast, binary, choice, assign, Trees, no_trees, one_more, TypeTree, type_name, Init, gap, one, braced, Inits, no_inits, and_init, EnumeratorTree, SpecifierTree, outside, static, plain, listed, ParameterTree, ItemTree, object, function, DeclarationTree, declared, assertion, StartTree, start_with, start_local, StmtTree, blank, block, empty, act, branch, fork, select, label, otherwise, repeat, until, turns, quit, resume, give, PieceTree, local, run, Pieces, no_pieces, and_piece, FunctionTree, ExternalTree, definition, declaration}
+use Rattle.tree.specs.Tree.{Tree, hole, identifier, constant, string, paren, call, subscript, after, before, prefix, size_of, size_of_type, cast, binary, conditional, assign, Trees, no_trees, one_more, TypeTree, type_name, Init, init_hole, one_init, braced_init, Inits, no_inits, and_init, EnumeratorTree, SpecifierTree, extern_specifier, static_specifier, plain_specifier, enumerators_specifier, ParameterTree, ItemTree, object, function, DeclarationTree, declared, assertion, StartTree, expression_start, declaration_start, StmtTree, stmt_hole, block_stmt, empty_stmt, expression_stmt, if_stmt, if_else_stmt, switch_stmt, case_stmt, default_stmt, while_stmt, do_while_stmt, for_stmt, break_stmt, continue_stmt, return_stmt, PieceTree, declaration_item, statement_item, Pieces, no_pieces, and_piece, FunctionTree, ExternalTree, definition, declaration}
 
 -- ---- depth: the greatest number of nodes and of parenthesis pairs on a path downwards
 
@@ -24,7 +24,7 @@ abbrev mutual
   depth (size_of_type at ty) = type_depth ty + 1
   depth (cast at ty a) = max (type_depth ty) (depth a) + 1
   depth (binary at op a b) = max (depth a) (depth b) + 1
-  depth (choice at c a b) = max (depth c) (max (depth a) (depth b)) + 1
+  depth (conditional at c a b) = max (depth c) (max (depth a) (depth b)) + 1
   depth (assign at op a b) = max (depth a) (depth b) + 1
 
   pub depths : Trees → ℕ
@@ -44,9 +44,9 @@ sizes_depth (e ∷ es) = max (option_depth e) (sizes_depth es)
 
 abbrev mutual
   pub init_depth : Init → ℕ
-  init_depth gap = 0
-  init_depth (one e) = depth e
-  init_depth (braced at parts) = inits_depth parts + 1
+  init_depth init_hole = 0
+  init_depth (one_init e) = depth e
+  init_depth (braced_init at parts) = inits_depth parts + 1
 
   pub inits_depth : Inits → ℕ
   inits_depth no_inits = 0
@@ -64,10 +64,10 @@ enumerators_depth [] = 0
 enumerators_depth (e ∷ es) = max (enumerator_depth e) (enumerators_depth es)
 
 abbrev pub specifier_depth : SpecifierTree → ℕ
-specifier_depth outside = 0
-specifier_depth static = 0
-specifier_depth (plain s) = 0
-specifier_depth (listed tag list) = enumerators_depth list
+specifier_depth extern_specifier = 0
+specifier_depth static_specifier = 0
+specifier_depth (plain_specifier s) = 0
+specifier_depth (enumerators_specifier tag list) = enumerators_depth list
 
 abbrev pub specifiers_depth : List SpecifierTree → ℕ
 specifiers_depth [] = 0
@@ -93,30 +93,30 @@ declaration_depth (declared at specifiers items) = max (specifiers_depth specifi
 declaration_depth (assertion at condition text) = depth condition + 1
 
 abbrev pub start_depth : StartTree → ℕ
-start_depth (start_with e) = option_depth e
-start_depth (start_local d) = declaration_depth d
+start_depth (expression_start e) = option_depth e
+start_depth (declaration_start d) = declaration_depth d
 
 abbrev mutual
   pub stmt_depth : StmtTree → ℕ
-  stmt_depth blank = 0
-  stmt_depth (block at pieces) = pieces_depth pieces + 1
-  stmt_depth (empty at) = 1
-  stmt_depth (act at e) = depth e + 1
-  stmt_depth (branch at e a) = max (depth e) (stmt_depth a) + 1
-  stmt_depth (fork at e a b) = max (depth e) (max (stmt_depth a) (stmt_depth b)) + 1
-  stmt_depth (select at e a) = max (depth e) (stmt_depth a) + 1
-  stmt_depth (label at e a) = max (depth e) (stmt_depth a) + 1
-  stmt_depth (otherwise at a) = stmt_depth a + 1
-  stmt_depth (repeat at e a) = max (depth e) (stmt_depth a) + 1
-  stmt_depth (until at a e) = max (stmt_depth a) (depth e) + 1
-  stmt_depth (turns at start test step a) = max (start_depth start) (max (option_depth test) (max (option_depth step) (stmt_depth a))) + 1
-  stmt_depth (quit at) = 1
-  stmt_depth (resume at) = 1
-  stmt_depth (give at e) = option_depth e + 1
+  stmt_depth stmt_hole = 0
+  stmt_depth (block_stmt at pieces) = pieces_depth pieces + 1
+  stmt_depth (empty_stmt at) = 1
+  stmt_depth (expression_stmt at e) = depth e + 1
+  stmt_depth (if_stmt at e a) = max (depth e) (stmt_depth a) + 1
+  stmt_depth (if_else_stmt at e a b) = max (depth e) (max (stmt_depth a) (stmt_depth b)) + 1
+  stmt_depth (switch_stmt at e a) = max (depth e) (stmt_depth a) + 1
+  stmt_depth (case_stmt at e a) = max (depth e) (stmt_depth a) + 1
+  stmt_depth (default_stmt at a) = stmt_depth a + 1
+  stmt_depth (while_stmt at e a) = max (depth e) (stmt_depth a) + 1
+  stmt_depth (do_while_stmt at a e) = max (stmt_depth a) (depth e) + 1
+  stmt_depth (for_stmt at start test step a) = max (start_depth start) (max (option_depth test) (max (option_depth step) (stmt_depth a))) + 1
+  stmt_depth (break_stmt at) = 1
+  stmt_depth (continue_stmt at) = 1
+  stmt_depth (return_stmt at e) = option_depth e + 1
 
   pub piece_depth : PieceTree → ℕ
-  piece_depth (local d) = declaration_depth d
-  piece_depth (run s) = stmt_depth s
+  piece_depth (declaration_item d) = declaration_depth d
+  piece_depth (statement_item s) = stmt_depth s
 
   pub pieces_depth : Pieces → ℕ
   pieces_depth no_pieces = 0
@@ -152,7 +152,7 @@ abbrev mutual
   nodes (size_of_type at ty) = type_nodes ty + 1
   nodes (cast at ty a) = type_nodes ty + nodes a + 1
   nodes (binary at op a b) = nodes a + nodes b + 1
-  nodes (choice at c a b) = nodes c + nodes a + nodes b + 1
+  nodes (conditional at c a b) = nodes c + nodes a + nodes b + 1
   nodes (assign at op a b) = nodes a + nodes b + 1
 
   pub all_nodes : Trees → ℕ
@@ -172,9 +172,9 @@ sizes_nodes (e ∷ es) = option_nodes e + sizes_nodes es
 
 abbrev mutual
   pub init_nodes : Init → ℕ
-  init_nodes gap = 0
-  init_nodes (one e) = nodes e
-  init_nodes (braced at parts) = inits_nodes parts + 1
+  init_nodes init_hole = 0
+  init_nodes (one_init e) = nodes e
+  init_nodes (braced_init at parts) = inits_nodes parts + 1
 
   pub inits_nodes : Inits → ℕ
   inits_nodes no_inits = 0
@@ -189,10 +189,10 @@ enumerators_nodes [] = 0
 enumerators_nodes (e ∷ es) = option_nodes e.value + 1 + enumerators_nodes es
 
 abbrev pub specifier_nodes : SpecifierTree → ℕ
-specifier_nodes outside = 0
-specifier_nodes static = 0
-specifier_nodes (plain s) = 0
-specifier_nodes (listed tag list) = enumerators_nodes list
+specifier_nodes extern_specifier = 0
+specifier_nodes static_specifier = 0
+specifier_nodes (plain_specifier s) = 0
+specifier_nodes (enumerators_specifier tag list) = enumerators_nodes list
 
 abbrev pub specifiers_nodes : List SpecifierTree → ℕ
 specifiers_nodes [] = 0
@@ -215,30 +215,30 @@ declaration_nodes (declared at specifiers items) = specifiers_nodes specifiers +
 declaration_nodes (assertion at condition text) = nodes condition + 1
 
 abbrev pub start_nodes : StartTree → ℕ
-start_nodes (start_with e) = option_nodes e
-start_nodes (start_local d) = declaration_nodes d
+start_nodes (expression_start e) = option_nodes e
+start_nodes (declaration_start d) = declaration_nodes d
 
 abbrev mutual
   pub stmt_nodes : StmtTree → ℕ
-  stmt_nodes blank = 0
-  stmt_nodes (block at pieces) = pieces_nodes pieces + 1
-  stmt_nodes (empty at) = 1
-  stmt_nodes (act at e) = nodes e + 1
-  stmt_nodes (branch at e a) = nodes e + stmt_nodes a + 1
-  stmt_nodes (fork at e a b) = nodes e + stmt_nodes a + stmt_nodes b + 1
-  stmt_nodes (select at e a) = nodes e + stmt_nodes a + 1
-  stmt_nodes (label at e a) = nodes e + stmt_nodes a + 1
-  stmt_nodes (otherwise at a) = stmt_nodes a + 1
-  stmt_nodes (repeat at e a) = nodes e + stmt_nodes a + 1
-  stmt_nodes (until at a e) = stmt_nodes a + nodes e + 1
-  stmt_nodes (turns at start test step a) = start_nodes start + option_nodes test + option_nodes step + stmt_nodes a + 1
-  stmt_nodes (quit at) = 1
-  stmt_nodes (resume at) = 1
-  stmt_nodes (give at e) = option_nodes e + 1
+  stmt_nodes stmt_hole = 0
+  stmt_nodes (block_stmt at pieces) = pieces_nodes pieces + 1
+  stmt_nodes (empty_stmt at) = 1
+  stmt_nodes (expression_stmt at e) = nodes e + 1
+  stmt_nodes (if_stmt at e a) = nodes e + stmt_nodes a + 1
+  stmt_nodes (if_else_stmt at e a b) = nodes e + stmt_nodes a + stmt_nodes b + 1
+  stmt_nodes (switch_stmt at e a) = nodes e + stmt_nodes a + 1
+  stmt_nodes (case_stmt at e a) = nodes e + stmt_nodes a + 1
+  stmt_nodes (default_stmt at a) = stmt_nodes a + 1
+  stmt_nodes (while_stmt at e a) = nodes e + stmt_nodes a + 1
+  stmt_nodes (do_while_stmt at a e) = stmt_nodes a + nodes e + 1
+  stmt_nodes (for_stmt at start test step a) = start_nodes start + option_nodes test + option_nodes step + stmt_nodes a + 1
+  stmt_nodes (break_stmt at) = 1
+  stmt_nodes (continue_stmt at) = 1
+  stmt_nodes (return_stmt at e) = option_nodes e + 1
 
   pub piece_nodes : PieceTree → ℕ
-  piece_nodes (local d) = declaration_nodes d
-  piece_nodes (run s) = stmt_nodes s
+  piece_nodes (declaration_item d) = declaration_nodes d
+  piece_nodes (statement_item s) = stmt_nodes s
 
   pub pieces_nodes : Pieces → ℕ
   pieces_nodes no_pieces = 0

@@ -25,7 +25,7 @@ mutual
     size_of_type : (at : Pos) (ty : TypeTree) → Tree
     cast : (at : Pos) (ty : TypeTree) (a : Tree) → Tree
     binary : (at : Pos) (op : BinaryOp) (a b : Tree) → Tree
-    choice : (at : Pos) (c a b : Tree) → Tree
+    conditional : (at : Pos) (c a b : Tree) → Tree
     assign : (at : Pos) (op : AssignOp) (a b : Tree) → Tree
 
   -- arguments; sizes
@@ -40,9 +40,9 @@ mutual
 -- an initialiser (6.7.9)
 mutual
   pub data Init : Type 0 where
-    gap : Init
-    one : (e : Tree) → Init
-    braced : (at : Pos) (parts : Inits) → Init
+    init_hole : Init
+    one_init : (e : Tree) → Init
+    braced_init : (at : Pos) (parts : Inits) → Init
 
   pub data Inits : Type 0 where
     no_inits : Inits
@@ -56,10 +56,10 @@ pub record EnumeratorTree : Type 0 where
 
 -- a specifier of a declaration (6.7.1 to 6.7.3)
 pub data SpecifierTree : Type 0 where
-  outside : SpecifierTree
-  static : SpecifierTree
-  plain : (s : TypeSpecifier) → SpecifierTree
-  listed : (tag : Option ℕ) (list : List EnumeratorTree) → SpecifierTree
+  extern_specifier : SpecifierTree
+  static_specifier : SpecifierTree
+  plain_specifier : (s : TypeSpecifier) → SpecifierTree
+  enumerators_specifier : (tag : Option ℕ) (list : List EnumeratorTree) → SpecifierTree
 
 -- a parameter (6.7.6.3); the first of its specifiers stands at `start`
 pub record ParameterTree : Type 0 where
@@ -81,32 +81,32 @@ pub data DeclarationTree : Type 0 where
 
 -- the first part of a `for` (6.8.5.3)
 pub data StartTree : Type 0 where
-  start_with : (e : Option Tree) → StartTree
-  start_local : (d : DeclarationTree) → StartTree
+  expression_start : (e : Option Tree) → StartTree
+  declaration_start : (d : DeclarationTree) → StartTree
 
 -- a statement (6.8)
 mutual
   pub data StmtTree : Type 0 where
-    blank : StmtTree
-    block : (at : Pos) (pieces : Pieces) → StmtTree
-    empty : (at : Pos) → StmtTree
-    act : (at : Pos) (e : Tree) → StmtTree
-    branch : (at : Pos) (e : Tree) (a : StmtTree) → StmtTree
-    fork : (at : Pos) (e : Tree) (a b : StmtTree) → StmtTree
-    select : (at : Pos) (e : Tree) (a : StmtTree) → StmtTree
-    label : (at : Pos) (e : Tree) (a : StmtTree) → StmtTree
-    otherwise : (at : Pos) (a : StmtTree) → StmtTree
-    repeat : (at : Pos) (e : Tree) (a : StmtTree) → StmtTree
-    until : (at : Pos) (a : StmtTree) (e : Tree) → StmtTree
-    turns : (at : Pos) (start : StartTree) (test step : Option Tree) (a : StmtTree) → StmtTree
-    quit : (at : Pos) → StmtTree
-    resume : (at : Pos) → StmtTree
-    give : (at : Pos) (e : Option Tree) → StmtTree
+    stmt_hole : StmtTree
+    block_stmt : (at : Pos) (pieces : Pieces) → StmtTree
+    empty_stmt : (at : Pos) → StmtTree
+    expression_stmt : (at : Pos) (e : Tree) → StmtTree
+    if_stmt : (at : Pos) (e : Tree) (a : StmtTree) → StmtTree
+    if_else_stmt : (at : Pos) (e : Tree) (a b : StmtTree) → StmtTree
+    switch_stmt : (at : Pos) (e : Tree) (a : StmtTree) → StmtTree
+    case_stmt : (at : Pos) (e : Tree) (a : StmtTree) → StmtTree
+    default_stmt : (at : Pos) (a : StmtTree) → StmtTree
+    while_stmt : (at : Pos) (e : Tree) (a : StmtTree) → StmtTree
+    do_while_stmt : (at : Pos) (a : StmtTree) (e : Tree) → StmtTree
+    for_stmt : (at : Pos) (start : StartTree) (test step : Option Tree) (a : StmtTree) → StmtTree
+    break_stmt : (at : Pos) → StmtTree
+    continue_stmt : (at : Pos) → StmtTree
+    return_stmt : (at : Pos) (e : Option Tree) → StmtTree
 
   -- what a block consists of (6.8.2)
   pub data PieceTree : Type 0 where
-    local : (d : DeclarationTree) → PieceTree
-    run : (s : StmtTree) → PieceTree
+    declaration_item : (d : DeclarationTree) → PieceTree
+    statement_item : (s : StmtTree) → PieceTree
 
   pub data Pieces : Type 0 where
     no_pieces : Pieces

@@ -22,7 +22,7 @@ use Rattle.tree.specs.declared.unit.Function.{Function}
 use Rattle.tree.specs.declared.unit.External.{External}
 use Rattle.tree.specs.declared.unit.External.TheVariants as external
 use Rattle.tree.specs.declared.unit.Unit.{Unit}
-use Rattle.tree.specs.Tree.{Tree, identifier, constant, string, paren, call, subscript, after, before, prefix, size_of, size_of_type, cast, binary, choice, assign, Trees, no_trees, one_more, TypeTree, type_name, Init, one, braced, Inits, no_inits, and_init, EnumeratorTree, SpecifierTree, outside, static, plain, listed, ParameterTree, ItemTree, object, function, DeclarationTree, declared, assertion, StartTree, start_with, start_local, StmtTree, block, empty, act, branch, fork, select, label, otherwise, repeat, until, turns, quit, resume, give, PieceTree, local, run, Pieces, no_pieces, and_piece, FunctionTree, ExternalTree, definition, declaration}
+use Rattle.tree.specs.Tree.{Tree, identifier, constant, string, paren, call, subscript, after, before, prefix, size_of, size_of_type, cast, binary, conditional, assign, Trees, no_trees, one_more, TypeTree, type_name, Init, one_init, braced_init, Inits, no_inits, and_init, EnumeratorTree, SpecifierTree, extern_specifier, static_specifier, plain_specifier, enumerators_specifier, ParameterTree, ItemTree, object, function, DeclarationTree, declared, assertion, StartTree, expression_start, declaration_start, StmtTree, block_stmt, empty_stmt, expression_stmt, if_stmt, if_else_stmt, switch_stmt, case_stmt, default_stmt, while_stmt, do_while_stmt, for_stmt, break_stmt, continue_stmt, return_stmt, PieceTree, declaration_item, statement_item, Pieces, no_pieces, and_piece, FunctionTree, ExternalTree, definition, declaration}
 
 -- ---- expressions
 
@@ -45,7 +45,7 @@ tree_step (Expr-F.SizeofExpr at a) = size_of at a.value
 tree_step (Expr-F.SizeofType at ty) = size_of_type at ty
 tree_step (Expr-F.Cast at ty a) = cast at ty a.value
 tree_step (Expr-F.Binary at op a b) = binary at op a.value b.value
-tree_step (Expr-F.Conditional at c a b) = choice at c.value a.value b.value
+tree_step (Expr-F.Conditional at c a b) = conditional at c.value a.value b.value
 tree_step (Expr-F.Assign at op a b) = assign at op a.value b.value
 
 abbrev pub type_step : TypeName-F Tree TypeTree → TypeTree
@@ -68,8 +68,8 @@ inits_of [] = no_inits
 inits_of (i ∷ is) = and_init i (inits_of is)
 
 abbrev pub init_step : Initialiser-F Init → Init
-init_step (Initialiser-F.One e) = one (tree_of e)
-init_step (Initialiser-F.List at parts) = braced at (inits_of parts.items)
+init_step (Initialiser-F.One e) = one_init (tree_of e)
+init_step (Initialiser-F.List at parts) = braced_init at (inits_of parts.items)
 
 abbrev pub init_of : Initialiser → Init
 init_of = fold-Initialiser Init init_step
@@ -82,10 +82,10 @@ abbrev pub enumerator_of : Enumerator → EnumeratorTree
 enumerator_of e = record { at = e.pos; name = e.name; value = option_tree e.value }
 
 abbrev pub specifier_of : Specifier → SpecifierTree
-specifier_of Extern = outside
-specifier_of Static = static
-specifier_of (Plain s) = plain s
-specifier_of (Enumerators tag list) = listed tag (map enumerator_of list.items)
+specifier_of Extern = extern_specifier
+specifier_of Static = static_specifier
+specifier_of (Plain s) = plain_specifier s
+specifier_of (Enumerators tag list) = enumerators_specifier tag (map enumerator_of list.items)
 
 abbrev pub parameter_of : Parameter → ParameterTree
 parameter_of p = record { at = p.pos; start = p.specifiers.pos; specifiers = p.specifiers.list.items; name = p.name; sizes = map option_tree p.sizes.items }
@@ -101,32 +101,32 @@ declaration_of (Assertion at condition text) = assertion at (tree_of condition) 
 -- ---- statements
 
 abbrev pub start_of : ForStart → StartTree
-start_of (for_start.Expression e) = start_with (option_tree e)
-start_of (for_start.Declaration d) = start_local (declaration_of d)
+start_of (for_start.Expression e) = expression_start (option_tree e)
+start_of (for_start.Declaration d) = declaration_start (declaration_of d)
 
 abbrev pub pieces_of : List PieceTree → Pieces
 pieces_of [] = no_pieces
 pieces_of (p ∷ ps) = and_piece p (pieces_of ps)
 
 abbrev pub stmt_step : Stmt-F PieceTree StmtTree → StmtTree
-stmt_step (Stmt-F.Block at items) = block at (pieces_of items.items)
-stmt_step (Stmt-F.Empty at) = empty at
-stmt_step (Stmt-F.Expression at e) = act at (tree_of e)
-stmt_step (Stmt-F.If at e a) = branch at (tree_of e) a.value
-stmt_step (Stmt-F.IfElse at e a b) = fork at (tree_of e) a.value b.value
-stmt_step (Stmt-F.Switch at e a) = select at (tree_of e) a.value
-stmt_step (Stmt-F.Case at e a) = label at (tree_of e) a.value
-stmt_step (Stmt-F.Default at a) = otherwise at a.value
-stmt_step (Stmt-F.While at e a) = repeat at (tree_of e) a.value
-stmt_step (Stmt-F.DoWhile at a e) = until at a.value (tree_of e)
-stmt_step (Stmt-F.For at start test step a) = turns at (start_of start) (option_tree test) (option_tree step) a.value
-stmt_step (Stmt-F.Break at) = quit at
-stmt_step (Stmt-F.Continue at) = resume at
-stmt_step (Stmt-F.Return at e) = give at (option_tree e)
+stmt_step (Stmt-F.Block at items) = block_stmt at (pieces_of items.items)
+stmt_step (Stmt-F.Empty at) = empty_stmt at
+stmt_step (Stmt-F.Expression at e) = expression_stmt at (tree_of e)
+stmt_step (Stmt-F.If at e a) = if_stmt at (tree_of e) a.value
+stmt_step (Stmt-F.IfElse at e a b) = if_else_stmt at (tree_of e) a.value b.value
+stmt_step (Stmt-F.Switch at e a) = switch_stmt at (tree_of e) a.value
+stmt_step (Stmt-F.Case at e a) = case_stmt at (tree_of e) a.value
+stmt_step (Stmt-F.Default at a) = default_stmt at a.value
+stmt_step (Stmt-F.While at e a) = while_stmt at (tree_of e) a.value
+stmt_step (Stmt-F.DoWhile at a e) = do_while_stmt at a.value (tree_of e)
+stmt_step (Stmt-F.For at start test step a) = for_stmt at (start_of start) (option_tree test) (option_tree step) a.value
+stmt_step (Stmt-F.Break at) = break_stmt at
+stmt_step (Stmt-F.Continue at) = continue_stmt at
+stmt_step (Stmt-F.Return at e) = return_stmt at (option_tree e)
 
 abbrev pub piece_step : BlockItem-F PieceTree StmtTree → PieceTree
-piece_step (BlockItem-F.Declaration d) = local (declaration_of d)
-piece_step (BlockItem-F.Statement s) = run s
+piece_step (BlockItem-F.Declaration d) = declaration_item (declaration_of d)
+piece_step (BlockItem-F.Statement s) = statement_item s
 
 abbrev pub stmt_of : Stmt → StmtTree
 stmt_of = fold-Stmt PieceTree StmtTree piece_step stmt_step

@@ -3,7 +3,7 @@
 use crate::expression::{Expr, TypeSpecifier, TypeSpecifiers};
 use srcset::Pos;
 
-/// `A = e` or `A` in a list of enumerators (ISO/IEC 9899:2011 6.7.2.2). The place is that of its name.
+/// `A = e` or `A` in a list of enumerators (ISO/IEC 9899:2011 6.7.2.2), with the place of its name.
 #[derive(Drop)]
 pub struct Enumerator {
     pub pos: Pos,
@@ -17,18 +17,19 @@ pub enum Specifier {
     Extern,
     Static,
     Plain(TypeSpecifier),
-    /// `enum`, a tag or none, and a list of at least one enumerator (6.7.2.2).
+    /// `enum`, a tag or none, and a list of enumerators (6.7.2.2): at least one, where the tree spells tokens.
     Enumerators(Option<usize>, Vec<Enumerator>),
 }
 
-/// At least one of them, in any order and number; the place is that of the first.
+/// Specifiers in any order and number, and a place: that of the first, and at least one, where the tree spells tokens.
 #[derive(Drop)]
 pub struct Specifiers {
     pub pos: Pos,
     pub list: Vec<Specifier>,
 }
 
-/// An initialiser (6.7.9): one expression, or a list of at least one, placed at its brace.
+/// An initialiser (6.7.9): one expression, or a braced list with its place: that of its brace, and at least one item,
+/// where the tree spells tokens.
 #[derive(Drop)]
 pub enum Initialiser {
     One(Expr),

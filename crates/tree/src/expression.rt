@@ -25,7 +25,7 @@ pub enum TypeSpecifier {
     Enum(usize),
 }
 
-/// At least one of them, in any order and number; the place is that of the first.
+/// Specifiers in any order and number, and a place: that of the first, and at least one, where the tree spells tokens.
 #[derive(Drop)]
 pub struct TypeSpecifiers {
     pub pos: Pos,
@@ -96,8 +96,8 @@ pub enum AssignOp {
     BitOr,
 }
 
-/// An expression (6.5). The place of each is that of its operator, its `[`, its called name, the `(` of its
-/// cast, or its own token. Identifiers and string literals are numbers of the `Names`.
+/// An expression (6.5). Where the tree spells tokens, the place of each is that of its operator, its `[`, its called
+/// name, the `(` of its cast, or its own token. Identifiers and string literals are numbers of the `Names`.
 #[cycle(expressions)]
 #[derive(Drop)]
 pub enum Expr {

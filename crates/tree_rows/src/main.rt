@@ -9,10 +9,11 @@ mod statements;
 mod words;
 
 use anyhow::Result;
+use itoa::Buffer;
 use phases::scan;
 use piece::write_unit;
-use srcset::{Fault, MAX_FILE_BYTES, Names};
-use std::alloc::Global;
+use srcset::{Code, Fault, MAX_FILE_BYTES, Names};
+use std::alloc::{AllocError, Global};
 use std::io::{Read, Write};
 use std::process::ExitCode;
 use tree::Unit;
@@ -36,16 +37,35 @@ fn print_rows(rt: &HostRuntime) -> Result<()> {
     Ok(())
 }
 
-/// Writes the tree of a source, or the line of its fault.
-fn write_row(alloc: Global, output: &mut Vec<u8>, source: &[u8]) -> Result<()> {
+/// Writes the tree of a source, or the line of its fault. Behind a line `$` the tree's counts stand for the tree.
+fn write_row(alloc: Global, output: &mut Vec<u8>, row: &[u8]) -> Result<()> {
+    let (is_counted, source) = counted_source(after_line_feed(row));
     let mut names = Names::new(alloc);
-    match syntax_tree(alloc, after_line_feed(source), &mut names) {
+    match syntax_tree(alloc, source, &mut names) {
+        Ok(unit) if is_counted => write_counts(output, &unit)?,
         Ok(unit) => write_unit(alloc, output, &unit, &names)?,
         Err(fault) => {
             output.extend_from_slice(fault.to_line(alloc)?.as_slice())?;
             output.push(b'\n')?;
         }
     }
+    Ok(())
+}
+
+/// Whether a row asks for counts, and its source.
+fn counted_source(row: &[u8]) -> (bool, &[u8]) {
+    match row {
+        [b'$', rest @ ..] => (true, after_line_feed(rest)),
+        _ => (false, row),
+    }
+}
+
+fn write_counts(output: &mut Vec<u8>, unit: &Unit) -> std::result::Result<(), AllocError> {
+    let mut digits = Buffer::new();
+    output.extend_from_slice(digits.format(unit.nodes()).as_bytes())?;
+    output.extend_from_slice(b" nodes, depth ")?;
+    output.extend_from_slice(digits.format(unit.depth()).as_bytes())?;
+    output.push(b'\n')?;
     Ok(())
 }
 
@@ -64,7 +84,7 @@ fn syntax_tree(
 ) -> std::result::Result<Unit, Fault> {
     let file = names.intern(b"row.c")?;
     if source.len() > MAX_FILE_BYTES {
-        return Err(Fault::at(alloc, 701, "row.c", 0));
+        return Err(Fault::at(alloc, Code::FileSizeLimit, "row.c", 0));
     }
     let lines = scan(alloc, source, file, names)?;
     let tokens = lexer::tokens(alloc, lines.tokens(), names)?;

@@ -15,4 +15,6 @@ pub expression::Expr::depth-returns-in-StringLiteral : goal.expression::Expr::de
 expression::Expr::depth-returns-in-StringLiteral t c = rw c.in-StringLiteral.is (search (rules, the_lemmas, capped32_one))
 
 pub depths::expressions_depth-loop-expression-preserved : goal.depths::expressions_depth-loop-expression-preserved
-depths::expressions_depth-loop-expression-preserved t c = next_max (λ (xs : List Expr). depths (trees_of (map tree_of xs))) (λ (x : Expr). depth (tree_of x)) refl (λ _ _. refl) c.args.expressions.now c.loop-expression.expression-index c.expression-item.result c.loop-expression-test.true _ _ _ c.loop-expression.invariant c.expression-item.is c.depth.ensures c.greater-deepest.ensures
+depths::expressions_depth-loop-expression-preserved t c = next_max (λ (xs : List Expr). depths (trees_of (map tree_of xs))) (λ (x : Expr). depth (tree_of x))
+    refl (λ _ _. refl) c.args.expressions.now c.loop-expression.expression-index c.expression-item.result c.loop-expression-test.true _ _ _
+    c.loop-expression.invariant c.expression-item.is c.depth.ensures c.greater-deepest.ensures

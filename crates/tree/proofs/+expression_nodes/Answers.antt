@@ -15,4 +15,6 @@ pub expression::Expr::nodes-returns-in-StringLiteral : goal.expression::Expr::no
 expression::Expr::nodes-returns-in-StringLiteral t c = rw c.in-StringLiteral.is (search (rules, the_lemmas, capped_one))
 
 pub node_counts::expressions_nodes-loop-expression-preserved : goal.node_counts::expressions_nodes-loop-expression-preserved
-node_counts::expressions_nodes-loop-expression-preserved t c = next_sum (λ (xs : List Expr). all_nodes (trees_of (map tree_of xs))) (λ (x : Expr). nodes (tree_of x)) refl (λ _ _. refl) c.args.expressions.now c.loop-expression.expression-index c.expression-item.result c.loop-expression-test.true _ _ _ c.loop-expression.invariant c.expression-item.is c.nodes.ensures c.sum-total.ensures
+node_counts::expressions_nodes-loop-expression-preserved t c = next_sum (λ (xs : List Expr). all_nodes (trees_of (map tree_of xs)))
+    (λ (x : Expr). nodes (tree_of x)) refl (λ _ _. refl) c.args.expressions.now c.loop-expression.expression-index c.expression-item.result
+    c.loop-expression-test.true _ _ _ c.loop-expression.invariant c.expression-item.is c.nodes.ensures c.sum-total.ensures

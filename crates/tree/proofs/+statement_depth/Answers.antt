@@ -16,4 +16,6 @@ pub statement::Stmt::depth-returns-in-Continue : goal.statement::Stmt::depth-ret
 statement::Stmt::depth-returns-in-Continue t c = rw c.in-Continue.is (search (rules, the_lemmas, capped32_one))
 
 pub depths::block_items_depth-loop-item-preserved : goal.depths::block_items_depth-loop-item-preserved
-depths::block_items_depth-loop-item-preserved t c = next_max (λ (xs : List BlockItem). pieces_depth (pieces_of (map piece_of xs))) (λ (x : BlockItem). piece_depth (piece_of x)) refl (λ _ _. refl) c.args.items.now c.loop-item.item-index c.item-item.result c.loop-item-test.true _ _ _ c.loop-item.invariant c.item-item.is c.depth.ensures c.greater-deepest.ensures
+depths::block_items_depth-loop-item-preserved t c = next_max (λ (xs : List BlockItem). pieces_depth (pieces_of (map piece_of xs)))
+    (λ (x : BlockItem). piece_depth (piece_of x)) refl (λ _ _. refl) c.args.items.now c.loop-item.item-index c.item-item.result c.loop-item-test.true _ _ _
+    c.loop-item.invariant c.item-item.is c.depth.ensures c.greater-deepest.ensures

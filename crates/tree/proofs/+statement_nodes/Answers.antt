@@ -16,4 +16,6 @@ pub statement::Stmt::nodes-returns-in-Continue : goal.statement::Stmt::nodes-ret
 statement::Stmt::nodes-returns-in-Continue t c = rw c.in-Continue.is (search (rules, the_lemmas, capped_one))
 
 pub node_counts::block_items_nodes-loop-item-preserved : goal.node_counts::block_items_nodes-loop-item-preserved
-node_counts::block_items_nodes-loop-item-preserved t c = next_sum (λ (xs : List BlockItem). pieces_nodes (pieces_of (map piece_of xs))) (λ (x : BlockItem). piece_nodes (piece_of x)) refl (λ _ _. refl) c.args.items.now c.loop-item.item-index c.item-item.result c.loop-item-test.true _ _ _ c.loop-item.invariant c.item-item.is c.nodes.ensures c.sum-total.ensures
+node_counts::block_items_nodes-loop-item-preserved t c = next_sum (λ (xs : List BlockItem). pieces_nodes (pieces_of (map piece_of xs)))
+    (λ (x : BlockItem). piece_nodes (piece_of x)) refl (λ _ _. refl) c.args.items.now c.loop-item.item-index c.item-item.result c.loop-item-test.true _ _ _
+    c.loop-item.invariant c.item-item.is c.nodes.ensures c.sum-total.ensures

@@ -9,4 +9,5 @@ use Rattle.parser.proofs.UnitCounts.{small_test}
 use Rattle.parser.proofs.unit.is_small.Goals as goal
 
 pub returns-in-Function : goal.returns-in-Function
-returns-in-Function c = subst (λ (x : External). IsTrue (leb c.args.nodes 8000) ↔ IsSmall (external_of x)) (sym c.in-Function.is) (small_test _ _ (c.requires ∙ ap (λ (x : External). capped (external_nodes (external_of x))) c.in-Function.is))
+returns-in-Function c = subst (λ (x : External). IsTrue (leb c.args.nodes 8000) ↔ IsSmall (external_of x)) (sym c.in-Function.is)
+    (small_test _ _ (c.requires ∙ ap (λ (x : External). capped (external_nodes (external_of x))) c.in-Function.is))

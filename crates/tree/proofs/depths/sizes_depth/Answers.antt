@@ -6,4 +6,6 @@ use Rattle.tree.proofs.Sums.{next_max}
 use Rattle.tree.proofs.depths.sizes_depth.Goals as goal
 
 pub loop-size-preserved : goal.loop-size-preserved
-loop-size-preserved c = next_max (λ (xs : List (Option Expr)). sizes_depth (map option_tree xs)) (λ (x : Option Expr). option_depth (option_tree x)) refl (λ _ _. refl) c.args.sizes.now c.loop-size.size-index c.size-item.result c.loop-size-test.true _ _ _ c.loop-size.invariant c.size-item.is c.option_expression_depth.ensures c.greater-deepest.ensures
+loop-size-preserved c = next_max (λ (xs : List (Option Expr)). sizes_depth (map option_tree xs)) (λ (x : Option Expr). option_depth (option_tree x)) refl
+    (λ _ _. refl) c.args.sizes.now c.loop-size.size-index c.size-item.result c.loop-size-test.true _ _ _ c.loop-size.invariant c.size-item.is
+    c.option_expression_depth.ensures c.greater-deepest.ensures

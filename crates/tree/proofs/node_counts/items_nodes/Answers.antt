@@ -6,4 +6,5 @@ use Rattle.tree.proofs.Sums.{next_sum}
 use Rattle.tree.proofs.node_counts.items_nodes.Goals as goal
 
 pub loop-item-preserved : goal.loop-item-preserved
-loop-item-preserved c = next_sum (λ (xs : List Item). items_nodes (map item_of xs)) (λ (x : Item). item_nodes (item_of x)) refl (λ _ _. refl) c.args.items.now c.loop-item.item-index c.item-item.result c.loop-item-test.true _ _ _ c.loop-item.invariant c.item-item.is c.item_nodes.ensures c.sum-total.ensures
+loop-item-preserved c = next_sum (λ (xs : List Item). items_nodes (map item_of xs)) (λ (x : Item). item_nodes (item_of x)) refl (λ _ _. refl) c.args.items.now
+    c.loop-item.item-index c.item-item.result c.loop-item-test.true _ _ _ c.loop-item.invariant c.item-item.is c.item_nodes.ensures c.sum-total.ensures

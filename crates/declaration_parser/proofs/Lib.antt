@@ -1,0 +1,12 @@
+pub mod BoundsLists
+pub mod BoundsParts
+pub mod DeclarationFacts
+pub mod EnumeratorLists
+pub mod EnumeratorParts
+pub mod HeadFacts
+pub mod InitFacts
+pub mod ItemFacts
+pub mod ParameterLists
+pub mod ParameterParts
+pub mod SpecifierLists
+pub mod SpecifierParts

@@ -1,0 +1,2 @@
+pub mod DeclarationAnswers
+pub mod inside

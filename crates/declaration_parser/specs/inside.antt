@@ -1,0 +1,5 @@
+pub mod DeclarationFronts
+pub mod DeclarationParts
+pub mod InitAnswers
+pub mod ItemAnswers
+pub mod SpecifierAnswers

@@ -1,0 +1,11 @@
+pub mod Arguments
+pub mod Begun
+pub mod Leads
+pub mod PartFacts
+pub mod Parts
+pub mod Postfix
+pub mod Productions
+pub mod Spine
+pub mod TypeNames
+pub mod TypeSpecifierFacts
+pub mod Views

@@ -1,0 +1,3 @@
+pub mod ExpressionAnswers
+pub mod ExpressionLeads
+pub mod inside

@@ -1,0 +1,2 @@
+pub mod PartAnswers
+pub mod PlainSpecifiers

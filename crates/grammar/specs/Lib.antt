@@ -1,0 +1,5 @@
+pub mod Declarations
+pub mod Expressions
+pub mod Statements
+pub mod Tokens
+pub mod inside

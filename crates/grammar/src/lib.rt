@@ -1,0 +1,8 @@
+//! What a translation unit is: which tokens a tree spells (`specs/`), and why there is no tree.
+#![tactic(auto)]
+
+mod refusal;
+mod scope;
+
+pub use refusal::Refusal;
+pub use scope::Scope;

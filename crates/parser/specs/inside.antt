@@ -1,0 +1,3 @@
+pub mod StatementAnswers
+pub mod StmtParts
+pub mod UnitAnswers
