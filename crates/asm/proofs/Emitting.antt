@@ -5,9 +5,9 @@ use Rattle.std.proofs.lemmas.Bool.{cases_lt}
 use Rattle.asm.specs.declared.item.Item.{Item}
 use Rattle.asm.specs.declared.item.Item.TheVariants.{Mark, Plain, Branch, Jump, Call, Constant, LabelAddress, DataAddress}
 use Rattle.asm.specs.Layout.{item_at, size, place, all_long, Reach, FitsAt, Refers, MissesMark, SomeMisses}
-use Rattle.asm.specs.Choice.{longs, IsTable, IsMeasured, IsChosen}
-use Rattle.asm.specs.Code.{address, NearIfShort, Misses, IsGood}
-use Rattle.asm.specs.Refusals.{IfFar}
+use Rattle.asm.specs.inside.Choice.{longs, IsTable, IsMeasured, IsChosen}
+use Rattle.asm.specs.inside.Code.{address, NearIfShort, Misses, IsGood}
+use Rattle.asm.specs.inside.Refusing.{IfFar}
 use Rattle.asm.proofs.Tables.{mark_there}
 use Rattle.asm.specs.declared.refusal.Refusal.{Refusal}
 use Rattle.asm.specs.declared.refusal.Refusal.TheVariants.{Far, Memory, Write}

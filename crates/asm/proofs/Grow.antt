@@ -5,7 +5,7 @@ use Rattle.std.proofs.lemmas.Bool.{cases_lt}
 use Rattle.asm.specs.declared.item.Item.{Item}
 use Rattle.asm.specs.declared.item.Item.TheVariants.{Mark, Plain, Branch, Jump, Call, Constant, LabelAddress, DataAddress}
 use Rattle.asm.specs.Layout.{item_at, size, place, all_long, Within, Near}
-use Rattle.asm.specs.Choice.{IsMeasured}
+use Rattle.asm.specs.inside.Choice.{IsMeasured}
 
 size_grows : (x : Item) (l m : Bool) → (l ≡ true → m ≡ true) → size l x ≤ size m x
 size_grows (Branch t a b to) true m h = rw (h refl) (omega arith)

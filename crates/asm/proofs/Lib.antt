@@ -7,4 +7,5 @@ pub mod Emitting
 pub mod Standing
 pub mod WordLemmas
 pub mod Listings
-pub mod WriterLemmas
+pub mod Opposites
+pub mod Telling

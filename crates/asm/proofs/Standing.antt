@@ -10,8 +10,9 @@ use Rattle.rv32.specs.Space.{word_at}
 use Rattle.asm.specs.declared.item.Item.{Item}
 use Rattle.asm.specs.declared.item.Item.TheVariants.{Mark, Plain, Branch, Jump, Call, Constant, LabelAddress, DataAddress}
 use Rattle.asm.specs.Layout.{item_at, size, place, all_long, all_short, IsLow, IsSized, Within, Refers}
-use Rattle.asm.specs.Choice.{longs, IsTable}
-use Rattle.asm.specs.Code.{address, code, item_code, upper, lower, offset_from, IsResolved, AllDecode, bytes_of, word_bytes}
+use Rattle.asm.specs.inside.Choice.{longs, IsTable}
+use Rattle.asm.specs.inside.Code.{address, code, item_code, upper, lower, offset_from, IsResolved, AllDecode}
+use Rattle.asm.specs.Placed.{bytes_of, word_bytes}
 use Rattle.asm.specs.Placed.{sum32, ItemAt, Stands, StandsInParts, IsPlacedWith, IsFewest, text_of, data_start, Holds, Assembles}
 use Rattle.asm.proofs.Emitting.{good, place_even}
 use Rattle.asm.proofs.Grow.{measured_low, place_grows, in_all}
@@ -125,7 +126,7 @@ text_held m a (i ∷ is) h d =
 
 -- ---- the whole
 
-placed_with : (homes : List ℕ) (base : ℕ) (xs : List Item) (is : List Instr) (m : ℕ → ℕ) → IsTable homes xs → base % 4 ≡ 0 → IsLow base xs → (r : IsResolved homes base xs is) → TextIs (text_of m) base is → IsPlacedWith (longs r.long) xs base m
+placed_with : (homes : List ℕ) (base : ℕ) (xs : List Item) (is : List Instr) (m : ℕ → ℕ) → IsTable homes xs → base % 4 ≡ 0 → IsLow base xs → (r : IsResolved homes base xs is) → TextIs (text_of m) base is → IsPlacedWith (address homes r.places) (longs r.long) xs base m
 placed_with homes base xs is m table aligned fits r text =
     let n = length xs in
     let L = longs r.long in
@@ -137,7 +138,6 @@ placed_with homes base xs is m table aligned fits r text =
     let top : slice_index r.places n < 0x70000000 = low n (omega arith) in
     let mark : (k : ℕ) → k < n → (l : ℕ) → item_at xs k ≡ Mark l → env l ≡ place L base xs k = λ k lt l e. ap (slice_index r.places) (table.once k l lt e) ∙ r.chosen.measured.at k (omega arith) in
     record {
-      env = env;
       stands = λ k lt.
           let here : slice_index r.places k < 0x70000000 = low k (omega arith) in
           let stands : ItemAt (text_of m) env seg (item_at xs k) (place L base xs k) (place L base xs (suc k)) = item_stands (text_of m) env (length homes) seg g.low (omega arith) (L k) (place L base xs k) (place L base xs (suc k)) (item_at xs k) (omega (arith, here, r.chosen.measured.at k (omega arith))) refl (table.refers k lt) (mark k lt) (item_text env seg L base xs (text_of m) n text2 k lt) in
@@ -183,15 +183,14 @@ assembled homes base xs is table aligned fits r d = record {
   fits = r.chosen.fits;
   least = r.chosen.least;
   size = omega (arith, bytes_len (map word_of is), length-map is word_of, resolved_end homes base xs is r);
+  env = address homes r.places;
   placed = λ m h. placed_with homes base xs is m table aligned fits r (text_held m base is h d);
 }
 
 pub assembles : (xs : List Item) (base : ℕ) (bs : List ℕ) → IsFewest xs base bs → Assembles xs base bs
 assembles xs base bs f = record {
-  placed = λ m h.
-      let w = f.placed m h in
-      record { env = w.env; end = place f.long base xs (length xs); stands = stands_all (text_of m) w.env _ xs (place f.long base xs) w.stands };
-  ends = λ m h. sym f.size;
+  env = f.env;
+  placed = λ m h. subst (λ (e : ℕ). Stands (text_of m) f.env (data_start e) xs base e) (sym f.size) (stands_all (text_of m) f.env (data_start (place f.long base xs (length xs))) xs (place f.long base xs) (f.placed m h).stands);
 }
 
 none_long : (L : ℕ → Bool) → Within all_short L

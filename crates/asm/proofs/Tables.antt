@@ -6,7 +6,7 @@ use Rattle.rv32.specs.declared.instr.Test.{Test}
 use Rattle.asm.specs.declared.item.Item.{Item}
 use Rattle.asm.specs.declared.item.Item.TheVariants.{Mark, Plain, Branch, Jump, Call, Constant, LabelAddress, DataAddress}
 use Rattle.asm.specs.Layout.{item_at, place, Near, Refers, IsSound}
-use Rattle.asm.specs.Choice.{IsMark, IsFine, IsTable, AllFine, AllMarked, Notes}
+use Rattle.asm.specs.inside.Choice.{IsMark, IsFine, IsTable, AllFine, AllMarked, Notes}
 
 is_mark : (x : Item) (l : ℕ) → IsMark x l → x ≡ Mark l
 is_mark (Mark k) l e = ap Mark e

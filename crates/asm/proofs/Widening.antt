@@ -7,7 +7,7 @@ use Rattle.asm.specs.declared.item.Item.{Item}
 use Rattle.asm.specs.declared.item.Item.TheVariants.{Mark, Plain, Branch, Jump, Call, Constant, LabelAddress, DataAddress}
 use Rattle.rv32.specs.declared.instr.Test.{Test}
 use Rattle.asm.specs.Layout.{item_at, place, Within, Near, Fits, FitsAt, IsBelowAll}
-use Rattle.asm.specs.Choice.{longs, shorts, IsTable, IsMeasured, Widens, Counted}
+use Rattle.asm.specs.inside.Choice.{longs, shorts, IsTable, IsMeasured, Widens, Counted}
 use Rattle.asm.proofs.Tables.{home_of, mark_there, near_mark}
 use Rattle.asm.proofs.Grow.{near_back}
 

@@ -6,7 +6,8 @@ use Rattle.std.proofs.lemmas.List.{take_more, map-append, get_or_default}
 use Rattle.rv32.specs.declared.instr.Instr.{Instr}
 use Rattle.rv32.specs.declared.instr.Instr.TheVariants as instr
 use Rattle.rv32.specs.Words.{decode_of, word_of}
-use Rattle.asm.specs.Code.{AllDecode, bytes_of, word_bytes}
+use Rattle.asm.specs.inside.Code.{AllDecode}
+use Rattle.asm.specs.Placed.{bytes_of, word_bytes}
 use Rattle.asm.proofs.Standing.{bytes_more}
 
 pub words_more : (is : List Instr) (n : ℕ) (x : Instr) → n < length is → x ≡ get_or is n x → map word_of (take (n + 1) is) ≡ map word_of (take n is) ++ word_of x ∷ []

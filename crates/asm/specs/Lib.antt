@@ -1,13 +1,13 @@
 pub mod Layout
-pub mod Choice
 pub mod Placed
-pub mod Code
 pub mod Text
-pub mod TextRows
 pub mod Listing
 pub mod Refusals
 pub mod Draft
-pub mod Sole
 pub use Rattle.rv32.specs.Space
 pub use Rattle.rv32.specs.Words
+pub use Rattle.srcset.specs.Codes
 pub use Rattle.srcset.specs.Fault
+pub use Rattle.srcset.specs.Writing
+pub use Rattle.rv32.specs.Arithmetic
+pub mod inside

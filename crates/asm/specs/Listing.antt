@@ -1,11 +1,11 @@
 -- The lines of a listing.
-use Rattle.std.specs.Prelude.{◌≡◌, ℕ, ◌+◌, ◌/◌, ◌%◌, ◌^◌, nat_lt, if◌then◌else◌, List, [], ◌∷◌, ◌++◌, Option, Some}
+use Rattle.std.specs.Prelude.{◌≡◌, ℕ, ◌+◌, ◌/◌, ◌%◌, ◌^◌, nat_lt, if◌then◌else◌, List, [], ◌∷◌, ◌++◌, Option, Some, codes}
 use Rattle.std.specs.Io.KnownBytes.{Appends}
 use Rattle.asm.specs.declared.item.Item.{Item}
 use Rattle.rv32.specs.declared.instr.Instr.{Instr}
 use Rattle.rv32.specs.Words.{decode_of}
 use Rattle.asm.specs.Text.{text_of}
-use Rattle.asm.specs.Code.{bytes_of}
+use Rattle.asm.specs.Placed.{bytes_of}
 use Rattle.asm.specs.Placed.{IsFewest}
 
 -- a hexadecimal digit, A to F capital
@@ -18,7 +18,7 @@ hex w = digit (w / 2 ^ 28) ∷ digit (w / 2 ^ 24 % 2 ^ 4) ∷ digit (w / 2 ^ 20 
 
 -- address, a space, word, two spaces, a text, a newline
 abbrev pub line : ℕ → ℕ → List ℕ → List ℕ
-line a w text = hex a ++ 32 ∷ [] ++ hex w ++ 32 ∷ 32 ∷ [] ++ text ++ 10 ∷ []
+line a w text = hex a ++ codes " " ++ hex w ++ codes "  " ++ text ++ codes "\n"
 
 -- a line for each word from address a, with the text of the instruction that the word is
 abbrev pub IsListing : ℕ → List ℕ → List ℕ → Type 0

@@ -1,10 +1,11 @@
 -- Placed code: the words from an address decode to the items in order.
-use Rattle.std.specs.Prelude.{◌≡◌, ◌<◌, ◌⊎◌, ◌↔◌, ℕ, suc, ◌+◌, ◌*◌, ◌/◌, ◌%◌, ◌^◌, Bool, List, [], ◌∷◌, ◌++◌, Option, Some, length, slice_index}
+use Rattle.std.specs.Prelude.{◌≡◌, ◌<◌, ◌⊎◌, ◌↔◌, ℕ, suc, ◌+◌, ◌*◌, ◌/◌, ◌%◌, ◌^◌, Bool, not, List, [], ◌∷◌, ◌++◌, Option, Some, length, slice_index}
 use Rattle.rv32.specs.declared.instr.Instr.{Instr}
 use Rattle.rv32.specs.declared.instr.Instr.TheVariants as instr
 use Rattle.rv32.specs.declared.instr.Test.{Test}
 use Rattle.rv32.specs.declared.instr.Test.TheVariants as test
 use Rattle.rv32.specs.declared.instr.ImmediateOp.TheVariants as immediate_op
+use Rattle.rv32.specs.Arithmetic.{compare_of}
 use Rattle.asm.specs.Layout.{place, item_at, Fits, IsBelowAll}
 use Rattle.rv32.specs.Words.{decode_of}
 use Rattle.rv32.specs.Space.{word_at}
@@ -21,6 +22,10 @@ opposite test.Less = test.GreaterEqual
 opposite test.GreaterEqual = test.Less
 opposite test.LessUnsigned = test.GreaterEqualUnsigned
 opposite test.GreaterEqualUnsigned = test.LessUnsigned
+
+-- the opposite comparison holds exactly where the comparison does not
+abbrev pub OppositeHoldsWhereNot : Type 0
+OppositeHoldsWhereNot = (t : Test) (a b : ℕ) → compare_of (opposite t) a b ≡ not (compare_of t a b)
 
 -- T is the instruction at each address, none where no word decodes.
 
@@ -94,24 +99,27 @@ data_start e = (e + 4095) / 4096 * 4096
 abbrev pub text_of : (ℕ → ℕ) → ℕ → Option Instr
 text_of m a = decode_of (word_at m a)
 
--- the words from base decode to the items in order, labels and addresses resolved to where they fell
-pub record IsPlaced (xs : List Item) (base : ℕ) (m : ℕ → ℕ) : Type 0 where
-  pub env : ℕ → ℕ
-  pub end : ℕ
-  pub stands : Stands (text_of m) env (data_start end) xs base end
+-- a word's bytes, the lowest first
+abbrev pub word_bytes : ℕ → List ℕ
+word_bytes w = w % 2 ^ 8 ∷ w / 2 ^ 8 % 2 ^ 8 ∷ w / 2 ^ 16 % 2 ^ 8 ∷ w / 2 ^ 24 ∷ []
+
+-- the bytes of words
+abbrev pub bytes_of : List ℕ → List ℕ
+bytes_of [] = []
+bytes_of (w ∷ ws) = word_bytes w ++ bytes_of ws
 
 -- the bytes bs stand from base
 pub record Holds (m : ℕ → ℕ) (base : ℕ) (bs : List ℕ) : Type 0 where
   pub at : (j : ℕ) → j < length bs → m (base + j) ≡ slice_index bs j
 
--- in each memory where the bytes stand, the items are placed, up to the bytes' end
+-- in each memory where the bytes stand, their words decode to the items in order, up to the bytes' end, with the labels
+-- at env, which is the same in each memory
 pub record Assembles (xs : List Item) (base : ℕ) (bs : List ℕ) : Type 0 where
-  pub placed : (m : ℕ → ℕ) → Holds m base bs → IsPlaced xs base m
-  pub ends : (m : ℕ → ℕ) (held : Holds m base bs) → (placed m held).end ≡ base + length bs
-
--- the words from base decode to the items with exactly the branches of L long
-pub record IsPlacedWith (L : ℕ → Bool) (xs : List Item) (base : ℕ) (m : ℕ → ℕ) : Type 0 where
   pub env : ℕ → ℕ
+  pub placed : (m : ℕ → ℕ) → Holds m base bs → Stands (text_of m) env (data_start (base + length bs)) xs base (base + length bs)
+
+-- the words from base decode to the items with exactly the branches of L long, and the labels at env
+pub record IsPlacedWith (env : ℕ → ℕ) (L : ℕ → Bool) (xs : List Item) (base : ℕ) (m : ℕ → ℕ) : Type 0 where
   pub stands : (k : ℕ) → k < length xs → ItemAt (text_of m) env (data_start (place L base xs (length xs))) (item_at xs k) (place L base xs k) (place L base xs (suc k))
 
 -- the bytes are those of the fewest long branches
@@ -120,4 +128,5 @@ pub record IsFewest (xs : List Item) (base : ℕ) (bs : List ℕ) : Type 0 where
   pub fits : Fits long base xs
   pub least : IsBelowAll long base xs
   pub size : base + length bs ≡ place long base xs (length xs)
-  pub placed : (m : ℕ → ℕ) → Holds m base bs → IsPlacedWith long xs base m
+  pub env : ℕ → ℕ
+  pub placed : (m : ℕ → ℕ) → Holds m base bs → IsPlacedWith env long xs base m

@@ -4,15 +4,17 @@ ghost use Rattle.std.specs.Prelude.{◌≡◌, ◌<◌, ◌+◌, ◌*◌, ◌-�
 ghost use Rattle.rv32.specs.Words.{word_of};
 ghost use Rattle.srcset.specs.Fault.{IsMemoryFault};
 ghost use Rattle.asm.specs.Layout.{IsLow, IsSized, SomeMisses, AllReach};
-ghost use Rattle.asm.specs.Choice.{IsTable};
+ghost use Rattle.asm.specs.inside.Choice.{IsTable};
 ghost use Rattle.asm.specs.Placed.{Assembles, IsFewest};
-ghost use Rattle.asm.specs.Code.{AllDecode, bytes_of, word_bytes};
-ghost use Rattle.asm.specs.Refusals.{IfFar, IsRefused};
+ghost use Rattle.asm.specs.inside.Code.{AllDecode};
+ghost use Rattle.asm.specs.Placed.{bytes_of, word_bytes};
+ghost use Rattle.asm.specs.Refusals.{IsRefused};
+ghost use Rattle.asm.specs.inside.Refusing.{IfFar};
 
 use crate::emit::resolve;
 use crate::item::Item;
 use crate::items::Items;
-use crate::refusal::Refusal;
+use crate::refusal::{Refusal, told};
 use rv32::{Instr, encode};
 use srcset::Fault;
 use std::alloc::{AllocError, Global};
@@ -72,8 +74,8 @@ pub fn assemble(alloc: Global, items: &Items, base: u32) -> Result<Vec<u8>, Faul
     ensures refused { IfErr result (IsRefused base items.now) }
     ensures reaches { AllReach base items.now → IfErr result IsMemoryFault }
 {
-    match assemble_parts(alloc, items.as_slice(), items.homes(), base) {
-        Ok(bytes) => Ok(bytes),
-        Err(refusal) => Err(refusal.to_fault(alloc)),
-    }
+    told(
+        alloc,
+        assemble_parts(alloc, items.as_slice(), items.homes(), base),
+    )
 }

@@ -3,7 +3,7 @@
 ghost use Rattle.std.specs.Prelude.{◌≡◌, ◌↔◌, ◌≤◌, ◌<◌, ◌+◌, ℕ, length, slice_index, IsTrue};
 ghost use Rattle.std.specs.Bool.{OnTrue};
 ghost use Rattle.asm.specs.Layout.{IsLow, IsSound};
-ghost use Rattle.asm.specs.Choice.{IsFine, IsMark, IsTable, AllFine, AllMarked, Notes};
+ghost use Rattle.asm.specs.inside.Choice.{IsFine, IsMark, IsTable, AllFine, AllMarked, Notes};
 
 use crate::item::Item;
 use crate::layout::size;
@@ -83,7 +83,7 @@ pub fn fill_table(items: &[Item], homes: &mut [usize]) -> bool
 }
 
 /// Whether the items end below 0x70000000 with all branches long.
-pub fn is_low(items: &[Item], base: u32) -> bool
+pub fn ends_low(items: &[Item], base: u32) -> bool
     ensures { IsTrue result ↔ IsLow base items.now }
 {
     let mut at = base;

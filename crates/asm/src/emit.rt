@@ -1,11 +1,11 @@
 //! From items to instructions.
 
-ghost use Rattle.std.specs.Prelude.{◌≡◌, ◌≤◌, ◌<◌, ◌+◌, ◌*◌, ◌-◌, ◌/◌, ◌%◌, ◌^◌, ℕ, true, false, length, OnOk, IfOk, IfErr, ◌↔◌, [], ◌∷◌, ◌++◌};
+ghost use Rattle.std.specs.Prelude.{◌≡◌, ◌≤◌, ◌<◌, ◌+◌, ◌*◌, ◌-◌, ◌/◌, ◌%◌, ◌^◌, ℕ, true, false, length, OnOk, IfOk, IfErr, ◌↔◌, [], ◌∷◌, ◌++◌, Err, IsOk};
 ghost use Rattle.asm.specs.Layout.{IsLow, Refers, Reach, Near, SomeMisses};
-ghost use Rattle.asm.specs.Choice.{IsTable, IsChosen};
+ghost use Rattle.asm.specs.inside.Choice.{IsTable, IsChosen};
 ghost use Rattle.asm.specs.Placed as placed;
-ghost use Rattle.asm.specs.Code.{item_code, address, NearIfShort, Misses, IsGood, load_code, branch_code, jump_code, call_code, whole_code, IsResolved};
-ghost use Rattle.asm.specs.Refusals.{IfFar};
+ghost use Rattle.asm.specs.inside.Code.{item_code, address, NearIfShort, Misses, IsGood, load_code, branch_code, jump_code, call_code, whole_code, IsResolved};
+ghost use Rattle.asm.specs.inside.Refusing.{IfFar};
 
 use crate::item::{Item, Label};
 use crate::layout::choose;
@@ -43,16 +43,28 @@ fn does_reach(from: u32, to: u32) -> bool
     from <= to + 0x10_0000 && to <= from + 0xf_fffe
 }
 
+/// Refuses where a jump does not reach. Takes no memory.
+fn check_reach(from: u32, to: u32) -> Result<(), Refusal>
+    requires small { (from < 0x70000010) × (to < 0x70000000) }
+    ensures ok { IsOk result ↔ Reach from to }
+    ensures far { IfErr result (λ e. e ≡ Refusal.Far) }
+{
+    if does_reach(from, to) {
+        Ok(())
+    } else {
+        Err(Refusal::Far)
+    }
+}
+
 /// The jump from `from` to `to`.
 fn put_jump(code: &mut Vec<Instr>, from: u32, to: u32) -> Result<(), Refusal>
     requires small { (from < 0x70000010) × (to < 0x70000000) }
     requires even { (from % 4 ≡ 0) × (to % 4 ≡ 0) }
     ensures ok { OnOk result (code.new.items ≡ code.old.items ++ jump_code from to) }
     ensures err { IfErr result (IfFar (Reach from to → ⊥)) }
+    ensures far { (Reach from to → ⊥) → result ≡ Err Refusal.Far }
 {
-    if !does_reach(from, to) {
-        return Err(Refusal::Far);
-    }
+    check_reach(from, to)?;
     put(
         code,
         Instr::Jal {
@@ -113,8 +125,10 @@ fn put_branch(
     requires near { long ≡ false → Near from to }
     ensures ok { OnOk result (code.new.items ≡ code.old.items ++ branch_code long test left right from to) }
     ensures err { IfErr result (IfFar ((long ≡ true) × (Reach (from + 4) to → ⊥))) }
+    ensures far { (long ≡ true) × (Reach (from + 4) to → ⊥) → result ≡ Err Refusal.Far }
 {
     if long {
+        check_reach(from + 4, to)?;
         put(
             code,
             Instr::Branch {
@@ -165,6 +179,7 @@ fn put_item(
     requires near { NearIfShort long at (address homes.now places.now) item }
     ensures ok { OnOk result (code.new.items ≡ code.old.items ++ item_code (address homes.now places.now) data_start long at item) }
     ensures err { IfErr result (IfFar (Misses long at (address homes.now places.now) item)) }
+    ensures far { Misses long at (address homes.now places.now) item → result ≡ Err Refusal.Far }
 {
     match item {
         Item::Mark(_) => Ok(()),

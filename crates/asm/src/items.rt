@@ -2,9 +2,9 @@
 
 ghost use Rattle.std.specs.Prelude.{◌≡◌, ◌↔◌, ◌<◌, ◌+◌, ℕ, [], ◌∷◌, ◌++◌, length, IsTrue, OnOk, OnErr, IfOk, MatchOption};
 ghost use Rattle.asm.specs.Layout.{IsSound, IsLow};
-ghost use Rattle.asm.specs.Choice.{IsTable};
+ghost use Rattle.asm.specs.inside.Choice.{IsTable};
 
-use crate::check::{fill_table, is_low};
+use crate::check::{ends_low, fill_table};
 use crate::item::{Item, Label};
 use std::alloc::{AllocError, Global};
 use std::marker::Model;
@@ -21,7 +21,7 @@ pub struct Items {
 impl Model for Items {
     ghost use Rattle.std.specs.Prelude.{List};
     ghost use Rattle.asm.specs.declared.item.Item.{Item};
-    ghost use Rattle.asm.specs.Choice.{IsTable};
+    ghost use Rattle.asm.specs.inside.Choice.{IsTable};
 
     ghost Value = { List Item };
 
@@ -72,7 +72,7 @@ impl Items {
     pub fn is_low(&self, base: u32) -> bool
         ensures { IsTrue result ↔ IsLow base self.now }
     {
-        is_low(self.as_slice(), base)
+        ends_low(self.as_slice(), base)
     }
 }
 

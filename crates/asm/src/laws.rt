@@ -1,11 +1,16 @@
 //! Laws of placed code, for proofs about code that is made of parts.
 
 ghost use Rattle.asm.specs.Layout.{EndsAfterLongest};
-ghost use Rattle.asm.specs.Placed.{StandsInParts};
+ghost use Rattle.asm.specs.Placed.{OppositeHoldsWhereNot, StandsInParts};
 
 /// A list of items stands in parts exactly where it stands.
 pub fn stands_in_parts()
     ensures { StandsInParts }
+{}
+
+/// The opposite comparison holds exactly where the comparison does not.
+pub fn opposite_holds_where_not()
+    ensures { OppositeHoldsWhereNot }
 {}
 
 /// With all branches long the items end after the sum of their greatest sizes.

@@ -4,7 +4,7 @@ ghost use Rattle.std.specs.Prelude.{◌≡◌, ◌≤◌, ◌<◌, ◌+◌, ◌*
 ghost use Rattle.std.specs.Bool.{OnTrue, OnFalse};
 ghost use Rattle.asm.specs.Layout as spec;
 ghost use Rattle.asm.specs.Layout.{place, Fits, Near, IsBelowAll, IsLow};
-ghost use Rattle.asm.specs.Choice.{longs, shorts, IsTable, IsMeasured, Widens, IsChosen, Counted};
+ghost use Rattle.asm.specs.inside.Choice.{longs, shorts, IsTable, IsMeasured, Widens, IsChosen, Counted};
 
 use crate::item::Item;
 use std::alloc::{AllocError, Global};

@@ -12,10 +12,6 @@ mod layout;
 mod listing;
 mod offset;
 mod refusal;
-#[cfg(test)]
-mod samples;
-#[cfg(test)]
-mod tests;
 mod text;
 
 pub use assembling::assemble;

@@ -1,25 +1,25 @@
 //! A listing: address, word and text of each instruction.
 
-ghost use Rattle.std.specs.Prelude.{◌≡◌, ◌<◌, ◌≤◌, ◌+◌, ◌-◌, ◌*◌, ◌/◌, ◌%◌, ◌^◌, OnOk, IfOk, ◌++◌, length, map, take, IfErr, true};
-ghost use Rattle.std.specs.Io.KnownBytes.{Appends};
+ghost use Rattle.std.specs.Prelude.{◌≡◌, ◌<◌, ◌≤◌, ◌+◌, ◌-◌, ◌*◌, ◌/◌, ◌%◌, ◌^◌, ◌↔◌, OnOk, IfOk, ◌++◌, length, map, IfErr, IsOk, IsTrue};
 ghost use Rattle.rv32.specs.Words.{word_of};
 ghost use Rattle.srcset.specs.Fault.{IsMemoryFault};
 ghost use Rattle.asm.specs.Listing.{line, IsListing, IsListingOf, Lists};
 ghost use Rattle.asm.specs.Layout.{IsLow, SomeMisses, AllReach};
-ghost use Rattle.asm.specs.Choice.{IsTable};
-ghost use Rattle.asm.specs.Code.{AllDecode};
-ghost use Rattle.asm.specs.Refusals.{IfFar, IsListRefused, TakesBeginning};
+ghost use Rattle.asm.specs.inside.Choice.{IsTable};
+ghost use Rattle.asm.specs.inside.Code.{AllDecode};
+ghost use Rattle.asm.specs.Refusals.{IsListRefused};
+ghost use Rattle.asm.specs.inside.Refusing.{IfFar};
 
 use crate::emit::resolve;
 use crate::hex::put_hex;
 use crate::item::Item;
 use crate::items::Items;
-use crate::refusal::Refusal;
+use crate::refusal::{Refusal, told};
 use crate::text::text;
 use rv32::{Instr, encode};
-use srcset::Fault;
+use srcset::{Fault, write_text};
 use std::alloc::{AllocError, Global};
-use std::io::{ErrorKind, Write};
+use std::io::Write;
 
 /// One line: address, word, text.
 fn put_line(bytes: &mut Vec<u8>, at: u32, word: u32, text: &str) -> Result<(), AllocError>
@@ -64,28 +64,16 @@ fn listing_of(alloc: Global, items: &[Item], homes: &[usize], base: u32) -> Resu
     Ok(bytes)
 }
 
-/// Writes all bytes; `false` where the writer refused, which then took a beginning of them. A write
-/// that was interrupted is tried again.
-fn write_text<W: Write>(w: &mut W, bytes: &[u8]) -> bool
-    ensures all { result ≡ true → Appends (W.contents w.old) (W.contents w.new) bytes.now }
-    ensures some { TakesBeginning (W.contents w.old) (W.contents w.new) bytes.now }
+/// What became of a listing that was handed to the writer.
+fn outcome(is_written: bool) -> Result<(), Refusal>
+    ensures ok { IsOk result ↔ IsTrue is_written }
+    ensures err { IfErr result (λ refusal. refusal ≡ Refusal.Write) }
 {
-    let mut at = 0;
-    for _turn in 0..u64::MAX {
-        if at >= bytes.len() {
-            return true;
-        }
-        match w.write(&bytes[at..]) {
-            Ok(0) => return false,
-            Ok(count) => at += count,
-            Err(error) => {
-                if error.kind() != ErrorKind::Interrupted {
-                    return false;
-                }
-            }
-        }
+    if is_written {
+        Ok(())
+    } else {
+        Err(Refusal::Write)
     }
-    at >= bytes.len()
 }
 
 /// Writes a line for each word of the items' machine code at the address `base`, as
@@ -100,14 +88,11 @@ pub fn list<W: Write>(alloc: Global, items: &Items, base: u32, w: &mut W) -> Res
     ensures ok { OnOk result (Lists base items.now (W.contents w.old) (W.contents w.new)) }
     ensures refused { IfErr result (IsListRefused base items.now (W.contents w.old) (W.contents w.new)) }
 {
-    match listing_of(alloc, items.as_slice(), items.homes(), base) {
-        Ok(bytes) => {
-            if write_text(w, &bytes) {
-                Ok(())
-            } else {
-                Err(Refusal::Write.to_fault(alloc))
-            }
-        }
-        Err(refusal) => Err(refusal.to_fault(alloc)),
+    match told(
+        alloc,
+        listing_of(alloc, items.as_slice(), items.homes(), base),
+    ) {
+        Ok(bytes) => told(alloc, outcome(write_text(w, &bytes))),
+        Err(fault) => Err(fault),
     }
 }

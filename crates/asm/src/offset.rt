@@ -1,7 +1,7 @@
 //! Numbers of 32 bits in the parts that instructions hold.
 
 ghost use Rattle.std.specs.Prelude.{◌≡◌, ◌≤◌, ◌<◌, ◌+◌, ◌*◌, ◌-◌, ◌/◌, ◌%◌, ◌^◌};
-ghost use Rattle.asm.specs.Code.{upper, lower, offset_from};
+ghost use Rattle.asm.specs.inside.Code.{upper, lower, offset_from};
 ghost use Rattle.asm.specs.Layout.{Near, Reach};
 ghost use Rattle.asm.specs.Placed.{sum32};
 

@@ -1,11 +1,11 @@
 //! Why there is no answer.
 
-ghost use Rattle.std.specs.Prelude.{◌≡◌, []};
+ghost use Rattle.std.specs.Prelude.{◌≡◌, [], Ok, IsErrAnd, MatchResult};
 ghost use Rattle.srcset.specs.Fault.{IsFault};
-ghost use Rattle.asm.specs.Refusals.{code_of};
+ghost use Rattle.asm.specs.inside.Refusing.{code_of};
 ghost use Rattle.asm.specs.declared.refusal.Refusal.TheVariants.{Memory};
 
-use srcset::Fault;
+use srcset::{Code, Fault};
 use std::alloc::{AllocError, AllocFailed, Global};
 
 /// A jump does not reach, there is no memory, or the writer refused.
@@ -32,23 +32,34 @@ impl<T: Drop> From<AllocFailed<T>> for Refusal {
     }
 }
 
+/// What an inner step answered, its refusal as the fault.
+pub fn told<T>(alloc: Global, step: Result<T, Refusal>) -> Result<T, Fault>
+    ensures { MatchResult step (λ value. result ≡ Ok value)
+        (λ refusal. IsErrAnd result (λ fault. IsFault fault (code_of refusal) [] 0)) }
+{
+    match step {
+        Ok(value) => Ok(value),
+        Err(refusal) => Err(refusal.to_fault(alloc)),
+    }
+}
+
 impl Refusal {
-    fn code(self) -> u16
+    fn code(self) -> Code
         ensures { result ≡ code_of self }
     {
         match self {
-            Refusal::Far => 716,
-            Refusal::Memory => 801,
-            Refusal::Write => 803,
+            Refusal::Far => Code::JumpLimit,
+            Refusal::Memory => Code::OutOfMemory,
+            Refusal::Write => Code::CannotWrite,
         }
     }
 
     /// The fault, which stands in no file.
-    pub fn to_fault(self, alloc: Global) -> Fault
+    fn to_fault(self, alloc: Global) -> Fault
         ensures { IsFault result (code_of self) [] 0 }
     {
         Fault {
-            code: self.code(),
+            code: self.code().number(),
             file: String::new(alloc),
             line: 0,
             text: String::new(alloc),

@@ -9,7 +9,7 @@ use Rattle.rv32.specs.Space as space
 use Rattle.loader.specs.declared.header.LoadHeader.{LoadHeader}
 use Rattle.loader.specs.declared.fault.LoadFault.{LoadFault}
 use Rattle.loader.specs.File.{first_of, header_fault, loads_fault, fault_of, holds, byte_of, loads, image_space, apart, apart_from_all, are_apart, Image, file_image, answer_of, e_entry}
-use Rattle.loader.specs.Segments.{IsLoaded, AreLoaded, nothing, skipped, loaded}
+use Rattle.loader.specs.inside.Segments.{IsLoaded, AreLoaded, nothing, skipped, loaded}
 use Rattle.loader.specs.File as elf
 
 and_left : (a b : Bool) → (a && b) ≡ true → a ≡ true

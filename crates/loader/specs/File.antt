@@ -3,6 +3,7 @@ use Rattle.std.specs.Prelude.{ℕ, zero, suc, ◌+◌, ◌*◌, ◌-◌, ◌/◌
 use Rattle.std.specs.List.{sum_by, list_all}
 use Rattle.rv32.specs.Space.{Space, half_at, word_at}
 use Rattle.loader.specs.declared.header.LoadHeader.{LoadHeader}
+use Rattle.loader.specs.MemoryMap.{max_memory}
 use Rattle.loader.specs.declared.fault.LoadFault.{LoadFault}
 use Rattle.loader.specs.declared.fault.LoadFault.TheVariants.{TooShort, NotElf32, NotExecutable, NotRiscV, BadProgramHeader, Overlap, TooMuch}
 
@@ -103,7 +104,7 @@ abbrev pub loads_fault : ℕ → List LoadHeader → Option LoadFault
 loads_fault n ls =
     if not (all_sound n ls) then Some BadProgramHeader else
     if not (are_apart ls) then Some Overlap else
-    if nat_lt (2 ^ 27) (sum_by (λ l. l.memory_size) ls) then Some TooMuch else None
+    if nat_lt max_memory (sum_by (λ l. l.memory_size) ls) then Some TooMuch else None
 
 abbrev pub first_of : Option LoadFault → Option LoadFault → Option LoadFault
 first_of None f = f

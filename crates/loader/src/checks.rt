@@ -8,30 +8,23 @@ ghost use Rattle.std.specs.List.{sum_by};
 ghost use Rattle.loader.specs.File as file;
 
 use crate::fault::LoadFault;
-use crate::header::{LoadHeader, half, loads_from, word};
-use std::alloc::Global;
+use crate::header::{Headers, LoadHeader, half, loads_from, word};
+use crate::memory_map::MAX_MEMORY;
 
-/// The file's headers of type `PT_LOAD`, or the first fault that stands.
+/// The file's headers of type `PT_LOAD`, or the first fault that stands. Takes no memory.
 #[tactic(auto, unfolding(crate::specs::File::loads))]
-pub fn read_loads(alloc: Global, bytes: &[u8]) -> Result<Vec<LoadHeader>, LoadFault>
+pub fn read_loads(bytes: &[u8]) -> Result<Headers, LoadFault>
     ensures { MatchResult result
         (λ v. (v.items ≡ file.loads bytes.now) × (file.fault_of bytes.now ≡ None))
-        (λ e. (e ≡ LoadFault.Memory) ⊎ (file.fault_of bytes.now ≡ Some e)) }
+        (λ e. file.fault_of bytes.now ≡ Some e) }
 {
-    match check_header(bytes) {
+    if let Some(fault) = check_header(bytes) {
+        return Err(fault);
+    }
+    let loads = loads_from(bytes, word(bytes, 28) as usize, half(bytes, 44) as usize);
+    match check_loads(bytes.len(), loads.as_slice()) {
         Some(fault) => Err(fault),
-        None => match loads_from(
-            alloc,
-            bytes,
-            word(bytes, 28) as usize,
-            half(bytes, 44) as usize,
-        ) {
-            Ok(loads) => match check_loads(bytes.len(), loads.as_slice()) {
-                Some(fault) => Err(fault),
-                None => Ok(loads),
-            },
-            Err(_) => Err(LoadFault::Memory),
-        },
+        None => Ok(loads),
     }
 }
 
@@ -91,7 +84,7 @@ fn check_loads(len: usize, loads: &[LoadHeader]) -> Option<LoadFault>
         Some(LoadFault::BadProgramHeader)
     } else if !are_apart(loads) {
         Some(LoadFault::Overlap)
-    } else if total(loads) > 0x800_0000 {
+    } else if total(loads) > MAX_MEMORY {
         Some(LoadFault::TooMuch)
     } else {
         None

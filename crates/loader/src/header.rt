@@ -2,13 +2,14 @@
 //!
 //! System V gABI, chapter 4, "ELF Header", and chapter 5, "Program Header".
 
-ghost use Rattle.std.specs.Prelude.{◌≡◌, ◌≤◌, ◌+◌, ◌*◌, ◌++◌, length, vec_len, IfOk, OnOk};
+ghost use Rattle.std.specs.Prelude.{◌≡◌, ◌<◌, ◌≤◌, ◌+◌, ◌*◌, ◌++◌, length};
+ghost use Rattle.arrayvec.specs.ArrayVec.{array_vec_len};
 ghost use Rattle.loader.specs.File as file;
 
-use std::alloc::{AllocError, Global};
+use arrayvec::ArrayVec;
 
 /// A program header of type `PT_LOAD`, without the fields that are not looked at.
-#[derive(Clone, Copy, Debug, PartialEq, Eq)]
+#[derive(Clone, Copy, Debug, Default, PartialEq, Eq)]
 pub struct LoadHeader {
     /// `p_offset`: where the segment's bytes begin in the file.
     pub offset: u32,
@@ -21,6 +22,9 @@ pub struct LoadHeader {
     /// `p_flags`: 1 to execute, 2 to write, 4 to read.
     pub flags: u32,
 }
+
+/// The headers of type `PT_LOAD` of a file, which are at most 16 and take no memory.
+pub type Headers = ArrayVec<LoadHeader, 16>;
 
 /// The number in the two bytes from `at` on, the lowest first.
 pub fn half(bytes: &[u8], at: usize) -> u32
@@ -54,31 +58,27 @@ fn load_header_at(bytes: &[u8], at: usize) -> LoadHeader
     }
 }
 
-fn push_header(loads: &mut Vec<LoadHeader>, bytes: &[u8], at: usize) -> Result<(), AllocError>
-    requires { at + 32 ≤ length bytes.now }
-    ensures items { OnOk result (loads.new.items ≡ loads.old.items ++ file.loads_at bytes.now at) }
-    ensures few { OnOk result (vec_len loads.new ≤ vec_len loads.old + 1) }
+fn push_header(loads: &mut Headers, bytes: &[u8], at: usize)
+    requires inside { at + 32 ≤ length bytes.now }
+    requires room { array_vec_len loads.old < 16 }
+    ensures items { loads.new.items ≡ loads.old.items ++ file.loads_at bytes.now at }
+    ensures few { array_vec_len loads.new ≤ array_vec_len loads.old + 1 }
 {
     if word(bytes, at) == 1 {
-        loads.push(load_header_at(bytes, at))?;
+        loads.push(load_header_at(bytes, at));
     }
-    Ok(())
 }
 
 /// The headers of type `PT_LOAD` among the `count` headers of 32 bytes from `at` on.
-pub fn loads_from(
-    alloc: Global,
-    bytes: &[u8],
-    at: usize,
-    count: usize,
-) -> Result<Vec<LoadHeader>, AllocError>
-    requires { at + 32 * count ≤ length bytes.now }
-    ensures items { IfOk result (λ v. v.items ≡ file.loads_from bytes.now at count) }
-    ensures few { IfOk result (λ v. vec_len v ≤ count) }
+pub fn loads_from(bytes: &[u8], at: usize, count: usize) -> Headers
+    requires inside { at + 32 * count ≤ length bytes.now }
+    requires few { count ≤ 16 }
+    ensures items { result.items ≡ file.loads_from bytes.now at count }
+    ensures few { array_vec_len result ≤ 16 }
 {
-    let mut loads = Vec::new(alloc);
+    let mut loads = Headers::new();
     for k in 0..count {
-        push_header(&mut loads, bytes, at + 32 * k)?;
+        push_header(&mut loads, bytes, at + 32 * k);
     }
-    Ok(loads)
+    loads
 }

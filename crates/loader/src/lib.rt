@@ -4,11 +4,9 @@
 mod checks;
 mod fault;
 mod header;
+pub mod memory_map;
 mod program;
 mod segments;
 
 pub use fault::LoadFault;
 pub use program::{Loaded, load};
-
-#[cfg(test)]
-mod tests;

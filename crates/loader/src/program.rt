@@ -1,9 +1,9 @@
 //! A loaded program.
 
-ghost use Rattle.std.specs.Prelude.{◌≡◌, ◌⊎◌, Ok, Err, MatchResult};
+ghost use Rattle.std.specs.Prelude.{◌≡◌, Ok, MatchResult};
 ghost use Rattle.rv32.specs.Space.{space_of};
 ghost use Rattle.loader.specs.File.{file_image};
-ghost use Rattle.loader.specs.Loading.{loaded_image};
+ghost use Rattle.loader.specs.Loading.{loaded_image, FailsToLoad};
 
 use crate::checks::read_loads;
 use crate::fault::LoadFault;
@@ -40,15 +40,14 @@ impl Loaded {
 ///
 /// The whole file is tested for each code in the order 901 to 907. Headers that are not `PT_LOAD`,
 /// `p_paddr` and `p_align` are not looked at. A segment that takes no memory is nothing, and bytes
-/// past a segment's file size are zero. The entry may lie anywhere. `LoadFault::Memory` is answered
-/// only where an allocation was refused. System V gABI, chapters 4 and 5.
+/// past a segment's file size are zero. The entry may lie anywhere. All tests come before the first
+/// allocation, so `LoadFault::Memory` is answered only for a file that has an image, where an allocation
+/// was refused. System V gABI, chapters 4 and 5.
 #[tactic(auto, unfolding(crate::specs::File::file_image))]
 pub fn load(alloc: Global, bytes: &[u8]) -> Result<Loaded, LoadFault>
-    ensures { MatchResult result
-        (λ loaded. file_image bytes.now ≡ Ok (loaded_image loaded))
-        (λ fault. (fault ≡ LoadFault.Memory) ⊎ (file_image bytes.now ≡ Err fault)) }
+    ensures { MatchResult result (λ loaded. file_image bytes.now ≡ Ok (loaded_image loaded)) (FailsToLoad bytes.now) }
 {
-    match read_loads(alloc, bytes) {
+    match read_loads(bytes) {
         Ok(loads) => match segments_of(alloc, bytes, loads.as_slice()) {
             Ok(segments) => Ok(Loaded {
                 entry: word(bytes, 24),

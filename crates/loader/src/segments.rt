@@ -2,7 +2,7 @@
 
 ghost use Rattle.std.specs.Prelude.{◌≡◌, ◌<◌, ◌≤◌, ◌+◌, ◌^◌, ℕ, length, true, IfOk, OnOk, ◌++◌, ◌∷◌, [], List, slice_index};
 ghost use Rattle.loader.specs.File as file;
-ghost use Rattle.loader.specs.Segments.{IsLoaded, AreLoaded};
+ghost use Rattle.loader.specs.inside.Segments.{IsLoaded, AreLoaded};
 ghost use Rattle.rv32.specs.declared.memory.Segment.{Segment};
 
 use crate::header::LoadHeader;

@@ -4,3 +4,4 @@ pub mod Arithmetic
 pub mod Step
 pub mod Table
 pub mod Laws
+pub mod inside

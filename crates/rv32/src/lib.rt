@@ -12,8 +12,6 @@ pub mod instr;
 pub mod laws;
 pub mod memory;
 pub mod state;
-#[cfg(test)]
-mod tests;
 
 pub use decoding::decode;
 pub use encoding::encode;

@@ -1,8 +1,11 @@
+pub use Rattle.srcset.specs.Codes
 pub use Rattle.events.specs.Events
 pub use Rattle.rv32.specs.Step
 pub use Rattle.loader.specs.File
 pub use Rattle.loader.specs.Loading
 pub mod Port
+pub mod Memory
 pub mod Runs
 pub mod Meets
 pub mod Machines
+pub mod inside

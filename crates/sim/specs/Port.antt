@@ -1,6 +1,8 @@
 -- What a call of a port does to the input left, the output so far and the count of failures.
 use Rattle.std.specs.Prelude.{◌≡◌, ℕ, ◌+◌, ◌-◌, ◌^◌, List, [], ◌∷◌, Option, Some, None, min}
 use Rattle.std.specs.Io.KnownBytes.{Keeps, Appends, Consumes, IsAtEnd}
+use Rattle.srcset.specs.declared.code.Code.{Code}
+use Rattle.srcset.specs.declared.code.Code.TheVariants as code
 use Rattle.sim.specs.declared.port.PortFault.{PortFault}
 use Rattle.sim.specs.declared.port.PortFault.TheVariants.{Memory, Read, Write}
 
@@ -43,7 +45,7 @@ pub record Flushes (old new : PortView) : Type 0 where
   pub output_stays : Keeps old.output new.output
   pub not_counted : new.failures ≡ old.failures
 
-abbrev pub code_of : PortFault → ℕ
-code_of Memory = 801
-code_of Read = 802
-code_of Write = 803
+abbrev pub code_of : PortFault → Code
+code_of Memory = code.OutOfMemory
+code_of Read = code.CannotRead
+code_of Write = code.CannotWrite

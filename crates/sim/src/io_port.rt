@@ -1,15 +1,16 @@
 //! A port over a reader and a writer.
 
-ghost use Rattle.std.specs.Prelude.{◌≡◌, ◌∷◌, [], MatchResult, IfErr};
-ghost use Rattle.std.specs.Io.KnownBytes.{Keeps, Appends};
+ghost use Rattle.std.specs.Prelude.{◌≡◌, ◌≤◌, ◌↔◌, ◌∷◌, [], Ok, IsTrue, IsOk, MatchResult, IfErr};
+ghost use Rattle.std.specs.Io.KnownBytes.{Keeps, Appends, ReadConsumes, WriteAppends};
+ghost use Rattle.std.specs.Io.{ReadsAtMost, WritesAtMost};
+ghost use Rattle.std.specs.IoError.{error_kind};
 ghost use Rattle.sim.specs.Port.{PortView, GivesByte, Flushes, IsRefused};
+ghost use Rattle.sim.specs.inside.Answers as answers;
 
 use crate::port::{Port, PortFault};
-use std::io::{ErrorKind, Read, Write};
+use srcset::TRIES;
+use std::io::{self, ErrorKind, Read, Write};
 use std::marker::Model;
-
-/// How often a call that a signal interrupted is tried, in all.
-const TRIES: u32 = 1000;
 
 /// A reader in and a writer out. It tells the input left and the output so far where these do.
 #[derive(Drop)]
@@ -58,9 +59,9 @@ impl<R: Read + Drop, W: Write + Drop> IoPort<R, W> {
         ensures flushes { MatchResult result (λ _. Flushes self.old self.new) (λ _. IsRefused self.old self.new) }
         ensures write { IfErr result (λ fault. fault ≡ PortFault.Write) }
     {
-        match self.writer.flush() {
+        match flushed(self.writer.flush()) {
             Ok(()) => Ok(()),
-            Err(_) => Err(self.refuse(PortFault::Write)),
+            Err(fault) => Err(self.refuse(fault)),
         }
     }
 
@@ -74,24 +75,89 @@ impl<R: Read + Drop, W: Write + Drop> IoPort<R, W> {
     }
 }
 
+/// Whether a signal interrupted a call, which is then tried again.
+fn is_interrupted(answer: &io::Result<usize>) -> bool
+    ensures { IsTrue result ↔ MatchResult answer.now (λ _. ⊥) (λ error. error_kind error ≡ ErrorKind.Interrupted) }
+{
+    match answer {
+        Ok(_) => false,
+        Err(error) => error.kind() == ErrorKind::Interrupted,
+    }
+}
+
+/// What a reader's answer means where one byte was asked for, which is then `byte`.
+fn given(answer: io::Result<usize>, byte: u8) -> Result<Option<u8>, PortFault>
+    ensures { result ≡ answers.given answer byte }
+{
+    match answer {
+        Ok(0) => Ok(None),
+        Ok(_) => Ok(Some(byte)),
+        Err(_) => Err(PortFault::Read),
+    }
+}
+
+/// What a writer's answer means where it was given one byte.
+fn taken(answer: io::Result<usize>) -> Result<(), PortFault>
+    ensures ok { IsOk result ↔ (answer ≡ Ok 1) }
+    ensures fault { IfErr result (λ fault. fault ≡ PortFault.Write) }
+{
+    match answer {
+        Ok(1) => Ok(()),
+        Ok(_) | Err(_) => Err(PortFault::Write),
+    }
+}
+
+/// What a writer's answer to a flush means.
+fn flushed(answer: io::Result<()>) -> Result<(), PortFault>
+    ensures ok { IsOk result ↔ IsOk answer }
+    ensures fault { IfErr result (λ fault. fault ≡ PortFault.Write) }
+{
+    match answer {
+        Ok(()) => Ok(()),
+        Err(_refusal) => Err(PortFault::Write),
+    }
+}
+
+/// The first answer of a reader that is not an interruption, or that to the last try; and how many tries there were.
+fn ask<R: Read>(reader: &mut R, one: &mut [u8]) -> (io::Result<usize>, u32)
+    ensures bound { ReadsAtMost result.0 one.new }
+    ensures bytes { ReadConsumes (R.remaining reader.old) (R.remaining reader.new) result.0 one.new }
+    ensures tries { (1 ≤ result.1) × (result.1 ≤ answers.tries) }
+    ensures patient { MatchResult result.0 (λ _. ⊥) (λ error. error_kind error ≡ ErrorKind.Interrupted) → result.1 ≡ answers.tries }
+{
+    for turn in 1..TRIES {
+        let answer = reader.read(one);
+        if !is_interrupted(&answer) {
+            return (answer, turn);
+        }
+    }
+    (reader.read(one), TRIES)
+}
+
+/// The first answer of a writer that is not an interruption, or that to the last try; and how many tries there were.
+fn offer<W: Write>(writer: &mut W, one: &[u8]) -> (io::Result<usize>, u32)
+    ensures bound { WritesAtMost result.0 one.now }
+    ensures bytes { WriteAppends (W.contents writer.old) (W.contents writer.new) result.0 one.now }
+    ensures tries { (1 ≤ result.1) × (result.1 ≤ answers.tries) }
+    ensures patient { MatchResult result.0 (λ _. ⊥) (λ error. error_kind error ≡ ErrorKind.Interrupted) → result.1 ≡ answers.tries }
+{
+    for turn in 1..TRIES {
+        let answer = writer.write(one);
+        if !is_interrupted(&answer) {
+            return (answer, turn);
+        }
+    }
+    (writer.write(one), TRIES)
+}
+
 /// The next byte, or `None` at the end.
 fn read_byte<R: Read>(reader: &mut R) -> Result<Option<u8>, PortFault>
     ensures gives { MatchResult result (λ byte. GivesByte (R.remaining reader.old) (R.remaining reader.new) byte) (λ _. Keeps (R.remaining reader.old) (R.remaining reader.new)) }
     ensures fault { IfErr result (λ fault. fault ≡ PortFault.Read) }
 {
     let mut one = [0u8; 1];
-    for _ in 0..TRIES {
-        match reader.read(&mut one) {
-            Ok(0) => return Ok(None),
-            Ok(_) => return Ok(Some(one[0])),
-            Err(error) => {
-                if error.kind() != ErrorKind::Interrupted {
-                    return Err(PortFault::Read);
-                }
-            }
-        }
-    }
-    Err(PortFault::Read)
+    let (answer, _tries) = ask(reader, &mut one);
+    given(answer, one[0])
 }
 
 /// Writes one byte.
@@ -99,19 +165,8 @@ fn write_byte<W: Write>(writer: &mut W, byte: u8) -> Result<(), PortFault>
     ensures appends { MatchResult result (λ _. Appends (W.contents writer.old) (W.contents writer.new) (byte ∷ [])) (λ _. Keeps (W.contents writer.old) (W.contents writer.new)) }
     ensures fault { IfErr result (λ fault. fault ≡ PortFault.Write) }
 {
-    let one = [byte];
-    for _ in 0..TRIES {
-        match writer.write(&one) {
-            Ok(1) => return Ok(()),
-            Ok(_) => return Err(PortFault::Write),
-            Err(error) => {
-                if error.kind() != ErrorKind::Interrupted {
-                    return Err(PortFault::Write);
-                }
-            }
-        }
-    }
-    Err(PortFault::Write)
+    let (answer, _tries) = offer(writer, &[byte]);
+    taken(answer)
 }
 
 impl<R: Read + Drop, W: Write + Drop> Port for IoPort<R, W> {

@@ -14,8 +14,3 @@ pub use laws::runs_compose;
 pub use machine::{Machine, Outcome};
 pub use mem_port::MemPort;
 pub use port::{Port, PortFault};
-
-#[cfg(test)]
-mod fixtures;
-#[cfg(test)]
-mod tests;

@@ -1,7 +1,8 @@
 //! A port over memory.
 
-ghost use Rattle.std.specs.Prelude.{◌≡◌, [], Some, MatchResult, IsOk, IfErr};
+ghost use Rattle.std.specs.Prelude.{◌≡◌, ◌<◌, [], MatchResult, IsOk, IfErr};
 ghost use Rattle.sim.specs.Port.{Gets, Puts, IsRefused};
+ghost use Rattle.sim.specs.Memory.{port_of};
 
 use crate::port::{Port, PortFault};
 use std::alloc::Global;
@@ -17,18 +18,23 @@ pub struct MemPort {
 }
 
 impl Model for MemPort {
-    ghost use Rattle.std.specs.Prelude.{drop, Some};
-    ghost use Rattle.sim.specs.Port.{PortView};
+    ghost use Rattle.std.specs.Prelude.{◌-◌, drop, vec_len, vec_capacity};
+    ghost use Rattle.sim.specs.Memory.{MemoryView};
 
-    ghost Value = { PortView };
+    ghost Value = { MemoryView };
 
-    ghost view = { λ p. record { input = Some (drop p.next p.input.items); output = Some p.output.items; failures = p.failures } };
+    ghost view = { λ p. record {
+      input = drop p.next p.input.items;
+      output = p.output.items;
+      room = vec_capacity p.output - vec_len p.output;
+      failures = p.failures;
+    } };
 }
 
 impl MemPort {
     /// A port with this input, no output yet and no failure.
     pub fn new(alloc: Global, input: Vec<u8>) -> MemPort
-        ensures { result ≡ record { input = Some input.items; output = Some []; failures = 0 } }
+        ensures { result ≡ record { input = input.items; output = []; room = 0; failures = 0 } }
     {
         MemPort {
             input,
@@ -40,7 +46,7 @@ impl MemPort {
 
     /// The bytes put so far.
     pub fn output(&self) -> &[u8]
-        ensures { Some result.now ≡ self.now.output }
+        ensures { result.now ≡ self.now.output }
     {
         self.output.as_slice()
     }
@@ -56,15 +62,16 @@ impl MemPort {
 impl Port for MemPort {
     ghost use Rattle.std.specs.Prelude.{◌≡◌};
     ghost use Rattle.sim.specs.Port.{Gets, Puts, IsRefused};
+    ghost use Rattle.sim.specs.Memory.{port_of};
     ghost use Rattle.sim.specs.declared.port.PortFault.TheVariants as port_fault;
 
-    ghost seen = { λ p. p };
+    ghost seen = { port_of };
 
     ghost refused_with = { λ _ fault. fault ≡ port_fault.Memory };
 
     /// It never refuses.
     fn get(&mut self) -> Result<Option<u8>, PortFault>
-        ensures gets { MatchResult result (λ byte. Gets self.old self.new byte) (λ _. IsRefused self.old self.new) }
+        ensures gets { MatchResult result (λ byte. Gets (port_of self.old) (port_of self.new) byte) (λ _. IsRefused (port_of self.old) (port_of self.new)) }
         ensures always { IsOk result }
     {
         match self.input.get(self.next) {
@@ -77,10 +84,11 @@ impl Port for MemPort {
         }
     }
 
-    /// It refuses only where an allocation was refused.
+    /// It refuses only where there is no room, and then an allocation was refused.
     fn put(&mut self, byte: u8) -> Result<(), PortFault>
-        ensures puts { MatchResult result (λ _. Puts self.old self.new byte) (λ _. IsRefused self.old self.new) }
+        ensures puts { MatchResult result (λ _. Puts (port_of self.old) (port_of self.new) byte) (λ _. IsRefused (port_of self.old) (port_of self.new)) }
         ensures memory { IfErr result (λ fault. fault ≡ PortFault.Memory) }
+        ensures room { 0 < self.old.room → IsOk result }
     {
         match self.output.push(byte) {
             Ok(()) => Ok(()),

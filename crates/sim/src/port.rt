@@ -1,35 +1,44 @@
 //! Where a run's bytes come from and go.
 
-ghost use Rattle.std.specs.Prelude.{◌≡◌, MatchResult, IfErr};
+ghost use Rattle.std.specs.Prelude.{◌≡◌, Some, MatchResult, IfErr};
+ghost use Rattle.srcset.specs.Codes.{text_of};
 ghost use Rattle.sim.specs.Port.{PortView, Gets, Puts, IsRefused, code_of};
 ghost use Rattle.sim.specs.declared.port.PortFault.{PortFault};
 
+use srcset::Code;
+use std::fmt;
 use thiserror::Error;
 
 /// Why a port refused a call.
 #[derive(Clone, Copy, Debug, PartialEq, Eq, Error)]
 pub enum PortFault {
     /// 801: memory ran out.
-    #[error("out of memory")]
     Memory,
     /// 802: the input could not be read.
-    #[error("cannot read")]
     Read,
     /// 803: the output could not be written.
-    #[error("cannot write")]
     Write,
 }
 
 impl PortFault {
     /// The code of the fault, 801 to 803.
-    pub fn code(self) -> u16
+    pub fn code(self) -> Code
         ensures { result ≡ code_of self }
     {
         match self {
-            PortFault::Memory => 801,
-            PortFault::Read => 802,
-            PortFault::Write => 803,
+            PortFault::Memory => Code::OutOfMemory,
+            PortFault::Read => Code::CannotRead,
+            PortFault::Write => Code::CannotWrite,
         }
+    }
+}
+
+/// Shows the text of the code.
+impl fmt::Display for PortFault {
+    ghost output = { λ fault. Some (text_of (code_of fault)) };
+
+    fn fmt<W: fmt::Write>(&self, f: &mut fmt::Formatter<W>) -> fmt::Result {
+        f.write_str(self.code().message())
     }
 }
 

@@ -1,7 +1,8 @@
 use Rattle.std.proofs.Common.{ℕ, List, length, map, subst, sym, ◌≡◌}
 use Rattle.rv32.specs.Words.{word_of}
 use Rattle.rv32.specs.declared.instr.Instr.{Instr}
-use Rattle.asm.specs.Code.{AllDecode, bytes_of}
+use Rattle.asm.specs.inside.Code.{AllDecode}
+use Rattle.asm.specs.Placed.{bytes_of}
 use Rattle.asm.specs.Placed.{IsFewest}
 use Rattle.asm.proofs.Standing.{assembled}
 use Rattle.asm.proofs.assembling.assemble_parts.Goals as goal

@@ -1,4 +1,4 @@
-use Rattle.asm.specs.Choice.{AllFine}
+use Rattle.asm.specs.inside.Choice.{AllFine}
 use Rattle.asm.proofs.check.is_all_fine.Given as goal
 
 abbrev pub invariant-loop-i : goal.invariant-loop-i

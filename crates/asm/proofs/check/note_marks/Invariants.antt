@@ -1,4 +1,4 @@
-use Rattle.asm.specs.Choice.{Notes}
+use Rattle.asm.specs.inside.Choice.{Notes}
 use Rattle.asm.proofs.check.note_marks.Given as goal
 
 abbrev pub invariant-loop-i : goal.invariant-loop-i

@@ -3,12 +3,12 @@ use Rattle.std.specs.Prelude.{slice_index_or, slice_index}
 use Rattle.std.proofs.Common.{subst, sym}
 use Rattle.std.proofs.lemmas.Result.{err_from_is_err_and}
 use Rattle.asm.proofs.Grow.{item_read}
-use Rattle.asm.specs.Code.{Misses, address}
+use Rattle.asm.specs.inside.Code.{Misses, address}
 use Rattle.asm.specs.declared.item.Item.{Item}
 use Rattle.asm.proofs.Grow.{measured_low}
 use Rattle.asm.proofs.Emitting.{good, some_misses, measured_even, far_map}
 use Rattle.asm.specs.Layout.{SomeMisses}
-use Rattle.asm.specs.Choice.{longs}
+use Rattle.asm.specs.inside.Choice.{longs}
 use Rattle.asm.proofs.emit.emit.Goals as goal
 
 pub overflow_add-data_start : goal.overflow_add-data_start

@@ -1,6 +1,6 @@
 use Rattle.std.proofs.Common.{◌≡◌}
-use Rattle.asm.specs.Choice.{longs}
-use Rattle.asm.specs.Code.{code, address}
+use Rattle.asm.specs.inside.Choice.{longs}
+use Rattle.asm.specs.inside.Code.{code, address}
 use Rattle.asm.proofs.emit.emit.Given as goal
 
 abbrev pub invariant-loop-i : goal.invariant-loop-i

@@ -1,6 +1,6 @@
 use Rattle.std.proofs.Common.{arith}
 use Rattle.asm.proofs.Grow.{room}
-use Rattle.asm.specs.Choice.{longs}
+use Rattle.asm.specs.inside.Choice.{longs}
 use Rattle.asm.proofs.layout.count.Goals as goal
 
 pub overflow_add-at : goal.overflow_add-at

@@ -1,6 +1,6 @@
 use Rattle.std.proofs.Common.{◌≡◌, ◌+◌}
 use Rattle.asm.specs.Layout.{place}
-use Rattle.asm.specs.Choice.{longs, Counted}
+use Rattle.asm.specs.inside.Choice.{longs, Counted}
 use Rattle.asm.proofs.layout.count.Given as goal
 
 abbrev pub invariant-loop-i : goal.invariant-loop-i

@@ -1,6 +1,6 @@
 use Rattle.std.proofs.Common.{◌≡◌, ℕ, ◌<◌, get_or}
 use Rattle.asm.specs.Layout.{place}
-use Rattle.asm.specs.Choice.{longs}
+use Rattle.asm.specs.inside.Choice.{longs}
 use Rattle.asm.proofs.layout.measure.Given as goal
 
 abbrev pub invariant-loop-i : goal.invariant-loop-i

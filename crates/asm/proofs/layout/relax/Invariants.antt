@@ -1,4 +1,4 @@
-use Rattle.asm.specs.Choice.{shorts}
+use Rattle.asm.specs.inside.Choice.{shorts}
 use Rattle.asm.proofs.Widening.{Choosing}
 use Rattle.asm.proofs.layout.relax.Given as goal
 

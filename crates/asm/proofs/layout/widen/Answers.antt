@@ -3,7 +3,7 @@ use Rattle.asm.proofs.Widening.{stays_branch, stays_other, grows, near_measured,
 use Rattle.std.proofs.lemmas.List.{get_or_default}
 use Rattle.std.proofs.Common.{◌∙◌, sym}
 use Rattle.asm.specs.declared.item.Item.TheVariants.{Mark, Branch}
-use Rattle.asm.specs.Choice.{longs}
+use Rattle.asm.specs.inside.Choice.{longs}
 use Rattle.asm.proofs.layout.widen.Goals as goal
 use Rattle.asm.proofs.layout.widen.Goals.{in-Branch+then-not-long-i+then-not-is_near, in-Branch+else-not-long-i, in_default, else-not-long-i-via-then-not-long-i+else-not-is_near, else-not-long-i-via-else-not-long-i}
 

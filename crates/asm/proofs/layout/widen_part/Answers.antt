@@ -3,7 +3,7 @@ use Rattle.std.proofs.lemmas.List.{get_or_default}
 use Rattle.std.specs.Prelude.{slice_index}
 use Rattle.asm.proofs.Widening.{widens_at, near_counted}
 use Rattle.asm.specs.declared.item.Item.TheVariants.{Mark, Branch}
-use Rattle.asm.specs.Choice.{longs}
+use Rattle.asm.specs.inside.Choice.{longs}
 use Rattle.asm.proofs.layout.widen_part.Goals as goal
 
 pub loop-i-preserved : goal.loop-i-preserved

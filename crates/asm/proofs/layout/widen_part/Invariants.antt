@@ -1,4 +1,4 @@
-use Rattle.asm.specs.Choice.{longs, Widens}
+use Rattle.asm.specs.inside.Choice.{longs, Widens}
 use Rattle.asm.proofs.layout.widen_part.Given as goal
 
 abbrev pub invariant-loop-i : goal.invariant-loop-i

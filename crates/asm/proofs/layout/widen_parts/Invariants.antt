@@ -1,4 +1,4 @@
-use Rattle.asm.specs.Choice.{longs, Widens}
+use Rattle.asm.specs.inside.Choice.{longs, Widens}
 use Rattle.asm.proofs.layout.widen_parts.Given as goal
 
 abbrev pub invariant-loop-turn : goal.invariant-loop-turn

@@ -1,7 +1,7 @@
 use Rattle.std.proofs.Common.{◌≡◌, ◌+◌, ◌*◌, take, map}
 use Rattle.rv32.specs.Words.{word_of}
 use Rattle.asm.specs.Listing.{IsListing}
-use Rattle.asm.specs.Code.{AllDecode}
+use Rattle.asm.specs.inside.Code.{AllDecode}
 use Rattle.asm.proofs.listing.lines.Given as goal
 
 abbrev pub invariant-loop-instr : goal.invariant-loop-instr

@@ -1,6 +1,6 @@
 use Rattle.std.proofs.Common.{arith, ap, length, List, ◌≡◌, map, subst}
 use Rattle.rv32.specs.Words.{word_of}
-use Rattle.asm.specs.Code.{AllDecode}
+use Rattle.asm.specs.inside.Code.{AllDecode}
 use Rattle.asm.specs.Listing.{IsListing}
 use Rattle.rv32.specs.declared.instr.Instr.{Instr}
 use Rattle.asm.proofs.Standing.{resolved_low, assembled}

@@ -5,5 +5,5 @@ use Rattle.loader.proofs.header.loads_from.Goals as goal
 pub loop-k-preserved : goal.loop-k-preserved
 loop-k-preserved c = record {
   few = search rules;
-  items = one_more c.args.bytes.now c.args.at c.loop-k.k c.args.count c.loop-k.loads.items c.push_header.new.loads.items _ c.loop-k-test.true c.loop-k.invariant.items c.in_ok-push_header.ensures.items;
+  items = one_more c.args.bytes.now c.args.at c.loop-k.k c.args.count c.loop-k.loads.items c.push_header.new.loads.items _ c.loop-k-test.true c.loop-k.invariant.items c.push_header.ensures.items;
 }

@@ -1,7 +1,7 @@
 use Rattle.std.proofs.Common.{◌≡◌, true, subst, List, ◌∙◌}
 use Rattle.loader.specs.declared.header.LoadHeader.{LoadHeader}
 use Rattle.loader.specs.File.{are_apart, loads}
-use Rattle.loader.specs.Segments.{AreLoaded}
+use Rattle.loader.specs.inside.Segments.{AreLoaded}
 use Rattle.loader.proofs.ImageFacts.{apart_of_none, laid_out, same_space, is_image}
 use Rattle.loader.proofs.program.load.Goals as goal
 

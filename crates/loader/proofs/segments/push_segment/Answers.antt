@@ -1,5 +1,5 @@
 use Rattle.std.proofs.Common.{rules, [], ◌∷◌, sym, append-nil}
-use Rattle.loader.specs.Segments.{nothing, skipped, loaded}
+use Rattle.loader.specs.inside.Segments.{nothing, skipped, loaded}
 use Rattle.loader.proofs.segments.push_segment.Goals as goal
 
 pub returns-in_ok-push : goal.returns-in_ok-push

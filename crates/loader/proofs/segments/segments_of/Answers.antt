@@ -1,4 +1,4 @@
-use Rattle.loader.specs.Segments.{nothing}
+use Rattle.loader.specs.inside.Segments.{nothing}
 use Rattle.loader.proofs.ImageFacts.{sound_at, fits_at, one_more_loaded}
 use Rattle.loader.proofs.segments.segments_of.Goals as goal
 

@@ -1,5 +1,5 @@
 use Rattle.std.proofs.Common.{take}
-use Rattle.loader.specs.Segments.{AreLoaded}
+use Rattle.loader.specs.inside.Segments.{AreLoaded}
 use Rattle.loader.proofs.segments.segments_of.Given as goal
 
 abbrev pub invariant-loop-load : goal.invariant-loop-load

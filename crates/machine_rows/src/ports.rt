@@ -1,0 +1,210 @@
+//! Readers, writers and ports that are interrupted and refuse.
+
+ghost use Rattle.std.specs.Prelude.{◌≡◌};
+
+use crate::programs::Programs;
+use crate::row::{given, number};
+use crate::runs::{TEXT_START, outcome_text, small};
+use anyhow::{Context, Result};
+use sim::{IoPort, Port, PortFault};
+use std::alloc::Global;
+use std::io;
+use std::io::{ErrorKind, Read, Write};
+
+/// Takes five bytes a time, up to `left`, and is interrupted before each.
+#[derive(Drop)]
+pub struct NarrowWriter {
+    taken: Vec<u8>,
+    left: usize,
+    interrupted: bool,
+}
+
+impl NarrowWriter {
+    pub fn new(alloc: Global, left: usize) -> NarrowWriter {
+        NarrowWriter {
+            taken: Vec::new(alloc),
+            left,
+            interrupted: false,
+        }
+    }
+
+    /// The bytes taken so far.
+    pub fn taken(&self) -> &[u8] {
+        self.taken.as_slice()
+    }
+}
+
+impl Write for NarrowWriter {
+    fn write(&mut self, buf: &[u8]) -> io::Result<usize> {
+        self.interrupted = !self.interrupted;
+        if self.interrupted {
+            return Err(io::Error::from(ErrorKind::Interrupted));
+        }
+        let count = buf.len().min(self.left).min(5);
+        self.taken.extend_from_slice(&buf[..count])?;
+        self.left -= count;
+        Ok(count)
+    }
+
+    fn flush(&mut self) -> io::Result<()> {
+        Ok(())
+    }
+}
+
+/// A reader of these bytes, whose first call for each is interrupted, and which fails past the last one where
+/// it is to.
+#[derive(Drop)]
+struct TestReader {
+    bytes: Vec<u8>,
+    next: usize,
+    interrupted: bool,
+    fails_at_end: bool,
+}
+
+impl Read for TestReader {
+    fn read(&mut self, buf: &mut [u8]) -> io::Result<usize> {
+        self.interrupted = !self.interrupted;
+        if self.interrupted {
+            return Err(io::Error::from(ErrorKind::Interrupted));
+        }
+        if buf.is_empty() {
+            return Ok(0);
+        }
+        if self.next < self.bytes.len() {
+            buf[0] = self.bytes[self.next];
+            self.next += 1;
+            Ok(1)
+        } else if self.fails_at_end {
+            Err(io::Error::from(ErrorKind::Other))
+        } else {
+            Ok(0)
+        }
+    }
+}
+
+/// A writer whose every first call is interrupted, and which refuses once `room` bytes are written.
+#[derive(Drop)]
+struct TestWriter {
+    bytes: Vec<u8>,
+    room: usize,
+    interrupted: bool,
+}
+
+impl Write for TestWriter {
+    fn write(&mut self, buf: &[u8]) -> io::Result<usize> {
+        self.interrupted = !self.interrupted;
+        if self.interrupted {
+            return Err(io::Error::from(ErrorKind::Interrupted));
+        }
+        match buf {
+            [first, ..] => {
+                if self.bytes.len() >= self.room {
+                    return Err(io::Error::from(ErrorKind::Other));
+                }
+                self.bytes.push(*first)?;
+                Ok(1)
+            }
+            [] => Ok(0),
+        }
+    }
+
+    fn flush(&mut self) -> io::Result<()> {
+        if self.room == 0 {
+            Err(io::Error::from(ErrorKind::Other))
+        } else {
+            Ok(())
+        }
+    }
+}
+
+/// What `finish` answered, as a row has it.
+fn finish_text(answer: Result<(), PortFault>) -> &'static str {
+    match answer {
+        Ok(()) => "done",
+        Err(PortFault::Memory) => "801",
+        Err(PortFault::Read) => "802",
+        Err(PortFault::Write) => "803",
+    }
+}
+
+/// `INPUT|ends or fails|ROOM|OUTCOME;OUTCOME|OUTPUT|LEFT|FINISH`, for the program that writes its input.
+pub fn runs_over(alloc: Global, row: &str, programs: &Programs) -> Result<bool> {
+    let mut parts = row.split('|');
+    let reader = TestReader {
+        bytes: given(parts.next())?.as_bytes().to_vec(alloc)?,
+        next: 0,
+        interrupted: false,
+        fails_at_end: given(parts.next())? == "fails",
+    };
+    let writer = TestWriter {
+        bytes: Vec::new(alloc),
+        room: number(given(parts.next())?)? as usize,
+        interrupted: false,
+    };
+    let mut port = IoPort::new(reader, writer);
+    let mut machine = small(alloc, programs, TEXT_START, programs.echo.as_slice())?;
+    for wanted in given(parts.next())?.split(';') {
+        let found = outcome_text(alloc, machine.run(&mut port, 10_000))?;
+        if found.as_str() != wanted {
+            return Ok(false);
+        }
+    }
+    let output = given(parts.next())?;
+    let left = given(parts.next())?;
+    is_finished(port, output, left, given(parts.next())?)
+}
+
+fn is_finished(
+    port: IoPort<TestReader, TestWriter>,
+    output: &str,
+    left: &str,
+    wanted: &str,
+) -> Result<bool> {
+    let mut port = port;
+    let found = finish_text(port.finish());
+    let (reader, writer) = port.into_inner();
+    let rest = reader
+        .bytes
+        .get(reader.next..)
+        .context("read past the end")?;
+    Ok(found == wanted && writer.bytes.as_slice() == output.as_bytes() && rest == left.as_bytes())
+}
+
+/// A port that refuses each call, and tells neither its input nor its output.
+#[derive(Drop)]
+struct RefusingPort {
+    failures: u64,
+}
+
+impl Port for RefusingPort {
+    ghost use Rattle.std.specs.Prelude.{None};
+
+    ghost seen = { λ p. record { input = None; output = None; failures = p.failures } };
+
+    fn get(&mut self) -> Result<Option<u8>, PortFault> {
+        self.failures = self.failures.saturating_add(1);
+        Err(PortFault::Read)
+    }
+
+    fn put(&mut self, _: u8) -> Result<(), PortFault> {
+        self.failures = self.failures.saturating_add(1);
+        Err(PortFault::Write)
+    }
+}
+
+/// `STEPS=OUTCOME FAILURES;..`, for the program that writes its input, over a port that refuses each call.
+pub fn runs_silent(alloc: Global, row: &str, programs: &Programs) -> Result<bool> {
+    let mut port = RefusingPort { failures: 0 };
+    let mut machine = small(alloc, programs, TEXT_START, programs.echo.as_slice())?;
+    for part in row.split(';') {
+        let (steps, wanted) = part.split_once('=').context("no outcome")?;
+        let outcome = machine.run(&mut port, number(steps)? as u64);
+        let outcome = outcome_text(alloc, outcome)?;
+        let failures = port.failures;
+        let found = format!(in alloc; "{outcome} {failures}")?;
+        if found.as_str() != wanted {
+            return Ok(false);
+        }
+    }
+    Ok(true)
+}
