@@ -1,15 +1,5 @@
 pub mod LineWalk
-pub mod Views
-pub mod Words
-pub mod Evaluates
-pub mod Mains
-pub mod Whole
-pub mod Selecting
-pub mod Sound
-pub mod Sizes
 pub mod Transfers
 pub mod Outcomes
-pub mod Narrows
-pub mod Bounds
-pub mod FrontFaults
 pub mod Refusals
+pub mod Inputs

@@ -1,20 +1,35 @@
 -- Where a run of the machine begins, and why a file is not loaded.
-use Rattle.std.proofs.Common.{◌≡◌, ◌⊎◌, ℕ, List, Some, Err, inl, inr}
+use Rattle.std.proofs.Common.{◌≡◌, ℕ, List, Some, inl, inr, subst}
 use Rattle.rv32.specs.Step.{Machine}
 use Rattle.srcset.specs.declared.fault.Fault.{Fault}
-use Rattle.loader.specs.File.{Image, file_image}
+use Rattle.loader.specs.File.{Image}
 use Rattle.loader.specs.declared.fault.LoadFault.{LoadFault}
 use Rattle.loader.specs.declared.fault.LoadFault.TheVariants.{Memory}
+use Rattle.loader.specs.Loading.{FailsToLoad}
 use Rattle.sim.specs.Port.{PortView}
 use Rattle.sim.specs.Runs.{start_of, start_world}
 use Rattle.sim.specs.Meets.{At}
-use Rattle.cc.specs.Performed.{FailsLoad, IsLoadFault}
+use Rattle.sim.specs.declared.port.PortFault.{PortFault}
+use Rattle.sim.specs.declared.port.PortFault.TheVariants as port_fault
+use Rattle.cc.specs.declared.stopping.Stop.{Stop}
+use Rattle.cc.specs.inside.Stops.{IsToldAs, put_stop, load_stop}
+use Rattle.cc.specs.Performed.{FailsLoad, TellsPort}
 use Rattle.cc.proofs.Transfers.{appends_none}
 
 pub begins : (old : PortView) (image : Image) (input : List ℕ) (m : Machine) → m ≡ start_of image → old.input ≡ Some input → At old.output (start_world image input) m old
 begins old image input m e i = record { machine_is = e; input_is = i; output_is = appends_none old.output }
 
-pub load_fails : (file name : List ℕ) (why : LoadFault) (fault : Fault) → (why ≡ Memory) ⊎ (file_image file ≡ Err why) → IsLoadFault name why fault → FailsLoad file name fault
-load_fails file name why fault (inl e) (inl h) = absurd (h.1 e)
-load_fails file name why fault (inr e) (inl h) = inl (why, e, h.0)
-load_fails file name why fault o (inr m) = inr m
+load_told : (file name : List ℕ) (why : LoadFault) (fault : Fault) → FailsToLoad file why → IsToldAs name (load_stop why) fault → FailsLoad file name fault
+load_told file name Memory fault (inl e) told = inr (e.1, told)
+load_told file name Memory fault (inr e) told = inl (Memory, e, inr told)
+load_told file name why fault (inl e) told = let none : why ≡ Memory = e.0 in cc
+load_told file name why fault (inr e) told = inl (why, e, told)
+
+pub load_fails : (file name : List ℕ) (why : LoadFault) (stop : Stop) (fault : Fault) → FailsToLoad file why → stop ≡ load_stop why → IsToldAs name stop fault → FailsLoad file name fault
+load_fails file name why stop fault o is told = load_told file name why fault o (subst (λ s. IsToldAs name s fault) is told)
+
+-- the fault that tells what a port refused
+pub put_fails : (output : List ℕ) (refusal : PortFault) (stop : Stop) (fault : Fault) → stop ≡ put_stop refusal → IsToldAs output stop fault → TellsPort refusal output fault
+put_fails output port_fault.Memory stop fault is told = subst (λ s. IsToldAs output s fault) is told
+put_fails output port_fault.Read stop fault is told = subst (λ s. IsToldAs output s fault) is told
+put_fails output port_fault.Write stop fault is told = subst (λ s. IsToldAs output s fault) is told

@@ -1,7 +1,6 @@
--- How single calls of a port or a writer join.
-use Rattle.std.proofs.Common.{◌≡◌, ℕ, ◌+◌, ◌<◌, ◌≤◌, List, [], ◌∷◌, ◌++◌, take, drop, length, length-take, length-drop, ◌-◌, Option, Some, None, refl, sym, ap, ◌∙◌, subst, append_assoc, append-nil, arith}
+-- How single calls of a port join.
+use Rattle.std.proofs.Common.{ℕ, ◌<◌, List, [], ◌∷◌, ◌++◌, take, length, Option, Some, None, refl, sym, ap, ◌∙◌, append_assoc, append-nil}
 use Rattle.std.specs.Io.KnownBytes.{Keeps, Appends}
-use Rattle.std.proofs.lemmas.List.{take-take, drop-take, take-append-drop}
 use Rattle.sim.specs.Port.{PortView, Puts, IsRefused}
 use Rattle.cc.specs.Transfer.{PutsAll, PutsSome}
 
@@ -48,22 +47,3 @@ puts_stop a b c bytes k all refused room = record {
   output_grows = appends_kept a.output b.output c.output (take k bytes) all.output_grows refused.output_stays;
   counted = rw (← all.not_counted) refused.counted;
 }
-
--- a beginning and the next part of what is left
-pub take_part : (xs : List ℕ) (a n : ℕ) → take a xs ++ take n (drop a xs) ≡ take (a + n) xs
-take_part xs a n =
-    let front : take a xs ≡ take a (take (a + n) xs) = sym (take-take a (a + n) xs (omega arith)) in
-    let back : take n (drop a xs) ≡ drop a (take (a + n) xs) = sym (drop-take a n xs) in
-    rw (front, back) (take-append-drop a (take (a + n) xs))
-
--- one write of what is left
-pub write_step : (a b c : Option (List ℕ)) (bytes : List ℕ) (at n : ℕ) → at < length bytes → Appends a b (take at bytes)
-    → n ≤ length (take (length bytes - at) (drop at bytes)) → Appends b c (take n (take (length bytes - at) (drop at bytes)))
-    → (at + n ≤ length bytes) × Appends a c (take (at + n) bytes)
-write_step a b c bytes at n room front bound more =
-    let rest = drop at bytes in
-    let size = simp (length-take, length-drop) at bound in
-    let small : n ≤ length bytes - at = omega arith in
-    let same : take n (take (length bytes - at) rest) ≡ take n rest = take-take n (length bytes - at) rest small in
-    let joined = appends_twice a b c (take at bytes) (take n rest) front (subst (λ xs. Appends b c xs) same more) in
-    (omega arith, subst (λ xs. Appends a c xs) (take_part bytes at n) joined)

@@ -1,12 +1,10 @@
--- What the compiler promises of a file that it answers.
-use Rattle.std.specs.Prelude.{◌≡◌, ◌≤◌, ℕ, ◌+◌, ◌-◌, ◌*◌, ◌^◌, List, [], ◌∷◌, length, true, false, Some, Ok, Err, codes, map, Option, None, ◌⊎◌}
+-- What the compiler promises of a file that it answers, and of a fault.
+use Rattle.std.specs.Prelude.{◌≡◌, ◌≤◌, ℕ, ◌+◌, ◌-◌, ◌*◌, List, [], ◌∷◌, length, true, false, Some, None, Ok, Err, codes, map, replicate, ◌⊎◌}
+use Rattle.std.specs.String.{string_bytes}
+use Rattle.srcset.specs.Files.{Files, file_of}
 use Rattle.srcset.specs.declared.fault.Fault.{Fault}
+use Rattle.srcset.specs.declared.code.Code.TheVariants.{NoMainFile, NotBuiltYet}
 use Rattle.srcset.specs.Fault.{IsFault, IsMemoryFault}
-use Rattle.events.specs.Events.{written}
-use Rattle.rv32.specs.Step.{register}
-use Rattle.loader.specs.File.{Image, file_image}
-use Rattle.sim.specs.Runs.{World, Running, Ended, rvrun, start_world}
-use Rattle.cc.specs.Sums.{Main}
 use Rattle.srcset.specs.NameTable.{Texts, KeepsNumbers}
 use Rattle.srcset.specs.Refusal.{IsFaultOfRefusal}
 use Rattle.srcset.specs.declared.refusal.Refusal.{Refusal}
@@ -15,57 +13,72 @@ use Rattle.phases.specs.Lines.{scanned}
 use Rattle.lexer.specs.CTokens.{ctokens}
 use Rattle.lexer.specs.Numbering.{AreAll}
 use Rattle.lexer.specs.declared.token.Token.{Token}
-use Rattle.tree.specs.Tree.{ExternalTree}
-use Rattle.parser.specs.Units.{Limit, Keeps, IsTreeWithin, IsOnly, IsFaultOfUnit}
-use Rattle.cc.specs.Unprocessed.{is_unprocessed, all_tokens}
-use Rattle.cc.specs.Thin.{thin_in}
-use Rattle.cc.specs.Meaning.{Ending, meaning}
-use Rattle.cc.specs.Machine.{IsSp}
-use Rattle.cc.specs.Weight.{main_nodes, weight}
-use Rattle.cc.specs.declared.compiling.Built.{Built}
+use Rattle.tree.specs.Tree.{ExternalTree, FunctionTree, definition, declaration}
+use Rattle.tree.specs.Counts.{function_nodes, weight_of}
+use Rattle.parser.specs.Units.{IsTreeWithin, IsOnly, IsFaultOfUnit}
+use Rattle.events.specs.Events.{Event, Put}
+use Rattle.rv32.specs.Step.{register}
+use Rattle.loader.specs.File.{Image, file_image}
+use Rattle.loader.specs.MemoryMap.{stack_end, data_guard}
+use Rattle.sim.specs.Runs.{World, Running, Ended, rvrun, start_world}
 use Rattle.elf_out.specs.Layout.{Parts}
-use Rattle.elf_out.specs.Written.{file_of}
-use Rattle.std.specs.String.{string_bytes}
+use Rattle.elf_out.specs.Written as written
+use Rattle.cc.specs.declared.compiling.Built.{Built}
+use Rattle.cc.specs.Unprocessed.{is_unprocessed, all_tokens}
+use Rattle.cc.specs.thin.Sums.{Main}
+use Rattle.cc.specs.thin.Form.{thin_in}
+use Rattle.cc.specs.thin.Meaning.{Ending, meaning}
+use Rattle.cc.specs.thin.Stack.{main_address, IsSp}
 
--- where main's code begins: behind the six instructions of the program's entry
-abbrev pub main_address : ℕ
-main_address = 0x11000 + 24
+-- ---- what the main file of a set holds, phase by phase (ISO/IEC 9899:2011 5.1.1.2)
 
--- after so many steps a run from the image has ended with this status, having written just these bytes;
--- on the way, in main, sp was a multiple of 16 and not more than `frame` bytes below where the stack begins
-pub record EndsAs (image : Image) (input : List ℕ) (frame : ℕ) (ending : Ending) : Type 0 where
-  pub steps : ℕ
-  pub world : World
-  pub ends : rvrun steps (start_world image input) ≡ Ended ending.status world
-  pub wrote : written world.trace ≡ ending.written
-  pub keeps_sp : (k : ℕ) (w : World) → k ≤ steps → rvrun k (start_world image input) ≡ Running w → main_address ≤ w.machine.pc → IsSp (2 ^ 31 - frame) (register w.machine 2)
-
--- the file has an image, and run from it on any input it ends as main means, where that is defined
-pub record RunsAs (main : Main) (file : List ℕ) (frame : ℕ) : Type 0 where
-  pub image : Image
-  pub loads : file_image file ≡ Ok image
-  pub ends : (input : List ℕ) (ending : Ending) → meaning main ≡ Some ending → EndsAs image input frame ending
-
--- ---- what a main file holds
-
--- the C tokens of the bytes of a main file of this name, which asks nothing of phase 4: its lines by phases 1 to 3, their
--- tokens by phases 5 to 7, with texts numbered by this table, in which the file's name is number 0
-pub record HasTokens (name bytes : List ℕ) (texts : Texts) (tokens : List Token) : Type 0 where
-  pub lines : List (List PpToken)
+-- the lines of the file of this name, by phases 1 to 3; its name is text number 0
+pub record HasLines (set : Files) (name : List ℕ) (lines : List (List PpToken)) : Type 0 where
+  pub bytes : List ℕ
+  pub given : file_of set name ≡ Some bytes
   pub scanned_are : scanned 0 bytes ≡ Ok lines
+
+-- its C tokens, by phases 5 to 7, with texts numbered by this table; no line of it asks for phase 4
+pub record HasTokens (set : Files) (name : List ℕ) (texts : Texts) (tokens : List Token) : Type 0 where
+  pub lines : List (List PpToken)
+  pub has_lines : HasLines set name lines
   pub unprocessed : is_unprocessed lines ≡ true
   pub tokens_are : AreAll (name ∷ []) texts (ctokens (all_tokens lines)) tokens
 
 -- the only tree of these tokens, and it is within the limits
-pub record HasTree (name bytes : List ℕ) (texts : Texts) (unit : List ExternalTree) : Type 0 where
+pub record HasTree (set : Files) (name : List ℕ) (texts : Texts) (unit : List ExternalTree) : Type 0 where
   pub tokens : List Token
-  pub has_tokens : HasTokens name bytes texts tokens
+  pub has_tokens : HasTokens set name texts tokens
   pub tree : IsTreeWithin tokens unit
   pub only : IsOnly tokens unit
 
--- each limit is kept
-abbrev pub IsWithinLimits : List ExternalTree → Type 0
-IsWithinLimits unit = (l : Limit) → Keeps l unit
+-- ---- how the file of a program runs
+
+-- the events of putting these bytes, the newest first, before which the history was h
+abbrev pub after_puts : List ℕ → List Event → List Event
+after_puts [] h = h
+after_puts (x ∷ rest) h = after_puts rest (Put x ∷ h)
+
+-- after so many steps a run from the image has ended with this status; it has put just these bytes and read nothing
+pub record EndsAs (image : Image) (input : List ℕ) (ending : Ending) : Type 0 where
+  pub steps : ℕ
+  pub world : World
+  pub ends : rvrun steps (start_world image input) ≡ Ended ending.status world
+  pub trace_is : world.trace ≡ after_puts ending.written []
+  pub input_left : world.input ≡ input
+
+-- main has a frame of so many bytes: at some step in main sp lies there below the stack's end, and at each step in main
+-- sp is a multiple of 16, no lower than that and no higher than the stack's end
+pub record HasFrame (image : Image) (input : List ℕ) (frame : ℕ) : Type 0 where
+  pub used : (k : ℕ) × ((w : World) × (rvrun k (start_world image input) ≡ Running w) × (main_address ≤ w.machine.pc) × (register w.machine 2 ≡ stack_end - frame))
+  pub kept : (k : ℕ) (w : World) → rvrun k (start_world image input) ≡ Running w → main_address ≤ w.machine.pc → IsSp (stack_end - frame) (register w.machine 2)
+
+-- the file has an image. Run from it on any input it ends as main means, where that is defined, and has such a frame
+pub record RunsAs (main : Main) (file : List ℕ) (frame : ℕ) : Type 0 where
+  pub image : Image
+  pub loads : file_image file ≡ Ok image
+  pub ends : (input : List ℕ) (ending : Ending) → meaning main ≡ Some ending → EndsAs image input ending
+  pub framed : (input : List ℕ) (ending : Ending) → meaning main ≡ Some ending → HasFrame image input frame
 
 -- ---- what is answered
 
@@ -73,56 +86,69 @@ IsWithinLimits unit = (l : Limit) → Keeps l unit
 abbrev pub frames_of : Built → List (List ℕ × ℕ × ℕ)
 frames_of built = map (λ f. (string_bytes f.0, f.1, f.2)) built.frames.items
 
--- the file of main: it runs as main means; its text and its one frame are bounded by main's nodes; it has no statics
-pub record IsBuiltOf (main : Main) (built : Built) : Type 0 where
+-- the function definitions of a unit, in order
+abbrev pub definitions : List ExternalTree → List FunctionTree
+definitions [] = []
+definitions (definition f ∷ es) = f ∷ definitions es
+definitions (declaration d ∷ es) = definitions es
+
+-- what a function without parameters and automatic objects may take of the stack
+abbrev pub function_weight : FunctionTree → ℕ
+function_weight f = weight_of (function_nodes f) 0
+
+-- the file of the program of the function definition f: it runs as the program means; its one frame and its text are
+-- bounded by the nodes of f; its data are the zero bytes with which data begin
+pub record IsBuiltOf (f : FunctionTree) (main : Main) (built : Built) : Type 0 where
   pub frame : ℕ
-  pub frames : frames_of built ≡ (codes "main", frame, weight main) ∷ []
-  pub frame_fits : frame ≤ weight main
+  pub frames : frames_of built ≡ (codes "main", frame, function_weight f) ∷ []
+  pub frame_fits : frame ≤ function_weight f
   pub parts : Parts
-  pub file : built.elf.items ≡ file_of parts
-  pub text_fits : length parts.text ≤ 128 * main_nodes main + 1024 + 1024
-  pub no_statics : parts.statics ≡ []
+  pub file : built.elf.items ≡ written.file_of parts
+  pub text_fits : length parts.text ≤ 128 * function_nodes f + 1024 + 1024
+  pub statics_are : parts.statics ≡ replicate data_guard 0
   pub runs : RunsAs main built.elf.items frame
 
 -- the unit is of the form that is built today, and the answer is the file of the program that it holds
 pub record BuildsUnit (texts : Texts) (unit : List ExternalTree) (built : Built) : Type 0 where
   pub main : Main
   pub thin : thin_in texts unit ≡ Some main
-  pub built_of : IsBuiltOf main built
+  pub function : FunctionTree
+  pub defined : definitions unit ≡ function ∷ []
+  pub built_of : IsBuiltOf function main built
 
--- there is a main file of this name, it has a tree, and the answer is the file of that tree
-pub record Compiles (source : Option (List ℕ)) (name : List ℕ) (built : Built) : Type 0 where
-  pub bytes : List ℕ
-  pub given : source ≡ Some bytes
+-- the set has a main file of this name, which has a tree, and the answer is the file of that tree
+pub record Compiles (set : Files) (name : List ℕ) (built : Built) : Type 0 where
   pub texts : Texts
   pub unit : List ExternalTree
-  pub has_tree : HasTree name bytes texts unit
+  pub has_tree : HasTree set name texts unit
   pub builds : BuildsUnit texts unit built
 
--- ---- what is refused, in the order of the phases
+-- ---- what is refused
 
 -- 103: there is no main file
-pub record IsMissing (source : Option (List ℕ)) (name : List ℕ) (fault : Fault) : Type 0 where
-  pub missing : source ≡ None
-  pub fault_is : IsFault fault 103 name 0
+pub record LacksFile (set : Files) (name : List ℕ) (fault : Fault) : Type 0 where
+  pub missing : file_of set name ≡ None
+  pub fault_is : IsFault fault NoMainFile name 0
 
 -- 111 to 113, 703: the fault of phases 1 to 3
-pub record FailsLines (name bytes : List ℕ) (fault : Fault) : Type 0 where
+pub record FailsLines (set : Files) (name : List ℕ) (fault : Fault) : Type 0 where
+  pub bytes : List ℕ
+  pub given : file_of set name ≡ Some bytes
   pub refusal : Refusal
   pub scanned_is : scanned 0 bytes ≡ Err refusal
   pub fault_is : IsFaultOfRefusal fault (name ∷ []) refusal
 
--- 699: there are lines, with a directive or the name of a predefined macro
-pub record NeedsPreprocessor (name bytes : List ℕ) (fault : Fault) : Type 0 where
+-- 699: a line is a directive, or names a predefined macro
+pub record NeedsPreprocessor (set : Files) (name : List ℕ) (fault : Fault) : Type 0 where
   pub lines : List (List PpToken)
-  pub scanned_are : scanned 0 bytes ≡ Ok lines
+  pub has_lines : HasLines set name lines
   pub processed : is_unprocessed lines ≡ false
-  pub fault_is : IsFault fault 699 name 1
+  pub fault_is : IsFault fault NotBuiltYet name 1
 
--- 301 to 303, 601 to 609: there are lines, and this is the fault of the first token that has one
-pub record FailsTokens (name bytes : List ℕ) (fault : Fault) : Type 0 where
+-- 301 to 303, 601 to 609: the fault of the first token that has one
+pub record FailsTokens (set : Files) (name : List ℕ) (fault : Fault) : Type 0 where
   pub lines : List (List PpToken)
-  pub scanned_are : scanned 0 bytes ≡ Ok lines
+  pub has_lines : HasLines set name lines
   pub unprocessed : is_unprocessed lines ≡ true
   pub refusal : Refusal
   pub first : (ctokens (all_tokens lines)).fault ≡ Some refusal
@@ -130,40 +156,28 @@ pub record FailsTokens (name bytes : List ℕ) (fault : Fault) : Type 0 where
   pub names_stay : KeepsNumbers (name ∷ []) texts
   pub fault_is : IsFaultOfRefusal fault texts refusal
 
--- 401, 709 to 711: there are tokens, and this is why they have no tree within the limits
-pub record FailsTree (name bytes : List ℕ) (fault : Fault) : Type 0 where
+-- 401, 709 to 711: why the tokens have no tree within the limits
+pub record FailsTree (set : Files) (name : List ℕ) (fault : Fault) : Type 0 where
   pub texts : Texts
   pub tokens : List Token
-  pub has_tokens : HasTokens name bytes texts tokens
+  pub has_tokens : HasTokens set name texts tokens
   pub fault_is : IsFaultOfUnit fault texts tokens
 
--- the unit is of another form than those that are built today
-pub record IsOtherUnit (texts : Texts) (unit : List ExternalTree) (name : List ℕ) (fault : Fault) : Type 0 where
-  pub another : thin_in texts unit ≡ None
-  pub fault_is : IsFault fault 699 name 1
-
-abbrev pub RefusesUnit : Texts → List ExternalTree → List ℕ → Fault → Type 0
-RefusesUnit texts unit name fault = IsOtherUnit texts unit name fault ⊎ IsMemoryFault fault
-
--- 699: there is a tree, and it is of another form than those that are built today
-pub record IsNotThin (name bytes : List ℕ) (fault : Fault) : Type 0 where
+-- 699: the tree is of another form than those that are built today
+pub record IsNotThin (set : Files) (name : List ℕ) (fault : Fault) : Type 0 where
   pub texts : Texts
   pub unit : List ExternalTree
-  pub has_tree : HasTree name bytes texts unit
-  pub other : IsOtherUnit texts unit name fault
+  pub has_tree : HasTree set name texts unit
+  pub another : thin_in texts unit ≡ None
+  pub fault_is : IsFault fault NotBuiltYet name 1
 
-abbrev pub LacksTokens : List ℕ → List ℕ → Fault → Type 0
-LacksTokens name bytes fault = FailsLines name bytes fault ⊎ NeedsPreprocessor name bytes fault ⊎ FailsTokens name bytes fault ⊎ IsMemoryFault fault
-
--- the bytes have no tree, or want of memory hid it
-abbrev pub LacksTree : List ℕ → List ℕ → Fault → Type 0
-LacksTree name bytes fault = LacksTokens name bytes fault ⊎ FailsTree name bytes fault
-
--- the bytes are given and refused
-pub record IsRefusedFile (source : Option (List ℕ)) (name : List ℕ) (fault : Fault) : Type 0 where
-  pub bytes : List ℕ
-  pub given : source ≡ Some bytes
-  pub why : LacksTree name bytes fault ⊎ IsNotThin name bytes fault
-
-abbrev pub IsRefused : Option (List ℕ) → List ℕ → Fault → Type 0
-IsRefused source name fault = IsMissing source name fault ⊎ IsRefusedFile source name fault ⊎ IsMemoryFault fault
+-- the fault of the first phase that fails; or out of memory, which may hide any of them
+abbrev pub IsRefused : Files → List ℕ → Fault → Type 0
+IsRefused set name fault =
+    LacksFile set name fault
+    ⊎ FailsLines set name fault
+    ⊎ NeedsPreprocessor set name fault
+    ⊎ FailsTokens set name fault
+    ⊎ FailsTree set name fault
+    ⊎ IsNotThin set name fault
+    ⊎ IsMemoryFault fault

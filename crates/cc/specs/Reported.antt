@@ -2,14 +2,15 @@
 use Rattle.std.specs.Prelude.{◌≡◌, ◌⊎◌, ℕ, ◌-◌, ◌^◌, List, ◌++◌, Option, codes, decimal, true, false, []}
 use Rattle.std.specs.Fmt.{digits, padded_integral, format_spec}
 use Rattle.srcset.specs.declared.fault.Fault.{Fault}
+use Rattle.srcset.specs.Codes.{number_of}
 use Rattle.srcset.specs.Fault.{fault_line}
+use Rattle.srcset.specs.Writing.{TakesBeginning}
 use Rattle.rv32.specs.declared.state.Cause.{Cause}
 use Rattle.rv32.specs.declared.state.Cause.TheVariants as cause
 use Rattle.sim.specs.Port.{code_of}
 use Rattle.sim.specs.declared.port.PortFault.{PortFault}
 use Rattle.sim.specs.declared.machine.Outcome.{Outcome}
 use Rattle.sim.specs.declared.machine.Outcome.TheVariants as outcome
-use Rattle.cc.specs.Transfer.{WritesBeginning}
 
 -- ---- the lines
 
@@ -40,7 +41,7 @@ abbrev pub trap_text : ℕ → Cause → List ℕ
 trap_text pc cause = codes "cc: trap " ++ cause_name cause ++ codes " at 0x" ++ address pc ++ codes "\n"
 
 abbrev pub port_text : PortFault → List ℕ
-port_text fault = codes "cc: port fault " ++ decimal (code_of fault) ++ codes "\n"
+port_text fault = codes "cc: port fault " ++ decimal (number_of (code_of fault)) ++ codes "\n"
 
 -- ---- what is written of them
 
@@ -51,11 +52,11 @@ pub record Said : Type 0 where
 
 -- the text, or the beginning of it that the writer took; or the same of the line of 801, for want of memory for the text
 abbrev pub Says : Said → List ℕ → Type 0
-Says said text = WritesBeginning said.before said.after text ⊎ WritesBeginning said.before said.after memory_text
+Says said text = TakesBeginning said.before said.after text ⊎ TakesBeginning said.before said.after memory_text
 
 -- nothing where a run ended by itself, and else why it did not
 abbrev pub SaysOutcome : Said → Outcome → Type 0
 SaysOutcome said (outcome.Ended status) = said.after ≡ said.before
-SaysOutcome said outcome.Budget = WritesBeginning said.before said.after budget_text
+SaysOutcome said outcome.Budget = TakesBeginning said.before said.after budget_text
 SaysOutcome said (outcome.Trapped pc cause) = Says said (trap_text pc cause)
 SaysOutcome said (outcome.Port fault) = Says said (port_text fault)

@@ -1,5 +1,5 @@
--- What a call that moves many bytes leaves.
-use Rattle.std.specs.Prelude.{◌≡◌, ℕ, ◌≤◌, ◌<◌, List, take, length, Option}
+-- What a call that puts many bytes leaves of its port.
+use Rattle.std.specs.Prelude.{◌≡◌, ℕ, ◌<◌, List, take, length}
 use Rattle.std.specs.Io.KnownBytes.{Keeps, Appends}
 use Rattle.sim.specs.Port.{PortView, Rises}
 
@@ -15,7 +15,3 @@ pub record PutsSome (old new : PortView) (bytes : List ℕ) (count : ℕ) : Type
   pub input_stays : Keeps old.input new.input
   pub output_grows : Appends old.output new.output (take count bytes)
   pub counted : Rises old.failures new.failures
-
--- a beginning of the bytes was written
-abbrev pub WritesBeginning : Option (List ℕ) → Option (List ℕ) → List ℕ → Type 0
-WritesBeginning old new bytes = (count : ℕ) × (count ≤ length bytes) × Appends old new (take count bytes)

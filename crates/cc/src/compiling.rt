@@ -1,32 +1,30 @@
 //! From source files to an executable file.
 
-ghost use Rattle.std.specs.Prelude.{◌≡◌, ◌≤◌, ◌<◌, ◌+◌, ◌*◌, ◌/◌, ◌^◌, map, Bool, length, IfOk, IfErr, codes, List, ℕ, [], ◌∷◌, vec_len};
-ghost use Rattle.srcset.specs.Fault.{IsMemoryFault};
-ghost use Rattle.srcset.specs.Files.{file_of};
-ghost use Rattle.cc.specs.Sums.{sum_of, main_of};
-ghost use Rattle.cc.specs.Range.{IsBuildable};
-ghost use Rattle.cc.specs.Selected.{program_items, frame_of, main_slots};
-ghost use Rattle.asm.specs.Placed.{Assembles};
-ghost use Rattle.elf_out.specs.Layout.{text_start};
+ghost use Rattle.std.specs.Prelude.{◌≡◌, ◌≤◌, ◌+◌, ◌*◌, map, length, IfOk, IfErr, codes, List, ℕ, [], ◌∷◌, vec_len, replicate};
 ghost use Rattle.std.specs.String.{string_bytes};
-ghost use Rattle.cc.specs.Weight as weights;
-ghost use Rattle.cc.specs.Compiled.{IsBuiltOf, Compiles, IsRefused};
 ghost use Rattle.tree.specs.View.{unit_of};
-ghost use Rattle.cc.specs.Compiled.{IsWithinLimits, BuildsUnit, RefusesUnit};
+ghost use Rattle.asm.specs.Placed.{Assembles};
+ghost use Rattle.loader.specs.MemoryMap.{text_start, data_guard};
+ghost use Rattle.cc.specs.Compiled.{Compiles, BuildsUnit, IsRefused};
+ghost use Rattle.cc.specs.inside.Stops.{Stops, StopsUnit, IsMemory, narrowed_of};
+ghost use Rattle.cc.specs.thin.Sums.{main_of};
+ghost use Rattle.cc.specs.thin.inside.Made.{IsMadeOf, IsWithinLimits};
+ghost use Rattle.cc.specs.thin.inside.Range.{IsBuildable};
+ghost use Rattle.cc.specs.thin.inside.Selected.{program_items, frame_of, main_slots};
+ghost use Rattle.cc.specs.thin.inside.Weight.{main_nodes};
 
-use crate::front::syntax_tree;
-use crate::narrowing::narrow;
-use crate::program::Program;
-use crate::selection::{Selected, select};
-use crate::weighing::main_weight;
+use crate::front::{c_tokens, check_lines, main_file, main_lines, syntax_tree};
+use crate::stopping::Stop;
+use crate::thin::narrowing::narrow;
+use crate::thin::program::Program;
+use crate::thin::selection::{Selected, select};
+use crate::thin::weighing::main_weight;
 use asm::assemble;
 use elf_out::{Image, write_elf};
-use srcset::{Fault, FileSet, Names};
+use loader::memory_map::{DATA_GUARD, TEXT_START};
+use srcset::{Code, Fault, FileSet, Names};
 use std::alloc::{AllocError, Global};
 use tree::Unit;
-
-/// The address of the text, which begins with the program's entry.
-const TEXT_START: u32 = 0x1_1000;
 
 /// An executable file, and what each function may take of the stack.
 #[derive(Drop)]
@@ -45,42 +43,65 @@ pub struct Built {
 /// a directive or names a predefined macro, once it has lines, and where its tree is not of the form that
 /// is built today; and with 801 where there is no memory.
 pub fn compile(alloc: Global, set: &FileSet, main: &str) -> Result<Built, Fault>
-    ensures built { IfOk result (λ built. Compiles (file_of set.now main.now) main.now built) }
-    ensures refused { IfErr result (λ fault. IsRefused (file_of set.now main.now) main.now fault) }
+    ensures built { IfOk result (λ built. Compiles set.now main.now built) }
+    ensures refused { IfErr result (λ fault. IsRefused set.now main.now fault) }
 {
-    let Some(source) = set.get(main) else {
-        return Err(Fault::at(alloc, 103, main, 0));
-    };
-    let mut names = Names::new(alloc);
-    match syntax_tree(alloc, source, main, &mut names) {
-        Ok(unit) => build_unit(alloc, &unit, main, &names),
-        Err(fault) => Err(fault),
+    match by_phases(alloc, set, main) {
+        Ok(built) => Ok(built),
+        Err(stop) => Err(stop.to_fault(alloc, main)),
     }
+}
+
+/// The phases in their order (ISO/IEC 9899:2011 5.1.1.2), a call each.
+fn by_phases(alloc: Global, set: &FileSet, main: &str) -> Result<Built, Stop>
+    ensures built { IfOk result (λ built. Compiles set.now main.now built) }
+    ensures stops { IfErr result (λ stop. Stops set.now main.now stop) }
+{
+    let mut names = Names::new(alloc);
+    let bytes = main_file(set, main)?;
+    let lines = main_lines(alloc, bytes, main, &mut names)?;
+    check_lines(&lines)?;
+    let tokens = c_tokens(alloc, lines.tokens(), &mut names)?;
+    let unit = syntax_tree(alloc, tokens.as_slice(), &names)?;
+    build_unit(alloc, &unit, &names)
 }
 
 /// The executable file of a translation unit.
-fn build_unit(alloc: Global, unit: &Unit, main: &str, names: &Names) -> Result<Built, Fault>
+fn build_unit(alloc: Global, unit: &Unit, names: &Names) -> Result<Built, Stop>
     requires { IsWithinLimits (unit_of unit.now) }
     ensures built { IfOk result (λ built. BuildsUnit names.now (unit_of unit.now) built) }
-    ensures refused { IfErr result (λ fault. RefusesUnit names.now (unit_of unit.now) main.now fault) }
+    ensures stops { IfErr result (λ stop. StopsUnit names.now (unit_of unit.now) stop) }
 {
-    match narrow(alloc, unit, names) {
-        Ok(Some(program)) => build(alloc, &program),
-        Ok(None) => Err(Fault::at(alloc, 699, main, 1)),
-        Err(_) => Err(Fault::memory(alloc)),
+    match narrowed(narrow(alloc, unit, names)) {
+        Ok(program) => build(alloc, &program, main_weight(unit)),
+        Err(stop) => Err(stop),
     }
 }
 
-/// The executable file of a program.
-fn build(alloc: Global, program: &Program) -> Result<Built, Fault>
+/// What comes of a unit that was narrowed.
+fn narrowed(found: Result<Option<Program>, AllocError>) -> Result<Program, Stop>
+    ensures { result ≡ narrowed_of found }
+{
+    match found {
+        Ok(Some(program)) => Ok(program),
+        Ok(None) => Err(Stop::At(Code::NotBuiltYet, 1)),
+        Err(_) => Err(Stop::Memory),
+    }
+}
+
+/// The executable file of a program, whose main has this weight.
+fn build(alloc: Global, program: &Program, weight: u32) -> Result<Built, Stop>
     requires { IsBuildable (main_of program.now) }
-    ensures built { IfOk result (λ built. IsBuiltOf (main_of program.now) built) }
-    ensures memory { IfErr result IsMemoryFault }
+    ensures built { IfOk result (λ built. IsMadeOf (main_of program.now) weight built) }
+    ensures memory { IfErr result IsMemory }
 {
     let assembled = assemble_program(alloc, program)?;
-    let elf = write_elf(alloc, &assembled.image)?;
-    let Ok(frames) = frames(alloc, assembled.frame, main_weight(program)) else {
-        return Err(Fault::memory(alloc));
+    let elf = match write_elf(alloc, &assembled.image) {
+        Ok(elf) => elf,
+        Err(fault) => return Err(Stop::Told(fault)),
+    };
+    let Ok(frames) = frames(alloc, assembled.frame, weight) else {
+        return Err(Stop::Memory);
     };
     Ok(Built { elf, frames })
 }
@@ -93,36 +114,38 @@ struct Assembled {
 }
 
 /// The code of a program in its place.
-fn assemble_program(alloc: Global, program: &Program) -> Result<Assembled, Fault>
+fn assemble_program(alloc: Global, program: &Program) -> Result<Assembled, Stop>
     requires { IsBuildable (main_of program.now) }
     ensures code { IfOk result (λ done. Assembles (program_items done.frame (main_of program.now)) text_start done.image.text) }
-    ensures statics { IfOk result (λ done. done.image.statics ≡ []) }
-    ensures size { IfOk result (λ done. length done.image.text ≤ 128 * weights.main_nodes (main_of program.now) + 1024) }
+    ensures statics { IfOk result (λ done. done.image.statics ≡ replicate data_guard 0) }
+    ensures size { IfOk result (λ done. length done.image.text ≤ 128 * main_nodes (main_of program.now) + 1024) }
     ensures frame { IfOk result (λ done. done.frame ≡ frame_of (main_slots (main_of program.now))) }
-    ensures memory { IfErr result IsMemoryFault }
+    ensures memory { IfErr result IsMemory }
 {
     let Ok(code) = select(alloc, program) else {
-        return Err(Fault::memory(alloc));
+        return Err(Stop::Memory);
     };
     let Selected { items, frame } = code;
-    match assemble(alloc, &items, TEXT_START) {
-        Ok(text) => Ok(Assembled {
-            image: text_image(alloc, text),
-            frame,
-        }),
-        Err(fault) => Err(fault),
-    }
+    let text = match assemble(alloc, &items, TEXT_START) {
+        Ok(text) => text,
+        Err(fault) => return Err(Stop::Told(fault)),
+    };
+    let Ok(image) = text_image(alloc, text) else {
+        return Err(Stop::Memory);
+    };
+    Ok(Assembled { image, frame })
 }
 
 /// The image of a text without static objects.
-fn text_image(alloc: Global, text: Vec<u8>) -> Image
+fn text_image(alloc: Global, text: Vec<u8>) -> Result<Image, AllocError>
     requires { vec_len text ≤ 1048576 }
-    ensures { result ≡ record { text = text.items; statics = [] } }
+    ensures { IfOk result (λ image. image ≡ record { text = text.items; statics = replicate data_guard 0 }) }
 {
-    let Some(image) = Image::new(text, Vec::new(alloc)) else {
+    let data = Vec::from_slice(alloc, &[0; DATA_GUARD])?;
+    let Some(image) = Image::new(text, data) else {
         unreachable!()
     };
-    image
+    Ok(image)
 }
 
 /// The list of the one frame.

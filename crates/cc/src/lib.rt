@@ -3,16 +3,12 @@
 
 mod compiling;
 mod front;
-mod narrowing;
 mod performing;
-mod program;
 mod reporting;
-mod selection;
-#[cfg(test)]
-mod tests;
+mod stopping;
+mod thin;
 mod transfer;
 mod unprocessed;
-mod weighing;
 
 pub use compiling::{Built, compile};
 pub use performing::{Cmd, perform};

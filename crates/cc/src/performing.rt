@@ -1,16 +1,17 @@
 //! One command over a port and two writers.
 
 ghost use Rattle.std.specs.Prelude.{◌≡◌, ◌≢◌, ◌⊎◌, List, ℕ, MatchResult, Some, Ok};
-ghost use Rattle.srcset.specs.Files.{file_of};
-ghost use Rattle.cc.specs.Performed.{Performs, Runs, Builds, BuildsInto, FailsBuild, IsLoadFault, exit_status};
+ghost use Rattle.cc.specs.Performed.{Performs, Runs, Builds, BuildsInto, FailsBuild, exit_status};
+ghost use Rattle.cc.specs.inside.Stops.{put_stop, load_stop};
 ghost use Rattle.cc.specs.Reported.{SaysOutcome};
 
 use crate::compiling::compile;
 use crate::reporting::{say_budget, say_fault, say_port, say_trap};
+use crate::stopping::Stop;
 use crate::transfer::put_all;
 use loader::{LoadFault, load};
 use sim::{Machine, Outcome, Port, PortFault};
-use srcset::{Fault, FileSet};
+use srcset::{Code, Fault, FileSet};
 use std::alloc::Global;
 use std::io::Write;
 
@@ -41,7 +42,7 @@ pub fn perform<P: Port, W: Write, E: Write>(
     _out: &mut W,
     err: &mut E,
 ) -> u8
-    ensures performs { Performs command.entry (file_of set.now main.now) main.now file.now (P.seen port.old) (P.seen port.new) (record { before = E.contents err.old; after = E.contents err.new }) result }
+    ensures performs { Performs command.entry set.now main.now file.now (P.refused_with port.new) (P.seen port.old) (P.seen port.new) (record { before = E.contents err.old; after = E.contents err.new }) result }
     ensures out { W.contents _out.new ≡ W.contents _out.old }
 {
     match command {
@@ -58,7 +59,7 @@ fn build<P: Port, E: Write>(
     port: &mut P,
     err: &mut E,
 ) -> u8
-    ensures { Builds (file_of set.now main.now) main.now name.now (P.seen port.old) (P.seen port.new) (record { before = E.contents err.old; after = E.contents err.new }) result }
+    ensures { Builds set.now main.now name.now (P.refused_with port.new) (P.seen port.old) (P.seen port.new) (record { before = E.contents err.old; after = E.contents err.new }) result }
 {
     match build_into(alloc, set, main, name, port) {
         Ok(()) => 0,
@@ -78,14 +79,23 @@ fn build_into<P: Port>(
     port: &mut P,
 ) -> Result<(), Fault>
     ensures { MatchResult result
-        (λ _. BuildsInto (file_of set.now main.now) main.now (P.seen port.old) (P.seen port.new))
-        (FailsBuild (file_of set.now main.now) main.now name.now (P.seen port.old) (P.seen port.new)) }
+        (λ _. BuildsInto set.now main.now (P.seen port.old) (P.seen port.new))
+        (FailsBuild set.now main.now name.now (P.refused_with port.new) (P.seen port.old) (P.seen port.new)) }
 {
     let built = compile(alloc, set, main)?;
     match put_all(port, built.elf.as_slice()) {
         Ok(()) => Ok(()),
-        Err(PortFault::Memory) => Err(Fault::memory(alloc)),
-        Err(_) => Err(Fault::at(alloc, 803, name, 0)),
+        Err(fault) => Err(put_stop(fault).to_fault(alloc, name)),
+    }
+}
+
+/// Why a file was not put whole, by what the port refused.
+fn put_stop(fault: PortFault) -> Stop
+    ensures { result ≡ put_stop fault }
+{
+    match fault {
+        PortFault::Memory => Stop::Memory,
+        PortFault::Read | PortFault::Write => Stop::At(Code::CannotWrite, 0),
     }
 }
 
@@ -97,7 +107,7 @@ fn run<P: Port, E: Write>(
     max: u64,
     err: &mut E,
 ) -> u8
-    ensures { Runs file.now name.now max (P.seen port.old) (P.seen port.new) (record { before = E.contents err.old; after = E.contents err.new }) result }
+    ensures { Runs file.now name.now max (P.refused_with port.new) (P.seen port.old) (P.seen port.new) (record { before = E.contents err.old; after = E.contents err.new }) result }
 {
     match load(alloc, file) {
         Ok(program) => {
@@ -106,19 +116,19 @@ fn run<P: Port, E: Write>(
             status(alloc, outcome, err)
         }
         Err(fault) => {
-            say_fault(alloc, &load_fault(alloc, name, fault), err);
+            say_fault(alloc, &load_stop(fault).to_fault(alloc, name), err);
             1
         }
     }
 }
 
-/// The fault of a file that is no executable file for the machine.
-fn load_fault(alloc: Global, name: &str, fault: LoadFault) -> Fault
-    ensures { IsLoadFault name.now fault result }
+/// Why a file is no executable file for the machine.
+fn load_stop(fault: LoadFault) -> Stop
+    ensures { result ≡ load_stop fault }
 {
     match fault {
-        LoadFault::Memory => Fault::memory(alloc),
-        _ => Fault::at(alloc, fault.code(), name, 0),
+        LoadFault::Memory => Stop::Memory,
+        _ => Stop::At(fault.code(), 0),
     }
 }
 

@@ -2,12 +2,11 @@
 
 ghost use Rattle.std.specs.Prelude.{◌≡◌, IfOk, MatchResult};
 ghost use Rattle.cc.specs.Reported.{Says, fault_text, memory_text, budget_text, trap_text, port_text, cause_name};
-ghost use Rattle.cc.specs.Transfer.{WritesBeginning};
+ghost use Rattle.srcset.specs.Writing.{TakesBeginning};
 
-use crate::transfer::write_text;
 use rv32::Cause;
 use sim::PortFault;
-use srcset::Fault;
+use srcset::{Fault, write_text};
 use std::alloc::{AllocError, Global};
 use std::io::Write;
 
@@ -18,8 +17,8 @@ const OUT_OF_MEMORY: &[u8] = b"cc: 801 out of memory\n";
 /// is left out.
 fn say<E: Write>(err: &mut E, text: Result<Vec<u8>, AllocError>)
     ensures { MatchResult text
-        (λ t. WritesBeginning (E.contents err.old) (E.contents err.new) t.items)
-        (λ _. WritesBeginning (E.contents err.old) (E.contents err.new) memory_text) }
+        (λ t. TakesBeginning (E.contents err.old) (E.contents err.new) t.items)
+        (λ _. TakesBeginning (E.contents err.old) (E.contents err.new) memory_text) }
 {
     match text {
         Ok(text) => {
@@ -48,7 +47,7 @@ fn fault_text(alloc: Global, fault: &Fault) -> Result<Vec<u8>, AllocError>
 
 /// That the instructions allowed were not enough.
 pub fn say_budget<E: Write>(err: &mut E)
-    ensures { WritesBeginning (E.contents err.old) (E.contents err.new) budget_text }
+    ensures { TakesBeginning (E.contents err.old) (E.contents err.new) budget_text }
 {
     let _whole = write_text(err, b"cc: budget used\n");
 }
@@ -77,7 +76,7 @@ pub fn say_port<E: Write>(alloc: Global, fault: PortFault, err: &mut E)
 fn port_text(alloc: Global, fault: PortFault) -> Result<Vec<u8>, AllocError>
     ensures { IfOk result (λ t. t.items ≡ port_text fault) }
 {
-    let line = format!(in alloc; "cc: port fault {}\n", fault.code())?;
+    let line = format!(in alloc; "cc: port fault {}\n", fault.code().number())?;
     Ok(line.into_bytes())
 }
 

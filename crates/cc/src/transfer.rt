@@ -1,11 +1,9 @@
-//! Many bytes through a port or a writer.
+//! Many bytes through a port.
 
-ghost use Rattle.std.specs.Prelude.{◌≡◌, ℕ, MatchResult, IfErr, true};
-ghost use Rattle.std.specs.Io.KnownBytes.{Appends};
-ghost use Rattle.cc.specs.Transfer.{PutsAll, PutsSome, WritesBeginning};
+ghost use Rattle.std.specs.Prelude.{ℕ, MatchResult, IfErr};
+ghost use Rattle.cc.specs.Transfer.{PutsAll, PutsSome};
 
 use sim::{Port, PortFault};
-use std::io::Write;
 
 /// Puts all bytes, up to the first that the port refuses.
 pub fn put_all<P: Port>(port: &mut P, bytes: &[u8]) -> Result<(), PortFault>
@@ -17,19 +15,4 @@ pub fn put_all<P: Port>(port: &mut P, bytes: &[u8]) -> Result<(), PortFault>
         port.put(*byte)?;
     }
     Ok(())
-}
-
-/// Writes all bytes. `false` where the writer refused; it then took a beginning of them.
-pub fn write_text<W: Write>(writer: &mut W, bytes: &[u8]) -> bool
-    ensures all { result ≡ true → Appends (W.contents writer.old) (W.contents writer.new) bytes.now }
-    ensures some { WritesBeginning (W.contents writer.old) (W.contents writer.new) bytes.now }
-{
-    let mut at = 0;
-    while at < bytes.len() {
-        match writer.write(&bytes[at..]) {
-            Ok(count) if count > 0 => at += count,
-            _ => return false,
-        }
-    }
-    true
 }

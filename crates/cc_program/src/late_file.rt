@@ -1,8 +1,13 @@
-//! A file that is made at the first write to it.
+//! An executable file that is made at the first write to it.
 
+use std::fs::OpenOptions;
+use std::io;
 use std::io::Write;
+use std::os::unix::fs::OpenOptionsExt;
 use std::rt::Files;
-use std::{fs, io};
+
+/// Who may do what with a file that is made: all may read, write and execute it, less what the user's mask takes away.
+const EXECUTABLE: u32 = 0o777;
 
 /// The file at a path, which is made, or emptied, once something is written to it.
 #[derive(Drop)]
@@ -27,7 +32,13 @@ impl<'a, R: Files> Write for LateFile<'a, R> {
         if let Some(file) = &mut self.file {
             return file.write(buf);
         }
-        let mut file = fs::create(self.rt, self.path)?;
+        let mut options = OpenOptions::new();
+        options
+            .write(true)
+            .create(true)
+            .truncate(true)
+            .mode(EXECUTABLE);
+        let mut file = options.open(self.rt, self.path)?;
         let count = file.write(buf)?;
         self.file = Some(file);
         Ok(count)

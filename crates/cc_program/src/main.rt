@@ -9,7 +9,7 @@ use cc::{Cmd, perform};
 use clap::ArgMatches;
 use late_file::LateFile;
 use sim::{IoPort, PortFault};
-use srcset::{Fault, FileSet, MAX_FILE_BYTES};
+use srcset::{Code, Fault, FileSet, MAX_FILE_BYTES};
 use std::alloc::Global;
 use std::env::Args;
 use std::io::{BufReader, BufWriter, ErrorKind, Read, Write};
@@ -64,7 +64,7 @@ fn show(rt: &HostRuntime, error: &clap::Error) -> u8 {
     }
     match printed {
         Ok(()) => 0,
-        Err(_) => say(rt, &Fault::at(rt.alloc(), 803, "", 0)),
+        Err(_) => say(rt, &Fault::at(rt.alloc(), Code::CannotWrite, "", 0)),
     }
 }
 
@@ -102,7 +102,7 @@ fn build(
         &mut rt.stderr(),
     );
     if status == 0 && port.finish().is_err() {
-        return Ok(say(rt, &Fault::at(rt.alloc(), 803, out, 0)));
+        return Ok(say(rt, &Fault::at(rt.alloc(), Code::CannotWrite, out, 0)));
     }
     Ok(status)
 }
@@ -139,7 +139,7 @@ fn run(rt: &HostRuntime, request: Request<'_>) -> Result<u8> {
 
 /// Says that the output was refused at last.
 fn say_port(rt: &HostRuntime, fault: PortFault) -> u8 {
-    let _said = eprintln!(rt; "cc: port fault {}", fault.code());
+    let _said = eprintln!(rt; "cc: port fault {}", fault.code().number());
     126
 }
 
@@ -171,7 +171,7 @@ fn read_file<R: Files + AllocGlobal>(rt: &R, name: &str, set: &mut FileSet) -> R
         Err(error) => return Err(unread(rt.alloc(), name, &error)),
     };
     if bytes.len() > MAX_FILE_BYTES {
-        return Err(Fault::at(rt.alloc(), 701, name, 0));
+        return Err(Fault::at(rt.alloc(), Code::FileSizeLimit, name, 0));
     }
     set.add(name, bytes)
 }
@@ -190,6 +190,6 @@ fn unread(alloc: Global, name: &str, error: &io::Error) -> Fault {
     if error.kind() == ErrorKind::OutOfMemory {
         Fault::memory(alloc)
     } else {
-        Fault::at(alloc, 802, name, 0)
+        Fault::at(alloc, Code::CannotRead, name, 0)
     }
 }

@@ -6,8 +6,9 @@ use Rattle.std.proofs.lemmas.List.{get_or_append_left, get_or-append-add, length
 use Rattle.loader.specs.declared.header.LoadHeader.{LoadHeader}
 use Rattle.loader.specs.declared.fault.LoadFault.{LoadFault}
 use Rattle.loader.specs.File.{Image, loads, file_image, fault_of, answer_of, e_entry, image_space, byte_of, said}
-use Rattle.elf_out.specs.Layout.{Parts, data_start, data_offset}
-use Rattle.elf_out.specs.Written.{headers_of, file_of, data_of, zeros}
+use Rattle.loader.specs.MemoryMap.{data_start, data_offset}
+use Rattle.elf_out.specs.Layout.{Parts}
+use Rattle.elf_out.specs.Written.{headers_of, file_of, zeros}
 use Rattle.elf_out.specs.Program.{is_within, is_text, is_data, is_stack, program_space, program_image}
 use Rattle.elf_out.proofs.Pushing.{length-headers_of}
 use Rattle.elf_out.proofs.Reading.{text_load, data_load, stack_load, loads_again, no_fault, e_entry_again}
@@ -20,7 +21,7 @@ before_text p = headers_of (length p.text) (length p.statics) ++ zeros (0x1000 -
 before_data : Parts → List ℕ
 before_data p = before_text p ++ p.text ++ zeros (data_start (length p.text) - (0x11000 + length p.text))
 
-file_is : (p : Parts) → file_of p ≡ before_data p ++ data_of p.statics
+file_is : (p : Parts) → file_of p ≡ before_data p ++ p.statics
 unfolding file_of before_data before_text
 file_is p = refl
 
@@ -40,10 +41,9 @@ length-before_data p h =
     let d = length-before_text p in
     omega arith
 
-length-file_of : (p : Parts) → length p.text ≤ 117440512 → length (file_of p) ≡ data_offset (length p.text) + (16 + length p.statics)
+length-file_of : (p : Parts) → length p.text ≤ 117440512 → length (file_of p) ≡ data_offset (length p.text) + (length p.statics)
 length-file_of p h =
-    let e : length (data_of p.statics) ≡ 16 + length p.statics = length-append (zeros 16) p.statics in
-    ap length (file_is p) ∙ length-append (before_data p) (data_of p.statics) ∙ ap (λ k. k + length (data_of p.statics)) (length-before_data p h) ∙ ap (λ k. data_offset (length p.text) + k) e
+    ap length (file_is p) ∙ length-append (before_data p) p.statics ∙ ap (λ k. k + length p.statics) (length-before_data p h)
 
 -- the headers come first
 file_rest : (p : Parts) → (rest : List ℕ) × (file_of p ≡ headers_of (length p.text) (length p.statics) ++ rest)
@@ -53,24 +53,24 @@ file_rest p =
     let h = headers_of n (length p.statics) in
     let a = zeros (0x1000 - 148) in
     let b = zeros (data_start n - (0x11000 + n)) in (
-      a ++ (p.text ++ (b ++ data_of p.statics)),
-      append_assoc (h ++ a ++ p.text) b (data_of p.statics) ∙ append_assoc (h ++ a) p.text (b ++ data_of p.statics) ∙ append_assoc h a (p.text ++ (b ++ data_of p.statics)),
+      a ++ (p.text ++ (b ++ p.statics)),
+      append_assoc (h ++ a ++ p.text) b p.statics ∙ append_assoc (h ++ a) p.text (b ++ p.statics) ∙ append_assoc h a (p.text ++ (b ++ p.statics)),
     )
 
 text_byte : (p : Parts) (k : ℕ) → k < length p.text → slice_index (file_of p) (0x1000 + k) ≡ slice_index p.text k
 unfolding before_data
 text_byte p k lt =
     let n = length p.text in
-    let r = zeros (data_start n - (0x11000 + n)) ++ data_of p.statics in
+    let r = zeros (data_start n - (0x11000 + n)) ++ p.statics in
     let e : file_of p ≡ before_text p ++ (p.text ++ r) =
-    file_is p ∙ append_assoc (before_text p ++ p.text) (zeros (data_start n - (0x11000 + n))) (data_of p.statics) ∙ append_assoc (before_text p) p.text r in
+    file_is p ∙ append_assoc (before_text p ++ p.text) (zeros (data_start n - (0x11000 + n))) p.statics ∙ append_assoc (before_text p) p.text r in
     let at : slice_index (before_text p ++ (p.text ++ r)) (length (before_text p) + k) ≡ slice_index (p.text ++ r) k = get_or-append-add (before_text p) (p.text ++ r) k 0 in
     ap (λ f. slice_index f (0x1000 + k)) e ∙ ap (λ j. slice_index (before_text p ++ (p.text ++ r)) (j + k)) (sym (length-before_text p)) ∙ at ∙ get_or_append_left p.text r 0 k lt
 
-data_byte : (p : Parts) (k : ℕ) → length p.text ≤ 117440512 → slice_index (file_of p) (data_offset (length p.text) + k) ≡ slice_index (data_of p.statics) k
+data_byte : (p : Parts) (k : ℕ) → length p.text ≤ 117440512 → slice_index (file_of p) (data_offset (length p.text) + k) ≡ slice_index p.statics k
 data_byte p k h =
-    let at : slice_index (before_data p ++ data_of p.statics) (length (before_data p) + k) ≡ slice_index (data_of p.statics) k = get_or-append-add (before_data p) (data_of p.statics) k 0 in
-    ap (λ f. slice_index f (data_offset (length p.text) + k)) (file_is p) ∙ ap (λ j. slice_index (before_data p ++ data_of p.statics) (j + k)) (sym (length-before_data p h)) ∙ at
+    let at : slice_index (before_data p ++ p.statics) (length (before_data p) + k) ≡ slice_index p.statics k = get_or-append-add (before_data p) p.statics k 0 in
+    ap (λ f. slice_index f (data_offset (length p.text) + k)) (file_is p) ∙ ap (λ j. slice_index (before_data p ++ p.statics) (j + k)) (sym (length-before_data p h)) ∙ at
 
 -- ---- the memory
 
@@ -108,7 +108,7 @@ may_write false false true f g = refl
 may_write false false false f g = refl
 
 data_not_text : (p : Parts) (a : ℕ) → is_text p a ≡ true → is_data p a ≡ false
-data_not_text p a h = let lt = within_high 0x11000 (length p.text) a h in below (data_start (length p.text)) (16 + length p.statics) a (omega arith)
+data_not_text p a h = let lt = within_high 0x11000 (length p.text) a h in below (data_start (length p.text)) (length p.statics) a (omega arith)
 
 stack_not_text : (p : Parts) (a : ℕ) → length p.text ≤ 117440512 → is_text p a ≡ true → is_stack a ≡ false
 stack_not_text p a f h = let lt = within_high 0x11000 (length p.text) a h in below 0x7FF00000 0x100000 a (omega arith)
@@ -127,13 +127,13 @@ text_at p a h =
     let lt : a - 0x11000 < length p.text = omega arith in
     rw (lt_true (a - 0x11000) (length p.text) lt) (text_byte p (a - 0x11000) lt)
 
-data_at : (p : Parts) (a : ℕ) → length p.text ≤ 117440512 → is_data p a ≡ true → byte_of (file_of p) (data_load (length p.text) (length p.statics)) a ≡ slice_index (data_of p.statics) (a - data_start (length p.text))
+data_at : (p : Parts) (a : ℕ) → length p.text ≤ 117440512 → is_data p a ≡ true → byte_of (file_of p) (data_load (length p.text) (length p.statics)) a ≡ slice_index p.statics (a - data_start (length p.text))
 data_at p a f h =
     let s = data_start (length p.text) in
-    let low = within_low s (16 + length p.statics) a h in
-    let high = within_high s (16 + length p.statics) a h in
-    let lt : a - s < 16 + length p.statics = omega arith in
-    rw (lt_true (a - s) (16 + length p.statics) lt) (data_byte p (a - s) f)
+    let low = within_low s (length p.statics) a h in
+    let high = within_high s (length p.statics) a h in
+    let lt : a - s < length p.statics = omega arith in
+    rw (lt_true (a - s) (length p.statics) lt) (data_byte p (a - s) f)
 
 nothing_at : (p : Parts) (a : ℕ) → byte_of (file_of p) stack_load a ≡ 0
 nothing_at p a = let e : ltb (a - 0x7FF00000) 0 ≡ false = grind (arith, nat_tests) in rw e refl
@@ -153,7 +153,7 @@ written_space p h =
     let f = file_of p in
     let fits : length p.text ≤ 117440512 = omega arith in
     let e = same_loads p h in
-    let bytes : (a : ℕ) → said (byte_of f) 0 (loads f) a ≡ (if is_text p a then slice_index p.text (a - 0x11000) else if is_data p a then slice_index (data_of p.statics) (a - data_start (length p.text)) else 0) =
+    let bytes : (a : ℕ) → said (byte_of f) 0 (loads f) a ≡ (if is_text p a then slice_index p.text (a - 0x11000) else if is_data p a then slice_index p.statics (a - data_start (length p.text)) else 0) =
     λ a. ap (λ ls. said (byte_of f) 0 ls a) e ∙ chosen (is_text p a) (is_data p a) (is_stack a) _ _ _ _ _ (text_at p a) (data_at p a fits) (nothing_at p a) in
     let reads : (a : ℕ) → said (λ l a. eqb (l.flags / 4 % 2) 1) false (loads f) a ≡ (is_data p a || is_stack a) =
     λ a. ap (λ ls. said (λ l a. eqb (l.flags / 4 % 2) 1) false ls a) e ∙ may_write (is_text p a) (is_data p a) (is_stack a) (data_not_text p a) (stack_not_text p a fits) in
@@ -171,7 +171,7 @@ written_entry p =
 written_sound : (p : Parts) → length p.text + length p.statics ≤ 117440512 → fault_of (file_of p) ≡ None
 written_sound p h =
     let r = file_rest p in
-    let len : length (headers_of (length p.text) (length p.statics) ++ r.0) ≡ data_offset (length p.text) + (16 + length p.statics) = ap length (sym r.1) ∙ length-file_of p (omega arith) in
+    let len : length (headers_of (length p.text) (length p.statics) ++ r.0) ≡ data_offset (length p.text) + (length p.statics) = ap length (sym r.1) ∙ length-file_of p (omega arith) in
     ap (λ f. fault_of f) r.1 ∙ no_fault (length p.text) (length p.statics) r.0 h len
 
 pub written_image : (p : Parts) → length p.text + length p.statics ≤ 117440512 → file_image (file_of p) ≡ Ok (program_image p)

@@ -2,7 +2,8 @@
 use Rattle.std.proofs.Common.{ℕ, ◌≡◌, ◌≤◌, ◌+◌, ◌-◌, List, ◌++◌, length, take, refl, ap, ◌∙◌, append_assoc, arith, length-append}
 use Rattle.std.specs.Prelude.{replicate}
 use Rattle.std.proofs.lemmas.List.{take_all}
-use Rattle.elf_out.specs.Layout.{Parts, data_start, data_offset}
+use Rattle.loader.specs.MemoryMap.{data_start, data_offset}
+use Rattle.elf_out.specs.Layout.{Parts}
 use Rattle.elf_out.specs.Written.{headers_of, file_of, zeros}
 
 pub pushed_four : (s a b c d s1 s2 s3 s4 : List ℕ) → s1 ≡ s ++ a → s2 ≡ s1 ++ b → s3 ≡ s2 ++ c → s4 ≡ s3 ++ d → s4 ≡ s ++ (a ++ b ++ c ++ d)
@@ -19,13 +20,13 @@ resized n k s s' e h r =
     r ∙ ap (λ xs. xs ++ zeros (n - k)) t
 
 -- the whole file
-pub file_made : (p : Parts) (s1 s2 s3 s4 s5 s6 : List ℕ) (k1 k3 o : ℕ) → length p.text ≤ 117440512 → o ≡ data_offset (length p.text) → k1 ≡ length s1 → k3 ≡ length s3 →
+pub file_made : (p : Parts) (s1 s2 s3 s4 s5 : List ℕ) (k1 k3 o : ℕ) → length p.text ≤ 117440512 → o ≡ data_offset (length p.text) → k1 ≡ length s1 → k3 ≡ length s3 →
     s1 ≡ headers_of (length p.text) (length p.statics) →
     s2 ≡ take 0x1000 s1 ++ replicate (0x1000 - k1) 0 → s3 ≡ s2 ++ p.text →
     s4 ≡ take o s3 ++ replicate (o - k3) 0 →
-    s5 ≡ s4 ++ zeros 16 → s6 ≡ s5 ++ p.statics → s6 ≡ file_of p
+    s5 ≡ s4 ++ p.statics → s5 ≡ file_of p
 unfolding file_of
-file_made p s1 s2 s3 s4 s5 s6 k1 k3 o fits at l1 l3 e1 e2 e3 e4 e5 e6 =
+file_made p s1 s2 s3 s4 s5 k1 k3 o fits at l1 l3 e1 e2 e3 e4 e5 =
     let n = length p.text in
     let h = headers_of n (length p.statics) in
     let c1 : k1 ≡ 148 = l1 ∙ ap length e1 ∙ length-headers_of n (length p.statics) in
@@ -37,4 +38,4 @@ file_made p s1 s2 s3 s4 s5 s6 k1 k3 o fits at l1 l3 e1 e2 e3 e4 e5 e6 =
     let t4 : s4 ≡ s3 ++ zeros (o - k3) = resized o k3 s3 s4 l3 (omega arith) e4 in
     let w : o - k3 ≡ data_start n - (0x11000 + n) = omega arith in
     let f4 : s4 ≡ h ++ zeros (0x1000 - 148) ++ p.text ++ zeros (data_start n - (0x11000 + n)) = t4 ∙ ap (λ k. s3 ++ zeros k) w ∙ ap (λ s. s ++ zeros (data_start n - (0x11000 + n))) (e3 ∙ ap (λ s. s ++ p.text) f2) in
-    e6 ∙ ap (λ s. s ++ p.statics) (e5 ∙ ap (λ s. s ++ zeros 16) f4) ∙ append_assoc (h ++ zeros (0x1000 - 148) ++ p.text ++ zeros (data_start n - (0x11000 + n))) (zeros 16) p.statics
+    e5 ∙ ap (λ s. s ++ p.statics) f4

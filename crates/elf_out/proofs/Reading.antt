@@ -5,7 +5,7 @@ use Rattle.std.specs.List.{sum_by}
 use Rattle.std.proofs.lemmas.Bool.Decides.{nat_tests}
 use Rattle.loader.specs.declared.header.LoadHeader.{LoadHeader}
 use Rattle.loader.specs.File.{e_type, e_machine, e_flags, e_entry, is_elf32, is_table, loads, header_fault, loads_fault, fault_of, first_of, is_sound, all_sound, apart, are_apart}
-use Rattle.elf_out.specs.Layout.{data_start, data_offset}
+use Rattle.loader.specs.MemoryMap.{data_start, data_offset}
 use Rattle.elf_out.specs.Written.{headers_of}
 
 -- ---- the headers, read again
@@ -43,7 +43,7 @@ abbrev pub text_load : ℕ → LoadHeader
 text_load n = record { offset = 0x1000; address = 0x11000; file_size = n; memory_size = n; flags = 1 }
 
 abbrev pub data_load : ℕ → ℕ → LoadHeader
-data_load n m = record { offset = data_offset n; address = data_start n; file_size = 16 + m; memory_size = 16 + m; flags = 6 }
+data_load n m = record { offset = data_offset n; address = data_start n; file_size = m; memory_size = m; flags = 6 }
 
 abbrev pub stack_load : LoadHeader
 stack_load = record { offset = 0; address = 0x7FF00000; file_size = 0; memory_size = 0x100000; flags = 6 }
@@ -51,7 +51,7 @@ stack_load = record { offset = 0; address = 0x7FF00000; file_size = 0; memory_si
 pub loads_again : (n m : ℕ) (rest : List ℕ) → n + m ≤ 117440512 → loads (headers_of n m ++ rest) ≡ text_load n ∷ data_load n m ∷ stack_load ∷ []
 unfolding headers_of loads
 loads_again n m rest h =
-    rw (four_again n (omega arith), four_again (16 + m) (omega arith), four_again (data_start n) (omega arith), four_again (data_offset n) (omega arith)) refl
+    rw (four_again n (omega arith), four_again m (omega arith), four_again (data_start n) (omega arith), four_again (data_offset n) (omega arith)) refl
 
 -- ---- no fault
 
@@ -81,7 +81,7 @@ sound_if len l h g = and_true _ _ (or_right _ _ (le_true _ _ h)) (le_true _ _ g)
 apart_if : (l k : LoadHeader) → l.address + l.memory_size ≤ k.address → apart l k ≡ true
 apart_if l k h = grind (arith, nat_tests)
 
-all_sound_again : (len n m : ℕ) → n + m ≤ 117440512 → data_offset n + (16 + m) ≤ len → all_sound len (text_load n ∷ data_load n m ∷ stack_load ∷ []) ≡ true
+all_sound_again : (len n m : ℕ) → n + m ≤ 117440512 → data_offset n + m ≤ len → all_sound len (text_load n ∷ data_load n m ∷ stack_load ∷ []) ≡ true
 all_sound_again len n m h e =
     let a : 0x1000 + n ≤ len = omega arith in
     and_true _ _ (sound_if len (text_load n) a (omega arith)) (and_true _ _ (sound_if len (data_load n m) e (omega arith)) (and_true _ _ (sound_if len stack_load (omega arith) (omega arith)) refl))
@@ -89,12 +89,12 @@ all_sound_again len n m h e =
 are_apart_again : (n m : ℕ) → n + m ≤ 117440512 → are_apart (text_load n ∷ data_load n m ∷ stack_load ∷ []) ≡ true
 are_apart_again n m h =
     let a : 0x11000 + n ≤ data_start n = omega arith in
-    let b : data_start n + (16 + m) ≤ 0x7FF00000 = omega arith in
+    let b : data_start n + m ≤ 0x7FF00000 = omega arith in
     and_true _ _
     (and_true _ _ (le_true (0x11000 + n) (2 ^ 32) (omega arith)) (and_true _ _ (apart_if (text_load n) (data_load n m) a) (and_true _ _ (apart_if (text_load n) stack_load (omega arith)) refl)))
-    (and_true _ _ (and_true _ _ (le_true (data_start n + (16 + m)) (2 ^ 32) (omega arith)) (and_true _ _ (apart_if (data_load n m) stack_load b) refl)) refl)
+    (and_true _ _ (and_true _ _ (le_true (data_start n + m) (2 ^ 32) (omega arith)) (and_true _ _ (apart_if (data_load n m) stack_load b) refl)) refl)
 
-pub no_fault : (n m : ℕ) (rest : List ℕ) → n + m ≤ 117440512 → length (headers_of n m ++ rest) ≡ data_offset n + (16 + m) → fault_of (headers_of n m ++ rest) ≡ None
+pub no_fault : (n m : ℕ) (rest : List ℕ) → n + m ≤ 117440512 → length (headers_of n m ++ rest) ≡ data_offset n + m → fault_of (headers_of n m ++ rest) ≡ None
 no_fault n m rest h e =
     let f = headers_of n m ++ rest in
     let table : is_table f ≡ true = let t = le_true 148 (length f) (omega arith) in is_table_again n m rest (length f) t refl ∙ t in

@@ -2,8 +2,8 @@
 use Rattle.std.specs.Prelude.{ℕ, ◌+◌, ◌-◌, ◌&&◌, ◌||◌, Bool, if◌then◌else◌, length, nat_le, nat_lt, slice_index}
 use Rattle.rv32.specs.Space.{Space}
 use Rattle.loader.specs.File.{Image}
-use Rattle.elf_out.specs.Layout.{Parts, text_start, data_start, stack_start, stack_size}
-use Rattle.elf_out.specs.Written.{data_of}
+use Rattle.loader.specs.MemoryMap.{text_start, data_start, stack_start, stack_size}
+use Rattle.elf_out.specs.Layout.{Parts}
 
 -- a is one of the n addresses from start on
 abbrev pub is_within : ℕ → ℕ → ℕ → Bool
@@ -13,7 +13,7 @@ abbrev pub is_text : Parts → ℕ → Bool
 is_text p a = is_within text_start (length p.text) a
 
 abbrev pub is_data : Parts → ℕ → Bool
-is_data p a = is_within (data_start (length p.text)) (16 + length p.statics) a
+is_data p a = is_within (data_start (length p.text)) (length p.statics) a
 
 abbrev pub is_stack : ℕ → Bool
 is_stack a = is_within stack_start stack_size a
@@ -23,7 +23,7 @@ unfoldable pub program_space : Parts → Space
 program_space p = record {
   byte = λ a.
       if is_text p a then slice_index p.text (a - text_start) else
-      if is_data p a then slice_index (data_of p.statics) (a - data_start (length p.text)) else 0;
+      if is_data p a then slice_index p.statics (a - data_start (length p.text)) else 0;
   can_read = λ a. is_data p a || is_stack a;
   can_write = λ a. is_data p a || is_stack a;
   can_execute = λ a. is_text p a;

@@ -2,7 +2,6 @@
 #![tactic(auto)]
 
 mod image;
-mod layout;
 mod writer;
 
 pub use image::Image;

@@ -17,7 +17,7 @@ const ELF_HEADER: [u8; 52] = [
     0, 0, 0, 0, 0, 0, 0, 0, 0x34, 0, 0x20, 0, 3, 0, 0, 0, 0, 0, 0, 0,
 ];
 
-/// The program headers of 12 bytes of text and 5 of statics.
+/// The program headers of 12 bytes of text and 21 of data.
 const PROGRAM_HEADERS: [u8; 96] = [
     1, 0, 0, 0, 0, 0x10, 0, 0, 0, 0x10, 1, 0, 0, 0x10, 1, 0, // text
     12, 0, 0, 0, 12, 0, 0, 0, 1, 0, 0, 0, 0, 0x10, 0, 0, //
@@ -27,9 +27,11 @@ const PROGRAM_HEADERS: [u8; 96] = [
     0, 0, 0, 0, 0, 0, 0x10, 0, 6, 0, 0, 0, 0, 0x10, 0, 0,
 ];
 
-fn written(alloc: Global, text: &[u8], statics: &[u8]) -> Result<Vec<u8>, Fail> {
+/// The file of a text, and of data that is these bytes behind 16 zero bytes.
+fn written(alloc: Global, text: &[u8], objects: &[u8]) -> Result<Vec<u8>, Fail> {
     let text = Vec::from_slice(alloc, text)?;
-    let statics = Vec::from_slice(alloc, statics)?;
+    let mut statics = Vec::from_slice(alloc, &[0; 16])?;
+    statics.extend_from_slice(objects)?;
     let image = Image::new(text, statics).ok_or("too large")?;
     Ok(write_elf(alloc, &image)?)
 }

@@ -6,16 +6,16 @@ ghost use Rattle.std.specs.Prelude.{◌≡◌, ◌≢◌, ◌≤◌, ◌+◌, �
 ghost use Rattle.srcset.specs.Fault.{IsMemoryFault};
 ghost use Rattle.loader.specs.declared.fault.LoadFault.{LoadFault};
 ghost use Rattle.loader.specs.File.{file_image};
+ghost use Rattle.loader.specs.MemoryMap.{max_image};
 ghost use Rattle.elf_out.specs.Written as written;
 ghost use Rattle.elf_out.specs.Written.{file_of, headers_of};
 ghost use Rattle.elf_out.specs.Program.{program_image};
 
 use crate::image::Image;
-use crate::layout::{
-    DATA_GUARD, OFFSET_TO_ADDRESS, PAGE, STACK_SIZE, STACK_START, TEXT_OFFSET, TEXT_START,
-    data_start,
-};
 use byteorder::{ByteOrder, LittleEndian};
+use loader::memory_map::{
+    OFFSET_TO_ADDRESS, PAGE, STACK_SIZE, STACK_START, TEXT_OFFSET, TEXT_START, data_start,
+};
 use srcset::Fault;
 use std::alloc::{AllocError, Global};
 
@@ -66,10 +66,10 @@ const STACK: Segment = Segment {
 /// The ELF32 executable of an image.
 ///
 /// It has three segments: the text from 0x00011000 on, where the program begins, which may only be
-/// executed; the data, from the first multiple of 4096 not below the text's end on, 16 zero bytes and
-/// then the statics, which may be read and written; and the stack, from 0x7FF00000 to 0x80000000, which
-/// may be read and written and of which the file holds nothing. The file ends with the last byte of the
-/// data. It is refused only for want of memory, with code 801.
+/// executed; the data, from the first multiple of 4096 not below the text's end on, which may be read and
+/// written; and the stack, from 0x7FF00000 to 0x80000000, which may be read and written and of which the
+/// file holds nothing. The file ends with the last byte of the data. It is refused only for want of
+/// memory, with code 801.
 pub fn write_elf(alloc: Global, image: &Image) -> Result<Vec<u8>, Fault>
     ensures bytes { IfOk result (λ file. file.items ≡ file_of image.now) }
     ensures image { IfOk result (λ file. file_image file.items ≡ Ok (program_image image.now)) }
@@ -83,17 +83,16 @@ pub fn write_elf(alloc: Global, image: &Image) -> Result<Vec<u8>, Fault>
 }
 
 fn file_bytes(alloc: Global, text: &[u8], statics: &[u8]) -> Result<Vec<u8>, AllocError>
-    requires { length text.now + length statics.now ≤ 117440512 }
+    requires { length text.now + length statics.now ≤ max_image }
     ensures { IfOk result (λ file. file.items ≡ file_of (record { text = text.now; statics = statics.now })) }
 {
     let data_offset = (data_start(text.len() as u32) - OFFSET_TO_ADDRESS) as usize;
-    let size = data_offset + DATA_GUARD + statics.len();
+    let size = data_offset + statics.len();
     let mut file = Vec::with_capacity(alloc, size)?;
     push_headers(&mut file, text.len() as u32, statics.len() as u32)?;
     file.resize(TEXT_OFFSET as usize, 0)?;
     file.extend_from_slice(text)?;
     file.resize(data_offset, 0)?;
-    file.extend_from_slice(&[0; DATA_GUARD])?;
     file.extend_from_slice(statics)?;
     Ok(file)
 }
@@ -101,11 +100,10 @@ fn file_bytes(alloc: Global, text: &[u8], statics: &[u8]) -> Result<Vec<u8>, All
 /// The ELF header and the three program headers.
 #[tactic(auto, unfolding(crate::specs::Written::headers_of))]
 fn push_headers(file: &mut Vec<u8>, text_size: u32, statics_size: u32) -> Result<(), AllocError>
-    requires { text_size + statics_size ≤ 117440512 }
+    requires { text_size + statics_size ≤ max_image }
     ensures { OnOk result (file.new.items ≡ file.old.items ++ headers_of text_size statics_size) }
 {
     let data_address = data_start(text_size);
-    let data_size = DATA_GUARD as u32 + statics_size;
     push_elf_header(file)?;
     push_segment(
         file,
@@ -122,8 +120,8 @@ fn push_headers(file: &mut Vec<u8>, text_size: u32, statics_size: u32) -> Result
         &Segment {
             offset: data_address - OFFSET_TO_ADDRESS,
             address: data_address,
-            file_size: data_size,
-            memory_size: data_size,
+            file_size: statics_size,
+            memory_size: statics_size,
             flags: READ_AND_WRITE,
         },
     )?;

@@ -1,9 +1,17 @@
 use Rattle.tree.specs.View.{unit_of}
-use Rattle.cc.specs.Sums.{main_of}
-use Rattle.cc.specs.Thin.{thin_in}
-use Rattle.cc.proofs.Bounds.{buildable}
-use Rattle.cc.proofs.Refusals.{narrowed}
+use Rattle.cc.specs.thin.Sums.{main_of}
+use Rattle.cc.proofs.thin.Bounds.{buildable}
+use Rattle.cc.proofs.thin.Builds.{narrowed_program, built_unit}
 use Rattle.cc.proofs.compiling.build_unit.Goals as goal
 
 pub build-requires : goal.build-requires
-build-requires c = buildable c.args.names.now (unit_of c.args.unit.now) (main_of c.in-Ok-Some.program) (narrowed c.in-Ok-Some.field-0 c.in-Ok-Some.program (thin_in c.args.names.now (unit_of c.args.unit.now)) c.in-Ok-Some.ensures c.in-Ok-Some.field-0-is) c.requires
+build-requires c =
+    let texts = c.args.names.now in
+    let unit = unit_of c.args.unit.now in
+    buildable texts unit (main_of c.in-Ok.program) (narrowed_program texts unit c.narrow.result c.in-Ok.program c.narrow.ensures c.in-Ok.ensures) c.requires
+
+pub returns-in-Ok-clause-built : goal.returns-in-Ok-clause-built
+returns-in-Ok-clause-built c =
+    let texts = c.args.names.now in
+    let unit = unit_of c.args.unit.now in
+    built_unit texts unit (main_of c.in-Ok.program) c.main_weight.result c.build.result (narrowed_program texts unit c.narrow.result c.in-Ok.program c.narrow.ensures c.in-Ok.ensures) c.requires c.main_weight.ensures c.build.ensures.built

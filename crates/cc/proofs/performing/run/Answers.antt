@@ -17,8 +17,10 @@ returns-in-Ok g c =
         says = c.status.ensures.says;
         meets = λ input told. c.run-outcome.ensures.meets fresh old.output (start_world _ input) (begins old _ input _ c.new-machine.ensures.start told);
         counts = c.run-outcome.ensures.counts fresh;
+        blames = c.run-outcome.ensures.fault fresh;
       },
     )
 
 pub returns-in-Err : goal.returns-in-Err
-returns-in-Err g c = inr (refl, refl, (c.load_fault.result, load_fails _ _ _ _ c.in-Err.ensures c.load_fault.ensures, c.say_fault.ensures))
+returns-in-Err g c =
+    inr (refl, refl, (c.to_fault.result, load_fails c.args.file.now c.args.name.now c.in-Err.fault c.load_stop.result c.to_fault.result c.in-Err.ensures c.load_stop.ensures c.to_fault.ensures, c.say_fault.ensures))

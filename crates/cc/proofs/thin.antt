@@ -1,0 +1,12 @@
+pub mod Views
+pub mod Words
+pub mod Evaluates
+pub mod Mains
+pub mod Whole
+pub mod Selecting
+pub mod Sound
+pub mod Sizes
+pub mod Narrows
+pub mod Bounds
+pub mod Builds
+pub mod Weighs

@@ -1,0 +1,62 @@
+-- Why a command stops, before it is told.
+use Rattle.std.specs.Prelude.{◌≡◌, ◌⊎◌, List, ℕ, Option, Some, None, Result, Ok, Err}
+use Rattle.std.specs.declared.alloc.AllocError.{AllocError}
+use Rattle.srcset.specs.Files.{Files}
+use Rattle.srcset.specs.NameTable.{Texts}
+use Rattle.srcset.specs.declared.fault.Fault.{Fault}
+use Rattle.srcset.specs.declared.code.Code.TheVariants.{NotBuiltYet, CannotWrite}
+use Rattle.srcset.specs.Fault.{IsFaultOrMemory, IsMemoryFault}
+use Rattle.tree.specs.Tree.{ExternalTree}
+use Rattle.loader.specs.declared.fault.LoadFault.{LoadFault}
+use Rattle.loader.specs.declared.fault.LoadFault.TheVariants as load_fault
+use Rattle.loader.specs.Fault.{code_of}
+use Rattle.sim.specs.declared.port.PortFault.{PortFault}
+use Rattle.sim.specs.declared.port.PortFault.TheVariants as port_fault
+use Rattle.cc.specs.declared.stopping.Stop.{Stop}
+use Rattle.cc.specs.declared.stopping.Stop.TheVariants.{Memory, At, Told}
+use Rattle.cc.specs.declared.thin.program.Program.{Program}
+use Rattle.cc.specs.thin.Form.{thin_in}
+use Rattle.cc.specs.Compiled.{IsRefused}
+
+-- the fault that tells it, where the command names this file; only the copy of the name may run out of memory
+abbrev pub IsToldAs : List ℕ → Stop → Fault → Type 0
+IsToldAs name Memory fault = IsMemoryFault fault
+IsToldAs name (At code line) fault = IsFaultOrMemory fault code name line
+IsToldAs name (Told told) fault = fault ≡ told
+
+-- it was told already, with such a fault
+abbrev pub IsTold : (Fault → Type 0) → Stop → Type 0
+IsTold P Memory = ⊥
+IsTold P (At code line) = ⊥
+IsTold P (Told told) = P told
+
+-- memory ran out
+abbrev pub IsMemory : Stop → Type 0
+IsMemory Memory = Unit {0}
+IsMemory (At code line) = ⊥
+IsMemory (Told told) = IsMemoryFault told
+
+-- each fault that tells it is one for which this main file is refused
+abbrev pub Stops : Files → List ℕ → Stop → Type 0
+Stops set name stop = (fault : Fault) → IsToldAs name stop fault → IsRefused set name fault
+
+-- what comes of a unit that was narrowed: its program, 699 where it has none, or want of memory
+abbrev pub narrowed_of : Result (Option Program) AllocError → Result Program Stop
+narrowed_of (Ok (Some program)) = Ok program
+narrowed_of (Ok None) = Err (At NotBuiltYet 1)
+narrowed_of (Err error) = Err Memory
+
+-- why a file was not put whole, by what the port refused
+abbrev pub put_stop : PortFault → Stop
+put_stop port_fault.Memory = Memory
+put_stop port_fault.Read = At CannotWrite 0
+put_stop port_fault.Write = At CannotWrite 0
+
+-- why a file is not loaded
+abbrev pub load_stop : LoadFault → Stop
+load_stop load_fault.Memory = Memory
+load_stop fault = At (code_of fault) 0
+
+-- the unit is of another form than those that are built today, or memory ran out
+abbrev pub StopsUnit : Texts → List ExternalTree → Stop → Type 0
+StopsUnit texts unit stop = ((thin_in texts unit ≡ None) × (stop ≡ At NotBuiltYet 1)) ⊎ IsMemory stop
