@@ -1,0 +1,4 @@
+pub mod Macro
+pub mod Definition
+pub mod Operators
+pub mod Substitution

@@ -1,0 +1,3 @@
+//! Macros: what a definition says, what `#` and `##` make, what a replacement becomes (ISO/IEC 9899:2011 6.10.3). Today
+//! the definitions alone.
+#![tactic(auto)]

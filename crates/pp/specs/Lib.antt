@@ -1,0 +1,3 @@
+pub mod Lines
+pub mod Groups
+pub mod Phase4

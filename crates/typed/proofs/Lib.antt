@@ -1,0 +1,5 @@
+pub mod DeclarationRows
+pub mod ProgramRows
+pub mod Rows
+pub mod Scopes
+pub mod Verdicts

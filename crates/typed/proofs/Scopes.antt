@@ -1,0 +1,40 @@
+-- The scope that a declaration leaves is that of its declarators.
+use Rattle.std.proofs.Common.{◌≡◌, refl, List, [], ◌∷◌}
+use Rattle.tree.specs.Tree.{ItemTree, object, function, declared, assertion}
+use Rattle.typed.specs.Verdict.{Verdict, fine, broken, then_check, both, IfFine}
+use Rattle.typed.specs.Scope.{Scope}
+use Rattle.typed.specs.Specifiers.{BaseType}
+use Rattle.typed.specs.Linkage.{StorageClass}
+use Rattle.typed.specs.Declarations.{Effects, no_effects, Declared, before_others, begun, finished, initialised, function_at, items_declared, items_typed, specified_for, asserted}
+use Rattle.typed.specs.Laws.{ScopeIsOfDeclarators}
+
+abbrev Agree : Verdict Scope → Verdict Declared → Type 0
+Agree x y = IfFine (λ d. x ≡ fine d.scope) y
+
+agree_then : {A : Type 0} (v : Verdict A) (f : A → Verdict Scope) (g : A → Verdict Declared) → ((a : A) → Agree (f a) (g a)) → Agree (then_check v f) (then_check v g)
+agree_then (fine a) f g h = h a
+agree_then (broken vs) f g h = tt
+
+agree_both : (v : Verdict Effects) (x : Verdict Scope) (y : Verdict Declared) → Agree x y → Agree x (both v y before_others)
+agree_both (fine e) x (fine d) h = h
+agree_both (fine e) x (broken vs) h = tt
+agree_both (broken vs) x y h = tt
+
+agree_assertion : (v : Verdict Scope) → Agree v (then_check v (λ inner. fine (record { scope = inner; effects = no_effects })))
+agree_assertion (fine s) = refl
+agree_assertion (broken vs) = tt
+
+agree_items : (class : StorageClass) (b : BaseType) (is : List ItemTree) (s : Scope) → Agree (items_declared s class b is) (items_typed s class b is)
+agree_items class b [] s = refl
+agree_items class b (object at n sizes init ∷ is) s =
+    agree_then (begun s class b at n sizes init) (λ o. then_check (finished o) (λ inner. items_declared inner class b is))
+    (λ o. both (initialised o) (then_check (finished o) (λ inner. items_typed inner class b is)) before_others)
+    (λ o. agree_both (initialised o) (then_check (finished o) (λ inner. items_declared inner class b is)) (then_check (finished o) (λ inner. items_typed inner class b is))
+    (agree_then (finished o) (λ inner. items_declared inner class b is) (λ inner. items_typed inner class b is) (λ inner. agree_items class b is inner)))
+agree_items class b (function at n ps ∷ is) s =
+    agree_then (function_at s.level s class b at n ps) (λ inner. items_declared inner class b is) (λ inner. items_typed inner class b is) (λ inner. agree_items class b is inner)
+
+pub scope_of_declarators : ScopeIsOfDeclarators
+scope_of_declarators s (declared at ss items) =
+    agree_then (specified_for s at ss items) (λ d. items_declared d.scope d.class d.base items) (λ d. items_typed d.scope d.class d.base items) (λ d. agree_items d.class d.base items d.scope)
+scope_of_declarators s (assertion at e text) = agree_assertion (asserted s at e)

@@ -1,0 +1,10 @@
+-- Laws of the definitions.
+use Rattle.std.specs.Prelude.{◌≡◌}
+use Rattle.tree.specs.Tree.{DeclarationTree}
+use Rattle.typed.specs.Verdict.{fine, IfFine}
+use Rattle.typed.specs.Scope.{Scope}
+use Rattle.typed.specs.Declarations.{scope_after, declaration_typed}
+
+-- a declaration that is fine leaves the scope that it has by its declarators alone, whose initialisers are looked at only for sizes
+abbrev pub ScopeIsOfDeclarators : Type 0
+ScopeIsOfDeclarators = (s : Scope) (t : DeclarationTree) → IfFine (λ d. scope_after s t ≡ fine d.scope) (declaration_typed s t)

@@ -1,0 +1,17 @@
+pub mod Types
+pub mod Program
+pub mod Verdict
+pub mod Operators
+pub mod Scope
+pub mod Specifiers
+pub mod Constants
+pub mod Expressions
+pub mod Initialisers
+pub mod Declarators
+pub mod Linkage
+pub mod Declarations
+pub mod Statements
+pub mod Uses
+pub mod Units
+pub mod Told
+pub mod Laws

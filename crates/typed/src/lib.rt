@@ -1,0 +1,2 @@
+//! The typed program, and every constraint of the language: definitions that the layers above read.
+#![tactic(auto)]
