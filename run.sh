@@ -1,12 +1,21 @@
 #!/bin/sh
-# Proves and builds the program cc, leaves it at bin/cc, and shows the first program built and run.
+# Leaves the program cc at bin/cc, and shows the first program built and run. The program is that of release/, where this
+# tree is what it was proved and built from, which takes seconds and no kit; else, or with --prove, it is proved and built.
 set -eu
 cd "$(dirname "$0")"
 
-if [ ! -x bin/cc ] || [ -n "$(find crates crates.txt -name out -prune -o -newer bin/cc -type f -print | head -n 1)" ]; then
+# What stands at bin/cc is kept where nothing that it was built from is newer.
+is_new() { [ -x bin/cc ] && [ -z "$(find crates crates.txt -name out -prune -o -newer bin/cc -type f -print | head -n 1)" ]; }
+
+if [ "${1:-}" != --prove ] && is_new; then
+    :
+elif [ "${1:-}" != --prove ] && [ -x release/cc ] && [ "$(sh release/digest.sh)" = "$(cat release/SOURCES)" ]; then
+    mkdir -p bin
+    cp release/cc bin/cc
+else
     mkdir -p bin
     log=$(mktemp)
-    echo 'proving and building cc (the first time takes some minutes) ..'
+    echo 'proving and building cc (the first time takes half an hour and more) ..'
     if ! (cd crates/cc_program && rt run -- --help) >"$log" 2>&1; then
         tail -n 40 "$log"
         exit 1

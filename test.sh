@@ -1,36 +1,44 @@
 #!/bin/sh
 # The gate: `rt ci` proves every crate and its tests from nothing, tries the must-fail edits, and runs the programs
-# and tests; then the program itself is checked from outside. The last line counts both.
+# and tests; then the program that this built is compared with release/cc, and it and the documents are checked from
+# outside. The last line counts all.
 cd "$(dirname "$0")" || exit 1
 logs=$(mktemp -d)
 trap 'rm -rf "$logs"' EXIT
 
+# verdict FILE: its last line, where that counts, and else a failure.
+verdict() {
+    line=$(tail -n 1 "$1" | grep -E '^[0-9]+ passed, [0-9]+ failed')
+    printf '%s\n' "${line:-0 passed, 1 failed}"
+}
+
+# told NAME STATUS: a check that passed or failed.
+told() {
+    if [ "$2" = 0 ]; then echo '1 passed, 0 failed'; else echo "FAIL $1"; echo '0 passed, 1 failed'; fi
+}
+
 { rt ci 2>&1; echo $? >"$logs/status"; } | tee "$logs/ci"
-# The verdict is the last line, and only where rt ci came to its end.
-gate=$(tail -n 1 "$logs/ci" | grep -E '^[0-9]+ passed, [0-9]+ failed')
-[ -n "$gate" ] || gate='0 passed, 1 failed'
 
 # The program that is checked is the one that rt ci proved and built from this tree.
 rm -f bin/cc
-if [ -x crates/cc_program/out/cc_program ]; then
+built=crates/cc_program/out/cc_program
+if [ -x $built ]; then
     mkdir -p bin
-    cp crates/cc_program/out/cc_program bin/cc
+    cp $built bin/cc
 fi
-if sh run.sh >"$logs/run" 2>&1; then
-    run='1 passed, 0 failed'
-else
-    cat "$logs/run"
-    run='0 passed, 1 failed'
-fi
-
+cmp $built release/cc && [ "$(sh release/digest.sh)" = "$(cat release/SOURCES)" ]
+told 'release/cc is not what this tree builds: sh release/take.sh takes over what was built; then commit release/' $? |
+    tee "$logs/release"
+sh run.sh >"$logs/shown" 2>&1
+status=$?
+[ $status = 0 ] || cat "$logs/shown"
+told 'sh run.sh' $status | tee "$logs/run"
+sh tests/documents.sh bin/cc 2>&1 | tee "$logs/documents"
 sh tests/outside/check.sh bin/cc 2>&1 | tee "$logs/outside"
-outside=$(tail -n 1 "$logs/outside" | grep -E '^[0-9]+ passed, [0-9]+ failed')
-[ -n "$outside" ] || outside='0 passed, 1 failed'
 
-# count WORD: the sum of the numbers before WORD in the three lines.
-count() {
-    printf '%s\n' "$gate" "$run" "$outside" | sed -n "s/.*\b\([0-9][0-9]*\) $1.*/\1/p" | awk '{ n += $1 } END { print n + 0 }'
-}
+for part in ci release run documents outside; do verdict "$logs/$part"; done >"$logs/verdicts"
+# count WORD: the sum of the numbers before WORD in the verdicts.
+count() { sed -n "s/.*\b\([0-9][0-9]*\) $1.*/\1/p" "$logs/verdicts" | awk '{ n += $1 } END { print n + 0 }'; }
 passed=$(count passed)
 failed=$(count failed)
 skipped=$(count skipped)

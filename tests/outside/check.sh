@@ -4,9 +4,11 @@
 #   sh tests/outside/check.sh [CC]
 #
 # Called from the repository's root; CC is the program, bin/cc by default.
-# A check says nothing when it passes and one line when it fails. The last
-# line counts them; the exit status is not 0 where one failed. Checks whose
-# tool is missing, and cannot be installed, are counted as skipped.
+# It first says which tools it installs. A check says nothing when it passes
+# and one line when it fails. The last line counts them; the exit status is
+# not 0 where one failed, where another number of checks was made than the
+# one pinned at the end, or where one was skipped: checks whose tool is
+# missing and cannot be installed are, and ALLOW_SKIPPED=1 lets them be.
 set -u
 LC_ALL=C
 export LC_ALL
@@ -56,8 +58,13 @@ install() {
 }
 
 tools=riscv64-unknown-elf
-has qemu-riscv32 || install qemu-user
-has $tools-readelf || install binutils-riscv64-unknown-elf
+wanted=
+has qemu-riscv32 || wanted="$wanted qemu-user"
+has $tools-readelf || wanted="$wanted binutils-riscv64-unknown-elf"
+[ -z "$wanted" ] || echo "installing by Debian's packages:$wanted"
+for package in $wanted; do
+    install "$package" || echo "cannot install $package"
+done
 
 # first COMMAND..: the first that is there, or nothing.
 first() {
@@ -70,7 +77,6 @@ readelf=$(first $tools-readelf readelf)
 objdump=$(first $tools-objdump)
 assembler=$(first $tools-as)
 linker=$(first $tools-ld)
-cross=$(first $tools-gcc)
 hostgcc=$(first gcc)
 limit=$(first timeout)
 limit=${limit:+$limit 20}
@@ -194,8 +200,8 @@ built() {
     fi
     go "$cc" run program
     expect "$1, cc run" "$4" "$3" ''
+    holds "$1: the file may not be executed" [ -x program ]
     if [ -n "$qemu" ]; then
-        chmod +x program
         go "$qemu" ./program
         expect "$1, qemu-riscv32" "$4" "$3" ''
     else
@@ -325,12 +331,15 @@ refused() {
     holds "$source: a file was written" [ ! -e program ]
 }
 
+count=0
 while IFS= read -r line; do
     case $line in ''|'#'*) continue ;; esac
     fields "$line"
+    count=$((count + 1))
     printf '%b' "$rest" >main.c
     refused "$f1" "$f2" main.c
 done <"$here/refused.txt"
+holds "refused.txt has $count sources, not 69" [ "$count" = 69 ]
 
 : >main.c
 refused 'an empty source' 'main.c:1: 699 not built yet' main.c
@@ -585,8 +594,9 @@ else
     skip 4
 fi
 
-if [ -n "$cross" ] && "$cross" -O1 -march=rv32im -mabi=ilp32 -nostdlib -static \
-    -Wl,--no-relax -o echo "$here/echo.c" 2>/dev/null; then
+if [ -n "$assembler" ] && [ -n "$linker" ] &&
+    "$assembler" -march=rv32im -mabi=ilp32 "$here/echo.s" -o echo.o 2>err &&
+    "$linker" -m elf32lriscv --no-relax echo.o -o echo 2>err; then
     # all byte values twice, after nine bytes
     k=0
     while [ $k -lt 256 ]; do
@@ -616,9 +626,16 @@ else
     skip 4
 fi
 
+# So many checks there are; a loop that ends early, or rows that are lost, do not go unseen.
+checks=690
+made=$((passed + failed + skipped))
+[ $made = $checks ] || fail "$made checks were made, not $checks"
 if [ $skipped = 0 ]; then
     echo "$passed passed, $failed failed"
-else
+elif [ "${ALLOW_SKIPPED:-}" = 1 ]; then
     echo "$passed passed, $failed failed, $skipped skipped"
+else
+    fail "$skipped checks were skipped for want of tools (ALLOW_SKIPPED=1 lets them be)"
+    echo "$passed passed, $failed failed"
 fi
 [ $failed = 0 ]
