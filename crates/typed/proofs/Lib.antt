@@ -3,3 +3,4 @@ pub mod ProgramRows
 pub mod Rows
 pub mod Scopes
 pub mod Verdicts
+pub mod TypedRows

@@ -470,7 +470,7 @@ repeated zero x = []
 repeated (suc n) x = x ∷ repeated n x
 
 abbrev some_function : Function
-some_function = record { name = 0; type = record { result = None; constant = false; parameters = [] }; objects = []; body = typed.empty; weight = 96 }
+some_function = record { name = 0; type = record { result = None; constant = false; parameters = [] }; objects = []; body = typed.empty; nodes = 2; weight = 96 }
 
 abbrev built : ℕ → Built
 built n = record { scope = file_scope [] []; functions = repeated n some_function; initial = [] }

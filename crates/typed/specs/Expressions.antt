@@ -14,7 +14,7 @@ use Rattle.tree.specs.declared.expression.BinaryOp.TheVariants as operator
 use Rattle.tree.specs.declared.expression.PrefixOp.{PrefixOp}
 use Rattle.tree.specs.declared.expression.StepOp.{StepOp}
 use Rattle.tree.specs.Tree.{Tree, Trees, TypeTree, hole, identifier, constant, string, paren, call, subscript, after, before, prefix, size_of, size_of_type, cast, binary, conditional, assign, no_trees, one_more, type_name}
-use Rattle.typed.specs.Types.{ObjectType, DeclaredType, complete, unknown_size, ParameterType, number, elements, FunctionType, size_of_object, alike, same_object, element_type}
+use Rattle.typed.specs.Types.{ObjectType, DeclaredType, complete, unknown_size, ParameterType, number, elements, FunctionType, size_of_object, size_of_parameter, alike, same_object, element_type}
 use Rattle.typed.specs.Verdict.{Verdict, fine, breaks, then_check, both, refuse_if, provided}
 use Rattle.typed.specs.Operators.{assigning, operands_type, signed_type}
 use Rattle.typed.specs.Program as typed
@@ -229,7 +229,7 @@ measured at (value p t e) = size_is at (bytes_of t)
 measured at (object p t k place) = size_is at (bytes_of t)
 measured at (array p (complete t) place) = size_is at (size_of_object t)
 measured at (array p (unknown_size t) place) = breaks code.BadSizeofOperand at
-measured at (reference p t place) = size_is at 4
+measured at (reference p t place) = size_is at (size_of_parameter (elements t))
 measured at (nothing p e) = breaks code.BadSizeofOperand at
 measured at (designator p) = breaks code.BadSizeofOperand at
 

@@ -13,7 +13,7 @@ use Rattle.typed.specs.Program as typed
 use Rattle.typed.specs.Program.{Initialiser, Initialisers}
 use Rattle.typed.specs.Scope.{Scope, text_of, strings, with_literals}
 use Rattle.typed.specs.Constants.{constant_form, folded}
-use Rattle.typed.specs.Expressions.{Worth, typing, valued, nowhere}
+use Rattle.typed.specs.Expressions.{Worth, typing, worth, position, nowhere}
 
 -- what is initialised: a number, or an array of so many elements (any number, where its size is unknown) that have these lengths
 pub data Wanted : Type 0 where
@@ -59,9 +59,9 @@ past_init s i = with_literals s (strings_of i)
 abbrev pub of_number : IntType → Worth → Verdict Initialiser
 of_number t w = fine (typed.one_value t w.e)
 
--- 6.7.9p11: as in an assignment
-abbrev pub number_from : Scope → Pos → IntType → Tree → Verdict Initialiser
-number_from s at t e = then_check (valued code.VoidAssigned at (typing s e)) (of_number t)
+-- 6.7.9p11: as in an assignment; a void expression is told at its own place
+abbrev pub number_from : Scope → IntType → Tree → Verdict Initialiser
+number_from s t e = then_check (typing s e) (λ x. then_check (worth code.VoidAssigned (position x) x) (of_number t))
 
 -- 6.7.9p14: the characters, of which the zero may find no room
 abbrev pub text_from : Scope → Pos → Option ℕ → ℕ → Verdict Initialiser
@@ -82,10 +82,10 @@ array_from s at t room lengths top (string own n) = text_if (has_characters t le
 array_from s at t room lengths top e = not_braced top at
 
 -- 6.7.9p11: a number in braces
-abbrev pub number_in_braces : Scope → Pos → Pos → IntType → Inits → Verdict Initialiser
-number_in_braces s at p t (and_init (one_init e) no_inits) = then_check (number_from s at t e) (λ i. fine (typed.in_braces i))
-number_in_braces s at p t (and_init (one_init e) (and_init i is)) = breaks code.TooManyInitialisers p
-number_in_braces s at p t parts = breaks code.BadInitialiserForm p
+abbrev pub number_in_braces : Scope → Pos → IntType → Inits → Verdict Initialiser
+number_in_braces s p t (and_init (one_init e) no_inits) = then_check (number_from s t e) (λ i. fine (typed.in_braces i))
+number_in_braces s p t (and_init (one_init e) (and_init i is)) = both (number_from s t e) (breaks code.TooManyInitialisers p) (λ x d. fine d)
+number_in_braces s p t parts = breaks code.BadInitialiserForm p
 
 -- the string literal that stands alone in braces
 abbrev pub text_alone : Inits → Option Tree
@@ -116,25 +116,19 @@ list_or_text true s at t room lengths (Some e) list = then_check (array_from s a
 list_or_text characters s at t room lengths e list = list
 
 abbrev mutual
-  -- of an object whose elements have the type t, declared at `at`; `top` says that it is in no list
+  -- of an object whose elements have the type t; `at` is its declarator's place, where `top` says that it is in no list, else the list's
   pub initialiser : Scope → Pos → IntType → Wanted → Bool → Init → Verdict Initialiser
   initialiser s at t w top init_hole = breaks code.SyntaxError nowhere
-  initialiser s at t one_number top (one_init e) = number_from s at t e
+  initialiser s at t one_number top (one_init e) = number_from s t e
   initialiser s at t (an_array room lengths) top (one_init e) = array_from s at t room lengths top e
-  initialiser s at t one_number top (braced_init p parts) = number_in_braces s at p t parts
+  initialiser s at t one_number top (braced_init p parts) = number_in_braces s p t parts
   initialiser s at t (an_array room lengths) top (braced_init p parts) =
       list_or_text (has_characters t lengths) s at t room lengths (text_alone parts)
-      (in_list p room parts (initialisers s at t lengths parts))
+      (in_list p room parts (initialisers s p t lengths parts))
 
   pub initialisers : Scope → Pos → IntType → List ℕ → Inits → Verdict Initialisers
   initialisers s at t lengths no_inits = fine typed.no_initialisers
   initialisers s at t lengths (and_init i is) = both (initialiser s at t (wanted lengths) false i) (initialisers (past_init s i) at t lengths is) and_part
-
--- ---- the length that an initialiser gives an array of unknown size (6.7.9p22)
-
-abbrev pub parts_in : Initialisers → ℕ
-parts_in typed.no_initialisers = 0
-parts_in (typed.and_initialiser i is) = parts_in is + 1
 
 abbrev pub literal_text : Scope → Option ℕ → List ℕ
 literal_text s None = []
@@ -143,12 +137,6 @@ literal_text s (Some n) = text_of s n
 -- the text of the string literal with this number among the literals
 abbrev pub text_at : Scope → ℕ → List ℕ
 text_at s n = literal_text s (slice_get s.literals n)
-
-abbrev pub length_given : Scope → Initialiser → ℕ
-length_given s (typed.one_value t e) = 1
-length_given s (typed.text n) = length (text_at s n) + 1
-length_given s (typed.in_braces i) = length_given s i
-length_given s (typed.list is) = parts_in is
 
 -- ---- the initialiser of an object with static storage: constant expressions or string literals (6.7.9p4)
 

@@ -15,3 +15,5 @@ pub mod Uses
 pub mod Units
 pub mod Told
 pub mod Laws
+pub mod Nodes
+pub mod WellTyped

@@ -115,12 +115,13 @@ mutual
     and_statement : (s : Statement) (more : Statements) → Statements
 
 -- a function definition (6.9.1): its name's number, its type, its objects (the parameters that are numbers first), its body's
--- statements, and its weight
+-- statements, how many nodes its tree has, and its weight
 pub record Function : Type 0 where
   pub name : ℕ
   pub type : FunctionType
   pub objects : List ObjectType
   pub body : Statement
+  pub nodes : ℕ
   pub weight : ℕ
 
 -- an object with static storage (6.2.4p3): the values of its elements in order, those behind them being zero; one that is only

@@ -1,5 +1,5 @@
 -- Type specifiers (ISO/IEC 9899:2011 6.7.2, 6.7.3).
-use Rattle.std.specs.Prelude.{ℕ, zero, suc, Bool, true, false, not, List, [], ◌∷◌, Option, Some, None, nat_eq, if◌then◌else◌}
+use Rattle.std.specs.Prelude.{ℕ, zero, suc, Bool, true, false, not, ◌&&◌, List, [], ◌∷◌, Option, Some, None, nat_eq, if◌then◌else◌}
 use Rattle.srcset.specs.declared.refusal.Pos.{Pos}
 use Rattle.srcset.specs.declared.code.Code.TheVariants as code
 use Rattle.ctypes.specs.declared.types.IntType.{IntType}
@@ -52,27 +52,19 @@ place_of_word word.Bool = 7
 abbrev pub same_word : Word → Word → Bool
 same_word a b = nat_eq (place_of_word a) (place_of_word b)
 
--- the list without the first such word, if it has one
-abbrev pub and_word : Word → Option (List Word) → Option (List Word)
-and_word w None = None
-and_word w (Some ws) = Some (w ∷ ws)
+-- how often a word stands in a list
+abbrev pub times : Word → List Word → ℕ
+times w [] = 0
+times w (v ∷ vs) = if same_word w v then suc (times w vs) else times w vs
 
-abbrev pub without : List Word → Word → Option (List Word)
-without [] w = None
-without (v ∷ vs) w = if same_word v w then Some vs else and_word v (without vs w)
-
-abbrev pub none_left : List Word → Bool
-none_left [] = true
-none_left (w ∷ ws) = false
-
-abbrev pub has_just : List Word → Option (List Word) → Bool
-has_just rest None = false
-has_just [] (Some ws) = none_left ws
-has_just (w ∷ rest) (Some ws) = has_just rest (without ws w)
+-- each of these words stands as often in one list as in the other
+abbrev pub as_often : List Word → List Word → List Word → Bool
+as_often [] a b = true
+as_often (w ∷ ws) a b = nat_eq (times w a) (times w b) && as_often ws a b
 
 -- the same words in any order
 abbrev pub same_words : List Word → List Word → Bool
-same_words set ws = has_just set (Some ws)
+same_words a b = as_often (Void ∷ Char ∷ Short ∷ Int ∷ Long ∷ Signed ∷ Unsigned ∷ word.Bool ∷ []) a b
 
 pub record WordSet : Type 0 where
   pub words : List Word

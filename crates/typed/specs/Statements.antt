@@ -203,7 +203,7 @@ abbrev mutual
   statement around direct s (switch_stmt at e (block_stmt p ps)) =
       then_check (valued code.VoidControl at (typing s e)) (λ c.
       then_check (pieces (in_a_switch around) (Some (promoted c.type)) (inside (past s e)) ps) (switch_of s (promoted c.type) c))
-  statement around direct s (switch_stmt at e a) = breaks code.LeftOutLabel at
+  statement around direct s (switch_stmt at e a) = both (valued code.VoidControl at (typing s e)) (breaks code.LeftOutLabel at) (λ c d. fine d)
   -- 6.8.5
   statement around direct s (while_stmt at e a) =
       both (valued code.VoidControl at (typing s e)) (statement (in_a_loop around) None (past s e) a)

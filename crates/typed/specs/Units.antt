@@ -5,7 +5,7 @@ use Rattle.srcset.specs.declared.code.Code.TheVariants as code
 use Rattle.ctypes.specs.declared.types.IntType.TheVariants as ty
 use Rattle.tree.specs.Tree.{ParameterTree, FunctionTree, ExternalTree, definition, declaration}
 use Rattle.tree.specs.Counts.{function_nodes, weight_of}
-use Rattle.typed.specs.Types.{ObjectType, ParameterType, number, elements, FunctionType, same_function, size_of_object}
+use Rattle.typed.specs.Types.{ObjectType, ParameterType, number, elements, FunctionType, same_function, size_of_object, size_of_parameter}
 use Rattle.typed.specs.Verdict.{Verdict, fine, breaks, then_check, refuse_if, each, provided}
 use Rattle.typed.specs.Program as typed
 use Rattle.typed.specs.Program.{Function, Static, Program}
@@ -56,7 +56,7 @@ bytes_of_objects (t ∷ ts) = in_words (size_of_object t) + bytes_of_objects ts
 abbrev pub bytes_of_references : List ParameterType → ℕ
 bytes_of_references [] = 0
 bytes_of_references (number t ∷ ps) = bytes_of_references ps
-bytes_of_references (elements t ∷ ps) = 4 + bytes_of_references ps
+bytes_of_references (elements t ∷ ps) = in_words (size_of_parameter (elements t)) + bytes_of_references ps
 
 abbrev pub weight : FunctionTree → List ParameterType → List ObjectType → ℕ
 weight f ps objects = weight_of (function_nodes f) (bytes_of_references ps + bytes_of_objects objects)
@@ -79,6 +79,7 @@ function_of f t all = let numbers : ℕ = numbers_in t.parameters in record {
   type = t;
   objects = all.scope.objects;
   body = typed.block numbers (length all.scope.objects - numbers) all.statements;
+  nodes = function_nodes f;
   weight = weight f t.parameters all.scope.objects;
 }
 

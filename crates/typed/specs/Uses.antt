@@ -1,4 +1,4 @@
--- Which objects and functions a typed program uses (ISO/IEC 9899:2011 6.9p3, p5): what is evaluated, in its order.
+-- Which objects and functions a typed program uses (ISO/IEC 9899:2011 6.9p3, p5): what is evaluated, in the order of the source.
 use Rattle.std.specs.Prelude.{ℕ, Bool, true, false, not, ◌&&◌, ◌||◌, List, [], ◌∷◌, ◌++◌, Option, Some, None, nat_eq, slice_get}
 use Rattle.srcset.specs.declared.refusal.Pos.{Pos}
 use Rattle.srcset.specs.declared.code.Code.TheVariants as code
