@@ -30,7 +30,7 @@ has() { command -v "$1" >/dev/null 2>&1; }
 
 mkdir -p "$work/crates" || exit 1
 cp "$root/HANDLES" "$work/" || exit 1
-for crate in srcset phases ctypes lexer tree parser; do
+for crate in srcset phases ctypes lexer tree grammar expression_parser declaration_parser parser; do
     tar -C "$root/crates" -cf - $crate | tar -C "$work/crates" -xf - || exit 1
 done
 mkdir -p "$work/crates/front_bench/src" || exit 1
@@ -41,7 +41,10 @@ phases: srcset
 ctypes:
 lexer: srcset phases ctypes
 tree: srcset ctypes
-parser: srcset ctypes lexer tree
+grammar: srcset ctypes lexer tree
+expression_parser: srcset ctypes lexer tree grammar
+declaration_parser: srcset ctypes lexer tree grammar expression_parser
+parser: srcset ctypes lexer tree grammar expression_parser declaration_parser
 front_bench: phases srcset lexer tree parser anyhow
 CRATES
 echo 'proving and building the measuring program (some minutes) ..'
