@@ -18,3 +18,4 @@ pub mod PunctuatorTable
 pub mod GrammarLemmas
 pub mod CommentLemmas
 pub mod EndLemmas
+pub mod KindLemmas

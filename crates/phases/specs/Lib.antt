@@ -4,6 +4,7 @@ pub use Rattle.srcset.specs.Refusal
 pub mod Text
 pub mod Characters
 pub mod Grammar
+pub mod Kinds
 pub mod Token
 pub mod Lines
 pub mod Spelled

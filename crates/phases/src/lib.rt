@@ -5,6 +5,7 @@
 mod classes;
 mod cursor;
 mod kinds;
+mod laws;
 mod lexical;
 mod line_list;
 mod lines;
@@ -18,7 +19,8 @@ mod scanning;
 mod token;
 
 pub use kinds::token_kind;
+pub use laws::kinds_exclude;
 pub use line_list::Lines;
-pub use lines::scan;
+pub use lines::{scan, try_scan};
 pub use scanning::MAX_SPELLING_BYTES;
 pub use token::{Kind, PpToken};

@@ -95,8 +95,8 @@ fn token_lines<'a>(alloc: Global, start: Cursor<'a>, file: usize) -> Result<Line
     scanner.end_file()
 }
 
-// The token lines of a file.
-fn file_lines<'a>(alloc: Global, bytes: &'a [u8], file: usize) -> Result<Lines<'a>, Refusal>
+/// The token lines of a file, as `scan` gives them; a refusal names no file, and takes no memory.
+pub fn try_scan<'a>(alloc: Global, bytes: &'a [u8], file: usize) -> Result<Lines<'a>, Refusal>
     requires { length bytes.now ≤ 1048576 }
     ensures ok { IfOk result (λ lines. scanned file bytes.now ≡ Ok lines) }
     ensures err { IfErr result (λ e. (e ≡ Memory) ⊎ (scanned file bytes.now ≡ Err e)) }
@@ -158,7 +158,7 @@ pub fn scan<'a>(
     ensures other { (place : Place) (text : List ℕ) → IsOtherAlone place text }
     ensures comments { (place : Place) (body rest : List ℕ) → AreComments place body rest }
 {
-    match file_lines(alloc, bytes, file) {
+    match try_scan(alloc, bytes, file) {
         Ok(lines) => Ok(lines),
         Err(refusal) => Err(refusal.to_fault(alloc, names)),
     }

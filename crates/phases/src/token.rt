@@ -1,5 +1,5 @@
 //! Preprocessing tokens.
-ghost use Rattle.std.specs.Prelude.{◌≡◌, true, IfOk, IsOk};
+ghost use Rattle.std.specs.Prelude.{◌≡◌, true, IfOk, IfSome, IsOk};
 ghost use Rattle.phases.specs.Spelled.{token_of, is_lent};
 
 use srcset::Pos;
@@ -149,6 +149,16 @@ impl<'a> PpToken<'a> {
         }
     }
 
+    /// Its text, for as long as the bytes of the file are lent; `None` where the token owns it.
+    pub fn lent_spelling(&self) -> Option<&'a [u8]>
+        ensures { IfSome result (λ s. s.now ≡ self.now.spelling) }
+    {
+        match &self.held {
+            Held::Lent { spelling, .. } => Some(*spelling),
+            Held::Owned { .. } => None,
+        }
+    }
+
     /// Whether white space or a comment stands directly before it on its line.
     pub fn space_before(&self) -> bool
         ensures { result ≡ self.now.space_before }
@@ -170,6 +180,75 @@ impl<'a> PpToken<'a> {
         Pos { file, line }
     }
 
+    /// The same token with this mark: whether white space or a comment stands directly before it.
+    pub fn with_space(self, space_before: bool) -> PpToken<'a>
+        ensures { result ≡ record self.entry { space_before = space_before } }
+    {
+        let held = match self.held {
+            Held::Lent {
+                kind,
+                line,
+                file,
+                spelling,
+                ..
+            } => Held::Lent {
+                kind,
+                space_before,
+                line,
+                file,
+                spelling,
+            },
+            Held::Owned {
+                kind,
+                line,
+                file,
+                spelling,
+                ..
+            } => Held::Owned {
+                kind,
+                space_before,
+                line,
+                file,
+                spelling,
+            },
+        };
+        PpToken { held }
+    }
+
+    /// The same token at this place.
+    pub fn with_pos(self, pos: Pos) -> PpToken<'a>
+        ensures { result ≡ record self.entry { pos = pos } }
+    {
+        let (file, line) = (pos.file, pos.line);
+        let held = match self.held {
+            Held::Lent {
+                kind,
+                space_before,
+                spelling,
+                ..
+            } => Held::Lent {
+                kind,
+                space_before,
+                line,
+                file,
+                spelling,
+            },
+            Held::Owned {
+                kind,
+                space_before,
+                spelling,
+                ..
+            } => Held::Owned {
+                kind,
+                space_before,
+                line,
+                file,
+                spelling,
+            },
+        };
+        PpToken { held }
+    }
+
     /// The same token once more. Fails only where memory runs out, which only an owned spelling can meet.
     pub fn copy(&self, alloc: Global) -> Result<PpToken<'a>, AllocError>
         ensures { IfOk result (λ t. t ≡ self.now) }
@@ -187,5 +266,19 @@ impl<'a> PpToken<'a> {
             self.space_before(),
             self.pos(),
         )
+    }
+
+    /// The same token once more, with this mark and at this place. Fails only where memory runs out, which only an
+    /// owned spelling can meet.
+    pub fn copy_at(
+        &self,
+        alloc: Global,
+        space_before: bool,
+        pos: Pos,
+    ) -> Result<PpToken<'a>, AllocError>
+        ensures { IfOk result (λ t. t ≡ record self.now { space_before = space_before; pos = pos }) }
+    {
+        let token = self.copy(alloc)?;
+        Ok(token.with_space(space_before).with_pos(pos))
     }
 }
