@@ -3,5 +3,7 @@ pub use Rattle.rv32.specs.Space
 pub mod Fault
 pub mod File
 pub mod MemoryMap
+pub mod Decoded
+pub mod Listing
 pub mod Loading
 pub mod inside

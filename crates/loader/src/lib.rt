@@ -2,11 +2,17 @@
 #![tactic(auto)]
 
 mod checks;
+mod entries;
 mod fault;
 mod header;
+mod loading;
 pub mod memory_map;
 mod program;
 mod segments;
+mod texts;
 
+pub use entries::{Entry, Operation};
 pub use fault::LoadFault;
-pub use program::{Loaded, load};
+pub use loading::load;
+pub use program::Loaded;
+pub use texts::Text;

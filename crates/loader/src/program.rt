@@ -1,25 +1,27 @@
 //! A loaded program.
 
-ghost use Rattle.std.specs.Prelude.{◌≡◌, Ok, MatchResult};
+ghost use Rattle.std.proofs.Props.{props};
 ghost use Rattle.rv32.specs.Space.{space_of};
-ghost use Rattle.loader.specs.File.{file_image};
-ghost use Rattle.loader.specs.Loading.{loaded_image, FailsToLoad};
+ghost use Rattle.loader.specs.Listing.{IsDecoded};
 
-use crate::checks::read_loads;
-use crate::fault::LoadFault;
-use crate::header::word;
-use crate::segments::segments_of;
+use crate::texts::Text;
 use rv32::memory::Memory;
-use std::alloc::Global;
 
-/// What a file loads: the address of its first instruction, and its memory.
+/// What a file loads: the address of its first instruction, its memory, and its text, decoded.
 #[derive(Drop)]
 pub struct Loaded {
-    entry: u32,
-    memory: Memory,
+    pub(crate) entry: u32,
+    pub(crate) memory: Memory,
+    pub(crate) text: Text,
+    ghost decoded: { IsDecoded (space_of memory.segments.items) text } by { Prim.hlevel props },
 }
 
 impl Loaded {
+    ghost use Rattle.std.specs.Prelude.{◌≡◌};
+    ghost use Rattle.rv32.specs.Space.{space_of};
+    ghost use Rattle.loader.specs.Listing.{IsDecoded};
+    ghost use Rattle.loader.specs.Loading.{loaded_image};
+
     /// The address of the first instruction.
     pub fn entry(&self) -> u32
         ensures { result ≡ (loaded_image self.now).entry }
@@ -31,30 +33,24 @@ impl Loaded {
     pub fn into_memory(self) -> Memory
         ensures { space_of result.segments.items ≡ (loaded_image self).space }
     {
-        let Loaded { entry: _, memory } = self;
+        let Loaded {
+            entry: _,
+            memory,
+            text: _,
+        } = self;
         memory
     }
-}
 
-/// The image of an ELF32 executable for RISC-V, or the first fault that stands.
-///
-/// The whole file is tested for each code in the order 901 to 907. Headers that are not `PT_LOAD`,
-/// `p_paddr` and `p_align` are not looked at. A segment that takes no memory is nothing, and bytes
-/// past a segment's file size are zero. The entry may lie anywhere. All tests come before the first
-/// allocation, so `LoadFault::Memory` is answered only for a file that has an image, where an allocation
-/// was refused. System V gABI, chapters 4 and 5.
-#[tactic(auto, unfolding(crate::specs::File::file_image))]
-pub fn load(alloc: Global, bytes: &[u8]) -> Result<Loaded, LoadFault>
-    ensures { MatchResult result (λ loaded. file_image bytes.now ≡ Ok (loaded_image loaded)) (FailsToLoad bytes.now) }
-{
-    match read_loads(bytes) {
-        Ok(loads) => match segments_of(alloc, bytes, loads.as_slice()) {
-            Ok(segments) => Ok(Loaded {
-                entry: word(bytes, 24),
-                memory: Memory::new(segments),
-            }),
-            Err(_) => Err(LoadFault::Memory),
-        },
-        Err(fault) => Err(fault),
+    /// The memory, and the text that was decoded from it, which a machine then owns.
+    pub fn into_parts(self) -> (Memory, Text)
+        ensures space { space_of result.0.segments.items ≡ (loaded_image self).space }
+        ensures decoded { IsDecoded (space_of result.0.segments.items) result.1 }
+    {
+        let Loaded {
+            entry: _,
+            memory,
+            text,
+        } = self;
+        (memory, text)
     }
 }

@@ -14,6 +14,8 @@ pub struct Programs {
     pub linked: Vec<u8>,
     /// The text of a program that writes its input.
     pub echo: Vec<u32>,
+    /// The text of a program that writes a word of its own text, and then runs it.
+    pub rewriting: Vec<u32>,
 }
 
 /// Where the text begins in the sample file, and where the file ends.
@@ -27,10 +29,12 @@ impl Programs {
         let headers = fs::read_to_string(rt, "sample.txt")?;
         let words = fs::read_to_string(rt, "linked.txt")?;
         let text = fs::read_to_string(rt, "echo.txt")?;
+        let rewriting = fs::read_to_string(rt, "rewriting.txt")?;
         Ok(Programs {
             sample: sample_of(alloc, headers.as_str())?,
             linked: bytes_of(alloc, numbers(alloc, words.as_str())?.as_slice())?,
             echo: numbers(alloc, text.as_str())?,
+            rewriting: numbers(alloc, rewriting.as_str())?,
         })
     }
 }
@@ -91,6 +95,19 @@ pub fn file_with(alloc: Global, sample: &[u8], entry: u32, text: &[u32]) -> Resu
         TEXT_OFFSET,
         bytes_of(alloc, text)?.as_slice(),
     );
+    Ok(file)
+}
+
+/// The sample file with this entry and text, where `flags` says what may be done with the text.
+pub fn file_with_flags(
+    alloc: Global,
+    sample: &[u8],
+    entry: u32,
+    text: &[u32],
+    flags: u8,
+) -> Result<Vec<u8>> {
+    let mut file = file_with(alloc, sample, entry, text)?;
+    put_bytes(file.as_mut_slice(), 76, &[flags]);
     Ok(file)
 }
 

@@ -1,6 +1,6 @@
 //! Runs of whole programs over memory.
 
-use crate::programs::{Programs, file_with};
+use crate::programs::{Programs, file_with, file_with_flags};
 use crate::row::{bytes, given, halves, hexadecimal, number};
 use crate::script::cause_text;
 use anyhow::{Context, Result};
@@ -52,9 +52,23 @@ fn comes_to<P: Port>(
     Ok(true)
 }
 
+/// A machine with the text that writes to itself, under these flags: 1 to execute, 2 to write, 4 to read.
+fn rewriting(alloc: Global, programs: &Programs, entry: &str, flags: u8) -> Result<Machine> {
+    let file = file_with_flags(
+        alloc,
+        programs.sample.as_slice(),
+        hexadecimal(entry)?,
+        programs.rewriting.as_slice(),
+        flags,
+    )?;
+    Ok(Machine::new(load(alloc, file.as_slice())?))
+}
+
 fn machine_of(alloc: Global, programs: &Programs, name: &str, entry: &str) -> Result<Machine> {
     match name {
         "linked" => Ok(Machine::new(load(alloc, programs.linked.as_slice())?)),
+        "rewriting" => rewriting(alloc, programs, entry, 7),
+        "read_only" => rewriting(alloc, programs, entry, 5),
         _ => small(
             alloc,
             programs,

@@ -9,6 +9,7 @@ ghost use Rattle.rv32.specs.Arithmetic as numbers;
 use crate::instr::{ImmediateOp, RegisterOp, ShiftOp, Test};
 
 /// Whether a branch with this test is taken.
+#[inline(always)]
 pub fn compare(test: Test, a: u32, b: u32) -> bool
     ensures { result ≡ compare_of test a b }
 {
@@ -86,6 +87,7 @@ fn rem(a: u32, b: u32) -> u32
 }
 
 /// The value of an operation on two registers.
+#[inline(always)]
 pub fn operate(op: RegisterOp, a: u32, b: u32) -> u32
     ensures { result ≡ operate_of op a b }
 {
@@ -112,6 +114,7 @@ pub fn operate(op: RegisterOp, a: u32, b: u32) -> u32
 }
 
 /// The value of an operation on a register and an immediate.
+#[inline(always)]
 pub fn operate_immediate(op: ImmediateOp, a: u32, b: u32) -> u32
     ensures { result ≡ operate_immediate_of op a b }
 {
@@ -126,6 +129,7 @@ pub fn operate_immediate(op: ImmediateOp, a: u32, b: u32) -> u32
 }
 
 /// The value of a shift by a constant distance.
+#[inline(always)]
 pub fn shift(op: ShiftOp, a: u32, amount: u8) -> u32
     requires { amount < 2 ^ 5 }
     ensures { result ≡ shift_by op a amount }

@@ -4,7 +4,7 @@
 //! unprivileged ISA manual" below.
 #![tactic(auto)]
 
-mod alu;
+pub mod alu;
 mod decoding;
 mod encoding;
 mod fields;

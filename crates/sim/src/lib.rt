@@ -1,6 +1,7 @@
 //! The machine at its ports: runs a loaded program over an input and an output.
 #![tactic(auto)]
 
+mod decoded;
 mod io_port;
 mod laws;
 mod machine;
