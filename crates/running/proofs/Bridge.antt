@@ -8,11 +8,11 @@ use Rattle.rv32.specs.declared.instr.LoadKind.{LoadKind}
 use Rattle.rv32.specs.declared.instr.LoadKind.TheVariants as load_kind
 use Rattle.rv32.specs.declared.instr.StoreKind.{StoreKind}
 use Rattle.rv32.specs.declared.instr.StoreKind.TheVariants as store_kind
-use Rattle.rv32.specs.Words.{decode_of}
+use Rattle.rv32.specs.Words.{decode_of, sign_extended}
 use Rattle.rv32.specs.Arithmetic.{compare_of}
-use Rattle.rv32.specs.Space.{all_four, word_at, word_put, byte_put}
+use Rattle.rv32.specs.Space.{both, all_four, half_at, word_at, half_put, word_put, byte_put}
 use Rattle.events.specs.Events.{Event, Put}
-use Rattle.running.specs.Light.{Fixed, Light, Go, Done, Fell, reg, with_reg, with_word, with_byte, sum32, act, load, store, goes, call, gets, light_step, light_run}
+use Rattle.running.specs.Light.{Fixed, Light, Go, Done, Fell, reg, with_reg, with_word, with_half, with_byte, sum32, act, load, store, goes, call, gets, light_step, light_run}
 use Rattle.running.specs.Whole.{Permits, Keeps, fetched, fixed, whole_step, whole_run}
 
 pub bool_cases : {A : Type 0} (b : Bool) → (b ≡ true → A) → (b ≡ false → A) → A
@@ -38,6 +38,9 @@ byte_kept w a k v x p q =
     (λ e. let same : k ≡ a = grind (arith, nat_tests) in let t : w k ≡ w a = ap w same in cc)
     (λ e. rw e refl)
 
+half_kept : (w : ℕ → Bool) (a k v x : ℕ) → both w a ≡ true → w k ≡ false → half_put a v k x ≡ x
+half_kept w a k v x p q = byte_kept w a k _ _ (and_left _ _ p) q ∙ byte_kept w (a + 1) k _ _ (and_right _ _ p) q
+
 word_kept : (w : ℕ → Bool) (a k v x : ℕ) → all_four w a ≡ true → w k ≡ false → word_put a v k x ≡ x
 word_kept w a k v x p q =
     let p3 = and_right _ _ p in
@@ -55,9 +58,9 @@ module _ (P : Permits) (b0 : ℕ → ℕ) (F : Fixed) (writes : F.can_write ≡ 
   load_keeps : (o : LoadKind) (rd a : ℕ) → Keeps P b0 (load F o rd a r pc b i h)
   load_keeps load_kind.Word rd a = if_keeps P b0 (eqb (a % 4) 0 && all_four F.can_read a) (Go (with_reg r rd (word_at b a)) (pc + 4) b i h) (Fell h) (λ e. k) tt
   load_keeps load_kind.ByteUnsigned rd a = if_keeps P b0 (F.can_read a) (Go (with_reg r rd (b a)) (pc + 4) b i h) (Fell h) (λ e. k) tt
-  load_keeps load_kind.Byte rd a = tt
-  load_keeps load_kind.Half rd a = tt
-  load_keeps load_kind.HalfUnsigned rd a = tt
+  load_keeps load_kind.Byte rd a = if_keeps P b0 (F.can_read a) (Go (with_reg r rd (sign_extended 7 (b a))) (pc + 4) b i h) (Fell h) (λ e. k) tt
+  load_keeps load_kind.Half rd a = if_keeps P b0 (eqb (a % 2) 0 && both F.can_read a) (Go (with_reg r rd (sign_extended 15 (half_at b a))) (pc + 4) b i h) (Fell h) (λ e. k) tt
+  load_keeps load_kind.HalfUnsigned rd a = if_keeps P b0 (eqb (a % 2) 0 && both F.can_read a) (Go (with_reg r rd (half_at b a)) (pc + 4) b i h) (Fell h) (λ e. k) tt
 
   may : (a : ℕ) → P.can_write a ≡ false → F.can_write a ≡ false
   may a e = ap (λ f. f a) writes ∙ e
@@ -65,7 +68,7 @@ module _ (P : Permits) (b0 : ℕ → ℕ) (F : Fixed) (writes : F.can_write ≡ 
   store_keeps : (o : StoreKind) (a v : ℕ) → Keeps P b0 (store F o a v r pc b i h)
   store_keeps store_kind.Word a v = if_keeps P b0 (eqb (a % 4) 0 && all_four F.can_write a) (Go r (pc + 4) (with_word b a v) i h) (Fell h) (λ e x q. word_kept F.can_write a x v (b x) (and_right (eqb (a % 4) 0) (all_four F.can_write a) e) (may x q) ∙ k x q) tt
   store_keeps store_kind.Byte a v = if_keeps P b0 (F.can_write a) (Go r (pc + 4) (with_byte b a (v % 2 ^ 8)) i h) (Fell h) (λ e x q. byte_kept F.can_write a x _ (b x) e (may x q) ∙ k x q) tt
-  store_keeps store_kind.Half a v = tt
+  store_keeps store_kind.Half a v = if_keeps P b0 (eqb (a % 2) 0 && both F.can_write a) (Go r (pc + 4) (with_half b a v) i h) (Fell h) (λ e x q. half_kept F.can_write a x v (b x) (and_right (eqb (a % 2) 0) (both F.can_write a) e) (may x q) ∙ k x q) tt
 
   gets_keeps : (xs : List ℕ) (a : ℕ) → P.can_write a ≡ true → Keeps P b0 (gets r pc b xs a h)
   gets_keeps [] a e = k
@@ -97,7 +100,7 @@ module _ (P : Permits) (b0 : ℕ → ℕ) (F : Fixed) (writes : F.can_write ≡ 
   act_keeps (Some (Immediate o rd l v)) = k
   act_keeps (Some (Op o rd l x)) = k
   act_keeps (Some Ecall) = call_keeps (reg r 17)
-  act_keeps (Some (Shift o rd l x)) = tt
+  act_keeps (Some (Shift o rd l x)) = k
   act_keeps (Some (Fence rd s v)) = tt
   act_keeps (Some Ebreak) = tt
 

@@ -14,7 +14,7 @@ RegistersIn (Branch t l r v) = (l < 32) × (r < 32)
 RegistersIn (Load k d b v) = (d < 32) × (b < 32)
 RegistersIn (Store k s b v) = (s < 32) × (b < 32)
 RegistersIn (Immediate o d l v) = (d < 32) × (l < 32)
-RegistersIn (Shift o d l a) = Unit {0}
+RegistersIn (Shift o d l a) = (d < 32) × (l < 32)
 RegistersIn (Op o d l r) = (d < 32) × (l < 32) × (r < 32)
 RegistersIn (Fence d s v) = Unit {0}
 RegistersIn Ecall = Unit {0}
@@ -49,7 +49,7 @@ decoded_in w =
     (if_all (opcode w == 0x23) _ _ (map_all (store_of (funct3 w)) (λ k. Store k (rs2 w) (rs1 w) (immediate_s w)) (λ k. (b, a)))
     (if_all (opcode w == 0x13) _ _
     (if_all (funct3 w % 4 == 1) _ _
-    (map_all (shift_of (function w)) (λ o. Shift o (rd w) (rs1 w) (rs2 w)) (λ o. tt))
+    (map_all (shift_of (function w)) (λ o. Shift o (rd w) (rs1 w) (rs2 w)) (λ o. (d, a)))
     (map_all (immediate_op_of (funct3 w)) (λ o. Immediate o (rd w) (rs1 w) (immediate_i w)) (λ o. (d, a))))
     (if_all (opcode w == 0x33) _ _ (map_all (register_op_of (function w)) (λ o. Op o (rd w) (rs1 w) (rs2 w)) (λ o. (d, a, b)))
     (if_all (opcode w == 0x0f) _ _ (if_all (funct3 w == 0) _ _ tt tt)

@@ -3,3 +3,5 @@ pub mod Bridge
 pub mod Fields
 pub mod Worlds
 pub mod Placing
+pub mod ItemSteps
+pub mod Keeping

@@ -3,16 +3,18 @@ use Rattle.std.proofs.Common.{◌≡◌, ℕ, zero, suc, ◌+◌, ◌-◌, ◌*�
 use Rattle.std.proofs.lemmas.Bool.{cases_lt}
 use Rattle.std.specs.Prelude.{if◌then◌else◌}
 use Rattle.rv32.specs.declared.instr.Instr.{Instr}
-use Rattle.rv32.specs.declared.instr.Instr.TheVariants.{Lui, Auipc, Jal, Jalr, Branch, Load, Store, Immediate, Op, Ecall}
+use Rattle.rv32.specs.declared.instr.Instr.TheVariants.{Lui, Auipc, Jal, Jalr, Branch, Load, Store, Immediate, Shift, Op, Ecall}
 use Rattle.rv32.specs.declared.instr.Test.{Test}
 use Rattle.rv32.specs.declared.instr.ImmediateOp.{ImmediateOp}
 use Rattle.rv32.specs.declared.instr.RegisterOp.{RegisterOp}
+use Rattle.rv32.specs.declared.instr.ShiftOp.{ShiftOp}
 use Rattle.rv32.specs.declared.instr.LoadKind.TheVariants as load_kind
 use Rattle.rv32.specs.declared.instr.StoreKind.TheVariants as store_kind
-use Rattle.rv32.specs.Arithmetic.{compare_of, operate_of, operate_immediate_of}
-use Rattle.rv32.specs.Space.{all_four, word_at}
+use Rattle.rv32.specs.Words.{sign_extended}
+use Rattle.rv32.specs.Arithmetic.{compare_of, operate_of, operate_immediate_of, shift_by}
+use Rattle.rv32.specs.Space.{both, all_four, half_at, word_at}
 use Rattle.events.specs.Events.{Event, Put}
-use Rattle.running.specs.Light.{Fixed, Light, Go, Done, reg, with_reg, with_word, with_byte, sum32, act, light_step, light_run, gets, Comes}
+use Rattle.running.specs.Light.{Fixed, Light, Go, Done, reg, with_reg, with_word, with_half, with_byte, sum32, act, light_step, light_run, gets, Comes}
 
 pub comes_now : (F : Fixed) (I : Light → Type 0) (n : ℕ) (m : Light) (Q : Light → Type 0) → I m → Q m → Comes F I 0 n m Q
 comes_now F I n m Q p q = record {
@@ -112,6 +114,21 @@ module _ (F : Fixed) (I : Light → Type 0) (Q : Light → Type 0) (n : ℕ) (r 
 
   pub on_store_byte : {a0 : ℕ} → (source base v a w : ℕ) → F.text pc ≡ Some (Store store_kind.Byte source base v) → sum32 (reg r base) v ≡ a → F.can_write a ≡ true → reg r source ≡ w → Comes F I a0 n (Go r (pc + 4) (with_byte b a (w % 2 ^ 8)) i h) Q → Comes F I 1 (suc n) (Go r pc b i h) Q
   on_store_byte source base v a w e ea q ew c = comes_step F I n _ _ Q p (at_text _ e ∙ rw (ea, q, ew) refl) c
+
+  pub on_shift : {a0 : ℕ} → (o : ShiftOp) (rd l k : ℕ) → F.text pc ≡ Some (Shift o rd l k) → Comes F I a0 n (Go (with_reg r rd (shift_by o (reg r l) k)) (pc + 4) b i h) Q → Comes F I 1 (suc n) (Go r pc b i h) Q
+  on_shift o rd l k e c = comes_step F I n _ _ Q p (at_text _ e) c
+
+  pub on_load_signed_byte : {a0 : ℕ} → (rd base v a w : ℕ) → F.text pc ≡ Some (Load load_kind.Byte rd base v) → sum32 (reg r base) v ≡ a → F.can_read a ≡ true → sign_extended 7 (b a) ≡ w → Comes F I a0 n (Go (with_reg r rd w) (pc + 4) b i h) Q → Comes F I 1 (suc n) (Go r pc b i h) Q
+  on_load_signed_byte rd base v a w e ea q ew c = comes_step F I n _ _ Q p (at_text _ e ∙ rw (ea, q, ew) refl) c
+
+  pub on_load_half : {a0 : ℕ} → (rd base v a w : ℕ) → F.text pc ≡ Some (Load load_kind.HalfUnsigned rd base v) → sum32 (reg r base) v ≡ a → a % 2 ≡ 0 → both F.can_read a ≡ true → half_at b a ≡ w → Comes F I a0 n (Go (with_reg r rd w) (pc + 4) b i h) Q → Comes F I 1 (suc n) (Go r pc b i h) Q
+  on_load_half rd base v a w e ea al q ew c = comes_step F I n _ _ Q p (at_text _ e ∙ rw (ea, al, q, ew) refl) c
+
+  pub on_load_signed_half : {a0 : ℕ} → (rd base v a w : ℕ) → F.text pc ≡ Some (Load load_kind.Half rd base v) → sum32 (reg r base) v ≡ a → a % 2 ≡ 0 → both F.can_read a ≡ true → sign_extended 15 (half_at b a) ≡ w → Comes F I a0 n (Go (with_reg r rd w) (pc + 4) b i h) Q → Comes F I 1 (suc n) (Go r pc b i h) Q
+  on_load_signed_half rd base v a w e ea al q ew c = comes_step F I n _ _ Q p (at_text _ e ∙ rw (ea, al, q, ew) refl) c
+
+  pub on_store_half : {a0 : ℕ} → (source base v a w : ℕ) → F.text pc ≡ Some (Store store_kind.Half source base v) → sum32 (reg r base) v ≡ a → a % 2 ≡ 0 → both F.can_write a ≡ true → reg r source ≡ w → Comes F I a0 n (Go r (pc + 4) (with_half b a w) i h) Q → Comes F I 1 (suc n) (Go r pc b i h) Q
+  on_store_half source base v a w e ea al q ew c = comes_step F I n _ _ Q p (at_text _ e ∙ rw (ea, al, q, ew) refl) c
 
   pub on_get : {a0 : ℕ} → (a : ℕ) → F.text pc ≡ Some Ecall → reg r 17 ≡ 63 → reg r 10 ≡ 0 → reg r 12 ≡ 1 → reg r 11 ≡ a → F.can_write a ≡ true → Comes F I a0 n (gets r pc b i a h) Q → Comes F I 1 (suc n) (Go r pc b i h) Q
   on_get a e e7 e0 e2 e1 q c = comes_step F I n _ _ Q p (at_text _ e ∙ rw (e7, e0, e2, e1, q) refl) c

@@ -11,9 +11,9 @@ use Rattle.rv32.specs.declared.instr.LoadKind.TheVariants as load_kind
 use Rattle.rv32.specs.declared.instr.StoreKind.{StoreKind}
 use Rattle.rv32.specs.declared.instr.StoreKind.TheVariants as store_kind
 use Rattle.rv32.specs.declared.state.Cause.TheVariants as cause
-use Rattle.rv32.specs.Words.{decode_of}
-use Rattle.rv32.specs.Arithmetic.{compare_of, operate_immediate_of}
-use Rattle.rv32.specs.Space.{all_four, word_at, fetch_of}
+use Rattle.rv32.specs.Words.{decode_of, sign_extended}
+use Rattle.rv32.specs.Arithmetic.{compare_of, operate_immediate_of, shift_by}
+use Rattle.rv32.specs.Space.{both, all_four, half_at, word_at, fetch_of}
 use Rattle.rv32.specs.Step.{Machine, Stepped, register, with_register, execute_of, gives, jumps, links, stored, load_of, store_of}
 use Rattle.rv32.proofs.Uses.{step_at}
 use Rattle.sim.specs.Runs.{World, Progress, Running, Ended, Trapped, tick_of, result_of, call_of, gets, puts, answered, goes_on, rvrun}
@@ -104,9 +104,18 @@ module _ (P : Permits) (list : List ℕ) (r : ℕ → ℕ) (pc : ℕ) (b : ℕ �
       bool_cases (P.can_read a)
       (λ e. rw e (gives_follows d (b a) (b a) dl refl))
       (λ e. rw e tt)
-  load_follows load_kind.Byte d a dl = tt
-  load_follows load_kind.Half d a dl = tt
-  load_follows load_kind.HalfUnsigned d a dl = tt
+  load_follows load_kind.Byte d a dl =
+      bool_cases (P.can_read a)
+      (λ e. rw e (gives_follows d (sign_extended 7 (b a)) (sign_extended 7 (b a)) dl refl))
+      (λ e. rw e tt)
+  load_follows load_kind.Half d a dl =
+      bool_cases (eqb (a % 2) 0 && both P.can_read a)
+      (λ e. rw (and_left (eqb (a % 2) 0) (both P.can_read a) e, and_right (eqb (a % 2) 0) (both P.can_read a) e) (gives_follows d (sign_extended 15 (half_at b a)) (sign_extended 15 (half_at b a)) dl refl))
+      (λ e. rw e tt)
+  load_follows load_kind.HalfUnsigned d a dl =
+      bool_cases (eqb (a % 2) 0 && both P.can_read a)
+      (λ e. rw (and_left (eqb (a % 2) 0) (both P.can_read a) e, and_right (eqb (a % 2) 0) (both P.can_read a) e) (gives_follows d (half_at b a) (half_at b a) dl refl))
+      (λ e. rw e tt)
 
   store_follows : (o : StoreKind) (a v : ℕ) → Follows P (light.store (fixed P b) o a v r pc b i h) (came (store_of m o a v))
   store_follows store_kind.Word a v =
@@ -117,7 +126,10 @@ module _ (P : Permits) (list : List ℕ) (r : ℕ → ℕ) (pc : ℕ) (b : ℕ �
       bool_cases (P.can_write a)
       (λ e. rw e (stored_follows _))
       (λ e. rw e tt)
-  store_follows store_kind.Half a v = tt
+  store_follows store_kind.Half a v =
+      bool_cases (eqb (a % 2) 0 && both P.can_write a)
+      (λ e. rw (and_left (eqb (a % 2) 0) (both P.can_write a) e, and_right (eqb (a % 2) 0) (both P.can_write a) e) (stored_follows _))
+      (λ e. rw e tt)
 
   register_is : (k : ℕ) → k < 32 → register m k ≡ reg r k
   register_is k kl = q.each k kl
@@ -212,7 +224,7 @@ module _ (P : Permits) (list : List ℕ) (r : ℕ → ℕ) (pc : ℕ) (b : ℕ �
       let e2 : register m k ≡ reg r k = register_is k f.2 in
       gives_follows d _ _ f.0 (rw (e1, e2) refl)
   act_follows Ecall f = call_follows
-  act_follows (Shift o d l k) f = tt
+  act_follows (Shift o d l k) f = gives_follows d _ _ f.0 (ap (λ x. shift_by o x k) (register_is l f.1))
   act_follows (Fence d s v) f = tt
   act_follows Ebreak f = tt
 

@@ -6,8 +6,9 @@ use Rattle.rv32.specs.declared.instr.LoadKind.{LoadKind}
 use Rattle.rv32.specs.declared.instr.LoadKind.TheVariants as load_kind
 use Rattle.rv32.specs.declared.instr.StoreKind.{StoreKind}
 use Rattle.rv32.specs.declared.instr.StoreKind.TheVariants as store_kind
-use Rattle.rv32.specs.Arithmetic.{compare_of, operate_of, operate_immediate_of}
-use Rattle.rv32.specs.Space.{all_four, word_at, word_put, byte_put}
+use Rattle.rv32.specs.Words.{sign_extended}
+use Rattle.rv32.specs.Arithmetic.{compare_of, operate_of, operate_immediate_of, shift_by}
+use Rattle.rv32.specs.Space.{both, all_four, half_at, word_at, half_put, word_put, byte_put}
 use Rattle.events.specs.Events.{Event, Got, GotEnd, Put}
 
 pub record Fixed : Type 0 where
@@ -30,6 +31,9 @@ with_reg r rd v = if rd == 0 then r else (λ k. if k == rd then v else r k)
 abbrev pub with_word : (ℕ → ℕ) → ℕ → ℕ → ℕ → ℕ
 with_word b a v k = word_put a v k (b k)
 
+abbrev pub with_half : (ℕ → ℕ) → ℕ → ℕ → ℕ → ℕ
+with_half b a v k = half_put a v k (b k)
+
 abbrev pub with_byte : (ℕ → ℕ) → ℕ → ℕ → ℕ → ℕ
 with_byte b a v k = byte_put a v k (b k)
 
@@ -39,14 +43,14 @@ sum32 a b = (a + b) % 2 ^ 32
 abbrev pub load : Fixed → LoadKind → ℕ → ℕ → (ℕ → ℕ) → ℕ → (ℕ → ℕ) → List ℕ → List Event → Light
 load F load_kind.Word rd a r pc b i h = if a % 4 == 0 && all_four F.can_read a then Go (with_reg r rd (word_at b a)) (pc + 4) b i h else Fell h
 load F load_kind.ByteUnsigned rd a r pc b i h = if F.can_read a then Go (with_reg r rd (b a)) (pc + 4) b i h else Fell h
-load F load_kind.Byte rd a r pc b i h = Fell h
-load F load_kind.Half rd a r pc b i h = Fell h
-load F load_kind.HalfUnsigned rd a r pc b i h = Fell h
+load F load_kind.Byte rd a r pc b i h = if F.can_read a then Go (with_reg r rd (sign_extended 7 (b a))) (pc + 4) b i h else Fell h
+load F load_kind.Half rd a r pc b i h = if a % 2 == 0 && both F.can_read a then Go (with_reg r rd (sign_extended 15 (half_at b a))) (pc + 4) b i h else Fell h
+load F load_kind.HalfUnsigned rd a r pc b i h = if a % 2 == 0 && both F.can_read a then Go (with_reg r rd (half_at b a)) (pc + 4) b i h else Fell h
 
 abbrev pub store : Fixed → StoreKind → ℕ → ℕ → (ℕ → ℕ) → ℕ → (ℕ → ℕ) → List ℕ → List Event → Light
 store F store_kind.Word a v r pc b i h = if a % 4 == 0 && all_four F.can_write a then Go r (pc + 4) (with_word b a v) i h else Fell h
 store F store_kind.Byte a v r pc b i h = if F.can_write a then Go r (pc + 4) (with_byte b a (v % 2 ^ 8)) i h else Fell h
-store F store_kind.Half a v r pc b i h = Fell h
+store F store_kind.Half a v r pc b i h = if a % 2 == 0 && both F.can_write a then Go r (pc + 4) (with_half b a v) i h else Fell h
 
 -- to a target, which is a multiple of 4
 abbrev pub goes : ℕ → (ℕ → ℕ) → (ℕ → ℕ) → List ℕ → List Event → Light
@@ -77,8 +81,8 @@ act F (Some (Load k rd base v)) r pc b i h = load F k rd (sum32 (reg r base) v) 
 act F (Some (Store k source base v)) r pc b i h = store F k (sum32 (reg r base) v) (reg r source) r pc b i h
 act F (Some (Immediate o rd l v)) r pc b i h = Go (with_reg r rd (operate_immediate_of o (reg r l) v)) (pc + 4) b i h
 act F (Some (Op o rd l k)) r pc b i h = Go (with_reg r rd (operate_of o (reg r l) (reg r k))) (pc + 4) b i h
+act F (Some (Shift o rd l k)) r pc b i h = Go (with_reg r rd (shift_by o (reg r l) k)) (pc + 4) b i h
 act F (Some Ecall) r pc b i h = call F (reg r 17) r pc b i h
-act F (Some (Shift o rd l k)) r pc b i h = Fell h
 act F (Some (Fence rd s v)) r pc b i h = Fell h
 act F (Some Ebreak) r pc b i h = Fell h
 
