@@ -1,6 +1,6 @@
 -- What the tokens behind `# define` and `# undef` do to the macros, and what is wrong with them (ISO/IEC 9899:2011 6.10.3,
 -- 6.10.3.5).
-use Rattle.std.specs.Prelude.{ℕ, List, [], ◌∷◌, ◌++◌, length, Bool, true, false, not, ◌&&◌, ◌||◌, nat_lt, nat_le, Option, Some, None, is_some, Result, Ok, Err, codes, if◌then◌else◌}
+use Rattle.std.specs.Prelude.{ℕ, suc, List, [], ◌∷◌, ◌++◌, length, Bool, true, false, not, ◌&&◌, ◌||◌, nat_lt, nat_le, Option, Some, None, is_some, Result, Ok, Err, codes, if◌then◌else◌}
 use Rattle.std.specs.List.{list_any}
 use Rattle.std.specs.Str.{bytes_eq}
 use Rattle.srcset.specs.declared.code.Code.{Code}
@@ -59,6 +59,19 @@ names_of (Some p) = p.names
 abbrev pub has_reserved : List ℕ → Macro → Bool
 has_reserved name macro =
     list_any is_reserved (name ∷ names_of macro.parameters) || list_any (is_spelled (codes "__VA_ARGS__")) macro.body
+
+-- the place of a name among names
+abbrev pub next_number : Option ℕ → Option ℕ
+next_number None = None
+next_number (Some i) = Some (suc i)
+
+abbrev pub number_among : List ℕ → List (List ℕ) → Option ℕ
+number_among name [] = None
+number_among name (n ∷ ns) = if bytes_eq name n then Some 0 else next_number (number_among name ns)
+
+-- which of these parameters a token names
+abbrev pub parameter_among : List (List ℕ) → Token → Option ℕ
+parameter_among names x = if is_identifier x then number_among x.spelling names else None
 
 abbrev pub is_parameter : List (List ℕ) → Token → Bool
 is_parameter names x = is_identifier x && list_any (bytes_eq x.spelling) names

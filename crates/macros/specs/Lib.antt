@@ -1,4 +1,11 @@
+pub use Rattle.srcset.specs.Fault
+pub use Rattle.srcset.specs.NameTable
+pub use Rattle.srcset.specs.Refusal
+pub use Rattle.phases.specs.Characters
+pub use Rattle.phases.specs.Grammar
+pub use Rattle.phases.specs.Token
 pub mod Macro
 pub mod Definition
 pub mod Operators
-pub mod Substitution
+pub mod Table
+pub mod inside

@@ -1,0 +1,5 @@
+pub mod RefusalLemmas
+pub mod TableLemmas
+pub mod ReadingLemmas
+pub mod FaultLemmas
+pub mod DefineLemmas

@@ -1,0 +1,7 @@
+use Rattle.std.proofs.Common.{◌≡◌, ℕ, List, map, take}
+use Rattle.macros.specs.Table.{AreNumbered, with_parameter}
+use Rattle.macros.proofs.reading.body_of.Given as goal
+
+abbrev pub invariant-loop-token : goal.invariant-loop-token
+invariant-loop-token l =
+    (texts : List (List ℕ)) → AreNumbered l.names l.parameters.keys texts → l.body.items ≡ map (with_parameter texts) (take l.token-index l.tokens)

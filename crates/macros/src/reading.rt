@@ -1,0 +1,247 @@
+//! The tokens behind `# define`: the name, the parameters, the replacement list (ISO/IEC 9899:2011 6.10.3p1, p9 to p11).
+ghost use Rattle.std.specs.Prelude.{◌≡◌, ◌≤◌, drop, ℕ, List, [], Some, None, map, length, option_map, slice_get, IfOk, IfErr, if◌then◌else◌};
+ghost use Rattle.srcset.specs.NameTable.{KeepsNumbers, NumbersOnce};
+ghost use Rattle.srcset.specs.declared.refusal.Refusal.TheVariants.{Memory};
+ghost use Rattle.macros.specs.Macro.{is_spelled};
+ghost use Rattle.macros.specs.Definition.{number_among, parameter_among, head_of, function_like, macro_of};
+ghost use Rattle.macros.specs.Table.{AreNumbered, AreSame, with_parameter};
+ghost use Rattle.macros.specs.inside.Readings.{IsReading, IsWithin};
+ghost use Rattle.macros.specs.inside.Reading.{read_from, KeepsTables, distinct_from, macro_if};
+
+use crate::reserved::is_text;
+use crate::table::{BodyToken, Macro};
+use crate::tests_of_tokens::is_identifier;
+use indexmap::IndexSet;
+use phases::PpToken;
+use srcset::{Names, Refusal};
+use std::alloc::{AllocError, Global};
+
+/// The parameters of a function-like macro, as they are written.
+#[derive(Drop)]
+pub(crate) struct Reading {
+    /// The numbers of their names, in order.
+    pub(crate) numbers: Vec<usize>,
+    /// How many tokens there are through the `)`.
+    pub(crate) len: usize,
+}
+
+/// Whether the token is spelled so.
+pub(crate) fn is_spelled(text: &[u8], token: &PpToken) -> bool
+    ensures { result ≡ is_spelled text.now token.now }
+{
+    is_text(token.spelling(), text)
+}
+
+/// The number of a token's text.
+pub(crate) fn number_of(token: &PpToken, names: &mut Names) -> Result<usize, Refusal>
+    ensures once { NumbersOnce names.new }
+    ensures text { IfOk result (λ n. slice_get names.new n ≡ Some token.now.spelling) }
+    ensures keeps { KeepsNumbers names.old names.new }
+    ensures tables { KeepsTables names.old names.new }
+    ensures err { IfErr result (λ r. r ≡ Memory) }
+{
+    match names.intern(token.spelling()) {
+        Ok(n) => Ok(n),
+        Err(_) => Err(Refusal::Memory),
+    }
+}
+
+/// The parameters whose names begin here, behind the `(`. The same name may be there twice.
+pub(crate) fn read_parameters(
+    alloc: Global,
+    tokens: &[PpToken],
+    names: &mut Names,
+) -> Result<Option<Reading>, Refusal>
+    requires { NumbersOnce names.old }
+    ensures ok { IfOk result (λ reading. IsReading names.new reading (read_from tokens.now)) }
+    ensures within { IfOk result (λ reading. IsWithin reading (length tokens.now)) }
+    ensures once { NumbersOnce names.new }
+    ensures keeps { KeepsNumbers names.old names.new }
+    ensures tables { KeepsTables names.old names.new }
+    ensures err { IfErr result (λ r. r ≡ Memory) }
+{
+    let mut numbers = Vec::new(alloc);
+    let mut at = 0;
+    while at + 1 < tokens.len() {
+        let name = &tokens[at];
+        let next = &tokens[at + 1];
+        if !is_identifier(name) {
+            return Ok(None);
+        }
+        let n = number_of(name, names)?;
+        numbers.push(n)?;
+        if is_spelled(b")", next) {
+            return Ok(Some(Reading {
+                numbers,
+                len: at + 2,
+            }));
+        }
+        if !is_spelled(b",", next) {
+            return Ok(None);
+        }
+        at += 2;
+    }
+    Ok(None)
+}
+
+/// The numbers as a set, where no number is there twice.
+pub(crate) fn distinct(
+    alloc: Global,
+    numbers: &[usize],
+) -> Result<Option<IndexSet<usize>>, AllocError>
+    ensures { IfOk result (λ set. option_map (λ s. s.keys) set ≡ (if distinct_from [] numbers.now then Some numbers.now else None)) }
+{
+    let mut set = IndexSet::new(alloc);
+    for number in numbers {
+        let (_, added) = set.insert_full(*number)?;
+        if !added {
+            return Ok(None);
+        }
+    }
+    Ok(Some(set))
+}
+
+// The place among these parameters of the one with this name.
+fn place_of(name: &[u8], parameters: &IndexSet<usize>, names: &Names) -> Option<usize>
+    ensures { (texts : List (List ℕ)) → AreNumbered names.now parameters.now.keys texts → result ≡ number_among name.now texts }
+{
+    let Some(n) = names.find(name) else {
+        return None;
+    };
+    parameters.get_index_of(&n)
+}
+
+// Which of these parameters the token names.
+fn parameter_of(token: &PpToken, parameters: &IndexSet<usize>, names: &Names) -> Option<usize>
+    ensures { (texts : List (List ℕ)) → AreNumbered names.now parameters.now.keys texts → result ≡ parameter_among texts token.now }
+{
+    if is_identifier(token) {
+        return place_of(token.spelling(), parameters, names);
+    }
+    None
+}
+
+// A token of a replacement list.
+fn body_token<'a>(
+    alloc: Global,
+    token: &PpToken<'a>,
+    parameters: &IndexSet<usize>,
+    names: &Names,
+) -> Result<BodyToken<'a>, AllocError>
+    ensures { (texts : List (List ℕ)) → AreNumbered names.now parameters.now.keys texts → IfOk result (λ x. x ≡ with_parameter texts token.now) }
+{
+    let parameter = parameter_of(token, parameters, names);
+    Ok(BodyToken {
+        token: token.copy(alloc)?,
+        parameter,
+    })
+}
+
+/// The replacement list of these tokens.
+pub(crate) fn body_of<'a>(
+    alloc: Global,
+    tokens: &[PpToken<'a>],
+    parameters: &IndexSet<usize>,
+    names: &Names,
+) -> Result<Vec<BodyToken<'a>>, AllocError>
+    ensures { (texts : List (List ℕ)) → AreNumbered names.now parameters.now.keys texts → IfOk result (λ body. body.items ≡ map (with_parameter texts) tokens.now) }
+{
+    let mut body = Vec::new(alloc);
+    for token in tokens {
+        body.push(body_token(alloc, token, parameters, names)?)?;
+    }
+    Ok(body)
+}
+
+// The function-like macro with these parameters and this replacement list, where no parameter is there twice.
+fn with_parameters<'a>(
+    alloc: Global,
+    numbers: Vec<usize>,
+    tokens: &[PpToken<'a>],
+    names: &Names,
+) -> Result<Option<Macro<'a>>, AllocError>
+    ensures { (texts : List (List ℕ)) → AreNumbered names.now numbers.items texts → IfOk result (λ m. AreSame names.now m (macro_if (distinct_from [] numbers.items) texts tokens.now)) }
+{
+    let Some(parameters) = distinct(alloc, numbers.as_slice())? else {
+        return Ok(None);
+    };
+    let body = body_of(alloc, tokens, &parameters, names)?;
+    Ok(Some(Macro {
+        parameters: Some(numbers),
+        body,
+    }))
+}
+
+// The object-like macro with this replacement list.
+fn object_like<'a>(
+    alloc: Global,
+    tokens: &[PpToken<'a>],
+    names: &Names,
+) -> Result<Option<Macro<'a>>, AllocError>
+    ensures { IfOk result (λ m. AreSame names.now m (Some (record { parameters = None; body = tokens.now }))) }
+{
+    let body = body_of(alloc, tokens, &IndexSet::new(alloc), names)?;
+    Ok(Some(Macro {
+        parameters: None,
+        body,
+    }))
+}
+
+/// The tokens behind so many.
+pub(crate) fn behind<'s, 'a>(tokens: &'s [PpToken<'a>], count: usize) -> &'s [PpToken<'a>]
+    requires { count ≤ length tokens.now }
+    ensures { result.now ≡ drop count tokens.now }
+{
+    &tokens[count..]
+}
+
+// The function-like macro whose parameters begin here, behind the `(`.
+fn function_like<'a>(
+    alloc: Global,
+    tokens: &[PpToken<'a>],
+    names: &mut Names,
+) -> Result<Option<Macro<'a>>, Refusal>
+    requires { NumbersOnce names.old }
+    ensures ok { IfOk result (λ m. AreSame names.new m (function_like (head_of tokens.now))) }
+    ensures keeps { KeepsNumbers names.old names.new }
+    ensures tables { KeepsTables names.old names.new }
+    ensures once { NumbersOnce names.new }
+    ensures err { IfErr result (λ r. r ≡ Memory) }
+{
+    let [first, ..] = tokens else {
+        return Ok(None);
+    };
+    if is_spelled(b")", first) {
+        return Ok(with_parameters(alloc, Vec::new(alloc), behind(tokens, 1), names)?);
+    }
+    let Some(reading) = read_parameters(alloc, tokens, names)? else {
+        return Ok(None);
+    };
+    let body = behind(tokens, reading.len);
+    Ok(with_parameters(alloc, reading.numbers, body, names)?)
+}
+
+/// The macro of what stands behind the name, or `None` where that is none.
+pub(crate) fn read_macro<'a>(
+    alloc: Global,
+    tokens: &[PpToken<'a>],
+    names: &mut Names,
+) -> Result<Option<Macro<'a>>, Refusal>
+    requires { NumbersOnce names.old }
+    ensures ok { IfOk result (λ m. AreSame names.new m (macro_of tokens.now)) }
+    ensures keeps { KeepsNumbers names.old names.new }
+    ensures tables { KeepsTables names.old names.new }
+    ensures once { NumbersOnce names.new }
+    ensures err { IfErr result (λ r. r ≡ Memory) }
+{
+    let [first, rest @ ..] = tokens else {
+        return Ok(object_like(alloc, tokens, names)?);
+    };
+    if first.space_before() {
+        return Ok(object_like(alloc, tokens, names)?);
+    }
+    if is_spelled(b"(", first) {
+        return function_like(alloc, rest, names);
+    }
+    Ok(None)
+}
