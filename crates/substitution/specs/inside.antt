@@ -1,0 +1,4 @@
+pub mod Nodes
+pub mod Steps
+pub mod Reading
+pub mod Both

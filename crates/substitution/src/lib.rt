@@ -1,0 +1,17 @@
+//! What a macro's replacement list becomes, given its arguments (ISO/IEC 9899:2011 6.10.3.1 to 6.10.3.3), and the hide
+//! sets of its tokens (6.10.3.4p2).
+#![tactic(auto)]
+
+mod feeding;
+mod front;
+mod hide_sets;
+mod joining;
+mod piece;
+mod reading;
+mod substituting;
+
+pub use front::put_in_front;
+pub use hide_sets::{HideSet, HideSets};
+pub use piece::{HiddenToken, Piece, Use};
+pub use reading::{pieces, uses};
+pub use substituting::substitute;
