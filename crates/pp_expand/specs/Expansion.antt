@@ -11,7 +11,7 @@ use Rattle.phases.specs.declared.token.Kind.TheVariants as kind
 use Rattle.phases.specs.Token.{Token}
 use Rattle.macros.specs.Macro.{Parameters, Macro, Macros, macro_named, is_predefined, is_identifier, is_spelled}
 use Rattle.macros.specs.Definition.{max_parameters}
-use Rattle.macros.specs.Substitution.{◌>>=◌, Hidden, is_hidden, common, hiding, marked, Piece, Call, strings_made, sides, is_expanded, substituted}
+use Rattle.substitution.specs.Substitution.{◌>>=◌, Hidden, is_hidden, common, hiding, marked, Piece, Call, strings_made, sides, is_expanded, substituted}
 
 -- where a list of tokens ends: with its run, with its directive, or with its argument
 pub data Ending : Type 0 where
@@ -214,11 +214,11 @@ replace next r ending left =
     >>= λ full. at_place r.call.at (substituted r.call full.0 pieces)
     >>= λ new. next (front_of r new) ending full.1
 
--- the token of a predefined macro, marked and hiding as a replacement
+-- the token of a predefined macro, marked as a replacement; it is no identifier, so that its name need not be hidden from it
 abbrev pub predefined_by : Known → Hidden → Kind × List ℕ → Hidden
 predefined_by known x t = record {
   token = record { kind = t.0; spelling = t.1; space_before = x.token.space_before; pos = x.token.pos };
-  hides = x.token.spelling ∷ x.hides;
+  hides = x.hides;
 }
 
 abbrev pub predefined_front : Known → Hidden → Hidden

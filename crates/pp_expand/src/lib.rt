@@ -1,2 +1,19 @@
-//! Macro replacement with rescanning (ISO/IEC 9899:2011 6.10.3.4). Today the definition alone.
+//! Macro replacement with rescanning (ISO/IEC 9899:2011 6.10.3.4).
 #![tactic(auto)]
+
+mod arguments;
+mod budget;
+mod engine;
+mod expansion;
+mod level;
+mod mark;
+mod naming;
+mod run_end;
+mod task;
+mod tokens;
+mod turns;
+mod waiting;
+
+pub use budget::Budget;
+pub use expansion::{expand, try_expand};
+pub use run_end::RunEnd;

@@ -1,0 +1,12 @@
+pub mod Law
+pub mod Sets
+pub mod Steps
+pub mod Predefined
+pub mod Gather
+pub mod FirstTokens
+pub mod Tasks
+pub mod Advances
+pub mod Proceeds
+pub mod Runs
+pub mod Files
+pub mod Whole

@@ -1,0 +1,34 @@
+-- What the calls of this crate answer, where the macros and the texts are seen by number.
+use Rattle.std.specs.Prelude.{◌≡◌, ℕ, ◌<◌, List, length, slice_get, Some, Result, Ok, Err, Vec}
+use Rattle.std.specs.declared.alloc.Global.{Global}
+use Rattle.srcset.specs.declared.fault.Fault.{Fault as ToldFault}
+use Rattle.srcset.specs.declared.refusal.Refusal.{Refusal}
+use Rattle.srcset.specs.declared.refusal.Refusal.TheVariants.{Memory, At, Told}
+use Rattle.srcset.specs.NameTable.{Texts}
+use Rattle.srcset.specs.Refusal.{IsFaultOfRefusal}
+use Rattle.phases.specs.Token.{Token}
+use Rattle.pp_expand.specs.declared.run_end.RunEnd.{RunEnd}
+use Rattle.pp_expand.specs.declared.run_end.RunEnd.TheVariants as run_end
+use Rattle.pp_expand.specs.Expansion.{Ending, of_run, of_directive, of_argument, Fault}
+
+abbrev pub ending_of : RunEnd → Ending
+ending_of run_end.Run = of_run
+ending_of run_end.Directive = of_directive
+ending_of run_end.Argument = of_argument
+
+-- the file of each token has a number
+abbrev pub HaveFiles : Texts → List Token → Type 0
+HaveFiles texts xs = (i : ℕ) (x : Token) → slice_get xs i ≡ Some x → x.pos.file < length texts
+
+-- an expansion from so many replacements left, as the code gives it with so many left behind it
+abbrev pub IsExpansion : Result (Vec Token Global) Refusal → ℕ → ℕ → Result (List Token × ℕ) Fault → Type 0
+IsExpansion (Ok v) old new expansion = expansion ≡ Ok (v.items, new)
+IsExpansion (Err Memory) old new expansion = new ≡ old
+IsExpansion (Err (At code pos)) old new expansion = (expansion ≡ Err (record { code = code; at = pos })) × (new ≡ old)
+IsExpansion (Err (Told code pos text)) old new expansion = ⊥
+
+-- the same, where a fault is told by texts
+abbrev pub IsToldExpansion : Texts → Result (Vec Token Global) ToldFault → ℕ → ℕ → Result (List Token × ℕ) Fault → Type 0
+IsToldExpansion texts (Ok v) old new expansion = expansion ≡ Ok (v.items, new)
+IsToldExpansion texts (Err fault) old new expansion =
+    (refusal : Refusal) × IsFaultOfRefusal fault texts refusal × IsExpansion (Err refusal) old new expansion

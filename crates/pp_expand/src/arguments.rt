@@ -1,0 +1,69 @@
+//! The arguments of a call.
+ghost use Rattle.std.specs.Prelude.{◌≡◌, ℕ, ◌≤◌, List, [], length, IfOk, IfErr};
+ghost use Rattle.srcset.specs.NameTable.{Texts};
+ghost use Rattle.srcset.specs.declared.refusal.Refusal.TheVariants.{Memory};
+ghost use Rattle.substitution.specs.HideSets.{Sets};
+ghost use Rattle.substitution.specs.Meaning.{hidden_all, hidden_lists, AreIn, ListsIn};
+ghost use Rattle.pp_expand.specs.Expansion.{arguments_in, arguments_for};
+ghost use Rattle.pp_expand.specs.inside.Turns.{gathered, GathersAs, GatheredIn};
+
+use crate::mark::{Mark, mark_of};
+use srcset::Refusal;
+use std::alloc::Global;
+use std::collections::VecDeque;
+use substitution::HiddenToken;
+
+/// The arguments of a call, behind its opening parenthesis, and its closing one; none where it is not closed.
+pub(crate) fn take_arguments<'a>(
+    alloc: Global,
+    rest: &mut VecDeque<HiddenToken<'a>>,
+) -> Result<Option<(Vec<Vec<HiddenToken<'a>>>, HiddenToken<'a>)>, Refusal>
+    ensures gathers { IfOk result (λ found. (texts : Texts) (sets : Sets) → GathersAs texts sets found rest.new.items (gathered [] [] (arguments_in 0 (hidden_all texts sets rest.old.items)))) }
+    ensures known { IfOk result (λ found. (count : ℕ) → AreIn count rest.old.items → GatheredIn count found × AreIn count rest.new.items) }
+    ensures err { IfErr result (λ refusal. refusal ≡ Memory) }
+{
+    let mut before = Vec::new(alloc);
+    let mut now = Vec::new(alloc);
+    let mut depth: u64 = 0;
+    while let Some(token) = rest.pop_front() {
+        match mark_of(&token.token) {
+            Mark::Opens => {
+                depth += 1;
+                now.push(token)?;
+            }
+            Mark::Closes => {
+                if depth == 0 {
+                    before.push(now)?;
+                    return Ok(Some((before, token)));
+                }
+                depth -= 1;
+                now.push(token)?;
+            }
+            Mark::Separates => {
+                if depth == 0 {
+                    before.push(now)?;
+                    now = Vec::new(alloc);
+                } else {
+                    now.push(token)?;
+                }
+            }
+            Mark::Other => now.push(token)?,
+        }
+    }
+    Ok(None)
+}
+
+/// The arguments for so many parameters: where there are none, one empty argument is none (ISO/IEC 9899:2011 6.10.3p4).
+pub(crate) fn without_empty<'a>(
+    alloc: Global,
+    parameters: usize,
+    arguments: Vec<Vec<HiddenToken<'a>>>,
+) -> Vec<Vec<HiddenToken<'a>>>
+    ensures same { (texts : Texts) (sets : Sets) (names : List (List ℕ)) → length names ≡ parameters → hidden_lists texts sets result.items ≡ arguments_for names (hidden_lists texts sets arguments.entry.items) }
+    ensures known { (count : ℕ) → ListsIn count arguments.entry.items → ListsIn count result.items }
+{
+    if parameters == 0 && arguments.len() == 1 && arguments[0].is_empty() {
+        return Vec::new(alloc);
+    }
+    arguments
+}

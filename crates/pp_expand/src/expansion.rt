@@ -1,0 +1,108 @@
+//! The replacement of the macros in a list of tokens.
+ghost use Rattle.std.specs.Prelude.{◌≡◌, map, IfOk, IfErr};
+ghost use Rattle.srcset.specs.NameTable.{Texts, KeepsNumbers, NumbersOnce};
+ghost use Rattle.srcset.specs.declared.refusal.Refusal.TheVariants.{Memory};
+ghost use Rattle.macros.specs.Macro.{Macros};
+ghost use Rattle.macros.specs.Table.{IsTable};
+ghost use Rattle.pp_expand.specs.Expansion.{expanded};
+ghost use Rattle.pp_expand.specs.Expands.{HaveFiles, IsExpansion, IsToldExpansion, ending_of};
+ghost use Rattle.pp_expand.specs.inside.Meaning.{IsUnhidden};
+
+use crate::budget::Budget;
+use crate::engine::run;
+use crate::run_end::RunEnd;
+use macros::MacroTable;
+use phases::PpToken;
+use srcset::{Fault, Names, Refusal};
+use std::alloc::Global;
+use std::collections::VecDeque;
+use substitution::{HiddenToken, HideSet, HideSets};
+
+// No text has two numbers, which each look-up tells.
+fn numbers_once(names: &Names)
+    ensures { NumbersOnce names.now }
+{
+    let _ = names.find(b"");
+}
+
+// The tokens, which hide no name.
+fn unhidden<'a>(alloc: Global, list: &[PpToken<'a>]) -> Result<VecDeque<HiddenToken<'a>>, Refusal>
+    ensures ok { IfOk result (λ hidden. IsUnhidden list.now hidden.items) }
+    ensures err { IfErr result (λ refusal. refusal ≡ Memory) }
+{
+    let mut hidden = VecDeque::new(alloc);
+    for token in list {
+        let token = token.copy(alloc)?;
+        hidden.push_back(HiddenToken {
+            token,
+            hides: HideSet::empty(),
+        })?;
+    }
+    Ok(hidden)
+}
+
+// The tokens without what they hide.
+fn shown<'a>(alloc: Global, list: Vec<HiddenToken<'a>>) -> Result<Vec<PpToken<'a>>, Refusal>
+    ensures ok { IfOk result (λ tokens. tokens.items ≡ map (λ x. x.token) list.entry.items) }
+    ensures err { IfErr result (λ refusal. refusal ≡ Memory) }
+{
+    let mut tokens = Vec::new(alloc);
+    for x in list {
+        tokens.push(x.token)?;
+    }
+    Ok(tokens)
+}
+
+/// The expansion of a list, as `expand` gives it; a refusal names no file, and takes no memory.
+pub fn try_expand<'a>(
+    alloc: Global,
+    table: &MacroTable<'a>,
+    list: &[PpToken<'a>],
+    end: RunEnd,
+    budget: &mut Budget,
+    names: &Names,
+) -> Result<Vec<PpToken<'a>>, Refusal>
+    requires { HaveFiles names.now list.now }
+    ensures expansion { (macros : Macros) (texts : Texts) → IsTable names.now table.now macros → KeepsNumbers names.now texts → IsExpansion result budget.old budget.new (expanded (record { macros = macros; texts = texts }) list.now (ending_of end) budget.old) }
+    ensures files { (macros : Macros) → IsTable names.now table.now macros → IfOk result (λ v. HaveFiles names.now v.items) }
+{
+    numbers_once(names);
+    let mut sets = HideSets::new(alloc);
+    let hidden = unhidden(alloc, list)?;
+    match run(alloc, table, names, &mut sets, hidden, end, budget.left()) {
+        Ok((out, left)) => {
+            let tokens = shown(alloc, out)?;
+            *budget = Budget::new(left);
+            Ok(tokens)
+        }
+        Err(refusal) => Err(refusal),
+    }
+}
+
+/// The expansion of a list of tokens: each macro that it names is replaced, and what comes of it is scanned again with
+/// the rest of the list (ISO/IEC 9899:2011 6.10.3.4). No name is replaced in what came of its own replacement, by the
+/// hide sets of X3J11/86-196. `names` has the names of the macros and of the files.
+///
+/// Each replacement takes one of `budget`, which stays as it was where the list is refused.
+///
+/// Fails at the first of these, in the order in which the list is scanned, at the name that is replaced: 211 where the
+/// arguments are not closed; 705 where they are more than 127; 212 where they are not as many as the parameters; 213
+/// where a function-like name ends a run; 706 where no replacement is left; 207 where `#` makes no string literal; what
+/// is wrong with an argument; 206 where `##` makes no token. Fails with 801 where memory runs out.
+pub fn expand<'a>(
+    alloc: Global,
+    table: &MacroTable<'a>,
+    list: &[PpToken<'a>],
+    end: RunEnd,
+    budget: &mut Budget,
+    names: &Names,
+) -> Result<Vec<PpToken<'a>>, Fault>
+    requires { HaveFiles names.now list.now }
+    ensures expansion { (macros : Macros) (texts : Texts) → IsTable names.now table.now macros → KeepsNumbers names.now texts → IsToldExpansion names.now result budget.old budget.new (expanded (record { macros = macros; texts = texts }) list.now (ending_of end) budget.old) }
+    ensures files { (macros : Macros) → IsTable names.now table.now macros → IfOk result (λ v. HaveFiles names.now v.items) }
+{
+    match try_expand(alloc, table, list, end, budget, names) {
+        Ok(tokens) => Ok(tokens),
+        Err(refusal) => Err(refusal.to_fault(alloc, names)),
+    }
+}

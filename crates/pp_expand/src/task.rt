@@ -1,0 +1,45 @@
+//! What the first token of a list does.
+use macros::Macro;
+use srcset::Pos;
+use substitution::{HiddenToken, HideSet};
+
+/// What a token names where its list is scanned.
+pub(crate) enum Named<'a, 't> {
+    /// No macro, or one that its hide set has.
+    Nothing,
+    /// A predefined macro.
+    OfCompiler,
+    /// A macro of the table, by the number of its name.
+    Defined(usize, &'t Macro<'a>),
+}
+
+/// A replacement that is to be made of a macro of the table.
+#[derive(Drop)]
+pub(crate) struct Task<'a, 't> {
+    pub(crate) definition: &'t Macro<'a>,
+    /// Whether white space stands before the name.
+    pub(crate) space_before: bool,
+    /// The place of the name.
+    pub(crate) at: Pos,
+    /// What the tokens of the replacement hide beside their own.
+    pub(crate) hides: HideSet,
+    pub(crate) arguments: Vec<Vec<HiddenToken<'a>>>,
+}
+
+/// A replacement that is to be made.
+#[derive(Drop)]
+pub(crate) enum Step<'a, 't> {
+    /// Of this name of a predefined macro.
+    Predefined(HiddenToken<'a>),
+    /// Of a macro of the table.
+    Replaced(Task<'a, 't>),
+}
+
+/// What the first token of a list does.
+#[derive(Drop)]
+pub(crate) enum Turned<'a, 't> {
+    /// It stands.
+    Stays(HiddenToken<'a>),
+    /// It is replaced.
+    Takes(Step<'a, 't>),
+}
