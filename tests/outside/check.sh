@@ -339,7 +339,7 @@ while IFS= read -r line; do
     printf '%b' "$rest" >main.c
     refused "$f1" "$f2" main.c
 done <"$here/refused.txt"
-holds "refused.txt has $count sources, not 69" [ "$count" = 69 ]
+holds "refused.txt has $count sources, not 72" [ "$count" = 72 ]
 
 : >main.c
 refused 'an empty source' 'main.c:1: 699 not built yet' main.c
@@ -433,9 +433,19 @@ go "$cc" build main.c -o hello
 expect 'hello' 0 - ''
 go "$cc" build -o again main.c
 holds 'the same source gives another file' cmp -s hello again
+printf 'void rv_putbyte ( int c ) ; int main ( void ) { rv_putbyte ( 70 + 2 ) ; return 44 - 2 ; }\n' >tokens.want
+go "$cc" pp main.c
+expect 'pp' 0 "$(hex tokens.want)" ''
+printf '#define F(\n' >bad.c
+go "$cc" pp bad.c
+expect 'pp of a bad definition' 1 - 'bad.c:1: 202 bad macro definition'
+: >out
+"$cc" pp main.c 2>err >/dev/full
+status=$?
+expect 'pp to a full device' 1 - 'cc: 803 cannot write'
 usage 'no words'
 usage 'an unknown command' compile main.c
-usage 'pp' pp main.c
+usage 'pp without a main file' pp
 usage 'list' list main.c
 usage 'interp' interp main.c
 usage 'build without words' build
@@ -627,7 +637,7 @@ else
 fi
 
 # So many checks there are; a loop that ends early, or rows that are lost, do not go unseen.
-checks=690
+checks=699
 made=$((passed + failed + skipped))
 [ $made = $checks ] || fail "$made checks were made, not $checks"
 if [ $skipped = 0 ]; then

@@ -1,5 +1,5 @@
-pub mod LineWalk
 pub mod Transfers
 pub mod Outcomes
 pub mod Refusals
 pub mod Inputs
+pub mod Prints

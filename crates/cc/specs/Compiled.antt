@@ -1,15 +1,15 @@
 -- What the compiler promises of a file that it answers, and of a fault.
-use Rattle.std.specs.Prelude.{◌≡◌, ◌≤◌, ℕ, ◌+◌, ◌-◌, ◌*◌, List, [], ◌∷◌, length, true, false, Some, None, Ok, Err, codes, map, replicate, ◌⊎◌}
+use Rattle.std.specs.Prelude.{◌≡◌, ◌≤◌, ℕ, ◌+◌, ◌-◌, ◌*◌, List, [], ◌∷◌, length, true, false, Some, None, Ok, codes, map, replicate, ◌⊎◌, slice_get}
 use Rattle.std.specs.String.{string_bytes}
-use Rattle.srcset.specs.Files.{Files, file_of}
+use Rattle.srcset.specs.Files.{Files}
 use Rattle.srcset.specs.declared.fault.Fault.{Fault}
-use Rattle.srcset.specs.declared.code.Code.TheVariants.{NoMainFile, NotBuiltYet}
+use Rattle.srcset.specs.declared.code.Code.TheVariants.{NotBuiltYet}
 use Rattle.srcset.specs.Fault.{IsFault, IsMemoryFault}
-use Rattle.srcset.specs.NameTable.{Texts, KeepsNumbers}
+use Rattle.srcset.specs.NameTable.{Texts, NumbersOnce}
 use Rattle.srcset.specs.Refusal.{IsFaultOfRefusal}
 use Rattle.srcset.specs.declared.refusal.Refusal.{Refusal}
 use Rattle.phases.specs.Token.{Token as PpToken}
-use Rattle.phases.specs.Lines.{scanned}
+use Rattle.pp.specs.Preprocessed.{IsDone, IsPreprocessFault}
 use Rattle.lexer.specs.CTokens.{ctokens}
 use Rattle.lexer.specs.Numbering.{AreAll}
 use Rattle.lexer.specs.declared.token.Token.{Token}
@@ -24,26 +24,30 @@ use Rattle.sim.specs.Runs.{World, Running, Ended, rvrun, start_world}
 use Rattle.elf_out.specs.Layout.{Parts}
 use Rattle.elf_out.specs.Written as written
 use Rattle.cc.specs.declared.compiling.Built.{Built}
-use Rattle.cc.specs.Unprocessed.{is_unprocessed, all_tokens}
 use Rattle.cc.specs.thin.Sums.{Main}
 use Rattle.cc.specs.thin.Form.{thin_in}
 use Rattle.cc.specs.thin.Meaning.{Ending, meaning}
 use Rattle.cc.specs.thin.Stack.{main_address, IsSp}
 
--- ---- what the main file of a set holds, phase by phase (ISO/IEC 9899:2011 5.1.1.2)
+-- ---- what a set of files holds from its main file on, phase by phase (ISO/IEC 9899:2011 5.1.1.2)
 
--- the lines of the file of this name, by phases 1 to 3; its name is text number 0
-pub record HasLines (set : Files) (name : List ℕ) (lines : List (List PpToken)) : Type 0 where
-  pub bytes : List ℕ
-  pub given : file_of set name ≡ Some bytes
-  pub scanned_are : scanned 0 bytes ≡ Ok lines
+-- a table in which no text has two numbers, and the main file's name has one
+pub record Numbers (texts : Texts) (name : List ℕ) : Type 0 where
+  pub once : NumbersOnce texts
+  pub file : ℕ
+  pub named : slice_get texts file ≡ Some name
 
--- its C tokens, by phases 5 to 7, with texts numbered by this table; no line of it asks for phase 4
+-- its preprocessing tokens, by phases 1 to 4; places name files by their numbers in this table
+pub record HasList (set : Files) (name : List ℕ) (texts : Texts) (list : List PpToken) : Type 0 where
+  pub numbers : Numbers texts name
+  pub whole : IsDone set texts name list
+
+-- its C tokens, by phases 5 to 7, with texts numbered by this table
 pub record HasTokens (set : Files) (name : List ℕ) (texts : Texts) (tokens : List Token) : Type 0 where
-  pub lines : List (List PpToken)
-  pub has_lines : HasLines set name lines
-  pub unprocessed : is_unprocessed lines ≡ true
-  pub tokens_are : AreAll (name ∷ []) texts (ctokens (all_tokens lines)) tokens
+  pub list : List PpToken
+  pub has_list : HasList set name texts list
+  pub before : Texts
+  pub tokens_are : AreAll before texts (ctokens list) tokens
 
 -- the only tree of these tokens, and it is within the limits
 pub record HasTree (set : Files) (name : List ℕ) (texts : Texts) (unit : List ExternalTree) : Type 0 where
@@ -125,35 +129,19 @@ pub record Compiles (set : Files) (name : List ℕ) (built : Built) : Type 0 whe
 
 -- ---- what is refused
 
--- 103: there is no main file
-pub record LacksFile (set : Files) (name : List ℕ) (fault : Fault) : Type 0 where
-  pub missing : file_of set name ≡ None
-  pub fault_is : IsFault fault NoMainFile name 0
-
--- 111 to 113, 703: the fault of phases 1 to 3
-pub record FailsLines (set : Files) (name : List ℕ) (fault : Fault) : Type 0 where
-  pub bytes : List ℕ
-  pub given : file_of set name ≡ Some bytes
-  pub refusal : Refusal
-  pub scanned_is : scanned 0 bytes ≡ Err refusal
-  pub fault_is : IsFaultOfRefusal fault (name ∷ []) refusal
-
--- 699: a line is a directive, or names a predefined macro
-pub record NeedsPreprocessor (set : Files) (name : List ℕ) (fault : Fault) : Type 0 where
-  pub lines : List (List PpToken)
-  pub has_lines : HasLines set name lines
-  pub processed : is_unprocessed lines ≡ false
-  pub fault_is : IsFault fault NotBuiltYet name 1
+-- the fault of phases 1 to 4: 103; 111 to 113, 703; 201 to 213, 704 to 706, 708; and 699 for a directive that is not built yet
+pub record FailsPreprocessing (set : Files) (name : List ℕ) (fault : Fault) : Type 0 where
+  pub texts : Texts
+  pub numbers : Numbers texts name
+  pub fault_is : IsPreprocessFault fault set texts name
 
 -- 301 to 303, 601 to 609: the fault of the first token that has one
 pub record FailsTokens (set : Files) (name : List ℕ) (fault : Fault) : Type 0 where
-  pub lines : List (List PpToken)
-  pub has_lines : HasLines set name lines
-  pub unprocessed : is_unprocessed lines ≡ true
-  pub refusal : Refusal
-  pub first : (ctokens (all_tokens lines)).fault ≡ Some refusal
   pub texts : Texts
-  pub names_stay : KeepsNumbers (name ∷ []) texts
+  pub list : List PpToken
+  pub has_list : HasList set name texts list
+  pub refusal : Refusal
+  pub first : (ctokens list).fault ≡ Some refusal
   pub fault_is : IsFaultOfRefusal fault texts refusal
 
 -- 401, 709 to 711: why the tokens have no tree within the limits
@@ -174,9 +162,7 @@ pub record IsNotThin (set : Files) (name : List ℕ) (fault : Fault) : Type 0 wh
 -- the fault of the first phase that fails; or out of memory, which may hide any of them
 abbrev pub IsRefused : Files → List ℕ → Fault → Type 0
 IsRefused set name fault =
-    LacksFile set name fault
-    ⊎ FailsLines set name fault
-    ⊎ NeedsPreprocessor set name fault
+    FailsPreprocessing set name fault
     ⊎ FailsTokens set name fault
     ⊎ FailsTree set name fault
     ⊎ IsNotThin set name fault

@@ -5,7 +5,9 @@ pub use Rattle.srcset.specs.NameTable
 pub use Rattle.srcset.specs.Refusal
 pub use Rattle.srcset.specs.Writing
 pub use Rattle.phases.specs.Token
-pub use Rattle.phases.specs.Lines
+pub use Rattle.pp.specs.Preprocessed
+pub use Rattle.pp.specs.Printed
+pub use Rattle.pp.specs.Phase4
 pub use Rattle.lexer.specs.CTokens
 pub use Rattle.lexer.specs.Numbering
 pub use Rattle.tree.specs.Tree
@@ -20,7 +22,6 @@ pub use Rattle.sim.specs.Runs
 pub use Rattle.sim.specs.Meets
 pub use Rattle.elf_out.specs.Layout
 pub use Rattle.elf_out.specs.Written
-pub mod Unprocessed
 pub mod thin
 pub mod Compiled
 pub mod Transfer

@@ -1,6 +1,10 @@
 -- What a command leaves of its port, what it says, and its exit status.
 use Rattle.std.specs.Prelude.{◌≡◌, ◌⊎◌, ℕ, List, Some, Ok, Err, IsOk}
+use Rattle.std.specs.Io.KnownBytes.{Appends}
 use Rattle.srcset.specs.Files.{Files}
+use Rattle.srcset.specs.NameTable.{Texts}
+use Rattle.phases.specs.Token.{Token}
+use Rattle.pp.specs.Printed.{printed, IsPrintRefused}
 use Rattle.rv32.specs.Step.{Machine}
 use Rattle.loader.specs.File.{Image, file_image}
 use Rattle.sim.specs.Port.{PortView}
@@ -11,14 +15,14 @@ use Rattle.sim.specs.declared.machine.Outcome.{Outcome}
 use Rattle.sim.specs.declared.machine.Outcome.TheVariants as outcome
 use Rattle.sim.specs.Runs.{start_world}
 use Rattle.cc.specs.declared.performing.Cmd.{Cmd}
-use Rattle.cc.specs.declared.performing.Cmd.TheVariants.{Build, Run}
+use Rattle.cc.specs.declared.performing.Cmd.TheVariants.{Build, Pp, Run}
 use Rattle.cc.specs.declared.compiling.Built.{Built}
 use Rattle.srcset.specs.declared.fault.Fault.{Fault}
 use Rattle.srcset.specs.declared.code.Code.TheVariants.{CannotWrite}
 use Rattle.srcset.specs.Fault.{IsFaultOrMemory, IsMemoryFault}
 use Rattle.loader.specs.declared.fault.LoadFault.{LoadFault}
 use Rattle.loader.specs.Fault.{code_of}
-use Rattle.cc.specs.Compiled.{Compiles, IsRefused}
+use Rattle.cc.specs.Compiled.{HasList, FailsPreprocessing, Compiles, IsRefused}
 use Rattle.cc.specs.Reported.{Said, Says, SaysOutcome, fault_text}
 use Rattle.cc.specs.Transfer.{PutsAll, PutsSome}
 
@@ -57,6 +61,38 @@ Builds set name output refuses old new said status =
     ((status ≡ 0) × BuildsInto set name old new × (said.after ≡ said.before))
     ⊎ ((status ≡ 1) × ((fault : Fault) × FailsBuild set name output refuses old new fault × Says said (fault_text fault)))
 
+-- ---- printing
+
+-- what a writer took before a call and after it, where that is told, is unchanged
+abbrev pub IsUntouched : Said → Type 0
+IsUntouched out = out.after ≡ out.before
+
+-- the set has these tokens, and their whole text was written
+pub record PrintsAll (set : Files) (name : List ℕ) (out : Said) : Type 0 where
+  pub texts : Texts
+  pub list : List Token
+  pub has_list : HasList set name texts list
+  pub written : Appends out.before out.after (printed list)
+
+-- the set has these tokens, and their text was not written whole, for this fault
+pub record PrintsSome (set : Files) (name : List ℕ) (out : Said) (fault : Fault) : Type 0 where
+  pub texts : Texts
+  pub list : List Token
+  pub has_list : HasList set name texts list
+  pub refused : IsPrintRefused list out.before out.after fault
+
+-- the set has no tokens, or there was no memory for them, which this fault tells, and nothing was written; or they were
+-- not written whole
+abbrev pub FailsPrint : Files → List ℕ → Said → Fault → Type 0
+FailsPrint set name out fault =
+    (IsUntouched out × (FailsPreprocessing set name fault ⊎ IsMemoryFault fault)) ⊎ PrintsSome set name out fault
+
+-- 0, and the whole text was written and nothing said; or 1 and a fault, which is said
+abbrev pub Prints : Files → List ℕ → Said → Said → ℕ → Type 0
+Prints set name out said status =
+    ((status ≡ 0) × PrintsAll set name out × IsUntouched said)
+    ⊎ ((status ≡ 1) × ((fault : Fault) × FailsPrint set name out fault × Says said (fault_text fault)))
+
 -- ---- running
 
 -- the exit status after a run: the program's own, or that of why it did not end by itself
@@ -88,7 +124,8 @@ Runs file name max refuses old new said status =
     ((image : Image) × (file_image file ≡ Ok image) × RanAs image max refuses old new said status)
     ⊎ ((status ≡ 1) × (new ≡ old) × ((fault : Fault) × FailsLoad file name fault × Says said (fault_text fault)))
 
--- by the main file's name
-abbrev pub Performs : Cmd → Files → List ℕ → List ℕ → (PortFault → Type 0) → PortView → PortView → Said → ℕ → Type 0
-Performs (Build output) set name file refuses old new said status = Builds set name output.now refuses old new said status
-Performs (Run max) set name file refuses old new said status = Runs file name max refuses old new said status
+-- By the main file's name. Only what is printed goes to `out`; printing does not touch the port.
+abbrev pub Performs : Cmd → Files → List ℕ → List ℕ → (PortFault → Type 0) → PortView → PortView → Said → Said → ℕ → Type 0
+Performs (Build output) set name file refuses old new out said status = IsUntouched out × Builds set name output.now refuses old new said status
+Performs Pp set name file refuses old new out said status = (new ≡ old) × Prints set name out said status
+Performs (Run max) set name file refuses old new out said status = IsUntouched out × Runs file name max refuses old new said status

@@ -13,7 +13,7 @@ ghost use Rattle.cc.specs.thin.inside.Range.{IsBuildable};
 ghost use Rattle.cc.specs.thin.inside.Selected.{program_items, frame_of, main_slots};
 ghost use Rattle.cc.specs.thin.inside.Weight.{main_nodes};
 
-use crate::front::{c_tokens, check_lines, main_file, main_lines, syntax_tree};
+use crate::front::{c_tokens, preprocessed, syntax_tree};
 use crate::stopping::Stop;
 use crate::thin::narrowing::narrow;
 use crate::thin::program::Program;
@@ -38,10 +38,10 @@ pub struct Built {
 
 /// The executable file of the program in the file `main` of the set.
 ///
-/// Refuses with 103 where the set has no such file; with the fault of its lines (111 to 113, 703), of its
-/// tokens (301 to 303, 601 to 609) or of its tree (401, 709 to 711), in this order; with 699 where it has
-/// a directive or names a predefined macro, once it has lines, and where its tree is not of the form that
-/// is built today; and with 801 where there is no memory.
+/// Refuses with the fault of its preprocessing tokens (103; 111 to 113, 703; 201 to 213, 704 to 706, 708), of its C tokens (301 to 303,
+/// 601 to 609) or of its tree (401, 709 to 711), in this order; with 699 where the main file has a directive that is not
+/// built yet, once it has lines, and where its tree is not of the form that is built today; and with 801 where
+/// there is no memory.
 pub fn compile(alloc: Global, set: &FileSet, main: &str) -> Result<Built, Fault>
     ensures built { IfOk result (λ built. Compiles set.now main.now built) }
     ensures refused { IfErr result (λ fault. IsRefused set.now main.now fault) }
@@ -58,10 +58,8 @@ fn by_phases(alloc: Global, set: &FileSet, main: &str) -> Result<Built, Stop>
     ensures stops { IfErr result (λ stop. Stops set.now main.now stop) }
 {
     let mut names = Names::new(alloc);
-    let bytes = main_file(set, main)?;
-    let lines = main_lines(alloc, bytes, main, &mut names)?;
-    check_lines(&lines)?;
-    let tokens = c_tokens(alloc, lines.tokens(), &mut names)?;
+    let list = preprocessed(alloc, set, main, &mut names)?;
+    let tokens = c_tokens(alloc, list.as_slice(), &mut names)?;
     let unit = syntax_tree(alloc, tokens.as_slice(), &names)?;
     build_unit(alloc, &unit, &names)
 }

@@ -8,7 +8,6 @@ mod reporting;
 mod stopping;
 mod thin;
 mod transfer;
-mod unprocessed;
 
 pub use compiling::{Built, compile};
 pub use performing::{Cmd, perform};

@@ -1,17 +1,19 @@
 //! One command over a port and two writers.
 
 ghost use Rattle.std.specs.Prelude.{◌≡◌, ◌≢◌, ◌⊎◌, List, ℕ, MatchResult, Some, Ok};
-ghost use Rattle.cc.specs.Performed.{Performs, Runs, Builds, BuildsInto, FailsBuild, exit_status};
+ghost use Rattle.cc.specs.Performed.{Performs, Runs, Builds, BuildsInto, FailsBuild, Prints, PrintsAll, FailsPrint, exit_status};
 ghost use Rattle.cc.specs.inside.Stops.{put_stop, load_stop};
 ghost use Rattle.cc.specs.Reported.{SaysOutcome};
 
 use crate::compiling::compile;
+use crate::front::preprocessed;
 use crate::reporting::{say_budget, say_fault, say_port, say_trap};
 use crate::stopping::Stop;
 use crate::transfer::put_all;
 use loader::{LoadFault, load};
+use pp::print;
 use sim::{Machine, Outcome, Port, PortFault};
-use srcset::{Code, Fault, FileSet};
+use srcset::{Code, Fault, FileSet, Names};
 use std::alloc::Global;
 use std::io::Write;
 
@@ -20,6 +22,8 @@ use std::io::Write;
 pub enum Cmd<'c> {
     /// Compile the main file; the executable file goes to the port, which writes the file of this name.
     Build(&'c str),
+    /// Print the tokens of the main file after preprocessing.
+    Pp,
     /// Run the executable file over the port, for at most so many instructions.
     Run(u64),
 }
@@ -27,11 +31,12 @@ pub enum Cmd<'c> {
 /// Carries a command out, and answers the exit status.
 ///
 /// `Build` compiles the file `main` of the set, and puts the executable file on the port: 0, or 1 with the
-/// line of the fault on `err`. `Run` runs the executable file of the name `main` and the bytes `file` over
+/// line of the fault on `err`. `Pp` writes the tokens of the file `main`, with those of the files that it includes, to `out`:
+/// one space between, and a newline; 0, or 1 with the line of the fault on `err`. `Run` runs the executable file of the name `main` and the bytes `file` over
 /// the port: the program's status, or, each with one line on `err`, 1 where the file is refused or memory runs
 /// out, 124 where it did not end within the instructions allowed, 125 where it trapped, and 126 where the port
 /// refused. In place of a line for which there is no memory, that of 801 is written. What `err` refuses is left
-/// out. `out` is for the text that a command prints; these print none.
+/// out.
 pub fn perform<P: Port, W: Write, E: Write>(
     alloc: Global,
     command: Cmd<'_>,
@@ -39,14 +44,14 @@ pub fn perform<P: Port, W: Write, E: Write>(
     main: &str,
     file: &[u8],
     port: &mut P,
-    _out: &mut W,
+    out: &mut W,
     err: &mut E,
 ) -> u8
-    ensures performs { Performs command.entry set.now main.now file.now (P.refused_with port.new) (P.seen port.old) (P.seen port.new) (record { before = E.contents err.old; after = E.contents err.new }) result }
-    ensures out { W.contents _out.new ≡ W.contents _out.old }
+    ensures { Performs command.entry set.now main.now file.now (P.refused_with port.new) (P.seen port.old) (P.seen port.new) (record { before = W.contents out.old; after = W.contents out.new }) (record { before = E.contents err.old; after = E.contents err.new }) result }
 {
     match command {
         Cmd::Build(name) => build(alloc, set, main, name, port, err),
+        Cmd::Pp => print_tokens(alloc, set, main, out, err),
         Cmd::Run(max) => run(alloc, main, file, port, max, err),
     }
 }
@@ -86,6 +91,37 @@ fn build_into<P: Port>(
     match put_all(port, built.elf.as_slice()) {
         Ok(()) => Ok(()),
         Err(fault) => Err(put_stop(fault).to_fault(alloc, name)),
+    }
+}
+
+fn print_tokens<W: Write, E: Write>(
+    alloc: Global,
+    set: &FileSet,
+    main: &str,
+    out: &mut W,
+    err: &mut E,
+) -> u8
+    ensures { Prints set.now main.now (record { before = W.contents out.old; after = W.contents out.new }) (record { before = E.contents err.old; after = E.contents err.new }) result }
+{
+    match print_into(alloc, set, main, out) {
+        Ok(()) => 0,
+        Err(fault) => {
+            say_fault(alloc, &fault, err);
+            1
+        }
+    }
+}
+
+/// Writes the text of the tokens.
+fn print_into<W: Write>(alloc: Global, set: &FileSet, main: &str, out: &mut W) -> Result<(), Fault>
+    ensures { MatchResult result
+        (λ _. PrintsAll set.now main.now (record { before = W.contents out.old; after = W.contents out.new }))
+        (FailsPrint set.now main.now (record { before = W.contents out.old; after = W.contents out.new })) }
+{
+    let mut names = Names::new(alloc);
+    match preprocessed(alloc, set, main, &mut names) {
+        Ok(list) => print(alloc, list.as_slice(), out),
+        Err(stop) => Err(stop.to_fault(alloc, main)),
     }
 }
 

@@ -74,6 +74,7 @@ fn answer(rt: &HostRuntime, matches: &ArgMatches<'_>) -> Result<u8> {
     };
     match request.command {
         Cmd::Build(out) => build(rt, request, out, matches),
+        Cmd::Pp => print_tokens(rt, request, matches),
         Cmd::Run(_) => run(rt, request),
     }
 }
@@ -103,6 +104,29 @@ fn build(
     );
     if status == 0 && port.finish().is_err() {
         return Ok(say(rt, &Fault::at(rt.alloc(), Code::CannotWrite, out, 0)));
+    }
+    Ok(status)
+}
+
+/// Prints the tokens of the files. What was buffered is written before the status is answered.
+fn print_tokens(rt: &HostRuntime, request: Request<'_>, matches: &ArgMatches<'_>) -> Result<u8> {
+    let mut set = FileSet::new(rt.alloc());
+    if let Err(fault) = read_files(rt, request.main, matches, &mut set) {
+        return Ok(say(rt, &fault));
+    }
+    let mut out = BufWriter::new(rt.alloc(), rt.stdout())?;
+    let status = perform(
+        rt.alloc(),
+        request.command,
+        &set,
+        request.main,
+        b"",
+        &mut IoPort::new(io::empty(), io::sink()),
+        &mut out,
+        &mut rt.stderr(),
+    );
+    if out.flush().is_err() && status == 0 {
+        return Ok(say(rt, &Fault::at(rt.alloc(), Code::CannotWrite, "", 0)));
     }
     Ok(status)
 }

@@ -19,24 +19,40 @@ pub fn command<'a>(alloc: Global) -> Result<Command<'a>, AllocError> {
         .subcommand_required(true)
         .disable_help_subcommand(true)
         .subcommand(build(alloc)?)?
+        .subcommand(pp(alloc)?)?
         .subcommand(run(alloc)?)
 }
 
-fn build<'a>(alloc: Global) -> Result<Command<'a>, AllocError> {
-    let main = Arg::new(alloc, "MAIN").help("The main file").required(true);
-    let files = Arg::new(alloc, "FILES")
+/// The argument of the main file.
+fn main_file<'a>(alloc: Global) -> Arg<'a> {
+    Arg::new(alloc, "MAIN").help("The main file").required(true)
+}
+
+/// The argument of the further files.
+fn files<'a>(alloc: Global) -> Arg<'a> {
+    Arg::new(alloc, "FILES")
         .help("Further files")
         .action(ArgAction::Append)
-        .num_args(0..);
+        .num_args(0..)
+}
+
+fn build<'a>(alloc: Global) -> Result<Command<'a>, AllocError> {
     let out = Arg::new(alloc, "OUT")
         .short('o')
         .help("The executable file to write")
         .required(true);
     Command::new(alloc, "build")
         .about("Compiles a program to an executable file")
-        .arg(main)?
-        .arg(files)?
+        .arg(main_file(alloc))?
+        .arg(files(alloc))?
         .arg(out)
+}
+
+fn pp<'a>(alloc: Global) -> Result<Command<'a>, AllocError> {
+    Command::new(alloc, "pp")
+        .about("Prints a program's tokens after preprocessing")
+        .arg(main_file(alloc))?
+        .arg(files(alloc))
 }
 
 fn run<'a>(alloc: Global) -> Result<Command<'a>, AllocError> {
@@ -61,6 +77,10 @@ pub fn read_request<'a>(matches: &ArgMatches<'a>) -> Option<Request<'a>> {
     match name {
         "build" => Some(Request {
             command: Cmd::Build(inner.get_str("OUT")?),
+            main: inner.get_str("MAIN")?,
+        }),
+        "pp" => Some(Request {
+            command: Cmd::Pp,
             main: inner.get_str("MAIN")?,
         }),
         "run" => Some(Request {

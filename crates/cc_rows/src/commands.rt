@@ -40,6 +40,33 @@ pub fn run(alloc: Global, file: &[u8], max: u64) -> Result<Done> {
     command(alloc, Cmd::Run(max), &FileSet::new(alloc), "out", file)
 }
 
+/// Prints the tokens of the file `main.c` of these bytes: what `out` took, the status and the line.
+pub fn printed(alloc: Global, fields: &[u8]) -> Result<Vec<u8>> {
+    let mut set = FileSet::new(alloc);
+    set.add("main.c", bytes_of(alloc, fields)?)?;
+    let mut port = MemPort::new(alloc, Vec::new(alloc));
+    let mut output = Vec::new(alloc);
+    let mut line = Vec::new(alloc);
+    let status = perform(
+        alloc,
+        Cmd::Pp,
+        &set,
+        "main.c",
+        b"",
+        &mut port,
+        &mut output,
+        &mut line,
+    );
+    let mut answer = Vec::new(alloc);
+    write_field(&mut answer, output.as_slice())?;
+    answer.push(b'\t')?;
+    write_number(&mut answer, u64::from(status))?;
+    answer.push(b'\t')?;
+    write_field(&mut answer, line.as_slice())?;
+    write_field(&mut answer, port.output())?;
+    Ok(answer)
+}
+
 /// Carries out a command whose program reads nothing.
 pub fn command(
     alloc: Global,

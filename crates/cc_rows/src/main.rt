@@ -27,9 +27,10 @@ enum Subject {
     Cut,
     Texts,
     Narrow,
+    Printed,
 }
 
-const FILES: [(&str, Subject); 9] = [
+const FILES: [(&str, Subject); 10] = [
     ("runs", Subject::Runs),
     ("refused", Subject::Refused),
     ("missing", Subject::Missing),
@@ -39,6 +40,7 @@ const FILES: [(&str, Subject); 9] = [
     ("cut", Subject::Cut),
     ("texts", Subject::Texts),
     ("narrow", Subject::Narrow),
+    ("printed", Subject::Printed),
 ];
 
 fn main(rt: HostRuntime) -> ExitCode {
@@ -117,5 +119,6 @@ fn found(alloc: Global, subject: Subject, row: Row<'_>) -> Result<Vec<u8>> {
         Subject::Cut => commands::cut(alloc, row.input),
         Subject::Texts => commands::text(alloc, row.input),
         Subject::Narrow => narrow::run(alloc, row.input),
+        Subject::Printed => commands::printed(alloc, row.input),
     }
 }

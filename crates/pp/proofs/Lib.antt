@@ -1,1 +1,6 @@
 mod Rows
+pub mod GroupLemmas
+pub mod StateLemmas
+pub mod LineWalk
+pub mod FileLemmas
+pub mod PhaseLemmas

@@ -1,9 +1,8 @@
 -- Worked rows of phase 4, each computed by the definition. The first four are those of ISO/IEC 9899:2011 6.10.3.5.
-use Rattle.std.proofs.Common.{◌≡◌, ℕ, List, [], ◌∷◌, ◌++◌, Option, Some, None, map, refl}
-use Rattle.std.specs.Prelude.{codes, slice_get, decimal}
+use Rattle.std.proofs.Common.{◌≡◌, ℕ, List, [], ◌∷◌, ◌++◌, Option, Some, None, refl}
+use Rattle.std.specs.Prelude.{codes, decimal}
 use Rattle.srcset.specs.declared.code.Code.{Code}
 use Rattle.srcset.specs.declared.code.Code.TheVariants as code
-use Rattle.srcset.specs.Codes.{code_with}
 use Rattle.srcset.specs.Files.{Files}
 use Rattle.srcset.specs.Headers.{stdbool_h}
 use Rattle.srcset.specs.NameTable.{Texts}
@@ -13,13 +12,13 @@ use Rattle.phases.specs.Grammar.{longest_within, punctuators}
 use Rattle.phases.specs.Lines.{found}
 use Rattle.lexer.specs.Numbers.{suffix_of}
 use Rattle.lexer.specs.Literals.{simple, elements}
-use Rattle.macros.specs.Substitution.{strings_made, is_expanded, arguments_put, all_joined, substituted}
+use Rattle.substitution.specs.Substitution.{strings_made, is_expanded, arguments_put, all_joined, substituted}
 use Rattle.pp_expand.specs.Expansion.{text_of, arguments_in, turn, arguments_expanded, replace, walk, expanded_by, expanded}
 use Rattle.pp_cond.specs.Values.{value_of}
 use Rattle.pp_cond.specs.Condition.{read, holds}
 use Rattle.pp.specs.Lines.{line_ends, lines_of}
 use Rattle.pp.specs.Groups.{parsed, groups}
-use Rattle.pp.specs.Phase4.{Phase4, Fault, Outcome, goes, Around, State, start, ending_of, phase4, run_done, include_done, line_done, directive_done, defined_resolved, branch_taken, skipped, branches_skipped, group_done, branches_done, branches_left, file_done, entered}
+use Rattle.pp.specs.Phase4.{Phase4, Fault, goes, Around, start, ending_of, phase4, run_done, include_done, line_done, directive_done, defined_resolved, branch_taken, skipped, branches_skipped, group_done, branches_done, branches_left, file_done, entered}
 
 abbrev texts : Texts
 texts = codes "main.c" ∷ codes "a.h" ∷ codes "q.c" ∷ codes "z.c" ∷ codes "<stdbool.h>" ∷ codes "a.c" ∷ []

@@ -1,6 +1,6 @@
 -- One file as text lines, directives and conditional sections (ISO/IEC 9899:2011 6.10p1, 6.10.1), read from its last line
 -- back to its first.
-use Rattle.std.specs.Prelude.{ℕ, List, [], ◌∷◌, ◌++◌, Bool, true, false, ◌||◌, if◌then◌else◌, codes}
+use Rattle.std.specs.Prelude.{List, [], ◌∷◌, ◌++◌, Bool, true, false, ◌||◌, if◌then◌else◌, codes}
 use Rattle.srcset.specs.declared.refusal.Pos.{Pos}
 use Rattle.phases.specs.Token.{Token}
 use Rattle.macros.specs.Macro.{is_identifier, is_spelled, is_hash}

@@ -1,3 +1,11 @@
+pub use Rattle.srcset.specs.Fault
+pub use Rattle.srcset.specs.NameTable
+pub use Rattle.srcset.specs.Refusal
+pub use Rattle.srcset.specs.Writing
 pub mod Lines
 pub mod Groups
 pub mod Phase4
+pub mod Today
+pub mod Preprocessed
+pub mod Printed
+pub mod inside

@@ -1,7 +1,6 @@
 -- The token lines of a file, each with the physical line on which it ends, behind which the numbering of #line begins
 -- (ISO/IEC 9899:2011 6.10.4).
-use Rattle.std.specs.Prelude.{ℕ, zero, suc, ◌-◌, List, [], ◌∷◌, take, Result, Ok, Err}
-use Rattle.srcset.specs.declared.refusal.Pos.{Pos}
+use Rattle.std.specs.Prelude.{ℕ, zero, suc, ◌-◌, List, [], ◌∷◌, take, drop, Result, Ok, Err}
 use Rattle.srcset.specs.declared.refusal.Refusal.{Refusal}
 use Rattle.phases.specs.declared.token.Piece.{Piece}
 use Rattle.phases.specs.declared.token.Piece.TheVariants.{Newline}
@@ -28,9 +27,14 @@ line_ends zero place (c ∷ cs) =
     let piece = piece_at place c.byte (bytes_of cs) in
     with_end piece.0 c.line (line_ends (piece.1 - 1) (place_after piece.0 place (take piece.1 (bytes_of (c ∷ cs)))) cs)
 
+abbrev pub first_end : List ℕ → ℕ
+first_end [] = 0
+first_end (n ∷ ns) = n
+
+-- there are as many ends as lines
 abbrev pub lines_with : List (List Token) → List ℕ → List Line
-lines_with (ts ∷ tss) (n ∷ ns) = record { tokens = ts; end = n } ∷ lines_with tss ns
-lines_with _ _ = []
+lines_with [] ends = []
+lines_with (ts ∷ tss) ends = record { tokens = ts; end = first_end ends } ∷ lines_with tss (drop 1 ends)
 
 abbrev pub lines_or_refusal : Result (List (List Token)) Refusal → List ℕ → Result (List Line) Refusal
 lines_or_refusal (Ok tss) ends = Ok (lines_with tss ends)

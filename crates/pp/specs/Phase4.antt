@@ -1,7 +1,7 @@
 -- Translation phase 4 of a set of files (ISO/IEC 9899:2011 5.1.1.2, 6.10): the tokens of the runs that are whole, in their
 -- order, and how it ends.
-use Rattle.std.specs.Prelude.{ℕ, zero, suc, ◌+◌, ◌-◌, ◌==◌, List, [], ◌∷◌, ◌++◌, map, take, drop, length, Bool, true, false, not, ◌&&◌, ◌||◌, nat_le, nat_lt, nat_eq, slice_get, slice_index, Option, Some, None, is_some, Result, Ok, Err, codes, if◌then◌else◌}
-use Rattle.std.specs.List.{list_all, list_any, flat_map}
+use Rattle.std.specs.Prelude.{ℕ, zero, suc, ◌+◌, ◌-◌, ◌==◌, List, [], ◌∷◌, ◌++◌, map, take, drop, length, Bool, true, false, not, ◌&&◌, ◌||◌, nat_le, nat_lt, slice_get, slice_index, Option, Some, None, is_some, Result, Ok, Err, codes, if◌then◌else◌}
+use Rattle.std.specs.List.{list_all, flat_map}
 use Rattle.std.specs.Str.{byte, bytes_eq}
 use Rattle.srcset.specs.declared.refusal.Pos.{Pos}
 use Rattle.srcset.specs.declared.refusal.Refusal.{Refusal}

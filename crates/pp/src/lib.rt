@@ -1,2 +1,14 @@
-//! Translation phase 4: directives, conditionals, includes (ISO/IEC 9899:2011 6.10). Today the definitions alone.
+//! Translation phase 4: directives, conditionals, includes (ISO/IEC 9899:2011 6.10). Today the lines are text, a `#`
+//! alone, `#define`, `#undef` and `#pragma`.
 #![tactic(auto)]
+
+mod file;
+mod places;
+mod preprocessing;
+mod printing;
+mod run;
+mod state;
+mod words;
+
+pub use preprocessing::{preprocess, try_preprocess};
+pub use printing::print;

@@ -1,0 +1,193 @@
+-- Phase 4 of a main file whose lines are all of today.
+use Rattle.std.proofs.Common.{◌≡◌, ◌<◌, ◌≤◌, ℕ, zero, suc, List, [], ◌∷◌, length, Bool, true, false, Option, Some, None, Result, Ok, Err, get_or, refl, sym, ap, subst, ◌∙◌, arith, ◌⊎◌, inl, inr}
+use Rattle.std.specs.Prelude.{slice_get, if◌then◌else◌}
+use Rattle.std.specs.List.{list_all}
+use Rattle.std.specs.Str.{bytes_eq}
+use Rattle.std.proofs.lemmas.Option.{none-some, slice_get_within, slice_get-get_or}
+use Rattle.srcset.specs.declared.refusal.Pos.{Pos}
+use Rattle.srcset.specs.declared.refusal.Refusal.{Refusal}
+use Rattle.srcset.specs.declared.refusal.Refusal.TheVariants.{Memory, At, Told}
+use Rattle.srcset.specs.declared.code.Code.{Code}
+use Rattle.srcset.specs.declared.code.Code.TheVariants as code
+use Rattle.srcset.specs.Files.{Files, file_of}
+use Rattle.srcset.specs.NameTable.{Texts, KeepsNumbers, NumbersOnce}
+use Rattle.srcset.proofs.NameLemmas.{same_text, equals_itself}
+use Rattle.phases.specs.Token.{Token}
+use Rattle.phases.specs.Text.{logical, phase1, last_line, ends_open, ends_spliced}
+use Rattle.phases.specs.Lines.{scanned, at_end, lines_or_fault, fault_or, found, Found}
+use Rattle.phases.specs.declared.token.Place.TheVariants.{Start}
+use Rattle.pp.specs.declared.state.State.{State as Held}
+use Rattle.pp.specs.Lines.{Line, line_ends, lines_with, lines_or_refusal, lines_of}
+use Rattle.pp.specs.Phase4.{State, Fault, goes, Around, start, max_includes, number_in, lines_done, file_done, main_done, entered, ending_of, phase4, group_done}
+use Rattle.pp.specs.Today.{is_today_line, is_today, bytes_today, lines_today}
+use Rattle.pp.specs.Preprocessed.{IsDone, IsRefused}
+use Rattle.pp.specs.inside.Pending.{plain_group, tokens_of}
+use Rattle.pp.specs.inside.Stepping.{Goes, StopsAs, nowhere}
+use Rattle.pp.proofs.GroupLemmas.{groups_plain, tokens_with}
+use Rattle.pp.proofs.StateLemmas.{true-false}
+
+-- ---- numbers of texts
+
+from_some : Option (List ℕ) → List ℕ
+from_some None = []
+from_some (Some text) = text
+
+some_is : (a b : List ℕ) → Some a ≡ Some b → a ≡ b
+unfolding from_some
+some_is a b e = ap from_some e
+
+record FirstOf (texts : Texts) (text : List ℕ) (n : ℕ) : Type 0 where
+  here : slice_get texts (number_in texts text) ≡ Some text
+  no_later : number_in texts text ≤ n
+
+first_at : (b : Bool) (t : List ℕ) (ts : Texts) (text : List ℕ) (n : ℕ) → bytes_eq t text ≡ b → slice_get (t ∷ ts) n ≡ Some text
+    → ((m : ℕ) → slice_get ts m ≡ Some text → FirstOf ts text m) → FirstOf (t ∷ ts) text n
+first_at true t ts text n e s more =
+    let zero_is : number_in (t ∷ ts) text ≡ 0 = ap (λ b. if b then 0 else suc (number_in ts text)) e in
+    record { here = ap (λ k. slice_get (t ∷ ts) k) zero_is ∙ ap Some (same_text t text e); no_later = omega (arith, zero_is) }
+first_at false t ts text zero e s more =
+    absurd (true-false (sym (equals_itself text) ∙ ap (λ k. bytes_eq k text) (sym (some_is t text s)) ∙ e))
+first_at false t ts text (suc n) e s more =
+    let later : number_in (t ∷ ts) text ≡ suc (number_in ts text) = ap (λ b. if b then 0 else suc (number_in ts text)) e in
+    let f = more n s in
+    record { here = ap (λ k. slice_get (t ∷ ts) k) later ∙ f.here; no_later = omega (arith, later, f.no_later) }
+
+first_of : (texts : Texts) (text : List ℕ) (n : ℕ) → slice_get texts n ≡ Some text → FirstOf texts text n
+first_of [] text n e = absurd (none-some text e)
+first_of (t ∷ ts) text n e = first_at (bytes_eq t text) t ts text n refl e (λ m d. first_of ts text m d)
+
+-- a text of the table has its number in each later one
+pub number_kept : (names texts : Texts) (text : List ℕ) (n : ℕ) → NumbersOnce names → KeepsNumbers names texts → slice_get names n ≡ Some text → number_in texts text ≡ n
+number_kept names texts text n once keeps e =
+    let f = first_of texts text n (keeps n text e) in
+    let m = number_in texts text in
+    let inside : m < length names = omega (arith, f.no_later, slice_get_within names n text e) in
+    let own = get_or names m [] in
+    let got = slice_get-get_or names m [] inside in
+    let own_is : own ≡ text = some_is own text (sym (keeps m own got) ∙ f.here) in
+    once m n text (got ∙ ap Some own_is) e
+
+-- ---- phase 4
+
+abbrev pub start_of : ℕ → State
+start_of file = record start { presumed = record { from = 1; line = 1; file = file } }
+
+abbrev pub around_of : Files → Texts → Around
+around_of files texts = record { texts = texts; enter = entered max_includes files texts }
+
+abbrev pub numbered_lines : List ℕ → List (List Token) → List Line
+numbered_lines bytes tss = lines_with tss (line_ends 0 Start (logical 1 bytes))
+
+pub main_is : (files : Files) (texts : Texts) (main bytes : List ℕ) (file : ℕ) (tss : List (List Token))
+    → file_of files main ≡ Some bytes → number_in texts main ≡ file → scanned file bytes ≡ Ok tss → list_all is_today_line tss ≡ true
+    → phase4 files texts main ≡ ending_of (group_done (around_of files texts) nowhere 0 (plain_group (numbered_lines bytes tss)) (start_of file))
+unfolding phase4 file_done lines_of
+main_is files texts main bytes file tss given numbered scans today =
+    let around = around_of files texts in
+    let ls = numbered_lines bytes tss in
+    let all_today : list_all is_today_line (tokens_of ls) ≡ true = ap (list_all is_today_line) (tokens_with tss (line_ends 0 Start (logical 1 bytes))) ∙ today in
+    ap (λ o. ending_of (main_done files texts main o)) given
+    ∙ ap (λ n. ending_of (lines_done around (lines_of n bytes) (start_of n))) numbered
+    ∙ ap (λ r. ending_of (lines_done around (lines_or_refusal r (line_ends 0 Start (logical 1 bytes))) (start_of file))) scans
+    ∙ ap (λ g. ending_of (group_done around nowhere 0 g (start_of file))) (groups_plain ls all_today)
+
+pub is_today_of : (files : Files) (texts : Texts) (main bytes : List ℕ) (file : ℕ) (tss : List (List Token))
+    → file_of files main ≡ Some bytes → number_in texts main ≡ file → scanned file bytes ≡ Ok tss → is_today files texts main ≡ list_all is_today_line tss
+is_today_of files texts main bytes file tss given numbered scans =
+    ap (bytes_today (number_in texts main)) given ∙ ap (λ n. lines_today (scanned n bytes)) numbered ∙ ap lines_today scans
+
+-- ---- what is answered
+
+pub done_is : (files : Files) (texts names : Texts) (main bytes : List ℕ) (file : ℕ) (tss : List (List Token)) (held : Held)
+    → file_of files main ≡ Some bytes → number_in texts main ≡ file → scanned file bytes ≡ Ok tss → list_all is_today_line tss ≡ true
+    → Goes names held (group_done (around_of files texts) nowhere 0 (plain_group (numbered_lines bytes tss)) (start_of file))
+    → IsDone files texts main held.given.items
+done_is files texts names main bytes file tss held given numbered scans today g = record {
+  today = is_today_of files texts main bytes file tss given numbered scans ∙ today;
+  done = main_is files texts main bytes file tss given numbered scans today ∙ ap ending_of g.goes_is
+      ∙ ap (λ l. ending_of (goes (record g.after { given = l }))) g.agrees.given_is;
+}
+
+pub stopped_is : (refusal : Refusal) (files : Files) (texts : Texts) (main bytes : List ℕ) (file : ℕ) (tss : List (List Token))
+    → file_of files main ≡ Some bytes → number_in texts main ≡ file → scanned file bytes ≡ Ok tss → list_all is_today_line tss ≡ true
+    → StopsAs refusal (group_done (around_of files texts) nowhere 0 (plain_group (numbered_lines bytes tss)) (start_of file))
+    → IsRefused files texts main refusal
+stopped_is Memory files texts main bytes file tss given numbered scans today s = tt
+stopped_is (At c at) files texts main bytes file tss given numbered scans today s = inr (record {
+  today = is_today_of files texts main bytes file tss given numbered scans ∙ today;
+  stops = ap (λ p. p.fault) (main_is files texts main bytes file tss given numbered scans today ∙ ap ending_of s.stops_is);
+})
+stopped_is (Told c at text) files texts main bytes file tss given numbered scans today s = s
+
+pub not_built_is : (files : Files) (texts : Texts) (main bytes : List ℕ) (file : ℕ) (tss : List (List Token))
+    → file_of files main ≡ Some bytes → number_in texts main ≡ file → scanned file bytes ≡ Ok tss → list_all is_today_line tss ≡ false
+    → IsRefused files texts main (At code.NotBuiltYet (record { file = file; line = 1 }))
+not_built_is files texts main bytes file tss given numbered scans today = inl (record {
+  not_today = is_today_of files texts main bytes file tss given numbered scans ∙ today;
+  code_is = refl;
+  at_is = ap (λ (n : ℕ). record { file = n; line = 1 }) (sym numbered);
+})
+
+abbrev no_main : ℕ → Fault
+no_main n = record { code = code.NoMainFile; at = record { file = n; line = 0 }; text = [] }
+
+pub no_main_is : (files : Files) (texts : Texts) (main : List ℕ) (file : ℕ) → file_of files main ≡ None → number_in texts main ≡ file
+    → IsRefused files texts main (At code.NoMainFile (record { file = file; line = 0 }))
+unfolding phase4
+no_main_is files texts main file given numbered = inr (record {
+  today = ap (bytes_today (number_in texts main)) given;
+  stops = ap (λ o. (ending_of (main_done files texts main o)).fault) given
+      ∙ ap (λ (n : ℕ). Some (no_main n)) numbered;
+})
+
+IsPlaced : Result (List (List Token)) Refusal → Type 0
+IsPlaced (Ok lines) = Unit {0}
+IsPlaced (Err Memory) = ⊥
+IsPlaced (Err (At c at)) = Unit {0}
+IsPlaced (Err (Told c at text)) = ⊥
+
+fault_placed : (c : Code) (o : Option Pos) (r : Result (List (List Token)) Refusal) → IsPlaced r → IsPlaced (fault_or c o r)
+unfolding IsPlaced
+fault_placed c None r p = p
+fault_placed c (Some at) r p = tt
+
+end_placed : (open' spliced : Bool) (file line : ℕ) (r : Result (List (List Token)) Refusal) → IsPlaced r → IsPlaced (at_end open' spliced file line r)
+unfolding IsPlaced
+end_placed true spliced file line r p = tt
+end_placed false true file line r p = tt
+end_placed false false file line r p = p
+
+lines_placed : (f : Found) → IsPlaced (lines_or_fault f)
+unfolding IsPlaced
+lines_placed f = fault_placed code.OpenComment f.unclosed (fault_or code.TokenLengthLimit f.overlong (Ok f.lines)) (fault_placed code.TokenLengthLimit f.overlong (Ok f.lines) tt)
+
+scan_placed : (file : ℕ) (bytes : List ℕ) → IsPlaced (scanned file bytes)
+scan_placed file bytes =
+    let f = found file 0 Start false (logical 1 bytes) in
+    end_placed (ends_open (phase1 0 1 bytes)) (ends_spliced (phase1 0 1 bytes)) file (last_line bytes) (lines_or_fault f) (lines_placed f)
+
+-- phases 1 to 3 refuse at places
+pub refuses_at : (refusal : Refusal) (file : ℕ) (bytes : List ℕ) (files : Files) (texts : Texts) (main : List ℕ)
+    → file_of files main ≡ Some bytes → number_in texts main ≡ file → scanned file bytes ≡ Err refusal → IsRefused files texts main refusal
+unfolding phase4 file_done lines_of IsPlaced
+refuses_at Memory file bytes files texts main given numbered e = tt
+refuses_at (At c at) file bytes files texts main given numbered e =
+    let around = around_of files texts in
+    inr (record {
+      today = ap (bytes_today (number_in texts main)) given ∙ ap (λ n. lines_today (scanned n bytes)) numbered ∙ ap lines_today e;
+      stops = ap (λ o. (ending_of (main_done files texts main o)).fault) given
+          ∙ ap (λ n. (ending_of (lines_done around (lines_of n bytes) (start_of n))).fault) numbered
+          ∙ ap (λ r. (ending_of (lines_done around (lines_or_refusal r (line_ends 0 Start (logical 1 bytes))) (start_of file))).fault) e;
+    })
+refuses_at (Told c at text) file bytes files texts main given numbered e = subst IsPlaced e (scan_placed file bytes)
+
+pub scan_refused : (refusal : Refusal) (file : ℕ) (bytes : List ℕ) (files : Files) (texts : Texts) (main : List ℕ)
+    → file_of files main ≡ Some bytes → number_in texts main ≡ file → (refusal ≡ Memory) ⊎ (scanned file bytes ≡ Err refusal) → IsRefused files texts main refusal
+scan_refused refusal file bytes files texts main given numbered why =
+    elim why [
+      | inl m ↦ subst (IsRefused files texts main) (sym m) tt
+      | inr e ↦ refuses_at refusal file bytes files texts main given numbered e
+    ]
+
+pub numbered_tokens : (bytes : List ℕ) (tss : List (List Token)) → tokens_of (numbered_lines bytes tss) ≡ tss
+numbered_tokens bytes tss = tokens_with tss (line_ends 0 Start (logical 1 bytes))

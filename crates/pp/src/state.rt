@@ -1,0 +1,180 @@
+//! What phase 4 has done so far, and what ends of runs and directives do to it.
+ghost use Rattle.std.specs.Prelude.{◌≡◌, ◌≤◌, ◌<◌, ◌++◌, ℕ, List, true, false, [], length, slice_get, Some, None, IfErr, OnOk};
+ghost use Rattle.srcset.specs.NameTable.{Texts, KeepsNumbers};
+ghost use Rattle.phases.specs.Token.{Token};
+ghost use Rattle.macros.specs.Definition.{define};
+ghost use Rattle.pp_expand.specs.Expands.{HaveFiles};
+ghost use Rattle.pp.specs.Lines.{Line};
+ghost use Rattle.pp.specs.Phase4.{Enter, start, presume, with_macros, undefined, run_done, directive_done, max_tokens};
+ghost use Rattle.pp.specs.Today.{is_today_line};
+ghost use Rattle.pp.specs.inside.Pending.{is_directive, run_ended};
+ghost use Rattle.pp.specs.inside.Stepping.{presumed_of, placed, Agrees, IsSound, Does, IsPast};
+
+use crate::places::Presumed;
+use crate::run::Run;
+use crate::words::is_spelled;
+use macros::{MacroTable, is_identifier};
+use phases::PpToken;
+use pp_expand::{Budget, RunEnd, try_expand};
+use srcset::{Code, Names, Pos, Refusal};
+use std::alloc::Global;
+
+/// The greatest number of tokens after phase 4.
+pub const MAX_TOKENS: usize = 1048576;
+
+/// The greatest number of replacements of macros.
+pub const MAX_REPLACEMENTS: u32 = 1048576;
+
+/// What was done so far: the macros, the replacements left, the tokens of whole runs, and how places are presumed.
+#[derive(Drop)]
+pub struct State<'a> {
+    pub table: MacroTable<'a>,
+    pub budget: Budget,
+    pub given: Vec<PpToken<'a>>,
+    pub presumed: Presumed,
+}
+
+// Puts the tokens of a run behind those given.
+fn give<'a>(given: &mut Vec<PpToken<'a>>, mut run: Vec<PpToken<'a>>) -> Result<(), Refusal>
+    requires { length given.old.items ≤ max_tokens }
+    ensures room { OnOk result (length given.new.items ≤ max_tokens) }
+    ensures within { OnOk result (slice_get (given.old.items ++ run.entry.items) max_tokens ≡ None) }
+    ensures ok { OnOk result (given.new.items ≡ given.old.items ++ run.entry.items) }
+    ensures err { IfErr result (IsPast (given.old.items ++ run.entry.items)) }
+{
+    if let Some(token) = run.get(MAX_TOKENS - given.len()) {
+        return Err(Refusal::At {
+            code: Code::TokenLimit,
+            pos: token.pos(),
+        });
+    }
+    given.append(&mut run)?;
+    Ok(())
+}
+
+impl<'a> State<'a> {
+    /// Nothing was done, and places are presumed to be the physical ones of this file.
+    pub fn new(alloc: Global, file: usize) -> State<'a>
+        ensures agrees { (names : Texts) → Agrees names result (record start { presumed = record { from = 1; line = 1; file = file } }) }
+        ensures sound { (names : Texts) → file < length names → IsSound names result }
+    {
+        State {
+            table: MacroTable::new(alloc),
+            budget: Budget::new(MAX_REPLACEMENTS),
+            given: Vec::new(alloc),
+            presumed: Presumed {
+                from: 1,
+                line: 1,
+                file,
+            },
+        }
+    }
+
+    // Expands the tokens of a run, and gives what comes of them.
+    fn expand_run(
+        &mut self,
+        alloc: Global,
+        tokens: &[PpToken<'a>],
+        names: &Names,
+    ) -> Result<(), Refusal>
+        requires sound { IsSound names.now self.old }
+        requires files { HaveFiles names.now tokens.now }
+        ensures does { (texts : Texts) (xs : List Token) → KeepsNumbers names.now texts → tokens.now ≡ placed (presumed_of self.old.presumed) xs → Does result names.now self.old names.now self.new (run_done texts xs) }
+        ensures sound { OnOk result (IsSound names.now self.new) }
+    {
+        let list = try_expand(
+            alloc,
+            &self.table,
+            tokens,
+            RunEnd::Run,
+            &mut self.budget,
+            names,
+        )?;
+        give(&mut self.given, list)
+    }
+
+    /// Ends a run, where one has begun.
+    pub fn end_run(
+        &mut self,
+        alloc: Global,
+        run: &mut Run<'a>,
+        names: &Names,
+    ) -> Result<(), Refusal>
+        requires sound { IsSound names.now self.old }
+        requires files { HaveFiles names.now run.old.tokens.items }
+        ensures does { (texts : Texts) (xs : List Token) → KeepsNumbers names.now texts → run.old.tokens.items ≡ placed (presumed_of self.old.presumed) xs → Does result names.now self.old names.now self.new (run_ended texts run.old.begun xs) }
+        ensures sound { OnOk result (IsSound names.now self.new) }
+        ensures begun { OnOk result (run.new.begun ≡ false) }
+        ensures tokens { OnOk result (run.new.tokens.items ≡ []) }
+    {
+        if run.begun {
+            self.expand_run(alloc, &run.tokens, names)?;
+        }
+        run.clear();
+        Ok(())
+    }
+
+    // `#define` (ISO/IEC 9899:2011 6.10.3), by the tokens behind the name of the directive.
+    fn define(
+        &mut self,
+        alloc: Global,
+        line: &[PpToken<'a>],
+        at: Pos,
+        names: &mut Names,
+    ) -> Result<(), Refusal>
+        requires { IsSound names.old self.old }
+        ensures does { Does result names.old self.old names.new self.new (λ s. with_macros s at (define s.macros (presume s line.now))) }
+        ensures sound { OnOk result (IsSound names.new self.new) }
+        ensures keeps { KeepsNumbers names.old names.new }
+    {
+        let mut tokens = Vec::new(alloc);
+        self.presumed.put(alloc, line, &mut tokens)?;
+        self.table.try_define(&tokens, at, names)
+    }
+
+    // `#undef` (6.10.3.5), by the tokens behind the name of the directive.
+    fn undef(&mut self, line: &[PpToken<'a>], at: Pos, names: &Names) -> Result<(), Refusal>
+        requires { IsSound names.now self.old }
+        ensures does { Does result names.now self.old names.now self.new (λ s. undefined s at (presume s line.now)) }
+        ensures sound { OnOk result (IsSound names.now self.new) }
+    {
+        let bad = Refusal::At {
+            code: Code::BadDirective,
+            pos: at,
+        };
+        let [name] = line else {
+            return Err(bad);
+        };
+        if !is_identifier(name) {
+            return Err(bad);
+        }
+        self.table.try_undef(name, at, names)
+    }
+
+    /// Does what a directive says. A `#` alone and `#pragma` do nothing (6.10.7, 6.10.6).
+    pub fn directive(
+        &mut self,
+        alloc: Global,
+        line: &[PpToken<'a>],
+        names: &mut Names,
+    ) -> Result<(), Refusal>
+        requires sound { IsSound names.old self.old }
+        requires today { is_today_line line.now ≡ true }
+        requires hash { is_directive line.now ≡ true }
+        ensures does { (texts : Texts) (enter : Enter) (l : Line) → l.tokens ≡ line.now → Does result names.old self.old names.new self.new (directive_done texts enter l) }
+        ensures sound { OnOk result (IsSound names.new self.new) }
+        ensures keeps { KeepsNumbers names.old names.new }
+    {
+        let [hash, name, further @ ..] = line else {
+            return Ok(());
+        };
+        let at = self.presumed.place(hash.pos());
+        if is_spelled(name, b"define") {
+            return self.define(alloc, further, at, names);
+        }
+        if is_spelled(name, b"undef") {
+            return self.undef(further, at, names);
+        }
+        Ok(())
+    }
+}
