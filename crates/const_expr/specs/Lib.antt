@@ -1,0 +1,3 @@
+pub mod NewestNames
+pub mod Scopes
+pub mod Refused
