@@ -1,0 +1,7 @@
+mod Rows
+mod CallRows
+mod MoreRows
+pub mod Clock
+pub mod Histories
+pub mod Writes
+pub mod Fits
