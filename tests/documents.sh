@@ -29,17 +29,17 @@ awk -F ' [|] ' '/^[|] [0-9]/ { sub(/^[|] /, "", $1); print $1 " " $2 }' docs/FAU
 [ "$(wc -l <"$work/code")" -eq 107 ] && pass || fail "code.rt has $(wc -l <"$work/code") texts, not 107"
 same 'docs/FAULTS.md has other codes or texts than srcset' "$work/code" "$work/table"
 
-# each source of today, built: the table's code and text
-awk -F ' [|] ' '/^[|] [0-9]/ && $3 == "today" && $4 ~ /^`[^`]*` [|]$/ {
+# each source of today that is written out, a line for each `..`, built: the table's code and text, at its last line
+awk -F ' [|] ' '/^[|] [0-9]/ && $3 == "today" && $4 ~ /^`[^`]*`(, `[^`]*`)* [|]$/ {
     sub(/^[|] /, "", $1); src = $4; sub(/^`/, "", src); sub(/` [|]$/, "", src); print $1 "|" $2 "|" src }' docs/FAULTS.md >"$work/sources"
 built=0
 while IFS='|' read -r code text source; do
     built=$((built + 1))
-    printf '%s\n' "$source" >"$work/main.c"
+    printf '%s\n' "$source" | awk '{ n = split($0, lines, "`, `"); for (i = 1; i <= n; i++) print lines[i] }' >"$work/main.c"
     said=$(cd "$work" && "$cc" build main.c -o program 2>&1 >/dev/null)
-    if [ "$said" = "main.c:1: $code $text" ]; then pass; else fail "$source: '$said', not $code"; fi
+    if [ "$said" = "main.c:$(($(wc -l <"$work/main.c"))): $code $text" ]; then pass; else fail "$source: '$said', not $code"; fi
 done <"$work/sources"
-[ "$built" -eq 15 ] && pass || fail "FAULTS.md has $built sources to build, not 15"
+[ "$built" -eq 25 ] && pass || fail "FAULTS.md has $built sources to build, not 25"
 
 # ------------------------------------------------------- the crates' order
 awk -F: '!/^#/ && NF > 1 { print $1 }' crates.txt >"$work/crates"
