@@ -7,8 +7,10 @@
 pub mod arithmetic;
 pub mod laws;
 pub mod operators;
+pub mod signs;
 pub mod types;
 
 pub use arithmetic::binary;
 pub use operators::{BinOp, Undef};
+pub use signs::{complement, is_zero, negate};
 pub use types::{IntType, compatible, convert, promote, size_of, usual};
