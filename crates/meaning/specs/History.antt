@@ -22,7 +22,7 @@ abbrev pub without_innermost : List ℕ → List ℕ
 without_innermost [] = []
 without_innermost (f ∷ fs) = fs
 
--- the functions of the calls that have begun and not ended, the innermost first
+-- the functions of the calls that have begun and not ended, the innermost first; a call begins before the tick of its definition
 abbrev pub active : List Entry → List ℕ
 active [] = []
 active (Did e ∷ earlier) = active earlier

@@ -80,7 +80,8 @@ abbrev pub subscripted : Pos → Reference → ℤ → State → Run Reference
 subscripted at r (pos i) s = choose (nat_lt i (length_of (tree_at s.store r))) (Goes (into r i) s) (undefined U5 at s)
 subscripted at r (negsuc i) s = undefined U5 at s
 
--- the value of the element at r (6.3.2.1p2); an indeterminate one is undefined, at the name or the `[`
+-- the value of the element at r; an indeterminate one is undefined, at the name or the `[` (6.3.2.1p2 says so of whole automatic
+-- objects; here it is so of elements too)
 abbrev pub value_or_undefined : Pos → Option ℤ → State → Run ℤ
 value_or_undefined at None s = undefined U6 at s
 value_or_undefined at (Some v) s = Goes v s

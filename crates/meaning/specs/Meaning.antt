@@ -39,7 +39,7 @@ enter f g passed s = record s {
 abbrev pub leave : (caller : State) → State → State
 leave caller s = record s { store = take (length caller.store) s.store; base = caller.base; arrays = caller.arrays; history = Left ∷ s.history }
 
--- the end of main's body returns 0 (5.1.2.2.3p1), that of another function nothing (6.9.1p12)
+-- the end of main's body returns 0, as in a hosted program (5.1.2.2.3p1), that of another function nothing (6.9.1p12)
 abbrev pub value_at_end : (is_main : Bool) → Option ℤ
 value_at_end true = Some (pos 0)
 value_at_end false = None

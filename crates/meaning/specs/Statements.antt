@@ -48,7 +48,7 @@ module _ (p : Program) (call : Calling) where
     initialise (typed.in_braces i) t lengths r s = tick s (λ s. initialise i t lengths r s)
     initialise (typed.list all) t lengths r s = tick s (λ s. initialise_all all t (first_length lengths) 0 (inner_lengths lengths) r s)
 
-    -- the k elements or rows from number i on, in their order (p17, p23)
+    -- the k elements or rows from number i on (p17), in their order, which p23 leaves to us
     pub initialise_all : Initialisers → IntType → ℕ → ℕ → List ℕ → Reference → State → Run (Unit {0})
     initialise_all typed.no_initialisers t k i lengths r s = clear k i lengths r s
     initialise_all (typed.and_initialiser x more) t k i lengths r s =
@@ -79,7 +79,7 @@ pub data Flow : Type 0 where
   Continued : Flow
   Returned : (value : Option ℤ) → Flow
 
--- what stands next is executed where the statement before it was left normally (6.8p3)
+-- what stands next is executed where the statement before it was left normally (6.8p2)
 abbrev pub next_after : Flow → State → (State → Run Flow) → Run Flow
 next_after Normal s go = go s
 next_after Broken s go = Goes Broken s
@@ -135,7 +135,7 @@ labels_of (typed.and_statement x more) = labels_at x ++ labels_of more
 abbrev pub same_value : ℤ → ℤ → Bool
 same_value v w = int_le v w && int_le w v
 
--- p5, p7: which label is jumped to, the labels from number n on being left: the first case of this value, else default, else none.
+-- p5: which label is jumped to, the labels from number n on being left: the first case of this value, else default, else none.
 -- Each case that is tested takes a tick
 abbrev pub label_for : ℤ → List (Option ℤ) → ℕ → (default : Option ℕ) → State → Run (Option ℕ)
 label_for v [] n default s = Goes default s

@@ -1,6 +1,6 @@
 -- Declarations, constants and initialisers: sources of the profile and what the rules say of them, each fault with its line.
 use Rattle.std.proofs.Common.{◌≡◌, ℕ, refl, [], ◌∷◌, Some, None}
-use Rattle.std.specs.Prelude.{codes}
+use Rattle.std.specs.Prelude.{◌++◌, codes}
 use Rattle.srcset.specs.declared.refusal.Pos.{Pos}
 use Rattle.ctypes.specs.declared.types.IntType.TheVariants as ty
 use Rattle.tree.specs.declared.expression.Word.TheVariants as word
@@ -1177,7 +1177,7 @@ unknown_at_file_scope : told (unit_typed (codes "main.c" ∷ codes "a" ∷ codes
 unknown_at_file_scope = refl
 
 -- int main(void) { char s[3] = "abcd"; return 0; }
-text_too_long : told (unit_typed (codes "main.c" ∷ codes "main" ∷ codes "s" ∷ codes "abcd" ∷ []) (at 0) ((definition (record {
+text_too_long : told (unit_typed (codes "main.c" ∷ codes "main" ∷ codes "s" ∷ (codes "abcd" ++ 0 ∷ []) ∷ []) (at 0) ((definition (record {
   start = (at 1);
   specifiers =
       ((plain_specifier (specifier.Word word.Int)) ∷ []);
@@ -1192,7 +1192,7 @@ text_too_long : told (unit_typed (codes "main.c" ∷ codes "main" ∷ codes "s" 
 text_too_long = refl
 
 -- int main(void) { char s[3] = "abc"; return s[2]; }
-text_without_zero : told (unit_typed (codes "main.c" ∷ codes "main" ∷ codes "s" ∷ codes "abc" ∷ []) (at 0) ((definition (record {
+text_without_zero : told (unit_typed (codes "main.c" ∷ codes "main" ∷ codes "s" ∷ (codes "abc" ++ 0 ∷ []) ∷ []) (at 0) ((definition (record {
   start = (at 1);
   specifiers
       = ((plain_specifier (specifier.Word word.Int)) ∷ []);
@@ -1304,7 +1304,7 @@ array_by_array : told (unit_typed (codes "main.c" ∷ codes "main" ∷ codes "a"
 array_by_array = refl
 
 -- int main(void) { int a[2] = "a"; return 0; }
-int_array_by_text : told (unit_typed (codes "main.c" ∷ codes "main" ∷ codes "a" ∷ []) (at 0) ((definition (record {
+int_array_by_text : told (unit_typed (codes "main.c" ∷ codes "main" ∷ (codes "a" ++ 0 ∷ []) ∷ []) (at 0) ((definition (record {
   start = (at 1);
   specifiers =
       ((plain_specifier (specifier.Word word.Int)) ∷ []);
@@ -1319,7 +1319,7 @@ int_array_by_text : told (unit_typed (codes "main.c" ∷ codes "main" ∷ codes 
 int_array_by_text = refl
 
 -- int main(void) { char s[] = ("a"); return 0; }
-text_in_parentheses : told (unit_typed (codes "main.c" ∷ codes "main" ∷ codes "s" ∷ codes "a" ∷ []) (at 0) ((definition (record {
+text_in_parentheses : told (unit_typed (codes "main.c" ∷ codes "main" ∷ codes "s" ∷ (codes "a" ++ 0 ∷ []) ∷ []) (at 0) ((definition (record {
   start = (at 1);
   specifiers
       = ((plain_specifier (specifier.Word word.Int)) ∷ []);
@@ -1334,7 +1334,7 @@ text_in_parentheses : told (unit_typed (codes "main.c" ∷ codes "main" ∷ code
 text_in_parentheses = refl
 
 -- int main(void) { char s[] = {"ab"}; unsigned char t[2][3] = {"ab", {"c"}}; return sizeof s == 3; }
-text_in_braces : told (unit_typed (codes "main.c" ∷ codes "main" ∷ codes "s" ∷ codes "ab" ∷ codes "t" ∷ codes "c" ∷ []) (at 0) ((definition (record {
+text_in_braces : told (unit_typed (codes "main.c" ∷ codes "main" ∷ codes "s" ∷ (codes "ab" ++ 0 ∷ []) ∷ codes "t" ∷ (codes "c" ++ 0 ∷ []) ∷ []) (at 0) ((definition (record {
   start
       = (at 1);
   specifiers = ((plain_specifier (specifier.Word word.Int)) ∷ []);
@@ -1421,7 +1421,7 @@ no_parts = refl
 
 -- static char s[] = "ab"; static signed char t[] = {"a"};
 -- int main(void) { return 0; }
-static_text : told (unit_typed (codes "main.c" ∷ codes "s" ∷ codes "ab" ∷ codes "t" ∷ codes "a" ∷ codes "main" ∷ []) (at 0) ((declaration (declared (at 1)
+static_text : told (unit_typed (codes "main.c" ∷ codes "s" ∷ (codes "ab" ++ 0 ∷ []) ∷ codes "t" ∷ (codes "a" ++ 0 ∷ []) ∷ codes "main" ∷ []) (at 0) ((declaration (declared (at 1)
     (static_specifier ∷ (plain_specifier (specifier.Word word.Char)) ∷ []) ((object (at 1) 1 (None ∷ []) (Some (one_init (string (at 1) 2)))) ∷ []))) ∷
     (declaration (declared (at 1) (static_specifier ∷ (plain_specifier (specifier.Word word.Signed)) ∷ (plain_specifier (specifier.Word word.Char)) ∷ [])
     ((object (at 1) 3 (None ∷ []) (Some (braced_init (at 1) (and_init (one_init (string (at 1) 4)) no_inits)))) ∷ []))) ∷ (definition (record {
@@ -1439,7 +1439,7 @@ static_text = refl
 
 -- static char s[3] = ("a");
 -- int main(void) { return 0; }
-static_text_in_parentheses : told (unit_typed (codes "main.c" ∷ codes "s" ∷ codes "a" ∷ codes "main" ∷ []) (at 0) ((declaration (declared (at 1)
+static_text_in_parentheses : told (unit_typed (codes "main.c" ∷ codes "s" ∷ (codes "a" ++ 0 ∷ []) ∷ codes "main" ∷ []) (at 0) ((declaration (declared (at 1)
     (static_specifier ∷ (plain_specifier (specifier.Word word.Char)) ∷ []) ((object (at 1) 1 ((Some (constant (at 1) ty.Int 3)) ∷ []) (Some (one_init (paren
     (string (at 1) 2))))) ∷ []))) ∷ (definition (record {
       start = (at 2);
@@ -1896,7 +1896,7 @@ size_by_comma = refl
 
 -- int a["ab"[0]];
 -- int main(void) { return 0; }
-size_by_text : told (unit_typed (codes "main.c" ∷ codes "a" ∷ codes "ab" ∷ codes "main" ∷ []) (at 0) ((declaration (declared (at 1) ((plain_specifier
+size_by_text : told (unit_typed (codes "main.c" ∷ codes "a" ∷ (codes "ab" ++ 0 ∷ []) ∷ codes "main" ∷ []) (at 0) ((declaration (declared (at 1) ((plain_specifier
     (specifier.Word word.Int)) ∷ []) ((object (at 1) 1 ((Some (subscript (at 1) (string (at 1) 2) (constant (at 1) ty.Int 0))) ∷ []) None) ∷ []))) ∷
     (definition (record {
       start = (at 2);
@@ -1912,7 +1912,7 @@ size_by_text = refl
 
 -- int x[3]; int a[sizeof x[1] + sizeof "ab"]; _Static_assert(sizeof a == 28, "m");
 -- int main(void) { return 0; }
-size_by_measured_names : told (unit_typed (codes "main.c" ∷ codes "x" ∷ codes "a" ∷ codes "ab" ∷ codes "m" ∷ codes "main" ∷ []) (at 0) ((declaration
+size_by_measured_names : told (unit_typed (codes "main.c" ∷ codes "x" ∷ codes "a" ∷ (codes "ab" ++ 0 ∷ []) ∷ codes "m" ∷ codes "main" ∷ []) (at 0) ((declaration
     (declared (at 1) ((plain_specifier (specifier.Word word.Int)) ∷ []) ((object (at 1) 1 ((Some (constant (at 1) ty.Int 3)) ∷ []) None) ∷ []))) ∷
     (declaration (declared (at 1) ((plain_specifier (specifier.Word word.Int)) ∷ []) ((object (at 1) 2 ((Some (binary (at 1) operator.Add (size_of (at 1)
     (subscript (at 1) (identifier (at 1) 1) (constant (at 1) ty.Int 1))) (size_of (at 1) (string (at 1) 3)))) ∷ []) None) ∷ []))) ∷ (declaration (assertion

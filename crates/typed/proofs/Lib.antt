@@ -4,3 +4,4 @@ pub mod Rows
 pub mod Scopes
 pub mod Verdicts
 pub mod TypedRows
+pub mod WellTypedRows

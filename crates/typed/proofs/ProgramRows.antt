@@ -1,6 +1,6 @@
 -- Typed programs, computed: conversions, places, numbers, values and weights; limits, and trees that no list of tokens has.
 use Rattle.std.proofs.Common.{◌≡◌, ℕ, zero, suc, refl, List, [], ◌∷◌, Some, None, ℤ, pos, negsuc, true, false}
-use Rattle.std.specs.Prelude.{codes}
+use Rattle.std.specs.Prelude.{◌++◌, codes}
 use Rattle.srcset.specs.declared.refusal.Pos.{Pos}
 use Rattle.ctypes.specs.declared.types.IntType.TheVariants as ty
 use Rattle.tree.specs.declared.expression.Word.TheVariants as word
@@ -237,7 +237,7 @@ used_and_unused : bodies (functions_of (unit_typed (codes "main.c" ∷ codes "g"
 used_and_unused = refl
 
 -- int main(void) { sizeof "xy"; return "a"[0]; }
-literals_in_order : literals_of (unit_typed (codes "main.c" ∷ codes "main" ∷ codes "xy" ∷ codes "a" ∷ []) (at 0) ((definition (record {
+literals_in_order : literals_of (unit_typed (codes "main.c" ∷ codes "main" ∷ (codes "xy" ++ 0 ∷ []) ∷ (codes "a" ++ 0 ∷ []) ∷ []) (at 0) ((definition (record {
   start = (at 1);
   specifiers = ((plain_specifier (specifier.Word word.Int)) ∷ []);
   at = (at 1);
@@ -251,7 +251,7 @@ literals_in_order : literals_of (unit_typed (codes "main.c" ∷ codes "main" ∷
 literals_in_order = refl
 
 -- int main(void) { sizeof "xy"; return "a"[0]; }
-literal_numbered : bodies (functions_of (unit_typed (codes "main.c" ∷ codes "main" ∷ codes "xy" ∷ codes "a" ∷ []) (at 0) ((definition (record {
+literal_numbered : bodies (functions_of (unit_typed (codes "main.c" ∷ codes "main" ∷ (codes "xy" ++ 0 ∷ []) ∷ (codes "a" ++ 0 ∷ []) ∷ []) (at 0) ((definition (record {
   start = (at
       1);
   specifiers = ((plain_specifier (specifier.Word word.Int)) ∷ []);
@@ -268,7 +268,7 @@ literal_numbered = refl
 
 -- static int m[2][2] = {{1}, {3, 4}}; char s[] = {"ab"}; unsigned char c = 300; char t[2][3] = {"a", "b"}; int z;
 -- int main(void) { static int k = -1; return 0; }
-static_values : values (statics_of (unit_typed (codes "main.c" ∷ codes "m" ∷ codes "s" ∷ codes "ab" ∷ codes "c" ∷ codes "t" ∷ codes "a" ∷ codes "b" ∷ codes
+static_values : values (statics_of (unit_typed (codes "main.c" ∷ codes "m" ∷ codes "s" ∷ (codes "ab" ++ 0 ∷ []) ∷ codes "c" ∷ codes "t" ∷ (codes "a" ++ 0 ∷ []) ∷ (codes "b" ++ 0 ∷ []) ∷ codes
     "z" ∷ codes "main" ∷ codes "k" ∷ []) (at 0) ((declaration (declared (at 1) (static_specifier ∷ (plain_specifier (specifier.Word word.Int)) ∷ [])
     ((object (at 1) 1 ((Some (constant (at 1) ty.Int 2)) ∷ (Some (constant (at 1) ty.Int 2)) ∷ []) (Some (braced_init (at 1) (and_init (braced_init (at 1)
     (and_init (one_init (constant (at 1) ty.Int 1)) no_inits)) (and_init (braced_init (at 1) (and_init (one_init (constant (at 1) ty.Int 3)) (and_init

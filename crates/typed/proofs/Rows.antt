@@ -1,7 +1,7 @@
 -- Expressions, statements and units: sources of the profile and what the rules say of them, each fault with its line; 0 is that
 -- of the whole unit.
 use Rattle.std.proofs.Common.{◌≡◌, ℕ, refl, [], ◌∷◌, Some, None}
-use Rattle.std.specs.Prelude.{codes}
+use Rattle.std.specs.Prelude.{◌++◌, codes}
 use Rattle.srcset.specs.declared.refusal.Pos.{Pos}
 use Rattle.ctypes.specs.declared.types.IntType.TheVariants as ty
 use Rattle.tree.specs.declared.expression.Word.TheVariants as word
@@ -472,7 +472,7 @@ row_for_array : told (unit_typed (codes "main.c" ∷ codes "f" ∷ codes "p" ∷
 row_for_array = refl
 
 -- int f(char p[]) { return p[0]; } int main(void) { return f("abc"); }
-text_for_array : told (unit_typed (codes "main.c" ∷ codes "f" ∷ codes "p" ∷ codes "main" ∷ codes "abc" ∷ []) (at 0) ((definition (record {
+text_for_array : told (unit_typed (codes "main.c" ∷ codes "f" ∷ codes "p" ∷ codes "main" ∷ (codes "abc" ++ 0 ∷ []) ∷ []) (at 0) ((definition (record {
   start = (at 1);
   specifiers = ((plain_specifier (specifier.Word word.Int)) ∷ []);
   at = (at 1);
@@ -1182,7 +1182,7 @@ array_cast_to_void : told (unit_typed (codes "main.c" ∷ codes "main" ∷ codes
 array_cast_to_void = refl
 
 -- int main(void) { return "a" == 0; }
-text_as_value : told (unit_typed (codes "main.c" ∷ codes "main" ∷ codes "a" ∷ []) (at 0) ((definition (record {
+text_as_value : told (unit_typed (codes "main.c" ∷ codes "main" ∷ (codes "a" ++ 0 ∷ []) ∷ []) (at 0) ((definition (record {
   start = (at 1);
   specifiers =
       ((plain_specifier (specifier.Word word.Int)) ∷ []);
@@ -1196,7 +1196,7 @@ text_as_value : told (unit_typed (codes "main.c" ∷ codes "main" ∷ codes "a" 
 text_as_value = refl
 
 -- int main(void) { return "abc"[1]; }
-text_subscripted : told (unit_typed (codes "main.c" ∷ codes "main" ∷ codes "abc" ∷ []) (at 0) ((definition (record {
+text_subscripted : told (unit_typed (codes "main.c" ∷ codes "main" ∷ (codes "abc" ++ 0 ∷ []) ∷ []) (at 0) ((definition (record {
   start = (at 1);
   specifiers =
       ((plain_specifier (specifier.Word word.Int)) ∷ []);
@@ -1210,7 +1210,7 @@ text_subscripted : told (unit_typed (codes "main.c" ∷ codes "main" ∷ codes "
 text_subscripted = refl
 
 -- int main(void) { int a[2]; return sizeof a + sizeof a[0] + sizeof "abc"; }
-array_and_number_as_size : told (unit_typed (codes "main.c" ∷ codes "main" ∷ codes "a" ∷ codes "abc" ∷ []) (at 0) ((definition (record {
+array_and_number_as_size : told (unit_typed (codes "main.c" ∷ codes "main" ∷ codes "a" ∷ (codes "abc" ++ 0 ∷ []) ∷ []) (at 0) ((definition (record {
   start = (at 1);
   specifiers = ((plain_specifier (specifier.Word word.Int)) ∷ []);
   at = (at 1);
@@ -1653,7 +1653,7 @@ ends_without_value = refl
 -- int main(void) { char s[2] = "a"; return s[0]; }
 text_of_initialiser_counts : told (unit_typed (codes "main.c" ∷ codes "a0" ∷ codes "a1" ∷ codes "a2" ∷ codes "a3" ∷ codes "a4" ∷ codes "a5" ∷ codes "a6" ∷
     codes "a7" ∷ codes "a8" ∷ codes "a9" ∷ codes "a10" ∷ codes "a11" ∷ codes "a12" ∷ codes "a13" ∷ codes "a14" ∷ codes "b" ∷ codes "main" ∷ codes "s" ∷
-    codes "a" ∷ []) (at 0) ((declaration (declared (at 1) ((plain_specifier (specifier.Word word.Char)) ∷ []) ((object (at 1) 1 ((Some (constant (at 1)
+    (codes "a" ++ 0 ∷ []) ∷ []) (at 0) ((declaration (declared (at 1) ((plain_specifier (specifier.Word word.Char)) ∷ []) ((object (at 1) 1 ((Some (constant (at 1)
     ty.Int 1048576)) ∷ []) None) ∷ []))) ∷ (declaration (declared (at 2) ((plain_specifier (specifier.Word word.Char)) ∷ []) ((object (at 2) 2 ((Some
     (constant (at 2) ty.Int 1048576)) ∷ []) None) ∷ []))) ∷ (declaration (declared (at 3) ((plain_specifier (specifier.Word word.Char)) ∷ []) ((object (at
     3) 3 ((Some (constant (at 3) ty.Int 1048576)) ∷ []) None) ∷ []))) ∷ (declaration (declared (at 4) ((plain_specifier (specifier.Word word.Char)) ∷ [])
@@ -2098,7 +2098,7 @@ greatest_statics = refl
 -- char a15[1048576];
 -- int main(void) { return sizeof "a"; }
 text_counts : told (unit_typed (codes "main.c" ∷ codes "a0" ∷ codes "a1" ∷ codes "a2" ∷ codes "a3" ∷ codes "a4" ∷ codes "a5" ∷ codes "a6" ∷ codes "a7" ∷
-    codes "a8" ∷ codes "a9" ∷ codes "a10" ∷ codes "a11" ∷ codes "a12" ∷ codes "a13" ∷ codes "a14" ∷ codes "a15" ∷ codes "main" ∷ codes "a" ∷ []) (at 0)
+    codes "a8" ∷ codes "a9" ∷ codes "a10" ∷ codes "a11" ∷ codes "a12" ∷ codes "a13" ∷ codes "a14" ∷ codes "a15" ∷ codes "main" ∷ (codes "a" ++ 0 ∷ []) ∷ []) (at 0)
     ((declaration (declared (at 1) ((plain_specifier (specifier.Word word.Char)) ∷ []) ((object (at 1) 1 ((Some (constant (at 1) ty.Int 1048576)) ∷ [])
     None) ∷ []))) ∷ (declaration (declared (at 2) ((plain_specifier (specifier.Word word.Char)) ∷ []) ((object (at 2) 2 ((Some (constant (at 2) ty.Int
     1048576)) ∷ []) None) ∷ []))) ∷ (declaration (declared (at 3) ((plain_specifier (specifier.Word word.Char)) ∷ []) ((object (at 3) 3 ((Some (constant (at
@@ -2370,7 +2370,7 @@ all_loops : told (unit_typed (codes "main.c" ∷ codes "main" ∷ codes "i" ∷ 
 all_loops = refl
 
 -- int main(void) { "abc"[0] = 1; return 0; }
-literal_written : told (unit_typed (codes "main.c" ∷ codes "main" ∷ codes "abc" ∷ []) (at 0) ((definition (record {
+literal_written : told (unit_typed (codes "main.c" ∷ codes "main" ∷ (codes "abc" ++ 0 ∷ []) ∷ []) (at 0) ((definition (record {
   start = (at 1);
   specifiers =
       ((plain_specifier (specifier.Word word.Int)) ∷ []);

@@ -1,6 +1,6 @@
 -- Lines of faults in initialisers; accepted programs are typed as the layers above rely on.
 use Rattle.std.proofs.Common.{◌≡◌, ℕ, refl, [], ◌∷◌, Some, None, true, false}
-use Rattle.std.specs.Prelude.{codes}
+use Rattle.std.specs.Prelude.{◌++◌, codes}
 use Rattle.srcset.specs.declared.refusal.Pos.{Pos}
 use Rattle.ctypes.specs.declared.types.IntType.TheVariants as ty
 use Rattle.tree.specs.declared.expression.Word.TheVariants as word
@@ -389,7 +389,7 @@ unknown_at_file_scope_is_typed : typed_well (unit_typed (codes "main.c" ∷ code
 unknown_at_file_scope_is_typed = refl
 
 -- int main(void) { char s[3] = "abc"; return s[2]; }
-text_without_zero_is_typed : typed_well (unit_typed (codes "main.c" ∷ codes "main" ∷ codes "s" ∷ codes "abc" ∷ []) (at 0) ((definition (record {
+text_without_zero_is_typed : typed_well (unit_typed (codes "main.c" ∷ codes "main" ∷ codes "s" ∷ (codes "abc" ++ 0 ∷ []) ∷ []) (at 0) ((definition (record {
   start = (at
       1);
   specifiers = ((plain_specifier (specifier.Word word.Int)) ∷ []);
@@ -420,7 +420,7 @@ number_in_braces_is_typed : typed_well (unit_typed (codes "main.c" ∷ codes "ma
 number_in_braces_is_typed = refl
 
 -- int main(void) { char s[] = {"ab"}; unsigned char t[2][3] = {"ab", {"c"}}; return sizeof s == 3; }
-text_in_braces_is_typed : typed_well (unit_typed (codes "main.c" ∷ codes "main" ∷ codes "s" ∷ codes "ab" ∷ codes "t" ∷ codes "c" ∷ []) (at 0) ((definition
+text_in_braces_is_typed : typed_well (unit_typed (codes "main.c" ∷ codes "main" ∷ codes "s" ∷ (codes "ab" ++ 0 ∷ []) ∷ codes "t" ∷ (codes "c" ++ 0 ∷ []) ∷ []) (at 0) ((definition
     (record {
       start = (at 1);
       specifiers = ((plain_specifier (specifier.Word word.Int)) ∷ []);
@@ -440,7 +440,7 @@ text_in_braces_is_typed = refl
 
 -- static char s[] = "ab"; static signed char t[] = {"a"};
 -- int main(void) { return 0; }
-static_text_is_typed : typed_well (unit_typed (codes "main.c" ∷ codes "s" ∷ codes "ab" ∷ codes "t" ∷ codes "a" ∷ codes "main" ∷ []) (at 0) ((declaration
+static_text_is_typed : typed_well (unit_typed (codes "main.c" ∷ codes "s" ∷ (codes "ab" ++ 0 ∷ []) ∷ codes "t" ∷ (codes "a" ++ 0 ∷ []) ∷ codes "main" ∷ []) (at 0) ((declaration
     (declared (at 1) (static_specifier ∷ (plain_specifier (specifier.Word word.Char)) ∷ []) ((object (at 1) 1 (None ∷ []) (Some (one_init (string (at 1)
     2)))) ∷ []))) ∷ (declaration (declared (at 1) (static_specifier ∷ (plain_specifier (specifier.Word word.Signed)) ∷ (plain_specifier (specifier.Word
     word.Char)) ∷ []) ((object (at 1) 3 (None ∷ []) (Some (braced_init (at 1) (and_init (one_init (string (at 1) 4)) no_inits)))) ∷ []))) ∷ (definition
@@ -553,7 +553,7 @@ assertion_in_for_is_typed = refl
 
 -- int x[3]; int a[sizeof x[1] + sizeof "ab"]; _Static_assert(sizeof a == 28, "m");
 -- int main(void) { return 0; }
-size_by_measured_names_is_typed : typed_well (unit_typed (codes "main.c" ∷ codes "x" ∷ codes "a" ∷ codes "ab" ∷ codes "m" ∷ codes "main" ∷ []) (at 0)
+size_by_measured_names_is_typed : typed_well (unit_typed (codes "main.c" ∷ codes "x" ∷ codes "a" ∷ (codes "ab" ++ 0 ∷ []) ∷ codes "m" ∷ codes "main" ∷ []) (at 0)
     ((declaration (declared (at 1) ((plain_specifier (specifier.Word word.Int)) ∷ []) ((object (at 1) 1 ((Some (constant (at 1) ty.Int 3)) ∷ []) None) ∷
     []))) ∷ (declaration (declared (at 1) ((plain_specifier (specifier.Word word.Int)) ∷ []) ((object (at 1) 2 ((Some (binary (at 1) operator.Add (size_of
     (at 1) (subscript (at 1) (identifier (at 1) 1) (constant (at 1) ty.Int 1))) (size_of (at 1) (string (at 1) 3)))) ∷ []) None) ∷ []))) ∷ (declaration
@@ -769,7 +769,7 @@ row_for_array_is_typed : typed_well (unit_typed (codes "main.c" ∷ codes "f" �
 row_for_array_is_typed = refl
 
 -- int f(char p[]) { return p[0]; } int main(void) { return f("abc"); }
-text_for_array_is_typed : typed_well (unit_typed (codes "main.c" ∷ codes "f" ∷ codes "p" ∷ codes "main" ∷ codes "abc" ∷ []) (at 0) ((definition (record {
+text_for_array_is_typed : typed_well (unit_typed (codes "main.c" ∷ codes "f" ∷ codes "p" ∷ codes "main" ∷ (codes "abc" ++ 0 ∷ []) ∷ []) (at 0) ((definition (record {
   start = (at 1);
   specifiers = ((plain_specifier (specifier.Word word.Int)) ∷ []);
   at = (at 1);
@@ -845,7 +845,7 @@ void_arms_is_typed : typed_well (unit_typed (codes "main.c" ∷ codes "rv_getbyt
 void_arms_is_typed = refl
 
 -- int main(void) { return "abc"[1]; }
-text_subscripted_is_typed : typed_well (unit_typed (codes "main.c" ∷ codes "main" ∷ codes "abc" ∷ []) (at 0) ((definition (record {
+text_subscripted_is_typed : typed_well (unit_typed (codes "main.c" ∷ codes "main" ∷ (codes "abc" ++ 0 ∷ []) ∷ []) (at 0) ((definition (record {
   start = (at 1);
   specifiers = ((plain_specifier (specifier.Word word.Int)) ∷ []);
   at = (at 1);
@@ -858,7 +858,7 @@ text_subscripted_is_typed : typed_well (unit_typed (codes "main.c" ∷ codes "ma
 text_subscripted_is_typed = refl
 
 -- int main(void) { int a[2]; return sizeof a + sizeof a[0] + sizeof "abc"; }
-array_and_number_as_size_is_typed : typed_well (unit_typed (codes "main.c" ∷ codes "main" ∷ codes "a" ∷ codes "abc" ∷ []) (at 0) ((definition (record {
+array_and_number_as_size_is_typed : typed_well (unit_typed (codes "main.c" ∷ codes "main" ∷ codes "a" ∷ (codes "abc" ++ 0 ∷ []) ∷ []) (at 0) ((definition (record {
   start = (at 1);
   specifiers = ((plain_specifier (specifier.Word word.Int)) ∷ []);
   at = (at 1);
@@ -1285,7 +1285,7 @@ all_loops_is_typed : typed_well (unit_typed (codes "main.c" ∷ codes "main" ∷
 all_loops_is_typed = refl
 
 -- int main(void) { "abc"[0] = 1; return 0; }
-literal_written_is_typed : typed_well (unit_typed (codes "main.c" ∷ codes "main" ∷ codes "abc" ∷ []) (at 0) ((definition (record {
+literal_written_is_typed : typed_well (unit_typed (codes "main.c" ∷ codes "main" ∷ (codes "abc" ++ 0 ∷ []) ∷ []) (at 0) ((definition (record {
   start = (at 1);
   specifiers = ((plain_specifier (specifier.Word word.Int)) ∷ []);
   at = (at 1);
@@ -1447,7 +1447,7 @@ tag_and_name_apart_is_typed = refl
 -- int f(int a, char s[], int b) { int c; { int d; for (int e = 0; e < a; e++) { int g; } int h; } switch (a) { int i; case 1: { int j; } } int k; return s[b]; }
 -- int main(void) { return f(1, "abc", 2) + sizeof "x" + "yz"[1]; }
 objects_of_blocks_is_typed : typed_well (unit_typed (codes "main.c" ∷ codes "f" ∷ codes "a" ∷ codes "s" ∷ codes "b" ∷ codes "c" ∷ codes "d" ∷ codes "e" ∷
-    codes "g" ∷ codes "h" ∷ codes "i" ∷ codes "j" ∷ codes "k" ∷ codes "main" ∷ codes "abc" ∷ codes "x" ∷ codes "yz" ∷ []) (at 0) ((definition (record {
+    codes "g" ∷ codes "h" ∷ codes "i" ∷ codes "j" ∷ codes "k" ∷ codes "main" ∷ (codes "abc" ++ 0 ∷ []) ∷ (codes "x" ++ 0 ∷ []) ∷ (codes "yz" ++ 0 ∷ []) ∷ []) (at 0) ((definition (record {
       start = (at 1);
       specifiers = ((plain_specifier (specifier.Word word.Int)) ∷ []);
       at = (at 1);
@@ -1504,8 +1504,8 @@ objects_of_blocks_is_typed = refl
 
 -- int t(char s[2][3], int n, int p[]) { static int q[] = {1, 2}, r = sizeof "abc"; char u[] = "xyz", w[2][2] = {"ab", {'b'}}; while (n--) for (int i = 0; i < 3; i++) if (s[1][i]) p[i] += w[0][1] + u[2]; else do q[1]++; while (0); return q[0] + r; }
 -- int main(void) { char c[2][3] = {"ab", "cd"}; int p[3] = {0}; return t(c, 3, p); }
-rows_and_texts_is_typed : typed_well (unit_typed (codes "main.c" ∷ codes "t" ∷ codes "s" ∷ codes "n" ∷ codes "p" ∷ codes "q" ∷ codes "r" ∷ codes "abc" ∷
-    codes "u" ∷ codes "xyz" ∷ codes "w" ∷ codes "ab" ∷ codes "i" ∷ codes "main" ∷ codes "c" ∷ codes "cd" ∷ []) (at 0) ((definition (record {
+rows_and_texts_is_typed : typed_well (unit_typed (codes "main.c" ∷ codes "t" ∷ codes "s" ∷ codes "n" ∷ codes "p" ∷ codes "q" ∷ codes "r" ∷ (codes "abc" ++ 0 ∷ []) ∷
+    codes "u" ∷ (codes "xyz" ++ 0 ∷ []) ∷ codes "w" ∷ (codes "ab" ++ 0 ∷ []) ∷ codes "i" ∷ codes "main" ∷ codes "c" ∷ (codes "cd" ++ 0 ∷ []) ∷ []) (at 0) ((definition (record {
       start = (at 1);
       specifiers = ((plain_specifier (specifier.Word word.Int)) ∷ []);
       at = (at 1);

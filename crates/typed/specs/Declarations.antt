@@ -11,7 +11,7 @@ use Rattle.typed.specs.Types.{ObjectType, DeclaredType, complete, unknown_size, 
 use Rattle.typed.specs.Verdict.{Verdict, fine, breaks, then_check, both, refuse_if, each, provided}
 use Rattle.typed.specs.Program as typed
 use Rattle.typed.specs.Program.{Storage, Initialiser, Statements}
-use Rattle.typed.specs.Scope.{Scope, Binding, BuiltIn, Tag, Meaning, an_object, an_array_parameter, a_function, an_enumerator, no_linkage, mentioned, defined, lookup, tag_in, with_name, with_tag, with_literals, past, text_of, built_in}
+use Rattle.typed.specs.Scope.{Scope, Binding, BuiltIn, Tag, Meaning, an_object, an_array_parameter, a_function, an_enumerator, no_linkage, mentioned, defined, lookup, tag_in, with_name, with_tag, with_literals, past, literal_of, built_in}
 use Rattle.typed.specs.Specifiers.{BaseType, words_of, tags_of, is_const, named_type, base_or_fault, tags_known, count}
 use Rattle.typed.specs.Expressions.{constant_value, too_large}
 use Rattle.typed.specs.Initialisers.{Wanted, an_array, wanted, has_characters, text_alone, count_of, past_init, initialiser, constant_parts, values}
@@ -185,7 +185,7 @@ begun s class b at n sizes init =
 -- ---- the type once the initialiser is known (6.7p7, 6.7.9p22, 6.9.2p3)
 
 abbrev pub text_or_form : Scope → Bool → Pos → Tree → Verdict ℕ
-text_or_form s true at (string own n) = fine (length (text_of s n) + 1)
+text_or_form s true at (string own n) = fine (length (literal_of s n) + 1)
 text_or_form s characters at e = breaks code.BadInitialiserForm at
 
 abbrev pub text_or_count : Scope → Bool → Pos → Option Tree → ℕ → Verdict ℕ

@@ -19,7 +19,7 @@ use Rattle.typed.specs.Verdict.{Verdict, fine, breaks, then_check, both, refuse_
 use Rattle.typed.specs.Operators.{assigning, operands_type, signed_type}
 use Rattle.typed.specs.Program as typed
 use Rattle.typed.specs.Program.{Value, Place, Arguments, Moment, Callee}
-use Rattle.typed.specs.Scope.{Scope, Binding, Meaning, an_object, an_array_parameter, a_function, an_enumerator, lookup, callee_of, text_of, past, past_type}
+use Rattle.typed.specs.Scope.{Scope, Binding, Meaning, an_object, an_array_parameter, a_function, an_enumerator, lookup, callee_of, literal_of, past, past_type}
 use Rattle.typed.specs.Specifiers.{BaseType, base_type}
 use Rattle.typed.specs.Constants.{constant_form, folded}
 
@@ -373,7 +373,7 @@ abbrev mutual
   typing s hole = breaks code.SyntaxError nowhere
   typing s (identifier at n) = named at (lookup s n)
   typing s (constant at t v) = fine (value at t (typed.constant t (converted t (pos v))))
-  typing s (string at n) = literal_at s at (string_type (text_of s n))
+  typing s (string at n) = literal_at s at (string_type (literal_of s n))
   typing s (paren e) = typing s e
   typing s (call at f args) = then_check (function_named s at f (lookup s f)) (λ g. then_check (arguments s at g.type.parameters args) (call_of at g))
   typing s (subscript at a i) = both (typing s a) (typing (past s a) i) (subscripted at)

@@ -11,7 +11,7 @@ use Rattle.typed.specs.Types.{elements_in}
 use Rattle.typed.specs.Verdict.{Verdict, fine, breaks, then_check, both, refuse_if, each, provided}
 use Rattle.typed.specs.Program as typed
 use Rattle.typed.specs.Program.{Initialiser, Initialisers}
-use Rattle.typed.specs.Scope.{Scope, text_of, strings, with_literals}
+use Rattle.typed.specs.Scope.{Scope, literal_of, strings, with_literals}
 use Rattle.typed.specs.Constants.{constant_form, folded}
 use Rattle.typed.specs.Expressions.{Worth, typing, worth, position, nowhere}
 
@@ -65,7 +65,7 @@ number_from s t e = then_check (typing s e) (λ x. then_check (worth code.VoidAs
 
 -- 6.7.9p14: the characters, of which the zero may find no room
 abbrev pub text_from : Scope → Pos → Option ℕ → ℕ → Verdict Initialiser
-text_from s at room n = provided (refuse_if (exceeds (length (text_of s n)) room) code.TooManyInitialisers at) (fine (typed.text (length s.literals)))
+text_from s at room n = provided (refuse_if (exceeds (length (literal_of s n)) room) code.TooManyInitialisers at) (fine (typed.text (length s.literals)))
 
 -- an array from an expression without braces: a string literal for characters, not in parentheses; else no form of an initialiser, or,
 -- inside a list, one whose braces are left out (6.7.9p20)
@@ -132,7 +132,7 @@ abbrev mutual
 
 abbrev pub literal_text : Scope → Option ℕ → List ℕ
 literal_text s None = []
-literal_text s (Some n) = text_of s n
+literal_text s (Some n) = literal_of s n
 
 -- the text of the string literal with this number among the literals
 abbrev pub text_at : Scope → ℕ → List ℕ

@@ -1,5 +1,5 @@
 -- Scopes: what each name stands for (ISO/IEC 9899:2011 6.2.1 to 6.2.4), and what the program so far has declared.
-use Rattle.std.specs.Prelude.{ℕ, ◌+◌, Bool, false, ℤ, List, [], ◌∷◌, ◌++◌, Option, Some, None, nat_eq, slice_get, codes, if◌then◌else◌}
+use Rattle.std.specs.Prelude.{ℕ, ◌+◌, ◌-◌, Bool, false, ℤ, List, [], ◌∷◌, ◌++◌, Option, Some, None, length, take, nat_eq, slice_get, codes, if◌then◌else◌}
 use Rattle.std.specs.Str.{bytes_eq}
 use Rattle.ctypes.specs.declared.types.IntType.TheVariants as ty
 use Rattle.tree.specs.Tree.{Tree, Trees, TypeTree, hole, identifier, constant, string, paren, call, subscript, after, before, prefix, size_of, size_of_type, cast, binary, conditional, assign, no_trees, one_more, type_name}
@@ -46,8 +46,8 @@ pub record Tag : Type 0 where
   pub complete : Bool
 
 -- the names and tags in scope, the newest first, and how deep the block is; the numbers of the texts of the string literals so
--- far; the objects with static storage so far, and those of the present function. The texts are those of the unit's names and
--- literals by their numbers, the definitions the names of the functions that the unit defines anywhere, in their order
+-- far; the objects with static storage so far, and those of the present function. The texts are those of the unit's names, and
+-- of its literals with the zero byte behind them, by their numbers, the definitions the names of the functions that the unit defines anywhere, in their order
 pub record Scope : Type 0 where
   pub texts : List (List ℕ)
   pub definitions : List ℕ
@@ -106,6 +106,10 @@ or_empty (Some text) = text
 
 abbrev pub text_of : Scope → ℕ → List ℕ
 text_of s n = or_empty (slice_get s.texts n)
+
+-- 6.4.5p6: the characters of a literal, behind which a zero stands
+abbrev pub literal_of : Scope → ℕ → List ℕ
+literal_of s n = let text = text_of s n in take (length text - 1) text
 
 abbrev pub is_called : Scope → ℕ → List ℕ → Bool
 is_called s n text = bytes_eq (text_of s n) text

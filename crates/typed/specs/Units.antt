@@ -9,7 +9,7 @@ use Rattle.typed.specs.Types.{ObjectType, ParameterType, number, elements, Funct
 use Rattle.typed.specs.Verdict.{Verdict, fine, breaks, then_check, refuse_if, each, provided}
 use Rattle.typed.specs.Program as typed
 use Rattle.typed.specs.Program.{Function, Static, Program}
-use Rattle.typed.specs.Scope.{Scope, StaticObject, Binding, no_linkage, internal, external, defined, file_scope, lookup, is_called, text_of}
+use Rattle.typed.specs.Scope.{Scope, StaticObject, Binding, no_linkage, internal, external, defined, file_scope, lookup, is_called, literal_of}
 use Rattle.typed.specs.Declarators.{Parameters, parameters_in, behind_parameters, function_type}
 use Rattle.typed.specs.Linkage.{file_function}
 use Rattle.typed.specs.Declarations.{Specified, specified, Initial, Declared, declaration_typed}
@@ -158,7 +158,7 @@ statics_from n (o ∷ os) initial = record { type = o.type; defined = o.defined;
 -- 6.4.5p6: the characters and a zero
 abbrev pub literals_of : Scope → List ℕ → List (List ℕ)
 literals_of s [] = []
-literals_of s (n ∷ ns) = (text_of s n ++ 0 ∷ []) ∷ literals_of s ns
+literals_of s (n ∷ ns) = (literal_of s n ++ 0 ∷ []) ∷ literals_of s ns
 
 -- the bytes that the objects with static storage and the string literals take
 abbrev pub bytes_of_statics : List StaticObject → ℕ
