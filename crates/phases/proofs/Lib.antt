@@ -19,3 +19,4 @@ pub mod GrammarLemmas
 pub mod CommentLemmas
 pub mod EndLemmas
 pub mod KindLemmas
+pub mod LineEndLemmas

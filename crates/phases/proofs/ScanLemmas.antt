@@ -30,7 +30,7 @@ found_skip file zero place space cs = refl
 found_skip file (suc k) place space [] = refl
 found_skip file (suc k) place space (c ∷ cs) = found_skip file k place space cs
 
-drop_pred : (n : ℕ) (c : Char) (cs : List Char) → 0 < n → drop (n - 1) cs ≡ drop n (c ∷ cs)
+pub drop_pred : (n : ℕ) (c : Char) (cs : List Char) → 0 < n → drop (n - 1) cs ≡ drop n (c ∷ cs)
 drop_pred zero c cs h = absurd (omega arith)
 drop_pred (suc m) c cs h = let e : suc m - 1 ≡ m = omega arith in ap (λ k. drop k cs) e
 
@@ -50,7 +50,7 @@ first_piece file place space c cs p n e h =
     let G : Piece × ℕ → Found = λ x. with_piece x.0 (token_in file space c.line x.0 x.1 (c ∷ cs)) (found file (x.1 - 1) (place_after x.0 place (take x.1 (bytes_of (c ∷ cs)))) (space_after x.0) cs) in
     ap G e ∙ ap (λ f. with_piece p (token_in file space c.line p n (c ∷ cs)) f) (found_skip file (n - 1) (place_after p place (take n (bytes_of (c ∷ cs)))) (space_after p) cs ∙ ap (λ t. found file 0 (place_after p place (take n (bytes_of (c ∷ cs)))) (space_after p) t) (drop_pred n c cs h))
 
-spans_drop_text : (a b : Cursor) (n : ℕ) → Spans a n b → drop n (text_at a) ≡ text_at b
+pub spans_drop_text : (a b : Cursor) (n : ℕ) → Spans a n b → drop n (text_at a) ≡ text_at b
 spans_drop_text a b n p = ap (λ t. drop n t) p.reads.text_is ∙ drop_at p.front (text_at b) n p.count
 
 found_step : (file : ℕ) (place : Place) (space : Bool) (a : Cursor) (s : Step) (x : Front) → IsStep a s → IsPiece a (front place s.byte (bytes_at s.next)) x → found file 0 place space (text_at a) ≡ by_piece file place space s.line x.piece x.span.count (text_at a) (text_at x.span.after)

@@ -9,6 +9,7 @@ pub mod Token
 pub mod Lines
 pub mod Spelled
 pub mod Scanned
+pub mod LineEnds
 pub mod TextRows
 pub mod LineRows
 pub mod inside

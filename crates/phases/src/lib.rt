@@ -4,6 +4,7 @@
 
 mod classes;
 mod cursor;
+mod ends;
 mod kinds;
 mod laws;
 mod lexical;
@@ -18,6 +19,7 @@ mod scanner;
 mod scanning;
 mod token;
 
+pub use ends::end_lines;
 pub use kinds::token_kind;
 pub use laws::kinds_exclude;
 pub use line_list::Lines;

@@ -62,7 +62,7 @@ fn ends_spliced(bytes: &[u8]) -> bool
 }
 
 // What is known so many characters further on.
-fn behind(known: Hopeless, count: usize) -> Hopeless
+pub(crate) fn behind(known: Hopeless, count: usize) -> Hopeless
     ensures single { result.single ≡ known.single - count }
     ensures double { result.double ≡ known.double - count }
 {

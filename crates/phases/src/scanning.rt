@@ -20,7 +20,7 @@ const BYTES_PER_TOKEN: usize = 4;
 
 // Where the token behind this one stands.
 #[inline(always)]
-fn next_place(place: Place, spelling: &[u8]) -> Place
+pub(crate) fn next_place(place: Place, spelling: &[u8]) -> Place
     ensures { result ≡ next_place place spelling.now }
 {
     match place {

@@ -250,22 +250,39 @@ impl<'a> PpToken<'a> {
     }
 
     /// The same token once more. Fails only where memory runs out, which only an owned spelling can meet.
+    #[inline(always)]
     pub fn copy(&self, alloc: Global) -> Result<PpToken<'a>, AllocError>
         ensures { IfOk result (λ t. t ≡ self.now) }
     {
-        let spelling = match &self.held {
-            Held::Lent { spelling, .. } => CowSlice::Borrowed(*spelling),
-            Held::Owned { spelling, .. } => {
-                CowSlice::Owned(Vec::from_slice(alloc, spelling.as_slice())?)
-            }
+        let held = match &self.held {
+            Held::Lent {
+                kind,
+                space_before,
+                line,
+                file,
+                spelling,
+            } => Held::Lent {
+                kind: *kind,
+                space_before: *space_before,
+                line: *line,
+                file: *file,
+                spelling: *spelling,
+            },
+            Held::Owned {
+                kind,
+                space_before,
+                line,
+                file,
+                spelling,
+            } => Held::Owned {
+                kind: *kind,
+                space_before: *space_before,
+                line: *line,
+                file: *file,
+                spelling: Box::new(alloc, Vec::from_slice(alloc, spelling.as_slice())?)?,
+            },
         };
-        PpToken::new(
-            alloc,
-            self.kind(),
-            spelling,
-            self.space_before(),
-            self.pos(),
-        )
+        Ok(PpToken { held })
     }
 
     /// The same token once more, with this mark and at this place. Fails only where memory runs out, which only an
