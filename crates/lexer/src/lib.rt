@@ -2,8 +2,8 @@
 #![tactic(auto)]
 
 mod lexing;
-mod literals;
-mod numbers;
+pub mod literals;
+pub mod numbers;
 mod punctuators;
 mod token;
 mod translation;

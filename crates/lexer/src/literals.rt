@@ -203,7 +203,7 @@ fn character_of(element: Element) -> Result<Constant, Code>
 }
 
 /// The constant that a character constant is, or the code of its fault.
-pub(crate) fn character(spelling: &[u8]) -> Result<Constant, Code>
+pub fn character(spelling: &[u8]) -> Result<Constant, Code>
     ensures { result ≡ character spelling.now }
 {
     if is_prefixed(b'\'', spelling) {

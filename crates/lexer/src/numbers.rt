@@ -52,7 +52,7 @@ pub(crate) fn is_digit(base: u8, byte: u8) -> bool
 }
 
 /// How many digits of the base come first.
-pub(crate) fn digit_count(base: u8, text: &[u8]) -> usize
+pub fn digit_count(base: u8, text: &[u8]) -> usize
     ensures count { result ≡ digit_count base text.now }
     ensures within { result ≤ length text.now }
 {
@@ -73,7 +73,7 @@ fn with_digit(high: u64, base: u8, byte: u8) -> Option<u64>
 }
 
 /// The number that the digits stand for, or `None` where it is over 18446744073709551615.
-pub(crate) fn value(base: u8, digits: &[u8]) -> Option<u64>
+pub fn value(base: u8, digits: &[u8]) -> Option<u64>
     requires { 1 ≤ base }
     ensures { MatchOption result (18446744073709551615 < value_of base digits.now) (λ v. v ≡ value_of base digits.now) }
 {
@@ -112,7 +112,8 @@ fn is_hexadecimal(spelling: &[u8]) -> bool
     byte_at(spelling, 0) == b'0' && (byte_at(spelling, 1) == b'x' || byte_at(spelling, 1) == b'X')
 }
 
-fn base_of(spelling: &[u8]) -> u8
+/// The base of an integer constant (6.4.4.1): 8, 10 or 16.
+pub fn base_of(spelling: &[u8]) -> u8
     ensures base { result ≡ base_of spelling.now }
     ensures some { 1 ≤ result }
 {
@@ -125,7 +126,8 @@ fn base_of(spelling: &[u8]) -> u8
     }
 }
 
-fn unprefixed(spelling: &[u8]) -> &[u8]
+/// An integer constant without its `0x` or `0X`.
+pub fn unprefixed(spelling: &[u8]) -> &[u8]
     ensures { result.now ≡ unprefixed spelling.now }
 {
     if is_hexadecimal(spelling) {
@@ -212,8 +214,8 @@ fn suffix_of(text: &[u8]) -> Option<Suffix>
     None
 }
 
-// The suffix behind so many digits, of which there is at least one.
-fn suffix_behind(count: usize, text: &[u8]) -> Option<Suffix>
+/// The suffix behind so many digits, or `None` where it is none or there are no digits.
+pub fn suffix_behind(count: usize, text: &[u8]) -> Option<Suffix>
     ensures { result ≡ suffix_behind count text.now }
 {
     if count == 0 {

@@ -10,15 +10,18 @@ use Rattle.phases.specs.declared.token.Kind.{Kind}
 use Rattle.phases.specs.declared.token.Kind.TheVariants as kind
 use Rattle.phases.specs.Token.{Token}
 use Rattle.macros.specs.Macro.{is_identifier, is_spelled}
-use Rattle.ctypes.specs.declared.operators.BinOp.{BinOp}
 use Rattle.ctypes.specs.declared.operators.BinOp.TheVariants.{Mul, Div, Rem, Add, Sub, Shl, Shr, Less, Greater, LessEqual, GreaterEqual, Equal, NotEqual, BitAnd, BitXor, BitOr}
+use Rattle.pp_cond.specs.declared.operators.Operator.{Operator}
+use Rattle.pp_cond.specs.declared.operators.Operator.TheVariants.{OrElse, AndThen, Two}
+use Rattle.pp_cond.specs.declared.operators.PrefixOperator.{PrefixOperator}
+use Rattle.pp_cond.specs.declared.operators.PrefixOperator.TheVariants.{Plus, Minus, Complement, Negation}
 use Rattle.lexer.specs.declared.numbers.Constant.{Constant}
 use Rattle.lexer.specs.declared.numbers.Suffix.{Suffix}
 use Rattle.lexer.specs.Digits.{digit_count, value_of as digits_value}
 use Rattle.lexer.specs.Numbers.{base_of, unprefixed, suffix_behind}
 use Rattle.lexer.specs.Literals.{character}
 use Rattle.ctypes.specs.Types.{truth}
-use Rattle.pp_cond.specs.Values.{Value, PrefixOperator, plus, minus, complement, negation, Condition, constant, prefix, binary, both, either, choice, value_of}
+use Rattle.pp_cond.specs.Values.{Value, Condition, constant, prefix, binary, both, either, choice, value_of}
 
 -- ---- constants
 
@@ -59,34 +62,29 @@ token_value x = value_by x.kind x.spelling
 
 -- ---- operators, the loosest level first (6.5.5 to 6.5.14)
 
-pub data Operator : Type 0 where
-  or_else : Operator
-  and_then : Operator
-  of_two : (op : BinOp) → Operator
-
 abbrev pub Level : Type 0
 Level = List (List ℕ × Operator)
 
 abbrev pub levels : List Level
 levels =
-    ((codes "||", or_else) ∷ []) ∷
-    ((codes "&&", and_then) ∷ []) ∷
-    ((codes "|", of_two BitOr) ∷ []) ∷
-    ((codes "^", of_two BitXor) ∷ []) ∷
-    ((codes "&", of_two BitAnd) ∷ []) ∷
-    ((codes "==", of_two Equal) ∷ (codes "!=", of_two NotEqual) ∷ []) ∷
-    ((codes "<", of_two Less) ∷ (codes ">", of_two Greater) ∷ (codes "<=", of_two LessEqual) ∷ (codes ">=", of_two GreaterEqual) ∷ []) ∷
-    ((codes "<<", of_two Shl) ∷ (codes ">>", of_two Shr) ∷ []) ∷
-    ((codes "+", of_two Add) ∷ (codes "-", of_two Sub) ∷ []) ∷
-    ((codes "*", of_two Mul) ∷ (codes "/", of_two Div) ∷ (codes "%", of_two Rem) ∷ []) ∷ []
+    ((codes "||", OrElse) ∷ []) ∷
+    ((codes "&&", AndThen) ∷ []) ∷
+    ((codes "|", Two BitOr) ∷ []) ∷
+    ((codes "^", Two BitXor) ∷ []) ∷
+    ((codes "&", Two BitAnd) ∷ []) ∷
+    ((codes "==", Two Equal) ∷ (codes "!=", Two NotEqual) ∷ []) ∷
+    ((codes "<", Two Less) ∷ (codes ">", Two Greater) ∷ (codes "<=", Two LessEqual) ∷ (codes ">=", Two GreaterEqual) ∷ []) ∷
+    ((codes "<<", Two Shl) ∷ (codes ">>", Two Shr) ∷ []) ∷
+    ((codes "+", Two Add) ∷ (codes "-", Two Sub) ∷ []) ∷
+    ((codes "*", Two Mul) ∷ (codes "/", Two Div) ∷ (codes "%", Two Rem) ∷ []) ∷ []
 
 abbrev pub prefixes : List (List ℕ × PrefixOperator)
-prefixes = (codes "+", plus) ∷ (codes "-", minus) ∷ (codes "~", complement) ∷ (codes "!", negation) ∷ []
+prefixes = (codes "+", Plus) ∷ (codes "-", Minus) ∷ (codes "~", Complement) ∷ (codes "!", Negation) ∷ []
 
 abbrev pub joined_by : Operator → Condition → Condition → Condition
-joined_by or_else a b = either a b
-joined_by and_then a b = both a b
-joined_by (of_two op) a b = binary op a b
+joined_by OrElse a b = either a b
+joined_by AndThen a b = both a b
+joined_by (Two op) a b = binary op a b
 
 -- ---- reading: a condition at the front, and what follows it
 

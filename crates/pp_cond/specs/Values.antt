@@ -1,8 +1,10 @@
 -- The arithmetic of conditions: as that of expressions, in the types intmax_t and uintmax_t of 64 bits (ISO/IEC 9899:2011
 -- 6.10.1p4, 6.5). An operation is absent where it overflows, divides by zero or shifts by no count of a bit.
-use Rattle.std.specs.Prelude.{ℕ, ◌^◌, ◌/◌, Bool, true, false, not, ◌&&◌, ◌||◌, ℤ, pos, negsuc, ◌+ℤ◌, ◌-ℤ◌, ◌*ℤ◌, if◌then◌else◌, int_lt, int_le, int_div, int_rem, bit_and, bit_or, bit_xor, Option, Some, None}
+use Rattle.std.specs.Prelude.{ℕ, ◌^◌, Bool, true, false, not, ◌&&◌, ◌||◌, ℤ, pos, negsuc, ◌+ℤ◌, ◌-ℤ◌, ◌*ℤ◌, if◌then◌else◌, int_lt, int_le, int_div, int_rem, bit_and, bit_or, bit_xor, Option, Some, None}
 use Rattle.ctypes.specs.declared.operators.BinOp.{BinOp}
 use Rattle.ctypes.specs.declared.operators.BinOp.TheVariants.{Mul, Div, Rem, Add, Sub, Shl, Shr, Less, Greater, LessEqual, GreaterEqual, Equal, NotEqual, BitAnd, BitXor, BitOr}
+use Rattle.pp_cond.specs.declared.operators.PrefixOperator.{PrefixOperator}
+use Rattle.pp_cond.specs.declared.operators.PrefixOperator.TheVariants.{Plus, Minus, Complement, Negation}
 use Rattle.ctypes.specs.Types.{modulo, wrap, truth, of_truth}
 use Rattle.ctypes.specs.Arithmetic.{quotient_down, magnitude}
 
@@ -10,12 +12,6 @@ use Rattle.ctypes.specs.Arithmetic.{quotient_down, magnitude}
 pub record Value : Type 0 where
   pub unsigned : Bool
   pub number : ℤ
-
-pub data PrefixOperator : Type 0 where
-  plus : PrefixOperator
-  minus : PrefixOperator
-  complement : PrefixOperator
-  negation : PrefixOperator
 
 -- a condition, its macros replaced: && and || and ?: evaluate their later operands where they have to (6.5.13 to 6.5.15)
 pub data Condition : Type 0 where
@@ -44,7 +40,7 @@ is_shift op = false
 
 abbrev pub is_unsigned : Condition → Bool
 is_unsigned (constant v) = v.unsigned
-is_unsigned (prefix negation a) = false
+is_unsigned (prefix Negation a) = false
 is_unsigned (prefix op a) = is_unsigned a
 is_unsigned (binary op a b) =
     if is_comparison op then false else if is_shift op then is_unsigned a else is_unsigned a || is_unsigned b
@@ -115,10 +111,10 @@ abbrev pub right_converted : BinOp → Bool → ℤ → ℤ
 right_converted op u b = if is_shift op then b else converted u b
 
 abbrev pub prefixed : PrefixOperator → Bool → ℤ → Option ℤ
-prefixed plus u a = Some a
-prefixed minus u a = in_range u (pos 0 -ℤ a)
-prefixed complement u a = Some (of_bits u (modulo 64 (negsuc 0 -ℤ a)))
-prefixed negation u a = Some (of_truth (not (truth a)))
+prefixed Plus u a = Some a
+prefixed Minus u a = in_range u (pos 0 -ℤ a)
+prefixed Complement u a = Some (of_bits u (modulo 64 (negsuc 0 -ℤ a)))
+prefixed Negation u a = Some (of_truth (not (truth a)))
 
 -- ---- the value of a condition where it is evaluated
 

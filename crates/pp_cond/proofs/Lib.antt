@@ -1,0 +1,4 @@
+pub mod Roles
+pub mod Agree
+pub mod Whole
+pub mod Rows
