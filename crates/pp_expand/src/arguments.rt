@@ -13,8 +13,8 @@ use std::alloc::Global;
 use std::collections::VecDeque;
 use substitution::HiddenToken;
 
-/// The arguments of a call, behind its opening parenthesis, and its closing one; none where it is not closed.
-pub(crate) fn take_arguments<'a>(
+// The arguments of a call, behind its opening parenthesis, and its closing one; none where it is not closed.
+fn gather_arguments<'a>(
     alloc: Global,
     rest: &mut VecDeque<HiddenToken<'a>>,
 ) -> Result<Option<(Vec<Vec<HiddenToken<'a>>>, HiddenToken<'a>)>, Refusal>
@@ -51,6 +51,30 @@ pub(crate) fn take_arguments<'a>(
         }
     }
     Ok(None)
+}
+
+// Gives room back where most of it stands empty. What stays in it is paid for by what was taken from it.
+fn give_room_back(list: &mut VecDeque<HiddenToken<'_>>)
+    ensures { list.new.items ≡ list.old.items }
+{
+    if list.len() < list.capacity() / 4 {
+        list.shrink_to_fit();
+    }
+}
+
+/// The arguments of a call, behind its opening parenthesis, and its closing one; none where it is not closed. The rest keeps
+/// room for few more tokens than it has, since it may wait for as long as the arguments are expanded.
+pub(crate) fn take_arguments<'a>(
+    alloc: Global,
+    rest: &mut VecDeque<HiddenToken<'a>>,
+) -> Result<Option<(Vec<Vec<HiddenToken<'a>>>, HiddenToken<'a>)>, Refusal>
+    ensures gathers { IfOk result (λ found. (texts : Texts) (sets : Sets) → GathersAs texts sets found rest.new.items (gathered [] [] (arguments_in 0 (hidden_all texts sets rest.old.items)))) }
+    ensures known { IfOk result (λ found. (count : ℕ) → AreIn count rest.old.items → GatheredIn count found × AreIn count rest.new.items) }
+    ensures err { IfErr result (λ refusal. refusal ≡ Memory) }
+{
+    let found = gather_arguments(alloc, rest);
+    give_room_back(rest);
+    found
 }
 
 /// The arguments for so many parameters: where there are none, one empty argument is none (ISO/IEC 9899:2011 6.10.3p4).

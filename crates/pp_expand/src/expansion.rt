@@ -31,6 +31,7 @@ fn unhidden<'a>(alloc: Global, list: &[PpToken<'a>]) -> Result<VecDeque<HiddenTo
     ensures err { IfErr result (λ refusal. refusal ≡ Memory) }
 {
     let mut hidden = VecDeque::new(alloc);
+    hidden.reserve_exact(list.len())?;
     for token in list {
         let token = token.copy(alloc)?;
         hidden.push_back(HiddenToken {
@@ -47,6 +48,7 @@ fn shown<'a>(alloc: Global, list: Vec<HiddenToken<'a>>) -> Result<Vec<PpToken<'a
     ensures err { IfErr result (λ refusal. refusal ≡ Memory) }
 {
     let mut tokens = Vec::new(alloc);
+    tokens.reserve_exact(list.len())?;
     for x in list {
         tokens.push(x.token)?;
     }

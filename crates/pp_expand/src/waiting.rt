@@ -55,21 +55,6 @@ fn copies<'a>(alloc: Global, list: &[HiddenToken<'a>]) -> Result<VecDeque<Hidden
     Ok(copy)
 }
 
-// The tokens as a list that is taken from its front.
-fn moved<'a>(
-    alloc: Global,
-    list: Vec<HiddenToken<'a>>,
-) -> Result<VecDeque<HiddenToken<'a>>, Refusal>
-    ensures ok { IfOk result (λ copy. copy.items ≡ list.entry.items) }
-    ensures err { IfErr result (λ refusal. refusal ≡ Memory) }
-{
-    let mut queue = VecDeque::new(alloc);
-    for x in list {
-        queue.push_back(x)?;
-    }
-    Ok(queue)
-}
-
 // An argument that is to be expanded: a copy where it is kept, and else itself.
 fn take_argument<'a>(
     alloc: Global,
@@ -86,8 +71,7 @@ fn take_argument<'a>(
         return Ok(copy);
     }
     let argument = mem::replace(&mut arguments[index], Vec::new(alloc));
-    let list = moved(alloc, argument)?;
-    Ok(list)
+    Ok(VecDeque::from(argument))
 }
 
 // What a replacement becomes whose arguments are expanded, in front of the list that it stands in.

@@ -112,10 +112,10 @@ puts_agree call arguments full (one x ∷ ps) h = ap (λ t. one x ∷ t) (puts_a
 puts_agree call arguments full (joint ∷ ps) h = ap (λ t. joint ∷ t) (puts_agree call arguments full ps h)
 puts_agree call arguments full (placemarker s ∷ ps) h = ap (λ t. placemarker s ∷ t) (puts_agree call arguments full ps h)
 
-abbrev tokens_left : Result (List Piece) Code → Result (List Hidden) Code
+abbrev pub tokens_left : Result (List Piece) Code → Result (List Hidden) Code
 tokens_left r = r >>= λ ps. Ok (tokens_of ps)
 
-substituted_by : (call : Call) (arguments full : List (List Hidden)) (ps : List Piece) (at : Pos) → call.at ≡ at → HasBeside ps arguments call
+pub substituted_by : (call : Call) (arguments full : List (List Hidden)) (ps : List Piece) (at : Pos) → call.at ≡ at → HasBeside ps arguments call
     → substituted call full ps ≡ tokens_left (joints_done (all_put arguments full ps ++ []) at)
 unfolding substituted arguments_put
 substituted_by call arguments full ps at e h =

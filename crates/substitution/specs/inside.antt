@@ -1,4 +1,6 @@
 pub mod Nodes
+pub mod Firsts
 pub mod Steps
 pub mod Reading
 pub mod Both
+pub mod Plain

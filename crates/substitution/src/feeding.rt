@@ -13,7 +13,10 @@ use srcset::{Pos, Refusal};
 use std::alloc::{AllocError, Global};
 use std::collections::VecDeque;
 
-fn copy_token<'a>(alloc: Global, token: &HiddenToken<'a>) -> Result<HiddenToken<'a>, AllocError>
+pub(crate) fn copy_token<'a>(
+    alloc: Global,
+    token: &HiddenToken<'a>,
+) -> Result<HiddenToken<'a>, AllocError>
     ensures { IfOk result (λ copy. copy ≡ token.now) }
 {
     let copy = token.token.copy(alloc)?;
@@ -24,7 +27,7 @@ fn copy_token<'a>(alloc: Global, token: &HiddenToken<'a>) -> Result<HiddenToken<
 }
 
 // A copy with this mark.
-fn copy_marked<'a>(
+pub(crate) fn copy_marked<'a>(
     alloc: Global,
     token: &HiddenToken<'a>,
     space_before: bool,

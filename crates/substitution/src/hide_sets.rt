@@ -4,8 +4,10 @@ ghost use Rattle.std.specs.List.{list_any, filter};
 ghost use Rattle.srcset.specs.declared.refusal.Refusal.TheVariants.{Memory};
 ghost use Rattle.substitution.specs.HideSets.{members, Extends, AreBelow, NamesBelow};
 ghost use Rattle.substitution.specs.inside.Nodes.{FirstIs};
+ghost use Rattle.substitution.specs.inside.Firsts.{IsAbsent};
 ghost use Rattle.substitution.specs.inside.Both.{IsBoth};
 
+use crate::firsts::Firsts;
 use indexmap::IndexSet;
 use srcset::Refusal;
 use std::alloc::Global;
@@ -56,17 +58,22 @@ struct Node {
 pub struct HideSets {
     alloc: Global,
     nodes: IndexSet<Node>,
+    firsts: Firsts,
 }
+
+// So many names of a set are looked at before the least number of the name's nodes is asked for.
+const NEAR_NAMES: usize = 4;
 
 impl Model for HideSets {
     ghost use Rattle.substitution.specs.HideSets.{Sets};
-    ghost use Rattle.substitution.specs.inside.Nodes.{sets_of, Ordered};
+    ghost use Rattle.substitution.specs.inside.Nodes.{sets_of};
+    ghost use Rattle.substitution.specs.inside.Firsts.{Stand};
 
     ghost Value = { Sets };
 
     ghost view = { λ s. sets_of s.nodes.keys };
 
-    ghost invariant = { λ s. Ordered s.nodes.keys };
+    ghost invariant = { λ s. Stand s.nodes.keys s.firsts };
 }
 
 impl HideSets {
@@ -77,6 +84,7 @@ impl HideSets {
         HideSets {
             alloc,
             nodes: IndexSet::new(alloc),
+            firsts: Firsts::new(alloc),
         }
     }
 
@@ -96,12 +104,42 @@ impl HideSets {
         Some((node.name, behind))
     }
 
+    // Up to which number no set has the name, or that none has it.
+    fn absent(&self, name: usize) -> Option<usize>
+        ensures { IsAbsent self.now name result }
+    {
+        self.firsts.get(name)
+    }
+
     /// Whether a name is in a set.
     pub fn contains(&self, set: HideSet, name: usize) -> bool
         ensures { result ≡ list_any (nat_eq name) (members self.now set) }
     {
         let mut left = set;
-        while let Some((first, behind)) = self.first(left) {
+        for _ in 0..NEAR_NAMES {
+            let Some((first, behind)) = self.first(left) else {
+                return false;
+            };
+            if first == name {
+                return true;
+            }
+            left = behind;
+        }
+        self.contains_far(left, name)
+    }
+
+    // The same where the set may have many names, few of which come after the first node of this name.
+    fn contains_far(&self, set: HideSet, name: usize) -> bool
+        ensures { result ≡ list_any (nat_eq name) (members self.now set) }
+    {
+        let Some(absent) = self.absent(name) else {
+            return false;
+        };
+        let mut left = set;
+        while left.number > absent {
+            let Some((first, behind)) = self.first(left) else {
+                return false;
+            };
             if first == name {
                 return true;
             }
@@ -164,6 +202,9 @@ impl HideSets {
         ensures names { (count : ℕ) → name < count → NamesBelow count self.old → NamesBelow count self.new }
         ensures err { IfErr result (λ refusal. refusal ≡ Memory) }
     {
+        if let Err(refusal) = self.firsts.note(name, self.nodes.len()) {
+            return Err(refusal);
+        }
         let node = Node {
             parent: set.number,
             name,

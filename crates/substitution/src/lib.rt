@@ -3,10 +3,12 @@
 #![tactic(auto)]
 
 mod feeding;
+mod firsts;
 mod front;
 mod hide_sets;
 mod joining;
 mod piece;
+mod plain;
 mod reading;
 mod substituting;
 

@@ -60,7 +60,7 @@ fn is_beside(index: usize, pieces: &[Piece]) -> bool
     pieces.iter().any(|piece| stands_beside(index, piece))
 }
 
-fn is_expanded(index: usize, pieces: &[Piece]) -> bool
+pub(crate) fn is_expanded(index: usize, pieces: &[Piece]) -> bool
     ensures { result ≡ list_any (expanded_held index) pieces.now }
 {
     pieces.iter().any(|piece| stands_elsewhere(index, piece))

@@ -12,4 +12,4 @@ returns-then-keeps-clause-ok c =
 pub returns-clause-ok : goal.returns-clause-ok
 returns-clause-ok c =
     let e = c.replace-argument.ensures in
-    let_argument c.args.arguments.now.items c.args.index c.args.keeps c.if-keeps.false c.index_mut.result.now c.replace-argument.new.dest c.requires c.index_mut.ensures.value c.in_ok-list.list.items (c.in_ok-list.ensures.ok ∙ ap (λ (v : Vec HiddenToken Global). v.items) e.value) (ap (λ (v : Vec HiddenToken Global). v.items) e.after ∙ c.new.ensures.items)
+    let_argument c.args.arguments.now.items c.args.index c.args.keeps c.if-keeps.false c.index_mut.result.now c.replace-argument.new.dest c.requires c.index_mut.ensures.value c.from.result.items (c.from.ensures.0 ∙ ap (λ (v : Vec HiddenToken Global). v.items) e.value) (ap (λ (v : Vec HiddenToken Global). v.items) e.after ∙ c.new.ensures.items)

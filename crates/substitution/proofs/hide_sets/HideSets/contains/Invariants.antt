@@ -3,8 +3,5 @@ use Rattle.std.specs.List.{list_any}
 use Rattle.substitution.specs.HideSets.{members}
 use Rattle.substitution.proofs.hide_sets.HideSets.contains.Given as goal
 
-abbrev pub invariant-loop-first : goal.invariant-loop-first
-invariant-loop-first l = list_any (nat_eq l.name) (members l.self l.initial.left) ≡ list_any (nat_eq l.name) (members l.self l.left)
-
-abbrev pub decreases-loop-first : goal.decreases-loop-first
-decreases-loop-first l = l.left
+abbrev pub invariant-loop : goal.invariant-loop
+invariant-loop l = list_any (nat_eq l.name) (members l.self l.initial.left) ≡ list_any (nat_eq l.name) (members l.self l.left)

@@ -1,6 +1,6 @@
 use Rattle.std.proofs.Common.{◌+◌, ◌≤◌, length}
 use Rattle.pp_expand.proofs.Gather.{Held, HeldIn}
-use Rattle.pp_expand.proofs.arguments.take_arguments.Given as goal
+use Rattle.pp_expand.proofs.arguments.gather_arguments.Given as goal
 
 abbrev pub invariant-loop-token : goal.invariant-loop-token
 invariant-loop-token l = record {
