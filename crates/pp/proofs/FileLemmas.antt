@@ -5,17 +5,23 @@ use Rattle.std.specs.List.{list_all}
 use Rattle.std.proofs.lemmas.Option.{none-some}
 use Rattle.srcset.specs.declared.refusal.Refusal.{Refusal}
 use Rattle.srcset.specs.declared.refusal.Refusal.TheVariants.{Memory, At, Told}
+use Rattle.srcset.specs.declared.code.Code.TheVariants as code
 use Rattle.srcset.specs.NameTable.{Texts, KeepsNumbers}
 use Rattle.phases.specs.Token.{Token}
 use Rattle.pp_expand.specs.Expands.{HaveFiles}
+use Rattle.pp.specs.declared.conditionals.Open.{Open}
 use Rattle.pp.specs.declared.run.Run.{Run}
 use Rattle.pp.specs.declared.state.State.{State as Held}
-use Rattle.pp.specs.Lines.{Line}
-use Rattle.pp.specs.Groups.{Group, ends, with_text}
-use Rattle.pp.specs.Phase4.{State, Presumed, Outcome, ◌>>=◌, Around, presume, directive_done, group_done}
-use Rattle.pp.specs.inside.Pending.{is_directive, plain_line, tokens_of, pending, run_ended}
-use Rattle.pp.specs.inside.Stepping.{presumed_of, presumed_by, placed, behind_line, Goes, StopsAs, Answers, Does, Stands, StandsOrStops, nowhere}
-use Rattle.pp.proofs.GroupLemmas.{text_pending, end_pending, directive_pending, and_left, and_right}
+use Rattle.pp.specs.declared.words.Role.{Role as Word}
+use Rattle.pp.specs.declared.words.Role.TheVariants as word
+use Rattle.pp.specs.Lines.{Line, lines_with, first_end}
+use Rattle.pp.specs.Groups.{ends, Role, of_text, role_of, Parsed, to_end, in_first, with_text, with_line, parsed, groups}
+use Rattle.pp.specs.Phase4.{State, Presumed, Outcome, stops, ◌>>=◌, Around, presume, group_done}
+use Rattle.pp.specs.inside.Pending.{pending, run_ended}
+use Rattle.pp.specs.inside.Rest.{nowhere, is_active, rest_done}
+use Rattle.pp.specs.inside.Stepping.{role_meant, first_of, presumed_of, presumed_by, placed, behind_line, line_with, Agrees, Goes, Stops, StopsAs, RestsOrStops, Stands, StandsOrStops}
+use Rattle.pp.proofs.GroupLemmas.{and_left, and_right}
+use Rattle.pp.proofs.RestLemmas.{is_text, in_none, text_joined, text_rest, line_rest, end_rest, end_alone, end_open, whole_rest}
 use Rattle.pp.proofs.StateLemmas.{append_files, true-false}
 
 pub keeps_through : (a b c : Texts) → KeepsNumbers a b → KeepsNumbers b c → KeepsNumbers a c
@@ -35,18 +41,46 @@ some_is : (a b : Token) → Some a ≡ Some b → a ≡ b
 unfolding from_some
 some_is a b e = ap (λ o. from_some o a) e
 
+open_of : Option Open → Open → Open
+open_of None d = d
+open_of (Some x) d = x
+
+some_open : (a b : Open) → Some a ≡ Some b → a ≡ b
+unfolding open_of
+some_open a b e = ap (λ o. open_of o a) e
+
 pub placed_files : (names : Texts) (p : Presumed) (xs : List Token) → p.file < length names → HaveFiles names (placed p xs)
 placed_files names p [] h i t e = absurd (none-some t e)
 placed_files names p (x ∷ xs) h zero t e = subst (λ (k : Token). k.pos.file < length names) (some_is (record x { pos = presumed_by p x.pos }) t e) h
 placed_files names p (x ∷ xs) h (suc i) t e = placed_files names p xs h i t e
 
-pub text_stands : (names : Texts) (held : Held) (run after : Run) (around : Around) (l : Line) (ts : List Token) (g : Group) (o : Outcome State)
-    → l.tokens ≡ ts → is_directive ts ≡ false → after.begun ≡ true
-    → after.tokens.items ≡ run.tokens.items ++ placed (presumed_of held.presumed) (behind_line run.begun ts)
-    → Stands names held run around (plain_line (is_directive l.tokens) l g) o → Stands names held after around g o
-text_stands names held run after around l ts g o e text begun tokens st =
+-- what stops a part stops all
+pub stops_all : {A : Type 0} (names : Texts) (r : Refusal) (o : Outcome A) (whole : Outcome State) (f : A → Outcome State) → whole ≡ (o >>= f) → StopsAs names r o → StopsAs names r whole
+stops_all names Memory o whole f e s = tt
+stops_all names (At c at) o whole f e s = record { given = s.given; stops_is = e ∙ ap (λ k. k >>= f) s.stops_is }
+stops_all names (Told c at n) o whole f e s = record {
+  text = s.text;
+  number_is = s.number_is;
+  utf8 = s.utf8;
+  fault_is = record { given = s.fault_is.given; stops_is = e ∙ ap (λ k. k >>= f) s.fault_is.stops_is };
+}
+
+pub stops_then : {A B : Type 0} (r : Refusal) (names : Texts) (o : Outcome A) (f : A → Outcome B) → StopsAs names r o → StopsAs names r (o >>= f)
+stops_then Memory names o f s = tt
+stops_then (At c at) names o f s = record { given = s.given; stops_is = ap (λ k. k >>= f) s.stops_is }
+stops_then (Told c at n) names o f s = record { text = s.text; number_is = s.number_is; utf8 = s.utf8; fault_is = record { given = s.fault_is.given; stops_is = ap (λ k. k >>= f) s.fault_is.stops_is } }
+
+-- an outcome that is another's stops as it does
+pub stops_same : {A : Type 0} (names : Texts) (r : Refusal) (o whole : Outcome A) → whole ≡ o → StopsAs names r o → StopsAs names r whole
+stops_same names r o whole e s = subst (StopsAs names r) (sym e) s
+
+pub text_stands : (names : Texts) (held : Held) (run after : Run) (around : Around) (os : List Open) (l : Line) (p : Parsed) (o : Outcome State)
+    → role_of l.tokens ≡ of_text → is_active os ≡ true → after.begun ≡ true
+    → after.tokens.items ≡ run.tokens.items ++ placed (presumed_of held.presumed) (behind_line run.begun l.tokens)
+    → Stands names held run around os (with_line (role_of l.tokens) l p) o → Stands names held after around os p o
+text_stands names held run after around os l p o text active begun tokens st =
+    let ts = l.tokens in
     let more = behind_line run.begun ts in
-    let no : is_directive l.tokens ≡ false = ap is_directive e ∙ text in
     let now = st.now in
     record {
       now = now;
@@ -55,20 +89,20 @@ text_stands names held run after around l ts g o e text begun tokens st =
       run_is = tokens ∙ ap (λ k. k ++ placed (presumed_of held.presumed) more) st.run_is
           ∙ ap (λ p. presume now st.text ++ placed p more) (sym st.agrees.presumed_is) ∙ sym (placed_append now.presumed st.text more);
       fresh = λ b. absurd (true-false (sym begun ∙ b));
+      active = λ b. active;
       comes_to = st.comes_to
-          ∙ ap (λ b. group_done around nowhere 0 (pending run.begun st.text (plain_line b l g)) now) no
-          ∙ ap (λ k. group_done around nowhere 0 (pending run.begun st.text (with_text k g)) now) e
-          ∙ ap (λ k. group_done around nowhere 0 k now) (text_pending run.begun st.text ts g st.fresh)
-          ∙ ap (λ b. group_done around nowhere 0 (pending b (st.text ++ more) g) now) (sym begun);
+          ∙ ap (λ r. rest_done around os (in_first (pending run.begun st.text) (with_line r l p)) now) text
+          ∙ ap (λ q. rest_done around os q now) (text_joined run.begun st.text ts p st.fresh)
+          ∙ ap (λ b. rest_done around os (in_first (pending b (st.text ++ more)) p) now) (sym begun);
     }
 
-pub text_answers : {A : Type 0} → (result : Result A Refusal) (names : Texts) (held : Held) (run after : Run) (around : Around) (l : Line) (ts : List Token) (g : Group) (o : Outcome State)
-    → l.tokens ≡ ts → is_directive ts ≡ false → after.begun ≡ true
-    → OnOk result (after.tokens.items ≡ run.tokens.items ++ placed (presumed_of held.presumed) (behind_line run.begun ts))
+pub text_answers : {A : Type 0} → (result : Result A Refusal) (names : Texts) (held : Held) (run after : Run) (around : Around) (os : List Open) (l : Line) (p : Parsed) (o : Outcome State)
+    → role_of l.tokens ≡ of_text → is_active os ≡ true → after.begun ≡ true
+    → OnOk result (after.tokens.items ≡ run.tokens.items ++ placed (presumed_of held.presumed) (behind_line run.begun l.tokens))
     → IfErr result (λ r. r ≡ Memory)
-    → Stands names held run around (plain_line (is_directive l.tokens) l g) o → StandsOrStops result names held after around g o
-text_answers (Ok u) names held run after around l ts g o e text begun ok err st = text_stands names held run after around l ts g o e text begun ok st
-text_answers (Err r) names held run after around l ts g o e text begun ok err st = subst (λ r. StopsAs r o) (sym err) tt
+    → Stands names held run around os (with_line (role_of l.tokens) l p) o → StandsOrStops result names held after around os p o
+text_answers (Ok u) names held run after around os l p o text active begun ok err st = text_stands names held run after around os l p o text active begun ok st
+text_answers (Err r) names held run after around os l p o text active begun ok err st = subst (λ r. StopsAs names r o) (sym err) tt
 
 pub text_files : {A : Type 0} → (result : Result A Refusal) (names : Texts) (held : Held) (run after : Run) (ts : List Token)
     → OnOk result (after.tokens.items ≡ run.tokens.items ++ placed (presumed_of held.presumed) (behind_line run.begun ts))
@@ -78,41 +112,66 @@ text_files (Ok u) names held run after ts ok files h =
     subst (HaveFiles names) (sym ok) (append_files names run.tokens.items (placed (presumed_of held.presumed) more) files (placed_files names (presumed_of held.presumed) more h))
 text_files (Err r) names held run after ts ok files h = tt
 
+true_or_false : (b : Bool) → b ≡ false → b ≡ true → ⊥
+true_or_false b f t = true-false (sym t ∙ f)
+
+not_begun : (b : Bool) → (b ≡ true → ⊥) → b ≡ false
+not_begun true h = absurd (h refl)
+not_begun false h = refl
+
+-- text that is skipped
+pub text_nothing : (names : Texts) (held : Held) (run : Run) (around : Around) (os : List Open) (l : Line) (p : Parsed) (o : Outcome State)
+    → role_of l.tokens ≡ of_text → is_active os ≡ false
+    → Stands names held run around os (with_line (role_of l.tokens) l p) o → Stands names held run around os p o
+text_nothing names held run around os l p o text out st =
+    let now = st.now in
+    let quiet = not_begun run.begun (λ b. true_or_false (is_active os) out (st.active b)) in
+    record {
+      now = now;
+      text = st.text;
+      agrees = st.agrees;
+      run_is = st.run_is;
+      fresh = st.fresh;
+      active = st.active;
+      comes_to = st.comes_to
+          ∙ ap (λ r. rest_done around os (in_first (pending run.begun st.text) (with_line r l p)) now) text
+          ∙ ap (λ b. rest_done around os (in_first (pending b st.text) (in_first (with_text l.tokens) p)) now) quiet
+          ∙ ap (λ q. rest_done around os q now) (in_none st.text (in_first (with_text l.tokens) p))
+          ∙ text_rest around os l.tokens p now out
+          ∙ ap (λ q. rest_done around os q now) (sym (in_none st.text p))
+          ∙ ap (λ b. rest_done around os (in_first (pending b st.text) p) now) (sym quiet);
+    }
+
 -- ---- a directive
 
-directive_is : (names : Texts) (held : Held) (run : Run) (around : Around) (l : Line) (ts : List Token) (g : Group) (o : Outcome State)
-    → l.tokens ≡ ts → is_directive ts ≡ true → (st : Stands names held run around (plain_line (is_directive l.tokens) l g) o)
-    → o ≡ (run_ended around.texts run.begun st.text st.now >>= λ s. directive_done around.texts around.enter l s >>= λ s. group_done around nowhere 0 g s)
-directive_is names held run around l ts g o e yes' st =
-    st.comes_to ∙ ap (λ b. group_done around nowhere 0 (pending run.begun st.text (plain_line b l g)) st.now) (ap is_directive e ∙ yes')
-    ∙ directive_pending around nowhere run.begun st.text l g st.now
+text_meant : (w : Word) → is_text (role_meant w) ≡ false
+text_meant word.Opens = refl
+text_meant word.Divides = refl
+text_meant word.Closes = refl
+text_meant word.StandsAlone = refl
 
--- what stops a part stops all
-stops_all : (r : Refusal) (o whole : Outcome State) (f : State → Outcome State) → whole ≡ (o >>= f) → StopsAs r o → StopsAs r whole
-stops_all Memory o whole f e s = tt
-stops_all (At c at) o whole f e s = record { given = s.given; stops_is = e ∙ ap (λ k. k >>= f) s.stops_is }
-stops_all (Told c at text) o whole f e s = s
+pub directive_is : (names : Texts) (held : Held) (run : Run) (around : Around) (os : List Open) (w : Word) (l : Line) (p : Parsed) (o : Outcome State)
+    → role_of l.tokens ≡ role_meant w → (st : Stands names held run around os (with_line (role_of l.tokens) l p) o)
+    → o ≡ (run_ended around.texts run.begun st.text st.now >>= λ s. rest_done around os (with_line (role_meant w) l p) s)
+directive_is names held run around os w l p o e st =
+    st.comes_to
+    ∙ ap (λ r. rest_done around os (in_first (pending run.begun st.text) (with_line r l p)) st.now) e
+    ∙ line_rest (role_meant w) around os run.begun st.text l p st.now (text_meant w) st.active
 
-pub run_stops : (refusal : Refusal) (names : Texts) (held : Held) (run : Run) (around : Around) (l : Line) (ts : List Token) (g : Group) (o : Outcome State)
-    → l.tokens ≡ ts → is_directive ts ≡ true → (st : Stands names held run around (plain_line (is_directive l.tokens) l g) o)
-    → StopsAs refusal (run_ended around.texts run.begun st.text st.now) → StopsAs refusal o
-run_stops refusal names held run around l ts g o e d st s =
-    stops_all refusal (run_ended around.texts run.begun st.text st.now) o
-    (λ s. directive_done around.texts around.enter l s >>= λ s. group_done around nowhere 0 g s) (directive_is names held run around l ts g o e d st) s
+pub run_stops : (refusal : Refusal) (names : Texts) (held : Held) (run : Run) (around : Around) (os : List Open) (w : Word) (l : Line) (p : Parsed) (o : Outcome State)
+    → role_of l.tokens ≡ role_meant w → (st : Stands names held run around os (with_line (role_of l.tokens) l p) o)
+    → StopsAs names refusal (run_ended around.texts run.begun st.text st.now) → StopsAs names refusal o
+run_stops refusal names held run around os w l p o e st s =
+    stops_all names refusal (run_ended around.texts run.begun st.text st.now) o (λ s. rest_done around os (with_line (role_meant w) l p) s)
+    (directive_is names held run around os w l p o e st) s
 
-directive_next : (result : Refusal) (names : Texts) (between : Held) (around : Around) (l : Line) (g : Group) (o first : Outcome State) (m : Goes names between first)
-    → o ≡ (first >>= λ s. directive_done around.texts around.enter l s >>= λ s. group_done around nowhere 0 g s)
-    → o ≡ (directive_done around.texts around.enter l m.after >>= λ s. group_done around nowhere 0 g s)
-directive_next result names between around l g o first m e =
-    e ∙ ap (λ k. k >>= λ s. directive_done around.texts around.enter l s >>= λ s. group_done around nowhere 0 g s) m.goes_is
-
-pub directive_stands : {A : Type 0} → (result : Result A Refusal) (names after : Texts) (held between new : Held) (run run' : Run) (around : Around) (l : Line) (ts : List Token) (g : Group) (o : Outcome State)
-    → l.tokens ≡ ts → is_directive ts ≡ true → (st : Stands names held run around (plain_line (is_directive l.tokens) l g) o)
+pub directive_stands : {A : Type 0} → (result : Result A Refusal) (names after : Texts) (held between new : Held) (run run' : Run) (around : Around) (os os' : List Open) (w : Word) (l : Line) (p : Parsed) (o : Outcome State)
+    → role_of l.tokens ≡ role_meant w → (st : Stands names held run around os (with_line (role_of l.tokens) l p) o)
     → run'.begun ≡ false → run'.tokens.items ≡ []
     → Goes names between (run_ended around.texts run.begun st.text st.now)
-    → Does result names between after new (directive_done around.texts around.enter l)
-    → StandsOrStops result after new run' around g o
-directive_stands (Ok u) names after held between new run run' around l ts g o e d st begun tokens m does =
+    → ((s : State) → Agrees names between s → RestsOrStops result after new around os' p (rest_done around os (with_line (role_meant w) l p) s))
+    → StandsOrStops result after new run' around os' p o
+directive_stands (Ok u) names after held between new run run' around os os' w l p o e st begun tokens m does =
     let n = does m.after m.agrees in
     record {
       now = n.after;
@@ -120,48 +179,114 @@ directive_stands (Ok u) names after held between new run run' around l ts g o e 
       agrees = n.agrees;
       run_is = tokens;
       fresh = λ b. refl;
-      comes_to = directive_next Memory names between around l g o (run_ended around.texts run.begun st.text st.now) m (directive_is names held run around l ts g o e d st)
-          ∙ ap (λ k. k >>= λ s. group_done around nowhere 0 g s) n.goes_is
-          ∙ ap (λ b. group_done around nowhere 0 (pending b [] g) n.after) (sym begun);
+      active = λ b. absurd (true_or_false run'.begun begun b);
+      comes_to = directive_is names held run around os w l p o e st
+          ∙ ap (λ k. k >>= λ s. rest_done around os (with_line (role_meant w) l p) s) m.goes_is
+          ∙ n.rests
+          ∙ ap (λ q. rest_done around os' q n.after) (sym (in_none [] p))
+          ∙ ap (λ b. rest_done around os' (in_first (pending b []) p) n.after) (sym begun);
     }
-directive_stands (Err r) names after held between new run run' around l ts g o e d st begun tokens m does =
-    stops_all r (directive_done around.texts around.enter l m.after) o (λ s. group_done around nowhere 0 g s)
-    (directive_next Memory names between around l g o (run_ended around.texts run.begun st.text st.now) m (directive_is names held run around l ts g o e d st))
+directive_stands (Err r) names after held between new run run' around os os' w l p o e st begun tokens m does =
+    stops_same after r (rest_done around os (with_line (role_meant w) l p) m.after) o
+    (directive_is names held run around os w l p o e st ∙ ap (λ k. k >>= λ s. rest_done around os (with_line (role_meant w) l p) s) m.goes_is)
     (does m.after m.agrees)
 
 -- ---- the end of the file
 
-pub end_answers : {A : Type 0} → (result : Result A Refusal) (names after : Texts) (held new : Held) (run : Run) (around : Around) (o : Outcome State)
-    → (st : Stands names held run around ends o)
-    → Answers result after new (run_ended around.texts run.begun st.text st.now) → Answers result after new o
-end_answers result names after held new run around o st answers =
-    subst (Answers result after new) (sym (st.comes_to ∙ end_pending around nowhere run.begun st.text st.now)) answers
+end_is : (names : Texts) (held : Held) (run : Run) (around : Around) (os : List Open) (o : Outcome State) → (st : Stands names held run around os (to_end ends) o)
+    → o ≡ (run_ended around.texts run.begun st.text st.now >>= λ s. rest_done around os (to_end ends) s)
+end_is names held run around os o st = st.comes_to ∙ end_rest around os run.begun st.text st.now st.active
+
+pub end_stops : (refusal : Refusal) (names : Texts) (held : Held) (run : Run) (around : Around) (os : List Open) (o : Outcome State) → (st : Stands names held run around os (to_end ends) o)
+    → StopsAs names refusal (run_ended around.texts run.begun st.text st.now) → StopsAs names refusal o
+end_stops refusal names held run around os o st s =
+    stops_all names refusal (run_ended around.texts run.begun st.text st.now) o (λ s. rest_done around os (to_end ends) s) (end_is names held run around os o st) s
+
+pub end_goes : (names : Texts) (held new : Held) (run : Run) (around : Around) (os : List Open) (o : Outcome State) → os ≡ [] → (st : Stands names held run around os (to_end ends) o)
+    → Goes names new (run_ended around.texts run.begun st.text st.now) → Goes names new o
+end_goes names held new run around os o e st m = record {
+  after = m.after;
+  agrees = m.agrees;
+  goes_is = end_is names held run around os o st ∙ ap (λ k. k >>= λ s. rest_done around os (to_end ends) s) m.goes_is
+      ∙ ap (λ os. rest_done around os (to_end ends) m.after) e ∙ end_alone around m.after;
+}
+
+pub end_missing : (names : Texts) (held new : Held) (run : Run) (around : Around) (os : List Open) (first : Open) (o : Outcome State) → Some first ≡ first_of os → (st : Stands names held run around os (to_end ends) o)
+    → Goes names new (run_ended around.texts run.begun st.text st.now) → Stops code.UnbalancedConditional first.at [] o
+end_missing names held new run around [] first o e st m = absurd (none-some first (sym e))
+end_missing names held new run around (a ∷ os) first o e st m = record {
+  given = m.after.given;
+  stops_is = end_is names held run around (a ∷ os) o st ∙ ap (λ k. k >>= λ s. rest_done around (a ∷ os) (to_end ends) s) m.goes_is
+      ∙ end_open around a os m.after ∙ ap (λ (f : Open). stops m.after.given (record { code = code.UnbalancedConditional; at = f.at; text = [] })) (sym (some_open first a e));
+}
 
 -- ---- lines by their numbers
 
-pub record Next (ls : List Line) (i : ℕ) (t : List Token) : Type 0 where
-  pub line : Line
-  pub rest_is : drop i ls ≡ line ∷ drop (suc i) ls
-  pub line_is : line.tokens ≡ t
+line_tokens : Option (List Token) → List Token
+line_tokens None = []
+line_tokens (Some t) = t
 
-line_of : Option (List Token) → List Token
-line_of None = []
-line_of (Some t) = t
+drop_end : (es : List ℕ) (i : ℕ) → drop i (drop 1 es) ≡ drop (suc i) es
+drop_end [] zero = refl
+drop_end [] (suc i) = refl
+drop_end (e ∷ es) i = refl
 
-pub next_of : (ls : List Line) (i : ℕ) (t : List Token) → slice_get (tokens_of ls) i ≡ Some t → Next ls i t
-unfolding line_of
-next_of [] i t e = absurd (none-some t e)
-next_of (l ∷ ls) zero t e = record { line = l; rest_is = refl; line_is = ap line_of e }
-next_of (l ∷ ls) (suc i) t e = let n = next_of ls i t e in record { line = n.line; rest_is = n.rest_is; line_is = n.line_is }
+pub next_of : (tss : List (List Token)) (es : List ℕ) (i : ℕ) (t : List Token) → slice_get tss i ≡ Some t
+    → drop i (lines_with tss es) ≡ line_with t (first_end (drop i es)) ∷ drop (suc i) (lines_with tss es)
+unfolding line_tokens
+next_of [] es i t e = absurd (none-some t e)
+next_of (l ∷ tss) es zero t e = ap (λ (k : List Token). line_with k (first_end es) ∷ lines_with tss (drop 1 es)) (ap line_tokens e)
+next_of (l ∷ tss) es (suc i) t e =
+    next_of tss (drop 1 es) i t e ∙ ap (λ k. line_with t (first_end k) ∷ drop (suc i) (lines_with tss (drop 1 es))) (drop_end es i)
 
 pub all_get : (p : List Token → Bool) (ls : List (List Token)) (i : ℕ) (t : List Token) → list_all p ls ≡ true → slice_get ls i ≡ Some t → p t ≡ true
-unfolding line_of
+unfolding line_tokens
 all_get p [] i t h e = absurd (none-some t e)
-all_get p (l ∷ ls) zero t h e = ap p (sym (ap line_of e)) ∙ and_left (p l) (list_all p ls) h
+all_get p (l ∷ ls) zero t h e = ap p (sym (ap line_tokens e)) ∙ and_left (p l) (list_all p ls) h
 all_get p (l ∷ ls) (suc i) t h e = all_get p ls i t (and_right (p l) (list_all p ls) h) e
 
-pub none_left : (ls : List Line) (i : ℕ) → length (tokens_of ls) ≤ i → drop i ls ≡ []
-none_left [] zero h = refl
-none_left [] (suc i) h = refl
-none_left (l ∷ ls) zero h = absurd (omega (arith, h))
-none_left (l ∷ ls) (suc i) h = none_left ls i (omega (arith, h))
+pub none_left : (tss : List (List Token)) (es : List ℕ) (i : ℕ) → length tss ≤ i → drop i (lines_with tss es) ≡ []
+none_left [] es zero h = refl
+none_left [] es (suc i) h = refl
+none_left (l ∷ tss) es zero h = absurd (omega (arith, h))
+none_left (l ∷ tss) es (suc i) h = none_left tss (drop 1 es) i (omega (arith, h))
+
+-- ---- from the first line to the last
+
+pub stands_first : (names : Texts) (held : Held) (run : Run) (around : Around) (os : List Open) (ls : List Line) (s : State) → run.begun ≡ false → run.tokens.items ≡ [] → os ≡ [] → Agrees names held s
+    → Stands names held run around os (parsed ls) (group_done around nowhere 0 (groups ls) s)
+unfolding groups
+stands_first names held run around os ls s begun tokens none a = record {
+  now = s;
+  text = [];
+  agrees = a;
+  run_is = tokens;
+  fresh = λ b. refl;
+  active = λ b. absurd (true_or_false run.begun begun b);
+  comes_to = sym (whole_rest around (parsed ls) s)
+      ∙ ap (λ q. rest_done around [] q s) (sym (in_none [] (parsed ls)))
+      ∙ ap (λ b. rest_done around [] (in_first (pending b []) (parsed ls)) s) (sym begun)
+      ∙ ap (λ os. rest_done around os (in_first (pending run.begun []) (parsed ls)) s) (sym none);
+}
+
+pub parsed_next : (ls : List Line) (l : Line) (i : ℕ) → drop i ls ≡ l ∷ drop (suc i) ls → parsed (drop i ls) ≡ with_line (role_of l.tokens) l (parsed (drop (suc i) ls))
+unfolding parsed
+parsed_next ls l i e = ap parsed e
+
+pub parsed_end : (ls : List Line) (i : ℕ) → drop i ls ≡ [] → parsed (drop i ls) ≡ to_end ends
+unfolding parsed
+parsed_end ls i e = ap parsed e
+
+pub next_stands : (names : Texts) (held : Held) (run : Run) (around : Around) (os : List Open) (tss : List (List Token)) (es : List ℕ) (i : ℕ) (t : List Token) (o : Outcome State) → slice_get tss i ≡ Some t
+    → Stands names held run around os (parsed (drop i (lines_with tss es))) o
+    → Stands names held run around os (with_line (role_of t) (line_with t (first_end (drop i es))) (parsed (drop (suc i) (lines_with tss es)))) o
+next_stands names held run around os tss es i t o e st =
+    subst (λ q. Stands names held run around os q o) (parsed_next (lines_with tss es) (line_with t (first_end (drop i es))) i (next_of tss es i t e)) st
+
+pub last_stands : (names : Texts) (held : Held) (run : Run) (around : Around) (os : List Open) (tss : List (List Token)) (es : List ℕ) (i : ℕ) (o : Outcome State) → length tss ≤ i
+    → Stands names held run around os (parsed (drop i (lines_with tss es))) o → Stands names held run around os (to_end ends) o
+last_stands names held run around os tss es i o h st =
+    subst (λ q. Stands names held run around os q o) (parsed_end (lines_with tss es) i (none_left tss es i h)) st
+
+pub no_files : (names : Texts) (xs : List Token) → xs ≡ [] → HaveFiles names xs
+no_files names xs e = subst (HaveFiles names) (sym e) (λ i t h. absurd (none-some t h))

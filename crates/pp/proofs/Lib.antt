@@ -1,6 +1,11 @@
 mod Rows
 pub mod GroupLemmas
 pub mod StateLemmas
-pub mod LineWalk
+pub mod RestLemmas
 pub mod FileLemmas
+pub mod BranchLemmas
+pub mod ErrorLemmas
+pub mod LineWalk
 pub mod PhaseLemmas
+pub mod ConditionLemmas
+pub mod LineLemmas

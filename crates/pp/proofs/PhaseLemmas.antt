@@ -1,8 +1,8 @@
--- Phase 4 of a main file whose lines are all of today.
+-- Phase 4 of a main file.
 use Rattle.std.proofs.Common.{◌≡◌, ◌<◌, ◌≤◌, ℕ, zero, suc, List, [], ◌∷◌, length, Bool, true, false, Option, Some, None, Result, Ok, Err, get_or, refl, sym, ap, subst, ◌∙◌, arith, ◌⊎◌, inl, inr}
 use Rattle.std.specs.Prelude.{slice_get, if◌then◌else◌}
 use Rattle.std.specs.List.{list_all}
-use Rattle.std.specs.Str.{bytes_eq}
+use Rattle.std.specs.Str.{bytes_eq, is_utf8}
 use Rattle.std.proofs.lemmas.Option.{none-some, slice_get_within, slice_get-get_or}
 use Rattle.srcset.specs.declared.refusal.Pos.{Pos}
 use Rattle.srcset.specs.declared.refusal.Refusal.{Refusal}
@@ -10,20 +10,21 @@ use Rattle.srcset.specs.declared.refusal.Refusal.TheVariants.{Memory, At, Told}
 use Rattle.srcset.specs.declared.code.Code.{Code}
 use Rattle.srcset.specs.declared.code.Code.TheVariants as code
 use Rattle.srcset.specs.Files.{Files, file_of}
-use Rattle.srcset.specs.NameTable.{Texts, KeepsNumbers, NumbersOnce}
+use Rattle.srcset.specs.NameTable.{Texts, KeepsNumbers, NumbersOnce, utf8_or_empty, shown_text}
 use Rattle.srcset.proofs.NameLemmas.{same_text, equals_itself}
 use Rattle.phases.specs.Token.{Token}
 use Rattle.phases.specs.Text.{logical, phase1, last_line, ends_open, ends_spliced}
 use Rattle.phases.specs.Lines.{scanned, at_end, lines_or_fault, fault_or, found, Found}
 use Rattle.phases.specs.declared.token.Place.TheVariants.{Start}
 use Rattle.pp.specs.declared.state.State.{State as Held}
-use Rattle.pp.specs.Lines.{Line, line_ends, lines_with, lines_or_refusal, lines_of}
+use Rattle.phases.specs.LineEnds.{line_ends}
+use Rattle.pp.specs.Lines.{Line, lines_with, lines_or_refusal, lines_of}
+use Rattle.pp.specs.Groups.{groups}
 use Rattle.pp.specs.Phase4.{State, Fault, goes, Around, start, max_includes, number_in, lines_done, file_done, main_done, entered, ending_of, phase4, group_done}
 use Rattle.pp.specs.Today.{is_today_line, is_today, bytes_today, lines_today}
-use Rattle.pp.specs.Preprocessed.{IsDone, IsRefused}
-use Rattle.pp.specs.inside.Pending.{plain_group, tokens_of}
-use Rattle.pp.specs.inside.Stepping.{Goes, StopsAs, nowhere}
-use Rattle.pp.proofs.GroupLemmas.{groups_plain, tokens_with}
+use Rattle.pp.specs.Preprocessed.{IsDone, IsStopped, IsRefused}
+use Rattle.pp.specs.inside.Rest.{nowhere}
+use Rattle.pp.specs.inside.Stepping.{Goes, Stops, StopsAs}
 use Rattle.pp.proofs.StateLemmas.{true-false}
 
 -- ---- numbers of texts
@@ -79,17 +80,14 @@ abbrev pub numbered_lines : List ℕ → List (List Token) → List Line
 numbered_lines bytes tss = lines_with tss (line_ends 0 Start (logical 1 bytes))
 
 pub main_is : (files : Files) (texts : Texts) (main bytes : List ℕ) (file : ℕ) (tss : List (List Token))
-    → file_of files main ≡ Some bytes → number_in texts main ≡ file → scanned file bytes ≡ Ok tss → list_all is_today_line tss ≡ true
-    → phase4 files texts main ≡ ending_of (group_done (around_of files texts) nowhere 0 (plain_group (numbered_lines bytes tss)) (start_of file))
+    → file_of files main ≡ Some bytes → number_in texts main ≡ file → scanned file bytes ≡ Ok tss
+    → phase4 files texts main ≡ ending_of (group_done (around_of files texts) nowhere 0 (groups (numbered_lines bytes tss)) (start_of file))
 unfolding phase4 file_done lines_of
-main_is files texts main bytes file tss given numbered scans today =
+main_is files texts main bytes file tss given numbered scans =
     let around = around_of files texts in
-    let ls = numbered_lines bytes tss in
-    let all_today : list_all is_today_line (tokens_of ls) ≡ true = ap (list_all is_today_line) (tokens_with tss (line_ends 0 Start (logical 1 bytes))) ∙ today in
     ap (λ o. ending_of (main_done files texts main o)) given
     ∙ ap (λ n. ending_of (lines_done around (lines_of n bytes) (start_of n))) numbered
     ∙ ap (λ r. ending_of (lines_done around (lines_or_refusal r (line_ends 0 Start (logical 1 bytes))) (start_of file))) scans
-    ∙ ap (λ g. ending_of (group_done around nowhere 0 g (start_of file))) (groups_plain ls all_today)
 
 pub is_today_of : (files : Files) (texts : Texts) (main bytes : List ℕ) (file : ℕ) (tss : List (List Token))
     → file_of files main ≡ Some bytes → number_in texts main ≡ file → scanned file bytes ≡ Ok tss → is_today files texts main ≡ list_all is_today_line tss
@@ -100,24 +98,35 @@ is_today_of files texts main bytes file tss given numbered scans =
 
 pub done_is : (files : Files) (texts names : Texts) (main bytes : List ℕ) (file : ℕ) (tss : List (List Token)) (held : Held)
     → file_of files main ≡ Some bytes → number_in texts main ≡ file → scanned file bytes ≡ Ok tss → list_all is_today_line tss ≡ true
-    → Goes names held (group_done (around_of files texts) nowhere 0 (plain_group (numbered_lines bytes tss)) (start_of file))
+    → Goes names held (group_done (around_of files texts) nowhere 0 (groups (numbered_lines bytes tss)) (start_of file))
     → IsDone files texts main held.given.items
 done_is files texts names main bytes file tss held given numbered scans today g = record {
   today = is_today_of files texts main bytes file tss given numbered scans ∙ today;
-  done = main_is files texts main bytes file tss given numbered scans today ∙ ap ending_of g.goes_is
+  done = main_is files texts main bytes file tss given numbered scans ∙ ap ending_of g.goes_is
       ∙ ap (λ l. ending_of (goes (record g.after { given = l }))) g.agrees.given_is;
 }
 
-pub stopped_is : (refusal : Refusal) (files : Files) (texts : Texts) (main bytes : List ℕ) (file : ℕ) (tss : List (List Token))
+stops_with : (files : Files) (texts : Texts) (main bytes : List ℕ) (file : ℕ) (tss : List (List Token)) (c : Code) (at : Pos) (text : List ℕ)
     → file_of files main ≡ Some bytes → number_in texts main ≡ file → scanned file bytes ≡ Ok tss → list_all is_today_line tss ≡ true
-    → StopsAs refusal (group_done (around_of files texts) nowhere 0 (plain_group (numbered_lines bytes tss)) (start_of file))
-    → IsRefused files texts main refusal
-stopped_is Memory files texts main bytes file tss given numbered scans today s = tt
-stopped_is (At c at) files texts main bytes file tss given numbered scans today s = inr (record {
+    → Stops c at text (group_done (around_of files texts) nowhere 0 (groups (numbered_lines bytes tss)) (start_of file))
+    → IsStopped files texts main c at text
+stops_with files texts main bytes file tss c at text given numbered scans today s = record {
   today = is_today_of files texts main bytes file tss given numbered scans ∙ today;
-  stops = ap (λ p. p.fault) (main_is files texts main bytes file tss given numbered scans today ∙ ap ending_of s.stops_is);
-})
-stopped_is (Told c at text) files texts main bytes file tss given numbered scans today s = s
+  stops = ap (λ p. p.fault) (main_is files texts main bytes file tss given numbered scans ∙ ap ending_of s.stops_is);
+}
+
+shown_is : (texts : Texts) (n : ℕ) (text : List ℕ) → slice_get texts n ≡ Some text → is_utf8 text ≡ true → shown_text texts n ≡ text
+shown_is texts n text e u = ap utf8_or_empty e ∙ ap (λ b. if b then text else []) u
+
+pub stopped_is : (refusal : Refusal) (files : Files) (texts names : Texts) (main bytes : List ℕ) (file : ℕ) (tss : List (List Token)) → KeepsNumbers names texts
+    → file_of files main ≡ Some bytes → number_in texts main ≡ file → scanned file bytes ≡ Ok tss → list_all is_today_line tss ≡ true
+    → StopsAs names refusal (group_done (around_of files texts) nowhere 0 (groups (numbered_lines bytes tss)) (start_of file))
+    → IsRefused files texts main refusal
+stopped_is Memory files texts names main bytes file tss keeps given numbered scans today s = tt
+stopped_is (At c at) files texts names main bytes file tss keeps given numbered scans today s = inr (stops_with files texts main bytes file tss c at [] given numbered scans today s)
+stopped_is (Told c at n) files texts names main bytes file tss keeps given numbered scans today s =
+    subst (IsStopped files texts main c at) (sym (shown_is texts n s.text (keeps n s.text s.number_is) s.utf8))
+    (stops_with files texts main bytes file tss c at s.text given numbered scans today s.fault_is)
 
 pub not_built_is : (files : Files) (texts : Texts) (main bytes : List ℕ) (file : ℕ) (tss : List (List Token))
     → file_of files main ≡ Some bytes → number_in texts main ≡ file → scanned file bytes ≡ Ok tss → list_all is_today_line tss ≡ false
@@ -179,7 +188,7 @@ refuses_at (At c at) file bytes files texts main given numbered e =
           ∙ ap (λ n. (ending_of (lines_done around (lines_of n bytes) (start_of n))).fault) numbered
           ∙ ap (λ r. (ending_of (lines_done around (lines_or_refusal r (line_ends 0 Start (logical 1 bytes))) (start_of file))).fault) e;
     })
-refuses_at (Told c at text) file bytes files texts main given numbered e = subst IsPlaced e (scan_placed file bytes)
+refuses_at (Told c at text) file bytes files texts main given numbered e = absurd (subst IsPlaced e (scan_placed file bytes))
 
 pub scan_refused : (refusal : Refusal) (file : ℕ) (bytes : List ℕ) (files : Files) (texts : Texts) (main : List ℕ)
     → file_of files main ≡ Some bytes → number_in texts main ≡ file → (refusal ≡ Memory) ⊎ (scanned file bytes ≡ Err refusal) → IsRefused files texts main refusal
@@ -188,6 +197,3 @@ scan_refused refusal file bytes files texts main given numbered why =
       | inl m ↦ subst (IsRefused files texts main) (sym m) tt
       | inr e ↦ refuses_at refusal file bytes files texts main given numbered e
     ]
-
-pub numbered_tokens : (bytes : List ℕ) (tss : List (List Token)) → tokens_of (numbered_lines bytes tss) ≡ tss
-numbered_tokens bytes tss = tokens_with tss (line_ends 0 Start (logical 1 bytes))

@@ -16,7 +16,8 @@ use Rattle.substitution.specs.Substitution.{strings_made, is_expanded, arguments
 use Rattle.pp_expand.specs.Expansion.{text_of, arguments_in, turn, arguments_expanded, replace, walk, expanded_by, expanded}
 use Rattle.pp_cond.specs.Values.{value_of}
 use Rattle.pp_cond.specs.Condition.{read, holds}
-use Rattle.pp.specs.Lines.{line_ends, lines_of}
+use Rattle.phases.specs.LineEnds.{line_ends}
+use Rattle.pp.specs.Lines.{lines_of}
 use Rattle.pp.specs.Groups.{parsed, groups}
 use Rattle.pp.specs.Phase4.{Phase4, Fault, goes, Around, start, ending_of, phase4, run_done, include_done, line_done, directive_done, defined_resolved, branch_taken, skipped, branches_skipped, group_done, branches_done, branches_left, file_done, entered}
 

@@ -1,6 +1,7 @@
 -- What ends of runs and directives do to the state.
 use Rattle.std.proofs.Common.{◌≡◌, ◌≤◌, ◌<◌, ℕ, zero, suc, List, [], ◌∷◌, ◌++◌, length, Bool, true, false, None, Result, Ok, Err, OnOk, IfErr, get_or, drop, take, ◌-◌, arith, slice_index_or, refl, sym, ap, subst, ◌∙◌}
-use Rattle.std.specs.Prelude.{slice_get, codes, if◌then◌else◌, ◌&&◌, ◌||◌, Vec}
+use Rattle.std.specs.Prelude.{slice_get, codes, if◌then◌else◌, not, map, ◌&&◌, ◌||◌, Vec}
+use Rattle.std.specs.List.{flat_map}
 use Rattle.std.specs.Str.{bytes_eq}
 use Rattle.srcset.proofs.NameLemmas.{same_text}
 use Rattle.std.specs.declared.alloc.Global.{Global}
@@ -17,15 +18,15 @@ use Rattle.macros.specs.Macro.{Macros, is_identifier, is_spelled, is_hash}
 use Rattle.macros.specs.Definition.{define, undefine}
 use Rattle.macros.specs.Table.{IsTable, Defines, IsDefineRefusal, Undefines, IsUndefineRefusal}
 use Rattle.pp_expand.specs.Expansion as expansion
-use Rattle.pp_expand.specs.Expansion.{Known, of_run, expanded}
+use Rattle.pp_expand.specs.Expansion.{Known, of_run, of_directive, expanded}
 use Rattle.pp_expand.specs.Expands.{HaveFiles, IsExpansion}
 use Rattle.pp.specs.declared.state.State.{State as Held}
 use Rattle.pp.specs.Lines.{Line}
-use Rattle.pp.specs.Phase4.{State, Outcome, goes, stops, ◌>>=◌, Enter, presume, presumed_at, with_macros, undefined, fails, of_expansion, give, first_past, run_done, include_done, line_done, error_text, named, directive_by, directive_done, max_tokens}
-use Rattle.pp.specs.Today.{is_today_line, is_today_name}
+use Rattle.pp.specs.Phase4.{Presumed, printable, State, Outcome, goes, stops, ◌>>=◌, Enter, presume, presumed_at, with_macros, undefined, fails, of_expansion, expand, give, first_past, run_done, include_done, line_done, error_text, named, directive_by, directive_done, max_tokens}
+use Rattle.pp.specs.Today.{is_today_line}
 use Rattle.pp.specs.inside.Pending.{is_directive}
 use Rattle.pp.proofs.GroupLemmas.{and_left}
-use Rattle.pp.specs.inside.Stepping.{presumed_of, presumed_by, placed, Agrees, IsSound, Goes, Stops, StopsAs, Answers, Does, IsPast}
+use Rattle.pp.specs.inside.Stepping.{presumed_of, presumed_by, placed, line_with, spaced_out, error_fault, error_done, Gives, Asks, Agrees, IsSound, Goes, Stops, StopsAs, Answers, Does, IsPast}
 
 pub on_ok : {A : Type 0} {P : Type 0} → (result : Result A Refusal) → P → OnOk result P
 on_ok (Ok u) p = p
@@ -52,7 +53,6 @@ pub still_sound : (names after : Texts) (held new : Held) → KeepsNumbers names
 still_sound names after held new keeps sound g p = record {
   room = subst (λ v. length v.items ≤ max_tokens) (sym g) sound.room;
   has_file = subst (λ q. q.file < length after) (sym p) (still_within names after held.presumed.file keeps sound.has_file);
-  low = subst (λ q. q.line ≤ q.from) (sym p) sound.low;
 }
 
 -- ---- #define and #undef
@@ -72,7 +72,7 @@ with_macros_goes names after held new s at r macros a e t b g p = record {
   goes_is = ap (with_macros s at) e;
 }
 
-with_macros_stops : (s : State) (at pos : Pos) (r : Result Macros Code) (c : Code) → r ≡ Err c → pos ≡ at → Stops c pos (with_macros s at r)
+with_macros_stops : (s : State) (at pos : Pos) (r : Result Macros Code) (c : Code) → r ≡ Err c → pos ≡ at → Stops c pos [] (with_macros s at r)
 with_macros_stops s at pos r c e p = record {
   given = s.given;
   stops_is = ap (with_macros s at) e ∙ ap (λ q. stops s.given (record { code = c; at = q; text = [] })) (sym p);
@@ -89,7 +89,7 @@ defines (Ok u) names after held new line at ok err b g p s a =
 defines (Err Memory) names after held new line at ok err b g p s a = tt
 defines (Err (At c pos)) names after held new line at ok err b g p s a =
     let e = err s.macros a.table_is in with_macros_stops s at pos (define s.macros line) c e.0 e.1
-defines (Err (Told c pos text)) names after held new line at ok err b g p s a = err s.macros a.table_is
+defines (Err (Told c pos text)) names after held new line at ok err b g p s a = absurd (err s.macros a.table_is)
 
 pub undefines : {A : Type 0} → (result : Result A Refusal) (names : Texts) (held new : Held) (name : Token) (at : Pos)
     → OnOk result (Undefines names held.table name new.table)
@@ -100,7 +100,7 @@ undefines (Ok u) names held new name at ok err b g p s a =
     let d = ok s.macros a.table_is in
     with_macros_goes names names held new s at (undefine s.macros name) d.after a d.undefined d.table_is b g p
 undefines (Err r) names held new name at ok err b g p s a =
-    subst (λ r. StopsAs r (with_macros s at (undefine s.macros name))) (sym err.refusal_is)
+    subst (λ r. StopsAs names r (with_macros s at (undefine s.macros name))) (sym err.refusal_is)
     (with_macros_stops s at at (undefine s.macros name) code.ReservedMacroName (err.undefined s.macros) refl)
 
 -- ---- the end of a run
@@ -120,13 +120,13 @@ run_is texts names xs tokens held s r a t e =
 pub run_fails : (refusal : Refusal) (texts names : Texts) (xs tokens : List Token) (held : Held) (left : ℕ) (s : State)
     → Agrees names held s → tokens ≡ placed (presumed_of held.presumed) xs
     → IsExpansion (Err refusal) held.budget left (expanded (record { macros = s.macros; texts = texts }) tokens of_run held.budget)
-    → StopsAs refusal (run_done texts xs s)
+    → StopsAs names refusal (run_done texts xs s)
 run_fails Memory texts names xs tokens held left s a t e = tt
 run_fails (At c pos) texts names xs tokens held left s a t e = record {
   given = s.given;
   stops_is = run_is texts names xs tokens held s (Err (record { code = c; at = pos })) a t e.0;
 }
-run_fails (Told c pos text) texts names xs tokens held left s a t e = e
+run_fails (Told c pos text) texts names xs tokens held left s a t e = absurd e
 
 pub run_goes : {A : Type 0} → (result : Result A Refusal) (texts names : Texts) (xs tokens : List Token) (list : Vec Token Global) (held new : Held) (s : State)
     → Agrees names held s → tokens ≡ placed (presumed_of held.presumed) xs
@@ -159,14 +159,14 @@ run_goes (Err (At c at)) texts names xs tokens list held new s a t e table p wit
           ∙ ap (λ k. stops s.given (record { code = k; at = err.0.pos; text = [] })) (sym err.2)
           ∙ ap (λ q. stops s.given (record { code = c; at = q; text = [] })) (sym err.3);
     }
-run_goes (Err (Told c at text)) texts names xs tokens list held new s a t e table p within ok err = err
+run_goes (Err (Told c at text)) texts names xs tokens list held new s a t e table p within ok err = absurd err
 
 -- ---- directives
 
-if_true : {A : Type 0} (b : Bool) (u v : A) → b ≡ true → (if b then u else v) ≡ u
+pub if_true : {A : Type 0} (b : Bool) (u v : A) → b ≡ true → (if b then u else v) ≡ u
 if_true b u v e = ap (λ c. if c then u else v) e
 
-if_false : {A : Type 0} (b : Bool) (u v : A) → b ≡ false → (if b then u else v) ≡ v
+pub if_false : {A : Type 0} (b : Bool) (u v : A) → b ≡ false → (if b then u else v) ≡ v
 if_false b u v e = ap (λ c. if c then u else v) e
 
 -- what a line of two tokens and more is
@@ -178,75 +178,6 @@ two_items (a ∷ b ∷ ts) h x n p q = ap (λ k. k ∷ b ∷ ts) (sym p) ∙ ap 
 rest_whole : (ts : List Token) → take (length ts - 2) (drop 2 ts) ≡ drop 2 ts
 rest_whole ts = take_all (length ts - 2) (drop 2 ts) (omega (arith, length-drop 2 ts))
 
-today_name : (ts rest : List Token) (h x : Token) → ts ≡ h ∷ x ∷ rest → is_today_line ts ≡ true → is_directive ts ≡ true → is_today_name x ≡ true
-today_name ts rest h x e today hash =
-    sym (if_true (is_hash h) (is_today_name x) true (sym (ap is_directive e) ∙ hash)) ∙ sym (ap is_today_line e) ∙ today
-
-by_name : (texts : Texts) (enter : Enter) (l : Line) (s : State) (rest : List Token) (h x : Token) → l.tokens ≡ h ∷ x ∷ rest → is_identifier x ≡ true
-    → directive_done texts enter l s ≡ named texts enter (record x { pos = presumed_at s x.pos }) (presume s rest) l.end (presumed_at s h.pos) s
-unfolding directive_done
-by_name texts enter l s rest h x e i =
-    ap (λ ts. directive_by texts enter (presume s ts) l.end s) e
-    ∙ if_true (is_identifier x) (named texts enter (record x { pos = presumed_at s x.pos }) (presume s rest) l.end (presumed_at s h.pos) s) (fails s code.BadDirective (presumed_at s h.pos)) i
-
-named_by : Texts → Enter → List ℕ → List Token → ℕ → Pos → State → Outcome State
-named_by texts enter name xs end at s =
-    if bytes_eq name (codes "define") then with_macros s at (define s.macros xs)
-    else if bytes_eq name (codes "undef") then undefined s at xs
-    else if bytes_eq name (codes "include") then include_done texts enter at xs s
-    else if bytes_eq name (codes "line") then line_done texts end at xs s
-    else if bytes_eq name (codes "error") then stops s.given (record { code = code.ErrorDirective; at = at; text = error_text xs })
-    else if bytes_eq name (codes "pragma") then goes s
-    else fails s code.BadDirective at
-
-by_text : (texts : Texts) (enter : Enter) (l : Line) (s : State) (rest : List Token) (h x : Token) (name : List ℕ)
-    → l.tokens ≡ h ∷ x ∷ rest → is_identifier x ≡ true → bytes_eq x.spelling name ≡ true
-    → directive_done texts enter l s ≡ named_by texts enter name (presume s rest) l.end (presumed_at s h.pos) s
-unfolding named_by
-by_text texts enter l s rest h x name e i b =
-    by_name texts enter l s rest h x e i ∙ ap (λ t. named_by texts enter t (presume s rest) l.end (presumed_at s h.pos) s) (same_text x.spelling name b)
-
--- the line is of today, and the place of its # is presumed to be this one
-pub record Reads (held : Held) (ts : List Token) (h x : Token) (at : Pos) : Type 0 where
-  pub long : 2 ≤ length ts
-  pub first : h ≡ slice_index_or ts 0 h
-  pub second : x ≡ slice_index_or ts 1 x
-  pub today : is_today_line ts ≡ true
-  pub hash : is_directive ts ≡ true
-  pub at_is : at ≡ presumed_by (presumed_of held.presumed) h.pos
-
-identified : (held : Held) (ts : List Token) (h x : Token) (at : Pos) → Reads held ts h x at → is_identifier x ≡ true
-identified held ts h x at reads =
-    and_left (is_identifier x) (is_spelled (codes "define") x || is_spelled (codes "undef") x || is_spelled (codes "pragma") x)
-    (today_name ts (drop 2 ts) h x (two_items ts h x reads.long reads.first reads.second) reads.today reads.hash)
-
-directive_as : (texts names : Texts) (enter : Enter) (l : Line) (held : Held) (s : State) (ts : List Token) (h x : Token) (at : Pos) (name : List ℕ)
-    → l.tokens ≡ ts → Reads held ts h x at → is_spelled name x ≡ true → Agrees names held s
-    → directive_done texts enter l s ≡ named_by texts enter name (presume s (drop 2 ts)) l.end at s
-directive_as texts names enter l held s ts h x at name e reads b a =
-    by_text texts enter l s (drop 2 ts) h x name (e ∙ two_items ts h x reads.long reads.first reads.second) (identified held ts h x at reads) b
-    ∙ ap (λ p. named_by texts enter name (presume s (drop 2 ts)) l.end p s) (ap (λ p. presumed_by p h.pos) a.presumed_is ∙ sym reads.at_is)
-
-pub does_define : {A : Type 0} → (result : Result A Refusal) (texts names after : Texts) (enter : Enter) (l : Line) (held new : Held) (ts : List Token) (h x : Token) (at : Pos)
-    → l.tokens ≡ ts → Reads held ts h x at → is_spelled (codes "define") x ≡ true
-    → Does result names held after new (λ s. with_macros s at (define s.macros (presume s (take (length ts - 2) (drop 2 ts)))))
-    → Does result names held after new (directive_done texts enter l)
-unfolding named_by
-does_define result texts names after enter l held new ts h x at e reads b does s a =
-    subst (Answers result after new)
-    (sym (directive_as texts names enter l held s ts h x at (codes "define") e reads b a ∙ ap (λ f. with_macros s at (define s.macros (presume s f))) (sym (rest_whole ts))))
-    (does s a)
-
-pub does_undef : {A : Type 0} → (result : Result A Refusal) (texts names after : Texts) (enter : Enter) (l : Line) (held new : Held) (ts : List Token) (h x : Token) (at : Pos)
-    → l.tokens ≡ ts → Reads held ts h x at → is_spelled (codes "undef") x ≡ true
-    → Does result names held after new (λ s. undefined s at (presume s (take (length ts - 2) (drop 2 ts))))
-    → Does result names held after new (directive_done texts enter l)
-unfolding named_by
-does_undef result texts names after enter l held new ts h x at e reads b does s a =
-    subst (Answers result after new)
-    (sym (directive_as texts names enter l held s ts h x at (codes "undef") e reads b a ∙ ap (λ f. undefined s at (presume s f)) (sym (rest_whole ts))))
-    (does s a)
-
 IsTruth : Bool → Type 0
 IsTruth true = Unit {0}
 IsTruth false = ⊥
@@ -255,35 +186,170 @@ pub true-false : true ≡ false → ⊥
 unfolding IsTruth
 true-false e = subst IsTruth e tt
 
-remaining : (a b c d : Bool) → (a && (b || c || d)) ≡ true → b ≡ false → c ≡ false → d ≡ true
-remaining a true c d e p q = absurd (true-false p)
-remaining a false true d e p q = absurd (true-false q)
-remaining true false false d e p q = e
-remaining false false false true e p q = refl
-remaining false false false false e p q = e
+-- a line of two tokens and more
+pub record Reads (held : Held) (ts : List Token) (h x : Token) (at : Pos) : Type 0 where
+  pub long : 2 ≤ length ts
+  pub first : h ≡ slice_index_or ts 0 h
+  pub second : x ≡ slice_index_or ts 1 x
+  pub at_is : at ≡ presumed_by (presumed_of held.presumed) h.pos
 
-pub does_pragma : (texts names : Texts) (enter : Enter) (l : Line) (held : Held) (ts : List Token) (h x : Token) (at : Pos) (s : State)
-    → l.tokens ≡ ts → Reads held ts h x at → is_spelled (codes "define") x ≡ false → is_spelled (codes "undef") x ≡ false
-    → Agrees names held s → Goes names held (directive_done texts enter l s)
-unfolding named_by
-does_pragma texts names enter l held ts h x at s e reads p q a =
-    let t = today_name ts (drop 2 ts) h x (two_items ts h x reads.long reads.first reads.second) reads.today reads.hash in
-    let b = remaining (is_identifier x) (is_spelled (codes "define") x) (is_spelled (codes "undef") x) (is_spelled (codes "pragma") x) t p q in
-    record { after = s; agrees = a; goes_is = directive_as texts names enter l held s ts h x at (codes "pragma") e reads b a }
+pub reads_line : (held : Held) (ts : List Token) (h x : Token) (at : Pos) → Reads held ts h x at → ts ≡ h ∷ x ∷ take (length ts - 2) (drop 2 ts)
+reads_line held ts h x at r = two_items ts h x r.long r.first r.second ∙ ap (λ l. h ∷ x ∷ l) (sym (rest_whole ts))
+
+not_true : (b : Bool) → not b ≡ true → b ≡ false
+not_true true e = sym e
+not_true false e = refl
+
+today_second : (a b c : Bool) → not (a && (b && c)) ≡ true → a ≡ true → b ≡ true → c ≡ false
+today_second true true c e ea eb = not_true c e
+today_second false b c e ea eb = absurd (true-false (sym ea))
+today_second true false c e ea eb = absurd (true-false (sym eb))
+
+-- a directive of today is no #include
+pub no_include : (held : Held) (ts : List Token) (h x : Token) (at : Pos) → Reads held ts h x at → is_today_line ts ≡ true → is_directive ts ≡ true → is_identifier x ≡ true
+    → is_spelled (codes "include") x ≡ false
+no_include held ts h x at r today hash i =
+    let e = reads_line held ts h x at r in
+    today_second (is_hash h) (is_identifier x) (is_spelled (codes "include") x) (sym (ap is_today_line e) ∙ today) (sym (ap is_directive e) ∙ hash) i
+
+directive_as : (texts names : Texts) (enter : Enter) (held : Held) (ts : List Token) (end : ℕ) (h x : Token) (at : Pos) (s : State) → Reads held ts h x at → Agrees names held s
+    → directive_done texts enter (line_with ts end) s
+    ≡ (if is_identifier x then named texts enter x (presume s (take (length ts - 2) (drop 2 ts))) end at s else fails s code.BadDirective at)
+unfolding directive_done
+directive_as texts names enter held ts end h x at s r a =
+    let e = ap (λ p. presumed_by p h.pos) a.presumed_is ∙ sym r.at_is in
+    let rest = take (length ts - 2) (drop 2 ts) in
+    ap (λ l. directive_by texts enter (presume s l) end s) (reads_line held ts h x at r)
+    ∙ ap (λ p. if is_identifier x then named texts enter x (presume s rest) end p s else fails s code.BadDirective p) e
+
+pub directive_named : {A : Type 0} → (result : Result A Refusal) (texts names after : Texts) (enter : Enter) (held new : Held) (ts : List Token) (end : ℕ) (h x : Token) (at : Pos)
+    → Reads held ts h x at → is_identifier x ≡ true
+    → Does result names held after new (λ s. named texts enter x (presume s (take (length ts - 2) (drop 2 ts))) end at s)
+    → Does result names held after new (directive_done texts enter (line_with ts end))
+directive_named result texts names after enter held new ts end h x at r i does s a =
+    subst (Answers result after new) (sym (directive_as texts names enter held ts end h x at s r a ∙ if_true (is_identifier x) (named texts enter x (presume s (take (length ts - 2) (drop 2 ts))) end at s) (fails s code.BadDirective at) i)) (does s a)
+
+pub directive_bad : (texts names : Texts) (enter : Enter) (held : Held) (ts : List Token) (end : ℕ) (h x : Token) (at : Pos) (s : State)
+    → Reads held ts h x at → is_identifier x ≡ false → Agrees names held s → Stops code.BadDirective at [] (directive_done texts enter (line_with ts end) s)
+directive_bad texts names enter held ts end h x at s r i a = record {
+  given = s.given;
+  stops_is = directive_as texts names enter held ts end h x at s r a ∙ if_false (is_identifier x) (named texts enter x (presume s (take (length ts - 2) (drop 2 ts))) end at s) (fails s code.BadDirective at) i;
+}
 
 alone : (texts : Texts) (enter : Enter) (ts : List Token) (end : ℕ) (s : State) → length ts < 2 → directive_by texts enter (presume s ts) end s ≡ goes s
 alone texts enter [] end s n = refl
 alone texts enter (h ∷ []) end s n = refl
 alone texts enter (h ∷ x ∷ ts) end s n = absurd (omega (arith, n))
 
-pub does_alone : (texts names : Texts) (enter : Enter) (l : Line) (held : Held) (ts : List Token) (s : State)
-    → l.tokens ≡ ts → length ts < 2 → Agrees names held s → Goes names held (directive_done texts enter l s)
+pub does_alone : (texts names : Texts) (enter : Enter) (held : Held) (ts : List Token) (end : ℕ) (s : State)
+    → length ts < 2 → Agrees names held s → Goes names held (directive_done texts enter (line_with ts end) s)
 unfolding directive_done
-does_alone texts names enter l held ts s e n a = record {
+does_alone texts names enter held ts end s n a = record { after = s; agrees = a; goes_is = alone texts enter ts end s n }
+
+-- ---- directives by their names
+
+-- the names that come before this one are not it
+named_else : (texts : Texts) (enter : Enter) (x : Token) (xs : List Token) (end : ℕ) (at : Pos) (s : State) → is_spelled (codes "define") x ≡ false → is_spelled (codes "undef") x ≡ false → is_spelled (codes "include") x ≡ false
+    → named texts enter x xs end at s
+    ≡ (if is_spelled (codes "line") x then line_done texts end at xs s
+    else if is_spelled (codes "error") x then stops s.given (error_fault at xs)
+    else if is_spelled (codes "pragma") x then goes s
+    else fails s code.BadDirective at)
+named_else texts enter x xs end at s d u i =
+    let l = if is_spelled (codes "line") x then line_done texts end at xs s
+    else if is_spelled (codes "error") x then stops s.given (error_fault at xs)
+    else if is_spelled (codes "pragma") x then goes s
+    else fails s code.BadDirective at in
+    let k = if is_spelled (codes "include") x then include_done texts enter at xs s else l in
+    let j = if is_spelled (codes "undef") x then undefined s at xs else k in
+    if_false (is_spelled (codes "define") x) (with_macros s at (define s.macros xs)) j d
+    ∙ if_false (is_spelled (codes "undef") x) (undefined s at xs) k u
+    ∙ if_false (is_spelled (codes "include") x) (include_done texts enter at xs s) l i
+
+after_define : Texts → Enter → Token → List Token → ℕ → Pos → State → Outcome State
+after_define texts enter x xs end at s =
+    if is_spelled (codes "undef") x then undefined s at xs
+    else if is_spelled (codes "include") x then include_done texts enter at xs s
+    else if is_spelled (codes "line") x then line_done texts end at xs s
+    else if is_spelled (codes "error") x then stops s.given (error_fault at xs)
+    else if is_spelled (codes "pragma") x then goes s
+    else fails s code.BadDirective at
+
+after_undef : Texts → Enter → Token → List Token → ℕ → Pos → State → Outcome State
+after_undef texts enter x xs end at s =
+    if is_spelled (codes "include") x then include_done texts enter at xs s
+    else if is_spelled (codes "line") x then line_done texts end at xs s
+    else if is_spelled (codes "error") x then stops s.given (error_fault at xs)
+    else if is_spelled (codes "pragma") x then goes s
+    else fails s code.BadDirective at
+
+after_line : Token → List Token → Pos → State → Outcome State
+after_line x xs at s =
+    if is_spelled (codes "error") x then stops s.given (error_fault at xs)
+    else if is_spelled (codes "pragma") x then goes s
+    else fails s code.BadDirective at
+
+after_error : Token → Pos → State → Outcome State
+after_error x at s = if is_spelled (codes "pragma") x then goes s else fails s code.BadDirective at
+
+pub named_define : (texts : Texts) (enter : Enter) (x : Token) (xs : List Token) (end : ℕ) (at : Pos) (s : State) → is_spelled (codes "define") x ≡ true
+    → named texts enter x xs end at s ≡ with_macros s at (define s.macros xs)
+unfolding after_define
+named_define texts enter x xs end at s d = if_true (is_spelled (codes "define") x) (with_macros s at (define s.macros xs)) (after_define texts enter x xs end at s) d
+
+pub named_undef : (texts : Texts) (enter : Enter) (x : Token) (xs : List Token) (end : ℕ) (at : Pos) (s : State) → is_spelled (codes "define") x ≡ false → is_spelled (codes "undef") x ≡ true
+    → named texts enter x xs end at s ≡ undefined s at xs
+unfolding after_define after_undef
+named_undef texts enter x xs end at s d u =
+    if_false (is_spelled (codes "define") x) (with_macros s at (define s.macros xs)) (after_define texts enter x xs end at s) d
+    ∙ if_true (is_spelled (codes "undef") x) (undefined s at xs) (after_undef texts enter x xs end at s) u
+
+pub named_line : (texts : Texts) (enter : Enter) (x : Token) (xs : List Token) (end : ℕ) (at : Pos) (s : State) → is_spelled (codes "define") x ≡ false → is_spelled (codes "undef") x ≡ false → is_spelled (codes "include") x ≡ false
+    → is_spelled (codes "line") x ≡ true → named texts enter x xs end at s ≡ line_done texts end at xs s
+unfolding after_line
+named_line texts enter x xs end at s d u i l =
+    named_else texts enter x xs end at s d u i ∙ if_true (is_spelled (codes "line") x) (line_done texts end at xs s) (after_line x xs at s) l
+
+pub named_error : (texts : Texts) (enter : Enter) (x : Token) (xs : List Token) (end : ℕ) (at : Pos) (s : State) → is_spelled (codes "define") x ≡ false → is_spelled (codes "undef") x ≡ false → is_spelled (codes "include") x ≡ false
+    → is_spelled (codes "line") x ≡ false → is_spelled (codes "error") x ≡ true → named texts enter x xs end at s ≡ stops s.given (error_fault at xs)
+unfolding after_line after_error
+named_error texts enter x xs end at s d u i l e =
+    named_else texts enter x xs end at s d u i ∙ if_false (is_spelled (codes "line") x) (line_done texts end at xs s) (after_line x xs at s) l
+    ∙ if_true (is_spelled (codes "error") x) (stops s.given (error_fault at xs)) (after_error x at s) e
+
+named_last : (texts : Texts) (enter : Enter) (x : Token) (xs : List Token) (end : ℕ) (at : Pos) (s : State) → is_spelled (codes "define") x ≡ false → is_spelled (codes "undef") x ≡ false → is_spelled (codes "include") x ≡ false
+    → is_spelled (codes "line") x ≡ false → is_spelled (codes "error") x ≡ false → named texts enter x xs end at s ≡ after_error x at s
+unfolding after_line after_error
+named_last texts enter x xs end at s d u i l e =
+    named_else texts enter x xs end at s d u i ∙ if_false (is_spelled (codes "line") x) (line_done texts end at xs s) (after_line x xs at s) l
+    ∙ if_false (is_spelled (codes "error") x) (stops s.given (error_fault at xs)) (after_error x at s) e
+
+pub named_pragma : (texts names : Texts) (held : Held) (enter : Enter) (x : Token) (xs : List Token) (end : ℕ) (at : Pos) (s : State) → is_spelled (codes "define") x ≡ false → is_spelled (codes "undef") x ≡ false → is_spelled (codes "include") x ≡ false
+    → is_spelled (codes "line") x ≡ false → is_spelled (codes "error") x ≡ false → is_spelled (codes "pragma") x ≡ true → Agrees names held s
+    → Goes names held (named texts enter x xs end at s)
+unfolding after_error
+named_pragma texts names held enter x xs end at s d u i l e p a = record {
   after = s;
   agrees = a;
-  goes_is = ap (λ k. directive_by texts enter (presume s k) l.end s) e ∙ alone texts enter ts l.end s n;
+  goes_is = named_last texts enter x xs end at s d u i l e ∙ if_true (is_spelled (codes "pragma") x) (goes s) (fails s code.BadDirective at) p;
 }
+
+pub named_bad : (texts : Texts) (enter : Enter) (x : Token) (xs : List Token) (end : ℕ) (at : Pos) (s : State) → is_spelled (codes "define") x ≡ false → is_spelled (codes "undef") x ≡ false → is_spelled (codes "include") x ≡ false
+    → is_spelled (codes "line") x ≡ false → is_spelled (codes "error") x ≡ false → is_spelled (codes "pragma") x ≡ false
+    → Stops code.BadDirective at [] (named texts enter x xs end at s)
+unfolding after_error
+named_bad texts enter x xs end at s d u i l e p = record {
+  given = s.given;
+  stops_is = named_last texts enter x xs end at s d u i l e ∙ if_false (is_spelled (codes "pragma") x) (goes s) (fails s code.BadDirective at) p;
+}
+
+-- the text of an #error does not depend on places
+placed_text : (p : Presumed) (xs : List Token) → flat_map spaced_out (placed p xs) ≡ flat_map spaced_out xs
+placed_text p [] = refl
+placed_text p (x ∷ xs) = ap (λ l. spaced_out x ++ l) (placed_text p xs)
+
+pub error_placed : (at : Pos) (p : Presumed) (xs : List Token) → error_fault at (placed p xs) ≡ error_fault at xs
+error_placed at p xs = ap (λ l. record { code = code.ErrorDirective; at = at; text = take 200 (map printable l) }) (placed_text p xs)
 
 -- ---- the operand of #undef
 
@@ -299,3 +365,43 @@ does_undefine result names after held new ts x at s n m p i answers =
     subst (Answers result after new)
     (sym (ap (λ k. undefined s at (presume s k)) (one_item ts x n m p) ∙ if_true (is_identifier x) (with_macros s at (undefine s.macros x)) (fails s code.BadDirective at) i))
     answers
+
+-- ---- the tokens of a directive
+
+expand_is : (texts names : Texts) (xs : List Token) (held : Held) (s : State) (r : Result (List Token × ℕ) expansion.Fault)
+    → Agrees names held s → expanded (record { macros = s.macros; texts = texts }) xs of_directive held.budget ≡ r
+    → expand texts xs of_directive s ≡ of_expansion s r
+expand_is texts names xs held s r a e =
+    let known : Known = record { macros = s.macros; texts = texts } in
+    ap (λ r. of_expansion s r) (ap (λ n. expanded known xs of_directive n) a.left_is ∙ e)
+
+pub expand_gives : (texts names : Texts) (xs : List Token) (list : Vec Token Global) (held new : Held) (s : State)
+    → Agrees names held s → expanded (record { macros = s.macros; texts = texts }) xs of_directive held.budget ≡ Ok (list.items, new.budget)
+    → new.table ≡ held.table → new.given ≡ held.given → new.presumed ≡ held.presumed
+    → Gives list.items names new (expand texts xs of_directive s)
+expand_gives texts names xs list held new s a e t g p = record {
+  after = record s { left = new.budget };
+  agrees = record {
+    table_is = subst (λ n. IsTable names n s.macros) (sym t) a.table_is;
+    left_is = refl;
+    given_is = a.given_is ∙ ap (λ v. v.items) (sym g);
+    presumed_is = a.presumed_is ∙ ap presumed_of (sym p);
+  };
+  gives_is = expand_is texts names xs held s (Ok (list.items, new.budget)) a e;
+}
+
+pub expand_stops : (refusal : Refusal) (texts names : Texts) (xs : List Token) (held : Held) (left : ℕ) (s : State)
+    → Agrees names held s → IsExpansion (Err refusal) held.budget left (expanded (record { macros = s.macros; texts = texts }) xs of_directive held.budget)
+    → StopsAs names refusal (expand texts xs of_directive s)
+expand_stops Memory texts names xs held left s a e = tt
+expand_stops (At c pos) texts names xs held left s a e = record {
+  given = s.given;
+  stops_is = expand_is texts names xs held s (Err (record { code = c; at = pos })) a e.0;
+}
+expand_stops (Told c pos text) texts names xs held left s a e = absurd e
+
+pub error_is : (texts : Texts) (names : Texts) (r : Refusal) (enter : Enter) (x : Token) (raw : List Token) (end : ℕ) (at : Pos) (s : State) → is_spelled (codes "define") x ≡ false → is_spelled (codes "undef") x ≡ false → is_spelled (codes "include") x ≡ false
+    → is_spelled (codes "line") x ≡ false → is_spelled (codes "error") x ≡ true
+    → StopsAs names r (error_done at raw s) → StopsAs names r (named texts enter x (presume s raw) end at s)
+error_is texts names r enter x raw end at s d u i l e st =
+    subst (StopsAs names r) (sym (named_error texts enter x (presume s raw) end at s d u i l e ∙ ap (λ f. stops s.given f) (error_placed at s.presumed raw))) st

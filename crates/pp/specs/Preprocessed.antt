@@ -7,7 +7,7 @@ use Rattle.srcset.specs.declared.code.Code.{Code}
 use Rattle.srcset.specs.declared.code.Code.TheVariants as code
 use Rattle.srcset.specs.declared.fault.Fault.{Fault}
 use Rattle.srcset.specs.Files.{Files}
-use Rattle.srcset.specs.NameTable.{Texts, KeepsNumbers}
+use Rattle.srcset.specs.NameTable.{Texts, KeepsNumbers, shown_text}
 use Rattle.srcset.specs.Refusal.{IsFaultOfRefusal}
 use Rattle.phases.specs.Token.{Token}
 use Rattle.pp.specs.Phase4.{phase4, number_in}
@@ -24,16 +24,16 @@ pub record IsNotBuilt (files : Files) (texts : Texts) (main : List ℕ) (c : Cod
   pub code_is : c ≡ code.NotBuiltYet
   pub at_is : at ≡ record { file = number_in texts main; line = 1 }
 
--- phase 4 ends with this fault, which adds no text
-pub record IsStopped (files : Files) (texts : Texts) (main : List ℕ) (c : Code) (at : Pos) : Type 0 where
+-- phase 4 ends with this fault, which adds this text
+pub record IsStopped (files : Files) (texts : Texts) (main : List ℕ) (c : Code) (at : Pos) (text : List ℕ) : Type 0 where
   pub today : is_today files texts main ≡ true
-  pub stops : (phase4 files texts main).fault ≡ Some (record { code = c; at = at; text = [] })
+  pub stops : (phase4 files texts main).fault ≡ Some (record { code = c; at = at; text = text })
 
 -- why there are no tokens
 abbrev pub IsRefused : Files → Texts → List ℕ → Refusal → Type 0
 IsRefused files texts main Memory = Unit {0}
-IsRefused files texts main (At c at) = IsNotBuilt files texts main c at ⊎ IsStopped files texts main c at
-IsRefused files texts main (Told c at text) = ⊥
+IsRefused files texts main (At c at) = IsNotBuilt files texts main c at ⊎ IsStopped files texts main c at []
+IsRefused files texts main (Told c at text) = IsStopped files texts main c at (shown_text texts text)
 
 -- The fault of that refusal, whose file's name these texts give. Later tables have the same numbers.
 pub record IsPreprocessFault (fault : Fault) (files : Files) (names : Texts) (main : List ℕ) : Type 0 where

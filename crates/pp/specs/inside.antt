@@ -1,2 +1,3 @@
 pub mod Pending
+pub mod Rest
 pub mod Stepping

@@ -1,64 +1,224 @@
 //! The lines of a file, one after another.
-ghost use Rattle.std.specs.Prelude.{◌≡◌, List, true, OnOk};
+ghost use Rattle.std.specs.Prelude.{◌≡◌, ℕ, List, true, drop, OnOk};
 ghost use Rattle.std.specs.List.{list_all};
-ghost use Rattle.srcset.specs.NameTable.{KeepsNumbers};
+ghost use Rattle.srcset.specs.NameTable.{Texts, KeepsNumbers};
+ghost use Rattle.srcset.specs.declared.refusal.Refusal.TheVariants.{At};
+ghost use Rattle.srcset.specs.declared.code.Code.TheVariants.{UnbalancedConditional};
 ghost use Rattle.pp_expand.specs.Expands.{HaveFiles};
-ghost use Rattle.pp.specs.Lines.{Line};
-ghost use Rattle.pp.specs.Groups.{Group};
+ghost use Rattle.pp.specs.Lines.{first_end, lines_with};
+ghost use Rattle.pp.specs.Groups.{Parsed, Group, ends, opens, divides, closes, stands_alone, role_of, to_end, with_line, groups};
 ghost use Rattle.pp.specs.Phase4.{State as Done, Outcome, Around, group_done};
 ghost use Rattle.pp.specs.Today.{is_today_line};
-ghost use Rattle.pp.specs.inside.Pending.{is_directive as begins_directive, plain_line, plain_group, tokens_of};
-ghost use Rattle.pp.specs.inside.Stepping.{IsSound, Does, Stands, StandsOrStops, nowhere};
+ghost use Rattle.pp.specs.inside.Rest.{nowhere, is_active, rest_done};
+ghost use Rattle.pp.specs.inside.Stepping.{line_with, role_meant, IsSound, Agrees, Does, Answers, RestsOrStops, Stands, StandsOrStops};
 
+use crate::conditionals::{BranchState, Conditionals, Open};
+use crate::conditions::{check_end, next_branch};
+use crate::ends::LineEnds;
 use crate::run::Run;
 use crate::state::State;
-use crate::words::is_directive;
+use crate::words::{Role, is_else, place_of, role_of};
 use phases::{Lines, PpToken};
-use srcset::{Names, Refusal};
+use srcset::{Code, Names, Pos, Refusal};
 use std::alloc::Global;
 
-// Text goes to the run; a directive ends it, and is done.
-fn line_done<'a>(
+/// What is held of a file while its lines are done: the run and the conditionals that are open, and where its lines end.
+#[derive(Drop)]
+pub struct OpenFile<'a> {
+    pub run: Run<'a>,
+    pub conditionals: Conditionals,
+    pub ends: LineEnds<'a>,
+}
+
+fn unbalanced(at: Pos) -> Refusal
+    ensures { result ≡ At UnbalancedConditional at }
+{
+    Refusal::At {
+        code: Code::UnbalancedConditional,
+        pos: at,
+    }
+}
+
+// A conditional opens, unless it is one too many.
+fn opens<'a>(
     alloc: Global,
     line: &[PpToken<'a>],
-    run: &mut Run<'a>,
+    conditionals: &mut Conditionals,
+    state: &mut State<'a>,
+    names: &Names,
+) -> Result<(), Refusal>
+    requires sound { IsSound names.now state.old }
+    requires role { role_of line.now ≡ opens }
+    ensures rests { (around : Around) (end : ℕ) (p : Parsed) (s : Done) → KeepsNumbers names.now around.texts → Agrees names.now state.old s → RestsOrStops result names.now state.new around conditionals.new p (rest_done around conditionals.old (with_line opens (line_with line.now end) p) s) }
+    ensures sound { OnOk result (IsSound names.now state.new) }
+{
+    let at = state.presumed.place(place_of(line))?;
+    if conditionals.is_full() {
+        return Err(Refusal::At {
+            code: Code::NestingLimit,
+            pos: at,
+        });
+    }
+    let branch = next_branch(state, alloc, line, conditionals.opening(), names)?;
+    conditionals.push(Open {
+        at,
+        branch,
+        behind_else: is_else(line),
+    })
+}
+
+// A further branch of the innermost conditional, which has to be there, without an `#else` so far.
+fn divides<'a>(
+    alloc: Global,
+    line: &[PpToken<'a>],
+    conditionals: &mut Conditionals,
+    state: &mut State<'a>,
+    names: &Names,
+) -> Result<(), Refusal>
+    requires sound { IsSound names.now state.old }
+    requires role { role_of line.now ≡ divides }
+    ensures rests { (around : Around) (end : ℕ) (p : Parsed) (s : Done) → KeepsNumbers names.now around.texts → Agrees names.now state.old s → RestsOrStops result names.now state.new around conditionals.new p (rest_done around conditionals.old (with_line divides (line_with line.now end) p) s) }
+    ensures sound { OnOk result (IsSound names.now state.new) }
+{
+    let at = state.presumed.place(place_of(line))?;
+    let Some(innermost) = conditionals.pop() else {
+        return Err(unbalanced(at));
+    };
+    if innermost.behind_else {
+        return Err(unbalanced(at));
+    }
+    let branch = next_branch(state, alloc, line, innermost.branch, names)?;
+    conditionals.push(Open {
+        at: innermost.at,
+        branch,
+        behind_else: is_else(line),
+    })
+}
+
+// The innermost conditional closes, which has to be there.
+fn closes<'a>(
+    line: &[PpToken<'a>],
+    conditionals: &mut Conditionals,
+    state: &State<'a>,
+) -> Result<(), Refusal>
+    requires role { role_of line.now ≡ closes }
+    ensures rests { (names : Texts) (around : Around) (end : ℕ) (p : Parsed) (s : Done) → Agrees names state.now s → RestsOrStops result names state.now around conditionals.new p (rest_done around conditionals.old (with_line closes (line_with line.now end) p) s) }
+{
+    let at = state.presumed.place(place_of(line))?;
+    let Some(innermost) = conditionals.pop() else {
+        return Err(unbalanced(at));
+    };
+    match innermost.branch {
+        BranchState::Skipped => Ok(()),
+        BranchState::Waiting => check_end(state, line),
+        BranchState::Taken => check_end(state, line),
+        BranchState::Past => check_end(state, line),
+    }
+}
+
+// A directive, behind the end of a run.
+fn directive_done<'a>(
+    alloc: Global,
+    line: &[PpToken<'a>],
+    index: usize,
+    role: Role,
+    file: &mut OpenFile<'a>,
     state: &mut State<'a>,
     names: &mut Names,
 ) -> Result<(), Refusal>
     requires sound { IsSound names.old state.old }
-    requires files { HaveFiles names.old run.old.tokens.items }
     requires today { is_today_line line.now ≡ true }
-    ensures stands { (around : Around) (l : Line) (g : Group) (o : Outcome Done) → KeepsNumbers names.new around.texts → l.tokens ≡ line.now → Stands names.old state.old run.old around (plain_line (begins_directive l.tokens) l g) o → StandsOrStops result names.new state.new run.new around g o }
+    requires role { role_of line.now ≡ role_meant role }
+    ensures rests { (around : Around) (p : Parsed) (s : Done) → KeepsNumbers names.new around.texts → Agrees names.old state.old s → RestsOrStops result names.new state.new around file.new.conditionals p (rest_done around file.old.conditionals (with_line (role_meant role) (line_with line.now (first_end (drop index file.old.ends))) p) s) }
     ensures sound { OnOk result (IsSound names.new state.new) }
-    ensures files { OnOk result (HaveFiles names.new run.new.tokens.items) }
     ensures keeps { KeepsNumbers names.old names.new }
+    ensures run { file.new.run ≡ file.old.run }
+    ensures ends { file.new.ends ≡ file.old.ends }
 {
-    if !is_directive(line) {
-        return run.put_line(alloc, line, state.presumed);
+    match role {
+        Role::Opens => opens(alloc, line, &mut file.conditionals, state, names),
+        Role::Divides => divides(alloc, line, &mut file.conditionals, state, names),
+        Role::Closes => closes(line, &mut file.conditionals, state),
+        Role::StandsAlone => {
+            if !file.conditionals.is_active() {
+                return Ok(());
+            }
+            state.directive(alloc, line, index, &mut file.ends, names)
+        }
     }
-    state.end_run(alloc, run, names)?;
-    state.directive(alloc, line, names)
 }
 
-/// Does all lines of a file, none of which is part of a conditional section.
+// Text goes to the run, unless it is skipped; a directive ends the run, and is done.
+fn line_done<'a>(
+    alloc: Global,
+    line: &[PpToken<'a>],
+    index: usize,
+    file: &mut OpenFile<'a>,
+    state: &mut State<'a>,
+    names: &mut Names,
+) -> Result<(), Refusal>
+    requires sound { IsSound names.old state.old }
+    requires files { HaveFiles names.old file.old.run.tokens.items }
+    requires today { is_today_line line.now ≡ true }
+    ensures stands { (around : Around) (p : Parsed) (o : Outcome Done) → KeepsNumbers names.new around.texts → Stands names.old state.old file.old.run around file.old.conditionals (with_line (role_of line.now) (line_with line.now (first_end (drop index file.old.ends))) p) o → StandsOrStops result names.new state.new file.new.run around file.new.conditionals p o }
+    ensures sound { OnOk result (IsSound names.new state.new) }
+    ensures files { OnOk result (HaveFiles names.new file.new.run.tokens.items) }
+    ensures keeps { KeepsNumbers names.old names.new }
+    ensures ends { file.new.ends ≡ file.old.ends }
+{
+    let Some(role) = role_of(line) else {
+        if !file.conditionals.is_active() {
+            return Ok(());
+        }
+        return file.run.put_line(alloc, line, state.presumed);
+    };
+    state.end_run(alloc, &mut file.run, names)?;
+    directive_done(alloc, line, index, role, file, state, names)
+}
+
+// The end of a file: no conditional may be open.
+fn end_done<'a>(
+    alloc: Global,
+    file: &mut OpenFile<'a>,
+    state: &mut State<'a>,
+    names: &Names,
+) -> Result<(), Refusal>
+    requires sound { IsSound names.now state.old }
+    requires files { HaveFiles names.now file.old.run.tokens.items }
+    ensures answers { (around : Around) (o : Outcome Done) → KeepsNumbers names.now around.texts → Stands names.now state.old file.old.run around file.old.conditionals (to_end ends) o → Answers result names.now state.new o }
+    ensures sound { OnOk result (IsSound names.now state.new) }
+{
+    state.end_run(alloc, &mut file.run, names)?;
+    match file.conditionals.innermost() {
+        None => Ok(()),
+        Some(open) => Err(unbalanced(open.at)),
+    }
+}
+
+/// Does all lines of a file with these bytes.
 pub fn file_done<'a>(
     alloc: Global,
     lines: &Lines<'a>,
+    ends: LineEnds<'a>,
     state: &mut State<'a>,
     names: &mut Names,
 ) -> Result<(), Refusal>
     requires sound { IsSound names.old state.old }
     requires today { list_all is_today_line lines.now ≡ true }
-    ensures does { (around : Around) (ls : List Line) → KeepsNumbers names.new around.texts → tokens_of ls ≡ lines.now → Does result names.old state.old names.new state.new (group_done around nowhere 0 (plain_group ls)) }
+    ensures does { (around : Around) → KeepsNumbers names.new around.texts → Does result names.old state.old names.new state.new (group_done around nowhere 0 (groups (lines_with lines.now ends.entry))) }
     ensures sound { OnOk result (IsSound names.new state.new) }
     ensures keeps { KeepsNumbers names.old names.new }
 {
-    let mut run = Run::new(alloc);
+    let mut file = OpenFile {
+        run: Run::new(alloc),
+        conditionals: Conditionals::new(alloc),
+        ends,
+    };
     for index in 0..lines.len() {
         let Some(line) = lines.get(index) else {
             unreachable!();
         };
-        line_done(alloc, line, &mut run, state, names)?;
+        line_done(alloc, line, index, &mut file, state, names)?;
     }
-    state.end_run(alloc, &mut run, names)
+    end_done(alloc, &mut file, state, names)
 }

@@ -2,7 +2,12 @@
 //! alone, `#define`, `#undef` and `#pragma`.
 #![tactic(auto)]
 
+mod conditionals;
+mod conditions;
+mod ends;
+mod error_directive;
 mod file;
+mod line_directive;
 mod places;
 mod preprocessing;
 mod printing;

@@ -3,6 +3,7 @@ ghost use Rattle.std.specs.Prelude.{◌≡◌, IfOk, IfErr};
 ghost use Rattle.srcset.specs.NameTable.{Texts, KeepsNumbers};
 ghost use Rattle.pp.specs.Preprocessed.{IsDone, IsRefused, IsPreprocessFault};
 
+use crate::ends::LineEnds;
 use crate::file::file_done;
 use crate::state::State;
 use crate::words::are_today_lines;
@@ -15,8 +16,8 @@ use std::alloc::Global;
 ///
 /// Refused with the fault in which phase 4 ends: 103 at line 0 where the set has no file of that name; the fault
 /// of its phases 1 to 3; those of the directives and of the replacement of macros; 708 at the first token past
-/// 1,048,576. Where a line of the file is neither text nor a `#` alone nor `#define`, `#undef` or `#pragma`, it is refused
-/// with 699 at line 1 in place of those of phase 4. `Memory` where memory runs out.
+/// 1,048,576. Where a line of the file is an `#include`, it is refused with 699 at line 1 in place of those of phase 4.
+/// `Memory` where memory runs out.
 pub fn try_preprocess<'a>(
     alloc: Global,
     set: &'a FileSet,
@@ -46,7 +47,7 @@ pub fn try_preprocess<'a>(
         });
     }
     let mut state = State::new(alloc, file);
-    file_done(alloc, &lines, &mut state, names)?;
+    file_done(alloc, &lines, LineEnds::new(bytes), &mut state, names)?;
     Ok(state.given)
 }
 

@@ -1,5 +1,5 @@
 //! Text lines with no directive between.
-ghost use Rattle.std.specs.Prelude.{◌≡◌, ◌≤◌, ◌++◌, true, false, [], IfErr, OnOk};
+ghost use Rattle.std.specs.Prelude.{◌≡◌, ◌++◌, true, false, [], IfErr, OnOk};
 ghost use Rattle.srcset.specs.declared.refusal.Refusal.TheVariants.{Memory};
 ghost use Rattle.pp.specs.inside.Stepping.{presumed_of, placed, behind_line};
 
@@ -35,7 +35,6 @@ impl<'a> Run<'a> {
         line: &[PpToken<'a>],
         presumed: Presumed,
     ) -> Result<(), Refusal>
-        requires { presumed.line ≤ presumed.from }
         ensures begun { self.new.begun ≡ true }
         ensures ok { OnOk result (self.new.tokens.items ≡ self.old.tokens.items ++ placed (presumed_of presumed) (behind_line self.old.begun line.now)) }
         ensures err { IfErr result (λ refusal. refusal ≡ Memory) }
@@ -45,7 +44,7 @@ impl<'a> Run<'a> {
         let [first, further @ ..] = line else {
             return Ok(());
         };
-        let pos = presumed.place(first.pos());
+        let pos = presumed.place(first.pos())?;
         let space_before = later || first.space_before();
         self.tokens.push(first.copy_at(alloc, space_before, pos)?)?;
         presumed.put(alloc, further, &mut self.tokens)

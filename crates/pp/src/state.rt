@@ -1,15 +1,22 @@
 //! What phase 4 has done so far, and what ends of runs and directives do to it.
-ghost use Rattle.std.specs.Prelude.{◌≡◌, ◌≤◌, ◌<◌, ◌++◌, ℕ, List, true, false, [], length, slice_get, Some, None, IfErr, OnOk};
+ghost use Rattle.std.specs.Prelude.{◌≡◌, ◌≤◌, ◌<◌, ◌++◌, ℕ, List, true, false, [], length, drop, codes, slice_get, Some, None, IfOk, IfErr, OnOk};
 ghost use Rattle.srcset.specs.NameTable.{Texts, KeepsNumbers};
+ghost use Rattle.srcset.specs.declared.refusal.Refusal.TheVariants.{At};
+ghost use Rattle.srcset.specs.declared.code.Code.TheVariants.{BadDirective};
 ghost use Rattle.phases.specs.Token.{Token};
+ghost use Rattle.macros.specs.Macro.{is_spelled};
 ghost use Rattle.macros.specs.Definition.{define};
+ghost use Rattle.pp_expand.specs.Expansion.{of_directive};
 ghost use Rattle.pp_expand.specs.Expands.{HaveFiles};
-ghost use Rattle.pp.specs.Lines.{Line};
-ghost use Rattle.pp.specs.Phase4.{Enter, start, presume, with_macros, undefined, run_done, directive_done, max_tokens};
+ghost use Rattle.pp.specs.Lines.{first_end};
+ghost use Rattle.pp.specs.Phase4.{State as Done, Enter, start, expand, presume, with_macros, undefined, run_done, named, directive_done, max_tokens};
 ghost use Rattle.pp.specs.Today.{is_today_line};
 ghost use Rattle.pp.specs.inside.Pending.{is_directive, run_ended};
-ghost use Rattle.pp.specs.inside.Stepping.{presumed_of, placed, Agrees, IsSound, Does, IsPast};
+ghost use Rattle.pp.specs.inside.Stepping.{presumed_of, placed, line_with, Agrees, IsSound, Gives, StopsAs, Does, IsPast};
 
+use crate::ends::LineEnds;
+use crate::error_directive::refusal_of;
+use crate::line_directive::line_done;
 use crate::places::Presumed;
 use crate::run::Run;
 use crate::words::is_spelled;
@@ -52,6 +59,16 @@ fn give<'a>(given: &mut Vec<PpToken<'a>>, mut run: Vec<PpToken<'a>>) -> Result<(
     Ok(())
 }
 
+/// Behind the name of a directive stand tokens that it does not take, or there is no such directive.
+pub fn bad_directive(at: Pos) -> Refusal
+    ensures { result ≡ At BadDirective at }
+{
+    Refusal::At {
+        code: Code::BadDirective,
+        pos: at,
+    }
+}
+
 impl<'a> State<'a> {
     /// Nothing was done, and places are presumed to be the physical ones of this file.
     pub fn new(alloc: Global, file: usize) -> State<'a>
@@ -63,7 +80,7 @@ impl<'a> State<'a> {
             budget: Budget::new(MAX_REPLACEMENTS),
             given: Vec::new(alloc),
             presumed: Presumed {
-                from: 1,
+                behind: 0,
                 line: 1,
                 file,
             },
@@ -91,6 +108,30 @@ impl<'a> State<'a> {
             names,
         )?;
         give(&mut self.given, list)
+    }
+
+    /// What comes of the tokens of a directive once macros are replaced.
+    pub fn expand_directive(
+        &mut self,
+        alloc: Global,
+        tokens: &[PpToken<'a>],
+        names: &Names,
+    ) -> Result<Vec<PpToken<'a>>, Refusal>
+        requires sound { IsSound names.now self.old }
+        requires files { HaveFiles names.now tokens.now }
+        ensures ok { IfOk result (λ list. (texts : Texts) (s : Done) → KeepsNumbers names.now texts → Agrees names.now self.old s → Gives list.items names.now self.new (expand texts tokens.now of_directive s)) }
+        ensures err { IfErr result (λ refusal. (texts : Texts) (s : Done) → KeepsNumbers names.now texts → Agrees names.now self.old s → StopsAs names.now refusal (expand texts tokens.now of_directive s)) }
+        ensures sound { OnOk result (IsSound names.now self.new) }
+    {
+        let list = try_expand(
+            alloc,
+            &self.table,
+            tokens,
+            RunEnd::Directive,
+            &mut self.budget,
+            names,
+        )?;
+        Ok(list)
     }
 
     /// Ends a run, where one has begun.
@@ -138,43 +179,77 @@ impl<'a> State<'a> {
         ensures does { Does result names.now self.old names.now self.new (λ s. undefined s at (presume s line.now)) }
         ensures sound { OnOk result (IsSound names.now self.new) }
     {
-        let bad = Refusal::At {
-            code: Code::BadDirective,
-            pos: at,
-        };
         let [name] = line else {
-            return Err(bad);
+            return Err(bad_directive(at));
         };
         if !is_identifier(name) {
-            return Err(bad);
+            return Err(bad_directive(at));
         }
         self.table.try_undef(name, at, names)
     }
 
-    /// Does what a directive says. A `#` alone and `#pragma` do nothing (6.10.7, 6.10.6).
-    pub fn directive(
+    // What a directive of this name says that is no part of a conditional section and no `#include` (6.10p1), by the tokens
+    // behind the name.
+    fn named(
         &mut self,
         alloc: Global,
-        line: &[PpToken<'a>],
+        name: &PpToken<'a>,
+        further: &[PpToken<'a>],
+        at: Pos,
+        index: usize,
+        ends: &mut LineEnds<'a>,
         names: &mut Names,
     ) -> Result<(), Refusal>
         requires sound { IsSound names.old self.old }
-        requires today { is_today_line line.now ≡ true }
-        requires hash { is_directive line.now ≡ true }
-        ensures does { (texts : Texts) (enter : Enter) (l : Line) → l.tokens ≡ line.now → Does result names.old self.old names.new self.new (directive_done texts enter l) }
+        requires today { is_spelled (codes "include") name.now ≡ false }
+        ensures does { (texts : Texts) (enter : Enter) → KeepsNumbers names.new texts → Does result names.old self.old names.new self.new (λ s. named texts enter name.now (presume s further.now) (first_end (drop index ends.old)) at s) }
         ensures sound { OnOk result (IsSound names.new self.new) }
         ensures keeps { KeepsNumbers names.old names.new }
+        ensures same { ends.new ≡ ends.old }
     {
-        let [hash, name, further @ ..] = line else {
-            return Ok(());
-        };
-        let at = self.presumed.place(hash.pos());
         if is_spelled(name, b"define") {
             return self.define(alloc, further, at, names);
         }
         if is_spelled(name, b"undef") {
             return self.undef(further, at, names);
         }
-        Ok(())
+        if is_spelled(name, b"line") {
+            let end = ends.end_of(alloc, index)?;
+            return line_done(self, alloc, further, end, at, names);
+        }
+        if is_spelled(name, b"error") {
+            return Err(refusal_of(alloc, further, at, names));
+        }
+        if is_spelled(name, b"pragma") {
+            return Ok(());
+        }
+        Err(bad_directive(at))
+    }
+
+    /// Does what a directive says that is no part of a conditional section. A `#` alone does nothing (6.10.7).
+    pub fn directive(
+        &mut self,
+        alloc: Global,
+        line: &[PpToken<'a>],
+        index: usize,
+        ends: &mut LineEnds<'a>,
+        names: &mut Names,
+    ) -> Result<(), Refusal>
+        requires sound { IsSound names.old self.old }
+        requires today { is_today_line line.now ≡ true }
+        requires hash { is_directive line.now ≡ true }
+        ensures does { (texts : Texts) (enter : Enter) → KeepsNumbers names.new texts → Does result names.old self.old names.new self.new (directive_done texts enter (line_with line.now (first_end (drop index ends.old)))) }
+        ensures sound { OnOk result (IsSound names.new self.new) }
+        ensures keeps { KeepsNumbers names.old names.new }
+        ensures same { ends.new ≡ ends.old }
+    {
+        let [hash, name, further @ ..] = line else {
+            return Ok(());
+        };
+        let at = self.presumed.place(hash.pos())?;
+        if !is_identifier(name) {
+            return Err(bad_directive(at));
+        }
+        self.named(alloc, name, further, at, index, ends, names)
     }
 }

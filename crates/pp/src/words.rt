@@ -1,12 +1,27 @@
-//! Which lines are directives, and which of them are built.
-ghost use Rattle.std.specs.Prelude.{◌≡◌};
+//! What a line is, by its first tokens.
+ghost use Rattle.std.specs.Prelude.{◌≡◌, ◌||◌, codes};
 ghost use Rattle.std.specs.List.{list_all};
 ghost use Rattle.macros.specs.Macro.{is_spelled};
-ghost use Rattle.pp.specs.Today.{is_today_name, is_today_line};
-ghost use Rattle.pp.specs.inside.Pending.{is_directive};
+ghost use Rattle.pp.specs.Groups.{word_role, hash_role, role_of, is_else, place_of};
+ghost use Rattle.pp.specs.Today.{is_today_line};
+ghost use Rattle.pp.specs.inside.Stepping.{role_meant, line_role_meant};
 
 use macros::{is_hash, is_identifier};
 use phases::{Lines, PpToken};
+use srcset::Pos;
+
+/// What a directive is to conditional sections (ISO/IEC 9899:2011 6.10p1).
+#[derive(Clone, Copy)]
+pub enum Role {
+    /// `#if`, `#ifdef` or `#ifndef`.
+    Opens,
+    /// `#elif` or `#else`.
+    Divides,
+    /// `#endif`.
+    Closes,
+    /// Any other.
+    StandsAlone,
+}
 
 /// Whether the token has this spelling.
 pub fn is_spelled(token: &PpToken, text: &[u8]) -> bool
@@ -15,40 +30,97 @@ pub fn is_spelled(token: &PpToken, text: &[u8]) -> bool
     token.spelling() == text
 }
 
-/// Whether the first token of the line is a `#` (ISO/IEC 9899:2011 6.10p2).
-pub fn is_directive(line: &[PpToken]) -> bool
-    ensures { result ≡ is_directive line.now }
+// Whether a directive of this name opens a conditional.
+fn opens(name: &PpToken) -> bool
+    ensures { result ≡ (is_spelled (codes "if") name.now || is_spelled (codes "ifdef") name.now || is_spelled (codes "ifndef") name.now) }
 {
-    match line {
-        [first, ..] => is_hash(first),
-        [] => false,
+    is_spelled(name, b"if") || is_spelled(name, b"ifdef") || is_spelled(name, b"ifndef")
+}
+
+// Whether a directive of this name begins a further branch.
+fn divides(name: &PpToken) -> bool
+    ensures { result ≡ (is_spelled (codes "elif") name.now || is_spelled (codes "else") name.now) }
+{
+    is_spelled(name, b"elif") || is_spelled(name, b"else")
+}
+
+// What a directive of this name is.
+fn word_role(name: &PpToken) -> Role
+    ensures { role_meant result ≡ word_role name.now }
+{
+    if opens(name) {
+        return Role::Opens;
+    }
+    if divides(name) {
+        return Role::Divides;
+    }
+    if is_spelled(name, b"endif") {
+        return Role::Closes;
+    }
+    Role::StandsAlone
+}
+
+// What a directive is, by the tokens behind its `#`.
+fn hash_role(further: &[PpToken]) -> Role
+    ensures { role_meant result ≡ hash_role further.now }
+{
+    let [name, ..] = further else {
+        return Role::StandsAlone;
+    };
+    if is_identifier(name) {
+        word_role(name)
+    } else {
+        Role::StandsAlone
     }
 }
 
-// Whether a directive of this name is built.
-fn is_today_name(name: &PpToken) -> bool
-    ensures { result ≡ is_today_name name.now }
+/// What the line is; `None` for text. The first token of a directive is a `#` (ISO/IEC 9899:2011 6.10p2).
+pub fn role_of(line: &[PpToken]) -> Option<Role>
+    ensures { line_role_meant result ≡ role_of line.now }
 {
-    is_identifier(name)
-        && (is_spelled(name, b"define")
-            || is_spelled(name, b"undef")
-            || is_spelled(name, b"pragma"))
+    let [first, further @ ..] = line else {
+        return None;
+    };
+    if is_hash(first) {
+        Some(hash_role(further))
+    } else {
+        None
+    }
 }
 
-// Whether a line is text, or a directive that is built.
+/// Whether the directive is an `#else`.
+pub fn is_else(line: &[PpToken]) -> bool
+    ensures { result ≡ is_else line.now }
+{
+    match line {
+        [_, name, ..] => is_spelled(name, b"else"),
+        _ => false,
+    }
+}
+
+/// The physical place of the first token.
+pub fn place_of(line: &[PpToken]) -> Pos
+    ensures { result ≡ place_of line.now }
+{
+    match line {
+        [first, ..] => first.pos(),
+        [] => Pos { file: 0, line: 0 },
+    }
+}
+
+// Whether a line is no `#include`.
 fn is_today_line(line: &[PpToken]) -> bool
     ensures { result ≡ is_today_line line.now }
 {
-    if !is_directive(line) {
-        return true;
-    }
     match line {
-        [_, name, ..] => is_today_name(name),
+        [first, name, ..] => {
+            !(is_hash(first) && is_identifier(name) && is_spelled(name, b"include"))
+        }
         _ => true,
     }
 }
 
-/// Whether each line is text, or a directive that is built.
+/// Whether no line is an `#include`.
 pub fn are_today_lines(lines: &Lines) -> bool
     ensures { result ≡ list_all is_today_line lines.now }
 {

@@ -1,25 +1,57 @@
 -- What the state of the code is to that of the definition, and what a step of the code answers, where the definition's step is
 -- this one.
-use Rattle.std.specs.Prelude.{◌≡◌, ◌≤◌, ◌<◌, ◌||◌, ◌-◌, ◌+◌, List, [], ◌∷◌, length, map, slice_get, Bool, false, Some, Result, Ok, Err}
+use Rattle.std.specs.Prelude.{◌≡◌, ◌⊎◌, ◌≤◌, ◌<◌, ◌||◌, ◌-◌, ◌+◌, ◌*◌, ◌++◌, ℕ, suc, List, [], ◌∷◌, length, map, drop, slice_get, Bool, true, false, Option, Some, None, Result, Ok, Err}
+use Rattle.std.specs.Borrow.{Bor}
+use Rattle.std.specs.Str.{byte, is_utf8}
 use Rattle.srcset.specs.declared.refusal.Pos.{Pos}
 use Rattle.srcset.specs.declared.code.Code.{Code}
 use Rattle.srcset.specs.declared.code.Code.TheVariants as code
 use Rattle.srcset.specs.declared.refusal.Refusal.{Refusal}
 use Rattle.srcset.specs.declared.refusal.Refusal.TheVariants.{Memory, At, Told}
 use Rattle.srcset.specs.NameTable.{Texts}
+use Rattle.phases.specs.Characters.{is_digit}
 use Rattle.phases.specs.Token.{Token}
+use Rattle.lexer.specs.Digits.{digit_value, value_of}
 use Rattle.macros.specs.Table.{IsTable}
+use Rattle.pp_expand.specs.Expands.{HaveFiles}
+use Rattle.pp.specs.declared.conditionals.Open.{Open}
 use Rattle.pp.specs.declared.places.Presumed.{Presumed as Places}
 use Rattle.pp.specs.declared.run.Run.{Run}
 use Rattle.pp.specs.declared.state.State.{State as Held}
-use Rattle.pp.specs.Groups.{Group}
-use Rattle.pp.specs.Phase4.{Presumed, State, Outcome, goes, stops, Around, presume, group_done, max_tokens}
+use Rattle.pp.specs.declared.words.Role.{Role as Word}
+use Rattle.pp.specs.declared.words.Role.TheVariants as word
+use Rattle.pp.specs.Lines.{Line}
+use Rattle.pp.specs.Groups.{place_of, Role, of_text, opens, divides, closes, stands_alone, Parsed, in_first}
+use Rattle.pp.specs.Phase4.{Fault, is_line_number, error_text, Presumed, State, Outcome, goes, stops, Around, presume, with_first, defined_resolved, max_tokens}
 use Rattle.pp.specs.inside.Pending.{pending}
+use Rattle.pp.specs.inside.Rest.{is_active, rest_done}
+
+-- ---- lines
+
+abbrev pub role_meant : Word → Role
+role_meant word.Opens = opens
+role_meant word.Divides = divides
+role_meant word.Closes = closes
+role_meant word.StandsAlone = stands_alone
+
+abbrev pub line_role_meant : Option Word → Role
+line_role_meant None = of_text
+line_role_meant (Some w) = role_meant w
+
+-- ---- conditionals, the innermost first
+
+abbrev pub first_of : List Open → Option Open
+first_of [] = None
+first_of (o ∷ os) = Some o
+
+abbrev pub behind_first : List Open → List Open
+behind_first [] = []
+behind_first (o ∷ os) = os
 
 -- ---- places
 
 abbrev pub presumed_of : Places → Presumed
-presumed_of p = record { from = p.from; line = p.line; file = p.file }
+presumed_of p = record { from = suc p.behind; line = p.line; file = p.file }
 
 abbrev pub presumed_by : Presumed → Pos → Pos
 presumed_by p at = record { file = p.file; line = at.line - p.from + p.line }
@@ -45,7 +77,6 @@ pub record Agrees (names : Texts) (held : Held) (s : State) : Type 0 where
 pub record IsSound (names : Texts) (held : Held) : Type 0 where
   pub room : length held.given.items ≤ max_tokens
   pub has_file : held.presumed.file < length names
-  pub low : held.presumed.line ≤ held.presumed.from
 
 -- it goes on to what is held
 pub record Goes (names : Texts) (held : Held) (o : Outcome State) : Type 0 where
@@ -53,45 +84,122 @@ pub record Goes (names : Texts) (held : Held) (o : Outcome State) : Type 0 where
   pub agrees : Agrees names held after
   pub goes_is : o ≡ goes after
 
--- it stops with this fault
-pub record Stops (c : Code) (at : Pos) (o : Outcome State) : Type 0 where
-  pub given : List Token
-  pub stops_is : o ≡ stops given (record { code = c; at = at; text = [] })
+-- it goes on to what is held, with this value
+pub record Gives {Y : Type 0} (y : Y) (names : Texts) (held : Held) (o : Outcome (Y × State)) : Type 0 where
+  pub after : State
+  pub agrees : Agrees names held after
+  pub gives_is : o ≡ goes (y, after)
 
-abbrev pub StopsAs : Refusal → Outcome State → Type 0
-StopsAs Memory o = Unit {0}
-StopsAs (At c at) o = Stops c at o
-StopsAs (Told c at text) o = ⊥
+-- it stops with this fault
+pub record Stops {A : Type 0} (c : Code) (at : Pos) (text : List ℕ) (o : Outcome A) : Type 0 where
+  pub given : List Token
+  pub stops_is : o ≡ stops given (record { code = c; at = at; text = text })
+
+-- with a fault whose text has this number
+pub record StopsTold {A : Type 0} (names : Texts) (c : Code) (at : Pos) (n : ℕ) (o : Outcome A) : Type 0 where
+  pub text : List ℕ
+  pub number_is : slice_get names n ≡ Some text
+  pub utf8 : is_utf8 text ≡ true
+  pub fault_is : Stops c at text o
+
+abbrev pub StopsAs : {A : Type 0} → Texts → Refusal → Outcome A → Type 0
+StopsAs names Memory o = Unit {0}
+StopsAs names (At c at) o = Stops c at [] o
+StopsAs names (Told c at n) o = StopsTold names c at n o
 
 abbrev pub Answers : {A : Type 0} → Result A Refusal → Texts → Held → Outcome State → Type 0
 Answers (Ok a) names held o = Goes names held o
-Answers (Err r) names held o = StopsAs r o
+Answers (Err r) names held o = StopsAs names r o
 
--- the step, from whatever state it was
+-- the same of a question, whose answer it gives
+abbrev pub Asks : {Y : Type 0} → Result Y Refusal → Texts → Held → Outcome (Y × State) → Type 0
+Asks (Ok y) names held o = Gives y names held o
+Asks (Err r) names held o = StopsAs names r o
+
 abbrev pub Does : {A : Type 0} → Result A Refusal → Texts → Held → Texts → Held → (State → Outcome State) → Type 0
 Does result names held names_after held_after step =
     (s : State) → Agrees names held s → Answers result names_after held_after (step s)
 
 -- ---- the lines of a file
 
-abbrev pub nowhere : Pos
-nowhere = record { file = 0; line = 0 }
+-- what is left of a file is this, and comes to this
+pub record Rests (names : Texts) (held : Held) (around : Around) (os : List Open) (p : Parsed) (o : Outcome State) : Type 0 where
+  pub after : State
+  pub agrees : Agrees names held after
+  pub rests : o ≡ rest_done around os p after
 
--- what is left of a file is this group behind a run, and comes to this
-pub record Stands (names : Texts) (held : Held) (run : Run) (around : Around) (g : Group) (o : Outcome State) : Type 0 where
+abbrev pub RestsOrStops : {A : Type 0} → Result A Refusal → Texts → Held → Around → List Open → Parsed → Outcome State → Type 0
+RestsOrStops (Ok a) names held around os p o = Rests names held around os p o
+RestsOrStops (Err r) names held around os p o = StopsAs names r o
+
+-- the same behind a run
+pub record Stands (names : Texts) (held : Held) (run : Run) (around : Around) (os : List Open) (p : Parsed) (o : Outcome State) : Type 0 where
   pub now : State
   pub text : List Token
   pub agrees : Agrees names held now
   pub run_is : run.tokens.items ≡ presume now text
   pub fresh : run.begun ≡ false → text ≡ []
-  pub comes_to : o ≡ group_done around nowhere 0 (pending run.begun text g) now
+  pub active : run.begun ≡ true → is_active os ≡ true
+  pub comes_to : o ≡ rest_done around os (in_first (pending run.begun text) p) now
 
-abbrev pub StandsOrStops : {A : Type 0} → Result A Refusal → Texts → Held → Run → Around → Group → Outcome State → Type 0
-StandsOrStops (Ok a) names held run around g o = Stands names held run around g o
-StandsOrStops (Err r) names held run around g o = StopsAs r o
+abbrev pub StandsOrStops : {A : Type 0} → Result A Refusal → Texts → Held → Run → Around → List Open → Parsed → Outcome State → Type 0
+StandsOrStops (Ok a) names held run around os p o = Stands names held run around os p o
+StandsOrStops (Err r) names held run around os p o = StopsAs names r o
 
 -- why so many tokens are refused: the place of the first that is too many
 abbrev pub IsPast : List Token → Refusal → Type 0
 IsPast all Memory = Unit {0}
 IsPast all (At c at) = (t : Token) × (slice_get all max_tokens ≡ Some t) × (c ≡ code.TokenLimit) × (at ≡ t.pos)
 IsPast all (Told c at text) = ⊥
+
+-- ---- lines, and what is asked of them
+
+abbrev pub line_with : List Token → ℕ → Line
+line_with ts end = record { tokens = ts; end = end }
+
+abbrev pub operand_meant : Option (Bor (List ℕ) × ℕ) → Option (List ℕ × ℕ)
+operand_meant None = None
+operand_meant (Some o) = Some (o.0.now, o.1)
+
+-- the first token of a list, resolved, stands last; so many tokens behind it are its operand's
+pub record PutsResolved (names : Texts) (held : Held) (rest old new : List Token) (skip : ℕ) : Type 0 where
+  pub token : Token
+  pub put : new ≡ old ++ token ∷ []
+  pub file_is : token.pos ≡ place_of rest
+  pub resolved : (s : State) → Agrees names held s → defined_resolved 0 s rest ≡ with_first token (defined_resolved skip s (drop 1 rest))
+
+-- these in front of a list, where there is one
+abbrev pub joined : List Token → Option (List Token) → Option (List Token)
+joined ys None = None
+joined ys (Some zs) = Some (ys ++ zs)
+
+-- so many tokens are resolved, and this list is what came of them; so many further ones belong to an operand
+pub record Resolves (names : Texts) (held : Held) (tokens list : List Token) (skip i : ℕ) : Type 0 where
+  pub files : HaveFiles names list
+  pub so_far : (s : State) → Agrees names held s → defined_resolved 0 s tokens ≡ joined list (defined_resolved skip s (drop i tokens))
+
+-- a `defined` has no operand, which this place is told
+abbrev pub IsUnresolved : Refusal → Texts → Held → List Token → Pos → Type 0
+IsUnresolved Memory names held rest at = Unit {0}
+IsUnresolved (At c p) names held rest at = (c ≡ code.NotConstantCondition) × (p ≡ at) × ((s : State) → Agrees names held s → defined_resolved 0 s rest ≡ None)
+IsUnresolved (Told c p n) names held rest at = ⊥
+
+-- ---- #line and #error
+
+-- the number with a further digit, where it is a digit and the number is no greater than the greatest line
+abbrev pub IsNextDigit : Option ℕ → ℕ → ℕ → Type 0
+IsNextDigit None value b = (is_digit b ≡ false) ⊎ (2147483647 < value * 10 + digit_value b)
+IsNextDigit (Some n) value b = (is_digit b ≡ true) × (n ≡ value * 10 + digit_value b) × (n ≤ 2147483647)
+
+abbrev pub IsLineNumber : Option ℕ → List ℕ → Type 0
+IsLineNumber None text = is_line_number text ≡ false
+IsLineNumber (Some n) text = (is_line_number text ≡ true) × (value_of 10 text ≡ n)
+
+abbrev pub spaced_out : Token → List ℕ
+spaced_out x = byte " " ∷ x.spelling
+
+abbrev pub error_fault : Pos → List Token → Fault
+error_fault at xs = record { code = code.ErrorDirective; at = at; text = error_text xs }
+
+abbrev pub error_done : Pos → List Token → State → Outcome State
+error_done at xs s = stops s.given (error_fault at xs)

@@ -1,23 +1,23 @@
-use Rattle.std.proofs.Common.{sym, ap, ◌∙◌}
-use Rattle.pp.specs.inside.Stepping.{presumed_of, presumed_by}
-use Rattle.pp.proofs.StateLemmas.{Reads, does_alone, does_define, does_undef, does_pragma}
+use Rattle.std.proofs.Common.{sym, ap, subst, drop, ◌∙◌}
+use Rattle.pp.specs.Lines.{first_end}
+use Rattle.pp.specs.inside.Stepping.{presumed_of, presumed_by, line_with, StopsAs}
+use Rattle.pp.specs.Phase4.{directive_done}
+use Rattle.pp.proofs.StateLemmas.{Reads, no_include, directive_named, directive_bad, does_alone}
 use Rattle.pp.proofs.state.State.directive.Goals as goal
 
 pub returns-in_default-clause-does : goal.returns-in_default-clause-does
-returns-in_default-clause-does c texts enter l e s a =
-    does_alone texts c.args.names.now enter l c.args.self.now c.args.line.now s e c.in_default.len_below a
+returns-in_default-clause-does c texts enter keeps s a =
+    does_alone texts c.args.names.now enter c.args.self.now c.args.line.now (first_end (drop c.args.index c.args.ends.now)) s c.in_default.len_below a
 
-pub returns-then-is_spelled-clause-does : goal.returns-then-is_spelled-clause-does
-returns-then-is_spelled-clause-does c texts enter l e =
-    let reads : Reads c.args.self.now c.args.line.now c.hash-item.result c.name-item.result c.place-at.result = record { long = c.in-len2-up.len_at_least; first = c.hash-item.is; second = c.name-item.is; today = c.requires.today; hash = c.requires.hash; at_is = c.place-at.ensures ∙ ap (λ p. presumed_by (presumed_of c.args.self.now.presumed) p) c.pos.ensures } in
-    does_define c.define.result texts c.args.names.now c.define.new.names enter l c.args.self.now c.define.new.self c.args.line.now c.hash-item.result c.name-item.result c.place-at.result e reads (sym c.is_spelled.ensures ∙ c.if-is_spelled.true) c.define.ensures.does
-
-pub returns-then-is_spelled-2-clause-does : goal.returns-then-is_spelled-2-clause-does
-returns-then-is_spelled-2-clause-does c texts enter l e =
-    let reads : Reads c.args.self.now c.args.line.now c.hash-item.result c.name-item.result c.place-at.result = record { long = c.in-len2-up.len_at_least; first = c.hash-item.is; second = c.name-item.is; today = c.requires.today; hash = c.requires.hash; at_is = c.place-at.ensures ∙ ap (λ p. presumed_by (presumed_of c.args.self.now.presumed) p) c.pos.ensures } in
-    does_undef c.undef.result texts c.args.names.now c.args.names.now enter l c.args.self.now c.undef.new.self c.args.line.now c.hash-item.result c.name-item.result c.place-at.result e reads (sym c.is_spelled-2.ensures ∙ c.if-is_spelled-2.true) c.undef.ensures.does
+pub returns-then-not-is_identifier-clause-does : goal.returns-then-not-is_identifier-clause-does
+returns-then-not-is_identifier-clause-does c texts enter keeps s a =
+    let reads : Reads c.args.self.now c.args.line.now c.hash-item.result c.name-item.result c.in_ok-at.at = record { long = c.in-len2-up.len_at_least; first = c.hash-item.is; second = c.name-item.is; at_is = c.in_ok-at.ensures.ok ∙ ap (λ p. presumed_by (presumed_of c.args.self.now.presumed) p) c.pos.ensures } in
+    let end = first_end (drop c.args.index c.args.ends.now) in
+    subst (λ r. StopsAs c.args.names.now r (directive_done texts enter (line_with c.args.line.now end) s)) (sym c.bad_directive.ensures)
+    (directive_bad texts c.args.names.now enter c.args.self.now c.args.line.now end c.hash-item.result c.name-item.result c.in_ok-at.at s reads (sym c.is_identifier.ensures ∙ c.if-not-is_identifier.true) a)
 
 pub returns-clause-does : goal.returns-clause-does
-returns-clause-does c texts enter l e s a =
-    let reads : Reads c.args.self.now c.args.line.now c.hash-item.result c.name-item.result c.place-at.result = record { long = c.in-len2-up.len_at_least; first = c.hash-item.is; second = c.name-item.is; today = c.requires.today; hash = c.requires.hash; at_is = c.place-at.ensures ∙ ap (λ p. presumed_by (presumed_of c.args.self.now.presumed) p) c.pos.ensures } in
-    does_pragma texts c.args.names.now enter l c.args.self.now c.args.line.now c.hash-item.result c.name-item.result c.place-at.result s e reads (sym c.is_spelled.ensures ∙ c.if-is_spelled.false) (sym c.is_spelled-2.ensures ∙ c.if-is_spelled-2.false) a
+returns-clause-does c texts enter keeps s a =
+    let reads : Reads c.args.self.now c.args.line.now c.hash-item.result c.name-item.result c.in_ok-at.at = record { long = c.in-len2-up.len_at_least; first = c.hash-item.is; second = c.name-item.is; at_is = c.in_ok-at.ensures.ok ∙ ap (λ p. presumed_by (presumed_of c.args.self.now.presumed) p) c.pos.ensures } in
+    directive_named c.named.result texts c.args.names.now c.named.new.names enter c.args.self.now c.named.new.self c.args.line.now (first_end (drop c.args.index c.args.ends.now)) c.hash-item.result c.name-item.result c.in_ok-at.at reads
+    (sym c.is_identifier.ensures ∙ c.if-not-is_identifier.false) (c.named.ensures.does texts enter keeps) s a
