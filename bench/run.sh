@@ -42,10 +42,11 @@ echo
 
 # ------------------------------------------------------------ execution
 
-kernel() {
+# program NAME ROUNDS FILE
+program() {
     riscv64-unknown-elf-gcc -O1 -march=rv32im -mabi=ilp32 -ffreestanding \
         -fno-builtin -fno-tree-loop-distribute-patterns -nostdlib -static \
-        -Wl,--no-relax -DROUNDS="$1" -o "$2" "$root/bench/kernel.c"
+        -Wl,--no-relax -DROUNDS="$2" -o "$3" "$root/bench/$1.c"
 }
 
 # count FILE: its instructions, the least budget that is enough, halving the
@@ -65,19 +66,24 @@ count() {
     echo $high
 }
 
+# The program before the simulator decoded each word once, where git has it.
+git -C "$root" show 2d17cf9:release/cc >before 2>/dev/null && chmod +x before || rm -f before
+
+# execution NAME
 execution() {
-    kernel 1 one && kernel 2 two && kernel "$rounds" all || return
-    one=$(count one)
-    each=$(($(count two) - one))
-    instructions=$((one + (rounds - 1) * each))
-    echo "kernel.c: $instructions instructions ($rounds rounds of $each)"
+    program "$1" 2 two && program "$1" 3 three && program "$1" "$rounds" all || return
+    two=$(count two)
+    each=$(($(count three) - two))
+    instructions=$((two + (rounds - 2) * each))
+    echo "$1.c: $instructions instructions ($rounds rounds of $each)"
 
     # Newer versions have another name for it.
     single=-singlestep
     qemu-riscv32 -help | grep -q one-insn-per-tb && single=-one-insn-per-tb
 
-    best_cc=; best_qemu=; best_single=
+    best_cc=; best_before=; best_qemu=; best_single=
     for _ in 1 2 3; do
+        [ ! -x before ] || { timed ./before run all; best_before=$(least "$best_before" $took); }
         timed "$cc" run all --max $instructions
         ended=$status
         [ "$ended" != 124 ] || { echo 'the count is too small'; return; }
@@ -91,18 +97,45 @@ execution() {
     timed "$cc" run all --max $((instructions - 1))
     [ "$status" = 124 ] || { echo 'the count is too large'; return; }
 
-    awk -v n="$instructions" -v c="$best_cc" -v q="$best_qemu" -v s="$best_single" 'BEGIN {
+    awk -v n="$instructions" -v c="$best_cc" -v b="$best_before" -v q="$best_qemu" -v s="$best_single" 'BEGIN {
         form = "%-26s %8.3f s %8.1f million instructions a second\n"
         printf form, "cc run --max", c / 1e9, n * 1e3 / c
         printf form, "qemu-riscv32", q / 1e9, n * 1e3 / q
         printf form, "qemu-riscv32 -singlestep", s / 1e9, n * 1e3 / s
+        if (b) {
+            printf form, "cc run at 2d17cf9", b / 1e9, n * 1e3 / b
+            printf "cc run : cc run at 2d17cf9         = %.3f\n", b / c
+        }
         printf "cc run : qemu-riscv32              = %.3f\n", q / c
         printf "cc run : qemu-riscv32 -singlestep  = %.3f\n", s / c
     }'
 }
 
+# A file of 16 MiB of text, whose words are the kernel's over and over: its loading and the first instruction. The least
+# of twenty, the two programs in turn.
+loading() {
+    riscv64-unknown-elf-objcopy -O binary --only-section=.text all text || return
+    while [ "$(wc -c <text)" -lt 16777216 ]; do cat text text >more && mv more text; done
+    head -c 16777216 text >more
+    printf '    .globl _start\n_start:\n    .incbin "more"\n' >large.s
+    riscv64-unknown-elf-gcc -march=rv32im -mabi=ilp32 -nostdlib -static -Wl,--no-relax -o large large.s || return
+    best_cc=; best_before=
+    for _ in 1 2 3 4 5 6 7 8 9 10 11 12 13 14 15 16 17 18 19 20; do
+        [ ! -x before ] || { timed ./before run large --max 1; best_before=$(least "$best_before" $took); }
+        timed "$cc" run large --max 1
+        best_cc=$(least "$best_cc" $took)
+    done
+    awk -v c="$best_cc" -v b="$best_before" 'BEGIN {
+        printf "16 MiB of text loaded: %.1f ms", c / 1e6
+        if (b) printf ", at 2d17cf9 %.1f ms, %.2f times as long", b / 1e6, c / b
+        printf "\n"
+    }'
+}
+
 if has riscv64-unknown-elf-gcc && has qemu-riscv32; then
-    execution
+    execution kernel
+    execution bytes
+    loading
 else
     echo 'execution: left out (needs riscv64-unknown-elf-gcc and qemu-riscv32)'
 fi

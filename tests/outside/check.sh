@@ -604,6 +604,24 @@ else
     skip 4
 fi
 
+# Two text segments, near and far; and a text that goes on past its first 16 MiB.
+for between in 0 4194304; do
+    if [ -n "$qemu" ] && [ -n "$assembler" ] && [ -n "$linker" ]; then
+        "$assembler" -march=rv32im -mabi=ilp32 --defsym between=$between "$here/texts.s" -o texts.o 2>err &&
+            "$linker" -m elf32lriscv --no-relax --section-start=.far=0x40000000 texts.o -o texts 2>err
+        holds "texts.s, $between words, is not linked" [ -f texts ]
+        go "$qemu" ./texts
+        holds "texts.s, $between words, qemu-riscv32: status $status" [ "$status" = 15 ]
+        go "$cc" run texts --max 16
+        holds "texts.s, $between words, cc run: status $status: $(head -n 1 err)" [ "$status" = 15 ]
+        go "$cc" run texts --max 15
+        holds "texts.s, $between words, one step less: status $status" [ "$status" = 124 ]
+        rm -f texts texts.o
+    else
+        skip 4
+    fi
+done
+
 if [ -n "$assembler" ] && [ -n "$linker" ] &&
     "$assembler" -march=rv32im -mabi=ilp32 "$here/echo.s" -o echo.o 2>err &&
     "$linker" -m elf32lriscv --no-relax echo.o -o echo 2>err; then
@@ -637,7 +655,7 @@ else
 fi
 
 # So many checks there are; a loop that ends early, or rows that are lost, do not go unseen.
-checks=699
+checks=707
 made=$((passed + failed + skipped))
 [ $made = $checks ] || fail "$made checks were made, not $checks"
 if [ $skipped = 0 ]; then

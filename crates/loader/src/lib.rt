@@ -9,10 +9,12 @@ mod loading;
 pub mod memory_map;
 mod program;
 mod segments;
+mod text_list;
 mod texts;
 
 pub use entries::{Entry, Operation};
 pub use fault::LoadFault;
 pub use loading::load;
 pub use program::Loaded;
+pub use text_list::TextList;
 pub use texts::Text;

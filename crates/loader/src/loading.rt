@@ -9,7 +9,7 @@ use crate::fault::LoadFault;
 use crate::header::word;
 use crate::program::Loaded;
 use crate::segments::segments_of;
-use crate::texts::Text;
+use crate::text_list::TextList;
 use rv32::memory::Memory;
 use std::alloc::Global;
 
@@ -26,11 +26,11 @@ pub fn load(alloc: Global, bytes: &[u8]) -> Result<Loaded, LoadFault>
 {
     match read_loads(bytes) {
         Ok(loads) => match segments_of(alloc, bytes, loads.as_slice()) {
-            Ok(segments) => match Text::of_segments(alloc, segments.as_slice()) {
-                Ok(text) => Ok(Loaded {
+            Ok(segments) => match TextList::of_segments(alloc, segments.as_slice()) {
+                Ok(texts) => Ok(Loaded {
                     entry: word(bytes, 24),
                     memory: Memory::new(segments),
-                    text,
+                    texts,
                 }),
                 Err(_) => Err(LoadFault::Memory),
             },

@@ -2,24 +2,24 @@
 
 ghost use Rattle.std.proofs.Props.{props};
 ghost use Rattle.rv32.specs.Space.{space_of};
-ghost use Rattle.loader.specs.Listing.{IsDecoded};
+ghost use Rattle.loader.specs.Listing.{AreDecoded};
 
-use crate::texts::Text;
+use crate::text_list::TextList;
 use rv32::memory::Memory;
 
-/// What a file loads: the address of its first instruction, its memory, and its text, decoded.
+/// What a file loads: the address of its first instruction, its memory, and its texts, decoded.
 #[derive(Drop)]
 pub struct Loaded {
     pub(crate) entry: u32,
     pub(crate) memory: Memory,
-    pub(crate) text: Text,
-    ghost decoded: { IsDecoded (space_of memory.segments.items) text } by { Prim.hlevel props },
+    pub(crate) texts: TextList,
+    ghost decoded: { AreDecoded (space_of memory.segments.items) texts } by { Prim.hlevel props },
 }
 
 impl Loaded {
     ghost use Rattle.std.specs.Prelude.{◌≡◌};
     ghost use Rattle.rv32.specs.Space.{space_of};
-    ghost use Rattle.loader.specs.Listing.{IsDecoded};
+    ghost use Rattle.loader.specs.Listing.{AreDecoded};
     ghost use Rattle.loader.specs.Loading.{loaded_image};
 
     /// The address of the first instruction.
@@ -36,21 +36,21 @@ impl Loaded {
         let Loaded {
             entry: _,
             memory,
-            text: _,
+            texts: _,
         } = self;
         memory
     }
 
-    /// The memory, and the text that was decoded from it, which a machine then owns.
-    pub fn into_parts(self) -> (Memory, Text)
+    /// The memory, and the texts that were decoded from it, which a machine then owns.
+    pub fn into_parts(self) -> (Memory, TextList)
         ensures space { space_of result.0.segments.items ≡ (loaded_image self).space }
-        ensures decoded { IsDecoded (space_of result.0.segments.items) result.1 }
+        ensures decoded { AreDecoded (space_of result.0.segments.items) result.1 }
     {
         let Loaded {
             entry: _,
             memory,
-            text,
+            texts,
         } = self;
-        (memory, text)
+        (memory, texts)
     }
 }

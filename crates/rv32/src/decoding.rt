@@ -12,6 +12,7 @@ use crate::fields::{
 };
 use crate::instr::{ImmediateOp, Instr, LoadKind, RegisterOp, ShiftOp, StoreKind, Test};
 
+#[inline(always)]
 fn decode_test(funct3: u32) -> Option<Test>
     ensures value { result ≡ test_of funct3 }
     ensures back { IfSome result (λ x. test_number x ≡ funct3) }
@@ -27,6 +28,7 @@ fn decode_test(funct3: u32) -> Option<Test>
     }
 }
 
+#[inline(always)]
 fn decode_load(funct3: u32) -> Option<LoadKind>
     ensures value { result ≡ load_of funct3 }
     ensures back { IfSome result (λ x. load_number x ≡ funct3) }
@@ -41,6 +43,7 @@ fn decode_load(funct3: u32) -> Option<LoadKind>
     }
 }
 
+#[inline(always)]
 fn decode_store(funct3: u32) -> Option<StoreKind>
     ensures value { result ≡ store_of funct3 }
     ensures back { IfSome result (λ x. store_number x ≡ funct3) }
@@ -53,6 +56,7 @@ fn decode_store(funct3: u32) -> Option<StoreKind>
     }
 }
 
+#[inline(always)]
 fn decode_immediate(funct3: u32) -> Option<ImmediateOp>
     ensures value { result ≡ immediate_op_of funct3 }
     ensures back { IfSome result (λ x. immediate_number x ≡ funct3) }
@@ -68,6 +72,7 @@ fn decode_immediate(funct3: u32) -> Option<ImmediateOp>
     }
 }
 
+#[inline(always)]
 fn decode_shift(function: u32) -> Option<ShiftOp>
     ensures value { result ≡ shift_of function }
     ensures back { IfSome result (λ x. shift_number x ≡ function) }
@@ -80,6 +85,7 @@ fn decode_shift(function: u32) -> Option<ShiftOp>
     }
 }
 
+#[inline(always)]
 fn decode_register(function: u32) -> Option<RegisterOp>
     ensures value { result ≡ register_op_of function }
     ensures back { IfSome result (λ x. register_number x ≡ function) }
@@ -107,6 +113,7 @@ fn decode_register(function: u32) -> Option<RegisterOp>
     }
 }
 
+#[inline(always)]
 fn function(word: u32) -> u32
     ensures { result ≡ words.function word }
 {
@@ -114,6 +121,7 @@ fn function(word: u32) -> u32
 }
 
 /// JALR.
+#[inline(always)]
 fn jump_and_link_register(word: u32) -> Option<Instr>
     requires { words.opcode word ≡ 0x67 }
     ensures value { result ≡ decode_of word }
@@ -132,6 +140,7 @@ fn jump_and_link_register(word: u32) -> Option<Instr>
 }
 
 /// BEQ to BGEU.
+#[inline(always)]
 fn branch(word: u32) -> Option<Instr>
     requires { words.opcode word ≡ 0x63 }
     ensures value { result ≡ decode_of word }
@@ -150,6 +159,7 @@ fn branch(word: u32) -> Option<Instr>
 }
 
 /// LB to LHU.
+#[inline(always)]
 fn load(word: u32) -> Option<Instr>
     requires { words.opcode word ≡ 0x03 }
     ensures value { result ≡ decode_of word }
@@ -168,6 +178,7 @@ fn load(word: u32) -> Option<Instr>
 }
 
 /// SB to SW.
+#[inline(always)]
 fn store(word: u32) -> Option<Instr>
     requires { words.opcode word ≡ 0x23 }
     ensures value { result ≡ decode_of word }
@@ -186,6 +197,7 @@ fn store(word: u32) -> Option<Instr>
 }
 
 /// SLLI, SRLI, SRAI.
+#[inline(always)]
 fn shift(word: u32) -> Option<Instr>
     requires opcode { words.opcode word ≡ 0x13 }
     requires shifts { words.funct3 word % 4 ≡ 1 }
@@ -205,6 +217,7 @@ fn shift(word: u32) -> Option<Instr>
 }
 
 /// ADDI to ANDI.
+#[inline(always)]
 fn immediate(word: u32) -> Option<Instr>
     requires opcode { words.opcode word ≡ 0x13 }
     requires shifts { words.funct3 word % 4 ≢ 1 }
@@ -224,6 +237,7 @@ fn immediate(word: u32) -> Option<Instr>
 }
 
 /// ADD to REMU.
+#[inline(always)]
 fn operation(word: u32) -> Option<Instr>
     requires { words.opcode word ≡ 0x33 }
     ensures value { result ≡ decode_of word }
@@ -242,6 +256,7 @@ fn operation(word: u32) -> Option<Instr>
 }
 
 /// FENCE.
+#[inline(always)]
 fn fence(word: u32) -> Option<Instr>
     requires { words.opcode word ≡ 0x0f }
     ensures value { result ≡ decode_of word }
@@ -260,6 +275,7 @@ fn fence(word: u32) -> Option<Instr>
 }
 
 /// The instruction that a word is, by its opcode.
+#[inline(always)]
 fn by_opcode(word: u32) -> Option<Instr>
     ensures value { result ≡ decode_of word }
     ensures word { IfSome result (λ i. word_of i ≡ word) }
@@ -299,6 +315,7 @@ fn by_opcode(word: u32) -> Option<Instr>
 
 /// The instruction that a word is; `None` where it is no instruction of RV32I or of the extension M
 /// (unprivileged ISA manual, chapters "RV32I Base Integer Instruction Set" and "M Extension").
+#[inline(always)]
 pub fn decode(word: u32) -> Option<Instr>
     // By the table: an instruction is answered exactly where the word is its word.
     ensures found { IfSome result (λ i. IsWordOf word i) }

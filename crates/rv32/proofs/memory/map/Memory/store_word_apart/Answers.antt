@@ -7,10 +7,10 @@ pub returns-then-can_write-4-clause-after : goal.returns-then-can_write-4-clause
 returns-then-can_write-4-clause-after c =
     let a = c.args.address in
     let v = c.args.value in
-    let s1 = c.store_byte in
-    let s2 = c.store_byte-then-can_write-4 in
-    let s3 = c.store_byte-then-can_write-4-2 in
-    let s4 = c.store_byte-then-can_write-4-3 in
+    let s1 = c.store_byte_apart in
+    let s2 = c.store_byte_apart-then-can_write-4 in
+    let s3 = c.store_byte_apart-then-can_write-4-2 in
+    let s4 = c.store_byte_apart-then-can_write-4-3 in
     let m : Space = space_of c.args.self.now.segments.items in
     let m1 : Space = space_of s1.new.self.segments.items in
     let m2 : Space = space_of s2.new.self.segments.items in
