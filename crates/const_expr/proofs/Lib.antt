@@ -1,3 +1,5 @@
 mod Places
 mod Lookups
 mod Verdicts
+mod Foldings
+mod Sizes

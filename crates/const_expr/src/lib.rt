@@ -3,8 +3,15 @@
 
 mod bindings;
 mod constant_forms;
+mod folding;
+mod forms;
+mod measures;
 mod newest_names;
+mod operations;
+mod rules;
 mod scopes;
+mod specifiers;
+mod type_names;
 
 pub use bindings::{Binding, Linkage, Meaning, State, StaticObject, Tag};
 pub use constant_forms::{constant_form, measurable};

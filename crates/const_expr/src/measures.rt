@@ -1,0 +1,85 @@
+//! Sizes and casts (6.5.3.4, 6.5.4).
+#![tactic(auto, using(crate::proofs::Sizes::capped_product, crate::proofs::Sizes::exact_below))]
+
+ghost use Rattle.std.specs.Prelude.{◌≡◌, ◌<◌, ◌^◌, ℕ, IfErr, IfOk};
+ghost use Rattle.std.specs.Option.{IfSome};
+ghost use Rattle.const_expr.specs.Forms.{natural};
+ghost use Rattle.ctypes.specs.Types.{bytes_of};
+ghost use Rattle.typed.specs.Verdict.{fine};
+ghost use Rattle.typed.specs.Types as type;
+ghost use Rattle.typed.specs.Expressions as typed;
+ghost use Rattle.tree.specs.Capped.{capped};
+ghost use Rattle.srcset.specs.declared.refusal.Refusal.TheVariants.{Memory};
+ghost use Rattle.const_expr.specs.Refused.{Tells};
+ghost use Rattle.const_expr.specs.Forms.{checked_of, elements_of};
+
+use crate::forms::{Checked, Elements, broken};
+use crate::type_names::elements_within;
+use ctypes::{IntType, size_of};
+use program::Value;
+use srcset::{Code, Pos, Refusal};
+
+/// The bytes of an array of so many such elements, or 2^64 - 1 where that is less.
+fn bytes_of_array(length: u32, elements: Elements) -> u64
+    ensures { result ≡ capped (type.size_of_object (type.array_of length (elements_of elements.entry))) }
+{
+    let within = elements_within(elements.lengths);
+    let count = u64::from(length).saturating_mul(within);
+    u64::from(size_of(elements.element)).saturating_mul(count)
+}
+
+fn told(bytes: u64) -> Option<i64>
+    ensures { IfSome result (λ v. (v ≡ natural bytes) × (bytes < 2 ^ 63)) }
+{
+    match i64::try_from(bytes) {
+        Ok(size) => Some(size),
+        Err(_) => None,
+    }
+}
+
+fn size_constant<'s>(pos: Pos, size: i64) -> Checked<'s>
+    ensures { (n : ℕ) → size ≡ natural n → typed.size_is pos n ≡ fine (checked_of result) }
+{
+    Checked::Value(pos, IntType::UInt, Value::Constant(IntType::UInt, size))
+}
+
+/// A size (6.5.3.4p2). It is 801 where an `i64` cannot tell it, as of no object within the limit.
+fn size_is<'s>(pos: Pos, bytes: u64) -> Result<Checked<'s>, Refusal>
+    ensures ok { (size : ℕ) → bytes ≡ capped size → IfOk result (λ c. typed.size_is pos size ≡ fine (checked_of c)) }
+    ensures err { IfErr result (λ r. r ≡ Memory) }
+{
+    match told(bytes) {
+        Some(size) => Ok(size_constant(pos, size)),
+        None => Err(Refusal::Memory),
+    }
+}
+
+fn size_of_number<'s>(pos: Pos, ty: IntType) -> Checked<'s>
+    ensures { typed.size_is pos (bytes_of ty) ≡ fine (checked_of result) }
+{
+    let size = i64::from(size_of(ty));
+    Checked::Value(pos, IntType::UInt, Value::Constant(IntType::UInt, size))
+}
+
+/// `sizeof` of an expression (6.5.3.4): no function, nothing incomplete.
+pub(crate) fn measured<'s>(pos: Pos, x: &Checked) -> Result<Checked<'s>, Refusal>
+    ensures ok { IfOk result (λ c. typed.measured pos (checked_of x.now) ≡ fine (checked_of c)) }
+    ensures err { IfErr result (λ r. Tells r (typed.measured pos (checked_of x.now))) }
+{
+    match x {
+        Checked::Value(_, ty, _) => Ok(size_of_number(pos, *ty)),
+        Checked::Object(_, ty, _, _) => Ok(size_of_number(pos, *ty)),
+        Checked::Array(_, length, elements, _) => {
+            match size_is(pos, bytes_of_array(*length, *elements)) {
+                Ok(size) => Ok(size),
+                Err(_) => Err(Refusal::Memory),
+            }
+        }
+        Checked::Reference(_, _, _) => {
+            Ok(Checked::Value(pos, IntType::UInt, Value::Constant(IntType::UInt, 4)))
+        }
+        Checked::Unsized(_, _, _) => Err(broken(Code::BadSizeofOperand, pos)),
+        Checked::Nothing(_, _) => Err(broken(Code::BadSizeofOperand, pos)),
+        Checked::Designator(_) => Err(broken(Code::BadSizeofOperand, pos)),
+    }
+}

@@ -1,0 +1,291 @@
+//! The types that specifiers name (6.7.2, 6.7.3).
+#![tactic(auto, using(crate::proofs::Verdicts::each_left, crate::proofs::Verdicts::each_right, crate::proofs::Verdicts::each_fine))]
+
+ghost use Rattle.std.specs.Prelude.{◌≡◌, ◌≤◌, length, IfErr, OnOk, IfOk, nat_eq, not, map};
+ghost use Rattle.typed.specs.Specifiers as typed;
+ghost use Rattle.typed.specs.Verdict.{fine, refuse_if};
+ghost use Rattle.typed.specs.Scope.{tag_in};
+ghost use Rattle.srcset.specs.declared.code.Code.TheVariants as code;
+ghost use Rattle.const_expr.specs.Refused.{IsOf};
+ghost use Rattle.const_expr.specs.Typings.{base_type_of, word_set_of, is_empty};
+
+use crate::scopes::Scope;
+use ctypes::IntType;
+use srcset::{Code, Pos, Refusal};
+use tree::{TypeSpecifier, TypeSpecifiers, Word};
+
+/// The type that specifiers name, none for `void`, and whether `const` is among them.
+#[derive(Clone, Copy)]
+pub(crate) struct BaseType {
+    pub(crate) named: Option<IntType>,
+    pub(crate) constant: bool,
+}
+
+/// Words, and the type that they name in any order.
+#[derive(Clone, Copy)]
+struct WordSet {
+    words: &'static [Word],
+    named: Option<IntType>,
+}
+
+/// How often a word stands among words.
+fn times(word: Word, words: &[Word]) -> usize
+    ensures count { result ≡ typed.times word words.now }
+    ensures most { result ≤ length words.now }
+{
+    match words.split_first() {
+        None => 0,
+        Some((first, rest)) => {
+            let more = times(word, rest);
+            if *first == word { more + 1 } else { more }
+        }
+    }
+}
+
+/// How often a word stands among specifiers.
+fn times_among(word: Word, specifiers: &[TypeSpecifier]) -> usize
+    ensures count { result ≡ typed.times word (typed.words_of specifiers.now) }
+    ensures most { result ≤ length specifiers.now }
+{
+    match specifiers.split_first() {
+        None => 0,
+        Some((TypeSpecifier::Word(first), rest)) => {
+            let more = times_among(word, rest);
+            if *first == word { more + 1 } else { more }
+        }
+        Some((TypeSpecifier::Const, rest)) => times_among(word, rest),
+        Some((TypeSpecifier::Enum(_), rest)) => times_among(word, rest),
+    }
+}
+
+fn tags_count(specifiers: &[TypeSpecifier]) -> usize
+    ensures count { result ≡ typed.count (typed.tags_of specifiers.now) }
+    ensures most { result ≤ length specifiers.now }
+{
+    match specifiers.split_first() {
+        None => 0,
+        Some((TypeSpecifier::Enum(_), rest)) => tags_count(rest) + 1,
+        Some((TypeSpecifier::Const, rest)) => tags_count(rest),
+        Some((TypeSpecifier::Word(_), rest)) => tags_count(rest),
+    }
+}
+
+fn has_no_word(specifiers: &[TypeSpecifier]) -> bool
+    ensures { result ≡ is_empty (typed.words_of specifiers.now) }
+{
+    match specifiers.split_first() {
+        None => true,
+        Some((TypeSpecifier::Word(_), _)) => false,
+        Some((TypeSpecifier::Const, rest)) => has_no_word(rest),
+        Some((TypeSpecifier::Enum(_), rest)) => has_no_word(rest),
+    }
+}
+
+fn is_const(specifiers: &[TypeSpecifier]) -> bool
+    ensures { result ≡ typed.is_const specifiers.now }
+{
+    match specifiers.split_first() {
+        None => false,
+        Some((TypeSpecifier::Const, _)) => true,
+        Some((TypeSpecifier::Word(_), rest)) => is_const(rest),
+        Some((TypeSpecifier::Enum(_), rest)) => is_const(rest),
+    }
+}
+
+/// `enum tag` may stand only behind the end of the tag's list (6.7.2.3p3).
+fn tag_known(scope: &Scope, pos: Pos, tag: usize) -> Result<(), Refusal>
+    ensures ok { OnOk result (refuse_if (not (typed.is_complete (tag_in scope.now.tags tag))) code.BadEnumTag pos ≡ fine tt) }
+    ensures err { IfErr result (λ r. IsOf r (refuse_if (not (typed.is_complete (tag_in scope.now.tags tag))) code.BadEnumTag pos)) }
+{
+    match scope.lookup_tag(tag) {
+        Some(known) if known.complete => Ok(()),
+        _ => Err(Refusal::At {
+            code: Code::BadEnumTag,
+            pos,
+        }),
+    }
+}
+
+fn tags_known(scope: &Scope, pos: Pos, specifiers: &[TypeSpecifier]) -> Result<(), Refusal>
+    ensures ok { OnOk result (typed.tags_known scope.now pos (typed.tags_of specifiers.now) ≡ fine tt) }
+    ensures err { IfErr result (λ r. IsOf r (typed.tags_known scope.now pos (typed.tags_of specifiers.now))) }
+{
+    match specifiers.split_first() {
+        None => Ok(()),
+        Some((TypeSpecifier::Const, rest)) => tags_known(scope, pos, rest),
+        Some((TypeSpecifier::Word(_), rest)) => tags_known(scope, pos, rest),
+        Some((TypeSpecifier::Enum(tag), rest)) => match tag_known(scope, pos, *tag) {
+            Ok(()) => tags_known(scope, pos, rest),
+            Err(refusal) => Err(refusal),
+        },
+    }
+}
+
+/// Whether a word stands as often among the one as among the other.
+fn as_often(word: Word, words: &[Word], specifiers: &[TypeSpecifier]) -> bool
+    ensures { result ≡ nat_eq (typed.times word words.now) (typed.times word (typed.words_of specifiers.now)) }
+{
+    times(word, words) == times_among(word, specifiers)
+}
+
+/// The same words in any order.
+fn same_words(words: &[Word], specifiers: &[TypeSpecifier]) -> bool
+    ensures { result ≡ typed.same_words words.now (typed.words_of specifiers.now) }
+{
+    as_often(Word::Void, words, specifiers)
+        && as_often(Word::Char, words, specifiers)
+        && as_often(Word::Short, words, specifiers)
+        && as_often(Word::Int, words, specifiers)
+        && as_often(Word::Long, words, specifiers)
+        && as_often(Word::Signed, words, specifiers)
+        && as_often(Word::Unsigned, words, specifiers)
+        && as_often(Word::Bool, words, specifiers)
+}
+
+/// The type of the first of these sets that has the words.
+fn type_among(sets: &[WordSet], specifiers: &[TypeSpecifier]) -> Option<Option<IntType>>
+    ensures { result ≡ typed.type_among (map word_set_of sets.now) (typed.words_of specifiers.now) }
+{
+    match sets.split_first() {
+        None => None,
+        Some((set, rest)) => {
+            if same_words(set.words, specifiers) {
+                return Some(set.named);
+            }
+            type_among(rest, specifiers)
+        }
+    }
+}
+
+/// The sets of words (6.7.2p2).
+const SETS: [WordSet; 22] = [
+    WordSet {
+        words: &[Word::Void],
+        named: None,
+    },
+    WordSet {
+        words: &[Word::Char],
+        named: Some(IntType::Char),
+    },
+    WordSet {
+        words: &[Word::Signed, Word::Char],
+        named: Some(IntType::SChar),
+    },
+    WordSet {
+        words: &[Word::Unsigned, Word::Char],
+        named: Some(IntType::UChar),
+    },
+    WordSet {
+        words: &[Word::Short],
+        named: Some(IntType::Short),
+    },
+    WordSet {
+        words: &[Word::Signed, Word::Short],
+        named: Some(IntType::Short),
+    },
+    WordSet {
+        words: &[Word::Short, Word::Int],
+        named: Some(IntType::Short),
+    },
+    WordSet {
+        words: &[Word::Signed, Word::Short, Word::Int],
+        named: Some(IntType::Short),
+    },
+    WordSet {
+        words: &[Word::Unsigned, Word::Short],
+        named: Some(IntType::UShort),
+    },
+    WordSet {
+        words: &[Word::Unsigned, Word::Short, Word::Int],
+        named: Some(IntType::UShort),
+    },
+    WordSet {
+        words: &[Word::Int],
+        named: Some(IntType::Int),
+    },
+    WordSet {
+        words: &[Word::Signed],
+        named: Some(IntType::Int),
+    },
+    WordSet {
+        words: &[Word::Signed, Word::Int],
+        named: Some(IntType::Int),
+    },
+    WordSet {
+        words: &[Word::Unsigned],
+        named: Some(IntType::UInt),
+    },
+    WordSet {
+        words: &[Word::Unsigned, Word::Int],
+        named: Some(IntType::UInt),
+    },
+    WordSet {
+        words: &[Word::Long],
+        named: Some(IntType::Long),
+    },
+    WordSet {
+        words: &[Word::Signed, Word::Long],
+        named: Some(IntType::Long),
+    },
+    WordSet {
+        words: &[Word::Long, Word::Int],
+        named: Some(IntType::Long),
+    },
+    WordSet {
+        words: &[Word::Signed, Word::Long, Word::Int],
+        named: Some(IntType::Long),
+    },
+    WordSet {
+        words: &[Word::Unsigned, Word::Long],
+        named: Some(IntType::ULong),
+    },
+    WordSet {
+        words: &[Word::Unsigned, Word::Long, Word::Int],
+        named: Some(IntType::ULong),
+    },
+    WordSet {
+        words: &[Word::Bool],
+        named: Some(IntType::Bool),
+    },
+];
+
+/// The type that words name (6.7.2p2).
+fn type_of_words(specifiers: &[TypeSpecifier]) -> Option<Option<IntType>>
+    ensures { result ≡ typed.type_among typed.sets (typed.words_of specifiers.now) }
+{
+    type_among(&SETS, specifiers)
+}
+
+/// The type of words alone, or of one enumerated type alone, which is `int`, this profile's choice (6.7.2.2p4).
+fn named_type(specifiers: &[TypeSpecifier]) -> Option<Option<IntType>>
+    ensures { result ≡ typed.named_type (typed.count (typed.tags_of specifiers.now)) (typed.words_of specifiers.now) }
+{
+    match tags_count(specifiers) {
+        0 => type_of_words(specifiers),
+        1 if has_no_word(specifiers) => Some(Some(IntType::Int)),
+        _ => None,
+    }
+}
+
+/// The type of specifiers that bring no list of enumerators. Else 525 stands at them where `enum tag` names no complete type, and
+/// 511 where they name no type.
+pub(crate) fn base_type(scope: &Scope, specifiers: &TypeSpecifiers) -> Result<BaseType, Refusal>
+    ensures ok { IfOk result (λ b. typed.base_type scope.now specifiers.now.pos specifiers.now.list.items ≡ fine (base_type_of b)) }
+    ensures err { IfErr result (λ r. IsOf r (typed.base_type scope.now specifiers.now.pos specifiers.now.list.items)) }
+{
+    let list = specifiers.list.as_slice();
+    match tags_known(scope, specifiers.pos, list) {
+        Ok(()) => {}
+        Err(refusal) => return Err(refusal),
+    }
+    match named_type(list) {
+        Some(named) => Ok(BaseType {
+            named,
+            constant: is_const(list),
+        }),
+        None => Err(Refusal::At {
+            code: Code::BadTypeSpecifiers,
+            pos: specifiers.pos,
+        }),
+    }
+}
