@@ -1,0 +1,12 @@
+//! The abstract machine in memory: runs a typed program without translating it (ISO/IEC 9899:2011 5.1.2.3).
+#![tactic(auto)]
+
+mod element_tree;
+mod path;
+mod reference;
+mod store;
+
+pub use element_tree::Tree;
+pub use path::Path;
+pub use reference::Reference;
+pub use store::Store;

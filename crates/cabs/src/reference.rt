@@ -1,0 +1,40 @@
+//! References into the store.
+
+ghost use Rattle.std.specs.Prelude.{◌≡◌, IfOk};
+ghost use Rattle.meaning.specs.Store.{whole, into};
+ghost use Rattle.cabs.specs.View.{reference_of};
+
+use crate::path::Path;
+use std::alloc::{AllocError, Global};
+
+/// An object by its number, and a part of it. There are no addresses (6.5.2.1).
+#[derive(Drop)]
+pub struct Reference {
+    pub object: usize,
+    pub path: Path,
+}
+
+impl Reference {
+    /// The whole object.
+    pub fn whole(object: usize) -> Reference
+        ensures { reference_of result ≡ whole object }
+    {
+        Reference {
+            object,
+            path: Path::Whole,
+        }
+    }
+
+    /// The element or row `i` of the array (6.5.2.1p2).
+    ///
+    /// Errors: memory ran out.
+    pub fn into_part(self, alloc: Global, i: usize) -> Result<Reference, AllocError>
+        ensures { IfOk result (λ r. reference_of r ≡ into (reference_of self) i) }
+    {
+        let path = self.path.into_part(alloc, i)?;
+        Ok(Reference {
+            object: self.object,
+            path,
+        })
+    }
+}
