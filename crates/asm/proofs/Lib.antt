@@ -9,3 +9,4 @@ pub mod WordLemmas
 pub mod Listings
 pub mod Opposites
 pub mod Telling
+pub mod Parts

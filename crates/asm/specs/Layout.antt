@@ -1,5 +1,5 @@
 -- Where items stand under a choice of long branches, which choices fit, and which lists of items are sound.
-use Rattle.std.specs.Prelude.{◌≡◌, ◌≤◌, ◌<◌, ℕ, zero, suc, ◌+◌, ◌%◌, ◌^◌, Bool, true, false, if◌then◌else◌, List, slice_index_or, length, sum_by}
+use Rattle.std.specs.Prelude.{◌≡◌, ◌≤◌, ◌<◌, ℕ, zero, suc, ◌+◌, ◌%◌, ◌^◌, Bool, true, false, if◌then◌else◌, List, ◌++◌, slice_index_or, length, sum_by}
 use Rattle.asm.specs.declared.item.Item.{Item}
 use Rattle.asm.specs.declared.item.Item.TheVariants.{Mark, Plain, Branch, Jump, Call, Constant, LabelAddress, DataAddress}
 
@@ -42,6 +42,14 @@ longest xs = sum_by (size true) xs
 -- with all branches long items end after the most bytes that they take
 abbrev pub EndsAfterLongest : Type 0
 EndsAfterLongest = (base : ℕ) (xs : List Item) → place all_long base xs (length xs) ≡ base + longest xs
+
+-- the items of a list in two parts: those of the first stand as if they were alone, those of the second as if they were alone
+-- where the first ends
+abbrev pub PlacesInParts : Type 0
+PlacesInParts =
+    (L : ℕ → Bool) (base : ℕ) (xs ys : List Item)
+    → ((k : ℕ) → k ≤ length xs → place L base (xs ++ ys) k ≡ place L base xs k)
+    × ((k : ℕ) → place L base (xs ++ ys) (length xs + k) ≡ place (λ j. L (length xs + j)) (place L base xs (length xs)) ys k)
 
 -- the code of xs at base is whole words, no fewer than with all branches short, and no more than with all long
 pub record IsSized (base : ℕ) (xs : List Item) (bytes : ℕ) : Type 0 where

@@ -1,6 +1,6 @@
 //! Laws of placed code, for proofs about code that is made of parts.
 
-ghost use Rattle.asm.specs.Layout.{EndsAfterLongest};
+ghost use Rattle.asm.specs.Layout.{EndsAfterLongest, PlacesInParts};
 ghost use Rattle.asm.specs.Placed.{OppositeHoldsWhereNot, StandsInParts};
 
 /// A list of items stands in parts exactly where it stands.
@@ -16,4 +16,9 @@ pub fn opposite_holds_where_not()
 /// With all branches long the items end after the sum of their greatest sizes.
 pub fn ends_after_longest()
     ensures { EndsAfterLongest }
+{}
+
+/// Where the items of a list in two parts stand.
+pub fn places_in_parts()
+    ensures { PlacesInParts }
 {}

@@ -161,6 +161,16 @@ reference_into_a_frame_that_waits :
 unfolding step
 reference_into_a_frame_that_waits = refl
 
+-- A reference leads where it leads whichever call is active: here to the word in front of the arrays of a later call, whose frame
+-- lies where that of an earlier one lay. There are no arrays.
+reference_to_a_frame_that_is_gone :
+    run_of (whole (
+    plain (call 1 ∷ call 2 ∷ return ∷ []) ∷
+    with_area 0 4 (address t0 (in_frame 0) ∷ return ∷ []) ∷
+    with_area 1 4 (move (to_cell 0) (temporary 0) ∷ store word (constant 5) (in_frame 0) ∷ load word t0 (at (cell 0)) ∷ return ∷ []) ∷ [])) 7 ≡ stuck
+unfolding step
+reference_to_a_frame_that_is_gone = refl
+
 -- static unsigned char s[] = { 1, 2 }; s[0] = 5; return s[0] + s[1];
 statics_begin_with_their_bytes :
     let p : Program = record { functions = with_cells 1 (store byte (constant 5) (in_statics 0) ∷ load byte (to_cell 0) (in_statics 1) ∷ load byte t0 (in_statics 0) ∷ add t0 (temporary 0) (cell 0) ∷ return ∷ []) ∷ []; statics = 1 ∷ 2 ∷ []; main = 0 } in

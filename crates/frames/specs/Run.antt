@@ -17,10 +17,11 @@ use Rattle.frames.specs.declared.code.Conversion.{Conversion}
 use Rattle.frames.specs.declared.code.Conversion.TheVariants as conversion
 use Rattle.frames.specs.declared.code.Instruction.{Instruction}
 use Rattle.frames.specs.declared.code.Instruction.TheVariants as instruction
-use Rattle.frames.specs.Code.{Function, Program, frame_bytes}
+use Rattle.frames.specs.Code.{Function, Program, area_home, frame_bytes}
 
 -- a word below 2^32; or a reference: the statics by the number 0, a frame by how many bytes of the stack lie from its
--- start on, and how many bytes on in the statics or in the arrays of the frame
+-- start on; and how many bytes lie from the start of the statics or of the frame up to what it names. So where a reference
+-- leads does not depend on which calls are active.
 pub data Value : Type 0 where
   word : (w : ℕ) → Value
   reference : (list offset : ℕ) → Value
@@ -38,7 +39,8 @@ unset k = None
 abbrev pub with_at : {A : Type 0} → (ℕ → Option A) → ℕ → A → ℕ → Option A
 with_at m k x j = if j == k then Some x else m j
 
--- a call: its function, the number of the instruction where it goes on, its words, and the bytes of its arrays
+-- a call: its function, the number of the instruction where it goes on, its words, and the bytes of its arrays, by how many
+-- bytes lie from the frame's start up to them
 pub record Frame : Type 0 where
   pub function : ℕ
   pub at : ℕ
@@ -184,18 +186,23 @@ bytes_of p (f ∷ fs) = frame_bytes (function_at p f.function) + bytes_of p fs
 abbrev pub name_of : Program → Frame → List Frame → ℕ
 name_of p f fs = frame_bytes (function_at p f.function) + bytes_of p fs
 
--- the bytes of a list, and how many there are
+-- the bytes of a list, the offset of the first, and the one past the last
 pub record Memory : Type 0 where
   pub bytes : Bytes
-  pub size : ℕ
+  pub first : ℕ
+  pub past : ℕ
+
+-- the arrays of a frame
+abbrev pub arrays : Function → Bytes → Memory
+arrays f b = record { bytes = b; first = area_home f; past = area_home f + f.area }
 
 abbrev pub memory_among : Program → List Frame → ℕ → Option Memory
 memory_among p [] l = None
 memory_among p (f ∷ fs) l =
-    if name_of p f fs == l then Some (record { bytes = f.area; size = (function_at p f.function).area }) else memory_among p fs l
+    if name_of p f fs == l then Some (arrays (function_at p f.function) f.area) else memory_among p fs l
 
 abbrev pub memory : Program → State → ℕ → Option Memory
-memory p s zero = Some (record { bytes = s.statics; size = length p.statics })
+memory p s zero = Some (record { bytes = s.statics; first = 0; past = length p.statics })
 memory p s (suc l) = memory_among p (s.frame ∷ s.waiting) (suc l)
 
 abbrev pub changed_among : Program → List Frame → ℕ → Bytes → List Frame
@@ -212,21 +219,22 @@ with_memory p s zero b = record s { statics = b }
 with_memory p s (suc l) b = with_frames s (changed_among p (s.frame ∷ s.waiting) (suc l) b)
 
 -- an element lies within its list, at a multiple of its size
-abbrev pub fits : Width → ℕ → ℕ → Bool
-fits w o size = (o % size_of w == 0) && nat_le (o + size_of w) size
+abbrev pub fits : Width → ℕ → Memory → Bool
+fits w o m = (o % size_of w == 0) && (nat_le m.first o && nat_le (o + size_of w) m.past)
 
 abbrev pub place : Program → State → Location → Option Reference
 place p s (location.Statics o) = Some (record { list = 0; offset = o })
-place p s (location.Frame o) = Some (record { list = name_of p s.frame s.waiting; offset = o })
+place p s (location.Frame o) =
+    Some (record { list = name_of p s.frame s.waiting; offset = area_home (function_at p s.frame.function) + o })
 place p s (location.At x) = reference_in (value s x)
 
 abbrev pub loaded : Program → State → Width → Target → Reference → Progress
 loaded p s w d r =
-    memory p s r.list >>= λ m. if fits w r.offset m.size then element_in w m.bytes r.offset >>= gives_word d s else stuck
+    memory p s r.list >>= λ m. if fits w r.offset m then element_in w m.bytes r.offset >>= gives_word d s else stuck
 
 abbrev pub stored : Program → State → Width → ℕ → Reference → Progress
 stored p s w v r =
-    memory p s r.list >>= λ m. if fits w r.offset m.size then running (with_memory p (next s) r.list (with_element w m.bytes r.offset v)) else stuck
+    memory p s r.list >>= λ m. if fits w r.offset m then running (with_memory p (next s) r.list (with_element w m.bytes r.offset v)) else stuck
 
 -- ---- calls
 

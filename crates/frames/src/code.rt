@@ -1,5 +1,10 @@
 //! Flat code.
 
+ghost use Rattle.std.specs.Prelude.{◌≡◌, ◌≤◌, ◌<◌};
+ghost use Rattle.frames.specs.Code as flat;
+ghost use Rattle.frames.specs.Code.{function_of};
+ghost use Rattle.frames.specs.Sound.{most_bytes};
+
 use rv32::{RegisterOp, Test};
 
 /// What an instruction reads.
@@ -137,6 +142,33 @@ pub struct Function {
     pub area: usize,
     /// How many temporaries from the ninth on it has. They lie at the frame's start, where arguments from the ninth on belong.
     pub outgoing: usize,
+}
+
+impl Function {
+    /// How many bytes above the frame's start a word of the frame lies.
+    pub fn cell_home(&self, number: usize) -> u32
+        requires small { flat.frame_bytes (function_of self.now) ≤ most_bytes }
+        requires inside { number < self.now.cells }
+        ensures { result ≡ flat.cell_home (function_of self.now) number }
+    {
+        (4 * self.outgoing + 4 + 4 * number) as u32
+    }
+
+    /// How many bytes above the frame's start its arrays begin.
+    pub fn area_home(&self) -> u32
+        requires { flat.frame_bytes (function_of self.now) ≤ most_bytes }
+        ensures { result ≡ flat.area_home (function_of self.now) }
+    {
+        (4 * self.outgoing + 4 + 4 * self.cells) as u32
+    }
+
+    /// The bytes of its frame, a multiple of 16.
+    pub fn frame_bytes(&self) -> u32
+        requires { flat.frame_bytes (function_of self.now) ≤ most_bytes }
+        ensures { result ≡ flat.frame_bytes (function_of self.now) }
+    {
+        ((4 * self.outgoing + 4 + 4 * self.cells + self.area + 4 + 15) / 16 * 16) as u32
+    }
 }
 
 /// A program: its functions, the bytes of its statics as it begins, and the number of `main`.

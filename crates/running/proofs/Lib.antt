@@ -5,3 +5,4 @@ pub mod Worlds
 pub mod Placing
 pub mod ItemSteps
 pub mod Keeping
+pub mod Words

@@ -1,0 +1,173 @@
+-- How long the selected items are.
+use Rattle.std.proofs.Common.{◌≡◌, ◌≤◌, ℕ, zero, suc, ◌+◌, ◌-◌, ◌*◌, ◌%◌, ◌^◌, Bool, true, false, List, [], ◌∷◌, ◌++◌, refl, arith}
+use Rattle.std.specs.Prelude.{if◌then◌else◌, nat_lt, ◌==◌, sum_by}
+use Rattle.std.proofs.lemmas.List.Sums.{sum_by-append, sum_by-cons}
+use Rattle.rv32.specs.declared.instr.Instr.{Instr}
+use Rattle.rv32.specs.declared.instr.Instr.TheVariants as instr
+use Rattle.rv32.specs.declared.instr.RegisterOp.TheVariants as register_op
+use Rattle.asm.specs.declared.item.Item.{Item}
+use Rattle.asm.specs.declared.item.Item.TheVariants as item
+use Rattle.asm.specs.Layout.{size, longest}
+use Rattle.frames.specs.declared.code.Location.{Location}
+use Rattle.frames.specs.declared.code.Location.TheVariants as location
+use Rattle.frames.specs.declared.code.Operation.{Operation}
+use Rattle.frames.specs.declared.code.Operation.TheVariants as operation
+use Rattle.frames.specs.declared.code.Conversion.{Conversion}
+use Rattle.frames.specs.declared.code.Conversion.TheVariants as conversion
+use Rattle.frames.specs.declared.code.Instruction.{Instruction}
+use Rattle.frames.specs.declared.code.Instruction.TheVariants as instruction
+use Rattle.frames.specs.Code.{Function, cell_home, area_home, frame_bytes}
+use Rattle.select.specs.declared.places.Source.{Source}
+use Rattle.select.specs.declared.places.Source.TheVariants as source
+use Rattle.select.specs.declared.places.Home.{Home}
+use Rattle.select.specs.declared.places.Home.TheVariants as home
+use Rattle.select.specs.Selected as selected
+use Rattle.select.specs.Selected.{source_of, home_of, fetch, into, keep, made_in, register_of, far, load_word, store_word, address_of, move, operate, narrow, reach, reference, scale, put_byte, get_byte, change_sp, saves, restores, entry, leave, return_home, byte_home, items_of, set_to}
+use Rattle.select.specs.Program.{code_items, function_items}
+use Rattle.select.specs.Bytes.{word_bytes, fetch_bytes, keep_bytes, into_bytes, move_bytes, reach_bytes, reference_bytes, saved_bytes, entry_bytes, instruction_bytes, CodeIsShort}
+
+both : (xs ys : List Item) (a b : ℕ) → longest xs ≤ a → longest ys ≤ b → longest (xs ++ ys) ≤ a + b
+both xs ys a b p q = let sum : longest (xs ++ ys) ≡ longest xs + longest ys = sum_by-append (size true) xs ys in omega (arith, p, q, sum)
+
+either : (t : Bool) (xs ys : List Item) (a : ℕ) → longest xs ≤ a → longest ys ≤ a → longest (if t then xs else ys) ≤ a
+either true xs ys a p q = p
+either false xs ys a p q = q
+
+one_of : (t : Bool) (x y : Item) (a : ℕ) → longest (x ∷ []) ≤ a → longest (y ∷ []) ≤ a → longest ((if t then x else y) ∷ []) ≤ a
+one_of true x y a p q = p
+one_of false x y a p q = q
+
+more : (xs : List Item) (a b : ℕ) → a ≤ b → longest xs ≤ a → longest xs ≤ b
+more xs a b le p = omega (arith, le, p)
+
+with_one : (i : Instr) (ys : List Item) (b : ℕ) → longest ys ≤ b → longest (item.Plain i ∷ ys) ≤ 4 + b
+with_one i ys b p = both (item.Plain i ∷ []) ys 4 b (omega arith) p
+
+far_short : (x o : ℕ) → longest (far x o) ≤ 8
+far_short x o = either (nat_lt o 0x800) [] _ 8 (omega arith) (omega arith)
+
+word_short : (t : Bool) (xs : List Item) (y : Item) → size true y ≡ 4 → longest xs ≡ 8 → longest ((if t then [] else xs) ++ (y ∷ [])) ≤ (if t then 4 else 12)
+word_short true xs y one two = omega (arith, one)
+word_short false xs y one two = both xs (y ∷ []) 8 4 (omega (arith, two)) (omega (arith, one))
+
+load_word_short : (rd o : ℕ) → longest (load_word rd o) ≤ word_bytes o
+load_word_short rd o = word_short (nat_lt o 0x800) _ _ refl refl
+
+store_word_short : (s o : ℕ) → longest (store_word s o) ≤ word_bytes o
+store_word_short s o = word_short (nat_lt o 0x800) _ _ refl refl
+
+address_short : (rd o : ℕ) → longest (address_of rd o) ≤ 12
+address_short rd o = either (nat_lt o 0x800) _ _ 12 (omega arith) (omega arith)
+
+set_short : (rd v : ℕ) → longest (set_to rd v ∷ []) ≤ 8
+set_short rd v = one_of (nat_lt ((v + 0x800) % 2 ^ 32) 0x1000) _ _ 8 (omega arith) (omega arith)
+
+fetch_short : (x : ℕ) (s : Source) → longest (fetch x s) ≤ fetch_bytes s
+fetch_short x (source.Register r) = omega arith
+fetch_short x (source.Frame o) = load_word_short x o
+fetch_short x (source.Constant v) = set_short x v
+
+into_short : (rd : ℕ) (s : Source) → longest (into rd s) ≤ into_bytes s
+into_short rd (source.Register r) = omega arith
+into_short rd (source.Frame o) = load_word_short rd o
+into_short rd (source.Constant v) = set_short rd v
+
+keep_short : (d : Home) → longest (keep d) ≤ keep_bytes d
+keep_short (home.Register r) = omega arith
+keep_short (home.Frame o) = store_word_short 5 o
+
+move_short : (d : Home) (s : Source) → longest (move d s) ≤ move_bytes d s
+move_short (home.Register r) s = into_short r s
+move_short (home.Frame o) s = both (fetch 5 s) _ _ _ (fetch_short 5 s) (store_word_short (register_of 5 s) o)
+
+operate_short : (o : Operation) (rd a b : ℕ) → longest (operate o rd a b) ≤ 8
+operate_short (operation.Machine o) rd a b = omega arith
+operate_short operation.Equal rd a b = omega arith
+operate_short operation.NotEqual rd a b = omega arith
+
+narrow_short : (c : Conversion) (rd a : ℕ) → longest (narrow c rd a) ≤ 8
+narrow_short conversion.ToByte rd a = omega arith
+narrow_short conversion.ToSignedByte rd a = omega arith
+narrow_short conversion.ToHalf rd a = omega arith
+narrow_short conversion.ToSignedHalf rd a = omega arith
+narrow_short conversion.ToTruth rd a = omega arith
+
+reach_short : (f : Function) (l : Location) → longest (reach f l) ≤ reach_bytes f l
+reach_short f (location.Statics o) = omega arith
+reach_short f (location.Frame o) = far_short 6 (area_home f + o)
+reach_short f (location.At x) = fetch_short 6 (source_of f x)
+
+reference_short : (f : Function) (d : Home) (l : Location) → longest (reference f d l) ≤ reference_bytes f d l
+reference_short f d (location.Statics o) = both (item.DataAddress (made_in d) o ∷ []) (keep d) 8 _ (omega arith) (keep_short d)
+reference_short f d (location.Frame o) = both (address_of (made_in d) (area_home f + o)) (keep d) 12 _ (address_short (made_in d) (area_home f + o)) (keep_short d)
+reference_short f d (location.At x) = move_short d (source_of f x)
+
+scale_short : (a n : ℕ) → longest (scale a n) ≤ 12
+scale_short a n = either (n == 1) _ _ 12 (omega arith) (either (n == 2) _ _ 12 (omega arith) (either (n == 4) _ _ 12 (omega arith) (omega arith)))
+
+change_short : (by : ℕ) → longest (change_sp by) ≤ 12
+change_short by = either (nat_lt ((by + 0x800) % 2 ^ 32) 0x1000) _ _ 12 (omega arith) (omega arith)
+
+saves_short : (f : Function) (n : ℕ) → longest (saves f n) ≤ saved_bytes f n
+saves_short f zero = omega arith
+saves_short f (suc n) = both (saves f n) _ _ _ (saves_short f n) (store_word_short (selected.kept n) (cell_home f n))
+
+restores_short : (f : Function) (n : ℕ) → longest (restores f n) ≤ saved_bytes f n
+restores_short f zero = omega arith
+restores_short f (suc n) = both (restores f n) _ _ _ (restores_short f n) (load_word_short (selected.kept n) (cell_home f n))
+
+entry_short : (f : Function) → longest (entry f) ≤ entry_bytes f
+entry_short f =
+    both (change_sp (2 ^ 32 - frame_bytes f)) _ 12 _ (change_short (2 ^ 32 - frame_bytes f))
+    (both (store_word 1 (return_home f)) _ _ _ (store_word_short 1 (return_home f)) (saves_short f f.resident))
+
+leave_short : (f : Function) → longest (leave f) ≤ saved_bytes f f.resident + (word_bytes (return_home f) + 16)
+leave_short f =
+    both (restores f f.resident) _ _ _ (restores_short f f.resident)
+    (both (load_word 1 (return_home f)) _ _ 16 (load_word_short 1 (return_home f))
+    (both (change_sp (frame_bytes f)) _ 12 4 (change_short (frame_bytes f)) (omega arith)))
+
+items_short : (f : Function) (first : ℕ) (x : Instruction) → longest (items_of f first x) ≤ instruction_bytes f x
+items_short f first instruction.Nothing = omega arith
+items_short f first (instruction.Move d x) = move_short (home_of f d) (source_of f x)
+items_short f first (instruction.Compute o d x y) =
+    both (fetch 5 (source_of f x)) _ _ _ (fetch_short 5 (source_of f x))
+    (both (fetch 6 (source_of f y)) _ _ _ (fetch_short 6 (source_of f y))
+    (both (operate o (made_in (home_of f d)) (register_of 5 (source_of f x)) (register_of 6 (source_of f y))) _ 8 _ (operate_short o _ _ _) (keep_short (home_of f d))))
+items_short f first (instruction.Convert c d x) =
+    both (fetch 5 (source_of f x)) _ _ _ (fetch_short 5 (source_of f x))
+    (both (narrow c (made_in (home_of f d)) (register_of 5 (source_of f x))) _ 8 _ (narrow_short c _ _) (keep_short (home_of f d)))
+items_short f first (instruction.Load w d l) =
+    both (reach f l) _ _ _ (reach_short f l) (with_one (instr.Load (selected.load_of w) (made_in (home_of f d)) (selected.reach_base f l) (selected.reach_offset f l)) (keep (home_of f d)) _ (keep_short (home_of f d)))
+items_short f first (instruction.Store w x l) =
+    both (fetch 5 (source_of f x)) _ _ _ (fetch_short 5 (source_of f x)) (both (reach f l) _ _ 4 (reach_short f l) (omega arith))
+items_short f first (instruction.Address d l) = reference_short f (home_of f d) l
+items_short f first (instruction.Element d x y n) =
+    both (fetch 5 (source_of f x)) _ _ _ (fetch_short 5 (source_of f x))
+    (both (fetch 6 (source_of f y)) _ _ _ (fetch_short 6 (source_of f y))
+    (let sum = instr.Op register_op.Add (made_in (home_of f d)) (register_of 5 (source_of f x)) (selected.scaled_in (register_of 6 (source_of f y)) n) in
+    let last = keep (home_of f d) in
+    let scaled = scale (register_of 6 (source_of f y)) n in
+    more (scaled ++ (item.Plain sum ∷ last)) (12 + (4 + keep_bytes (home_of f d))) _ (omega arith)
+    (both scaled (item.Plain sum ∷ last) 12 _ (scale_short _ n) (with_one sum last _ (keep_short (home_of f d))))))
+items_short f first (instruction.Jump to) = omega arith
+items_short f first (instruction.Branch t x y to) =
+    both (fetch 5 (source_of f x)) _ _ _ (fetch_short 5 (source_of f x)) (both (fetch 6 (source_of f y)) _ _ 8 (fetch_short 6 (source_of f y)) (omega arith))
+items_short f first (instruction.Call g) = omega arith
+items_short f first instruction.PutByte = both (address_of 11 (byte_home f)) _ 12 20 (address_short 11 (byte_home f)) (omega arith)
+items_short f first instruction.GetByte = both (address_of 11 (byte_home f)) _ 12 28 (address_short 11 (byte_home f)) (omega arith)
+items_short f first instruction.Exit = omega arith
+items_short f first instruction.Return = leave_short f
+
+code_short : (f : Function) (first k : ℕ) (xs : List Instruction) → longest (code_items f first k xs) ≤ sum_by (instruction_bytes f) xs
+code_short f first k [] = omega arith
+code_short f first k (x ∷ xs) =
+    let sum : sum_by (instruction_bytes f) (x ∷ xs) ≡ instruction_bytes f x + sum_by (instruction_bytes f) xs = sum_by-cons (instruction_bytes f) x xs in
+    let rest = both (item.Mark (first + k) ∷ []) (items_of f first x ++ code_items f first (k + 1) xs) 0 _ (omega arith)
+    (both (items_of f first x) (code_items f first (k + 1) xs) _ _ (items_short f first x) (code_short f first (k + 1) xs)) in
+    more (code_items f first k (x ∷ xs)) (0 + (instruction_bytes f x + sum_by (instruction_bytes f) xs)) _ (omega (arith, sum)) rest
+
+pub code_is_short : CodeIsShort
+code_is_short f k first =
+    more (function_items k first f) (0 + (entry_bytes f + sum_by (instruction_bytes f) f.code)) _ (omega arith)
+    (both (item.Mark k ∷ []) (entry f ++ code_items f first 0 f.code) 0 _ (omega arith) (both (entry f) (code_items f first 0 f.code) _ _ (entry_short f) (code_short f first 0 f.code)))

@@ -1,0 +1,36 @@
+-- The items of a whole flat program.
+use Rattle.std.specs.Prelude.{ℕ, ◌+◌, List, [], ◌∷◌, ◌++◌, length}
+use Rattle.loader.specs.MemoryMap.{stack_end}
+use Rattle.asm.specs.declared.item.Item.{Item}
+use Rattle.asm.specs.declared.item.Item.TheVariants as item
+use Rattle.frames.specs.declared.code.Instruction.{Instruction}
+use Rattle.frames.specs.Code as flat
+use Rattle.frames.specs.Code.{Function}
+use Rattle.frames.specs.Sound.{places_of}
+use Rattle.select.specs.Selected.{entry, exit, items_of}
+
+-- the items of a function's instructions from number k on, each behind its mark; the function's end has a mark too
+abbrev pub code_items : Function → ℕ → ℕ → List Instruction → List Item
+code_items f first k [] = item.Mark (first + k) ∷ []
+code_items f first k (x ∷ xs) = item.Mark (first + k) ∷ (items_of f first x ++ code_items f first (k + 1) xs)
+
+-- function number k
+abbrev pub function_items : ℕ → ℕ → Function → List Item
+function_items k first f = item.Mark k ∷ (entry f ++ code_items f first 0 f.code)
+
+-- the functions from number k on
+abbrev pub functions_items : ℕ → ℕ → List Function → List Item
+functions_items k first [] = []
+functions_items k first (f ∷ fs) = function_items k first f ++ functions_items (k + 1) (first + (length f.code + 1)) fs
+
+-- the program begins at the stack's end with a call of main, and ends with main's result as its status
+abbrev pub start_items : ℕ → List Item
+start_items main = item.Constant 2 stack_end ∷ item.Call main ∷ exit
+
+-- The labels: first those of the functions, by their numbers; then, a function after the other, those of its instructions and of
+-- its end.
+abbrev pub program_items : flat.Program → List Item
+program_items p = start_items p.main ++ functions_items 0 (length p.functions) p.functions
+
+abbrev pub labels_of : flat.Program → ℕ
+labels_of p = length p.functions + places_of p.functions

@@ -1,0 +1,277 @@
+-- The items of each flat instruction.
+use Rattle.std.specs.Prelude.{ℕ, zero, suc, ◌+◌, ◌*◌, ◌-◌, ◌/◌, ◌%◌, ◌^◌, ◌==◌, nat_lt, nat_le, if◌then◌else◌, List, [], ◌∷◌, ◌++◌}
+use Rattle.rv32.specs.declared.instr.Instr.TheVariants as instr
+use Rattle.rv32.specs.declared.instr.ImmediateOp.TheVariants as immediate_op
+use Rattle.rv32.specs.declared.instr.RegisterOp.{RegisterOp}
+use Rattle.rv32.specs.declared.instr.RegisterOp.TheVariants as register_op
+use Rattle.rv32.specs.declared.instr.Test.{Test}
+use Rattle.rv32.specs.declared.instr.ShiftOp.{ShiftOp}
+use Rattle.rv32.specs.declared.instr.ShiftOp.TheVariants as shift_op
+use Rattle.rv32.specs.declared.instr.LoadKind.{LoadKind}
+use Rattle.rv32.specs.declared.instr.LoadKind.TheVariants as load_kind
+use Rattle.rv32.specs.declared.instr.StoreKind.{StoreKind}
+use Rattle.rv32.specs.declared.instr.StoreKind.TheVariants as store_kind
+use Rattle.asm.specs.declared.item.Item.{Item}
+use Rattle.asm.specs.declared.item.Item.TheVariants as item
+use Rattle.frames.specs.declared.code.Operand.{Operand}
+use Rattle.frames.specs.declared.code.Operand.TheVariants as operand
+use Rattle.frames.specs.declared.code.Target.{Target}
+use Rattle.frames.specs.declared.code.Target.TheVariants as target
+use Rattle.frames.specs.declared.code.Width.{Width}
+use Rattle.frames.specs.declared.code.Width.TheVariants as width
+use Rattle.frames.specs.declared.code.Location.{Location}
+use Rattle.frames.specs.declared.code.Location.TheVariants as location
+use Rattle.frames.specs.declared.code.Operation.{Operation}
+use Rattle.frames.specs.declared.code.Operation.TheVariants as operation
+use Rattle.frames.specs.declared.code.Conversion.{Conversion}
+use Rattle.frames.specs.declared.code.Conversion.TheVariants as conversion
+use Rattle.frames.specs.declared.code.Instruction.{Instruction}
+use Rattle.frames.specs.declared.code.Instruction.TheVariants as instruction
+use Rattle.frames.specs.Code.{Function, cell_home, area_home, frame_bytes}
+use Rattle.select.specs.declared.places.Source.{Source}
+use Rattle.select.specs.declared.places.Source.TheVariants as source
+use Rattle.select.specs.declared.places.Home.{Home}
+use Rattle.select.specs.declared.places.Home.TheVariants as home
+
+-- ---- single instructions
+
+-- rd = left + value
+abbrev pub add_to : ℕ → ℕ → ℕ → Item
+add_to rd left value = item.Plain (instr.Immediate immediate_op.Add rd left value)
+
+abbrev pub operate_on : RegisterOp → ℕ → ℕ → ℕ → Item
+operate_on o rd left right = item.Plain (instr.Op o rd left right)
+
+abbrev pub shifted : ShiftOp → ℕ → ℕ → ℕ → Item
+shifted o rd left amount = item.Plain (instr.Shift o rd left amount)
+
+-- ---- registers (RISC-V ELF psABI, "Integer Register Convention")
+
+-- s0 to s11 are x8, x9, and x18 to x27
+abbrev pub kept : ℕ → ℕ
+kept j = if nat_lt j 2 then 8 + j else 16 + j
+
+-- temporaries 0 to 7 are in a0 to a7, which are x10 to x17
+abbrev pub argument : ℕ → ℕ
+argument k = 10 + k
+
+-- ---- places of the frame, so many bytes above sp
+
+-- an offset in two parts: a multiple of 4096, and one of 12 bits with a sign
+abbrev pub upper_of : ℕ → ℕ
+upper_of o = (o + 0x800) / 0x1000 * 0x1000
+
+abbrev pub lower_of : ℕ → ℕ
+lower_of o = (o + (2 ^ 32 - upper_of o)) % 2 ^ 32
+
+-- what comes before an access to a place past the reach of 12 bits, where register x is free; and the register that the access
+-- counts from
+abbrev pub far : ℕ → ℕ → List Item
+far x o = if nat_lt o 0x800 then [] else item.Plain (instr.Lui x (upper_of o)) ∷ operate_on register_op.Add x x 2 ∷ []
+
+abbrev pub base_of : ℕ → ℕ → ℕ
+base_of x o = if nat_lt o 0x800 then 2 else x
+
+-- x7 is free wherever a word is stored
+abbrev pub load_word : ℕ → ℕ → List Item
+load_word rd o = far rd o ++ (item.Plain (instr.Load load_kind.Word rd (base_of rd o) (lower_of o)) ∷ [])
+
+abbrev pub store_word : ℕ → ℕ → List Item
+store_word s o = far 7 o ++ (item.Plain (instr.Store store_kind.Word s (base_of 7 o) (lower_of o)) ∷ [])
+
+abbrev pub address_of : ℕ → ℕ → List Item
+address_of rd o = if nat_lt o 0x800 then add_to rd 2 o ∷ [] else item.Constant rd o ∷ operate_on register_op.Add rd rd 2 ∷ []
+
+-- ---- operands and targets
+
+-- where an operand's value is; zero is in x0
+abbrev pub source_of : Function → Operand → Source
+source_of f (operand.Temporary k) = if nat_lt k 8 then source.Register (argument k) else source.Frame (4 * (k - 8))
+source_of f (operand.Cell c) = if nat_lt c f.resident then source.Register (kept c) else source.Frame (cell_home f c)
+source_of f (operand.Constant v) = if v == 0 then source.Register 0 else source.Constant v
+source_of f (operand.Argument k) = source.Frame (frame_bytes f + 4 * (k - 8))
+
+-- where a result goes
+abbrev pub home_of : Function → Target → Home
+home_of f (target.Temporary k) = if nat_lt k 8 then home.Register (argument k) else home.Frame (4 * (k - 8))
+home_of f (target.Cell c) = if nat_lt c f.resident then home.Register (kept c) else home.Frame (cell_home f c)
+
+abbrev pub set_to : ℕ → ℕ → Item
+set_to rd v = if nat_lt ((v + 0x800) % 2 ^ 32) 0x1000 then add_to rd 0 v else item.Constant rd v
+
+-- what makes a value be in the register that it is then read from; x is free
+abbrev pub fetch : ℕ → Source → List Item
+fetch x (source.Register r) = []
+fetch x (source.Frame o) = load_word x o
+fetch x (source.Constant v) = set_to x v ∷ []
+
+abbrev pub register_of : ℕ → Source → ℕ
+register_of x (source.Register r) = r
+register_of x (source.Frame o) = x
+register_of x (source.Constant v) = x
+
+-- a value into register rd
+abbrev pub into : ℕ → Source → List Item
+into rd (source.Register r) = add_to rd r 0 ∷ []
+into rd (source.Frame o) = load_word rd o
+into rd (source.Constant v) = set_to rd v ∷ []
+
+-- the register that a result is made in, and what puts it where it belongs
+abbrev pub made_in : Home → ℕ
+made_in (home.Register r) = r
+made_in (home.Frame o) = 5
+
+abbrev pub keep : Home → List Item
+keep (home.Register r) = []
+keep (home.Frame o) = store_word 5 o
+
+-- ---- forms of instructions
+
+abbrev pub move : Home → Source → List Item
+move (home.Register r) x = into r x
+move (home.Frame o) x = fetch 5 x ++ store_word (register_of 5 x) o
+
+abbrev pub operate : Operation → ℕ → ℕ → ℕ → List Item
+operate (operation.Machine o) rd a b = operate_on o rd a b ∷ []
+operate operation.Equal rd a b = operate_on register_op.Xor rd a b ∷ item.Plain (instr.Immediate immediate_op.LessUnsigned rd rd 1) ∷ []
+operate operation.NotEqual rd a b = operate_on register_op.Xor rd a b ∷ operate_on register_op.LessUnsigned rd 0 rd ∷ []
+
+abbrev pub compute : Operation → Home → Source → Source → List Item
+compute o d x y = fetch 5 x ++ (fetch 6 y ++ (operate o (made_in d) (register_of 5 x) (register_of 6 y) ++ keep d))
+
+abbrev pub narrow : Conversion → ℕ → ℕ → List Item
+narrow conversion.ToByte rd a = item.Plain (instr.Immediate immediate_op.And rd a 255) ∷ []
+narrow conversion.ToSignedByte rd a = shifted shift_op.Left rd a 24 ∷ shifted shift_op.RightArithmetic rd rd 24 ∷ []
+narrow conversion.ToHalf rd a = shifted shift_op.Left rd a 16 ∷ shifted shift_op.Right rd rd 16 ∷ []
+narrow conversion.ToSignedHalf rd a = shifted shift_op.Left rd a 16 ∷ shifted shift_op.RightArithmetic rd rd 16 ∷ []
+narrow conversion.ToTruth rd a = operate_on register_op.LessUnsigned rd 0 a ∷ []
+
+abbrev pub convert : Conversion → Home → Source → List Item
+convert c d x = fetch 5 x ++ (narrow c (made_in d) (register_of 5 x) ++ keep d)
+
+-- what comes before an access to an element, the register that it counts from, and by how many bytes; x6 is free
+abbrev pub reach : Function → Location → List Item
+reach f (location.Statics o) = item.DataAddress 6 o ∷ []
+reach f (location.Frame o) = far 6 (area_home f + o)
+reach f (location.At x) = fetch 6 (source_of f x)
+
+abbrev pub reach_base : Function → Location → ℕ
+reach_base f (location.Statics o) = 6
+reach_base f (location.Frame o) = base_of 6 (area_home f + o)
+reach_base f (location.At x) = register_of 6 (source_of f x)
+
+abbrev pub reach_offset : Function → Location → ℕ
+reach_offset f (location.Statics o) = 0
+reach_offset f (location.Frame o) = lower_of (area_home f + o)
+reach_offset f (location.At x) = 0
+
+abbrev pub load_of : Width → LoadKind
+load_of width.Byte = load_kind.ByteUnsigned
+load_of width.SignedByte = load_kind.Byte
+load_of width.Half = load_kind.HalfUnsigned
+load_of width.SignedHalf = load_kind.Half
+load_of width.Word = load_kind.Word
+
+abbrev pub store_of : Width → StoreKind
+store_of width.Byte = store_kind.Byte
+store_of width.SignedByte = store_kind.Byte
+store_of width.Half = store_kind.Half
+store_of width.SignedHalf = store_kind.Half
+store_of width.Word = store_kind.Word
+
+abbrev pub load : Function → Width → Home → Location → List Item
+load f w d l = reach f l ++ (item.Plain (instr.Load (load_of w) (made_in d) (reach_base f l) (reach_offset f l)) ∷ keep d)
+
+abbrev pub store : Function → Width → Source → Location → List Item
+store f w x l = fetch 5 x ++ (reach f l ++ (item.Plain (instr.Store (store_of w) (register_of 5 x) (reach_base f l) (reach_offset f l)) ∷ []))
+
+abbrev pub reference : Function → Home → Location → List Item
+reference f d (location.Statics o) = item.DataAddress (made_in d) o ∷ keep d
+reference f d (location.Frame o) = address_of (made_in d) (area_home f + o) ++ keep d
+reference f d (location.At x) = move d (source_of f x)
+
+-- register a times a size, in x6 or in a itself; x6 and x7 are free, but that a may be x6
+abbrev pub scale : ℕ → ℕ → List Item
+scale a size =
+    if size == 1 then [] else
+    if size == 2 then shifted shift_op.Left 6 a 1 ∷ [] else
+    if size == 4 then shifted shift_op.Left 6 a 2 ∷ [] else
+    item.Constant 7 (size % 2 ^ 32) ∷ operate_on register_op.Mul 6 a 7 ∷ []
+
+abbrev pub scaled_in : ℕ → ℕ → ℕ
+scaled_in a size = if size == 1 then a else 6
+
+abbrev pub element : Home → Source → Source → ℕ → List Item
+element d x y size =
+    fetch 5 x ++ (fetch 6 y ++ (scale (register_of 6 y) size ++ (operate_on register_op.Add (made_in d) (register_of 5 x) (scaled_in (register_of 6 y) size) ∷ keep d)))
+
+abbrev pub branch : Test → Source → Source → ℕ → List Item
+branch t x y to = fetch 5 x ++ (fetch 6 y ++ (item.Branch t (register_of 5 x) (register_of 6 y) to ∷ []))
+
+-- ---- environment calls
+
+-- the word of the frame for a byte that is put or got
+abbrev pub byte_home : Function → ℕ
+byte_home f = 4 * f.outgoing
+
+abbrev pub put_byte : Function → List Item
+put_byte f =
+    address_of 11 (byte_home f) ++ (
+    item.Plain (instr.Store store_kind.Byte 10 11 0) ∷ add_to 10 0 1 ∷ add_to 12 0 1 ∷ add_to 17 0 64 ∷ item.Plain instr.Ecall ∷ [])
+
+-- a0 is then 1 and a byte was got, or 0 at the input's end: with 1 taken from it, it is 0, or has all bits set
+abbrev pub get_byte : Function → List Item
+get_byte f =
+    address_of 11 (byte_home f) ++ (
+    add_to 10 0 0 ∷ add_to 12 0 1 ∷ add_to 17 0 63 ∷ item.Plain instr.Ecall ∷
+    item.Plain (instr.Load load_kind.ByteUnsigned 11 11 0) ∷ add_to 10 10 (2 ^ 32 - 1) ∷ operate_on register_op.Or 10 10 11 ∷ [])
+
+-- with the status in a0
+abbrev pub exit : List Item
+exit = add_to 17 0 93 ∷ item.Plain instr.Ecall ∷ []
+
+-- ---- calls
+
+-- sp changes by a multiple of 16, modulo 2^32; x7 is free
+abbrev pub change_sp : ℕ → List Item
+change_sp by =
+    if nat_lt ((by + 0x800) % 2 ^ 32) 0x1000 then add_to 2 2 by ∷ [] else item.Constant 7 by ∷ operate_on register_op.Add 2 2 7 ∷ []
+
+-- the last word of a frame
+abbrev pub return_home : Function → ℕ
+return_home f = frame_bytes f - 4
+
+-- the homes of the first n cells take the caller's registers, in which the cells live meanwhile, and give them back
+abbrev pub saves : Function → ℕ → List Item
+saves f zero = []
+saves f (suc n) = saves f n ++ store_word (kept n) (cell_home f n)
+
+abbrev pub restores : Function → ℕ → List Item
+restores f zero = []
+restores f (suc n) = restores f n ++ load_word (kept n) (cell_home f n)
+
+abbrev pub entry : Function → List Item
+entry f = change_sp (2 ^ 32 - frame_bytes f) ++ (store_word 1 (return_home f) ++ saves f f.resident)
+
+abbrev pub leave : Function → List Item
+leave f = restores f f.resident ++ (load_word 1 (return_home f) ++ (change_sp (frame_bytes f) ++ (item.Plain (instr.Jalr 0 1 0) ∷ [])))
+
+-- ---- an instruction
+
+-- in function f, whose instructions are marked by the labels from first on; the label of a function is its number
+abbrev pub items_of : Function → ℕ → Instruction → List Item
+items_of f first instruction.Nothing = []
+items_of f first (instruction.Move d x) = move (home_of f d) (source_of f x)
+items_of f first (instruction.Compute o d x y) = compute o (home_of f d) (source_of f x) (source_of f y)
+items_of f first (instruction.Convert c d x) = convert c (home_of f d) (source_of f x)
+items_of f first (instruction.Load w d l) = load f w (home_of f d) l
+items_of f first (instruction.Store w x l) = store f w (source_of f x) l
+items_of f first (instruction.Address d l) = reference f (home_of f d) l
+items_of f first (instruction.Element d x y size) = element (home_of f d) (source_of f x) (source_of f y) size
+items_of f first (instruction.Jump to) = item.Jump (first + to) ∷ []
+items_of f first (instruction.Branch t x y to) = branch t (source_of f x) (source_of f y) (first + to)
+items_of f first (instruction.Call g) = item.Call g ∷ []
+items_of f first instruction.PutByte = put_byte f
+items_of f first instruction.GetByte = get_byte f
+items_of f first instruction.Exit = exit
+items_of f first instruction.Return = leave f

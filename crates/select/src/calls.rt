@@ -1,0 +1,186 @@
+//! Where functions begin and end, and environment calls.
+
+ghost use Rattle.std.specs.Prelude.{◌≡◌, ◌≤◌, ◌<◌, ◌-◌, ◌^◌, ◌++◌, OnOk};
+ghost use Rattle.frames.specs.Code as flat;
+ghost use Rattle.frames.specs.Code.{function_of};
+ghost use Rattle.frames.specs.Sound.{most_bytes};
+ghost use Rattle.select.specs.Selected as selected;
+
+use crate::places::kept;
+use crate::words::{
+    add_to, address_of, load_word, operate_on, put, stack_pointer, store_word, zero,
+};
+use asm::Item;
+use frames::Function;
+use rv32::{Five, Instr, LoadKind, RegisterOp, Short, StoreKind};
+use std::alloc::AllocError;
+
+/// x1, the return address (RISC-V ELF psABI, "Integer Register Convention").
+fn return_address() -> Five
+    ensures { result ≡ 1 }
+{
+    Five::new(1)
+}
+
+/// a0 to a7.
+fn argument(number: u8) -> Five
+    requires { number < 8 }
+    ensures { result ≡ selected.argument number }
+{
+    Five::new(10 + number)
+}
+
+/// A small number, put into an argument's register.
+fn set_argument(number: u8, value: u32) -> Item
+    requires register { number < 8 }
+    requires short { value < 0x800 }
+    ensures { result ≡ selected.add_to (selected.argument number) 0 value }
+{
+    add_to(argument(number), zero(), Short::new(value))
+}
+
+/// Adds to the stack pointer, modulo 2^32.
+fn change_sp(items: &mut Vec<Item>, by: u32) -> Result<(), AllocError>
+    ensures { OnOk result (items.new.items ≡ items.old.items ++ selected.change_sp by) }
+{
+    if by.wrapping_add(0x800) < 0x1000 {
+        put(
+            items,
+            &[add_to(stack_pointer(), stack_pointer(), Short::new(by))],
+        )
+    } else {
+        let free = Five::new(7);
+        put(
+            items,
+            &[
+                Item::Constant {
+                    rd: free,
+                    value: by,
+                },
+                operate_on(RegisterOp::Add, stack_pointer(), stack_pointer(), free),
+            ],
+        )
+    }
+}
+
+fn put_saves(items: &mut Vec<Item>, function: &Function) -> Result<(), AllocError>
+    requires small { flat.frame_bytes (function_of function.now) ≤ most_bytes }
+    requires few { function.now.resident ≤ 12 }
+    requires all { function.now.resident ≤ function.now.cells }
+    ensures { OnOk result (items.new.items ≡ items.old.items ++ selected.saves (function_of function.now) function.now.resident) }
+{
+    for number in 0..function.resident {
+        store_word(items, kept(number), function.cell_home(number))?;
+    }
+    Ok(())
+}
+
+fn put_restores(items: &mut Vec<Item>, function: &Function) -> Result<(), AllocError>
+    requires small { flat.frame_bytes (function_of function.now) ≤ most_bytes }
+    requires few { function.now.resident ≤ 12 }
+    requires all { function.now.resident ≤ function.now.cells }
+    ensures { OnOk result (items.new.items ≡ items.old.items ++ selected.restores (function_of function.now) function.now.resident) }
+{
+    for number in 0..function.resident {
+        load_word(items, kept(number), function.cell_home(number))?;
+    }
+    Ok(())
+}
+
+/// What a function begins with: its frame, the address to return to, and the caller's registers.
+pub fn put_entry(items: &mut Vec<Item>, function: &Function) -> Result<(), AllocError>
+    requires small { flat.frame_bytes (function_of function.now) ≤ most_bytes }
+    requires few { function.now.resident ≤ 12 }
+    requires all { function.now.resident ≤ function.now.cells }
+    ensures { OnOk result (items.new.items ≡ items.old.items ++ selected.entry (function_of function.now)) }
+{
+    let bytes = function.frame_bytes();
+    change_sp(items, 0u32.wrapping_sub(bytes))?;
+    store_word(items, return_address(), bytes - 4)?;
+    put_saves(items, function)
+}
+
+/// A return from it.
+pub fn put_leave(items: &mut Vec<Item>, function: &Function) -> Result<(), AllocError>
+    requires small { flat.frame_bytes (function_of function.now) ≤ most_bytes }
+    requires few { function.now.resident ≤ 12 }
+    requires all { function.now.resident ≤ function.now.cells }
+    ensures { OnOk result (items.new.items ≡ items.old.items ++ selected.leave (function_of function.now)) }
+{
+    let bytes = function.frame_bytes();
+    put_restores(items, function)?;
+    load_word(items, return_address(), bytes - 4)?;
+    change_sp(items, bytes)?;
+    put(
+        items,
+        &[Item::Plain(Instr::Jalr {
+            rd: zero(),
+            base: return_address(),
+            offset: Short::new(0),
+        })],
+    )
+}
+
+/// The word of the frame for a byte that is put or got.
+fn byte_home(function: &Function) -> u32
+    requires { flat.frame_bytes (function_of function.now) ≤ most_bytes }
+    ensures is { result ≡ selected.byte_home (function_of function.now) }
+    ensures small { result < 2 ^ 20 }
+{
+    (4 * function.outgoing) as u32
+}
+
+/// Environment call 64, which writes the low byte of a0.
+pub fn put_put_byte(items: &mut Vec<Item>, function: &Function) -> Result<(), AllocError>
+    requires { flat.frame_bytes (function_of function.now) ≤ most_bytes }
+    ensures { OnOk result (items.new.items ≡ items.old.items ++ selected.put_byte (function_of function.now)) }
+{
+    address_of(items, argument(1), byte_home(function))?;
+    put(
+        items,
+        &[
+            Item::Plain(Instr::Store {
+                kind: StoreKind::Byte,
+                source: argument(0),
+                base: argument(1),
+                offset: Short::new(0),
+            }),
+            set_argument(0, 1),
+            set_argument(2, 1),
+            set_argument(7, 64),
+            Item::Plain(Instr::Ecall),
+        ],
+    )
+}
+
+/// Environment call 63, which reads a byte; -1 at the end of the input.
+pub fn put_get_byte(items: &mut Vec<Item>, function: &Function) -> Result<(), AllocError>
+    requires { flat.frame_bytes (function_of function.now) ≤ most_bytes }
+    ensures { OnOk result (items.new.items ≡ items.old.items ++ selected.get_byte (function_of function.now)) }
+{
+    address_of(items, argument(1), byte_home(function))?;
+    put(
+        items,
+        &[
+            set_argument(0, 0),
+            set_argument(2, 1),
+            set_argument(7, 63),
+            Item::Plain(Instr::Ecall),
+            Item::Plain(Instr::Load {
+                kind: LoadKind::ByteUnsigned,
+                rd: argument(1),
+                base: argument(1),
+                offset: Short::new(0),
+            }),
+            add_to(argument(0), argument(0), Short::new(u32::MAX)),
+            operate_on(RegisterOp::Or, argument(0), argument(0), argument(1)),
+        ],
+    )
+}
+
+/// Environment call 93, which ends the program with the low byte of a0.
+pub fn put_exit(items: &mut Vec<Item>) -> Result<(), AllocError>
+    ensures { OnOk result (items.new.items ≡ items.old.items ++ selected.exit) }
+{
+    put(items, &[set_argument(7, 93), Item::Plain(Instr::Ecall)])
+}

@@ -1,0 +1,243 @@
+//! Elements of arrays: loads, stores, references.
+
+ghost use Rattle.std.specs.Prelude.{◌≡◌, ◌≤◌, ◌<◌, ◌^◌, ◌++◌, OnOk};
+ghost use Rattle.frames.specs.Code as flat;
+ghost use Rattle.frames.specs.Code.{function_of};
+ghost use Rattle.frames.specs.Sound.{LocationFits, most_bytes};
+ghost use Rattle.select.specs.Selected as selected;
+ghost use Rattle.select.specs.inside.Ranges.{SourceIsNear, HomeIsNear};
+
+use crate::operations::put_move;
+use crate::places::{Home, Source, source_of};
+use crate::words::{
+    address_of, base_of, fetch, keep, lower_of, made_in, operate_on, put, put_far, register_of,
+    shifted,
+};
+use asm::Item;
+use frames::{Function, Location, Width};
+use rv32::{Five, Instr, LoadKind, RegisterOp, ShiftOp, Short, StoreKind};
+use std::alloc::AllocError;
+
+fn load_kind(width: Width) -> LoadKind
+    ensures { result ≡ selected.load_of width }
+{
+    match width {
+        Width::Byte => LoadKind::ByteUnsigned,
+        Width::SignedByte => LoadKind::Byte,
+        Width::Half => LoadKind::HalfUnsigned,
+        Width::SignedHalf => LoadKind::Half,
+        Width::Word => LoadKind::Word,
+    }
+}
+
+fn store_kind(width: Width) -> StoreKind
+    ensures { result ≡ selected.store_of width }
+{
+    match width {
+        Width::Byte => StoreKind::Byte,
+        Width::SignedByte => StoreKind::Byte,
+        Width::Half => StoreKind::Half,
+        Width::SignedHalf => StoreKind::Half,
+        Width::Word => StoreKind::Word,
+    }
+}
+
+/// What comes before an access to an element.
+fn put_reach(
+    items: &mut Vec<Item>,
+    function: &Function,
+    location: &Location,
+) -> Result<(), AllocError>
+    requires small { flat.frame_bytes (function_of function.now) ≤ most_bytes }
+    requires few { function.now.resident ≤ 12 }
+    requires fits { LocationFits (function_of function.now) location.now }
+    ensures { OnOk result (items.new.items ≡ items.old.items ++ selected.reach (function_of function.now) location.now) }
+{
+    let free = Five::new(6);
+    match location {
+        Location::Statics(offset) => put(
+            items,
+            &[Item::DataAddress {
+                rd: free,
+                offset: *offset as u32,
+            }],
+        ),
+        Location::Frame(offset) => put_far(items, free, function.area_home() + *offset as u32),
+        Location::At(operand) => fetch(items, free, &source_of(function, *operand)),
+    }
+}
+
+/// The register that an access to an element counts from.
+fn reach_base(function: &Function, location: &Location) -> Five
+    requires small { flat.frame_bytes (function_of function.now) ≤ most_bytes }
+    requires few { function.now.resident ≤ 12 }
+    requires fits { LocationFits (function_of function.now) location.now }
+    ensures { result ≡ selected.reach_base (function_of function.now) location.now }
+{
+    let free = Five::new(6);
+    match location {
+        Location::Statics(_) => free,
+        Location::Frame(offset) => base_of(free, function.area_home() + *offset as u32),
+        Location::At(operand) => register_of(free, &source_of(function, *operand)),
+    }
+}
+
+/// By how many bytes.
+fn reach_offset(function: &Function, location: &Location) -> Short
+    requires small { flat.frame_bytes (function_of function.now) ≤ most_bytes }
+    requires fits { LocationFits (function_of function.now) location.now }
+    ensures { result ≡ selected.reach_offset (function_of function.now) location.now }
+{
+    match location {
+        Location::Statics(_) => Short::new(0),
+        Location::Frame(offset) => lower_of(function.area_home() + *offset as u32),
+        Location::At(_) => Short::new(0),
+    }
+}
+
+pub fn put_load(
+    items: &mut Vec<Item>,
+    function: &Function,
+    width: Width,
+    home: &Home,
+    location: &Location,
+) -> Result<(), AllocError>
+    requires small { flat.frame_bytes (function_of function.now) ≤ most_bytes }
+    requires few { function.now.resident ≤ 12 }
+    requires fits { LocationFits (function_of function.now) location.now }
+    requires home_near { HomeIsNear home.now }
+    ensures { OnOk result (items.new.items ≡ items.old.items ++ selected.load (function_of function.now) width home.now location.now) }
+{
+    let load = Instr::Load {
+        kind: load_kind(width),
+        rd: made_in(home),
+        base: reach_base(function, location),
+        offset: reach_offset(function, location),
+    };
+    put_reach(items, function, location)?;
+    put(items, &[Item::Plain(load)])?;
+    keep(items, home)
+}
+
+pub fn put_store(
+    items: &mut Vec<Item>,
+    function: &Function,
+    width: Width,
+    source: &Source,
+    location: &Location,
+) -> Result<(), AllocError>
+    requires small { flat.frame_bytes (function_of function.now) ≤ most_bytes }
+    requires few { function.now.resident ≤ 12 }
+    requires fits { LocationFits (function_of function.now) location.now }
+    requires near { SourceIsNear source.now }
+    ensures { OnOk result (items.new.items ≡ items.old.items ++ selected.store (function_of function.now) width source.now location.now) }
+{
+    let free = Five::new(5);
+    let store = Instr::Store {
+        kind: store_kind(width),
+        source: register_of(free, source),
+        base: reach_base(function, location),
+        offset: reach_offset(function, location),
+    };
+    fetch(items, free, source)?;
+    put_reach(items, function, location)?;
+    put(items, &[Item::Plain(store)])
+}
+
+/// A reference to a location.
+pub fn put_reference(
+    items: &mut Vec<Item>,
+    function: &Function,
+    home: &Home,
+    location: &Location,
+) -> Result<(), AllocError>
+    requires small { flat.frame_bytes (function_of function.now) ≤ most_bytes }
+    requires few { function.now.resident ≤ 12 }
+    requires fits { LocationFits (function_of function.now) location.now }
+    requires home_near { HomeIsNear home.now }
+    ensures { OnOk result (items.new.items ≡ items.old.items ++ selected.reference (function_of function.now) home.now location.now) }
+{
+    match location {
+        Location::Statics(offset) => {
+            let address = Item::DataAddress {
+                rd: made_in(home),
+                offset: *offset as u32,
+            };
+            put(items, &[address])?;
+            keep(items, home)
+        }
+        Location::Frame(offset) => {
+            let rd = made_in(home);
+            address_of(items, rd, function.area_home() + *offset as u32)?;
+            keep(items, home)
+        }
+        Location::At(operand) => {
+            let source = source_of(function, *operand);
+            put_move(items, home, &source)
+        }
+    }
+}
+
+/// A register times the size of an element.
+fn put_scale(items: &mut Vec<Item>, register: Five, size: usize) -> Result<(), AllocError>
+    requires { size < 2 ^ 32 }
+    ensures { OnOk result (items.new.items ≡ items.old.items ++ selected.scale register size) }
+{
+    let rd = Five::new(6);
+    if size == 1 {
+        Ok(())
+    } else if size == 2 {
+        put(items, &[shifted(ShiftOp::Left, rd, register, 1)])
+    } else if size == 4 {
+        put(items, &[shifted(ShiftOp::Left, rd, register, 2)])
+    } else {
+        let free = Five::new(7);
+        put(
+            items,
+            &[
+                Item::Constant {
+                    rd: free,
+                    value: size as u32,
+                },
+                operate_on(RegisterOp::Mul, rd, register, free),
+            ],
+        )
+    }
+}
+
+fn scaled_in(register: Five, size: usize) -> Five
+    ensures { result ≡ selected.scaled_in register size }
+{
+    if size == 1 { register } else { Five::new(6) }
+}
+
+/// The reference so many elements on.
+pub fn put_element(
+    items: &mut Vec<Item>,
+    home: &Home,
+    array: &Source,
+    index: &Source,
+    size: usize,
+) -> Result<(), AllocError>
+    requires array_near { SourceIsNear array.now }
+    requires index_near { SourceIsNear index.now }
+    requires home_near { HomeIsNear home.now }
+    requires small { size < 2 ^ 32 }
+    ensures { OnOk result (items.new.items ≡ items.old.items ++ selected.element home.now array.now index.now size) }
+{
+    let first = Five::new(5);
+    let second = Five::new(6);
+    let counted = register_of(second, index);
+    let bytes = scaled_in(counted, size);
+    let sum = operate_on(
+        RegisterOp::Add,
+        made_in(home),
+        register_of(first, array),
+        bytes,
+    );
+    fetch(items, first, array)?;
+    fetch(items, second, index)?;
+    put_scale(items, counted, size)?;
+    put(items, &[sum])?;
+    keep(items, home)
+}

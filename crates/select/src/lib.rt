@@ -1,0 +1,12 @@
+//! From flat code to the items that the assembler takes.
+#![tactic(auto)]
+
+mod calls;
+mod elements;
+pub mod laws;
+mod operations;
+mod places;
+mod program;
+mod words;
+
+pub use program::select;
