@@ -2,6 +2,7 @@
 #![tactic(auto)]
 
 mod element_tree;
+pub mod laws;
 mod path;
 mod reference;
 mod store;

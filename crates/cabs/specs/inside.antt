@@ -1,0 +1,5 @@
+-- The abstract machine with a stack of its own. Nothing here has to be believed: laws tie it to the definition.
+pub mod Frames
+pub mod Presents
+pub mod Steps
+pub mod Laws
