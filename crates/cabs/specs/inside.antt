@@ -3,3 +3,5 @@ pub mod Frames
 pub mod Presents
 pub mod Steps
 pub mod Laws
+pub mod Views
+pub mod Agrees

@@ -2,9 +2,16 @@
 #![tactic(auto)]
 
 mod element_tree;
+pub mod expressions;
+pub mod frames;
 pub mod laws;
+pub mod machine;
+pub mod operands;
+pub mod operators;
 mod path;
 mod reference;
+pub mod scene;
+pub mod stop;
 mod store;
 
 pub use element_tree::Tree;

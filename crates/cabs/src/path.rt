@@ -27,6 +27,23 @@ impl Path {
         }
     }
 
+    /// The same subscripts again.
+    ///
+    /// Errors: memory ran out.
+    pub fn copied(&self, alloc: Global) -> Result<Path, AllocError>
+        ensures { IfOk result (λ path. path_of path ≡ path_of self.now) }
+    {
+        match self {
+            Path::Whole => Ok(Path::Whole),
+            Path::One(subscripts) => Ok(Path::One([subscripts[0]])),
+            Path::Two(subscripts) => Ok(Path::Two([subscripts[0], subscripts[1]])),
+            Path::More(subscripts) => {
+                let same = subscripts.clone()?;
+                Ok(Path::More(same))
+            }
+        }
+    }
+
     /// The same with one subscript more.
     ///
     /// Errors: memory ran out.

@@ -1,10 +1,12 @@
 //! References into the store.
 
-ghost use Rattle.std.specs.Prelude.{◌≡◌, IfOk};
+ghost use Rattle.std.specs.Prelude.{◌≡◌, IfErr, IfOk};
+ghost use Rattle.cabs.specs.declared.stop.Stop.TheVariants.{Memory};
 ghost use Rattle.meaning.specs.Store.{whole, into};
 ghost use Rattle.cabs.specs.View.{reference_of};
 
 use crate::path::Path;
+use crate::stop::Stop;
 use std::alloc::{AllocError, Global};
 
 /// An object by its number, and a part of it. There are no addresses (6.5.2.1).
@@ -22,6 +24,22 @@ impl Reference {
         Reference {
             object,
             path: Path::Whole,
+        }
+    }
+
+    /// The same reference again.
+    ///
+    /// Errors: memory ran out.
+    pub fn copied(&self, alloc: Global) -> Result<Reference, Stop>
+        ensures ok { IfOk result (λ r. reference_of r ≡ reference_of self.now) }
+        ensures err { IfErr result (λ e. e ≡ Memory) }
+    {
+        match self.path.copied(alloc) {
+            Ok(path) => Ok(Reference {
+                object: self.object,
+                path,
+            }),
+            Err(_) => Err(Stop::Memory),
         }
     }
 

@@ -39,9 +39,8 @@ pub struct Built {
 /// The executable file of the program in the file `main` of the set.
 ///
 /// Refuses with the fault of its preprocessing tokens (103; 111 to 113, 703; 201 to 235, 704 to 708), of its C tokens (301 to 303,
-/// 601 to 609) or of its tree (401, 709 to 711), in this order; with 699 where the main file has an `#include`, which is not
-/// built yet, once it has lines, and where its tree is not of the form that is built today; and with 801 where
-/// there is no memory.
+/// 601 to 609) or of its tree (401, 709 to 711), in this order; with 699 where its tree is not of the form that is built
+/// today; and with 801 where there is no memory.
 pub fn compile(alloc: Global, set: &FileSet, main: &str) -> Result<Built, Fault>
     ensures built { IfOk result (λ built. Compiles set.now main.now built) }
     ensures refused { IfErr result (λ fault. IsRefused set.now main.now fault) }

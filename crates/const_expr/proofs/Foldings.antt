@@ -1,5 +1,5 @@
 -- The fault of a part of a typed expression is that of the whole.
-use Rattle.std.proofs.Common.{◌≡◌, Bool, true, false, ℤ, pos, sym, subst, rules, Global}
+use Rattle.std.proofs.Common.{◌≡◌, true, false, ℤ, pos, sym, subst, rules, Global}
 use Rattle.std.specs.Prelude.{Option, Some, None, Box}
 use Rattle.srcset.specs.declared.refusal.Refusal.{Refusal}
 use Rattle.srcset.specs.declared.refusal.Pos.{Pos}

@@ -3,3 +3,9 @@ mod Lookups
 mod Verdicts
 mod Foldings
 mod Sizes
+mod Limits
+mod Numbered
+mod Work
+mod Parts
+mod Trees
+mod Wholes

@@ -1,10 +1,13 @@
 -- Sizes up to the greatest number of 64 bits.
-use Rattle.std.proofs.Common.{◌≡◌, ℕ, zero, suc, ◌*◌, ◌-◌, ◌^◌, ◌<◌, ◌≤◌, Bool, true, false, min, nat_lt, refl, sym, ap, ◌∙◌, arith}
+use Rattle.std.proofs.Common.{◌≡◌, ℕ, zero, suc, ◌*◌, ◌-◌, ◌^◌, ◌<◌, ◌≤◌, true, false, min, nat_lt, refl, ap, ◌∙◌, arith}
 use Rattle.std.proofs.lemmas.Nat.{mul-le}
 use Rattle.std.proofs.Common.{List, [], ◌∷◌, length, ℤ, pos, FitsSigned, to_z, of_z, w64}
 use Rattle.std.proofs.lemmas.Int.{ints, to_z-of_z}
 use Rattle.tree.specs.Capped.{capped}
 use Rattle.typed.specs.Types.{elements_in}
+use Rattle.typed.specs.Verdict.{fine}
+use Rattle.typed.specs.Expressions.{positive}
+use Rattle.srcset.specs.declared.refusal.Pos.{Pos}
 
 -- of a limit M below which a number is itself
 small : (M a b r x : ℕ) → r ≡ min (a * b) M → b ≡ min x M → x ≤ M → r ≡ min (a * x) M
@@ -52,3 +55,8 @@ told_fits c v e h = first_of (omega (arith, ints, e, h), grind (arith, ints, e, 
 
 pub told_exactly : (c x : ℕ) (v : ℤ) → v ≡ pos c → c < 2 ^ 63 → c ≡ capped x → to_z w64 (of_z w64 v) ≡ pos x
 told_exactly c x v e h f = to_z-of_z w64 v (told_fits c v e h) ∙ told_size c x v e h f
+
+-- sizes of arrays
+pub positive_is : (p : Pos) (v : ℤ) (n : ℕ) → v ≡ pos n → 0 < n → positive p v ≡ fine n
+positive_is p v zero e h = absurd (omega (arith, h))
+positive_is p v (suc n) e h = ap (positive p) e

@@ -57,3 +57,9 @@ tells_then Memory v go h = tt
 tells_then (At code at) (fine a) go h = absurd h
 tells_then (At code at) (broken vs) go h = h
 tells_then (Told code at text) v go h = absurd h
+
+-- a fault that stands may be told
+pub tells_of : {A : Type 0} (r : Refusal) (v : Verdict A) → IsOf r v → Tells r v
+tells_of Memory v h = tt
+tells_of (At code at) v h = h
+tells_of (Told code at text) v h = h

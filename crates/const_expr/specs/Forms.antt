@@ -1,9 +1,12 @@
 -- What the code's checked expressions stand for.
-use Rattle.std.specs.Prelude.{ℕ, ℤ, pos, List}
+use Rattle.std.specs.Prelude.{ℕ, ℤ, pos, List, Option, Some, None}
 use Rattle.const_expr.specs.declared.forms.Elements.{Elements}
 use Rattle.const_expr.specs.declared.forms.Checked as held
 use Rattle.const_expr.specs.declared.forms.Checked.TheVariants as checked
 use Rattle.const_expr.specs.declared.forms.Worth.{Worth}
+use Rattle.const_expr.specs.declared.type_names.NamedType.{NamedType}
+use Rattle.const_expr.specs.declared.constants.Constant.{Constant}
+use Rattle.const_expr.specs.declared.assignments.Target.{Target}
 use Rattle.program.specs.View.{value_of, place_of}
 use Rattle.typed.specs.Types as type
 use Rattle.typed.specs.Scope.{Scope}
@@ -23,6 +26,20 @@ checked_of (checked.Designator at) = typed.designator at
 
 abbrev pub worth_of : Worth → typed.Worth
 worth_of w = record { type = w.ty; e = value_of w.value }
+
+abbrev pub target_of : Target → typed.Target
+target_of t = record { type = t.ty; place = place_of t.place }
+
+abbrev pub named_of : NamedType → type.ObjectType
+named_of n = record { element = n.element; constant = n.constant; lengths = n.lengths.items }
+
+-- none for void
+abbrev pub option_named : Option NamedType → Option type.ObjectType
+option_named None = None
+option_named (Some n) = Some (named_of n)
+
+abbrev pub constant_of : Constant → typed.Constant
+constant_of c = record { type = c.ty; v = c.value }
 
 -- a scope with the unit's texts and the string literals so far
 abbrev pub seen : List (List ℕ) → List ℕ → Scope → Scope

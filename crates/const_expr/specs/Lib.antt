@@ -3,3 +3,7 @@ pub mod Scopes
 pub mod Refused
 pub mod Typings
 pub mod Forms
+pub mod Numbered
+pub mod Calls
+pub mod Operands
+pub mod Told

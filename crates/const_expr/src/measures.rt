@@ -1,4 +1,4 @@
-//! Sizes and casts (6.5.3.4, 6.5.4).
+//! Sizes (6.5.3.4).
 #![tactic(auto, using(crate::proofs::Sizes::capped_product, crate::proofs::Sizes::exact_below))]
 
 ghost use Rattle.std.specs.Prelude.{◌≡◌, ◌<◌, ◌^◌, ℕ, IfErr, IfOk};
@@ -11,10 +11,10 @@ ghost use Rattle.typed.specs.Expressions as typed;
 ghost use Rattle.tree.specs.Capped.{capped};
 ghost use Rattle.srcset.specs.declared.refusal.Refusal.TheVariants.{Memory};
 ghost use Rattle.const_expr.specs.Refused.{Tells};
-ghost use Rattle.const_expr.specs.Forms.{checked_of, elements_of};
+ghost use Rattle.const_expr.specs.Forms.{checked_of, elements_of, option_named};
 
 use crate::forms::{Checked, Elements, broken};
-use crate::type_names::elements_within;
+use crate::type_names::{NamedType, bytes_in, elements_within};
 use ctypes::{IntType, size_of};
 use program::Value;
 use srcset::{Code, Pos, Refusal};
@@ -81,5 +81,19 @@ pub(crate) fn measured<'s>(pos: Pos, x: &Checked) -> Result<Checked<'s>, Refusal
         Checked::Unsized(_, _, _) => Err(broken(Code::BadSizeofOperand, pos)),
         Checked::Nothing(_, _) => Err(broken(Code::BadSizeofOperand, pos)),
         Checked::Designator(_) => Err(broken(Code::BadSizeofOperand, pos)),
+    }
+}
+
+/// `sizeof` of a named type (6.5.3.4), which is not `void`.
+pub(crate) fn type_measured<'s>(pos: Pos, named: &Option<NamedType>) -> Result<Checked<'s>, Refusal>
+    ensures ok { IfOk result (λ c. typed.type_measured pos (option_named named.now) ≡ fine (checked_of c)) }
+    ensures err { IfErr result (λ r. Tells r (typed.type_measured pos (option_named named.now))) }
+{
+    match named {
+        None => Err(broken(Code::BadSizeofOperand, pos)),
+        Some(named) => match size_is(pos, bytes_in(named.element, &named.lengths)) {
+            Ok(size) => Ok(size),
+            Err(_) => Err(Refusal::Memory),
+        },
     }
 }

@@ -10,9 +10,9 @@ ghost use Rattle.srcset.specs.declared.refusal.Refusal.TheVariants.{Memory};
 ghost use Rattle.srcset.specs.declared.code.Code.TheVariants as code;
 ghost use Rattle.program.specs.View.{value_of};
 ghost use Rattle.const_expr.specs.Refused.{Tells};
-ghost use Rattle.const_expr.specs.Forms.{checked_of};
+ghost use Rattle.const_expr.specs.Forms.{checked_of, worth_of};
 
-use crate::forms::{Checked, boxed, broken, effect, valued};
+use crate::forms::{Checked, Worth, boxed, broken, effect, valued};
 use crate::rules::{common_type, computed_by, conjunction, disjunction, last};
 use ctypes::BinOp;
 use program::Value;
@@ -200,4 +200,50 @@ fn choice_beside_nothing<'s>(
         Checked::Reference(_, _, _) => Err(broken(Code::UnmatchedArms, pos)),
         Checked::Designator(_) => Err(broken(Code::UnmatchedArms, pos)),
     }
+}
+
+/// `?:` (6.5.15): both arms are numbers, or both are `void`.
+fn choice<'s>(
+    alloc: Global,
+    pos: Pos,
+    test: Value,
+    a: Checked<'s>,
+    b: Checked<'s>,
+) -> Result<Checked<'s>, Refusal>
+    ensures ok { IfOk result (λ c. typed.choice pos (value_of test) (checked_of a.entry) (checked_of b.entry) ≡ fine (checked_of c)) }
+    ensures err { IfErr result (λ r. Tells r (typed.choice pos (value_of test) (checked_of a.entry) (checked_of b.entry))) }
+{
+    match a {
+        Checked::Nothing(_, a) => choice_beside_nothing(alloc, pos, test, a, b),
+        Checked::Value(at, ty, a) => {
+            number_choice(alloc, pos, test, Checked::Value(at, ty, a), b)
+        }
+        Checked::Object(at, ty, k, a) => {
+            number_choice(alloc, pos, test, Checked::Object(at, ty, k, a), b)
+        }
+        Checked::Array(at, n, elements, a) => {
+            number_choice(alloc, pos, test, Checked::Array(at, n, elements, a), b)
+        }
+        Checked::Unsized(at, elements, a) => {
+            number_choice(alloc, pos, test, Checked::Unsized(at, elements, a), b)
+        }
+        Checked::Reference(at, elements, a) => {
+            number_choice(alloc, pos, test, Checked::Reference(at, elements, a), b)
+        }
+        Checked::Designator(at) => number_choice(alloc, pos, test, Checked::Designator(at), b),
+    }
+}
+
+/// `?:` with its test (6.5.15p2).
+pub(crate) fn chosen<'s>(
+    alloc: Global,
+    pos: Pos,
+    test: Worth,
+    a: Checked<'s>,
+    b: Checked<'s>,
+) -> Result<Checked<'s>, Refusal>
+    ensures ok { IfOk result (λ c. typed.chosen_by pos (worth_of test) (record { first = checked_of a.entry; second = checked_of b.entry }) ≡ fine (checked_of c)) }
+    ensures err { IfErr result (λ r. Tells r (typed.chosen_by pos (worth_of test) (record { first = checked_of a.entry; second = checked_of b.entry }))) }
+{
+    choice(alloc, pos, test.value, a, b)
 }

@@ -1,5 +1,5 @@
 //! The typing rules of expressions, one a form (6.5), over parts that are typed.
-#![tactic(auto)]
+#![tactic(auto, using(crate::proofs::Verdicts::tells_then))]
 
 ghost use Rattle.std.specs.Prelude.{◌≡◌, IfErr, IfOk};
 ghost use Rattle.std.specs.Prelude.{Some};
@@ -7,6 +7,7 @@ ghost use Rattle.typed.specs.Verdict.{fine, then_check};
 ghost use Rattle.typed.specs.Operators as operators;
 ghost use Rattle.typed.specs.Program as program_typed;
 ghost use Rattle.srcset.specs.declared.refusal.Refusal.TheVariants.{Memory};
+ghost use Rattle.srcset.specs.declared.code.Code.TheVariants as code;
 ghost use Rattle.typed.specs.Expressions as typed;
 ghost use Rattle.program.specs.View.{value_of, place_of};
 ghost use Rattle.const_expr.specs.Refused.{Tells};
@@ -15,7 +16,7 @@ ghost use Rattle.const_expr.specs.Forms.{checked_of, worth_of, elements_of};
 
 use crate::bindings::{Binding, Meaning};
 use crate::forms::{
-    Checked, Elements, Worth, boxed, broken, designated, elements_in, index, left_out, read,
+    Checked, Elements, Worth, boxed, broken, designated, elements_in, index, left_out, read, valued,
 };
 use ctypes::{BinOp, IntType, promote, usual};
 use program::{DeclaredType, Place, Storage, Value};
@@ -156,8 +157,28 @@ pub(crate) fn signed_value<'s>(
     }
 }
 
+/// A sign and its operand (6.5.3.3).
+pub(crate) fn signed<'s>(
+    alloc: Global,
+    pos: Pos,
+    op: PrefixOp,
+    x: Checked,
+) -> Result<Checked<'s>, Refusal>
+    ensures ok { IfOk result (λ c. then_check (typed.worth code.VoidOperand pos (checked_of x.entry)) (typed.signed_value pos op) ≡ fine (checked_of c)) }
+    ensures err { IfErr result (λ r. Tells r (then_check (typed.worth code.VoidOperand pos (checked_of x.entry)) (typed.signed_value pos op))) }
+{
+    let x = match valued(alloc, Code::VoidOperand, pos, x) {
+        Ok(x) => x,
+        Err(refusal) => return Err(refusal),
+    };
+    match signed_value(alloc, pos, op, x) {
+        Ok(c) => Ok(c),
+        Err(_) => Err(Refusal::Memory),
+    }
+}
+
 /// The type to which the operands are converted.
-fn operands_type(op: BinOp, a: IntType, b: IntType) -> IntType
+pub(crate) fn operands_type(op: BinOp, a: IntType, b: IntType) -> IntType
     ensures { result ≡ operators.operands_type op a b }
 {
     match op {

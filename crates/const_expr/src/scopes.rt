@@ -37,6 +37,18 @@ pub struct Scope {
     objects: Vec<ObjectType>,
 }
 
+/// Where a name first stands.
+fn first_place(names: &[usize], name: usize) -> Option<usize>
+    ensures { result ≡ typed.place_from 0 names.now name }
+{
+    for (place, other) in names.iter().enumerate() {
+        if *other == name {
+            return Some(place);
+        }
+    }
+    None
+}
+
 impl Model for Scope {
     ghost Value = { typed.Scope };
 
@@ -81,6 +93,20 @@ impl Scope {
             Some(place) => self.tags.get(place).copied(),
             None => None,
         }
+    }
+
+    /// The place of the definition of the function with this name.
+    pub fn definition(&self, name: usize) -> Option<usize>
+        ensures { result ≡ typed.place_from 0 self.now.definitions name }
+    {
+        first_place(&self.definitions, name)
+    }
+
+    /// How many string literals there are so far.
+    pub fn literal_count(&self) -> usize
+        ensures { result ≡ length self.now.literals }
+    {
+        self.literals.len()
     }
 
     /// One more name, in the present block.

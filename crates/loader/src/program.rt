@@ -7,7 +7,7 @@ ghost use Rattle.loader.specs.Listing.{AreDecoded};
 use crate::text_list::TextList;
 use rv32::memory::Memory;
 
-/// What a file loads: the address of its first instruction, its memory, and its texts, decoded.
+/// What a file loads: the address of its first instruction, its memory, and its texts.
 #[derive(Drop)]
 pub struct Loaded {
     pub(crate) entry: u32,
@@ -41,7 +41,7 @@ impl Loaded {
         memory
     }
 
-    /// The memory, and the texts that were decoded from it, which a machine then owns.
+    /// The memory and its texts, which a machine then owns.
     pub fn into_parts(self) -> (Memory, TextList)
         ensures space { space_of result.0.segments.items ≡ (loaded_image self).space }
         ensures decoded { AreDecoded (space_of result.0.segments.items) result.1 }

@@ -112,7 +112,7 @@ text_files (Ok u) names held run after ts ok files h =
     subst (HaveFiles names) (sym ok) (append_files names run.tokens.items (placed (presumed_of held.presumed) more) files (placed_files names (presumed_of held.presumed) more h))
 text_files (Err r) names held run after ts ok files h = tt
 
-true_or_false : (b : Bool) → b ≡ false → b ≡ true → ⊥
+pub true_or_false : (b : Bool) → b ≡ false → b ≡ true → ⊥
 true_or_false b f t = true-false (sym t ∙ f)
 
 not_begun : (b : Bool) → (b ≡ true → ⊥) → b ≡ false

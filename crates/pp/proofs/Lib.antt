@@ -5,7 +5,8 @@ pub mod RestLemmas
 pub mod FileLemmas
 pub mod BranchLemmas
 pub mod ErrorLemmas
-pub mod LineWalk
+pub mod IncludeLemmas
+pub mod StackLemmas
 pub mod PhaseLemmas
 pub mod ConditionLemmas
 pub mod LineLemmas

@@ -1,4 +1,4 @@
--- Phase 4 of a main file.
+-- Files as they are entered, and phase 4 of a main file.
 use Rattle.std.proofs.Common.{◌≡◌, ◌<◌, ◌≤◌, ℕ, zero, suc, List, [], ◌∷◌, length, Bool, true, false, Option, Some, None, Result, Ok, Err, get_or, refl, sym, ap, subst, ◌∙◌, arith, ◌⊎◌, inl, inr}
 use Rattle.std.specs.Prelude.{slice_get, if◌then◌else◌}
 use Rattle.std.specs.List.{list_all}
@@ -20,9 +20,9 @@ use Rattle.pp.specs.declared.state.State.{State as Held}
 use Rattle.phases.specs.LineEnds.{line_ends}
 use Rattle.pp.specs.Lines.{Line, lines_with, lines_or_refusal, lines_of}
 use Rattle.pp.specs.Groups.{groups}
-use Rattle.pp.specs.Phase4.{State, Fault, goes, Around, start, max_includes, number_in, lines_done, file_done, main_done, entered, ending_of, phase4, group_done}
-use Rattle.pp.specs.Today.{is_today_line, is_today, bytes_today, lines_today}
+use Rattle.pp.specs.Phase4.{State, Fault, goes, Around, start, max_includes, number_in, lines_done, file_done, main_done, ending_of, phase4, group_done}
 use Rattle.pp.specs.Preprocessed.{IsDone, IsStopped, IsRefused}
+use Rattle.pp.specs.inside.Including.{around_with}
 use Rattle.pp.specs.inside.Rest.{nowhere}
 use Rattle.pp.specs.inside.Stepping.{Goes, Stops, StopsAs}
 use Rattle.pp.proofs.StateLemmas.{true-false}
@@ -68,86 +68,25 @@ number_kept names texts text n once keeps e =
     let own_is : own ≡ text = some_is own text (sym (keeps m own got) ∙ f.here) in
     once m n text (got ∙ ap Some own_is) e
 
--- ---- phase 4
+-- ---- a file
 
 abbrev pub start_of : ℕ → State
 start_of file = record start { presumed = record { from = 1; line = 1; file = file } }
 
-abbrev pub around_of : Files → Texts → Around
-around_of files texts = record { texts = texts; enter = entered max_includes files texts }
+-- places are the physical ones of a file
+abbrev pub begun_in : ℕ → State → State
+begun_in file s = record s { presumed = record { from = 1; line = 1; file = file } }
 
 abbrev pub numbered_lines : List ℕ → List (List Token) → List Line
 numbered_lines bytes tss = lines_with tss (line_ends 0 Start (logical 1 bytes))
 
-pub main_is : (files : Files) (texts : Texts) (main bytes : List ℕ) (file : ℕ) (tss : List (List Token))
-    → file_of files main ≡ Some bytes → number_in texts main ≡ file → scanned file bytes ≡ Ok tss
-    → phase4 files texts main ≡ ending_of (group_done (around_of files texts) nowhere 0 (groups (numbered_lines bytes tss)) (start_of file))
-unfolding phase4 file_done lines_of
-main_is files texts main bytes file tss given numbered scans =
-    let around = around_of files texts in
-    ap (λ o. ending_of (main_done files texts main o)) given
-    ∙ ap (λ n. ending_of (lines_done around (lines_of n bytes) (start_of n))) numbered
-    ∙ ap (λ r. ending_of (lines_done around (lines_or_refusal r (line_ends 0 Start (logical 1 bytes))) (start_of file))) scans
-
-pub is_today_of : (files : Files) (texts : Texts) (main bytes : List ℕ) (file : ℕ) (tss : List (List Token))
-    → file_of files main ≡ Some bytes → number_in texts main ≡ file → scanned file bytes ≡ Ok tss → is_today files texts main ≡ list_all is_today_line tss
-is_today_of files texts main bytes file tss given numbered scans =
-    ap (bytes_today (number_in texts main)) given ∙ ap (λ n. lines_today (scanned n bytes)) numbered ∙ ap lines_today scans
-
--- ---- what is answered
-
-pub done_is : (files : Files) (texts names : Texts) (main bytes : List ℕ) (file : ℕ) (tss : List (List Token)) (held : Held)
-    → file_of files main ≡ Some bytes → number_in texts main ≡ file → scanned file bytes ≡ Ok tss → list_all is_today_line tss ≡ true
-    → Goes names held (group_done (around_of files texts) nowhere 0 (groups (numbered_lines bytes tss)) (start_of file))
-    → IsDone files texts main held.given.items
-done_is files texts names main bytes file tss held given numbered scans today g = record {
-  today = is_today_of files texts main bytes file tss given numbered scans ∙ today;
-  done = main_is files texts main bytes file tss given numbered scans ∙ ap ending_of g.goes_is
-      ∙ ap (λ l. ending_of (goes (record g.after { given = l }))) g.agrees.given_is;
-}
-
-stops_with : (files : Files) (texts : Texts) (main bytes : List ℕ) (file : ℕ) (tss : List (List Token)) (c : Code) (at : Pos) (text : List ℕ)
-    → file_of files main ≡ Some bytes → number_in texts main ≡ file → scanned file bytes ≡ Ok tss → list_all is_today_line tss ≡ true
-    → Stops c at text (group_done (around_of files texts) nowhere 0 (groups (numbered_lines bytes tss)) (start_of file))
-    → IsStopped files texts main c at text
-stops_with files texts main bytes file tss c at text given numbered scans today s = record {
-  today = is_today_of files texts main bytes file tss given numbered scans ∙ today;
-  stops = ap (λ p. p.fault) (main_is files texts main bytes file tss given numbered scans ∙ ap ending_of s.stops_is);
-}
-
-shown_is : (texts : Texts) (n : ℕ) (text : List ℕ) → slice_get texts n ≡ Some text → is_utf8 text ≡ true → shown_text texts n ≡ text
-shown_is texts n text e u = ap utf8_or_empty e ∙ ap (λ b. if b then text else []) u
-
-pub stopped_is : (refusal : Refusal) (files : Files) (texts names : Texts) (main bytes : List ℕ) (file : ℕ) (tss : List (List Token)) → KeepsNumbers names texts
-    → file_of files main ≡ Some bytes → number_in texts main ≡ file → scanned file bytes ≡ Ok tss → list_all is_today_line tss ≡ true
-    → StopsAs names refusal (group_done (around_of files texts) nowhere 0 (groups (numbered_lines bytes tss)) (start_of file))
-    → IsRefused files texts main refusal
-stopped_is Memory files texts names main bytes file tss keeps given numbered scans today s = tt
-stopped_is (At c at) files texts names main bytes file tss keeps given numbered scans today s = inr (stops_with files texts main bytes file tss c at [] given numbered scans today s)
-stopped_is (Told c at n) files texts names main bytes file tss keeps given numbered scans today s =
-    subst (IsStopped files texts main c at) (sym (shown_is texts n s.text (keeps n s.text s.number_is) s.utf8))
-    (stops_with files texts main bytes file tss c at s.text given numbered scans today s.fault_is)
-
-pub not_built_is : (files : Files) (texts : Texts) (main bytes : List ℕ) (file : ℕ) (tss : List (List Token))
-    → file_of files main ≡ Some bytes → number_in texts main ≡ file → scanned file bytes ≡ Ok tss → list_all is_today_line tss ≡ false
-    → IsRefused files texts main (At code.NotBuiltYet (record { file = file; line = 1 }))
-not_built_is files texts main bytes file tss given numbered scans today = inl (record {
-  not_today = is_today_of files texts main bytes file tss given numbered scans ∙ today;
-  code_is = refl;
-  at_is = ap (λ (n : ℕ). record { file = n; line = 1 }) (sym numbered);
-})
-
-abbrev no_main : ℕ → Fault
-no_main n = record { code = code.NoMainFile; at = record { file = n; line = 0 }; text = [] }
-
-pub no_main_is : (files : Files) (texts : Texts) (main : List ℕ) (file : ℕ) → file_of files main ≡ None → number_in texts main ≡ file
-    → IsRefused files texts main (At code.NoMainFile (record { file = file; line = 0 }))
-unfolding phase4
-no_main_is files texts main file given numbered = inr (record {
-  today = ap (bytes_today (number_in texts main)) given;
-  stops = ap (λ o. (ending_of (main_done files texts main o)).fault) given
-      ∙ ap (λ (n : ℕ). Some (no_main n)) numbered;
-})
+pub file_is : (around : Around) (name bytes : List ℕ) (file : ℕ) (tss : List (List Token)) (s : State)
+    → number_in around.texts name ≡ file → scanned file bytes ≡ Ok tss
+    → file_done around name bytes s ≡ group_done around nowhere 0 (groups (numbered_lines bytes tss)) (begun_in file s)
+unfolding file_done lines_of
+file_is around name bytes file tss s numbered scans =
+    ap (λ n. lines_done around (lines_of n bytes) (begun_in n s)) numbered
+    ∙ ap (λ r. lines_done around (lines_or_refusal r (line_ends 0 Start (logical 1 bytes))) (begun_in file s)) scans
 
 IsPlaced : Result (List (List Token)) Refusal → Type 0
 IsPlaced (Ok lines) = Unit {0}
@@ -176,24 +115,59 @@ scan_placed file bytes =
     end_placed (ends_open (phase1 0 1 bytes)) (ends_spliced (phase1 0 1 bytes)) file (last_line bytes) (lines_or_fault f) (lines_placed f)
 
 -- phases 1 to 3 refuse at places
-pub refuses_at : (refusal : Refusal) (file : ℕ) (bytes : List ℕ) (files : Files) (texts : Texts) (main : List ℕ)
-    → file_of files main ≡ Some bytes → number_in texts main ≡ file → scanned file bytes ≡ Err refusal → IsRefused files texts main refusal
-unfolding phase4 file_done lines_of IsPlaced
-refuses_at Memory file bytes files texts main given numbered e = tt
-refuses_at (At c at) file bytes files texts main given numbered e =
-    let around = around_of files texts in
-    inr (record {
-      today = ap (bytes_today (number_in texts main)) given ∙ ap (λ n. lines_today (scanned n bytes)) numbered ∙ ap lines_today e;
-      stops = ap (λ o. (ending_of (main_done files texts main o)).fault) given
-          ∙ ap (λ n. (ending_of (lines_done around (lines_of n bytes) (start_of n))).fault) numbered
-          ∙ ap (λ r. (ending_of (lines_done around (lines_or_refusal r (line_ends 0 Start (logical 1 bytes))) (start_of file))).fault) e;
-    })
-refuses_at (Told c at text) file bytes files texts main given numbered e = absurd (subst IsPlaced e (scan_placed file bytes))
+pub file_refused : (r : Refusal) (names : Texts) (around : Around) (name bytes : List ℕ) (file : ℕ) (s : State)
+    → number_in around.texts name ≡ file → scanned file bytes ≡ Err r → StopsAs names r (file_done around name bytes s)
+unfolding file_done lines_of IsPlaced
+file_refused Memory names around name bytes file s numbered e = tt
+file_refused (At c at) names around name bytes file s numbered e = record {
+  given = s.given;
+  stops_is = ap (λ n. lines_done around (lines_of n bytes) (begun_in n s)) numbered
+      ∙ ap (λ r. lines_done around (lines_or_refusal r (line_ends 0 Start (logical 1 bytes))) (begun_in file s)) e;
+}
+file_refused (Told c at text) names around name bytes file s numbered e = absurd (subst IsPlaced e (scan_placed file bytes))
 
-pub scan_refused : (refusal : Refusal) (file : ℕ) (bytes : List ℕ) (files : Files) (texts : Texts) (main : List ℕ)
-    → file_of files main ≡ Some bytes → number_in texts main ≡ file → (refusal ≡ Memory) ⊎ (scanned file bytes ≡ Err refusal) → IsRefused files texts main refusal
-scan_refused refusal file bytes files texts main given numbered why =
-    elim why [
-      | inl m ↦ subst (IsRefused files texts main) (sym m) tt
-      | inr e ↦ refuses_at refusal file bytes files texts main given numbered e
-    ]
+pub scan_stops : (r : Refusal) (names : Texts) (around : Around) (name bytes : List ℕ) (file : ℕ) (s : State)
+    → number_in around.texts name ≡ file → (r ≡ Memory) ⊎ (scanned file bytes ≡ Err r) → StopsAs names r (file_done around name bytes s)
+scan_stops r names around name bytes file s numbered (inl m) = subst (λ r. StopsAs names r (file_done around name bytes s)) (sym m) tt
+scan_stops r names around name bytes file s numbered (inr e) = file_refused r names around name bytes file s numbered e
+
+-- ---- phase 4
+
+pub main_is : (files : Files) (texts : Texts) (main bytes : List ℕ) → file_of files main ≡ Some bytes
+    → phase4 files texts main ≡ ending_of (file_done (around_with max_includes files texts) main bytes start)
+unfolding phase4
+main_is files texts main bytes given = ap (λ o. ending_of (main_done files texts main o)) given
+
+pub done_is : (files : Files) (texts names : Texts) (main bytes : List ℕ) (held : Held) → file_of files main ≡ Some bytes
+    → Goes names held (file_done (around_with max_includes files texts) main bytes start) → IsDone files texts main held.given.items
+done_is files texts names main bytes held given g = record {
+  done = main_is files texts main bytes given ∙ ap ending_of g.goes_is ∙ ap (λ l. ending_of (goes (record g.after { given = l }))) g.agrees.given_is;
+}
+
+stops_with : (files : Files) (texts : Texts) (main bytes : List ℕ) (c : Code) (at : Pos) (text : List ℕ) → file_of files main ≡ Some bytes
+    → Stops c at text (file_done (around_with max_includes files texts) main bytes start) → IsStopped files texts main c at text
+stops_with files texts main bytes c at text given s = record {
+  stops = ap (λ p. p.fault) (main_is files texts main bytes given ∙ ap ending_of s.stops_is);
+}
+
+shown_is : (texts : Texts) (n : ℕ) (text : List ℕ) → slice_get texts n ≡ Some text → is_utf8 text ≡ true → shown_text texts n ≡ text
+shown_is texts n text e u = ap utf8_or_empty e ∙ ap (λ b. if b then text else []) u
+
+pub stopped_is : (refusal : Refusal) (files : Files) (texts names : Texts) (main bytes : List ℕ) → KeepsNumbers names texts → file_of files main ≡ Some bytes
+    → StopsAs names refusal (file_done (around_with max_includes files texts) main bytes start) → IsRefused files texts main refusal
+stopped_is Memory files texts names main bytes keeps given s = tt
+stopped_is (At c at) files texts names main bytes keeps given s = stops_with files texts main bytes c at [] given s
+stopped_is (Told c at n) files texts names main bytes keeps given s =
+    subst (IsStopped files texts main c at) (sym (shown_is texts n s.text (keeps n s.text s.number_is) s.utf8))
+    (stops_with files texts main bytes c at s.text given s.fault_is)
+
+abbrev no_main : ℕ → Fault
+no_main n = record { code = code.NoMainFile; at = record { file = n; line = 0 }; text = [] }
+
+pub no_main_is : (files : Files) (texts : Texts) (main : List ℕ) (file : ℕ) → file_of files main ≡ None → number_in texts main ≡ file
+    → IsRefused files texts main (At code.NoMainFile (record { file = file; line = 0 }))
+unfolding phase4
+no_main_is files texts main file given numbered = record {
+  stops = ap (λ o. (ending_of (main_done files texts main o)).fault) given
+      ∙ ap (λ (n : ℕ). Some (no_main n)) numbered;
+}

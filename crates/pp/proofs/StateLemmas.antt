@@ -23,7 +23,7 @@ use Rattle.pp_expand.specs.Expands.{HaveFiles, IsExpansion}
 use Rattle.pp.specs.declared.state.State.{State as Held}
 use Rattle.pp.specs.Lines.{Line}
 use Rattle.pp.specs.Phase4.{Presumed, printable, State, Outcome, goes, stops, ◌>>=◌, Enter, presume, presumed_at, with_macros, undefined, fails, of_expansion, expand, give, first_past, run_done, include_done, line_done, error_text, named, directive_by, directive_done, max_tokens}
-use Rattle.pp.specs.Today.{is_today_line}
+use Rattle.pp.specs.inside.Including.{is_include}
 use Rattle.pp.specs.inside.Pending.{is_directive}
 use Rattle.pp.proofs.GroupLemmas.{and_left}
 use Rattle.pp.specs.inside.Stepping.{presumed_of, presumed_by, placed, line_with, spaced_out, error_fault, error_done, Gives, Asks, Agrees, IsSound, Goes, Stops, StopsAs, Answers, Does, IsPast}
@@ -196,23 +196,19 @@ pub record Reads (held : Held) (ts : List Token) (h x : Token) (at : Pos) : Type
 pub reads_line : (held : Held) (ts : List Token) (h x : Token) (at : Pos) → Reads held ts h x at → ts ≡ h ∷ x ∷ take (length ts - 2) (drop 2 ts)
 reads_line held ts h x at r = two_items ts h x r.long r.first r.second ∙ ap (λ l. h ∷ x ∷ l) (sym (rest_whole ts))
 
-not_true : (b : Bool) → not b ≡ true → b ≡ false
-not_true true e = sym e
-not_true false e = refl
+third_fails : (a b c : Bool) → (a && (b && c)) ≡ false → a ≡ true → b ≡ true → c ≡ false
+third_fails true true c e ea eb = e
+third_fails false b c e ea eb = absurd (true-false (sym ea))
+third_fails true false c e ea eb = absurd (true-false (sym eb))
 
-today_second : (a b c : Bool) → not (a && (b && c)) ≡ true → a ≡ true → b ≡ true → c ≡ false
-today_second true true c e ea eb = not_true c e
-today_second false b c e ea eb = absurd (true-false (sym ea))
-today_second true false c e ea eb = absurd (true-false (sym eb))
-
--- a directive of today is no #include
-pub no_include : (held : Held) (ts : List Token) (h x : Token) (at : Pos) → Reads held ts h x at → is_today_line ts ≡ true → is_directive ts ≡ true → is_identifier x ≡ true
+-- a directive that is no #include has another name
+pub no_include : (held : Held) (ts : List Token) (h x : Token) (at : Pos) → Reads held ts h x at → is_include ts ≡ false → is_directive ts ≡ true → is_identifier x ≡ true
     → is_spelled (codes "include") x ≡ false
-no_include held ts h x at r today hash i =
+no_include held ts h x at r other hash i =
     let e = reads_line held ts h x at r in
-    today_second (is_hash h) (is_identifier x) (is_spelled (codes "include") x) (sym (ap is_today_line e) ∙ today) (sym (ap is_directive e) ∙ hash) i
+    third_fails (is_hash h) (is_identifier x) (is_spelled (codes "include") x) (sym (ap is_include e) ∙ other) (sym (ap is_directive e) ∙ hash) i
 
-directive_as : (texts names : Texts) (enter : Enter) (held : Held) (ts : List Token) (end : ℕ) (h x : Token) (at : Pos) (s : State) → Reads held ts h x at → Agrees names held s
+pub directive_as : (texts names : Texts) (enter : Enter) (held : Held) (ts : List Token) (end : ℕ) (h x : Token) (at : Pos) (s : State) → Reads held ts h x at → Agrees names held s
     → directive_done texts enter (line_with ts end) s
     ≡ (if is_identifier x then named texts enter x (presume s (take (length ts - 2) (drop 2 ts))) end at s else fails s code.BadDirective at)
 unfolding directive_done
@@ -353,7 +349,7 @@ error_placed at p xs = ap (λ l. record { code = code.ErrorDirective; at = at; t
 
 -- ---- the operand of #undef
 
-one_item : (ts : List Token) (x : Token) → 1 ≤ length ts → length ts < 2 → x ≡ slice_index_or ts 0 x → ts ≡ x ∷ []
+pub one_item : (ts : List Token) (x : Token) → 1 ≤ length ts → length ts < 2 → x ≡ slice_index_or ts 0 x → ts ≡ x ∷ []
 one_item [] x n m p = absurd (omega (arith, n))
 one_item (a ∷ []) x n m p = ap (λ k. k ∷ []) (sym p)
 one_item (a ∷ b ∷ ts) x n m p = absurd (omega (arith, m))

@@ -5,7 +5,6 @@ pub use Rattle.srcset.specs.Writing
 pub mod Lines
 pub mod Groups
 pub mod Phase4
-pub mod Today
 pub mod Preprocessed
 pub mod Printed
 pub mod inside

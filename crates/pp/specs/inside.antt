@@ -1,3 +1,4 @@
+pub mod Including
 pub mod Pending
 pub mod Rest
 pub mod Stepping

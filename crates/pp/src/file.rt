@@ -1,5 +1,5 @@
 //! The lines of a file, one after another.
-ghost use Rattle.std.specs.Prelude.{◌≡◌, ℕ, List, true, drop, OnOk};
+ghost use Rattle.std.specs.Prelude.{◌≡◌, ℕ, true, false, drop, OnOk};
 ghost use Rattle.std.specs.List.{list_all};
 ghost use Rattle.srcset.specs.NameTable.{Texts, KeepsNumbers};
 ghost use Rattle.srcset.specs.declared.refusal.Refusal.TheVariants.{At};
@@ -8,7 +8,7 @@ ghost use Rattle.pp_expand.specs.Expands.{HaveFiles};
 ghost use Rattle.pp.specs.Lines.{first_end, lines_with};
 ghost use Rattle.pp.specs.Groups.{Parsed, Group, ends, opens, divides, closes, stands_alone, role_of, to_end, with_line, groups};
 ghost use Rattle.pp.specs.Phase4.{State as Done, Outcome, Around, group_done};
-ghost use Rattle.pp.specs.Today.{is_today_line};
+ghost use Rattle.pp.specs.inside.Including.{is_include};
 ghost use Rattle.pp.specs.inside.Rest.{nowhere, is_active, rest_done};
 ghost use Rattle.pp.specs.inside.Stepping.{line_with, role_meant, IsSound, Agrees, Does, Answers, RestsOrStops, Stands, StandsOrStops};
 
@@ -127,7 +127,7 @@ fn directive_done<'a>(
     names: &mut Names,
 ) -> Result<(), Refusal>
     requires sound { IsSound names.old state.old }
-    requires today { is_today_line line.now ≡ true }
+    requires other { is_include line.now ≡ false }
     requires role { role_of line.now ≡ role_meant role }
     ensures rests { (around : Around) (p : Parsed) (s : Done) → KeepsNumbers names.new around.texts → Agrees names.old state.old s → RestsOrStops result names.new state.new around file.new.conditionals p (rest_done around file.old.conditionals (with_line (role_meant role) (line_with line.now (first_end (drop index file.old.ends))) p) s) }
     ensures sound { OnOk result (IsSound names.new state.new) }
@@ -148,8 +148,8 @@ fn directive_done<'a>(
     }
 }
 
-// Text goes to the run, unless it is skipped; a directive ends the run, and is done.
-fn line_done<'a>(
+/// Text goes to the run, unless it is skipped; a directive ends the run, and is done.
+pub fn line_done<'a>(
     alloc: Global,
     line: &[PpToken<'a>],
     index: usize,
@@ -159,7 +159,7 @@ fn line_done<'a>(
 ) -> Result<(), Refusal>
     requires sound { IsSound names.old state.old }
     requires files { HaveFiles names.old file.old.run.tokens.items }
-    requires today { is_today_line line.now ≡ true }
+    requires other { is_include line.now ≡ false }
     ensures stands { (around : Around) (p : Parsed) (o : Outcome Done) → KeepsNumbers names.new around.texts → Stands names.old state.old file.old.run around file.old.conditionals (with_line (role_of line.now) (line_with line.now (first_end (drop index file.old.ends))) p) o → StandsOrStops result names.new state.new file.new.run around file.new.conditionals p o }
     ensures sound { OnOk result (IsSound names.new state.new) }
     ensures files { OnOk result (HaveFiles names.new file.new.run.tokens.items) }
@@ -176,8 +176,8 @@ fn line_done<'a>(
     directive_done(alloc, line, index, role, file, state, names)
 }
 
-// The end of a file: no conditional may be open.
-fn end_done<'a>(
+/// The end of a file: no conditional may be open.
+pub fn end_done<'a>(
     alloc: Global,
     file: &mut OpenFile<'a>,
     state: &mut State<'a>,
@@ -193,32 +193,4 @@ fn end_done<'a>(
         None => Ok(()),
         Some(open) => Err(unbalanced(open.at)),
     }
-}
-
-/// Does all lines of a file with these bytes.
-pub fn file_done<'a>(
-    alloc: Global,
-    lines: &Lines<'a>,
-    ends: LineEnds<'a>,
-    state: &mut State<'a>,
-    names: &mut Names,
-) -> Result<(), Refusal>
-    requires sound { IsSound names.old state.old }
-    requires today { list_all is_today_line lines.now ≡ true }
-    ensures does { (around : Around) → KeepsNumbers names.new around.texts → Does result names.old state.old names.new state.new (group_done around nowhere 0 (groups (lines_with lines.now ends.entry))) }
-    ensures sound { OnOk result (IsSound names.new state.new) }
-    ensures keeps { KeepsNumbers names.old names.new }
-{
-    let mut file = OpenFile {
-        run: Run::new(alloc),
-        conditionals: Conditionals::new(alloc),
-        ends,
-    };
-    for index in 0..lines.len() {
-        let Some(line) = lines.get(index) else {
-            unreachable!();
-        };
-        line_done(alloc, line, index, &mut file, state, names)?;
-    }
-    end_done(alloc, &mut file, state, names)
 }

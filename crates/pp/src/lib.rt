@@ -1,5 +1,4 @@
-//! Translation phase 4: directives, conditionals, includes (ISO/IEC 9899:2011 6.10). Today the lines are text, a `#`
-//! alone, `#define`, `#undef` and `#pragma`.
+//! Translation phase 4: directives, conditionals, includes (ISO/IEC 9899:2011 6.10).
 #![tactic(auto)]
 
 mod conditionals;
@@ -7,6 +6,8 @@ mod conditions;
 mod ends;
 mod error_directive;
 mod file;
+mod files;
+mod includes;
 mod line_directive;
 mod places;
 mod preprocessing;

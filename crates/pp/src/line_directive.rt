@@ -46,8 +46,8 @@ fn line_number(text: &[u8]) -> Option<u32>
     if value == 0 { None } else { Some(value) }
 }
 
-// What stands between the quotes.
-fn inside(text: &[u8]) -> &[u8]
+/// What stands between the quotes or brackets.
+pub fn inside(text: &[u8]) -> &[u8]
     ensures { result.now ≡ inside text.now }
 {
     if text.len() < 2 {
@@ -85,8 +85,8 @@ fn is_string_kind(kind: Kind) -> bool
     }
 }
 
-// Whether it is a string literal without a prefix.
-fn is_plain_string(token: &PpToken) -> bool
+/// Whether it is a string literal without a prefix.
+pub fn is_plain_string(token: &PpToken) -> bool
     ensures { result ≡ is_plain_string token.now }
 {
     is_string_kind(token.kind()) && token.spelling().starts_with(b"\"")

@@ -17,6 +17,17 @@ pub struct Presumed {
 }
 
 impl Presumed {
+    /// Places are the physical ones of a file.
+    pub fn physical(file: usize) -> Presumed
+        ensures { result ≡ record { behind = 0; line = 1; file = file } }
+    {
+        Presumed {
+            behind: 0,
+            line: 1,
+            file,
+        }
+    }
+
     /// The place that a physical one is presumed to be. `Memory` past line 4,294,967,295, to which no `#line` reaches in a
     /// file of at most 1,048,576 bytes.
     pub fn place(self, pos: Pos) -> Result<Pos, Refusal>

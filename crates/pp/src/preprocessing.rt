@@ -3,11 +3,10 @@ ghost use Rattle.std.specs.Prelude.{◌≡◌, IfOk, IfErr};
 ghost use Rattle.srcset.specs.NameTable.{Texts, KeepsNumbers};
 ghost use Rattle.pp.specs.Preprocessed.{IsDone, IsRefused, IsPreprocessFault};
 
-use crate::ends::LineEnds;
-use crate::file::file_done;
+use crate::files::files_done;
+use crate::includes::Source;
 use crate::state::State;
-use crate::words::are_today_lines;
-use phases::{PpToken, try_scan};
+use phases::PpToken;
 use srcset::{Code, Fault, FileSet, Names, Pos, Refusal};
 use std::alloc::Global;
 
@@ -15,9 +14,8 @@ use std::alloc::Global;
 /// file and its line, counted from 1. New names get numbers in `names`, whether it succeeds or not.
 ///
 /// Refused with the fault in which phase 4 ends: 103 at line 0 where the set has no file of that name; the fault
-/// of its phases 1 to 3; those of the directives and of the replacement of macros; 708 at the first token past
-/// 1,048,576. Where a line of the file is an `#include`, it is refused with 699 at line 1 in place of those of phase 4.
-/// `Memory` where memory runs out.
+/// of a file's phases 1 to 3, as it is entered; those of the directives and of the replacement of macros; 707 where a 33rd
+/// file would be open beside the main one; 708 at the first token past 1,048,576. `Memory` where memory runs out.
 pub fn try_preprocess<'a>(
     alloc: Global,
     set: &'a FileSet,
@@ -38,16 +36,9 @@ pub fn try_preprocess<'a>(
             pos,
         });
     };
-    let lines = try_scan(alloc, bytes, file)?;
-    if !are_today_lines(&lines) {
-        let pos = Pos { file, line: 1 };
-        return Err(Refusal::At {
-            code: Code::NotBuiltYet,
-            pos,
-        });
-    }
+    let source = Source { name: file, bytes };
     let mut state = State::new(alloc, file);
-    file_done(alloc, &lines, LineEnds::new(bytes), &mut state, names)?;
+    files_done(alloc, set, &source, &mut state, names)?;
     Ok(state.given)
 }
 

@@ -10,7 +10,7 @@ ghost use Rattle.pp_expand.specs.Expansion.{of_directive};
 ghost use Rattle.pp_expand.specs.Expands.{HaveFiles};
 ghost use Rattle.pp.specs.Lines.{first_end};
 ghost use Rattle.pp.specs.Phase4.{State as Done, Enter, start, expand, presume, with_macros, undefined, run_done, named, directive_done, max_tokens};
-ghost use Rattle.pp.specs.Today.{is_today_line};
+ghost use Rattle.pp.specs.inside.Including.{is_include};
 ghost use Rattle.pp.specs.inside.Pending.{is_directive, run_ended};
 ghost use Rattle.pp.specs.inside.Stepping.{presumed_of, placed, line_with, Agrees, IsSound, Gives, StopsAs, Does, IsPast};
 
@@ -79,11 +79,7 @@ impl<'a> State<'a> {
             table: MacroTable::new(alloc),
             budget: Budget::new(MAX_REPLACEMENTS),
             given: Vec::new(alloc),
-            presumed: Presumed {
-                behind: 0,
-                line: 1,
-                file,
-            },
+            presumed: Presumed::physical(file),
         }
     }
 
@@ -201,7 +197,7 @@ impl<'a> State<'a> {
         names: &mut Names,
     ) -> Result<(), Refusal>
         requires sound { IsSound names.old self.old }
-        requires today { is_spelled (codes "include") name.now ≡ false }
+        requires other { is_spelled (codes "include") name.now ≡ false }
         ensures does { (texts : Texts) (enter : Enter) → KeepsNumbers names.new texts → Does result names.old self.old names.new self.new (λ s. named texts enter name.now (presume s further.now) (first_end (drop index ends.old)) at s) }
         ensures sound { OnOk result (IsSound names.new self.new) }
         ensures keeps { KeepsNumbers names.old names.new }
@@ -236,7 +232,7 @@ impl<'a> State<'a> {
         names: &mut Names,
     ) -> Result<(), Refusal>
         requires sound { IsSound names.old self.old }
-        requires today { is_today_line line.now ≡ true }
+        requires other { is_include line.now ≡ false }
         requires hash { is_directive line.now ≡ true }
         ensures does { (texts : Texts) (enter : Enter) → KeepsNumbers names.new texts → Does result names.old self.old names.new self.new (directive_done texts enter (line_with line.now (first_end (drop index ends.old)))) }
         ensures sound { OnOk result (IsSound names.new self.new) }

@@ -1,13 +1,11 @@
 //! What a line is, by its first tokens.
 ghost use Rattle.std.specs.Prelude.{◌≡◌, ◌||◌, codes};
-ghost use Rattle.std.specs.List.{list_all};
 ghost use Rattle.macros.specs.Macro.{is_spelled};
 ghost use Rattle.pp.specs.Groups.{word_role, hash_role, role_of, is_else, place_of};
-ghost use Rattle.pp.specs.Today.{is_today_line};
 ghost use Rattle.pp.specs.inside.Stepping.{role_meant, line_role_meant};
 
 use macros::{is_hash, is_identifier};
-use phases::{Lines, PpToken};
+use phases::PpToken;
 use srcset::Pos;
 
 /// What a directive is to conditional sections (ISO/IEC 9899:2011 6.10p1).
@@ -106,31 +104,4 @@ pub fn place_of(line: &[PpToken]) -> Pos
         [first, ..] => first.pos(),
         [] => Pos { file: 0, line: 0 },
     }
-}
-
-// Whether a line is no `#include`.
-fn is_today_line(line: &[PpToken]) -> bool
-    ensures { result ≡ is_today_line line.now }
-{
-    match line {
-        [first, name, ..] => {
-            !(is_hash(first) && is_identifier(name) && is_spelled(name, b"include"))
-        }
-        _ => true,
-    }
-}
-
-/// Whether no line is an `#include`.
-pub fn are_today_lines(lines: &Lines) -> bool
-    ensures { result ≡ list_all is_today_line lines.now }
-{
-    for index in 0..lines.len() {
-        let Some(line) = lines.get(index) else {
-            return true;
-        };
-        if !is_today_line(line) {
-            return false;
-        }
-    }
-    true
 }

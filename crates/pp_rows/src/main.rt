@@ -1,5 +1,5 @@
-//! Prints what each source of its input comes to by translation phase 4, or the line of its fault. The sources are
-//! separated by `@`, which stands in no program of C.
+//! Prints what each set of sources of its input comes to by translation phase 4, or the line of its fault. The sets are
+//! separated by `@`, and the files of a set by `$` and a name; neither stands in a program of C.
 #![tactic(auto)]
 
 use anyhow::Result;
@@ -36,9 +36,9 @@ fn after_line_feed(row: &[u8]) -> &[u8] {
     }
 }
 
-/// Writes the tokens of a source, or the line of its fault.
-fn write_row(alloc: Global, output: &mut Vec<u8>, source: &[u8]) -> Result<()> {
-    if let Err(fault) = write_tokens(alloc, output, source) {
+/// Writes the tokens of a set, or the line of its fault.
+fn write_row(alloc: Global, output: &mut Vec<u8>, row: &[u8]) -> Result<()> {
+    if let Err(fault) = write_tokens(alloc, output, row) {
         output.extend_from_slice(fault.to_line(alloc)?.as_slice())?;
         output.push(b'\n')?;
     }
@@ -48,14 +48,40 @@ fn write_row(alloc: Global, output: &mut Vec<u8>, source: &[u8]) -> Result<()> {
 fn write_tokens(
     alloc: Global,
     output: &mut Vec<u8>,
+    row: &[u8],
+) -> std::result::Result<(), Fault> {
+    let set = set_of(alloc, row)?;
+    let mut names = Names::new(alloc);
+    let tokens = preprocess(alloc, &set, &mut names, "main.c")?;
+    print(alloc, &tokens, output)
+}
+
+/// The files of a row: the first is `main.c`, and each other has its name on the line of its `$`.
+fn set_of(alloc: Global, row: &[u8]) -> std::result::Result<FileSet, Fault> {
+    let mut set = FileSet::new(alloc);
+    let mut is_first = true;
+    for file in row.split(|byte| *byte == b'$') {
+        if is_first {
+            add(alloc, &mut set, b"main.c", file)?;
+        } else if let Some(end) = file.iter().position(|byte| *byte == b'\n') {
+            add(alloc, &mut set, &file[..end], &file[end + 1..])?;
+        }
+        is_first = false;
+    }
+    Ok(set)
+}
+
+fn add(
+    alloc: Global,
+    set: &mut FileSet,
+    name: &[u8],
     source: &[u8],
 ) -> std::result::Result<(), Fault> {
     let Ok(bytes) = Vec::from_slice(alloc, source) else {
         return Err(Fault::memory(alloc));
     };
-    let mut set = FileSet::new(alloc);
-    set.add("main.c", bytes)?;
-    let mut names = Names::new(alloc);
-    let tokens = preprocess(alloc, &set, &mut names, "main.c")?;
-    print(alloc, &tokens, output)
+    let Ok(name) = std::str::from_utf8(name.trim_ascii()) else {
+        return Ok(());
+    };
+    set.add(name, bytes)
 }

@@ -3,3 +3,4 @@ pub mod Spaces
 pub mod Stays
 pub mod Uses
 pub mod Tables
+pub mod Registers

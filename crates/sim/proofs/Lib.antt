@@ -1,3 +1,4 @@
 pub mod Ticks
 pub mod Composing
 pub mod Keeping
+pub mod Plain

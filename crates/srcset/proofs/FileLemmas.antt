@@ -30,7 +30,7 @@ pub is_some-option_map : {A B : Type 0} (f : A → B) (o : Option A) → is_some
 is_some-option_map f None = refl
 is_some-option_map f (Some x) = refl
 
-both : (a b : Bool) → (a && b) ≡ true → (a ≡ true) × (b ≡ true)
+pub both : (a b : Bool) → (a && b) ≡ true → (a ≡ true) × (b ≡ true)
 both true b e = (refl, e)
 both false b e = absurd (cc)
 
@@ -108,7 +108,7 @@ file_map_push files name bytes old e =
     rw (map-append (λ (f : List ℕ × List ℕ). f.0) files ((name, bytes) ∷ [])) (numbers_once_push (names_of files) name (sym (is_some-lookup files name) ∙ fits.0) old.2) in
     (within_limits_push files name bytes old.0 fits.1 fits.2, list_all_push (λ f. is_file_name f.0) files (name, bytes) old.1 fits.3, once)
 
-none_found : {A : Type 0} (o : Option A) → is_some o ≡ false → o ≡ None
+pub none_found : {A : Type 0} (o : Option A) → is_some o ≡ false → o ≡ None
 none_found None e = refl
 none_found (Some x) e = absurd (cc)
 

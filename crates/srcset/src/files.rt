@@ -66,6 +66,19 @@ impl FileSet {
         Some(bytes.as_slice())
     }
 
+    /// The bytes of the file whose name has these bytes, or `None` where no file has it. Takes no memory.
+    pub fn find(&self, name: &[u8]) -> Option<&[u8]>
+        ensures bytes { option_copied result ≡ file_of self.now name.now }
+        ensures small { IfSome result (λ bytes. length bytes.now ≤ max_file_bytes) }
+    {
+        let files = &self.files;
+        let Ok(name) = str::from_utf8(name) else {
+            return None;
+        };
+        let bytes = files.get(name)?;
+        Some(bytes.as_slice())
+    }
+
     /// Whether a file has this name. Takes no memory.
     pub fn contains(&self, name: &str) -> bool
         ensures { result ≡ is_some (file_of self.now name.now) }

@@ -61,3 +61,14 @@ pub fn builtin(name: &str) -> Option<&'static [u8]>
         _ => None,
     }
 }
+
+/// The text of the built-in header whose name has these bytes, as `builtin` gives it. Takes no memory.
+pub fn find_builtin(name: &[u8]) -> Option<&'static [u8]>
+    ensures text { option_copied result ≡ header_of name.now }
+    ensures small { IfSome result (λ bytes. length bytes.now ≤ max_file_bytes) }
+{
+    match str::from_utf8(name) {
+        Ok(name) => builtin(name),
+        Err(_) => None,
+    }
+}

@@ -15,7 +15,7 @@ pub mod writing;
 pub use code::{Code, message};
 pub use fault::Fault;
 pub use files::{FileSet, MAX_FILE_BYTES, MAX_FILES, MAX_NAME_BYTES};
-pub use headers::builtin;
+pub use headers::{builtin, find_builtin};
 pub use names::Names;
 pub use refusal::{Pos, Refusal};
 pub use writing::{TRIES, write_text};

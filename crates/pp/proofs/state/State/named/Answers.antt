@@ -18,5 +18,5 @@ returns-then-is_spelled-2-clause-does c texts enter keeps s a =
 pub returns-then-is_spelled-4-clause-does : goal.returns-then-is_spelled-4-clause-does
 returns-then-is_spelled-4-clause-does c texts enter keeps s a =
     error_is texts c.refusal_of.new.names c.refusal_of.result enter c.args.name.now c.args.further.now (first_end (drop c.args.index c.args.ends.now)) c.args.at s
-    (sym c.is_spelled.ensures ∙ c.if-is_spelled.false) (sym c.is_spelled-2.ensures ∙ c.if-is_spelled-2.false) c.requires.today (sym c.is_spelled-3.ensures ∙ c.if-is_spelled-3.false) (sym c.is_spelled-4.ensures ∙ c.if-is_spelled-4.true)
+    (sym c.is_spelled.ensures ∙ c.if-is_spelled.false) (sym c.is_spelled-2.ensures ∙ c.if-is_spelled-2.false) c.requires.other (sym c.is_spelled-3.ensures ∙ c.if-is_spelled-3.false) (sym c.is_spelled-4.ensures ∙ c.if-is_spelled-4.true)
     (c.refusal_of.ensures.told s)

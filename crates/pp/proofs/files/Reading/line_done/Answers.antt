@@ -1,0 +1,44 @@
+use Rattle.std.proofs.Common.{◌≡◌, ◌+◌, ℕ, List, suc, refl, sym, ap, subst, ◌∙◌, drop, arith}
+use Rattle.std.proofs.lemmas.Result.{err_from_is_err_and}
+use Rattle.pp.specs.Lines.{lines_with, first_end}
+use Rattle.pp.specs.Groups.{Parsed, parsed, role_of, with_line}
+use Rattle.pp.specs.inside.Including.{around_with}
+use Rattle.pp.specs.inside.Stepping.{line_with, Stands}
+use Rattle.pp.proofs.FileLemmas.{next_stands}
+use Rattle.pp.proofs.files.Reading.line_done.Goals as goal
+
+succ : (i : ℕ) → suc i ≡ i + 1
+succ i = omega arith
+
+pub returns-then-is_include-clause-waits : goal.returns-then-is_include-clause-waits
+returns-then-is_include-clause-waits c texts o keeps st =
+    let r = c.args.self.now in
+    let ts = c.in-Some.line.now in
+    let around = around_with c.args.room c.args.set.now texts in
+    let p = ap (λ k. parsed (drop k (lines_with r.lines r.file.ends))) (succ r.next)
+    ∙ ap (λ (e : List ℕ). parsed (drop (r.next + 1) (lines_with r.lines e))) (sym c.include_done.ensures.ends) in
+    let end = first_end (drop r.next r.file.ends) in
+    let next = next_stands c.args.names.now c.args.state.now r.file.run around r.file.conditionals r.lines r.file.ends r.next ts o (sym c.in-Some.ensures) st in
+    c.include_done.ensures.waits texts end (parsed (drop (r.next + 1) (lines_with r.lines c.include_done.new.file.ends))) o keeps
+    (subst (λ (p : Parsed). Stands c.args.names.now c.args.state.now r.file.run around r.file.conditionals (with_line (role_of ts) (line_with ts end) p) o) p next)
+
+pub returns-in_err-line_done-clause-waits : goal.returns-in_err-line_done-clause-waits
+returns-in_err-line_done-clause-waits c texts o keeps st =
+    let q = err_from_is_err_and c.from_residual.result c.from_residual.ensures.1 in
+    let r = c.args.self.now in
+    let ts = c.in-Some.line.now in
+    let around = around_with c.args.room c.args.set.now texts in
+    let next = next_stands c.args.names.now c.args.state.now r.file.run around r.file.conditionals r.lines r.file.ends r.next ts o (sym c.in-Some.ensures) st in
+    rw (q.1, q.2) (c.in_err-line_done.ensures.stands around (parsed (drop (suc r.next) (lines_with r.lines r.file.ends))) o keeps next)
+
+pub returns-clause-waits : goal.returns-clause-waits
+returns-clause-waits c texts o keeps st =
+    let r = c.args.self.now in
+    let ts = c.in-Some.line.now in
+    let around = around_with c.args.room c.args.set.now texts in
+    let p = ap (λ k. parsed (drop k (lines_with r.lines r.file.ends))) (succ r.next)
+    ∙ ap (λ (e : List ℕ). parsed (drop (r.next + 1) (lines_with r.lines e))) (sym c.in_ok-line_done.ensures.ends) in
+    let end = first_end (drop r.next r.file.ends) in
+    let next = next_stands c.args.names.now c.args.state.now r.file.run around r.file.conditionals r.lines r.file.ends r.next ts o (sym c.in-Some.ensures) st in
+    c.in_ok-line_done.ensures.stands around (parsed (drop (r.next + 1) (lines_with r.lines c.line_done.new.file.ends))) o keeps
+    (subst (λ (p : Parsed). Stands c.args.names.now c.args.state.now r.file.run around r.file.conditionals (with_line (role_of ts) (line_with ts end) p) o) p next)

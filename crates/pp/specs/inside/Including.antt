@@ -1,0 +1,205 @@
+-- What is left of a file and of those that wait for it, where files include one another.
+use Rattle.std.specs.Prelude.{◌≡◌, ◌≤◌, ◌<◌, ◌&&◌, ◌+◌, ◌-◌, ◌*◌, ℕ, zero, suc, List, [], ◌∷◌, length, map, drop, slice_get, Bool, true, false, Option, Some, None, Result, Ok, Err, codes}
+use Rattle.std.specs.Borrow.{Bor}
+use Rattle.srcset.specs.declared.refusal.Refusal.{Refusal}
+use Rattle.srcset.specs.Files.{Files}
+use Rattle.srcset.specs.NameTable.{Texts, KeepsNumbers, NumbersOnce}
+use Rattle.phases.specs.Token.{Token}
+use Rattle.phases.specs.declared.token.Place.TheVariants.{Start}
+use Rattle.phases.specs.Text.{logical}
+use Rattle.phases.specs.Lines.{scanned}
+use Rattle.phases.specs.LineEnds.{line_ends}
+use Rattle.macros.specs.Macro.{is_identifier, is_spelled, is_hash}
+use Rattle.pp_expand.specs.Expands.{HaveFiles}
+use Rattle.pp.specs.declared.files.Includer.{Includer}
+use Rattle.pp.specs.declared.files.Reading.{Reading}
+use Rattle.pp.specs.declared.file.OpenFile.{OpenFile}
+use Rattle.pp.specs.declared.includes.Source.{Source}
+use Rattle.pp.specs.declared.state.State.{State as Held}
+use Rattle.pp.specs.Lines.{lines_with}
+use Rattle.pp.specs.Groups.{Parsed, parsed}
+use Rattle.pp.specs.Phase4.{State, Outcome, goes, ◌>>=◌, Around, entered, file_done, number_in, resumed, max_includes}
+use Rattle.pp.specs.inside.Rest.{rest_done}
+use Rattle.pp.specs.inside.Stepping.{presumed_of, Agrees, Goes, StopsAs, Stands}
+
+-- the line is an #include
+abbrev pub is_include : List Token → Bool
+is_include (h ∷ x ∷ xs) = is_hash h && (is_identifier x && is_spelled (codes "include") x)
+is_include _ = false
+
+-- where so many further files may be opened, one in the other
+abbrev pub around_with : ℕ → Files → Texts → Around
+around_with room files texts = record { texts = texts; enter = entered room files texts }
+
+-- ---- the file that is meant
+
+-- the number is the text's, and no other's
+pub record IsNumber (names : Texts) (n : ℕ) (text : List ℕ) : Type 0 where
+  pub text_is : slice_get names n ≡ Some text
+  pub once : NumbersOnce names
+
+-- this name and these bytes
+pub record Means (names : Texts) (source : Source) (meant : Option (List ℕ × List ℕ)) : Type 0 where
+  pub name : List ℕ
+  pub meant_is : meant ≡ Some (name, source.bytes.now)
+  pub number_is : IsNumber names source.name name
+  pub small : length source.bytes.now ≤ 1048576
+
+abbrev pub IsMeant : Texts → Option Source → Option (List ℕ × List ℕ) → Type 0
+IsMeant names None meant = meant ≡ None
+IsMeant names (Some source) meant = Means names source meant
+
+-- the file is entered in this state, which leaves room for so many more
+pub record Enters (files : Files) (texts : Texts) (room : ℕ) (source : Source) (s : State) (o : Outcome State) : Type 0 where
+  pub further : ℕ
+  pub room_is : room ≡ suc further
+  pub name : List ℕ
+  pub number_is : number_in texts name ≡ source.name
+  pub enters : o ≡ file_done (around_with further files texts) name source.bytes.now s
+
+abbrev pub EntersOrStops : Result Source Refusal → Texts → Files → Texts → ℕ → State → Outcome State → Type 0
+EntersOrStops (Ok source) names files texts room s o = Enters files texts room source s o
+EntersOrStops (Err r) names files texts room s o = StopsAs names r o
+
+-- an #include enters it, and resumes its includer
+pub record Includes (names : Texts) (held : Held) (files : Files) (texts : Texts) (room : ℕ) (source : Source) (o : Outcome State) : Type 0 where
+  pub after : State
+  pub agrees : Agrees names held after
+  pub done : Outcome State
+  pub enters : Enters files texts room source after done
+  pub includes : o ≡ (done >>= resumed after)
+
+abbrev pub IncludesOrStops : Result Source Refusal → Texts → Held → Files → Texts → ℕ → Outcome State → Type 0
+IncludesOrStops (Ok source) names held files texts room o = Includes names held files texts room source o
+IncludesOrStops (Err r) names held files texts room o = StopsAs names r o
+
+-- what is left of the file behind an #include that enters it
+pub record Waits (names : Texts) (held : Held) (file : OpenFile) (files : Files) (texts : Texts) (room : ℕ) (source : Source) (p : Parsed) (o : Outcome State) : Type 0 where
+  pub made : Outcome State
+  pub includes : Includes names held files texts room source made
+  pub waits : o ≡ (made >>= rest_done (around_with room files texts) file.conditionals p)
+
+abbrev pub IncludedOrStops : Result Source Refusal → Texts → Held → OpenFile → Files → Texts → ℕ → Parsed → Outcome State → Type 0
+IncludedOrStops (Ok source) names held file files texts room p o = Waits names held file files texts room source p o
+IncludedOrStops (Err r) names held file files texts room p o = StopsAs names r o
+
+-- the line was skipped, or names a file
+abbrev pub StandsOrWaits : Result (Option Source) Refusal → Texts → Held → OpenFile → Files → Texts → ℕ → Parsed → Outcome State → Type 0
+StandsOrWaits (Ok None) names held file files texts room p o = Stands names held file.run (around_with room files texts) file.conditionals p o
+StandsOrWaits (Ok (Some source)) names held file files texts room p o = Waits names held file files texts room source p o
+StandsOrWaits (Err r) names held file files texts room p o = StopsAs names r o
+
+-- ---- the files that are open
+
+-- the lines from the next on
+abbrev pub left_of : Reading → Parsed
+left_of r = parsed (drop r.next (lines_with r.lines r.file.ends))
+
+pub record IsReading (r : Reading) : Type 0 where
+  pub within : r.next ≤ r.end
+  pub whole : r.end ≡ length r.lines
+  pub bounded : r.end < 18446744073709551616
+
+-- no line of it is done
+pub record IsFresh (r : Reading) : Type 0 where
+  pub first : r.next ≡ 0
+  pub begun : r.file.run.begun ≡ false
+  pub tokens : r.file.run.tokens.items ≡ []
+  pub conditionals : r.file.conditionals ≡ []
+  pub reading : IsReading r
+
+-- a file is opened at its first line
+pub record IsOpened (source : Source) (r : Reading) : Type 0 where
+  pub lines_are : scanned source.name source.bytes.now ≡ Ok r.lines
+  pub ends_are : r.file.ends ≡ line_ends 0 Start (logical 1 source.bytes.now)
+  pub fresh : IsFresh r
+
+-- an includer that waits
+pub record IsWaiting (names : Texts) (i : Includer) : Type 0 where
+  pub begun : i.reading.file.run.begun ≡ false
+  pub tokens : i.reading.file.run.tokens.items ≡ []
+  pub has_file : i.presumed.file < length names
+  pub reading : IsReading i.reading
+
+abbrev pub AreWaiting : Texts → List Includer → Type 0
+AreWaiting names [] = Unit {0}
+AreWaiting names (i ∷ is) = IsWaiting names i × AreWaiting names is
+
+-- the files that are open, at most so many of which wait
+pub record AreStacked (names : Texts) (innermost : Reading) (is : List Includer) : Type 0 where
+  pub few : length is ≤ max_includes
+  pub reading : IsReading innermost
+  pub waiting : AreWaiting names is
+
+-- the run of the innermost has places
+pub record AreOpen (names : Texts) (innermost : Reading) (is : List Includer) : Type 0 where
+  pub stacked : AreStacked names innermost is
+  pub has_files : HaveFiles names innermost.file.run.tokens.items
+
+-- a file can be read, and there is room for it
+pub record CanRead (names : Texts) (room : ℕ) (source : Source) : Type 0 where
+  pub has_file : source.name < length names
+  pub small : length source.bytes.now ≤ 1048576
+  pub has_room : 0 < room
+
+-- the same from another, whose run is done
+pub record CanEnter (names : Texts) (room : ℕ) (file : OpenFile) (source : Source) : Type 0 where
+  pub read : CanRead names room source
+  pub begun : file.run.begun ≡ false
+  pub tokens : file.run.tokens.items ≡ []
+
+-- how many further files may be opened, one in the other
+abbrev pub room_of : List Includer → ℕ
+room_of is = max_includes - length is
+
+-- ---- what is left
+
+-- places are presumed as they were in the includer
+abbrev pub back_in : Includer → State → State
+back_in i s = record s { presumed = presumed_of i.presumed }
+
+-- an includer goes on behind its #include
+abbrev pub goes_on : Files → Texts → ℕ → Includer → State → Outcome State
+goes_on files texts room i s = rest_done (around_with room files texts) i.reading.file.conditionals (left_of i.reading) (back_in i s)
+
+-- The includers, the innermost first, go on where the file for which they wait comes to this, and leaves room for so many.
+abbrev pub resumed_all : Files → Texts → ℕ → List Includer → Outcome State → Outcome State
+resumed_all files texts room [] o = o
+resumed_all files texts room (i ∷ is) o = resumed_all files texts (suc room) is (o >>= goes_on files texts (suc room) i)
+
+-- what is left of the files that are open comes to this
+pub record Left (names : Texts) (held : Held) (set : Files) (texts : Texts) (innermost : Reading) (is : List Includer) (o : Outcome State) : Type 0 where
+  pub inner : Outcome State
+  pub stands : Stands names held innermost.file.run (around_with (room_of is) set texts) innermost.file.conditionals (left_of innermost) inner
+  pub whole : o ≡ resumed_all set texts (room_of is) is inner
+
+abbrev pub LeftOrStops : {A : Type 0} → Result A Refusal → Texts → Held → Files → Texts → Reading → List Includer → Outcome State → Type 0
+LeftOrStops (Ok a) names held set texts innermost is o = Left names held set texts innermost is o
+LeftOrStops (Err r) names held set texts innermost is o = StopsAs names r o
+
+-- something is left, or it goes on to what is held
+abbrev pub LeftOrGoes : Bool → Texts → Held → Files → Texts → Reading → List Includer → Outcome State → Type 0
+LeftOrGoes true names held set texts innermost is o = Left names held set texts innermost is o
+LeftOrGoes false names held set texts innermost is o = Goes names held o
+
+abbrev pub LeftOrAnswers : Result Bool Refusal → Texts → Held → Files → Texts → Reading → List Includer → Outcome State → Type 0
+LeftOrAnswers (Ok more) names held set texts innermost is o = LeftOrGoes more names held set texts innermost is o
+LeftOrAnswers (Err r) names held set texts innermost is o = StopsAs names r o
+
+-- ---- how much is left
+
+-- more than the lines of all the files that may still be opened in one another
+abbrev pub weight : ℕ → ℕ
+weight zero = 1
+weight (suc room) = 18446744073709551617 * weight room
+
+-- the lines that are left, and the end
+abbrev pub lines_left : Reading → ℕ
+lines_left r = suc r.end - r.next
+
+abbrev pub weighed : ℕ → List Includer → ℕ
+weighed room [] = 0
+weighed room (i ∷ is) = lines_left i.reading * weight room + weighed (suc room) is
+
+abbrev pub size_of : Reading → List Includer → ℕ
+size_of innermost is = lines_left innermost * weight (room_of is) + weighed (suc (room_of is)) is

@@ -1,0 +1,245 @@
+//! The files that include one another.
+ghost use Rattle.std.specs.Prelude.{◌≡◌, ◌≤◌, ◌<◌, ◌+◌, ℕ, List, [], suc, true, false, length, Err, IfOk, IfErr, IfSome, OnOk, ◌⊎◌};
+ghost use Rattle.srcset.specs.Files.{Files as Set};
+ghost use Rattle.srcset.specs.NameTable.{Texts, KeepsNumbers};
+ghost use Rattle.srcset.specs.declared.refusal.Refusal.TheVariants.{Memory};
+ghost use Rattle.phases.specs.Lines.{scanned};
+ghost use Rattle.pp_expand.specs.Expands.{HaveFiles};
+ghost use Rattle.pp.specs.Phase4.{State as Done, Outcome, file_done, number_in, max_includes};
+ghost use Rattle.pp.specs.inside.Including.{around_with, IsReading, IsOpened, CanEnter, AreStacked, AreOpen, Waits, StandsOrWaits, left_of, resumed_all, Left, LeftOrStops, LeftOrAnswers, LeftOrGoes, room_of, weight, size_of};
+ghost use Rattle.pp.specs.inside.Stepping.{IsSound, Does, Goes, Stands};
+
+use crate::conditionals::Conditionals;
+use crate::ends::LineEnds;
+use crate::file::{OpenFile, end_done, line_done};
+use crate::includes::{Source, include_done, is_include};
+use crate::places::Presumed;
+use crate::run::Run;
+use crate::state::State;
+use phases::{Lines, try_scan};
+use srcset::{FileSet, Names, Refusal};
+use std::alloc::Global;
+use std::collections::VecDeque;
+use std::mem;
+
+/// How many files may be open at once beside the main one, each included by the one before it.
+pub const MAX_INCLUDES: usize = 32;
+
+/// A file, the lines of which are done one after another.
+#[derive(Drop)]
+pub struct Reading<'a> {
+    pub lines: Lines<'a>,
+    /// How many lines there are.
+    pub end: usize,
+    /// How many of them are done.
+    pub next: usize,
+    pub file: OpenFile<'a>,
+}
+
+/// A file that waits for the end of the one that it includes.
+#[derive(Drop)]
+pub struct Includer<'a> {
+    pub reading: Reading<'a>,
+    /// How places were presumed at the `#include`.
+    pub presumed: Presumed,
+}
+
+/// The files that are open.
+#[derive(Drop)]
+pub struct Files<'a> {
+    pub innermost: Reading<'a>,
+    /// Those that wait, the innermost first.
+    pub includers: VecDeque<Includer<'a>>,
+}
+
+/// A file at its first line. It is scanned whole, so that the faults of phases 1 to 3 come here.
+pub fn opened<'a>(alloc: Global, source: &Source<'a>) -> Result<Reading<'a>, Refusal>
+    requires { length source.now.bytes.now ≤ 1048576 }
+    ensures ok { IfOk result (IsOpened source.now) }
+    ensures err { IfErr result (λ refusal. (refusal ≡ Memory) ⊎ (scanned source.now.name source.now.bytes.now ≡ Err refusal)) }
+{
+    let lines = try_scan(alloc, source.bytes, source.name)?;
+    Ok(Reading {
+        end: lines.len(),
+        next: 0,
+        file: OpenFile {
+            run: Run::new(alloc),
+            conditionals: Conditionals::new(alloc),
+            ends: LineEnds::new(source.bytes),
+        },
+        lines,
+    })
+}
+
+impl<'a> Reading<'a> {
+    // Does the next line. Gives the file that it includes, if it includes one; so many may still be opened, one in the other.
+    fn line_done(
+        &mut self,
+        alloc: Global,
+        set: &'a FileSet,
+        room: usize,
+        state: &mut State<'a>,
+        names: &mut Names,
+    ) -> Result<Option<Source<'a>>, Refusal>
+        requires sound { IsSound names.old state.old }
+        requires files { HaveFiles names.old self.old.file.run.tokens.items }
+        requires reading { IsReading self.old }
+        requires more { self.old.next < self.old.end }
+        ensures waits { (texts : Texts) (o : Outcome Done) → KeepsNumbers names.new texts → Stands names.old state.old self.old.file.run (around_with room set.now texts) self.old.file.conditionals (left_of self.old) o → StandsOrWaits result names.new state.new self.new.file set.now texts room (left_of self.new) o }
+        ensures ok { IfOk result (λ included. IfSome included (CanEnter names.new room self.new.file)) }
+        ensures files { OnOk result (HaveFiles names.new self.new.file.run.tokens.items) }
+        ensures sound { OnOk result (IsSound names.new state.new) }
+        ensures keeps { KeepsNumbers names.old names.new }
+        ensures next { self.new.next ≡ self.old.next + 1 }
+        ensures end { self.new.end ≡ self.old.end }
+        ensures lines { self.new.lines ≡ self.old.lines }
+    {
+        let index = self.next;
+        self.next = index + 1;
+        let Some(line) = self.lines.get(index) else {
+            unreachable!();
+        };
+        if is_include(line) {
+            return include_done(alloc, set, room, line, &mut self.file, state, names);
+        }
+        line_done(alloc, line, index, &mut self.file, state, names)?;
+        Ok(None)
+    }
+}
+
+impl<'a> Files<'a> {
+    // How many further files may be opened, one in the other.
+    fn room(&self) -> usize
+        ensures { result ≡ room_of self.now.includers.items }
+    {
+        MAX_INCLUDES.saturating_sub(self.includers.len())
+    }
+
+    // Opens a file that the innermost one includes, which waits.
+    fn enter(
+        &mut self,
+        alloc: Global,
+        source: &Source<'a>,
+        state: &mut State<'a>,
+    ) -> Result<(), Refusal>
+        requires small { length source.now.bytes.now ≤ 1048576 }
+        ensures left { (names texts : Texts) (set : Set) (made o : Outcome Done) → Waits names state.old self.old.innermost.file set texts (room_of self.old.includers.items) source.now (left_of self.old.innermost) made → o ≡ resumed_all set texts (room_of self.old.includers.items) self.old.includers.items made → LeftOrStops result names state.new set texts self.new.innermost self.new.includers.items o }
+        ensures open { (names : Texts) → AreOpen names self.old.innermost self.old.includers.items → IsSound names state.old → source.now.name < length names → length self.old.includers.items < max_includes → self.old.innermost.file.run.begun ≡ false → self.old.innermost.file.run.tokens.items ≡ [] → OnOk result (AreOpen names self.new.innermost self.new.includers.items) }
+        ensures sound { (names : Texts) → IsSound names state.old → source.now.name < length names → OnOk result (IsSound names state.new) }
+        ensures less { (further : ℕ) → room_of self.old.includers.items ≡ suc further → OnOk result (size_of self.new.innermost self.new.includers.items < size_of self.old.innermost self.old.includers.items + weight (room_of self.old.includers.items)) }
+    {
+        let reading = opened(alloc, source)?;
+        let includer = Includer {
+            reading: mem::replace(&mut self.innermost, reading),
+            presumed: state.presumed,
+        };
+        self.includers.push_front(includer)?;
+        state.presumed = Presumed::physical(source.name);
+        Ok(())
+    }
+
+    // The file that waits for the innermost one goes on, if there is one.
+    fn leave(&mut self, state: &mut State<'a>) -> bool
+        ensures left { (names texts : Texts) (set : Set) (inner o : Outcome Done) → AreStacked names self.old.innermost self.old.includers.items → Goes names state.old inner → o ≡ resumed_all set texts (room_of self.old.includers.items) self.old.includers.items inner → LeftOrGoes result names state.new set texts self.new.innermost self.new.includers.items o }
+        ensures open { (names : Texts) → AreStacked names self.old.innermost self.old.includers.items → result ≡ true → AreOpen names self.new.innermost self.new.includers.items }
+        ensures sound { (names : Texts) → AreStacked names self.old.innermost self.old.includers.items → IsSound names state.old → IsSound names state.new }
+        ensures less { (names : Texts) → AreStacked names self.old.innermost self.old.includers.items → result ≡ true → size_of self.new.innermost self.new.includers.items < size_of self.old.innermost self.old.includers.items }
+    {
+        let Some(includer) = self.includers.pop_front() else {
+            return false;
+        };
+        self.innermost = includer.reading;
+        state.presumed = includer.presumed;
+        true
+    }
+
+    // Does the next line of the innermost file.
+    fn line_done(
+        &mut self,
+        alloc: Global,
+        set: &'a FileSet,
+        state: &mut State<'a>,
+        names: &mut Names,
+    ) -> Result<(), Refusal>
+        requires sound { IsSound names.old state.old }
+        requires open { AreOpen names.old self.old.innermost self.old.includers.items }
+        requires more { self.old.innermost.next < self.old.innermost.end }
+        ensures left { (texts : Texts) (o : Outcome Done) → KeepsNumbers names.new texts → Left names.old state.old set.now texts self.old.innermost self.old.includers.items o → LeftOrStops result names.new state.new set.now texts self.new.innermost self.new.includers.items o }
+        ensures open { OnOk result (AreOpen names.new self.new.innermost self.new.includers.items) }
+        ensures sound { OnOk result (IsSound names.new state.new) }
+        ensures less { OnOk result (size_of self.new.innermost self.new.includers.items < size_of self.old.innermost self.old.includers.items) }
+        ensures keeps { KeepsNumbers names.old names.new }
+    {
+        let room = self.room();
+        match self.innermost.line_done(alloc, set, room, state, names)? {
+            None => Ok(()),
+            Some(source) => self.enter(alloc, &source, state),
+        }
+    }
+
+    // Ends the innermost file. Whether another goes on.
+    fn end_done(
+        &mut self,
+        alloc: Global,
+        state: &mut State<'a>,
+        names: &Names,
+    ) -> Result<bool, Refusal>
+        requires sound { IsSound names.now state.old }
+        requires open { AreOpen names.now self.old.innermost self.old.includers.items }
+        requires last { self.old.innermost.end ≤ self.old.innermost.next }
+        ensures left { (texts : Texts) (set : Set) (o : Outcome Done) → KeepsNumbers names.now texts → Left names.now state.old set texts self.old.innermost self.old.includers.items o → LeftOrAnswers result names.now state.new set texts self.new.innermost self.new.includers.items o }
+        ensures open { IfOk result (λ more. more ≡ true → AreOpen names.now self.new.innermost self.new.includers.items) }
+        ensures sound { OnOk result (IsSound names.now state.new) }
+        ensures less { IfOk result (λ more. more ≡ true → size_of self.new.innermost self.new.includers.items < size_of self.old.innermost self.old.includers.items) }
+    {
+        end_done(alloc, &mut self.innermost.file, state, names)?;
+        Ok(self.leave(state))
+    }
+
+    // Does the next line, or ends the innermost file. Whether anything is left.
+    fn step(
+        &mut self,
+        alloc: Global,
+        set: &'a FileSet,
+        state: &mut State<'a>,
+        names: &mut Names,
+    ) -> Result<bool, Refusal>
+        requires sound { IsSound names.old state.old }
+        requires open { AreOpen names.old self.old.innermost self.old.includers.items }
+        ensures left { (texts : Texts) (o : Outcome Done) → KeepsNumbers names.new texts → Left names.old state.old set.now texts self.old.innermost self.old.includers.items o → LeftOrAnswers result names.new state.new set.now texts self.new.innermost self.new.includers.items o }
+        ensures open { IfOk result (λ more. more ≡ true → AreOpen names.new self.new.innermost self.new.includers.items) }
+        ensures sound { OnOk result (IsSound names.new state.new) }
+        ensures less { IfOk result (λ more. more ≡ true → size_of self.new.innermost self.new.includers.items < size_of self.old.innermost self.old.includers.items) }
+        ensures keeps { KeepsNumbers names.old names.new }
+    {
+        if self.innermost.next < self.innermost.end {
+            self.line_done(alloc, set, state, names)?;
+            return Ok(true);
+        }
+        self.end_done(alloc, state, names)
+    }
+}
+
+/// Does all lines of a file, and of those that it includes.
+pub fn files_done<'a>(
+    alloc: Global,
+    set: &'a FileSet,
+    main: &Source<'a>,
+    state: &mut State<'a>,
+    names: &mut Names,
+) -> Result<(), Refusal>
+    requires sound { IsSound names.old state.old }
+    requires small { length main.now.bytes.now ≤ 1048576 }
+    requires has_file { main.now.name < length names.old }
+    ensures does { (texts : Texts) (name : List ℕ) → KeepsNumbers names.new texts → number_in texts name ≡ main.now.name → Does result names.old state.old names.new state.new (file_done (around_with max_includes set.now texts) name main.now.bytes.now) }
+    ensures sound { OnOk result (IsSound names.new state.new) }
+    ensures keeps { KeepsNumbers names.old names.new }
+{
+    let mut files = Files {
+        innermost: opened(alloc, main)?,
+        includers: VecDeque::new(alloc),
+    };
+    state.presumed = Presumed::physical(main.name);
+    'steps: while files.step(alloc, set, state, names)? {}
+    Ok(())
+}

@@ -1,0 +1,4 @@
+pub mod Held
+pub mod Given
+pub mod Steps
+pub mod Cleared
