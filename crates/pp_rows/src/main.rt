@@ -45,11 +45,7 @@ fn write_row(alloc: Global, output: &mut Vec<u8>, row: &[u8]) -> Result<()> {
     Ok(())
 }
 
-fn write_tokens(
-    alloc: Global,
-    output: &mut Vec<u8>,
-    row: &[u8],
-) -> std::result::Result<(), Fault> {
+fn write_tokens(alloc: Global, output: &mut Vec<u8>, row: &[u8]) -> std::result::Result<(), Fault> {
     let set = set_of(alloc, row)?;
     let mut names = Names::new(alloc);
     let tokens = preprocess(alloc, &set, &mut names, "main.c")?;
