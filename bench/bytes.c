@@ -17,8 +17,10 @@ static unsigned round_of(unsigned seed) {
 }
 
 void _start(void) {
-    unsigned sum = 0;
-    for (unsigned k = 0; k < ROUNDS; k++)
+    unsigned sum = 0, rounds = ROUNDS;
+    /* The same code for every number of rounds. */
+    __asm__("" : "+r"(rounds));
+    for (unsigned k = 0; k < rounds; k++)
         sum += round_of(k);
     register unsigned a0 __asm__("a0") = sum & 127;
     register unsigned a7 __asm__("a7") = 93;
