@@ -3,7 +3,7 @@
   python3 units.py PROGRAM
 
 PROGRAM pp FILE HEADERS writes the tokens of FILE with one space between. units.tar.xz has the sources and headers, units.txt for each source
-the number of its tokens and their SHA-256; make_units.py made both, and README.md says how. A source is given with every file
+the number of words of its tokens and their SHA-256; make_units.py made both, and README.md says how. A source is given with every file
 that it includes, directly or through others.
 """
 
