@@ -48,7 +48,7 @@ def check(program, root, row, known):
     if done.returncode or done.stderr:
         return "%s: status %d: %s" % (name, done.returncode, done.stderr.decode("latin-1").strip())
     tokens = done.stdout[:-1]
-    if hashlib.sha256(tokens).hexdigest() == digest:
+    if done.stdout.endswith(b"\n") and hashlib.sha256(tokens).hexdigest() == digest:
         return None
     return "%s: other tokens, %d and not %s words" % (name, len(tokens.split()), count)
 
