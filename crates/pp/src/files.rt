@@ -15,8 +15,8 @@ use crate::file::{OpenFile, end_done, line_done};
 use crate::includes::{Source, include_done, is_include};
 use crate::places::Presumed;
 use crate::run::Run;
+use crate::scans::{Scanned, Scans};
 use crate::state::State;
-use phases::{Lines, try_scan};
 use srcset::{FileSet, Names, Refusal};
 use std::alloc::Global;
 use std::collections::VecDeque;
@@ -28,7 +28,7 @@ pub const MAX_INCLUDES: usize = 32;
 /// A file, the lines of which are done one after another.
 #[derive(Drop)]
 pub struct Reading<'a> {
-    pub lines: Lines<'a>,
+    pub lines: Scanned<'a>,
     /// How many lines there are.
     pub end: usize,
     /// How many of them are done.
@@ -50,15 +50,21 @@ pub struct Files<'a> {
     pub innermost: Reading<'a>,
     /// Those that wait, the innermost first.
     pub includers: VecDeque<Includer<'a>>,
+    /// Those that were read before.
+    pub scans: Scans<'a>,
 }
 
 /// A file at its first line. It is scanned whole, so that the faults of phases 1 to 3 come here.
-pub fn opened<'a>(alloc: Global, source: &Source<'a>) -> Result<Reading<'a>, Refusal>
+pub fn opened<'a>(
+    alloc: Global,
+    source: &Source<'a>,
+    scans: &mut Scans<'a>,
+) -> Result<Reading<'a>, Refusal>
     requires { length source.now.bytes.now ≤ 1048576 }
     ensures ok { IfOk result (IsOpened source.now) }
     ensures err { IfErr result (λ refusal. (refusal ≡ Memory) ⊎ (scanned source.now.name source.now.bytes.now ≡ Err refusal)) }
 {
-    let lines = try_scan(alloc, source.bytes, source.name)?;
+    let lines = scans.take(alloc, source)?;
     Ok(Reading {
         end: lines.len(),
         next: 0,
@@ -128,7 +134,7 @@ impl<'a> Files<'a> {
         ensures sound { (names : Texts) → IsSound names state.old → source.now.name < length names → OnOk result (IsSound names state.new) }
         ensures less { (further : ℕ) → room_of self.old.includers.items ≡ suc further → OnOk result (size_of self.new.innermost self.new.includers.items < size_of self.old.innermost self.old.includers.items + weight (room_of self.old.includers.items)) }
     {
-        let reading = opened(alloc, source)?;
+        let reading = opened(alloc, source, &mut self.scans)?;
         let includer = Includer {
             reading: mem::replace(&mut self.innermost, reading),
             presumed: state.presumed,
@@ -148,7 +154,8 @@ impl<'a> Files<'a> {
         let Some(includer) = self.includers.pop_front() else {
             return false;
         };
-        self.innermost = includer.reading;
+        let ended = mem::replace(&mut self.innermost, includer.reading);
+        self.scans.keep(ended.lines);
         state.presumed = includer.presumed;
         true
     }
@@ -235,9 +242,11 @@ pub fn files_done<'a>(
     ensures sound { OnOk result (IsSound names.new state.new) }
     ensures keeps { KeepsNumbers names.old names.new }
 {
+    let mut scans = Scans::new(alloc);
     let mut files = Files {
-        innermost: opened(alloc, main)?,
+        innermost: opened(alloc, main, &mut scans)?,
         includers: VecDeque::new(alloc),
+        scans,
     };
     state.presumed = Presumed::physical(main.name);
     'steps: while files.step(alloc, set, state, names)? {}

@@ -13,6 +13,7 @@ mod places;
 mod preprocessing;
 mod printing;
 mod run;
+mod scans;
 mod state;
 mod words;
 

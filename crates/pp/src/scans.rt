@@ -1,0 +1,133 @@
+//! Files that were scanned, so that one that is included again need not be scanned again.
+ghost use Rattle.std.specs.Prelude.{◌≡◌, ◌≤◌, length, slice_get, option_map, true, Ok, Err, IfOk, IfErr, IfSome, ◌⊎◌};
+ghost use Rattle.srcset.specs.declared.refusal.Refusal.TheVariants.{Memory};
+ghost use Rattle.phases.specs.Lines.{scanned};
+
+use crate::includes::Source;
+use phases::{Lines, PpToken, try_scan};
+use srcset::Refusal;
+use std::alloc::Global;
+use std::collections::VecDeque;
+use std::marker::Model;
+
+/// How many tokens of files that are not open are kept.
+const MAX_KEPT_TOKENS: usize = 1_048_576;
+
+/// The token lines of a file, which are those of its bytes.
+#[derive(Drop)]
+pub struct Scanned<'a> {
+    name: usize,
+    bytes: &'a [u8],
+    lines: Lines<'a>,
+}
+
+impl<'a> Model for Scanned<'a> {
+    ghost use Rattle.std.specs.Prelude.{◌≡◌, List, Ok};
+    ghost use Rattle.phases.specs.Token.{Token};
+    ghost use Rattle.phases.specs.Lines.{scanned};
+
+    ghost Value = { List (List Token) };
+
+    ghost view = { λ s. s.lines };
+
+    ghost invariant = { λ s. scanned s.name s.bytes.now ≡ Ok s.lines };
+}
+
+impl<'a> Scanned<'a> {
+    // Phases 1 to 3 of a file.
+    fn new(alloc: Global, source: &Source<'a>) -> Result<Scanned<'a>, Refusal>
+        requires { length source.now.bytes.now ≤ 1048576 }
+        ensures ok { IfOk result (λ lines. scanned source.now.name source.now.bytes.now ≡ Ok lines) }
+        ensures err { IfErr result (λ refusal. (refusal ≡ Memory) ⊎ (scanned source.now.name source.now.bytes.now ≡ Err refusal)) }
+    {
+        let lines = try_scan(alloc, source.bytes, source.name)?;
+        Ok(Scanned {
+            name: source.name,
+            bytes: source.bytes,
+            lines,
+        })
+    }
+
+    /// How many lines there are.
+    pub fn len(&self) -> usize
+        ensures { result ≡ length self.now }
+    {
+        self.lines.len()
+    }
+
+    /// The tokens of the line with this number, counted from 0. `None` where there are not so many lines.
+    pub fn get(&self, index: usize) -> Option<&[PpToken<'a>]>
+        ensures { option_map (λ line. line.now) result ≡ slice_get self.now index }
+    {
+        self.lines.get(index)
+    }
+
+    // How many tokens the lines have.
+    fn tokens(&self) -> usize {
+        self.lines.tokens().len()
+    }
+
+    // Whether the lines are those of this file.
+    fn is_of(&self, source: &Source<'a>) -> bool
+        ensures { result ≡ true → scanned source.now.name source.now.bytes.now ≡ Ok self.now }
+    {
+        self.name == source.name && self.bytes == source.bytes
+    }
+}
+
+/// Files that are not open, and may be included again.
+#[derive(Drop)]
+pub struct Scans<'a> {
+    kept: VecDeque<Scanned<'a>>,
+    // How many tokens they have in all.
+    tokens: usize,
+}
+
+impl<'a> Scans<'a> {
+    /// None yet.
+    pub fn new(alloc: Global) -> Scans<'a> {
+        Scans {
+            kept: VecDeque::new(alloc),
+            tokens: 0,
+        }
+    }
+
+    // Takes the file out, where it is kept.
+    fn kept(&mut self, source: &Source<'a>) -> Option<Scanned<'a>>
+        ensures { IfSome result (λ lines. scanned source.now.name source.now.bytes.now ≡ Ok lines) }
+    {
+        let index = self
+            .kept
+            .iter()
+            .position(|scanned| scanned.name == source.name)?;
+        let scanned = self.kept.swap_remove_back(index)?;
+        self.tokens = self.tokens.saturating_sub(scanned.tokens());
+        if !scanned.is_of(source) {
+            return None;
+        }
+        Some(scanned)
+    }
+
+    /// The token lines of a file, which is scanned now unless it is kept.
+    pub fn take(&mut self, alloc: Global, source: &Source<'a>) -> Result<Scanned<'a>, Refusal>
+        requires { length source.now.bytes.now ≤ 1048576 }
+        ensures ok { IfOk result (λ lines. scanned source.now.name source.now.bytes.now ≡ Ok lines) }
+        ensures err { IfErr result (λ refusal. (refusal ≡ Memory) ⊎ (scanned source.now.name source.now.bytes.now ≡ Err refusal)) }
+    {
+        match self.kept(source) {
+            Some(scanned) => Ok(scanned),
+            None => Scanned::new(alloc, source),
+        }
+    }
+
+    /// Keeps a file, as long as that is not too many tokens. One that is not kept is scanned again.
+    pub fn keep(&mut self, scanned: Scanned<'a>) {
+        let tokens = scanned.tokens();
+        if tokens > MAX_KEPT_TOKENS.saturating_sub(self.tokens) {
+            return;
+        }
+        if self.kept.push_back(scanned).is_ok() {
+            self.tokens = self.tokens.saturating_add(tokens);
+        }
+    }
+}
