@@ -13,8 +13,8 @@ use Rattle.program.specs.View.{value_of}
 use Rattle.typed.specs.Verdict.{Verdict, fine}
 use Rattle.typed.specs.Program as typed
 use Rattle.typed.specs.Constants.{folded, by_truth, truth_of, to_arm}
-use Rattle.const_expr.specs.Refused.{IsOf}
-use Rattle.const_expr.proofs.Verdicts.{then_left, then_right}
+use Rattle.expression_rules.specs.Refused.{IsOf}
+use Rattle.expression_rules.proofs.Verdicts.{then_left, then_right}
 
 right_of_binary : (r : Refusal) (at : Pos) (op : BinOp) (t : IntType) (a b : typed.Value) (v : ℤ) → folded a ≡ fine v → IsOf r (folded b) → IsOf r (folded (typed.binary at op t a b))
 right_of_binary r at op t a b v e h = then_right r (folded a) v _ e (then_left r (folded b) _ h)

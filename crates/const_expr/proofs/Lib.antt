@@ -1,6 +1,3 @@
-mod Places
-mod Lookups
-mod Verdicts
 mod Foldings
 mod Sizes
 mod Limits

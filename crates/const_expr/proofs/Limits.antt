@@ -7,7 +7,7 @@ use Rattle.tree.specs.Capped.{capped}
 use Rattle.typed.specs.Types.{ObjectType, size_of_object}
 use Rattle.typed.specs.Verdict.{Verdict, fine, refuse_if, provided}
 use Rattle.typed.specs.Expressions.{too_large}
-use Rattle.const_expr.specs.Refused.{Tells, refused}
+use Rattle.expression_rules.specs.Refused.{Tells, refused}
 use Rattle.const_expr.proofs.Sizes.{limit_of_capped}
 
 is_over : (c x : ℕ) → c ≡ capped x → 1048576 < c → nat_lt 1048576 x ≡ true

@@ -14,7 +14,7 @@ use Rattle.typed.specs.Constants.{constant_form, no_comma}
 use Rattle.typed.specs.Specifiers.{tags_known, tags_of, is_complete, base_type, base_or_fault, is_const, named_type, count, words_of}
 use Rattle.typed.specs.Expressions as typed
 use Rattle.typed.specs.Expressions.{typing, arguments, named_in, lengths_in, string_type, too_large, Checked, Called, function_named, function_meant, subscripted, target, step, valued, signed_value, measured, type_measured, cast_to, operated, arms, chosen_by, assignment, argument, call_of, size_in, and_size, type_of}
-use Rattle.const_expr.specs.Forms.{seen}
+use Rattle.expression_rules.specs.Forms.{seen}
 
 -- ---- verdicts
 

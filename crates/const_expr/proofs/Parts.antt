@@ -12,9 +12,9 @@ use Rattle.typed.specs.Verdict.{Verdict, fine, broken, then_check, both}
 use Rattle.typed.specs.Scope.{Scope, strings, strings_of_type, past, past_type}
 use Rattle.typed.specs.Expressions as typed
 use Rattle.typed.specs.Expressions.{Checked, Arms, arms}
-use Rattle.const_expr.specs.Refused.{Tells}
-use Rattle.const_expr.specs.Numbered.{numbered, typing_at, operands_at, arguments_at, named_at, lengths_at}
-use Rattle.const_expr.proofs.Verdicts.{tells_left, tells_right}
+use Rattle.expression_rules.specs.Refused.{Tells}
+use Rattle.expression_rules.specs.Numbered.{numbered, typing_at, operands_at, arguments_at, named_at, lengths_at}
+use Rattle.expression_rules.proofs.Verdicts.{tells_left, tells_right}
 use Rattle.const_expr.proofs.Numbered.{both_same, more, typing_same, arguments_same, lengths_same}
 
 counted : (n m : ℕ) (k : List ℕ) → m ≡ n + length k → length {A = ℕ} (replicate m 0) ≡ length {A = ℕ} (replicate n 0 ++ k)

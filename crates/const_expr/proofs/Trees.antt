@@ -21,11 +21,11 @@ use Rattle.typed.specs.Scope.{Scope, strings, strings_in, past}
 use Rattle.typed.specs.Specifiers.{base_type}
 use Rattle.typed.specs.Expressions as typed
 use Rattle.typed.specs.Expressions.{Checked, Arms, arms}
-use Rattle.const_expr.specs.declared.forms.Checked as held
-use Rattle.const_expr.specs.Refused.{IsOf, Tells}
-use Rattle.const_expr.specs.Forms.{checked_of}
-use Rattle.const_expr.specs.Numbered.{numbered, typing_at, operands_at, arguments_at, named_at, size_at, lengths_at}
-use Rattle.const_expr.proofs.Verdicts.{tells_left, tells_right, tells_of}
+use Rattle.expression_rules.specs.declared.forms.Checked as held
+use Rattle.expression_rules.specs.Refused.{IsOf, Tells}
+use Rattle.expression_rules.specs.Forms.{checked_of}
+use Rattle.expression_rules.specs.Numbered.{numbered, typing_at, operands_at, arguments_at, named_at, size_at, lengths_at}
+use Rattle.expression_rules.proofs.Verdicts.{tells_left, tells_right, tells_of}
 use Rattle.const_expr.proofs.Numbered.{base_same}
 use Rattle.const_expr.proofs.Parts.{joined, lengths_past, arguments_past}
 

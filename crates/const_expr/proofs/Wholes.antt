@@ -11,11 +11,11 @@ use Rattle.typed.specs.Verdict.{Verdict, fine, then_check}
 use Rattle.typed.specs.Scope.{Scope}
 use Rattle.typed.specs.Constants.{constant_form}
 use Rattle.typed.specs.Expressions.{Checked, Constant, typing, integer, constant_in, constant_value}
-use Rattle.const_expr.specs.Refused.{IsOf, Tells}
-use Rattle.const_expr.specs.Scopes.{with_texts}
+use Rattle.expression_rules.specs.Refused.{IsOf, Tells}
+use Rattle.scopes.specs.Scopes.{with_texts}
 use Rattle.const_expr.specs.Told.{IsFaultOfVerdict}
-use Rattle.const_expr.specs.Numbered.{typing_at}
-use Rattle.const_expr.proofs.Verdicts.{tells_then, tells_of}
+use Rattle.expression_rules.specs.Numbered.{typing_at}
+use Rattle.expression_rules.proofs.Verdicts.{tells_then, tells_of}
 use Rattle.const_expr.proofs.Numbered.{typing_same, form_same}
 
 typing_whole : (t : List (List ℕ)) (n : ℕ) (s : Scope) (e : Tree) → n ≡ length s.literals → typing_at t n s e ≡ typing (with_texts t s) e

@@ -1,9 +1,3 @@
-pub mod NewestNames
-pub mod Scopes
-pub mod Refused
 pub mod Typings
-pub mod Forms
-pub mod Numbered
-pub mod Calls
 pub mod Operands
 pub mod Told

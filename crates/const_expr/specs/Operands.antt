@@ -1,6 +1,6 @@
 -- Two operands.
 use Rattle.const_expr.specs.declared.typing.Operands.{Operands}
-use Rattle.const_expr.specs.Forms.{checked_of}
+use Rattle.expression_rules.specs.Forms.{checked_of}
 use Rattle.typed.specs.Expressions.{Arms}
 
 abbrev pub operands_of : Operands → Arms

@@ -1,7 +1,11 @@
--- What the code's types of expressions stand for.
-use Rattle.std.specs.Prelude.{Bool, true, false, List, [], ◌∷◌}
+-- What the code's types and constants stand for.
+use Rattle.std.specs.Prelude.{Bool, true, false, ℕ, ℤ, pos, List, [], ◌∷◌, Option, Some, None}
 use Rattle.const_expr.specs.declared.specifiers.BaseType.{BaseType}
 use Rattle.const_expr.specs.declared.specifiers.WordSet.{WordSet}
+use Rattle.const_expr.specs.declared.type_names.NamedType.{NamedType}
+use Rattle.const_expr.specs.declared.constants.Constant.{Constant}
+use Rattle.typed.specs.Types as type
+use Rattle.typed.specs.Expressions as expressions
 use Rattle.typed.specs.Specifiers as typed
 
 abbrev pub base_type_of : BaseType → typed.BaseType
@@ -13,3 +17,18 @@ word_set_of s = record { words = s.words.now; type = s.named }
 abbrev pub is_empty : {A : Type 0} → List A → Bool
 is_empty [] = true
 is_empty (x ∷ xs) = false
+
+abbrev pub named_of : NamedType → type.ObjectType
+named_of n = record { element = n.element; constant = n.constant; lengths = n.lengths.items }
+
+-- none for void
+abbrev pub option_named : Option NamedType → Option type.ObjectType
+option_named None = None
+option_named (Some n) = Some (named_of n)
+
+abbrev pub constant_of : Constant → expressions.Constant
+constant_of c = record { type = c.ty; v = c.value }
+
+-- a natural number as a whole one
+abbrev pub natural : ℕ → ℤ
+natural n = pos n

@@ -1,5 +1,5 @@
 //! Casts (6.5.4): to `void`, or to a type of numbers.
-#![tactic(auto, using(crate::proofs::Verdicts::tells_then))]
+#![tactic(auto, using(expression_rules::proofs::Verdicts::tells_then))]
 
 ghost use Rattle.std.specs.Prelude.{◌≡◌, IfErr, IfOk, None};
 ghost use Rattle.typed.specs.Verdict.{fine};
@@ -7,12 +7,13 @@ ghost use Rattle.typed.specs.Expressions as typed;
 ghost use Rattle.typed.specs.Program as program_typed;
 ghost use Rattle.srcset.specs.declared.refusal.Refusal.TheVariants.{Memory};
 ghost use Rattle.program.specs.View.{value_of};
-ghost use Rattle.const_expr.specs.Refused.{Tells};
-ghost use Rattle.const_expr.specs.Forms.{checked_of, worth_of, named_of, option_named};
+ghost use Rattle.expression_rules.specs.Refused.{Tells};
+ghost use Rattle.expression_rules.specs.Forms.{checked_of, worth_of};
+ghost use Rattle.const_expr.specs.Typings.{named_of, option_named};
 
-use crate::forms::{Checked, Worth, boxed, broken, effect, valued};
 use crate::type_names::NamedType;
 use ctypes::IntType;
+use expression_rules::{Checked, Worth, boxed, broken, effect, valued};
 use program::Value;
 use srcset::{Code, Pos, Refusal};
 use std::alloc::Global;

@@ -1,15 +1,14 @@
 //! What may stand in a constant expression (6.6p3, p6).
-#![tactic(auto, using(crate::proofs::Verdicts::each_left, crate::proofs::Verdicts::each_right, crate::proofs::Verdicts::each_fine))]
+#![tactic(auto, using(expression_rules::proofs::Verdicts::each_left, expression_rules::proofs::Verdicts::each_right, expression_rules::proofs::Verdicts::each_fine))]
 
 ghost use Rattle.std.specs.Prelude.{◌≡◌, IfErr, OnOk};
 ghost use Rattle.typed.specs.Verdict.{fine};
 ghost use Rattle.typed.specs.Constants as typed;
 ghost use Rattle.tree.specs.View.{tree_of};
-ghost use Rattle.const_expr.specs.Refused.{IsOf};
-ghost use Rattle.const_expr.specs.Scopes.{option_binding};
+ghost use Rattle.expression_rules.specs.Refused.{IsOf};
+ghost use Rattle.scopes.specs.Scopes.{option_binding};
 
-use crate::bindings::{Binding, Meaning};
-use crate::scopes::Scope;
+use scopes::{Binding, Meaning, Scope};
 use srcset::{Code, Pos, Refusal};
 use tree::{BinaryOp, Expr};
 

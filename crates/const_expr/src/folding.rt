@@ -9,7 +9,7 @@ ghost use Rattle.srcset.specs.declared.code.Code.TheVariants as code;
 ghost use Rattle.typed.specs.Constants as typed;
 ghost use Rattle.typed.specs.Operators as operators;
 ghost use Rattle.program.specs.View.{value_of, place_of};
-ghost use Rattle.const_expr.specs.Refused.{IsOf};
+ghost use Rattle.expression_rules.specs.Refused.{IsOf};
 
 use ctypes::{BinOp, IntType, Undef, binary, complement, convert, is_zero, negate};
 use program::{Place, Value};

@@ -3,19 +3,19 @@
 
 ghost use Rattle.std.specs.Prelude.{◌≡◌, ◌<◌, ◌^◌, ℕ, IfErr, IfOk};
 ghost use Rattle.std.specs.Option.{IfSome};
-ghost use Rattle.const_expr.specs.Forms.{natural};
 ghost use Rattle.ctypes.specs.Types.{bytes_of};
 ghost use Rattle.typed.specs.Verdict.{fine};
 ghost use Rattle.typed.specs.Types as type;
 ghost use Rattle.typed.specs.Expressions as typed;
 ghost use Rattle.tree.specs.Capped.{capped};
 ghost use Rattle.srcset.specs.declared.refusal.Refusal.TheVariants.{Memory};
-ghost use Rattle.const_expr.specs.Refused.{Tells};
-ghost use Rattle.const_expr.specs.Forms.{checked_of, elements_of, option_named};
+ghost use Rattle.expression_rules.specs.Refused.{Tells};
+ghost use Rattle.expression_rules.specs.Forms.{checked_of, elements_of};
+ghost use Rattle.const_expr.specs.Typings.{natural, option_named};
 
-use crate::forms::{Checked, Elements, broken};
 use crate::type_names::{NamedType, bytes_in, elements_within};
 use ctypes::{IntType, size_of};
+use expression_rules::{Checked, Elements, broken};
 use program::Value;
 use srcset::{Code, Pos, Refusal};
 

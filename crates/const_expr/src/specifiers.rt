@@ -1,16 +1,16 @@
 //! The types that specifiers name (6.7.2, 6.7.3).
-#![tactic(auto, using(crate::proofs::Verdicts::each_left, crate::proofs::Verdicts::each_right, crate::proofs::Verdicts::each_fine))]
+#![tactic(auto, using(expression_rules::proofs::Verdicts::each_left, expression_rules::proofs::Verdicts::each_right, expression_rules::proofs::Verdicts::each_fine))]
 
 ghost use Rattle.std.specs.Prelude.{◌≡◌, ◌≤◌, length, IfErr, OnOk, IfOk, nat_eq, not, map};
 ghost use Rattle.typed.specs.Specifiers as typed;
 ghost use Rattle.typed.specs.Verdict.{fine, refuse_if};
 ghost use Rattle.typed.specs.Scope.{tag_in};
 ghost use Rattle.srcset.specs.declared.code.Code.TheVariants as code;
-ghost use Rattle.const_expr.specs.Refused.{IsOf};
+ghost use Rattle.expression_rules.specs.Refused.{IsOf};
 ghost use Rattle.const_expr.specs.Typings.{base_type_of, word_set_of, is_empty};
 
-use crate::scopes::Scope;
 use ctypes::IntType;
+use scopes::Scope;
 use srcset::{Code, Pos, Refusal};
 use tree::{TypeSpecifier, TypeSpecifiers, Word};
 

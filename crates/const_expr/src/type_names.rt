@@ -6,13 +6,13 @@ ghost use Rattle.typed.specs.Types as type;
 ghost use Rattle.typed.specs.Verdict.{fine};
 ghost use Rattle.typed.specs.Expressions as typed;
 ghost use Rattle.tree.specs.Capped.{capped};
-ghost use Rattle.const_expr.specs.Refused.{Tells};
-ghost use Rattle.const_expr.specs.Forms.{named_of, option_named};
+ghost use Rattle.expression_rules.specs.Refused.{Tells};
+ghost use Rattle.const_expr.specs.Typings.{named_of, option_named};
 ghost use Rattle.const_expr.specs.Typings.{base_type_of};
 
-use crate::forms::broken;
 use crate::specifiers::BaseType;
 use ctypes::{IntType, size_of};
+use expression_rules::broken;
 use srcset::{Code, Pos, Refusal};
 
 /// A type of objects that is named.

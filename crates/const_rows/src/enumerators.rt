@@ -2,9 +2,10 @@
 //! at than those of constant expressions.
 
 use crate::words::{Constant, with_word};
-use const_expr::{Linkage, Meaning, Scope, State, value};
+use const_expr::value;
 use ctypes::IntType;
 use program::{DeclaredType, FunctionType, ObjectType, Storage};
+use scopes::{Linkage, Meaning, Scope, State};
 use srcset::{Fault, Names};
 use std::alloc::Global;
 use tree::{

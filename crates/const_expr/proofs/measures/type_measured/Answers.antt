@@ -1,5 +1,5 @@
 use Rattle.typed.specs.Types.{size_of_object}
-use Rattle.const_expr.specs.Forms.{named_of}
+use Rattle.const_expr.specs.Typings.{named_of}
 use Rattle.const_expr.proofs.measures.type_measured.Goals as goal
 
 pub returns-in-Ok-clause-ok : goal.returns-in-Ok-clause-ok

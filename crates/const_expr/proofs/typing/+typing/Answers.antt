@@ -1,8 +1,9 @@
 use Rattle.std.proofs.Common.{sym, subst, map, ◌∙◌}
 use Rattle.tree.specs.View.{tree_of, type_of}
 use Rattle.program.specs.View.{arguments_of, argument_of}
-use Rattle.const_expr.specs.Refused.{Tells}
-use Rattle.const_expr.specs.Forms.{checked_of, worth_of, option_named}
+use Rattle.expression_rules.specs.Refused.{Tells}
+use Rattle.expression_rules.specs.Forms.{checked_of, worth_of}
+use Rattle.const_expr.specs.Typings.{option_named}
 use Rattle.const_expr.specs.Operands.{operands_of}
 use Rattle.const_expr.proofs.Parts.{operands_fine, operands_right, cast_rule, cast_right, conditional_rule, conditional_test, conditional_arms}
 use Rattle.const_expr.proofs.Trees.{gives, tells, string_rule, subscript_rule, binary_rule, assign_rule, type_base, sizes_ok, sizes_err, arguments_rule, arguments_rest, arguments_ok, arguments_count}

@@ -1,8 +1,9 @@
 use Rattle.std.proofs.Common.{◌≡◌, sym, subst, IfOk, IfErr}
 use Rattle.tree.specs.View.{tree_of}
 use Rattle.typed.specs.Verdict.{fine}
-use Rattle.const_expr.specs.Refused.{Tells}
-use Rattle.const_expr.specs.Forms.{checked_of, constant_of}
+use Rattle.expression_rules.specs.Refused.{Tells}
+use Rattle.expression_rules.specs.Forms.{checked_of}
+use Rattle.const_expr.specs.Typings.{constant_of}
 use Rattle.const_expr.proofs.Wholes.{value_rule, value_form, value_typing}
 use Rattle.const_expr.proofs.values.constant_value.Goals as goal
 

@@ -1,0 +1,4 @@
+pub mod Refused
+pub mod Forms
+pub mod Numbered
+pub mod Calls

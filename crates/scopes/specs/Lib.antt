@@ -1,0 +1,2 @@
+pub mod NewestNames
+pub mod Scopes

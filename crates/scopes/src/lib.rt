@@ -1,0 +1,9 @@
+//! Scopes: what names and tags stand for (ISO/IEC 9899:2011 6.2.1 to 6.2.4).
+#![tactic(auto)]
+
+mod bindings;
+mod newest_names;
+mod scopes;
+
+pub use bindings::{Binding, Linkage, Meaning, State, StaticObject, Tag};
+pub use scopes::{Block, Scope};
