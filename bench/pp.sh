@@ -1,5 +1,6 @@
 #!/bin/bash
-# Measures `cc pp` beside gcc -E -P and tcc -E -P, in one run: many calls of macros, a long chain of macros, deep calls.
+# Measures `cc pp` beside gcc -E -P and tcc -E -P, in one run: headers included many times, many calls of macros, a long chain of
+# macros, deep calls.
 #
 #   bash bench/pp.sh [CC [TURNS]]
 #
@@ -41,7 +42,7 @@ measure() {
     for ((turn = 0; turn < turns; turn++)); do
         for name in ${2:-cc gcc tcc}; do
             case $name in
-                cc) words=("$cc" pp "$1") ;;
+                cc) words=("$cc" pp "$1" "${headers[@]}") ;;
                 gcc) words=(gcc -E -P "$1" -o gcc.out) ;;
                 tcc) words=(tcc -E -P "$1" -o tcc.out) ;;
             esac
@@ -69,6 +70,9 @@ measure() {
     done
 }
 
+# the files that a source includes, which the compiler is given beside it
+headers=()
+
 uname -srm
 sed -n 's/^model name[^:]*: //p' /proc/cpuinfo 2>/dev/null | sort | uniq -c
 echo "load: $(uptime | sed 's/.*load average: //')"
@@ -77,6 +81,11 @@ tcc -v 2>/dev/null
 echo
 : >empty.c
 measure empty.c
+python3 "$root/bench/pp_source.py" headers . >headers.c
+headers=(h*.h)
+echo "40 headers, each included four times: $(cat h*.h | wc -c) bytes"
+measure headers.c
+headers=()
 python3 "$root/bench/pp_source.py" calls >calls.c
 measure calls.c
 for names in 13000 26000 52000; do
