@@ -1,0 +1,6 @@
+pub mod Code
+pub mod Run
+pub mod Costs
+pub mod Laws
+pub mod Sound
+pub mod Lowered

@@ -1,0 +1,46 @@
+-- What it is for three-address code to do what a typed program does: the contract of lowering.
+use Rattle.std.specs.Prelude.{◌≡◌, ◌≤◌, ℕ, ◌+◌, ◌*◌, List, length, slice_get, Option, Some}
+use Rattle.typed.specs.Program as typed
+use Rattle.meaning.specs.Machine as machine
+use Rattle.meaning.specs.Machine.{Stops, Ended, TicksUsed}
+use Rattle.meaning.specs.Meaning.{cstep}
+use Rattle.tac.specs.Code.{Function, Program}
+use Rattle.tac.specs.Run.{State, Progress, running, ended, run, start}
+use Rattle.tac.specs.Costs.{spent_in_all, function_bytes, call_bytes}
+use Rattle.tac.specs.Sound.{IsSoundProgram}
+
+-- the run of q on this input, after m steps
+abbrev pub run_of : Program → List ℕ → ℕ → Progress
+run_of q input m = run q m (start q input)
+
+-- at most 60 instructions for each of n ticks, and 60 for the beginning of main
+abbrev pub CostsAtMost : Program → List ℕ → (m n : ℕ) → Type 0
+CostsAtMost q input m n = spent_in_all q m (start q input) ≤ 60 * n + 60
+
+-- after m steps the run has done just what the abstract machine has done when n ticks are used, and goes on
+abbrev pub GoesOn : Program → List ℕ → (m : ℕ) → machine.State → Type 0
+GoesOn q input m s = (t : State) × (run_of q input m ≡ running t) × (t.history ≡ s.history) × (t.input ≡ s.input)
+
+-- A history has the events, and the calls that began and ended. So the calls that are open after m steps, which are those of the
+-- history (`CallsAreActive`), and those at each step before, when less of it was done (`RunGrows`), are those of the abstract machine at
+-- some clock. Where it never ends, these m pass every number.
+pub record Behaves (p : typed.Program) (q : Program) (input : List ℕ) : Type 0 where
+  pub ends : (n status : ℕ) (s : machine.State) → cstep n p input ≡ Stops (Ended status) s →
+      (m : ℕ) × (run_of q input m ≡ ended status s.input s.history) × CostsAtMost q input m n
+  pub goes_on : (n : ℕ) (s : machine.State) → cstep n p input ≡ Stops TicksUsed s →
+      (m : ℕ) × (n ≤ m) × GoesOn q input m s × CostsAtMost q input m n
+
+-- function g is f's code: it has its objects, its call takes no more than f's weight, and its code no more than 128 bytes a node and 1024
+pub record IsCodeOf (f : typed.Function) (g : Function) : Type 0 where
+  pub objects : g.objects ≡ f.objects
+  pub frame : call_bytes g ≤ f.weight
+  pub code : function_bytes g ≤ 128 * f.nodes + 1024
+
+pub record IsLowered (p : typed.Program) (q : Program) : Type 0 where
+  pub sound : IsSoundProgram q
+  pub behaves : (input : List ℕ) → Behaves p q input
+  pub literals : q.literals ≡ p.literals
+  pub statics : q.statics ≡ p.statics
+  pub main : q.main ≡ p.main
+  pub functions : length q.functions ≡ length p.functions
+  pub each : (k : ℕ) (f : typed.Function) (g : Function) → slice_get p.functions k ≡ Some f → slice_get q.functions k ≡ Some g → IsCodeOf f g
