@@ -1,7 +1,7 @@
 -- How many instructions of RV32IM each instruction comes to at most, how many bytes of code, and how many bytes of the stack a
 -- call takes. A word of the frame takes up to three to read or write, where it lies past the reach of 12 bits; a constant two.
 use Rattle.std.specs.Prelude.{ℕ, zero, suc, ◌+◌, ◌*◌, ◌-◌, ◌/◌, List, [], ◌∷◌, length, sum_by, Option, Some, None}
-use Rattle.typed.specs.Types.{ObjectType, size_of_object}
+use Rattle.typed.specs.Types.{size_of_object}
 use Rattle.tac.specs.declared.code.Parameter.{Parameter}
 use Rattle.tac.specs.declared.code.Parameter.TheVariants as parameter
 use Rattle.tac.specs.declared.code.Instruction.{Instruction}

@@ -1,5 +1,5 @@
 -- What it is for three-address code to do what a typed program does: the contract of lowering.
-use Rattle.std.specs.Prelude.{◌≡◌, ◌≤◌, ℕ, ◌+◌, ◌*◌, List, length, slice_get, Option, Some}
+use Rattle.std.specs.Prelude.{◌≡◌, ◌≤◌, ℕ, ◌+◌, ◌*◌, List, length, slice_get, Some}
 use Rattle.typed.specs.Program as typed
 use Rattle.meaning.specs.Machine as machine
 use Rattle.meaning.specs.Machine.{Stops, Ended, TicksUsed}

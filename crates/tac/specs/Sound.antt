@@ -1,5 +1,5 @@
 -- Which three-address programs are sound: each instruction names what there is, and what there is has its place. What the next step takes.
-use Rattle.std.specs.Prelude.{◌≡◌, ◌≤◌, ◌<◌, ℕ, ◌+◌, ◌*◌, ◌-◌, ◌^◌, Bool, true, false, List, [], ◌∷◌, length, slice_get, sum_by, Option, Some, None}
+use Rattle.std.specs.Prelude.{◌≡◌, ◌≤◌, ◌<◌, ℕ, ◌+◌, ◌^◌, Bool, true, false, List, [], ◌∷◌, length, slice_get, sum_by, Some, None}
 use Rattle.ctypes.specs.declared.types.IntType.{IntType}
 use Rattle.typed.specs.Types.{size_of_object}
 use Rattle.typed.specs.Program.{Static}
