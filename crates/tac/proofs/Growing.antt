@@ -42,7 +42,7 @@ gives_follows p (target.Temporary k) s v = quiet s _ refl refl
 gives_follows p (target.Kept k) s v = quiet s _ refl refl
 gives_follows p (target.Object n) s v =
     bound s (scalar_type (own_type p s n)) (λ t. word_of v >>= λ w. takes t w) (λ t. bound s (word_of v) (takes t) (λ w.
-        tested s (is_word_of t w) (running (changed t w)) (quiet s (changed t w) refl refl)))
+    tested s (is_word_of t w) (running (changed t w)) (quiet s (changed t w) refl refl)))
   where
     changed : IntType → ℕ → State
     changed t w = with_number (own s n) (number_of t w) (next s)
@@ -59,7 +59,7 @@ stored_follows p s t w r = tested s _ _ (bound s (held_by t w) (λ v. running (w
 part_follows : (p : Program) (s : State) (d : Target) (r : Reference) (size : ℕ) → Follows s (part p s d r size)
 part_follows p s d r size =
     bound s (element_type p s r) (λ t. tree_at s.store r >>= in_bytes t) (λ t. bound s (tree_at s.store r) (in_bytes t) (λ tree.
-        tested s (bytes_of t * elements_of tree == size) (gives p d s (reference r)) (gives_follows p d s (reference r))))
+    tested s (bytes_of t * elements_of tree == size) (gives p d s (reference r)) (gives_follows p d s (reference r))))
   where
     in_bytes : IntType → Tree → Progress
     in_bytes t tree = where_true (bytes_of t * elements_of tree == size) (gives p d s (reference r))
@@ -71,7 +71,7 @@ begun_follows s f g numbers arrays = record { adds = (Entered f ∷ [], refl, λ
 entered_follows : (p : Program) (s : State) (f : ℕ) → Follows s (entered p s f)
 entered_follows p s f =
     bound s (slice_get p.functions f) with_numbers (λ g. bound s (numbers_in g.parameters g.objects s.temporaries 0) (with_arrays g) (λ numbers.
-        bound s (arrays_in g.parameters s.temporaries 0) (begun s f g numbers) (begun_follows s f g numbers)))
+    bound s (arrays_in g.parameters s.temporaries 0) (begun s f g numbers) (begun_follows s f g numbers)))
   where
     with_arrays : Function → List Tree → Progress
     with_arrays g numbers = arrays_in g.parameters s.temporaries 0 >>= begun s f g numbers

@@ -34,6 +34,7 @@ use Rattle.tac.specs.declared.code.Instruction.{Instruction}
 use Rattle.tac.specs.declared.code.Instruction.TheVariants.{Nothing as nothing, Move as move, Compute as compute, Convert as convert, Load as load, Store as store, Address as address, Part as part_of, Forget as forget, Jump as jump, Branch as branch_where, Call as call, PutByte as put_byte, GetByte as get_byte, Return as return}
 use Rattle.tac.specs.Code.{Function, Program}
 use Rattle.tac.specs.Run.{Progress, running, ended, stuck, step, run, start}
+use Rattle.tac.specs.Spans.{span}
 use Rattle.tac.specs.Costs.{spent_in_all, function_bytes, call_bytes}
 
 -- ---- what a row tells
@@ -59,7 +60,7 @@ abbrev all_fit : List typed.Function → List Function → Bool
 all_fit [] [] = true
 all_fit [] (g ∷ gs) = false
 all_fit (f ∷ fs) [] = false
-all_fit (f ∷ fs) (g ∷ gs) = nat_le (call_bytes g) f.weight && (nat_le (function_bytes g) (128 * f.nodes + 1024) && all_fit fs gs)
+all_fit (f ∷ fs) (g ∷ gs) = nat_le (call_bytes g) f.weight && (nat_le (call_bytes g) (span f) && (nat_le (function_bytes g) (128 * f.nodes + 1024) && all_fit fs gs))
 
 -- the code ends within m steps just as the program within n ticks, and costs, frames and code are within their bounds
 abbrev Agree : typed.Program → Program → List ℕ → (n m : ℕ) → Progress → Type 0
@@ -198,7 +199,7 @@ factorial = program (
     function [] [] 5 0 (block 0 0 (gives_back (calls 1 (value 4)) ∷ [])) ∷
     function (number ty.Int ∷ []) (int ∷ []) 15 4 (block 1 0 (
     gives_back (typed.chosen (Some ty.Int) (binary op.Equal (get 0) (value 0)) (value 1)
-        (binary op.Mul (get 0) (calls 1 (binary op.Sub (get 0) (value 1))))) ∷ [])) ∷ [])
+    (binary op.Mul (get 0) (calls 1 (binary op.Sub (get 0) (value 1))))) ∷ [])) ∷ [])
 
 abbrev factorial_code : Program
 factorial_code = code_of (
@@ -241,7 +242,7 @@ abbrev echo : typed.Program
 echo = program (function [] (int ∷ []) 16 4 (block 0 1 (
     typed.declare 0 ∷
     typed.while (binary op.NotEqual (set 0 (typed.call here typed.get_byte (Some ty.Int) true typed.no_arguments)) (typed.unary here prefix.Minus ty.Int (value 1)))
-        (typed.evaluate (puts (get 0))) ∷
+    (typed.evaluate (puts (get 0))) ∷
     gives_back (value 0) ∷ [])) ∷ [])
 
 abbrev echo_code : Program
@@ -265,15 +266,15 @@ arrays = record {
   literals = (104 ∷ 105 ∷ 0 ∷ []) ∷ [];
   statics = record { type = object ty.Short (3 ∷ []); defined = true; values = pos 1 ∷ negsuc 1 ∷ [] } ∷ [];
   functions =
-    function [] (object ty.Int (2 ∷ []) ∷ object ty.SChar [] ∷ []) 32 12 (block 0 2 (
-    typed.declare 0 ∷ typed.declare 1 ∷
-    typed.evaluate (typed.assigned here ty.Int (part (own 0) (value 1)) (typed.read ty.Short (part (typed.named here (typed.static 0)) (value 1)))) ∷
-    typed.evaluate (typed.assigned here ty.SChar (own 1) (value 200)) ∷
-    gives_back (binary op.Add (binary op.Add (binary op.Add
-        (typed.call here (typed.function 1) (Some ty.Int) true (typed.and_array (own 0) (one (value 1))))
-        (typed.read ty.SChar (own 1))) (value 100)) (typed.read ty.Char (part (typed.named here (typed.literal 0)) (value 1)))) ∷ [])) ∷
-    function (elements int ∷ number ty.Int ∷ []) (int ∷ []) 8 8 (block 1 0 (
-    gives_back (typed.read ty.Int (part (typed.named here (typed.parameter 0)) (get 0))) ∷ [])) ∷ [];
+      function [] (object ty.Int (2 ∷ []) ∷ object ty.SChar [] ∷ []) 32 12 (block 0 2 (
+      typed.declare 0 ∷ typed.declare 1 ∷
+      typed.evaluate (typed.assigned here ty.Int (part (own 0) (value 1)) (typed.read ty.Short (part (typed.named here (typed.static 0)) (value 1)))) ∷
+      typed.evaluate (typed.assigned here ty.SChar (own 1) (value 200)) ∷
+      gives_back (binary op.Add (binary op.Add (binary op.Add
+      (typed.call here (typed.function 1) (Some ty.Int) true (typed.and_array (own 0) (one (value 1))))
+      (typed.read ty.SChar (own 1))) (value 100)) (typed.read ty.Char (part (typed.named here (typed.literal 0)) (value 1)))) ∷ [])) ∷
+      function (elements int ∷ number ty.Int ∷ []) (int ∷ []) 8 8 (block 1 0 (
+      gives_back (typed.read ty.Int (part (typed.named here (typed.parameter 0)) (get 0))) ∷ [])) ∷ [];
   main = 0;
 }
 
@@ -282,16 +283,16 @@ arrays_code = record {
   literals = (104 ∷ 105 ∷ 0 ∷ []) ∷ [];
   statics = record { type = object ty.Short (3 ∷ []); defined = true; values = pos 1 ∷ negsuc 1 ∷ [] } ∷ [];
   functions =
-    coded [] (object ty.Int (2 ∷ []) ∷ object ty.SChar [] ∷ []) (
-    forget 0 2 ∷ address to_t0 (place.Array 0) ∷ part_of to_t0 t0 (the 1) 4 ∷
-    address to_t1 (place.Static 0) ∷ part_of to_t1 t1 (the 1) 2 ∷ load ty.Short to_t1 (place.At t1) ∷ store ty.Int t1 (place.At t0) ∷
-    convert ty.SChar to_x1 (the 200) ∷
-    address to_t0 (place.Array 0) ∷ move to_t1 (the 1) ∷ call 1 ∷
-    makes to_t0 operation.Add t0 x1 ∷ makes to_t0 operation.Add t0 (the 100) ∷
-    address to_t1 (place.Literal 0) ∷ part_of to_t1 t1 (the 1) 1 ∷ load ty.Char to_t1 (place.At t1) ∷
-    makes to_t0 operation.Add t0 t1 ∷ return ∷ []) ∷
-    coded (parameter.Array ∷ parameter.Number ∷ []) (int ∷ []) (
-    part_of to_t0 (operand.Parameter 0) x0 4 ∷ load ty.Int to_t0 (place.At t0) ∷ return ∷ []) ∷ [];
+      coded [] (object ty.Int (2 ∷ []) ∷ object ty.SChar [] ∷ []) (
+      forget 0 2 ∷ address to_t0 (place.Array 0) ∷ part_of to_t0 t0 (the 1) 4 ∷
+      address to_t1 (place.Static 0) ∷ part_of to_t1 t1 (the 1) 2 ∷ load ty.Short to_t1 (place.At t1) ∷ store ty.Int t1 (place.At t0) ∷
+      convert ty.SChar to_x1 (the 200) ∷
+      address to_t0 (place.Array 0) ∷ move to_t1 (the 1) ∷ call 1 ∷
+      makes to_t0 operation.Add t0 x1 ∷ makes to_t0 operation.Add t0 (the 100) ∷
+      address to_t1 (place.Literal 0) ∷ part_of to_t1 t1 (the 1) 1 ∷ load ty.Char to_t1 (place.At t1) ∷
+      makes to_t0 operation.Add t0 t1 ∷ return ∷ []) ∷
+      coded (parameter.Array ∷ parameter.Number ∷ []) (int ∷ []) (
+      part_of to_t0 (operand.Parameter 0) x0 4 ∷ load ty.Int to_t0 (place.At t0) ∷ return ∷ []) ∷ [];
   main = 0;
 }
 

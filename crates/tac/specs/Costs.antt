@@ -1,7 +1,7 @@
 -- How many instructions of RV32IM each instruction comes to at most, how many bytes of code, and how many bytes of the stack a
 -- call takes. A word of the frame takes up to three to read or write, where it lies past the reach of 12 bits; a constant two.
 use Rattle.std.specs.Prelude.{ℕ, zero, suc, ◌+◌, ◌*◌, ◌-◌, ◌/◌, List, [], ◌∷◌, length, sum_by, Option, Some, None}
-use Rattle.typed.specs.Types.{size_of_object}
+use Rattle.typed.specs.Units.{bytes_of_objects}
 use Rattle.tac.specs.declared.code.Parameter.{Parameter}
 use Rattle.tac.specs.declared.code.Parameter.TheVariants as parameter
 use Rattle.tac.specs.declared.code.Instruction.{Instruction}
@@ -76,9 +76,6 @@ function_bytes f = 4 * entry_cost f + sum_by code_bytes f.code
 
 -- ---- bytes of the stack
 
-abbrev pub in_words : ℕ → ℕ
-in_words n = (n + 3) / 4 * 4
-
 abbrev pub array_parameters : List Parameter → ℕ
 array_parameters [] = 0
 array_parameters (parameter.Number ∷ more) = array_parameters more
@@ -88,4 +85,4 @@ array_parameters (parameter.Array ∷ more) = suc (array_parameters more)
 -- the slots, the references and the objects; a multiple of 16
 abbrev pub call_bytes : Function → ℕ
 call_bytes f =
-    (4 * (f.temporaries - 8) + (8 + (4 * f.kept + (4 * array_parameters f.parameters + sum_by (λ t. in_words (size_of_object t)) f.objects))) + 15) / 16 * 16
+    (4 * (f.temporaries - 8) + (8 + (4 * f.kept + (4 * array_parameters f.parameters + bytes_of_objects f.objects))) + 15) / 16 * 16

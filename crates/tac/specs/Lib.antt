@@ -3,4 +3,5 @@ pub mod Run
 pub mod Costs
 pub mod Laws
 pub mod Sound
+pub mod Spans
 pub mod Lowered

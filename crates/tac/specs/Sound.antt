@@ -15,7 +15,8 @@ use Rattle.tac.specs.declared.code.Parameter.TheVariants as parameter
 use Rattle.tac.specs.declared.code.Instruction.{Instruction}
 use Rattle.tac.specs.declared.code.Instruction.TheVariants as instruction
 use Rattle.tac.specs.Code.{Function, Program, function_at, scalar_type}
-use Rattle.tac.specs.Costs.{in_words, array_parameters, call_bytes}
+use Rattle.typed.specs.Units.{in_words}
+use Rattle.tac.specs.Costs.{array_parameters, call_bytes}
 
 -- object n is no array; it is one
 abbrev pub IsScalar : Function → ℕ → Type 0
@@ -83,9 +84,9 @@ abbrev pub static_bytes : Bool → ℕ → ℕ
 static_bytes true n = in_words n
 static_bytes false n = 0
 
-abbrev pub data_bytes : Program → ℕ
-data_bytes p =
-    sum_by (λ text. in_words (length text)) p.literals + sum_by (λ o. static_bytes o.defined (size_of_object o.type)) p.statics
+abbrev pub data_bytes : List (List ℕ) → List Static → ℕ
+data_bytes literals statics =
+    sum_by (λ text. in_words (length text)) literals + sum_by (λ o. static_bytes o.defined (size_of_object o.type)) statics
 
 abbrev pub AreBytes : List ℕ → Type 0
 AreBytes text = (k c : ℕ) → slice_get text k ≡ Some c → c < 2 ^ 8
@@ -97,5 +98,5 @@ pub record IsSoundProgram (p : Program) : Type 0 where
   pub each : (k : ℕ) (f : Function) → slice_get p.functions k ≡ Some f → FunctionFits p f
   pub literals : (n : ℕ) (text : List ℕ) → slice_get p.literals n ≡ Some text → AreBytes text
   pub statics : (n : ℕ) (o : Static) → slice_get p.statics n ≡ Some o → values_fit o.type.element o.values ≡ true
-  pub small : data_bytes p ≤ 2 ^ 24
+  pub small : data_bytes p.literals p.statics ≤ 2 ^ 24
   pub countable : length p.functions + sum_by (λ f. length f.code + (length f.parameters + 1)) p.functions < 2 ^ 32
