@@ -82,7 +82,7 @@ object t lengths = record { element = t; constant = false; lengths = lengths }
 abbrev int : ObjectType
 int = object ty.Int []
 
-abbrev function : List ParameterType → List ObjectType → (nodes bytes : ℕ) → typed.Statement → typed.Function
+abbrev pub function : List ParameterType → List ObjectType → (nodes bytes : ℕ) → typed.Statement → typed.Function
 function parameters objects nodes bytes body = record {
   name = 0;
   type = record { result = Some ty.Int; constant = false; parameters = parameters };
@@ -92,7 +92,7 @@ function parameters objects nodes bytes body = record {
   weight = weight_of nodes bytes;
 }
 
-abbrev program : List typed.Function → typed.Program
+abbrev pub program : List typed.Function → typed.Program
 program functions = record { literals = []; statics = []; functions = functions; main = 0 }
 
 abbrev own : ℕ → typed.Place
@@ -101,7 +101,7 @@ own n = typed.named here (typed.automatic n)
 abbrev get : ℕ → typed.Value
 get n = typed.read ty.Int (own n)
 
-abbrev value : ℕ → typed.Value
+abbrev pub value : ℕ → typed.Value
 value v = typed.constant ty.Int (pos v)
 
 abbrev binary : BinOp → typed.Value → typed.Value → typed.Value
@@ -126,18 +126,18 @@ abbrev statements : List typed.Statement → typed.Statements
 statements [] = typed.no_statements
 statements (x ∷ more) = typed.and_statement x (statements more)
 
-abbrev block : ℕ → ℕ → List typed.Statement → typed.Statement
+abbrev pub block : ℕ → ℕ → List typed.Statement → typed.Statement
 block first count all = typed.block first count (statements all)
 
-abbrev gives_back : typed.Value → typed.Statement
+abbrev pub gives_back : typed.Value → typed.Statement
 gives_back e = typed.return_value ty.Int e
 
 -- ---- parts of code
 
-abbrev coded : List Parameter → List ObjectType → List Instruction → Function
+abbrev pub coded : List Parameter → List ObjectType → List Instruction → Function
 coded parameters objects code = record { code = code; parameters = parameters; objects = objects; temporaries = 2; kept = 0 }
 
-abbrev code_of : List Function → Program
+abbrev pub code_of : List Function → Program
 code_of functions = record { functions = functions; literals = []; statics = []; main = 0 }
 
 abbrev t0 : Operand
