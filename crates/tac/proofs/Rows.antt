@@ -278,7 +278,7 @@ arrays = record {
   main = 0;
 }
 
-abbrev arrays_code : Program
+abbrev pub arrays_code : Program
 arrays_code = record {
   literals = (104 ∷ 105 ∷ 0 ∷ []) ∷ [];
   statics = record { type = object ty.Short (3 ∷ []); defined = true; values = pos 1 ∷ negsuc 1 ∷ [] } ∷ [];
