@@ -1,7 +1,7 @@
 -- Programs and their three-address code, both computed: they end in the same way, having done the same; where the program meets an
 -- undefined act its code is stuck. The sources stand above; each clock has exactly the ticks that the run takes.
 use Rattle.std.proofs.Common.{◌≡◌, ℕ, ◌+◌, ◌*◌, List, [], ◌∷◌, ℤ, pos, negsuc, refl, Some, None, Option, Bool, true, false}
-use Rattle.std.specs.Prelude.{zero, suc, ◌&&◌, ◌-◌, ◌^◌, nat_le}
+use Rattle.std.specs.Prelude.{zero, suc, ◌&&◌, ◌-◌, ◌^◌, nat_le, nat_eq}
 use Rattle.srcset.specs.declared.refusal.Pos.{Pos}
 use Rattle.ctypes.specs.declared.types.IntType.{IntType}
 use Rattle.ctypes.specs.declared.types.IntType.TheVariants as ty
@@ -34,7 +34,8 @@ use Rattle.tac.specs.declared.code.Instruction.{Instruction}
 use Rattle.tac.specs.declared.code.Instruction.TheVariants.{Nothing as nothing, Move as move, Compute as compute, Convert as convert, Load as load, Store as store, Address as address, Part as part_of, Forget as forget, Jump as jump, Branch as branch_where, Call as call, PutByte as put_byte, GetByte as get_byte, Return as return}
 use Rattle.tac.specs.Code.{Function, Program}
 use Rattle.tac.specs.Run.{Progress, running, ended, stuck, step, run, start}
-use Rattle.tac.specs.Spans.{span}
+use Rattle.tac.specs.Spans.{span, own_bytes}
+use Rattle.tac.specs.Designated.{in_function}
 use Rattle.tac.specs.Costs.{spent_in_all, function_bytes, call_bytes}
 
 -- ---- what a row tells
@@ -62,11 +63,16 @@ all_fit [] (g ∷ gs) = false
 all_fit (f ∷ fs) [] = false
 all_fit (f ∷ fs) (g ∷ gs) = nat_le (call_bytes g) f.weight && (nat_le (call_bytes g) (span f) && (nat_le (function_bytes g) (128 * f.nodes + 1024) && all_fit fs gs))
 
+-- what lowering asks for, where it can be computed
+abbrev all_checked : typed.Program → List typed.Function → Bool
+all_checked p [] = true
+all_checked p (f ∷ fs) = nat_eq f.weight (weight_of f.nodes (own_bytes f)) && (in_function p f && all_checked p fs)
+
 -- the code ends within m steps just as the program within n ticks, and costs, frames and code are within their bounds
 abbrev Agree : typed.Program → Program → List ℕ → (n m : ℕ) → Progress → Type 0
 Agree p q input n m r =
     (outcome (cstep n p input) ≡ r) × (run q m (start q input) ≡ r) × (nat_le (spent_in_all q m (start q input)) (60 * n + 60) ≡ true) ×
-    (all_fit p.functions q.functions ≡ true) × (is_typed p ≡ true)
+    (all_fit p.functions q.functions ≡ true) × (is_typed p ≡ true) × (all_checked p p.functions ≡ true)
 
 abbrev Meets : typed.Program → Program → Ending → Type 0
 Meets p q e = (ending_of (cstep 100 p []) ≡ e) × (run q 100 (start q []) ≡ stuck) × (is_typed p ≡ true)
@@ -190,7 +196,7 @@ sum_code = code_of (coded [] (int ∷ int ∷ []) (
 
 sums : Agree sum sum_code [] 78 18 (ended 10 [] (Left ∷ Entered 0 ∷ []))
 unfolding step
-sums = (refl, refl, refl, refl, refl)
+sums = (refl, refl, refl, refl, refl, refl)
 
 -- ---- int f(int n) { return n == 0 ? 1 : n * f(n - 1); }  int main(void) { return f(4); }
 
@@ -211,7 +217,7 @@ factorial_code = code_of (
 recursion : Agree factorial factorial_code [] 70 26
     (ended 24 [] (Left ∷ Left ∷ Left ∷ Left ∷ Left ∷ Left ∷ Entered 1 ∷ Entered 1 ∷ Entered 1 ∷ Entered 1 ∷ Entered 1 ∷ Entered 0 ∷ []))
 unfolding step
-recursion = (refl, refl, refl, refl, refl)
+recursion = (refl, refl, refl, refl, refl, refl)
 
 -- ---- int p(int c) { rv_putbyte(c); return c; }
 -- int main(void) { int x = 0; if (x && p(65)) p(66); return p(67) || p(68); }
@@ -234,7 +240,7 @@ skipped_code = code_of (
 
 short_circuit : Agree skipped skipped_code [] 20 11 (ended 1 [] (Left ∷ Left ∷ Did (Put 67) ∷ Entered 1 ∷ Entered 0 ∷ []))
 unfolding step
-short_circuit = (refl, refl, refl, refl, refl)
+short_circuit = (refl, refl, refl, refl, refl, refl)
 
 -- ---- int main(void) { int c; while ((c = rv_getbyte()) != -1) rv_putbyte(c); return 0; }
 
@@ -253,7 +259,7 @@ echo_code = code_of (coded [] (int ∷ []) (
 echoes : Agree echo echo_code (7 ∷ 9 ∷ []) 30 17
     (ended 0 [] (Left ∷ Did GotEnd ∷ Did (Put 9) ∷ Did (Got 9) ∷ Did (Put 7) ∷ Did (Got 7) ∷ Entered 0 ∷ []))
 unfolding step
-echoes = (refl, refl, refl, refl, refl)
+echoes = (refl, refl, refl, refl, refl, refl)
 
 -- ---- static short s[3] = { 1, -2 };  int g(int a[], int i) { return a[i]; }
 -- int main(void) { int a[2]; signed char c; a[1] = s[1]; c = 200; return g(a, 1) + c + 100 + "hi"[1]; }
@@ -298,7 +304,7 @@ arrays_code = record {
 
 elements_and_references : Agree arrays arrays_code [] 36 21 (ended 147 [] (Left ∷ Left ∷ Entered 1 ∷ Entered 0 ∷ []))
 unfolding step
-elements_and_references = (refl, refl, refl, refl, refl)
+elements_and_references = (refl, refl, refl, refl, refl, refl)
 
 -- ---- undefined acts: int main(void) { int x = X; return A x; }
 
@@ -348,3 +354,16 @@ goes_on = (refl, refl)
 two_bytes : history_of (run endless_code 12 (start endless_code [])) ≡ Some (Did (Put 65) ∷ Did (Put 65) ∷ Entered 0 ∷ [])
 unfolding step
 two_bytes = refl
+
+-- ---- extern int x;  int main(void) { return x; }: refused by the checker, and not to be lowered
+
+abbrev only_declared : typed.Program
+only_declared = record {
+  literals = [];
+  statics = record { type = int; defined = false; values = [] } ∷ [];
+  functions = function [] [] 4 0 (block 0 0 (gives_back (typed.read ty.Int (typed.named here (typed.static 0))) ∷ [])) ∷ [];
+  main = 0;
+}
+
+not_checked : all_checked only_declared only_declared.functions ≡ false
+not_checked = refl

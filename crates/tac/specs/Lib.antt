@@ -4,4 +4,5 @@ pub mod Costs
 pub mod Laws
 pub mod Sound
 pub mod Spans
+pub mod Designated
 pub mod Lowered

@@ -14,6 +14,7 @@ use Rattle.tac.specs.declared.code.Parameter.{Parameter}
 use Rattle.tac.specs.declared.code.Parameter.TheVariants as parameter
 use Rattle.tac.specs.Sound.{IsSoundProgram, AreBytes, data_bytes}
 use Rattle.tac.specs.Spans.{span, own_bytes}
+use Rattle.tac.specs.Designated.{in_function}
 
 -- the run of q on this input, after m steps
 abbrev pub run_of : Program → List ℕ → ℕ → Progress
@@ -62,16 +63,17 @@ pub record IsLowered (p : typed.Program) (q : Program) : Type 0 where
 
 -- ---- what lowering asks for
 
--- its weight is that of its nodes and objects, and these are within their limits
-pub record FunctionIsChecked (f : typed.Function) : Type 0 where
+-- its weight is that of its nodes and objects, these are within their limits, and what it designates is defined
+pub record FunctionIsChecked (p : typed.Program) (f : typed.Function) : Type 0 where
   pub weight : f.weight ≡ weight_of f.nodes (own_bytes f)
   pub nodes : f.nodes ≤ 8000
+  pub defined : in_function p f ≡ true
 
 -- what the checker says of a program
 pub record IsChecked (p : typed.Program) : Type 0 where
   pub well_typed : is_typed p ≡ true
   pub main_takes_nothing : (f : typed.Function) → slice_get p.functions p.main ≡ Some f → f.type.parameters ≡ []
-  pub each : (k : ℕ) (f : typed.Function) → slice_get p.functions k ≡ Some f → FunctionIsChecked f
+  pub each : (k : ℕ) (f : typed.Function) → slice_get p.functions k ≡ Some f → FunctionIsChecked p f
   pub literals : (n : ℕ) (text : List ℕ) → slice_get p.literals n ≡ Some text → AreBytes text
   pub few : length p.functions ≤ 16384
   pub small : data_bytes p.literals p.statics ≤ 2 ^ 24
