@@ -1,6 +1,6 @@
 -- Laws of runs, which the layers on both sides use.
-use Rattle.std.specs.Prelude.{◌≡◌, ℕ, ◌+◌, List}
-use Rattle.meaning.specs.History.{active}
+use Rattle.std.specs.Prelude.{◌≡◌, ◌≤◌, ℕ, ◌+◌, List}
+use Rattle.meaning.specs.History.{active, sum_of, greatest_sum}
 use Rattle.meaning.specs.Laws.{Grows}
 use Rattle.tac.specs.Code.{Program}
 use Rattle.tac.specs.Run.{State, Progress, running, ended, stuck, open_calls, run, start}
@@ -24,3 +24,14 @@ HasCalls stuck = Unit {0}
 
 abbrev pub CallsAreActive : Type 0
 CallsAreActive = (p : Program) (n : ℕ) (input : List ℕ) → HasCalls (run p n (start p input))
+
+-- a number is no more than the greatest sum of weights in the history
+abbrev pub IsSeen : (ℕ → ℕ) → ℕ → Progress → Type 0
+IsSeen weight n (running s) = n ≤ greatest_sum weight s.history
+IsSeen weight n (ended status input history) = n ≤ greatest_sum weight history
+IsSeen weight n stuck = Unit {0}
+
+-- the weights of the calls that are open at a step are never more than the greatest sum that the history of a later step tells
+abbrev pub WeightsAreSeen : Type 0
+WeightsAreSeen = (weight : ℕ → ℕ) (p : Program) (n k : ℕ) (input : List ℕ) (s : State) → run p n (start p input) ≡ running s →
+    IsSeen weight (sum_of weight (open_calls s)) (run p (n + k) (start p input))

@@ -33,9 +33,9 @@ CostsAtMost q input m n = spent_in_all q m (start q input) ≤ 60 * n + 60
 abbrev pub GoesOn : Program → List ℕ → (m : ℕ) → machine.State → Type 0
 GoesOn q input m s = (t : State) × (run_of q input m ≡ running t) × (t.history ≡ s.history) × (t.input ≡ s.input)
 
--- A history has the events, and the calls that began and ended. So the calls that are open after m steps, which are those of the
--- history (`CallsAreActive`), and those at each step before, when less of it was done (`RunGrows`), are those of the abstract machine at
--- some clock. Where it never ends, these m pass every number.
+-- A history has the events, and the calls that began and ended. So the calls that are open at a step are those of a beginning of the
+-- abstract machine's history (`CallsAreActive`, `RunGrows`), and their weights no more than its greatest sum (`WeightsAreSeen`). Where the
+-- program never ends, these m pass every number.
 pub record Behaves (p : typed.Program) (q : Program) (input : List ℕ) : Type 0 where
   pub ends : (n status : ℕ) (s : machine.State) → cstep n p input ≡ Stops (Ended status) s →
       (m : ℕ) × (run_of q input m ≡ ended status s.input s.history) × CostsAtMost q input m n

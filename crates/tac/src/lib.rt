@@ -9,4 +9,4 @@ pub use code::{
     Comparison, Function, Instruction, Operand, Operation, Parameter, Place, Reading, TacProgram,
     Target,
 };
-pub use laws::{calls_are_active, run_grows};
+pub use laws::{calls_are_active, run_grows, weights_are_seen};
