@@ -1,0 +1,3 @@
+pub mod Data
+pub mod Costs
+pub mod Flattened
