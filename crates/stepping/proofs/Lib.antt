@@ -2,3 +2,4 @@ pub mod Held
 pub mod Given
 pub mod Steps
 pub mod Cleared
+pub mod Entered

@@ -7,6 +7,7 @@ pub mod flows;
 pub mod initialisers;
 pub mod labels;
 pub mod loops;
+pub mod nodes;
 pub mod objects;
 pub mod statements;
 pub mod switches;
