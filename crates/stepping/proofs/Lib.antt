@@ -3,3 +3,5 @@ pub mod Given
 pub mod Steps
 pub mod Cleared
 pub mod Entered
+pub mod Left
+pub mod Called
