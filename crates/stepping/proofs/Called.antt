@@ -1,14 +1,19 @@
 -- Calls begin and end.
-use Rattle.std.proofs.Common.{◌≡◌, ℕ, ℤ, ◌+◌, ◌-◌, List, [], ◌∷◌, ◌++◌, length, map, drop, refl, sym, ap, ◌∙◌, append_assoc, arith, length-append}
-use Rattle.std.specs.Prelude.{Result, Option, Some, None, Bool, true, false, nat_eq}
+use Rattle.std.proofs.Common.{◌≡◌, ℕ, ℤ, ◌+◌, ◌-◌, ◌<◌, ◌≤◌, get_or, List, [], ◌∷◌, ◌++◌, length, map, drop, refl, sym, ap, ◌∙◌, append_assoc, arith, length-append}
+use Rattle.std.specs.Prelude.{Result, Option, Some, None, Bool, true, false, nat_eq, slice_get, option_map}
+use Rattle.std.proofs.lemmas.Option.{slice_get-map}
+use Rattle.program.specs.declared.units.Function as unit
+use Rattle.cabs.proofs.Scenes.{beyond_any, got_any}
 use Rattle.std.proofs.lemmas.List.{drop-map}
 use Rattle.typed.specs.Types.{ObjectType}
 use Rattle.typed.specs.Program as typed
 use Rattle.program.specs.declared.types.ObjectType as held
-use Rattle.program.specs.View.{object_type_of}
+use Rattle.program.specs.View.{function_of, object_type_of}
 use Rattle.meaning.specs.Store.{Store, Reference, indeterminate}
 use Rattle.meaning.specs.Expressions as meaning
+use Rattle.meaning.specs.History.{Entered}
 use Rattle.meaning.specs.Machine.{State}
+use Rattle.cabs.specs.View.{reference_of, store_of}
 use Rattle.meaning.specs.Meaning.{numbers_of, arrays_of, objects_of, enter}
 use Rattle.cabs.specs.declared.frames.Passed.{Passed}
 use Rattle.cabs.specs.declared.stop.Stop.{Stop}
@@ -22,32 +27,6 @@ use Rattle.stepping.specs.Acts.{outside_of, outside_behind}
 use Rattle.stepping.proofs.Left.{at_scene}
 
 -- ---- parameters
-
-numbers_one : (x : meaning.Passed) (xs : List meaning.Passed) → numbers_of (x ∷ xs) ≡ numbers_of (x ∷ []) ++ numbers_of xs
-numbers_one (meaning.Number v) xs = refl
-numbers_one (meaning.Referred r) xs = refl
-
-arrays_one : (x : meaning.Passed) (xs : List meaning.Passed) → arrays_of (x ∷ xs) ≡ arrays_of (x ∷ []) ++ arrays_of xs
-arrays_one (meaning.Number v) xs = refl
-arrays_one (meaning.Referred r) xs = refl
-
-pub number_pushed : (rest more : List Passed) (x : Passed) (s t whole : Store) → rest ≡ x ∷ more → t ≡ s ++ numbers_of (passed_of x ∷ []) →
-    s ++ numbers_of (map passed_of rest) ≡ whole → t ++ numbers_of (map passed_of more) ≡ whole
-number_pushed rest more x s t whole e f all =
-    ap (λ t. t ++ numbers_of (map passed_of more)) f ∙ append_assoc s (numbers_of (passed_of x ∷ [])) (numbers_of (map passed_of more))
-    ∙ ap (λ l. s ++ l) (sym (numbers_one (passed_of x) (map passed_of more))) ∙ sym (ap (λ l. s ++ numbers_of (map passed_of l)) e) ∙ all
-
-pub array_pushed : (rest more : List Passed) (x : Passed) (s t whole : List Reference) → rest ≡ x ∷ more → t ≡ s ++ arrays_of (passed_of x ∷ []) →
-    s ++ arrays_of (map passed_of rest) ≡ whole → t ++ arrays_of (map passed_of more) ≡ whole
-array_pushed rest more x s t whole e f all =
-    ap (λ t. t ++ arrays_of (map passed_of more)) f ∙ append_assoc s (arrays_of (passed_of x ∷ [])) (arrays_of (map passed_of more))
-    ∙ ap (λ l. s ++ l) (sym (arrays_one (passed_of x) (map passed_of more))) ∙ sym (ap (λ l. s ++ arrays_of (map passed_of l)) e) ∙ all
-
-pub object_pushed : (rest more : List held.ObjectType) (x : held.ObjectType) (s t whole : Store) → rest ≡ x ∷ more → t ≡ s ++ indeterminate (object_type_of x) ∷ [] →
-    s ++ map indeterminate (map object_type_of rest) ≡ whole → t ++ map indeterminate (map object_type_of more) ≡ whole
-object_pushed rest more x s t whole e f all =
-    ap (λ t. t ++ map indeterminate (map object_type_of more)) f ∙ append_assoc s (indeterminate (object_type_of x) ∷ []) (map indeterminate (map object_type_of more))
-    ∙ sym (ap (λ l. s ++ map indeterminate (map object_type_of l)) e) ∙ all
 
 -- the objects behind the parameters
 pub objects_done : (types : List held.ObjectType) (ps : List meaning.Passed) (n : ℕ) (s s1 s2 : Store) → s1 ≡ s ++ numbers_of ps → n ≡ length s1 - length s →
@@ -85,3 +64,22 @@ back_outside p on.to_end v s = refl
 pub back_acts : (p : typed.Program) (b : on.Back) (v : Option ℤ) (s : State) (fs : List on.Frame) (r : Result Step Stop) (scene : Scene) (o : Outside) → s ≡ state_in scene o →
     Agrees (onto fs (went_back p b v s)) r fs s → Agrees (onto fs (went_back p b v s)) r fs (state_in scene (outside_behind (went_back p b v s)))
 back_acts p b v s fs r scene o e h = at_scene fs fs (went_back p b v s) r s scene o e (back_outside p b v s) h
+
+abbrev with_parts : ℕ → Outside → Store → ℕ → List Reference → State
+with_parts f o store base arrays = record { clock = o.clock; store = store; base = base; arrays = arrays; input = o.input; history = Entered f ∷ o.history }
+
+pub set_as : (scene old : Scene) (o : Outside) (f : ℕ) (g : typed.Function) (objects : List ObjectType) (passed : List meaning.Passed) →
+    store_of scene.store ≡ store_of old.store ++ objects_of objects passed → objects ≡ g.objects → scene.base ≡ length (store_of old.store) →
+    map reference_of scene.arrays.items ≡ arrays_of passed → state_in scene (record o { history = Entered f ∷ o.history }) ≡ enter f g passed (state_in old o)
+set_as scene old o f g objects passed a same b c =
+    ap (λ x. with_parts f o x scene.base (map reference_of scene.arrays.items)) (a ∙ ap (λ l. store_of old.store ++ objects_of l passed) same)
+    ∙ ap (λ x. with_parts f o (store_of old.store ++ objects_of g.objects passed) x (map reference_of scene.arrays.items)) b
+    ∙ ap (with_parts f o (store_of old.store ++ objects_of g.objects passed) (length (store_of old.store))) c
+
+-- ---- the function that is called
+
+pub no_function : (fs : List unit.Function) (f : ℕ) → length fs ≤ f → slice_get (map function_of fs) f ≡ None
+no_function fs f h = slice_get-map function_of fs f ∙ ap (option_map function_of) (beyond_any fs f h)
+
+pub a_function : (fs : List unit.Function) (f : ℕ) (g : unit.Function) → f < length fs → g ≡ get_or fs f g → slice_get (map function_of fs) f ≡ Some (function_of g)
+a_function fs f g h e = slice_get-map function_of fs f ∙ ap (option_map function_of) (got_any fs f g h e)
