@@ -5,3 +5,4 @@ pub mod Cleared
 pub mod Entered
 pub mod Left
 pub mod Called
+pub mod Tallies

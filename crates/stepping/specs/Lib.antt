@@ -1,3 +1,4 @@
 pub mod Acts
 pub mod Labels
+pub mod Tallied
 pub mod Zeros

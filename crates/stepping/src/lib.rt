@@ -14,3 +14,4 @@ pub mod objects;
 pub mod returning;
 pub mod statements;
 pub mod switches;
+pub mod tally;
