@@ -1,4 +1,5 @@
 pub mod Acts
+pub mod Calls
 pub mod Labels
 pub mod Tallied
 pub mod Zeros

@@ -1,6 +1,7 @@
 //! The steps of the abstract machine in code: statements over the expressions of `cabs` (ISO/IEC 9899:2011 6.8).
 #![tactic(auto)]
 
+pub mod calling;
 pub mod calls;
 pub mod conditions;
 pub mod elements;
