@@ -6,3 +6,4 @@ pub mod Entered
 pub mod Left
 pub mod Called
 pub mod Tallies
+pub mod Whole

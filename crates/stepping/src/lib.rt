@@ -15,4 +15,5 @@ pub mod objects;
 pub mod returning;
 pub mod statements;
 pub mod switches;
+pub mod taking;
 pub mod tally;
