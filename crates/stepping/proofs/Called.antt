@@ -1,5 +1,5 @@
 -- Calls begin and end.
-use Rattle.std.proofs.Common.{◌≡◌, ℕ, ℤ, ◌+◌, ◌-◌, ◌<◌, ◌≤◌, get_or, List, [], ◌∷◌, ◌++◌, length, map, drop, refl, sym, ap, ◌∙◌, append_assoc, arith, length-append}
+use Rattle.std.proofs.Common.{◌≡◌, ℕ, ℤ, ◌-◌, ◌<◌, ◌≤◌, get_or, List, ◌∷◌, ◌++◌, length, map, drop, refl, sym, ap, ◌∙◌, append_assoc, arith, length-append}
 use Rattle.std.specs.Prelude.{Result, Option, Some, None, Bool, true, false, nat_eq, slice_get, option_map}
 use Rattle.std.proofs.lemmas.Option.{slice_get-map}
 use Rattle.program.specs.declared.units.Function as unit
@@ -15,14 +15,12 @@ use Rattle.meaning.specs.History.{Entered}
 use Rattle.meaning.specs.Machine.{State}
 use Rattle.cabs.specs.View.{reference_of, store_of}
 use Rattle.meaning.specs.Meaning.{numbers_of, arrays_of, objects_of, enter}
-use Rattle.cabs.specs.declared.frames.Passed.{Passed}
 use Rattle.cabs.specs.declared.stop.Stop.{Stop}
 use Rattle.cabs.specs.declared.scene.Scene.{Scene}
 use Rattle.cabs.specs.declared.frames.Step.{Step}
 use Rattle.cabs.specs.inside.Frames as on
 use Rattle.cabs.specs.inside.Steps.{waits, entered_call, went_back}
 use Rattle.cabs.specs.inside.Agrees.{Outside, state_in, onto, Agrees}
-use Rattle.cabs.specs.inside.Views.{passed_of}
 use Rattle.stepping.specs.Acts.{outside_of, outside_behind}
 use Rattle.stepping.proofs.Left.{at_scene}
 

@@ -1,41 +1,23 @@
 -- Steps of nodes and frames, and what is outside.
-use Rattle.std.proofs.Common.{◌≡◌, ℕ, ℤ, List, ◌++◌, refl, sym, ap, subst, ◌∙◌, map}
+use Rattle.std.proofs.Common.{◌≡◌, ℤ, List, refl, sym, ap, subst, ◌∙◌}
 use Rattle.std.specs.Prelude.{Result, Ok, Err}
 use Rattle.typed.specs.Program as typed
 use Rattle.program.specs.View.{program_of}
 use Rattle.meaning.specs.Store.{Reference}
 use Rattle.meaning.specs.Machine.{State, Ended, Undefined}
 use Rattle.meaning.specs.Statements as statements
-use Rattle.cabs.specs.View.{reference_of}
 use Rattle.cabs.specs.declared.stop.Stop.{Stop}
 use Rattle.cabs.specs.declared.stop.Stop.TheVariants as stop
 use Rattle.cabs.specs.declared.scene.Scene.{Scene}
 use Rattle.cabs.specs.declared.machine.Machine.{Machine}
 use Rattle.cabs.specs.declared.frames.Step.{Step}
-use Rattle.cabs.specs.declared.frames.Step.TheVariants as step
-use Rattle.cabs.specs.declared.frames.Found.{Found}
-use Rattle.cabs.specs.declared.frames.Found.TheVariants as found
-use Rattle.cabs.specs.declared.frames.Flow.{Flow}
-use Rattle.cabs.specs.declared.frames.Frame.{Frame}
-use Rattle.cabs.specs.declared.frames.Frame.TheVariants as frame
-use Rattle.cabs.specs.declared.frames.PlaceFrame.{PlaceFrame}
-use Rattle.cabs.specs.declared.frames.PlaceFrame.TheVariants as place
-use Rattle.cabs.specs.declared.frames.OperandFrame.{OperandFrame}
-use Rattle.cabs.specs.declared.frames.OperandFrame.TheVariants as operand
-use Rattle.cabs.specs.declared.frames.ControlFrame.{ControlFrame}
-use Rattle.cabs.specs.declared.frames.ControlFrame.TheVariants as control
-use Rattle.cabs.specs.declared.frames.FlowFrame.{FlowFrame}
-use Rattle.cabs.specs.declared.frames.FlowFrame.TheVariants as flows
-use Rattle.cabs.specs.declared.frames.InitialiserFrame.{InitialiserFrame}
-use Rattle.cabs.specs.declared.frames.InitialiserFrame.TheVariants as initialiser
 use Rattle.cabs.specs.inside.Frames as on
 use Rattle.cabs.specs.inside.Frames.{Moved, moves, halts, a_value, a_place, a_flow, initialised}
-use Rattle.cabs.specs.inside.Steps.{goes, left, left_by_value, left_by_place, left_by_flow, left_initialised}
-use Rattle.cabs.specs.inside.Views.{step_of, found_of, flow_of, frame_of, place_frame, operand_frame, control_frame, flow_frame, initialiser_frame}
+use Rattle.cabs.specs.inside.Steps.{left, left_by_value, left_by_place, left_by_flow, left_initialised}
+use Rattle.cabs.specs.inside.Views.{step_of}
 use Rattle.cabs.specs.inside.Agrees.{Outside, state_in, onto, Agrees, Takes, frames_of}
-use Rattle.cabs.proofs.Taken.{takes_as, agrees_as}
+use Rattle.cabs.proofs.Taken.{takes_as}
 use Rattle.stepping.specs.Acts.{outside_of, outside_behind, Acts}
-use Rattle.stepping.proofs.Steps.{leaves_as}
 
 -- ---- a step that leaves what is outside as it is
 

@@ -1,5 +1,5 @@
 -- One step of the machine.
-use Rattle.std.proofs.Common.{◌≡◌, List, [], ◌∷◌, ◌++◌, refl, sym, ap, subst, ◌∙◌}
+use Rattle.std.proofs.Common.{◌≡◌, List, [], ◌∷◌, ◌++◌, refl, ap}
 use Rattle.std.specs.Prelude.{Result, Some}
 use Rattle.cabs.specs.declared.stop.Stop.{Stop}
 use Rattle.cabs.specs.declared.scene.Scene.{Scene}
@@ -8,7 +8,7 @@ use Rattle.cabs.specs.inside.Frames as on
 use Rattle.cabs.specs.inside.Frames.{Moved, moves, halts}
 use Rattle.cabs.specs.inside.Agrees.{state_in, onto, Agrees}
 use Rattle.stepping.specs.Acts.{outside_behind}
-use Rattle.stepping.specs.Stepped.{Innermost, behind_first, innermost}
+use Rattle.stepping.specs.Stepped.{behind_first, innermost}
 
 unmoved : (fs : List on.Frame) (m : Moved) → outside_behind (onto fs m) ≡ outside_behind m
 unmoved fs (moves pushed step s) = refl

@@ -1,4 +1,4 @@
-use Rattle.std.proofs.Common.{map, drop, ap, ◌∙◌, ◌++◌, rules}
+use Rattle.std.proofs.Common.{map, ap, ◌∙◌, ◌++◌, rules}
 use Rattle.program.specs.View.{object_type_of}
 use Rattle.meaning.specs.Store.{indeterminate}
 use Rattle.cabs.specs.View.{store_of}

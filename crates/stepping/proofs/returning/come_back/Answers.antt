@@ -1,4 +1,4 @@
-use Rattle.std.proofs.Common.{ℤ, ◌∷◌, sym, ap, subst, map}
+use Rattle.std.proofs.Common.{ℤ, ◌∷◌, sym, subst, map}
 use Rattle.std.specs.Prelude.{Option}
 use Rattle.program.specs.View.{program_of}
 use Rattle.meaning.specs.History.{Left}
