@@ -2,3 +2,8 @@ pub mod Held
 pub mod Given
 pub mod Steps
 pub mod Cleared
+pub mod Entered
+pub mod Left
+pub mod Called
+pub mod Tallies
+pub mod Whole
