@@ -43,8 +43,8 @@ spent p (suc n) s = cost_if (slice_get (function_at p s.frame.function).code s.f
 abbrev pub spent_in_all : Program → ℕ → State → ℕ
 spent_in_all p n s = entry_cost + spent p n s
 
--- the bytes of its code: each instruction is executed once at most where none jumps back, so they are four times as many, but for a
--- call, whose beginning is that of the function called
+-- the bytes of its code: no jump leads within the code of one instruction, but for a long branch, which counts whole; so they are four times
+-- its cost, but for a call, whose beginning is that of the function called
 abbrev pub code_bytes : Instruction → ℕ
 code_bytes instruction.Nothing = 0
 code_bytes (instruction.Move d x) = 24

@@ -1,4 +1,4 @@
--- The bytes of the data as a program begins (ISO/IEC 9899:2011 6.7.9p10, unprivileged ISA manual 1.4: the lowest byte lies first): 16 zero
+-- The bytes of the data as a program begins (ISO/IEC 9899:2011 6.7.9p10, unprivileged ISA manual 2.6: the lowest byte lies first): 16 zero
 -- bytes, the string literals, the objects with static storage, each from a multiple of 4 on.
 use Rattle.std.specs.Prelude.{ℕ, zero, suc, ◌/◌, ◌%◌, ◌^◌, Bool, true, false, ℤ, List, [], ◌∷◌, ◌++◌, length, take}
 use Rattle.ctypes.specs.declared.types.IntType.{IntType}

@@ -1,7 +1,8 @@
 -- What it is for three-address code to do what a typed program does: the contract of lowering.
-use Rattle.std.specs.Prelude.{◌≡◌, ◌≤◌, ℕ, ◌+◌, ◌*◌, ◌^◌, true, List, [], map, length, slice_get, Some}
+use Rattle.std.specs.Prelude.{◌≡◌, ◌≤◌, ◌<◌, ℕ, ◌+◌, ◌*◌, ◌^◌, true, List, [], map, length, slice_get, Some}
+use Rattle.ctypes.specs.declared.types.IntType.TheVariants as ty
 use Rattle.tree.specs.Counts.{weight_of}
-use Rattle.typed.specs.Types.{ParameterType, number, elements}
+use Rattle.typed.specs.Types.{ObjectType, ParameterType, number, elements, size_of_object}
 use Rattle.typed.specs.WellTyped.{is_typed}
 use Rattle.typed.specs.Program as typed
 use Rattle.meaning.specs.Machine as machine
@@ -25,7 +26,7 @@ abbrev pub kind_of : ParameterType → Parameter
 kind_of (number t) = parameter.Number
 kind_of (elements t) = parameter.Array
 
--- at most 60 instructions for each of n ticks, and 60 for the beginning of main
+-- at most 60 instructions of RV32IM, by what its instructions cost, for each of n ticks, and 60 for the beginning of main
 abbrev pub CostsAtMost : Program → List ℕ → (m n : ℕ) → Type 0
 CostsAtMost q input m n = spent_in_all q m (start q input) ≤ 60 * n + 60
 
@@ -63,16 +64,18 @@ pub record IsLowered (p : typed.Program) (q : Program) : Type 0 where
 
 -- ---- what lowering asks for
 
--- its weight is that of its nodes and objects, these are within their limits, and what it designates is defined
+-- its weight is that of its nodes and objects, its nodes are within their limit, no object is without bytes, and what it designates is defined
 pub record FunctionIsChecked (p : typed.Program) (f : typed.Function) : Type 0 where
   pub weight : f.weight ≡ weight_of f.nodes (own_bytes f)
   pub nodes : f.nodes ≤ 8000
+  pub sized : (n : ℕ) (o : ObjectType) → slice_get f.objects n ≡ Some o → 0 < size_of_object o
   pub defined : in_function p f ≡ true
 
--- what the checker says of a program
+-- what the checker is to say of a program
 pub record IsChecked (p : typed.Program) : Type 0 where
   pub well_typed : is_typed p ≡ true
   pub main_takes_nothing : (f : typed.Function) → slice_get p.functions p.main ≡ Some f → f.type.parameters ≡ []
+  pub main_gives_int : (f : typed.Function) → slice_get p.functions p.main ≡ Some f → f.type.result ≡ Some ty.Int
   pub each : (k : ℕ) (f : typed.Function) → slice_get p.functions k ≡ Some f → FunctionIsChecked p f
   pub literals : (n : ℕ) (text : List ℕ) → slice_get p.literals n ≡ Some text → AreBytes text
   pub few : length p.functions ≤ 16384

@@ -1,7 +1,7 @@
 -- Which three-address programs are sound: each instruction names what there is, and what there is has its place. What the next step takes.
 use Rattle.std.specs.Prelude.{◌≡◌, ◌≤◌, ◌<◌, ℕ, ◌+◌, ◌^◌, Bool, true, false, List, [], ◌∷◌, length, slice_get, sum_by, Some, None}
 use Rattle.ctypes.specs.declared.types.IntType.{IntType}
-use Rattle.typed.specs.Types.{size_of_object}
+use Rattle.typed.specs.Types.{ObjectType, size_of_object}
 use Rattle.typed.specs.Program.{Static}
 use Rattle.typed.specs.WellTyped.{values_fit}
 use Rattle.tac.specs.declared.code.Operand.{Operand}
@@ -74,9 +74,11 @@ number_parameters [] = 0
 number_parameters (parameter.Number ∷ more) = number_parameters more + 1
 number_parameters (parameter.Array ∷ more) = number_parameters more
 
+-- no object is without bytes
 pub record FunctionFits (p : Program) (f : Function) : Type 0 where
   pub small : call_bytes f ≤ 2 ^ 20
   pub parameters : (n : ℕ) → n < number_parameters f.parameters → IsScalar f n
+  pub sized : (n : ℕ) (o : ObjectType) → slice_get f.objects n ≡ Some o → 0 < size_of_object o
   pub each : (k : ℕ) (x : Instruction) → slice_get f.code k ≡ Some x → InstructionFits p f x
 
 -- the bytes of the string literals and of the objects with static storage, each rounded up to a multiple of 4

@@ -1,5 +1,5 @@
 -- How many nodes the widest full expression of a function has (ISO/IEC 9899:2011 6.8p4). Temporaries of different full expressions are
--- never needed at one time, so a call takes no more bytes than this one wants.
+-- never needed at one time, so a call takes no more bytes than the widest needs.
 use Rattle.std.specs.Prelude.{ℕ, ◌+◌, max}
 use Rattle.typed.specs.Program as typed
 use Rattle.typed.specs.Program.{Initialiser, Initialisers, Statement, Statements, Function}

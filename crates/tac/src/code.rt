@@ -101,7 +101,7 @@ pub enum Instruction {
         target: Target,
         from: Place,
     },
-    /// Writes an element of this type: the low bytes of the word.
+    /// Writes an element of this type: the low bytes of the word; of `_Bool` the word has to be 0 or 1.
     Store {
         element: IntType,
         source: Operand,
@@ -119,7 +119,7 @@ pub enum Instruction {
         index: Operand,
         size: usize,
     },
-    /// So many objects of the call, from the first on, become indeterminate (6.2.4p6).
+    /// So many objects of the call, from number `first` on, become indeterminate (6.2.4p6).
     Forget {
         first: usize,
         count: usize,
