@@ -23,15 +23,14 @@ cd "$work" || exit 1
 # spent WORD..: of the whole process, three numbers in one line: milliseconds of the processor, milliseconds passed, and the
 # most resident memory in kilobytes. Status 1 where it fails or takes more than two minutes.
 cat >spent.py <<'PYTHON'
-import resource, subprocess, sys, time
+import os, signal, subprocess, sys, time
 begin = time.monotonic()
-try:
-    status = subprocess.run(sys.argv[1:], stdin=subprocess.DEVNULL, stdout=subprocess.DEVNULL, stderr=subprocess.DEVNULL,
-                            timeout=120).returncode
-except subprocess.TimeoutExpired:
-    status = 1
+child = subprocess.Popen(sys.argv[1:], stdin=subprocess.DEVNULL, stdout=subprocess.DEVNULL, stderr=subprocess.DEVNULL)
+signal.signal(signal.SIGALRM, lambda *_: child.kill())
+signal.alarm(120)
+# That process alone: RUSAGE_CHILDREN would count what a script that starts Python, such as pyenv's, ran before.
+_, status, used = os.wait4(child.pid, 0)
 passed = time.monotonic() - begin
-used = resource.getrusage(resource.RUSAGE_CHILDREN)
 print('%.2f %.2f %d' % ((used.ru_utime + used.ru_stime) * 1e3, passed * 1e3, used.ru_maxrss))
 sys.exit(status != 0)
 PYTHON
