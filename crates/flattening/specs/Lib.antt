@@ -1,3 +1,7 @@
 pub mod Data
+pub mod Sizes
+pub mod Layout
+pub mod Translated
 pub mod Costs
 pub mod Flattened
+pub mod inside

@@ -1,2 +1,13 @@
-//! From three-address code to flat code. Today what it is for flat code to do what three-address code does, as definitions.
+//! From three-address code to flat code: frames of words and bytes in place of objects and slots.
 #![tactic(auto)]
+
+mod functions;
+mod instructions;
+mod layout;
+mod operations;
+mod sizes;
+mod starts;
+mod statics;
+
+pub use functions::flatten;
+pub use statics::data;
