@@ -3,7 +3,3 @@ pub mod Given
 pub mod Steps
 pub mod Cleared
 pub mod Entered
-pub mod Left
-pub mod Called
-pub mod Tallies
-pub mod Whole

@@ -33,7 +33,7 @@ use program::{Initialiser, Value};
 /// How many elements so many rows of these lengths have.
 ///
 /// Errors: memory ran out, where they are more than it has numbers.
-fn element_count(count: usize, lengths: &[u32]) -> Result<usize, Stop>
+pub fn element_count(count: usize, lengths: &[u32]) -> Result<usize, Stop>
     ensures ok { IfOk result (λ n. n ≡ count * elements_in lengths.now) }
     ensures err { IfErr result (λ e. e ≡ Memory) }
 {

@@ -1,19 +1,13 @@
 //! The steps of the abstract machine in code: statements over the expressions of `cabs` (ISO/IEC 9899:2011 6.8).
 #![tactic(auto)]
 
-pub mod calling;
-pub mod calls;
 pub mod conditions;
 pub mod elements;
 pub mod flows;
 pub mod initialisers;
 pub mod labels;
-pub mod leaving;
 pub mod loops;
 pub mod nodes;
 pub mod objects;
-pub mod returning;
 pub mod statements;
 pub mod switches;
-pub mod taking;
-pub mod tally;

@@ -1,0 +1,4 @@
+pub mod Left
+pub mod Called
+pub mod Tallies
+pub mod Whole

@@ -1,0 +1,4 @@
+pub mod Acts
+pub mod Calls
+pub mod Stepped
+pub mod Tallied
