@@ -60,7 +60,7 @@ module _ (G : Ground) (s : State) (r b : ℕ → ℕ) (ready : Ready G) (m : Mat
   abbrev last : ℕ
   last = address G s.frame.function (s.frame.at + 1)
 
-  abbrev fn : Function
+  abbrev pub fn : Function
   fn = function_at G.program s.frame.function
 
   pub open_stack : Open G.machine

@@ -5,3 +5,5 @@ pub mod Fits
 pub mod Frames
 pub mod Results
 pub mod Forms
+pub mod Operations
+pub mod Computing

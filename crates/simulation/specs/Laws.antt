@@ -3,6 +3,7 @@ use Rattle.std.specs.Prelude.{◌≡◌, ℕ, slice_get, Some}
 use Rattle.rv32.specs.declared.instr.Test.{Test}
 use Rattle.frames.specs.declared.code.Operand.{Operand}
 use Rattle.frames.specs.declared.code.Target.{Target}
+use Rattle.frames.specs.declared.code.Operation.{Operation}
 use Rattle.frames.specs.declared.code.Conversion.{Conversion}
 use Rattle.frames.specs.declared.code.Instruction.{Instruction}
 use Rattle.frames.specs.declared.code.Instruction.TheVariants as instruction
@@ -36,3 +37,9 @@ MovesFollow = (d : Target) (x : Operand) → Follows (instruction.Move d x)
 
 abbrev pub ConversionsFollow : Type 0
 ConversionsFollow = (c : Conversion) (d : Target) (x : Operand) → Follows (instruction.Convert c d x)
+
+abbrev pub OperationsFollow : Type 0
+OperationsFollow = (o : Operation) (d : Target) (x y : Operand) → Follows (instruction.Compute o d x y)
+
+abbrev pub ExitFollows : Type 0
+ExitFollows = Follows instruction.Exit

@@ -1,7 +1,7 @@
 //! The machine follows flat code: laws of the items that `select` emits, one for each form of instruction that is proved.
 #![tactic(auto)]
 
-ghost use Rattle.simulation.specs.Laws.{NothingFollows, JumpsFollow, BranchesFollow, MovesFollow, ConversionsFollow};
+ghost use Rattle.simulation.specs.Laws.{NothingFollows, JumpsFollow, BranchesFollow, MovesFollow, ConversionsFollow, OperationsFollow, ExitFollows};
 
 /// `Nothing` has no items, and the machine stays where it is.
 pub fn nothing_follows()
@@ -26,4 +26,14 @@ pub fn moves_follow()
 /// A conversion to a narrow type gives what flat code gives.
 pub fn conversions_follow()
     ensures { ConversionsFollow }
+{}
+
+/// Each operation on two words gives what flat code gives.
+pub fn operations_follow()
+    ensures { OperationsFollow }
+{}
+
+/// The program ends with the status that flat code ends with.
+pub fn exit_follows()
+    ensures { ExitFollows }
 {}
