@@ -1,0 +1,45 @@
+-- What simulation is: each form of instruction, and steps.
+use Rattle.std.specs.Prelude.{◌≡◌, ℕ, slice_get, Some}
+use Rattle.rv32.specs.declared.instr.Test.{Test}
+use Rattle.frames.specs.declared.code.Operand.{Operand}
+use Rattle.frames.specs.declared.code.Target.{Target}
+use Rattle.frames.specs.declared.code.Operation.{Operation}
+use Rattle.frames.specs.declared.code.Conversion.{Conversion}
+use Rattle.frames.specs.declared.code.Instruction.{Instruction}
+use Rattle.frames.specs.declared.code.Instruction.TheVariants as instruction
+use Rattle.frames.specs.Run.{State, act, function_at}
+use Rattle.running.specs.Light.{Light, Go, Comes}
+use Rattle.simulation.specs.Matches.{Ground, Ready, Matched, Matches, HasRoom, address}
+use Rattle.simulation.specs.Costs.{cost, least}
+
+abbrev pub Anything : Light → Type 0
+Anything m = Unit {0}
+
+-- Where the instruction stands, the machine comes from matching a state to matching what the instruction makes of it, by the
+-- table's count of instructions.
+abbrev pub Follows : Instruction → Type 0
+Follows x =
+    (G : Ground) (s : State) (r b : ℕ → ℕ) → Ready G → Matched G s r (address G s.frame.function s.frame.at) b
+    → slice_get (function_at G.program s.frame.function).code s.frame.at ≡ Some x → HasRoom G (act G.program s x)
+    → Comes G.machine Anything (least x) (cost x) (Go r (address G s.frame.function s.frame.at) b s.input s.trace) (Matches G (act G.program s x))
+
+abbrev pub NothingFollows : Type 0
+NothingFollows = Follows instruction.Nothing
+
+abbrev pub JumpsFollow : Type 0
+JumpsFollow = (to : ℕ) → Follows (instruction.Jump to)
+
+abbrev pub BranchesFollow : Type 0
+BranchesFollow = (t : Test) (x y : Operand) (to : ℕ) → Follows (instruction.Branch t x y to)
+
+abbrev pub MovesFollow : Type 0
+MovesFollow = (d : Target) (x : Operand) → Follows (instruction.Move d x)
+
+abbrev pub ConversionsFollow : Type 0
+ConversionsFollow = (c : Conversion) (d : Target) (x : Operand) → Follows (instruction.Convert c d x)
+
+abbrev pub OperationsFollow : Type 0
+OperationsFollow = (o : Operation) (d : Target) (x y : Operand) → Follows (instruction.Compute o d x y)
+
+abbrev pub ExitFollows : Type 0
+ExitFollows = Follows instruction.Exit
