@@ -61,11 +61,11 @@ pub record IsBytes (h : Option Home) (low high size : ℕ) : Type 0 where
   pub above : low ≤ offset
   pub below : offset + in_words size ≤ high
 
-scalar_lengths : (ls : List ℕ) (e t : IntType) → type_if_scalar ls e ≡ Some t → is_scalar ls ≡ true
+pub scalar_lengths : (ls : List ℕ) (e t : IntType) → type_if_scalar ls e ≡ Some t → is_scalar ls ≡ true
 scalar_lengths [] e t h = refl
 scalar_lengths (n ∷ ls) e t h = absurd (let x : ⊥ = cc in x)
 
-array_lengths : (ls : List ℕ) (e : IntType) → type_if_scalar ls e ≡ None → is_scalar ls ≡ false
+pub array_lengths : (ls : List ℕ) (e : IntType) → type_if_scalar ls e ≡ None → is_scalar ls ≡ false
 array_lengths [] e h = absurd (let x : ⊥ = cc in x)
 array_lengths (n ∷ ls) e h = refl
 

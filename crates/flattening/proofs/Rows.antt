@@ -20,6 +20,7 @@ use Rattle.tac.specs.Run as tac_run
 use Rattle.tac.specs.Costs as tac_costs
 use Rattle.tac.proofs.Rows.{arrays_code}
 use Rattle.flattening.specs.Data.{bytes_of_static, bytes_of_literals, data_of}
+use Rattle.flattening.specs.Translated.{flat_program}
 use Rattle.flattening.specs.Costs as flat_costs
 
 -- ---- data
@@ -89,6 +90,10 @@ arrays_flat = record {
   statics = data_of arrays_code;
   main = 0;
 }
+
+-- it is what the first one is translated to
+is_its_code : flat_program arrays_code ≡ arrays_flat
+is_its_code = refl
 
 ends_alike : flat_run.run arrays_flat 23 (flat_run.start arrays_flat []) ≡ flat_run.ended 147 [] []
 unfolding flat_run.step

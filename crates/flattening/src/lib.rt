@@ -3,6 +3,7 @@
 
 mod functions;
 mod instructions;
+mod laws;
 mod layout;
 mod operations;
 mod sizes;
@@ -10,4 +11,5 @@ mod starts;
 mod statics;
 
 pub use functions::flatten;
+pub use laws::{arrays_are_apart, starts_are_apart, words_are_apart};
 pub use statics::data;

@@ -1,0 +1,43 @@
+-- No two things that live at one time lie on one word or byte, so that a store to one leaves the others.
+use Rattle.std.specs.Prelude.{◌≡◌, ◌<◌, ◌≤◌, ℕ, ◌+◌, List, length, slice_get, Some, None}
+use Rattle.ctypes.specs.declared.types.IntType.{IntType}
+use Rattle.typed.specs.Types.{ObjectType, size_of_object}
+use Rattle.tac.specs.Code.{Function, scalar_type}
+use Rattle.tac.specs.Costs.{array_parameters}
+use Rattle.flattening.specs.Layout.{layout_of, cells_of, bytes_in, cell_in, offset_in, starts_from, start_in}
+
+-- the word of object n, and the first byte of array n
+abbrev pub cell : Function → ℕ → ℕ
+cell f n = cell_in (slice_get (layout_of f).homes n)
+
+abbrev pub offset : Function → ℕ → ℕ
+offset f n = offset_in (slice_get (layout_of f).homes n)
+
+-- objects that are no arrays have words of their own, in their order
+abbrev pub WordsAreApart : Type 0
+WordsAreApart = (f : Function) (n m : ℕ) (t u : IntType) → n < m → scalar_type (slice_get f.objects n) ≡ Some t
+    → scalar_type (slice_get f.objects m) ≡ Some u → cell f n < cell f m
+
+-- before those of the references, which come before those of the slots
+abbrev pub WordsComeFirst : Type 0
+WordsComeFirst = (f : Function) (n : ℕ) (t : IntType) → scalar_type (slice_get f.objects n) ≡ Some t → cell f n < (layout_of f).references
+
+abbrev pub ReferencesComeNext : Type 0
+ReferencesComeNext = (f : Function) (n : ℕ) → n < array_parameters f.parameters → (layout_of f).references + n < (layout_of f).slots
+
+abbrev pub SlotsComeLast : Type 0
+SlotsComeLast = (f : Function) (k : ℕ) → k < f.kept → (layout_of f).slots + k < cells_of f
+
+-- an array ends before the next one begins, and within the bytes that there are
+abbrev pub ArraysAreApart : Type 0
+ArraysAreApart = (f : Function) (n m : ℕ) (t u : ObjectType) → n < m → slice_get f.objects n ≡ Some t → scalar_type (Some t) ≡ None
+    → slice_get f.objects m ≡ Some u → scalar_type (Some u) ≡ None → offset f n + size_of_object t ≤ offset f m
+
+abbrev pub ArraysAreInside : Type 0
+ArraysAreInside = (f : Function) (n : ℕ) (t : ObjectType) → slice_get f.objects n ≡ Some t → scalar_type (Some t) ≡ None
+    → offset f n + size_of_object t ≤ bytes_in f.objects
+
+-- of things of these sizes one behind the other, each ends before a later one begins
+abbrev pub StartsAreApart : Type 0
+StartsAreApart = (first : ℕ) (sizes : List ℕ) (n m size : ℕ) → n < m → m < length sizes → slice_get sizes n ≡ Some size
+    → start_in (slice_get (starts_from first sizes) n) + size ≤ start_in (slice_get (starts_from first sizes) m)
