@@ -7,3 +7,4 @@ pub mod Results
 pub mod Forms
 pub mod Operations
 pub mod Computing
+pub mod References
