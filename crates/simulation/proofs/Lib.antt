@@ -8,3 +8,4 @@ pub mod Forms
 pub mod Operations
 pub mod Computing
 pub mod References
+pub mod Elements

@@ -26,7 +26,7 @@ use Rattle.simulation.proofs.Fits.{frame_room}
 use Rattle.simulation.proofs.Frames.{sum_is, within, operand_holds}
 use Rattle.simulation.proofs.Forms.{used, fn, fits, no_more, made_above, finishes, moves_at}
 
-reference_some : (o : Option Value) (x : Reference) → reference_in o ≡ Some x → o ≡ Some (reference x.list x.offset)
+pub reference_some : (o : Option Value) (x : Reference) → reference_in o ≡ Some x → o ≡ Some (reference x.list x.offset)
 reference_some None x e = cc
 reference_some (Some (word w)) x e = cc
 reference_some (Some (reference l k)) x e =

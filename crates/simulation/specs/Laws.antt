@@ -47,3 +47,6 @@ ExitFollows = Follows instruction.Exit
 
 abbrev pub AddressesFollow : Type 0
 AddressesFollow = (d : Target) (l : Location) → Follows (instruction.Address d l)
+
+abbrev pub ElementsFollow : Type 0
+ElementsFollow = (d : Target) (x y : Operand) (size : ℕ) → Follows (instruction.Element d x y size)
