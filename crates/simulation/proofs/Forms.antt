@@ -152,24 +152,24 @@ module _ (G : Ground) (s : State) (r b : ℕ → ℕ) (ready : Ready G) (m : Mat
 
   -- ---- Move
 
-  moves_at : (d : Target) (v : Value) (o : Source) → TargetFits fn d → shown G v < 2 ^ 32 → SourceHolds r b m.sp o (shown G v) → (hm : Home) → home_of fn d ≡ hm → Stands G.machine.text G.env G.data_at (move hm o) here last
-      → Comes G.machine Anything 1 6 (Go r here b s.input s.trace) (Matches G (running (set d v (past s))))
-  moves_at d v o fit small holds (home.Register q) eh st =
-      let Q : Light → Type 0 = Matches G (running (set d v (past s))) in
+  pub moves_at : (arguments : Values) → ((k : ℕ) (v : Value) → arguments k ≡ Some v → s.arguments k ≡ Some v) → (d : Target) (v : Value) (o : Source) → TargetFits fn d → shown G v < 2 ^ 32 → SourceHolds r b m.sp o (shown G v) → (hm : Home) → home_of fn d ≡ hm → Stands G.machine.text G.env G.data_at (move hm o) here last
+      → Comes G.machine Anything 1 6 (Go r here b s.input s.trace) (Matches G (running (set d v (then_at arguments))))
+  moves_at arguments sub d v o fit small holds (home.Register q) eh st =
+      let Q : Light → Type 0 = Matches G (running (set d v (then_at arguments))) in
       let above : 8 ≤ q = home_register G ready s r here b m d q eh in
       comes_by G.machine Anything 3 6 (Go r here b s.input s.trace) Q (omega arith)
       (intos G.machine G.env G.data_at s.input s.trace Q open_stack r b m.sp m.sp_is {a0 = 0} 0 q (omega (arith, above)) (λ x. omega (arith, x, above)) o (shown G v) here last holds small st (λ r2 only held.
       comes_now G.machine Anything 0 _ Q tt
-      (set_register G ready s r here b m (s.frame.at + 1) last s.arguments (λ k w ek. ek) v small refl r2 d q eh fit (off_only q r r2 only) held, set_input d v (past s), set_trace d v (past s))))
-  moves_at d v o fit small holds (home.Frame p) eh st =
-      let Q : Light → Type 0 = Matches G (running (set d v (past s))) in
+      (set_register G ready s r here b m (s.frame.at + 1) last arguments sub v small refl r2 d q eh fit (off_only q r r2 only) held, set_input d v (then_at arguments), set_trace d v (then_at arguments))))
+  moves_at arguments sub d v o fit small holds (home.Frame p) eh st =
+      let Q : Light → Type 0 = Matches G (running (set d v (then_at arguments))) in
       let parts = stands_parts G.machine.text G.env G.data_at (fetch 5 o) (store_word (register_of 5 o) p) here last st in
       fetches G.machine G.env G.data_at s.input s.trace Q open_stack r b m.sp m.sp_is 3 5 (omega arith) (omega arith) o (shown G v) here parts.0 r (off_none 5 r) holds parts.1 (λ r2 only held.
       let off : Off 5 r r2 = off_only 5 r r2 only in
       let sp2 : r2 2 ≡ m.sp = off_sp 5 r r2 off (λ x. omega (arith, x)) ∙ m.sp_is in
       stores_word G.machine G.env G.data_at s.input s.trace Q {a0 = 0} 0 (register_of 5 o) p m.sp (shown G v) parts.0 last r2 b open_stack (source_stays r b m.sp (shown G v) o holds).1 sp2 (home_lies G ready s r here b m d p eh fit) held parts.2 (λ r3 only3.
       comes_now G.machine Anything 0 _ Q tt
-      (set_word G ready s r here b m (s.frame.at + 1) last s.arguments (λ k w ek. ek) v small refl r3 d p eh fit (off_then 5 7 r r2 r3 (omega arith) (omega arith) off only3), set_input d v (past s), set_trace d v (past s))))
+      (set_word G ready s r here b m (s.frame.at + 1) last arguments sub v small refl r3 d p eh fit (off_then 5 7 r r2 r3 (omega arith) (omega arith) off only3), set_input d v (then_at arguments), set_trace d v (then_at arguments))))
 
   pub does_move : (d : Target) (x : Operand) → slice_get fn.code s.frame.at ≡ Some (instruction.Move d x) → Comes G.machine Anything 1 6 (Go r here b s.input s.trace) (Matches G (act G.program s (instruction.Move d x)))
   does_move d x e =
@@ -177,7 +177,7 @@ module _ (G : Ground) (s : State) (r b : ℕ → ℕ) (ready : Ready G) (m : Mat
       let fit = fits (instruction.Move d x) e in
       used (value s x) (λ v. running (set d v (past s))) R (no_more 1 6 (Go r here b s.input s.trace) (omega arith)) (λ v ev.
       let hx = operand_holds G ready s r here b m x v fit.1 ev in
-      moves_at d v (source_of fn x) fit.0 hx.1 hx.0 (home_of fn d) refl (ready.stands s.frame.function s.frame.at (instruction.Move d x) e))
+      moves_at s.arguments (λ k w ek. ek) d v (source_of fn x) fit.0 hx.1 hx.0 (home_of fn d) refl (ready.stands s.frame.function s.frame.at (instruction.Move d x) e))
 
   -- ---- Convert
 

@@ -7,3 +7,5 @@ pub mod Results
 pub mod Forms
 pub mod Operations
 pub mod Computing
+pub mod References
+pub mod Elements

@@ -3,6 +3,7 @@ use Rattle.std.specs.Prelude.{◌≡◌, ℕ, slice_get, Some}
 use Rattle.rv32.specs.declared.instr.Test.{Test}
 use Rattle.frames.specs.declared.code.Operand.{Operand}
 use Rattle.frames.specs.declared.code.Target.{Target}
+use Rattle.frames.specs.declared.code.Location.{Location}
 use Rattle.frames.specs.declared.code.Operation.{Operation}
 use Rattle.frames.specs.declared.code.Conversion.{Conversion}
 use Rattle.frames.specs.declared.code.Instruction.{Instruction}
@@ -43,3 +44,9 @@ OperationsFollow = (o : Operation) (d : Target) (x y : Operand) → Follows (ins
 
 abbrev pub ExitFollows : Type 0
 ExitFollows = Follows instruction.Exit
+
+abbrev pub AddressesFollow : Type 0
+AddressesFollow = (d : Target) (l : Location) → Follows (instruction.Address d l)
+
+abbrev pub ElementsFollow : Type 0
+ElementsFollow = (d : Target) (x y : Operand) (size : ℕ) → Follows (instruction.Element d x y size)

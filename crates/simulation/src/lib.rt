@@ -1,7 +1,7 @@
 //! The machine follows flat code: laws of the items that `select` emits, one for each form of instruction that is proved.
 #![tactic(auto)]
 
-ghost use Rattle.simulation.specs.Laws.{NothingFollows, JumpsFollow, BranchesFollow, MovesFollow, ConversionsFollow, OperationsFollow, ExitFollows};
+ghost use Rattle.simulation.specs.Laws.{NothingFollows, JumpsFollow, BranchesFollow, MovesFollow, ConversionsFollow, OperationsFollow, ExitFollows, AddressesFollow, ElementsFollow};
 
 /// `Nothing` has no items, and the machine stays where it is.
 pub fn nothing_follows()
@@ -36,4 +36,14 @@ pub fn operations_follow()
 /// The program ends with the status that flat code ends with.
 pub fn exit_follows()
     ensures { ExitFollows }
+{}
+
+/// A reference is the address of the statics' place, of the frame's, or what a reference leads to.
+pub fn addresses_follow()
+    ensures { AddressesFollow }
+{}
+
+/// A reference so many elements on is so many times their size further, modulo 2^32.
+pub fn elements_follow()
+    ensures { ElementsFollow }
 {}
