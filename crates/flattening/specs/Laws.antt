@@ -1,9 +1,17 @@
--- No two things that live at one time lie on one word or byte, so that a store to one leaves the others.
-use Rattle.std.specs.Prelude.{◌≡◌, ◌<◌, ◌≤◌, ℕ, ◌+◌, List, length, slice_get, Some, None}
+-- No two things that live at one time lie on one word or byte, so that a store to one leaves the others; and what three-address code
+-- computes on words is what flat code computes.
+use Rattle.std.specs.Prelude.{◌≡◌, ◌<◌, ◌≤◌, ℕ, ◌+◌, ◌^◌, List, length, slice_get, Some, None}
 use Rattle.ctypes.specs.declared.types.IntType.{IntType}
 use Rattle.typed.specs.Types.{ObjectType, size_of_object}
 use Rattle.tac.specs.Code.{Function, scalar_type}
 use Rattle.tac.specs.Costs.{array_parameters}
+use Rattle.tac.specs.declared.code.Reading.{Reading}
+use Rattle.tac.specs.declared.code.Operation.{Operation}
+use Rattle.tac.specs.declared.code.Comparison.{Comparison}
+use Rattle.tac.specs.Run as three_address
+use Rattle.rv32.specs.Arithmetic.{compare_of}
+use Rattle.frames.specs.Run as flat
+use Rattle.flattening.specs.Translated.{operation_of, test_of}
 use Rattle.flattening.specs.Layout.{layout_of, cells_of, bytes_in, cell_in, offset_in, starts_from, start_in}
 
 -- the word of object n, and the first byte of array n
@@ -41,3 +49,13 @@ ArraysAreInside = (f : Function) (n : ℕ) (t : ObjectType) → slice_get f.obje
 abbrev pub StartsAreApart : Type 0
 StartsAreApart = (first : ℕ) (sizes : List ℕ) (n m size : ℕ) → n < m → m < length sizes → slice_get sizes n ≡ Some size
     → start_in (slice_get (starts_from first sizes) n) + size ≤ start_in (slice_get (starts_from first sizes) m)
+
+-- ---- words
+
+-- an operation that is defined gives the word that the machine's gives
+abbrev pub OperationsAgree : Type 0
+OperationsAgree = (o : Operation) (r : Reading) (a b w : ℕ) → a < 2 ^ 32 → b < 2 ^ 32 → three_address.operate o r a b ≡ Some w
+    → w ≡ flat.operate (operation_of o r) a b
+
+abbrev pub ComparisonsAgree : Type 0
+ComparisonsAgree = (c : Comparison) (r : Reading) (a b : ℕ) → a < 2 ^ 32 → b < 2 ^ 32 → three_address.holds c r a b ≡ compare_of (test_of c r) a b

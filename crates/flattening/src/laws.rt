@@ -1,6 +1,6 @@
-//! Laws of where things lie, each the contract of a function without code.
+//! Laws of where things lie and of what is computed, each the contract of a function without code.
 
-ghost use Rattle.flattening.specs.Laws.{WordsAreApart, WordsComeFirst, ReferencesComeNext, SlotsComeLast, ArraysAreApart, ArraysAreInside, StartsAreApart};
+ghost use Rattle.flattening.specs.Laws.{WordsAreApart, WordsComeFirst, ReferencesComeNext, SlotsComeLast, ArraysAreApart, ArraysAreInside, StartsAreApart, OperationsAgree, ComparisonsAgree};
 
 /// Objects that are no arrays, references and slots have words of their own, within those of the frame.
 pub fn words_are_apart()
@@ -19,4 +19,11 @@ pub fn arrays_are_apart()
 /// String literals do not overlap, nor do objects with static storage.
 pub fn starts_are_apart()
     ensures { StartsAreApart }
+{}
+
+/// On words, flat code's operations give what those of three-address code give where these are defined, and its tests hold just
+/// where the comparisons do.
+pub fn words_agree()
+    ensures operations { OperationsAgree }
+    ensures comparisons { ComparisonsAgree }
 {}

@@ -11,5 +11,5 @@ mod starts;
 mod statics;
 
 pub use functions::flatten;
-pub use laws::{arrays_are_apart, starts_are_apart, words_are_apart};
+pub use laws::{arrays_are_apart, starts_are_apart, words_agree, words_are_apart};
 pub use statics::data;
