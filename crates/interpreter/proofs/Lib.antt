@@ -1,0 +1,6 @@
+pub mod Laid
+pub mod Calm
+pub mod Following
+pub mod Telling
+pub mod Acts
+pub mod Ticking

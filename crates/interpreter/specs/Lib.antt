@@ -1,0 +1,13 @@
+pub use Rattle.events.specs.Events
+pub use Rattle.typed.specs.Types
+pub use Rattle.typed.specs.Program
+pub use Rattle.program.specs.View
+pub use Rattle.meaning.specs.Store
+pub use Rattle.meaning.specs.History
+pub use Rattle.meaning.specs.Machine
+pub use Rattle.meaning.specs.Expressions
+pub use Rattle.meaning.specs.Statements
+pub use Rattle.meaning.specs.Meaning
+pub use Rattle.sim.specs.Port
+pub mod Interpreting
+pub mod inside

@@ -1,0 +1,11 @@
+//! Interprets a typed program over a port: the abstract machine of ISO/IEC 9899:2011 5.1.2.3, tick by tick.
+#![tactic(auto)]
+
+mod acting;
+mod first_objects;
+mod outcome;
+mod running;
+mod state;
+
+pub use outcome::{Interpreted, Run};
+pub use running::interpret;
