@@ -1,8 +1,8 @@
 mod Foldings
-mod Sizes
-mod Limits
-mod Numbered
+pub mod Sizes
+pub mod Limits
+pub mod Numbered
 mod Work
 mod Parts
 mod Trees
-mod Wholes
+pub mod Wholes

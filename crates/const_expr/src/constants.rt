@@ -20,9 +20,9 @@ use std::alloc::Global;
 
 /// The type and the value of a constant expression.
 #[derive(Clone, Copy)]
-pub(crate) struct Constant {
-    pub(crate) ty: IntType,
-    pub(crate) value: i64,
+pub struct Constant {
+    pub ty: IntType,
+    pub value: i64,
 }
 
 /// A constant of the source (6.4.4).

@@ -108,7 +108,7 @@ fn not_constant(pos: Pos) -> Refusal
 /// value, 503 at the first division by zero that is evaluated, or 502 at the first other operation without a value.
 ///
 /// Its recursion is no deeper than the expression.
-pub(crate) fn folded(e: &Value) -> Result<i64, Refusal>
+pub fn folded(e: &Value) -> Result<i64, Refusal>
     ensures ok { IfOk result (λ v. typed.folded (value_of e.now) ≡ fine v) }
     ensures err { IfErr result (λ r. IsOf r (typed.folded (value_of e.now))) }
 {

@@ -12,4 +12,9 @@ mod typing;
 mod values;
 
 pub use constant_forms::{constant_form, measurable};
-pub use values::value;
+pub use constants::Constant;
+pub use folding::folded;
+pub use specifiers::{BaseType, base_type};
+pub use type_names::{bytes_in, positive};
+pub use typing::expression;
+pub use values::{constant_value, value};

@@ -16,9 +16,9 @@ use tree::{TypeSpecifier, TypeSpecifiers, Word};
 
 /// The type that specifiers name, none for `void`, and whether `const` is among them.
 #[derive(Clone, Copy)]
-pub(crate) struct BaseType {
-    pub(crate) named: Option<IntType>,
-    pub(crate) constant: bool,
+pub struct BaseType {
+    pub named: Option<IntType>,
+    pub constant: bool,
 }
 
 /// Words, and the type that they name in any order.
@@ -269,7 +269,7 @@ fn named_type(specifiers: &[TypeSpecifier]) -> Option<Option<IntType>>
 
 /// The type of specifiers that bring no list of enumerators. Else 525 stands at them where `enum tag` names no complete type, and
 /// 511 where they name no type.
-pub(crate) fn base_type(scope: &Scope, specifiers: &TypeSpecifiers) -> Result<BaseType, Refusal>
+pub fn base_type(scope: &Scope, specifiers: &TypeSpecifiers) -> Result<BaseType, Refusal>
     ensures ok { IfOk result (λ b. typed.base_type scope.now specifiers.now.pos specifiers.now.list.items ≡ fine (base_type_of b)) }
     ensures err { IfErr result (λ r. IsOf r (typed.base_type scope.now specifiers.now.pos specifiers.now.list.items)) }
 {

@@ -38,7 +38,7 @@ fn elements_in(lengths: &[u64]) -> u64
 }
 
 /// The bytes of such an object, or 2^64 - 1 where that is less.
-pub(crate) fn bytes_in(element: IntType, lengths: &[u64]) -> u64
+pub fn bytes_in(element: IntType, lengths: &[u64]) -> u64
     ensures { (k : Bool) → result ≡ capped (type.size_of_object (record { element = element; constant = k; lengths = lengths.now })) }
 {
     let count = elements_in(lengths);
@@ -62,7 +62,7 @@ pub(crate) fn elements_within(lengths: &[u32]) -> u64
 const OBJECT_LIMIT: u64 = 1_048_576;
 
 /// The size of an array is greater than zero (6.7.6.2p1).
-pub(crate) fn positive(pos: Pos, size: i64) -> Result<u64, Refusal>
+pub fn positive(pos: Pos, size: i64) -> Result<u64, Refusal>
     ensures ok { IfOk result (λ n. typed.positive pos size ≡ fine n) }
     ensures err { IfErr result (λ r. Tells r (typed.positive pos size)) }
 {

@@ -279,7 +279,7 @@ fn call_typed<'s>(
 ///
 /// Its recursion is as deep as the tree is, and as its lists of arguments and of sizes are long.
 #[cycle(typing)]
-pub(crate) fn expression<'s>(
+pub fn expression<'s>(
     alloc: Global,
     names: &Names,
     scope: &'s Scope,

@@ -20,7 +20,7 @@ use std::alloc::Global;
 use tree::Expr;
 
 /// The type and the value of a constant expression.
-pub(crate) fn constant_value(
+pub fn constant_value(
     alloc: Global,
     names: &Names,
     scope: &Scope,

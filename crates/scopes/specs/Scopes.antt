@@ -12,6 +12,7 @@ use Rattle.scopes.specs.declared.bindings.Tag.{Tag}
 use Rattle.scopes.specs.declared.bindings.StaticObject.{StaticObject}
 use Rattle.scopes.specs.declared.scopes.Block.{Block}
 use Rattle.program.specs.View.{storage_of, object_type_of, declared_type_of, function_type_of}
+use Rattle.typed.specs.Types.{ObjectType}
 use Rattle.typed.specs.Scope as typed
 
 abbrev pub meaning_of : Meaning → typed.Meaning
@@ -85,3 +86,10 @@ names_left n s = record s { bindings = drop (length s.bindings - n) s.bindings }
 
 abbrev pub tags_left : ℕ → typed.Scope → typed.Scope
 tags_left n s = record s { tags = drop (length s.tags - n) s.tags }
+
+-- with these objects with static storage, with these of the present function
+abbrev pub with_statics : List typed.StaticObject → typed.Scope → typed.Scope
+with_statics os s = record s { statics = os }
+
+abbrev pub with_objects : List ObjectType → typed.Scope → typed.Scope
+with_objects os s = record s { objects = os }

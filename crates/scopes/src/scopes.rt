@@ -2,7 +2,9 @@
 
 ghost use Rattle.std.specs.Prelude.{◌≡◌, List, [], ◌∷◌, ◌++◌, map, OnOk, OnErr, IfOk, IfErr, drop, length};
 ghost use Rattle.typed.specs.Scope as typed;
-ghost use Rattle.scopes.specs.Scopes.{option_binding, seen_tag, meaning_of, linkage_of, state_of, bindings_names, tags_names, newest_first, newest_tags, static_of, block_of, one_name_less, one_tag_less, names_left, tags_left};
+ghost use Rattle.scopes.specs.Scopes.{option_binding, seen_tag, meaning_of, linkage_of, state_of, bindings_names, tags_names, newest_first, newest_tags, static_of, block_of, one_name_less, one_tag_less, names_left, tags_left, with_objects, with_statics};
+ghost use Rattle.typed.specs.Linkage.{put_static};
+ghost use Rattle.typed.specs.Declarations.{put_object};
 ghost use Rattle.program.specs.View.{object_type_of};
 ghost use Rattle.srcset.specs.declared.refusal.Refusal.TheVariants.{Memory};
 
@@ -12,6 +14,7 @@ use program::ObjectType;
 use srcset::Refusal;
 use std::alloc::Global;
 use std::marker::Model;
+use std::mem::replace;
 
 /// Where a block begins: how many names and tags there are, and how deep the block around it is.
 #[derive(Clone, Copy)]
@@ -107,6 +110,93 @@ impl Scope {
         ensures { result ≡ length self.now.literals }
     {
         self.literals.len()
+    }
+
+    /// How deep the present block is, 0 being the file.
+    pub fn level(&self) -> usize
+        ensures { result ≡ self.now.level }
+    {
+        self.level
+    }
+
+    /// How many objects with static storage there are so far.
+    pub fn static_count(&self) -> usize
+        ensures { result ≡ length self.now.statics }
+    {
+        self.statics.len()
+    }
+
+    /// How many objects the present function has so far.
+    pub fn object_count(&self) -> usize
+        ensures { result ≡ length self.now.objects }
+    {
+        self.objects.len()
+    }
+
+    /// One more string literal, by the number of its text.
+    pub fn with_literal(&mut self, name: usize) -> Result<(), Refusal>
+        ensures ok { OnOk result (self.new ≡ typed.with_literals self.old (name ∷ [])) }
+        ensures err { OnErr result (self.new ≡ self.old) }
+        ensures refusal { IfErr result (λ e. e ≡ Memory) }
+    {
+        match self.literals.push(name) {
+            Ok(()) => Ok(()),
+            Err(_) => Err(Refusal::Memory),
+        }
+    }
+
+    /// One more object of the present function.
+    pub fn with_object(&mut self, object: ObjectType) -> Result<(), Refusal>
+        ensures ok { OnOk result (self.new ≡ with_objects (self.old.objects ++ object_type_of object ∷ []) self.old) }
+        ensures err { OnErr result (self.new ≡ self.old) }
+        ensures refusal { IfErr result (λ e. e ≡ Memory) }
+    {
+        match self.objects.push(object) {
+            Ok(()) => Ok(()),
+            Err(_) => Err(Refusal::Memory),
+        }
+    }
+
+    /// The object of the present function with this number, or the next one, has this type.
+    #[tactic(auto, using(crate::proofs::Puts::object_set, crate::proofs::Puts::object_pushed))]
+    pub fn put_object(&mut self, place: usize, object: ObjectType) -> Result<(), Refusal>
+        ensures ok { OnOk result (self.new ≡ with_objects (put_object self.old.objects place (object_type_of object)) self.old) }
+        ensures err { OnErr result (self.new ≡ self.old) }
+        ensures refusal { IfErr result (λ e. e ≡ Memory) }
+    {
+        if place < self.objects.len() {
+            self.objects[place] = object;
+            return Ok(());
+        }
+        match self.objects.push(object) {
+            Ok(()) => Ok(()),
+            Err(_) => Err(Refusal::Memory),
+        }
+    }
+
+    /// The object with static storage with this number, or the next one, is this one.
+    #[tactic(auto, using(crate::proofs::Puts::static_set, crate::proofs::Puts::static_pushed))]
+    pub fn put_static(&mut self, place: usize, object: StaticObject) -> Result<(), Refusal>
+        ensures ok { OnOk result (self.new ≡ with_statics (put_static self.old.statics place (static_of object)) self.old) }
+        ensures err { OnErr result (self.new ≡ self.old) }
+        ensures refusal { IfErr result (λ e. e ≡ Memory) }
+    {
+        if place < self.statics.len() {
+            self.statics[place] = object;
+            return Ok(());
+        }
+        match self.statics.push(object) {
+            Ok(()) => Ok(()),
+            Err(_) => Err(Refusal::Memory),
+        }
+    }
+
+    /// Another function begins with these objects, or goes on. It gives those of the one before.
+    pub fn change_objects(&mut self, objects: Vec<ObjectType>) -> Vec<ObjectType>
+        ensures new { self.new ≡ with_objects (map object_type_of objects.items) self.old }
+        ensures old { map object_type_of result.items ≡ self.old.objects }
+    {
+        replace(&mut self.objects, objects)
     }
 
     /// One more name, in the present block.

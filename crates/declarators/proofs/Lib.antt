@@ -1,0 +1,3 @@
+pub mod Verdicts
+mod Strings
+mod Lengths

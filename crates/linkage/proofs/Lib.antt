@@ -1,0 +1,4 @@
+mod Same
+mod Tellings
+mod Lists
+mod Blocks
