@@ -217,7 +217,7 @@ number_of_converted : (r : Reading) (a : ℕ) → a < 2 ^ 32 → IsNumberOf a (c
 number_of_converted r a h = subst (IsNumberOf a) (sym (number_is r a h)) (number_of_word r a h)
 
 -- the word of a number of a word is that word
-word_again : (r : Reading) (a : ℕ) → a < 2 ^ 32 → word_for (converted (type_of r) (pos a)) ≡ a
+pub word_again : (r : Reading) (a : ℕ) → a < 2 ^ 32 → word_for (converted (type_of r) (pos a)) ≡ a
 word_again r a h = congruent r (pos a) ∙ (let same : a % 2 ^ 32 ≡ a = omega (arith, h) in same)
 
 pub sum_is : (r : Reading) (a b w : ℕ) → a < 2 ^ 32 → b < 2 ^ 32 → tac.operate operation.Add r a b ≡ Some w → w ≡ machine.operate_of register_op.Add a b

@@ -2,6 +2,7 @@
 -- computes on words is what flat code computes.
 use Rattle.std.specs.Prelude.{◌≡◌, ◌<◌, ◌≤◌, ℕ, ◌+◌, ◌^◌, List, length, slice_get, Some, None}
 use Rattle.ctypes.specs.declared.types.IntType.{IntType}
+use Rattle.ctypes.specs.declared.types.IntType.TheVariants as ty
 use Rattle.typed.specs.Types.{ObjectType, size_of_object}
 use Rattle.tac.specs.Code.{Function, scalar_type}
 use Rattle.tac.specs.Costs.{array_parameters}
@@ -9,6 +10,8 @@ use Rattle.tac.specs.declared.code.Reading.{Reading}
 use Rattle.tac.specs.declared.code.Operation.{Operation}
 use Rattle.tac.specs.declared.code.Comparison.{Comparison}
 use Rattle.tac.specs.Run as three_address
+use Rattle.tac.specs.Run.{word_for, number_of}
+use Rattle.frames.specs.declared.code.Conversion.TheVariants as conversion
 use Rattle.rv32.specs.Arithmetic.{compare_of}
 use Rattle.frames.specs.Run as flat
 use Rattle.flattening.specs.Translated.{operation_of, test_of}
@@ -59,3 +62,16 @@ OperationsAgree = (o : Operation) (r : Reading) (a b w : ℕ) → a < 2 ^ 32 →
 
 abbrev pub ComparisonsAgree : Type 0
 ComparisonsAgree = (c : Comparison) (r : Reading) (a b : ℕ) → a < 2 ^ 32 → b < 2 ^ 32 → three_address.holds c r a b ≡ compare_of (test_of c r) a b
+
+-- the word that a conversion to a type leaves, and the one that flat code's conversion gives; those to types of 32 bits are moves
+pub record ConversionsAgree : Type 0 where
+  pub to_truth : (a : ℕ) → word_for (number_of ty.Bool a) ≡ flat.converted conversion.ToTruth a
+  pub to_char : (a : ℕ) → word_for (number_of ty.Char a) ≡ flat.converted conversion.ToByte a
+  pub to_signed_char : (a : ℕ) → word_for (number_of ty.SChar a) ≡ flat.converted conversion.ToSignedByte a
+  pub to_unsigned_char : (a : ℕ) → word_for (number_of ty.UChar a) ≡ flat.converted conversion.ToByte a
+  pub to_short : (a : ℕ) → word_for (number_of ty.Short a) ≡ flat.converted conversion.ToSignedHalf a
+  pub to_unsigned_short : (a : ℕ) → word_for (number_of ty.UShort a) ≡ flat.converted conversion.ToHalf a
+  pub to_int : (a : ℕ) → a < 2 ^ 32 → word_for (number_of ty.Int a) ≡ a
+  pub to_unsigned_int : (a : ℕ) → a < 2 ^ 32 → word_for (number_of ty.UInt a) ≡ a
+  pub to_long : (a : ℕ) → a < 2 ^ 32 → word_for (number_of ty.Long a) ≡ a
+  pub to_unsigned_long : (a : ℕ) → a < 2 ^ 32 → word_for (number_of ty.ULong a) ≡ a

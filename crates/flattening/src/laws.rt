@@ -1,6 +1,6 @@
 //! Laws of where things lie and of what is computed, each the contract of a function without code.
 
-ghost use Rattle.flattening.specs.Laws.{WordsAreApart, WordsComeFirst, ReferencesComeNext, SlotsComeLast, ArraysAreApart, ArraysAreInside, StartsAreApart, OperationsAgree, ComparisonsAgree};
+ghost use Rattle.flattening.specs.Laws.{WordsAreApart, WordsComeFirst, ReferencesComeNext, SlotsComeLast, ArraysAreApart, ArraysAreInside, StartsAreApart, OperationsAgree, ComparisonsAgree, ConversionsAgree};
 
 /// Objects that are no arrays, references and slots have words of their own, within those of the frame.
 pub fn words_are_apart()
@@ -22,8 +22,9 @@ pub fn starts_are_apart()
 {}
 
 /// On words, flat code's operations give what those of three-address code give where these are defined, and its tests hold just
-/// where the comparisons do.
+/// where the comparisons do. Its conversions leave the words of the numbers that conversions give.
 pub fn words_agree()
     ensures operations { OperationsAgree }
     ensures comparisons { ComparisonsAgree }
+    ensures conversions { ConversionsAgree }
 {}
