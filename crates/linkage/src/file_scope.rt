@@ -152,7 +152,8 @@ pub fn file_object(
     declared_at_file(alloc, names, scope, pos, name, new)
 }
 
-/// The scope behind the declaration of a function, or its definition's declarator. It fails as `file_object` does.
+/// The scope behind the declaration of a function, or its definition's declarator. It fails as `file_object` does, and with 553 where
+/// it defines a built-in.
 pub fn file_function(
     alloc: Global,
     names: &Names,
