@@ -68,15 +68,30 @@ impl Reader {
         let mut word = Word::new(text);
         let name = word.part();
         match name {
-            "literal" | "object" | "static" | "number_parameter" | "array_parameter"
-            | "function" | "main" => self.take_unit(name, &mut word),
+            "literal"
+            | "object"
+            | "static"
+            | "number_parameter"
+            | "array_parameter"
+            | "function"
+            | "main" => self.take_unit(name, &mut word),
             "named" | "element" => self.take_place(name, &mut word),
             "one" | "text" | "braced" | "list" => self.take_initialiser(name, &mut word),
             "number" | "array" => self.take_argument(name, &mut word),
-            "constant" | "read" | "assigned" | "compound" | "stepped" | "unary" | "binary"
-            | "both_true" | "one_true" | "chosen" | "sequence" | "cast" | "discarded" | "call" => {
-                self.take_value(name, &mut word)
-            }
+            "constant"
+            | "read"
+            | "assigned"
+            | "compound"
+            | "stepped"
+            | "unary"
+            | "binary"
+            | "both_true"
+            | "one_true"
+            | "chosen"
+            | "sequence"
+            | "cast"
+            | "discarded"
+            | "call" => { self.take_value(name, &mut word) }
             _ => self.take_statement(name, &mut word),
         }
     }
@@ -296,7 +311,11 @@ impl Reader {
 
     /// An expression that may be left out.
     fn optional(&mut self, there: bool) -> Result<Option<Value>> {
-        if there { Ok(Some(self.value()?)) } else { Ok(None) }
+        if there {
+            Ok(Some(self.value()?))
+        } else {
+            Ok(None)
+        }
     }
 
     fn for_loop(&mut self, word: &mut Word<'_>) -> Result<Statement> {
@@ -380,7 +399,8 @@ impl Reader {
         let body = self.statement()?;
         let nodes = word.count()?;
         let weight = word.count()?;
-        let parameters = last(self.alloc, &mut self.parameters, self.parameters.len())?;
+        let count = self.parameters.len();
+        let parameters = last(self.alloc, &mut self.parameters, count)?;
         self.program.functions.push(Function {
             name,
             function_type: FunctionType {

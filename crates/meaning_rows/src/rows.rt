@@ -39,8 +39,10 @@ fn runs_so(alloc: Global, row: &str) -> Result<bool> {
         left: bytes(alloc, part(parts.next())?)?,
         greatest: part(parts.next())?.parse::<u64>()?,
     };
-    Ok(ends_so(alloc, &program, ticks, input, &wanted)?
-        && is_cut(alloc, &program, ticks, input, &wanted)?)
+    Ok(
+        ends_so(alloc, &program, ticks, input, &wanted)?
+            && is_cut(alloc, &program, ticks, input, &wanted)?,
+    )
 }
 
 /// A part that has to be there, without the spaces around it.
@@ -85,13 +87,21 @@ fn bytes(alloc: Global, text: &str) -> Result<Vec<u8>> {
 }
 
 /// How many bytes of the input a run has left, and what it wrote.
-fn ends_so(alloc: Global, program: &Program, ticks: u64, input: &str, wanted: &Wanted) -> Result<bool> {
+fn ends_so(
+    alloc: Global,
+    program: &Program,
+    ticks: u64,
+    input: &str,
+    wanted: &Wanted,
+) -> Result<bool> {
     let mut port = MemPort::new(alloc, bytes(alloc, input)?);
     let Interpreted { run, greatest } = interpret(alloc, program, &mut port, ticks);
-    Ok(run == wanted.run
-        && greatest == wanted.greatest
-        && port.output() == wanted.output.as_slice()
-        && has_left(alloc, &mut port, wanted.left.as_slice())?)
+    Ok(
+        run == wanted.run
+            && greatest == wanted.greatest
+            && port.output() == wanted.output.as_slice()
+            && has_left(alloc, &mut port, wanted.left.as_slice())?,
+    )
 }
 
 /// Whether exactly these bytes are left to be got.
@@ -106,13 +116,21 @@ fn has_left(alloc: Global, port: &mut MemPort, left: &[u8]) -> Result<bool> {
 }
 
 /// Whether one tick less is too little, and the output a beginning.
-fn is_cut(alloc: Global, program: &Program, ticks: u64, input: &str, wanted: &Wanted) -> Result<bool> {
+fn is_cut(
+    alloc: Global,
+    program: &Program,
+    ticks: u64,
+    input: &str,
+    wanted: &Wanted,
+) -> Result<bool> {
     let mut port = MemPort::new(alloc, bytes(alloc, input)?);
     let Some(less) = ticks.checked_sub(1) else {
         return Ok(true);
     };
     let Interpreted { run, greatest } = interpret(alloc, program, &mut port, less);
-    Ok(run == Run::TicksUsed
-        && greatest <= wanted.greatest
-        && wanted.output.as_slice().starts_with(port.output()))
+    Ok(
+        run == Run::TicksUsed
+            && greatest <= wanted.greatest
+            && wanted.output.as_slice().starts_with(port.output()),
+    )
 }
