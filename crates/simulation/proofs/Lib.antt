@@ -16,4 +16,5 @@ pub mod Environment
 pub mod Entering
 pub mod Calls
 pub mod Steps
+pub mod Laying
 pub mod Whole

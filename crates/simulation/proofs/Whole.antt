@@ -1,5 +1,5 @@
 -- The machine follows flat code: from a program's entry to its end.
-use Rattle.std.proofs.Common.{◌≡◌, ℕ, ◌+◌, ◌-◌, ◌^◌, ◌<◌, List, [], refl, sym, ap, ◌∙◌, subst, arith}
+use Rattle.std.proofs.Common.{◌≡◌, ℕ, ◌+◌, ◌-◌, ◌^◌, ◌<◌, List, [], length, refl, sym, ap, ◌∙◌, subst, arith}
 use Rattle.std.specs.Prelude.{slice_get}
 use Rattle.loader.specs.MemoryMap.{stack_end}
 use Rattle.rv32.specs.declared.instr.ImmediateOp.TheVariants as immediate_op
@@ -11,7 +11,9 @@ use Rattle.running.specs.Light.{Light, Go, Done, Fell, with_reg, Comes}
 use Rattle.running.proofs.Words.{with_other}
 use Rattle.running.proofs.Steps.{comes_now, comes_some, comes_then, on_immediate, on_exit}
 use Rattle.running.proofs.ItemSteps.{on_loads, on_call}
+use Rattle.running.proofs.Placing.{stands_parts}
 use Rattle.select.specs.Selected.{kept, exit}
+use Rattle.select.specs.Program.{functions_items}
 use Rattle.simulation.specs.Matches.{Ground, Small, Waits, Matches, address, file_of}
 use Rattle.simulation.specs.Costs.{spent, least_spent}
 use Rattle.simulation.specs.Laws.{Anything}
@@ -21,11 +23,12 @@ use Rattle.simulation.proofs.Fits.{Within, frame_tall, function_fits}
 use Rattle.simulation.proofs.Entering.{enters}
 use Rattle.simulation.proofs.Calls.{opened_matched}
 use Rattle.simulation.proofs.Steps.{steps}
+use Rattle.simulation.proofs.Laying.{is_ready}
 
 pub begins : BeginsFollow
 begins p F env data_at base e r b input q room =
     let G = ground_at p F env data_at base r b in
-    let ready = q.ready in
+    let ready = is_ready p F env data_at base e r b q in
     let Q : Light → Type 0 = Matches G (running (start p input)) in
     let f = function_at p p.main in
     let fit = function_fits p ready.sound p.main in
@@ -70,10 +73,11 @@ ends p F env data_at base e r b input q bytes n status left trace over rooms =
     let here = Go r base b input [] in
     let ra = q.stands.2.0 in
     let ra_is : ra ≡ base + 16 = omega (arith, q.stands.1.next_is, q.stands.2.1.next_is) in
-    let tail : Stands F.text env data_at exit (base + 16) e = subst (λ x. Stands F.text env data_at exit x e) ra_is q.stands.2.2 in
+    let parts = stands_parts F.text env data_at exit (functions_items 0 (length p.functions) p.functions) ra e q.stands.2.2 in
+    let tail : Stands F.text env data_at exit (base + 16) parts.0 = subst (λ x. Stands F.text env data_at exit x parts.0) ra_is parts.1 in
     let one = begins p F env data_at base e r b input q (rooms 0 (omega arith)) in
     let two : Comes F Anything (1 + least_spent p n s) (start_cost + spent p n s) here (Matches G (run p n s)) =
-    comes_then F Anything start_cost (spent p n s) here (Matches G (running s)) (Matches G (run p n s)) one (λ m k. steps G q.ready n s m k bytes rooms) in
+    comes_then F Anything start_cost (spent p n s) here (Matches G (running s)) (Matches G (run p n s)) one (λ m k. steps G (is_ready p F env data_at base e r b q) n s m k bytes rooms) in
     let all : Comes F Anything (1 + least_spent p n s + 0) (start_cost + spent p n s + 2) here P =
-    comes_then F Anything (start_cost + spent p n s) 2 here (Matches G (run p n s)) P two (λ m k. exits G status left trace e tail m (subst (λ x. Matches G x m) over k)) in
+    comes_then F Anything (start_cost + spent p n s) 2 here (Matches G (run p n s)) P two (λ m k. exits G status left trace parts.0 tail m (subst (λ x. Matches G x m) over k)) in
     record { j = all.j; some = omega (arith, all.some); within = all.within; kept = all.kept; good = all.good }

@@ -1,12 +1,13 @@
 -- What simulation is of whole runs: a step, so many steps, a program's entry and its end.
-use Rattle.std.specs.Prelude.{◌≡◌, ◌≤◌, ◌<◌, ℕ, ◌+◌, ◌^◌, List, [], length, slice_get}
+use Rattle.std.specs.Prelude.{◌≡◌, ◌≤◌, ◌<◌, ℕ, ◌+◌, ◌%◌, ◌^◌, true, List, [], length, slice_get}
 use Rattle.loader.specs.MemoryMap.{stack_end}
 use Rattle.asm.specs.Placed.{Stands}
 use Rattle.events.specs.Events.{Event}
 use Rattle.frames.specs.Code.{Program}
+use Rattle.frames.specs.Sound.{IsSoundProgram}
 use Rattle.frames.specs.Run.{State, running, ended, step, run, start}
 use Rattle.running.specs.Light.{Fixed, Go, Done, Comes}
-use Rattle.select.specs.Program.{start_items}
+use Rattle.select.specs.Program.{program_items}
 use Rattle.simulation.specs.Matches.{Ground, Ready, Matched, Matches, HasRoom, Holds, Small, address, file_of}
 use Rattle.simulation.specs.Costs.{entry_cost, cost_if, least_if, next_of, spent, least_spent}
 use Rattle.simulation.specs.Laws.{Anything, AreBytes}
@@ -39,13 +40,26 @@ ground_at p F env data_at base r b = record {
   bytes = b;
 }
 
--- a program's entry stands at base, and the statics are in memory as they begin
-pub record Set (p : Program) (F : Fixed) (env : ℕ → ℕ) (data_at base e : ℕ) (r b : ℕ → ℕ) : Type 0 where
-  pub ready : Ready (ground_at p F env data_at base r b)
-  pub stands : Stands F.text env data_at (start_items p.main) base e
+-- A sound program's items stand from base up to e, below 2^31; the stack and the data may be read and written, and lie apart; the statics
+-- are in memory as they begin.
+pub record Laid (p : Program) (F : Fixed) (env : ℕ → ℕ) (data_at base e : ℕ) (r b : ℕ → ℕ) : Type 0 where
+  pub sound : IsSoundProgram p
+  pub stands : Stands F.text env data_at (program_items p) base e
+  pub aligned : base % 4 ≡ 0
+  pub low : e < 2 ^ 31
+  pub stack_read : (a : ℕ) → 0x7FF00000 ≤ a → a < 2 ^ 31 → F.can_read a ≡ true
+  pub stack_written : (a : ℕ) → 0x7FF00000 ≤ a → a < 2 ^ 31 → F.can_write a ≡ true
+  pub data_read : (a : ℕ) → data_at ≤ a → a < data_at + length p.statics → F.can_read a ≡ true
+  pub data_written : (a : ℕ) → data_at ≤ a → a < data_at + length p.statics → F.can_write a ≡ true
+  pub data_aligned : data_at % 4 ≡ 0
+  pub data_below : data_at + length p.statics ≤ 0x7FF00000
   pub small : Small (file_of r)
   pub bytes : (k : ℕ) → b k < 2 ^ 8
   pub statics : Holds (slice_get p.statics) data_at 0 (length p.statics) b
+
+-- each instruction's items and each function's entry stand at their labels
+abbrev pub LaidIsReady : Type 0
+LaidIsReady = (p : Program) (F : Fixed) (env : ℕ → ℕ) (data_at base e : ℕ) (r b : ℕ → ℕ) → Laid p F env data_at base e r b → Ready (ground_at p F env data_at base r b)
 
 -- the items before main's call, the call, and main's entry
 abbrev pub start_cost : ℕ
@@ -54,13 +68,13 @@ start_cost = 4 + entry_cost
 -- from its entry the machine comes to match the flat program's beginning
 abbrev pub BeginsFollow : Type 0
 BeginsFollow =
-    (p : Program) (F : Fixed) (env : ℕ → ℕ) (data_at base e : ℕ) (r b : ℕ → ℕ) (input : List ℕ) → Set p F env data_at base e r b → HasRoom (ground_at p F env data_at base r b) (running (start p input))
+    (p : Program) (F : Fixed) (env : ℕ → ℕ) (data_at base e : ℕ) (r b : ℕ → ℕ) (input : List ℕ) → Laid p F env data_at base e r b → HasRoom (ground_at p F env data_at base r b) (running (start p input))
     → Comes F Anything 1 start_cost (Go r base b input []) (Matches (ground_at p F env data_at base r b) (running (start p input)))
 
 -- a flat program that ends in n steps: the machine ends with the same status, having done the same
 abbrev pub EndsFollow : Type 0
 EndsFollow =
-    (p : Program) (F : Fixed) (env : ℕ → ℕ) (data_at base e : ℕ) (r b : ℕ → ℕ) (input : List ℕ) → Set p F env data_at base e r b → AreBytes input
+    (p : Program) (F : Fixed) (env : ℕ → ℕ) (data_at base e : ℕ) (r b : ℕ → ℕ) (input : List ℕ) → Laid p F env data_at base e r b → AreBytes input
     → (n status : ℕ) (left : List ℕ) (trace : List Event) → run p n (start p input) ≡ ended status left trace
     → ((k : ℕ) → k ≤ n → HasRoom (ground_at p F env data_at base r b) (run p k (start p input)))
     → Comes F Anything 1 (start_cost + spent p n (start p input) + 2) (Go r base b input []) (λ m. m ≡ Done status trace)

@@ -2,7 +2,7 @@
 #![tactic(auto)]
 
 ghost use Rattle.simulation.specs.Laws.{NothingFollows, JumpsFollow, BranchesFollow, MovesFollow, ConversionsFollow, OperationsFollow, ExitFollows, AddressesFollow, ElementsFollow, LoadsFollow, StoresFollow, PutFollows, GetFollows, CallsFollow, ReturnsFollow};
-ghost use Rattle.simulation.specs.Runs.{StepFollows, RunsFollow, BeginsFollow, EndsFollow};
+ghost use Rattle.simulation.specs.Runs.{StepFollows, RunsFollow, LaidIsReady, BeginsFollow, EndsFollow};
 
 /// `Nothing` has no items, and the machine stays where it is.
 pub fn nothing_follows()
@@ -87,6 +87,11 @@ pub fn step_follows()
 /// So many steps of flat code, by the sums of the table's rows.
 pub fn runs_follow()
     ensures { RunsFollow }
+{}
+
+/// Where a program's items stand, each instruction's items and each function's entry stand at their labels.
+pub fn laid_is_ready()
+    ensures { LaidIsReady }
 {}
 
 /// From a program's entry the machine comes to stand where flat code begins.
