@@ -75,7 +75,7 @@ pub memory_input : (p : Program) (s : State) (l : ℕ) (bytes : Bytes) → s.inp
 memory_input p s zero bytes = refl
 memory_input p s (suc l) bytes = frames_input (next s) (changed_among p ((next s).frame ∷ s.waiting) (suc l) bytes)
 
-memory_trace : (p : Program) (s : State) (l : ℕ) (bytes : Bytes) → s.trace ≡ (with_memory p (next s) l bytes).trace
+pub memory_trace : (p : Program) (s : State) (l : ℕ) (bytes : Bytes) → s.trace ≡ (with_memory p (next s) l bytes).trace
 memory_trace p s zero bytes = refl
 memory_trace p s (suc l) bytes = frames_trace (next s) (changed_among p ((next s).frame ∷ s.waiting) (suc l) bytes)
 

@@ -49,7 +49,7 @@ pub set_input : (d : Target) (v : Value) (s : State) → s.input ≡ (set d v s)
 set_input (target.Temporary k) v s = refl
 set_input (target.Cell c) v s = refl
 
-set_trace : (d : Target) (v : Value) (s : State) → s.trace ≡ (set d v s).trace
+pub set_trace : (d : Target) (v : Value) (s : State) → s.trace ≡ (set d v s).trace
 set_trace (target.Temporary k) v s = refl
 set_trace (target.Cell c) v s = refl
 

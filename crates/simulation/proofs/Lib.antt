@@ -15,6 +15,8 @@ pub mod Accesses
 pub mod Environment
 pub mod Entering
 pub mod Calls
+pub mod Inputs
 pub mod Steps
 pub mod Laying
 pub mod Whole
+pub mod Real

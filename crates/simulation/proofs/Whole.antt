@@ -1,23 +1,23 @@
 -- The machine follows flat code: from a program's entry to its end.
-use Rattle.std.proofs.Common.{◌≡◌, ℕ, ◌+◌, ◌-◌, ◌^◌, ◌<◌, List, [], length, refl, sym, ap, ◌∙◌, subst, arith}
+use Rattle.std.proofs.Common.{◌≡◌, ℕ, ◌+◌, ◌-◌, ◌^◌, ◌<◌, ◌≤◌, List, [], length, refl, sym, ap, ◌∙◌, subst, arith}
 use Rattle.std.specs.Prelude.{slice_get}
 use Rattle.loader.specs.MemoryMap.{stack_end}
 use Rattle.rv32.specs.declared.instr.ImmediateOp.TheVariants as immediate_op
 use Rattle.asm.specs.Placed.{Stands}
 use Rattle.events.specs.Events.{Event}
-use Rattle.frames.specs.Code.{frame_bytes}
+use Rattle.frames.specs.Code.{Program, frame_bytes}
 use Rattle.frames.specs.Run.{unset, running, ended, run, start, function_at}
-use Rattle.running.specs.Light.{Light, Go, Done, Fell, with_reg, Comes}
+use Rattle.running.specs.Light.{Fixed, Light, Go, Done, Fell, with_reg, Comes}
 use Rattle.running.proofs.Words.{with_other}
 use Rattle.running.proofs.Steps.{comes_now, comes_some, comes_then, on_immediate, on_exit}
 use Rattle.running.proofs.ItemSteps.{on_loads, on_call}
 use Rattle.running.proofs.Placing.{stands_parts}
 use Rattle.select.specs.Selected.{kept, exit}
 use Rattle.select.specs.Program.{functions_items}
-use Rattle.simulation.specs.Matches.{Ground, Small, Waits, Matches, address, file_of}
+use Rattle.simulation.specs.Matches.{HasRoom, Ground, Small, Waits, Matches, address, file_of}
 use Rattle.simulation.specs.Costs.{spent, least_spent}
-use Rattle.simulation.specs.Laws.{Anything}
-use Rattle.simulation.specs.Runs.{ground_at, start_cost, BeginsFollow, EndsFollow}
+use Rattle.simulation.specs.Laws.{Anything, AreBytes}
+use Rattle.simulation.specs.Runs.{Laid, ground_at, start_cost, BeginsFollow, EndsFollow}
 use Rattle.simulation.proofs.Registers.{kept_above}
 use Rattle.simulation.proofs.Fits.{Within, frame_tall, function_fits}
 use Rattle.simulation.proofs.Entering.{enters}
@@ -65,6 +65,15 @@ exits G status left trace e st (Go r at b i h) q =
 exits G status left trace e st (Done x h) q = comes_now G.machine Anything 2 (Done x h) (λ y. y ≡ Done status trace) tt (ap (λ y. Done y h) q.0 ∙ ap (Done status) q.1)
 exits G status left trace e st (Fell h) q = absurd q
 
+-- after n steps
+pub comes_to : (p : Program) (F : Fixed) (env : ℕ → ℕ) (data_at base e : ℕ) (r b : ℕ → ℕ) (input : List ℕ) → Laid p F env data_at base e r b → AreBytes input → (n : ℕ) → ((k : ℕ) → k ≤ n → HasRoom (ground_at p F env data_at base r b) (run p k (start p input)))
+    → Comes F Anything (1 + least_spent p n (start p input)) (start_cost + spent p n (start p input)) (Go r base b input []) (Matches (ground_at p F env data_at base r b) (run p n (start p input)))
+comes_to p F env data_at base e r b input q bytes n rooms =
+    let G = ground_at p F env data_at base r b in
+    let s = start p input in
+    let one = begins p F env data_at base e r b input q (rooms 0 (omega arith)) in
+    comes_then F Anything start_cost (spent p n s) (Go r base b input []) (Matches G (running s)) (Matches G (run p n s)) one (λ m k. steps G (is_ready p F env data_at base e r b q) n s m k bytes rooms)
+
 pub ends : EndsFollow
 ends p F env data_at base e r b input q bytes n status left trace over rooms =
     let G = ground_at p F env data_at base r b in
@@ -75,9 +84,7 @@ ends p F env data_at base e r b input q bytes n status left trace over rooms =
     let ra_is : ra ≡ base + 16 = omega (arith, q.stands.1.next_is, q.stands.2.1.next_is) in
     let parts = stands_parts F.text env data_at exit (functions_items 0 (length p.functions) p.functions) ra e q.stands.2.2 in
     let tail : Stands F.text env data_at exit (base + 16) parts.0 = subst (λ x. Stands F.text env data_at exit x parts.0) ra_is parts.1 in
-    let one = begins p F env data_at base e r b input q (rooms 0 (omega arith)) in
-    let two : Comes F Anything (1 + least_spent p n s) (start_cost + spent p n s) here (Matches G (run p n s)) =
-    comes_then F Anything start_cost (spent p n s) here (Matches G (running s)) (Matches G (run p n s)) one (λ m k. steps G (is_ready p F env data_at base e r b q) n s m k bytes rooms) in
+    let two = comes_to p F env data_at base e r b input q bytes n rooms in
     let all : Comes F Anything (1 + least_spent p n s + 0) (start_cost + spent p n s + 2) here P =
     comes_then F Anything (start_cost + spent p n s) 2 here (Matches G (run p n s)) P two (λ m k. exits G status left trace parts.0 tail m (subst (λ x. Matches G x m) over k)) in
     record { j = all.j; some = omega (arith, all.some); within = all.within; kept = all.kept; good = all.good }

@@ -1,12 +1,15 @@
 -- What simulation is of whole runs: a step, so many steps, a program's entry and its end.
-use Rattle.std.specs.Prelude.{◌≡◌, ◌≤◌, ◌<◌, ℕ, ◌+◌, ◌%◌, ◌^◌, true, List, [], length, slice_get}
+use Rattle.std.specs.Prelude.{◌≡◌, ◌≤◌, ◌<◌, ℕ, ◌+◌, ◌%◌, ◌^◌, true, false, List, [], length, slice_get}
 use Rattle.loader.specs.MemoryMap.{stack_end}
 use Rattle.asm.specs.Placed.{Stands}
 use Rattle.events.specs.Events.{Event}
 use Rattle.frames.specs.Code.{Program}
 use Rattle.frames.specs.Sound.{IsSoundProgram}
 use Rattle.frames.specs.Run.{State, running, ended, step, run, start}
+use Rattle.sim.specs.Runs.{World, Running, Ended, rvrun}
 use Rattle.running.specs.Light.{Fixed, Go, Done, Comes}
+use Rattle.running.specs.Whole.{Permits, fixed}
+use Rattle.running.specs.Worlds.{Registers, world}
 use Rattle.select.specs.Program.{program_items}
 use Rattle.simulation.specs.Matches.{Ground, Ready, Matched, Matches, HasRoom, Holds, Small, address, file_of}
 use Rattle.simulation.specs.Costs.{entry_cost, cost_if, least_if, next_of, spent, least_spent}
@@ -78,3 +81,23 @@ EndsFollow =
     → (n status : ℕ) (left : List ℕ) (trace : List Event) → run p n (start p input) ≡ ended status left trace
     → ((k : ℕ) → k ≤ n → HasRoom (ground_at p F env data_at base r b) (run p k (start p input)))
     → Comes F Anything 1 (start_cost + spent p n (start p input) + 2) (Go r base b input []) (λ m. m ≡ Done status trace)
+
+-- ---- on the machine of the table, where no byte may be both executed and written, and text lies below 2^31
+
+-- where the flat program goes on: the machine does too, having done the same and with the same input left
+abbrev pub MachineGoesOn : Type 0
+MachineGoesOn =
+    (P : Permits) → ((a : ℕ) → P.can_execute a ≡ true → a < 2 ^ 31) → ((a : ℕ) → P.can_execute a ≡ true → P.can_write a ≡ false)
+    → (p : Program) (env : ℕ → ℕ) (data_at base e : ℕ) (r b : ℕ → ℕ) (list input : List ℕ) → Laid p (fixed P b) env data_at base e r b → Registers list r → AreBytes input
+    → (n : ℕ) (s : State) → run p n (start p input) ≡ running s
+    → ((k : ℕ) → k ≤ n → HasRoom (ground_at p (fixed P b) env data_at base r b) (run p k (start p input)))
+    → (k : ℕ) × (w : World) × (1 + least_spent p n (start p input) ≤ k) × (k ≤ start_cost + spent p n (start p input)) × (rvrun k (world P list base b input []) ≡ Running w) × (w.trace ≡ s.trace) × (w.input ≡ s.input)
+
+-- where it ends
+abbrev pub MachineEnds : Type 0
+MachineEnds =
+    (P : Permits) → ((a : ℕ) → P.can_execute a ≡ true → a < 2 ^ 31) → ((a : ℕ) → P.can_execute a ≡ true → P.can_write a ≡ false)
+    → (p : Program) (env : ℕ → ℕ) (data_at base e : ℕ) (r b : ℕ → ℕ) (list input : List ℕ) → Laid p (fixed P b) env data_at base e r b → Registers list r → AreBytes input
+    → (n status : ℕ) (left : List ℕ) (trace : List Event) → run p n (start p input) ≡ ended status left trace
+    → ((k : ℕ) → k ≤ n → HasRoom (ground_at p (fixed P b) env data_at base r b) (run p k (start p input)))
+    → (k : ℕ) × (w : World) × (k ≤ start_cost + spent p n (start p input) + 2) × (rvrun k (world P list base b input []) ≡ Ended status w) × (w.trace ≡ trace) × (w.input ≡ left)

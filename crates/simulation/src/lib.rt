@@ -2,7 +2,7 @@
 #![tactic(auto)]
 
 ghost use Rattle.simulation.specs.Laws.{NothingFollows, JumpsFollow, BranchesFollow, MovesFollow, ConversionsFollow, OperationsFollow, ExitFollows, AddressesFollow, ElementsFollow, LoadsFollow, StoresFollow, PutFollows, GetFollows, CallsFollow, ReturnsFollow};
-ghost use Rattle.simulation.specs.Runs.{StepFollows, RunsFollow, LaidIsReady, BeginsFollow, EndsFollow};
+ghost use Rattle.simulation.specs.Runs.{StepFollows, RunsFollow, LaidIsReady, BeginsFollow, EndsFollow, MachineGoesOn, MachineEnds};
 
 /// `Nothing` has no items, and the machine stays where it is.
 pub fn nothing_follows()
@@ -102,4 +102,14 @@ pub fn begins_follow()
 /// A flat program that ends: the machine ends with the same status, having done the same.
 pub fn ends_follow()
     ensures { EndsFollow }
+{}
+
+/// Where a flat program goes on, the machine of the table does too, having done the same, and with the same input left.
+pub fn machine_goes_on()
+    ensures { MachineGoesOn }
+{}
+
+/// Where a flat program ends, the machine of the table ends with the same status, having done the same, and with the same input left.
+pub fn machine_ends()
+    ensures { MachineEnds }
 {}
