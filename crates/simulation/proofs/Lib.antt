@@ -20,3 +20,4 @@ pub mod Steps
 pub mod Laying
 pub mod Whole
 pub mod Real
+pub mod Rows
