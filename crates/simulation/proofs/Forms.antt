@@ -45,11 +45,11 @@ some_at [] k lt = absurd (omega (arith, lt))
 some_at (x ∷ xs) zero lt = (x, refl)
 some_at (x ∷ xs) (suc k) lt = some_at xs k (omega (arith, lt))
 
-set_input : (d : Target) (v : Value) (s : State) → s.input ≡ (set d v s).input
+pub set_input : (d : Target) (v : Value) (s : State) → s.input ≡ (set d v s).input
 set_input (target.Temporary k) v s = refl
 set_input (target.Cell c) v s = refl
 
-set_trace : (d : Target) (v : Value) (s : State) → s.trace ≡ (set d v s).trace
+pub set_trace : (d : Target) (v : Value) (s : State) → s.trace ≡ (set d v s).trace
 set_trace (target.Temporary k) v s = refl
 set_trace (target.Cell c) v s = refl
 

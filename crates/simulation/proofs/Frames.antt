@@ -69,18 +69,18 @@ module _ (G : Ground) (ready : Ready G) (s : State) (r : ℕ → ℕ) (at : ℕ)
 
   -- ---- what stays
 
-  cells_same : (r2 : ℕ → ℕ) → ((j : ℕ) → r2 (kept j) ≡ r (kept j)) → Shows G the.cells s.frame.cells (cell_at the b m.sp (file_of r2))
+  pub cells_same : (r2 : ℕ → ℕ) → ((j : ℕ) → r2 (kept j) ≡ r (kept j)) → Shows G the.cells s.frame.cells (cell_at the b m.sp (file_of r2))
   cells_same r2 e c v ec =
       let old = m.frame.cells c v ec in
       (old.0, old.1, if_same (nat_lt c the.resident) (r (kept c)) (r2 (kept c)) _ _ (e c) refl ∙ old.2)
 
-  temporary_same : (r2 b2 : ℕ → ℕ) (k : ℕ) → (k < 8 → r2 (10 + k) ≡ r (10 + k)) → (8 ≤ k → word_at b2 (m.sp + 4 * (k - 8)) ≡ word_at b (m.sp + 4 * (k - 8))) → temporary_at r2 b2 m.sp k ≡ temporary_at r b m.sp k
+  pub temporary_same : (r2 b2 : ℕ → ℕ) (k : ℕ) → (k < 8 → r2 (10 + k) ≡ r (10 + k)) → (8 ≤ k → word_at b2 (m.sp + 4 * (k - 8)) ≡ word_at b (m.sp + 4 * (k - 8))) → temporary_at r2 b2 m.sp k ≡ temporary_at r b m.sp k
   temporary_same r2 b2 k low high = bool_cases (nat_lt k 8) (λ t. rw t (low (ltb-true k 8 t))) (λ t. rw t (high (ltb-false k 8 t)))
 
-  temporaries_same : (r2 b2 : ℕ → ℕ) → ((k : ℕ) → k < 8 → r2 (10 + k) ≡ r (10 + k)) → ((k : ℕ) → 8 ≤ k → k < 8 + the.outgoing → word_at b2 (m.sp + 4 * (k - 8)) ≡ word_at b (m.sp + 4 * (k - 8))) → Shows G (8 + the.outgoing) s.temporaries (temporary_at r2 b2 m.sp)
+  pub temporaries_same : (r2 b2 : ℕ → ℕ) → ((k : ℕ) → k < 8 → r2 (10 + k) ≡ r (10 + k)) → ((k : ℕ) → 8 ≤ k → k < 8 + the.outgoing → word_at b2 (m.sp + 4 * (k - 8)) ≡ word_at b (m.sp + 4 * (k - 8))) → Shows G (8 + the.outgoing) s.temporaries (temporary_at r2 b2 m.sp)
   temporaries_same r2 b2 low high k v ek = let old = m.temporaries k v ek in (old.0, old.1, temporary_same r2 b2 k (low k) (λ ge. high k ge old.0) ∙ old.2)
 
-  small_same : (r2 : ℕ → ℕ) → ((j : ℕ) → r2 (kept j) ≡ r (kept j)) → Small (file_of r2)
+  pub small_same : (r2 : ℕ → ℕ) → ((j : ℕ) → r2 (kept j) ≡ r (kept j)) → Small (file_of r2)
   small_same r2 e j = subst (λ x. x < 2 ^ 32) (sym (e j)) (m.frame.small j)
 
   -- the same frame, with free registers written

@@ -9,3 +9,15 @@ pub mod Operations
 pub mod Computing
 pub mod References
 pub mod Elements
+pub mod Bytes
+pub mod Areas
+pub mod Accesses
+pub mod Environment
+pub mod Entering
+pub mod Calls
+pub mod Inputs
+pub mod Steps
+pub mod Laying
+pub mod Whole
+pub mod Real
+pub mod Rows

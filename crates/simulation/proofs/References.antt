@@ -35,7 +35,7 @@ reference_some (Some (reference l k)) x e =
     ap (λ y. Some (reference y.list y.offset)) same
 
 -- a frame's name is never that of the statics
-shown_frame : (G : Ground) (l o sp : ℕ) → 0 < l → G.sp - l ≡ sp → sp + o < 2 ^ 32 → shown G (reference l o) ≡ sp + o
+pub shown_frame : (G : Ground) (l o sp : ℕ) → 0 < l → G.sp - l ≡ sp → sp + o < 2 ^ 32 → shown G (reference l o) ≡ sp + o
 shown_frame G zero o sp pos e small = absurd (omega (arith, pos))
 shown_frame G (suc l) o sp pos e small = ap (λ x. (x + o) % 2 ^ 32) e ∙ omega (arith, small)
 
@@ -50,7 +50,7 @@ module _ (G : Ground) (s : State) (r b : ℕ → ℕ) (ready : Ready G) (m : Mat
   none_left k v e = cc
 
   -- where the frame lies that is named
-  frame_shown : (o : ℕ) → o < frame_bytes (fn G s r b ready m) → shown G (reference (name_of G.program s.frame s.waiting) o) ≡ m.sp + o
+  pub frame_shown : (o : ℕ) → o < frame_bytes (fn G s r b ready m) → shown G (reference (name_of G.program s.frame s.waiting) o) ≡ m.sp + o
   frame_shown o lt =
       let sum = sum_is G ready s r start b m in
       let win = within G ready s r start b m in

@@ -1,7 +1,9 @@
 -- How many instructions of the machine each flat instruction comes to at most.
-use Rattle.std.specs.Prelude.{ℕ, ◌+◌, Option, Some, None}
+use Rattle.std.specs.Prelude.{ℕ, zero, suc, ◌+◌, slice_get, Option, Some, None}
 use Rattle.frames.specs.declared.code.Instruction.{Instruction}
 use Rattle.frames.specs.declared.code.Instruction.TheVariants as instruction
+use Rattle.frames.specs.Code.{Program}
+use Rattle.frames.specs.Run.{State, Progress, running, ended, stuck, step, function_at}
 
 -- a call's beginning: the frame, the address to return to, the caller's twelve registers
 abbrev pub entry_cost : ℕ
@@ -45,3 +47,27 @@ least instruction.Return = 1
 abbrev pub cost_if : Option Instruction → ℕ
 cost_if None = 0
 cost_if (Some x) = cost x
+
+abbrev pub least_if : Option Instruction → ℕ
+least_if None = 0
+least_if (Some x) = least x
+
+-- the instruction that is next, if there is one
+abbrev pub next_of : Program → State → Option Instruction
+next_of p s = slice_get (function_at p s.frame.function).code s.frame.at
+
+-- nothing once the run ended
+abbrev pub sum_on : Progress → (State → ℕ) → ℕ
+sum_on (running s) go = go s
+sum_on (ended status input trace) go = 0
+sum_on stuck go = 0
+
+-- what n steps come to at most
+abbrev pub spent : Program → ℕ → State → ℕ
+spent p zero s = 0
+spent p (suc n) s = cost_if (next_of p s) + sum_on (step p s) (spent p n)
+
+-- and at least
+abbrev pub least_spent : Program → ℕ → State → ℕ
+least_spent p zero s = 0
+least_spent p (suc n) s = least_if (next_of p s) + sum_on (step p s) (least_spent p n)

@@ -1,8 +1,9 @@
 -- What simulation is: each form of instruction, and steps.
-use Rattle.std.specs.Prelude.{◌≡◌, ℕ, slice_get, Some}
+use Rattle.std.specs.Prelude.{◌≡◌, ◌<◌, ℕ, ◌^◌, List, slice_get, Some}
 use Rattle.rv32.specs.declared.instr.Test.{Test}
 use Rattle.frames.specs.declared.code.Operand.{Operand}
 use Rattle.frames.specs.declared.code.Target.{Target}
+use Rattle.frames.specs.declared.code.Width.{Width}
 use Rattle.frames.specs.declared.code.Location.{Location}
 use Rattle.frames.specs.declared.code.Operation.{Operation}
 use Rattle.frames.specs.declared.code.Conversion.{Conversion}
@@ -23,6 +24,10 @@ Follows x =
     (G : Ground) (s : State) (r b : ℕ → ℕ) → Ready G → Matched G s r (address G s.frame.function s.frame.at) b
     → slice_get (function_at G.program s.frame.function).code s.frame.at ≡ Some x → HasRoom G (act G.program s x)
     → Comes G.machine Anything (least x) (cost x) (Go r (address G s.frame.function s.frame.at) b s.input s.trace) (Matches G (act G.program s x))
+
+-- what is read is bytes
+abbrev pub AreBytes : List ℕ → Type 0
+AreBytes input = (k c : ℕ) → slice_get input k ≡ Some c → c < 2 ^ 8
 
 abbrev pub NothingFollows : Type 0
 NothingFollows = Follows instruction.Nothing
@@ -50,3 +55,25 @@ AddressesFollow = (d : Target) (l : Location) → Follows (instruction.Address d
 
 abbrev pub ElementsFollow : Type 0
 ElementsFollow = (d : Target) (x y : Operand) (size : ℕ) → Follows (instruction.Element d x y size)
+
+abbrev pub LoadsFollow : Type 0
+LoadsFollow = (w : Width) (d : Target) (l : Location) → Follows (instruction.Load w d l)
+
+abbrev pub StoresFollow : Type 0
+StoresFollow = (w : Width) (x : Operand) (l : Location) → Follows (instruction.Store w x l)
+
+abbrev pub PutFollows : Type 0
+PutFollows = Follows instruction.PutByte
+
+-- where the input is bytes
+abbrev pub GetFollows : Type 0
+GetFollows =
+    (G : Ground) (s : State) (r b : ℕ → ℕ) → Ready G → Matched G s r (address G s.frame.function s.frame.at) b → AreBytes s.input
+    → slice_get (function_at G.program s.frame.function).code s.frame.at ≡ Some instruction.GetByte → HasRoom G (act G.program s instruction.GetByte)
+    → Comes G.machine Anything (least instruction.GetByte) (cost instruction.GetByte) (Go r (address G s.frame.function s.frame.at) b s.input s.trace) (Matches G (act G.program s instruction.GetByte))
+
+abbrev pub CallsFollow : Type 0
+CallsFollow = (f : ℕ) → Follows (instruction.Call f)
+
+abbrev pub ReturnsFollow : Type 0
+ReturnsFollow = Follows instruction.Return

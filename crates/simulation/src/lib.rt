@@ -1,7 +1,8 @@
 //! The machine follows flat code: laws of the items that `select` emits, one for each form of instruction that is proved.
 #![tactic(auto)]
 
-ghost use Rattle.simulation.specs.Laws.{NothingFollows, JumpsFollow, BranchesFollow, MovesFollow, ConversionsFollow, OperationsFollow, ExitFollows, AddressesFollow, ElementsFollow};
+ghost use Rattle.simulation.specs.Laws.{NothingFollows, JumpsFollow, BranchesFollow, MovesFollow, ConversionsFollow, OperationsFollow, ExitFollows, AddressesFollow, ElementsFollow, LoadsFollow, StoresFollow, PutFollows, GetFollows, CallsFollow, ReturnsFollow};
+ghost use Rattle.simulation.specs.Runs.{StepFollows, RunsFollow, LaidIsReady, BeginsFollow, EndsFollow, MachineGoesOn, MachineEnds};
 
 /// `Nothing` has no items, and the machine stays where it is.
 pub fn nothing_follows()
@@ -46,4 +47,69 @@ pub fn addresses_follow()
 /// A reference so many elements on is so many times their size further, modulo 2^32.
 pub fn elements_follow()
     ensures { ElementsFollow }
+{}
+
+/// An element of each size is read from the list that a location names.
+pub fn loads_follow()
+    ensures { LoadsFollow }
+{}
+
+/// An element of each size is written into the list that a location names, and nothing else changes.
+pub fn stores_follow()
+    ensures { StoresFollow }
+{}
+
+/// The byte that a0 ends in is put.
+pub fn put_follows()
+    ensures { PutFollows }
+{}
+
+/// The next byte of the input, or all bits at its end, comes to be in a0.
+pub fn get_follows()
+    ensures { GetFollows }
+{}
+
+/// A call opens a frame below its caller's, whose words that live in registers are in the homes of the frame that was opened.
+pub fn calls_follow()
+    ensures { CallsFollow }
+{}
+
+/// A return gives the caller its registers back, or leaves the program's outermost call as that was entered.
+pub fn returns_follow()
+    ensures { ReturnsFollow }
+{}
+
+/// One step of flat code, whatever stands there.
+pub fn step_follows()
+    ensures { StepFollows }
+{}
+
+/// So many steps of flat code, by the sums of the table's rows.
+pub fn runs_follow()
+    ensures { RunsFollow }
+{}
+
+/// Where a program's items stand, each instruction's items and each function's entry stand at their labels.
+pub fn laid_is_ready()
+    ensures { LaidIsReady }
+{}
+
+/// From a program's entry the machine comes to stand where flat code begins.
+pub fn begins_follow()
+    ensures { BeginsFollow }
+{}
+
+/// A flat program that ends: the machine ends with the same status, having done the same.
+pub fn ends_follow()
+    ensures { EndsFollow }
+{}
+
+/// Where a flat program goes on, the machine of the table does too, having done the same, and with the same input left.
+pub fn machine_goes_on()
+    ensures { MachineGoesOn }
+{}
+
+/// Where a flat program ends, the machine of the table ends with the same status, having done the same, and with the same input left.
+pub fn machine_ends()
+    ensures { MachineEnds }
 {}

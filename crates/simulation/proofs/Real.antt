@@ -1,0 +1,54 @@
+-- The table's machine follows flat code: from a program's entry on.
+use Rattle.std.proofs.Common.{◌≡◌, ℕ, List, [], refl, sym, ◌∙◌, subst, arith}
+use Rattle.events.specs.Events.{Event}
+use Rattle.sim.specs.Runs as machine
+use Rattle.frames.specs.Run.{State, running, start}
+use Rattle.running.specs.Light.{Light, Go, Done, Fell, light_run}
+use Rattle.running.specs.Whole.{Permits, fixed}
+use Rattle.running.specs.Worlds.{world, Follows}
+use Rattle.running.proofs.Worlds.{real_follows}
+use Rattle.running.proofs.Placing.{after_items}
+use Rattle.select.specs.Program.{program_items}
+use Rattle.simulation.specs.Matches.{Ground, Matches}
+use Rattle.simulation.specs.Runs.{ground_at, MachineGoesOn, MachineEnds}
+use Rattle.simulation.proofs.Inputs.{Reads, whole, whole_once, flat_reads, machine_reads, Has, Kept}
+use Rattle.simulation.proofs.Whole.{comes_to, ends}
+
+-- the world of a run that goes on
+record Shown (x : machine.Progress) (input : List ℕ) (trace : List Event) : Type 0 where
+  pub world : machine.World
+  pub is : x ≡ machine.Running world
+  pub trace_is : world.trace ≡ trace
+  pub input_is : world.input ≡ input
+
+shown : (P : Permits) (G : Ground) (s : State) (m : Light) (x : machine.Progress) → Matches G (running s) m → Follows P m x → Shown x s.input s.trace
+shown P G s (Go r at b i h) x q f = record { world = world P f.list at b i h; is = f.is; trace_is = q.2; input_is = q.1 }
+shown P G s (Done status h) x q f = absurd q
+shown P G s (Fell h) x q f = absurd q
+
+last : (P : Permits) (status : ℕ) (trace : List Event) (m : Light) (x : machine.Progress) → m ≡ Done status trace → Follows P m x → (w : machine.World) × (x ≡ machine.Ended status w) × (w.trace ≡ trace)
+last P status trace m x e f = subst (λ y. Follows P y x) e f
+
+pub goes_on : MachineGoesOn
+goes_on P low apart p env data_at base e r b list input q shows bytes n s over rooms =
+    let F = fixed P b in
+    let G = ground_at p F env data_at base r b in
+    let one = after_items F.text env data_at (program_items p) base e q.aligned q.stands in
+    let c = comes_to p F env data_at base e r b input q bytes n rooms in
+    let real = real_follows P low apart list r base b input [] shows (omega (arith, one.on, q.low)) c.j in
+    let x = machine.rvrun c.j (world P list base b input []) in
+    let w = shown P G s (light_run F c.j (Go r base b input [])) x (subst (λ y. Matches G y (light_run F c.j (Go r base b input []))) over c.good) real in
+    (c.j, w.world, c.some, c.within, w.is, w.trace_is, w.input_is)
+
+pub ends_so : MachineEnds
+ends_so P low apart p env data_at base e r b list input q shows bytes n status left trace over rooms =
+    let F = fixed P b in
+    let one = after_items F.text env data_at (program_items p) base e q.aligned q.stands in
+    let c = ends p F env data_at base e r b input q bytes n status left trace over rooms in
+    let real = real_follows P low apart list r base b input [] shows (omega (arith, one.on, q.low)) c.j in
+    let begin = world P list base b input [] in
+    let w = last P status trace (light_run F c.j (Go r base b input [])) (machine.rvrun c.j begin) c.good real in
+    let there : Reads input w.0.input w.0.trace = subst (Has input) w.1 (machine_reads input c.j begin refl) in
+    let here : whole trace w.0.input ≡ input = subst (λ h. whole h w.0.input ≡ input) w.2 there in
+    let flat : whole trace left ≡ input = subst (Kept (Reads input)) over (flat_reads p n (start p input) input refl) in
+    (c.j, w.0, c.within, w.1, w.2, whole_once trace w.0.input left (here ∙ sym flat))

@@ -1,0 +1,103 @@
+-- What simulation is of whole runs: a step, so many steps, a program's entry and its end.
+use Rattle.std.specs.Prelude.{◌≡◌, ◌≤◌, ◌<◌, ℕ, ◌+◌, ◌%◌, ◌^◌, true, false, List, [], length, slice_get}
+use Rattle.loader.specs.MemoryMap.{stack_end}
+use Rattle.asm.specs.Placed.{Stands}
+use Rattle.events.specs.Events.{Event}
+use Rattle.frames.specs.Code.{Program}
+use Rattle.frames.specs.Sound.{IsSoundProgram}
+use Rattle.frames.specs.Run.{State, running, ended, step, run, start}
+use Rattle.sim.specs.Runs.{World, Running, Ended, rvrun}
+use Rattle.running.specs.Light.{Fixed, Go, Done, Comes}
+use Rattle.running.specs.Whole.{Permits, fixed}
+use Rattle.running.specs.Worlds.{Registers, world}
+use Rattle.select.specs.Program.{program_items}
+use Rattle.simulation.specs.Matches.{Ground, Ready, Matched, Matches, HasRoom, Holds, Small, address, file_of}
+use Rattle.simulation.specs.Costs.{entry_cost, cost_if, least_if, next_of, spent, least_spent}
+use Rattle.simulation.specs.Laws.{Anything, AreBytes}
+
+-- Whatever instruction stands there; also where none does, or the step is stuck.
+abbrev pub StepFollows : Type 0
+StepFollows =
+    (G : Ground) (s : State) (r b : ℕ → ℕ) → Ready G → Matched G s r (address G s.frame.function s.frame.at) b → AreBytes s.input → HasRoom G (step G.program s)
+    → Comes G.machine Anything (least_if (next_of G.program s)) (cost_if (next_of G.program s)) (Go r (address G s.frame.function s.frame.at) b s.input s.trace) (Matches G (step G.program s))
+
+-- After n steps of flat code, after a count of instructions between the sums of the table's rows, the machine matches, where all frames on
+-- the way fit the stack.
+abbrev pub RunsFollow : Type 0
+RunsFollow =
+    (G : Ground) (n : ℕ) (s : State) (r b : ℕ → ℕ) → Ready G → Matched G s r (address G s.frame.function s.frame.at) b → AreBytes s.input → ((k : ℕ) → k ≤ n → HasRoom G (run G.program k s))
+    → Comes G.machine Anything (least_spent G.program n s) (spent G.program n s) (Go r (address G s.frame.function s.frame.at) b s.input s.trace) (Matches G (run G.program n s))
+
+-- ---- whole programs
+
+-- main is called with the stack pointer at the stack's end, and returned to behind its call
+abbrev pub ground_at : Program → Fixed → (env : ℕ → ℕ) → (data_at base : ℕ) → (r b : ℕ → ℕ) → Ground
+ground_at p F env data_at base r b = record {
+  program = p;
+  machine = F;
+  env = env;
+  data_at = data_at;
+  sp = stack_end;
+  ra = base + 16;
+  file = file_of r;
+  bytes = b;
+}
+
+-- A sound program's items stand from base up to e, below 2^31; the stack and the data may be read and written, and lie apart; the statics
+-- are in memory as they begin.
+pub record Laid (p : Program) (F : Fixed) (env : ℕ → ℕ) (data_at base e : ℕ) (r b : ℕ → ℕ) : Type 0 where
+  pub sound : IsSoundProgram p
+  pub stands : Stands F.text env data_at (program_items p) base e
+  pub aligned : base % 4 ≡ 0
+  pub low : e < 2 ^ 31
+  pub stack_read : (a : ℕ) → 0x7FF00000 ≤ a → a < 2 ^ 31 → F.can_read a ≡ true
+  pub stack_written : (a : ℕ) → 0x7FF00000 ≤ a → a < 2 ^ 31 → F.can_write a ≡ true
+  pub data_read : (a : ℕ) → data_at ≤ a → a < data_at + length p.statics → F.can_read a ≡ true
+  pub data_written : (a : ℕ) → data_at ≤ a → a < data_at + length p.statics → F.can_write a ≡ true
+  pub data_aligned : data_at % 4 ≡ 0
+  pub data_below : data_at + length p.statics ≤ 0x7FF00000
+  pub small : Small (file_of r)
+  pub bytes : (k : ℕ) → b k < 2 ^ 8
+  pub statics : Holds (slice_get p.statics) data_at 0 (length p.statics) b
+
+-- each instruction's items and each function's entry stand at their labels
+abbrev pub LaidIsReady : Type 0
+LaidIsReady = (p : Program) (F : Fixed) (env : ℕ → ℕ) (data_at base e : ℕ) (r b : ℕ → ℕ) → Laid p F env data_at base e r b → Ready (ground_at p F env data_at base r b)
+
+-- the items before main's call, the call, and main's entry
+abbrev pub start_cost : ℕ
+start_cost = 4 + entry_cost
+
+-- from its entry the machine comes to match the flat program's beginning
+abbrev pub BeginsFollow : Type 0
+BeginsFollow =
+    (p : Program) (F : Fixed) (env : ℕ → ℕ) (data_at base e : ℕ) (r b : ℕ → ℕ) (input : List ℕ) → Laid p F env data_at base e r b → HasRoom (ground_at p F env data_at base r b) (running (start p input))
+    → Comes F Anything 1 start_cost (Go r base b input []) (Matches (ground_at p F env data_at base r b) (running (start p input)))
+
+-- a flat program that ends in n steps: the machine ends with the same status, having done the same
+abbrev pub EndsFollow : Type 0
+EndsFollow =
+    (p : Program) (F : Fixed) (env : ℕ → ℕ) (data_at base e : ℕ) (r b : ℕ → ℕ) (input : List ℕ) → Laid p F env data_at base e r b → AreBytes input
+    → (n status : ℕ) (left : List ℕ) (trace : List Event) → run p n (start p input) ≡ ended status left trace
+    → ((k : ℕ) → k ≤ n → HasRoom (ground_at p F env data_at base r b) (run p k (start p input)))
+    → Comes F Anything 1 (start_cost + spent p n (start p input) + 2) (Go r base b input []) (λ m. m ≡ Done status trace)
+
+-- ---- on the machine of the table, where no byte may be both executed and written, and text lies below 2^31
+
+-- where the flat program goes on: the machine does too, having done the same and with the same input left
+abbrev pub MachineGoesOn : Type 0
+MachineGoesOn =
+    (P : Permits) → ((a : ℕ) → P.can_execute a ≡ true → a < 2 ^ 31) → ((a : ℕ) → P.can_execute a ≡ true → P.can_write a ≡ false)
+    → (p : Program) (env : ℕ → ℕ) (data_at base e : ℕ) (r b : ℕ → ℕ) (list input : List ℕ) → Laid p (fixed P b) env data_at base e r b → Registers list r → AreBytes input
+    → (n : ℕ) (s : State) → run p n (start p input) ≡ running s
+    → ((k : ℕ) → k ≤ n → HasRoom (ground_at p (fixed P b) env data_at base r b) (run p k (start p input)))
+    → (k : ℕ) × (w : World) × (1 + least_spent p n (start p input) ≤ k) × (k ≤ start_cost + spent p n (start p input)) × (rvrun k (world P list base b input []) ≡ Running w) × (w.trace ≡ s.trace) × (w.input ≡ s.input)
+
+-- where it ends
+abbrev pub MachineEnds : Type 0
+MachineEnds =
+    (P : Permits) → ((a : ℕ) → P.can_execute a ≡ true → a < 2 ^ 31) → ((a : ℕ) → P.can_execute a ≡ true → P.can_write a ≡ false)
+    → (p : Program) (env : ℕ → ℕ) (data_at base e : ℕ) (r b : ℕ → ℕ) (list input : List ℕ) → Laid p (fixed P b) env data_at base e r b → Registers list r → AreBytes input
+    → (n status : ℕ) (left : List ℕ) (trace : List Event) → run p n (start p input) ≡ ended status left trace
+    → ((k : ℕ) → k ≤ n → HasRoom (ground_at p (fixed P b) env data_at base r b) (run p k (start p input)))
+    → (k : ℕ) × (w : World) × (k ≤ start_cost + spent p n (start p input) + 2) × (rvrun k (world P list base b input []) ≡ Ended status w) × (w.trace ≡ trace) × (w.input ≡ left)
