@@ -1,3 +1,6 @@
 pub mod Verdicts
 mod Strings
 mod Lengths
+mod Limits
+mod ParameterRules
+mod Parameters
