@@ -19,7 +19,7 @@ use Rattle.expression_rules.specs.Forms.{seen}
 use Rattle.expression_rules.specs.Refused.{Tells}
 use Rattle.expression_rules.proofs.Verdicts.{tells_left, tells_right, tells_then}
 use Rattle.declarators.proofs.Verdicts.{next_of, both_fine}
-use Rattle.initialisers.specs.Values.{with_both, values_with, all_values_with, characters_with, text_with}
+use Rattle.initialisers.specs.inside.Values.{with_both, values_with, all_values_with, characters_with, text_with}
 
 -- ---- they depend on the texts and the literals alone
 
@@ -84,7 +84,7 @@ padded_more count vs ge =
     take_all count (vs ++ zeros (count - length vs)) (omega (arith, ge, a, b)) ∙ ap (λ l. l ++ zeros (count - length l)) (sym (take_all count vs ge))
 
 padded_is : (count : ℕ) (vs : List ℤ) → padded count vs ≡ take count vs ++ zeros (count - length (take count vs))
-padded_is count vs = elim (cases_lt count (length vs)) [ | inl lt ↦ padded_cut count vs lt | inr ge ↦ padded_more count vs ge ]
+padded_is count vs = elim (cases_lt count (length vs)) [ inl lt ↦ padded_cut count vs lt | inr ge ↦ padded_more count vs ge ]
 
 pub pad_is : (before vs old cut new : List ℤ) (start count end missing : ℕ) → old ≡ before ++ vs → start ≡ length before → end ≡ start + count → cut ≡ take end old → missing ≡ end - length cut → new ≡ cut ++ zeros missing →
     new ≡ before ++ padded count vs

@@ -16,7 +16,8 @@ use Rattle.scopes.specs.Scopes.{with_texts}
 use Rattle.expression_rules.specs.Forms.{seen}
 use Rattle.expression_rules.specs.Numbered.{numbered}
 use Rattle.const_expr.proofs.Numbered.{both_same, more, typing_same}
-use Rattle.initialisers.specs.Numbered.{initialiser_at, initialisers_at}
+use Rattle.initialisers.specs.Numbered.{initialiser_at}
+use Rattle.initialisers.specs.inside.Braces.{initialisers_at}
 
 number_same : (t : List (List ℕ)) (k l : List ℕ) (s : Scope) → length k ≡ length l → (ty : IntType) (e : Tree) → number_from (seen t k s) ty e ≡ number_from (seen t l s) ty e
 number_same t k l s h ty e = ap (λ v. then_check v (λ (x : Checked). then_check (worth code.VoidAssigned (position x) x) (of_number ty))) (typing_same t k l s h e)

@@ -18,7 +18,8 @@ use Rattle.expression_rules.specs.Refused.{Tells}
 use Rattle.expression_rules.specs.Numbered.{numbered}
 use Rattle.expression_rules.proofs.Verdicts.{tells_left, tells_right}
 use Rattle.declarators.proofs.Verdicts.{next_of, both_fine}
-use Rattle.initialisers.specs.Numbered.{initialiser_at, initialisers_at}
+use Rattle.initialisers.specs.Numbered.{initialiser_at}
+use Rattle.initialisers.specs.inside.Braces.{initialisers_at}
 use Rattle.initialisers.proofs.Numbered.{parts_past}
 
 abbrev pub parts_of : List Initialiser → Inits

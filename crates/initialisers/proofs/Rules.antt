@@ -26,8 +26,9 @@ use Rattle.expression_rules.proofs.Verdicts.{tells_right}
 use Rattle.declarators.proofs.Verdicts.{then_tells, provided_left}
 use Rattle.initialisers.specs.declared.forms.Wanted.{Wanted}
 use Rattle.initialisers.specs.declared.forms.Wanted.TheVariants as wanted
-use Rattle.initialisers.specs.Views.{wanted_of, string_in, option_string}
-use Rattle.initialisers.specs.Numbered.{initialiser_at, braced_string}
+use Rattle.initialisers.specs.Views.{wanted_of, option_string}
+use Rattle.initialisers.specs.Numbered.{initialiser_at}
+use Rattle.initialisers.specs.inside.Braces.{braced_string, string_in}
 use Rattle.initialisers.proofs.Shapes.{counted, sees_one, sees_list}
 
 -- ---- results
@@ -188,7 +189,7 @@ pub only_count : (r : Result held.Initialiser Refusal) (n m : ℕ) (is : List In
     m ≡ n + length (strings (tree_of e)) → OnOk r (m ≡ n + length (strings_of_all (inits_of (map init_of is))))
 only_count (Ok i) n m is first rest e a f h c =
     let k : strings_of_all (inits_of (map init_of is)) ≡ strings (tree_of e) = ap (λ l. strings_of_all (inits_of (map init_of l))) a ∙ ap (λ l. strings_of_all (inits_of (map init_of (first ∷ l)))) (nothing_more rest h)
-      ∙ ap (λ k. strings_of_all (and_init k no_inits)) (ap init_of f ∙ sees_one e) ∙ append-nil (strings (tree_of e)) in
+    ∙ ap (λ k. strings_of_all (and_init k no_inits)) (ap init_of f ∙ sees_one e) ∙ append-nil (strings (tree_of e)) in
     c ∙ ap (λ l. n + length l) (sym k)
 only_count (Err x) n m is first rest e a f h c = tt
 

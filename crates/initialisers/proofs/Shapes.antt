@@ -8,7 +8,8 @@ use Rattle.tree.specs.declared.declaration.Initialiser.{Initialiser, the_lemmas}
 use Rattle.tree.specs.declared.declaration.Initialiser as I
 use Rattle.tree.specs.View.{tree_of, init_of, inits_of}
 use Rattle.typed.specs.Initialisers.{count_of, text_alone}
-use Rattle.initialisers.specs.Views.{string_in, option_string}
+use Rattle.initialisers.specs.Views.{option_string}
+use Rattle.initialisers.specs.inside.Braces.{string_in}
 
 abbrev pub parts_of : List Initialiser → Inits
 parts_of is = inits_of (map init_of is)

@@ -10,11 +10,6 @@ abbrev pub wanted_of : Wanted → typed.Wanted
 wanted_of held.Number = typed.one_number
 wanted_of (held.Array room lengths) = typed.an_array room lengths.now
 
--- a string literal, not in parentheses
-abbrev pub string_in : Tree → Option (Pos × ℕ)
-string_in (string at n) = Some (at, n)
-string_in e = None
-
 -- a string literal by its place and its text
 abbrev pub option_string : Option (Pos × ℕ) → Option Tree
 option_string None = None

@@ -10,7 +10,7 @@ ghost use Rattle.typed.specs.Scope.{Scope};
 ghost use Rattle.typed.specs.Initialisers as typed;
 ghost use Rattle.expression_rules.specs.Refused.{Tells};
 ghost use Rattle.expression_rules.specs.Forms.{seen};
-ghost use Rattle.initialisers.specs.Values.{values_with, all_values_with, value_with, text_with, characters_with};
+ghost use Rattle.initialisers.specs.inside.Values.{values_with, all_values_with, value_with, text_with, characters_with};
 
 use const_expr::folded;
 use ctypes::{IntType, convert};

@@ -4,7 +4,8 @@
 ghost use Rattle.std.specs.Prelude.{◌≡◌, map};
 ghost use Rattle.tree.specs.View.{tree_of, init_of, inits_of};
 ghost use Rattle.typed.specs.Initialisers as typed;
-ghost use Rattle.initialisers.specs.Views.{wanted_of, string_in, option_string};
+ghost use Rattle.initialisers.specs.Views.{wanted_of, option_string};
+ghost use Rattle.initialisers.specs.inside.Braces.{string_in};
 
 use ctypes::IntType;
 use srcset::Pos;

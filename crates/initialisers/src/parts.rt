@@ -22,8 +22,7 @@ use program::Initialiser;
 use scopes::Scope;
 use srcset::{Code, Names, Pos, Refusal};
 use std::alloc::Global;
-use tree::Expr;
-use tree::Initialiser as Init;
+use tree::{Expr, Initialiser as Init};
 
 /// The place of an expression.
 fn place_of(x: &Checked) -> Pos

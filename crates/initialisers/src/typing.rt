@@ -12,7 +12,8 @@ ghost use Rattle.typed.specs.Initialisers.{an_array};
 ghost use Rattle.scopes.specs.Scopes.{with_texts};
 ghost use Rattle.expression_rules.specs.Refused.{Tells};
 ghost use Rattle.initialisers.specs.Views.{wanted_of, option_string};
-ghost use Rattle.initialisers.specs.Numbered.{initialiser_at, initialisers_at, list_at, braced_text_at, braced_string};
+ghost use Rattle.initialisers.specs.Numbered.{initialiser_at};
+ghost use Rattle.initialisers.specs.inside.Braces.{braced_string, braced_text_at, initialisers_at, list_at};
 
 use crate::forms::{Wanted, exceeds, has_characters, text_alone, wanted_object};
 use crate::parts::{array_from, in_braces, number_from, number_in_braces, text_from};
@@ -22,8 +23,7 @@ use program::Initialiser;
 use scopes::Scope;
 use srcset::{Code, Names, Pos, Refusal};
 use std::alloc::Global;
-use tree::Expr;
-use tree::Initialiser as Init;
+use tree::{Expr, Initialiser as Init};
 
 /// An initialiser without braces.
 fn without_braces(
@@ -198,9 +198,7 @@ pub fn initialiser_behind(
     ensures count { OnOk result (literals.new ≡ literals.old + length (typed.strings_of (init_of init.now))) }
 {
     match init {
-        Init::One(e) => without_braces(
-            alloc, names, scope, literals, pos, element, wanted, top, e,
-        ),
+        Init::One(e) => without_braces(alloc, names, scope, literals, pos, element, wanted, top, e),
         Init::List(brace, parts) => match wanted {
             Wanted::Number => {
                 number_in_braces(alloc, names, scope, literals, *brace, element, parts)

@@ -3,7 +3,8 @@ use Rattle.program.specs.View.{initialiser_of, initialisers_of}
 use Rattle.tree.specs.View.{init_of, inits_of}
 use Rattle.typed.specs.Verdict.{fine}
 use Rattle.expression_rules.specs.Numbered.{numbered}
-use Rattle.initialisers.specs.Numbered.{initialiser_at, initialisers_at}
+use Rattle.initialisers.specs.Numbered.{initialiser_at}
+use Rattle.initialisers.specs.inside.Braces.{initialisers_at}
 use Rattle.initialisers.proofs.Readings.{begun, step, ended}
 use Rattle.initialisers.proofs.Rules.{gives, tells, braced_text_rule, list_of_none, array_rule}
 use Rattle.initialisers.proofs.typing.+typing.Goals as goal

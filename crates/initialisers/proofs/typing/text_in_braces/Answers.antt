@@ -5,7 +5,7 @@ use Rattle.typed.specs.Program as program
 use Rattle.typed.specs.Initialisers as typed
 use Rattle.expression_rules.specs.Numbered.{numbered}
 use Rattle.expression_rules.proofs.Verdicts.{tells_then}
-use Rattle.initialisers.specs.Numbered.{braced_text_at}
+use Rattle.initialisers.specs.inside.Braces.{braced_text_at}
 use Rattle.initialisers.proofs.Rules.{braced_ok}
 use Rattle.initialisers.proofs.typing.text_in_braces.Goals as goal
 
