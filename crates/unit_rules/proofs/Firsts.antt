@@ -1,12 +1,12 @@
 -- The first use of what has no definition.
-use Rattle.std.proofs.Common.{◌≡◌, ℕ, zero, suc, ◌+◌, ◌<◌, Bool, true, false, not, ◌&&◌, ◌||◌, nat_eq, List, [], ◌∷◌, ◌++◌, take, get_or, length, Option, Some, None, refl, ap, sym, ◌∙◌, subst, append_assoc, append-nil, inl, arith}
+use Rattle.std.proofs.Common.{◌≡◌, ℕ, ◌+◌, ◌<◌, Bool, true, false, not, ◌&&◌, ◌||◌, nat_eq, List, [], ◌∷◌, ◌++◌, take, get_or, length, Option, Some, None, refl, ap, sym, ◌∙◌, subst, append_assoc, append-nil, inl, arith}
 use Rattle.std.proofs.lemmas.List.{take_more}
 use Rattle.srcset.specs.declared.refusal.Pos.{Pos}
 use Rattle.srcset.specs.declared.refusal.Refusal.TheVariants.{At}
 use Rattle.srcset.specs.declared.code.Code.TheVariants as code
 use Rattle.program.specs.View.{Given, number_given, array_given, and_given}
 use Rattle.typed.specs.Program.{Arguments}
-use Rattle.typed.specs.Verdict.{Verdict, fine, broken, refuse_if, each, Stands}
+use Rattle.typed.specs.Verdict.{Verdict, fine, refuse_if, each, Stands}
 use Rattle.typed.specs.Scope.{Scope, StaticObject}
 use Rattle.typed.specs.Uses.{Used, an_object, a_function, Use, is_undefined, same_use, is_used_in, all_defined, uses_in_arguments}
 use Rattle.expression_rules.proofs.Verdicts.{each_right, each_fine}

@@ -1,5 +1,5 @@
 -- The first use, in the order of the source, of what has no definition.
-use Rattle.std.specs.Prelude.{ℕ, Bool, true, false, List, [], ◌∷◌, Option, Some, None, slice_get}
+use Rattle.std.specs.Prelude.{Bool, true, false, List, [], ◌∷◌, Option, Some, None, slice_get}
 use Rattle.srcset.specs.declared.refusal.Pos.{Pos}
 use Rattle.program.specs.View.{Given, number_given, array_given}
 use Rattle.typed.specs.Scope.{StaticObject}

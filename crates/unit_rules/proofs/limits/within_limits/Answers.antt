@@ -1,4 +1,4 @@
-use Rattle.std.proofs.Common.{sym, subst, length, map, refl, arith}
+use Rattle.std.proofs.Common.{sym, subst, length}
 use Rattle.std.proofs.lemmas.List.{length-map}
 use Rattle.program.specs.View.{function_of}
 use Rattle.typed.specs.Units.{within_limits}

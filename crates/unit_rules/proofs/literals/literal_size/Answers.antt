@@ -1,4 +1,4 @@
-use Rattle.std.proofs.Common.{length, ap, ◌∙◌, sym, subst, arith}
+use Rattle.std.proofs.Common.{ap, ◌∙◌, arith}
 use Rattle.tree.specs.Capped.{capped32}
 use Rattle.tree.proofs.Sums.{capped32_one}
 use Rattle.scopes.specs.Scopes.{with_texts}

@@ -1,4 +1,4 @@
-use Rattle.std.proofs.Common.{get_or, map, arith}
+use Rattle.std.proofs.Common.{get_or, arith}
 use Rattle.std.proofs.lemmas.List.{get_or_default}
 use Rattle.scopes.specs.Scopes.{with_texts}
 use Rattle.typed.specs.Units.{literals_of}
