@@ -3,7 +3,7 @@
 #define R Q Q Q Q Q Q Q Q Q Q Q Q Q Q Q Q
 #define S R R R R R R R R R R R R R R R R
 #define T S S S S S S S S S S S S S S S S
-int
+char
 static
     a[]
     = T;
