@@ -35,7 +35,7 @@ verdict() {
 # compare TABLE FOLDER: the columns of a table, and that it has just the sources of the folder.
 compare() {
     cd "$2" || exit 1
-    sed '/^#/d; s/ *#.*//; s/ ok / ok 0 /' "$1" | while read -r name _ line gcc_said clang_said; do
+    sed '/^#/d; s/ *#.*//; s/^\([^ ]*\) *ok /\1 ok 0 /' "$1" | while read -r name _ line gcc_said clang_said; do
         [ "$line" = 0 ] && line=ok
         # shellcheck disable=SC2086 # words of a command
         now="$(verdict "$name.c" $gcc) $(verdict "$name.c" $clang)"
