@@ -1,9 +1,11 @@
 """A second reading of the constraints, written from ISO/IEC 9899:2011 6.2 to 6.9 and the definitions of crates/typed alone.
 
-faults(SOURCE) gives the codes and lines that stand in a source, or none. It reads the profile's grammar; a source outside it is
-an error. Of the preprocessor it knows object-like macros without arguments.
+    python3 tests/outside/constraints/model.py
+
+asks it for the sources of rows.txt and accepted.txt. faults(SOURCE) gives the codes and lines that stand in a source, or none. It
+reads the profile's grammar; a source outside it is an error. Of the preprocessor it knows object-like macros alone.
 """
-import re, sys
+import pathlib, re, sys
 from dataclasses import dataclass, replace, field
 from typing import Any
 
@@ -24,8 +26,16 @@ def both(*parts):
     return got
 
 # ------------------------------------------------------------------ tokens
-KEY = set('break case char const continue default do else enum extern for if int long return short signed sizeof static switch unsigned void while _Bool _Static_assert'.split())
-TOKEN = re.compile(r'''\s+|/\*.*?\*/|//[^\n]*|(?P<str>"(?:\\.|[^"\\])*")|(?P<chr>'(?:\\.|[^'\\])+')|(?P<num>\.?[0-9](?:[eEpP][+-]|[\w.])*)|(?P<name>[A-Za-z_]\w*)|(?P<op><<=|>>=|\+\+|--|<<|>>|<=|>=|==|!=|&&|\|\||[-+*/%&|^]=|<:|:>|<%|%>|[-+*/%&|^~!<>=?:;,(){}\[\]])|(?P<bad>.)''', re.S)
+KEY = set('''break case char const continue default do else enum extern for if int long return short signed sizeof static switch
+    unsigned void while _Bool _Static_assert'''.split())
+TOKEN = re.compile(r'''
+    \s+ | /\*.*?\*/ | //[^\n]*
+    | (?P<str>"(?:\\.|[^"\\])*")
+    | (?P<chr>'(?:\\.|[^'\\])+')
+    | (?P<num>\.?[0-9](?:[eEpP][+-]|[\w.])*)
+    | (?P<name>[A-Za-z_]\w*)
+    | (?P<op><<=|>>=|\+\+|--|<<|>>|<=|>=|==|!=|&&|\|\||[-+*/%&|^]=|<:|:>|<%|%>|[-+*/%&|^~!<>=?:;,(){}\[\]])
+    | (?P<bad>.)''', re.S | re.X)
 DIGRAPH = {'<:': '[', ':>': ']', '<%': '{', '%>': '}'}
 ESC = {'n': 10, 't': 9, 'r': 13, 'v': 11, 'f': 12, 'a': 7, 'b': 8, '\\': 92, "'": 39, '"': 34, '?': 63}
 def unescape(body):
@@ -60,9 +70,6 @@ def lex(source):
                 t = m[0]
                 dest.append((kind, DIGRAPH.get(t, t), at))
             if moving: at += m[0].count('\n')
-    body, lines = '', source.split('\n')
-    source = re.sub(r'\\\n', '', source) if '\\\n' in source else source
-    at, k = 1, 0
     run, start = [], 1
     for k, l in enumerate(source.split('\n'), 1):
         d = re.match(r'\s*#\s*define\s+(\w+)\s*(.*)', l)
@@ -184,7 +191,8 @@ class Parser:
         if not self.sees(';'):
             while True:
                 items.append(self.item(file))
-                if file and len(items) == 1 and items[0][0] == 'function' and self.sees('{'): return ('def', at, ss, items[0], self.block())
+                if file and len(items) == 1 and items[0][0] == 'function' and self.sees('{'):
+                    return ('def', at, ss, items[0], self.block())
                 if self.sees(','): self.take()
                 else: break
         self.eat(';'); return ('declared', at, ss, items)
@@ -206,7 +214,8 @@ class Parser:
         if self.sees('while', 'switch'):
             w = self.take()[1]; self.eat('('); e = self.expr(); self.eat(')'); return (w, at, e, self.stmt())
         if self.sees('do'):
-            self.take(); a = self.stmt(); self.eat('while'); self.eat('('); e = self.expr(); self.eat(')'); self.eat(';'); return ('do', at, a, e)
+            self.take(); a = self.stmt(); self.eat('while'); self.eat('('); e = self.expr(); self.eat(')'); self.eat(';')
+            return ('do', at, a, e)
         if self.sees('for'):
             self.take(); self.eat('(')
             if self.starts_declaration(): start = ('d', self.declaration(False))
@@ -236,7 +245,8 @@ class Parser:
         if self.sees('?'):
             at = self.take()[2]; a = self.expr(); self.eat(':'); return ('cond', at, c, a, self.cond())
         return c
-    LEVELS = [('||',), ('&&',), ('|',), ('^',), ('&',), ('==', '!='), ('<', '>', '<=', '>='), ('<<', '>>'), ('+', '-'), ('*', '/', '%')]
+    LEVELS = [('||',), ('&&',), ('|',), ('^',), ('&',), ('==', '!='), ('<', '>', '<=', '>='),
+              ('<<', '>>'), ('+', '-'), ('*', '/', '%')]
     def level(self, k):
         if k == len(self.LEVELS): return self.cast()
         e = self.level(k + 1)
@@ -324,12 +334,14 @@ class Scope:
     literals: tuple = (); statics: tuple = (); objects: tuple = ()
     def lookup(self, n): return next((b for b in self.bindings if b.name == n), None)
     def tag(self, n): return next((t for t in self.tags if t[0] == n), None)
-    def named(self, n, meaning, linkage, state): return replace(self, bindings=(Binding(n, self.level, meaning, linkage, state),) + self.bindings)
+    def named(self, n, meaning, linkage, state):
+        return replace(self, bindings=(Binding(n, self.level, meaning, linkage, state),) + self.bindings)
     def tagged(self, n, complete): return replace(self, tags=((n, self.level, complete),) + self.tags)
     def more(self, texts): return replace(self, literals=self.literals + tuple(texts)) if texts else self
     def inside(self): return replace(self, level=self.level + 1)
 def outside(outer, s): return replace(s, bindings=outer.bindings, tags=outer.tags, level=outer.level)
-BUILT = {'rv_getbyte': ('int', False, ()), 'rv_putbyte': (None, False, (('number', 'int'),)), 'rv_exit': (None, False, (('number', 'int'),))}
+BUILT = {'rv_getbyte': ('int', False, ()), 'rv_putbyte': (None, False, (('number', 'int'),)),
+         'rv_exit': (None, False, (('number', 'int'),))}
 def strings(e):
     k = e[0]
     if k == 'str': return [len(e[2])]
@@ -351,11 +363,13 @@ def init_strings(i): return strings(i[1]) if i[0] == 'one' else sum((init_string
 # ------------------------------------------------------------------ specifiers
 def norm(words): return tuple(sorted(words))
 SETS = {}
-for text, t in [('void', None), ('char', 'char'), ('signed char', 'schar'), ('unsigned char', 'uchar'), ('short', 'short'), ('signed short', 'short'),
-                ('short int', 'short'), ('signed short int', 'short'), ('unsigned short', 'ushort'), ('unsigned short int', 'ushort'), ('int', 'int'),
-                ('signed', 'int'), ('signed int', 'int'), ('unsigned', 'uint'), ('unsigned int', 'uint'), ('long', 'long'), ('signed long', 'long'),
-                ('long int', 'long'), ('signed long int', 'long'), ('unsigned long', 'ulong'), ('unsigned long int', 'ulong'), ('_Bool', 'bool')]:
-    SETS[norm(text.split())] = t
+for t, texts in [
+        (None, ['void']), ('char', ['char']), ('schar', ['signed char']), ('uchar', ['unsigned char']),
+        ('short', ['short', 'signed short', 'short int', 'signed short int']), ('ushort', ['unsigned short', 'unsigned short int']),
+        ('int', ['int', 'signed', 'signed int']), ('uint', ['unsigned', 'unsigned int']),
+        ('long', ['long', 'signed long', 'long int', 'signed long int']), ('ulong', ['unsigned long', 'unsigned long int']),
+        ('bool', ['_Bool'])]:
+    for text in texts: SETS[norm(text.split())] = t
 def base_in(s, at, lists, ss):
     tags = [x[1] for x in ss if x[0] == 'enum']
     words = [x[1] for x in ss if x[0] == 'word']
@@ -372,7 +386,8 @@ def base_in(s, at, lists, ss):
     return got[-1], const
 
 # ------------------------------------------------------------------ expressions
-# checked: ('value', at, t, e) ('object', at, t, const, place) ('array', at, declared, place) ('reference', at, Obj, place) ('nothing', at, e) ('designator', at)
+# checked: ('value', at, t, e) ('object', at, t, const, place) ('array', at, declared, place) ('reference', at, Obj, place)
+#          ('nothing', at, e) ('designator', at)
 # values: ('k', t, v) ('read', t, place) ('effect', at, [parts]) ('unary', at, op, t, e) ('bin', at, op, t, a, b) ('and', a, b) ('or', a, b)
 #         ('cond', t, c, a, b) ('seq', a, b) ('cast', t, e) ('void', e) ('call', at, name, args)
 # places: ('named', at, storage) ('element', at, place, value); storage ('lit',) ('static', n) ('auto',) ('param',)
@@ -388,7 +403,9 @@ def effect(x):
     breaks(620, x[1])
 def designated(at, o, place): return ('array', at, ('complete', o), place) if o.lengths else ('object', at, o.element, o.const, place)
 def meant(at, m):
-    if m[0] == 'object': return designated(at, m[2][1], ('named', at, m[1])) if m[2][0] == 'complete' else ('array', at, m[2], ('named', at, m[1]))
+    if m[0] == 'object':
+        place = ('named', at, m[1])
+        return designated(at, m[2][1], place) if m[2][0] == 'complete' else ('array', at, m[2], place)
     if m[0] == 'reference': return ('reference', at, m[1], ('named', at, ('param',)))
     if m[0] == 'function': return ('designator', at)
     return ('value', at, 'int', ('k', 'int', m[1]))
@@ -485,7 +502,9 @@ def typing(s, e):
         t = operands_type(op, x[0], y[0])
         return ('value', at, 'int' if op in COMPARE else t, ('bin', at, op, t, x[1], y[1]))
     if k == 'cond':
-        c, (a, b) = both(lambda: worth(535, at, typing(s, e[2])), lambda: both(lambda: typing(past(s, e[2]), e[3]), lambda: typing(past(past(s, e[2]), e[3]), e[4])))
+        s2 = past(s, e[2])
+        c, (a, b) = both(lambda: worth(535, at, typing(s, e[2])),
+                         lambda: both(lambda: typing(s2, e[3]), lambda: typing(past(s2, e[3]), e[4])))
         if a[0] == b[0] == 'nothing': return ('nothing', at, ('cond', None, c[1], a[2], b[2]))
         x, y = both(lambda: worth(538, at, a), lambda: worth(538, at, b))
         t = usual(x[0], y[0])
@@ -616,14 +635,16 @@ def parameters_in(s, ps):
             return ('elements', o)
         _, p = both(lambda: fresh(s, at, n) if n else None, obj)
         s = s.more(size_strings(sizes))
-        if n: s = s.named(n, ('object', ('auto',), ('complete', p[1])) if p[0] == 'number' else ('reference', p[1]), None, 'defined')
+        m = ('object', ('auto',), ('complete', p[1])) if p[0] == 'number' else ('reference', p[1])
+        if n: s = s.named(n, m, None, 'defined')
         if p[0] == 'number': s = replace(s, objects=s.objects + (p[1],))
         types.append(('number', p[1].element) if p[0] == 'number' else p)
     return tuple(types), s
 # ------------------------------------------------------------------ linkage
 def as_built_in(at, meaning, linkage, state, n):
     if n not in BUILT: return
-    both(lambda: refuse_if(not (meaning[0] == 'function' and meaning[1] == BUILT[n]), 515, at), lambda: refuse_if(linkage == 'internal', 516, at), lambda: refuse_if(state == 'defined', 553, at))
+    both(lambda: refuse_if(meaning != ('function', BUILT[n]), 515, at),
+         lambda: refuse_if(linkage == 'internal', 516, at), lambda: refuse_if(state == 'defined', 553, at))
 def composite_meaning(a, b):
     if a[0] == b[0] == 'object':
         t = composite(a[2], b[2]); return None if t is None else ('object', a[1], t)
@@ -640,7 +661,8 @@ def declared_at_file(s, at, n, meaning, linkage, state):
             m = composite_meaning(old.meaning, meaning)
             if m is None: breaks(515, at)
             return m
-        m = both(lambda: refuse_if(old.linkage != linkage, 516, at), lambda: refuse_if(old.state == state == 'defined', 517, at), same)[-1]
+        m = both(lambda: refuse_if(old.linkage != linkage, 516, at),
+                 lambda: refuse_if(old.state == state == 'defined', 517, at), same)[-1]
         return m, old.linkage, max(old.state, state, key=lambda x: RANK[x])
     m, l, st = both(lambda: as_built_in(at, meaning, linkage, state, n), again)[-1]
     s = s.named(n, m, l, st)
@@ -660,6 +682,7 @@ def file_function(s, at, n, cls, f, state): return declared_at_file(s, at, n, ('
 # ------------------------------------------------------------------ initialisers
 def wanted(lengths): return None if not lengths else (lengths[0], lengths[1:])
 def characters(t, lengths): return not lengths and t in ('char', 'schar', 'uchar')
+def alone(parts): return len(parts) == 1 and parts[0][0] == 'one' and parts[0][1][0] == 'str'
 def number_from(s, t, e):
     x = typing(s, e); return ('v', worth(534, x[1], x)[1])
 def array_from(s, at, t, room, lengths, top, e):
@@ -672,10 +695,10 @@ def initialiser(s, at, t, w, top, i):
     p, parts = i[1], i[2]
     if w is None:
         if len(parts) == 1 and parts[0][0] == 'one': return number_from(s, t, parts[0][1])
-        if len(parts) > 1 and parts[0][0] == 'one' and parts[1:]: both(lambda: number_from(s, t, parts[0][1]), lambda: breaks(520, p))
+        if len(parts) > 1 and parts[0][0] == 'one': both(lambda: number_from(s, t, parts[0][1]), lambda: breaks(520, p))
         breaks(521, p)
     room, lengths = w
-    if characters(t, lengths) and len(parts) == 1 and parts[0][0] == 'one' and parts[0][1][0] == 'str': return array_from(s, at, t, room, lengths, False, parts[0][1])
+    if characters(t, lengths) and alone(parts): return array_from(s, at, t, room, lengths, False, parts[0][1])
     def all_(s, ps):
         if not ps: return []
         a, b = both(lambda: initialiser(s, p, t, wanted(lengths), False, ps[0]), lambda: all_(s.more(init_strings(ps[0])), ps[1:]))
@@ -708,7 +731,8 @@ def enumerated(s, at, tag, es):
     def go(s):
         nxt = 0
         for eat, n, e in es:
-            def new(): both(lambda: fresh(s, eat, n), lambda: as_built_in(eat, ('enumerator', 0), None, 'mentioned', n) if s.level == 0 else None)
+            def built_in(): return as_built_in(eat, ('enumerator', 0), None, 'mentioned', n) if s.level == 0 else None
+            def new(): both(lambda: fresh(s, eat, n), built_in)
             def val():
                 v = nxt if e is None else constant_value(s, e)[1]
                 refuse_if(not fits('int', v), 524, eat); return v
@@ -743,7 +767,7 @@ def length_from(s, at, o, i):
         breaks(521, at)
     if i[0] == 'one': return text(i[1], at)
     parts = i[2]
-    if characters(o.element, o.lengths) and len(parts) == 1 and parts[0][0] == 'one' and parts[0][1][0] == 'str': return text(parts[0][1], i[1])
+    if characters(o.element, o.lengths) and alone(parts): return text(parts[0][1], i[1])
     if not parts: breaks(521, i[1])
     return len(parts)
 def finished(s, cls, at, n, t, init):
@@ -813,7 +837,8 @@ def statement(a, direct, s, x):
     k, at = x[0], x[1]
     if k == 'case':
         if direct is None: misplaced(a, at)
-        v, (ls, u, s2) = both(lambda: converted(direct, constant_value(s, x[2])[1]), lambda: statement(a, direct, past(s, x[2]), x[3]))
+        v, (ls, u, s2) = both(lambda: converted(direct, constant_value(s, x[2])[1]),
+                              lambda: statement(a, direct, past(s, x[2]), x[3]))
         return [(at, v)] + ls, u, s2
     if k == 'default':
         if direct is None: misplaced(a, at)
@@ -823,7 +848,8 @@ def statement(a, direct, s, x):
     if k == 'empty': return [], [], s
     if k == 'expr': return [], uses(effect(typing(s, x[2]))), past(s, x[2])
     if k == 'if':
-        c, (ls, u, s2) = both(lambda: valued(539, at, s, x[2]), lambda: statement(a, None, past(s, x[2]), x[3])); return [], uses(c[1]) + u, s2
+        c, (ls, u, s2) = both(lambda: valued(539, at, s, x[2]), lambda: statement(a, None, past(s, x[2]), x[3]))
+        return [], uses(c[1]) + u, s2
     if k == 'ifelse':
         c, (ls, u, s2) = both(lambda: valued(539, at, s, x[2]), lambda: statement(a, None, past(s, x[2]), x[3]))
         ls, w, s3 = statement(a, None, s2, x[4]); return [], uses(c[1]) + u + w, s3
@@ -834,7 +860,9 @@ def statement(a, direct, s, x):
         both(*[lambda i=i: refuse_if(any(m[1] == ls[i][1] for m in ls[:i]), 540, ls[i][0]) for i in range(len(ls))])
         return [], uses(c[1]) + u, outside(s, s2)
     if k == 'while':
-        c, (ls, u, s2) = both(lambda: valued(539, at, s, x[2]), lambda: statement(replace(a, loop=True), None, past(s, x[2]), x[3])); return [], uses(c[1]) + u, s2
+        c, (ls, u, s2) = both(lambda: valued(539, at, s, x[2]),
+                              lambda: statement(replace(a, loop=True), None, past(s, x[2]), x[3]))
+        return [], uses(c[1]) + u, s2
     if k == 'do':
         ls, u, s2 = statement(replace(a, loop=True), None, s, x[2])
         c = valued(539, at, s2, x[3]); return [], u + uses(c[1]), past(s2, x[3])
@@ -849,8 +877,10 @@ def statement(a, direct, s, x):
             return both(fit, lambda: declaration_typed(si, d))[1]
         d, du = first()
         def control():
-            return both(lambda: [] if test is None else uses(valued(539, at, d, test)[1]), lambda: [] if step is None else uses(effect(typing(past(d, test), step))))
-        (tu, su), (ls, u, s2) = both(control, lambda: statement(replace(a, loop=True), None, past(past(d, test), step).inside(), x[5]))
+            return both(lambda: [] if test is None else uses(valued(539, at, d, test)[1]),
+                        lambda: [] if step is None else uses(effect(typing(past(d, test), step))))
+        inner_scope = past(past(d, test), step).inside()
+        (tu, su), (ls, u, s2) = both(control, lambda: statement(replace(a, loop=True), None, inner_scope, x[5]))
         return [], du + tu + su + u, outside(s, s2)
     if k == 'break': refuse_if(not (a.loop or a.switch), 542, at); return [], [], s
     if k == 'continue': refuse_if(not a.loop, 542, at); return [], [], s
@@ -883,7 +913,8 @@ def specs_nodes(ss): return sum(sum(1 + opt(e[2]) for e in x[2]) for x in ss if 
 def params_nodes(ps): return sum(1 + sum(map(opt, p[4])) for p in ps)
 def decl_nodes(d):
     if d[0] == 'assert': return 1 + expr_nodes(d[2])
-    return specs_nodes(d[2]) + sum(1 + (params_nodes(i[3]) if i[0] == 'function' else sum(map(opt, i[3])) + (init_nodes(i[4]) if i[4] else 0)) for i in d[3])
+    def item(i): return params_nodes(i[3]) if i[0] == 'function' else sum(map(opt, i[3])) + (init_nodes(i[4]) if i[4] else 0)
+    return specs_nodes(d[2]) + sum(1 + item(i) for i in d[3])
 def stmt_nodes(x):
     k = x[0]
     if k == 'block': return 1 + pieces_nodes(x[2])
@@ -905,7 +936,8 @@ def function_typed(s, d):
     _, start, ss, f, body = d
     _, at, name, ps = f
     cls, base, s1 = specified(s, start, ss)
-    _, (types, inside) = both(lambda: both(*[lambda p=p: refuse_if(p[3] is None, 527, p[2]) for p in ps]), lambda: parameters_in(s1, ps))
+    def all_named(): return both(*[lambda p=p: refuse_if(p[3] is None, 527, p[2]) for p in ps])
+    _, (types, inside) = both(all_named, lambda: parameters_in(s1, ps))
     ftype = (base[0], base[1], types)
     file = file_function(replace(s1, literals=inside.literals), at, name, cls, ftype, 'defined')
     newer = inside.bindings[:len(inside.bindings) - len(s1.bindings)]
@@ -938,3 +970,21 @@ def faults(source):
     try: unit(tree)
     except Broken as b: return sorted(set(b.faults))
     return []
+
+def main():
+    here = pathlib.Path(__file__).parent
+    passed = failed = 0
+    for table, folder in (('rows.txt', 'rows'), ('accepted.txt', 'accepted')):
+        for row in (here / table).read_text().splitlines():
+            if row.startswith('#'): continue
+            name, code, line = row.split()[:2] + [row.split()[2] if len(row.split()) > 2 else '']
+            want = [(int(code), int(line))] if folder == 'rows' and code != 'ok' else []
+            got = faults((here / folder / f'{name}.c').read_text())
+            if got == want: passed += 1
+            else:
+                failed += 1
+                print(f'FAIL {name}: {got}, not {want}')
+    print(f'{passed} passed, {failed} failed')
+    return failed != 0
+
+if __name__ == '__main__': sys.exit(main())
