@@ -1,0 +1,2 @@
+int a[];
+int main(void) { a[0] = 9; return a[0]; }

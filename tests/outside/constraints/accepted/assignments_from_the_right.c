@@ -1,0 +1,1 @@
+int main(void) { int a, b, c; a = b = c = 2; return a + b + c; }

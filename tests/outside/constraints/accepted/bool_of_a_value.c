@@ -1,0 +1,1 @@
+int main(void) { _Bool b = 256; return b; }

@@ -1,0 +1,3 @@
+int rv_getbyte(void);
+extern void rv_exit(int);
+int main(void) { return 0; }

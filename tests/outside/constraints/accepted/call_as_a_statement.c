@@ -1,0 +1,3 @@
+int n;
+int f(void) { return ++n; }
+int main(void) { f(); f(); return n; }

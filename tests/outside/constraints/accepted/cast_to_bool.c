@@ -1,0 +1,1 @@
+int main(void) { return (_Bool)0x100; }

@@ -1,0 +1,1 @@
+int main(void) { int a = 3; (void)a++; return a; }

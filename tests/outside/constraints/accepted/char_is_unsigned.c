@@ -1,0 +1,1 @@
+int main(void) { char c = 255; return c == 255; }

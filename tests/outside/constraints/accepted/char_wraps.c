@@ -1,0 +1,1 @@
+int main(void) { char c = 300; return c; }

@@ -1,0 +1,1 @@
+int main(void) { int a = 1; return (a ? -1 : 0u) > 0; }

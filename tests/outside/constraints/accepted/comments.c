@@ -1,0 +1,3 @@
+/* one */ int main(void) { // two
+    return /* three */ 4; /* four
+    */ }

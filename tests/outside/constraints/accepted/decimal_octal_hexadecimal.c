@@ -1,0 +1,1 @@
+int main(void) { return 10 + 010 + 0x8; }

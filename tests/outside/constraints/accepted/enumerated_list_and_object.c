@@ -1,0 +1,2 @@
+enum e { A = 2, B } x = B;
+int main(void) { return x + A; }

@@ -1,0 +1,2 @@
+enum color { RED, GREEN, BLUE };
+int main(void) { enum color c = GREEN; return c; }

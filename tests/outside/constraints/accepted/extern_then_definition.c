@@ -1,0 +1,3 @@
+extern int a;
+int main(void) { return a; }
+int a = 4;

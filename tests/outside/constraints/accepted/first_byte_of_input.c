@@ -1,0 +1,2 @@
+int rv_getbyte(void);
+int main(void) { return rv_getbyte(); }

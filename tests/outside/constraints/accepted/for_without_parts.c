@@ -1,0 +1,1 @@
+int main(void) { int i = 0; for (;;) { if (i == 4) return i; i++; } }

@@ -1,0 +1,2 @@
+int f(void) { return 5; }
+int main(void) { return f(); }

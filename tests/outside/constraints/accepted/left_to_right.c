@@ -1,0 +1,1 @@
+int main(void) { return 20 - 10 - 7; }

@@ -1,0 +1,2 @@
+int f(void) { return 1; }
+int main(void) { int f = 8; return f; }

@@ -1,0 +1,1 @@
+int main(void) { int a = 256; return !!a; }

@@ -1,0 +1,2 @@
+int a, b[3];
+int main(void) { return a + b[2]; }

@@ -1,0 +1,3 @@
+int a = 1;
+int f(int a) { return a; }
+int main(void) { return f(4); }

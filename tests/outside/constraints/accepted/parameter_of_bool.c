@@ -1,0 +1,2 @@
+int f(_Bool b) { return b; }
+int main(void) { return f(-5); }

@@ -1,0 +1,2 @@
+int f(char c) { return c; }
+int main(void) { return f(300); }

@@ -1,0 +1,2 @@
+int f(int n) { return n ? n * f(n - 1) : 1; }
+int main(void) { return f(5); }

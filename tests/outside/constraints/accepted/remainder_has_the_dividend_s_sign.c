@@ -1,0 +1,1 @@
+int main(void) { int a = -7; return a % 2; }

@@ -1,0 +1,2 @@
+char f(void) { return 300; }
+int main(void) { return f(); }

@@ -1,0 +1,2 @@
+_Bool f(int a) { return a; }
+int main(void) { return f(8); }

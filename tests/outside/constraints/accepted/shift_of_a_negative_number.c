@@ -1,0 +1,1 @@
+int main(void) { int a = -8; return a >> 1; }

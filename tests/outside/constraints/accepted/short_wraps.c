@@ -1,0 +1,1 @@
+int main(void) { short s = 40000; return s == -25536; }

@@ -1,0 +1,1 @@
+int main(void) { signed char c = 200; return c == -56; }

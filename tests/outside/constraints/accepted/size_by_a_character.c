@@ -1,0 +1,2 @@
+char a['A'];
+int main(void) { return sizeof a; }

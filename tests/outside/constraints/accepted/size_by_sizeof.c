@@ -1,0 +1,2 @@
+int a[sizeof(int)];
+int main(void) { return sizeof a; }

@@ -1,0 +1,3 @@
+extern int a[];
+int a[3] = {1, 1, 1};
+int main(void) { return sizeof a / sizeof a[0]; }

@@ -1,0 +1,1 @@
+int main(void) { return sizeof(short[3][4]); }

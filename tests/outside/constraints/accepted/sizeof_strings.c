@@ -1,0 +1,1 @@
+int main(void) { return sizeof "abc" + sizeof "" + sizeof "a\0b" "c"; }

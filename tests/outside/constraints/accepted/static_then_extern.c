@@ -1,0 +1,3 @@
+static int a = 2;
+extern int a;
+int main(void) { return a; }

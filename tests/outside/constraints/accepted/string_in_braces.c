@@ -1,0 +1,1 @@
+int main(void) { char s[] = {"a"}; return sizeof s; }

@@ -1,0 +1,1 @@
+int main(void) { unsigned short s = 65537; return s; }

@@ -1,0 +1,4 @@
+int n;
+_Static_assert(
+    n, "m");
+int main(void) { return 0; }

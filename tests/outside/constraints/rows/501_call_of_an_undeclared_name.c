@@ -1,0 +1,2 @@
+enum { A = g() };
+int main(void) { return 0; }

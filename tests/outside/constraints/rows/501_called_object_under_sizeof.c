@@ -1,0 +1,3 @@
+int x;
+int a[sizeof x()];
+int main(void) { return 0; }

@@ -1,0 +1,9 @@
+int main(void) {
+    int n = 1;
+    switch (n) {
+    case
+        n:
+        return 1;
+    }
+    return 0;
+}

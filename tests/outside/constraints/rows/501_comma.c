@@ -1,0 +1,2 @@
+enum { A = (1, 2) };
+int main(void) { return A; }

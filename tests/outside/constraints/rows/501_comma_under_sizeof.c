@@ -1,0 +1,3 @@
+int a[sizeof(1
+    , 2)];
+int main(void) { return 0; }

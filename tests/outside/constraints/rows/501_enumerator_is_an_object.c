@@ -1,0 +1,4 @@
+int n;
+enum { A =
+    n };
+int main(void) { return 0; }

@@ -1,0 +1,3 @@
+int n;
+enum { A = sizeof(n++) };
+int main(void) { return 0; }

@@ -1,0 +1,4 @@
+int n;
+int a[
+    n];
+int main(void) { return 0; }

@@ -1,0 +1,3 @@
+int a[
+    (void)1];
+int main(void) { return 0; }

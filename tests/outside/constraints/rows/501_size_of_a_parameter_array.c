@@ -1,0 +1,3 @@
+int f(int n, int p[
+    n]);
+int main(void) { return 0; }

@@ -1,0 +1,3 @@
+int c =
+    "abc"[1];
+int main(void) { return c; }

@@ -1,0 +1,4 @@
+const int n = 1;
+int m =
+    n;
+int main(void) { return m; }

@@ -1,0 +1,2 @@
+_Static_assert("abc", "m");
+int main(void) { return 0; }

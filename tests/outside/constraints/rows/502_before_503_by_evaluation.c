@@ -1,0 +1,4 @@
+_Static_assert((1
+    << 99) +
+    1 / 0, "m");
+int main(void) { return 0; }

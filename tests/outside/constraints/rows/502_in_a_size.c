@@ -1,0 +1,2 @@
+int a[2147483647 + 1];
+int main(void) { return 0; }

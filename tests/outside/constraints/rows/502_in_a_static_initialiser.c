@@ -1,0 +1,3 @@
+int n = 2147483647
+    + 1;
+int main(void) { return 0; }

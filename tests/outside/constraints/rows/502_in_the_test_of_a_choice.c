@@ -1,0 +1,2 @@
+_Static_assert(65535 * 65535 ? 1 : 2, "m");
+int main(void) { return 0; }

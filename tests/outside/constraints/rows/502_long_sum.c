@@ -1,0 +1,2 @@
+_Static_assert(2147483647L + 1L, "m");
+int main(void) { return 0; }

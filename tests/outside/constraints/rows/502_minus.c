@@ -1,0 +1,3 @@
+enum { A =
+    - (-2147483647 - 1) };
+int main(void) { return 0; }

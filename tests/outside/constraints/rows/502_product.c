@@ -1,0 +1,3 @@
+enum { A = 65536
+    * 32768 };
+int main(void) { return 0; }

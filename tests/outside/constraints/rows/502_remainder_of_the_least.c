@@ -1,0 +1,2 @@
+_Static_assert((-2147483647 - 1) % -1, "m");
+int main(void) { return 0; }

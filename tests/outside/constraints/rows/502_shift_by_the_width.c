@@ -1,0 +1,3 @@
+enum { A = 1
+    << 32 };
+int main(void) { return 0; }

@@ -1,0 +1,2 @@
+_Static_assert(1u << 32 == 0, "m");
+int main(void) { return 0; }

@@ -1,0 +1,2 @@
+enum { A = 1 >> 32 };
+int main(void) { return 0; }

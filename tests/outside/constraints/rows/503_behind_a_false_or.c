@@ -1,0 +1,2 @@
+_Static_assert(0 || 1 / 0, "m");
+int main(void) { return 0; }

@@ -1,0 +1,4 @@
+int main(void) {
+    static int n = 1 / 0;
+    return n;
+}

@@ -1,0 +1,2 @@
+enum { A = 1u / 0u };
+int main(void) { return 0; }

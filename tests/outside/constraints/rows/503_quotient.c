@@ -1,0 +1,3 @@
+_Static_assert(1
+    / 0, "m");
+int main(void) { return 0; }

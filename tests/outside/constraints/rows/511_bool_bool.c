@@ -1,0 +1,2 @@
+_Bool _Bool x;
+int main(void) { return 0; }

@@ -1,0 +1,2 @@
+_Bool int x;
+int main(void) { return 0; }

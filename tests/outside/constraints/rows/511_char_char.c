@@ -1,0 +1,2 @@
+char char x;
+int main(void) { return 0; }

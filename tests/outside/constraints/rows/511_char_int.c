@@ -1,0 +1,2 @@
+char int x;
+int main(void) { return 0; }

@@ -1,0 +1,6 @@
+int y;
+static
+const
+long
+long x;
+int main(void) { return 0; }

@@ -1,0 +1,4 @@
+int main(void) {
+    long long x;
+    return 0;
+}

@@ -1,0 +1,4 @@
+int main(void) {
+    return (int)(
+        long long)1;
+}

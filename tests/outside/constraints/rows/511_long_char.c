@@ -1,0 +1,2 @@
+long char x;
+int main(void) { return 0; }

@@ -1,0 +1,2 @@
+long long x;
+int main(void) { return 0; }

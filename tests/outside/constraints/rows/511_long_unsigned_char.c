@@ -1,0 +1,2 @@
+long unsigned char x;
+int main(void) { return 0; }

@@ -1,0 +1,2 @@
+const x;
+int main(void) { return 0; }

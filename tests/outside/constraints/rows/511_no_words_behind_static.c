@@ -1,0 +1,4 @@
+int y;
+static
+x;
+int main(void) { return 0; }

@@ -1,0 +1,2 @@
+static f(void) { return 0; }
+int main(void) { return f(); }

@@ -1,0 +1,2 @@
+short char x;
+int main(void) { return 0; }

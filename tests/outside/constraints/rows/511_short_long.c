@@ -1,0 +1,2 @@
+short long x;
+int main(void) { return 0; }

@@ -1,0 +1,2 @@
+short short x;
+int main(void) { return 0; }

@@ -1,0 +1,2 @@
+signed signed x;
+int main(void) { return 0; }

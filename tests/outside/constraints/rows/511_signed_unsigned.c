@@ -1,0 +1,2 @@
+signed unsigned x;
+int main(void) { return 0; }

@@ -1,0 +1,2 @@
+signed void f(void);
+int main(void) { return 0; }

@@ -1,0 +1,2 @@
+enum e { A } enum f { B } x;
+int main(void) { return 0; }

@@ -1,0 +1,2 @@
+unsigned _Bool x;
+int main(void) { return 0; }

@@ -1,0 +1,2 @@
+unsigned long long int x;
+int main(void) { return 0; }

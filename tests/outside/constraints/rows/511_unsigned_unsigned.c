@@ -1,0 +1,2 @@
+unsigned int unsigned x;
+int main(void) { return 0; }

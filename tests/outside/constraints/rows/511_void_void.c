@@ -1,0 +1,2 @@
+void void f(void);
+int main(void) { return 0; }

@@ -1,0 +1,2 @@
+long enum { A } x;
+int main(void) { return 0; }

@@ -1,0 +1,2 @@
+extern int extern x;
+int main(void) { return 0; }

@@ -1,0 +1,5 @@
+int y;
+extern
+int
+static x;
+int main(void) { return 0; }

@@ -1,0 +1,4 @@
+int main(void) {
+    static int static x;
+    return 0;
+}

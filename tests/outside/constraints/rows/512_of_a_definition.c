@@ -1,0 +1,2 @@
+static extern int f(void) { return 0; }
+int main(void) { return 0; }

@@ -1,0 +1,2 @@
+extern static int f(void);
+int main(void) { return 0; }

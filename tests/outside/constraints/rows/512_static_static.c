@@ -1,0 +1,2 @@
+static static int x;
+int main(void) { return 0; }

@@ -1,0 +1,2 @@
+const int;
+int main(void) { return 0; }

@@ -1,0 +1,3 @@
+enum e { A };
+enum e;
+int main(void) { return 0; }

@@ -1,0 +1,5 @@
+enum e { A };
+int main(void) {
+    enum e;
+    return A;
+}

@@ -1,0 +1,5 @@
+int y;
+static
+unsigned
+;
+int main(void) { return 0; }

@@ -1,0 +1,4 @@
+int main(void) {
+    char;
+    return 0;
+}

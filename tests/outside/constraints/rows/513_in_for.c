@@ -1,0 +1,4 @@
+int main(void) {
+    for (int; 0; ) ;
+    return 0;
+}

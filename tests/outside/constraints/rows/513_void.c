@@ -1,0 +1,2 @@
+void;
+int main(void) { return 0; }

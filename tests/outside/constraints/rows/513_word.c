@@ -1,0 +1,2 @@
+int;
+int main(void) { return 0; }

@@ -1,0 +1,2 @@
+enum { A } A;
+int main(void) { return 0; }

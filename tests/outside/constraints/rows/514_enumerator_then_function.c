@@ -1,0 +1,3 @@
+enum { f };
+int f(void);
+int main(void) { return 0; }

@@ -1,0 +1,4 @@
+enum { A };
+int
+    A;
+int main(void) { return 0; }

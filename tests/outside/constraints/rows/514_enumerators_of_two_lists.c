@@ -1,0 +1,3 @@
+enum e { A, B };
+enum f { C, B };
+int main(void) { return 0; }

@@ -1,0 +1,3 @@
+int f(void);
+enum { f };
+int main(void) { return 0; }

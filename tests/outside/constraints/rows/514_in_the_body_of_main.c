@@ -1,0 +1,5 @@
+int main(void) {
+    int a;
+    enum { a };
+    return 0;
+}

@@ -1,0 +1,4 @@
+int A;
+enum {
+    A };
+int main(void) { return 0; }

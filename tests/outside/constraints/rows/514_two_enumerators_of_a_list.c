@@ -1,0 +1,4 @@
+enum { A,
+    B,
+    A };
+int main(void) { return 0; }

@@ -1,0 +1,3 @@
+int f(int a,
+    long a);
+int main(void) { return 0; }

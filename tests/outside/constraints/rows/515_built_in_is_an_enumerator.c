@@ -1,0 +1,2 @@
+enum { rv_exit };
+int main(void) { return 0; }

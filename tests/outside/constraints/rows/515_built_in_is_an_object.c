@@ -1,0 +1,2 @@
+int rv_getbyte;
+int main(void) { return 0; }

@@ -1,0 +1,2 @@
+const int rv_getbyte(void);
+int main(void) { return 0; }

@@ -1,0 +1,2 @@
+int rv_getbyte(int c);
+int main(void) { return 0; }

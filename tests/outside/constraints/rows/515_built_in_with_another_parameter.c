@@ -1,0 +1,2 @@
+void rv_exit(long status);
+int main(void) { return 0; }

@@ -1,0 +1,2 @@
+int rv_putbyte(int c);
+int main(void) { return 0; }

@@ -1,0 +1,2 @@
+void rv_exit(void);
+int main(void) { return 0; }

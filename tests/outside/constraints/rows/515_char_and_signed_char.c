@@ -1,0 +1,3 @@
+char c;
+signed char c;
+int main(void) { return 0; }

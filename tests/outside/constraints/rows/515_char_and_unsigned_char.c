@@ -1,0 +1,3 @@
+char c;
+unsigned char c;
+int main(void) { return 0; }

@@ -1,0 +1,3 @@
+int x;
+const int x;
+int main(void) { return 0; }

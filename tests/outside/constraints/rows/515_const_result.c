@@ -1,0 +1,3 @@
+const int f(void);
+int f(void);
+int main(void) { return 0; }

@@ -1,0 +1,3 @@
+const void f(void);
+void f(void);
+int main(void) { return 0; }

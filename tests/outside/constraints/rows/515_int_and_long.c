@@ -1,0 +1,3 @@
+extern int x;
+long x;
+int main(void) { return 0; }

@@ -1,0 +1,3 @@
+int x;
+int x[1];
+int main(void) { return 0; }

@@ -1,0 +1,3 @@
+int a[];
+char a[];
+int main(void) { return 0; }

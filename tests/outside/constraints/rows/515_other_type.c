@@ -1,0 +1,4 @@
+int x;
+long
+    x;
+int main(void) { return 0; }

@@ -1,0 +1,3 @@
+int f(void);
+void f(void);
+int main(void) { return 0; }

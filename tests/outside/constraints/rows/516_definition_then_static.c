@@ -1,0 +1,3 @@
+int f(void) { return 0; }
+static int f(void);
+int main(void) { return 0; }

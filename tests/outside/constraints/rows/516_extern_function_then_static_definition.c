@@ -1,0 +1,4 @@
+extern int f(void);
+static int
+    f(void) { return 0; }
+int main(void) { return 0; }

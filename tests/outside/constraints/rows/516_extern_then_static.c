@@ -1,0 +1,4 @@
+extern int x;
+static int
+    x;
+int main(void) { return 0; }

@@ -1,0 +1,3 @@
+int rv_getbyte(void);
+static int rv_getbyte(void);
+int main(void) { return 0; }

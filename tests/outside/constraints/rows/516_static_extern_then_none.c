@@ -1,0 +1,4 @@
+static int x;
+extern int x;
+int x;
+int main(void) { return 0; }

@@ -1,0 +1,5 @@
+int main(void) {
+    return (int)sizeof(
+        int
+        [0]);
+}

@@ -1,0 +1,2 @@
+int f(int p[][0]);
+int main(void) { return 0; }

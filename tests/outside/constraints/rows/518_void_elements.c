@@ -1,0 +1,2 @@
+void a[3];
+int main(void) { return 0; }

@@ -1,0 +1,3 @@
+int f(int n,
+    void p[]);
+int main(void) { return 0; }

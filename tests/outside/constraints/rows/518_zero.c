@@ -1,0 +1,3 @@
+int
+    a[0];
+int main(void) { return 0; }

@@ -1,0 +1,2 @@
+int a[2][0];
+int main(void) { return 0; }

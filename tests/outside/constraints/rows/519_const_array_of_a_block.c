@@ -1,0 +1,4 @@
+int main(void) {
+    const char s[];
+    return 0;
+}

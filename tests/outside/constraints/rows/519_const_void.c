@@ -1,0 +1,2 @@
+const void x;
+int main(void) { return 0; }

@@ -1,0 +1,2 @@
+extern void x;
+int main(void) { return 0; }

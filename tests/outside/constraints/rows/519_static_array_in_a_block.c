@@ -1,0 +1,4 @@
+int main(void) {
+    static int a[];
+    return 0;
+}

@@ -1,0 +1,3 @@
+void
+    x;
+int main(void) { return 0; }

@@ -1,0 +1,3 @@
+int main(void) {
+    for (void x; ; ) return 0;
+}

@@ -1,0 +1,4 @@
+int a[2][2] = {
+    {1, 2},
+    {1, 2, 3}};
+int main(void) { return 0; }

@@ -1,0 +1,2 @@
+char s[3] = "ab" "cd";
+int main(void) { return 0; }

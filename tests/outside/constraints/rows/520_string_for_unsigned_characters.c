@@ -1,0 +1,2 @@
+unsigned char s[1] = "ab";
+int main(void) { return 0; }

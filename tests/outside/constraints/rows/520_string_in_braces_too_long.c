@@ -1,0 +1,4 @@
+char s[2] = {
+    "abc"
+};
+int main(void) { return 0; }

@@ -1,0 +1,5 @@
+char s[2][2] = {
+    "ab",
+    "abc"
+};
+int main(void) { return 0; }

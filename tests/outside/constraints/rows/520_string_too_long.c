@@ -1,0 +1,3 @@
+char s[3] =
+    "abcd";
+int main(void) { return 0; }

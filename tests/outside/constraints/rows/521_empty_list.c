@@ -1,0 +1,3 @@
+int a[2] =
+    {};
+int main(void) { return 0; }

@@ -1,0 +1,2 @@
+int x = {};
+int main(void) { return 0; }

@@ -1,0 +1,2 @@
+int a[] = {};
+int main(void) { return 0; }

@@ -1,0 +1,2 @@
+short a[] = "ab";
+int main(void) { return 0; }

@@ -1,0 +1,2 @@
+char s[] = ("a");
+int main(void) { return 0; }

@@ -1,0 +1,4 @@
+int main(void) {
+    _Static_assert(sizeof(int) == 8, "m");
+    return 0;
+}

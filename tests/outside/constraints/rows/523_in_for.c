@@ -1,0 +1,3 @@
+int main(void) {
+    for (_Static_assert(0, "m"); ; ) return 0;
+}

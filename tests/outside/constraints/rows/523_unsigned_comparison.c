@@ -1,0 +1,2 @@
+_Static_assert(-1 < 1u, "m");
+int main(void) { return 0; }

@@ -1,0 +1,5 @@
+int x;
+_Static_assert(
+    0,
+    "m");
+int main(void) { return 0; }

@@ -1,0 +1,2 @@
+_Static_assert((unsigned char)256, "m");
+int main(void) { return 0; }

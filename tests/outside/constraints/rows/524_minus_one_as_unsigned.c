@@ -1,0 +1,2 @@
+enum { A = -1 + 0u };
+int main(void) { return 0; }

@@ -1,0 +1,5 @@
+enum {
+    A = 2147483647,
+    B
+};
+int main(void) { return 0; }

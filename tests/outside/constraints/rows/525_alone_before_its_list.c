@@ -1,0 +1,3 @@
+enum e;
+enum e { A };
+int main(void) { return 0; }

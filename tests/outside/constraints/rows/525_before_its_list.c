@@ -1,0 +1,5 @@
+int y;
+const
+enum e x;
+enum e { A };
+int main(void) { return 0; }

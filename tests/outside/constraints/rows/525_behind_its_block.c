@@ -1,0 +1,5 @@
+int main(void) {
+    { enum e { A }; }
+    enum e x = 0;
+    return x;
+}

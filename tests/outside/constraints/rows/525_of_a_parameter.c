@@ -1,0 +1,3 @@
+int f(int a,
+    enum e b);
+int main(void) { return 0; }

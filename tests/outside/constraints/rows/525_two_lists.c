@@ -1,0 +1,4 @@
+enum e { A };
+enum
+e { B };
+int main(void) { return 0; }

@@ -1,0 +1,2 @@
+enum e f(void);
+int main(void) { return 0; }

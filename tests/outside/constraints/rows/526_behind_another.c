@@ -1,0 +1,3 @@
+int f(int a, void
+    b);
+int main(void) { return 0; }

@@ -1,0 +1,2 @@
+int f(const void);
+int main(void) { return 0; }

@@ -1,0 +1,2 @@
+int f(void a) { return 0; }
+int main(void) { return 0; }

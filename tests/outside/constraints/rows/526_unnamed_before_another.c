@@ -1,0 +1,2 @@
+int f(void, int a);
+int main(void) { return 0; }

@@ -1,0 +1,4 @@
+int f(
+    const
+    char) { return 0; }
+int main(void) { return 0; }

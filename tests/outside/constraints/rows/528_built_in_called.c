@@ -1,0 +1,4 @@
+int main(void) {
+    rv_putbyte(65);
+    return 0;
+}

@@ -1,0 +1,3 @@
+enum { A,
+    B = B };
+int main(void) { return 0; }

@@ -1,0 +1,2 @@
+enum { A = y };
+int main(void) { return 0; }

@@ -1,0 +1,3 @@
+int a =
+    b, b;
+int main(void) { return a; }

@@ -1,0 +1,2 @@
+int f(int a[sizeof b], int b);
+int main(void) { return 0; }

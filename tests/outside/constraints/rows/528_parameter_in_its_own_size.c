@@ -1,0 +1,2 @@
+int f(int a[sizeof a]);
+int main(void) { return 0; }

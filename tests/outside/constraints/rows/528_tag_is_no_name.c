@@ -1,0 +1,2 @@
+enum e { A };
+int main(void) { return e; }

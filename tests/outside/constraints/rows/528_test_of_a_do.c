@@ -1,0 +1,6 @@
+int main(void) {
+    do {
+        int i = 0;
+    } while (i);
+    return 0;
+}

@@ -1,0 +1,2 @@
+int f(void) { return 1; }
+int main(void) { return f()[0]; }

@@ -1,0 +1,2 @@
+enum { A };
+int main(void) { return A(); }

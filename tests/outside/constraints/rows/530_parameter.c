@@ -1,0 +1,2 @@
+int f(int g) { return g(); }
+int main(void) { return 0; }

@@ -1,0 +1,6 @@
+int f(int a);
+int main(void) {
+    return
+        f
+        ();
+}

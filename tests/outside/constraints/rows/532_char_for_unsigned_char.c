@@ -1,0 +1,2 @@
+int f(unsigned char a[]);
+int main(void) { return f("abc"); }

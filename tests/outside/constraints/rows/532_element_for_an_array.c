@@ -1,0 +1,3 @@
+int f(int a[]);
+int a[2];
+int main(void) { return f(a[0]); }

@@ -1,0 +1,6 @@
+int f(int a[]);
+int main(void) {
+    int x = 1;
+    return f(
+        x);
+}

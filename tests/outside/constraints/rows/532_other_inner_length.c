@@ -1,0 +1,3 @@
+int f(int a[][3]);
+int a[2][4];
+int main(void) { return f(a); }

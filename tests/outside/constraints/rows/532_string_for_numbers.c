@@ -1,0 +1,2 @@
+int f(int a[]);
+int main(void) { return f("abc"); }

@@ -1,0 +1,3 @@
+void v(void) { }
+int f(int a[]);
+int main(void) { return f(v()); }

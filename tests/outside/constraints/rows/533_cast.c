@@ -1,0 +1,1 @@
+int main(void) { int a = 1; ((int)a) = 3; return a; }

@@ -1,0 +1,4 @@
+int main(void) {
+    for (const int i = 0; i < 2; i++) ;
+    return 0;
+}

@@ -1,0 +1,5 @@
+int main(void) {
+    1
+        = 2;
+    return 0;
+}

@@ -1,0 +1,5 @@
+const int a = 1;
+int main(void) {
+    return
+        --a;
+}

@@ -1,0 +1,2 @@
+enum { A };
+int main(void) { A = 1; return 0; }

@@ -1,0 +1,1 @@
+int main(void) { 1++; return 0; }

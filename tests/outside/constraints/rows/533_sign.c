@@ -1,0 +1,1 @@
+int main(void) { int a = 1; -a = 2; return a; }

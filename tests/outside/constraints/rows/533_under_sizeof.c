@@ -1,0 +1,2 @@
+const int a = 1;
+int main(void) { return (int)sizeof(a++); }

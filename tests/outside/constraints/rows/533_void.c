@@ -1,0 +1,2 @@
+void v(void) { }
+int main(void) { v() = 1; return 0; }

@@ -1,0 +1,8 @@
+void v(void) { }
+int main(void) {
+    int a;
+    a
+        =
+        v();
+    return a;
+}

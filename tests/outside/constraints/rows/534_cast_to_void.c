@@ -1,0 +1,1 @@
+int main(void) { int a = (void)1; return a; }

@@ -1,0 +1,6 @@
+void v(void) { }
+int main(void) {
+    int a =
+        v();
+    return a;
+}

@@ -1,0 +1,2 @@
+int a = (void)1;
+int main(void) { return a; }

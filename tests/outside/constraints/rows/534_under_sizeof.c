@@ -1,0 +1,2 @@
+void v(void) { }
+int main(void) { int a; return (int)sizeof(a = v()); }

@@ -1,0 +1,1 @@
+int main(void) { return (void)1 + 1; }

@@ -1,0 +1,7 @@
+void v(void) { }
+int main(void) {
+    int a = 1;
+    a +=
+        v();
+    return a;
+}

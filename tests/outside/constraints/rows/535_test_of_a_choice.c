@@ -1,0 +1,5 @@
+void v(void) { }
+int main(void) {
+    return v()
+        ? 1 : 2;
+}

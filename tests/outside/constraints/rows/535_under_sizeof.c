@@ -1,0 +1,2 @@
+void v(void) { }
+int main(void) { return (int)sizeof(v() + 1); }

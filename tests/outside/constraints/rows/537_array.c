@@ -1,0 +1,4 @@
+int main(void) {
+    return (int)+
+        (int[2])1;
+}

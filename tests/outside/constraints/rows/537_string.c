@@ -1,0 +1,1 @@
+int main(void) { (char[4])"abc"; return 0; }

@@ -1,0 +1,7 @@
+void v(void) { }
+int main(void) {
+    do
+        ;
+    while (v());
+    return 0;
+}

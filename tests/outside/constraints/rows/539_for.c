@@ -1,0 +1,7 @@
+void v(void) { }
+int main(void) {
+    for (;
+        v();
+        ) ;
+    return 0;
+}

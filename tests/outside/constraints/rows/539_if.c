@@ -1,0 +1,6 @@
+void v(void) { }
+int main(void) {
+    if
+        (v()) ;
+    return 0;
+}

@@ -1,0 +1,2 @@
+void v(void) { }
+int main(void) { if (v()) return 1; else return 0; }

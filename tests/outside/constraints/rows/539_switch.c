@@ -1,0 +1,2 @@
+void v(void) { }
+int main(void) { switch (v()) { default: ; } return 0; }

@@ -1,0 +1,6 @@
+void v(void) { }
+int main(void) {
+    while (
+        v()) ;
+    return 0;
+}

@@ -1,0 +1,3 @@
+int main(void) {
+    while (1) { case 1: return 0; }
+}

@@ -1,0 +1,5 @@
+int main(void) {
+    while (0) ;
+    break;
+    return 0;
+}

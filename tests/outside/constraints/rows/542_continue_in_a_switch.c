@@ -1,0 +1,4 @@
+int main(void) {
+    switch (1) { default: continue; }
+    return 0;
+}

@@ -1,0 +1,4 @@
+void f(void) {
+    return 1;
+}
+int main(void) { return 0; }

@@ -1,0 +1,4 @@
+int main(void) {
+    for (enum { A = 1, B } i = A; i < B; i++) ;
+    return 0;
+}

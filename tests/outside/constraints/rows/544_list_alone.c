@@ -1,0 +1,3 @@
+int main(void) {
+    for (enum e { A }; ; ) return 0;
+}

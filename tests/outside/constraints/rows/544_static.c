@@ -1,0 +1,5 @@
+int main(void) {
+    for (
+        static
+        int i; ; ) return 0;
+}

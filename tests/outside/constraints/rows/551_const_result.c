@@ -1,0 +1,2 @@
+
+const int main(void) { return 0; }

@@ -1,0 +1,2 @@
+
+int Main(void) { return 0; }

@@ -1,0 +1,2 @@
+
+long main(void) { return 0; }

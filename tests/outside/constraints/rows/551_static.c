@@ -1,0 +1,2 @@
+
+static int main(void) { return 0; }

@@ -1,0 +1,3 @@
+
+static int main(void);
+int main(void) { return 0; }

@@ -1,0 +1,2 @@
+int g(void);
+int main(void) { return 0 && g(); }

@@ -1,0 +1,5 @@
+int g(void);
+int main(void) {
+    return 0;
+    g();
+}

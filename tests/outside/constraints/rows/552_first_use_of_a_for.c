@@ -1,0 +1,6 @@
+int g(void);
+int main(void) {
+    for (; ; g()) {
+        g();
+    }
+}

@@ -1,0 +1,2 @@
+extern int x;
+int main(void) { (void)x; return 0; }

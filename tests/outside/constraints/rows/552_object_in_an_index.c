@@ -1,0 +1,3 @@
+extern int x;
+int a[2];
+int main(void) { return a[x]; }

@@ -1,0 +1,2 @@
+static int g(void);
+int main(void) { return g(); }

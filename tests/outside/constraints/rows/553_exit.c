@@ -1,0 +1,2 @@
+extern void rv_exit(int status) { for (;;) ; }
+int main(void) { return 0; }

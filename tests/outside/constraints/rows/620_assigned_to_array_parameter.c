@@ -1,0 +1,2 @@
+void f(int p[]) { p = 0; }
+int main(void) { return 0; }

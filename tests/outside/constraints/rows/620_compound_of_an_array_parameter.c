@@ -1,0 +1,2 @@
+void f(int p[]) { p += 1; }
+int main(void) { return 0; }

@@ -1,0 +1,2 @@
+int a[2];
+int main(void) { for (; a; ) return 1; return 0; }

@@ -1,0 +1,2 @@
+int f(int n) { return n; }
+int main(void) { return f(f); }

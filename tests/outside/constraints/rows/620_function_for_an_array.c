@@ -1,0 +1,2 @@
+int f(int n[]) { return n[0]; }
+int main(void) { return f(f); }

@@ -1,0 +1,2 @@
+int f(int p[]) { return p; }
+int main(void) { return 0; }

@@ -1,0 +1,5 @@
+int a[2][2];
+int main(void) {
+    return a
+        [1];
+}

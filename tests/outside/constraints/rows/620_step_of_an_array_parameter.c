@@ -1,0 +1,2 @@
+void f(int p[]) { p++; }
+int main(void) { return 0; }

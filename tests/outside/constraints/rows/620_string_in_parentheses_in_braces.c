@@ -1,0 +1,3 @@
+char s[4] = {
+    ("abc")};
+int main(void) { return 0; }

@@ -1,0 +1,2 @@
+int a[2];
+int main(void) { switch (a) { default: return 1; } }

@@ -1,0 +1,1 @@
+int main(void) { while ("abc") return 1; return 0; }

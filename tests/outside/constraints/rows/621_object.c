@@ -1,0 +1,2 @@
+int a[2], i;
+int main(void) { return i[a]; }

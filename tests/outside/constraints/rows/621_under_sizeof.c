@@ -1,0 +1,2 @@
+int a[2];
+int main(void) { return (int)sizeof 0[a]; }

@@ -1,0 +1,6 @@
+int main(void) {
+    switch
+        (1)
+    case 1: return 0;
+    return 0;
+}

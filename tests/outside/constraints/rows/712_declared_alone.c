@@ -1,0 +1,2 @@
+extern char a[1048577];
+int main(void) { return 0; }

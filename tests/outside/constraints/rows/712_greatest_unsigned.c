@@ -1,0 +1,2 @@
+char a[4294967295u];
+int main(void) { return 0; }

@@ -1,0 +1,3 @@
+char
+    a[1048577];
+int main(void) { return 0; }

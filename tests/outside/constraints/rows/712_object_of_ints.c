@@ -1,0 +1,2 @@
+int a[262145];
+int main(void) { return 0; }

@@ -1,0 +1,2 @@
+extern char a[1025][32][32];
+int main(void) { return 0; }

@@ -1,0 +1,2 @@
+_Static_assert(1 || 1 / 0, "m");
+int main(void) { return 0; }

@@ -1,0 +1,2 @@
+enum { A = sizeof(1 / 0) };
+int main(void) { return A - 4; }

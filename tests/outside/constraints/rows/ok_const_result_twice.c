@@ -1,0 +1,3 @@
+const int f(void);
+int const f(void) { return 0; }
+int main(void) { return f(); }

@@ -1,0 +1,2 @@
+const void f(void);
+int main(void) { return 0; }

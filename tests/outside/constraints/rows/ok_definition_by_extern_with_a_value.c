@@ -1,0 +1,5 @@
+extern int x;
+extern int x = 0;
+int x;
+extern int x;
+int main(void) { return x; }

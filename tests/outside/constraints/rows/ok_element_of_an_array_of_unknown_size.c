@@ -1,0 +1,2 @@
+extern int a[], b[][3];
+int main(void) { return (int)(sizeof a[0] + sizeof b[0]) - 16; }

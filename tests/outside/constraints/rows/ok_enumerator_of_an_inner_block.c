@@ -1,0 +1,2 @@
+enum { A = 1 };
+int main(void) { enum { A }; return A; }

@@ -1,0 +1,4 @@
+extern int x;
+int x;
+extern int x;
+int main(void) { return x; }

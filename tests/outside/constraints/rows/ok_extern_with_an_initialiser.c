@@ -1,0 +1,3 @@
+extern int x = 0;
+int x;
+int main(void) { return x; }

@@ -1,0 +1,3 @@
+enum e { A, B } f(void) { return B; }
+enum e x = B;
+int main(void) { return f() - x; }

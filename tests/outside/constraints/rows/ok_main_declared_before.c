@@ -1,0 +1,3 @@
+extern int main(void), main(void);
+signed main(void) { return 0; }
+int main(void);

@@ -1,0 +1,4 @@
+int f(int a[2]);
+int f(int a[3]);
+int f(int a[]) { return a[0]; }
+int main(void) { return 0; }

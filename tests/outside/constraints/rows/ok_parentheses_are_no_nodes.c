@@ -1,0 +1,1 @@
+int main(void) { char a[1048400]; return ((-1)); }

@@ -1,0 +1,1 @@
+int main(void) { char a[1048376], b, c; return 0; }

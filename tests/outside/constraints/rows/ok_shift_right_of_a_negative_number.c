@@ -1,0 +1,2 @@
+enum { A = -8 >> 1 };
+int main(void) { return A != -4; }

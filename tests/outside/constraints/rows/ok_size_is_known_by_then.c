@@ -1,0 +1,3 @@
+extern int a[];
+int a[2];
+int main(void) { return (int)sizeof a - 8; }

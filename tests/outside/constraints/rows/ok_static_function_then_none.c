@@ -1,0 +1,5 @@
+static int f(void);
+int f(void);
+extern int f(void);
+int f(void) { return 0; }
+int main(void) { return f(); }

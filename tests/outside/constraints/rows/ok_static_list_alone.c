@@ -1,0 +1,2 @@
+static enum e { A };
+int main(void) { return A; }

@@ -1,0 +1,2 @@
+enum e { A } e;
+int main(void) { enum main { B } A = B; return A + e; }

@@ -1,0 +1,3 @@
+static int a;
+static int a;
+int main(void) { return a; }

@@ -1,0 +1,2 @@
+extern int x;
+int main(void) { int x = 0; return x; }

@@ -1,0 +1,2 @@
+extern int x, a[];
+int main(void) { return (int)(sizeof x + sizeof a[x]) - 8; }
