@@ -7,7 +7,8 @@ use Rattle.frames.specs.Run.{State, Progress, running, ended, stuck, act, step, 
 use Rattle.running.specs.Light.{Light, Go, Done, Fell, Comes}
 use Rattle.running.proofs.Steps.{comes_now, comes_then}
 use Rattle.simulation.specs.Matches.{Ground, Ready, Matched, Matches, HasRoom, address}
-use Rattle.simulation.specs.Costs.{cost, least, cost_if, least_if, next_of, sum_on, spent, least_spent}
+use Rattle.frames.specs.Costs.{cost, cost_if, next_of, cost_on, spent}
+use Rattle.simulation.specs.Costs.{least, least_if, least_spent}
 use Rattle.simulation.specs.Laws.{Anything, AreBytes}
 use Rattle.simulation.specs.Runs.{StepFollows, RunsFollow}
 use Rattle.simulation.proofs.Forms.{no_more, nothing_follows, jump_follows, branch_follows, move_follows, convert_follows}
@@ -76,7 +77,7 @@ module _ (G : Ground) (ready : Ready G) where
   Runs n = (s : State) (m : Light) → Matches G (running s) m → AreBytes s.input → ((k : ℕ) → k ≤ n → HasRoom G (run G.program k s)) → Comes G.machine Anything (least_spent G.program n s) (spent G.program n s) m (Matches G (run G.program n s))
 
   goes_further : (n : ℕ) → Runs n → (x : Progress) (m : Light) → Matches G x m → Kept BytesLeft x → ((k : ℕ) → k ≤ n → HasRoom G (goes_on x (run G.program k)))
-      → Comes G.machine Anything (sum_on x (least_spent G.program n)) (sum_on x (spent G.program n)) m (Matches G (goes_on x (run G.program n)))
+      → Comes G.machine Anything (cost_on x (least_spent G.program n)) (cost_on x (spent G.program n)) m (Matches G (goes_on x (run G.program n)))
   goes_further n more (running s) m q bytes rooms = more s m q bytes rooms
   goes_further n more (ended status input trace) m q bytes rooms = comes_now G.machine Anything 0 m (Matches G (ended status input trace)) tt q
   goes_further n more stuck m q bytes rooms = comes_now G.machine Anything 0 m (Matches G stuck) tt tt
@@ -88,7 +89,7 @@ module _ (G : Ground) (ready : Ready G) where
       let x = step p s in
       let here = Go r (address G s.frame.function s.frame.at) b s.input s.trace in
       let one = step_follows G s r b ready m bytes (room_one G x (rooms 1 (omega arith))) in
-      comes_then G.machine Anything (cost_if (next_of p s)) (sum_on x (spent p n)) here (Matches G x) (Matches G (goes_on x (run p n))) one
+      comes_then G.machine Anything (cost_if (next_of p s)) (cost_on x (spent p n)) here (Matches G x) (Matches G (goes_on x (run p n))) one
       (λ m2 q. goes_further n more x m2 q (step_keeps BytesLeft p s (bytes_last s.input s.trace bytes)) (λ k le. rooms (suc k) (omega (arith, le))))
 
   steps_from : (n : ℕ) → Runs n → Runs (suc n)

@@ -12,7 +12,8 @@ use Rattle.frames.specs.declared.code.Instruction.TheVariants as instruction
 use Rattle.frames.specs.Run.{State, act, function_at}
 use Rattle.running.specs.Light.{Light, Go, Comes}
 use Rattle.simulation.specs.Matches.{Ground, Ready, Matched, Matches, HasRoom, address}
-use Rattle.simulation.specs.Costs.{cost, least}
+use Rattle.frames.specs.Costs.{cost}
+use Rattle.simulation.specs.Costs.{least}
 
 abbrev pub Anything : Light → Type 0
 Anything m = Unit {0}

@@ -1,18 +1,20 @@
 -- What simulation is of whole runs: a step, so many steps, a program's entry and its end.
-use Rattle.std.specs.Prelude.{◌≡◌, ◌≤◌, ◌<◌, ℕ, ◌+◌, ◌%◌, ◌^◌, true, false, List, [], length, slice_get}
+use Rattle.std.specs.Prelude.{◌≡◌, ◌≤◌, ◌<◌, ℕ, ◌+◌, ◌-◌, ◌*◌, ◌%◌, ◌^◌, true, false, List, [], length, slice_get, Some}
 use Rattle.loader.specs.MemoryMap.{stack_end}
+use Rattle.rv32.specs.Space.{word_at}
 use Rattle.asm.specs.Placed.{Stands}
 use Rattle.events.specs.Events.{Event}
 use Rattle.frames.specs.Code.{Program}
 use Rattle.frames.specs.Sound.{IsSoundProgram}
-use Rattle.frames.specs.Run.{State, running, ended, step, run, start}
+use Rattle.frames.specs.Run.{Value, Values, Bytes, unset, State, running, ended, step, run, start}
 use Rattle.sim.specs.Runs.{World, Running, Ended, rvrun}
 use Rattle.running.specs.Light.{Fixed, Go, Done, Comes}
 use Rattle.running.specs.Whole.{Permits, fixed}
 use Rattle.running.specs.Worlds.{Registers, world}
 use Rattle.select.specs.Program.{program_items}
-use Rattle.simulation.specs.Matches.{Ground, Ready, Matched, Matches, HasRoom, Holds, Small, address, file_of}
-use Rattle.simulation.specs.Costs.{entry_cost, cost_if, least_if, next_of, spent, least_spent}
+use Rattle.simulation.specs.Matches.{Ground, Ready, Matched, Matches, HasRoom, Holds, Small, address, file_of, shown}
+use Rattle.frames.specs.Costs.{entry_cost, cost_if, next_of, spent}
+use Rattle.simulation.specs.Costs.{least_if, least_spent}
 use Rattle.simulation.specs.Laws.{Anything, AreBytes}
 
 -- Whatever instruction stands there; also where none does, or the step is stuck.
@@ -27,6 +29,51 @@ abbrev pub RunsFollow : Type 0
 RunsFollow =
     (G : Ground) (n : ℕ) (s : State) (r b : ℕ → ℕ) → Ready G → Matched G s r (address G s.frame.function s.frame.at) b → AreBytes s.input → ((k : ℕ) → k ≤ n → HasRoom G (run G.program k s))
     → Comes G.machine Anything (least_spent G.program n s) (spent G.program n s) (Go r (address G s.frame.function s.frame.at) b s.input s.trace) (Matches G (run G.program n s))
+
+-- ---- a function that is called from outside (RISC-V ELF psABI, "Integer Calling Convention")
+
+-- What a call finds: arguments in a0 to a7, the further ones from the stack pointer up, and the stack pointer, the address to return to, s0 to
+-- s11 and the bytes from the stack pointer up as `Returned` has them.
+pub record Entered (G : Ground) (f : ℕ) (temporaries arguments : Values) (statics : Bytes) (r : ℕ → ℕ) (at : ℕ) (b : ℕ → ℕ) : Type 0 where
+  pub at_is : at ≡ G.env f
+  pub sp_is : r 2 ≡ G.sp
+  pub aligned : G.sp % 16 ≡ 0
+  pub ra_is : r 1 ≡ G.ra
+  pub file_is : (j : ℕ) → file_of r j ≡ G.file j
+  pub small : Small (file_of r)
+  pub bytes_are : (k : ℕ) → G.sp ≤ k → b k ≡ G.bytes k
+  pub bytes : (k : ℕ) → b k < 2 ^ 8
+  pub registers : (k : ℕ) (v : Value) → temporaries k ≡ Some v → (k < 8) × (shown G v < 2 ^ 32) × (r (10 + k) ≡ shown G v)
+  pub further : (k : ℕ) (v : Value) → arguments k ≡ Some v → (shown G v < 2 ^ 32) × (G.sp + 4 * (k - 8) + 4 ≤ 2 ^ 31) × (word_at b (G.sp + 4 * (k - 8)) ≡ shown G v)
+  pub globals : Holds statics G.data_at 0 (length G.program.statics) b
+
+-- its flat state: no call waits
+abbrev pub outermost : ℕ → Values → Values → Bytes → List ℕ → List Event → State
+outermost f temporaries arguments statics input trace = record {
+  frame = record { function = f; at = 0; cells = unset; area = unset };
+  temporaries = temporaries;
+  arguments = arguments;
+  waiting = [];
+  statics = statics;
+  input = input;
+  trace = trace;
+}
+
+abbrev pub EntriesFollow : Type 0
+EntriesFollow =
+    (G : Ground) (f : ℕ) (temporaries arguments : Values) (statics : Bytes) (input : List ℕ) (trace : List Event) (r : ℕ → ℕ) (at : ℕ) (b : ℕ → ℕ) → Ready G → f < length G.program.functions
+    → Entered G f temporaries arguments statics r at b → HasRoom G (running (outermost f temporaries arguments statics input trace))
+    → Comes G.machine Anything 1 entry_cost (Go r at b input trace) (Matches G (running (outermost f temporaries arguments statics input trace)))
+
+-- Where its run ends, the machine stands where it is returned to, with the stack pointer, s0 to s11 and the bytes above as it found them, and
+-- with its result in a0; or the program has exited.
+abbrev pub ConventionKept : Type 0
+ConventionKept =
+    (G : Ground) (f : ℕ) (temporaries arguments : Values) (statics : Bytes) (input : List ℕ) (trace : List Event) (r : ℕ → ℕ) (at : ℕ) (b : ℕ → ℕ) → Ready G → f < length G.program.functions
+    → Entered G f temporaries arguments statics r at b → AreBytes input
+    → (n status : ℕ) (left : List ℕ) (later : List Event) → run G.program n (outermost f temporaries arguments statics input trace) ≡ ended status left later
+    → ((k : ℕ) → k ≤ n → HasRoom G (run G.program k (outermost f temporaries arguments statics input trace)))
+    → Comes G.machine Anything 1 (entry_cost + spent G.program n (outermost f temporaries arguments statics input trace)) (Go r at b input trace) (Matches G (ended status left later))
 
 -- ---- whole programs
 
