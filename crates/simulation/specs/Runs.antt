@@ -5,7 +5,7 @@ use Rattle.rv32.specs.Space.{word_at}
 use Rattle.asm.specs.Placed.{Stands}
 use Rattle.events.specs.Events.{Event}
 use Rattle.frames.specs.Code.{Program}
-use Rattle.frames.specs.Sound.{IsSoundProgram}
+use Rattle.frames.specs.Sound.{IsSoundProgram, places_of}
 use Rattle.frames.specs.Run.{Value, Values, Bytes, unset, State, running, ended, step, run, start}
 use Rattle.sim.specs.Runs.{World, Running, Ended, rvrun}
 use Rattle.running.specs.Light.{Fixed, Go, Done, Comes}
@@ -29,6 +29,13 @@ abbrev pub RunsFollow : Type 0
 RunsFollow =
     (G : Ground) (n : ℕ) (s : State) (r b : ℕ → ℕ) → Ready G → Matched G s r (address G s.frame.function s.frame.at) b → AreBytes s.input → ((k : ℕ) → k ≤ n → HasRoom G (run G.program k s))
     → Comes G.machine Anything (least_spent G.program n s) (spent G.program n s) (Go r (address G s.frame.function s.frame.at) b s.input s.trace) (Matches G (run G.program n s))
+
+-- Steps without items are no more in a row than a function has instructions: a run that goes on for n steps lets the machine go on too.
+abbrev pub slack : Program → ℕ
+slack p = places_of p.functions + 1
+
+abbrev pub Progresses : Type 0
+Progresses = (p : Program) (n : ℕ) (s t : State) → run p n s ≡ running t → n < slack p * (least_spent p n s + 1)
 
 -- ---- a function that is called from outside (RISC-V ELF psABI, "Integer Calling Convention")
 
@@ -131,14 +138,15 @@ EndsFollow =
 
 -- ---- on the machine of the table, where no byte may be both executed and written, and text lies below 2^31
 
--- where the flat program goes on: the machine does too, having done the same and with the same input left
+-- where the flat program goes on: the machine does too, having done the same and with the same input left, after a count of instructions that grows with
+-- the steps
 abbrev pub MachineGoesOn : Type 0
 MachineGoesOn =
     (P : Permits) → ((a : ℕ) → P.can_execute a ≡ true → a < 2 ^ 31) → ((a : ℕ) → P.can_execute a ≡ true → P.can_write a ≡ false)
     → (p : Program) (env : ℕ → ℕ) (data_at base e : ℕ) (r b : ℕ → ℕ) (list input : List ℕ) → Laid p (fixed P b) env data_at base e r b → Registers list r → AreBytes input
     → (n : ℕ) (s : State) → run p n (start p input) ≡ running s
     → ((k : ℕ) → k ≤ n → HasRoom (ground_at p (fixed P b) env data_at base r b) (run p k (start p input)))
-    → (k : ℕ) × (w : World) × (1 + least_spent p n (start p input) ≤ k) × (k ≤ start_cost + spent p n (start p input)) × (rvrun k (world P list base b input []) ≡ Running w) × (w.trace ≡ s.trace) × (w.input ≡ s.input)
+    → (k : ℕ) × (w : World) × (n < slack p * k) × (k ≤ start_cost + spent p n (start p input)) × (rvrun k (world P list base b input []) ≡ Running w) × (w.trace ≡ s.trace) × (w.input ≡ s.input)
 
 -- where it ends
 abbrev pub MachineEnds : Type 0

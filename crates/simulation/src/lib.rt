@@ -2,7 +2,7 @@
 #![tactic(auto)]
 
 ghost use Rattle.simulation.specs.Laws.{NothingFollows, JumpsFollow, BranchesFollow, MovesFollow, ConversionsFollow, OperationsFollow, ExitFollows, AddressesFollow, ElementsFollow, LoadsFollow, StoresFollow, PutFollows, GetFollows, CallsFollow, ReturnsFollow};
-ghost use Rattle.simulation.specs.Runs.{StepFollows, RunsFollow, LaidIsReady, EntriesFollow, ConventionKept, BeginsFollow, EndsFollow, MachineGoesOn, MachineEnds};
+ghost use Rattle.simulation.specs.Runs.{StepFollows, RunsFollow, Progresses, LaidIsReady, EntriesFollow, ConventionKept, BeginsFollow, EndsFollow, MachineGoesOn, MachineEnds};
 
 /// `Nothing` has no items, and the machine stays where it is.
 pub fn nothing_follows()
@@ -87,6 +87,11 @@ pub fn step_follows()
 /// So many steps of flat code, by the sums of the table's rows.
 pub fn runs_follow()
     ensures { RunsFollow }
+{}
+
+/// A run that goes on takes the machine on: at least one instruction for each so many steps.
+pub fn progresses()
+    ensures { Progresses }
 {}
 
 /// A function that is called from outside finds its arguments where ILP32 has them.
