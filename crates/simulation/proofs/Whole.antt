@@ -8,7 +8,7 @@ use Rattle.asm.specs.Placed.{Stands}
 use Rattle.events.specs.Events.{Event}
 use Rattle.frames.specs.Code.{Program, frame_bytes}
 use Rattle.frames.specs.Costs.{entry_cost, spent}
-use Rattle.frames.specs.Run.{unset, running, ended, run, start, function_at}
+use Rattle.frames.specs.Run.{unset, Progress, running, ended, stuck, run, start, function_at}
 use Rattle.running.specs.Light.{Fixed, Light, Go, Done, Fell, with_reg, Comes}
 use Rattle.running.proofs.Words.{with_other}
 use Rattle.running.proofs.Steps.{comes_now, comes_some, comes_then, on_immediate, on_exit}
@@ -16,7 +16,7 @@ use Rattle.running.proofs.ItemSteps.{on_loads, on_call}
 use Rattle.running.proofs.Placing.{stands_parts}
 use Rattle.select.specs.Selected.{kept, exit}
 use Rattle.select.specs.Program.{functions_items}
-use Rattle.simulation.specs.Matches.{HasRoom, Ground, ArgumentsShow, Waits, Matches, address, argument_at, file_of}
+use Rattle.simulation.specs.Matches.{HasRoom, IsBelow, Ground, ArgumentsShow, Waits, Matches, address, argument_at, file_of}
 use Rattle.simulation.specs.Costs.{least_spent}
 use Rattle.simulation.specs.Laws.{Anything, AreBytes}
 use Rattle.simulation.specs.Runs.{Laid, Entered, outermost, ground_at, start_cost, EntriesFollow, ConventionKept, BeginsFollow, EndsFollow}
@@ -26,6 +26,12 @@ use Rattle.simulation.proofs.Entering.{enters}
 use Rattle.simulation.proofs.Calls.{opened_matched}
 use Rattle.simulation.proofs.Steps.{steps}
 use Rattle.simulation.proofs.Laying.{is_ready}
+
+-- where no call is spoken of
+unwatched : (G : Ground) → 2 ^ 32 ≤ G.watch_sp → G.sp ≤ 2 ^ 31 → (x : Progress) → IsBelow G x
+unwatched G none top (running s) = omega (arith, none, top)
+unwatched G none top (ended status input trace) = tt
+unwatched G none top stuck = tt
 
 pub entries : EntriesFollow
 entries G g temporaries arguments statics input trace r at b ready known q room =
@@ -53,7 +59,7 @@ convention G f temporaries arguments statics input trace r at b ready known q by
     let s = outermost f temporaries arguments statics input trace in
     let here = Go r at b input trace in
     let one = entries G f temporaries arguments statics input trace r at b ready known q (rooms 0 (omega arith)) in
-    let two = comes_then G.machine Anything entry_cost (spent p n s) here (Matches G (running s)) (Matches G (run p n s)) one (λ m k. steps G ready n s m k bytes rooms) in
+    let two = comes_then G.machine Anything entry_cost (spent p n s) here (Matches G (running s)) (Matches G (run p n s)) one (λ m k. steps G ready n s m k bytes rooms (λ j lt. unwatched G q.unwatched ready.top (run p j s))) in
     let all : Comes G.machine Anything (1 + least_spent p n s) (entry_cost + spent p n s) here (Matches G (ended status left later)) =
     subst (λ x. Comes G.machine Anything (1 + least_spent p n s) (entry_cost + spent p n s) here (Matches G x)) over two in
     record { j = all.j; some = omega (arith, all.some); within = all.within; kept = all.kept; good = all.good }
@@ -82,6 +88,7 @@ begins p F env data_at base e r b input q room =
       registers = λ k v ek. cc;
       further = λ k v ek. cc;
       globals = q.statics;
+      unwatched = omega arith;
     } in
     on_loads F Anything Q 44 r base b input [] tt 2 stack_end st.0 refl c tt
     (on_call F Anything Q 42 r1 st.0 b input [] tt (env p.main) ra (ready.entry_aligned p.main ready.sound.has_main) call tt
@@ -106,7 +113,7 @@ comes_to p F env data_at base e r b input q bytes n rooms =
     let G = ground_at p F env data_at base r b in
     let s = start p input in
     let one = begins p F env data_at base e r b input q (rooms 0 (omega arith)) in
-    comes_then F Anything start_cost (spent p n s) (Go r base b input []) (Matches G (running s)) (Matches G (run p n s)) one (λ m k. steps G (is_ready p F env data_at base e r b q) n s m k bytes rooms)
+    comes_then F Anything start_cost (spent p n s) (Go r base b input []) (Matches G (running s)) (Matches G (run p n s)) one (λ m k. steps G (is_ready p F env data_at base e r b q) n s m k bytes rooms (λ j lt. unwatched G (omega arith) (omega arith) (run p j s)))
 
 pub ends : EndsFollow
 ends p F env data_at base e r b input q bytes n status left trace over rooms =

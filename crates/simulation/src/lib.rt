@@ -2,7 +2,7 @@
 #![tactic(auto)]
 
 ghost use Rattle.simulation.specs.Laws.{NothingFollows, JumpsFollow, BranchesFollow, MovesFollow, ConversionsFollow, OperationsFollow, ExitFollows, AddressesFollow, ElementsFollow, LoadsFollow, StoresFollow, PutFollows, GetFollows, CallsFollow, ReturnsFollow};
-ghost use Rattle.simulation.specs.Runs.{StepFollows, RunsFollow, Progresses, LaidIsReady, EntriesFollow, ConventionKept, BeginsFollow, EndsFollow, MachineGoesOn, MachineEnds};
+ghost use Rattle.simulation.specs.Runs.{StepFollows, RunsFollow, Progresses, EachCallKeeps, LaidIsReady, EntriesFollow, ConventionKept, BeginsFollow, EndsFollow, MachineGoesOn, MachineEnds};
 
 /// `Nothing` has no items, and the machine stays where it is.
 pub fn nothing_follows()
@@ -92,6 +92,11 @@ pub fn runs_follow()
 /// A run that goes on takes the machine on: at least one instruction for each so many steps.
 pub fn progresses()
     ensures { Progresses }
+{}
+
+/// Each call within a run, however deep, keeps the stack pointer and s0 to s11, and is returned to behind it.
+pub fn each_call_keeps()
+    ensures { EachCallKeeps }
 {}
 
 /// A function that is called from outside finds its arguments where ILP32 has them.
