@@ -19,7 +19,7 @@ abbrev pub Anything : Light → Type 0
 Anything m = Unit {0}
 
 -- Where the instruction stands, the machine comes from matching a state to matching what the instruction makes of it, by the
--- table's count of instructions.
+-- table's count of instructions. The frame on top begins below the call of which one speaks, if any.
 abbrev pub Follows : Instruction → Type 0
 Follows x =
     (G : Ground) (s : State) (r b : ℕ → ℕ) → Ready G → Matched G s r (address G s.frame.function s.frame.at) b → IsBelow G (running s)

@@ -25,7 +25,7 @@ StepFollows =
     → Comes G.machine Anything (least_if (next_of G.program s)) (cost_if (next_of G.program s)) (Go r (address G s.frame.function s.frame.at) b s.input s.trace) (Matches G (step G.program s))
 
 -- After n steps of flat code, after a count of instructions between the sums of the table's rows, the machine matches, where all frames on
--- the way fit the stack. A call of which one speaks is within: `each_call_keeps` is where that is used.
+-- the way fit the stack, and lie below the call of which one speaks, if any.
 abbrev pub RunsFollow : Type 0
 RunsFollow =
     (G : Ground) (n : ℕ) (s : State) (r b : ℕ → ℕ) → Ready G → Matched G s r (address G s.frame.function s.frame.at) b → AreBytes s.input → ((k : ℕ) → k ≤ n → HasRoom G (run G.program k s)) → ((k : ℕ) → k < n → IsBelow G (run G.program k s))
@@ -111,7 +111,7 @@ EachCallKeeps =
 
 -- ---- whole programs
 
--- main is called with the stack pointer at the stack's end, and returned to behind its call
+-- main is called with the stack pointer at the stack's end, and returned to behind its call; one speaks of no call
 abbrev pub ground_at : Program → Fixed → (env : ℕ → ℕ) → (data_at base : ℕ) → (r b : ℕ → ℕ) → Ground
 ground_at p F env data_at base r b = record {
   program = p;
