@@ -212,7 +212,7 @@ module _ (G : Ground) (s : State) (r b : ℕ → ℕ) (ready : Ready G) (m : Mat
 -- ---- as laws
 
 pub load_follows : (w : Width) (d : Target) (l : Location) → Follows (instruction.Load w d l)
-load_follows w d l G s r b ready m e room = does_load G s r b ready m w d l e
+load_follows w d l G s r b ready m under e room = does_load G s r b ready m w d l e
 
 pub store_follows : (w : Width) (y : Operand) (l : Location) → Follows (instruction.Store w y l)
-store_follows w y l G s r b ready m e room = does_store G s r b ready m w y l e
+store_follows w y l G s r b ready m under e room = does_store G s r b ready m w y l e

@@ -99,8 +99,8 @@ module _ (G : Ground) (ready : Ready G) where
       (λ t. rw t (word (cell_home f j) (omega (arith, ltb-true j f.resident t, fit.all))))
       (λ t. rw t refl)
 
-  returns_moved : (w w2 : Frame) (ra : ℕ) → w2.function ≡ w.function → w2.at ≡ w.at → Returns G w ra → Returns G w2 ra
-  returns_moved w w2 ra ef ea q = record { at_is = q.at_is ∙ (ap (λ x. address G x w.at) (sym ef) ∙ ap (address G w2.function) (sym ea)); aligned = q.aligned; small = q.small }
+  returns_moved : (w w2 : Frame) (s : ℕ → ℕ) (base ra : ℕ) → w2.function ≡ w.function → w2.at ≡ w.at → Returns G w s base ra → Returns G w2 s base ra
+  returns_moved w w2 s base ra ef ea q = record { at_is = q.at_is ∙ (ap (λ x. address G x w.at) (sym ef) ∙ ap (address G w2.function) (sym ea)); aligned = q.aligned; small = q.small; seen = q.seen }
 
   waits_put : (ws : List Frame) (b b2 s : ℕ → ℕ) (base ra l : ℕ) (m : Memory) (bytes : Bytes) → Waits G ws b s base ra → memory_among G.program ws (suc l) ≡ Some m → Holds bytes (G.sp - suc l) m.first m.past b2 → Elsewhere (G.sp - suc l) m b b2
       → Waits G (changed_among G.program ws (suc l) bytes) b2 s base ra
@@ -123,7 +123,7 @@ module _ (G : Ground) (ready : Ready G) where
       let held : Holds bytes base (area_home f) (area_home f + f.area) b2 = subst (λ x. Holds bytes base (area_home f) x b2) past (subst (λ x. Holds bytes base x m.past b2) first (subst (λ x. Holds bytes x m.first m.past b2) at put)) in
       let up : Waits G ws b2 (file_below f b2 base s) (base + frame_bytes f) (word_at b (base + return_home f)) =
       waits_same G ws b b2 (file_below f b base s) (file_below f b2 base s) (base + frame_bytes f) _ (λ k le. off k (inr (omega (arith, at, past, room, le)))) (below_same w.function b b2 s base word) st.2 in
-      let new : Waits G (w2 ∷ ws) b2 s base ra = (returns_moved w w2 ra refl refl st.0, frame_put f w.cells w.area bytes b b2 s base st.1 held word, subst (Waits G ws b2 (file_below f b2 base s) (base + frame_bytes f)) (sym ret) up) in
+      let new : Waits G (w2 ∷ ws) b2 s base ra = (returns_moved w w2 s base ra refl refl st.0, frame_put f w.cells w.area bytes b b2 s base st.1 held word, subst (Waits G ws b2 (file_below f b2 base s) (base + frame_bytes f)) (sym ret) up) in
       let list : changed_among G.program (w ∷ ws) (suc l) bytes ≡ w2 ∷ ws = rw t refl in
       subst (λ x. Waits G x b2 s base ra) (sym list) new)
       (λ t.

@@ -73,8 +73,8 @@ module _ (G : Ground) (s : State) (r b : ℕ → ℕ) (ready : Ready G) (m : Mat
 
   -- ---- Call
 
-  does_call : (g : ℕ) → slice_get (fn G s r b ready m).code s.frame.at ≡ Some (instruction.Call g) → HasRoom G (act G.program s (instruction.Call g)) → Comes G.machine Anything 1 44 (Go r start b s.input s.trace) (Matches G (act G.program s (instruction.Call g)))
-  does_call g e room =
+  pub does_call : (g : ℕ) → (m.sp ≡ G.watch_sp → (end ≡ G.watch_ra) × ((j : ℕ) → file_of r j ≡ G.watch_file j)) → slice_get (fn G s r b ready m).code s.frame.at ≡ Some (instruction.Call g) → HasRoom G (act G.program s (instruction.Call g)) → Comes G.machine Anything 1 44 (Go r start b s.input s.trace) (Matches G (act G.program s (instruction.Call g)))
+  does_call g seen e room =
       let Q : Light → Type 0 = Matches G (running (entered s g)) in
       let f = function_at G.program g in
       let st = ready.stands s.frame.function s.frame.at (instruction.Call g) e in
@@ -96,7 +96,7 @@ module _ (G : Ground) (s : State) (r b : ℕ → ℕ) (ready : Ready G) (m : Mat
       let file : (j : ℕ) → file_of r1 j ≡ file_of r j = λ j. stays (kept j) (λ x. omega (arith, x, kept_above j)) in
       let words : Small (file_of r1) = λ j. subst (λ x. x < 2 ^ 32) (sym (file j)) (m.frame.small j) in
       let w : Frame = record s.frame { at = s.frame.at + 1 } in
-      let back : Returns G w ra = record { at_is = st.2; aligned = even; small = small } in
+      let back : Returns G w (file_of r) m.sp ra = record { at_is = st.2; aligned = even; small = small; seen = λ x. let y = seen x in (st.2 ∙ y.0, y.1) } in
       let waits : Waits G (w ∷ s.waiting) b (file_of r) m.sp ra = (back, record { aligned = m.frame.aligned; small = m.frame.small; cells = m.frame.cells; area = m.frame.area }, m.waits) in
       let waits1 : Waits G (w ∷ s.waiting) b (file_of r1) (sp + frame_bytes f) ra = subst (λ x. Waits G (w ∷ s.waiting) b (file_of r1) x ra) (sym up) (waits_same G (w ∷ s.waiting) b b (file_of r) (file_of r1) m.sp ra (λ k le. refl) file waits) in
       let ts : (k : ℕ) (v : Value) → below_eight s.temporaries k ≡ Some v → (k < 8) × (shown G v < 2 ^ 32) × (r1 (10 + k) ≡ shown G v) = λ k v ek. bool_cases (nat_lt k 8)
@@ -123,7 +123,7 @@ module _ (G : Ground) (s : State) (r b : ℕ → ℕ) (ready : Ready G) (m : Mat
   -- ---- Return
 
   -- the frame closes: the registers are those that the frame below sees
-  leaves : (Q : Light → Type 0) → slice_get (fn G s r b ready m).code s.frame.at ≡ Some instruction.Return → word_at b (m.sp + return_home (fn G s r b ready m)) % 4 ≡ 0 → word_at b (m.sp + return_home (fn G s r b ready m)) < 2 ^ 32
+  pub leaves : (Q : Light → Type 0) → slice_get (fn G s r b ready m).code s.frame.at ≡ Some instruction.Return → word_at b (m.sp + return_home (fn G s r b ready m)) % 4 ≡ 0 → word_at b (m.sp + return_home (fn G s r b ready m)) < 2 ^ 32
       → ((r2 : ℕ → ℕ) → r2 2 ≡ m.sp + frame_bytes (fn G s r b ready m) → ((j : ℕ) → file_of r2 j ≡ file_below (fn G s r b ready m) b m.sp (file_of r) j) → r2 10 ≡ r 10 → Comes G.machine Anything 0 0 (Go r2 (word_at b (m.sp + return_home (fn G s r b ready m))) b s.input s.trace) Q)
       → Comes G.machine Anything 1 43 (Go r start b s.input s.trace) Q
   leaves Q e al small next_to =
@@ -203,7 +203,9 @@ module _ (G : Ground) (s : State) (r b : ℕ → ℕ) (ready : Ready G) (m : Mat
 -- ---- as laws
 
 pub call_follows : (g : ℕ) → Follows (instruction.Call g)
-call_follows g G s r b ready m e room = does_call G s r b ready m g e room
+call_follows g G s r b ready m under e room =
+    let sum = sum_is G ready s r (address G s.frame.function s.frame.at) b m in
+    does_call G s r b ready m g (λ x. absurd (omega (arith, x, sum, under))) e room
 
 pub return_follows : Follows instruction.Return
-return_follows G s r b ready m e room = returns_to G s r b ready m s.waiting m.waits e
+return_follows G s r b ready m under e room = returns_to G s r b ready m s.waiting m.waits e

@@ -85,7 +85,7 @@ module _ (G : Ground) (s : State) (r b : ℕ → ℕ) (ready : Ready G) (m : Mat
 -- ---- as laws
 
 pub compute_follows : (o : Operation) (d : Target) (x y : Operand) → Follows (instruction.Compute o d x y)
-compute_follows o d x y G s r b ready m e room = does_compute G s r b ready m o d x y e
+compute_follows o d x y G s r b ready m under e room = does_compute G s r b ready m o d x y e
 
 pub exit_follows : Follows instruction.Exit
-exit_follows G s r b ready m e room = does_exit G s r b ready m e
+exit_follows G s r b ready m under e room = does_exit G s r b ready m e

@@ -169,4 +169,4 @@ module _ (G : Ground) (s : State) (r b : ℕ → ℕ) (ready : Ready G) (m : Mat
 -- ---- as laws
 
 pub element_follows : (d : Target) (x y : Operand) (size : ℕ) → Follows (instruction.Element d x y size)
-element_follows d x y size G s r b ready m e room = does_element G s r b ready m d x y size e
+element_follows d x y size G s r b ready m under e room = does_element G s r b ready m d x y size e

@@ -236,7 +236,7 @@ module _ (G : Ground) (s : State) (r b : ℕ → ℕ) (ready : Ready G) (m : Mat
 -- ---- as laws
 
 pub put_follows : Follows instruction.PutByte
-put_follows G s r b ready m e room = does_put G s r b ready m e
+put_follows G s r b ready m under e room = does_put G s r b ready m e
 
 pub get_follows : GetFollows
-get_follows G s r b ready m bytes e room = gets_from G s r b ready m s.input refl bytes e
+get_follows G s r b ready m under bytes e room = gets_from G s r b ready m s.input refl bytes e

@@ -206,16 +206,16 @@ module _ (G : Ground) (s : State) (r b : ℕ → ℕ) (ready : Ready G) (m : Mat
 -- ---- as laws
 
 pub nothing_follows : Follows instruction.Nothing
-nothing_follows G s r b ready m e room = does_nothing G s r b ready m e
+nothing_follows G s r b ready m under e room = does_nothing G s r b ready m e
 
 pub jump_follows : (to : ℕ) → Follows (instruction.Jump to)
-jump_follows to G s r b ready m e room = does_jump G s r b ready m to e
+jump_follows to G s r b ready m under e room = does_jump G s r b ready m to e
 
 pub branch_follows : (t : Test) (x y : Operand) (to : ℕ) → Follows (instruction.Branch t x y to)
-branch_follows t x y to G s r b ready m e room = does_branch G s r b ready m t x y to e
+branch_follows t x y to G s r b ready m under e room = does_branch G s r b ready m t x y to e
 
 pub move_follows : (d : Target) (x : Operand) → Follows (instruction.Move d x)
-move_follows d x G s r b ready m e room = does_move G s r b ready m d x e
+move_follows d x G s r b ready m under e room = does_move G s r b ready m d x e
 
 pub convert_follows : (c : Conversion) (d : Target) (x : Operand) → Follows (instruction.Convert c d x)
-convert_follows c d x G s r b ready m e room = does_convert G s r b ready m c d x e
+convert_follows c d x G s r b ready m under e room = does_convert G s r b ready m c d x e

@@ -15,7 +15,7 @@ use Rattle.frames.specs.declared.code.Instruction.TheVariants as instruction
 use Rattle.frames.specs.Code.{Program}
 use Rattle.frames.specs.Run.{Value, Frame, State, Progress, running, ended, stuck, value, word_at, reference_in, set, next, past, goes_to, place, memory, with_memory, with_element, element_in, gives, gives_word, operate, converted, loaded, stored, put, got, returned, act, step, run, goes_on, ◌>>=◌}
 use Rattle.frames.specs.Run as flat
-use Rattle.simulation.specs.Costs.{next_of}
+use Rattle.frames.specs.Costs.{next_of}
 use Rattle.simulation.proofs.Forms.{set_input, set_trace}
 use Rattle.simulation.proofs.Accesses.{memory_input, memory_trace}
 

@@ -117,10 +117,10 @@ some_function [] k lt = absurd (omega (arith, lt))
 some_function (f ∷ fs) zero lt = (f, refl)
 some_function (f ∷ fs) (suc k) lt = some_function fs k (omega (arith, lt))
 
-known : (p : Program) (k : ℕ) (g : Function) → slice_get p.functions k ≡ Some g → g ≡ function_at p k
+pub known : (p : Program) (k : ℕ) (g : Function) → slice_get p.functions k ≡ Some g → g ≡ function_at p k
 known p k g e = rw e refl
 
-unknown : (p : Program) (k : ℕ) → slice_get p.functions k ≡ None → [] ≡ (function_at p k).code
+pub unknown : (p : Program) (k : ℕ) → slice_get p.functions k ≡ None → [] ≡ (function_at p k).code
 unknown p k e = rw e refl
 
 module _ (p : Program) (T : ℕ → Option Instr) (env : ℕ → ℕ) (seg base e : ℕ) (al : base % 4 ≡ 0) (st : Stands T env seg (program_items p) base e) where

@@ -18,6 +18,8 @@ pub mod Calls
 pub mod Inputs
 pub mod Steps
 pub mod Laying
+pub mod Progress
+pub mod Watching
 pub mod Whole
 pub mod Real
 pub mod Rows

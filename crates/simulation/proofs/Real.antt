@@ -10,7 +10,9 @@ use Rattle.running.proofs.Worlds.{real_follows}
 use Rattle.running.proofs.Placing.{after_items}
 use Rattle.select.specs.Program.{program_items}
 use Rattle.simulation.specs.Matches.{Ground, Matches}
-use Rattle.simulation.specs.Runs.{ground_at, MachineGoesOn, MachineEnds}
+use Rattle.simulation.specs.Costs.{least_spent}
+use Rattle.simulation.specs.Runs.{slack, ground_at, MachineGoesOn, MachineEnds}
+use Rattle.simulation.proofs.Progress.{progresses, times_more}
 use Rattle.simulation.proofs.Inputs.{Reads, whole, whole_once, flat_reads, machine_reads, Has, Kept}
 use Rattle.simulation.proofs.Whole.{comes_to, ends}
 
@@ -38,7 +40,7 @@ goes_on P low apart p env data_at base e r b list input q shows bytes n s over r
     let real = real_follows P low apart list r base b input [] shows (omega (arith, one.on, q.low)) c.j in
     let x = machine.rvrun c.j (world P list base b input []) in
     let w = shown P G s (light_run F c.j (Go r base b input [])) x (subst (λ y. Matches G y (light_run F c.j (Go r base b input []))) over c.good) real in
-    (c.j, w.world, c.some, c.within, w.is, w.trace_is, w.input_is)
+    (c.j, w.world, times_more (slack p) (least_spent p n (start p input)) c.j n (progresses p n (start p input) s over) (omega (arith, c.some)), c.within, w.is, w.trace_is, w.input_is)
 
 pub ends_so : MachineEnds
 ends_so P low apart p env data_at base e r b list input q shows bytes n status left trace over rooms =

@@ -117,4 +117,4 @@ module _ (G : Ground) (s : State) (r b : ℕ → ℕ) (ready : Ready G) (m : Mat
 -- ---- as laws
 
 pub address_follows : (d : Target) (l : Location) → Follows (instruction.Address d l)
-address_follows d l G s r b ready m e room = does_address G s r b ready m d l e
+address_follows d l G s r b ready m under e room = does_address G s r b ready m d l e

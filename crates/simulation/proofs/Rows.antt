@@ -25,7 +25,7 @@ use Rattle.frames.specs.Run.{ended, step, run, start}
 use Rattle.running.specs.Light.{Fixed, Go, Done, light_run, Comes}
 use Rattle.select.specs.Selected.{entry, items_of}
 use Rattle.simulation.specs.Matches.{HasRoom}
-use Rattle.simulation.specs.Costs.{cost}
+use Rattle.frames.specs.Costs.{cost}
 use Rattle.simulation.specs.Laws.{Anything}
 use Rattle.simulation.specs.Runs.{Laid, ground_at}
 use Rattle.simulation.proofs.Whole.{ends}

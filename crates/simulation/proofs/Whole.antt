@@ -1,12 +1,14 @@
 -- The machine follows flat code: from a program's entry to its end.
-use Rattle.std.proofs.Common.{◌≡◌, ℕ, ◌+◌, ◌-◌, ◌^◌, ◌<◌, ◌≤◌, List, [], length, refl, sym, ap, ◌∙◌, subst, arith}
+use Rattle.std.proofs.Common.{◌≡◌, ℕ, ◌+◌, ◌*◌, ◌-◌, ◌^◌, ◌<◌, ◌≤◌, List, [], length, refl, sym, ap, ◌∙◌, subst, arith}
 use Rattle.std.specs.Prelude.{slice_get}
 use Rattle.loader.specs.MemoryMap.{stack_end}
 use Rattle.rv32.specs.declared.instr.ImmediateOp.TheVariants as immediate_op
+use Rattle.rv32.specs.Space.{word_at}
 use Rattle.asm.specs.Placed.{Stands}
 use Rattle.events.specs.Events.{Event}
 use Rattle.frames.specs.Code.{Program, frame_bytes}
-use Rattle.frames.specs.Run.{unset, running, ended, run, start, function_at}
+use Rattle.frames.specs.Costs.{entry_cost, spent}
+use Rattle.frames.specs.Run.{unset, Progress, running, ended, stuck, run, start, function_at}
 use Rattle.running.specs.Light.{Fixed, Light, Go, Done, Fell, with_reg, Comes}
 use Rattle.running.proofs.Words.{with_other}
 use Rattle.running.proofs.Steps.{comes_now, comes_some, comes_then, on_immediate, on_exit}
@@ -14,10 +16,10 @@ use Rattle.running.proofs.ItemSteps.{on_loads, on_call}
 use Rattle.running.proofs.Placing.{stands_parts}
 use Rattle.select.specs.Selected.{kept, exit}
 use Rattle.select.specs.Program.{functions_items}
-use Rattle.simulation.specs.Matches.{HasRoom, Ground, Small, Waits, Matches, address, file_of}
-use Rattle.simulation.specs.Costs.{spent, least_spent}
+use Rattle.simulation.specs.Matches.{HasRoom, IsBelow, Ground, ArgumentsShow, Waits, Matches, address, argument_at, file_of}
+use Rattle.simulation.specs.Costs.{least_spent}
 use Rattle.simulation.specs.Laws.{Anything, AreBytes}
-use Rattle.simulation.specs.Runs.{Laid, ground_at, start_cost, BeginsFollow, EndsFollow}
+use Rattle.simulation.specs.Runs.{Laid, Entered, outermost, ground_at, start_cost, EntriesFollow, ConventionKept, BeginsFollow, EndsFollow}
 use Rattle.simulation.proofs.Registers.{kept_above}
 use Rattle.simulation.proofs.Fits.{Within, frame_tall, function_fits}
 use Rattle.simulation.proofs.Entering.{enters}
@@ -25,33 +27,72 @@ use Rattle.simulation.proofs.Calls.{opened_matched}
 use Rattle.simulation.proofs.Steps.{steps}
 use Rattle.simulation.proofs.Laying.{is_ready}
 
+-- where no call is spoken of
+unwatched : (G : Ground) → 2 ^ 32 ≤ G.watch_sp → G.sp ≤ 2 ^ 31 → (x : Progress) → IsBelow G x
+unwatched G none top (running s) = omega (arith, none, top)
+unwatched G none top (ended status input trace) = tt
+unwatched G none top stuck = tt
+
+pub entries : EntriesFollow
+entries G g temporaries arguments statics input trace r at b ready known q room =
+    let Q : Light → Type 0 = Matches G (running (outermost g temporaries arguments statics input trace)) in
+    let f = function_at G.program g in
+    let fit = function_fits G.program ready.sound g in
+    let tall = frame_tall f in
+    let sp = G.sp - frame_bytes f in
+    let up : sp + frame_bytes f ≡ G.sp = omega (arith, room) in
+    let win : Within f sp = record { low = omega (arith, room); top = omega (arith, up, ready.top); aligned = omega (arith, up, q.aligned, tall) } in
+    let small : r 1 < 2 ^ 32 = omega (arith, q.ra_is, ready.return_small) in
+    let waits : Waits G [] b (file_of r) (sp + frame_bytes f) (r 1) = (up, q.small, q.file_is, q.ra_is, λ k le. q.bytes_are k (omega (arith, le, up))) in
+    let xs : ArgumentsShow G f arguments b sp = λ k v ek.
+    let old = q.further k v ek in
+    let there : argument_at f sp k ≡ G.sp + 4 * (k - 8) = omega (arith, up) in
+    (old.0, omega (arith, there, old.1), ap (word_at b) there ∙ old.2) in
+    subst (λ x. Comes G.machine Anything 1 42 (Go r x b input trace) Q) (sym q.at_is)
+    (enters G.machine G.env G.data_at input trace Q f sp win (record { reads = ready.stack_read; writes = ready.stack_written }) G.sp (G.env g) (address G g 0) r b fit.few fit.all up ready.top fit.small q.sp_is q.small small q.bytes (ready.entries g known) (λ r2 b2 o.
+    comes_now G.machine Anything 0 _ Q tt
+    (opened_matched G ready g sp temporaries arguments [] statics input trace r b r2 b2 win q.small q.registers xs q.globals waits o, refl, refl)))
+
+pub convention : ConventionKept
+convention G f temporaries arguments statics input trace r at b ready known q bytes n status left later over rooms =
+    let p = G.program in
+    let s = outermost f temporaries arguments statics input trace in
+    let here = Go r at b input trace in
+    let one = entries G f temporaries arguments statics input trace r at b ready known q (rooms 0 (omega arith)) in
+    let two = comes_then G.machine Anything entry_cost (spent p n s) here (Matches G (running s)) (Matches G (run p n s)) one (λ m k. steps G ready n s m k bytes rooms (λ j lt. unwatched G q.unwatched ready.top (run p j s))) in
+    let all : Comes G.machine Anything (1 + least_spent p n s) (entry_cost + spent p n s) here (Matches G (ended status left later)) =
+    subst (λ x. Comes G.machine Anything (1 + least_spent p n s) (entry_cost + spent p n s) here (Matches G x)) over two in
+    record { j = all.j; some = omega (arith, all.some); within = all.within; kept = all.kept; good = all.good }
+
 pub begins : BeginsFollow
 begins p F env data_at base e r b input q room =
     let G = ground_at p F env data_at base r b in
     let ready = is_ready p F env data_at base e r b q in
     let Q : Light → Type 0 = Matches G (running (start p input)) in
-    let f = function_at p p.main in
-    let fit = function_fits p ready.sound p.main in
     let st = q.stands in
     let c = st.1 in
     let call = st.2.1 in
     let ra = st.2.0 in
-    let ra_is : ra ≡ base + 16 = omega (arith, c.next_is, call.next_is) in
-    let small : ra < 2 ^ 32 = omega (arith, ra_is, ready.return_small) in
     let r1 = with_reg r 2 stack_end in
     let r2 = with_reg r1 1 ra in
     let file : (j : ℕ) → file_of r2 j ≡ file_of r j = λ j. with_other r1 1 ra (kept j) (λ x. omega (arith, x, kept_above j)) ∙ with_other r 2 stack_end (kept j) (λ x. omega (arith, x, kept_above j)) in
-    let words : Small (file_of r2) = λ j. subst (λ x. x < 2 ^ 32) (sym (file j)) (q.small j) in
-    let tall = frame_tall f in
-    let sp = stack_end - frame_bytes f in
-    let up : sp + frame_bytes f ≡ stack_end = omega (arith, room) in
-    let win : Within f sp = record { low = omega (arith, room); top = omega (arith, up); aligned = omega (arith, up, tall) } in
-    let waits : Waits G [] b (file_of r2) (sp + frame_bytes f) ra = (up, words, file, ra_is, λ k le. refl) in
+    let entered : Entered G p.main unset unset (slice_get p.statics) r2 (env p.main) b = record {
+      at_is = refl;
+      sp_is = refl;
+      aligned = refl;
+      ra_is = omega (arith, c.next_is, call.next_is);
+      file_is = file;
+      small = λ j. subst (λ x. x < 2 ^ 32) (sym (file j)) (q.small j);
+      bytes_are = λ k le. refl;
+      bytes = q.bytes;
+      registers = λ k v ek. cc;
+      further = λ k v ek. cc;
+      globals = q.statics;
+      unwatched = omega arith;
+    } in
     on_loads F Anything Q 44 r base b input [] tt 2 stack_end st.0 refl c tt
     (on_call F Anything Q 42 r1 st.0 b input [] tt (env p.main) ra (ready.entry_aligned p.main ready.sound.has_main) call tt
-    (enters F env data_at input [] Q f sp win (record { reads = ready.stack_read; writes = ready.stack_written }) stack_end (env p.main) (address G p.main 0) r2 b fit.few fit.all up (omega arith) fit.small refl words small q.bytes (ready.entries p.main ready.sound.has_main) (λ r3 b3 o.
-    comes_now F Anything 0 _ Q tt
-    (opened_matched G ready p.main sp unset unset [] (slice_get p.statics) input [] r2 b r3 b3 win words (λ k v ek. cc) (λ k v ek. cc) q.statics waits o, refl, refl))))
+    (entries G p.main unset unset (slice_get p.statics) input [] r2 (env p.main) b ready ready.sound.has_main entered room))
 
 -- behind main's call, or where the program has exited
 exits : (G : Ground) (status : ℕ) (left : List ℕ) (trace : List Event) (e : ℕ) → Stands G.machine.text G.env G.data_at exit G.ra e → (m : Light) → Matches G (ended status left trace) m → Comes G.machine Anything 0 2 m (λ x. x ≡ Done status trace)
@@ -72,7 +113,7 @@ comes_to p F env data_at base e r b input q bytes n rooms =
     let G = ground_at p F env data_at base r b in
     let s = start p input in
     let one = begins p F env data_at base e r b input q (rooms 0 (omega arith)) in
-    comes_then F Anything start_cost (spent p n s) (Go r base b input []) (Matches G (running s)) (Matches G (run p n s)) one (λ m k. steps G (is_ready p F env data_at base e r b q) n s m k bytes rooms)
+    comes_then F Anything start_cost (spent p n s) (Go r base b input []) (Matches G (running s)) (Matches G (run p n s)) one (λ m k. steps G (is_ready p F env data_at base e r b q) n s m k bytes rooms (λ j lt. unwatched G (omega arith) (omega arith) (run p j s)))
 
 pub ends : EndsFollow
 ends p F env data_at base e r b input q bytes n status left trace over rooms =

@@ -9,19 +9,20 @@ use Rattle.frames.specs.declared.code.Operation.{Operation}
 use Rattle.frames.specs.declared.code.Conversion.{Conversion}
 use Rattle.frames.specs.declared.code.Instruction.{Instruction}
 use Rattle.frames.specs.declared.code.Instruction.TheVariants as instruction
-use Rattle.frames.specs.Run.{State, act, function_at}
+use Rattle.frames.specs.Run.{State, running, act, function_at}
 use Rattle.running.specs.Light.{Light, Go, Comes}
-use Rattle.simulation.specs.Matches.{Ground, Ready, Matched, Matches, HasRoom, address}
-use Rattle.simulation.specs.Costs.{cost, least}
+use Rattle.simulation.specs.Matches.{Ground, Ready, Matched, Matches, HasRoom, IsBelow, address}
+use Rattle.frames.specs.Costs.{cost}
+use Rattle.simulation.specs.Costs.{least}
 
 abbrev pub Anything : Light → Type 0
 Anything m = Unit {0}
 
 -- Where the instruction stands, the machine comes from matching a state to matching what the instruction makes of it, by the
--- table's count of instructions.
+-- table's count of instructions. The frame on top begins below the call of which one speaks, if any.
 abbrev pub Follows : Instruction → Type 0
 Follows x =
-    (G : Ground) (s : State) (r b : ℕ → ℕ) → Ready G → Matched G s r (address G s.frame.function s.frame.at) b
+    (G : Ground) (s : State) (r b : ℕ → ℕ) → Ready G → Matched G s r (address G s.frame.function s.frame.at) b → IsBelow G (running s)
     → slice_get (function_at G.program s.frame.function).code s.frame.at ≡ Some x → HasRoom G (act G.program s x)
     → Comes G.machine Anything (least x) (cost x) (Go r (address G s.frame.function s.frame.at) b s.input s.trace) (Matches G (act G.program s x))
 
@@ -68,7 +69,7 @@ PutFollows = Follows instruction.PutByte
 -- where the input is bytes
 abbrev pub GetFollows : Type 0
 GetFollows =
-    (G : Ground) (s : State) (r b : ℕ → ℕ) → Ready G → Matched G s r (address G s.frame.function s.frame.at) b → AreBytes s.input
+    (G : Ground) (s : State) (r b : ℕ → ℕ) → Ready G → Matched G s r (address G s.frame.function s.frame.at) b → IsBelow G (running s) → AreBytes s.input
     → slice_get (function_at G.program s.frame.function).code s.frame.at ≡ Some instruction.GetByte → HasRoom G (act G.program s instruction.GetByte)
     → Comes G.machine Anything (least instruction.GetByte) (cost instruction.GetByte) (Go r (address G s.frame.function s.frame.at) b s.input s.trace) (Matches G (act G.program s instruction.GetByte))
 

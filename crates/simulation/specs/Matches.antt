@@ -10,7 +10,8 @@ use Rattle.running.specs.Light.{Fixed, Light, Go, Done, Fell}
 use Rattle.select.specs.Selected.{kept, items_of, entry, return_home}
 
 -- A program whose items are placed, and what its outermost call found at its entry: the stack pointer, the address to return to,
--- s0 to s11, and the bytes from the stack pointer up.
+-- s0 to s11, and the bytes from the stack pointer up. And a call that waits, of which one may speak: where its frame begins (2^32: none does),
+-- where it is returned to, and its s0 to s11.
 pub record Ground : Type 0 where
   pub program : Program
   pub machine : Fixed
@@ -20,6 +21,9 @@ pub record Ground : Type 0 where
   pub ra : ℕ
   pub file : ℕ → ℕ
   pub bytes : ℕ → ℕ
+  pub watch_sp : ℕ
+  pub watch_ra : ℕ
+  pub watch_file : ℕ → ℕ
 
 -- the label of a function's first instruction
 abbrev pub first_of : Program → ℕ → ℕ
@@ -74,11 +78,12 @@ pub record FrameHolds (G : Ground) (f : Function) (values : Values) (arrays : By
   pub cells : Shows G f.cells values (cell_at f b sp s)
   pub area : Holds arrays sp (area_home f) (area_home f + f.area) b
 
--- an address to return to
-pub record Returns (G : Ground) (w : Frame) (ra : ℕ) : Type 0 where
+-- an address to return to, of a call whose frame begins at base and which sees the registers s
+pub record Returns (G : Ground) (w : Frame) (s : ℕ → ℕ) (base ra : ℕ) : Type 0 where
   pub at_is : ra ≡ address G w.function w.at
   pub aligned : ra % 4 ≡ 0
   pub small : ra < 2 ^ 32
+  pub seen : base ≡ G.watch_sp → (ra ≡ G.watch_ra) × ((j : ℕ) → s j ≡ G.watch_file j)
 
 -- The calls that wait, from base up, where the one on top sees the registers s, and is returned to at ra. Below them all is what the
 -- outermost call found at its entry.
@@ -86,7 +91,7 @@ abbrev pub Waits : Ground → List Frame → (b : ℕ → ℕ) → (s : ℕ → 
 Waits G [] b s base ra =
     (base ≡ G.sp) × Small s × ((j : ℕ) → s j ≡ G.file j) × (ra ≡ G.ra) × ((k : ℕ) → base ≤ k → b k ≡ G.bytes k)
 Waits G (w ∷ ws) b s base ra =
-    Returns G w ra × FrameHolds G (function_at G.program w.function) w.cells w.area b base s
+    Returns G w s base ra × FrameHolds G (function_at G.program w.function) w.cells w.area b base s
     × Waits G ws b (file_below (function_at G.program w.function) b base s) (base + frame_bytes (function_at G.program w.function))
     (word_at b (base + return_home (function_at G.program w.function)))
 
@@ -146,3 +151,9 @@ abbrev pub HasRoom : Ground → Progress → Type 0
 HasRoom G (running s) = 0x7FF00000 + bytes_of G.program (s.frame ∷ s.waiting) ≤ G.sp
 HasRoom G (ended status input trace) = Unit {0}
 HasRoom G stuck = Unit {0}
+
+-- the frame on top begins below that of the call of which one speaks
+abbrev pub IsBelow : Ground → Progress → Type 0
+IsBelow G (running s) = G.sp < bytes_of G.program (s.frame ∷ s.waiting) + G.watch_sp
+IsBelow G (ended status input trace) = Unit {0}
+IsBelow G stuck = Unit {0}

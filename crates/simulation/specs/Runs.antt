@@ -1,36 +1,117 @@
 -- What simulation is of whole runs: a step, so many steps, a program's entry and its end.
-use Rattle.std.specs.Prelude.{◌≡◌, ◌≤◌, ◌<◌, ℕ, ◌+◌, ◌%◌, ◌^◌, true, false, List, [], length, slice_get}
+use Rattle.std.specs.Prelude.{◌≡◌, ◌≤◌, ◌<◌, ℕ, ◌+◌, ◌-◌, ◌*◌, ◌%◌, ◌^◌, true, false, List, [], ◌∷◌, length, slice_get, Some}
 use Rattle.loader.specs.MemoryMap.{stack_end}
+use Rattle.rv32.specs.Space.{word_at}
 use Rattle.asm.specs.Placed.{Stands}
 use Rattle.events.specs.Events.{Event}
+use Rattle.frames.specs.declared.code.Instruction.TheVariants as instruction
 use Rattle.frames.specs.Code.{Program}
-use Rattle.frames.specs.Sound.{IsSoundProgram}
-use Rattle.frames.specs.Run.{State, running, ended, step, run, start}
+use Rattle.frames.specs.Sound.{IsSoundProgram, places_of}
+use Rattle.frames.specs.Run.{Value, Values, Bytes, unset, State, Progress, running, ended, stuck, entered, bytes_of, step, run, start}
 use Rattle.sim.specs.Runs.{World, Running, Ended, rvrun}
-use Rattle.running.specs.Light.{Fixed, Go, Done, Comes}
+use Rattle.running.specs.Light.{Fixed, Light, Go, Done, Fell, Comes}
 use Rattle.running.specs.Whole.{Permits, fixed}
 use Rattle.running.specs.Worlds.{Registers, world}
 use Rattle.select.specs.Program.{program_items}
-use Rattle.simulation.specs.Matches.{Ground, Ready, Matched, Matches, HasRoom, Holds, Small, address, file_of}
-use Rattle.simulation.specs.Costs.{entry_cost, cost_if, least_if, next_of, spent, least_spent}
+use Rattle.simulation.specs.Matches.{Ground, Ready, Matched, Matches, HasRoom, IsBelow, Holds, Small, address, file_of, shown}
+use Rattle.frames.specs.Costs.{entry_cost, cost, cost_if, next_of, spent}
+use Rattle.simulation.specs.Costs.{least_if, least_spent}
 use Rattle.simulation.specs.Laws.{Anything, AreBytes}
 
 -- Whatever instruction stands there; also where none does, or the step is stuck.
 abbrev pub StepFollows : Type 0
 StepFollows =
-    (G : Ground) (s : State) (r b : ℕ → ℕ) → Ready G → Matched G s r (address G s.frame.function s.frame.at) b → AreBytes s.input → HasRoom G (step G.program s)
+    (G : Ground) (s : State) (r b : ℕ → ℕ) → Ready G → Matched G s r (address G s.frame.function s.frame.at) b → IsBelow G (running s) → AreBytes s.input → HasRoom G (step G.program s)
     → Comes G.machine Anything (least_if (next_of G.program s)) (cost_if (next_of G.program s)) (Go r (address G s.frame.function s.frame.at) b s.input s.trace) (Matches G (step G.program s))
 
 -- After n steps of flat code, after a count of instructions between the sums of the table's rows, the machine matches, where all frames on
--- the way fit the stack.
+-- the way fit the stack, and lie below the call of which one speaks, if any.
 abbrev pub RunsFollow : Type 0
 RunsFollow =
-    (G : Ground) (n : ℕ) (s : State) (r b : ℕ → ℕ) → Ready G → Matched G s r (address G s.frame.function s.frame.at) b → AreBytes s.input → ((k : ℕ) → k ≤ n → HasRoom G (run G.program k s))
+    (G : Ground) (n : ℕ) (s : State) (r b : ℕ → ℕ) → Ready G → Matched G s r (address G s.frame.function s.frame.at) b → AreBytes s.input → ((k : ℕ) → k ≤ n → HasRoom G (run G.program k s)) → ((k : ℕ) → k < n → IsBelow G (run G.program k s))
     → Comes G.machine Anything (least_spent G.program n s) (spent G.program n s) (Go r (address G s.frame.function s.frame.at) b s.input s.trace) (Matches G (run G.program n s))
+
+-- Steps without items are no more in a row than a function has instructions: a run that goes on for n steps lets the machine go on too.
+abbrev pub slack : Program → ℕ
+slack p = places_of p.functions + 1
+
+abbrev pub Progresses : Type 0
+Progresses = (p : Program) (n : ℕ) (s t : State) → run p n s ≡ running t → n < slack p * (least_spent p n s + 1)
+
+-- ---- a function that is called from outside (RISC-V ELF psABI, "Integer Calling Convention")
+
+-- What a call finds: arguments in a0 to a7, the further ones from the stack pointer up, and the stack pointer, the address to return to, s0 to
+-- s11 and the bytes from the stack pointer up as `Returned` has them.
+pub record Entered (G : Ground) (f : ℕ) (temporaries arguments : Values) (statics : Bytes) (r : ℕ → ℕ) (at : ℕ) (b : ℕ → ℕ) : Type 0 where
+  pub at_is : at ≡ G.env f
+  pub sp_is : r 2 ≡ G.sp
+  pub aligned : G.sp % 16 ≡ 0
+  pub ra_is : r 1 ≡ G.ra
+  pub file_is : (j : ℕ) → file_of r j ≡ G.file j
+  pub small : Small (file_of r)
+  pub bytes_are : (k : ℕ) → G.sp ≤ k → b k ≡ G.bytes k
+  pub bytes : (k : ℕ) → b k < 2 ^ 8
+  pub registers : (k : ℕ) (v : Value) → temporaries k ≡ Some v → (k < 8) × (shown G v < 2 ^ 32) × (r (10 + k) ≡ shown G v)
+  pub further : (k : ℕ) (v : Value) → arguments k ≡ Some v → (shown G v < 2 ^ 32) × (G.sp + 4 * (k - 8) + 4 ≤ 2 ^ 31) × (word_at b (G.sp + 4 * (k - 8)) ≡ shown G v)
+  pub globals : Holds statics G.data_at 0 (length G.program.statics) b
+  pub unwatched : 2 ^ 32 ≤ G.watch_sp
+
+-- its flat state: no call waits
+abbrev pub outermost : ℕ → Values → Values → Bytes → List ℕ → List Event → State
+outermost f temporaries arguments statics input trace = record {
+  frame = record { function = f; at = 0; cells = unset; area = unset };
+  temporaries = temporaries;
+  arguments = arguments;
+  waiting = [];
+  statics = statics;
+  input = input;
+  trace = trace;
+}
+
+abbrev pub EntriesFollow : Type 0
+EntriesFollow =
+    (G : Ground) (f : ℕ) (temporaries arguments : Values) (statics : Bytes) (input : List ℕ) (trace : List Event) (r : ℕ → ℕ) (at : ℕ) (b : ℕ → ℕ) → Ready G → f < length G.program.functions
+    → Entered G f temporaries arguments statics r at b → HasRoom G (running (outermost f temporaries arguments statics input trace))
+    → Comes G.machine Anything 1 entry_cost (Go r at b input trace) (Matches G (running (outermost f temporaries arguments statics input trace)))
+
+-- Where its run ends, the machine stands where it is returned to, with the stack pointer, s0 to s11 and the bytes above as it found them, and
+-- with its result in a0; or the program has exited.
+abbrev pub ConventionKept : Type 0
+ConventionKept =
+    (G : Ground) (f : ℕ) (temporaries arguments : Values) (statics : Bytes) (input : List ℕ) (trace : List Event) (r : ℕ → ℕ) (at : ℕ) (b : ℕ → ℕ) → Ready G → f < length G.program.functions
+    → Entered G f temporaries arguments statics r at b → AreBytes input
+    → (n status : ℕ) (left : List ℕ) (later : List Event) → run G.program n (outermost f temporaries arguments statics input trace) ≡ ended status left later
+    → ((k : ℕ) → k ≤ n → HasRoom G (run G.program k (outermost f temporaries arguments statics input trace)))
+    → Comes G.machine Anything 1 (entry_cost + spent G.program n (outermost f temporaries arguments statics input trace)) (Go r at b input trace) (Matches G (ended status left later))
+
+-- ---- each call within a run
+
+-- the run is within a call that s makes: more frames are on the stack than those of s
+abbrev pub IsWithin : Program → State → Progress → Type 0
+IsWithin p s (running t) = bytes_of p (s.frame ∷ s.waiting) < bytes_of p (t.frame ∷ t.waiting)
+IsWithin p s (ended status input trace) = Unit {0}
+IsWithin p s stuck = Unit {0}
+
+-- the stack pointer and s0 to s11 are as in r, and the machine stands there
+abbrev pub IsBack : (r : ℕ → ℕ) → ℕ → Light → Type 0
+IsBack r to (Go r2 at b i h) = (at ≡ to) × (r2 2 ≡ r 2) × ((j : ℕ) → file_of r2 j ≡ file_of r j)
+IsBack r to (Done x h) = ⊥
+IsBack r to (Fell h) = ⊥
+
+-- From a call, however deep, to the return that ends it: n steps within it lead to a Return over the frames that the call found. The machine
+-- is then behind the call, with the stack pointer and s0 to s11 as they were.
+abbrev pub EachCallKeeps : Type 0
+EachCallKeeps =
+    (G : Ground) (s t : State) (f n : ℕ) (r b : ℕ → ℕ) → Ready G → Matched G s r (address G s.frame.function s.frame.at) b → AreBytes s.input
+    → next_of G.program s ≡ Some (instruction.Call f) → run G.program n (entered s f) ≡ running t
+    → next_of G.program t ≡ Some instruction.Return → bytes_of G.program t.waiting ≡ bytes_of G.program (s.frame ∷ s.waiting)
+    → ((k : ℕ) → k ≤ n → HasRoom G (run G.program k (entered s f))) → ((k : ℕ) → k ≤ n → IsWithin G.program s (run G.program k (entered s f)))
+    → Comes G.machine Anything 1 (cost (instruction.Call f) + spent G.program n (entered s f) + cost instruction.Return) (Go r (address G s.frame.function s.frame.at) b s.input s.trace)
+    (IsBack r (address G s.frame.function (s.frame.at + 1)))
 
 -- ---- whole programs
 
--- main is called with the stack pointer at the stack's end, and returned to behind its call
+-- main is called with the stack pointer at the stack's end, and returned to behind its call; one speaks of no call
 abbrev pub ground_at : Program → Fixed → (env : ℕ → ℕ) → (data_at base : ℕ) → (r b : ℕ → ℕ) → Ground
 ground_at p F env data_at base r b = record {
   program = p;
@@ -41,6 +122,9 @@ ground_at p F env data_at base r b = record {
   ra = base + 16;
   file = file_of r;
   bytes = b;
+  watch_sp = 2 ^ 32;
+  watch_ra = 0;
+  watch_file = λ j. 0;
 }
 
 -- A sound program's items stand from base up to e, below 2^31; the stack and the data may be read and written, and lie apart; the statics
@@ -84,14 +168,15 @@ EndsFollow =
 
 -- ---- on the machine of the table, where no byte may be both executed and written, and text lies below 2^31
 
--- where the flat program goes on: the machine does too, having done the same and with the same input left
+-- where the flat program goes on: the machine does too, having done the same and with the same input left, after a count of instructions that grows with
+-- the steps
 abbrev pub MachineGoesOn : Type 0
 MachineGoesOn =
     (P : Permits) → ((a : ℕ) → P.can_execute a ≡ true → a < 2 ^ 31) → ((a : ℕ) → P.can_execute a ≡ true → P.can_write a ≡ false)
     → (p : Program) (env : ℕ → ℕ) (data_at base e : ℕ) (r b : ℕ → ℕ) (list input : List ℕ) → Laid p (fixed P b) env data_at base e r b → Registers list r → AreBytes input
     → (n : ℕ) (s : State) → run p n (start p input) ≡ running s
     → ((k : ℕ) → k ≤ n → HasRoom (ground_at p (fixed P b) env data_at base r b) (run p k (start p input)))
-    → (k : ℕ) × (w : World) × (1 + least_spent p n (start p input) ≤ k) × (k ≤ start_cost + spent p n (start p input)) × (rvrun k (world P list base b input []) ≡ Running w) × (w.trace ≡ s.trace) × (w.input ≡ s.input)
+    → (k : ℕ) × (w : World) × (n < slack p * k) × (k ≤ start_cost + spent p n (start p input)) × (rvrun k (world P list base b input []) ≡ Running w) × (w.trace ≡ s.trace) × (w.input ≡ s.input)
 
 -- where it ends
 abbrev pub MachineEnds : Type 0

@@ -2,7 +2,7 @@
 #![tactic(auto)]
 
 ghost use Rattle.simulation.specs.Laws.{NothingFollows, JumpsFollow, BranchesFollow, MovesFollow, ConversionsFollow, OperationsFollow, ExitFollows, AddressesFollow, ElementsFollow, LoadsFollow, StoresFollow, PutFollows, GetFollows, CallsFollow, ReturnsFollow};
-ghost use Rattle.simulation.specs.Runs.{StepFollows, RunsFollow, LaidIsReady, BeginsFollow, EndsFollow, MachineGoesOn, MachineEnds};
+ghost use Rattle.simulation.specs.Runs.{StepFollows, RunsFollow, Progresses, EachCallKeeps, LaidIsReady, EntriesFollow, ConventionKept, BeginsFollow, EndsFollow, MachineGoesOn, MachineEnds};
 
 /// `Nothing` has no items, and the machine stays where it is.
 pub fn nothing_follows()
@@ -87,6 +87,26 @@ pub fn step_follows()
 /// So many steps of flat code, by the sums of the table's rows.
 pub fn runs_follow()
     ensures { RunsFollow }
+{}
+
+/// A run that goes on takes the machine on: at least one instruction for each so many steps.
+pub fn progresses()
+    ensures { Progresses }
+{}
+
+/// Each call within a run, however deep, keeps the stack pointer and s0 to s11, and is returned to behind it.
+pub fn each_call_keeps()
+    ensures { EachCallKeeps }
+{}
+
+/// A function that is called from outside finds its arguments where ILP32 has them.
+pub fn entries_follow()
+    ensures { EntriesFollow }
+{}
+
+/// And it leaves as ILP32 asks: the stack pointer, s0 to s11 and the bytes above are as it found them.
+pub fn convention_kept()
+    ensures { ConventionKept }
 {}
 
 /// Where a program's items stand, each instruction's items and each function's entry stand at their labels.

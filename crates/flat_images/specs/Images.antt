@@ -1,0 +1,45 @@
+-- What it is for an image to be that of a flat program, and how it then runs.
+use Rattle.std.specs.Prelude.{◌≡◌, ◌≤◌, ◌<◌, ℕ, ◌+◌, ◌*◌, List, ◌∷◌, length}
+use Rattle.loader.specs.MemoryMap.{text_start, stack_size}
+use Rattle.elf_out.specs.Layout.{Parts}
+use Rattle.elf_out.specs.Program.{program_image}
+use Rattle.asm.specs.Placed.{Assembles}
+use Rattle.events.specs.Events.{Event}
+use Rattle.sim.specs.Runs.{World, Running, Ended, rvrun, start_world}
+use Rattle.frames.specs.Code.{Program}
+use Rattle.frames.specs.Sound.{IsSoundProgram}
+use Rattle.frames.specs.Costs.{spent}
+use Rattle.frames.specs.Run.{State, Progress, running, ended, stuck, bytes_of, run, start}
+use Rattle.select.specs.Program.{program_items}
+use Rattle.simulation.specs.Laws.{AreBytes}
+use Rattle.simulation.specs.Runs.{slack, start_cost}
+
+-- its text assembles a sound program's items, and its data are the program's statics
+pub record IsImageOf (p : Program) (parts : Parts) : Type 0 where
+  pub sound : IsSoundProgram p
+  pub assembled : Assembles (program_items p) text_start parts.text
+  pub statics : parts.statics ≡ p.statics
+  pub text_bytes : AreBytes parts.text
+  pub static_bytes : AreBytes parts.statics
+  pub size : length parts.text + length parts.statics ≤ 0x7000000
+
+-- the frames of the calls that are active fit the stack
+abbrev pub FitStack : Program → Progress → Type 0
+FitStack p (running s) = bytes_of p (s.frame ∷ s.waiting) ≤ stack_size
+FitStack p (ended status input trace) = Unit {0}
+FitStack p stuck = Unit {0}
+
+-- So many steps of the program, where all frames on the way fit the stack and the input is bytes, are so many instructions of the machine from its
+-- image: at most the table's sum, and at least one for each so many steps.
+abbrev pub ImageGoesOn : Type 0
+ImageGoesOn =
+    (p : Program) (parts : Parts) (input : List ℕ) → IsImageOf p parts → AreBytes input
+    → (n : ℕ) (s : State) → run p n (start p input) ≡ running s → ((k : ℕ) → k ≤ n → FitStack p (run p k (start p input)))
+    → (k : ℕ) × (w : World) × (n < slack p * k) × (k ≤ start_cost + spent p n (start p input)) × (rvrun k (start_world (program_image parts) input) ≡ Running w) × (w.trace ≡ s.trace) × (w.input ≡ s.input)
+
+-- and where the program ends, at most two more
+abbrev pub ImageEnds : Type 0
+ImageEnds =
+    (p : Program) (parts : Parts) (input : List ℕ) → IsImageOf p parts → AreBytes input
+    → (n status : ℕ) (left : List ℕ) (trace : List Event) → run p n (start p input) ≡ ended status left trace → ((k : ℕ) → k ≤ n → FitStack p (run p k (start p input)))
+    → (k : ℕ) × (w : World) × (k ≤ start_cost + spent p n (start p input) + 2) × (rvrun k (start_world (program_image parts) input) ≡ Ended status w) × (w.trace ≡ trace) × (w.input ≡ left)

@@ -1,0 +1,3 @@
+pub mod Images
+pub use Rattle.simulation.specs.Runs
+pub use Rattle.elf_out.specs.Program
