@@ -1,5 +1,5 @@
 -- Initialisers: their string literals, and the sizes that they give.
-use Rattle.std.proofs.Common.{◌≡◌, ℕ, zero, suc, ◌+◌, ◌<◌, ◌≤◌, Bool, true, false, List, [], ◌∷◌, ◌++◌, drop, get_or, length, map, Option, Some, None, refl, sym, ap, ◌∙◌, append_assoc, append-nil, arith}
+use Rattle.std.proofs.Common.{◌≡◌, ℕ, zero, suc, ◌+◌, ◌<◌, ◌≤◌, Bool, true, false, List, [], ◌∷◌, drop, get_or, length, map, Option, Some, None, refl, sym, ap, ◌∙◌, arith}
 use Rattle.std.proofs.lemmas.List.{drop_all}
 use Rattle.srcset.specs.declared.code.Code.TheVariants as code
 use Rattle.srcset.specs.declared.refusal.Pos.{Pos}
@@ -7,18 +7,13 @@ use Rattle.tree.specs.declared.declaration.Initialiser.{Initialiser}
 use Rattle.tree.specs.Tree.{Tree, hole, identifier, constant, string, paren, call, subscript, after, before, prefix, size_of, size_of_type, cast, binary, conditional, assign, Init, init_hole, one_init, braced_init, Inits, no_inits, and_init}
 use Rattle.tree.specs.View.{init_of, inits_of}
 use Rattle.typed.specs.Types.{ObjectType}
-use Rattle.typed.specs.Verdict.{Verdict, fine, breaks}
+use Rattle.typed.specs.Verdict.{fine, breaks}
 use Rattle.typed.specs.Scope.{Scope, with_literals, literal_of}
 use Rattle.typed.specs.Initialisers.{strings_of, strings_of_all, text_alone, count_of, has_characters}
 use Rattle.typed.specs.Declarations.{text_or_form, text_or_count, length_from}
+use Rattle.declarators.proofs.Strings.{none_more, some_more}
 use Rattle.declarators.proofs.Verdicts.{next_of}
-use Rattle.declarations.specs.inside.Sizes.{as_literal, init_literal, alone_literal, count_of_parts, literal_size, list_size, text_size}
-
-pub none_more : (s : Scope) → with_literals s [] ≡ s
-none_more s = ap (λ l. record s { literals = l }) (append-nil s.literals)
-
-pub some_more : (s : Scope) (a b : List ℕ) → with_literals (with_literals s a) b ≡ with_literals s (a ++ b)
-some_more s a b = ap (λ l. record s { literals = l }) (append_assoc s.literals a b)
+use Rattle.declarations.specs.inside.Sizes.{as_literal, alone_literal, count_of_parts, literal_size, list_size, text_size}
 
 -- the literals of the parts that are left
 abbrev pub left_of : List Initialiser → List ℕ

@@ -50,7 +50,16 @@ pub fn function_at(
         Err(refusal) => return Err(refusal),
     };
     let state = State::Mentioned;
-    match file_function(alloc, names, scope, pos, declarator.name, class, function, state) {
+    match file_function(
+        alloc,
+        names,
+        scope,
+        pos,
+        declarator.name,
+        class,
+        function,
+        state,
+    ) {
         Ok(()) => Ok(()),
         Err(refusal) => Err(refusal),
     }

@@ -294,7 +294,15 @@ pub fn finished(
     match &declarator.initialiser {
         None => left_unknown(scope.level(), class, pos),
         Some(initialiser) => {
-            sized_by(alloc, names, scope, pos, declarator.name, element, initialiser)
+            sized_by(
+                alloc,
+                names,
+                scope,
+                pos,
+                declarator.name,
+                element,
+                initialiser,
+            )
         }
     }
 }

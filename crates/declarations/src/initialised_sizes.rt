@@ -121,12 +121,7 @@ fn size_of_list(
 }
 
 /// The size that an initialiser without braces gives: that of a string literal, for characters.
-fn size_of_text(
-    names: &Names,
-    characters: bool,
-    pos: Pos,
-    e: &Expr,
-) -> Result<usize, Refusal>
+fn size_of_text(names: &Names, characters: bool, pos: Pos, e: &Expr) -> Result<usize, Refusal>
     ensures ok { (s : scope_typed.Scope) → IfOk result (λ n. text_size (with_texts names.now s) characters pos (tree_of e.now) ≡ fine n) }
     ensures err { (s : scope_typed.Scope) → IfErr result (λ r. Tells r (text_size (with_texts names.now s) characters pos (tree_of e.now))) }
 {

@@ -1,5 +1,5 @@
 //! The string literals of initialisers (6.7.9).
-#![tactic(auto, using(crate::proofs::Initialisers::none_more, crate::proofs::Initialisers::some_more))]
+#![tactic(auto, using(declarators::proofs::Strings::none_more, declarators::proofs::Strings::some_more))]
 
 ghost use Rattle.std.specs.Prelude.{◌≡◌, map, OnOk, IfErr};
 ghost use Rattle.srcset.specs.declared.refusal.Refusal.TheVariants.{Memory};

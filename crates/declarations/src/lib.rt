@@ -6,8 +6,8 @@ mod copies;
 mod declaration_scopes;
 mod declared_items;
 mod finished_objects;
-mod initialiser_literals;
 mod initialised_sizes;
+mod initialiser_literals;
 
 pub use begun_objects::{BegunObject, begun};
 pub use declaration_scopes::{asserted, declare};

@@ -1,5 +1,5 @@
 pub mod Verdicts
-mod Strings
+pub mod Strings
 mod Lengths
 pub mod Limits
 mod ParameterRules

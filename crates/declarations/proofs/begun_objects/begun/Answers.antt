@@ -2,9 +2,7 @@ use Rattle.std.proofs.Common.{sym, ap, ◌∙◌, map}
 use Rattle.tree.specs.View.{option_tree, option_init}
 use Rattle.program.specs.View.{declared_type_of}
 use Rattle.typed.specs.Verdict.{fine}
-use Rattle.typed.specs.Declarators.{declared_type}
 use Rattle.const_expr.specs.Typings.{base_type_of}
-use Rattle.scopes.specs.Scopes.{with_texts}
 use Rattle.linkage.specs.Views.{class_of}
 use Rattle.declarations.proofs.Objects.{begun_object, initialised}
 use Rattle.declarations.proofs.begun_objects.begun.Goals as goal

@@ -1,5 +1,4 @@
-use Rattle.std.proofs.Common.{◌≡◌, ◌∷◌, ap, ◌∙◌, arith}
-use Rattle.tree.specs.Capped.{capped}
+use Rattle.std.proofs.Common.{◌∷◌, ap, ◌∙◌, arith}
 use Rattle.program.specs.View.{object_type_of}
 use Rattle.typed.specs.Types as type
 use Rattle.declarators.proofs.Limits.{over_limit, within_limit}

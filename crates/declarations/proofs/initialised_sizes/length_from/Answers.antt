@@ -1,4 +1,4 @@
-use Rattle.std.proofs.Common.{rules, arith, ◌≡◌, IfOk, IfErr, subst}
+use Rattle.std.proofs.Common.{rules, ◌≡◌, IfOk, IfErr, subst}
 use Rattle.tree.specs.declared.declaration.Initialiser.{the_lemmas}
 use Rattle.tree.specs.View.{tree_of, init_of}
 use Rattle.program.specs.View.{object_type_of}
