@@ -1,6 +1,6 @@
 pub mod Verdicts
-mod Strings
+pub mod Strings
 mod Lengths
-mod Limits
+pub mod Limits
 mod ParameterRules
 mod Parameters
