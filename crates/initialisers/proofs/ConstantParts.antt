@@ -1,8 +1,7 @@
 -- Which parts of a list may be constant expressions, as far as they are read.
-use Rattle.std.proofs.Common.{◌≡◌, ℕ, ◌+◌, ◌<◌, ◌≤◌, List, [], drop, get_or, length, map, refl, sym, ap, ◌∙◌, subst}
+use Rattle.std.proofs.Common.{◌≡◌, ℕ, ◌+◌, ◌<◌, ◌≤◌, List, drop, get_or, length, map, sym, ap, ◌∙◌, subst}
 use Rattle.std.proofs.lemmas.List.{drop_all}
 use Rattle.srcset.specs.declared.refusal.Refusal.{Refusal}
-use Rattle.tree.specs.Tree.{Inits}
 use Rattle.tree.specs.declared.declaration.Initialiser.{Initialiser}
 use Rattle.tree.specs.View.{init_of, inits_of}
 use Rattle.typed.specs.Verdict.{Verdict, fine, broken, each}

@@ -12,7 +12,6 @@ use Rattle.typed.specs.Types.{elements_in}
 use Rattle.typed.specs.Verdict.{Verdict, fine, both, then_check}
 use Rattle.typed.specs.Program as program
 use Rattle.typed.specs.Scope.{Scope, file_scope}
-use Rattle.typed.specs.Constants.{folded}
 use Rattle.typed.specs.Initialisers as typed
 use Rattle.typed.specs.Initialisers.{characters, zeros, padded, literal_text, and_values}
 use Rattle.expression_rules.specs.Forms.{seen}

@@ -1,5 +1,5 @@
 -- Initialisers depend on the string literals before by their count alone.
-use Rattle.std.proofs.Common.{◌≡◌, ℕ, ◌+◌, Bool, true, false, List, [], ◌∷◌, ◌++◌, length, refl, sym, ap, ◌∙◌, arith, Option, Some, None, length-append}
+use Rattle.std.proofs.Common.{◌≡◌, ℕ, ◌+◌, Bool, true, false, List, ◌++◌, length, refl, sym, ap, ◌∙◌, arith, Option, Some, None, length-append}
 use Rattle.std.specs.Prelude.{replicate}
 use Rattle.std.proofs.lemmas.List.{length-replicate}
 use Rattle.srcset.specs.declared.code.Code.TheVariants as code
@@ -9,8 +9,8 @@ use Rattle.tree.specs.Tree.{Tree, Init, init_hole, one_init, braced_init, Inits,
 use Rattle.typed.specs.Verdict.{Verdict, fine, breaks, then_check, both, refuse_if, provided}
 use Rattle.typed.specs.Program as program
 use Rattle.typed.specs.Program.{Initialiser}
-use Rattle.typed.specs.Scope.{Scope, literal_of, strings}
-use Rattle.typed.specs.Expressions.{Checked, worth, position, typing}
+use Rattle.typed.specs.Scope.{Scope, literal_of}
+use Rattle.typed.specs.Expressions.{Checked, worth, position}
 use Rattle.typed.specs.Initialisers.{Wanted, one_number, an_array, wanted, exceeds, of_number, number_from, text_from, text_if, array_from, number_in_braces, text_alone, list_or_text, in_list, initialiser, initialisers, past_init, and_part, strings_of, has_characters}
 use Rattle.scopes.specs.Scopes.{with_texts}
 use Rattle.expression_rules.specs.Forms.{seen}

@@ -9,7 +9,7 @@ use Rattle.program.specs.View.{initialiser_of, initialisers_of}
 use Rattle.tree.specs.Tree.{Init, Inits, and_init}
 use Rattle.tree.specs.declared.declaration.Initialiser.{Initialiser}
 use Rattle.tree.specs.View.{init_of, inits_of}
-use Rattle.typed.specs.Verdict.{Verdict, fine, both, then_check}
+use Rattle.typed.specs.Verdict.{fine}
 use Rattle.typed.specs.Program as program
 use Rattle.typed.specs.Scope.{Scope}
 use Rattle.typed.specs.Initialisers as typed

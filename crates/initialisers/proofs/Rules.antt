@@ -1,5 +1,5 @@
 -- What the rules say of the forms that the code holds.
-use Rattle.std.proofs.Common.{◌≡◌, ℕ, ◌+◌, ◌-◌, Bool, true, false, List, [], ◌∷◌, length, map, Option, Some, None, refl, sym, ap, ◌∙◌, subst, arith, append-nil, Global, Ok, Err, IfOk, IfErr, OnOk, inl, inr}
+use Rattle.std.proofs.Common.{◌≡◌, ℕ, ◌+◌, ◌-◌, Bool, true, false, List, [], ◌∷◌, length, map, Option, Some, None, refl, sym, ap, ◌∙◌, subst, arith, append-nil, Global, Ok, Err, IfOk, IfErr, OnOk, inl}
 use Rattle.std.specs.Prelude.{Result, Vec, slice_get, replicate, take}
 use Rattle.std.specs.Bool.{◌==◌}
 use Rattle.std.specs.Borrow.{Bor}
@@ -10,14 +10,14 @@ use Rattle.srcset.specs.declared.refusal.Refusal.{Refusal}
 use Rattle.ctypes.specs.declared.types.IntType.{IntType}
 use Rattle.program.specs.declared.initialisers.Initialiser as held
 use Rattle.program.specs.View.{initialiser_of}
-use Rattle.tree.specs.Tree.{Tree, Init, init_hole, one_init, braced_init, Inits, no_inits, and_init, hole, identifier, constant, string, paren, call, subscript, after, before, prefix, size_of, size_of_type, cast, binary, conditional, assign}
+use Rattle.tree.specs.Tree.{Tree, init_hole, one_init, braced_init, Inits, no_inits, and_init, hole, identifier, constant, string, paren, call, subscript, after, before, prefix, size_of, size_of_type, cast, binary, conditional, assign}
 use Rattle.tree.specs.declared.expression.Expr.{Expr}
 use Rattle.tree.specs.declared.declaration.Initialiser.{Initialiser}
 use Rattle.tree.specs.declared.declaration.Initialiser as I
 use Rattle.tree.specs.View.{tree_of, init_of, inits_of}
-use Rattle.typed.specs.Verdict.{Verdict, fine, broken, breaks, then_check, both, each, refuse_if, provided}
+use Rattle.typed.specs.Verdict.{Verdict, fine, breaks, then_check, both, each, refuse_if, provided}
 use Rattle.typed.specs.Program as program
-use Rattle.typed.specs.Scope.{Scope, or_empty, strings, literal_of}
+use Rattle.typed.specs.Scope.{Scope, or_empty, strings}
 use Rattle.typed.specs.Initialisers as typed
 use Rattle.typed.specs.Initialisers.{exceeds, array_from, not_braced, text_if, text_from, has_characters, list_or_text, text_alone, strings_of_all}
 use Rattle.expression_rules.specs.Refused.{Tells, refused}
@@ -26,7 +26,7 @@ use Rattle.expression_rules.proofs.Verdicts.{tells_right}
 use Rattle.declarators.proofs.Verdicts.{then_tells, provided_left}
 use Rattle.initialisers.specs.declared.forms.Wanted.{Wanted}
 use Rattle.initialisers.specs.declared.forms.Wanted.TheVariants as wanted
-use Rattle.initialisers.specs.Views.{wanted_of, option_string}
+use Rattle.initialisers.specs.Views.{wanted_of}
 use Rattle.initialisers.specs.Numbered.{initialiser_at}
 use Rattle.initialisers.specs.inside.Braces.{braced_string, string_in}
 use Rattle.initialisers.proofs.Shapes.{counted, sees_one, sees_list}

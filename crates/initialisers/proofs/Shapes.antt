@@ -1,5 +1,5 @@
 -- The forms of initialisers, of what the code holds.
-use Rattle.std.proofs.Common.{◌≡◌, ◌≢◌, ℕ, ◌+◌, List, [], ◌∷◌, length, map, refl, sym, ap, ◌∙◌, arith, rules, Global, Option, Some, None}
+use Rattle.std.proofs.Common.{◌≡◌, ◌≢◌, List, [], ◌∷◌, length, map, refl, sym, ap, ◌∙◌, arith, rules, Global, None}
 use Rattle.srcset.specs.declared.refusal.Pos.{Pos}
 use Rattle.std.specs.Prelude.{Vec}
 use Rattle.tree.specs.Tree.{Tree, Init, init_hole, Inits, no_inits, and_init, one_init, braced_init, hole, identifier, constant, string, paren, call, subscript, after, before, prefix, size_of, size_of_type, cast, binary, conditional, assign}

@@ -1,5 +1,5 @@
 -- The values of elements, whose texts are found by the literals and the unit's texts alone.
-use Rattle.std.specs.Prelude.{ℕ, ◌-◌, ℤ, List, [], ◌∷◌, length, take, Option, Some, None, slice_get}
+use Rattle.std.specs.Prelude.{ℕ, ◌-◌, ℤ, List, [], ◌∷◌, length, take, slice_get}
 use Rattle.ctypes.specs.declared.types.IntType.{IntType}
 use Rattle.ctypes.specs.Types.{converted}
 use Rattle.typed.specs.Verdict.{Verdict, fine, then_check}

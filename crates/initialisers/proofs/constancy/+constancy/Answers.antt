@@ -1,5 +1,5 @@
 use Rattle.std.proofs.Common.{arith}
-use Rattle.initialisers.proofs.ConstantParts.{one_less, none_left, stops}
+use Rattle.initialisers.proofs.ConstantParts.{one_less, none_left}
 use Rattle.initialisers.proofs.constancy.+constancy.Goals as goal
 
 pub all_constant-loop-part-preserved : goal.all_constant-loop-part-preserved

@@ -1,4 +1,4 @@
-use Rattle.std.proofs.Common.{◌≡◌, length, vec_len, rules, arith, ap, ◌-◌, ◌+◌, ◌∙◌}
+use Rattle.std.proofs.Common.{◌≡◌, length, vec_len, rules, ap, ◌-◌, ◌+◌, ◌∙◌}
 use Rattle.initialisers.proofs.Layouts.{padded_ok}
 use Rattle.initialisers.proofs.element_values.pad.Goals as goal
 
