@@ -3,7 +3,8 @@
     python3 tests/outside/constraints/model.py
 
 asks it for the sources of rows.txt and accepted.txt. faults(SOURCE) gives the codes and lines that stand in a source, or none. It
-reads the profile's grammar; a source outside it is an error. Of the preprocessor it knows object-like macros alone.
+reads the profile's grammar; a source outside it is an error. Of the preprocessor it knows object-like macros and two
+headers alone.
 """
 import pathlib, re, sys
 from dataclasses import dataclass, replace, field
@@ -29,11 +30,11 @@ def both(*parts):
 KEY = set('''break case char const continue default do else enum extern for if int long return short signed sizeof static switch
     unsigned void while _Bool _Static_assert'''.split())
 TOKEN = re.compile(r'''
-    \s+ | /\*.*?\*/ | //[^\n]*
+    (?:\s|\\\n)+ | /\*.*?\*/ | //[^\n]*
     | (?P<str>"(?:\\.|[^"\\])*")
     | (?P<chr>'(?:\\.|[^'\\])+')
     | (?P<num>\.?[0-9](?:[eEpP][+-]|[\w.])*)
-    | (?P<name>[A-Za-z_]\w*)
+    | (?P<name>[A-Za-z_](?:\w|\\\n)*)
     | (?P<op><<=|>>=|\+\+|--|<<|>>|<=|>=|==|!=|&&|\|\||[-+*/%&|^]=|<:|:>|<%|%>|[-+*/%&|^~!<>=?:;,(){}\[\]])
     | (?P<bad>.)''', re.S | re.X)
 DIGRAPH = {'<:': '[', ':>': ']', '<%': '{', '%>': '}'}
@@ -59,6 +60,10 @@ def number(text):
     for k in kinds:
         if v < 2 ** RANGE[k][0]: return k, v
     raise Syntax('609')
+HEADERS = {
+    'stdbool': {'bool': '_Bool', 'true': '1', 'false': '0'},
+    'iso646': {'and': '&&', 'and_eq': '&=', 'bitand': '&', 'bitor': '|', 'compl': '~', 'not': '!', 'not_eq': '!=', 'or': '||',
+               'or_eq': '|=', 'xor': '^', 'xor_eq': '^='}}
 def lex(source):
     macros, out, line = {}, [], 0
     def scan(text, at, hide, dest, moving):
@@ -67,16 +72,21 @@ def lex(source):
             if kind == 'bad': raise Syntax(m[0])
             if kind == 'name' and m[0] in macros and m[0] not in hide: scan(macros[m[0]], at, hide | {m[0]}, dest, False)
             elif kind:
-                t = m[0]
+                t = m[0].replace('\\\n', '')
                 dest.append((kind, DIGRAPH.get(t, t), at))
             if moving: at += m[0].count('\n')
     run, start = [], 1
     for k, l in enumerate(source.split('\n'), 1):
+        h = re.match(r'\s*#\s*include\s*<(\w+)\.h>', l)
         d = re.match(r'\s*#\s*define\s+(\w+)\s*(.*)', l)
         if d:
             if run: scan('\n'.join(run) + '\n', start, frozenset(), out, True)
             run, start = [], k + 1
             macros[d[1]] = d[2]
+        elif h:
+            if run: scan('\n'.join(run) + '\n', start, frozenset(), out, True)
+            run, start = [], k + 1
+            macros.update(HEADERS[h[1]])
         else:
             if l.lstrip().startswith('#'): raise Syntax(l)
             run.append(l)
