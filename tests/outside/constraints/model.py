@@ -182,13 +182,11 @@ class Parser:
     def init(self):
         if self.sees('{'):
             at = self.take()[2]; parts = []
-            if not self.sees('}'):
-                while True:
-                    parts.append(self.init())
-                    if self.sees(','):
-                        self.take()
-                        if self.sees('}'): break
-                    else: break
+            while True:
+                parts.append(self.init())
+                if self.sees(','): self.take()
+                else: break
+                if self.sees('}'): break
             self.eat('}'); return ('braces', at, parts)
         return ('one', self.assign())
     def declaration(self, file):
