@@ -2,9 +2,9 @@
 
     python3 tests/outside/constraints/model.py
 
-asks it for the sources of rows.txt and accepted.txt. faults(SOURCE) gives the codes and lines that stand in a source, or none. It
-reads the profile's grammar; a source outside it is an error. Of the preprocessor it knows object-like macros and two
-headers alone.
+asks it for the sources of rows.txt and accepted.txt, and for those that stand above the rows that crates/typed computes.
+faults(SOURCE) gives the codes and lines that stand in a source, or none. It reads the profile's grammar; a source outside it is an
+error. Of the preprocessor it knows object-like macros and two headers alone.
 """
 import pathlib, re, sys
 from dataclasses import dataclass, replace, field
@@ -979,9 +979,27 @@ def faults(source):
     except Broken as b: return sorted(set(b.faults))
     return []
 
+def computed(path):
+    """The sources above the computed rows of a file of crates/typed/proofs, with the codes and lines of each."""
+    for block in path.read_text().split('\n\n'):
+        lines = block.split('\n')
+        above = [line[3:] for line in lines if line.startswith('-- ')]
+        row = ' '.join(line for line in lines if not line.startswith('-- '))
+        if not above or 'told (unit_typed' not in row: continue
+        told = re.findall(r'fault\s+(\d+)\s+(\d+)', row.rsplit('≡', 1)[1])
+        yield '\n'.join(above) + '\n', sorted({(int(code), int(line)) for code, line in told})
+
 def main():
     here = pathlib.Path(__file__).parent
     passed = failed = 0
+    for path in sorted((here / '../../../crates/typed/proofs').glob('*Rows.antt')):
+        for source, want in computed(path):
+            if '{}' in source: continue # a tree that no list of tokens has
+            got = [(code, 0 if code in (551, 713, 715) else line) for code, line in faults(source)]
+            if got == want: passed += 1
+            else:
+                failed += 1
+                print(f'FAIL {path.name}: {got}, not {want}: {source}')
     for table, folder in (('rows.txt', 'rows'), ('accepted.txt', 'accepted')):
         for row in (here / table).read_text().splitlines():
             if row.startswith('#'): continue
