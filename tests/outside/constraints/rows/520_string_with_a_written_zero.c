@@ -1,2 +1,2 @@
-int x = {};
+char s[2] = "ab\0";
 int main(void) { return 0; }

@@ -1,0 +1,3 @@
+int main(void) { re\
+turn 3 + \
+4; }

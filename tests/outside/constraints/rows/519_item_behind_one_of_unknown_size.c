@@ -1,0 +1,3 @@
+static int a[2],
+    b[], c[2];
+int main(void) { return 0; }

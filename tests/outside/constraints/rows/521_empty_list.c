@@ -1,3 +1,0 @@
-int a[2] =
-    {};
-int main(void) { return 0; }

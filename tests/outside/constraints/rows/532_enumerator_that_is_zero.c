@@ -1,0 +1,3 @@
+enum { A };
+int f(int a[]);
+int main(void) { return f(A); }

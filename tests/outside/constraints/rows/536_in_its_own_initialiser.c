@@ -1,0 +1,5 @@
+int a[] = {
+    1,
+    sizeof a
+};
+int main(void) { return 0; }
