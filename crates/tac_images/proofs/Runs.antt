@@ -15,7 +15,7 @@ use Rattle.flat_images.specs.Images.{FitStack}
 use Rattle.flat_images.proofs.Images.{image_goes_on, image_ends}
 use Rattle.tac_images.specs.Runs.{CallsFit, TacGoesOn, TacEnds}
 
-none_within : {X : Type 0} (xs : List X) (k : ℕ) → slice_get xs k ≡ None → k < length xs → ⊥
+pub none_within : {X : Type 0} (xs : List X) (k : ℕ) → slice_get xs k ≡ None → k < length xs → ⊥
 none_within [] k e lt = omega (arith, lt)
 none_within (x ∷ xs) zero e lt = cc
 none_within (x ∷ xs) (suc k) e lt = none_within xs k e (omega (arith, lt))
@@ -52,7 +52,7 @@ module _ (q : tac.Program) (f : flat.Program) (flattened : IsFlattened q f) wher
   fits (flat_run.ended status left trace) input n m j its le e fit = tt
   fits flat_run.stuck input n m j its le e fit = tt
 
-further : (a n m x : ℕ) → n ≤ m → m < a * x → n < a * x
+pub further : (a n m x : ℕ) → n ≤ m → m < a * x → n < a * x
 further a n m x le lt = omega (arith, le, lt)
 
 pub tac_goes_on : TacGoesOn
