@@ -11,7 +11,7 @@ use Rattle.elf_out.specs.Program.{program_space, is_within, is_text, is_data, is
 use Rattle.asm.specs.Placed as placed
 use Rattle.asm.specs.Placed.{Stands, text_of}
 use Rattle.frames.specs.Code.{Program}
-use Rattle.frames.specs.Run.{Progress, running, ended, stuck, run, start}
+use Rattle.frames.specs.Run.{Progress, running, ended, stuck, entered, run, start}
 use Rattle.running.specs.Light.{Fixed, reg}
 use Rattle.running.specs.Whole.{Permits, fixed}
 use Rattle.running.specs.Worlds.{Registers}
@@ -23,7 +23,8 @@ use Rattle.simulation.specs.Matches.{HasRoom, Holds}
 use Rattle.simulation.specs.Laws.{AreBytes}
 use Rattle.simulation.specs.Runs.{Laid, ground_at}
 use Rattle.simulation.proofs.Real.{goes_on, ends_so}
-use Rattle.flat_images.specs.Images.{IsImageOf, FitStack, ImageGoesOn, ImageEnds}
+use Rattle.simulation.proofs.Keeping.{calls_keep}
+use Rattle.flat_images.specs.Images.{IsImageOf, FitStack, ImageGoesOn, ImageEnds, ImageCallsKeep}
 
 within_low : (start n a : ℕ) → is_within start n a ≡ true → (start ≤ a) × (a < start + n)
 within_low start n a e =
@@ -184,3 +185,8 @@ pub image_ends : ImageEnds
 image_ends p parts input q bytes n status left trace over rooms =
     ends_so (permits p parts q) (low p parts q) (apart p parts q) p q.assembled.env (data_at p parts q) text_start (past_text p parts q) (λ k. 0) (space p parts q).byte (replicate 32 0) input (laid p parts q) (zero_registers p parts q) bytes n status left trace over
     (λ k le. room p parts q (run p k (start p input)) (rooms k le))
+
+pub image_calls_keep : ImageCallsKeep
+image_calls_keep p parts input q bytes n m f s t over es later et same rooms inner within =
+    calls_keep (permits p parts q) (low p parts q) (apart p parts q) p q.assembled.env (data_at p parts q) text_start (past_text p parts q) (λ k. 0) (space p parts q).byte (replicate 32 0) input (laid p parts q) (zero_registers p parts q) bytes n m f s t over es later et same
+    (λ k le. room p parts q (run p k (start p input)) (rooms k le)) (λ k le. room p parts q (run p k (entered s f)) (inner k le)) within

@@ -1,5 +1,5 @@
 -- What it is for an image to be that of a flat program, and how it then runs.
-use Rattle.std.specs.Prelude.{◌≡◌, ◌≤◌, ◌<◌, ℕ, ◌+◌, ◌*◌, List, ◌∷◌, length}
+use Rattle.std.specs.Prelude.{◌≡◌, ◌≤◌, ◌<◌, ℕ, ◌+◌, ◌*◌, List, ◌∷◌, length, Some}
 use Rattle.loader.specs.MemoryMap.{text_start, stack_size}
 use Rattle.elf_out.specs.Layout.{Parts}
 use Rattle.elf_out.specs.Program.{program_image}
@@ -8,11 +8,13 @@ use Rattle.events.specs.Events.{Event}
 use Rattle.sim.specs.Runs.{World, Running, Ended, rvrun, start_world}
 use Rattle.frames.specs.Code.{Program}
 use Rattle.frames.specs.Sound.{IsSoundProgram}
-use Rattle.frames.specs.Costs.{spent}
-use Rattle.frames.specs.Run.{State, Progress, running, ended, stuck, bytes_of, run, start}
+use Rattle.frames.specs.declared.code.Instruction.TheVariants as instruction
+use Rattle.frames.specs.Costs.{next_of, spent}
+use Rattle.frames.specs.Run.{State, Progress, running, ended, stuck, entered, bytes_of, run, start}
 use Rattle.select.specs.Program.{program_items}
 use Rattle.simulation.specs.Laws.{AreBytes}
-use Rattle.simulation.specs.Runs.{slack, start_cost}
+use Rattle.simulation.specs.Matches.{first_of}
+use Rattle.simulation.specs.Runs.{IsWithin, KeptOver, slack, start_cost}
 
 -- its text assembles a sound program's items, and its data are the program's statics
 pub record IsImageOf (p : Program) (parts : Parts) : Type 0 where
@@ -43,3 +45,14 @@ ImageEnds =
     (p : Program) (parts : Parts) (input : List ℕ) → IsImageOf p parts → AreBytes input
     → (n status : ℕ) (left : List ℕ) (trace : List Event) → run p n (start p input) ≡ ended status left trace → ((k : ℕ) → k ≤ n → FitStack p (run p k (start p input)))
     → (k : ℕ) × (w : World) × (k ≤ start_cost + spent p n (start p input) + 2) × (rvrun k (start_world (program_image parts) input) ≡ Ended status w) × (w.trace ≡ trace) × (w.input ≡ left)
+
+-- At each call that the program comes to, and behind the return that ends it (m steps within the call, and then that Return), the machine has the
+-- same stack pointer and s0 to s11, and stands where the call's instruction and the next one begin.
+abbrev pub ImageCallsKeep : Type 0
+ImageCallsKeep =
+    (p : Program) (parts : Parts) (input : List ℕ) → (q : IsImageOf p parts) → AreBytes input
+    → (n m f : ℕ) (s t : State) → run p n (start p input) ≡ running s → next_of p s ≡ Some (instruction.Call f) → run p m (entered s f) ≡ running t
+    → next_of p t ≡ Some instruction.Return → bytes_of p t.waiting ≡ bytes_of p (s.frame ∷ s.waiting)
+    → ((k : ℕ) → k ≤ n → FitStack p (run p k (start p input))) → ((k : ℕ) → k ≤ m → FitStack p (run p k (entered s f))) → ((k : ℕ) → k ≤ m → IsWithin p s (run p k (entered s f)))
+    → (k j : ℕ) × (v w : World) × (rvrun k (start_world (program_image parts) input) ≡ Running v) × (v.machine.pc ≡ q.assembled.env (first_of p s.frame.function + s.frame.at))
+    × (rvrun (k + j) (start_world (program_image parts) input) ≡ Running w) × (w.machine.pc ≡ q.assembled.env (first_of p s.frame.function + (s.frame.at + 1))) × KeptOver v w

@@ -1,7 +1,7 @@
-//! The image of a flat program runs as the program does: two laws, of runs that go on and of runs that end.
+//! The image of a flat program runs as the program does: laws of runs that go on, of runs that end, and of calls.
 #![tactic(auto)]
 
-ghost use Rattle.flat_images.specs.Images.{ImageGoesOn, ImageEnds};
+ghost use Rattle.flat_images.specs.Images.{ImageGoesOn, ImageEnds, ImageCallsKeep};
 
 /// Where a flat program goes on, its image does too, having done the same, and with the same input left.
 pub fn image_goes_on()
@@ -11,4 +11,9 @@ pub fn image_goes_on()
 /// Where a flat program ends, its image ends with the same status, having done the same, and with the same input left.
 pub fn image_ends()
     ensures { ImageEnds }
+{}
+
+/// At each call that a flat program comes to, and behind its return, the machine has the same stack pointer and s0 to s11.
+pub fn image_calls_keep()
+    ensures { ImageCallsKeep }
 {}

@@ -22,4 +22,5 @@ pub mod Progress
 pub mod Watching
 pub mod Whole
 pub mod Real
+pub mod Keeping
 pub mod Rows

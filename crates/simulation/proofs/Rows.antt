@@ -21,13 +21,15 @@ use Rattle.frames.specs.declared.code.Instruction.{Instruction}
 use Rattle.frames.specs.declared.code.Instruction.TheVariants as instruction
 use Rattle.frames.specs.Code.{Function, Program}
 use Rattle.frames.specs.Sound.{InstructionFits, FunctionFits, IsSoundProgram}
-use Rattle.frames.specs.Run.{ended, step, run, start}
+use Rattle.frames.specs.Run.{State, running, ended, word, with_at, unset, below_eight, entered, step, run, start}
 use Rattle.running.specs.Light.{Fixed, Go, Done, light_run, Comes}
 use Rattle.select.specs.Selected.{entry, items_of}
-use Rattle.simulation.specs.Matches.{HasRoom}
+use Rattle.simulation.specs.Matches.{Ground, Matched, HasRoom, address}
 use Rattle.frames.specs.Costs.{cost}
 use Rattle.simulation.specs.Laws.{Anything}
-use Rattle.simulation.specs.Runs.{Laid, ground_at}
+use Rattle.simulation.specs.Runs.{Laid, IsWithin, IsBack, ground_at}
+use Rattle.simulation.proofs.Laying.{is_ready}
+use Rattle.simulation.proofs.Watching.{each_call_keeps}
 use Rattle.simulation.proofs.Whole.{ends}
 
 -- ---- the table's entries are attained: items but a branch in its long form have no way round, so a run takes a quarter of their bytes
@@ -164,6 +166,9 @@ laid = record {
   statics = λ k c e. cc;
 }
 
+abbrev G : Ground
+G = ground_at program F env 0x20000 69632 none none
+
 rooms : (k : ℕ) → k ≤ 6 → HasRoom (ground_at program F env 0x20000 69632 none none) (run program k (start program []))
 unfolding step
 rooms zero le = omega arith
@@ -186,3 +191,53 @@ by_the_laws = ends program F env 0x20000 69632 69728 none none [] laid (λ k c e
 -- .. and so it does
 by_running : light_run F 24 (Go none 69632 none [] []) ≡ Done 7 []
 by_running = refl
+
+-- ---- the call within it: from where main calls to where plus_two returns
+
+abbrev at_call : State
+at_call = record {
+  frame = record { function = 0; at = 1; cells = unset; area = unset };
+  temporaries = with_at unset 0 (word 5);
+  arguments = unset;
+  waiting = [];
+  statics = slice_get [];
+  input = [];
+  trace = [];
+}
+
+abbrev at_return : State
+at_return = record {
+  frame = record { function = 1; at = 2; cells = with_at unset 0 (word 5); area = unset };
+  temporaries = with_at (below_eight (with_at unset 0 (word 5))) 0 (word 7);
+  arguments = unset;
+  waiting = record at_call.frame { at = 2 } ∷ [];
+  statics = slice_get [];
+  input = [];
+  trace = [];
+}
+
+comes_to_call : run program 1 (start program []) ≡ running at_call
+unfolding step
+comes_to_call = refl
+
+comes_to_return : run program 2 (entered at_call 1) ≡ running at_return
+unfolding step
+comes_to_return = refl
+
+inner_rooms : (k : ℕ) → k ≤ 2 → HasRoom G (run program k (entered at_call 1))
+unfolding step
+inner_rooms zero le = omega arith
+inner_rooms (suc zero) le = omega arith
+inner_rooms (suc (suc k)) le = let z : k ≡ 0 = omega (arith, le) in subst (λ n. HasRoom G (run program (suc (suc n)) (entered at_call 1))) (sym z) (omega arith)
+
+stays_within : (k : ℕ) → k ≤ 2 → IsWithin program at_call (run program k (entered at_call 1))
+unfolding step
+stays_within zero le = omega arith
+stays_within (suc zero) le = omega arith
+stays_within (suc (suc k)) le = let z : k ≡ 0 = omega (arith, le) in subst (λ n. IsWithin program at_call (run program (suc (suc n)) (entered at_call 1))) (sym z) (omega arith)
+
+-- so s0, in which plus_two has n, is main's again
+call_keeps : (r b : ℕ → ℕ) → Matched G at_call r (address G 0 1) b → Comes F Anything 1 (44 + (6 + 11) + 43) (Go r (address G 0 1) b [] []) (IsBack r (address G 0 2))
+unfolding step
+call_keeps r b m =
+    each_call_keeps G at_call at_return 1 2 r b (is_ready program F env 0x20000 69632 69728 none none laid) m (λ k c e. cc) refl comes_to_return refl refl inner_rooms stays_within

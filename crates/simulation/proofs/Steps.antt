@@ -54,10 +54,10 @@ step_follows G s r b ready m under bytes room =
 
 -- ---- what is left of the input is bytes
 
-abbrev BytesLeft : List ℕ → List Event → Type 0
+abbrev pub BytesLeft : List ℕ → List Event → Type 0
 BytesLeft input trace = AreBytes input
 
-bytes_last : (input : List ℕ) (trace : List Event) → AreBytes input → Lasts BytesLeft input trace
+pub bytes_last : (input : List ℕ) (trace : List Event) → AreBytes input → Lasts BytesLeft input trace
 bytes_last input trace q = record {
   now = q;
   at_put = λ c. q;

@@ -2,6 +2,7 @@
 use Rattle.std.specs.Prelude.{◌≡◌, ◌≤◌, ◌<◌, ℕ, ◌+◌, ◌-◌, ◌*◌, ◌%◌, ◌^◌, true, false, List, [], ◌∷◌, length, slice_get, Some}
 use Rattle.loader.specs.MemoryMap.{stack_end}
 use Rattle.rv32.specs.Space.{word_at}
+use Rattle.rv32.specs.Step.{register}
 use Rattle.asm.specs.Placed.{Stands}
 use Rattle.events.specs.Events.{Event}
 use Rattle.frames.specs.declared.code.Instruction.TheVariants as instruction
@@ -12,8 +13,9 @@ use Rattle.sim.specs.Runs.{World, Running, Ended, rvrun}
 use Rattle.running.specs.Light.{Fixed, Light, Go, Done, Fell, Comes}
 use Rattle.running.specs.Whole.{Permits, fixed}
 use Rattle.running.specs.Worlds.{Registers, world}
+use Rattle.select.specs.Selected.{kept}
 use Rattle.select.specs.Program.{program_items}
-use Rattle.simulation.specs.Matches.{Ground, Ready, Matched, Matches, HasRoom, IsBelow, Holds, Small, address, file_of, shown}
+use Rattle.simulation.specs.Matches.{Ground, Ready, Matched, Matches, HasRoom, IsBelow, Holds, Small, address, first_of, file_of, shown}
 use Rattle.frames.specs.Costs.{entry_cost, cost, cost_if, next_of, spent}
 use Rattle.simulation.specs.Costs.{least_if, least_spent}
 use Rattle.simulation.specs.Laws.{Anything, AreBytes}
@@ -186,3 +188,20 @@ MachineEnds =
     → (n status : ℕ) (left : List ℕ) (trace : List Event) → run p n (start p input) ≡ ended status left trace
     → ((k : ℕ) → k ≤ n → HasRoom (ground_at p (fixed P b) env data_at base r b) (run p k (start p input)))
     → (k : ℕ) × (w : World) × (k ≤ start_cost + spent p n (start p input) + 2) × (rvrun k (world P list base b input []) ≡ Ended status w) × (w.trace ≡ trace) × (w.input ≡ left)
+
+-- the stack pointer and s0 to s11 are the same in both worlds
+pub record KeptOver (v w : World) : Type 0 where
+  pub sp : register w.machine 2 ≡ register v.machine 2
+  pub file : (j : ℕ) → j < 12 → register w.machine (kept j) ≡ register v.machine (kept j)
+
+-- At each call that the flat program comes to, and behind the return that ends it, as `EachCallKeeps` has it.
+abbrev pub MachineCallsKeep : Type 0
+MachineCallsKeep =
+    (P : Permits) → ((a : ℕ) → P.can_execute a ≡ true → a < 2 ^ 31) → ((a : ℕ) → P.can_execute a ≡ true → P.can_write a ≡ false)
+    → (p : Program) (env : ℕ → ℕ) (data_at base e : ℕ) (r b : ℕ → ℕ) (list input : List ℕ) → Laid p (fixed P b) env data_at base e r b → Registers list r → AreBytes input
+    → (n m f : ℕ) (s t : State) → run p n (start p input) ≡ running s → next_of p s ≡ Some (instruction.Call f) → run p m (entered s f) ≡ running t
+    → next_of p t ≡ Some instruction.Return → bytes_of p t.waiting ≡ bytes_of p (s.frame ∷ s.waiting)
+    → ((k : ℕ) → k ≤ n → HasRoom (ground_at p (fixed P b) env data_at base r b) (run p k (start p input)))
+    → ((k : ℕ) → k ≤ m → HasRoom (ground_at p (fixed P b) env data_at base r b) (run p k (entered s f))) → ((k : ℕ) → k ≤ m → IsWithin p s (run p k (entered s f)))
+    → (k j : ℕ) × (v w : World) × (rvrun k (world P list base b input []) ≡ Running v) × (v.machine.pc ≡ env (first_of p s.frame.function + s.frame.at))
+    × (rvrun (k + j) (world P list base b input []) ≡ Running w) × (w.machine.pc ≡ env (first_of p s.frame.function + (s.frame.at + 1))) × KeptOver v w

@@ -2,7 +2,7 @@
 #![tactic(auto)]
 
 ghost use Rattle.simulation.specs.Laws.{NothingFollows, JumpsFollow, BranchesFollow, MovesFollow, ConversionsFollow, OperationsFollow, ExitFollows, AddressesFollow, ElementsFollow, LoadsFollow, StoresFollow, PutFollows, GetFollows, CallsFollow, ReturnsFollow};
-ghost use Rattle.simulation.specs.Runs.{StepFollows, RunsFollow, Progresses, EachCallKeeps, LaidIsReady, EntriesFollow, ConventionKept, BeginsFollow, EndsFollow, MachineGoesOn, MachineEnds};
+ghost use Rattle.simulation.specs.Runs.{StepFollows, RunsFollow, Progresses, EachCallKeeps, LaidIsReady, EntriesFollow, ConventionKept, BeginsFollow, EndsFollow, MachineGoesOn, MachineEnds, MachineCallsKeep};
 
 /// `Nothing` has no items, and the machine stays where it is.
 pub fn nothing_follows()
@@ -132,4 +132,9 @@ pub fn machine_goes_on()
 /// Where a flat program ends, the machine of the table ends with the same status, having done the same, and with the same input left.
 pub fn machine_ends()
     ensures { MachineEnds }
+{}
+
+/// At each call that a flat program comes to, and behind the return that ends it, the machine of the table has the same stack pointer and s0 to s11.
+pub fn machine_calls_keep()
+    ensures { MachineCallsKeep }
 {}

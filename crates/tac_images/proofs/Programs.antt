@@ -1,0 +1,78 @@
+-- The machine is in step with the abstract machine.
+use Rattle.std.proofs.Common.{◌≡◌, ℕ, ◌+◌, ◌-◌, ◌<◌, ◌≤◌, List, [], ◌∷◌, length, map, Option, Some, None, refl, ap, ◌∙◌, subst, arith}
+use Rattle.std.specs.Prelude.{slice_get}
+use Rattle.loader.specs.MemoryMap.{stack_size}
+use Rattle.typed.specs.Program as typed
+use Rattle.meaning.specs.History.{trace_of, weight_in, sum_of, greatest_sum}
+use Rattle.tac.specs.Code as tac
+use Rattle.tac.specs.Run as tac_run
+use Rattle.tac.specs.Laws.{IsSeen}
+use Rattle.tac.specs.Lowered.{IsLowered}
+use Rattle.tac.proofs.Weights.{weights_are_seen}
+use Rattle.frames.specs.Code as flat
+use Rattle.frames.specs.Run as flat_run
+use Rattle.frames.specs.Sound.{IsSoundProgram}
+use Rattle.flattening.specs.Flattened.{IsFlattened, HasItsCalls, behind, before}
+use Rattle.simulation.specs.Runs.{slack}
+use Rattle.flat_images.specs.Images.{FitStack}
+use Rattle.flat_images.proofs.Images.{image_goes_on, image_ends}
+use Rattle.tac_images.specs.Programs.{ProgramGoesOn, ProgramEnds}
+use Rattle.tac_images.proofs.Runs.{none_within, further}
+use Rattle.tac_images.proofs.Known.{AreKnown, Known, run_known}
+
+module _ (p : typed.Program) (q : tac.Program) (f : flat.Program) (lowered : IsLowered p q) (flattened : IsFlattened q f) (sound : IsSoundProgram f) where
+  -- a frame of a function that there is takes no more than its weight
+  frame_among : (g : ℕ) → g < length f.functions → (a : Option typed.Function) (b : Option tac.Function) (c : Option flat.Function) → slice_get p.functions g ≡ a → slice_get q.functions g ≡ b → slice_get f.functions g ≡ c
+      → flat.frame_bytes (flat_run.function_at f g) ≤ weight_in p g
+  frame_among g lt None b c ea eb ec = absurd (none_within p.functions g ea (omega (arith, lt, flattened.count, lowered.count)))
+  frame_among g lt (Some x) None c ea eb ec = absurd (none_within q.functions g eb (omega (arith, lt, flattened.count)))
+  frame_among g lt (Some x) (Some y) None ea eb ec = absurd (none_within f.functions g ec lt)
+  frame_among g lt (Some x) (Some y) (Some z) ea eb ec =
+      let one = (flattened.each g y z eb ec).frame in
+      let two = (lowered.each g x y ea eb).within_weight in
+      let all : flat.frame_bytes z ≤ x.weight = omega (arith, one, two) in
+      rw (ea, ec) all
+
+  frame_within : (g : ℕ) → g < length f.functions → flat.frame_bytes (flat_run.function_at f g) ≤ weight_in p g
+  frame_within g lt = frame_among g lt (slice_get p.functions g) (slice_get q.functions g) (slice_get f.functions g) refl refl refl
+
+  frames_within : (ws : List flat_run.Frame) → AreKnown (length f.functions) ws → flat_run.bytes_of f ws ≤ sum_of (weight_in p) (map (λ w. w.function) ws)
+  frames_within [] k = omega arith
+  frames_within (w ∷ ws) k = omega (arith, frames_within ws k.1, frame_within w.function k.0)
+
+  -- up to m steps of three-address code, by what its history then tells
+  fits : (x : flat_run.Progress) (input : List ℕ) (m m2 j : ℕ) → HasItsCalls q f input m m2 → j ≤ m2 → behind f input j ≡ x → (most : ℕ)
+      → ((k : ℕ) → IsSeen (weight_in p) k (before q input m) → k ≤ most) → most ≤ stack_size → FitStack f x
+  fits (flat_run.running s) input m m2 j its le e most seen small =
+      let c = its j s le e in
+      let t = c.2.0 in
+      let at : c.0 + (m - c.0) ≡ m = omega (arith, c.1) in
+      let there : IsSeen (weight_in p) (sum_of (weight_in p) (tac_run.open_calls t)) (before q input m) =
+      subst (λ k. IsSeen (weight_in p) (sum_of (weight_in p) (tac_run.open_calls t)) (before q input k)) at (weights_are_seen (weight_in p) q c.0 (m - c.0) input t c.2.1) in
+      let same : sum_of (weight_in p) (flat_run.active s) ≡ sum_of (weight_in p) (tac_run.open_calls t) = ap (sum_of (weight_in p)) c.2.2 in
+      let known : Known f sound (flat_run.running s) = subst (Known f sound) e (run_known f sound j (flat_run.start f input) (sound.has_main, tt)) in
+      omega (arith, seen (sum_of (weight_in p) (tac_run.open_calls t)) there, small, same, frames_within (s.frame ∷ s.waiting) known)
+  fits (flat_run.ended status left trace) input m m2 j its le e most seen small = tt
+  fits flat_run.stuck input m m2 j its le e most seen small = tt
+
+pub program_goes_on : ProgramGoesOn
+program_goes_on p q f parts input lowered flattened image bytes n s over small =
+    let b = (lowered.behaves input bytes).goes_on n s over in
+    let m = b.0 in
+    let t = b.2.0 in
+    let c = (flattened.in_step input bytes).goes_on m t b.2.1 in
+    let u = c.2.0 in
+    let at = c.2.2 in
+    let seen : (k : ℕ) → IsSeen (weight_in p) k (before q input m) → k ≤ greatest_sum (weight_in p) s.history = λ k h.
+    subst (λ x. k ≤ greatest_sum (weight_in p) x) b.2.2 (subst (IsSeen (weight_in p) k) b.2.1 h) in
+    let w = image_goes_on f parts input image bytes c.0 u c.2.1 (λ j le. fits p q f lowered flattened image.sound (behind f input j) input m c.0 j c.4 le refl (greatest_sum (weight_in p) s.history) seen small) in
+    (w.0, w.1, further (slack f) n c.0 w.0 (omega (arith, b.1, c.1)) w.2, omega (arith, w.3, c.3, b.3), w.4, w.5 ∙ (at.0 ∙ ap trace_of b.2.2), w.6 ∙ (at.1 ∙ b.2.3))
+
+pub program_ends : ProgramEnds
+program_ends p q f parts input lowered flattened image bytes n status s over small =
+    let b = (lowered.behaves input bytes).ends n status s over in
+    let m = b.0 in
+    let c = (flattened.in_step input bytes).ends m status s.input s.history b.1 in
+    let seen : (k : ℕ) → IsSeen (weight_in p) k (before q input m) → k ≤ greatest_sum (weight_in p) s.history = λ k h. subst (IsSeen (weight_in p) k) b.1 h in
+    let w = image_ends f parts input image bytes c.0 status s.input (trace_of s.history) c.1 (λ j le. fits p q f lowered flattened image.sound (behind f input j) input m c.0 j c.3 le refl (greatest_sum (weight_in p) s.history) seen small) in
+    (w.0, w.1, omega (arith, w.2, c.2, b.2), w.3, w.4, w.5)

@@ -1,0 +1,33 @@
+-- How the image of a typed program runs, once it is lowered, flattened, and its items are assembled.
+use Rattle.std.specs.Prelude.{◌≡◌, ◌≤◌, ◌<◌, ℕ, ◌+◌, ◌*◌, List}
+use Rattle.loader.specs.MemoryMap.{stack_size}
+use Rattle.elf_out.specs.Layout.{Parts}
+use Rattle.elf_out.specs.Program.{program_image}
+use Rattle.sim.specs.Runs as sim
+use Rattle.sim.specs.Runs.{World, rvrun, start_world}
+use Rattle.typed.specs.Program.{Program}
+use Rattle.meaning.specs.History.{trace_of, weight_in, greatest_sum}
+use Rattle.meaning.specs.Machine.{State, Stops, Ended, TicksUsed}
+use Rattle.meaning.specs.Meaning.{cstep}
+use Rattle.tac.specs.Code as tac
+use Rattle.tac.specs.Sound.{AreBytes}
+use Rattle.tac.specs.Lowered.{IsLowered}
+use Rattle.frames.specs.Code as flat
+use Rattle.flattening.specs.Flattened.{IsFlattened}
+use Rattle.simulation.specs.Runs.{slack}
+use Rattle.flat_images.specs.Images.{IsImageOf}
+
+-- Where the abstract machine has used n ticks and its calls never weighed more than the stack: the machine goes on too, has done the same and has
+-- the same input left, after at most 60 n + 64 instructions, and at least one for each so many ticks.
+abbrev pub ProgramGoesOn : Type 0
+ProgramGoesOn =
+    (p : Program) (q : tac.Program) (f : flat.Program) (parts : Parts) (input : List ℕ) → IsLowered p q → IsFlattened q f → IsImageOf f parts → AreBytes input
+    → (n : ℕ) (s : State) → cstep n p input ≡ Stops TicksUsed s → greatest_sum (weight_in p) s.history ≤ stack_size
+    → (k : ℕ) × (w : World) × (n < slack f * k) × (k ≤ 60 * n + 64) × (rvrun k (start_world (program_image parts) input) ≡ sim.Running w) × (w.trace ≡ trace_of s.history) × (w.input ≡ s.input)
+
+-- Where it has ended: the machine ends with the same status.
+abbrev pub ProgramEnds : Type 0
+ProgramEnds =
+    (p : Program) (q : tac.Program) (f : flat.Program) (parts : Parts) (input : List ℕ) → IsLowered p q → IsFlattened q f → IsImageOf f parts → AreBytes input
+    → (n status : ℕ) (s : State) → cstep n p input ≡ Stops (Ended status) s → greatest_sum (weight_in p) s.history ≤ stack_size
+    → (k : ℕ) × (w : World) × (k ≤ 60 * n + 66) × (rvrun k (start_world (program_image parts) input) ≡ sim.Ended status w) × (w.trace ≡ trace_of s.history) × (w.input ≡ s.input)

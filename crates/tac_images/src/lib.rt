@@ -1,0 +1,25 @@
+//! The image of flattened three-address code runs as that code does, and as the typed program that it was lowered from.
+#![tactic(auto)]
+
+ghost use Rattle.tac_images.specs.Runs.{TacGoesOn, TacEnds};
+ghost use Rattle.tac_images.specs.Programs.{ProgramGoesOn, ProgramEnds};
+
+/// Where three-address code goes on, its image does too, having done the same, and with the same input left.
+pub fn tac_goes_on()
+    ensures { TacGoesOn }
+{}
+
+/// Where three-address code ends, its image ends with the same status, having done the same, and with the same input left.
+pub fn tac_ends()
+    ensures { TacEnds }
+{}
+
+/// Where the abstract machine goes on, the image does too, having done the same, within 60 n + 64 instructions for n ticks.
+pub fn program_goes_on()
+    ensures { ProgramGoesOn }
+{}
+
+/// Where the abstract machine ends, the image ends with the same status, having done the same, within 60 n + 66 instructions for n ticks.
+pub fn program_ends()
+    ensures { ProgramEnds }
+{}
