@@ -206,6 +206,14 @@ impl Scope {
         replace(&mut self.objects, objects)
     }
 
+    /// Other objects with static storage. It gives those so far.
+    pub fn change_statics(&mut self, statics: Vec<StaticObject>) -> Vec<StaticObject>
+        ensures new { self.new ≡ with_statics (map static_of statics.items) self.old }
+        ensures old { map static_of result.items ≡ self.old.statics }
+    {
+        replace(&mut self.statics, statics)
+    }
+
     /// One more name, in the present block.
     pub fn with_name(
         &mut self,

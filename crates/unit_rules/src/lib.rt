@@ -21,7 +21,7 @@ pub use first_values::{Initial, statics_of};
 pub use functions::{all_named, function_of, numbers_in};
 pub use limits::{bytes_of_statics, static_bytes, within_limits};
 pub use literals::{bytes_of_literals, literals_of};
-pub use programs::{program_of, whole_program};
+pub use programs::{program_of, unit_program, whole_program};
 pub use sizes::{bytes_of_objects, bytes_of_references, in_words};
 pub use uses::all_defined;
 pub use weights::{weight, within_weight};

@@ -4,6 +4,7 @@
 ghost use Rattle.std.specs.Prelude.{◌≡◌, IfOk, IfErr};
 ghost use Rattle.srcset.specs.declared.refusal.Refusal.TheVariants.{Memory};
 ghost use Rattle.program.specs.View as view;
+ghost use Rattle.scopes.specs.Scopes.{with_texts};
 ghost use Rattle.typed.specs.Verdict.{fine};
 ghost use Rattle.typed.specs.Scope as scope_typed;
 ghost use Rattle.typed.specs.Units as typed;
@@ -83,4 +84,23 @@ pub fn whole_program(
         Some(main) => program_of(alloc, names, literals, statics, functions, initial, main),
         None => Err(broken(Code::NoMain, whole)),
     }
+}
+
+/// The program of a unit, whose external declarations have been looked at. It fails as `whole_program` does.
+pub fn unit_program(
+    alloc: Global,
+    names: &Names,
+    whole: Pos,
+    mut scope: Scope,
+    functions: Vec<Function>,
+    initial: Vec<Initial>,
+) -> Result<Program, Refusal>
+    ensures ok { IfOk result (λ p. typed.whole_program whole (built_of (with_texts names.now scope) functions.items initial.items) ≡ fine (view.program_of p)) }
+    ensures err { IfErr result (λ r. Tells r (typed.whole_program whole (built_of (with_texts names.now scope) functions.items initial.items))) }
+{
+    let statics = scope.change_statics(Vec::new(alloc));
+    let literals = scope.literals();
+    whole_program(
+        alloc, names, whole, &scope, literals, statics, functions, initial,
+    )
 }
