@@ -7,10 +7,8 @@ mod declaration_scopes;
 mod declared_items;
 mod finished_objects;
 mod initialised_sizes;
-mod initialiser_literals;
 
 pub use begun_objects::{BegunObject, begun};
 pub use declaration_scopes::{asserted, declare};
 pub use declared_items::function_at;
 pub use finished_objects::finished;
-pub use initialiser_literals::past_init;
