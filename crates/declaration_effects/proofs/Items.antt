@@ -18,7 +18,7 @@ use Rattle.typed.specs.Linkage.{StorageClass}
 use Rattle.typed.specs.Declarations as typed
 use Rattle.expression_rules.specs.Refused.{Tells}
 use Rattle.expression_rules.proofs.Verdicts.{tells_then}
-use Rattle.declarators.proofs.Verdicts.{next_of, then_fine, then_tells}
+use Rattle.declarators.proofs.Verdicts.{next_of, then_fine}
 use Rattle.declaration_effects.specs.Views.{effects_of, declared_of}
 use Rattle.declaration_effects.specs.inside.Effects.{object_typed, without_effects, item_typed, Leaves, Goes}
 
@@ -119,13 +119,14 @@ goes_first v before first = ([], [], sym (append-nil before), sym (append-nil fi
 pub goes_on : (whole : Verdict typed.Declared) (s next : Scope) (c : StorageClass) (b : BaseType) (is : List Item) (k : ℕ) (i : Item) (before now after : List Statement) (first then_first later : List Initial) → k < length is →
     i ≡ get_or is k i → Goes whole (left_of s c b (drop k is)) before now first then_first → Leaves (item_typed s c b (item_of i)) next now after then_first later → Goes whole (left_of next c b (drop (k + 1) is)) before after first later
 goes_on whole s next c b is k i before now after first then_first later h e g l = (
-    g.0 ++ l.0,
-    g.1 ++ l.1,
-    l.2 ∙ ap (λ z. z ++ l.0) g.2 ∙ append_assoc before g.0 l.0,
-    l.3 ∙ ap (λ z. z ++ l.1) g.3 ∙ append_assoc first g.1 l.1,
-    g.4 ∙ ap (λ z. then_check (left_of s c b z) (typed.before_others (effects_of g.0 g.1))) (next_of is k i h e)
-    ∙ ap (λ v. then_check v (typed.before_others (effects_of g.0 g.1))) (item_fine s c b (item_of i) (map item_of (drop (k + 1) is)) (declared_of next l.0 l.1) l.4)
-    ∙ twice (left_of next c b (drop (k + 1) is)) g.0 l.0 g.1 l.1)
+  g.0 ++ l.0,
+  g.1 ++ l.1,
+  l.2 ∙ ap (λ z. z ++ l.0) g.2 ∙ append_assoc before g.0 l.0,
+  l.3 ∙ ap (λ z. z ++ l.1) g.3 ∙ append_assoc first g.1 l.1,
+  g.4 ∙ ap (λ z. then_check (left_of s c b z) (typed.before_others (effects_of g.0 g.1))) (next_of is k i h e)
+      ∙ ap (λ v. then_check v (typed.before_others (effects_of g.0 g.1))) (item_fine s c b (item_of i) (map item_of (drop (k + 1) is)) (declared_of next l.0 l.1) l.4)
+      ∙ twice (left_of next c b (drop (k + 1) is)) g.0 l.0 g.1 l.1,
+)
 
 last_one : (s : Scope) (xs : List Statement) (js : List Initial) → fine (record { scope = s; effects = typed.and_effects (effects_of xs js) typed.no_effects }) ≡ fine (declared_of s xs js)
 last_one s xs js =
@@ -135,11 +136,12 @@ last_one s xs js =
 pub goes_last : (whole : Verdict typed.Declared) (s : Scope) (c : StorageClass) (b : BaseType) (is : List Item) (k : ℕ) (before after : List Statement) (first later : List Initial) → length is ≤ k →
     Goes whole (left_of s c b (drop k is)) before after first later → Leaves whole s before after first later
 goes_last whole s c b is k before after first later h g = (
-    g.0,
-    g.1,
-    g.2,
-    g.3,
-    g.4 ∙ ap (λ z. then_check (left_of s c b z) (typed.before_others (effects_of g.0 g.1))) (drop_all k is h) ∙ last_one s g.0 g.1)
+  g.0,
+  g.1,
+  g.2,
+  g.3,
+  g.4 ∙ ap (λ z. then_check (left_of s c b z) (typed.before_others (effects_of g.0 g.1))) (drop_all k is h) ∙ last_one s g.0 g.1,
+)
 
 pub goes_told : (whole : Verdict typed.Declared) (s : Scope) (c : StorageClass) (b : BaseType) (is : List Item) (k : ℕ) (i : Item) (r : Refusal) (before now : List Statement) (first then_first : List Initial) → k < length is →
     i ≡ get_or is k i → Goes whole (left_of s c b (drop k is)) before now first then_first → Tells r (item_typed s c b (item_of i)) → Tells r whole

@@ -8,7 +8,7 @@ use Rattle.program.specs.declared.initialisers.Initialiser.{Initialiser}
 use Rattle.program.specs.View.{initialiser_of}
 use Rattle.unit_rules.specs.declared.first_values.Initial.{Initial}
 use Rattle.typed.specs.Types.{DeclaredType}
-use Rattle.typed.specs.Verdict.{Verdict, fine, each, both, then_check}
+use Rattle.typed.specs.Verdict.{Verdict, fine, each, then_check}
 use Rattle.typed.specs.Program as program
 use Rattle.typed.specs.Scope.{Scope}
 use Rattle.typed.specs.Initialisers.{initialiser, constant_parts, all_constant, is_text, form_unless, past_init, values}

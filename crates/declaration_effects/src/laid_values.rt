@@ -43,7 +43,14 @@ fn values_of_unknown(
     ensures err { (s : scope_typed.Scope) → IfErr result (λ r. Tells r (initialisers.values (seen names.now literals.now s) element.now.element (1 ∷ element.now.lengths.items) (initialiser_of initialiser.now))) }
 {
     match lengths_of_one(alloc, &element.lengths) {
-        Ok(lengths) => values(alloc, names, literals, element.element, &lengths, initialiser),
+        Ok(lengths) => values(
+            alloc,
+            names,
+            literals,
+            element.element,
+            &lengths,
+            initialiser,
+        ),
         Err(_) => Err(Refusal::Memory),
     }
 }
@@ -61,7 +68,14 @@ pub(crate) fn object_values(
 {
     match declared {
         DeclaredType::Complete(object) => {
-            values(alloc, names, literals, object.element, &object.lengths, initialiser)
+            values(
+                alloc,
+                names,
+                literals,
+                object.element,
+                &object.lengths,
+                initialiser,
+            )
         }
         DeclaredType::UnknownSize(element) => {
             values_of_unknown(alloc, names, literals, element, initialiser)

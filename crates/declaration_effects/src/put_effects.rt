@@ -65,7 +65,10 @@ pub(crate) fn put_effect(
                 Ok(values) => values,
                 Err(refusal) => return Err(refusal),
             };
-            let one = Initial { static_number: n, values };
+            let one = Initial {
+                static_number: n,
+                values,
+            };
             match push_initial(one, firsts) {
                 Ok(()) => Ok(()),
                 Err(refusal) => Err(refusal),

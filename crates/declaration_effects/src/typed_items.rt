@@ -40,7 +40,15 @@ fn begun_typed(
 {
     let pos = declarator.pos;
     let init = &declarator.initialiser;
-    let effect = match object_effect(alloc, names, scope, pos, object.what, &object.declared, init) {
+    let effect = match object_effect(
+        alloc,
+        names,
+        scope,
+        pos,
+        object.what,
+        &object.declared,
+        init,
+    ) {
         Ok(effect) => effect,
         Err(refusal) => return Err(refusal),
     };
@@ -50,9 +58,7 @@ fn begun_typed(
     }
     let literals = scope.literals();
     let declared = &object.declared;
-    match put_effect(
-        alloc, names, literals, declared, effect, statements, firsts,
-    ) {
+    match put_effect(alloc, names, literals, declared, effect, statements, firsts) {
         Ok(()) => Ok(()),
         Err(refusal) => Err(refusal),
     }
@@ -122,9 +128,7 @@ pub(crate) fn items_typed(
     ensures err { IfErr result (λ r. Tells r (typed.items_typed (with_texts names.now scope.old) (class_of class) (base_type_of base) (map item_of items.now))) }
 {
     for item in items {
-        match item_declared(
-            alloc, names, scope, statements, firsts, class, base, item,
-        ) {
+        match item_declared(alloc, names, scope, statements, firsts, class, base, item) {
             Ok(()) => {}
             Err(refusal) => return Err(refusal),
         }

@@ -1,7 +1,7 @@
 -- What declarators do, one at a time.
 use Rattle.std.specs.Prelude.{◌≡◌, ℕ, List, [], ◌∷◌, ◌++◌, ℤ, Option, Some, None}
 use Rattle.srcset.specs.declared.refusal.Pos.{Pos}
-use Rattle.tree.specs.Tree.{Tree, Init, ItemTree, object, function}
+use Rattle.tree.specs.Tree.{Init, ItemTree, object, function}
 use Rattle.program.specs.declared.statements.Statement.{Statement}
 use Rattle.program.specs.View.{initialiser_of}
 use Rattle.unit_rules.specs.declared.first_values.Initial.{Initial}
