@@ -3,18 +3,15 @@
 
 ghost use Rattle.std.specs.Prelude.{◌≡◌, [], ◌∷◌, ◌++◌, IfErr, OnOk};
 ghost use Rattle.srcset.specs.declared.refusal.Refusal.TheVariants.{Memory};
-ghost use Rattle.program.specs.View.{declared_type_of, initialiser_of};
-ghost use Rattle.typed.specs.Verdict.{then_check};
+ghost use Rattle.program.specs.View.{declared_type_of};
 ghost use Rattle.typed.specs.Scope as scope_typed;
-ghost use Rattle.typed.specs.Initialisers as initialisers;
-ghost use Rattle.typed.specs.Declarations as typed;
 ghost use Rattle.expression_rules.specs.Refused.{Tells};
 ghost use Rattle.expression_rules.specs.Forms.{seen};
-ghost use Rattle.declaration_effects.specs.inside.Effects.{effect_in, first_values, Does};
+ghost use Rattle.declaration_effects.specs.inside.Effects.{effect_in, Does};
 
 use crate::laid_values::object_values;
 use crate::object_effects::ObjectEffect;
-use program::{DeclaredType, Initialiser, Statement};
+use program::{DeclaredType, Statement};
 use srcset::{Names, Refusal};
 use std::alloc::Global;
 use unit_rules::Initial;
