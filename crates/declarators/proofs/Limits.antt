@@ -1,5 +1,5 @@
 -- Objects within the limit, whose lengths 32 bits can tell.
-use Rattle.std.proofs.Common.{◌≡◌, ℕ, zero, suc, ◌*◌, ◌<◌, ◌≤◌, Bool, true, false, nat_lt, List, [], ◌∷◌, refl, sym, ap, ◌∙◌, subst, arith, length, get_or}
+use Rattle.std.proofs.Common.{◌≡◌, ℕ, zero, suc, ◌*◌, ◌<◌, ◌≤◌, true, false, nat_lt, List, [], ◌∷◌, refl, sym, ap, ◌∙◌, subst, arith, length, get_or}
 use Rattle.std.specs.List.{All}
 use Rattle.std.proofs.lemmas.Nat.{mul-le}
 use Rattle.std.proofs.lemmas.List.Elements.{All-from_get_or}
@@ -10,13 +10,12 @@ use Rattle.ctypes.specs.declared.types.IntType.{IntType}
 use Rattle.ctypes.specs.declared.types.IntType.TheVariants as ty
 use Rattle.ctypes.specs.Types.{bytes_of}
 use Rattle.tree.specs.Capped.{capped}
-use Rattle.typed.specs.Types.{ObjectType, complete, unknown_size, elements_in, size_of_object}
+use Rattle.typed.specs.Types.{ObjectType, elements_in, size_of_object}
 use Rattle.typed.specs.Verdict.{fine, refuse_if}
 use Rattle.typed.specs.Expressions.{too_large}
-use Rattle.typed.specs.Declarators.{object_type, of_sizes}
 use Rattle.expression_rules.specs.Refused.{Tells, refused}
 use Rattle.const_expr.proofs.Sizes.{limit_of_capped}
-use Rattle.declarators.specs.Views.{sizes_with, Positive}
+use Rattle.declarators.specs.Views.{Positive}
 
 is_over : (c x : ℕ) → c ≡ capped x → 1048576 < c → nat_lt 1048576 x ≡ true
 is_over c x e h = sym (limit_of_capped c x e) ∙ grind (arith, h)
