@@ -42,8 +42,8 @@ fn unhidden<'a>(alloc: Global, list: &[PpToken<'a>]) -> Result<VecDeque<HiddenTo
     Ok(hidden)
 }
 
-/// Puts the expansion of a list, as `expand` gives it, behind the tokens given; a refusal names no file, and what is given
-/// after one is nothing that is promised.
+/// Puts the expansion of a list, as `expand` gives it, behind the tokens given. A refusal names no file, and after one nothing
+/// is said of what stands behind them.
 pub fn expand_behind<'a>(
     alloc: Global,
     table: &MacroTable<'a>,
