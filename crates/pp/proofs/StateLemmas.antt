@@ -128,38 +128,37 @@ run_fails (At c pos) texts names xs tokens held left s a t e = record {
 }
 run_fails (Told c pos text) texts names xs tokens held left s a t e = absurd e
 
-pub run_goes : {A : Type 0} → (result : Result A Refusal) (texts names : Texts) (xs tokens : List Token) (list : Vec Token Global) (held new : Held) (s : State)
+pub run_goes : {A : Type 0} → (result : Result A Refusal) (texts names : Texts) (xs tokens list : List Token) (held new : Held) (s : State)
     → Agrees names held s → tokens ≡ placed (presumed_of held.presumed) xs
-    → expanded (record { macros = s.macros; texts = texts }) tokens of_run held.budget ≡ Ok (list.items, new.budget)
-    → new.table ≡ held.table → new.presumed ≡ held.presumed
-    → OnOk result (slice_get (held.given.items ++ list.items) max_tokens ≡ None)
-    → OnOk result (new.given.items ≡ held.given.items ++ list.items)
-    → IfErr result (IsPast (held.given.items ++ list.items))
+    → expanded (record { macros = s.macros; texts = texts }) tokens of_run held.budget ≡ Ok (list, new.budget)
+    → new.table ≡ held.table → new.presumed ≡ held.presumed → new.given.items ≡ held.given.items ++ list
+    → OnOk result (slice_get new.given.items max_tokens ≡ None)
+    → IfErr result (IsPast new.given.items)
     → Answers result names new (run_done texts xs s)
-run_goes (Ok u) texts names xs tokens list held new s a t e table p within ok err =
-    let g = ap (λ g. g ++ list.items) a.given_is in
+run_goes (Ok u) texts names xs tokens list held new s a t e table p all ok err =
+    let g = ap (λ g. g ++ list) a.given_is ∙ sym all in
     record {
-      after = record s { left = new.budget; given = s.given ++ list.items };
+      after = record s { left = new.budget; given = s.given ++ list };
       agrees = record {
         table_is = subst (λ n. IsTable names n s.macros) (sym table) a.table_is;
         left_is = refl;
-        given_is = g ∙ sym ok;
+        given_is = g;
         presumed_is = a.presumed_is ∙ ap presumed_of (sym p);
       };
-      goes_is = run_is texts names xs tokens held s (Ok (list.items, new.budget)) a t e
-          ∙ ap (λ o. first_past o (s.given ++ list.items) s (record s { left = new.budget })) (ap (λ all. slice_get all max_tokens) g ∙ within);
+      goes_is = run_is texts names xs tokens held s (Ok (list, new.budget)) a t e
+          ∙ ap (λ o. first_past o (s.given ++ list) s (record s { left = new.budget })) (ap (λ all. slice_get all max_tokens) g ∙ ok);
     }
-run_goes (Err Memory) texts names xs tokens list held new s a t e table p within ok err = tt
-run_goes (Err (At c at)) texts names xs tokens list held new s a t e table p within ok err =
-    let g = ap (λ g. g ++ list.items) a.given_is in
+run_goes (Err Memory) texts names xs tokens list held new s a t e table p all ok err = tt
+run_goes (Err (At c at)) texts names xs tokens list held new s a t e table p all ok err =
+    let g = ap (λ g. g ++ list) a.given_is ∙ sym all in
     record {
       given = s.given;
-      stops_is = run_is texts names xs tokens held s (Ok (list.items, new.budget)) a t e
-          ∙ ap (λ o. first_past o (s.given ++ list.items) s (record s { left = new.budget })) (ap (λ all. slice_get all max_tokens) g ∙ err.1)
+      stops_is = run_is texts names xs tokens held s (Ok (list, new.budget)) a t e
+          ∙ ap (λ o. first_past o (s.given ++ list) s (record s { left = new.budget })) (ap (λ all. slice_get all max_tokens) g ∙ err.1)
           ∙ ap (λ k. stops s.given (record { code = k; at = err.0.pos; text = [] })) (sym err.2)
           ∙ ap (λ q. stops s.given (record { code = c; at = q; text = [] })) (sym err.3);
     }
-run_goes (Err (Told c at text)) texts names xs tokens list held new s a t e table p within ok err = absurd err
+run_goes (Err (Told c at text)) texts names xs tokens list held new s a t e table p all ok err = absurd err
 
 -- ---- directives
 

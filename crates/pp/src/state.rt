@@ -22,7 +22,7 @@ use crate::run::Run;
 use crate::words::is_spelled;
 use macros::{MacroTable, is_identifier};
 use phases::PpToken;
-use pp_expand::{Budget, RunEnd, try_expand};
+use pp_expand::{Budget, RunEnd, expand_behind, try_expand};
 use srcset::{Code, Names, Pos, Refusal};
 use std::alloc::Global;
 
@@ -41,21 +41,18 @@ pub struct State<'a> {
     pub presumed: Presumed,
 }
 
-// Puts the tokens of a run behind those given.
-fn give<'a>(given: &mut Vec<PpToken<'a>>, mut run: Vec<PpToken<'a>>) -> Result<(), Refusal>
-    requires { length given.old.items ≤ max_tokens }
-    ensures room { OnOk result (length given.new.items ≤ max_tokens) }
-    ensures within { OnOk result (slice_get (given.old.items ++ run.entry.items) max_tokens ≡ None) }
-    ensures ok { OnOk result (given.new.items ≡ given.old.items ++ run.entry.items) }
-    ensures err { IfErr result (IsPast (given.old.items ++ run.entry.items)) }
+// The tokens given are no more than there may be.
+fn limit(given: &[PpToken<'_>]) -> Result<(), Refusal>
+    ensures room { OnOk result (length given.now ≤ max_tokens) }
+    ensures within { OnOk result (slice_get given.now max_tokens ≡ None) }
+    ensures err { IfErr result (IsPast given.now) }
 {
-    if let Some(token) = run.get(MAX_TOKENS - given.len()) {
+    if let Some(token) = given.get(MAX_TOKENS) {
         return Err(Refusal::At {
             code: Code::TokenLimit,
             pos: token.pos(),
         });
     }
-    given.append(&mut run)?;
     Ok(())
 }
 
@@ -95,15 +92,18 @@ impl<'a> State<'a> {
         ensures does { (texts : Texts) (xs : List Token) → KeepsNumbers names.now texts → tokens.now ≡ placed (presumed_of self.old.presumed) xs → Does result names.now self.old names.now self.new (run_done texts xs) }
         ensures sound { OnOk result (IsSound names.now self.new) }
     {
-        let list = try_expand(
+        match expand_behind(
             alloc,
             &self.table,
             tokens,
             RunEnd::Run,
             &mut self.budget,
             names,
-        )?;
-        give(&mut self.given, list)
+            &mut self.given,
+        ) {
+            Ok(()) => limit(&self.given),
+            Err(refusal) => Err(refusal),
+        }
     }
 
     /// What comes of the tokens of a directive once macros are replaced.

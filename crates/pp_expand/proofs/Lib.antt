@@ -7,6 +7,7 @@ pub mod FirstTokens
 pub mod Tasks
 pub mod Advances
 pub mod Proceeds
+pub mod Handing
 pub mod Runs
 pub mod Files
 pub mod Whole

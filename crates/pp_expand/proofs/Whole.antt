@@ -1,5 +1,8 @@
 -- The whole expansion of a list of tokens.
-use Rattle.std.proofs.Common.{◌≡◌, ℕ, List, [], ◌∷◌, map, Ok, Err, refl, sym, ap, ◌∙◌, subst, arith}
+use Rattle.std.specs.Prelude.{Vec}
+use Rattle.std.specs.declared.alloc.Global.{Global}
+use Rattle.std.proofs.Math.Seq.{drop-append_seam}
+use Rattle.std.proofs.Common.{◌≡◌, ℕ, List, [], ◌∷◌, map, length, drop, Result, Ok, Err, refl, sym, ap, ◌∙◌, subst, arith}
 use Rattle.srcset.specs.NameTable.{Texts, KeepsNumbers}
 use Rattle.srcset.specs.declared.refusal.Refusal.{Refusal}
 use Rattle.srcset.specs.declared.refusal.Refusal.TheVariants.{Memory, At, Told}
@@ -9,10 +12,11 @@ use Rattle.substitution.specs.Substitution.{Hidden}
 use Rattle.substitution.specs.HideSets.{Sets}
 use Rattle.substitution.specs.declared.piece.HiddenToken.{HiddenToken}
 use Rattle.substitution.specs.Meaning.{hidden_all, AreIn}
-use Rattle.pp_expand.specs.Expansion.{Ending, Answer, unhidden, shown_answer, expanded}
-use Rattle.pp_expand.specs.Expands.{HaveFiles, IsExpansion}
-use Rattle.pp_expand.specs.inside.Meaning.{expanding, GivesAnswer, IsUnhidden}
+use Rattle.pp_expand.specs.Expansion.{Ending, Fault, unhidden, shown_answer, expanded}
+use Rattle.pp_expand.specs.Expands.{HaveFiles, IsExpansion, IsExpansionBehind}
+use Rattle.pp_expand.specs.inside.Meaning.{expanding, Refuses, IsUnhidden}
 use Rattle.pp_expand.proofs.Files.{texts_may_grow, files_stay}
+use Rattle.pp_expand.proofs.Handing.{Behind}
 
 unhidden_in : (count : ℕ) (xs : List Token) → AreIn count (map (λ x. record { token = x; hides = 0 }) xs)
 unhidden_in count [] = tt
@@ -26,33 +30,32 @@ unhidden_all texts sets [] = refl
 unhidden_all texts sets (x ∷ xs) =
     ap (λ l. let h : Hidden = record { token = x; hides = [] } in h ∷ l) (unhidden_all texts sets xs)
 
-tokens_all : (texts : Texts) (sets : Sets) (xs : List HiddenToken) → map (λ x. x.token) (hidden_all texts sets xs) ≡ map (λ x. x.token) xs
-tokens_all texts sets [] = refl
-tokens_all texts sets (x ∷ xs) = ap (λ l. x.token ∷ l) (tokens_all texts sets xs)
-
 module _ (macros : Macros) (names : Texts) (list : List Token) (hidden : List HiddenToken) (begins : IsUnhidden list hidden) (sets : Sets) (ending : Ending) (left : ℕ) where
-  abbrev answer : Answer
-  answer = expanding (record { macros = macros; texts = names }) (hidden_all names sets hidden) ending left
-
   whole : expanded (record { macros = macros; texts = names }) list ending left ≡ shown_answer (expanding (record { macros = macros; texts = names }) (hidden_all names sets hidden) ending left)
   unfolding expanded
   whole =
       ap (λ l. shown_answer (expanding (record { macros = macros; texts = names }) l ending left)) (sym (ap (hidden_all names sets) begins ∙ unhidden_all names sets list))
 
-  here_ok : (out : List HiddenToken) (after : ℕ) (tokens : List Token) → answer ≡ Ok (hidden_all names sets out, after) → tokens ≡ map (λ x. x.token) out → expanded (record { macros = macros; texts = names }) list ending left ≡ Ok (tokens, after)
-  here_ok out after tokens e t =
-      whole ∙ ap shown_answer e ∙ ap (λ l. Ok (l, after)) (tokens_all names sets out ∙ sym t)
+  module _ (given all : List Token) (after : ℕ) (b : Behind given all after (shown_answer (expanding (record { macros = macros; texts = names }) (hidden_all names sets hidden) ending left))) where
+    pub gives_files : HaveFiles names list → HaveFiles names (drop (length given) all)
+    gives_files have =
+        subst (HaveFiles names) (sym (ap (λ l. drop (length given) l) b.all_is ∙ drop-append_seam given b.list))
+        (files_stay macros names list ending left b.list after have (whole ∙ b.list_is))
 
-  pub gives_files : (out : List HiddenToken) (after : ℕ) (tokens : List Token) → expanding (record { macros = macros; texts = names }) (hidden_all names sets hidden) ending left ≡ Ok (hidden_all names sets out, after) → tokens ≡ map (λ x. x.token) out → HaveFiles names list → HaveFiles names tokens
-  gives_files out after tokens e t have = files_stay macros names list ending left tokens after have (here_ok out after tokens e t)
+    pub gives_ok : (texts : Texts) → KeepsNumbers names texts → HaveFiles names list → expanded (record { macros = macros; texts = texts }) list ending left ≡ Ok (b.list, after)
+    gives_ok texts keeps have = sym (texts_may_grow macros names texts list ending left keeps have) ∙ whole ∙ b.list_is
 
-  module _ (texts : Texts) (keeps : KeepsNumbers names texts) (have : HaveFiles names list) where
-    pub gives_ok : (out : List HiddenToken) (after : ℕ) (tokens : List Token) → expanding (record { macros = macros; texts = names }) (hidden_all names sets hidden) ending left ≡ Ok (hidden_all names sets out, after) → tokens ≡ map (λ x. x.token) out → expanded (record { macros = macros; texts = texts }) list ending left ≡ Ok (tokens, after)
-    gives_ok out after tokens e t =
-        sym (texts_may_grow macros names texts list ending left keeps have) ∙ here_ok out after tokens e t
+  pub gives_err : (texts : Texts) → KeepsNumbers names texts → HaveFiles names list → (f : Refusal) → Refuses f (shown_answer (expanding (record { macros = macros; texts = names }) (hidden_all names sets hidden) ending left)) → IsExpansion (Err f) left left (expanded (record { macros = macros; texts = texts }) list ending left)
+  gives_err texts keeps have Memory h = refl
+  gives_err texts keeps have (At c pos) h = (sym (texts_may_grow macros names texts list ending left keeps have) ∙ whole ∙ h, refl)
+  gives_err texts keeps have (Told c pos text) h = h
 
-    pub gives_err : (f : Refusal) → GivesAnswer names sets (Err f) (expanding (record { macros = macros; texts = names }) (hidden_all names sets hidden) ending left) → IsExpansion (Err f) left left (expanded (record { macros = macros; texts = texts }) list ending left)
-    gives_err Memory h = refl
-    gives_err (At c pos) h =
-        (sym (texts_may_grow macros names texts list ending left keeps have) ∙ whole ∙ ap shown_answer h, refl)
-    gives_err (Told c pos text) h = h
+-- what a call that gives a list gives, where one that puts it behind others answers this
+abbrev pub held : {A B : Type 0} → Result A Refusal → B → Result B Refusal
+held (Ok u) b = Ok b
+held (Err f) b = Err f
+
+-- an expansion that nothing stands before
+pub alone : {A : Type 0} (result : Result A Refusal) (given : Vec Token Global) (old new : ℕ) (r : Result (List Token × ℕ) Fault) → IsExpansionBehind result [] given.items old new r → IsExpansion (held result given) old new r
+alone (Ok u) given old new r h = h.1 ∙ ap (λ (l : List Token). Ok (l, new)) (sym h.2)
+alone (Err f) given old new r h = h

@@ -1,24 +1,29 @@
 //! The replacements of a list, one after the other.
-ghost use Rattle.std.specs.Prelude.{◌≡◌, ℕ, ◌≤◌, [], length, IfOk};
+ghost use Rattle.std.specs.Prelude.{◌≡◌, ℕ, ◌++◌, map, length, IfErr, OnOk};
 ghost use Rattle.srcset.specs.NameTable.{NumbersOnce};
+ghost use Rattle.srcset.specs.declared.refusal.Refusal.TheVariants.{Memory};
 ghost use Rattle.macros.specs.Macro.{Macros};
 ghost use Rattle.macros.specs.Table.{IsTable};
 ghost use Rattle.substitution.specs.HideSets.{Sets, Extends, NamesBelow};
 ghost use Rattle.substitution.specs.Meaning.{hidden_all, AreIn};
+ghost use Rattle.pp_expand.specs.Expansion.{Known};
 ghost use Rattle.pp_expand.specs.Expands.{ending_of};
-ghost use Rattle.pp_expand.specs.inside.Meaning.{expanding, GivesAnswer};
+ghost use Rattle.pp_expand.specs.inside.Meaning.{expanding, level_meaning, shown_behind, GivesBehind, LevelIn};
 ghost use Rattle.pp_expand.specs.inside.Turns.{place_of};
+ghost use Rattle.pp_expand.specs.inside.Waits.{resume};
 
 use crate::level::Level;
 use crate::run_end::RunEnd;
 use crate::task::Step;
 use crate::tokens::predefined;
 use crate::turns::advance;
-use crate::waiting::{begin, join};
+use crate::waiting::{Waiting, begin, join};
 use macros::MacroTable;
+use phases::PpToken;
 use srcset::{Code, Names, Pos, Refusal};
 use std::alloc::Global;
 use std::collections::VecDeque;
+use std::mem;
 use substitution::{HiddenToken, HideSets};
 
 // The place of the name that is replaced.
@@ -31,7 +36,39 @@ fn place(step: &Step<'_, '_>) -> Pos
     }
 }
 
-/// The expansion of a list, and how many replacements are left.
+// Puts tokens behind those given, without what they hide.
+fn show<'a>(list: Vec<HiddenToken<'a>>, given: &mut Vec<PpToken<'a>>) -> Result<(), Refusal>
+    ensures ok { OnOk result (given.new.items ≡ given.old.items ++ map (λ x. x.token) list.entry.items) }
+    ensures err { IfErr result (λ refusal. refusal ≡ Memory) }
+{
+    for x in list {
+        let Ok(()) = given.push(x.token) else {
+            return Err(Refusal::Memory);
+        };
+    }
+    Ok(())
+}
+
+// Gives what stands already of the outermost list.
+fn hand_on<'a>(
+    alloc: Global,
+    waiting: &[Waiting<'a>],
+    level: &mut Level<'a>,
+    given: &mut Vec<PpToken<'a>>,
+) -> Result<(), Refusal>
+    ensures same { OnOk result ((known : Known) (sets : Sets) (left : ℕ) → shown_behind given.new.items (resume known sets waiting.now (level_meaning known sets level.new left)) ≡ shown_behind given.old.items (resume known sets waiting.now (level_meaning known sets level.old left))) }
+    ensures known { OnOk result ((count : ℕ) → LevelIn count level.old → LevelIn count level.new) }
+    ensures err { IfErr result (λ refusal. refusal ≡ Memory) }
+{
+    if waiting.is_empty() {
+        let out = mem::replace(&mut level.out, Vec::new(alloc));
+        return show(out, given);
+    }
+    Ok(())
+}
+
+/// Puts the expansion of a list behind the tokens given, and tells how many replacements are left. What stands of the
+/// outermost list is given at once, so that the expansion is made in its place.
 pub(crate) fn run<'a>(
     alloc: Global,
     table: &MacroTable<'a>,
@@ -40,9 +77,10 @@ pub(crate) fn run<'a>(
     list: VecDeque<HiddenToken<'a>>,
     end: RunEnd,
     budget: u32,
-) -> Result<(Vec<HiddenToken<'a>>, u32), Refusal>
+    given: &mut Vec<PpToken<'a>>,
+) -> Result<u32, Refusal>
     requires { AreIn (length sets.old) list.items }
-    ensures { (macros : Macros) (later : Sets) → IsTable names.now table.now macros → NumbersOnce names.now → NamesBelow (length names.now) sets.old → Extends sets.new later → GivesAnswer names.now later result (expanding (record { macros = macros; texts = names.now }) (hidden_all names.now later list.entry.items) (ending_of end) budget) }
+    ensures { (macros : Macros) (later : Sets) → IsTable names.now table.now macros → NumbersOnce names.now → NamesBelow (length names.now) sets.old → Extends sets.new later → GivesBehind result given.new.items (shown_behind given.old.items (expanding (record { macros = macros; texts = names.now }) (hidden_all names.now later list.entry.items) (ending_of end) budget)) }
 {
     let mut left = budget;
     let mut waiting = Vec::new(alloc);
@@ -52,6 +90,7 @@ pub(crate) fn run<'a>(
         end,
     };
     loop {
+        hand_on(alloc, &waiting, &mut level, given)?;
         match advance(alloc, table, names, sets, &mut level)? {
             Some(step) => {
                 if left == 0 {
@@ -72,7 +111,10 @@ pub(crate) fn run<'a>(
             }
             None => match waiting.pop() {
                 Some(at) => level = join(alloc, at, level.out, &mut waiting, sets)?,
-                None => return Ok((level.out, left)),
+                None => {
+                    show(level.out, given)?;
+                    return Ok(left);
+                }
             },
         }
     }

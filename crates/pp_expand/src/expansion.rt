@@ -1,11 +1,11 @@
 //! The replacement of the macros in a list of tokens.
-ghost use Rattle.std.specs.Prelude.{◌≡◌, map, IfOk, IfErr};
+ghost use Rattle.std.specs.Prelude.{◌≡◌, drop, length, IfOk, IfErr, OnOk};
 ghost use Rattle.srcset.specs.NameTable.{Texts, KeepsNumbers, NumbersOnce};
 ghost use Rattle.srcset.specs.declared.refusal.Refusal.TheVariants.{Memory};
 ghost use Rattle.macros.specs.Macro.{Macros};
 ghost use Rattle.macros.specs.Table.{IsTable};
 ghost use Rattle.pp_expand.specs.Expansion.{expanded};
-ghost use Rattle.pp_expand.specs.Expands.{HaveFiles, IsExpansion, IsToldExpansion, ending_of};
+ghost use Rattle.pp_expand.specs.Expands.{HaveFiles, IsExpansion, IsExpansionBehind, IsToldExpansion, ending_of};
 ghost use Rattle.pp_expand.specs.inside.Meaning.{IsUnhidden};
 
 use crate::budget::Budget;
@@ -42,17 +42,32 @@ fn unhidden<'a>(alloc: Global, list: &[PpToken<'a>]) -> Result<VecDeque<HiddenTo
     Ok(hidden)
 }
 
-// The tokens without what they hide.
-fn shown<'a>(alloc: Global, list: Vec<HiddenToken<'a>>) -> Result<Vec<PpToken<'a>>, Refusal>
-    ensures ok { IfOk result (λ tokens. tokens.items ≡ map (λ x. x.token) list.entry.items) }
-    ensures err { IfErr result (λ refusal. refusal ≡ Memory) }
+/// Puts the expansion of a list, as `expand` gives it, behind the tokens given. A refusal names no file, and after one nothing
+/// is said of what stands behind them.
+pub fn expand_behind<'a>(
+    alloc: Global,
+    table: &MacroTable<'a>,
+    list: &[PpToken<'a>],
+    end: RunEnd,
+    budget: &mut Budget,
+    names: &Names,
+    given: &mut Vec<PpToken<'a>>,
+) -> Result<(), Refusal>
+    requires { HaveFiles names.now list.now }
+    ensures expansion { (macros : Macros) (texts : Texts) → IsTable names.now table.now macros → KeepsNumbers names.now texts → IsExpansionBehind result given.old.items given.new.items budget.old budget.new (expanded (record { macros = macros; texts = texts }) list.now (ending_of end) budget.old) }
+    ensures files { (macros : Macros) → IsTable names.now table.now macros → OnOk result (HaveFiles names.now (drop (length given.old.items) given.new.items)) }
 {
-    let mut tokens = Vec::new(alloc);
-    tokens.reserve_exact(list.len())?;
-    for x in list {
-        tokens.push(x.token)?;
+    numbers_once(names);
+    let mut sets = HideSets::new(alloc);
+    let hidden = unhidden(alloc, list)?;
+    let left = budget.left();
+    match run(alloc, table, names, &mut sets, hidden, end, left, given) {
+        Ok(left) => {
+            *budget = Budget::new(left);
+            Ok(())
+        }
+        Err(refusal) => Err(refusal),
     }
-    Ok(tokens)
 }
 
 /// The expansion of a list, as `expand` gives it; a refusal names no file, and takes no memory.
@@ -68,15 +83,9 @@ pub fn try_expand<'a>(
     ensures expansion { (macros : Macros) (texts : Texts) → IsTable names.now table.now macros → KeepsNumbers names.now texts → IsExpansion result budget.old budget.new (expanded (record { macros = macros; texts = texts }) list.now (ending_of end) budget.old) }
     ensures files { (macros : Macros) → IsTable names.now table.now macros → IfOk result (λ v. HaveFiles names.now v.items) }
 {
-    numbers_once(names);
-    let mut sets = HideSets::new(alloc);
-    let hidden = unhidden(alloc, list)?;
-    match run(alloc, table, names, &mut sets, hidden, end, budget.left()) {
-        Ok((out, left)) => {
-            let tokens = shown(alloc, out)?;
-            *budget = Budget::new(left);
-            Ok(tokens)
-        }
+    let mut given = Vec::new(alloc);
+    match expand_behind(alloc, table, list, end, budget, names, &mut given) {
+        Ok(()) => Ok(given),
         Err(refusal) => Err(refusal),
     }
 }

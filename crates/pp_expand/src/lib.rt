@@ -15,5 +15,5 @@ mod turns;
 mod waiting;
 
 pub use budget::Budget;
-pub use expansion::{expand, try_expand};
+pub use expansion::{expand, expand_behind, try_expand};
 pub use run_end::RunEnd;

@@ -1,6 +1,5 @@
 -- What the engine's lists mean: the answer of the definition, with no bound on the recursion in sight.
-use Rattle.std.specs.Prelude.{◌≡◌, ℕ, List, ◌++◌, map, Result, Ok, Err, Vec}
-use Rattle.std.specs.declared.alloc.Global.{Global}
+use Rattle.std.specs.Prelude.{◌≡◌, ℕ, List, ◌++◌, map, Result, Ok, Err}
 use Rattle.srcset.specs.NameTable.{Texts}
 use Rattle.srcset.specs.declared.refusal.Refusal.{Refusal}
 use Rattle.srcset.specs.declared.refusal.Refusal.TheVariants.{Memory, At, Told}
@@ -10,7 +9,7 @@ use Rattle.substitution.specs.HideSets.{Sets}
 use Rattle.substitution.specs.Meaning.{hidden_all, AreIn}
 use Rattle.substitution.specs.declared.piece.HiddenToken.{HiddenToken}
 use Rattle.pp_expand.specs.declared.level.Level.{Level}
-use Rattle.pp_expand.specs.Expansion.{Known, Answer, Next, expanded_by}
+use Rattle.pp_expand.specs.Expansion.{Known, Answer, Fault, Next, expanded_by, shown_answer}
 use Rattle.pp_expand.specs.Expands.{ending_of}
 
 -- the expansion of a list with so many replacements left
@@ -30,12 +29,23 @@ level_meaning known sets l left =
 abbrev pub LevelIn : ℕ → Level → Type 0
 LevelIn count l = AreIn count l.rest.items × AreIn count l.out.items
 
--- an answer of the engine
-abbrev pub GivesAnswer : Texts → Sets → Result (Vec HiddenToken Global × ℕ) Refusal → Answer → Type 0
-GivesAnswer texts sets (Ok a) answer = answer ≡ Ok (hidden_all texts sets a.0.items, a.1)
-GivesAnswer texts sets (Err Memory) answer = Unit {0}
-GivesAnswer texts sets (Err (At c pos)) answer = answer ≡ Err (record { code = c; at = pos })
-GivesAnswer texts sets (Err (Told c pos text)) answer = ⊥
+-- behind tokens that stand already
+abbrev pub behind : List Token → Result (List Token × ℕ) Fault → Result (List Token × ℕ) Fault
+behind before r = r >>= λ a. Ok (before ++ a.0, a.1)
+
+abbrev pub shown_behind : List Token → Answer → Result (List Token × ℕ) Fault
+shown_behind before answer = behind before (shown_answer answer)
+
+-- a refusal of the engine
+abbrev pub Refuses : {A : Type 0} → Refusal → Result A Fault → Type 0
+Refuses Memory answer = Unit {0}
+Refuses (At c pos) answer = answer ≡ Err (record { code = c; at = pos })
+Refuses (Told c pos text) answer = ⊥
+
+-- an answer of the engine, behind which these tokens are given
+abbrev pub GivesBehind : Result ℕ Refusal → List Token → Result (List Token × ℕ) Fault → Type 0
+GivesBehind (Ok left) given answer = answer ≡ Ok (given, left)
+GivesBehind (Err refusal) given answer = Refuses refusal answer
 
 -- these tokens, and no token hides a name
 abbrev pub IsUnhidden : List Token → List HiddenToken → Type 0

@@ -1,14 +1,18 @@
-use Rattle.std.proofs.Common.{refl}
-use Rattle.std.proofs.lemmas.Result.{err_from_is_err_and}
+use Rattle.std.proofs.Common.{◌≡◌, OnOk, IfErr, None, refl, subst}
+use Rattle.std.specs.Prelude.{slice_get}
+use Rattle.pp.specs.Phase4.{max_tokens}
+use Rattle.pp.specs.inside.Stepping.{IsPast}
 use Rattle.pp.proofs.StateLemmas.{run_fails, run_goes}
 use Rattle.pp.proofs.state.State.expand_run.Goals as goal
 
-pub returns-in_err-list-clause-does : goal.returns-in_err-list-clause-does
-returns-in_err-list-clause-does c texts xs keeps tokens s a =
-    let p = err_from_is_err_and c.from_residual.result c.from_residual.ensures.1 in
-    rw (p.1, p.2) (run_fails c.in_err-list.field-0.0 texts c.args.names.now xs c.args.tokens.now c.args.self.now c.try_expand.new.budget s a tokens (c.in_err-list.ensures.expansion s.macros texts a.table_is keeps))
+pub returns-in-Ok-clause-does : goal.returns-in-Ok-clause-does
+returns-in-Ok-clause-does c texts xs keeps tokens s a =
+    let e = c.in-Ok.ensures.expansion s.macros texts a.table_is keeps in
+    let new = record c.args.self.now { budget = c.expand_behind.new.budget; given = c.expand_behind.new.given } in
+    run_goes c.limit.result texts c.args.names.now xs c.args.tokens.now e.0 c.args.self.now new s a tokens e.1 refl refl e.2
+    (subst (λ all. OnOk c.limit.result (slice_get all max_tokens ≡ None)) c.deref.ensures.value c.limit.ensures.within)
+    (subst (λ all. IfErr c.limit.result (IsPast all)) c.deref.ensures.value c.limit.ensures.err)
 
-pub returns-clause-does : goal.returns-clause-does
-returns-clause-does c texts xs keeps tokens s a =
-    let new = record c.args.self.now { budget = c.try_expand.new.budget; given = c.give.new.given } in
-    run_goes c.give.result texts c.args.names.now xs c.args.tokens.now c.in_ok-list.list c.args.self.now new s a tokens (c.in_ok-list.ensures.expansion s.macros texts a.table_is keeps) refl refl c.give.ensures.within c.give.ensures.ok c.give.ensures.err
+pub returns-in-Err-clause-does : goal.returns-in-Err-clause-does
+returns-in-Err-clause-does c texts xs keeps tokens s a =
+    run_fails c.in-Err.refusal texts c.args.names.now xs c.args.tokens.now c.args.self.now c.expand_behind.new.budget s a tokens (c.in-Err.ensures.expansion s.macros texts a.table_is keeps)
