@@ -1,0 +1,5 @@
+mod Loops
+mod Typings
+mod LabelLists
+mod Growth
+mod StatementGrowth

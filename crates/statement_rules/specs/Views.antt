@@ -1,0 +1,39 @@
+-- What the code's types of statements stand for.
+use Rattle.std.specs.Prelude.{List, map, Option}
+use Rattle.program.specs.declared.statements.Statement.{Statement}
+use Rattle.program.specs.declared.expressions.Value.{Value}
+use Rattle.program.specs.View.{statement_of, statements_of, option_value}
+use Rattle.statement_rules.specs.declared.surroundings.Around.{Around}
+use Rattle.statement_rules.specs.declared.labels.Label.{Label}
+use Rattle.statement_rules.specs.declared.declared_effects.Initial.{Initial}
+use Rattle.typed.specs.Scope.{Scope}
+use Rattle.typed.specs.Declarations as declarations
+use Rattle.typed.specs.Statements as typed
+
+abbrev pub around_of : Around → typed.Around
+around_of a = record { result = a.result; in_loop = a.in_loop; in_switch = a.in_switch }
+
+abbrev pub label_of : Label → typed.Label
+label_of l = record { at = l.pos; value = l.value }
+
+abbrev pub initial_of : Initial → declarations.Initial
+initial_of i = record { static = i.static_number; values = i.values.items }
+
+-- what a declaration leaves: the scope behind it, its statements and the first values of its static objects
+abbrev pub effects_of : List Statement → List Initial → declarations.Effects
+effects_of xs js = record { statements = map statement_of xs; initial = map initial_of js }
+
+abbrev pub declared_of : Scope → List Statement → List Initial → declarations.Declared
+declared_of s xs js = record { scope = s; effects = effects_of xs js }
+
+-- a statement with the labels before it, the scope behind it and the first values of the static objects in it
+abbrev pub done_of : Scope → List Label → List Initial → Statement → typed.Done
+done_of s ms js x = record { labels = map label_of ms; statement = statement_of x; scope = s; initial = map initial_of js }
+
+-- the same of the items of a block
+abbrev pub all_done_of : Scope → List Label → List Initial → List Statement → typed.AllDone
+all_done_of s ms js xs = record { labels = map label_of ms; statements = statements_of (map statement_of xs); scope = s; initial = map initial_of js }
+
+-- the first part of a for
+abbrev pub start_of : Scope → List Statement → List Initial → Option Value → typed.Start
+start_of s xs js v = record { effects = effects_of xs js; first = option_value v; scope = s }

@@ -1,0 +1,53 @@
+-- The items of a block, those that have been looked at put before the others.
+use Rattle.std.specs.Prelude.{ℤ, List, map, ◌++◌, Option, Some, None}
+use Rattle.std.specs.Borrow.{Bor}
+use Rattle.program.specs.declared.statements.Statement.{Statement}
+use Rattle.program.specs.declared.statements.Statement.TheVariants.{Case, Default}
+use Rattle.program.specs.View.{statement_of}
+use Rattle.tree.specs.declared.statement.BlockItem.{BlockItem}
+use Rattle.tree.specs.Tree.{StmtTree, Pieces, stmt_hole, block_stmt, empty_stmt, expression_stmt, if_stmt, if_else_stmt, switch_stmt, case_stmt, default_stmt, while_stmt, do_while_stmt, for_stmt, break_stmt, continue_stmt, return_stmt}
+use Rattle.tree.specs.View.{pieces_of, piece_of}
+use Rattle.typed.specs.Verdict.{Verdict, fine}
+use Rattle.typed.specs.Statements as typed
+use Rattle.statement_rules.specs.declared.labels.Label.{Label}
+use Rattle.statement_rules.specs.declared.declared_effects.Initial.{Initial}
+use Rattle.statement_rules.specs.Views.{label_of, initial_of}
+
+-- what was found in some items, before what the items behind them have
+abbrev pub put_before : List Label → List Initial → List Statement → typed.AllDone → Verdict typed.AllDone
+put_before ms js xs more = fine (record {
+  labels = map label_of ms ++ more.labels;
+  statements = typed.followed_by (map statement_of xs) more.statements;
+  scope = more.scope;
+  initial = map initial_of js ++ more.initial;
+})
+
+abbrev pub label_with : Option ℤ → Statement
+label_with None = Default
+label_with (Some v) = Case v
+
+-- a label as a statement
+abbrev pub label_statement : Label → Statement
+label_statement l = label_with l.value
+
+-- the items of a block, none of another statement
+abbrev pub block_items : StmtTree → Option Pieces
+block_items stmt_hole = None
+block_items (block_stmt at ps) = Some ps
+block_items (empty_stmt at) = None
+block_items (expression_stmt at e) = None
+block_items (if_stmt at e a) = None
+block_items (if_else_stmt at e a b) = None
+block_items (switch_stmt at e a) = None
+block_items (case_stmt at e a) = None
+block_items (default_stmt at a) = None
+block_items (while_stmt at e a) = None
+block_items (do_while_stmt at a e) = None
+block_items (for_stmt at start test step a) = None
+block_items (break_stmt at) = None
+block_items (continue_stmt at) = None
+block_items (return_stmt at e) = None
+
+abbrev pub option_items : Option (Bor (List BlockItem)) → Option Pieces
+option_items None = None
+option_items (Some items) = Some (pieces_of (map piece_of items.now))
