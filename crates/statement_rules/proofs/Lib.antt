@@ -1,5 +1,9 @@
 mod Loops
 mod Typings
 mod LabelLists
-mod Growth
-mod StatementGrowth
+pub mod Growth
+pub mod StatementGrowth
+mod Rules
+mod ForRules
+mod BlockRules
+mod TreeForms

@@ -1,11 +1,12 @@
 -- What the code's types of statements stand for.
-use Rattle.std.specs.Prelude.{List, map, Option}
+use Rattle.std.specs.Prelude.{◌≡◌, ◌++◌, List, [], map, Option}
 use Rattle.program.specs.declared.statements.Statement.{Statement}
 use Rattle.program.specs.declared.expressions.Value.{Value}
 use Rattle.program.specs.View.{statement_of, statements_of, option_value}
 use Rattle.statement_rules.specs.declared.surroundings.Around.{Around}
 use Rattle.statement_rules.specs.declared.labels.Label.{Label}
 use Rattle.statement_rules.specs.declared.declared_effects.Initial.{Initial}
+use Rattle.typed.specs.Verdict.{Verdict, fine}
 use Rattle.typed.specs.Scope.{Scope}
 use Rattle.typed.specs.Declarations as declarations
 use Rattle.typed.specs.Statements as typed
@@ -37,3 +38,11 @@ all_done_of s ms js xs = record { labels = map label_of ms; statements = stateme
 -- the first part of a for
 abbrev pub start_of : Scope → List Statement → List Initial → Option Value → typed.Start
 start_of s xs js v = record { effects = effects_of xs js; first = option_value v; scope = s }
+
+-- a statement without labels, its first values put behind those before
+abbrev pub Unlabelled : Verdict typed.Done → (before after : List Initial) → Scope → Statement → Type 0
+Unlabelled v before after s x = (js : List Initial) × (after ≡ before ++ js) × (v ≡ fine (done_of s [] js x))
+
+-- a statement, its labels and its first values put behind those before
+abbrev pub Labelled : Verdict typed.Done → (labels new_labels : List Label) → (before after : List Initial) → Scope → Statement → Type 0
+Labelled v labels new_labels before after s x = (ms : List Label) × (js : List Initial) × (new_labels ≡ labels ++ ms) × (after ≡ before ++ js) × (v ≡ fine (done_of s ms js x))

@@ -1,10 +1,11 @@
 //! The labels of a switch (6.8.1, 6.8.4.2).
-#![tactic(auto)]
+#![tactic(auto, using(declarators::proofs::Verdicts::told))]
 
 ghost use Rattle.std.specs.Prelude.{◌≡◌, ◌++◌, ◌∷◌, [], map, IfErr, IfOk, OnOk};
 ghost use Rattle.ctypes.specs.declared.types.IntType.{IntType};
 ghost use Rattle.tree.specs.View.{tree_of};
 ghost use Rattle.typed.specs.Verdict.{fine};
+ghost use Rattle.typed.specs.Scope as scope_typed;
 ghost use Rattle.typed.specs.Statements as typed;
 ghost use Rattle.expression_rules.specs.Refused.{IsOf, Tells};
 ghost use Rattle.scopes.specs.Scopes.{with_texts};
@@ -14,6 +15,7 @@ ghost use Rattle.statement_rules.specs.inside.Pieces.{label_statement};
 
 use crate::surroundings::Around;
 use const_expr::constant_value;
+use declarators::past;
 use ctypes::{IntType, convert};
 use expression_rules::broken;
 use indexmap::IndexSet;
@@ -103,6 +105,27 @@ pub(crate) fn push_labelled(
     }
     match all.push(statement) {
         Ok(()) => Ok(()),
+        Err(_) => Err(Refusal::Memory),
+    }
+}
+
+/// The value of a case, behind which its literals stand.
+pub(crate) fn case_past(
+    alloc: Global,
+    names: &Names,
+    scope: &mut Scope,
+    ty: IntType,
+    e: &Expr,
+) -> Result<i64, Refusal>
+    ensures ok { IfOk result (λ v. (typed.case_value (with_texts names.now scope.old) ty (tree_of e.now) ≡ fine v) × (scope.new ≡ scope_typed.past scope.old (tree_of e.now))) }
+    ensures err { IfErr result (λ r. Tells r (typed.case_value (with_texts names.now scope.old) ty (tree_of e.now))) }
+{
+    let value = match case_value(alloc, names, scope, ty, e) {
+        Ok(value) => value,
+        Err(refusal) => return Err(refusal),
+    };
+    match past(scope, e) {
+        Ok(()) => Ok(value),
         Err(_) => Err(Refusal::Memory),
     }
 }

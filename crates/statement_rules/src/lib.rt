@@ -3,9 +3,11 @@
 
 mod controls;
 mod declared_effects;
-mod jumps;
 mod labels;
 mod loop_declarations;
+mod loop_controls;
+mod simple_statements;
+
 mod surroundings;
 
 pub use declared_effects::Initial;
