@@ -31,7 +31,7 @@ use Rattle.scopes.specs.Scopes.{with_texts}
 use Rattle.statement_rules.specs.declared.labels.Label.{Label}
 use Rattle.statement_rules.specs.declared.declared_effects.Initial.{Initial}
 use Rattle.statement_rules.specs.Views.{label_of, initial_of, done_of, all_done_of, declared_of, Unlabelled, Labelled}
-use Rattle.statement_rules.specs.inside.Pieces.{put_before, label_with, label_statement, block_items, switch_on}
+use Rattle.statement_rules.specs.inside.Pieces.{put_before, label_with, label_statement, block_items, switch_on, Scoped, Puts}
 use Rattle.statement_rules.proofs.ForRules.{followed}
 
 -- ---- the code's statements
@@ -48,23 +48,18 @@ sees_label (Some v) = search (rules, the_lemmas)
 
 -- ---- blocks (6.8.2)
 
--- the items of a block that begins in the scope s
-abbrev pub Scoped : Verdict typed.AllDone → (labels new_labels : List Label) → (before after : List Initial) → List (List ℕ) → (old new : Scope) → List Statement → Type 0
-Scoped v labels new_labels before after t old new xs =
-    (ms : List Label) × (js : List Initial) × (s : Scope) × (new_labels ≡ labels ++ ms) × (after ≡ before ++ js) × (v ≡ fine (all_done_of (with_texts t s) ms js xs)) × (new ≡ outside old s)
-
 block_count : (s s1 s2 : Scope) (first n2 count : ℕ) → first ≡ length s.objects → s2 ≡ outside s s1 → n2 ≡ length s2.objects → count ≡ n2 - first → count ≡ length s1.objects - length s.objects
 block_count s s1 s2 first n2 count f o g h = h ∙ ap (λ k. k - first) (g ∙ ap (λ (k : Scope). length k.objects) o) ∙ ap (λ k. length s1.objects - k) f
 
-pub block_fine : (A : typed.Around) (d : Option IntType) (t : List (List ℕ)) (s s2 : Scope) (at : Pos) (ps : Pieces) (first n2 count : ℕ) (labels new_labels : List Label) (before after : List Initial) (xs : Vec Statement Global) →
-    first ≡ length s.objects → n2 ≡ length s2.objects → count ≡ n2 - first → Scoped (pieces A None (with_texts t (inside s)) ps) labels new_labels before after t s s2 xs.items →
+pub block_fine : (A : typed.Around) (d : Option IntType) (t : List (List ℕ)) (s s2 : Scope) (at : Pos) (ps : Pieces) (first count : ℕ) (labels new_labels : List Label) (before after : List Initial) (xs : Vec Statement Global) →
+    first ≡ length s.objects → count ≡ length s2.objects - first → Scoped (pieces A None (with_texts t (inside s)) ps) labels new_labels before after t s s2 xs.items →
     Unlabelled (statement A d (with_texts t s) (block_stmt at ps)) before after (with_texts t s2) (S.Block first count xs)
-block_fine A d t s s2 at ps first n2 count labels new_labels before after xs f g h p =
+block_fine A d t s s2 at ps first count labels new_labels before after xs f h p =
     (p.1, p.4,
     then_fine (pieces A None (inside (with_texts t s)) ps) (all_done_of (with_texts t p.2) p.0 p.1 xs.items) (typed.block_of (with_texts t s)) p.5
     ∙ ap (λ k. fine (record { labels = []; statement = k; scope = with_texts t (outside s p.2); initial = map initial_of p.1 }))
     (ap (λ k. program.block k (length p.2.objects - length s.objects) (statements_of (map statement_of xs.items))) (sym f)
-    ∙ ap (λ k. program.block first k (statements_of (map statement_of xs.items))) (sym (block_count s p.2 s2 first n2 count f p.6 g h)) ∙ sym (sees_block first count xs))
+    ∙ ap (λ k. program.block first k (statements_of (map statement_of xs.items))) (sym (block_count s p.2 s2 first (length s2.objects) count f p.6 refl h)) ∙ sym (sees_block first count xs))
     ∙ ap (λ k. fine (record { labels = []; statement = statement_of (S.Block first count xs); scope = with_texts t k; initial = map initial_of p.1 })) (sym p.6))
 
 pub block_tells : (A : typed.Around) (d : Option IntType) (t : List (List ℕ)) (s : Scope) (at : Pos) (ps : Pieces) (r : Refusal) → Tells r (pieces A None (with_texts t (inside s)) ps) → Tells r (statement A d (with_texts t s) (block_stmt at ps))
@@ -72,13 +67,13 @@ block_tells A d t s at ps r h = tells_then r (pieces A None (inside (with_texts 
 
 -- ---- switch (6.8.4.2)
 
-pub switch_fine : (A B : typed.Around) (t : List (List ℕ)) (s s2 : Scope) (w : Worth) (ty : IntType) (ps : Pieces) (first n2 count : ℕ) (empty labels : List Label) (before after : List Initial) (xs : Vec Statement Global) →
-    B ≡ typed.in_a_switch A → ty ≡ promoted w.ty → empty ≡ [] → first ≡ length s.objects → n2 ≡ length s2.objects → count ≡ n2 - first →
-    Scoped (pieces B (Some ty) (with_texts t (inside s)) ps) empty labels before after t s s2 xs.items → typed.no_label_twice [] (map label_of labels) ≡ fine tt →
+pub switch_fine : (A B : typed.Around) (t : List (List ℕ)) (s s2 : Scope) (w : Worth) (ty : IntType) (ps : Pieces) (first count : ℕ) (empty labels read : List Label) (before after : List Initial) (xs : Vec Statement Global) → read ≡ labels →
+    B ≡ typed.in_a_switch A → ty ≡ promoted w.ty → empty ≡ [] → first ≡ length s.objects → count ≡ length s2.objects - first →
+    Scoped (pieces B (Some ty) (with_texts t (inside s)) ps) empty labels before after t s s2 xs.items → typed.no_label_twice [] (map label_of read) ≡ fine tt →
     Unlabelled (switch_on A (worth_of w) (with_texts t s) ps) before after (with_texts t s2) (S.Switch ty w.value first count xs)
-switch_fine A B t s s2 w ty ps first n2 count empty labels before after xs l y z f g h p n =
+switch_fine A B t s s2 w ty ps first count empty labels read before after xs o l y z f h p n =
     let all = all_done_of (with_texts t p.2) p.0 p.1 xs.items in
-    let same : labels ≡ p.0 = p.3 ∙ ap (λ k. k ++ p.0) z in
+    let same : read ≡ p.0 = o ∙ p.3 ∙ ap (λ k. k ++ p.0) z in
     (p.1, p.4,
     ap (λ k. then_check (pieces k (Some (promoted w.ty)) (inside (with_texts t s)) ps) (typed.switch_of (with_texts t s) (promoted w.ty) (worth_of w))) (sym l)
     ∙ ap (λ k. then_check (pieces B (Some k) (inside (with_texts t s)) ps) (typed.switch_of (with_texts t s) k (worth_of w))) (sym y)
@@ -89,7 +84,7 @@ switch_fine A B t s s2 w ty ps first n2 count empty labels before after xs l y z
     (ap (λ k. typed.no_label_twice [] (map label_of k)) (sym same) ∙ n) refl
     ∙ ap (λ k. fine (record { labels = []; statement = k; scope = with_texts t (outside s p.2); initial = map initial_of p.1 }))
     (ap (λ k. program.switch ty (value_of w.value) k (length p.2.objects - length s.objects) (statements_of (map statement_of xs.items))) (sym f)
-    ∙ ap (λ k. program.switch ty (value_of w.value) first k (statements_of (map statement_of xs.items))) (sym (block_count s p.2 s2 first n2 count f p.6 g h)) ∙ sym (sees_switch ty w.value first count xs))
+    ∙ ap (λ k. program.switch ty (value_of w.value) first k (statements_of (map statement_of xs.items))) (sym (block_count s p.2 s2 first (length s2.objects) count f p.6 refl h)) ∙ sym (sees_switch ty w.value first count xs))
     ∙ ap (λ k. fine (record { labels = []; statement = statement_of (S.Switch ty w.value first count xs); scope = with_texts t k; initial = map initial_of p.1 })) (sym p.6))
 
 pub switch_pieces : (A B : typed.Around) (t : List (List ℕ)) (s : Scope) (w : Worth) (ty : IntType) (ps : Pieces) (r : Refusal) → B ≡ typed.in_a_switch A → ty ≡ promoted w.ty →
@@ -98,11 +93,11 @@ switch_pieces A B t s w ty ps r l y h =
     tells_then r (pieces (typed.in_a_switch A) (Some (promoted w.ty)) (inside (with_texts t s)) ps) (typed.switch_of (with_texts t s) (promoted w.ty) (worth_of w))
     (subst (λ k. Tells r (pieces k (Some (promoted w.ty)) (inside (with_texts t s)) ps)) l (subst (λ k. Tells r (pieces B (Some k) (inside (with_texts t s)) ps)) y h))
 
-pub switch_twice : (A B : typed.Around) (t : List (List ℕ)) (s s2 : Scope) (w : Worth) (ty : IntType) (ps : Pieces) (empty labels : List Label) (before after : List Initial) (xs : List Statement) (r : Refusal) →
+pub switch_twice : (A B : typed.Around) (t : List (List ℕ)) (s s2 : Scope) (w : Worth) (ty : IntType) (ps : Pieces) (empty labels read : List Label) (before after : List Initial) (xs : List Statement) (r : Refusal) → read ≡ labels →
     B ≡ typed.in_a_switch A → ty ≡ promoted w.ty → empty ≡ [] → Scoped (pieces B (Some ty) (with_texts t (inside s)) ps) empty labels before after t s s2 xs →
-    Tells r (typed.no_label_twice [] (map label_of labels)) → Tells r (switch_on A (worth_of w) (with_texts t s) ps)
-switch_twice A B t s s2 w ty ps empty labels before after xs r l y z p h =
-    let same : labels ≡ p.0 = p.3 ∙ ap (λ k. k ++ p.0) z in
+    Tells r (typed.no_label_twice [] (map label_of read)) → Tells r (switch_on A (worth_of w) (with_texts t s) ps)
+switch_twice A B t s s2 w ty ps empty labels read before after xs r o l y z p h =
+    let same : read ≡ p.0 = o ∙ p.3 ∙ ap (λ k. k ++ p.0) z in
     then_tells r (pieces (typed.in_a_switch A) (Some (promoted w.ty)) (inside (with_texts t s)) ps) (all_done_of (with_texts t p.2) p.0 p.1 xs) (typed.switch_of (with_texts t s) (promoted w.ty) (worth_of w))
     (ap (λ k. pieces k (Some (promoted w.ty)) (inside (with_texts t s)) ps) (sym l) ∙ ap (λ k. pieces B (Some k) (inside (with_texts t s)) ps) (sym y) ∙ p.5)
     (provided_left r (typed.no_label_twice [] (map label_of p.0))
@@ -187,22 +182,22 @@ switch_left A d s at e b r h = by_block A d s at e b (block_items b) r refl h
 
 pub case_ok : (x : Result Statement Refusal) (A : typed.Around) (d : Option IntType) (ty : IntType) (t : List (List ℕ)) (s s1 s2 : Scope) (at : Pos) (e : Tree) (a : StmtTree) (v : ℤ) (labels mid new : List Label) (before after : List Initial) →
     d ≡ Some ty → typed.case_value (with_texts t s) ty e ≡ fine v → s1 ≡ past s e → mid ≡ labels ++ record { pos = at; value = Some v } ∷ [] →
-    IfOk x (λ k. Labelled (statement A d (with_texts t s1) a) mid new before after (with_texts t s2) k) → IfOk x (λ k. Labelled (statement A d (with_texts t s) (case_stmt at e a)) labels new before after (with_texts t s2) k)
+    IfOk x (λ k. Labelled (statement A (Some ty) (with_texts t s1) a) mid new before after (with_texts t s2) k) → IfOk x (λ k. Labelled (statement A d (with_texts t s) (case_stmt at e a)) labels new before after (with_texts t s2) k)
 case_ok (Err x) A d ty t s s1 s2 at e a v labels mid new before after i f g m p = tt
 case_ok (Ok x) A d ty t s s1 s2 at e a v labels mid new before after i f g m p =
     let l : Label = record { pos = at; value = Some v } in
     (l ∷ p.0, p.1, p.2 ∙ ap (λ k. k ++ p.0) m ∙ append_assoc labels (l ∷ []) p.0, p.3,
     ap (λ k. statement A k (with_texts t s) (case_stmt at e a)) i
     ∙ both_fine (typed.case_value (with_texts t s) ty e) (statement A (Some ty) (past (with_texts t s) e) a) v (done_of (with_texts t s2) p.0 p.1 x) (typed.case_label at) f
-    (ap (λ k. statement A (Some ty) (with_texts t k) a) (sym g) ∙ ap (λ k. statement A k (with_texts t s1) a) (sym i) ∙ p.4))
+    (ap (λ k. statement A (Some ty) (with_texts t k) a) (sym g) ∙ p.4))
 
 pub case_err : (x : Result Statement Refusal) (A : typed.Around) (d : Option IntType) (ty : IntType) (t : List (List ℕ)) (s s1 : Scope) (at : Pos) (e : Tree) (a : StmtTree) → d ≡ Some ty → s1 ≡ past s e →
-    IfErr x (λ r. Tells r (statement A d (with_texts t s1) a)) → IfErr x (λ r. Tells r (statement A d (with_texts t s) (case_stmt at e a)))
+    IfErr x (λ r. Tells r (statement A (Some ty) (with_texts t s1) a)) → IfErr x (λ r. Tells r (statement A d (with_texts t s) (case_stmt at e a)))
 case_err (Ok x) A d ty t s s1 at e a i g p = tt
 case_err (Err r) A d ty t s s1 at e a i g p =
     subst (λ k. Tells r (statement A k (with_texts t s) (case_stmt at e a))) (sym i)
     (tells_right r (typed.case_value (with_texts t s) ty e) (statement A (Some ty) (past (with_texts t s) e) a) (typed.case_label at)
-    (subst (λ k. Tells r (statement A k (past (with_texts t s) e) a)) i (subst (λ k. Tells r (statement A d (with_texts t k) a)) g p)))
+    (subst (λ k. Tells r (statement A (Some ty) (with_texts t k) a)) g p))
 
 pub case_left : (A : typed.Around) (d : Option IntType) (ty : IntType) (s : Scope) (at : Pos) (e : Tree) (a : StmtTree) (r : Refusal) → d ≡ Some ty → Tells r (typed.case_value s ty e) → Tells r (statement A d s (case_stmt at e a))
 case_left A d ty s at e a r i h =
@@ -213,30 +208,25 @@ case_misplaced A d s at e a r i h = subst (λ k. Tells r (statement A k s (case_
 
 pub default_ok : (x : Result Statement Refusal) (A : typed.Around) (d : Option IntType) (t : List (List ℕ)) (s s2 : Scope) (at : Pos) (a : StmtTree) (ty : IntType) (labels mid new : List Label) (before after : List Initial) →
     d ≡ Some ty → mid ≡ labels ++ record { pos = at; value = None } ∷ [] →
-    IfOk x (λ k. Labelled (statement A d (with_texts t s) a) mid new before after (with_texts t s2) k) → IfOk x (λ k. Labelled (statement A d (with_texts t s) (default_stmt at a)) labels new before after (with_texts t s2) k)
+    IfOk x (λ k. Labelled (statement A (Some ty) (with_texts t s) a) mid new before after (with_texts t s2) k) → IfOk x (λ k. Labelled (statement A d (with_texts t s) (default_stmt at a)) labels new before after (with_texts t s2) k)
 default_ok (Err x) A d t s s2 at a ty labels mid new before after i m p = tt
 default_ok (Ok x) A d t s s2 at a ty labels mid new before after i m p =
     let l : Label = record { pos = at; value = None } in
     (l ∷ p.0, p.1, p.2 ∙ ap (λ k. k ++ p.0) m ∙ append_assoc labels (l ∷ []) p.0, p.3,
     ap (λ k. statement A k (with_texts t s) (default_stmt at a)) i
-    ∙ then_fine (statement A (Some ty) (with_texts t s) a) (done_of (with_texts t s2) p.0 p.1 x) (typed.with_label (record { at = at; value = None })) (ap (λ k. statement A k (with_texts t s) a) (sym i) ∙ p.4))
+    ∙ then_fine (statement A (Some ty) (with_texts t s) a) (done_of (with_texts t s2) p.0 p.1 x) (typed.with_label (record { at = at; value = None })) p.4)
 
 pub default_err : (x : Result Statement Refusal) (A : typed.Around) (d : Option IntType) (s : Scope) (at : Pos) (a : StmtTree) (ty : IntType) → d ≡ Some ty →
-    IfErr x (λ r. Tells r (statement A d s a)) → IfErr x (λ r. Tells r (statement A d s (default_stmt at a)))
+    IfErr x (λ r. Tells r (statement A (Some ty) s a)) → IfErr x (λ r. Tells r (statement A d s (default_stmt at a)))
 default_err (Ok x) A d s at a ty i p = tt
 default_err (Err r) A d s at a ty i p =
     subst (λ k. Tells r (statement A k s (default_stmt at a))) (sym i)
-    (tells_then r (statement A (Some ty) s a) (typed.with_label (record { at = at; value = None })) (subst (λ k. Tells r (statement A k s a)) i p))
+    (tells_then r (statement A (Some ty) s a) (typed.with_label (record { at = at; value = None })) p)
 
 pub default_misplaced : (A : typed.Around) (d : Option IntType) (s : Scope) (at : Pos) (a : StmtTree) (r : Refusal) → d ≡ None → IsOf r (typed.misplaced A at) → Tells r (statement A d s (default_stmt at a))
 default_misplaced A d s at a r i h = subst (λ k. Tells r (statement A k s (default_stmt at a))) (sym i) (tells_of r (typed.misplaced A at) h)
 
 -- ---- items of blocks
-
--- what is put behind the lists so far, and before the items behind this
-abbrev pub Puts : (Pieces → Verdict typed.AllDone) → (Pieces → Verdict typed.AllDone) → (labels new_labels : List Label) → (before after : List Initial) → (all new_all : List Statement) → Type 0
-Puts v w labels new_labels before after all new_all =
-    (ms : List Label) × (js : List Initial) × (xs : List Statement) × (new_labels ≡ labels ++ ms) × (after ≡ before ++ js) × (new_all ≡ all ++ xs) × ((ps : Pieces) → v ps ≡ then_check (w ps) (put_before ms js xs))
 
 labelled_is : (ms : List Label) (y : Statement) (more : program.Statements) → typed.followed_by (map statement_of (map label_statement ms ++ y ∷ [])) more ≡ typed.labelled (map label_of ms) (program.and_statement (statement_of y) more)
 labelled_is [] y more = refl
@@ -247,11 +237,11 @@ statements_put : (s : Scope) (ms : List Label) (js : List Initial) (y : Statemen
 statements_put s ms js y more =
     ap (λ k. fine (record { labels = map label_of ms ++ more.labels; statements = k; scope = more.scope; initial = map initial_of js ++ more.initial })) (sym (labelled_is ms y more.statements))
 
-pub item_fine : (A : typed.Around) (d : Option IntType) (s s1 : Scope) (x : StmtTree) (empty own labels new_labels : List Label) (before after : List Initial) (all new_all : List Statement) (y : Statement) → empty ≡ [] →
-    Labelled (statement A d s x) empty own before after s1 y → new_labels ≡ labels ++ own → new_all ≡ all ++ (map label_statement own ++ y ∷ []) →
+pub item_fine : (A : typed.Around) (d : Option IntType) (s s1 : Scope) (x : StmtTree) (empty own read labels new_labels : List Label) (before after : List Initial) (all new_all : List Statement) (y : Statement) → empty ≡ [] → read ≡ own →
+    Labelled (statement A d s x) empty own before after s1 y → new_labels ≡ labels ++ read → new_all ≡ all ++ (map label_statement read ++ y ∷ []) →
     Puts (λ ps. pieces A d s (and_piece (statement_item x) ps)) (λ ps. pieces A d s1 ps) labels new_labels before after all new_all
-item_fine A d s s1 x empty own labels new_labels before after all new_all y z p f g =
-    let same : own ≡ p.0 = p.2 ∙ ap (λ k. k ++ p.0) z in
+item_fine A d s s1 x empty own read labels new_labels before after all new_all y z o p f g =
+    let same : read ≡ p.0 = o ∙ p.2 ∙ ap (λ k. k ++ p.0) z in
     (p.0, p.1, map label_statement p.0 ++ y ∷ [], f ∙ ap (λ k. labels ++ k) same, p.3, g ∙ ap (λ k. all ++ (map label_statement k ++ y ∷ [])) same, λ ps.
     then_fine (statement A d s x) (done_of s1 p.0 p.1 y) (λ z. then_check (pieces A d z.scope ps) (typed.and_statements z)) p.4
     ∙ then_same (pieces A d s1 ps) (pieces A d s1 ps) (typed.and_statements (done_of s1 p.0 p.1 y)) (put_before p.0 p.1 (map label_statement p.0 ++ y ∷ [])) refl (statements_put s1 p.0 p.1 y))

@@ -7,3 +7,4 @@ mod Rules
 mod ForRules
 mod BlockRules
 mod TreeForms
+mod Outsides

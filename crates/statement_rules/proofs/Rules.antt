@@ -30,7 +30,7 @@ use Rattle.statement_rules.specs.declared.declared_effects.Initial.{Initial}
 use Rattle.statement_rules.specs.declared.surroundings.Around as held
 use Rattle.statement_rules.specs.declared.loop_controls.Control.{Control}
 use Rattle.statement_rules.specs.Views.{around_of, label_of, initial_of, done_of, all_done_of, start_of, Unlabelled, Labelled}
-use Rattle.statement_rules.specs.inside.Pieces.{Inner, block_items, option_items, switch_on}
+use Rattle.statement_rules.specs.inside.Pieces.{Inner}
 use Rattle.statement_rules.specs.inside.Controls.{control_of}
 
 -- ---- the code's statements
@@ -153,3 +153,17 @@ pub do_right : (A B : typed.Around) (d : Option IntType) (t : List (List ℕ)) (
 do_right A B d t s s1 at a e before after b r l p h =
     then_tells r (statement (typed.in_a_loop A) None (with_texts t s) a) (done_of (with_texts t s1) p.0 p.1 b.value) (test_of at e) (ap (λ k. statement k None (with_texts t s) a) (sym l) ∙ p.3)
     (tells_then r (valued code.VoidControl at (typing (with_texts t s1) e)) (λ c. typed.done_with (past (with_texts t s1) e) (map initial_of p.1) (program.do_while (statement_of b.value) c.e)) h)
+
+-- ---- as far as an else
+
+pub head_inner : (A : typed.Around) (t : List (List ℕ)) (s s1 s2 : Scope) (e : Tree) (a : StmtTree) (before after : List Initial) (b : Statement) → s1 ≡ past s e → Inner (statement A None (with_texts t s1) a) before after (with_texts t s2) b →
+    Inner (statement A None (past (with_texts t s) e) a) before after (with_texts t s2) b
+head_inner A t s s1 s2 e a before after b h p = (p.0, p.1, p.2, ap (λ k. statement A None (with_texts t k) a) (sym h) ∙ p.3)
+
+pub else_labelled : (A : typed.Around) (d : Option IntType) (t : List (List ℕ)) (s s2 s3 : Scope) (at : Pos) (e : Tree) (a b : StmtTree) (w : Worth) (labels : List Label) (before mid after : List Initial) (x y : Box Statement Global) →
+    valued code.VoidControl at (typing (with_texts t s) e) ≡ fine (worth_of w) → Inner (statement A None (past (with_texts t s) e) a) before mid (with_texts t s2) x.value →
+    Inner (statement A None (with_texts t s2) b) mid after (with_texts t s3) y.value →
+    Labelled (statement A d (with_texts t s) (if_else_stmt at e a b)) labels labels before after (with_texts t s3) (S.IfElse w.value x y)
+else_labelled A d t s s2 s3 at e a b w labels before mid after x y v p q =
+    let k = if_else_fine A d t s (past s e) s2 s3 at e a b w before mid after x y v refl p q in
+    ([], k.0, sym (append-nil labels), k.1, k.2)

@@ -10,10 +10,15 @@ use Rattle.tree.specs.declared.statement.Stmt.{Stmt, the_lemmas}
 use Rattle.tree.specs.declared.statement.Stmt as T
 use Rattle.tree.specs.Tree.{block_stmt, empty_stmt, expression_stmt, if_stmt, if_else_stmt, switch_stmt, case_stmt, default_stmt, while_stmt, do_while_stmt, for_stmt, break_stmt, continue_stmt, return_stmt}
 use Rattle.tree.specs.View.{tree_of, option_tree, start_of, stmt_of, piece_of, pieces_of}
+use Rattle.ctypes.specs.declared.types.IntType.{IntType}
 use Rattle.program.specs.declared.statements.Statement.{Statement}
+use Rattle.program.specs.declared.statements.Statement.{the_lemmas as program_lemmas}
+use Rattle.program.specs.declared.statements.Statement as P
+use Rattle.program.specs.View.{statement_of}
+use Rattle.typed.specs.Program as program
 use Rattle.typed.specs.Verdict.{Verdict, fine}
 use Rattle.typed.specs.Scope.{Scope}
-use Rattle.typed.specs.Statements.{Done}
+use Rattle.typed.specs.Statements.{Around, Done, statement}
 use Rattle.expression_rules.specs.Refused.{Tells}
 use Rattle.statement_rules.specs.declared.labels.Label.{Label}
 use Rattle.statement_rules.specs.declared.declared_effects.Initial.{Initial}
@@ -125,3 +130,9 @@ sees_return at e = search (rules, the_lemmas)
 
 pub return_tree : (s : Stmt) (at : Pos) (e : Option Expr) → s ≡ T.Return at e → stmt_of s ≡ return_stmt at (option_tree e)
 return_tree s at e is = ap stmt_of is ∙ sees_return at e
+
+sees_nothing : statement_of P.Empty ≡ program.empty
+sees_nothing = search (rules, program_lemmas)
+
+pub empty_done : (A : Around) (d : Option IntType) (s : Scope) (at : Pos) → statement A d s (empty_stmt at) ≡ fine (done_of s [] [] P.Empty)
+empty_done A d s at = ap (λ k. fine (record { labels = []; statement = k; scope = s; initial = [] })) (sym sees_nothing)

@@ -1,15 +1,17 @@
 //! The typing rules of statements (ISO/IEC 9899:2011 6.8).
 #![tactic(auto)]
 
+mod block_parts;
 mod controls;
 mod declared_effects;
 mod labels;
 mod loop_declarations;
 mod loop_controls;
 mod simple_statements;
-
+mod statements;
 mod surroundings;
 
 pub use declared_effects::Initial;
 pub use labels::Label;
+pub use statements::pieces;
 pub use surroundings::Around;
