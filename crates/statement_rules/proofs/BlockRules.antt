@@ -54,13 +54,15 @@ block_count s s1 s2 first n2 count f o g h = h ∙ ap (λ k. k - first) (g ∙ a
 pub block_fine : (A : typed.Around) (d : Option IntType) (t : List (List ℕ)) (s s2 : Scope) (at : Pos) (ps : Pieces) (first count : ℕ) (labels new_labels : List Label) (before after : List Initial) (xs : Vec Statement Global) →
     first ≡ length s.objects → count ≡ length s2.objects - first → Scoped (pieces A None (with_texts t (inside s)) ps) labels new_labels before after t s s2 xs.items →
     Unlabelled (statement A d (with_texts t s) (block_stmt at ps)) before after (with_texts t s2) (S.Block first count xs)
-block_fine A d t s s2 at ps first count labels new_labels before after xs f h p =
-    (p.1, p.4,
-    then_fine (pieces A None (inside (with_texts t s)) ps) (all_done_of (with_texts t p.2) p.0 p.1 xs.items) (typed.block_of (with_texts t s)) p.5
-    ∙ ap (λ k. fine (record { labels = []; statement = k; scope = with_texts t (outside s p.2); initial = map initial_of p.1 }))
-    (ap (λ k. program.block k (length p.2.objects - length s.objects) (statements_of (map statement_of xs.items))) (sym f)
-    ∙ ap (λ k. program.block first k (statements_of (map statement_of xs.items))) (sym (block_count s p.2 s2 first (length s2.objects) count f p.6 refl h)) ∙ sym (sees_block first count xs))
-    ∙ ap (λ k. fine (record { labels = []; statement = statement_of (S.Block first count xs); scope = with_texts t k; initial = map initial_of p.1 })) (sym p.6))
+block_fine A d t s s2 at ps first count labels new_labels before after xs f h p = (
+  p.1,
+  p.4,
+  then_fine (pieces A None (inside (with_texts t s)) ps) (all_done_of (with_texts t p.2) p.0 p.1 xs.items) (typed.block_of (with_texts t s)) p.5
+      ∙ ap (λ k. fine (record { labels = []; statement = k; scope = with_texts t (outside s p.2); initial = map initial_of p.1 }))
+      (ap (λ k. program.block k (length p.2.objects - length s.objects) (statements_of (map statement_of xs.items))) (sym f)
+      ∙ ap (λ k. program.block first k (statements_of (map statement_of xs.items))) (sym (block_count s p.2 s2 first (length s2.objects) count f p.6 refl h)) ∙ sym (sees_block first count xs))
+      ∙ ap (λ k. fine (record { labels = []; statement = statement_of (S.Block first count xs); scope = with_texts t k; initial = map initial_of p.1 })) (sym p.6),
+)
 
 pub block_tells : (A : typed.Around) (d : Option IntType) (t : List (List ℕ)) (s : Scope) (at : Pos) (ps : Pieces) (r : Refusal) → Tells r (pieces A None (with_texts t (inside s)) ps) → Tells r (statement A d (with_texts t s) (block_stmt at ps))
 block_tells A d t s at ps r h = tells_then r (pieces A None (inside (with_texts t s)) ps) (typed.block_of (with_texts t s)) h
@@ -73,19 +75,21 @@ pub switch_fine : (A B : typed.Around) (t : List (List ℕ)) (s s2 : Scope) (w :
     Unlabelled (switch_on A (worth_of w) (with_texts t s) ps) before after (with_texts t s2) (S.Switch ty w.value first count xs)
 switch_fine A B t s s2 w ty ps first count empty labels read before after xs o l y z f h p n =
     let all = all_done_of (with_texts t p.2) p.0 p.1 xs.items in
-    let same : read ≡ p.0 = o ∙ p.3 ∙ ap (λ k. k ++ p.0) z in
-    (p.1, p.4,
-    ap (λ k. then_check (pieces k (Some (promoted w.ty)) (inside (with_texts t s)) ps) (typed.switch_of (with_texts t s) (promoted w.ty) (worth_of w))) (sym l)
-    ∙ ap (λ k. then_check (pieces B (Some k) (inside (with_texts t s)) ps) (typed.switch_of (with_texts t s) k (worth_of w))) (sym y)
-    ∙ then_fine (pieces B (Some ty) (inside (with_texts t s)) ps) all (typed.switch_of (with_texts t s) ty (worth_of w)) p.5
-    ∙ provided_fine (typed.no_label_twice [] (map label_of p.0))
-    (typed.done_with (outside (with_texts t s) (with_texts t p.2)) (map initial_of p.1) (program.switch ty (value_of w.value) (length s.objects) (length p.2.objects - length s.objects) (statements_of (map statement_of xs.items))))
-    (record { labels = []; statement = program.switch ty (value_of w.value) (length s.objects) (length p.2.objects - length s.objects) (statements_of (map statement_of xs.items)); scope = with_texts t (outside s p.2); initial = map initial_of p.1 })
-    (ap (λ k. typed.no_label_twice [] (map label_of k)) (sym same) ∙ n) refl
-    ∙ ap (λ k. fine (record { labels = []; statement = k; scope = with_texts t (outside s p.2); initial = map initial_of p.1 }))
-    (ap (λ k. program.switch ty (value_of w.value) k (length p.2.objects - length s.objects) (statements_of (map statement_of xs.items))) (sym f)
-    ∙ ap (λ k. program.switch ty (value_of w.value) first k (statements_of (map statement_of xs.items))) (sym (block_count s p.2 s2 first (length s2.objects) count f p.6 refl h)) ∙ sym (sees_switch ty w.value first count xs))
-    ∙ ap (λ k. fine (record { labels = []; statement = statement_of (S.Switch ty w.value first count xs); scope = with_texts t k; initial = map initial_of p.1 })) (sym p.6))
+    let same : read ≡ p.0 = o ∙ p.3 ∙ ap (λ k. k ++ p.0) z in (
+      p.1,
+      p.4,
+      ap (λ k. then_check (pieces k (Some (promoted w.ty)) (inside (with_texts t s)) ps) (typed.switch_of (with_texts t s) (promoted w.ty) (worth_of w))) (sym l)
+          ∙ ap (λ k. then_check (pieces B (Some k) (inside (with_texts t s)) ps) (typed.switch_of (with_texts t s) k (worth_of w))) (sym y)
+          ∙ then_fine (pieces B (Some ty) (inside (with_texts t s)) ps) all (typed.switch_of (with_texts t s) ty (worth_of w)) p.5
+          ∙ provided_fine (typed.no_label_twice [] (map label_of p.0))
+          (typed.done_with (outside (with_texts t s) (with_texts t p.2)) (map initial_of p.1) (program.switch ty (value_of w.value) (length s.objects) (length p.2.objects - length s.objects) (statements_of (map statement_of xs.items))))
+          (record { labels = []; statement = program.switch ty (value_of w.value) (length s.objects) (length p.2.objects - length s.objects) (statements_of (map statement_of xs.items)); scope = with_texts t (outside s p.2); initial = map initial_of p.1 })
+          (ap (λ k. typed.no_label_twice [] (map label_of k)) (sym same) ∙ n) refl
+          ∙ ap (λ k. fine (record { labels = []; statement = k; scope = with_texts t (outside s p.2); initial = map initial_of p.1 }))
+          (ap (λ k. program.switch ty (value_of w.value) k (length p.2.objects - length s.objects) (statements_of (map statement_of xs.items))) (sym f)
+          ∙ ap (λ k. program.switch ty (value_of w.value) first k (statements_of (map statement_of xs.items))) (sym (block_count s p.2 s2 first (length s2.objects) count f p.6 refl h)) ∙ sym (sees_switch ty w.value first count xs))
+          ∙ ap (λ k. fine (record { labels = []; statement = statement_of (S.Switch ty w.value first count xs); scope = with_texts t k; initial = map initial_of p.1 })) (sym p.6),
+    )
 
 pub switch_pieces : (A B : typed.Around) (t : List (List ℕ)) (s : Scope) (w : Worth) (ty : IntType) (ps : Pieces) (r : Refusal) → B ≡ typed.in_a_switch A → ty ≡ promoted w.ty →
     Tells r (pieces B (Some ty) (with_texts t (inside s)) ps) → Tells r (switch_on A (worth_of w) (with_texts t s) ps)
@@ -150,10 +154,12 @@ switch_not A d s at e (return_stmt p a) h = refl
 pub switch_ok : (x : Result Statement Refusal) (A : typed.Around) (d : Option IntType) (t : List (List ℕ)) (s s1 s2 : Scope) (at : Pos) (e : Tree) (b : StmtTree) (ps : Pieces) (w : Worth) (before after : List Initial) → block_items b ≡ Some ps →
     valued code.VoidControl at (typing (with_texts t s) e) ≡ fine (worth_of w) → s1 ≡ past s e →
     IfOk x (λ k. Unlabelled (switch_on A (worth_of w) (with_texts t s1) ps) before after (with_texts t s2) k) → IfOk x (λ k. Unlabelled (statement A d (with_texts t s) (switch_stmt at e b)) before after (with_texts t s2) k)
-switch_ok (Ok x) A d t s s1 s2 at e b ps w before after i v f p =
-    (p.0, p.1,
-    switch_is A d (with_texts t s) at e b ps i ∙ then_fine (valued code.VoidControl at (typing (with_texts t s) e)) (worth_of w) (λ k. switch_on A k (past (with_texts t s) e) ps) v
-    ∙ ap (λ k. switch_on A (worth_of w) (with_texts t k) ps) (sym f) ∙ p.2)
+switch_ok (Ok x) A d t s s1 s2 at e b ps w before after i v f p = (
+  p.0,
+  p.1,
+  switch_is A d (with_texts t s) at e b ps i ∙ then_fine (valued code.VoidControl at (typing (with_texts t s) e)) (worth_of w) (λ k. switch_on A k (past (with_texts t s) e) ps) v
+      ∙ ap (λ k. switch_on A (worth_of w) (with_texts t k) ps) (sym f) ∙ p.2,
+)
 switch_ok (Err x) A d t s s1 s2 at e b ps w before after i v f p = tt
 
 pub switch_err : (x : Result Statement Refusal) (A : typed.Around) (d : Option IntType) (t : List (List ℕ)) (s s1 : Scope) (at : Pos) (e : Tree) (b : StmtTree) (ps : Pieces) (w : Worth) → block_items b ≡ Some ps →
@@ -185,11 +191,15 @@ pub case_ok : (x : Result Statement Refusal) (A : typed.Around) (d : Option IntT
     IfOk x (λ k. Labelled (statement A (Some ty) (with_texts t s1) a) mid new before after (with_texts t s2) k) → IfOk x (λ k. Labelled (statement A d (with_texts t s) (case_stmt at e a)) labels new before after (with_texts t s2) k)
 case_ok (Err x) A d ty t s s1 s2 at e a v labels mid new before after i f g m p = tt
 case_ok (Ok x) A d ty t s s1 s2 at e a v labels mid new before after i f g m p =
-    let l : Label = record { pos = at; value = Some v } in
-    (l ∷ p.0, p.1, p.2 ∙ ap (λ k. k ++ p.0) m ∙ append_assoc labels (l ∷ []) p.0, p.3,
-    ap (λ k. statement A k (with_texts t s) (case_stmt at e a)) i
-    ∙ both_fine (typed.case_value (with_texts t s) ty e) (statement A (Some ty) (past (with_texts t s) e) a) v (done_of (with_texts t s2) p.0 p.1 x) (typed.case_label at) f
-    (ap (λ k. statement A (Some ty) (with_texts t k) a) (sym g) ∙ p.4))
+    let l : Label = record { pos = at; value = Some v } in (
+      l ∷ p.0,
+      p.1,
+      p.2 ∙ ap (λ k. k ++ p.0) m ∙ append_assoc labels (l ∷ []) p.0,
+      p.3,
+      ap (λ k. statement A k (with_texts t s) (case_stmt at e a)) i
+          ∙ both_fine (typed.case_value (with_texts t s) ty e) (statement A (Some ty) (past (with_texts t s) e) a) v (done_of (with_texts t s2) p.0 p.1 x) (typed.case_label at) f
+          (ap (λ k. statement A (Some ty) (with_texts t k) a) (sym g) ∙ p.4),
+    )
 
 pub case_err : (x : Result Statement Refusal) (A : typed.Around) (d : Option IntType) (ty : IntType) (t : List (List ℕ)) (s s1 : Scope) (at : Pos) (e : Tree) (a : StmtTree) → d ≡ Some ty → s1 ≡ past s e →
     IfErr x (λ r. Tells r (statement A (Some ty) (with_texts t s1) a)) → IfErr x (λ r. Tells r (statement A d (with_texts t s) (case_stmt at e a)))
@@ -211,10 +221,14 @@ pub default_ok : (x : Result Statement Refusal) (A : typed.Around) (d : Option I
     IfOk x (λ k. Labelled (statement A (Some ty) (with_texts t s) a) mid new before after (with_texts t s2) k) → IfOk x (λ k. Labelled (statement A d (with_texts t s) (default_stmt at a)) labels new before after (with_texts t s2) k)
 default_ok (Err x) A d t s s2 at a ty labels mid new before after i m p = tt
 default_ok (Ok x) A d t s s2 at a ty labels mid new before after i m p =
-    let l : Label = record { pos = at; value = None } in
-    (l ∷ p.0, p.1, p.2 ∙ ap (λ k. k ++ p.0) m ∙ append_assoc labels (l ∷ []) p.0, p.3,
-    ap (λ k. statement A k (with_texts t s) (default_stmt at a)) i
-    ∙ then_fine (statement A (Some ty) (with_texts t s) a) (done_of (with_texts t s2) p.0 p.1 x) (typed.with_label (record { at = at; value = None })) p.4)
+    let l : Label = record { pos = at; value = None } in (
+      l ∷ p.0,
+      p.1,
+      p.2 ∙ ap (λ k. k ++ p.0) m ∙ append_assoc labels (l ∷ []) p.0,
+      p.3,
+      ap (λ k. statement A k (with_texts t s) (default_stmt at a)) i
+          ∙ then_fine (statement A (Some ty) (with_texts t s) a) (done_of (with_texts t s2) p.0 p.1 x) (typed.with_label (record { at = at; value = None })) p.4,
+    )
 
 pub default_err : (x : Result Statement Refusal) (A : typed.Around) (d : Option IntType) (s : Scope) (at : Pos) (a : StmtTree) (ty : IntType) → d ≡ Some ty →
     IfErr x (λ r. Tells r (statement A (Some ty) s a)) → IfErr x (λ r. Tells r (statement A d s (default_stmt at a)))
@@ -241,10 +255,17 @@ pub item_fine : (A : typed.Around) (d : Option IntType) (s s1 : Scope) (x : Stmt
     Labelled (statement A d s x) empty own before after s1 y → new_labels ≡ labels ++ read → new_all ≡ all ++ (map label_statement read ++ y ∷ []) →
     Puts (λ ps. pieces A d s (and_piece (statement_item x) ps)) (λ ps. pieces A d s1 ps) labels new_labels before after all new_all
 item_fine A d s s1 x empty own read labels new_labels before after all new_all y z o p f g =
-    let same : read ≡ p.0 = o ∙ p.2 ∙ ap (λ k. k ++ p.0) z in
-    (p.0, p.1, map label_statement p.0 ++ y ∷ [], f ∙ ap (λ k. labels ++ k) same, p.3, g ∙ ap (λ k. all ++ (map label_statement k ++ y ∷ [])) same, λ ps.
-    then_fine (statement A d s x) (done_of s1 p.0 p.1 y) (λ z. then_check (pieces A d z.scope ps) (typed.and_statements z)) p.4
-    ∙ then_same (pieces A d s1 ps) (pieces A d s1 ps) (typed.and_statements (done_of s1 p.0 p.1 y)) (put_before p.0 p.1 (map label_statement p.0 ++ y ∷ [])) refl (statements_put s1 p.0 p.1 y))
+    let same : read ≡ p.0 = o ∙ p.2 ∙ ap (λ k. k ++ p.0) z in (
+      p.0,
+      p.1,
+      map label_statement p.0 ++ y ∷ [],
+      f ∙ ap (λ k. labels ++ k) same,
+      p.3,
+      g ∙ ap (λ k. all ++ (map label_statement k ++ y ∷ [])) same,
+      λ ps.
+          then_fine (statement A d s x) (done_of s1 p.0 p.1 y) (λ z. then_check (pieces A d z.scope ps) (typed.and_statements z)) p.4
+          ∙ then_same (pieces A d s1 ps) (pieces A d s1 ps) (typed.and_statements (done_of s1 p.0 p.1 y)) (put_before p.0 p.1 (map label_statement p.0 ++ y ∷ [])) refl (statements_put s1 p.0 p.1 y),
+    )
 
 pub item_tells : (A : typed.Around) (d : Option IntType) (s : Scope) (x : StmtTree) (r : Refusal) → Tells r (statement A d s x) → (ps : Pieces) → Tells r (pieces A d s (and_piece (statement_item x) ps))
 item_tells A d s x r h ps = tells_then r (statement A d s x) (λ z. then_check (pieces A d z.scope ps) (typed.and_statements z)) h
@@ -331,9 +352,15 @@ stops A d t s0 s items i x labels new_labels before after all new_all r h e p q 
 pub ended : (A : typed.Around) (d : Option IntType) (t : List (List ℕ)) (s0 s : Scope) (items : List BlockItem) (i : ℕ) (labels new_labels : List Label) (before after : List Initial) (all new_all : List Statement) → length items ≤ i →
     Reading A d t s0 s (pieces_of (map piece_of items)) (pieces_of (map piece_of (drop i items))) labels new_labels before after all new_all →
     (ms : List Label) × (js : List Initial) × (xs : List Statement) × (new_labels ≡ labels ++ ms) × (after ≡ before ++ js) × (new_all ≡ all ++ xs) × (pieces A d (with_texts t s0) (pieces_of (map piece_of items)) ≡ fine (all_done_of (with_texts t s) ms js xs))
-ended A d t s0 s items i labels new_labels before after all new_all h q =
-    (q.ms, q.js, q.xs, q.labels_are, q.initial_are, q.all_are,
-    q.so ∙ ap (λ k. then_check (pieces A d (with_texts t s) (pieces_of (map piece_of k))) (put_before q.ms q.js q.xs)) (drop_all i items h)
-    ∙ ap (λ k. fine (record { labels = k; statements = typed.followed_by (map statement_of q.xs) program.no_statements; scope = with_texts t s; initial = map initial_of q.js ++ [] })) (append-nil (map label_of q.ms))
-    ∙ ap (λ k. fine (record { labels = map label_of q.ms; statements = k; scope = with_texts t s; initial = map initial_of q.js ++ [] })) (followed (map statement_of q.xs))
-    ∙ ap (λ k. fine (record { labels = map label_of q.ms; statements = statements_of (map statement_of q.xs); scope = with_texts t s; initial = k })) (append-nil (map initial_of q.js)))
+ended A d t s0 s items i labels new_labels before after all new_all h q = (
+  q.ms,
+  q.js,
+  q.xs,
+  q.labels_are,
+  q.initial_are,
+  q.all_are,
+  q.so ∙ ap (λ k. then_check (pieces A d (with_texts t s) (pieces_of (map piece_of k))) (put_before q.ms q.js q.xs)) (drop_all i items h)
+      ∙ ap (λ k. fine (record { labels = k; statements = typed.followed_by (map statement_of q.xs) program.no_statements; scope = with_texts t s; initial = map initial_of q.js ++ [] })) (append-nil (map label_of q.ms))
+      ∙ ap (λ k. fine (record { labels = map label_of q.ms; statements = k; scope = with_texts t s; initial = map initial_of q.js ++ [] })) (followed (map statement_of q.xs))
+      ∙ ap (λ k. fine (record { labels = map label_of q.ms; statements = statements_of (map statement_of q.xs); scope = with_texts t s; initial = k })) (append-nil (map initial_of q.js)),
+)

@@ -79,15 +79,17 @@ for_fine A B d t s s1 s2 s3 s4 s5 s6 at start test step a empty all before mid a
     let js = p.1 in
     let ks = q.1 in
     let shown : program.for (typed.followed_by (map statement_of xs) program.no_statements) (option_value v) (option_value c.test) (option_value c.step) (statement_of b.value) ≡ statement_of (S.For all v c.test c.step b) =
-        ap (λ k. program.for k (option_value v) (option_value c.test) (option_value c.step) (statement_of b.value)) (followed (map statement_of xs) ∙ ap (λ k. statements_of (map statement_of k)) (sym (p.2 ∙ ap (λ k. k ++ xs) z))) ∙ sym (sees_for all v c.test c.step b) in
-    (js ++ ks, q.2 ∙ ap (λ k. k ++ ks) p.3 ∙ append_assoc before js ks,
-    ap (λ k. then_check (typed.started (with_texts t k) start) (rest A (with_texts t s) at test step a)) (sym i)
-    ∙ then_fine (typed.started (with_texts t s1) start) (start_of (with_texts t s2) xs js v) (rest A (with_texts t s) at test step a) p.4
-    ∙ both_fine (controls (with_texts t s2) at test step) (statement (typed.in_a_loop A) None (inside (typed.past_option (typed.past_option (with_texts t s2) test) step)) a) (control_of c) (done_of (with_texts t s5) q.0 ks b.value)
-    (typed.loop_of (with_texts t s) (start_of (with_texts t s2) xs js v)) h (body_is A B t s2 s3 s4 test step a l f g ∙ q.3)
-    ∙ ap (λ k. fine (record { labels = []; statement = k; scope = with_texts t (outside s s5); initial = map initial_of js ++ map initial_of ks })) shown
-    ∙ ap (λ k. fine (record { labels = []; statement = statement_of (S.For all v c.test c.step b); scope = with_texts t k; initial = map initial_of js ++ map initial_of ks })) (sym o)
-    ∙ ap (λ k. fine (record { labels = []; statement = statement_of (S.For all v c.test c.step b); scope = with_texts t s6; initial = k })) (sym (map-append initial_of js ks)))
+    ap (λ k. program.for k (option_value v) (option_value c.test) (option_value c.step) (statement_of b.value)) (followed (map statement_of xs) ∙ ap (λ k. statements_of (map statement_of k)) (sym (p.2 ∙ ap (λ k. k ++ xs) z))) ∙ sym (sees_for all v c.test c.step b) in (
+      js ++ ks,
+      q.2 ∙ ap (λ k. k ++ ks) p.3 ∙ append_assoc before js ks,
+      ap (λ k. then_check (typed.started (with_texts t k) start) (rest A (with_texts t s) at test step a)) (sym i)
+          ∙ then_fine (typed.started (with_texts t s1) start) (start_of (with_texts t s2) xs js v) (rest A (with_texts t s) at test step a) p.4
+          ∙ both_fine (controls (with_texts t s2) at test step) (statement (typed.in_a_loop A) None (inside (typed.past_option (typed.past_option (with_texts t s2) test) step)) a) (control_of c) (done_of (with_texts t s5) q.0 ks b.value)
+          (typed.loop_of (with_texts t s) (start_of (with_texts t s2) xs js v)) h (body_is A B t s2 s3 s4 test step a l f g ∙ q.3)
+          ∙ ap (λ k. fine (record { labels = []; statement = k; scope = with_texts t (outside s s5); initial = map initial_of js ++ map initial_of ks })) shown
+          ∙ ap (λ k. fine (record { labels = []; statement = statement_of (S.For all v c.test c.step b); scope = with_texts t k; initial = map initial_of js ++ map initial_of ks })) (sym o)
+          ∙ ap (λ k. fine (record { labels = []; statement = statement_of (S.For all v c.test c.step b); scope = with_texts t s6; initial = k })) (sym (map-append initial_of js ks)),
+    )
 
 pub for_left : (A : typed.Around) (d : Option IntType) (t : List (List ℕ)) (s s1 : Scope) (at : Pos) (start : StartTree) (test step : Option Tree) (a : StmtTree) (r : Refusal) → s1 ≡ inside s →
     Tells r (typed.started (with_texts t s1) start) → Tells r (statement A d (with_texts t s) (for_stmt at start test step a))

@@ -43,10 +43,15 @@ from_inside s s1 b e g = onwards s s1 b (subst (Grows s) (sym e) (same_names s (
 pub scoped_fine : (A : typed.Around) (d : Option IntType) (t : List (List ℕ)) (s s1 s2 s3 : Scope) (ps : Pieces) (b : Block) (labels new_labels : List Label) (before after : List Initial) (empty all : List Statement) → b ≡ block_of s → s1 ≡ inside s → empty ≡ [] →
     ((ms : List Label) × (js : List Initial) × (xs : List Statement) × (new_labels ≡ labels ++ ms) × (after ≡ before ++ js) × (all ≡ empty ++ xs) × (pieces A d (with_texts t s1) ps ≡ fine (all_done_of (with_texts t s2) ms js xs))) →
     Leaves b s2 s3 → Scoped (pieces A d (with_texts t (inside s)) ps) labels new_labels before after t s s3 all
-scoped_fine A d t s s1 s2 s3 ps b labels new_labels before after empty all e i z p h =
-    (p.0, p.1, s2, p.3, p.4,
-    ap (λ k. pieces A d (with_texts t k) ps) (sym i) ∙ p.6 ∙ ap (λ k. fine (all_done_of (with_texts t s2) p.0 p.1 k)) (sym (p.5 ∙ ap (λ k. k ++ p.2) z)),
-    leaves b s s2 s3 h e (from_inside s s1 s2 i (without_texts t s1 s2 (pieces_grow A d (with_texts t s1) ps (all_done_of (with_texts t s2) p.0 p.1 p.2) p.6))))
+scoped_fine A d t s s1 s2 s3 ps b labels new_labels before after empty all e i z p h = (
+  p.0,
+  p.1,
+  s2,
+  p.3,
+  p.4,
+  ap (λ k. pieces A d (with_texts t k) ps) (sym i) ∙ p.6 ∙ ap (λ k. fine (all_done_of (with_texts t s2) p.0 p.1 k)) (sym (p.5 ∙ ap (λ k. k ++ p.2) z)),
+  leaves b s s2 s3 h e (from_inside s s1 s2 i (without_texts t s1 s2 (pieces_grow A d (with_texts t s1) ps (all_done_of (with_texts t s2) p.0 p.1 p.2) p.6))),
+)
 
 pub scoped_tells : (A : typed.Around) (d : Option IntType) (t : List (List ℕ)) (s s1 : Scope) (ps : Pieces) (r : Refusal) → s1 ≡ inside s → Tells r (pieces A d (with_texts t s1) ps) → Tells r (pieces A d (with_texts t (inside s)) ps)
 scoped_tells A d t s s1 ps r i h = subst (λ k. Tells r (pieces A d (with_texts t k) ps)) i h

@@ -57,11 +57,13 @@ joined before mid after js ks e f = f ∙ ap (λ l. l ++ ks) e ∙ append_assoc 
 pub if_fine : (A : typed.Around) (d : Option IntType) (t : List (List ℕ)) (s s1 s2 : Scope) (at : Pos) (e : Tree) (a : StmtTree) (w : Worth) (before after : List Initial) (b : Box Statement Global) →
     valued code.VoidControl at (typing (with_texts t s) e) ≡ fine (worth_of w) → s1 ≡ past s e → Inner (statement A None (with_texts t s1) a) before after (with_texts t s2) b.value →
     Unlabelled (statement A d (with_texts t s) (if_stmt at e a)) before after (with_texts t s2) (S.If w.value b)
-if_fine A d t s s1 s2 at e a w before after b v h p =
-    (p.1, p.2,
-    both_fine (valued code.VoidControl at (typing (with_texts t s) e)) (statement A None (past (with_texts t s) e) a) (worth_of w) (done_of (with_texts t s2) p.0 p.1 b.value)
-    (λ c x. typed.done_with x.scope x.initial (program.branch c.e x.statement)) v (ap (λ k. statement A None (with_texts t k) a) (sym h) ∙ p.3)
-    ∙ ap (λ k. fine (record { labels = []; statement = k; scope = with_texts t s2; initial = map initial_of p.1 })) (sym (sees_if w.value b)))
+if_fine A d t s s1 s2 at e a w before after b v h p = (
+  p.1,
+  p.2,
+  both_fine (valued code.VoidControl at (typing (with_texts t s) e)) (statement A None (past (with_texts t s) e) a) (worth_of w) (done_of (with_texts t s2) p.0 p.1 b.value)
+      (λ c x. typed.done_with x.scope x.initial (program.branch c.e x.statement)) v (ap (λ k. statement A None (with_texts t k) a) (sym h) ∙ p.3)
+      ∙ ap (λ k. fine (record { labels = []; statement = k; scope = with_texts t s2; initial = map initial_of p.1 })) (sym (sees_if w.value b)),
+)
 
 pub if_left : (A : typed.Around) (d : Option IntType) (t : List (List ℕ)) (s : Scope) (at : Pos) (e : Tree) (a : StmtTree) (r : Refusal) →
     Tells r (valued code.VoidControl at (typing (with_texts t s) e)) → Tells r (statement A d (with_texts t s) (if_stmt at e a))
@@ -81,14 +83,16 @@ pub if_else_fine : (A : typed.Around) (d : Option IntType) (t : List (List ℕ))
     valued code.VoidControl at (typing (with_texts t s) e) ≡ fine (worth_of w) → s1 ≡ past s e → Inner (statement A None (with_texts t s1) a) before mid (with_texts t s2) x.value →
     Inner (statement A None (with_texts t s2) b) mid after (with_texts t s3) y.value →
     Unlabelled (statement A d (with_texts t s) (if_else_stmt at e a b)) before after (with_texts t s3) (S.IfElse w.value x y)
-if_else_fine A d t s s1 s2 s3 at e a b w before mid after x y v h p q =
-    (p.1 ++ q.1, joined before mid after p.1 q.1 p.2 q.2,
-    both_fine (valued code.VoidControl at (typing (with_texts t s) e)) (statement A None (past (with_texts t s) e) a) (worth_of w) (done_of (with_texts t s2) p.0 p.1 x.value)
-    (else_of A b) v (ap (λ k. statement A None (with_texts t k) a) (sym h) ∙ p.3)
-    ∙ then_fine (statement A None (with_texts t s2) b) (done_of (with_texts t s3) q.0 q.1 y.value)
-    (λ z. typed.done_with z.scope (map initial_of p.1 ++ z.initial) (program.branches (value_of w.value) (statement_of x.value) z.statement)) q.3
-    ∙ ap (λ k. fine (record { labels = []; statement = program.branches (value_of w.value) (statement_of x.value) (statement_of y.value); scope = with_texts t s3; initial = k })) (sym (map-append initial_of p.1 q.1))
-    ∙ ap (λ k. fine (record { labels = []; statement = k; scope = with_texts t s3; initial = map initial_of (p.1 ++ q.1) })) (sym (sees_if_else w.value x y)))
+if_else_fine A d t s s1 s2 s3 at e a b w before mid after x y v h p q = (
+  p.1 ++ q.1,
+  joined before mid after p.1 q.1 p.2 q.2,
+  both_fine (valued code.VoidControl at (typing (with_texts t s) e)) (statement A None (past (with_texts t s) e) a) (worth_of w) (done_of (with_texts t s2) p.0 p.1 x.value)
+      (else_of A b) v (ap (λ k. statement A None (with_texts t k) a) (sym h) ∙ p.3)
+      ∙ then_fine (statement A None (with_texts t s2) b) (done_of (with_texts t s3) q.0 q.1 y.value)
+      (λ z. typed.done_with z.scope (map initial_of p.1 ++ z.initial) (program.branches (value_of w.value) (statement_of x.value) z.statement)) q.3
+      ∙ ap (λ k. fine (record { labels = []; statement = program.branches (value_of w.value) (statement_of x.value) (statement_of y.value); scope = with_texts t s3; initial = k })) (sym (map-append initial_of p.1 q.1))
+      ∙ ap (λ k. fine (record { labels = []; statement = k; scope = with_texts t s3; initial = map initial_of (p.1 ++ q.1) })) (sym (sees_if_else w.value x y)),
+)
 
 pub if_else_left : (A : typed.Around) (d : Option IntType) (t : List (List ℕ)) (s : Scope) (at : Pos) (e : Tree) (a b : StmtTree) (r : Refusal) →
     Tells r (valued code.VoidControl at (typing (with_texts t s) e)) → Tells r (statement A d (with_texts t s) (if_else_stmt at e a b))
@@ -114,11 +118,13 @@ if_else_second A d t s s1 s2 at e a b w before mid x r v h p q =
 pub while_fine : (A B : typed.Around) (d : Option IntType) (t : List (List ℕ)) (s s1 s2 : Scope) (at : Pos) (e : Tree) (a : StmtTree) (w : Worth) (before after : List Initial) (b : Box Statement Global) → B ≡ typed.in_a_loop A →
     valued code.VoidControl at (typing (with_texts t s) e) ≡ fine (worth_of w) → s1 ≡ past s e → Inner (statement B None (with_texts t s1) a) before after (with_texts t s2) b.value →
     Unlabelled (statement A d (with_texts t s) (while_stmt at e a)) before after (with_texts t s2) (S.While w.value b)
-while_fine A B d t s s1 s2 at e a w before after b l v h p =
-    (p.1, p.2,
-    both_fine (valued code.VoidControl at (typing (with_texts t s) e)) (statement (typed.in_a_loop A) None (past (with_texts t s) e) a) (worth_of w) (done_of (with_texts t s2) p.0 p.1 b.value)
-    (λ c x. typed.done_with x.scope x.initial (program.while c.e x.statement)) v (ap (λ k. statement (typed.in_a_loop A) None (with_texts t k) a) (sym h) ∙ ap (λ k. statement k None (with_texts t s1) a) (sym l) ∙ p.3)
-    ∙ ap (λ k. fine (record { labels = []; statement = k; scope = with_texts t s2; initial = map initial_of p.1 })) (sym (sees_while w.value b)))
+while_fine A B d t s s1 s2 at e a w before after b l v h p = (
+  p.1,
+  p.2,
+  both_fine (valued code.VoidControl at (typing (with_texts t s) e)) (statement (typed.in_a_loop A) None (past (with_texts t s) e) a) (worth_of w) (done_of (with_texts t s2) p.0 p.1 b.value)
+      (λ c x. typed.done_with x.scope x.initial (program.while c.e x.statement)) v (ap (λ k. statement (typed.in_a_loop A) None (with_texts t k) a) (sym h) ∙ ap (λ k. statement k None (with_texts t s1) a) (sym l) ∙ p.3)
+      ∙ ap (λ k. fine (record { labels = []; statement = k; scope = with_texts t s2; initial = map initial_of p.1 })) (sym (sees_while w.value b)),
+)
 
 pub while_left : (A : typed.Around) (d : Option IntType) (t : List (List ℕ)) (s : Scope) (at : Pos) (e : Tree) (a : StmtTree) (r : Refusal) →
     Tells r (valued code.VoidControl at (typing (with_texts t s) e)) → Tells r (statement A d (with_texts t s) (while_stmt at e a))
@@ -137,12 +143,14 @@ test_of at e x = then_check (valued code.VoidControl at (typing x.scope e)) (λ 
 pub do_fine : (A B : typed.Around) (d : Option IntType) (t : List (List ℕ)) (s s1 s2 : Scope) (at : Pos) (a : StmtTree) (e : Tree) (w : Worth) (before after : List Initial) (b : Box Statement Global) → B ≡ typed.in_a_loop A →
     Inner (statement B None (with_texts t s) a) before after (with_texts t s1) b.value → valued code.VoidControl at (typing (with_texts t s1) e) ≡ fine (worth_of w) → s2 ≡ past s1 e →
     Unlabelled (statement A d (with_texts t s) (do_while_stmt at a e)) before after (with_texts t s2) (S.DoWhile b w.value)
-do_fine A B d t s s1 s2 at a e w before after b l p v h =
-    (p.1, p.2,
-    then_fine (statement (typed.in_a_loop A) None (with_texts t s) a) (done_of (with_texts t s1) p.0 p.1 b.value) (test_of at e) (ap (λ k. statement k None (with_texts t s) a) (sym l) ∙ p.3)
-    ∙ then_fine (valued code.VoidControl at (typing (with_texts t s1) e)) (worth_of w) (λ c. typed.done_with (past (with_texts t s1) e) (map initial_of p.1) (program.do_while (statement_of b.value) c.e)) v
-    ∙ ap (λ k. fine (record { labels = []; statement = program.do_while (statement_of b.value) (value_of w.value); scope = with_texts t k; initial = map initial_of p.1 })) (sym h)
-    ∙ ap (λ k. fine (record { labels = []; statement = k; scope = with_texts t s2; initial = map initial_of p.1 })) (sym (sees_do_while b w.value)))
+do_fine A B d t s s1 s2 at a e w before after b l p v h = (
+  p.1,
+  p.2,
+  then_fine (statement (typed.in_a_loop A) None (with_texts t s) a) (done_of (with_texts t s1) p.0 p.1 b.value) (test_of at e) (ap (λ k. statement k None (with_texts t s) a) (sym l) ∙ p.3)
+      ∙ then_fine (valued code.VoidControl at (typing (with_texts t s1) e)) (worth_of w) (λ c. typed.done_with (past (with_texts t s1) e) (map initial_of p.1) (program.do_while (statement_of b.value) c.e)) v
+      ∙ ap (λ k. fine (record { labels = []; statement = program.do_while (statement_of b.value) (value_of w.value); scope = with_texts t k; initial = map initial_of p.1 })) (sym h)
+      ∙ ap (λ k. fine (record { labels = []; statement = k; scope = with_texts t s2; initial = map initial_of p.1 })) (sym (sees_do_while b w.value)),
+)
 
 pub do_left : (A B : typed.Around) (d : Option IntType) (t : List (List ℕ)) (s : Scope) (at : Pos) (a : StmtTree) (e : Tree) (r : Refusal) → B ≡ typed.in_a_loop A →
     Tells r (statement B None (with_texts t s) a) → Tells r (statement A d (with_texts t s) (do_while_stmt at a e))

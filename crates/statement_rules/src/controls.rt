@@ -80,12 +80,7 @@ pub(crate) fn worth_past(
 }
 
 /// An expression for its side effects (6.8.3p2).
-fn effect_of(
-    alloc: Global,
-    names: &Names,
-    scope: &Scope,
-    e: &Expr,
-) -> Result<Value, Refusal>
+fn effect_of(alloc: Global, names: &Names, scope: &Scope, e: &Expr) -> Result<Value, Refusal>
     ensures ok { IfOk result (λ v. then_check (expressions.typing (with_texts names.now scope.now) (tree_of e.now)) expressions.effect ≡ fine (value_of v)) }
     ensures err { IfErr result (λ r. Tells r (then_check (expressions.typing (with_texts names.now scope.now) (tree_of e.now)) expressions.effect)) }
 {

@@ -15,8 +15,8 @@ ghost use Rattle.statement_rules.specs.inside.Pieces.{label_statement};
 
 use crate::surroundings::Around;
 use const_expr::constant_value;
-use declarators::past;
 use ctypes::{IntType, convert};
+use declarators::past;
 use expression_rules::broken;
 use indexmap::IndexSet;
 use program::Statement;

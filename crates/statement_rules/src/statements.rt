@@ -20,8 +20,8 @@ ghost use Rattle.statement_rules.specs.declared.declared_effects.Initial.{Initia
 ghost use Rattle.statement_rules.specs.Views.{around_of, done_of, all_done_of, Unlabelled, Labelled};
 ghost use Rattle.statement_rules.specs.inside.Pieces.{switch_on, Inner, Puts, Scoped};
 
-use crate::controls::worth_past;
 use crate::block_parts::{boxed, declaration_item, objects_since};
+use crate::controls::worth_past;
 use crate::declared_effects::Initial;
 use crate::labels::{Label, case_past, misplaced, no_label_twice, push_labelled};
 use crate::loop_controls::{controlled, started};
@@ -225,7 +225,9 @@ fn scoped_items(
         return Err(Refusal::Memory);
     };
     let mut all = Vec::new(alloc);
-    match pieces(alloc, names, around, direct, items, scope, labels, initial, &mut all) {
+    match pieces(
+        alloc, names, around, direct, items, scope, labels, initial, &mut all,
+    ) {
         Ok(()) => {}
         Err(refusal) => return Err(refusal),
     }
@@ -248,7 +250,16 @@ fn block_typed(
 {
     let first = scope.object_count();
     let mut labels = Vec::new(alloc);
-    match scoped_items(alloc, names, around, None, items, scope, &mut labels, initial) {
+    match scoped_items(
+        alloc,
+        names,
+        around,
+        None,
+        items,
+        scope,
+        &mut labels,
+        initial,
+    ) {
         Ok(all) => {
             let count = objects_since(scope, first);
             Ok(Statement::Block(first, count, all))
@@ -423,15 +434,23 @@ fn statement(
         }
         Stmt::Switch(pos, e, a) => switch_typed(alloc, names, around, a, scope, initial, *pos, e),
         Stmt::Case(pos, e, a) => {
-            case_typed(alloc, names, around, direct, a, scope, labels, initial, *pos, e)
+            case_typed(
+                alloc, names, around, direct, a, scope, labels, initial, *pos, e,
+            )
         }
         Stmt::Default(pos, a) => {
-            default_typed(alloc, names, around, direct, a, scope, labels, initial, *pos)
+            default_typed(
+                alloc, names, around, direct, a, scope, labels, initial, *pos,
+            )
         }
         Stmt::While(pos, e, a) => while_typed(alloc, names, around, a, scope, initial, *pos, e),
-        Stmt::DoWhile(pos, a, e) => do_while_typed(alloc, names, around, a, scope, initial, *pos, e),
+        Stmt::DoWhile(pos, a, e) => do_while_typed(
+            alloc, names, around, a, scope, initial, *pos, e,
+        ),
         Stmt::For(pos, start, test, step, a) => {
-            for_typed(alloc, names, around, a, scope, initial, *pos, start, test, step)
+            for_typed(
+                alloc, names, around, a, scope, initial, *pos, start, test, step,
+            )
         }
         Stmt::Break(pos) => break_typed(around, *pos),
         Stmt::Continue(pos) => continue_typed(around, *pos),
@@ -517,7 +536,9 @@ pub fn pieces(
     ensures err { IfErr result (λ r. Tells r (typed.pieces (around_of around) direct (with_texts names.now scope.old) (pieces_of (map piece_of items.now)))) }
 {
     for item in items {
-        match piece(alloc, names, around, direct, item, scope, labels, initial, all) {
+        match piece(
+            alloc, names, around, direct, item, scope, labels, initial, all,
+        ) {
             Ok(()) => {}
             Err(refusal) => return Err(refusal),
         }

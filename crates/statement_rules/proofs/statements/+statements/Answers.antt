@@ -314,11 +314,11 @@ switch_typed-returns-in-Block-clause-err t c =
 
 pub switch_typed-returns-in-Empty-clause-err : goal.switch_typed-returns-in-Empty-clause-err
 switch_typed-returns-in-Empty-clause-err t c =
-    λ d. switch_no_block (around_of c.args.around) d (with_texts c.args.names.now c.args.scope.now) c.args.pos (tree_of c.args.e.now) (stmt_of c.args.body.now) c.broken-left_out.result (ap block_items (empty_tree c.args.body.now c.in-Empty.field-0  c.in-Empty.is )) (subst (λ r. IsOf r (breaks {A = Done} code.LeftOutLabel c.args.pos)) (sym c.broken-left_out.ensures) (refl, refl))
+    λ d. switch_no_block (around_of c.args.around) d (with_texts c.args.names.now c.args.scope.now) c.args.pos (tree_of c.args.e.now) (stmt_of c.args.body.now) c.broken-left_out.result (ap block_items (empty_tree c.args.body.now c.in-Empty.field-0 c.in-Empty.is)) (subst (λ r. IsOf r (breaks {A = Done} code.LeftOutLabel c.args.pos)) (sym c.broken-left_out.ensures) (refl, refl))
 
 pub switch_typed-returns-in-Expression-clause-err : goal.switch_typed-returns-in-Expression-clause-err
 switch_typed-returns-in-Expression-clause-err t c =
-    λ d. switch_no_block (around_of c.args.around) d (with_texts c.args.names.now c.args.scope.now) c.args.pos (tree_of c.args.e.now) (stmt_of c.args.body.now) c.broken-left_out.result (ap block_items (expression_tree c.args.body.now c.in-Expression.field-0 c.in-Expression.field-1  c.in-Expression.is )) (subst (λ r. IsOf r (breaks {A = Done} code.LeftOutLabel c.args.pos)) (sym c.broken-left_out.ensures) (refl, refl))
+    λ d. switch_no_block (around_of c.args.around) d (with_texts c.args.names.now c.args.scope.now) c.args.pos (tree_of c.args.e.now) (stmt_of c.args.body.now) c.broken-left_out.result (ap block_items (expression_tree c.args.body.now c.in-Expression.field-0 c.in-Expression.field-1 c.in-Expression.is)) (subst (λ r. IsOf r (breaks {A = Done} code.LeftOutLabel c.args.pos)) (sym c.broken-left_out.ensures) (refl, refl))
 
 pub switch_typed-returns-in-If-clause-err : goal.switch_typed-returns-in-If-clause-err
 switch_typed-returns-in-If-clause-err t c =
@@ -354,12 +354,12 @@ switch_typed-returns-in-For-clause-err t c =
 
 pub switch_typed-returns-in-Break-clause-err : goal.switch_typed-returns-in-Break-clause-err
 switch_typed-returns-in-Break-clause-err t c =
-    λ d. switch_no_block (around_of c.args.around) d (with_texts c.args.names.now c.args.scope.now) c.args.pos (tree_of c.args.e.now) (stmt_of c.args.body.now) c.broken-left_out.result (ap block_items (break_tree c.args.body.now c.in-Break.field-0  c.in-Break.is )) (subst (λ r. IsOf r (breaks {A = Done} code.LeftOutLabel c.args.pos)) (sym c.broken-left_out.ensures) (refl, refl))
+    λ d. switch_no_block (around_of c.args.around) d (with_texts c.args.names.now c.args.scope.now) c.args.pos (tree_of c.args.e.now) (stmt_of c.args.body.now) c.broken-left_out.result (ap block_items (break_tree c.args.body.now c.in-Break.field-0 c.in-Break.is)) (subst (λ r. IsOf r (breaks {A = Done} code.LeftOutLabel c.args.pos)) (sym c.broken-left_out.ensures) (refl, refl))
 
 pub switch_typed-returns-in-Continue-clause-err : goal.switch_typed-returns-in-Continue-clause-err
 switch_typed-returns-in-Continue-clause-err t c =
-    λ d. switch_no_block (around_of c.args.around) d (with_texts c.args.names.now c.args.scope.now) c.args.pos (tree_of c.args.e.now) (stmt_of c.args.body.now) c.broken-left_out.result (ap block_items (continue_tree c.args.body.now c.in-Continue.field-0  c.in-Continue.is )) (subst (λ r. IsOf r (breaks {A = Done} code.LeftOutLabel c.args.pos)) (sym c.broken-left_out.ensures) (refl, refl))
+    λ d. switch_no_block (around_of c.args.around) d (with_texts c.args.names.now c.args.scope.now) c.args.pos (tree_of c.args.e.now) (stmt_of c.args.body.now) c.broken-left_out.result (ap block_items (continue_tree c.args.body.now c.in-Continue.field-0 c.in-Continue.is)) (subst (λ r. IsOf r (breaks {A = Done} code.LeftOutLabel c.args.pos)) (sym c.broken-left_out.ensures) (refl, refl))
 
 pub switch_typed-returns-in-Return-clause-err : goal.switch_typed-returns-in-Return-clause-err
 switch_typed-returns-in-Return-clause-err t c =
-    λ d. switch_no_block (around_of c.args.around) d (with_texts c.args.names.now c.args.scope.now) c.args.pos (tree_of c.args.e.now) (stmt_of c.args.body.now) c.broken-left_out.result (ap block_items (return_tree c.args.body.now c.in-Return.field-0 c.in-Return.field-1  c.in-Return.is )) (subst (λ r. IsOf r (breaks {A = Done} code.LeftOutLabel c.args.pos)) (sym c.broken-left_out.ensures) (refl, refl))
+    λ d. switch_no_block (around_of c.args.around) d (with_texts c.args.names.now c.args.scope.now) c.args.pos (tree_of c.args.e.now) (stmt_of c.args.body.now) c.broken-left_out.result (ap block_items (return_tree c.args.body.now c.in-Return.field-0 c.in-Return.field-1 c.in-Return.is)) (subst (λ r. IsOf r (breaks {A = Done} code.LeftOutLabel c.args.pos)) (sym c.broken-left_out.ensures) (refl, refl))
