@@ -112,6 +112,13 @@ impl Scope {
         self.literals.len()
     }
 
+    /// The string literals so far, by the numbers of their texts.
+    pub fn literals(&self) -> &[usize]
+        ensures { result.now ≡ self.now.literals }
+    {
+        &self.literals
+    }
+
     /// How deep the present block is, 0 being the file.
     pub fn level(&self) -> usize
         ensures { result ≡ self.now.level }

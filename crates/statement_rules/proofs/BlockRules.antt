@@ -29,7 +29,7 @@ use Rattle.const_expr.proofs.Numbered.{then_same}
 use Rattle.declarators.proofs.Verdicts.{then_fine, then_tells, both_fine, both_tells, provided_fine, provided_left, next_of}
 use Rattle.scopes.specs.Scopes.{with_texts}
 use Rattle.statement_rules.specs.declared.labels.Label.{Label}
-use Rattle.statement_rules.specs.declared.declared_effects.Initial.{Initial}
+use Rattle.unit_rules.specs.declared.first_values.Initial.{Initial}
 use Rattle.statement_rules.specs.Views.{label_of, initial_of, done_of, all_done_of, declared_of, Unlabelled, Labelled}
 use Rattle.statement_rules.specs.inside.Pieces.{put_before, label_with, label_statement, block_items, switch_on, Scoped, Puts}
 use Rattle.statement_rules.proofs.ForRules.{followed}

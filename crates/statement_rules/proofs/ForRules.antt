@@ -24,7 +24,7 @@ use Rattle.expression_rules.specs.Refused.{Tells}
 use Rattle.expression_rules.proofs.Verdicts.{tells_left, tells_right, tells_then}
 use Rattle.declarators.proofs.Verdicts.{then_fine, then_tells, both_fine}
 use Rattle.scopes.specs.Scopes.{with_texts}
-use Rattle.statement_rules.specs.declared.declared_effects.Initial.{Initial}
+use Rattle.unit_rules.specs.declared.first_values.Initial.{Initial}
 use Rattle.statement_rules.specs.declared.loop_controls.Control.{Control}
 use Rattle.statement_rules.specs.Views.{initial_of, done_of, start_of, Unlabelled}
 use Rattle.statement_rules.specs.inside.Pieces.{Inner}

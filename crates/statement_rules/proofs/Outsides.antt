@@ -19,7 +19,7 @@ use Rattle.expression_rules.specs.Refused.{Tells}
 use Rattle.scopes.specs.declared.scopes.Block.{Block}
 use Rattle.scopes.specs.Scopes.{with_texts, block_of}
 use Rattle.statement_rules.specs.declared.labels.Label.{Label}
-use Rattle.statement_rules.specs.declared.declared_effects.Initial.{Initial}
+use Rattle.unit_rules.specs.declared.first_values.Initial.{Initial}
 use Rattle.statement_rules.specs.Views.{done_of, all_done_of, start_of, Labelled}
 use Rattle.statement_rules.specs.inside.Pieces.{put_before, Inner, Scoped, Puts}
 use Rattle.statement_rules.proofs.Growth.{Grows, stays, same_names, onwards}

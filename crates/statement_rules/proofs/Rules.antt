@@ -26,7 +26,7 @@ use Rattle.expression_rules.proofs.Verdicts.{tells_left, tells_right, tells_then
 use Rattle.declarators.proofs.Verdicts.{then_fine, then_tells, both_fine, both_tells, provided_fine, provided_left}
 use Rattle.scopes.specs.Scopes.{with_texts}
 use Rattle.statement_rules.specs.declared.labels.Label.{Label}
-use Rattle.statement_rules.specs.declared.declared_effects.Initial.{Initial}
+use Rattle.unit_rules.specs.declared.first_values.Initial.{Initial}
 use Rattle.statement_rules.specs.declared.surroundings.Around as held
 use Rattle.statement_rules.specs.declared.loop_controls.Control.{Control}
 use Rattle.statement_rules.specs.Views.{around_of, label_of, initial_of, done_of, all_done_of, start_of, Unlabelled, Labelled}

@@ -21,7 +21,7 @@ use Rattle.typed.specs.Scope.{Scope}
 use Rattle.typed.specs.Statements.{Around, Done, statement}
 use Rattle.expression_rules.specs.Refused.{Tells}
 use Rattle.statement_rules.specs.declared.labels.Label.{Label}
-use Rattle.statement_rules.specs.declared.declared_effects.Initial.{Initial}
+use Rattle.unit_rules.specs.declared.first_values.Initial.{Initial}
 use Rattle.statement_rules.specs.Views.{done_of, Unlabelled, Labelled}
 
 -- ---- results

@@ -5,10 +5,11 @@ use Rattle.program.specs.declared.expressions.Value.{Value}
 use Rattle.program.specs.View.{statement_of, statements_of, option_value}
 use Rattle.statement_rules.specs.declared.surroundings.Around.{Around}
 use Rattle.statement_rules.specs.declared.labels.Label.{Label}
-use Rattle.statement_rules.specs.declared.declared_effects.Initial.{Initial}
+use Rattle.unit_rules.specs.declared.first_values.Initial.{Initial}
+pub use Rattle.unit_rules.specs.Views.{initial_of}
+pub use Rattle.declaration_effects.specs.Views.{effects_of, declared_of}
 use Rattle.typed.specs.Verdict.{Verdict, fine}
 use Rattle.typed.specs.Scope.{Scope}
-use Rattle.typed.specs.Declarations as declarations
 use Rattle.typed.specs.Statements as typed
 
 abbrev pub around_of : Around → typed.Around
@@ -16,16 +17,6 @@ around_of a = record { result = a.result; in_loop = a.in_loop; in_switch = a.in_
 
 abbrev pub label_of : Label → typed.Label
 label_of l = record { at = l.pos; value = l.value }
-
-abbrev pub initial_of : Initial → declarations.Initial
-initial_of i = record { static = i.static_number; values = i.values.items }
-
--- what a declaration leaves: the scope behind it, its statements and the first values of its static objects
-abbrev pub effects_of : List Statement → List Initial → declarations.Effects
-effects_of xs js = record { statements = map statement_of xs; initial = map initial_of js }
-
-abbrev pub declared_of : Scope → List Statement → List Initial → declarations.Declared
-declared_of s xs js = record { scope = s; effects = effects_of xs js }
 
 -- a statement with the labels before it, the scope behind it and the first values of the static objects in it
 abbrev pub done_of : Scope → List Label → List Initial → Statement → typed.Done

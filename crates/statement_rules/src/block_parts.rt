@@ -11,15 +11,16 @@ ghost use Rattle.typed.specs.Verdict.{then_check};
 ghost use Rattle.typed.specs.Statements as typed;
 ghost use Rattle.expression_rules.specs.Refused.{Tells};
 ghost use Rattle.scopes.specs.Scopes.{with_texts};
-ghost use Rattle.statement_rules.specs.declared.declared_effects.Initial.{Initial};
+ghost use Rattle.unit_rules.specs.declared.first_values.Initial.{Initial};
 ghost use Rattle.statement_rules.specs.inside.Pieces.{put_before};
 
-use crate::declared_effects::{Initial, declaration_typed};
+use declaration_effects::declaration_typed;
 use program::Statement;
 use scopes::Scope;
 use srcset::{Names, Refusal};
 use std::alloc::Global;
 use tree::Declaration;
+use unit_rules::Initial;
 
 /// How many objects the present function has behind the first so many.
 pub(crate) fn objects_since(scope: &Scope, first: usize) -> usize

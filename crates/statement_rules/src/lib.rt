@@ -3,7 +3,6 @@
 
 mod block_parts;
 mod controls;
-mod declared_effects;
 mod labels;
 mod loop_controls;
 mod loop_declarations;
@@ -11,7 +10,6 @@ mod simple_statements;
 mod statements;
 mod surroundings;
 
-pub use declared_effects::Initial;
 pub use labels::Label;
 pub use statements::pieces;
 pub use surroundings::Around;

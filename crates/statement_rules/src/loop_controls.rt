@@ -9,18 +9,19 @@ ghost use Rattle.typed.specs.Verdict.{fine, both};
 ghost use Rattle.typed.specs.Statements as typed;
 ghost use Rattle.expression_rules.specs.Refused.{Tells};
 ghost use Rattle.scopes.specs.Scopes.{with_texts};
-ghost use Rattle.statement_rules.specs.declared.declared_effects.Initial.{Initial};
+ghost use Rattle.unit_rules.specs.declared.first_values.Initial.{Initial};
 ghost use Rattle.statement_rules.specs.Views.{start_of};
 ghost use Rattle.statement_rules.specs.inside.Controls.{control_of};
 
 use crate::controls::{effect_in, test_in};
-use crate::declared_effects::{Initial, declaration_typed};
+use declaration_effects::declaration_typed;
 use crate::loop_declarations::fit_for_loop;
 use program::{Statement, Value};
 use scopes::Scope;
 use srcset::{Names, Pos, Refusal};
 use std::alloc::Global;
 use tree::{Expr, ForStart};
+use unit_rules::Initial;
 
 /// The test and the step of a `for`.
 #[derive(Drop)]

@@ -16,13 +16,12 @@ ghost use Rattle.expression_rules.specs.Refused.{Tells};
 ghost use Rattle.expression_rules.specs.Forms.{worth_of};
 ghost use Rattle.scopes.specs.Scopes.{with_texts};
 ghost use Rattle.statement_rules.specs.declared.labels.Label.{Label};
-ghost use Rattle.statement_rules.specs.declared.declared_effects.Initial.{Initial};
+ghost use Rattle.unit_rules.specs.declared.first_values.Initial.{Initial};
 ghost use Rattle.statement_rules.specs.Views.{around_of, done_of, all_done_of, Unlabelled, Labelled};
 ghost use Rattle.statement_rules.specs.inside.Pieces.{switch_on, Inner, Puts, Scoped};
 
 use crate::block_parts::{boxed, declaration_item, objects_since};
 use crate::controls::worth_past;
-use crate::declared_effects::Initial;
 use crate::labels::{Label, case_past, misplaced, no_label_twice, push_labelled};
 use crate::loop_controls::{controlled, started};
 use crate::simple_statements::{break_typed, continue_typed, expression_typed, return_typed};
@@ -34,6 +33,7 @@ use scopes::Scope;
 use srcset::{Code, Names, Pos, Refusal};
 use std::alloc::Global;
 use tree::{BlockItem, Expr, ForStart, Stmt};
+use unit_rules::Initial;
 
 /// A statement that stands not in the block of a switch itself.
 #[cycle(statements)]

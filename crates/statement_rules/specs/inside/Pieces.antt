@@ -11,7 +11,7 @@ use Rattle.typed.specs.Expressions.{Worth}
 use Rattle.typed.specs.Statements as typed
 use Rattle.scopes.specs.Scopes.{with_texts}
 use Rattle.statement_rules.specs.declared.labels.Label.{Label}
-use Rattle.statement_rules.specs.declared.declared_effects.Initial.{Initial}
+use Rattle.unit_rules.specs.declared.first_values.Initial.{Initial}
 use Rattle.statement_rules.specs.Views.{label_of, initial_of, done_of, all_done_of}
 
 -- what was found in some items, before what the items behind them have

@@ -1,0 +1,3 @@
+mod Objects
+mod Finished
+mod Items

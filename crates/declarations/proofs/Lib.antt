@@ -1,0 +1,3 @@
+mod Initialisers
+mod Items
+mod Objects

@@ -1,0 +1,7 @@
+use Rattle.std.proofs.Common.{◌≡◌, drop}
+use Rattle.typed.specs.Scope.{with_literals}
+use Rattle.declarations.proofs.Initialisers.{left_of}
+use Rattle.declarations.proofs.initialiser_literals.+initialiser_literals.Given as goal
+
+abbrev pub invariant-all_past-loop-part : goal.invariant-all_past-loop-part
+invariant-all_past-loop-part l = with_literals l.scope (left_of (drop l.part-index l.parts)) ≡ with_literals l.initial.scope (left_of l.parts)

@@ -1,0 +1,16 @@
+//! Declarations: the scope behind them (ISO/IEC 9899:2011 6.7, 6.9.2).
+#![tactic(auto)]
+
+mod begun_objects;
+mod copies;
+mod declaration_scopes;
+mod declared_items;
+mod finished_objects;
+mod initialiser_literals;
+mod initialised_sizes;
+
+pub use begun_objects::{BegunObject, begun};
+pub use declaration_scopes::{asserted, declare};
+pub use declared_items::function_at;
+pub use finished_objects::finished;
+pub use initialiser_literals::past_init;

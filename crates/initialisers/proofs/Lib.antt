@@ -1,0 +1,7 @@
+mod Shapes
+mod Strings
+mod ConstantParts
+mod Numbered
+mod Readings
+mod Rules
+mod Layouts

@@ -1,0 +1,3 @@
+mod Enumerators
+mod Lists
+pub mod Walks
