@@ -14,8 +14,8 @@ ghost use Rattle.statement_rules.specs.Views.{start_of};
 ghost use Rattle.statement_rules.specs.inside.Controls.{control_of};
 
 use crate::controls::{effect_in, test_in};
-use declaration_effects::declaration_typed;
 use crate::loop_declarations::fit_for_loop;
+use declaration_effects::declaration_typed;
 use program::{Statement, Value};
 use scopes::Scope;
 use srcset::{Names, Pos, Refusal};
