@@ -41,7 +41,11 @@ fn after_line_feed(row: &[u8]) -> &[u8] {
 }
 
 /// Writes `ok`, or the code and the line of the source's fault.
-fn write_row(alloc: Global, output: &mut Vec<u8>, source: &[u8]) -> std::result::Result<(), AllocError> {
+fn write_row(
+    alloc: Global,
+    output: &mut Vec<u8>,
+    source: &[u8],
+) -> std::result::Result<(), AllocError> {
     match declare_all(alloc, source) {
         Ok(()) => output.extend_from_slice(b"ok\n"),
         Err(fault) => write_fault(output, &fault),
