@@ -51,7 +51,7 @@ fn with_items(
 /// Fails
 /// - with what the specifiers break, 511 to 514, 515, 524, 525 and what the value of an enumerator breaks;
 /// - with what a declarator breaks, 514 to 519, 521, 526, 553, 712 and what its sizes break;
-/// - with what an initialiser breaks, 501, 520 to 522 and what its expressions break;
+/// - with what an initialiser breaks, 501, 520, 521, 534, 622 and what its expressions break;
 /// - with what an assertion's condition breaks, or with 523;
 /// - with 801 where memory runs out.
 ///
