@@ -1,5 +1,5 @@
 -- The functions of a program, one after the other.
-use Rattle.std.proofs.Common.{◌≡◌, ◌≤◌, ℕ, zero, suc, ◌<◌, ◌+◌, ◌^◌, List, [], ◌∷◌, length, map, get_or, Some, refl, sym, ap, subst, arith, ◌∙◌, inl, inr, Bool, true, false}
+use Rattle.std.proofs.Common.{◌≡◌, ◌≤◌, ℕ, zero, suc, ◌<◌, ◌+◌, ◌^◌, List, [], ◌∷◌, length, map, get_or, Some, sym, ap, subst, arith, ◌∙◌, inl, inr, Bool, true, false}
 use Rattle.std.specs.Prelude.{slice_get}
 use Rattle.std.specs.Bool.{OnTrue}
 use Rattle.std.proofs.lemmas.Bool.{cases_lt}
@@ -21,19 +21,19 @@ one_more n hs k x before lt e fits = record { each = step }
   where
     step : (j : ℕ) (f : Function) → j < k + 1 → slice_get (map function_of hs) j ≡ Some f → FunctionFits n f
     step j f below got = elim (cases_lt j k) [
-        | inl lower ↦ before.each j f lower got
-        | inr upper ↦ (
+      | inl lower ↦ before.each j f lower got
+      | inr upper ↦ (
           let same : j ≡ k = omega (arith, below, upper) in
           let there : slice_get (map function_of hs) j ≡ Some (function_of x) = ap (slice_get (map function_of hs)) same ∙ got_in_map function_of hs k x lt e in
           subst (FunctionFits n) (same_Some (function_of x) f (sym there ∙ got)) fits)
-      ]
+    ]
 
 pub sound : (p : FlatProgram) (fs : List Held) → fs ≡ p.functions.items → p.main < length fs → length p.statics.items ≤ 0x10000000 → length fs + places_of (map function_of fs) < 2 ^ 32 → FunctionsFit (length fs) (map function_of fs) (length fs) → IsSoundProgram (program_of p)
 sound p fs e main statics countable fit =
     let count : length (map function_of fs) ≡ length fs = length-map fs function_of in
     let all : map function_of fs ≡ map function_of p.functions.items = ap (map function_of) e in
     let here : (k : ℕ) (f : Function) → slice_get (map function_of fs) k ≡ Some f → FunctionFits (length (map function_of fs)) f =
-      λ k f got. subst (λ n. FunctionFits n f) (sym count) (fit.each k f (omega (arith, count, inside (map function_of fs) k f got)) got) in
+    λ k f got. subst (λ n. FunctionFits n f) (sym count) (fit.each k f (omega (arith, count, inside (map function_of fs) k f got)) got) in
     record {
       has_main = subst (λ xs. p.main < length xs) all (subst (λ n. p.main < n) (sym count) main);
       each = subst (λ xs. (k : ℕ) (f : Function) → slice_get xs k ≡ Some f → FunctionFits (length xs) f) all here;

@@ -78,7 +78,10 @@ pub fn has_all(count: usize, function: &Function, instruction: Instruction) -> b
             && size < 0x1_0000_0000,
         Instruction::Jump(to) => to < function.code.len(),
         Instruction::Branch {
-            left, right, to, ..
+            left,
+            right,
+            to,
+            ..
         } => has_operand(function, left)
             && has_operand(function, right)
             && to < function.code.len(),

@@ -1,4 +1,3 @@
-use Rattle.std.proofs.Common.{◌≡◌}
 use Rattle.frames.specs.Code.{function_of}
 use Rattle.soundness.specs.inside.Parts.{CodeFits}
 use Rattle.soundness.proofs.functions.has_sound_code.Given as goal

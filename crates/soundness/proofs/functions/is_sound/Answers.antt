@@ -1,4 +1,4 @@
-use Rattle.std.proofs.Common.{arith, ◌≡◌, ◌≤◌, ◌<◌, length}
+use Rattle.std.proofs.Common.{arith}
 use Rattle.soundness.proofs.Lists.{sound, on_true}
 use Rattle.soundness.proofs.functions.is_sound.Goals as goal
 
