@@ -13,8 +13,7 @@ mod words;
 
 use anyhow::{Context, Result};
 use reader::{Reader, Row};
-use std::env;
-use std::fs;
+use std::{env, fs};
 use trying::{Taken, tried};
 
 /// The files that are tried where no words are given.
@@ -81,6 +80,8 @@ fn tell(rt: &HostRuntime, program: &str, done: &Taken) -> Result<()> {
     let instructions = done.instructions;
     let most = done.most;
     let bytes = done.text;
-    println!(rt; "{program}: {steps} steps, {instructions} instructions of at most {most}, {bytes} bytes")?;
+    println!(rt;
+        "{program}: {steps} steps, {instructions} instructions of at most {most}, {bytes} bytes"
+    )?;
     Ok(())
 }

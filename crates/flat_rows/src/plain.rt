@@ -436,12 +436,7 @@ impl State {
             List::Statics => put_element(self.statics.as_mut_slice(), index, width, word),
             List::Top => put_element(self.frame.area.as_mut_slice(), index, width, word),
             List::Below(number) => if number < self.waiting.len() {
-                put_element(
-                    self.waiting[number].area.as_mut_slice(),
-                    index,
-                    width,
-                    word,
-                );
+                put_element(self.waiting[number].area.as_mut_slice(), index, width, word);
             },
         }
     }
