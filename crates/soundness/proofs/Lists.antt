@@ -1,7 +1,6 @@
 -- The functions of a program, one after the other.
 use Rattle.std.proofs.Common.{◌≡◌, ◌≤◌, ℕ, zero, suc, ◌<◌, ◌+◌, ◌^◌, List, [], ◌∷◌, length, map, get_or, Some, sym, ap, subst, arith, ◌∙◌, inl, inr, Bool, true, false}
-use Rattle.std.specs.Prelude.{slice_get}
-use Rattle.std.specs.Bool.{OnTrue}
+use Rattle.std.specs.Prelude.{slice_get, IsTrue, ◌↔◌}
 use Rattle.std.proofs.lemmas.Bool.{cases_lt}
 use Rattle.std.proofs.lemmas.List.{length-map}
 use Rattle.std.proofs.lemmas.Option.{none-some, same_Some}
@@ -46,6 +45,15 @@ sound p fs e main statics countable fit =
     inside (y ∷ ys) zero x e = omega (arith)
     inside (y ∷ ys) (suc k) x e = omega (arith, inside ys k x e)
 
-pub on_true : {A B : Type 0} (b : Bool) → (A → B) → OnTrue b A → OnTrue b B
-on_true true go a = go a
-on_true false go a = a
+abbrev IsTruth : Bool → Type 0
+IsTruth true = Unit {0}
+IsTruth false = ⊥
+
+false-true : false ≡ true → ⊥
+false-true e = subst IsTruth (sym e) tt
+
+pub not_all : (n : ℕ) (hs : List Held) (k : ℕ) (x : Held) → k < length hs → x ≡ get_or hs k x → (FunctionFits n (function_of x) → IsTrue false) → IsTrue false ↔ FunctionsFit n (map function_of hs) (length hs)
+not_all n hs k x lt e refuted = (λ t. absurd (false-true t), λ fit. refuted (fit.each k (function_of x) lt (got_in_map function_of hs k x lt e)))
+
+pub sound_functions : (p : FlatProgram) (fs : List Held) → fs ≡ p.functions.items → IsSoundProgram (program_of p) → FunctionsFit (length fs) (map function_of fs) (length fs)
+sound_functions p fs e s = record { each = λ k f lt got. subst (λ n. FunctionFits n f) (length-map p.functions.items function_of ∙ ap length (sym e)) (s.each k f (ap (λ xs. slice_get (map function_of xs) k) (sym e) ∙ got)) }

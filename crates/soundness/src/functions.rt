@@ -1,6 +1,6 @@
 //! Whether functions and programs are sound.
 
-ghost use Rattle.std.specs.Prelude.{◌≡◌, ◌≤◌, ◌<◌, ◌+◌, ◌^◌, length, map};
+ghost use Rattle.std.specs.Prelude.{◌≡◌, ◌↔◌, ◌≤◌, ◌<◌, ◌+◌, ◌^◌, length, map, IsTrue};
 ghost use Rattle.std.specs.Bool.{OnTrue};
 ghost use Rattle.frames.specs.Code as flat;
 ghost use Rattle.frames.specs.Code.{function_of, program_of};
@@ -13,7 +13,7 @@ use frames::{FlatProgram, Function};
 /// Whether its frame has at most the bytes that a frame may have.
 fn has_small_frame(function: &Function) -> bool
     ensures few { OnTrue result (function.now.outgoing ≤ 1048576) }
-    ensures small { OnTrue result (flat.frame_bytes (function_of function.now) ≤ most_bytes) }
+    ensures small { IsTrue result ↔ (flat.frame_bytes (function_of function.now) ≤ most_bytes) }
 {
     function.outgoing <= MOST_BYTES
         && function.cells <= MOST_BYTES
@@ -24,7 +24,7 @@ fn has_small_frame(function: &Function) -> bool
 
 fn has_sound_code(count: usize, function: &Function) -> bool
     requires { function.now.outgoing ≤ 1048576 }
-    ensures { OnTrue result (CodeFits count (function_of function.now) (length function.now.code.items)) }
+    ensures { IsTrue result ↔ CodeFits count (function_of function.now) (length function.now.code.items) }
 {
     let code = function.code.as_slice();
     for (number, instruction) in code.iter().enumerate() {
@@ -37,7 +37,7 @@ fn has_sound_code(count: usize, function: &Function) -> bool
 
 /// Whether a function of a program of so many is sound.
 fn is_sound_function(count: usize, function: &Function) -> bool
-    ensures { OnTrue result (FunctionFits count (function_of function.now)) }
+    ensures { IsTrue result ↔ FunctionFits count (function_of function.now) }
 {
     has_small_frame(function)
         && function.resident <= 12
@@ -46,7 +46,7 @@ fn is_sound_function(count: usize, function: &Function) -> bool
 }
 
 fn are_sound_functions(count: usize, functions: &[Function]) -> bool
-    ensures { OnTrue result (FunctionsFit count (map function_of functions.now) (length functions.now)) }
+    ensures { IsTrue result ↔ FunctionsFit count (map function_of functions.now) (length functions.now) }
 {
     for (number, function) in functions.iter().enumerate() {
         if !is_sound_function(count, function) {
@@ -58,7 +58,7 @@ fn are_sound_functions(count: usize, functions: &[Function]) -> bool
 
 /// Whether there are fewer than 2^32 functions and instructions.
 fn are_countable(functions: &[Function]) -> bool
-    ensures { OnTrue result (length functions.now + places_of (map function_of functions.now) < 2 ^ 32) }
+    ensures { IsTrue result ↔ (length functions.now + places_of (map function_of functions.now) < 2 ^ 32) }
 {
     let mut places = functions.len();
     for function in functions {
@@ -74,7 +74,7 @@ fn are_countable(functions: &[Function]) -> bool
 /// Whether a flat program is one that `select` takes: its instructions name words, arrays, instructions and functions that there
 /// are, its frames have at most 1,048,576 bytes, and there are fewer than 2^32 functions and instructions.
 pub fn is_sound(program: &FlatProgram) -> bool
-    ensures { OnTrue result (IsSoundProgram (program_of program.now)) }
+    ensures { IsTrue result ↔ IsSoundProgram (program_of program.now) }
 {
     let functions = program.functions.as_slice();
     if program.main >= functions.len() {
