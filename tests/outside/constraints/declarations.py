@@ -18,6 +18,8 @@ def without_comments(text):
 
 
 def defines_no_other_function(text):
+    if len(MAIN.findall(text)) > 1:
+        return False
     text = re.sub(r'"(\\.|[^"\\])*"|\'(\\.|[^\'\\])*\'', '0', MAIN.sub('', without_comments(text)))
     return re.search(r'\)\s*\{', text) is None
 
