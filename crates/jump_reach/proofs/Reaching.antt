@@ -1,21 +1,20 @@
 -- Jumps reach in functions whose code is short, and in lists made of parts in which they do.
-use Rattle.std.proofs.Common.{◌≡◌, ◌⊎◌, inl, inr, ⊎_elim, ℕ, zero, suc, ◌+◌, ◌-◌, ◌*◌, ◌<◌, ◌≤◌, ◌^◌, Bool, true, List, [], ◌∷◌, ◌++◌, length, Some, refl, sym, ap, ◌∙◌, subst, arith}
-use Rattle.std.specs.Prelude.{slice_get, sum_by}
+use Rattle.std.proofs.Common.{◌≡◌, ⊎_elim, ℕ, suc, ◌+◌, ◌-◌, ◌<◌, ◌≤◌, ◌^◌, true, List, [], ◌∷◌, ◌++◌, length, Some, refl, sym, ap, ◌∙◌, subst, arith}
+use Rattle.std.specs.Prelude.{slice_get}
 use Rattle.std.proofs.lemmas.Bool.{cases_lt}
 use Rattle.std.proofs.lemmas.List.{length-append}
 use Rattle.std.proofs.lemmas.List.Sums.{sum_by-append}
 use Rattle.asm.specs.declared.item.Item.{Item}
 use Rattle.asm.specs.declared.item.Item.TheVariants.{Mark, Plain, Branch, Jump, Call, Constant, LabelAddress, DataAddress}
-use Rattle.asm.specs.Layout.{item_at, size, place, all_long, longest, Reach, MissesMark, SomeMisses, IsSound}
+use Rattle.asm.specs.Layout.{item_at, size, place, all_long, longest, Reach, MissesMark, IsSound}
 use Rattle.asm.proofs.Parts.{item_in_front, item_behind, places_in_parts}
 use Rattle.asm.proofs.Ends.{ends}
 use Rattle.asm.proofs.Grow.{place_rises}
 use Rattle.frames.specs.declared.code.Instruction.{Instruction}
 use Rattle.frames.specs.Code.{Function, Program, frame_bytes}
-use Rattle.frames.specs.Sound.{InstructionFits, FunctionFits, IsSoundProgram}
+use Rattle.frames.specs.Sound.{FunctionFits, IsSoundProgram}
 use Rattle.select.specs.Selected.{entry, items_of, change_sp, store_word, saves, far, return_home}
 use Rattle.select.specs.Program.{code_items, function_items, functions_items, start_items, program_items, labels_of}
-use Rattle.select.specs.Bytes.{entry_bytes, instruction_bytes}
 use Rattle.select.proofs.Lengths.{code_is_short}
 use Rattle.select.proofs.Sound.{is_sound}
 use Rattle.jump_reach.specs.Reaching.{rows_of, IsShortProgram, JumpsReach}
