@@ -1,0 +1,5 @@
+mod Declarations
+mod Statements
+mod Names
+mod BodyScopes
+mod Units
