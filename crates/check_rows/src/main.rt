@@ -1,17 +1,16 @@
-//! Declares what each source of its input declares at file scope, and prints `ok`, or the code and the line of the fault. The sources
-//! are separated by `@`, which stands in no program of C.
+//! Checks each source of its input, and prints `ok`, or the code and the line of the fault. The sources are separated by `@`, which
+//! stands in no program of C.
 #![tactic(auto)]
 
 use anyhow::Result;
-use declaration_effects::declaration_typed;
+use checker::check;
 use itoa::Buffer;
 use phases::scan;
-use scopes::Scope;
-use srcset::{Code, Fault, MAX_FILE_BYTES, Names, Refusal};
+use srcset::{Code, Fault, MAX_FILE_BYTES, Names, Pos};
 use std::alloc::{AllocError, Global};
 use std::io::{Read, Write};
 use std::process::ExitCode;
-use tree::{External, Unit};
+use tree::Unit;
 
 fn main(rt: HostRuntime) -> ExitCode {
     match print_rows(&rt) {
@@ -46,7 +45,7 @@ fn write_row(
     output: &mut Vec<u8>,
     source: &[u8],
 ) -> std::result::Result<(), AllocError> {
-    match declare_all(alloc, source) {
+    match checked(alloc, source) {
         Ok(()) => output.extend_from_slice(b"ok\n"),
         Err(fault) => write_fault(output, &fault),
     }
@@ -61,47 +60,23 @@ fn write_fault(output: &mut Vec<u8>, fault: &Fault) -> std::result::Result<(), A
     Ok(())
 }
 
-fn declare_all(alloc: Global, source: &[u8]) -> std::result::Result<(), Fault> {
+/// The typed program is made and let go.
+fn checked(alloc: Global, source: &[u8]) -> std::result::Result<(), Fault> {
     let mut names = Names::new(alloc);
-    let unit = syntax_tree(alloc, source, &mut names)?;
-    let mut scope = Scope::file(alloc, Vec::new(alloc));
-    for external in &unit.externals {
-        match declared(alloc, external, &mut scope, &names) {
-            Ok(()) => {}
-            Err(refusal) => return Err(refusal.to_fault(alloc, &names)),
-        }
-    }
-    Ok(())
-}
-
-/// The scope behind a declaration, with its initialisers typed. A function definition is none of these rows' business.
-fn declared(
-    alloc: Global,
-    external: &External,
-    scope: &mut Scope,
-    names: &Names,
-) -> std::result::Result<(), Refusal> {
-    let mut statements = Vec::new(alloc);
-    let mut values = Vec::new(alloc);
-    match external {
-        External::Declaration(declaration) => declaration_typed(
-            alloc,
-            names,
-            scope,
-            &mut statements,
-            &mut values,
-            declaration,
-        ),
-        External::Function(_) => Ok(()),
+    let file = names.intern(b"main.c")?;
+    let unit = syntax_tree(alloc, source, file, &mut names)?;
+    match check(alloc, &unit, &names, Pos { file, line: 1 }) {
+        Ok(_) => Ok(()),
+        Err(fault) => Err(fault),
     }
 }
 
 fn syntax_tree(
     alloc: Global,
     source: &[u8],
+    file: usize,
     names: &mut Names,
 ) -> std::result::Result<Unit, Fault> {
-    let file = names.intern(b"main.c")?;
     if source.len() > MAX_FILE_BYTES {
         return Err(Fault::at(alloc, Code::FileSizeLimit, "main.c", 0));
     }
