@@ -110,8 +110,8 @@ body_left b t F T ns types own file s1 s2 s3 ms js xs i e p h =
     let g = pieces_grow (around_of T) None (with_texts t s1) F.body (done t s2 ms js xs) p in
     let names = bound (file.level + 1) 0 0 ns types own [] in (
       h file (g.names ++ names) g.tags i
-      (g.names_are ∙ ap (λ s. g.names ++ s.bindings) e ∙ ap (λ l. g.names ++ l) (before_others (file.level + 1) ns types own file.bindings) ∙ sym (append_assoc g.names names file.bindings))
-      (g.tags_are ∙ ap (λ s. g.tags ++ s.tags) e),
+          (g.names_are ∙ ap (λ s. g.names ++ s.bindings) e ∙ ap (λ l. g.names ++ l) (before_others (file.level + 1) ns types own file.bindings) ∙ sym (append_assoc g.names names file.bindings))
+          (g.tags_are ∙ ap (λ s. g.tags ++ s.tags) e),
       pieces_kept (around_of T) None (with_texts t s1) F.body (done t s2 ms js xs) p ∙ ap (λ s. s.definitions) e,
     )
 
@@ -129,8 +129,8 @@ body_fine b F T t file s1 E s2 s3 s4 g ms js xs objects e p l m o d w v =
       initial = b.initial ++ all.initial;
     } in
     let scope : record (with_texts t file) { literals = s2.literals; statics = s2.statics; objects = [] } ≡ with_texts t s4
-        = same_made t file.definitions s2.definitions file.bindings file.bindings file.tags file.tags file.level file.level s2.literals s2.literals s2.statics s2.statics [] [] (sym d) refl refl refl refl refl refl
-            ∙ sym (ap (with_texts t) (m ∙ ap (λ x. with_objects [] x) l)) in
+    = same_made t file.definitions s2.definitions file.bindings file.bindings file.tags file.tags file.level file.level s2.literals s2.literals s2.statics s2.statics [] [] (sym d) refl refl refl refl refl refl
+    ∙ sym (ap (with_texts t) (m ∙ ap (λ x. with_objects [] x) l)) in
     ap (λ s. body_read b F T (with_texts t file) (with_texts t s)) (sym e) ∙ then_fine (pieces (around_of T) None (with_texts t s1) F.body) all (with_function b (with_texts t file) F T) p
     ∙ provided_fine (light F T s2.objects) (fine behind) behind (ap (light F T) (sym (o ∙ ap (λ x. x.objects) l)) ∙ w) refl
     ∙ ap (λ s. fine (record { scope = s; functions = b.functions ++ function_of F T all ∷ []; initial = b.initial ++ all.initial })) scope

@@ -102,11 +102,17 @@ pub(crate) fn function_body(
         Ok(block) => block,
         Err(_) => return Err(Refusal::Memory),
     };
-    let statements =
-        match body_statements(alloc, names, scope, initial, &function_type, &function.body) {
-            Ok(statements) => statements,
-            Err(refusal) => return Err(refusal),
-        };
+    let statements = match body_statements(
+        alloc,
+        names,
+        scope,
+        initial,
+        &function_type,
+        &function.body,
+    ) {
+        Ok(statements) => statements,
+        Err(refusal) => return Err(refusal),
+    };
     scope.outside(block);
     let objects = scope.change_objects(Vec::new(alloc));
     match function_of(function, function_type, objects, statements) {

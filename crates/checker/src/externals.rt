@@ -32,14 +32,7 @@ fn external_declaration(
     ensures err { (fs : List Function) → IfErr result (λ r. Tells r (typed.external_typed (built_of (with_texts names.now scope.old) fs initial.old.items) (tree.declaration (declaration_of declaration.now)))) }
 {
     let mut statements = Vec::new(alloc);
-    match declaration_typed(
-        alloc,
-        names,
-        scope,
-        &mut statements,
-        initial,
-        declaration,
-    ) {
+    match declaration_typed(alloc, names, scope, &mut statements, initial, declaration) {
         Ok(()) => Ok(()),
         Err(refusal) => Err(refusal),
     }

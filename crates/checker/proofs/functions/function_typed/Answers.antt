@@ -25,7 +25,7 @@ returns-in-Err-named_parameters-clause-err c =
 pub returns-in-Err-with_type-clause-err : goal.returns-in-Err-with_type-clause-err
 returns-in-Err-with_type-clause-err c =
     let par : parameters_in (with_texts c.args.names.now c.specified.new.scope) (map parameter_of c.args.function.now.declarator.parameters.items) ≡ fine (within c.args.names.now (map parameter_type_of c.in-Ok-named_parameters.entered.types.items) c.named_parameters.new.scope)
-        = subst (λ l. parameters_in (with_texts c.args.names.now c.specified.new.scope) (map parameter_of l) ≡ fine (within c.args.names.now (map parameter_type_of c.in-Ok-named_parameters.entered.types.items) c.named_parameters.new.scope)) c.deref.ensures.value c.in-Ok-named_parameters.ensures.ok in
+    = subst (λ l. parameters_in (with_texts c.args.names.now c.specified.new.scope) (map parameter_of l) ≡ fine (within c.args.names.now (map parameter_type_of c.in-Ok-named_parameters.entered.types.items) c.named_parameters.new.scope)) c.deref.ensures.value c.in-Ok-named_parameters.ensures.ok in
     let named : all_named (map parameter_of c.args.function.now.declarator.parameters.items) ≡ fine tt = subst (λ l. all_named (map parameter_of l) ≡ fine tt) c.deref.ensures.value c.in-Ok-named_parameters.ensures.named in
     let b = built_of (with_texts c.args.names.now c.args.scope.now) c.args.functions.now.items c.args.initial.now.items in
     function_told b (tree_view.function_of c.args.function.now) (specified_of c.in-Ok.said (with_texts c.args.names.now c.specified.new.scope))
@@ -35,7 +35,7 @@ returns-in-Err-with_type-clause-err c =
 pub returns-clause-ok : goal.returns-clause-ok
 returns-clause-ok c =
     let par : parameters_in (with_texts c.args.names.now c.specified.new.scope) (map parameter_of c.args.function.now.declarator.parameters.items) ≡ fine (within c.args.names.now (map parameter_type_of c.in-Ok-named_parameters.entered.types.items) c.named_parameters.new.scope)
-        = subst (λ l. parameters_in (with_texts c.args.names.now c.specified.new.scope) (map parameter_of l) ≡ fine (within c.args.names.now (map parameter_type_of c.in-Ok-named_parameters.entered.types.items) c.named_parameters.new.scope)) c.deref.ensures.value c.in-Ok-named_parameters.ensures.ok in
+    = subst (λ l. parameters_in (with_texts c.args.names.now c.specified.new.scope) (map parameter_of l) ≡ fine (within c.args.names.now (map parameter_type_of c.in-Ok-named_parameters.entered.types.items) c.named_parameters.new.scope)) c.deref.ensures.value c.in-Ok-named_parameters.ensures.ok in
     let named : all_named (map parameter_of c.args.function.now.declarator.parameters.items) ≡ fine tt = subst (λ l. all_named (map parameter_of l) ≡ fine tt) c.deref.ensures.value c.in-Ok-named_parameters.ensures.named in
     let b = built_of (with_texts c.args.names.now c.args.scope.now) c.args.functions.now.items c.args.initial.now.items in
     let done = c.in-Ok-with_type.ensures.ok c.specified.new.scope par c.in-Ok-named_parameters.ensures.before.0 c.in-Ok-named_parameters.ensures.before.1 in
