@@ -262,7 +262,7 @@ expect '8001 nodes' 1 - 'many.c:2668: 710 limit: nodes of a function'
 functions() {
     awk -v last="$1" 'BEGIN {
         for (f = 0; f < 33; f++) {
-            printf "int m(void) {"
+            printf f < 32 ? "int m%d(void) {" : "int main(void) {", f
             for (k = 0; k < (f < 32 ? 7998 : last); k++) printf ";"
             print "}"
         } }' </dev/null
@@ -339,19 +339,19 @@ while IFS= read -r line; do
     printf '%b' "$rest" >main.c
     refused "$f1" "$f2" main.c
 done <"$here/refused.txt"
-holds "refused.txt has $count sources, not 72" [ "$count" = 72 ]
+holds "refused.txt has $count sources, not 84" [ "$count" = 84 ]
 
 : >main.c
-refused 'an empty source' 'main.c:1: 699 not built yet' main.c
+refused 'an empty source' 'main.c:1: 551 no int main(void)' main.c
 cp "$root/examples/hello.c" other.c
 cp "$root/examples/hello.c" main.c
 echo '/* nothing */' >rest.c
-refused 'a refused main file, another name' 'rest.c:1: 699 not built yet' rest.c main.c
+refused 'a refused main file, another name' 'rest.c:1: 551 no int main(void)' rest.c main.c
 
 # A file that stood at OUT stays as it was.
 echo kept >kept
 go "$cc" build rest.c -o kept
-expect 'a refusal over an old file' 1 - 'rest.c:1: 699 not built yet'
+expect 'a refusal over an old file' 1 - 'rest.c:1: 551 no int main(void)'
 holds 'a refusal changed an old file' [ "$(cat kept)" = kept ]
 
 # The set of files.
@@ -447,7 +447,9 @@ usage 'no words'
 usage 'an unknown command' compile main.c
 usage 'pp without a main file' pp
 usage 'list' list main.c
-usage 'interp' interp main.c
+usage 'interp without a main file' interp
+usage 'interp --max 0' interp main.c --max 0
+usage 'interp --max 9223372036854775808' interp main.c --max 9223372036854775808
 usage 'build without words' build
 usage 'build without -o' build main.c
 usage 'build without a main file' build -o program
@@ -561,6 +563,45 @@ expect 'status of -2' 254 - ''
 $limit "$cc" run hello --max 1000 2>err </dev/null >/dev/null
 status=$?; : >out
 expect 'output to nowhere' 42 - ''
+
+# ------------------------------------------------------------ interpreting
+go "$cc" interp "$root/examples/hello.c"
+expect 'interp of hello.c' 42 48 ''
+printf '#include <rvio.h>\nint main(void) { int c; while ((c = rv_getbyte()) != -1) rv_putbyte(c); return 7; }\n' >echoes.c
+awk 'BEGIN { for (k = 0; k < 256; k++) printf "\\%03o", k }' >octal
+printf "$(cat octal)" >bytes
+$limit "$cc" interp echoes.c 2>err <bytes >out
+status=$?
+holds "interp of an echo: status $status, or other bytes" [ "$status" = 7 -a "$(hex out)" = "$(hex bytes)" ]
+go "$cc" interp echoes.c
+expect 'interp of an echo of nothing' 7 - ''
+printf 'int twice(int a);\n' >twice.h
+printf '#include "twice.h"\nint twice(int a) { return a * 2; }\nint main(void) { return twice(21); }\n' >twice.c
+go "$cc" interp twice.c twice.h
+expect 'interp of two files' 42 - ''
+go "$cc" interp twice.c
+expect 'interp without a file that is included' 1 - 'twice.c:1: 232 include file not found'
+printf 'int main(void) {\nunsigned short a = 65535;\nreturn a * a; }\n' >undefined.c
+go "$cc" interp undefined.c
+expect 'interp of an undefined act' 123 - 'undefined.c:3: undefined U1'
+printf 'int main(void) { return 42; }\n' >ticks.c
+go "$cc" interp ticks.c --max 4
+expect 'interp with 4 ticks' 42 - ''
+go "$cc" interp --max 3 ticks.c
+expect 'interp with 3 ticks' 124 - 'cc: budget used'
+printf 'int main(void) { return y; }\n' >refused.c
+go "$cc" interp refused.c
+expect 'interp of a refused source' 1 - 'refused.c:1: 528 undeclared name'
+go "$cc" interp none.c
+expect 'interp of a missing file' 1 - 'none.c:0: 802 cannot read'
+if [ -c /dev/full ]; then
+    $limit "$cc" interp "$root/examples/hello.c" 2>err </dev/null >/dev/full
+    status=$?; : >out
+    expect 'interp to a full device' 126 - 'cc: port fault 803'
+else
+    skip 1
+fi
+
 if [ -c /dev/full ]; then
     $limit "$cc" run hello 2>err </dev/null >/dev/full
     status=$?; : >out

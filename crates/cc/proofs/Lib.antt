@@ -3,3 +3,4 @@ pub mod Outcomes
 pub mod Refusals
 pub mod Inputs
 pub mod Prints
+pub mod Checks

@@ -1,6 +1,6 @@
 -- Why a main file is refused.
 use Rattle.std.proofs.Common.{◌≡◌, ℕ, List, Option, Some, None, inl, inr, ⊎_elim, refl, sym, subst}
-use Rattle.std.specs.Prelude.{Result, Ok, Err, ◌⊎◌, IfOk, IfErr, MatchResult}
+use Rattle.std.specs.Prelude.{Result, Ok, Err, ◌⊎◌, IfOk, IfErr, MatchResult, slice_get}
 use Rattle.std.specs.Result.{IsErrAnd}
 use Rattle.std.proofs.lemmas.Result.{err_from_is_err_and}
 use Rattle.srcset.specs.Files.{Files}
@@ -14,11 +14,12 @@ use Rattle.lexer.specs.CTokens.{ctokens}
 use Rattle.lexer.specs.Numbering.{AreAll, IsTokenFault}
 use Rattle.lexer.specs.declared.token.Token.{Token}
 use Rattle.tree.specs.Tree.{ExternalTree}
-use Rattle.parser.specs.Units.{IsFaultOfUnit}
+use Rattle.parser.specs.Units.{IsTreeWithin, IsOnly, IsFaultOfUnit}
+use Rattle.typed.specs.Program.{Program}
 use Rattle.cc.specs.declared.stopping.Stop.{Stop}
 use Rattle.cc.specs.declared.stopping.Stop.TheVariants.{Memory, At, Told}
-use Rattle.cc.specs.Compiled.{HasList, FailsPreprocessing, HasTokens, HasTree, IsRefused}
-use Rattle.cc.specs.inside.Stops.{IsToldAs, IsTold, IsMemory, Stops, StopsUnit}
+use Rattle.cc.specs.Compiled.{HasList, FailsPreprocessing, HasTokens, HasTree, HasProgram, BreaksConstraint, HasNoProgram, IsRefused}
+use Rattle.cc.specs.inside.Stops.{IsToldAs, IsTold, IsMemory, Stops, StopsBefore, StopsUnit}
 
 -- what is said of an error that `?` hands on
 pub handed_on : {A B : Type 0} (r : Result A B) (f : B) (P : B → Type 0) → IsErrAnd r (λ e. e ≡ f) → P f → IfErr r P
@@ -37,33 +38,28 @@ error_means (Ok x) P Q means h = h
 error_means (Err f) P Q means h = means f h
 
 module _ (set : Files) (name : List ℕ) where
-  wants : (fault : Fault) → IsMemoryFault fault → IsRefused set name fault
+  wants : (fault : Fault) → IsMemoryFault fault → HasNoProgram set name fault
   wants fault m = inr (inr (inr (inr m)))
 
-  told_stops : (stop : Stop) (P : Fault → Type 0) → ((f : Fault) → P f → IsRefused set name f) → IsTold P stop → Stops set name stop
+  told_stops : (stop : Stop) (P : Fault → Type 0) → ((f : Fault) → P f → HasNoProgram set name f) → IsTold P stop → StopsBefore set name stop
   told_stops Memory P each h = absurd h
   told_stops (At code line) P each h = absurd h
-  told_stops (Told told) P each h = λ fault is. subst (IsRefused set name) (sym is) (each told h)
+  told_stops (Told told) P each h = λ fault is. subst (HasNoProgram set name) (sym is) (each told h)
 
-  memory_stops : (stop : Stop) → IsMemory stop → Stops set name stop
-  memory_stops Memory h = λ fault is. wants fault is
-  memory_stops (At code line) h = absurd h
-  memory_stops (Told told) h = λ fault is. subst (IsRefused set name) (sym is) (wants told h)
-
-  no_list : (fault : Fault) → FailsPreprocessing set name fault ⊎ IsMemoryFault fault → IsRefused set name fault
+  no_list : (fault : Fault) → FailsPreprocessing set name fault ⊎ IsMemoryFault fault → HasNoProgram set name fault
   no_list fault (inl f) = inl f
   no_list fault (inr m) = wants fault m
 
-  pub list_stops : (stop : Stop) → IsTold (λ fault. FailsPreprocessing set name fault ⊎ IsMemoryFault fault) stop → Stops set name stop
+  pub list_stops : (stop : Stop) → IsTold (λ fault. FailsPreprocessing set name fault ⊎ IsMemoryFault fault) stop → StopsBefore set name stop
   list_stops stop told = told_stops stop (λ fault. FailsPreprocessing set name fault ⊎ IsMemoryFault fault) no_list told
 
   module _ (texts : Texts) (list : List PpToken) (has : HasList set name texts list) where
-    token_refused : (fault : Fault) (r : Option Refusal) → (ctokens list).fault ≡ r → IsTokenFault fault texts r → IsRefused set name fault
+    token_refused : (fault : Fault) (r : Option Refusal) → (ctokens list).fault ≡ r → IsTokenFault fault texts r → HasNoProgram set name fault
     token_refused fault None e h = wants fault h
     token_refused fault (Some refusal) e h =
         inr (inl (record { texts = texts; list = list; has_list = has; refusal = refusal; first = e; fault_is = h }))
 
-    pub tokens_stop : (stop : Stop) → IsTold (λ fault. IsTokenFault fault texts (ctokens list).fault) stop → Stops set name stop
+    pub tokens_stop : (stop : Stop) → IsTold (λ fault. IsTokenFault fault texts (ctokens list).fault) stop → StopsBefore set name stop
     tokens_stop stop told =
         told_stops stop (λ fault. IsTokenFault fault texts (ctokens list).fault) (λ f h. token_refused f (ctokens list).fault refl h) told
 
@@ -79,12 +75,33 @@ module _ (set : Files) (name : List ℕ) where
     tokens_are = subst (λ ts. AreAll old texts (ctokens list) ts) (sym e) are;
   }
 
-  pub tree_stops : (texts : Texts) (tokens : List Token) (stop : Stop) → HasTokens set name texts tokens → IsTold (λ fault. IsFaultOfUnit fault texts tokens) stop → Stops set name stop
+  pub has_tree : (old texts : Texts) (items list : List PpToken) (tokens slice : List Token) (unit : List ExternalTree) → list ≡ items → ((t : Texts) → KeepsNumbers old t → NumbersOnce t → HasList set name t items) → KeepsNumbers old texts → NumbersOnce texts → slice ≡ tokens → AreAll old texts (ctokens list) tokens → IsTreeWithin slice unit → IsOnly slice unit → HasTree set name texts unit
+  has_tree old texts items list tokens slice unit e each keeps once f are tree only =
+      let has : HasList set name texts list = has_list old texts items list e each keeps once in
+      record { tokens = slice; has_tokens = has_tokens old texts list tokens slice f has are; tree = tree; only = only }
+
+  pub has_number : (old texts : Texts) (items : List PpToken) → ((t : Texts) → KeepsNumbers old t → NumbersOnce t → HasList set name t items) → KeepsNumbers old texts → NumbersOnce texts → (n : ℕ) × (slice_get texts n ≡ Some name)
+  has_number old texts items each keeps once = let numbers = (each texts keeps once).numbers in (numbers.file, numbers.named)
+
+  pub tree_stops : (texts : Texts) (tokens : List Token) (stop : Stop) → HasTokens set name texts tokens → IsTold (λ fault. IsFaultOfUnit fault texts tokens) stop → StopsBefore set name stop
   tree_stops texts tokens stop has told =
       told_stops stop (λ fault. IsFaultOfUnit fault texts tokens) (λ f h. inr (inr (inl (record { texts = texts; tokens = tokens; has_tokens = has; fault_is = h })))) told
 
-  pub unit_stops : (texts : Texts) (unit : List ExternalTree) (stop : Stop) → HasTree set name texts unit → StopsUnit texts unit stop → Stops set name stop
-  unit_stops texts unit stop has (inr m) = memory_stops stop m
-  unit_stops texts unit stop has (inl h) = λ fault told.
+  pub check_stops : (texts : Texts) (unit : List ExternalTree) (stop : Stop) → HasTree set name texts unit → IsTold (BreaksConstraint name texts unit) stop → StopsBefore set name stop
+  check_stops texts unit stop has told =
+      told_stops stop (BreaksConstraint name texts unit) (λ f h. inr (inr (inr (inl (record { texts = texts; unit = unit; has_tree = has; breaks = h }))))) told
+
+  -- a file without a program is refused
+  pub before_stops : (stop : Stop) → StopsBefore set name stop → Stops set name stop
+  before_stops stop h = λ fault told. inl (h fault told)
+
+  memory_stops : (stop : Stop) → IsMemory stop → Stops set name stop
+  memory_stops Memory h = λ fault is. inl (wants fault is)
+  memory_stops (At code line) h = absurd h
+  memory_stops (Told told) h = λ fault is. inl (subst (HasNoProgram set name) (sym is) (wants told h))
+
+  pub unit_stops : (texts : Texts) (unit : List ExternalTree) (program : Program) (stop : Stop) → HasProgram set name texts unit program → StopsUnit texts unit stop → Stops set name stop
+  unit_stops texts unit program stop has (inr m) = memory_stops stop m
+  unit_stops texts unit program stop has (inl h) = λ fault told.
       let t : IsFaultOrMemory fault NotBuiltYet name 1 = subst (λ s. IsToldAs name s fault) h.1 told in
-      ⊎_elim (λ f. inr (inr (inr (inl (record { texts = texts; unit = unit; has_tree = has; another = h.0; fault_is = f }))))) (λ m. wants fault m) t
+      ⊎_elim (λ f. inr (record { texts = texts; unit = unit; program = program; has_program = has; another = h.0; fault_is = f })) (λ m. inl (wants fault m)) t

@@ -16,6 +16,10 @@ use Rattle.lexer.specs.declared.token.Token.{Token}
 use Rattle.tree.specs.Tree.{ExternalTree, FunctionTree, definition, declaration}
 use Rattle.tree.specs.Counts.{function_nodes, weight_of}
 use Rattle.parser.specs.Units.{IsTreeWithin, IsOnly, IsFaultOfUnit}
+use Rattle.typed.specs.Program.{Program}
+use Rattle.typed.specs.Verdict.{Verdict, fine}
+use Rattle.typed.specs.Units.{unit_typed}
+use Rattle.checker.specs.Told.{IsFaultOfVerdict}
 use Rattle.events.specs.Events.{Event, Put}
 use Rattle.rv32.specs.Step.{register}
 use Rattle.loader.specs.File.{Image, file_image}
@@ -55,6 +59,22 @@ pub record HasTree (set : Files) (name : List ℕ) (texts : Texts) (unit : List 
   pub has_tokens : HasTokens set name texts tokens
   pub tree : IsTreeWithin tokens unit
   pub only : IsOnly tokens unit
+
+-- the typed program of a unit, or the constraints that it breaks. What concerns the unit as a whole stands at line 1 of the
+-- main file, whose name has this number
+unfoldable pub typed_at : Texts → ℕ → List ExternalTree → Verdict Program
+typed_at texts file unit = unit_typed texts (record { file = file; line = 1 }) unit
+
+-- the typed program of a unit that breaks no constraint
+pub record IsProgramOf (name : List ℕ) (texts : Texts) (unit : List ExternalTree) (program : Program) : Type 0 where
+  pub file : ℕ
+  pub named : slice_get texts file ≡ Some name
+  pub typed : typed_at texts file unit ≡ fine program
+
+-- its only tree breaks no constraint, and this is its typed program
+pub record HasProgram (set : Files) (name : List ℕ) (texts : Texts) (unit : List ExternalTree) (program : Program) : Type 0 where
+  pub has_tree : HasTree set name texts unit
+  pub is_program : IsProgramOf name texts unit program
 
 -- ---- how the file of a program runs
 
@@ -120,11 +140,12 @@ pub record BuildsUnit (texts : Texts) (unit : List ExternalTree) (built : Built)
   pub defined : definitions unit ≡ function ∷ []
   pub built_of : IsBuiltOf function main built
 
--- the set has a main file of this name, which has a tree, and the answer is the file of that tree
+-- the set has a main file of this name, which has a tree that breaks no constraint, and the answer is the file of that tree
 pub record Compiles (set : Files) (name : List ℕ) (built : Built) : Type 0 where
   pub texts : Texts
   pub unit : List ExternalTree
-  pub has_tree : HasTree set name texts unit
+  pub program : Program
+  pub has_program : HasProgram set name texts unit program
   pub builds : BuildsUnit texts unit built
 
 -- ---- what is refused
@@ -151,19 +172,36 @@ pub record FailsTree (set : Files) (name : List ℕ) (fault : Fault) : Type 0 wh
   pub has_tokens : HasTokens set name texts tokens
   pub fault_is : IsFaultOfUnit fault texts tokens
 
--- 699: the tree is of another form than those that are built today
-pub record IsNotThin (set : Files) (name : List ℕ) (fault : Fault) : Type 0 where
+-- 501 to 553, 620 to 623, 712 to 715: a constraint that the tree breaks, at its place
+pub record BreaksConstraint (name : List ℕ) (texts : Texts) (unit : List ExternalTree) (fault : Fault) : Type 0 where
+  pub file : ℕ
+  pub named : slice_get texts file ≡ Some name
+  pub fault_is : IsFaultOfVerdict fault texts (typed_at texts file unit)
+
+pub record FailsCheck (set : Files) (name : List ℕ) (fault : Fault) : Type 0 where
   pub texts : Texts
   pub unit : List ExternalTree
   pub has_tree : HasTree set name texts unit
+  pub breaks : BreaksConstraint name texts unit fault
+
+-- 699: the program is right, and its tree of another form than those that are built today
+pub record IsNotThin (set : Files) (name : List ℕ) (fault : Fault) : Type 0 where
+  pub texts : Texts
+  pub unit : List ExternalTree
+  pub program : Program
+  pub has_program : HasProgram set name texts unit program
   pub another : thin_in texts unit ≡ None
   pub fault_is : IsFault fault NotBuiltYet name 1
 
--- the fault of the first phase that fails; or out of memory, which may hide any of them
-abbrev pub IsRefused : Files → List ℕ → Fault → Type 0
-IsRefused set name fault =
+-- why there is no program: the fault of the first phase that fails; or out of memory, which may hide any of them
+abbrev pub HasNoProgram : Files → List ℕ → Fault → Type 0
+HasNoProgram set name fault =
     FailsPreprocessing set name fault
     ⊎ FailsTokens set name fault
     ⊎ FailsTree set name fault
-    ⊎ IsNotThin set name fault
+    ⊎ FailsCheck set name fault
     ⊎ IsMemoryFault fault
+
+-- there is no program, or none that can be built today; or out of memory
+abbrev pub IsRefused : Files → List ℕ → Fault → Type 0
+IsRefused set name fault = HasNoProgram set name fault ⊎ IsNotThin set name fault

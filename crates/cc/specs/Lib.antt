@@ -13,6 +13,12 @@ pub use Rattle.lexer.specs.Numbering
 pub use Rattle.tree.specs.Tree
 pub use Rattle.tree.specs.Counts
 pub use Rattle.parser.specs.Units
+pub use Rattle.typed.specs.Program
+pub use Rattle.typed.specs.Verdict
+pub use Rattle.typed.specs.Units
+pub use Rattle.checker.specs.Told
+pub use Rattle.meaning.specs.Meaning
+pub use Rattle.interpreter.specs.Interpreting
 pub use Rattle.events.specs.Events
 pub use Rattle.rv32.specs.Step
 pub use Rattle.loader.specs.File

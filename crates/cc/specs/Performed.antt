@@ -15,15 +15,20 @@ use Rattle.sim.specs.declared.machine.Outcome.{Outcome}
 use Rattle.sim.specs.declared.machine.Outcome.TheVariants as outcome
 use Rattle.sim.specs.Runs.{start_world}
 use Rattle.cc.specs.declared.performing.Cmd.{Cmd}
-use Rattle.cc.specs.declared.performing.Cmd.TheVariants.{Build, Pp, Run}
+use Rattle.cc.specs.declared.performing.Cmd.TheVariants.{Build, Pp, Run, Interp}
 use Rattle.cc.specs.declared.compiling.Built.{Built}
 use Rattle.srcset.specs.declared.fault.Fault.{Fault}
 use Rattle.srcset.specs.declared.code.Code.TheVariants.{CannotWrite}
 use Rattle.srcset.specs.Fault.{IsFaultOrMemory, IsMemoryFault}
 use Rattle.loader.specs.declared.fault.LoadFault.{LoadFault}
 use Rattle.loader.specs.Fault.{code_of}
-use Rattle.cc.specs.Compiled.{HasList, FailsPreprocessing, Compiles, IsRefused}
-use Rattle.cc.specs.Reported.{Said, Says, SaysOutcome, fault_text}
+use Rattle.tree.specs.Tree.{ExternalTree}
+use Rattle.typed.specs.Program.{Program}
+use Rattle.interpreter.specs.declared.outcome.Run.{Run as Interpreted}
+use Rattle.interpreter.specs.declared.outcome.Run.TheVariants as interpreted
+use Rattle.interpreter.specs.Interpreting as interpreting
+use Rattle.cc.specs.Compiled.{HasList, HasProgram, HasNoProgram, FailsPreprocessing, Compiles, IsRefused}
+use Rattle.cc.specs.Reported.{Said, Says, SaysOutcome, SaysRun, fault_text}
 use Rattle.cc.specs.Transfer.{PutsAll, PutsSome}
 
 -- ---- building
@@ -124,8 +129,44 @@ Runs file name max refuses old new said status =
     ((image : Image) × (file_image file ≡ Ok image) × RanAs image max refuses old new said status)
     ⊎ ((status ≡ 1) × (new ≡ old) × ((fault : Fault) × FailsLoad file name fault × Says said (fault_text fault)))
 
+-- ---- interpreting
+
+-- the exit status after interpreting a program: its own, or that of why it did not end by itself
+abbrev pub interpreted_status : Interpreted → ℕ
+interpreted_status (interpreted.Ended s) = s
+interpreted_status (interpreted.Undefined act at) = 123
+interpreted_status interpreted.TicksUsed = 124
+interpreted_status (interpreted.Port fault) = 126
+interpreted_status interpreted.Memory = 1
+
+-- what the program does on the port's input with so many ticks is what its definition says, or it was given up, and that is the
+-- exit status and what is said; the port's fault is what the port refused with
+pub record InterpretedAs (texts : Texts) (program : Program) (max : ℕ) (refuses : PortFault → Type 0) (old new : PortView) (said : Said) (status : ℕ) : Type 0 where
+  pub run : Interpreted
+  pub greatest : ℕ
+  pub status_is : status ≡ interpreted_status run
+  pub says : SaysRun texts said run
+  pub meets : (input : List ℕ) → old.input ≡ Some input → interpreting.RunMeets program input max run greatest old new
+  pub counts : interpreting.Counts run old.failures new.failures
+  pub blames : interpreting.Blames refuses run
+
+-- the set has a program, which was interpreted
+pub record InterpretsSet (set : Files) (name : List ℕ) (max : ℕ) (refuses : PortFault → Type 0) (old new : PortView) (said : Said) (status : ℕ) : Type 0 where
+  pub texts : Texts
+  pub unit : List ExternalTree
+  pub program : Program
+  pub has_program : HasProgram set name texts unit program
+  pub interpreted_as : InterpretedAs texts program max refuses old new said status
+
+-- the set has a program, which was interpreted; or it has none, which the fault that is said tells
+abbrev pub Interprets : Files → List ℕ → ℕ → (PortFault → Type 0) → PortView → PortView → Said → ℕ → Type 0
+Interprets set name max refuses old new said status =
+    InterpretsSet set name max refuses old new said status
+    ⊎ ((status ≡ 1) × (new ≡ old) × ((fault : Fault) × HasNoProgram set name fault × Says said (fault_text fault)))
+
 -- By the main file's name. Only what is printed goes to `out`; printing does not touch the port.
 abbrev pub Performs : Cmd → Files → List ℕ → List ℕ → (PortFault → Type 0) → PortView → PortView → Said → Said → ℕ → Type 0
 Performs (Build output) set name file refuses old new out said status = IsUntouched out × Builds set name output.now refuses old new said status
 Performs Pp set name file refuses old new out said status = (new ≡ old) × Prints set name out said status
 Performs (Run max) set name file refuses old new out said status = IsUntouched out × Runs file name max refuses old new said status
+Performs (Interp max) set name file refuses old new out said status = IsUntouched out × Interprets set name max refuses old new said status

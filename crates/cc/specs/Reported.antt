@@ -3,14 +3,19 @@ use Rattle.std.specs.Prelude.{◌≡◌, ◌⊎◌, ℕ, ◌-◌, ◌^◌, List,
 use Rattle.std.specs.Fmt.{digits, padded_integral, format_spec}
 use Rattle.srcset.specs.declared.fault.Fault.{Fault}
 use Rattle.srcset.specs.Codes.{number_of}
-use Rattle.srcset.specs.Fault.{fault_line}
+use Rattle.srcset.specs.Fault.{fault_line, place_text}
+use Rattle.srcset.specs.NameTable.{Texts, file_name_of}
 use Rattle.srcset.specs.Writing.{TakesBeginning}
+use Rattle.ctypes.specs.declared.operators.Undef.{Undef}
+use Rattle.ctypes.specs.Arithmetic as arithmetic
 use Rattle.rv32.specs.declared.state.Cause.{Cause}
 use Rattle.rv32.specs.declared.state.Cause.TheVariants as cause
 use Rattle.sim.specs.Port.{code_of}
 use Rattle.sim.specs.declared.port.PortFault.{PortFault}
 use Rattle.sim.specs.declared.machine.Outcome.{Outcome}
 use Rattle.sim.specs.declared.machine.Outcome.TheVariants as outcome
+use Rattle.interpreter.specs.declared.outcome.Run.{Run}
+use Rattle.interpreter.specs.declared.outcome.Run.TheVariants as run
 
 -- ---- the lines
 
@@ -40,6 +45,10 @@ address a = padded_integral (format_spec 32 0 4 8 (2 ^ 64 - 1)) false [] (digits
 abbrev pub trap_text : ℕ → Cause → List ℕ
 trap_text pc cause = codes "cc: trap " ++ cause_name cause ++ codes " at 0x" ++ address pc ++ codes "\n"
 
+-- an undefined act at a line of a file, which is named as in a fault
+abbrev pub undefined_text : (file : List ℕ) → (line : ℕ) → Undef → List ℕ
+undefined_text file line act = place_text file line ++ codes "undefined U" ++ decimal (arithmetic.number_of act) ++ codes "\n"
+
 abbrev pub port_text : PortFault → List ℕ
 port_text fault = codes "cc: port fault " ++ decimal (number_of (code_of fault)) ++ codes "\n"
 
@@ -60,3 +69,11 @@ SaysOutcome said (outcome.Ended status) = said.after ≡ said.before
 SaysOutcome said outcome.Budget = TakesBeginning said.before said.after budget_text
 SaysOutcome said (outcome.Trapped pc cause) = Says said (trap_text pc cause)
 SaysOutcome said (outcome.Port fault) = Says said (port_text fault)
+
+-- the same of a program that is interpreted, whose names have these texts
+abbrev pub SaysRun : Texts → Said → Run → Type 0
+SaysRun texts said (run.Ended status) = said.after ≡ said.before
+SaysRun texts said (run.Undefined act at) = Says said (undefined_text (file_name_of texts at.file) at.line act)
+SaysRun texts said run.TicksUsed = TakesBeginning said.before said.after budget_text
+SaysRun texts said (run.Port fault) = Says said (port_text fault)
+SaysRun texts said run.Memory = TakesBeginning said.before said.after memory_text

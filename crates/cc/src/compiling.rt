@@ -13,10 +13,10 @@ ghost use Rattle.cc.specs.thin.inside.Range.{IsBuildable};
 ghost use Rattle.cc.specs.thin.inside.Selected.{program_items, frame_of, main_slots};
 ghost use Rattle.cc.specs.thin.inside.Weight.{main_nodes};
 
-use crate::front::{c_tokens, preprocessed, syntax_tree};
+use crate::front::checked_unit;
 use crate::stopping::Stop;
 use crate::thin::narrowing::narrow;
-use crate::thin::program::Program;
+use crate::thin::thin_program::Program;
 use crate::thin::selection::{Selected, select};
 use crate::thin::weighing::main_weight;
 use asm::assemble;
@@ -39,8 +39,8 @@ pub struct Built {
 /// The executable file of the program in the file `main` of the set.
 ///
 /// Refuses with the fault of its preprocessing tokens (103; 111 to 113, 703; 201 to 235, 704 to 708), of its C tokens (301 to 303,
-/// 601 to 609) or of its tree (401, 709 to 711), in this order; with 699 where its tree is not of the form that is built
-/// today; and with 801 where there is no memory.
+/// 601 to 609), of its tree (401, 709 to 711), or of a constraint that this breaks (501 to 553, 620 to 623, 712 to 715), in this
+/// order; with 699 where its tree is not of the form that is built today; and with 801 where there is no memory.
 pub fn compile(alloc: Global, set: &FileSet, main: &str) -> Result<Built, Fault>
     ensures built { IfOk result (λ built. Compiles set.now main.now built) }
     ensures refused { IfErr result (λ fault. IsRefused set.now main.now fault) }
@@ -51,16 +51,14 @@ pub fn compile(alloc: Global, set: &FileSet, main: &str) -> Result<Built, Fault>
     }
 }
 
-/// The phases in their order (ISO/IEC 9899:2011 5.1.1.2), a call each.
+/// The phases in their order (ISO/IEC 9899:2011 5.1.1.2).
 fn by_phases(alloc: Global, set: &FileSet, main: &str) -> Result<Built, Stop>
     ensures built { IfOk result (λ built. Compiles set.now main.now built) }
     ensures stops { IfErr result (λ stop. Stops set.now main.now stop) }
 {
     let mut names = Names::new(alloc);
-    let list = preprocessed(alloc, set, main, &mut names)?;
-    let tokens = c_tokens(alloc, list.as_slice(), &mut names)?;
-    let unit = syntax_tree(alloc, tokens.as_slice(), &names)?;
-    build_unit(alloc, &unit, &names)
+    let checked = checked_unit(alloc, set, main, &mut names)?;
+    build_unit(alloc, &checked.unit, &names)
 }
 
 /// The executable file of a translation unit.

@@ -1,4 +1,4 @@
-//! From a set of files to the syntax tree, a function for each step.
+//! From a set of files to the typed program, a function for each step.
 
 ghost use Rattle.std.specs.Prelude.{◌≡◌, ◌⊎◌, ℕ, [], Some, slice_get, IfOk, IfErr, OnOk};
 ghost use Rattle.srcset.specs.NameTable.{Texts, KeepsNumbers, NumbersOnce};
@@ -7,17 +7,41 @@ ghost use Rattle.lexer.specs.CTokens.{ctokens};
 ghost use Rattle.lexer.specs.Numbering.{AreAll, IsTokenFault};
 ghost use Rattle.parser.specs.Units.{IsTreeWithin, IsOnly, IsFaultOfUnit};
 ghost use Rattle.tree.specs.View.{unit_of};
-ghost use Rattle.cc.specs.Compiled.{HasList, FailsPreprocessing};
-ghost use Rattle.cc.specs.inside.Stops.{IsTold};
+ghost use Rattle.program.specs.View.{program_of};
+ghost use Rattle.cc.specs.Compiled.{HasList, HasProgram, IsProgramOf, BreaksConstraint, FailsPreprocessing};
+ghost use Rattle.cc.specs.inside.Stops.{IsTold, StopsBefore};
 
 use crate::stopping::Stop;
+use checker::check;
 use lexer::{Token, tokens};
 use parser::parse;
 use phases::PpToken;
 use pp::preprocess;
-use srcset::{FileSet, Names};
+use program::Program;
+use srcset::{FileSet, Names, Pos};
 use std::alloc::Global;
 use tree::Unit;
+
+/// A translation unit that breaks no constraint: its tree, and its typed program.
+#[derive(Drop)]
+pub struct Checked {
+    pub unit: Unit,
+    pub program: Program,
+}
+
+/// The program of a set of files, from the one of this name on: the phases in their order (ISO/IEC 9899:2011 5.1.1.2), a
+/// call each.
+pub fn checked_unit(alloc: Global, set: &FileSet, main: &str, names: &mut Names) -> Result<Checked, Stop>
+    requires new { names.old ≡ [] }
+    ensures program { IfOk result (λ c. HasProgram set.now main.now names.new (unit_of c.unit) (program_of c.program)) }
+    ensures stops { IfErr result (λ stop. StopsBefore set.now main.now stop) }
+{
+    let list = preprocessed(alloc, set, main, names)?;
+    let tokens = c_tokens(alloc, list.as_slice(), names)?;
+    let unit = syntax_tree(alloc, tokens.as_slice(), names)?;
+    let program = typed_program(alloc, &unit, names, main)?;
+    Ok(Checked { unit, program })
+}
 
 /// The preprocessing tokens of a set of files, from the one of this name on: translation phases 1 to 4
 /// (ISO/IEC 9899:2011 5.1.1.2).
@@ -85,6 +109,21 @@ pub fn syntax_tree(alloc: Global, tokens: &[Token], names: &Names) -> Result<Uni
 {
     match parse(alloc, tokens, names) {
         Ok(unit) => Ok(unit),
+        Err(fault) => Err(Stop::Told(fault)),
+    }
+}
+
+/// The typed program, of a unit that breaks no constraint: translation phase 7.
+pub fn typed_program(alloc: Global, unit: &Unit, names: &Names, main: &str) -> Result<Program, Stop>
+    requires { (n : ℕ) × (slice_get names.now n ≡ Some main.now) }
+    ensures ok { IfOk result (λ p. IsProgramOf main.now names.now (unit_of unit.now) (program_of p)) }
+    ensures stops { IfErr result (IsTold (BreaksConstraint main.now names.now (unit_of unit.now))) }
+{
+    let Some(file) = names.find(main.as_bytes()) else {
+        unreachable!()
+    };
+    match check(alloc, unit, names, Pos { file, line: 1 }) {
+        Ok(program) => Ok(program),
         Err(fault) => Err(Stop::Told(fault)),
     }
 }

@@ -1,15 +1,16 @@
 //! One command over a port and two writers.
 
 ghost use Rattle.std.specs.Prelude.{◌≡◌, ◌≢◌, ◌⊎◌, List, ℕ, MatchResult, Some, Ok};
-ghost use Rattle.cc.specs.Performed.{Performs, Runs, Builds, BuildsInto, FailsBuild, Prints, PrintsAll, FailsPrint, exit_status};
+ghost use Rattle.cc.specs.Performed.{Performs, Runs, Interprets, interpreted_status, Builds, BuildsInto, FailsBuild, Prints, PrintsAll, FailsPrint, exit_status};
 ghost use Rattle.cc.specs.inside.Stops.{put_stop, load_stop};
-ghost use Rattle.cc.specs.Reported.{SaysOutcome};
+ghost use Rattle.cc.specs.Reported.{SaysOutcome, SaysRun};
 
 use crate::compiling::compile;
-use crate::front::preprocessed;
-use crate::reporting::{say_budget, say_fault, say_port, say_trap};
+use crate::front::{checked_unit, preprocessed};
+use crate::reporting::{say_budget, say_fault, say_memory, say_port, say_trap, say_undefined};
 use crate::stopping::Stop;
 use crate::transfer::put_all;
+use interpreter::{Run, interpret};
 use loader::{LoadFault, load};
 use pp::print;
 use sim::{Machine, Outcome, Port, PortFault};
@@ -26,6 +27,8 @@ pub enum Cmd<'c> {
     Pp,
     /// Run the executable file over the port, for at most so many instructions.
     Run(u64),
+    /// Interpret the program of the main file over the port, for at most so many ticks.
+    Interp(u64),
 }
 
 /// Carries a command out, and answers the exit status.
@@ -35,7 +38,9 @@ pub enum Cmd<'c> {
 /// one space between, and a newline; 0, or 1 with the line of the fault on `err`. `Run` runs the executable file of the name `main` and the bytes `file` over
 /// the port: the program's status, or, each with one line on `err`, 1 where the file is refused or memory runs
 /// out, 124 where it did not end within the instructions allowed, 125 where it trapped, and 126 where the port
-/// refused. In place of a line for which there is no memory, that of 801 is written. What `err` refuses is left
+/// refused. `Interp` does what the program of the file `main` of the set means, over the port: the program's status, or, each
+/// with one line on `err`, 1 where the set is refused or memory runs out, 123 at an undefined act, 124 where it did not end within
+/// the ticks allowed, and 126 where the port refused. In place of a line for which there is no memory, that of 801 is written. What `err` refuses is left
 /// out.
 pub fn perform<P: Port, W: Write, E: Write>(
     alloc: Global,
@@ -53,6 +58,7 @@ pub fn perform<P: Port, W: Write, E: Write>(
         Cmd::Build(name) => build(alloc, set, main, name, port, err),
         Cmd::Pp => print_tokens(alloc, set, main, out, err),
         Cmd::Run(max) => run(alloc, main, file, port, max, err),
+        Cmd::Interp(max) => interp(alloc, set, main, port, max, err),
     }
 }
 
@@ -186,6 +192,56 @@ fn status<E: Write>(alloc: Global, outcome: Outcome, err: &mut E) -> u8
         Outcome::Port(fault) => {
             say_port(alloc, fault, err);
             126
+        }
+    }
+}
+
+/// Interprets the program of the set.
+fn interp<P: Port, E: Write>(
+    alloc: Global,
+    set: &FileSet,
+    main: &str,
+    port: &mut P,
+    max: u64,
+    err: &mut E,
+) -> u8
+    ensures { Interprets set.now main.now max (P.refused_with port.new) (P.seen port.old) (P.seen port.new) (record { before = E.contents err.old; after = E.contents err.new }) result }
+{
+    let mut names = Names::new(alloc);
+    match checked_unit(alloc, set, main, &mut names) {
+        Ok(checked) => {
+            let done = interpret(alloc, &checked.program, port, max);
+            run_status(alloc, &names, done.run, err)
+        }
+        Err(stop) => {
+            say_fault(alloc, &stop.to_fault(alloc, main), err);
+            1
+        }
+    }
+}
+
+/// The exit status of a program that was interpreted, and its line where it did not end by itself.
+fn run_status<E: Write>(alloc: Global, names: &Names, run: Run, err: &mut E) -> u8
+    ensures status { result ≡ interpreted_status run }
+    ensures says { SaysRun names.now (record { before = E.contents err.old; after = E.contents err.new }) run }
+{
+    match run {
+        Run::Ended(status) => status,
+        Run::Undefined(act, at) => {
+            say_undefined(alloc, names, act, at, err);
+            123
+        }
+        Run::TicksUsed => {
+            say_budget(err);
+            124
+        }
+        Run::Port(fault) => {
+            say_port(alloc, fault, err);
+            126
+        }
+        Run::Memory => {
+            say_memory(err);
+            1
         }
     }
 }

@@ -1,12 +1,14 @@
 //! What the program says on standard error.
 
 ghost use Rattle.std.specs.Prelude.{◌≡◌, IfOk, MatchResult};
-ghost use Rattle.cc.specs.Reported.{Says, fault_text, memory_text, budget_text, trap_text, port_text, cause_name};
+ghost use Rattle.srcset.specs.NameTable.{file_name_of};
+ghost use Rattle.cc.specs.Reported.{Says, fault_text, memory_text, budget_text, trap_text, undefined_text, port_text, cause_name};
 ghost use Rattle.srcset.specs.Writing.{TakesBeginning};
 
+use ctypes::Undef;
 use rv32::Cause;
 use sim::PortFault;
-use srcset::{Fault, write_text};
+use srcset::{Fault, Names, Pos, write_text};
 use std::alloc::{AllocError, Global};
 use std::io::Write;
 
@@ -64,6 +66,34 @@ fn trap_text(alloc: Global, pc: u32, cause: Cause) -> Result<Vec<u8>, AllocError
 {
     let line = format!(in alloc; "cc: trap {} at 0x{pc:08X}\n", cause_name(cause))?;
     Ok(line.into_bytes())
+}
+
+/// Which undefined act a program did, and where.
+pub fn say_undefined<E: Write>(alloc: Global, names: &Names, act: Undef, at: Pos, err: &mut E)
+    ensures { Says (record { before = E.contents err.old; after = E.contents err.new }) (undefined_text (file_name_of names.now at.file) at.line act) }
+{
+    say(
+        err,
+        undefined_text(alloc, names.file_name(at.file), at.line, act),
+    );
+}
+
+fn undefined_text(alloc: Global, file: &str, line: u32, act: Undef) -> Result<Vec<u8>, AllocError>
+    ensures { IfOk result (λ t. t.items ≡ undefined_text file.now line act) }
+{
+    let text = if file.is_empty() {
+        format!(in alloc; "cc: undefined U{}\n", act.number())?
+    } else {
+        format!(in alloc; "{file}:{line}: undefined U{}\n", act.number())?
+    };
+    Ok(text.into_bytes())
+}
+
+/// That there was no memory, which takes none to say.
+pub fn say_memory<E: Write>(err: &mut E)
+    ensures { TakesBeginning (E.contents err.old) (E.contents err.new) memory_text }
+{
+    let _whole = write_text(err, OUT_OF_MEMORY);
 }
 
 /// That the port refused.

@@ -76,6 +76,7 @@ fn answer(rt: &HostRuntime, matches: &ArgMatches<'_>) -> Result<u8> {
         Cmd::Build(out) => build(rt, request, out, matches),
         Cmd::Pp => print_tokens(rt, request, matches),
         Cmd::Run(_) => run(rt, request),
+        Cmd::Interp(_) => interp(rt, request, matches),
     }
 }
 
@@ -131,13 +132,26 @@ fn print_tokens(rt: &HostRuntime, request: Request<'_>, matches: &ArgMatches<'_>
     Ok(status)
 }
 
-/// Runs the executable file over standard input and output. One line at the most is said: that the output was
-/// refused at last goes before how the run stopped.
+/// Runs the executable file over standard input and output.
 fn run(rt: &HostRuntime, request: Request<'_>) -> Result<u8> {
-    let file = match fs::read(rt, request.main) {
-        Ok(file) => file,
-        Err(error) => return Ok(say(rt, &unread(rt.alloc(), request.main, &error))),
-    };
+    match fs::read(rt, request.main) {
+        Ok(file) => over_streams(rt, request, &FileSet::new(rt.alloc()), file.as_slice()),
+        Err(error) => Ok(say(rt, &unread(rt.alloc(), request.main, &error))),
+    }
+}
+
+/// Interprets the program of the files over standard input and output.
+fn interp(rt: &HostRuntime, request: Request<'_>, matches: &ArgMatches<'_>) -> Result<u8> {
+    let mut set = FileSet::new(rt.alloc());
+    match read_files(rt, request.main, matches, &mut set) {
+        Ok(()) => over_streams(rt, request, &set, b""),
+        Err(fault) => Ok(say(rt, &fault)),
+    }
+}
+
+/// A command over standard input and output. One line at the most is said: that the output was refused at last goes before
+/// how the run stopped.
+fn over_streams(rt: &HostRuntime, request: Request<'_>, set: &FileSet, file: &[u8]) -> Result<u8> {
     let input = BufReader::new(rt.alloc(), rt.stdin())?;
     let output = BufWriter::new(rt.alloc(), rt.stdout())?;
     let mut port = IoPort::new(input, output);
@@ -145,9 +159,9 @@ fn run(rt: &HostRuntime, request: Request<'_>) -> Result<u8> {
     let status = perform(
         rt.alloc(),
         request.command,
-        &FileSet::new(rt.alloc()),
+        set,
         request.main,
-        file.as_slice(),
+        file,
         &mut port,
         &mut io::sink(),
         &mut line,

@@ -20,7 +20,8 @@ pub fn command<'a>(alloc: Global) -> Result<Command<'a>, AllocError> {
         .disable_help_subcommand(true)
         .subcommand(build(alloc)?)?
         .subcommand(pp(alloc)?)?
-        .subcommand(run(alloc)?)
+        .subcommand(run(alloc)?)?
+        .subcommand(interp(alloc)?)
 }
 
 /// The argument of the main file.
@@ -34,6 +35,15 @@ fn files<'a>(alloc: Global) -> Arg<'a> {
         .help("Further files")
         .action(ArgAction::Append)
         .num_args(0..)
+}
+
+/// The argument of how far a run may go.
+fn most<'a>(alloc: Global) -> Arg<'a> {
+    Arg::new(alloc, "max")
+        .long("max")
+        .value_name("N")
+        .value_parser(value_parser!(u64).range(1..=9223372036854775807))
+        .default_value("1000000000")
 }
 
 fn build<'a>(alloc: Global) -> Result<Command<'a>, AllocError> {
@@ -59,16 +69,18 @@ fn run<'a>(alloc: Global) -> Result<Command<'a>, AllocError> {
     let file = Arg::new(alloc, "FILE")
         .help("The executable file")
         .required(true);
-    let max = Arg::new(alloc, "max")
-        .long("max")
-        .value_name("N")
-        .help("At most this many instructions")
-        .value_parser(value_parser!(u64).range(1..=9223372036854775807))
-        .default_value("1000000000");
     Command::new(alloc, "run")
         .about("Runs an executable file over standard input and output")
         .arg(file)?
-        .arg(max)
+        .arg(most(alloc).help("At most this many instructions"))
+}
+
+fn interp<'a>(alloc: Global) -> Result<Command<'a>, AllocError> {
+    Command::new(alloc, "interp")
+        .about("Interprets a program over standard input and output")
+        .arg(main_file(alloc))?
+        .arg(files(alloc))?
+        .arg(most(alloc).help("At most this many ticks"))
 }
 
 /// The request that a parse found.
@@ -86,6 +98,10 @@ pub fn read_request<'a>(matches: &ArgMatches<'a>) -> Option<Request<'a>> {
         "run" => Some(Request {
             command: Cmd::Run(inner.get_one::<u64>("max")?),
             main: inner.get_str("FILE")?,
+        }),
+        "interp" => Some(Request {
+            command: Cmd::Interp(inner.get_one::<u64>("max")?),
+            main: inner.get_str("MAIN")?,
         }),
         _ => None,
     }

@@ -116,3 +116,28 @@ pub fn text(alloc: Global, fields: &[u8]) -> Result<Vec<u8>> {
     let file = write_elf(alloc, &image)?;
     run(alloc, file.as_slice(), number_of(field(fields, 1)))?.fields(alloc)
 }
+
+/// A source, the input of its program, and for how many ticks: what was put, the status and the line of interpreting it.
+pub fn interpreted(alloc: Global, fields: &[u8]) -> Result<Vec<u8>> {
+    let mut set = FileSet::new(alloc);
+    set.add("main.c", bytes_of(alloc, field(fields, 0))?)?;
+    let mut port = MemPort::new(alloc, bytes_of(alloc, field(fields, 1))?);
+    let mut line = Vec::new(alloc);
+    let status = perform(
+        alloc,
+        Cmd::Interp(number_of(field(fields, 2))),
+        &set,
+        "main.c",
+        b"",
+        &mut port,
+        &mut io::sink(),
+        &mut line,
+    );
+    let mut answer = Vec::new(alloc);
+    write_field(&mut answer, port.output())?;
+    answer.push(b'\t')?;
+    write_number(&mut answer, u64::from(status))?;
+    answer.push(b'\t')?;
+    write_field(&mut answer, line.as_slice())?;
+    Ok(answer)
+}

@@ -28,9 +28,10 @@ enum Subject {
     Texts,
     Narrow,
     Printed,
+    Interpreted,
 }
 
-const FILES: [(&str, Subject); 10] = [
+const FILES: [(&str, Subject); 11] = [
     ("runs", Subject::Runs),
     ("refused", Subject::Refused),
     ("missing", Subject::Missing),
@@ -41,6 +42,7 @@ const FILES: [(&str, Subject); 10] = [
     ("texts", Subject::Texts),
     ("narrow", Subject::Narrow),
     ("printed", Subject::Printed),
+    ("interpreted", Subject::Interpreted),
 ];
 
 fn main(rt: HostRuntime) -> ExitCode {
@@ -101,7 +103,7 @@ fn write_differences(
 /// How many of a row's fields are given; the others are expected.
 fn inputs(subject: Subject) -> usize {
     match subject {
-        Subject::Parts | Subject::Cut => 3,
+        Subject::Parts | Subject::Cut | Subject::Interpreted => 3,
         Subject::Texts | Subject::Narrow => 2,
         _ => 1,
     }
@@ -120,5 +122,6 @@ fn found(alloc: Global, subject: Subject, row: Row<'_>) -> Result<Vec<u8>> {
         Subject::Texts => commands::text(alloc, row.input),
         Subject::Narrow => narrow::run(alloc, row.input),
         Subject::Printed => commands::printed(alloc, row.input),
+        Subject::Interpreted => commands::interpreted(alloc, row.input),
     }
 }

@@ -34,7 +34,7 @@ impl Write for Narrow {
     }
 }
 
-/// `build` or `run`, and how many bytes the writer takes: the status and the line.
+/// `build`, `run` or `interp`, and how many bytes the writer takes: the status and the line.
 pub fn run(alloc: Global, fields: &[u8]) -> Result<Vec<u8>> {
     let room = usize::try_from(number_of(field(fields, 1))).unwrap_or(usize::MAX);
     let mut set = FileSet::new(alloc);
@@ -42,6 +42,7 @@ pub fn run(alloc: Global, fields: &[u8]) -> Result<Vec<u8>> {
     let file = build(alloc, SOURCE)?.output;
     let (command, main) = match field(fields, 0) {
         b"build" => (Cmd::Build("out"), "main.c"),
+        b"interp" => (Cmd::Interp(1000), "main.c"),
         _ => (Cmd::Run(1000), "out"),
     };
     let mut port = IoPort::new(io::empty(), Narrow { room });

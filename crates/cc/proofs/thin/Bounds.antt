@@ -9,7 +9,7 @@ use Rattle.tree.specs.Tree as tree
 use Rattle.tree.specs.Tree.{Tree}
 use Rattle.tree.specs.Counts as counts
 use Rattle.tree.specs.Counts.{weight_of}
-use Rattle.cc.specs.declared.thin.program.BinaryOperator.{BinaryOperator}
+use Rattle.cc.specs.declared.thin.thin_program.BinaryOperator.{BinaryOperator}
 use Rattle.cc.specs.thin.Sums.{SumTree, constant, binary, Main}
 use Rattle.parser.specs.Units.{Limit, of_depth, of_function, Keeps}
 use Rattle.cc.specs.Compiled.{definitions, function_weight}

@@ -9,7 +9,7 @@ use Rattle.parser.specs.Units.{Limit, Keeps}
 use Rattle.cc.specs.declared.stopping.Stop.{Stop}
 use Rattle.cc.specs.declared.stopping.Stop.TheVariants.{Memory, At}
 use Rattle.cc.specs.declared.compiling.Built.{Built}
-use Rattle.cc.specs.declared.thin.program.Program.{Program}
+use Rattle.cc.specs.declared.thin.thin_program.Program.{Program}
 use Rattle.cc.specs.Compiled.{IsBuiltOf, BuildsUnit, frames_of, function_weight}
 use Rattle.cc.specs.inside.Stops.{narrowed_of, StopsUnit, IsMemory}
 use Rattle.cc.specs.thin.Sums.{Main, main_of}

@@ -11,8 +11,8 @@ use Rattle.asm.specs.Placed.{Stands}
 use Rattle.running.specs.Light.{Fixed, Light, Go, with_reg, with_word, Comes}
 use Rattle.running.proofs.Steps.{comes_some, comes_by, on_lui, on_immediate, on_load, on_store, on_op}
 use Rattle.running.proofs.Placing.{after_items, stands_parts}
-use Rattle.cc.specs.declared.thin.program.BinaryOperator.{BinaryOperator}
-use Rattle.cc.specs.declared.thin.program.BinaryOperator.TheVariants as operator
+use Rattle.cc.specs.declared.thin.thin_program.BinaryOperator.{BinaryOperator}
+use Rattle.cc.specs.declared.thin.thin_program.BinaryOperator.TheVariants as operator
 use Rattle.cc.specs.thin.Sums.{SumTree, constant, binary}
 use Rattle.cc.specs.thin.Meaning.{value, combined, result}
 use Rattle.cc.specs.thin.inside.Selected.{slots, expr_items, register_op_of}

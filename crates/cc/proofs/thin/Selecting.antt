@@ -3,7 +3,7 @@ use Rattle.std.proofs.Common.{◌≡◌, ℕ, zero, suc, ◌+◌, ◌<◌, ◌�
 use Rattle.std.specs.Ordering.{ord_max}
 use Rattle.std.proofs.lemmas.Bool.Decides.{nat_tests}
 use Rattle.std.proofs.Math.Seq.{take-suc}
-use Rattle.cc.specs.declared.thin.program.Sum.{Sum}
+use Rattle.cc.specs.declared.thin.thin_program.Sum.{Sum}
 use Rattle.cc.specs.thin.Sums.{sum_of}
 use Rattle.cc.specs.thin.inside.Selected.{slots, most_slots, expr_items, put_items, puts_items}
 

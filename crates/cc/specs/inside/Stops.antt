@@ -14,9 +14,9 @@ use Rattle.sim.specs.declared.port.PortFault.{PortFault}
 use Rattle.sim.specs.declared.port.PortFault.TheVariants as port_fault
 use Rattle.cc.specs.declared.stopping.Stop.{Stop}
 use Rattle.cc.specs.declared.stopping.Stop.TheVariants.{Memory, At, Told}
-use Rattle.cc.specs.declared.thin.program.Program.{Program}
+use Rattle.cc.specs.declared.thin.thin_program.Program.{Program}
 use Rattle.cc.specs.thin.Form.{thin_in}
-use Rattle.cc.specs.Compiled.{IsRefused}
+use Rattle.cc.specs.Compiled.{HasNoProgram, IsRefused}
 
 -- the fault that tells it, where the command names this file; only the copy of the name may run out of memory
 abbrev pub IsToldAs : List ℕ → Stop → Fault → Type 0
@@ -35,6 +35,10 @@ abbrev pub IsMemory : Stop → Type 0
 IsMemory Memory = Unit {0}
 IsMemory (At code line) = ⊥
 IsMemory (Told told) = IsMemoryFault told
+
+-- each fault that tells it is one for which this main file has no program
+abbrev pub StopsBefore : Files → List ℕ → Stop → Type 0
+StopsBefore set name stop = (fault : Fault) → IsToldAs name stop fault → HasNoProgram set name fault
 
 -- each fault that tells it is one for which this main file is refused
 abbrev pub Stops : Files → List ℕ → Stop → Type 0

@@ -11,8 +11,8 @@ use Rattle.tree.specs.declared.expression.BinaryOp.{BinaryOp}
 use Rattle.tree.specs.declared.expression.BinaryOp.TheVariants as binary_op
 use Rattle.tree.specs.Tree as tree
 use Rattle.tree.specs.Tree.{Tree}
-use Rattle.cc.specs.declared.thin.program.BinaryOperator.{BinaryOperator}
-use Rattle.cc.specs.declared.thin.program.BinaryOperator.TheVariants.{Add, Subtract}
+use Rattle.cc.specs.declared.thin.thin_program.BinaryOperator.{BinaryOperator}
+use Rattle.cc.specs.declared.thin.thin_program.BinaryOperator.TheVariants.{Add, Subtract}
 use Rattle.cc.specs.thin.Sums.{SumTree, constant, binary, Main}
 
 -- ---- expressions

@@ -1,8 +1,8 @@
 -- What a program means: the bytes that it writes and its status, over whole numbers.
 use Rattle.std.specs.Prelude.{ℕ, ℤ, pos, negsuc, ◌+ℤ◌, ◌-ℤ◌, ◌-◌, ◌%◌, ◌^◌, ◌&&◌, Bool, int_le, if◌then◌else◌, List, [], ◌∷◌, Option, Some, None}
 use Rattle.std.specs.Int.{w32, cast_unsigned}
-use Rattle.cc.specs.declared.thin.program.BinaryOperator.{BinaryOperator}
-use Rattle.cc.specs.declared.thin.program.BinaryOperator.TheVariants.{Add, Subtract}
+use Rattle.cc.specs.declared.thin.thin_program.BinaryOperator.{BinaryOperator}
+use Rattle.cc.specs.declared.thin.thin_program.BinaryOperator.TheVariants.{Add, Subtract}
 use Rattle.cc.specs.thin.Sums.{SumTree, constant, binary, Main}
 
 -- a number that int can represent: -2147483648 to 2147483647 (6.2.6.2)

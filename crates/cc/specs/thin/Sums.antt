@@ -1,9 +1,9 @@
 -- Programs as trees, apart from how the code holds them.
 use Rattle.std.specs.Prelude.{ℕ, List, map}
-use Rattle.cc.specs.declared.thin.program.BinaryOperator.{BinaryOperator}
-use Rattle.cc.specs.declared.thin.program.Sum.{Sum, fold-Sum}
-use Rattle.cc.specs.declared.thin.program.Sum.TheOpen.{Sum-F}
-use Rattle.cc.specs.declared.thin.program.Program.{Program}
+use Rattle.cc.specs.declared.thin.thin_program.BinaryOperator.{BinaryOperator}
+use Rattle.cc.specs.declared.thin.thin_program.Sum.{Sum, fold-Sum}
+use Rattle.cc.specs.declared.thin.thin_program.Sum.TheOpen.{Sum-F}
+use Rattle.cc.specs.declared.thin.thin_program.Program.{Program}
 
 -- an expression: a constant, or an operator between two operands (6.5.1, 6.5.6)
 pub data SumTree : Type 0 where

@@ -7,7 +7,7 @@ ghost use Rattle.cc.specs.thin.Sums.{sum_of};
 ghost use Rattle.cc.specs.thin.Form as thin;
 ghost use Rattle.cc.specs.thin.inside.Narrowed.{option_sum, option_main, following};
 
-use crate::thin::program::{BinaryOperator, Program, Sum};
+use crate::thin::thin_program::{BinaryOperator, Program, Sum};
 use ctypes::IntType;
 use srcset::Names;
 use std::alloc::{AllocError, Global};

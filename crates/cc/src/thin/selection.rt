@@ -9,7 +9,7 @@ ghost use Rattle.cc.specs.thin.inside.Range.{MainIsInts};
 ghost use Rattle.cc.specs.thin.inside.Selected as selected;
 ghost use Rattle.cc.specs.thin.inside.Selected.{expr_items, puts_items, put_items, main_items, main_slots, most_slots, program_items, frame_of};
 
-use crate::thin::program::{BinaryOperator, Program, Sum};
+use crate::thin::thin_program::{BinaryOperator, Program, Sum};
 use asm::{Item, Items, ItemsBuilder, Label};
 use loader::memory_map::STACK_END;
 use rv32::{Five, ImmediateOp, Instr, LoadKind, RegisterOp, Short, StoreKind};

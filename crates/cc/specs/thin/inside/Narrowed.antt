@@ -1,7 +1,7 @@
 -- What the code's programs hold, where there is one.
 use Rattle.std.specs.Prelude.{Option, Some, None, List, ◌++◌}
-use Rattle.cc.specs.declared.thin.program.Sum.{Sum}
-use Rattle.cc.specs.declared.thin.program.Program.{Program}
+use Rattle.cc.specs.declared.thin.thin_program.Sum.{Sum}
+use Rattle.cc.specs.declared.thin.thin_program.Program.{Program}
 use Rattle.cc.specs.thin.Sums.{SumTree, sum_of, Main, main_of}
 
 abbrev pub option_sum : Option Sum → Option SumTree

@@ -9,8 +9,8 @@ use Rattle.rv32.specs.declared.instr.StoreKind.TheVariants as store_kind
 use Rattle.loader.specs.MemoryMap.{stack_end}
 use Rattle.asm.specs.declared.item.Item.{Item}
 use Rattle.asm.specs.declared.item.Item.TheVariants.{Mark, Plain, Call, Constant}
-use Rattle.cc.specs.declared.thin.program.BinaryOperator.{BinaryOperator}
-use Rattle.cc.specs.declared.thin.program.BinaryOperator.TheVariants as operator
+use Rattle.cc.specs.declared.thin.thin_program.BinaryOperator.{BinaryOperator}
+use Rattle.cc.specs.declared.thin.thin_program.BinaryOperator.TheVariants as operator
 use Rattle.cc.specs.thin.Sums.{SumTree, constant, binary, Main}
 
 -- the slots of four bytes that an expression is evaluated in: its value goes to the first,

@@ -1,0 +1,18 @@
+-- The typed program of a unit, at the place where what concerns it as a whole stands.
+use Rattle.std.proofs.Common.{◌≡◌, ℕ, List}
+use Rattle.srcset.specs.NameTable.{Texts}
+use Rattle.srcset.specs.declared.fault.Fault.{Fault}
+use Rattle.tree.specs.Tree.{ExternalTree}
+use Rattle.typed.specs.Program.{Program}
+use Rattle.typed.specs.Verdict.{Verdict}
+use Rattle.typed.specs.Units.{unit_typed}
+use Rattle.checker.specs.Told.{IsFaultOfVerdict}
+use Rattle.cc.specs.Compiled.{typed_at}
+
+pub verdict_at : (texts : Texts) (file : ℕ) (unit : List ExternalTree) (v : Verdict Program) → unit_typed texts (record { file = file; line = 1 }) unit ≡ v → typed_at texts file unit ≡ v
+unfolding typed_at
+verdict_at texts file unit v e = e
+
+pub fault_at : (texts : Texts) (file : ℕ) (unit : List ExternalTree) (fault : Fault) → IsFaultOfVerdict fault texts (unit_typed texts (record { file = file; line = 1 }) unit) → IsFaultOfVerdict fault texts (typed_at texts file unit)
+unfolding typed_at
+fault_at texts file unit fault h = h

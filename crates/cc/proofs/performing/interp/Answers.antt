@@ -1,0 +1,24 @@
+use Rattle.std.proofs.Common.{inl, inr, refl}
+use Rattle.tree.specs.View.{unit_of}
+use Rattle.program.specs.View.{program_of}
+use Rattle.cc.proofs.performing.interp.Goals as goal
+
+pub returns-in-Ok : goal.returns-in-Ok
+returns-in-Ok g c = inl (record {
+  texts = c.checked_unit.new.names;
+  unit = unit_of c.in-Ok.checked.unit;
+  program = program_of c.in-Ok.checked.program;
+  has_program = c.in-Ok.ensures.program;
+  interpreted_as = record {
+    run = c.interpret.result.run;
+    greatest = c.interpret.result.greatest;
+    status_is = c.run_status.ensures.status;
+    says = c.run_status.ensures.says;
+    meets = c.interpret.ensures.meets;
+    counts = c.interpret.ensures.counts;
+    blames = c.interpret.ensures.fault;
+  };
+})
+
+pub returns-in-Err : goal.returns-in-Err
+returns-in-Err g c = inr (refl, refl, (c.to_fault.result, c.in-Err.ensures.stops c.to_fault.result c.to_fault.ensures, c.say_fault.ensures))
