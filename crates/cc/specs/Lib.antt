@@ -15,7 +15,7 @@ pub use Rattle.tree.specs.Counts
 pub use Rattle.parser.specs.Units
 pub use Rattle.typed.specs.Program
 pub use Rattle.typed.specs.Verdict
-pub use Rattle.typed.specs.Units
+pub use Rattle.typed.specs.Units as TypedUnits
 pub use Rattle.checker.specs.Told
 pub use Rattle.meaning.specs.Meaning
 pub use Rattle.interpreter.specs.Interpreting

@@ -1,9 +1,9 @@
 -- What the program says on standard error.
-use Rattle.std.specs.Prelude.{◌≡◌, ◌⊎◌, ℕ, ◌-◌, ◌^◌, List, ◌++◌, Option, codes, decimal, true, false, []}
+use Rattle.std.specs.Prelude.{◌≡◌, ◌⊎◌, ℕ, ◌-◌, ◌^◌, List, ◌++◌, ◌∷◌, Option, codes, decimal, true, false, []}
 use Rattle.std.specs.Fmt.{digits, padded_integral, format_spec}
 use Rattle.srcset.specs.declared.fault.Fault.{Fault}
 use Rattle.srcset.specs.Codes.{number_of}
-use Rattle.srcset.specs.Fault.{fault_line, place_text}
+use Rattle.srcset.specs.Fault.{fault_line}
 use Rattle.srcset.specs.NameTable.{Texts, file_name_of}
 use Rattle.srcset.specs.Writing.{TakesBeginning}
 use Rattle.ctypes.specs.declared.operators.Undef.{Undef}
@@ -47,7 +47,8 @@ trap_text pc cause = codes "cc: trap " ++ cause_name cause ++ codes " at 0x" ++ 
 
 -- an undefined act at a line of a file, which is named as in a fault
 abbrev pub undefined_text : (file : List ℕ) → (line : ℕ) → Undef → List ℕ
-undefined_text file line act = place_text file line ++ codes "undefined U" ++ decimal (arithmetic.number_of act) ++ codes "\n"
+undefined_text [] line act = codes "cc: undefined U" ++ decimal (arithmetic.number_of act) ++ codes "\n"
+undefined_text (b ∷ bs) line act = (b ∷ bs) ++ codes ":" ++ decimal line ++ codes ": undefined U" ++ decimal (arithmetic.number_of act) ++ codes "\n"
 
 abbrev pub port_text : PortFault → List ℕ
 port_text fault = codes "cc: port fault " ++ decimal (number_of (code_of fault)) ++ codes "\n"

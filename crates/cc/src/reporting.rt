@@ -1,6 +1,7 @@
 //! What the program says on standard error.
 
-ghost use Rattle.std.specs.Prelude.{◌≡◌, IfOk, MatchResult};
+ghost use Rattle.std.specs.Prelude.{◌≡◌, ◌++◌, [], codes, decimal, IfOk, MatchResult};
+ghost use Rattle.ctypes.specs.Arithmetic.{number_of};
 ghost use Rattle.srcset.specs.NameTable.{file_name_of};
 ghost use Rattle.cc.specs.Reported.{Says, fault_text, memory_text, budget_text, trap_text, undefined_text, port_text, cause_name};
 ghost use Rattle.srcset.specs.Writing.{TakesBeginning};
@@ -81,11 +82,33 @@ pub fn say_undefined<E: Write>(alloc: Global, names: &Names, act: Undef, at: Pos
 fn undefined_text(alloc: Global, file: &str, line: u32, act: Undef) -> Result<Vec<u8>, AllocError>
     ensures { IfOk result (λ t. t.items ≡ undefined_text file.now line act) }
 {
-    let text = if file.is_empty() {
-        format!(in alloc; "cc: undefined U{}\n", act.number())?
-    } else {
-        format!(in alloc; "{file}:{line}: undefined U{}\n", act.number())?
-    };
+    if file.is_empty() {
+        return nowhere_text(alloc, act);
+    }
+    somewhere_text(alloc, file, line, act)
+}
+
+fn nowhere_text(alloc: Global, act: Undef) -> Result<Vec<u8>, AllocError>
+    ensures { IfOk result (λ t. t.items ≡ undefined_text [] 0 act) }
+{
+    let text = format!(in alloc; "cc: undefined U{}\n", act.number())?;
+    Ok(text.into_bytes())
+}
+
+fn somewhere_text(alloc: Global, file: &str, line: u32, act: Undef) -> Result<Vec<u8>, AllocError>
+    ensures { IfOk result (λ t. t.items ≡ file.now ++ codes ":" ++ decimal line ++ codes ": undefined U" ++ decimal (number_of act) ++ codes "\n") }
+{
+    let rest = line_text(alloc, line, act)?;
+    let mut text = Vec::new(alloc);
+    text.extend_from_slice(file.as_bytes())?;
+    text.extend_from_slice(rest.as_slice())?;
+    Ok(text)
+}
+
+fn line_text(alloc: Global, line: u32, act: Undef) -> Result<Vec<u8>, AllocError>
+    ensures { IfOk result (λ t. t.items ≡ codes ":" ++ decimal line ++ codes ": undefined U" ++ decimal (number_of act) ++ codes "\n") }
+{
+    let text = format!(in alloc; ":{line}: undefined U{}\n", act.number())?;
     Ok(text.into_bytes())
 }
 

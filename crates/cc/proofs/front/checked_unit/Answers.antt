@@ -6,7 +6,7 @@ use Rattle.cc.proofs.front.checked_unit.Goals as goal
 pub returns-in_err-list-clause-stops : goal.returns-in_err-list-clause-stops
 returns-in_err-list-clause-stops c =
     let stop = c.in_err-list.field-0.0 in
-    handed_on c.from_residual-in_err-list.result stop _ c.from_residual-in_err-list.ensures.1 (list_stops c.args.set.now c.args.main.now stop c.in_err-list.ensures.stops)
+    handed_on c.from_residual.result stop _ c.from_residual.ensures.1 (list_stops c.args.set.now c.args.main.now stop c.in_err-list.ensures.stops)
 
 pub returns-in_err-tokens-clause-stops : goal.returns-in_err-tokens-clause-stops
 returns-in_err-tokens-clause-stops c =

@@ -1,4 +1,4 @@
-use Rattle.std.proofs.Common.{sym, ◌∙◌}
+use Rattle.std.proofs.Common.{sym, ap, ◌∙◌, Some}
 use Rattle.tree.specs.View.{unit_of}
 use Rattle.typed.specs.Verdict.{fine}
 use Rattle.program.specs.View.{program_of}
@@ -6,18 +6,20 @@ use Rattle.cc.proofs.Checks.{verdict_at, fault_at}
 use Rattle.cc.proofs.front.typed_program.Goals as goal
 
 pub unreachable-requires : goal.unreachable-requires
-unreachable-requires c = let f = sym c.in_default.is ∙ (c.find.ensures.found c.requires.0).1 c.requires.1 in absurd (cc)
+unreachable-requires c =
+    let found = (c.find.ensures.found c.requires.0).1 (c.requires.1 ∙ ap Some (sym c.as_bytes.ensures.value)) in
+    absurd (c.in_default.not-Some c.requires.0 found)
 
 pub returns-in-Ok-clause-ok : goal.returns-in-Ok-clause-ok
 returns-in-Ok-clause-ok c = record {
   file = c.in-Some.file;
-  named = (c.find.ensures.found c.in-Some.file).0 c.in-Some.is;
+  named = (c.find.ensures.found c.in-Some.file).0 c.in-Some.is ∙ ap Some c.as_bytes.ensures.value;
   typed = verdict_at c.args.names.now c.in-Some.file (unit_of c.args.unit.now) (fine (program_of c.in-Ok.program)) c.in-Ok.ensures.ok;
 }
 
 pub returns-in-Err-clause-stops : goal.returns-in-Err-clause-stops
 returns-in-Err-clause-stops c = record {
   file = c.in-Some.file;
-  named = (c.find.ensures.found c.in-Some.file).0 c.in-Some.is;
+  named = (c.find.ensures.found c.in-Some.file).0 c.in-Some.is ∙ ap Some c.as_bytes.ensures.value;
   fault_is = fault_at c.args.names.now c.in-Some.file (unit_of c.args.unit.now) c.in-Err.fault c.in-Err.ensures.err;
 }

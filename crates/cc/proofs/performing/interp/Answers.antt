@@ -10,15 +10,15 @@ returns-in-Ok g c = inl (record {
   program = program_of c.in-Ok.checked.program;
   has_program = c.in-Ok.ensures.program;
   interpreted_as = record {
-    run = c.interpret.result.run;
-    greatest = c.interpret.result.greatest;
+    run = c.interpret-done.result.run;
+    greatest = c.interpret-done.result.greatest;
     status_is = c.run_status.ensures.status;
     says = c.run_status.ensures.says;
-    meets = c.interpret.ensures.meets;
-    counts = c.interpret.ensures.counts;
-    blames = c.interpret.ensures.fault;
+    meets = c.interpret-done.ensures.meets;
+    counts = c.interpret-done.ensures.counts;
+    blames = c.interpret-done.ensures.fault;
   };
 })
 
-pub returns-in-Err : goal.returns-in-Err
-returns-in-Err g c = inr (refl, refl, (c.to_fault.result, c.in-Err.ensures.stops c.to_fault.result c.to_fault.ensures, c.say_fault.ensures))
+pub returns : goal.returns
+returns g c = inr (refl, refl, (c.to_fault.result, c.in-Err.ensures.stops c.to_fault.result c.to_fault.ensures, c.say_fault.ensures))
