@@ -31,7 +31,12 @@ pub struct Checked {
 
 /// The program of a set of files, from the one of this name on: the phases in their order (ISO/IEC 9899:2011 5.1.1.2), a
 /// call each.
-pub fn checked_unit(alloc: Global, set: &FileSet, main: &str, names: &mut Names) -> Result<Checked, Stop>
+pub fn checked_unit(
+    alloc: Global,
+    set: &FileSet,
+    main: &str,
+    names: &mut Names,
+) -> Result<Checked, Stop>
     requires new { names.old ≡ [] }
     ensures program { IfOk result (λ c. HasProgram set.now main.now names.new (unit_of c.unit) (program_of c.program)) }
     ensures stops { IfErr result (λ stop. StopsBefore set.now main.now stop) }
