@@ -696,7 +696,7 @@ else
 fi
 
 # So many checks there are; a loop that ends early, or rows that are lost, do not go unseen.
-checks=707
+checks=744
 made=$((passed + failed + skipped))
 [ $made = $checks ] || fail "$made checks were made, not $checks"
 if [ $skipped = 0 ]; then
