@@ -32,10 +32,10 @@ blocks() { awk -v n="$1" 'BEGIN { for (k = 0; k < n; k += 100) { if (k % 2000 ==
 # lines N: so many lines of statements, 4 and 6 nodes by turns, in functions of 1,000 lines
 lines() { awk -v n="$1" 'BEGIN { for (k = 0; k < n; k++) { if (k % 1000 == 0) printf "int f%d(int a, int b) {\n", k
     else if (k % 1000 == 999) print "return a; }"; else print k % 2 ? "a = b;" : "b = a - b;" } print "int main(void) { return f0(1, 2); }" }' </dev/null; }
-# nodes N: as many nodes, in statements of 10 (a call of another function in each eighth)
+# nodes N: as many nodes, or a few less, in statements of 12 (a call of another function in each eighth)
 nodes() { awk -v n="$1" 'BEGIN { f = 0; used = 8; print "int g(int a, unsigned b) { return (int)(a + b); }"
-    while (used + 10 < n) { if (c % 700 == 0) { printf "%sint f%d(int a, unsigned b) {\n", c ? "return a; }\n" : "", f++; used += 4 }
-      print c % 8 ? "if (a < b) a = b * 2 - a;" : "a += g(a, b) ? a : (int)b;"; used += 10; c++ } print "return a; }\nint main(void) { return 0; }" }' </dev/null; }
+    while (used + 12 < n) { if (c % 300 == 0) { printf "%sint f%d(int a, unsigned b) {\n", c ? "return a; }\n" : "", f++; used += 4 }
+      print c % 8 ? "if (a < b) a = b * 2 - a;" : "a += g(a, b) ? a : (int)b;"; used += 12; c++ } print "return a; }\nint main(void) { return 0; }" }' </dev/null; }
 
 # -------------------------------------------------------------- the measure
 

@@ -4,22 +4,21 @@ use Rattle.std.specs.Prelude.{nat_le, if◌then◌else◌}
 use Rattle.std.proofs.lemmas.Option.{none-some}
 use Rattle.srcset.specs.declared.refusal.Pos.{Pos}
 use Rattle.srcset.specs.declared.refusal.Refusal.{Refusal}
-use Rattle.srcset.specs.declared.refusal.Refusal.TheVariants.{Memory, At, Told}
+use Rattle.srcset.specs.declared.refusal.Refusal.TheVariants.{Memory}
 use Rattle.srcset.specs.declared.code.Code.TheVariants as code
 use Rattle.srcset.specs.NameTable.{Texts}
 use Rattle.phases.specs.Token.{Token}
 use Rattle.pp.specs.declared.conditionals.BranchState.{BranchState}
-use Rattle.pp.specs.declared.conditionals.BranchState.TheVariants.{Waiting, Taken, Past, Skipped}
+use Rattle.pp.specs.declared.conditionals.BranchState.TheVariants.{Skipped}
 use Rattle.pp.specs.declared.conditionals.Open.{Open}
 use Rattle.pp.specs.declared.state.State.{State as Held}
 use Rattle.pp.specs.Lines.{Line}
-use Rattle.pp.specs.Groups.{Role, opens, divides, closes, stands_alone, role_of, is_else, place_of, Parsed, with_line}
-use Rattle.pp.specs.Phase4.{State, Outcome, goes, stops, ◌>>=◌, fails, Around, max_conditionals, nested_done, directive_done, end_checked}
+use Rattle.pp.specs.Groups.{opens, divides, closes, stands_alone, role_of, is_else, place_of, Parsed, with_line}
+use Rattle.pp.specs.Phase4.{State, Outcome, ◌>>=◌, fails, Around, max_conditionals, nested_done, directive_done, end_checked}
 use Rattle.pp.specs.inside.Rest.{is_active, next_branch, opening, closed_by, open_at, rest_done}
-use Rattle.pp.specs.inside.Stepping.{first_of, behind_first, presumed_of, presumed_by, line_with, Agrees, Goes, Gives, Stops, StopsAs, Asks, Answers, Does, Rests, RestsOrStops}
+use Rattle.pp.specs.inside.Stepping.{first_of, behind_first, presumed_of, presumed_by, line_with, Agrees, Gives, Stops, StopsAs, Answers, Does, Rests, RestsOrStops}
 use Rattle.pp.proofs.RestLemmas.{open_rest, divide_rest, divide_amiss, divide_alone, close_rest, close_alone, directive_rest, skipped_rest}
-use Rattle.pp.proofs.StateLemmas.{true-false}
-use Rattle.pp.proofs.FileLemmas.{stops_all, stops_same}
+use Rattle.pp.proofs.FileLemmas.{stops_all}
 
 -- where a line of these conditionals stands, and what comes of it
 abbrev at_line : Texts → Held → State → List Token → Pos → Type 0

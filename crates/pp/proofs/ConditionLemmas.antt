@@ -1,16 +1,15 @@
 -- Which branches are taken.
-use Rattle.std.proofs.Common.{◌≡◌, ◌<◌, ◌≤◌, ℕ, zero, suc, ◌+◌, ◌-◌, List, [], ◌∷◌, ◌++◌, length, drop, take, Bool, true, false, Option, Some, None, Result, Ok, Err, IfOk, IfErr, OnOk, refl, sym, ap, subst, ◌∙◌, arith}
-use Rattle.std.specs.Prelude.{slice_get, slice_index_or, codes, not, ◌&&◌, ◌||◌, if◌then◌else◌, is_some}
+use Rattle.std.proofs.Common.{◌≡◌, ◌<◌, ◌≤◌, ℕ, zero, suc, ◌+◌, ◌-◌, List, [], ◌∷◌, ◌++◌, length, drop, take, Bool, true, false, Option, Some, None, Result, Ok, Err, IfOk, IfErr, refl, sym, ap, subst, ◌∙◌, arith}
+use Rattle.std.specs.Prelude.{slice_index_or, codes, ◌&&◌, if◌then◌else◌, is_some}
 use Rattle.std.proofs.lemmas.List.{take_all, length-drop}
 use Rattle.std.proofs.lemmas.Option.{none-some}
 use Rattle.srcset.specs.declared.refusal.Pos.{Pos}
 use Rattle.srcset.specs.declared.refusal.Refusal.{Refusal}
 use Rattle.srcset.specs.declared.refusal.Refusal.TheVariants.{Memory, At, Told}
-use Rattle.srcset.specs.declared.code.Code.{Code}
 use Rattle.srcset.specs.declared.code.Code.TheVariants as code
-use Rattle.srcset.specs.NameTable.{Texts, KeepsNumbers}
+use Rattle.srcset.specs.NameTable.{Texts}
 use Rattle.phases.specs.Token.{Token}
-use Rattle.macros.specs.Macro.{Macro, is_identifier, is_spelled, is_predefined, macro_named}
+use Rattle.macros.specs.Macro.{Macro, is_identifier, is_spelled}
 use Rattle.macros.specs.Table.{NumberedMacro, IsFound}
 use Rattle.pp_cond.specs.Condition.{holds}
 use Rattle.pp_cond.specs.Refused.{IsConditionRefused}
@@ -18,11 +17,10 @@ use Rattle.pp_expand.specs.Expansion.{of_directive}
 use Rattle.pp_expand.specs.Expands.{HaveFiles}
 use Rattle.pp.specs.declared.state.State.{State as Held}
 use Rattle.pp.specs.Lines.{Line}
-use Rattle.pp.specs.Groups.{is_else, place_of}
-use Rattle.pp.specs.Phase4.{State, Outcome, goes, stops, ◌>>=◌, fails, expand, presume, presumed_at, truth_token, is_macro, operand_of, operand_resolved, resolved_by, with_first, defined_resolved, of_truth, condition_by, macro_asked, else_asked, asked, branch_by, branch_taken, else_checked, end_checked}
-use Rattle.pp.specs.inside.Stepping.{presumed_of, presumed_by, placed, line_with, Agrees, Goes, Gives, Stops, StopsAs, Asks, Answers, PutsResolved, IsUnresolved, joined, Resolves}
-use Rattle.pp.proofs.StateLemmas.{append_files, true-false, if_true, if_false, Reads, reads_line}
-use Rattle.pp.specs.declared.conditionals.BranchState.{BranchState}
+use Rattle.pp.specs.Groups.{place_of}
+use Rattle.pp.specs.Phase4.{State, Outcome, goes, ◌>>=◌, fails, expand, presume, truth_token, is_macro, operand_of, operand_resolved, resolved_by, with_first, defined_resolved, of_truth, condition_by, macro_asked, else_asked, asked, branch_by, branch_taken, else_checked}
+use Rattle.pp.specs.inside.Stepping.{presumed_by, line_with, Agrees, Goes, Gives, StopsAs, Asks, PutsResolved, IsUnresolved, joined, Resolves}
+use Rattle.pp.proofs.StateLemmas.{append_files, if_true, if_false, Reads, reads_line}
 use Rattle.pp.specs.declared.conditionals.BranchState.TheVariants.{Past}
 use Rattle.pp.specs.inside.Rest.{to_branch}
 use Rattle.pp.proofs.FileLemmas.{stops_then}

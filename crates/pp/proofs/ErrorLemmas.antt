@@ -1,6 +1,6 @@
 -- The text of an #error.
-use Rattle.std.proofs.Common.{◌≡◌, ◌<◌, ◌≤◌, ℕ, zero, suc, List, [], ◌∷◌, take, Bool, true, false, refl, sym, ap, subst, ◌∙◌, arith}
-use Rattle.std.specs.Prelude.{map, nat_le, ◌&&◌, slice_index, if◌then◌else◌, slice_get, Some}
+use Rattle.std.proofs.Common.{◌≡◌, ◌<◌, ◌≤◌, ℕ, zero, suc, List, [], ◌∷◌, take, Bool, true, false, refl, arith}
+use Rattle.std.specs.Prelude.{map, nat_le, ◌&&◌, if◌then◌else◌, slice_get, Some}
 use Rattle.std.specs.List.{flat_map}
 use Rattle.std.specs.Str.{byte, is_utf8, IsAscii}
 use Rattle.std.proofs.lemmas.Bool.{leb-true}

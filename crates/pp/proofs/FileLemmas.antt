@@ -15,7 +15,7 @@ use Rattle.pp.specs.declared.state.State.{State as Held}
 use Rattle.pp.specs.declared.words.Role.{Role as Word}
 use Rattle.pp.specs.declared.words.Role.TheVariants as word
 use Rattle.pp.specs.Lines.{Line, lines_with, first_end}
-use Rattle.pp.specs.Groups.{ends, Role, of_text, role_of, Parsed, to_end, in_first, with_text, with_line, parsed, groups}
+use Rattle.pp.specs.Groups.{ends, of_text, role_of, Parsed, to_end, in_first, with_text, with_line, parsed, groups}
 use Rattle.pp.specs.Phase4.{State, Presumed, Outcome, stops, ◌>>=◌, Around, presume, group_done}
 use Rattle.pp.specs.inside.Pending.{pending, run_ended}
 use Rattle.pp.specs.inside.Rest.{nowhere, is_active, rest_done}
@@ -76,7 +76,7 @@ stops_same names r o whole e s = subst (StopsAs names r) (sym e) s
 
 pub text_stands : (names : Texts) (held : Held) (run after : Run) (around : Around) (os : List Open) (l : Line) (p : Parsed) (o : Outcome State)
     → role_of l.tokens ≡ of_text → is_active os ≡ true → after.begun ≡ true
-    → after.tokens.items ≡ run.tokens.items ++ placed (presumed_of held.presumed) (behind_line run.begun l.tokens)
+    → after.tokens ≡ run.tokens ++ placed (presumed_of held.presumed) (behind_line run.begun l.tokens)
     → Stands names held run around os (with_line (role_of l.tokens) l p) o → Stands names held after around os p o
 text_stands names held run after around os l p o text active begun tokens st =
     let ts = l.tokens in
@@ -98,18 +98,18 @@ text_stands names held run after around os l p o text active begun tokens st =
 
 pub text_answers : {A : Type 0} → (result : Result A Refusal) (names : Texts) (held : Held) (run after : Run) (around : Around) (os : List Open) (l : Line) (p : Parsed) (o : Outcome State)
     → role_of l.tokens ≡ of_text → is_active os ≡ true → after.begun ≡ true
-    → OnOk result (after.tokens.items ≡ run.tokens.items ++ placed (presumed_of held.presumed) (behind_line run.begun l.tokens))
+    → OnOk result (after.tokens ≡ run.tokens ++ placed (presumed_of held.presumed) (behind_line run.begun l.tokens))
     → IfErr result (λ r. r ≡ Memory)
     → Stands names held run around os (with_line (role_of l.tokens) l p) o → StandsOrStops result names held after around os p o
 text_answers (Ok u) names held run after around os l p o text active begun ok err st = text_stands names held run after around os l p o text active begun ok st
 text_answers (Err r) names held run after around os l p o text active begun ok err st = subst (λ r. StopsAs names r o) (sym err) tt
 
 pub text_files : {A : Type 0} → (result : Result A Refusal) (names : Texts) (held : Held) (run after : Run) (ts : List Token)
-    → OnOk result (after.tokens.items ≡ run.tokens.items ++ placed (presumed_of held.presumed) (behind_line run.begun ts))
-    → HaveFiles names run.tokens.items → held.presumed.file < length names → OnOk result (HaveFiles names after.tokens.items)
+    → OnOk result (after.tokens ≡ run.tokens ++ placed (presumed_of held.presumed) (behind_line run.begun ts))
+    → HaveFiles names run.tokens → held.presumed.file < length names → OnOk result (HaveFiles names after.tokens)
 text_files (Ok u) names held run after ts ok files h =
     let more = behind_line run.begun ts in
-    subst (HaveFiles names) (sym ok) (append_files names run.tokens.items (placed (presumed_of held.presumed) more) files (placed_files names (presumed_of held.presumed) more h))
+    subst (HaveFiles names) (sym ok) (append_files names run.tokens (placed (presumed_of held.presumed) more) files (placed_files names (presumed_of held.presumed) more h))
 text_files (Err r) names held run after ts ok files h = tt
 
 pub true_or_false : (b : Bool) → b ≡ false → b ≡ true → ⊥
@@ -167,7 +167,7 @@ run_stops refusal names held run around os w l p o e st s =
 
 pub directive_stands : {A : Type 0} → (result : Result A Refusal) (names after : Texts) (held between new : Held) (run run' : Run) (around : Around) (os os' : List Open) (w : Word) (l : Line) (p : Parsed) (o : Outcome State)
     → role_of l.tokens ≡ role_meant w → (st : Stands names held run around os (with_line (role_of l.tokens) l p) o)
-    → run'.begun ≡ false → run'.tokens.items ≡ []
+    → run'.begun ≡ false → run'.tokens ≡ []
     → Goes names between (run_ended around.texts run.begun st.text st.now)
     → ((s : State) → Agrees names between s → RestsOrStops result after new around os' p (rest_done around os (with_line (role_meant w) l p) s))
     → StandsOrStops result after new run' around os' p o
@@ -253,7 +253,7 @@ none_left (l ∷ tss) es (suc i) h = none_left tss (drop 1 es) i (omega (arith, 
 
 -- ---- from the first line to the last
 
-pub stands_first : (names : Texts) (held : Held) (run : Run) (around : Around) (os : List Open) (ls : List Line) (s : State) → run.begun ≡ false → run.tokens.items ≡ [] → os ≡ [] → Agrees names held s
+pub stands_first : (names : Texts) (held : Held) (run : Run) (around : Around) (os : List Open) (ls : List Line) (s : State) → run.begun ≡ false → run.tokens ≡ [] → os ≡ [] → Agrees names held s
     → Stands names held run around os (parsed ls) (group_done around nowhere 0 (groups ls) s)
 unfolding groups
 stands_first names held run around os ls s begun tokens none a = record {

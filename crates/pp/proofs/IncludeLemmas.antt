@@ -1,10 +1,8 @@
 -- Which file an #include enters, and what is left behind it.
-use Rattle.std.proofs.Common.{◌≡◌, ◌≤◌, ◌<◌, ◌-◌, ℕ, zero, suc, List, [], ◌∷◌, ◌++◌, length, take, drop, Bool, true, false, Option, Some, None, Result, Ok, Err, codes, slice_index_or, IfOk, refl, sym, ap, subst, ◌∙◌, arith}
-use Rattle.std.specs.Prelude.{slice_get, slice_index, ◌==◌, ◌&&◌, if◌then◌else◌}
-use Rattle.std.proofs.lemmas.Option.{none-some}
+use Rattle.std.proofs.Common.{◌≡◌, ◌≤◌, ◌<◌, ◌-◌, ℕ, zero, suc, List, [], ◌∷◌, length, take, drop, Bool, true, false, Option, Some, None, Result, Ok, Err, codes, slice_index_or, IfOk, refl, sym, ap, subst, ◌∙◌, arith}
+use Rattle.std.specs.Prelude.{slice_index, ◌==◌, ◌&&◌}
 use Rattle.srcset.specs.declared.refusal.Pos.{Pos}
 use Rattle.srcset.specs.declared.refusal.Refusal.{Refusal}
-use Rattle.srcset.specs.declared.refusal.Refusal.TheVariants.{Memory, At, Told}
 use Rattle.srcset.specs.declared.code.Code.TheVariants as code
 use Rattle.srcset.specs.Files.{Files, file_of}
 use Rattle.srcset.specs.Headers.{header_of}
@@ -13,7 +11,6 @@ use Rattle.srcset.proofs.NameLemmas.{same_text}
 use Rattle.phases.specs.Characters.{double_quote}
 use Rattle.phases.specs.Token.{Token}
 use Rattle.macros.specs.Macro.{is_identifier, is_spelled, is_hash}
-use Rattle.macros.specs.Table.{IsTable}
 use Rattle.macros.proofs.TableLemmas.{table_grows}
 use Rattle.pp_expand.specs.Expansion.{of_directive}
 use Rattle.pp.specs.declared.conditionals.Open.{Open}
@@ -22,17 +19,17 @@ use Rattle.pp.specs.declared.includes.Source.{Source}
 use Rattle.pp.specs.declared.run.Run.{Run}
 use Rattle.pp.specs.declared.state.State.{State as Held}
 use Rattle.pp.specs.declared.words.Role.TheVariants as word
-use Rattle.pp.specs.Groups.{Role, stands_alone, role_of, hash_role, word_role, Parsed, with_line}
-use Rattle.pp.specs.Phase4.{State, Outcome, ◌>>=◌, Enter, fails, presume, expand, entered, entered_by, file_done, file_meant, built_in, or_built_in, inside, number_in, resumed, is_header_kind, is_plain_string, include_named, include_made, include_done, named, Around, directive_done}
-use Rattle.pp.specs.inside.Including.{is_include, around_with, IsNumber, Means, IsMeant, Enters, EntersOrStops, Includes, IncludesOrStops, Waits, IncludedOrStops, StandsOrWaits}
+use Rattle.pp.specs.Groups.{stands_alone, role_of, hash_role, word_role, Parsed, with_line}
+use Rattle.pp.specs.Phase4.{State, Outcome, ◌>>=◌, Enter, fails, presume, expand, entered, entered_by, file_done, file_meant, built_in, or_built_in, inside, resumed, is_header_kind, is_plain_string, include_named, include_made, include_done, named, Around, directive_done}
+use Rattle.pp.specs.inside.Including.{is_include, around_with, Means, Enters, EntersOrStops, IncludesOrStops, IncludedOrStops}
 use Rattle.pp.specs.inside.Pending.{run_ended}
 use Rattle.pp.specs.inside.Rest.{is_active, rest_done}
 use Rattle.pp.specs.inside.Stepping.{presumed_of, presumed_by, placed, line_with, Agrees, Goes, Gives, Stops, StopsAs, Stands}
 use Rattle.pp.proofs.BranchLemmas.{alone_skipped}
-use Rattle.pp.proofs.FileLemmas.{directive_is, directive_stands, stops_all, stops_same, stops_then}
+use Rattle.pp.proofs.FileLemmas.{directive_is, directive_stands, stops_all}
 use Rattle.pp.proofs.PhaseLemmas.{number_kept}
-use Rattle.pp.proofs.RestLemmas.{in_none, directive_rest, skipped_rest}
-use Rattle.pp.proofs.StateLemmas.{Reads, reads_line, if_true, if_false, true-false, directive_as}
+use Rattle.pp.proofs.RestLemmas.{directive_rest}
+use Rattle.pp.proofs.StateLemmas.{Reads, if_true, if_false, true-false, directive_as}
 
 -- a longer table
 pub agrees_grows : (names after : Texts) (held : Held) (s : State) → KeepsNumbers names after → NumbersOnce after → Agrees names held s → Agrees after held s
@@ -236,7 +233,7 @@ line_is texts names between held now run around os ts end p o i st m active =
     ∙ directive_rest around os (line_with ts end) p m.after active
 
 pub line_skipped : (names : Texts) (held now : Held) (run run' : Run) (around : Around) (os : List Open) (ts : List Token) (end : ℕ) (p : Parsed) (o : Outcome State)
-    → is_include ts ≡ true → (st : Stands names held run around os (with_line (role_of ts) (line_with ts end) p) o) → run'.begun ≡ false → run'.tokens.items ≡ []
+    → is_include ts ≡ true → (st : Stands names held run around os (with_line (role_of ts) (line_with ts end) p) o) → run'.begun ≡ false → run'.tokens ≡ []
     → Goes names now (run_ended around.texts run.begun st.text st.now) → is_active os ≡ false → Stands names now run' around os p o
 line_skipped names held now run run' around os ts end p o i st begun tokens m out =
     directive_stands {A = Bool} (Ok true) names names held now now run run' around os os word.StandsAlone (line_with ts end) p o (include_role ts i) st begun tokens m

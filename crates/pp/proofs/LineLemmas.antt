@@ -1,5 +1,5 @@
 -- What #line does to the state.
-use Rattle.std.proofs.Common.{◌≡◌, ◌<◌, ◌≤◌, ◌⊎◌, inl, inr, ℕ, zero, suc, ◌+◌, ◌*◌, ◌-◌, take, get_or, Result, Ok, Err, List, [], ◌∷◌, length, drop, Bool, true, false, Option, Some, None, refl, sym, ap, subst, ◌∙◌, arith}
+use Rattle.std.proofs.Common.{◌≡◌, ◌<◌, ◌≤◌, inl, inr, ℕ, suc, ◌+◌, ◌*◌, ◌-◌, take, get_or, Result, List, [], ◌∷◌, length, drop, Bool, true, false, Some, None, refl, sym, ap, subst, ◌∙◌, arith}
 use Rattle.std.specs.Prelude.{nat_le, ◌&&◌, if◌then◌else◌, slice_get, slice_index_or}
 use Rattle.std.specs.List.{list_all}
 use Rattle.std.proofs.lemmas.Bool.{leb-true}
@@ -13,14 +13,13 @@ use Rattle.lexer.specs.Digits.{digit_value, value_behind, value_of}
 use Rattle.macros.specs.Table.{IsTable}
 use Rattle.macros.proofs.TableLemmas.{table_grows}
 use Rattle.pp.specs.declared.state.State.{State as Held}
-use Rattle.pp.specs.Phase4.{State, Outcome, ◌>>=◌, expand, presume, line_done, goes, fails, is_line_number, is_file_text, inside, numbered, number_in, line_made, max_tokens}
-use Rattle.pp.specs.inside.Stepping.{presumed_of, placed, Agrees, IsSound, Goes, Gives, Stops, StopsAs, Answers, Does, IsNextDigit, IsLineNumber}
-use Rattle.pp.proofs.GroupLemmas.{and_left, and_right}
+use Rattle.pp.specs.Phase4.{State, ◌>>=◌, expand, presume, line_done, goes, fails, is_line_number, is_file_text, inside, numbered, number_in, line_made}
+use Rattle.pp.specs.inside.Stepping.{presumed_of, placed, Agrees, Goes, Gives, Stops, StopsAs, Answers, Does, IsNextDigit, IsLineNumber}
 use Rattle.srcset.specs.declared.refusal.Refusal.{Refusal}
 use Rattle.srcset.specs.declared.refusal.Refusal.TheVariants.{At}
 use Rattle.pp_expand.specs.Expansion.{of_directive}
 use Rattle.pp.proofs.StateLemmas.{true-false}
-use Rattle.pp.proofs.FileLemmas.{stops_all, stops_same}
+use Rattle.pp.proofs.FileLemmas.{stops_all}
 use Rattle.pp.proofs.ConditionLemmas.{first_rest, rest_one}
 use Rattle.pp.proofs.PhaseLemmas.{number_kept}
 

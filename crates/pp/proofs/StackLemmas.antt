@@ -1,5 +1,5 @@
 -- Files that wait for those that they include.
-use Rattle.std.proofs.Common.{◌≡◌, ◌≤◌, ◌<◌, ◌-◌, ◌+◌, ◌*◌, ◌⊎◌, ℕ, zero, suc, List, [], ◌∷◌, length, drop, Bool, true, false, Option, Some, None, Result, Ok, Err, OnOk, refl, sym, ap, subst, ◌∙◌, arith}
+use Rattle.std.proofs.Common.{◌≡◌, ◌≤◌, ◌<◌, ◌-◌, ◌+◌, ◌*◌, ◌⊎◌, ℕ, zero, suc, List, [], ◌∷◌, length, drop, false, Result, Ok, Err, OnOk, refl, sym, ap, subst, ◌∙◌, arith}
 use Rattle.std.proofs.Math.Nat as nat
 use Rattle.srcset.specs.declared.refusal.Refusal.{Refusal}
 use Rattle.srcset.specs.declared.refusal.Refusal.TheVariants.{Memory, At, Told}
@@ -18,14 +18,14 @@ use Rattle.pp.specs.declared.state.State.{State as Held}
 use Rattle.pp.specs.Lines.{lines_with}
 use Rattle.pp.specs.Groups.{Parsed, parsed, groups, in_first}
 use Rattle.pp.specs.Phase4.{State, Fault, Outcome, goes, stops, ◌>>=◌, Around, file_done, group_done, number_in, resumed, max_includes}
-use Rattle.pp.specs.inside.Including.{around_with, Enters, Includes, Waits, left_of, IsReading, IsOpened, IsWaiting, AreWaiting, AreStacked, AreOpen, room_of, back_in, goes_on, resumed_all, Left, LeftOrStops, LeftOrGoes, weight, lines_left, weighed, size_of}
+use Rattle.pp.specs.inside.Including.{around_with, Waits, left_of, IsReading, IsOpened, AreWaiting, AreStacked, AreOpen, room_of, back_in, goes_on, resumed_all, Left, weight, lines_left, weighed, size_of}
 use Rattle.pp.specs.inside.Pending.{pending}
 use Rattle.pp.specs.inside.Rest.{nowhere, rest_done}
-use Rattle.pp.specs.inside.Stepping.{presumed_of, Agrees, IsSound, Goes, Stops, StopsAs, Stands, StandsOrStops}
+use Rattle.pp.specs.inside.Stepping.{presumed_of, Agrees, IsSound, Goes, StopsAs, Stands}
 use Rattle.pp.proofs.FileLemmas.{stands_first, no_files, true_or_false}
-use Rattle.pp.proofs.PhaseLemmas.{begun_in, numbered_lines, file_is, scan_stops}
+use Rattle.pp.proofs.PhaseLemmas.{begun_in, file_is, scan_stops}
 use Rattle.pp.proofs.RestLemmas.{in_none}
-use Rattle.pp.proofs.StateLemmas.{still_within, still_files}
+use Rattle.pp.proofs.StateLemmas.{still_within}
 
 -- ---- what is left stops
 
@@ -115,7 +115,7 @@ entered_stops r names held set texts innermost is source made o w e why =
 
 -- ---- a file goes on
 
-rest_stands : (names : Texts) (held : Held) (run : Run) (around : Around) (os : List Open) (p : Parsed) (s : State) → run.begun ≡ false → run.tokens.items ≡ [] → Agrees names held s
+rest_stands : (names : Texts) (held : Held) (run : Run) (around : Around) (os : List Open) (p : Parsed) (s : State) → run.begun ≡ false → run.tokens ≡ [] → Agrees names held s
     → Stands names held run around os p (rest_done around os p s)
 rest_stands names held run around os p s begun tokens a = record {
   now = s;
@@ -160,18 +160,18 @@ waiting_grows names after (i ∷ is) keeps w =
 pub resumed_open : (names : Texts) (innermost : Reading) (i : Includer) (is : List Includer) → AreStacked names innermost (i ∷ is) → AreOpen names i.reading is
 resumed_open names innermost i is o = record {
   stacked = record { few = omega (arith, o.few); reading = o.waiting.0.reading; waiting = o.waiting.1 };
-  has_files = no_files names i.reading.file.run.tokens.items o.waiting.0.tokens;
+  has_files = no_files names i.reading.file.run.tokens o.waiting.0.tokens;
 }
 
 pub entered_open : (names : Texts) (held : Held) (innermost : Reading) (is : List Includer) (source : Source) (r : Reading) → AreOpen names innermost is → IsSound names held → length is < max_includes
-    → innermost.file.run.begun ≡ false → innermost.file.run.tokens.items ≡ [] → IsOpened source r → AreOpen names r (includer_of innermost held ∷ is)
+    → innermost.file.run.begun ≡ false → innermost.file.run.tokens ≡ [] → IsOpened source r → AreOpen names r (includer_of innermost held ∷ is)
 entered_open names held innermost is source r o sound room begun tokens op = record {
   stacked = record {
     few = omega (arith, room);
     reading = op.fresh.reading;
     waiting = (record { begun = begun; tokens = tokens; has_file = sound.has_file; reading = o.stacked.reading }, o.stacked.waiting);
   };
-  has_files = no_files names r.file.run.tokens.items op.fresh.tokens;
+  has_files = no_files names r.file.run.tokens op.fresh.tokens;
 }
 
 -- whatever became of the run of the innermost
@@ -233,7 +233,7 @@ stepped_reading old new r h n e l = record {
   bounded = omega (arith, e, r.bounded);
 }
 
-pub stepped_open : (names after : Texts) (old new : Reading) (is : List Includer) → AreOpen names old is → KeepsNumbers names after → HaveFiles after new.file.run.tokens.items → IsReading new → AreOpen after new is
+pub stepped_open : (names after : Texts) (old new : Reading) (is : List Includer) → AreOpen names old is → KeepsNumbers names after → HaveFiles after new.file.run.tokens → IsReading new → AreOpen after new is
 stepped_open names after old new is o keeps files r = record {
   stacked = record { few = o.stacked.few; reading = r; waiting = waiting_grows names after is keeps o.stacked.waiting };
   has_files = files;
@@ -272,5 +272,5 @@ pub main_open : (names : Texts) (source : Source) (r : Reading) (is : List Inclu
 main_open names source r is none op =
     subst (AreOpen names r) (sym none) (record {
       stacked = record { few = omega arith; reading = op.fresh.reading; waiting = tt };
-      has_files = no_files names r.file.run.tokens.items op.fresh.tokens;
+      has_files = no_files names r.file.run.tokens op.fresh.tokens;
     })

@@ -1,9 +1,7 @@
 -- What ends of runs and directives do to the state.
 use Rattle.std.proofs.Common.{◌≡◌, ◌≤◌, ◌<◌, ℕ, zero, suc, List, [], ◌∷◌, ◌++◌, length, Bool, true, false, None, Result, Ok, Err, OnOk, IfErr, get_or, drop, take, ◌-◌, arith, slice_index_or, refl, sym, ap, subst, ◌∙◌}
-use Rattle.std.specs.Prelude.{slice_get, codes, if◌then◌else◌, not, map, ◌&&◌, ◌||◌, Vec}
+use Rattle.std.specs.Prelude.{slice_get, codes, if◌then◌else◌, map, ◌&&◌, Vec}
 use Rattle.std.specs.List.{flat_map}
-use Rattle.std.specs.Str.{bytes_eq}
-use Rattle.srcset.proofs.NameLemmas.{same_text}
 use Rattle.std.specs.declared.alloc.Global.{Global}
 use Rattle.std.proofs.lemmas.List.{take_all, length-drop}
 use Rattle.std.proofs.lemmas.Option.{slice_get_within, slice_get-get_or}
@@ -21,12 +19,10 @@ use Rattle.pp_expand.specs.Expansion as expansion
 use Rattle.pp_expand.specs.Expansion.{Known, of_run, of_directive, expanded}
 use Rattle.pp_expand.specs.Expands.{HaveFiles, IsExpansion}
 use Rattle.pp.specs.declared.state.State.{State as Held}
-use Rattle.pp.specs.Lines.{Line}
-use Rattle.pp.specs.Phase4.{Presumed, printable, State, Outcome, goes, stops, ◌>>=◌, Enter, presume, presumed_at, with_macros, undefined, fails, of_expansion, expand, give, first_past, run_done, include_done, line_done, error_text, named, directive_by, directive_done, max_tokens}
+use Rattle.pp.specs.Phase4.{Presumed, printable, State, Outcome, goes, stops, ◌>>=◌, Enter, presume, with_macros, undefined, fails, of_expansion, expand, give, first_past, run_done, include_done, line_done, named, directive_by, directive_done, max_tokens}
 use Rattle.pp.specs.inside.Including.{is_include}
 use Rattle.pp.specs.inside.Pending.{is_directive}
-use Rattle.pp.proofs.GroupLemmas.{and_left}
-use Rattle.pp.specs.inside.Stepping.{presumed_of, presumed_by, placed, line_with, spaced_out, error_fault, error_done, Gives, Asks, Agrees, IsSound, Goes, Stops, StopsAs, Answers, Does, IsPast}
+use Rattle.pp.specs.inside.Stepping.{presumed_of, presumed_by, placed, line_with, spaced_out, error_fault, error_done, Gives, Agrees, IsSound, Goes, Stops, StopsAs, Answers, Does, IsPast}
 
 pub on_ok : {A : Type 0} {P : Type 0} → (result : Result A Refusal) → P → OnOk result P
 on_ok (Ok u) p = p

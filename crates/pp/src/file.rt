@@ -158,11 +158,11 @@ pub fn line_done<'a>(
     names: &mut Names,
 ) -> Result<(), Refusal>
     requires sound { IsSound names.old state.old }
-    requires files { HaveFiles names.old file.old.run.tokens.items }
+    requires files { HaveFiles names.old file.old.run.tokens }
     requires other { is_include line.now ≡ false }
     ensures stands { (around : Around) (p : Parsed) (o : Outcome Done) → KeepsNumbers names.new around.texts → Stands names.old state.old file.old.run around file.old.conditionals (with_line (role_of line.now) (line_with line.now (first_end (drop index file.old.ends))) p) o → StandsOrStops result names.new state.new file.new.run around file.new.conditionals p o }
     ensures sound { OnOk result (IsSound names.new state.new) }
-    ensures files { OnOk result (HaveFiles names.new file.new.run.tokens.items) }
+    ensures files { OnOk result (HaveFiles names.new file.new.run.tokens) }
     ensures keeps { KeepsNumbers names.old names.new }
     ensures ends { file.new.ends ≡ file.old.ends }
 {
@@ -184,7 +184,7 @@ pub fn end_done<'a>(
     names: &Names,
 ) -> Result<(), Refusal>
     requires sound { IsSound names.now state.old }
-    requires files { HaveFiles names.now file.old.run.tokens.items }
+    requires files { HaveFiles names.now file.old.run.tokens }
     ensures answers { (around : Around) (o : Outcome Done) → KeepsNumbers names.now around.texts → Stands names.now state.old file.old.run around file.old.conditionals (to_end ends) o → Answers result names.now state.new o }
     ensures sound { OnOk result (IsSound names.now state.new) }
 {

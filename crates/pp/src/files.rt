@@ -88,12 +88,12 @@ impl<'a> Reading<'a> {
         names: &mut Names,
     ) -> Result<Option<Source<'a>>, Refusal>
         requires sound { IsSound names.old state.old }
-        requires files { HaveFiles names.old self.old.file.run.tokens.items }
+        requires files { HaveFiles names.old self.old.file.run.tokens }
         requires reading { IsReading self.old }
         requires more { self.old.next < self.old.end }
         ensures waits { (texts : Texts) (o : Outcome Done) → KeepsNumbers names.new texts → Stands names.old state.old self.old.file.run (around_with room set.now texts) self.old.file.conditionals (left_of self.old) o → StandsOrWaits result names.new state.new self.new.file set.now texts room (left_of self.new) o }
         ensures ok { IfOk result (λ included. IfSome included (CanEnter names.new room self.new.file)) }
-        ensures files { OnOk result (HaveFiles names.new self.new.file.run.tokens.items) }
+        ensures files { OnOk result (HaveFiles names.new self.new.file.run.tokens) }
         ensures sound { OnOk result (IsSound names.new state.new) }
         ensures keeps { KeepsNumbers names.old names.new }
         ensures next { self.new.next ≡ self.old.next + 1 }
@@ -130,7 +130,7 @@ impl<'a> Files<'a> {
     ) -> Result<(), Refusal>
         requires small { length source.now.bytes.now ≤ 1048576 }
         ensures left { (names texts : Texts) (set : Set) (made o : Outcome Done) → Waits names state.old self.old.innermost.file set texts (room_of self.old.includers.items) source.now (left_of self.old.innermost) made → o ≡ resumed_all set texts (room_of self.old.includers.items) self.old.includers.items made → LeftOrStops result names state.new set texts self.new.innermost self.new.includers.items o }
-        ensures open { (names : Texts) → AreOpen names self.old.innermost self.old.includers.items → IsSound names state.old → source.now.name < length names → length self.old.includers.items < max_includes → self.old.innermost.file.run.begun ≡ false → self.old.innermost.file.run.tokens.items ≡ [] → OnOk result (AreOpen names self.new.innermost self.new.includers.items) }
+        ensures open { (names : Texts) → AreOpen names self.old.innermost self.old.includers.items → IsSound names state.old → source.now.name < length names → length self.old.includers.items < max_includes → self.old.innermost.file.run.begun ≡ false → self.old.innermost.file.run.tokens ≡ [] → OnOk result (AreOpen names self.new.innermost self.new.includers.items) }
         ensures sound { (names : Texts) → IsSound names state.old → source.now.name < length names → OnOk result (IsSound names state.new) }
         ensures less { (further : ℕ) → room_of self.old.includers.items ≡ suc further → OnOk result (size_of self.new.innermost self.new.includers.items < size_of self.old.innermost self.old.includers.items + weight (room_of self.old.includers.items)) }
     {

@@ -229,13 +229,13 @@ pub fn include_done<'a>(
     names: &mut Names,
 ) -> Result<Option<Source<'a>>, Refusal>
     requires sound { IsSound names.old state.old }
-    requires files { HaveFiles names.old file.old.run.tokens.items }
+    requires files { HaveFiles names.old file.old.run.tokens }
     requires include { is_include line.now ≡ true }
     ensures waits { (texts : Texts) (end : ℕ) (p : Parsed) (o : Outcome Done) → KeepsNumbers names.new texts → Stands names.old state.old file.old.run (around_with room set.now texts) file.old.conditionals (with_line (role_of line.now) (line_with line.now end) p) o → StandsOrWaits result names.new state.new file.new set.now texts room p o }
     ensures ok { IfOk result (λ included. IfSome included (CanRead names.new room)) }
     ensures sound { OnOk result (IsSound names.new state.new) }
     ensures begun { OnOk result (file.new.run.begun ≡ false) }
-    ensures tokens { OnOk result (file.new.run.tokens.items ≡ []) }
+    ensures tokens { OnOk result (file.new.run.tokens ≡ []) }
     ensures ends { file.new.ends ≡ file.old.ends }
     ensures keeps { KeepsNumbers names.old names.new }
 {

@@ -5,26 +5,45 @@ ghost use Rattle.pp.specs.inside.Stepping.{presumed_of, placed, behind_line};
 
 use crate::places::Presumed;
 use phases::PpToken;
+use pp_expand::Unexpanded;
 use srcset::Refusal;
 use std::alloc::Global;
+use std::mem;
+
+// Puts the tokens behind others, each at its presumed place.
+fn gather<'a>(
+    alloc: Global,
+    line: &[PpToken<'a>],
+    presumed: Presumed,
+    tokens: &mut Unexpanded<'a>,
+) -> Result<(), Refusal>
+    ensures ok { OnOk result (tokens.new ≡ tokens.old ++ placed (presumed_of presumed) line.now) }
+    ensures err { IfErr result (λ refusal. refusal ≡ Memory) }
+{
+    for token in line {
+        let pos = presumed.place(token.pos())?;
+        tokens.push(token.copy_at(alloc, token.space_before(), pos)?)?;
+    }
+    Ok(())
+}
 
 /// The tokens of the text lines since the last directive, at their presumed places.
 #[derive(Drop)]
 pub struct Run<'a> {
     /// Whether there was such a line; it may have no token.
     pub begun: bool,
-    pub tokens: Vec<PpToken<'a>>,
+    pub tokens: Unexpanded<'a>,
 }
 
 impl<'a> Run<'a> {
     /// No line.
     pub fn new(alloc: Global) -> Run<'a>
         ensures begun { result.begun ≡ false }
-        ensures tokens { result.tokens.items ≡ [] }
+        ensures tokens { result.tokens ≡ [] }
     {
         Run {
             begun: false,
-            tokens: Vec::new(alloc),
+            tokens: Unexpanded::new(alloc),
         }
     }
 
@@ -36,7 +55,7 @@ impl<'a> Run<'a> {
         presumed: Presumed,
     ) -> Result<(), Refusal>
         ensures begun { self.new.begun ≡ true }
-        ensures ok { OnOk result (self.new.tokens.items ≡ self.old.tokens.items ++ placed (presumed_of presumed) (behind_line self.old.begun line.now)) }
+        ensures ok { OnOk result (self.new.tokens ≡ self.old.tokens ++ placed (presumed_of presumed) (behind_line self.old.begun line.now)) }
         ensures err { IfErr result (λ refusal. refusal ≡ Memory) }
     {
         let later = self.begun;
@@ -47,15 +66,16 @@ impl<'a> Run<'a> {
         let pos = presumed.place(first.pos())?;
         let space_before = later || first.space_before();
         self.tokens.push(first.copy_at(alloc, space_before, pos)?)?;
-        presumed.put(alloc, further, &mut self.tokens)
+        gather(alloc, further, presumed, &mut self.tokens)
     }
 
-    /// Begins anew, with no line.
-    pub fn clear(&mut self)
+    /// Its tokens. It begins anew, with no line.
+    pub fn take(&mut self, alloc: Global) -> Unexpanded<'a>
+        ensures result { result ≡ self.old.tokens }
         ensures begun { self.new.begun ≡ false }
-        ensures tokens { self.new.tokens.items ≡ [] }
+        ensures tokens { self.new.tokens ≡ [] }
     {
         self.begun = false;
-        self.tokens.clear();
+        mem::replace(&mut self.tokens, Unexpanded::new(alloc))
     }
 }

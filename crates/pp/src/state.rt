@@ -22,7 +22,7 @@ use crate::run::Run;
 use crate::words::is_spelled;
 use macros::{MacroTable, is_identifier};
 use phases::PpToken;
-use pp_expand::{Budget, RunEnd, expand_behind, try_expand};
+use pp_expand::{Budget, RunEnd, Unexpanded, expand_behind, try_expand};
 use srcset::{Code, Names, Pos, Refusal};
 use std::alloc::Global;
 
@@ -84,12 +84,12 @@ impl<'a> State<'a> {
     fn expand_run(
         &mut self,
         alloc: Global,
-        tokens: &[PpToken<'a>],
+        tokens: Unexpanded<'a>,
         names: &Names,
     ) -> Result<(), Refusal>
         requires sound { IsSound names.now self.old }
-        requires files { HaveFiles names.now tokens.now }
-        ensures does { (texts : Texts) (xs : List Token) → KeepsNumbers names.now texts → tokens.now ≡ placed (presumed_of self.old.presumed) xs → Does result names.now self.old names.now self.new (run_done texts xs) }
+        requires files { HaveFiles names.now tokens }
+        ensures does { (texts : Texts) (xs : List Token) → KeepsNumbers names.now texts → tokens.entry ≡ placed (presumed_of self.old.presumed) xs → Does result names.now self.old names.now self.new (run_done texts xs) }
         ensures sound { OnOk result (IsSound names.now self.new) }
     {
         match expand_behind(
@@ -138,16 +138,17 @@ impl<'a> State<'a> {
         names: &Names,
     ) -> Result<(), Refusal>
         requires sound { IsSound names.now self.old }
-        requires files { HaveFiles names.now run.old.tokens.items }
-        ensures does { (texts : Texts) (xs : List Token) → KeepsNumbers names.now texts → run.old.tokens.items ≡ placed (presumed_of self.old.presumed) xs → Does result names.now self.old names.now self.new (run_ended texts run.old.begun xs) }
+        requires files { HaveFiles names.now run.old.tokens }
+        ensures does { (texts : Texts) (xs : List Token) → KeepsNumbers names.now texts → run.old.tokens ≡ placed (presumed_of self.old.presumed) xs → Does result names.now self.old names.now self.new (run_ended texts run.old.begun xs) }
         ensures sound { OnOk result (IsSound names.now self.new) }
         ensures begun { OnOk result (run.new.begun ≡ false) }
-        ensures tokens { OnOk result (run.new.tokens.items ≡ []) }
+        ensures tokens { OnOk result (run.new.tokens ≡ []) }
     {
-        if run.begun {
-            self.expand_run(alloc, &run.tokens, names)?;
+        let begun = run.begun;
+        let tokens = run.take(alloc);
+        if begun {
+            return self.expand_run(alloc, tokens, names);
         }
-        run.clear();
         Ok(())
     }
 

@@ -8,7 +8,6 @@ use Rattle.srcset.specs.NameTable.{Texts}
 use Rattle.srcset.specs.declared.refusal.Refusal.{Refusal}
 use Rattle.srcset.specs.declared.refusal.Refusal.TheVariants.{Memory, At, Told}
 use Rattle.phases.specs.Token.{Token}
-use Rattle.substitution.specs.Substitution.{Hidden}
 use Rattle.substitution.specs.HideSets.{Sets}
 use Rattle.substitution.specs.declared.piece.HiddenToken.{HiddenToken}
 use Rattle.substitution.specs.Meaning.{hidden_all}

@@ -14,7 +14,8 @@ use Rattle.substitution.specs.declared.piece.HiddenToken.{HiddenToken}
 use Rattle.substitution.specs.Meaning.{hidden_all, AreIn}
 use Rattle.pp_expand.specs.Expansion.{Ending, Fault, unhidden, shown_answer, expanded}
 use Rattle.pp_expand.specs.Expands.{HaveFiles, IsExpansion, IsExpansionBehind}
-use Rattle.pp_expand.specs.inside.Meaning.{expanding, Refuses, IsUnhidden}
+use Rattle.pp_expand.specs.inside.Meaning.{expanding, Refuses}
+use Rattle.pp_expand.specs.inside.Unhidden.{IsUnhidden}
 use Rattle.pp_expand.proofs.Files.{texts_may_grow, files_stay}
 use Rattle.pp_expand.proofs.Handing.{Behind}
 

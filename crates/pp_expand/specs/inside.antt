@@ -1,3 +1,4 @@
+pub mod Unhidden
 pub mod Meaning
 pub mod Turns
 pub mod Waits

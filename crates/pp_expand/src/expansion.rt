@@ -1,22 +1,20 @@
 //! The replacement of the macros in a list of tokens.
-ghost use Rattle.std.specs.Prelude.{◌≡◌, drop, length, IfOk, IfErr, OnOk};
+ghost use Rattle.std.specs.Prelude.{drop, length, IfOk, OnOk};
 ghost use Rattle.srcset.specs.NameTable.{Texts, KeepsNumbers, NumbersOnce};
-ghost use Rattle.srcset.specs.declared.refusal.Refusal.TheVariants.{Memory};
 ghost use Rattle.macros.specs.Macro.{Macros};
 ghost use Rattle.macros.specs.Table.{IsTable};
 ghost use Rattle.pp_expand.specs.Expansion.{expanded};
 ghost use Rattle.pp_expand.specs.Expands.{HaveFiles, IsExpansion, IsExpansionBehind, IsToldExpansion, ending_of};
-ghost use Rattle.pp_expand.specs.inside.Meaning.{IsUnhidden};
 
 use crate::budget::Budget;
 use crate::engine::run;
 use crate::run_end::RunEnd;
+use crate::unexpanded::Unexpanded;
 use macros::MacroTable;
 use phases::PpToken;
 use srcset::{Fault, Names, Refusal};
 use std::alloc::Global;
-use std::collections::VecDeque;
-use substitution::{HiddenToken, HideSet, HideSets};
+use substitution::HideSets;
 
 // No text has two numbers, which each look-up tells.
 fn numbers_once(names: &Names)
@@ -25,41 +23,24 @@ fn numbers_once(names: &Names)
     let _ = names.find(b"");
 }
 
-// The tokens, which hide no name.
-fn unhidden<'a>(alloc: Global, list: &[PpToken<'a>]) -> Result<VecDeque<HiddenToken<'a>>, Refusal>
-    ensures ok { IfOk result (λ hidden. IsUnhidden list.now hidden.items) }
-    ensures err { IfErr result (λ refusal. refusal ≡ Memory) }
-{
-    let mut hidden = VecDeque::new(alloc);
-    hidden.reserve_exact(list.len())?;
-    for token in list {
-        let token = token.copy(alloc)?;
-        hidden.push_back(HiddenToken {
-            token,
-            hides: HideSet::empty(),
-        })?;
-    }
-    Ok(hidden)
-}
-
 /// Puts the expansion of a list, as `expand` gives it, behind the tokens given. A refusal names no file, and after one nothing
 /// is said of what stands behind them.
 pub fn expand_behind<'a>(
     alloc: Global,
     table: &MacroTable<'a>,
-    list: &[PpToken<'a>],
+    list: Unexpanded<'a>,
     end: RunEnd,
     budget: &mut Budget,
     names: &Names,
     given: &mut Vec<PpToken<'a>>,
 ) -> Result<(), Refusal>
-    requires { HaveFiles names.now list.now }
-    ensures expansion { (macros : Macros) (texts : Texts) → IsTable names.now table.now macros → KeepsNumbers names.now texts → IsExpansionBehind result given.old.items given.new.items budget.old budget.new (expanded (record { macros = macros; texts = texts }) list.now (ending_of end) budget.old) }
+    requires { HaveFiles names.now list }
+    ensures expansion { (macros : Macros) (texts : Texts) → IsTable names.now table.now macros → KeepsNumbers names.now texts → IsExpansionBehind result given.old.items given.new.items budget.old budget.new (expanded (record { macros = macros; texts = texts }) list.entry (ending_of end) budget.old) }
     ensures files { (macros : Macros) → IsTable names.now table.now macros → OnOk result (HaveFiles names.now (drop (length given.old.items) given.new.items)) }
 {
     numbers_once(names);
     let mut sets = HideSets::new(alloc);
-    let hidden = unhidden(alloc, list)?;
+    let hidden = list.into_hidden();
     let left = budget.left();
     match run(alloc, table, names, &mut sets, hidden, end, left, given) {
         Ok(left) => {
@@ -83,6 +64,7 @@ pub fn try_expand<'a>(
     ensures expansion { (macros : Macros) (texts : Texts) → IsTable names.now table.now macros → KeepsNumbers names.now texts → IsExpansion result budget.old budget.new (expanded (record { macros = macros; texts = texts }) list.now (ending_of end) budget.old) }
     ensures files { (macros : Macros) → IsTable names.now table.now macros → IfOk result (λ v. HaveFiles names.now v.items) }
 {
+    let list = Unexpanded::copy_of(alloc, list)?;
     let mut given = Vec::new(alloc);
     match expand_behind(alloc, table, list, end, budget, names, &mut given) {
         Ok(()) => Ok(given),

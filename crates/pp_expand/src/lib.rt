@@ -12,8 +12,10 @@ mod run_end;
 mod task;
 mod tokens;
 mod turns;
+mod unexpanded;
 mod waiting;
 
 pub use budget::Budget;
 pub use expansion::{expand, expand_behind, try_expand};
 pub use run_end::RunEnd;
+pub use unexpanded::Unexpanded;

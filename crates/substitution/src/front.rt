@@ -45,6 +45,7 @@ pub fn put_in_front<'a>(
     ensures err { IfErr result (λ refusal. refusal ≡ Memory) }
 {
     let mut new = new;
+    rest.reserve(new.len())?;
     let mut last_set = (HideSet::empty(), hides);
     while let Some(last) = new.pop() {
         let HiddenToken { token, hides: own } = last;

@@ -261,6 +261,7 @@ pub fn pieces<'a>(
     let body = definition.body();
     let is_function_like = definition.parameters().is_some();
     let mut made = Vec::new(alloc);
+    made.reserve(body.len())?;
     let mut after = false;
     let mut i = 0;
     while i < body.len() {

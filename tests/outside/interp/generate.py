@@ -7,6 +7,7 @@ object and one of them writes it, the second gives way to a constant. Each objec
 What a program comes to is asked of gcc and clang (`others.py`) and its ticks of `ticks.py`; a program of more than 20,000 ticks is left out.
 """
 import random
+import subprocess
 import sys
 
 import others
@@ -683,7 +684,7 @@ class Maker:
 
 
 def make(count, seed):
-    made = left_out = differ = 0
+    made = left_out = differ = broken = 0
     print('# Written by tests/outside/interp/generate.py %d %d; outputs and statuses are those of gcc -O0, gcc -O2 and clang -O1 for RV32IM under qemu-riscv32.' % (count, seed))
     chance = random.Random(seed)
     while made < count:
@@ -694,7 +695,11 @@ def make(count, seed):
             left_out += 1
             continue
         assert ending[0] == 'ended', (source, ending)
-        answers = others.all_of_them(source, data)
+        try:
+            answers = others.all_of_them(source, data)
+        except subprocess.CalledProcessError:
+            broken += 1
+            continue
         if answers != [(ending[1], output)]:
             print('DIFFERS', source, data, ending, output, answers, file=sys.stderr)
             differ += 1
@@ -703,7 +708,7 @@ def make(count, seed):
         made += 1
         print('=== random_%d | %d | %d | %s | %s' % (made, status, spent, others.shown(data), others.shown(written)))
         print(source, end='')
-    print('%d programs of too many or too few ticks were left out, %d on which not all agree' % (left_out, differ), file=sys.stderr)
+    print('%d programs of too many or too few ticks were left out, %d on which not all agree, %d which a compiler broke down on' % (left_out, differ, broken), file=sys.stderr)
 
 
 if __name__ == '__main__':

@@ -1,8 +1,8 @@
 #!/usr/bin/env python3
 """The abstract machine of ISO/IEC 9899:2011 5.1.2.3 with this profile's choices and its clock: `ticks.py FILE [N] <INPUT`.
 
-It prints how the run ends and after how many ticks; the program's output goes to standard output. It shares nothing with the
-compiler: it was written from the profile's rules.
+It prints how the run ends and after how many ticks; the program's output goes to standard output. It shares no text with
+the compiler: it was written from the profile's rules.
 """
 import sys
 import threading

@@ -1,9 +1,8 @@
 -- What is left of a file and of those that wait for it, where files include one another.
-use Rattle.std.specs.Prelude.{◌≡◌, ◌≤◌, ◌<◌, ◌&&◌, ◌+◌, ◌-◌, ◌*◌, ℕ, zero, suc, List, [], ◌∷◌, length, map, drop, slice_get, Bool, true, false, Option, Some, None, Result, Ok, Err, codes}
-use Rattle.std.specs.Borrow.{Bor}
+use Rattle.std.specs.Prelude.{◌≡◌, ◌≤◌, ◌<◌, ◌&&◌, ◌+◌, ◌-◌, ◌*◌, ℕ, zero, suc, List, [], ◌∷◌, length, drop, slice_get, Bool, true, false, Option, Some, None, Result, Ok, Err, codes}
 use Rattle.srcset.specs.declared.refusal.Refusal.{Refusal}
 use Rattle.srcset.specs.Files.{Files}
-use Rattle.srcset.specs.NameTable.{Texts, KeepsNumbers, NumbersOnce}
+use Rattle.srcset.specs.NameTable.{Texts, NumbersOnce}
 use Rattle.phases.specs.Token.{Token}
 use Rattle.phases.specs.declared.token.Place.TheVariants.{Start}
 use Rattle.phases.specs.Text.{logical}
@@ -18,7 +17,7 @@ use Rattle.pp.specs.declared.includes.Source.{Source}
 use Rattle.pp.specs.declared.state.State.{State as Held}
 use Rattle.pp.specs.Lines.{lines_with}
 use Rattle.pp.specs.Groups.{Parsed, parsed}
-use Rattle.pp.specs.Phase4.{State, Outcome, goes, ◌>>=◌, Around, entered, file_done, number_in, resumed, max_includes}
+use Rattle.pp.specs.Phase4.{State, Outcome, ◌>>=◌, Around, entered, file_done, number_in, resumed, max_includes}
 use Rattle.pp.specs.inside.Rest.{rest_done}
 use Rattle.pp.specs.inside.Stepping.{presumed_of, Agrees, Goes, StopsAs, Stands}
 
@@ -104,7 +103,7 @@ pub record IsReading (r : Reading) : Type 0 where
 pub record IsFresh (r : Reading) : Type 0 where
   pub first : r.next ≡ 0
   pub begun : r.file.run.begun ≡ false
-  pub tokens : r.file.run.tokens.items ≡ []
+  pub tokens : r.file.run.tokens ≡ []
   pub conditionals : r.file.conditionals ≡ []
   pub reading : IsReading r
 
@@ -117,7 +116,7 @@ pub record IsOpened (source : Source) (r : Reading) : Type 0 where
 -- an includer that waits
 pub record IsWaiting (names : Texts) (i : Includer) : Type 0 where
   pub begun : i.reading.file.run.begun ≡ false
-  pub tokens : i.reading.file.run.tokens.items ≡ []
+  pub tokens : i.reading.file.run.tokens ≡ []
   pub has_file : i.presumed.file < length names
   pub reading : IsReading i.reading
 
@@ -134,7 +133,7 @@ pub record AreStacked (names : Texts) (innermost : Reading) (is : List Includer)
 -- the run of the innermost has places
 pub record AreOpen (names : Texts) (innermost : Reading) (is : List Includer) : Type 0 where
   pub stacked : AreStacked names innermost is
-  pub has_files : HaveFiles names innermost.file.run.tokens.items
+  pub has_files : HaveFiles names innermost.file.run.tokens
 
 -- a file can be read, and there is room for it
 pub record CanRead (names : Texts) (room : ℕ) (source : Source) : Type 0 where
@@ -146,7 +145,7 @@ pub record CanRead (names : Texts) (room : ℕ) (source : Source) : Type 0 where
 pub record CanEnter (names : Texts) (room : ℕ) (file : OpenFile) (source : Source) : Type 0 where
   pub read : CanRead names room source
   pub begun : file.run.begun ≡ false
-  pub tokens : file.run.tokens.items ≡ []
+  pub tokens : file.run.tokens ≡ []
 
 -- how many further files may be opened, one in the other
 abbrev pub room_of : List Includer → ℕ

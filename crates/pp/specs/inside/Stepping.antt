@@ -137,7 +137,7 @@ pub record Stands (names : Texts) (held : Held) (run : Run) (around : Around) (o
   pub now : State
   pub text : List Token
   pub agrees : Agrees names held now
-  pub run_is : run.tokens.items ≡ presume now text
+  pub run_is : run.tokens ≡ presume now text
   pub fresh : run.begun ≡ false → text ≡ []
   pub active : run.begun ≡ true → is_active os ≡ true
   pub comes_to : o ≡ rest_done around os (in_first (pending run.begun text) p) now

@@ -1,13 +1,11 @@
 -- What the engine's lists mean: the answer of the definition, with no bound on the recursion in sight.
-use Rattle.std.specs.Prelude.{◌≡◌, ℕ, List, ◌++◌, map, Result, Ok, Err}
-use Rattle.srcset.specs.NameTable.{Texts}
+use Rattle.std.specs.Prelude.{◌≡◌, ℕ, List, ◌++◌, Result, Ok, Err}
 use Rattle.srcset.specs.declared.refusal.Refusal.{Refusal}
 use Rattle.srcset.specs.declared.refusal.Refusal.TheVariants.{Memory, At, Told}
 use Rattle.phases.specs.Token.{Token}
 use Rattle.substitution.specs.Substitution.{◌>>=◌, Hidden}
 use Rattle.substitution.specs.HideSets.{Sets}
 use Rattle.substitution.specs.Meaning.{hidden_all, AreIn}
-use Rattle.substitution.specs.declared.piece.HiddenToken.{HiddenToken}
 use Rattle.pp_expand.specs.declared.level.Level.{Level}
 use Rattle.pp_expand.specs.Expansion.{Known, Answer, Fault, Next, expanded_by, shown_answer}
 use Rattle.pp_expand.specs.Expands.{ending_of}
@@ -46,7 +44,3 @@ Refuses (Told c pos text) answer = ⊥
 abbrev pub GivesBehind : Result ℕ Refusal → List Token → Result (List Token × ℕ) Fault → Type 0
 GivesBehind (Ok left) given answer = answer ≡ Ok (given, left)
 GivesBehind (Err refusal) given answer = Refuses refusal answer
-
--- these tokens, and no token hides a name
-abbrev pub IsUnhidden : List Token → List HiddenToken → Type 0
-IsUnhidden xs hidden = hidden ≡ map (λ x. record { token = x; hides = 0 }) xs

@@ -34,6 +34,6 @@ returns-clause-stands c around p o keeps st =
     let run_is = st.run_is ∙ ap (λ p. placed p st.text) st.agrees.presumed_is in
     let before = keeps_through c.args.names.now c.directive_done.new.names around.texts c.directive_done.ensures.keeps keeps in
     directive_stands c.directive_done.result c.args.names.now c.directive_done.new.names c.args.state.now c.end_run.new.self c.directive_done.new.state c.args.file.now.run c.directive_done.new.file.run around c.args.file.now.conditionals c.directive_done.new.file.conditionals c.in-Some.role l p o (sym c.in-Some.ensures) st
-    (ap (λ r. r.begun) c.directive_done.ensures.run ∙ c.in_ok-end_run.ensures.begun) (ap (λ r. r.tokens.items) c.directive_done.ensures.run ∙ c.in_ok-end_run.ensures.tokens)
+    (ap (λ r. r.begun) c.directive_done.ensures.run ∙ c.in_ok-end_run.ensures.begun) (ap (λ r. r.tokens) c.directive_done.ensures.run ∙ c.in_ok-end_run.ensures.tokens)
     (c.in_ok-end_run.ensures.does around.texts st.text before run_is st.now st.agrees)
     (λ s a. c.directive_done.ensures.rests around p s keeps a)

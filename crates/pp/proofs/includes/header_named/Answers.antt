@@ -1,4 +1,3 @@
-use Rattle.std.proofs.Common.{sym, ap, ◌∙◌}
 use Rattle.pp.specs.Phase4.{entered}
 use Rattle.pp.proofs.IncludeLemmas.{header_includes}
 use Rattle.pp.proofs.StateLemmas.{one_item}

@@ -1,8 +1,7 @@
-use Rattle.std.proofs.Common.{◌≡◌, ◌+◌, ◌<◌, ℕ, length, sym, ap, subst, ◌∙◌}
+use Rattle.std.proofs.Common.{subst}
 use Rattle.std.proofs.lemmas.Option.{slice_get_within}
-use Rattle.pp.specs.Phase4.{file_meant, entered}
+use Rattle.pp.specs.Phase4.{file_meant}
 use Rattle.pp.specs.inside.Including.{IsMeant}
-use Rattle.pp.specs.inside.Stepping.{StopsAs}
 use Rattle.pp.proofs.IncludeLemmas.{not_found, no_room, room_for, positive}
 use Rattle.pp.proofs.includes.source_named.Goals as goal
 

@@ -1,4 +1,4 @@
-use Rattle.std.proofs.Common.{sym, ap, ◌∙◌}
+use Rattle.std.proofs.Common.{sym, ◌∙◌}
 use Rattle.pp.specs.Phase4.{entered}
 use Rattle.pp.proofs.IncludeLemmas.{string_includes}
 use Rattle.pp.proofs.StateLemmas.{one_item}

@@ -6,7 +6,7 @@ use Rattle.substitution.specs.Meaning.{hidden_all}
 use Rattle.phases.specs.Token.{Token}
 use Rattle.pp_expand.specs.Expansion.{Fault}
 use Rattle.pp_expand.specs.Expands.{ending_of}
-use Rattle.pp_expand.specs.inside.Meaning.{expanding, level_meaning}
+use Rattle.pp_expand.specs.inside.Meaning.{expanding}
 use Rattle.pp_expand.specs.inside.Turns.{AdvanceIs, AdvancedIn, StepIn}
 use Rattle.pp_expand.specs.inside.Waits.{weights, WaitingsIn}
 use Rattle.pp_expand.proofs.Sets.{extends_both, waitings_in_more, waitings_in_front}

@@ -1,4 +1,4 @@
-use Rattle.std.proofs.Common.{◌≡◌, ◌+◌, ◌<◌, ℕ, suc, Ok, Err, IfSome, Some, refl, sym, ap, subst, ◌∙◌, arith, length, ◌-◌}
+use Rattle.std.proofs.Common.{◌≡◌, ◌+◌, ◌<◌, ℕ, suc, Ok, IfSome, Some, sym, subst, arith, length, ◌-◌}
 use Rattle.std.proofs.lemmas.Result.{err_from_is_err_and}
 use Rattle.pp.specs.Phase4.{max_includes}
 use Rattle.pp.specs.inside.Including.{around_with, room_of, size_of, weight, left_of, CanEnter, StandsOrWaits}

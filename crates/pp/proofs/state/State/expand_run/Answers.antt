@@ -9,10 +9,10 @@ pub returns-in-Ok-clause-does : goal.returns-in-Ok-clause-does
 returns-in-Ok-clause-does c texts xs keeps tokens s a =
     let e = c.in-Ok.ensures.expansion s.macros texts a.table_is keeps in
     let new = record c.args.self.now { budget = c.expand_behind.new.budget; given = c.expand_behind.new.given } in
-    run_goes c.limit.result texts c.args.names.now xs c.args.tokens.now e.0 c.args.self.now new s a tokens e.1 refl refl e.2
+    run_goes c.limit.result texts c.args.names.now xs c.args.tokens e.0 c.args.self.now new s a tokens e.1 refl refl e.2
     (subst (λ all. OnOk c.limit.result (slice_get all max_tokens ≡ None)) c.deref.ensures.value c.limit.ensures.within)
     (subst (λ all. IfErr c.limit.result (IsPast all)) c.deref.ensures.value c.limit.ensures.err)
 
 pub returns-in-Err-clause-does : goal.returns-in-Err-clause-does
 returns-in-Err-clause-does c texts xs keeps tokens s a =
-    run_fails c.in-Err.refusal texts c.args.names.now xs c.args.tokens.now c.args.self.now c.expand_behind.new.budget s a tokens (c.in-Err.ensures.expansion s.macros texts a.table_is keeps)
+    run_fails c.in-Err.refusal texts c.args.names.now xs c.args.tokens c.args.self.now c.expand_behind.new.budget s a tokens (c.in-Err.ensures.expansion s.macros texts a.table_is keeps)

@@ -1,8 +1,8 @@
-use Rattle.std.proofs.Common.{sym, ap, subst, drop, ◌∙◌}
+use Rattle.std.proofs.Common.{sym, subst, drop, ◌∙◌}
 use Rattle.pp.specs.Lines.{first_end}
-use Rattle.pp.specs.Phase4.{presume, line_done}
-use Rattle.pp.specs.inside.Stepping.{Answers, StopsAs, Stops, error_done}
-use Rattle.pp.proofs.StateLemmas.{named_define, named_undef, named_line, named_error, named_pragma, named_bad, error_is}
+use Rattle.pp.specs.Phase4.{presume}
+use Rattle.pp.specs.inside.Stepping.{Answers}
+use Rattle.pp.proofs.StateLemmas.{named_define, named_undef, error_is}
 use Rattle.pp.proofs.state.State.named.Goals as goal
 
 pub returns-then-is_spelled-clause-does : goal.returns-then-is_spelled-clause-does
