@@ -26,9 +26,11 @@ code_fits p q f lowered flattened k g h there here =
     le_trans (le_trans one two) three
 
 pub program_is_short : ProgramIsShort
-program_is_short p q f checked lowered flattened = record { each = λ k h here.
-    let lt : k < length f.functions = slice_get_within f.functions k h here in
-    let g = some_at p.functions k (subst (λ n. k < n) (flattened.count ∙ lowered.count) lt) in
-    let one : rows_of h ≤ 128 * g.0.nodes + 1024 = code_fits p q f lowered flattened k g.0 h g.1 here in
-    let two : g.0.nodes ≤ 8000 = (checked.each k g.0 g.1).nodes in
-    omega (arith, one, two) }
+program_is_short p q f checked lowered flattened = record {
+  each = λ k h here.
+      let lt : k < length f.functions = slice_get_within f.functions k h here in
+      let g = some_at p.functions k (subst (λ n. k < n) (flattened.count ∙ lowered.count) lt) in
+      let one : rows_of h ≤ 128 * g.0.nodes + 1024 = code_fits p q f lowered flattened k g.0 h g.1 here in
+      let two : g.0.nodes ≤ 8000 = (checked.each k g.0 g.1).nodes in
+      omega (arith, one, two);
+}

@@ -13,7 +13,8 @@ pub fn image_ends()
     ensures { ImageEnds }
 {}
 
-/// At each call that a flat program comes to, and behind its return, the machine has the same stack pointer and s0 to s11.
+/// At each call that a flat program comes to the machine stands with it; behind its return it has the same stack pointer and s0 to s11, and the
+/// result in a0.
 pub fn image_calls_keep()
     ensures { ImageCallsKeep }
 {}

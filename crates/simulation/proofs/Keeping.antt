@@ -7,13 +7,12 @@ use Rattle.events.specs.Events.{Event}
 use Rattle.sim.specs.Runs as machine
 use Rattle.frames.specs.declared.code.Instruction.TheVariants as instruction
 use Rattle.frames.specs.Code.{Program}
-use Rattle.frames.specs.Costs.{next_of}
-use Rattle.frames.specs.Run.{State, running, entered, bytes_of, run, start}
+use Rattle.frames.specs.Costs.{cost, next_of, spent}
+use Rattle.frames.specs.Run.{word, State, running, entered, bytes_of, run, start}
 use Rattle.running.specs.Light.{Fixed, Light, Go, Done, Fell, light_run}
 use Rattle.running.specs.Whole.{Permits, fixed}
 use Rattle.running.specs.Worlds.{Registers, world, Follows}
 use Rattle.running.proofs.Bridge.{bool_cases}
-use Rattle.running.proofs.Words.{reg_is}
 use Rattle.running.proofs.Steps.{run_plus}
 use Rattle.running.proofs.Worlds.{real_follows}
 use Rattle.running.proofs.Placing.{after_items}
@@ -21,49 +20,53 @@ use Rattle.select.specs.Selected.{kept}
 use Rattle.select.specs.Program.{program_items}
 use Rattle.simulation.specs.Matches.{Ground, Matched, Matches, HasRoom, address}
 use Rattle.simulation.specs.Laws.{AreBytes}
-use Rattle.simulation.specs.Runs.{Laid, IsWithin, IsBack, KeptOver, ground_at, MachineCallsKeep}
+use Rattle.simulation.specs.Runs.{Laid, IsWithin, IsBack, StandsWith, BackFrom, slack, ground_at, MachineCallsKeep}
 use Rattle.simulation.proofs.Registers.{kept_above}
 use Rattle.simulation.proofs.Inputs.{Kept, run_keeps}
 use Rattle.simulation.proofs.Steps.{BytesLeft, bytes_last}
 use Rattle.simulation.proofs.Laying.{is_ready}
+use Rattle.simulation.specs.Costs.{least_spent}
+use Rattle.simulation.proofs.Progress.{progresses, times_more}
+use Rattle.simulation.proofs.Standing.{register_shown, stands_with}
 use Rattle.simulation.proofs.Whole.{comes_to}
 use Rattle.simulation.proofs.Watching.{each_call_keeps}
-
--- the registers of a world that goes on
-register_shown : (P : Permits) (list : List ℕ) (r : ℕ → ℕ) (pc : ℕ) (b : ℕ → ℕ) (i : List ℕ) (h : List Event) → Registers list r → (k : ℕ) → 0 < k → k < 32 → register (world P list pc b i h).machine k ≡ r k
-register_shown P list r pc b i h q k pos lt = q.each k lt ∙ reg_is r k pos
 
 kept_low : (j : ℕ) → j < 12 → kept j < 32
 kept_low j lt = bool_cases (nat_lt j 2) (λ t. rw t (omega (arith, ltb-true j 2 t))) (λ t. rw t (omega (arith, lt)))
 
--- both worlds, from what the light machine shows at the call and behind it
-record Both (x y : machine.Progress) (to back : ℕ) : Type 0 where
-  pub before : machine.World
-  pub after : machine.World
-  pub before_is : x ≡ machine.Running before
-  pub before_pc : before.machine.pc ≡ to
-  pub after_is : y ≡ machine.Running after
-  pub after_pc : after.machine.pc ≡ back
-  pub kept_over : KeptOver before after
+-- the world behind the call, where the light machine is, and its registers beside those at the call
+record Behind (t : State) (before : machine.World) (y : machine.Progress) (back : ℕ) : Type 0 where
+  pub world : machine.World
+  pub is : y ≡ machine.Running world
+  pub back_from : BackFrom t back before world
 
-both : (P : Permits) (r : ℕ → ℕ) (at : ℕ) (b : ℕ → ℕ) (i : List ℕ) (h : List Event) (m : Light) (x y : machine.Progress) (back : ℕ) → Follows P (Go r at b i h) x → IsBack r back m → Follows P m y → Both x y at back
-both P r at b i h (Go r2 at2 b2 i2 h2) x y back f q g =
-    let same : (k : ℕ) → 0 < k → k < 32 → r2 k ≡ r k → register (world P g.list at2 b2 i2 h2).machine k ≡ register (world P f.list at b i h).machine k = λ k pos lt e.
-    register_shown P g.list r2 at2 b2 i2 h2 g.shows k pos lt ∙ (e ∙ sym (register_shown P f.list r at b i h f.shows k pos lt)) in
+behind : (P : Permits) (G : Ground) (r : ℕ → ℕ) (at : ℕ) (b : ℕ → ℕ) (i : List ℕ) (h : List Event) (list : List ℕ) (t : State) (m : Light) (y : machine.Progress) (back : ℕ) → Registers list r → IsBack G r t back m → Follows P m y
+    → Behind t (world P list at b i h) y back
+behind P G r at b i h list t (Go r2 at2 b2 i2 h2) y back shows q g =
+    let now : (k : ℕ) → 0 < k → k < 32 → register (world P g.list at2 b2 i2 h2).machine k ≡ r2 k = register_shown P g.list r2 at2 b2 i2 h2 g.shows in
+    let same : (k : ℕ) → 0 < k → k < 32 → r2 k ≡ r k → register (world P g.list at2 b2 i2 h2).machine k ≡ register (world P list at b i h).machine k = λ k pos lt e.
+    now k pos lt ∙ (e ∙ sym (register_shown P list r at b i h shows k pos lt)) in
     record {
-      before = world P f.list at b i h;
-      after = world P g.list at2 b2 i2 h2;
-      before_is = f.is;
-      before_pc = refl;
-      after_is = g.is;
-      after_pc = q.0;
-      kept_over = record {
+      world = world P g.list at2 b2 i2 h2;
+      is = g.is;
+      back_from = record {
+        pc = q.0;
         sp = same 2 (omega arith) (omega arith) q.1;
         file = λ j lt. same (kept j) (omega (arith, kept_above j)) (kept_low j lt) (q.2 j);
+        result = λ x e. now 10 (omega arith) (omega arith) ∙ q.3 (word x) e;
+        trace = q.5;
+        input = q.4;
       };
     }
-both P r at b i h (Done status h2) x y back f q g = absurd q
-both P r at b i h (Fell h2) x y back f q g = absurd q
+behind P G r at b i h list t (Done status h2) y back shows q g = absurd q
+behind P G r at b i h list t (Fell h2) y back shows q g = absurd q
+
+-- both worlds
+record Both (p : Program) (env : ℕ → ℕ) (s t : State) (x y : machine.Progress) (back : ℕ) : Type 0 where
+  pub before : machine.World
+  pub before_is : x ≡ machine.Running before
+  pub stands : StandsWith p env s before
+  pub after : Behind t before y back
 
 module _ (P : Permits) (low : (a : ℕ) → P.can_execute a ≡ true → a < 2 ^ 31) (apart : (a : ℕ) → P.can_execute a ≡ true → P.can_write a ≡ false) (p : Program) (env : ℕ → ℕ) (data_at base e : ℕ) (r b : ℕ → ℕ) (list input : List ℕ) (q : Laid p (fixed P b) env data_at base e r b) (shows : Registers list r) where
   abbrev F : Fixed
@@ -85,18 +88,28 @@ module _ (P : Permits) (low : (a : ℕ) → P.can_execute a ≡ true → a < 2 ^
 
   from_call : (k f n : ℕ) (s t : State) (m : Light) → light_run F k begin ≡ m → Matches G (running s) m → AreBytes s.input → next_of p s ≡ Some (instruction.Call f) → run p n (entered s f) ≡ running t → next_of p t ≡ Some instruction.Return
       → bytes_of p t.waiting ≡ bytes_of p (s.frame ∷ s.waiting) → ((j : ℕ) → j ≤ n → HasRoom G (run p j (entered s f))) → ((j : ℕ) → j ≤ n → IsWithin p s (run p j (entered s f)))
-      → (j : ℕ) × Both (real k) (real (k + j)) (address G s.frame.function s.frame.at) (address G s.frame.function (s.frame.at + 1))
+      → (j : ℕ) × (0 < j) × (j ≤ cost (instruction.Call f) + spent p n (entered s f) + cost instruction.Return) × Both p env s t (real k) (real (k + j)) (address G s.frame.function (s.frame.at + 1))
   from_call k f n s t (Go r1 at b1 i h) em w bytes es over et same rooms within =
       let here = address G s.frame.function s.frame.at in
       let back = address G s.frame.function (s.frame.at + 1) in
+      let ready = is_ready p F env data_at base e r b q in
       let m1 = subst (λ x. Matched G s r1 x b1) w.0.at_is w.0 in
-      let c = each_call_keeps G s t f n r1 b1 (is_ready p F env data_at base e r b q) m1 bytes es over et same rooms within in
+      let c = each_call_keeps G s t f n r1 b1 ready m1 bytes es over et same rooms within in
       let there : Go r1 at b1 i h ≡ Go r1 here b1 s.input s.trace = ap (λ x. Go r1 x b1 i h) w.0.at_is ∙ (ap (λ x. Go r1 here b1 x h) w.1 ∙ ap (Go r1 here b1 s.input) w.2) in
       let first : light_run F k begin ≡ Go r1 here b1 s.input s.trace = em ∙ there in
       let second : light_run F (k + c.j) begin ≡ light_run F c.j (Go r1 here b1 s.input s.trace) = run_plus F k c.j begin ∙ ap (light_run F c.j) first in
       let f1 : Follows P (Go r1 here b1 s.input s.trace) (real k) = subst (λ x. Follows P x (real k)) first (really k) in
-      let f2 : Follows P (light_run F c.j (Go r1 here b1 s.input s.trace)) (real (k + c.j)) = subst (λ x. Follows P x (real (k + c.j))) second (really (k + c.j)) in
-      (c.j, both P r1 here b1 s.input s.trace (light_run F c.j (Go r1 here b1 s.input s.trace)) (real k) (real (k + c.j)) back f1 c.good f2)
+      let f2 : Follows P (light_run F c.j (Go r1 here b1 s.input s.trace)) (real (k + c.j)) = subst (λ x. Follows P x (real (k + c.j))) second (really (k + c.j)) in (
+        c.j,
+        omega (arith, c.some),
+        c.within,
+        record {
+          before = world P f1.list here b1 s.input s.trace;
+          before_is = f1.is;
+          stands = stands_with P G s f1.list r1 here b1 s.input s.trace ready refl m1 refl refl f1.shows;
+          after = behind P G r1 here b1 s.input s.trace f1.list t (light_run F c.j (Go r1 here b1 s.input s.trace)) (real (k + c.j)) back f1.shows c.good f2;
+        },
+      )
   from_call k f n s t (Done status h) em w bytes es over et same rooms within = absurd w
   from_call k f n s t (Fell h) em w bytes es over et same rooms within = absurd w
 
@@ -108,4 +121,5 @@ calls_keep P low apart p env data_at base e r b list input q shows bytes n m f s
     let m1 = light_run F c.j (Go r base b input []) in
     let left : AreBytes s.input = subst (Kept BytesLeft) over (run_keeps BytesLeft p bytes_last n (start p input) bytes) in
     let z = from_call P low apart p env data_at base e r b list input q shows c.j f m s t m1 refl (subst (λ x. Matches G x m1) over c.good) left es later et same inner within in
-    (c.j, z.0, z.1.before, z.1.after, z.1.before_is, z.1.before_pc, z.1.after_is, z.1.after_pc, z.1.kept_over)
+    let more = times_more (slack p) (least_spent p n (start p input)) c.j n (progresses p n (start p input) s over) (omega (arith, c.some)) in
+    (c.j, z.0, z.3.before, z.3.after.world, more, c.within, z.1, z.2, z.3.before_is, z.3.stands, z.3.after.is, z.3.after.back_from)

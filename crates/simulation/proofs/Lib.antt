@@ -21,6 +21,7 @@ pub mod Laying
 pub mod Progress
 pub mod Watching
 pub mod Whole
+pub mod Standing
 pub mod Real
 pub mod Keeping
 pub mod Rows

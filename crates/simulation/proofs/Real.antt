@@ -1,5 +1,6 @@
 -- The table's machine follows flat code: from a program's entry on.
 use Rattle.std.proofs.Common.{◌≡◌, ℕ, List, [], refl, sym, ◌∙◌, subst, arith}
+use Rattle.loader.specs.MemoryMap.{stack_end}
 use Rattle.events.specs.Events.{Event}
 use Rattle.sim.specs.Runs as machine
 use Rattle.frames.specs.Run.{State, running, start}
@@ -9,24 +10,25 @@ use Rattle.running.specs.Worlds.{world, Follows}
 use Rattle.running.proofs.Worlds.{real_follows}
 use Rattle.running.proofs.Placing.{after_items}
 use Rattle.select.specs.Program.{program_items}
-use Rattle.simulation.specs.Matches.{Ground, Matches}
+use Rattle.simulation.specs.Matches.{Ground, Ready, Matches}
 use Rattle.simulation.specs.Costs.{least_spent}
-use Rattle.simulation.specs.Runs.{slack, ground_at, MachineGoesOn, MachineEnds}
+use Rattle.simulation.specs.Runs.{slack, ground_at, StandsWith, MachineGoesOn, MachineEnds}
 use Rattle.simulation.proofs.Progress.{progresses, times_more}
 use Rattle.simulation.proofs.Inputs.{Reads, whole, whole_once, flat_reads, machine_reads, Has, Kept}
+use Rattle.simulation.proofs.Laying.{is_ready}
+use Rattle.simulation.proofs.Standing.{stands_with}
 use Rattle.simulation.proofs.Whole.{comes_to, ends}
 
 -- the world of a run that goes on
-record Shown (x : machine.Progress) (input : List ℕ) (trace : List Event) : Type 0 where
+record Shown (G : Ground) (s : State) (x : machine.Progress) : Type 0 where
   pub world : machine.World
   pub is : x ≡ machine.Running world
-  pub trace_is : world.trace ≡ trace
-  pub input_is : world.input ≡ input
+  pub stands : StandsWith G.program G.env s world
 
-shown : (P : Permits) (G : Ground) (s : State) (m : Light) (x : machine.Progress) → Matches G (running s) m → Follows P m x → Shown x s.input s.trace
-shown P G s (Go r at b i h) x q f = record { world = world P f.list at b i h; is = f.is; trace_is = q.2; input_is = q.1 }
-shown P G s (Done status h) x q f = absurd q
-shown P G s (Fell h) x q f = absurd q
+shown : (P : Permits) (G : Ground) (s : State) (m : Light) (x : machine.Progress) → Ready G → G.sp ≡ stack_end → Matches G (running s) m → Follows P m x → Shown G s x
+shown P G s (Go r at b i h) x ready top q f = record { world = world P f.list at b i h; is = f.is; stands = stands_with P G s f.list r at b i h ready top q.0 q.1 q.2 f.shows }
+shown P G s (Done status h) x ready top q f = absurd q
+shown P G s (Fell h) x ready top q f = absurd q
 
 last : (P : Permits) (status : ℕ) (trace : List Event) (m : Light) (x : machine.Progress) → m ≡ Done status trace → Follows P m x → (w : machine.World) × (x ≡ machine.Ended status w) × (w.trace ≡ trace)
 last P status trace m x e f = subst (λ y. Follows P y x) e f
@@ -39,8 +41,8 @@ goes_on P low apart p env data_at base e r b list input q shows bytes n s over r
     let c = comes_to p F env data_at base e r b input q bytes n rooms in
     let real = real_follows P low apart list r base b input [] shows (omega (arith, one.on, q.low)) c.j in
     let x = machine.rvrun c.j (world P list base b input []) in
-    let w = shown P G s (light_run F c.j (Go r base b input [])) x (subst (λ y. Matches G y (light_run F c.j (Go r base b input []))) over c.good) real in
-    (c.j, w.world, times_more (slack p) (least_spent p n (start p input)) c.j n (progresses p n (start p input) s over) (omega (arith, c.some)), c.within, w.is, w.trace_is, w.input_is)
+    let w = shown P G s (light_run F c.j (Go r base b input [])) x (is_ready p F env data_at base e r b q) refl (subst (λ y. Matches G y (light_run F c.j (Go r base b input []))) over c.good) real in
+    (c.j, w.world, times_more (slack p) (least_spent p n (start p input)) c.j n (progresses p n (start p input) s over) (omega (arith, c.some)), c.within, w.is, w.stands)
 
 pub ends_so : MachineEnds
 ends_so P low apart p env data_at base e r b list input q shows bytes n status left trace over rooms =

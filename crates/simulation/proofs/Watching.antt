@@ -1,14 +1,14 @@
 -- Each call within a run keeps the stack pointer and s0 to s11: it is the call of which one speaks.
-use Rattle.std.proofs.Common.{◌≡◌, ℕ, ◌+◌, ◌<◌, List, [], ◌∷◌, Some, refl, sym, ◌∙◌, subst, arith}
+use Rattle.std.proofs.Common.{◌≡◌, ℕ, zero, suc, ◌+◌, ◌<◌, List, [], ◌∷◌, Some, refl, sym, ◌∙◌, subst, arith}
 use Rattle.rv32.specs.Space.{word_at}
 use Rattle.frames.specs.declared.code.Instruction.TheVariants as instruction
 use Rattle.frames.specs.Code.{Function, frame_bytes}
 use Rattle.frames.specs.Costs.{next_of, spent}
-use Rattle.frames.specs.Run.{Values, Bytes, Frame, State, Progress, running, ended, stuck, entered, function_at, bytes_of, run}
-use Rattle.running.specs.Light.{Light, Go, Done, Fell, Comes}
+use Rattle.frames.specs.Run.{Value, word, reference, Values, Bytes, Frame, State, Progress, running, ended, stuck, entered, function_at, bytes_of, run}
+use Rattle.running.specs.Light.{Light, Go, Done, Fell, Comes, light_run}
 use Rattle.running.proofs.Steps.{comes_now, comes_then}
 use Rattle.select.specs.Selected.{return_home}
-use Rattle.simulation.specs.Matches.{Ground, Ready, FrameHolds, Waits, Matched, Matches, IsBelow, address, file_of, file_below}
+use Rattle.simulation.specs.Matches.{Ground, Ready, FrameHolds, Waits, Matched, Matches, IsBelow, address, file_of, file_below, shown}
 use Rattle.simulation.specs.Costs.{least_spent}
 use Rattle.simulation.specs.Laws.{Anything}
 use Rattle.simulation.specs.Runs.{IsWithin, IsBack, EachCallKeeps}
@@ -84,18 +84,18 @@ module _ (G : Ground) (s : State) (r b : ℕ → ℕ) (ready : Ready G) (m : Mat
   below = file_below (function_at G.program s.frame.function) b m.sp (file_of r)
 
   comes_back : (r0 : ℕ → ℕ) → G.watch_sp ≡ r0 2 → ((j : ℕ) → G.watch_file j ≡ file_of r0 j) → (ws : List Frame) → Waits G ws b below base back_to → base ≡ G.watch_sp → 0 < bytes_of G.program ws → next_of G.program s ≡ Some instruction.Return
-      → Comes G.machine Anything 1 43 (Go r (address G s.frame.function s.frame.at) b s.input s.trace) (IsBack r0 G.watch_ra)
+      → Comes G.machine Anything 1 43 (Go r (address G s.frame.function s.frame.at) b s.input s.trace) (IsBack G r0 s G.watch_ra)
   comes_back r0 e2 ef [] st eb some e = absurd (omega (arith, some))
   comes_back r0 e2 ef (w ∷ ws) st eb some e =
       let q = st.0.seen eb in
-      leaves G s r b ready m (IsBack r0 G.watch_ra) e st.0.aligned st.0.small (λ r2 es es12 e10.
-      comes_now G.machine Anything 0 _ (IsBack r0 G.watch_ra) tt (q.0, es ∙ (eb ∙ e2), λ j. es12 j ∙ (q.1 j ∙ ef j)))
+      leaves G s r b ready m (IsBack G r0 s G.watch_ra) e st.0.aligned st.0.small (λ r2 es es12 e10.
+      comes_now G.machine Anything 0 _ (IsBack G r0 s G.watch_ra) tt (q.0, es ∙ (eb ∙ e2), λ j. es12 j ∙ (q.1 j ∙ ef j), λ v h. e10 ∙ (m.temporaries 0 v h).2, refl, refl))
 
 module _ (G : Ground) (ready : Ready G) where
   returns_back : (r0 : ℕ → ℕ) → G.watch_sp ≡ r0 2 → ((j : ℕ) → G.watch_file j ≡ file_of r0 j) → (t : State) → bytes_of G.program t.waiting + G.watch_sp ≡ G.sp → 0 < bytes_of G.program t.waiting → next_of G.program t ≡ Some instruction.Return → (m : Light) → Matches G (running t) m
-      → Comes G.machine Anything 1 43 m (IsBack r0 G.watch_ra)
+      → Comes G.machine Anything 1 43 m (IsBack G r0 t G.watch_ra)
   returns_back r0 e2 ef t sum some e (Go r at b i h) q =
-      let R : Light → Type 0 = λ x. Comes G.machine Anything 1 43 x (IsBack r0 G.watch_ra) in
+      let R : Light → Type 0 = λ x. Comes G.machine Anything 1 43 x (IsBack G r0 t G.watch_ra) in
       let m = subst (λ x. Matched G t r x b) q.0.at_is q.0 in
       let there = address G t.frame.function t.frame.at in
       let whole = sum_is G ready t r there b m in
@@ -109,6 +109,17 @@ under : (G : Ground) (s : State) (x : Progress) → G.watch_sp + bytes_of G.prog
 under G s (running t) sum lt = omega (arith, sum, lt)
 under G s (ended status input trace) sum lt = tt
 under G s stuck sum lt = tt
+
+-- of whatever call one speaks
+shown_same : (G : Ground) (sp ra : ℕ) (file : ℕ → ℕ) (v : Value) → shown (watching G sp ra file) v ≡ shown G v
+shown_same G sp ra file (word w) = refl
+shown_same G sp ra file (reference zero o) = refl
+shown_same G sp ra file (reference (suc l) o) = refl
+
+back_same : (G : Ground) (sp ra : ℕ) (file r : ℕ → ℕ) (t : State) (to : ℕ) (m : Light) → IsBack (watching G sp ra file) r t to m → IsBack G r t to m
+back_same G sp ra file r t to (Go r2 at b i h) q = (q.0, q.1, q.2, λ v e. q.3 v e ∙ shown_same G sp ra file v, q.4, q.5)
+back_same G sp ra file r t to (Done x h) q = q
+back_same G sp ra file r t to (Fell h) q = q
 
 pub each_call_keeps : EachCallKeeps
 each_call_keeps G s t f n r b ready m bytes e over et same rooms within =
@@ -126,7 +137,7 @@ each_call_keeps G s t f n r b ready m bytes e over et same rooms within =
     let two : Comes H.machine Anything (1 + least_spent p n s1) (44 + spent p n s1) begin (Matches H (run p n s1)) =
     comes_then H.machine Anything 44 (spent p n s1) begin (Matches H (running s1)) (Matches H (run p n s1)) one
     (λ m2 q. steps H hr n s1 m2 q bytes rooms (λ k lt. under H s (run p k s1) (omega (arith, sum)) (within k (omega (arith, lt))))) in
-    let three : Comes H.machine Anything (1 + least_spent p n s1 + 1) (44 + spent p n s1 + 43) begin (IsBack r to) =
-    comes_then H.machine Anything (44 + spent p n s1) 43 begin (Matches H (run p n s1)) (IsBack r to) two
+    let three : Comes H.machine Anything (1 + least_spent p n s1 + 1) (44 + spent p n s1 + 43) begin (IsBack H r t to) =
+    comes_then H.machine Anything (44 + spent p n s1) 43 begin (Matches H (run p n s1)) (IsBack H r t to) two
     (λ m2 q. returns_back H hr r (sym m.sp_is) (λ j. refl) t (omega (arith, sum, same)) (omega (arith, same, frame_room mine)) et m2 (subst (λ x. Matches H x m2) over q)) in
-    record { j = three.j; some = omega (arith, three.some); within = three.within; kept = three.kept; good = three.good }
+    record { j = three.j; some = omega (arith, three.some); within = three.within; kept = three.kept; good = back_same G m.sp to (file_of r) r t to (light_run G.machine three.j begin) three.good }

@@ -8,7 +8,7 @@ use Rattle.events.specs.Events.{Event}
 use Rattle.frames.specs.declared.code.Instruction.TheVariants as instruction
 use Rattle.frames.specs.Code.{Program}
 use Rattle.frames.specs.Sound.{IsSoundProgram, places_of}
-use Rattle.frames.specs.Run.{Value, Values, Bytes, unset, State, Progress, running, ended, stuck, entered, bytes_of, step, run, start}
+use Rattle.frames.specs.Run.{Value, word, Values, Bytes, unset, State, Progress, running, ended, stuck, entered, bytes_of, step, run, start}
 use Rattle.sim.specs.Runs.{World, Running, Ended, rvrun}
 use Rattle.running.specs.Light.{Fixed, Light, Go, Done, Fell, Comes}
 use Rattle.running.specs.Whole.{Permits, fixed}
@@ -94,14 +94,15 @@ IsWithin p s (running t) = bytes_of p (s.frame ∷ s.waiting) < bytes_of p (t.fr
 IsWithin p s (ended status input trace) = Unit {0}
 IsWithin p s stuck = Unit {0}
 
--- the stack pointer and s0 to s11 are as in r, and the machine stands there
-abbrev pub IsBack : (r : ℕ → ℕ) → ℕ → Light → Type 0
-IsBack r to (Go r2 at b i h) = (at ≡ to) × (r2 2 ≡ r 2) × ((j : ℕ) → file_of r2 j ≡ file_of r j)
-IsBack r to (Done x h) = ⊥
-IsBack r to (Fell h) = ⊥
+-- the call that t ends has been left for there: the stack pointer and s0 to s11 are as in r, the result is in a0, and all is done that t has done
+abbrev pub IsBack : Ground → (r : ℕ → ℕ) → State → ℕ → Light → Type 0
+IsBack G r t to (Go r2 at b i h) =
+    (at ≡ to) × (r2 2 ≡ r 2) × ((j : ℕ) → file_of r2 j ≡ file_of r j) × ((v : Value) → t.temporaries 0 ≡ Some v → r2 10 ≡ shown G v) × (i ≡ t.input) × (h ≡ t.trace)
+IsBack G r t to (Done x h) = ⊥
+IsBack G r t to (Fell h) = ⊥
 
 -- From a call, however deep, to the return that ends it: n steps within it lead to a Return over the frames that the call found. The machine
--- is then behind the call, with the stack pointer and s0 to s11 as they were.
+-- is then behind the call, with the stack pointer and s0 to s11 as they were, and with the result in a0.
 abbrev pub EachCallKeeps : Type 0
 EachCallKeeps =
     (G : Ground) (s t : State) (f n : ℕ) (r b : ℕ → ℕ) → Ready G → Matched G s r (address G s.frame.function s.frame.at) b → AreBytes s.input
@@ -109,7 +110,7 @@ EachCallKeeps =
     → next_of G.program t ≡ Some instruction.Return → bytes_of G.program t.waiting ≡ bytes_of G.program (s.frame ∷ s.waiting)
     → ((k : ℕ) → k ≤ n → HasRoom G (run G.program k (entered s f))) → ((k : ℕ) → k ≤ n → IsWithin G.program s (run G.program k (entered s f)))
     → Comes G.machine Anything 1 (cost (instruction.Call f) + spent G.program n (entered s f) + cost instruction.Return) (Go r (address G s.frame.function s.frame.at) b s.input s.trace)
-    (IsBack r (address G s.frame.function (s.frame.at + 1)))
+    (IsBack G r t (address G s.frame.function (s.frame.at + 1)))
 
 -- ---- whole programs
 
@@ -170,15 +171,26 @@ EndsFollow =
 
 -- ---- on the machine of the table, where no byte may be both executed and written, and text lies below 2^31
 
--- where the flat program goes on: the machine does too, having done the same and with the same input left, after a count of instructions that grows with
--- the steps
+-- the machine stands where the flat program does: at the items of its next instruction, having done the same and with the same input left; the frames of
+-- the calls that are active lie between the stack pointer and the stack's end, and the temporaries that are words are in a0 to a7 and from the
+-- stack pointer up, so that of a call they are its arguments (RISC-V ELF psABI, "Integer Calling Convention")
+pub record StandsWith (p : Program) (env : ℕ → ℕ) (s : State) (w : World) : Type 0 where
+  pub pc : w.machine.pc ≡ env (first_of p s.frame.function + s.frame.at)
+  pub sp : register w.machine 2 + bytes_of p (s.frame ∷ s.waiting) ≡ stack_end
+  pub aligned : register w.machine 2 % 16 ≡ 0
+  pub registers : (k x : ℕ) → k < 8 → s.temporaries k ≡ Some (word x) → register w.machine (10 + k) ≡ x
+  pub stack : (k x : ℕ) → 8 ≤ k → s.temporaries k ≡ Some (word x) → word_at w.machine.space.byte (register w.machine 2 + 4 * (k - 8)) ≡ x
+  pub trace : w.trace ≡ s.trace
+  pub input : w.input ≡ s.input
+
+-- where the flat program goes on: the machine does too, after a count of instructions that grows with the steps
 abbrev pub MachineGoesOn : Type 0
 MachineGoesOn =
     (P : Permits) → ((a : ℕ) → P.can_execute a ≡ true → a < 2 ^ 31) → ((a : ℕ) → P.can_execute a ≡ true → P.can_write a ≡ false)
     → (p : Program) (env : ℕ → ℕ) (data_at base e : ℕ) (r b : ℕ → ℕ) (list input : List ℕ) → Laid p (fixed P b) env data_at base e r b → Registers list r → AreBytes input
     → (n : ℕ) (s : State) → run p n (start p input) ≡ running s
     → ((k : ℕ) → k ≤ n → HasRoom (ground_at p (fixed P b) env data_at base r b) (run p k (start p input)))
-    → (k : ℕ) × (w : World) × (n < slack p * k) × (k ≤ start_cost + spent p n (start p input)) × (rvrun k (world P list base b input []) ≡ Running w) × (w.trace ≡ s.trace) × (w.input ≡ s.input)
+    → (k : ℕ) × (w : World) × (n < slack p * k) × (k ≤ start_cost + spent p n (start p input)) × (rvrun k (world P list base b input []) ≡ Running w) × StandsWith p env s w
 
 -- where it ends
 abbrev pub MachineEnds : Type 0
@@ -189,10 +201,15 @@ MachineEnds =
     → ((k : ℕ) → k ≤ n → HasRoom (ground_at p (fixed P b) env data_at base r b) (run p k (start p input)))
     → (k : ℕ) × (w : World) × (k ≤ start_cost + spent p n (start p input) + 2) × (rvrun k (world P list base b input []) ≡ Ended status w) × (w.trace ≡ trace) × (w.input ≡ left)
 
--- the stack pointer and s0 to s11 are the same in both worlds
-pub record KeptOver (v w : World) : Type 0 where
+-- Behind a call that t ends, which began in v: the machine stands there, the stack pointer and s0 to s11 are the same, the result, where it is a word, is
+-- in a0, and all is done that t has done.
+pub record BackFrom (t : State) (to : ℕ) (v w : World) : Type 0 where
+  pub pc : w.machine.pc ≡ to
   pub sp : register w.machine 2 ≡ register v.machine 2
   pub file : (j : ℕ) → j < 12 → register w.machine (kept j) ≡ register v.machine (kept j)
+  pub result : (x : ℕ) → t.temporaries 0 ≡ Some (word x) → register w.machine 10 ≡ x
+  pub trace : w.trace ≡ t.trace
+  pub input : w.input ≡ t.input
 
 -- At each call that the flat program comes to, and behind the return that ends it, as `EachCallKeeps` has it.
 abbrev pub MachineCallsKeep : Type 0
@@ -203,5 +220,6 @@ MachineCallsKeep =
     → next_of p t ≡ Some instruction.Return → bytes_of p t.waiting ≡ bytes_of p (s.frame ∷ s.waiting)
     → ((k : ℕ) → k ≤ n → HasRoom (ground_at p (fixed P b) env data_at base r b) (run p k (start p input)))
     → ((k : ℕ) → k ≤ m → HasRoom (ground_at p (fixed P b) env data_at base r b) (run p k (entered s f))) → ((k : ℕ) → k ≤ m → IsWithin p s (run p k (entered s f)))
-    → (k j : ℕ) × (v w : World) × (rvrun k (world P list base b input []) ≡ Running v) × (v.machine.pc ≡ env (first_of p s.frame.function + s.frame.at))
-    × (rvrun (k + j) (world P list base b input []) ≡ Running w) × (w.machine.pc ≡ env (first_of p s.frame.function + (s.frame.at + 1))) × KeptOver v w
+    → (k j : ℕ) × (v w : World) × (n < slack p * k) × (k ≤ start_cost + spent p n (start p input)) × (0 < j) × (j ≤ cost (instruction.Call f) + spent p m (entered s f) + cost instruction.Return)
+    × (rvrun k (world P list base b input []) ≡ Running v) × StandsWith p env s v
+    × (rvrun (k + j) (world P list base b input []) ≡ Running w) × BackFrom t (env (first_of p s.frame.function + (s.frame.at + 1))) v w

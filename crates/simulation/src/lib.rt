@@ -134,7 +134,8 @@ pub fn machine_ends()
     ensures { MachineEnds }
 {}
 
-/// At each call that a flat program comes to, and behind the return that ends it, the machine of the table has the same stack pointer and s0 to s11.
+/// At each call that a flat program comes to the machine of the table stands with it; behind the return that ends the call it has the same stack
+/// pointer and s0 to s11, and the result in a0.
 pub fn machine_calls_keep()
     ensures { MachineCallsKeep }
 {}

@@ -17,7 +17,7 @@ use Rattle.simulation.specs.Runs.{slack}
 use Rattle.flat_images.specs.Images.{FitStack}
 use Rattle.flat_images.proofs.Images.{image_goes_on, image_ends}
 use Rattle.tac_images.specs.Programs.{ProgramGoesOn, ProgramEnds}
-use Rattle.tac_images.proofs.Runs.{none_within, further}
+use Rattle.tac_images.proofs.Runs.{none_within, further, flattened_of}
 use Rattle.tac_images.proofs.Known.{AreKnown, Known, run_known}
 
 module _ (p : typed.Program) (q : tac.Program) (f : flat.Program) (lowered : IsLowered p q) (flattened : IsFlattened q f) (sound : IsSoundProgram f) where
@@ -56,7 +56,8 @@ module _ (p : typed.Program) (q : tac.Program) (f : flat.Program) (lowered : IsL
   fits flat_run.stuck input m m2 j its le e most seen small = tt
 
 pub program_goes_on : ProgramGoesOn
-program_goes_on p q f parts input lowered flattened image bytes n s over small =
+program_goes_on p q f parts input lowered made image bytes n s over small =
+    let flattened = flattened_of q f lowered.sound made in
     let b = (lowered.behaves input bytes).goes_on n s over in
     let m = b.0 in
     let t = b.2.0 in
@@ -66,10 +67,11 @@ program_goes_on p q f parts input lowered flattened image bytes n s over small =
     let seen : (k : ℕ) → IsSeen (weight_in p) k (before q input m) → k ≤ greatest_sum (weight_in p) s.history = λ k h.
     subst (λ x. k ≤ greatest_sum (weight_in p) x) b.2.2 (subst (IsSeen (weight_in p) k) b.2.1 h) in
     let w = image_goes_on f parts input image bytes c.0 u c.2.1 (λ j le. fits p q f lowered flattened image.sound (behind f input j) input m c.0 j c.4 le refl (greatest_sum (weight_in p) s.history) seen small) in
-    (w.0, w.1, further (slack f) n c.0 w.0 (omega (arith, b.1, c.1)) w.2, omega (arith, w.3, c.3, b.3), w.4, w.5 ∙ (at.0 ∙ ap trace_of b.2.2), w.6 ∙ (at.1 ∙ b.2.3))
+    (w.0, w.1, further (slack f) n c.0 w.0 (omega (arith, b.1, c.1)) w.2, omega (arith, w.3, c.3, b.3), w.4, w.5.trace ∙ (at.0 ∙ ap trace_of b.2.2), w.5.input ∙ (at.1 ∙ b.2.3))
 
 pub program_ends : ProgramEnds
-program_ends p q f parts input lowered flattened image bytes n status s over small =
+program_ends p q f parts input lowered made image bytes n status s over small =
+    let flattened = flattened_of q f lowered.sound made in
     let b = (lowered.behaves input bytes).ends n status s over in
     let m = b.0 in
     let c = (flattened.in_step input bytes).ends m status s.input s.history b.1 in

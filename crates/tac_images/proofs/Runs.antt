@@ -1,5 +1,5 @@
 -- Flat code is in step with three-address code, and the machine with flat code.
-use Rattle.std.proofs.Common.{◌≡◌, ℕ, zero, suc, ◌*◌, ◌<◌, ◌≤◌, List, [], ◌∷◌, length, map, Option, Some, None, refl, ap, ◌∙◌, subst, arith}
+use Rattle.std.proofs.Common.{◌≡◌, ℕ, zero, suc, ◌*◌, ◌<◌, ◌≤◌, List, [], ◌∷◌, length, map, Option, Some, None, refl, sym, ap, ◌∙◌, subst, arith}
 use Rattle.std.specs.Prelude.{slice_get, sum_by}
 use Rattle.std.proofs.lemmas.List.Sums.{sum_by-cons}
 use Rattle.std.proofs.lemmas.Option.{slice_get_within}
@@ -7,9 +7,12 @@ use Rattle.meaning.specs.History.{trace_of}
 use Rattle.tac.specs.Code as tac
 use Rattle.tac.specs.Run as tac_run
 use Rattle.tac.specs.Costs as tac_costs
+use Rattle.tac.specs.Sound.{IsSoundProgram}
 use Rattle.frames.specs.Code as flat
 use Rattle.frames.specs.Run as flat_run
+use Rattle.flattening.specs.Translated.{flat_program}
 use Rattle.flattening.specs.Flattened.{IsFlattened, HasItsCalls, behind, before}
+use Rattle.flat_steps.proofs.Whole.{flat_is_flattened}
 use Rattle.simulation.specs.Runs.{slack}
 use Rattle.flat_images.specs.Images.{FitStack}
 use Rattle.flat_images.proofs.Images.{image_goes_on, image_ends}
@@ -55,17 +58,22 @@ module _ (q : tac.Program) (f : flat.Program) (flattened : IsFlattened q f) wher
 pub further : (a n m x : ℕ) → n ≤ m → m < a * x → n < a * x
 further a n m x le lt = omega (arith, le, lt)
 
+pub flattened_of : (q : tac.Program) (f : flat.Program) → IsSoundProgram q → f ≡ flat_program q → IsFlattened q f
+flattened_of q f sound made = subst (IsFlattened q) (sym made) (flat_is_flattened q sound)
+
 pub tac_goes_on : TacGoesOn
-tac_goes_on q f parts input flattened image bytes n t over fit =
+tac_goes_on q f parts input sound made image bytes n t over fit =
+    let flattened = flattened_of q f sound made in
     let c = (flattened.in_step input bytes).goes_on n t over in
     let m = c.0 in
     let s = c.2.0 in
     let at = c.2.2 in
     let w = image_goes_on f parts input image bytes m s c.2.1 (λ j le. fits q f flattened (behind f input j) input n m j c.4 le refl fit) in
-    (w.0, w.1, further (slack f) n m w.0 c.1 w.2, omega (arith, w.3, c.3), w.4, w.5 ∙ at.0, w.6 ∙ at.1)
+    (w.0, w.1, further (slack f) n m w.0 c.1 w.2, omega (arith, w.3, c.3), w.4, w.5.trace ∙ at.0, w.5.input ∙ at.1)
 
 pub tac_ends : TacEnds
-tac_ends q f parts input flattened image bytes n status left history over fit =
+tac_ends q f parts input sound made image bytes n status left history over fit =
+    let flattened = flattened_of q f sound made in
     let c = (flattened.in_step input bytes).ends n status left history over in
     let m = c.0 in
     let w = image_ends f parts input image bytes m status left (trace_of history) c.1 (λ j le. fits q f flattened (behind f input j) input n m j c.3 le refl fit) in

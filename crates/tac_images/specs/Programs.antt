@@ -13,21 +13,22 @@ use Rattle.tac.specs.Code as tac
 use Rattle.tac.specs.Sound.{AreBytes}
 use Rattle.tac.specs.Lowered.{IsLowered}
 use Rattle.frames.specs.Code as flat
-use Rattle.flattening.specs.Flattened.{IsFlattened}
+use Rattle.flattening.specs.Translated.{flat_program}
 use Rattle.simulation.specs.Runs.{slack}
 use Rattle.flat_images.specs.Images.{IsImageOf}
 
--- Where the abstract machine has used n ticks and its calls never weighed more than the stack: the machine goes on too, has done the same and has
--- the same input left, after at most 60 n + 64 instructions, and at least one for each so many ticks.
+-- Where the image is that of the flat program of what the typed program was lowered to, the abstract machine has used n ticks, and its calls never
+-- weighed more than the stack: the machine goes on too, has done the same and has the same input left, after at most 60 n + 64 instructions, and at
+-- least one for each so many ticks.
 abbrev pub ProgramGoesOn : Type 0
 ProgramGoesOn =
-    (p : Program) (q : tac.Program) (f : flat.Program) (parts : Parts) (input : List ℕ) → IsLowered p q → IsFlattened q f → IsImageOf f parts → AreBytes input
+    (p : Program) (q : tac.Program) (f : flat.Program) (parts : Parts) (input : List ℕ) → IsLowered p q → f ≡ flat_program q → IsImageOf f parts → AreBytes input
     → (n : ℕ) (s : State) → cstep n p input ≡ Stops TicksUsed s → greatest_sum (weight_in p) s.history ≤ stack_size
     → (k : ℕ) × (w : World) × (n < slack f * k) × (k ≤ 60 * n + 64) × (rvrun k (start_world (program_image parts) input) ≡ sim.Running w) × (w.trace ≡ trace_of s.history) × (w.input ≡ s.input)
 
 -- Where it has ended: the machine ends with the same status.
 abbrev pub ProgramEnds : Type 0
 ProgramEnds =
-    (p : Program) (q : tac.Program) (f : flat.Program) (parts : Parts) (input : List ℕ) → IsLowered p q → IsFlattened q f → IsImageOf f parts → AreBytes input
+    (p : Program) (q : tac.Program) (f : flat.Program) (parts : Parts) (input : List ℕ) → IsLowered p q → f ≡ flat_program q → IsImageOf f parts → AreBytes input
     → (n status : ℕ) (s : State) → cstep n p input ≡ Stops (Ended status) s → greatest_sum (weight_in p) s.history ≤ stack_size
     → (k : ℕ) × (w : World) × (k ≤ 60 * n + 66) × (rvrun k (start_world (program_image parts) input) ≡ sim.Ended status w) × (w.trace ≡ trace_of s.history) × (w.input ≡ s.input)
