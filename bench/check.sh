@@ -42,14 +42,16 @@ nodes() { awk -v n="$1" 'BEGIN { f = 0; used = 8; print "int g(int a, unsigned b
 # least COMMAND..: the least time of the processor, in milliseconds, of so many turns
 least() {
     python3 - "$turns" "$@" <<'PY'
-import os, subprocess, sys
+import resource, subprocess, sys
 turns, command = int(sys.argv[1]), sys.argv[2:]
+def spent():
+    usage = resource.getrusage(resource.RUSAGE_CHILDREN)
+    return usage.ru_utime + usage.ru_stime
 best = None
 for _ in range(turns):
-    before = os.times()
+    before = spent()
     subprocess.run(command, stdin=subprocess.DEVNULL, stdout=subprocess.DEVNULL, stderr=subprocess.DEVNULL)
-    after = os.times()
-    took = after.children_user + after.children_system - before.children_user - before.children_system
+    took = spent() - before
     best = took if best is None else min(best, took)
 print('%.1f' % (best * 1000))
 PY
