@@ -150,7 +150,7 @@ pub record Compiles (set : Files) (name : List ℕ) (built : Built) : Type 0 whe
 
 -- ---- what is refused
 
--- the fault of phases 1 to 4: 103; 111 to 113, 703; 201 to 213, 704 to 706, 708; and 699 for a directive that is not built yet
+-- the fault of phases 1 to 4: 103; 111 to 113, 703; 201 to 213, 704 to 706, 708; 221 to 223, 231 to 235, 707
 pub record FailsPreprocessing (set : Files) (name : List ℕ) (fault : Fault) : Type 0 where
   pub texts : Texts
   pub numbers : Numbers texts name

@@ -12,11 +12,12 @@ use Rattle.meaning.specs.Expressions.{Calling, evaluate, evaluate_or}
 
 -- ---- initialisers (6.7.9)
 
--- p10, p21: k elements or rows of these lengths from number i on become zero, with a tick for each element
+-- p10, p21: k elements or rows of these lengths from number i on become zero
 abbrev pub zeros : ℕ → ℕ → List ℕ → Reference → State → State
 zeros zero i lengths r s = s
 zeros (suc k) i lengths r s = zeros k (suc i) lengths r (record s { store = put s.store (into r i) (filled (Some (pos 0)) lengths) })
 
+-- with a tick for each element
 abbrev pub clear : ℕ → ℕ → List ℕ → Reference → State → Run (Unit {0})
 clear k i lengths r s = then_do (ticks (k * elements_in lengths) s) (λ u s. Goes tt (zeros k i lengths r s))
 

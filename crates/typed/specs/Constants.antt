@@ -23,7 +23,7 @@ abbrev pub no_comma : Pos → BinaryOp → Verdict (Unit {0})
 no_comma at operator.Comma = unfit_at at
 no_comma at op = fine tt
 
--- 6.6p3, p6: no assignment, increment, decrement, call or comma, also where it is not evaluated, as in the operand of sizeof
+-- 6.6p3, p6: no assignment, increment, decrement, call or comma; here also where it is not evaluated, as in the operand of sizeof
 abbrev pub measurable : Tree → Verdict (Unit {0})
 measurable hole = fine tt
 measurable (identifier at n) = fine tt
