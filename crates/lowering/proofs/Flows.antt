@@ -1,0 +1,286 @@
+-- The code follows statements, if it follows what they are made of.
+use Rattle.std.proofs.Common.{◌≡◌, ℕ, zero, suc, ◌+◌, ◌*◌, ◌≤◌, List, [], Option, Some, None, Bool, true, ℤ, refl, sym, ap, subst, arith}
+use Rattle.std.specs.Prelude.{slice_get}
+use Rattle.ctypes.specs.declared.types.IntType.{IntType}
+use Rattle.ctypes.specs.Types.{IsValueOf, converted}
+use Rattle.ctypes.proofs.Uses.{converted_fits}
+use Rattle.typed.specs.Types.{ObjectType}
+use Rattle.typed.specs.Program as typed
+use Rattle.typed.specs.Program.{Initialiser, Statement, Statements, Value as Expression}
+use Rattle.meaning.specs.Store.{Tree, whole, put, indeterminate}
+use Rattle.meaning.specs.Machine as machine
+use Rattle.meaning.specs.Machine.{Run, Goes, Stops, then_do, choose, tick, stored}
+use Rattle.meaning.specs.Expressions.{Calling, evaluate}
+use Rattle.meaning.specs.Statements.{Flow, Normal, Broken, Continued, Returned, new_object, renewed, all_renewed, next_after}
+use Rattle.tac.specs.declared.code.Target.TheVariants as target
+use Rattle.tac.specs.declared.code.Instruction.TheVariants as instruction
+use Rattle.tac.specs.Code.{Program, function_at}
+use Rattle.tac.specs.Run.{Values, Call, State, word, word_for, forgotten}
+use Rattle.lowering.specs.Values.{or_int, Nowhere}
+use Rattle.lowering.specs.Code.{One}
+use Rattle.lowering.proofs.Words.{differ}
+use Rattle.lowering.proofs.Steps.{stays, GoesTo, goes, Sim, sim_then, sim_map, sim_move, tick_in, tick_ends}
+use Rattle.lowering.proofs.Standing.{Scratch, here, does_nothing, does_jump}
+use Rattle.lowering.proofs.Stores.{ObjectFits, Fine, After, after_on, after_none, put_here, put_elsewhere, put_above, fine_later, after_later, after_since}
+use Rattle.lowering.proofs.Goods.{Good}
+use Rattle.lowering.proofs.Leaves.{IntoDoes, Converted, ConvertsDoes}
+
+abbrev pub writes_all : ℕ → Bool
+writes_all x = true
+
+-- every object of the call is a number
+abbrev pub AreNumbers : List ObjectType → Type 0
+AreNumbers objects = (n : ℕ) (o : ObjectType) → slice_get objects n ≡ Some o → o.lengths ≡ []
+
+-- ---- objects that become indeterminate (6.2.4p6)
+
+new_fits : (objects : List ObjectType) (n : ℕ) (o : ObjectType) → AreNumbers objects → slice_get objects n ≡ Some o
+    → ObjectFits o.element (Some (new_object (slice_get objects n)))
+new_fits objects n o h e =
+    subst (λ x. ObjectFits o.element (Some (new_object x))) (sym e)
+    (subst (λ l. ObjectFits o.element (Some (indeterminate (record { element = o.element; constant = o.constant; lengths = l })))) (sym (h n o e)) tt)
+
+nat_cases : {P : Type 0} (m n : ℕ) → ((m ≡ n) → P) → ((m ≡ n → ⊥) → P) → P
+nat_cases zero zero a b = a refl
+nat_cases zero (suc n) a b = b (λ e. let z : ⊥ = omega (arith, e) in z)
+nat_cases (suc m) zero a b = b (λ e. let z : ⊥ = omega (arith, e) in z)
+nat_cases (suc m) (suc n) a b = nat_cases m n (λ e. a (ap suc e)) (λ h. b (λ e. h (let z : m ≡ n = omega (arith, e) in z)))
+
+some_tree : (t : IntType) (o : Option Tree) → ObjectFits t o → (old : Tree) × (o ≡ Some old)
+some_tree t None h = absurd h
+some_tree t (Some old) h = (old, refl)
+
+fine_renewed : (objects : List ObjectType) (x : ℕ) (s : machine.State) → AreNumbers objects → Fine objects s → Fine objects (renewed objects x s)
+fine_renewed objects x s numbers h = record { fits = fits; input = h.input }
+  where
+    new : Tree
+    new = new_object (slice_get objects x)
+
+    fits : (n : ℕ) (o : ObjectType) → slice_get objects n ≡ Some o
+        → ObjectFits o.element (slice_get (put s.store (whole (s.base + x)) (new_object (slice_get objects x))) (s.base + n))
+    fits n o e = nat_cases n x
+        (λ m.
+        let old = some_tree o.element (slice_get s.store (s.base + n)) (h.fits n o e) in
+        let there : slice_get (put s.store (whole (s.base + n)) (new_object (slice_get objects n))) (s.base + n) ≡ Some (new_object (slice_get objects n)) =
+        put_here s.store (s.base + n) old.0 (new_object (slice_get objects n)) old.1 in
+        subst (λ y. ObjectFits o.element (slice_get (put s.store (whole (s.base + y)) (new_object (slice_get objects y))) (s.base + n))) m
+        (subst (λ z. ObjectFits o.element z) (sym there) (new_fits objects n o numbers e)))
+        (λ d. subst (λ z. ObjectFits o.element z)
+        (sym (put_elsewhere s.store (s.base + x) (s.base + n) (new_object (slice_get objects x)) (λ m. d (let z : n ≡ x = omega (arith, m) in z))))
+        (h.fits n o e))
+
+after_renewed : (objects : List ObjectType) (x : ℕ) (s : machine.State) → After writes_all s (renewed objects x s)
+after_renewed objects x s = record {
+  base = refl;
+  arrays = refl;
+  below = put_above s.store s.base (s.base + x) (new_object (slice_get objects x)) (omega arith);
+  still = λ y h. absurd (differ (sym h));
+}
+
+-- what the abstract machine makes indeterminate, the code forgets
+pub record Forgets (objects : List ObjectType) (n k : ℕ) (s : machine.State) : Type 0 where
+  pub same : (record s { store = forgotten objects s.base n k s.store }) ≡ all_renewed objects n k s
+  pub fine : Fine objects (all_renewed objects n k s)
+  pub after : After writes_all s (all_renewed objects n k s)
+  pub clock : (all_renewed objects n k s).clock ≡ s.clock
+
+pub all_forgotten : (objects : List ObjectType) (n k : ℕ) (s : machine.State) → AreNumbers objects → Fine objects s → Forgets objects n k s
+all_forgotten objects n zero s numbers fine = record { same = refl; fine = fine; after = after_none writes_all s; clock = refl }
+all_forgotten objects n (suc k) s numbers fine =
+    let h = all_forgotten objects (suc n) k (renewed objects n s) numbers (fine_renewed objects n s numbers fine) in
+    record {
+      same = h.same;
+      fine = h.fine;
+      after = after_on writes_all writes_all writes_all s (renewed objects n s) (all_renewed objects (suc n) k (renewed objects n s)) (λ x e. e) (λ x e. e)
+          (after_renewed objects n s) h.after;
+      clock = h.clock;
+    }
+
+module _ (p : typed.Program) (call : Calling) (q : Program) (deep f : ℕ) (result : Option IntType) where
+  -- ---- where a statement leaves the code
+
+  -- it stands at pc, whatever its temporaries and slots
+  pub record StandsAt (pc : ℕ) (before : machine.State) (ws : List Call) (s : machine.State) (z : State) : Type 0 where
+    pub now : Scratch
+    pub at : z ≡ here f pc now ws s
+    pub fine : Fine (function_at q f).objects s
+    pub after : After writes_all before s
+
+  -- a call's value, where it has one
+  abbrev pub Returning : Option ℤ → Values → Type 0
+  Returning None m = result ≡ None
+  Returning (Some v) m = IsValueOf (or_int result) v × (m 0 ≡ Some (word (word_for v)))
+
+  -- it is about to return
+  pub record Leaves (o : Option ℤ) (before : machine.State) (ws : List Call) (s : machine.State) (z : State) : Type 0 where
+    pub pc : ℕ
+    pub pc2 : ℕ
+    pub now : Scratch
+    pub at : z ≡ here f pc now ws s
+    pub leave : One (function_at q f).code instruction.Return pc pc2
+    pub gives : Returning o now.temporaries
+    pub fine : Fine (function_at q f).objects s
+    pub after : After writes_all before s
+
+  abbrev pub FlowGood : (end out again : ℕ) → machine.State → List Call → Flow → machine.State → State → Type 0
+  FlowGood end out again before ws Normal = StandsAt end before ws
+  FlowGood end out again before ws Broken = StandsAt out before ws
+  FlowGood end out again before ws Continued = StandsAt again before ws
+  FlowGood end out again before ws (Returned v) = Leaves v before ws
+
+  abbrev pub Runs : (machine.State → Run Flow) → (pc end out again : ℕ) → Type 0
+  Runs r pc end out again = (s : machine.State) (now : Scratch) (ws : List Call) → s.clock ≤ deep → Fine (function_at q f).objects s
+      → Sim q 14 (60 * s.clock) s.clock (here f pc now ws s) (FlowGood end out again s ws) (r s)
+
+  -- lists of statements, which may be empty
+  abbrev pub Lists : (machine.State → Run Flow) → (pc end out again : ℕ) → Type 0
+  Lists r pc end out again = (s : machine.State) (now : Scratch) (ws : List Call) → s.clock ≤ deep → Fine (function_at q f).objects s
+      → Sim q 14 (60 * s.clock + 14) s.clock (here f pc now ws s) (FlowGood end out again s ws) (r s)
+
+  -- the same from an earlier state
+  pub flow_since : (end out again : ℕ) (a b : machine.State) (ws : List Call) → After writes_all a b → (flow : Flow) (s : machine.State) (z : State)
+      → FlowGood end out again b ws flow s z → FlowGood end out again a ws flow s z
+  flow_since end out again a b ws h Normal s z g =
+      record { now = g.now; at = g.at; fine = g.fine; after = after_on writes_all writes_all writes_all a b s (λ x e. e) (λ x e. e) h g.after }
+  flow_since end out again a b ws h Broken s z g =
+      record { now = g.now; at = g.at; fine = g.fine; after = after_on writes_all writes_all writes_all a b s (λ x e. e) (λ x e. e) h g.after }
+  flow_since end out again a b ws h Continued s z g =
+      record { now = g.now; at = g.at; fine = g.fine; after = after_on writes_all writes_all writes_all a b s (λ x e. e) (λ x e. e) h g.after }
+  flow_since end out again a b ws h (Returned v) s z g =
+      record {
+        pc = g.pc;
+        pc2 = g.pc2;
+        now = g.now;
+        at = g.at;
+        leave = g.leave;
+        gives = g.gives;
+        fine = g.fine;
+        after =
+            after_on writes_all writes_all writes_all a b s (λ x e. e) (λ x e. e) h g.after;
+      }
+
+  -- a value's own account of what it leaves is enough
+  all_after : (w : ℕ → Bool) (a b : machine.State) → After w a b → After writes_all a b
+  all_after w a b h = record { base = h.base; arrays = h.arrays; below = h.below; still = λ x e. absurd (differ (sym e)) }
+
+  -- no step
+  pub there : (end out again hi : ℕ) (before : machine.State) (ws : List Call) (flow : Flow) (s : machine.State) (z : State) → 60 * s.clock + 14 ≤ hi
+      → FlowGood end out again before ws flow s z
+      → GoesTo q 14 hi s.clock z (FlowGood end out again before ws flow) s
+  there end out again hi before ws flow s z h g =
+      goes q 14 (FlowGood end out again before ws flow) hi s.clock 0 0 z z s (stays q z) (omega (arith, h)) (omega arith) g
+
+  -- ---- statements that do nothing, and jumps (6.8.1, 6.8.3, 6.8.6)
+
+  pub nothing_runs : (pc end out again : ℕ) → One (function_at q f).code instruction.Nothing pc end → Runs (λ s. tick s (λ s. Goes Normal s)) pc end out again
+  nothing_runs pc end out again o s now ws le fine =
+      tick_in q 14 (FlowGood end out again s ws) (here f pc now ws s) (here f end now ws s) s 0 (60 * s.clock) (λ s. Goes Normal s) (omega arith) refl refl
+      (does_nothing q f pc end now ws s o)
+      (λ n lt. there end out again (60 * n + 60 + 0) s ws Normal (record s { clock = n }) (here f end now ws s) (omega arith)
+      (record { now = now; at = refl; fine = fine_later (function_at q f).objects s n fine; after = after_later writes_all s n }))
+
+  jump_ends : (to pc pc2 n : ℕ) (now : Scratch) (ws : List Call) (s : machine.State) (Good2 : machine.State → State → Type 0)
+      → One (function_at q f).code (instruction.Jump to) pc pc2
+      → Good2 (record s { clock = n }) (here f to now ws s) → GoesTo q 14 (60 * n + 60) (suc n) (here f pc now ws s) Good2 (record s { clock = n })
+  jump_ends to pc pc2 n now ws s Good2 o g =
+      goes q 14 Good2 (60 * n + 60) (suc n) 1 1 (here f pc now ws s) (here f to now ws s) (record s { clock = n }) (does_jump q f to pc pc2 now ws s o)
+      (omega arith) (omega arith) g
+
+  pub break_runs : (pc end out again : ℕ) → One (function_at q f).code (instruction.Jump out) pc end → Runs (λ s. tick s (λ s. Goes Broken s)) pc end out again
+  break_runs pc end out again o s now ws le fine =
+      tick_ends q 14 (FlowGood end out again s ws) (here f pc now ws s) s (λ s. Goes Broken s) refl refl
+      (λ n lt. jump_ends out pc end n now ws s (FlowGood end out again s ws Broken) o
+      (record { now = now; at = refl; fine = fine_later (function_at q f).objects s n fine; after = after_later writes_all s n }))
+
+  pub continue_runs : (pc end out again : ℕ) → One (function_at q f).code (instruction.Jump again) pc end
+      → Runs (λ s. tick s (λ s. Goes Continued s)) pc end out again
+  continue_runs pc end out again o s now ws le fine =
+      tick_ends q 14 (FlowGood end out again s ws) (here f pc now ws s) s (λ s. Goes Continued s) refl refl
+      (λ n lt. jump_ends again pc end n now ws s (FlowGood end out again s ws Continued) o
+      (record { now = now; at = refl; fine = fine_later (function_at q f).objects s n fine; after = after_later writes_all s n }))
+
+  pub return_nothing_runs : (pc p1 end out again pc2 : ℕ) → result ≡ None → One (function_at q f).code instruction.Nothing pc p1
+      → One (function_at q f).code instruction.Return p1 pc2
+      → Runs (λ s. tick s (λ s. Goes (Returned None) s)) pc end out again
+  return_nothing_runs pc p1 end out again pc2 hr o i s now ws le fine =
+      tick_in q 14 (FlowGood end out again s ws) (here f pc now ws s) (here f p1 now ws s) s 0 (60 * s.clock) (λ s. Goes (Returned None) s) (omega arith) refl
+      refl (does_nothing q f pc p1 now ws s o)
+      (λ n lt. there end out again (60 * n + 60 + 0) s ws (Returned None) (record s { clock = n }) (here f p1 now ws s) (omega arith)
+      (record {
+        pc = p1;
+        pc2 = pc2;
+        now = now;
+        at = refl;
+        leave = i;
+        gives = hr;
+        fine = fine_later (function_at q f).objects s n fine;
+        after =
+            after_later writes_all s n;
+      }))
+
+  pub return_value_runs : (u : IntType) (e : Expression) (pc p1 p2 end out again pc2 : ℕ) → result ≡ Some u
+      → One (function_at q f).code instruction.Nothing pc p1 → ConvertsDoes p call q deep f e u (target.Temporary 0) 0 0 p1 p2
+      → One (function_at q f).code instruction.Return p2 pc2
+      → Runs (λ s. tick s (λ s. then_do (evaluate p call e s) (λ v s. Goes (Returned (Some (converted u v))) s))) pc end out again
+  return_value_runs u e pc p1 p2 end out again pc2 hr o de i s now ws le fine =
+      let last : ℤ → machine.State → Run Flow = λ v s. Goes (Returned (Some (converted u v))) s in
+      tick_in q 14 (FlowGood end out again s ws) (here f pc now ws s) (here f p1 now ws s) s 0 (60 * s.clock) (λ s. then_do (evaluate p call e s) last)
+      (omega arith) refl refl (does_nothing q f pc p1 now ws s o)
+      (λ n lt.
+      let s1 : machine.State = record s { clock = n } in
+      sim_then q 14 14 (Converted p call q deep f e u (target.Temporary 0) 0 0 p2 s1 now ws) (FlowGood end out again s ws) (60 * n + 8) 66 (60 * n + 60 + 0) n
+      (here f p1 now ws s) (evaluate p call e s1) last (omega arith) (omega arith)
+      (de s1 now ws (omega (arith, le, lt)) (fine_later (function_at q f).objects s n fine))
+      (λ v s2 z lt2 c. there end out again (60 * s2.clock + 66) s ws (Returned (Some (converted u v))) s2 z (omega arith)
+      (record {
+        pc = p2;
+        pc2 = pc2;
+        now = c.now;
+        at = c.at;
+        leave = i;
+        gives = (subst (λ r. IsValueOf (or_int r) (converted u v)) (sym hr) (converted_fits u v), c.has);
+        fine = c.known.fine;
+        after = all_after _ s s2 (after_since _ s s2 n c.known.after);
+      })))
+
+  -- ---- expressions (6.8.3), conditions (6.8.4.1)
+
+  pub evaluate_runs : (e : Expression) (pc p1 end out again : ℕ) → One (function_at q f).code instruction.Nothing pc p1
+      → IntoDoes p call q deep f e Nowhere 0 0 p1 end
+      → Runs (λ s. tick s (λ s. then_do (evaluate p call e s) (λ v s. Goes Normal s))) pc end out again
+  evaluate_runs e pc p1 end out again o de s now ws le fine =
+      let last : ℤ → machine.State → Run Flow = λ v s. Goes Normal s in
+      tick_in q 14 (FlowGood end out again s ws) (here f pc now ws s) (here f p1 now ws s) s 0 (60 * s.clock) (λ s. then_do (evaluate p call e s) last)
+      (omega arith) refl refl (does_nothing q f pc p1 now ws s o)
+      (λ n lt.
+      let s1 : machine.State = record s { clock = n } in
+      sim_then q 14 14 (Good q f e Nowhere 0 0 end s1 now ws) (FlowGood end out again s ws) (60 * n) 74 (60 * n + 60 + 0) n (here f p1 now ws s)
+      (evaluate p call e s1) last (omega arith) (omega arith)
+      (de s1 now ws (omega (arith, le, lt)) (fine_later (function_at q f).objects s n fine))
+      (λ v s2 z lt2 g. there end out again (60 * s2.clock + 74) s ws Normal s2 z (omega arith)
+      (record { now = g.now; at = g.at; fine = g.known.fine; after = all_after _ s s2 (after_since _ s s2 n g.known.after) })))
+
+  -- one after another (6.8.2)
+  pub next_runs : (rb : machine.State → Run Flow) (p1 end out again hi : ℕ) (before : machine.State) (ws : List Call) → Lists rb p1 end out again
+      → (flow : Flow) (s : machine.State) (z : State) → s.clock ≤ deep → 60 * s.clock + 14 ≤ hi
+      → FlowGood p1 out again before ws flow s z → Sim q 14 hi s.clock z (FlowGood end out again before ws) (next_after flow s rb)
+  next_runs rb p1 end out again hi before ws db Normal s z le h g =
+      sim_move q 14 (FlowGood end out again before ws) hi s.clock z (here f p1 g.now ws s) (rb s) g.at
+      (sim_map q 14 14 (FlowGood end out again s ws) (FlowGood end out again before ws) (60 * s.clock + 14) hi s.clock (here f p1 g.now ws s) (rb s)
+      (omega (arith, h)) (omega (arith, h)) (db s g.now ws le g.fine)
+      (λ flow s2 z2 g2. flow_since end out again before s ws g.after flow s2 z2 g2))
+  next_runs rb p1 end out again hi before ws db Broken s z le h g = there end out again hi before ws Broken s z h g
+  next_runs rb p1 end out again hi before ws db Continued s z le h g = there end out again hi before ws Continued s z h g
+  next_runs rb p1 end out again hi before ws db (Returned v) s z le h g = there end out again hi before ws (Returned v) s z h g
+
+  pub both_run : (ra rb : machine.State → Run Flow) (pc p1 end out again : ℕ) → Runs ra pc p1 out again → Lists rb p1 end out again
+      → Lists (λ s. then_do (ra s) (λ flow s. next_after flow s rb)) pc end out again
+  both_run ra rb pc p1 end out again da db s now ws le fine =
+      sim_then q 14 14 (FlowGood p1 out again s ws) (FlowGood end out again s ws) (60 * s.clock) 14 (60 * s.clock + 14) s.clock (here f pc now ws s) (ra s)
+      (λ flow s. next_after flow s rb) (omega arith) (omega arith) (da s now ws le fine)
+      (λ flow s2 z lt g. next_runs rb p1 end out again (60 * s2.clock + 14) s ws db flow s2 z (omega (arith, le, lt)) (omega arith) g)
+
+  pub no_list : (pc end out again : ℕ) → pc ≡ end → Lists (λ s. Goes Normal s) pc end out again
+  no_list pc end out again h s now ws le fine =
+      there end out again (60 * s.clock + 14) s ws Normal s (here f pc now ws s) (omega arith)
+      (record { now = now; at = ap (λ n. here f n now ws s) h; fine = fine; after = after_none writes_all s })

@@ -1,0 +1,178 @@
+-- What it is for instructions to be the code of a statement (ISO/IEC 9899:2011 6.8), of a function and of a program.
+--
+-- `out` and `again` are the positions where `break` and `continue` go. Each full expression has all temporaries and slots.
+use Rattle.std.specs.Prelude.{◌≡◌, ℕ, zero, suc, ◌+◌, Bool, true, false, ◌&&◌, max, nat_le, nat_lt, nat_eq, ℤ, List, [], ◌∷◌, ◌++◌, length, map, Option, Some, None, slice_get}
+use Rattle.ctypes.specs.declared.types.IntType.{IntType}
+use Rattle.typed.specs.Program as typed
+use Rattle.typed.specs.Program.{Value, Initialiser, Statement, Statements}
+use Rattle.meaning.specs.Statements.{labels_at, labels_of}
+use Rattle.tac.specs.declared.code.Operand.{Operand}
+use Rattle.tac.specs.declared.code.Operand.TheVariants as operand
+use Rattle.tac.specs.declared.code.Target.{Target}
+use Rattle.tac.specs.declared.code.Target.TheVariants as target
+use Rattle.tac.specs.declared.code.Reading.TheVariants as reading
+use Rattle.tac.specs.declared.code.Comparison.TheVariants as comparison
+use Rattle.tac.specs.declared.code.Instruction.{Instruction}
+use Rattle.tac.specs.declared.code.Instruction.TheVariants as instruction
+use Rattle.tac.specs.Code.{Function, Program, function_at}
+use Rattle.tac.specs.Run.{word_for}
+use Rattle.tac.specs.Lowered.{kind_of}
+use Rattle.lowering.specs.Values.{keeps, waits_in, operand_of, Nowhere, If, mode_of}
+use Rattle.lowering.specs.Code.{One, Converts, Into}
+
+-- object x is one of the k objects from number n on
+abbrev pub is_within : ℕ → ℕ → ℕ → Bool
+is_within n k x = nat_le n x && nat_lt x (n + k)
+
+-- the positions of the labels that a statement is
+abbrev pub label_places : Statement → ℕ → List ℕ
+label_places x pc = map (λ l. pc) (labels_at x)
+
+module _ (code : List Instruction) where
+  -- one value to a target, converted (6.5.16.1, 6.8.6.4p3)
+  abbrev pub Gives : IntType → Value → Target → ℕ → ℕ → Type 0
+  Gives u e g pc pc2 = Converts code (keeps u e) (λ m a b. Into code e m 0 0 a b) u (operand_of e 0 0) g pc pc2
+
+  -- object n gets its first value, which costs a tick behind its expression
+  abbrev pub Initialises : Initialiser → ℕ → ℕ → ℕ → Type 0
+  Initialises (typed.one_value u e) n pc pc2 = (p1 : ℕ) × Gives u e (target.Object n) pc p1 × One code instruction.Nothing p1 pc2
+  Initialises (typed.text literal) n pc pc2 = ⊥
+  Initialises (typed.in_braces i) n pc pc2 = (p1 : ℕ) × One code instruction.Nothing pc p1 × Initialises i n p1 pc2
+  Initialises (typed.list all) n pc pc2 = ⊥
+
+  -- what may be left out: nothing is evaluated; a loop goes on
+  abbrev pub Effects : Option Value → ℕ → ℕ → Type 0
+  Effects None pc pc2 = pc ≡ pc2
+  Effects (Some e) pc pc2 = Into code e Nowhere 0 0 pc pc2
+
+  abbrev pub Repeats : Option Value → ℕ → ℕ → ℕ → Type 0
+  Repeats None top pc pc2 = One code (instruction.Jump top) pc pc2
+  Repeats (Some e) top pc pc2 = Into code e (If true top) 0 0 pc pc2
+
+  -- 6.8.4.2p5: the tests of the labels, which stand at these places; the last default, or `default` where there is none
+  abbrev pub Tests : Operand → List (Option ℤ) → List ℕ → (default : ℕ) → ℕ → ℕ → Type 0
+  Tests o [] places default pc pc2 = One code (instruction.Jump default) pc pc2
+  Tests o (l ∷ labels) [] default pc pc2 = ⊥
+  Tests o (None ∷ labels) (p ∷ places) default pc pc2 = Tests o labels places p pc pc2
+  Tests o (Some c ∷ labels) (p ∷ places) default pc pc2 =
+      (p1 : ℕ) × One code (instruction.Branch comparison.Equal reading.Signed o (operand.Constant (word_for c)) p) pc p1
+      × Tests o labels places default p1 pc2
+
+  abbrev mutual
+    pub Stands : Statement → (out again : ℕ) → ℕ → ℕ → Type 0
+    Stands typed.empty out again pc pc2 = One code instruction.Nothing pc pc2
+    Stands (typed.evaluate e) out again pc pc2 = (p1 : ℕ) × One code instruction.Nothing pc p1 × Into code e Nowhere 0 0 p1 pc2
+    -- 6.2.4p6: an object is indeterminate each time
+    Stands (typed.declare n) out again pc pc2 = One code (instruction.Forget n 1) pc pc2
+    Stands (typed.define n i) out again pc pc2 = (p1 : ℕ) × One code (instruction.Forget n 1) pc p1 × Initialises i n p1 pc2
+    Stands (typed.block first count all) out again pc pc2 =
+        (p1 : ℕ) × One code (instruction.Forget first count) pc p1 × StandAll all out again p1 pc2
+    Stands (typed.branch e a) out again pc pc2 =
+        (p1 p2 : ℕ) × One code instruction.Nothing pc p1 × Into code e (If false pc2) 0 0 p1 p2 × Stands a out again p2 pc2
+    Stands (typed.branches e a b) out again pc pc2 =
+        (p1 p2 p3 other : ℕ) × One code instruction.Nothing pc p1 × Into code e (If false other) 0 0 p1 p2 × Stands a out again p2 p3
+        × One code (instruction.Jump pc2) p3 other × Stands b out again other pc2
+    -- its objects are forgotten behind its value, which one of them cannot hold
+    Stands (typed.switch u e first count all) out again pc pc2 =
+        let o = waits_in e (is_within first count) false 0 0 in
+        (p1 p2 p3 p4 : ℕ) × (places : List ℕ) × One code instruction.Nothing pc p1 × Into code e (mode_of o) 0 0 p1 p2
+        × One code (instruction.Forget first count) p2 p3 × Tests o (labels_of all) places pc2 p3 p4 × StandAt all places pc2 again p4 pc2
+    Stands (typed.case v) out again pc pc2 = One code instruction.Nothing pc pc2
+    Stands typed.default out again pc pc2 = One code instruction.Nothing pc pc2
+    -- a loop's test stands behind its body
+    Stands (typed.while e a) out again pc pc2 =
+        (top at : ℕ) × One code (instruction.Jump at) pc top × Stands a pc2 at top at × Into code e (If true top) 0 0 at pc2
+    Stands (typed.do_while a e) out again pc pc2 =
+        (top at : ℕ) × One code instruction.Nothing pc top × Stands a pc2 at top at × Into code e (If true top) 0 0 at pc2
+    Stands (typed.for declared start test step a) out again pc pc2 =
+        (p1 p2 p3 top next at : ℕ) × One code instruction.Nothing pc p1 × StandAll declared pc2 pc2 p1 p2 × Effects start p2 p3
+        × One code (instruction.Jump at) p3 top × Stands a pc2 next top next × Effects step next at × Repeats test top at pc2
+    Stands typed.break out again pc pc2 = One code (instruction.Jump out) pc pc2
+    Stands typed.continue out again pc pc2 = One code (instruction.Jump again) pc pc2
+    Stands typed.return_nothing out again pc pc2 = (p1 : ℕ) × One code instruction.Nothing pc p1 × One code instruction.Return p1 pc2
+    Stands (typed.return_value u e) out again pc pc2 =
+        (p1 p2 : ℕ) × One code instruction.Nothing pc p1 × Gives u e (target.Temporary 0) p1 p2 × One code instruction.Return p2 pc2
+
+    pub StandAll : Statements → (out again : ℕ) → ℕ → ℕ → Type 0
+    StandAll typed.no_statements out again pc pc2 = pc ≡ pc2
+    StandAll (typed.and_statement x more) out again pc pc2 = (p1 : ℕ) × Stands x out again pc p1 × StandAll more out again p1 pc2
+
+    -- the same, the labels among them standing at these places
+    pub StandAt : Statements → List ℕ → (out again : ℕ) → ℕ → ℕ → Type 0
+    StandAt typed.no_statements places out again pc pc2 = (places ≡ []) × (pc ≡ pc2)
+    StandAt (typed.and_statement x more) places out again pc pc2 =
+        (p1 : ℕ) × (rest : List ℕ) × (places ≡ label_places x pc ++ rest) × Stands x out again pc p1 × StandAt more rest out again p1 pc2
+
+  -- n instructions that do nothing: the definition and each parameter take a tick
+  abbrev pub Idles : ℕ → ℕ → ℕ → Type 0
+  Idles zero pc pc2 = pc ≡ pc2
+  Idles (suc n) pc pc2 = (p1 : ℕ) × One code instruction.Nothing pc p1 × Idles n p1 pc2
+
+  -- 5.1.2.2.3p1: the end of main's body returns 0
+  abbrev pub Closes : (is_main : Bool) → ℕ → ℕ → Type 0
+  Closes true pc pc2 =
+      (p1 : ℕ) × One code (instruction.Move (target.Temporary 0) (operand.Constant 0)) pc p1 × One code instruction.Return p1 pc2
+  Closes false pc pc2 = One code instruction.Return pc pc2
+
+-- ---- functions
+
+-- how many temporaries, and slots, an operand, a target and an instruction ask for
+abbrev pub temporary_in : Operand → ℕ
+temporary_in (operand.Temporary k) = suc k
+temporary_in o = 0
+
+abbrev pub kept_in : Operand → ℕ
+kept_in (operand.Kept k) = suc k
+kept_in o = 0
+
+abbrev pub temporary_to : Target → ℕ
+temporary_to (target.Temporary k) = suc k
+temporary_to g = 0
+
+abbrev pub kept_to : Target → ℕ
+kept_to (target.Kept k) = suc k
+kept_to g = 0
+
+-- a call has its arguments in the first temporaries, and its result, a byte and a status are in temporary 0
+abbrev pub temporaries_of : Program → Instruction → ℕ
+temporaries_of q (instruction.Move g x) = max (temporary_to g) (temporary_in x)
+temporaries_of q (instruction.Compute o r g x y) = max (temporary_to g) (max (temporary_in x) (temporary_in y))
+temporaries_of q (instruction.Convert t g x) = max (temporary_to g) (temporary_in x)
+temporaries_of q (instruction.Branch c r x y to) = max (temporary_in x) (temporary_in y)
+temporaries_of q (instruction.Call f) = max 1 (length (function_at q f).parameters)
+temporaries_of q instruction.PutByte = 1
+temporaries_of q instruction.GetByte = 1
+temporaries_of q instruction.Exit = 1
+temporaries_of q instruction.Return = 1
+temporaries_of q i = 0
+
+abbrev pub slots_of : Instruction → ℕ
+slots_of (instruction.Move g x) = max (kept_to g) (kept_in x)
+slots_of (instruction.Compute o r g x y) = max (kept_to g) (max (kept_in x) (kept_in y))
+slots_of (instruction.Convert t g x) = max (kept_to g) (kept_in x)
+slots_of (instruction.Branch c r x y to) = max (kept_in x) (kept_in y)
+slots_of i = 0
+
+abbrev pub most : (Instruction → ℕ) → List Instruction → ℕ
+most size [] = 0
+most size (i ∷ code) = max (size i) (most size code)
+
+-- its code is that of its ticks at entry, its body and its end, and it has no more temporaries and slots than its code names
+pub record IsFunctionFor (q : Program) (is_main : Bool) (f : typed.Function) (g : Function) : Type 0 where
+  pub start : ℕ
+  pub end : ℕ
+  pub idles : Idles g.code (suc (length f.type.parameters)) 0 start
+  pub body : Stands g.code f.body end end start end
+  pub closes : Closes g.code is_main end (length g.code)
+  pub objects : g.objects ≡ f.objects
+  pub parameters : g.parameters ≡ map kind_of f.type.parameters
+  pub temporaries : g.temporaries ≡ most (temporaries_of q) g.code
+  pub kept : g.kept ≡ most slots_of g.code
+
+pub record IsCodeFor (p : typed.Program) (q : Program) : Type 0 where
+  pub literals : q.literals ≡ p.literals
+  pub statics : q.statics ≡ p.statics
+  pub main : q.main ≡ p.main
+  pub count : length q.functions ≡ length p.functions
+  pub each : (n : ℕ) (f : typed.Function) (g : Function) → slice_get p.functions n ≡ Some f → slice_get q.functions n ≡ Some g
+      → IsFunctionFor q (nat_eq n p.main) f g

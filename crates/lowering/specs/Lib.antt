@@ -1,0 +1,6 @@
+pub mod Plain
+pub use Rattle.checked.specs.Asked
+pub mod Values
+pub mod Code
+pub mod Bodies
+pub mod Laws

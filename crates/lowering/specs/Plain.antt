@@ -1,0 +1,101 @@
+-- Which programs are plain: their functions use automatic objects that are no arrays, and nothing else that lies in memory.
+use Rattle.std.specs.Prelude.{ℕ, Bool, true, false, ◌&&◌, List, [], ◌∷◌, Option, Some, None}
+use Rattle.std.specs.List.{list_all}
+use Rattle.typed.specs.Types.{ObjectType, ParameterType, number, elements}
+use Rattle.typed.specs.Program as typed
+use Rattle.typed.specs.Program.{Storage, Callee, Place, Value, Arguments, Initialiser, Statement, Statements, Function, Program}
+
+-- the object that a place is
+abbrev pub object_of : Place → Option ℕ
+object_of (typed.named at (typed.automatic n)) = Some n
+object_of (typed.named at (typed.literal n)) = None
+object_of (typed.named at (typed.static n)) = None
+object_of (typed.named at (typed.parameter n)) = None
+object_of (typed.element at array index) = None
+
+abbrev pub is_some : Option ℕ → Bool
+is_some None = false
+is_some (Some n) = true
+
+-- nothing evaluated calls what has no definition
+abbrev pub callee_is_plain : Callee → Bool
+callee_is_plain (typed.function f) = true
+callee_is_plain typed.get_byte = true
+callee_is_plain typed.put_byte = true
+callee_is_plain typed.exit = true
+callee_is_plain (typed.missing name) = false
+
+abbrev mutual
+  pub value_is_plain : Value → Bool
+  value_is_plain (typed.constant t v) = true
+  value_is_plain (typed.read t place) = is_some (object_of place)
+  value_is_plain (typed.assigned at t place e) = is_some (object_of place) && value_is_plain e
+  value_is_plain (typed.compound at op t of place e) = is_some (object_of place) && value_is_plain e
+  value_is_plain (typed.stepped at moment op t of place) = is_some (object_of place)
+  value_is_plain (typed.unary at op t e) = value_is_plain e
+  value_is_plain (typed.binary at op t a b) = value_is_plain a && value_is_plain b
+  value_is_plain (typed.both_true a b) = value_is_plain a && value_is_plain b
+  value_is_plain (typed.one_true a b) = value_is_plain a && value_is_plain b
+  value_is_plain (typed.chosen t c a b) = value_is_plain c && (value_is_plain a && value_is_plain b)
+  value_is_plain (typed.sequence a b) = value_is_plain a && value_is_plain b
+  value_is_plain (typed.cast t e) = value_is_plain e
+  value_is_plain (typed.discarded e) = value_is_plain e
+  value_is_plain (typed.call at callee result used arguments) = callee_is_plain callee && arguments_are_plain arguments
+
+  pub arguments_are_plain : Arguments → Bool
+  arguments_are_plain typed.no_arguments = true
+  arguments_are_plain (typed.and_number t e more) = value_is_plain e && arguments_are_plain more
+  arguments_are_plain (typed.and_array array more) = false
+
+abbrev pub option_is_plain : Option Value → Bool
+option_is_plain None = true
+option_is_plain (Some e) = value_is_plain e
+
+-- one value, also in braces (6.7.9p11)
+abbrev pub initialiser_is_plain : Initialiser → Bool
+initialiser_is_plain (typed.one_value t e) = value_is_plain e
+initialiser_is_plain (typed.text n) = false
+initialiser_is_plain (typed.in_braces i) = initialiser_is_plain i
+initialiser_is_plain (typed.list all) = false
+
+abbrev mutual
+  pub statement_is_plain : Statement → Bool
+  statement_is_plain typed.empty = true
+  statement_is_plain (typed.evaluate e) = value_is_plain e
+  statement_is_plain (typed.declare n) = true
+  statement_is_plain (typed.define n i) = initialiser_is_plain i
+  statement_is_plain (typed.block first count all) = statements_are_plain all
+  statement_is_plain (typed.branch e a) = value_is_plain e && statement_is_plain a
+  statement_is_plain (typed.branches e a b) = value_is_plain e && (statement_is_plain a && statement_is_plain b)
+  statement_is_plain (typed.switch t e first count all) = value_is_plain e && statements_are_plain all
+  statement_is_plain (typed.case v) = true
+  statement_is_plain typed.default = true
+  statement_is_plain (typed.while e a) = value_is_plain e && statement_is_plain a
+  statement_is_plain (typed.do_while a e) = statement_is_plain a && value_is_plain e
+  statement_is_plain (typed.for declared start test step a) =
+      statements_are_plain declared && (option_is_plain start && (option_is_plain test && (option_is_plain step && statement_is_plain a)))
+  statement_is_plain typed.break = true
+  statement_is_plain typed.continue = true
+  statement_is_plain typed.return_nothing = true
+  statement_is_plain (typed.return_value t e) = value_is_plain e
+
+  pub statements_are_plain : Statements → Bool
+  statements_are_plain typed.no_statements = true
+  statements_are_plain (typed.and_statement x more) = statement_is_plain x && statements_are_plain more
+
+abbrev pub has_no_lengths : List ℕ → Bool
+has_no_lengths [] = true
+has_no_lengths (n ∷ lengths) = false
+
+abbrev pub object_is_plain : ObjectType → Bool
+object_is_plain t = has_no_lengths t.lengths
+
+abbrev pub parameter_is_plain : ParameterType → Bool
+parameter_is_plain (number t) = true
+parameter_is_plain (elements t) = false
+
+abbrev pub function_is_plain : Function → Bool
+function_is_plain f = list_all object_is_plain f.objects && (list_all parameter_is_plain f.type.parameters && statement_is_plain f.body)
+
+abbrev pub is_plain : Program → Bool
+is_plain p = list_all function_is_plain p.functions
