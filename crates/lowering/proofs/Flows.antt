@@ -1,5 +1,5 @@
 -- The code follows statements, if it follows what they are made of.
-use Rattle.std.proofs.Common.{◌≡◌, ℕ, zero, suc, ◌+◌, ◌*◌, ◌≤◌, List, [], Option, Some, None, Bool, true, ℤ, refl, sym, ap, subst, arith}
+use Rattle.std.proofs.Common.{◌≡◌, ℕ, zero, suc, ◌+◌, ◌*◌, ◌≤◌, List, [], Option, Some, None, Bool, true, inl, inr, ℤ, refl, sym, ap, ◌∙◌, subst, arith}
 use Rattle.std.specs.Prelude.{slice_get}
 use Rattle.ctypes.specs.declared.types.IntType.{IntType}
 use Rattle.ctypes.specs.Types.{IsValueOf, converted}
@@ -15,11 +15,12 @@ use Rattle.meaning.specs.Statements.{Flow, Normal, Broken, Continued, Returned, 
 use Rattle.tac.specs.declared.code.Target.TheVariants as target
 use Rattle.tac.specs.declared.code.Instruction.TheVariants as instruction
 use Rattle.tac.specs.Code.{Program, function_at}
-use Rattle.tac.specs.Run.{Values, Call, State, word, word_for, forgotten}
+use Rattle.tac.specs.Run.{Values, Call, State, running, word, word_for, forgotten}
 use Rattle.lowering.specs.Values.{or_int, Nowhere}
 use Rattle.lowering.specs.Code.{One}
+use Rattle.lowering.specs.Bodies.{Leaves}
 use Rattle.lowering.proofs.Words.{differ}
-use Rattle.lowering.proofs.Steps.{stays, GoesTo, goes, Sim, sim_then, sim_map, sim_move, tick_in, tick_ends}
+use Rattle.lowering.proofs.Steps.{stays, GoesTo, goes, from, Sim, sim_then, sim_map, sim_move, tick_in, tick_ends}
 use Rattle.lowering.proofs.Standing.{Scratch, here, does_nothing, does_jump}
 use Rattle.lowering.proofs.Stores.{ObjectFits, Fine, After, after_on, after_none, put_here, put_elsewhere, put_above, fine_later, after_later, after_since}
 use Rattle.lowering.proofs.Goods.{Good}
@@ -112,7 +113,7 @@ module _ (p : typed.Program) (call : Calling) (q : Program) (deep f : ℕ) (resu
   Returning (Some v) m = IsValueOf (or_int result) v × (m 0 ≡ Some (word (word_for v)))
 
   -- it is about to return
-  pub record Leaves (o : Option ℤ) (before : machine.State) (ws : List Call) (s : machine.State) (z : State) : Type 0 where
+  pub record AboutToReturn (o : Option ℤ) (before : machine.State) (ws : List Call) (s : machine.State) (z : State) : Type 0 where
     pub pc : ℕ
     pub pc2 : ℕ
     pub now : Scratch
@@ -126,7 +127,7 @@ module _ (p : typed.Program) (call : Calling) (q : Program) (deep f : ℕ) (resu
   FlowGood end out again before ws Normal = StandsAt end before ws
   FlowGood end out again before ws Broken = StandsAt out before ws
   FlowGood end out again before ws Continued = StandsAt again before ws
-  FlowGood end out again before ws (Returned v) = Leaves v before ws
+  FlowGood end out again before ws (Returned v) = AboutToReturn v before ws
 
   abbrev pub Runs : (machine.State → Run Flow) → (pc end out again : ℕ) → Type 0
   Runs r pc end out again = (s : machine.State) (now : Scratch) (ws : List Call) → s.clock ≤ deep → Fine (function_at q f).objects s
@@ -199,49 +200,55 @@ module _ (p : typed.Program) (call : Calling) (q : Program) (deep f : ℕ) (resu
       (λ n lt. jump_ends again pc end n now ws s (FlowGood end out again s ws Continued) o
       (record { now = now; at = refl; fine = fine_later (function_at q f).objects s n fine; after = after_later writes_all s n }))
 
-  pub return_nothing_runs : (pc p1 end out again pc2 : ℕ) → result ≡ None → One (function_at q f).code instruction.Nothing pc p1
-      → One (function_at q f).code instruction.Return p1 pc2
+  -- the one Return of the function is next, or jumped to
+  leave_ends : (o : Option ℤ) (back last pc pc2 end out again hi : ℕ) (now : Scratch) (before : machine.State) (ws : List Call) (s : machine.State) (z : State)
+      → 60 * s.clock + 15 ≤ hi → One (function_at q f).code instruction.Return back last → Leaves (function_at q f).code back pc pc2
+      → z ≡ here f pc now ws s → Returning o now.temporaries → Fine (function_at q f).objects s → After writes_all before s
+      → GoesTo q 14 hi s.clock z (FlowGood end out again before ws (Returned o)) s
+  leave_ends o back last pc pc2 end out again hi now before ws s z h r (inl next) ez gives fine after =
+      goes q 14 (FlowGood end out again before ws (Returned o)) hi s.clock 0 0 z z s (stays q z) (omega (arith, h)) (omega arith)
+      (record {
+        pc = back;
+        pc2 = last;
+        now = now;
+        at = ez ∙ ap (λ n. here f n now ws s) next.1;
+        leave = r;
+        gives = gives;
+        fine = fine;
+        after = after;
+      })
+  leave_ends o back last pc pc2 end out again hi now before ws s z h r (inr jump) ez gives fine after =
+      let u = here f back now ws s in
+      goes q 14 (FlowGood end out again before ws (Returned o)) hi s.clock 1 1 z u s
+      (from q z (here f pc now ws s) 1 1 (running u) ez (does_jump q f back pc pc2 now ws s jump)) (omega (arith, h)) (omega arith)
+      (record { pc = back; pc2 = last; now = now; at = refl; leave = r; gives = gives; fine = fine; after = after })
+
+  pub return_nothing_runs : (back last pc p1 end out again : ℕ) → result ≡ None → One (function_at q f).code instruction.Return back last
+      → One (function_at q f).code instruction.Nothing pc p1 → Leaves (function_at q f).code back p1 end
       → Runs (λ s. tick s (λ s. Goes (Returned None) s)) pc end out again
-  return_nothing_runs pc p1 end out again pc2 hr o i s now ws le fine =
+  return_nothing_runs back last pc p1 end out again hr r o i s now ws le fine =
       tick_in q 14 (FlowGood end out again s ws) (here f pc now ws s) (here f p1 now ws s) s 0 (60 * s.clock) (λ s. Goes (Returned None) s) (omega arith) refl
       refl (does_nothing q f pc p1 now ws s o)
-      (λ n lt. there end out again (60 * n + 60 + 0) s ws (Returned None) (record s { clock = n }) (here f p1 now ws s) (omega arith)
-      (record {
-        pc = p1;
-        pc2 = pc2;
-        now = now;
-        at = refl;
-        leave = i;
-        gives = hr;
-        fine = fine_later (function_at q f).objects s n fine;
-        after =
-            after_later writes_all s n;
-      }))
+      (λ n lt. leave_ends None back last p1 end end out again (60 * n + 60 + 0) now s ws (record s { clock = n }) (here f p1 now ws s) (omega arith) r i refl hr
+      (fine_later (function_at q f).objects s n fine) (after_later writes_all s n))
 
-  pub return_value_runs : (u : IntType) (e : Expression) (pc p1 p2 end out again pc2 : ℕ) → result ≡ Some u
+  pub return_value_runs : (u : IntType) (e : Expression) (back last pc p1 p2 end out again : ℕ) → result ≡ Some u
+      → One (function_at q f).code instruction.Return back last
       → One (function_at q f).code instruction.Nothing pc p1 → ConvertsDoes p call q deep f e u (target.Temporary 0) 0 0 p1 p2
-      → One (function_at q f).code instruction.Return p2 pc2
+      → Leaves (function_at q f).code back p2 end
       → Runs (λ s. tick s (λ s. then_do (evaluate p call e s) (λ v s. Goes (Returned (Some (converted u v))) s))) pc end out again
-  return_value_runs u e pc p1 p2 end out again pc2 hr o de i s now ws le fine =
-      let last : ℤ → machine.State → Run Flow = λ v s. Goes (Returned (Some (converted u v))) s in
-      tick_in q 14 (FlowGood end out again s ws) (here f pc now ws s) (here f p1 now ws s) s 0 (60 * s.clock) (λ s. then_do (evaluate p call e s) last)
+  return_value_runs u e back last pc p1 p2 end out again hr r o de i s now ws le fine =
+      let last_step : ℤ → machine.State → Run Flow = λ v s. Goes (Returned (Some (converted u v))) s in
+      tick_in q 14 (FlowGood end out again s ws) (here f pc now ws s) (here f p1 now ws s) s 0 (60 * s.clock) (λ s. then_do (evaluate p call e s) last_step)
       (omega arith) refl refl (does_nothing q f pc p1 now ws s o)
       (λ n lt.
       let s1 : machine.State = record s { clock = n } in
       sim_then q 14 14 (Converted p call q deep f e u (target.Temporary 0) 0 0 p2 s1 now ws) (FlowGood end out again s ws) (60 * n + 8) 66 (60 * n + 60 + 0) n
-      (here f p1 now ws s) (evaluate p call e s1) last (omega arith) (omega arith)
+      (here f p1 now ws s) (evaluate p call e s1) last_step (omega arith) (omega arith)
       (de s1 now ws (omega (arith, le, lt)) (fine_later (function_at q f).objects s n fine))
-      (λ v s2 z lt2 c. there end out again (60 * s2.clock + 66) s ws (Returned (Some (converted u v))) s2 z (omega arith)
-      (record {
-        pc = p2;
-        pc2 = pc2;
-        now = c.now;
-        at = c.at;
-        leave = i;
-        gives = (subst (λ r. IsValueOf (or_int r) (converted u v)) (sym hr) (converted_fits u v), c.has);
-        fine = c.known.fine;
-        after = all_after _ s s2 (after_since _ s s2 n c.known.after);
-      })))
+      (λ v s2 z lt2 c. leave_ends (Some (converted u v)) back last p2 end end out again (60 * s2.clock + 66) c.now s ws s2 z (omega arith) r i c.at
+      (subst (λ r. IsValueOf (or_int r) (converted u v)) (sym hr) (converted_fits u v), c.has) c.known.fine
+      (all_after _ s s2 (after_since _ s s2 n c.known.after))))
 
   -- ---- expressions (6.8.3), conditions (6.8.4.1)
 

@@ -157,48 +157,48 @@ module _ (p : typed.Program) (q : Program) (typed_well : is_typed p ≡ true) (a
 
     module _ (call : Calling) (deep : ℕ) (ok : CallsDo p call q deep g) where
       -- the end of the body is reached
-      closed : (b : Bool) (end last : ℕ) (before : machine.State) (ws : List Call) (s : machine.State) (z : State) → nat_eq g p.main ≡ b
-          → Closes (function_at q g).code b end last
+      closed : (b : Bool) (end back last : ℕ) (before : machine.State) (ws : List Call) (s : machine.State) (z : State) → nat_eq g p.main ≡ b
+          → Closes (function_at q g).code b end back → One (function_at q g).code instruction.Return back last
           → StandsAt p call q deep g f.type.result end before ws s z → GoesTo q 84 (60 * s.clock + 90) s.clock z (AtReturn before ws (value_at_end b)) s
-      closed true end last before ws s z eb h st =
+      closed true end back last before ws s z eb h r st =
           let now2 = put_scratch (target.Temporary 0) 0 st.now in
-          goes q 84 (AtReturn before ws (Some (pos 0))) (60 * s.clock + 90) s.clock 1 6 z (here g h.0 now2 ws s) s
-          (from q z (here g end st.now ws s) 1 6 (running (here g h.0 now2 ws s)) st.at
-          (does_move q g (target.Temporary 0) (operand.Constant 0) 0 end h.0 st.now ws s h.1 refl tt)) (omega arith) (omega arith)
+          goes q 84 (AtReturn before ws (Some (pos 0))) (60 * s.clock + 90) s.clock 1 6 z (here g back now2 ws s) s
+          (from q z (here g end st.now ws s) 1 6 (running (here g back now2 ws s)) st.at
+          (does_move q g (target.Temporary 0) (operand.Constant 0) 0 end back st.now ws s h refl tt)) (omega arith) (omega arith)
           (record {
-            pc = h.0;
+            pc = back;
             pc2 = last;
             now = now2;
             at = refl;
-            leave = h.2;
+            leave = r;
             gave = λ v ev. let same : pos 0 ≡ v = cc in subst (λ v. IsValueOf (or_int f.type.result) v × (now2.temporaries 0 ≡ Some (word (word_for v)))) same
                 (zero_fits f.type.result, set_same st.now.temporaries 0 (word 0));
             has = λ m. (pos 0, refl);
             fine = st.fine;
             after = st.after;
           })
-      closed false end last before ws s z eb h st =
+      closed false end back last before ws s z eb h r st =
           goes q 84 (AtReturn before ws None) (60 * s.clock + 90) s.clock 0 0 z z s (stays q z) (omega arith) (omega arith)
           (record {
-            pc = end;
+            pc = back;
             pc2 = last;
             now = st.now;
-            at = st.at;
-            leave = h;
+            at = st.at ∙ ap (λ n. here g n st.now ws s) h;
+            leave = r;
             gave = λ v ev. absurd (let y : ⊥ = cc in y);
             has = λ m. absurd (differ (sym eb ∙ m));
             fine = st.fine;
             after = st.after;
           })
 
-      to_return : (end last : ℕ) (before : machine.State) (ws : List Call) → Closes (function_at q g).code (nat_eq g p.main) end last
-          → (flow : Flow) (s : machine.State) (z : State)
+      to_return : (end back last : ℕ) (before : machine.State) (ws : List Call) → Closes (function_at q g).code (nat_eq g p.main) end back
+          → One (function_at q g).code instruction.Return back last → (flow : Flow) (s : machine.State) (z : State)
           → FlowGood p call q deep g f.type.result end end end before ws flow s z
           → GoesTo q 84 (60 * s.clock + 90) s.clock z (AtReturn before ws (value_left (nat_eq g p.main) flow)) s
-      to_return end last before ws h Normal s z st = closed (nat_eq g p.main) end last before ws s z refl h st
-      to_return end last before ws h Broken s z st = closed (nat_eq g p.main) end last before ws s z refl h st
-      to_return end last before ws h Continued s z st = closed (nat_eq g p.main) end last before ws s z refl h st
-      to_return end last before ws h (Returned None) s z l =
+      to_return end back last before ws h r Normal s z st = closed (nat_eq g p.main) end back last before ws s z refl h r st
+      to_return end back last before ws h r Broken s z st = closed (nat_eq g p.main) end back last before ws s z refl h r st
+      to_return end back last before ws h r Continued s z st = closed (nat_eq g p.main) end back last before ws s z refl h r st
+      to_return end back last before ws h r (Returned None) s z l =
           goes q 84 (AtReturn before ws None) (60 * s.clock + 90) s.clock 0 0 z z s (stays q z) (omega arith) (omega arith)
           (record {
             pc = l.pc;
@@ -211,7 +211,7 @@ module _ (p : typed.Program) (q : Program) (typed_well : is_typed p ≡ true) (a
             fine = l.fine;
             after = l.after;
           })
-      to_return end last before ws h (Returned (Some v)) s z l =
+      to_return end back last before ws h r (Returned (Some v)) s z l =
           goes q 84 (AtReturn before ws (Some v)) (60 * s.clock + 90) s.clock 0 0 z z s (stays q z) (omega arith) (omega arith)
           (record {
             pc = l.pc;
@@ -234,9 +234,11 @@ module _ (p : typed.Program) (q : Program) (typed_well : is_typed p ≡ true) (a
           let n = length f.type.parameters in
           let code_same : c.h.code ≡ (function_at q g).code = ap (λ h. h.code) (sym here_is) in
           let idles : Idles (function_at q g).code (suc n) 0 c.is.start = subst (λ l. Idles l (suc n) 0 c.is.start) code_same c.is.idles in
-          let closes : Closes (function_at q g).code (nat_eq g p.main) c.is.end (length c.h.code) =
-          subst (λ l. Closes l (nat_eq g p.main) c.is.end (length c.h.code)) code_same c.is.closes in
-          let stands = subst (λ l. Stands l f.body c.is.end c.is.end c.is.start c.is.end) code_same c.is.body in
+          let closes : Closes (function_at q g).code (nat_eq g p.main) c.is.end c.is.back =
+          subst (λ l. Closes l (nat_eq g p.main) c.is.end c.is.back) code_same c.is.closes in
+          let leaves : One (function_at q g).code instruction.Return c.is.back (length c.h.code) =
+          subst (λ l. One l instruction.Return c.is.back (length c.h.code)) code_same c.is.leaves in
+          let stands = subst (λ l. Stands l f.body c.is.end c.is.end c.is.back c.is.start c.is.end) code_same c.is.body in
           let Good2 : Flow → machine.State → State → Type 0 = λ flow. AtReturn s ws (value_left (nat_eq g p.main) flow) in
           sim_then q (60 * suc n + 16) 84 (λ u. Idle q g c.is.start fresh ws s) Good2 (60 * s.clock + 16) (60 * suc n + 16) (60 * s.clock + 16) s.clock
           (here g 0 fresh ws s) (ticks (suc n) s) (λ u s. execute p call f.objects f.body s) (omega arith) (omega arith)
@@ -250,9 +252,9 @@ module _ (p : typed.Program) (q : Program) (typed_well : is_typed p ≡ true) (a
           (subst (λ l. Sim q 84 (60 * i.k + (60 * suc n + 16)) i.k (here g c.is.start fresh ws s) Good2 (execute p call l f.body s3)) objects_same
           (sim_more q 14 84 (FlowGood p call q deep g f.type.result c.is.end c.is.end c.is.end s3 ws) Good2 (60 * i.k) 90 (60 * i.k + (60 * suc n + 16)) i.k
           (here g c.is.start fresh ws s) (execute p call (function_at q g).objects f.body s3) (omega arith) (omega arith)
-          (statement_runs p f call q deep g objects_same ok numbers_there f.body (units.numbers_in f.type.parameters) (length f.objects) c.is.end c.is.end
-          c.is.start c.is.end body_typed asked_body stands s3 fresh ws (omega (arith, le, lt, ck)) (fine_later (function_at q g).objects s i.k fine))
-          (λ flow s4 z4 lt4 good. to_return c.is.end (length c.h.code) s ws closes flow s4 z4
+          (statement_runs p f call q deep g objects_same ok numbers_there c.is.back (length c.h.code) leaves f.body
+          (units.numbers_in f.type.parameters) (length f.objects) c.is.end c.is.end c.is.start c.is.end body_typed asked_body stands s3 fresh ws (omega (arith, le, lt, ck)) (fine_later (function_at q g).objects s i.k fine))
+          (λ flow s4 z4 lt4 good. to_return c.is.end c.is.back (length c.h.code) s ws closes leaves flow s4 z4
           (flow_since p call q deep g f.type.result c.is.end c.is.end c.is.end s s3 ws (after_later writes_all s i.k) flow s4 z4 good))))))
 
   -- ---- calls

@@ -92,7 +92,8 @@ module _ (p : typed.Program) (call : Calling) (objects : List ObjectType) where
       (λ s2. all_normal more s2 (right_true (declares x) (all_declare more) h))
 
 module _ (p : typed.Program) (tf : Function) (call : Calling) (q : Program) (deep f : ℕ) (same : (function_at q f).objects ≡ tf.objects)
-    (ok : CallsDo p call q deep f) (numbers : AreNumbers (function_at q f).objects) where
+    (ok : CallsDo p call q deep f) (numbers : AreNumbers (function_at q f).objects) (back last : ℕ)
+    (leaves : One (function_at q f).code instruction.Return back last) where
   does_at : (e : Expression) (t k : ℕ) → value_is_typed p tf e ≡ true → (value_is_asked e && gives e) ≡ true → DoesAt p call q deep f e t k
   does_at e t k ht ha m a z fr su i =
       into_does p tf call q deep f same ok e m t k a z ht (left_true (value_is_asked e) (gives e) ha)
@@ -179,7 +180,7 @@ module _ (p : typed.Program) (tf : Function) (call : Calling) (q : Program) (dee
 
   mutual
     pub statement_runs : (a : Statement) (lo hi out again pc pc2 : ℕ) → statement_is_typed p tf lo hi a ≡ true → statement_is_asked a ≡ true
-        → Stands (function_at q f).code a out again pc pc2
+        → Stands (function_at q f).code a out again back pc pc2
         → Runs p call q deep f tf.type.result (execute p call (function_at q f).objects a) pc pc2 out again
     statement_runs typed.empty lo hi out again pc pc2 ht ha h = nothing_runs p call q deep f tf.type.result pc pc2 out again h
     statement_runs (typed.evaluate e) lo hi out again pc pc2 ht ha h =
@@ -318,16 +319,16 @@ module _ (p : typed.Program) (tf : Function) (call : Calling) (q : Program) (dee
     statement_runs typed.break lo hi out again pc pc2 ht ha h = break_runs p call q deep f tf.type.result pc pc2 out again h
     statement_runs typed.continue lo hi out again pc pc2 ht ha h = continue_runs p call q deep f tf.type.result pc pc2 out again h
     statement_runs typed.return_nothing lo hi out again pc pc2 ht ha h =
-        return_nothing_runs p call q deep f tf.type.result pc h.0 pc2 out again pc2 (same_result_is tf.type.result None ht) h.1 h.2
+        return_nothing_runs p call q deep f tf.type.result back last pc h.0 pc2 out again (same_result_is tf.type.result None ht) leaves h.1 h.2
     statement_runs (typed.return_value u e) lo hi out again pc pc2 ht ha h =
-        return_value_runs p call q deep f tf.type.result u e pc h.0 h.1 pc2 out again pc2
-        (same_result_is tf.type.result (Some u) (left_true (same_result tf.type.result (Some u)) (number_is_typed p tf e) ht)) h.2
+        return_value_runs p call q deep f tf.type.result u e back last pc h.0 h.1 pc2 out again
+        (same_result_is tf.type.result (Some u) (left_true (same_result tf.type.result (Some u)) (number_is_typed p tf e) ht)) leaves h.2
         (converts_does p call q deep f (keeps u e) e u (target.Temporary 0) 0 0 h.0 h.1 refl tt (let l : 0 ≤ 0 = omega arith in l)
         (does_at e 0 0 (left_true (value_is_typed p tf e) (some_number (type_of_value e))
         (right_true (same_result tf.type.result (Some u)) (number_is_typed p tf e) ht)) ha) h.3) h.4
 
     pub all_run : (all : Statements) (lo hi out again pc pc2 : ℕ) → statements_are_typed p tf lo hi all ≡ true → statements_are_asked all ≡ true
-        → StandAll (function_at q f).code all out again pc pc2
+        → StandAll (function_at q f).code all out again back pc pc2
         → Lists p call q deep f tf.type.result (execute_all p call (function_at q f).objects all) pc pc2 out again
     all_run typed.no_statements lo hi out again pc pc2 ht ha h = no_list p call q deep f tf.type.result pc pc2 out again h
     all_run (typed.and_statement a more) lo hi out again pc pc2 ht ha h =
@@ -339,7 +340,7 @@ module _ (p : typed.Program) (tf : Function) (call : Calling) (q : Program) (dee
         (right_true (statement_is_asked a) (statements_are_asked more) ha) h.2)
 
     at_runs : (all : Statements) (lo hi : ℕ) (places : List ℕ) (out again pc pc2 : ℕ) → statements_are_typed p tf lo hi all ≡ true
-        → statements_are_asked all ≡ true → StandAt (function_at q f).code all places out again pc pc2
+        → statements_are_asked all ≡ true → StandAt (function_at q f).code all places out again back pc pc2
         → Lists p call q deep f tf.type.result (execute_all p call (function_at q f).objects all) pc pc2 out again
     at_runs typed.no_statements lo hi places out again pc pc2 ht ha h = no_list p call q deep f tf.type.result pc pc2 out again h.1
     at_runs (typed.and_statement a more) lo hi places out again pc pc2 ht ha h =
@@ -353,7 +354,7 @@ module _ (p : typed.Program) (tf : Function) (call : Calling) (q : Program) (dee
     -- from a label on
     from_runs : (all : Statements) (lo hi : ℕ) (places : List ℕ) (label : Option ℕ) (out again pc to pc2 : ℕ) → statements_are_typed p tf lo hi all ≡ true
         → statements_are_asked all ≡ true
-        → StandAt (function_at q f).code all places out again pc pc2 → IsPlace places pc2 label to
+        → StandAt (function_at q f).code all places out again back pc pc2 → IsPlace places pc2 label to
         → Lists p call q deep f tf.type.result (execute_from p call (function_at q f).objects label all) to pc2 out again
     from_runs typed.no_statements lo hi places None out again pc to pc2 ht ha h place = no_list p call q deep f tf.type.result to pc2 out again place
     from_runs typed.no_statements lo hi places (Some n) out again pc to pc2 ht ha h place = absurd (let z : ⊥ = nothing_there places n to h.0 place in z)

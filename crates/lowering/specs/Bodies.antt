@@ -1,7 +1,8 @@
 -- What it is for instructions to be the code of a statement (ISO/IEC 9899:2011 6.8), of a function and of a program.
 --
--- `out` and `again` are the positions where `break` and `continue` go. Each full expression has all temporaries and slots.
-use Rattle.std.specs.Prelude.{◌≡◌, ℕ, zero, suc, ◌+◌, Bool, true, false, ◌&&◌, max, nat_le, nat_lt, nat_eq, ℤ, List, [], ◌∷◌, ◌++◌, length, map, Option, Some, None, slice_get}
+-- `out` and `again` are the positions where `break` and `continue` go. A function has one Return, which is long in machine code, at `back`.
+-- Each full expression has all temporaries and slots.
+use Rattle.std.specs.Prelude.{◌≡◌, ℕ, zero, suc, ◌+◌, Bool, true, false, ◌&&◌, max, nat_le, nat_lt, nat_eq, ℤ, List, [], ◌∷◌, ◌++◌, length, map, Option, Some, None, slice_get, ◌⊎◌}
 use Rattle.ctypes.specs.declared.types.IntType.{IntType}
 use Rattle.typed.specs.Program as typed
 use Rattle.typed.specs.Program.{Value, Initialiser, Statement, Statements}
@@ -58,61 +59,64 @@ module _ (code : List Instruction) where
       (p1 : ℕ) × One code (instruction.Branch comparison.Equal reading.Signed o (operand.Constant (word_for c)) p) pc p1
       × Tests o labels places default p1 pc2
 
+  -- 6.8.6.4: a return goes to the one Return of its function, or falls through to it
+  abbrev pub Leaves : (back : ℕ) → ℕ → ℕ → Type 0
+  Leaves back pc pc2 = ((pc ≡ pc2) × (pc ≡ back)) ⊎ One code (instruction.Jump back) pc pc2
+
   abbrev mutual
-    pub Stands : Statement → (out again : ℕ) → ℕ → ℕ → Type 0
-    Stands typed.empty out again pc pc2 = One code instruction.Nothing pc pc2
-    Stands (typed.evaluate e) out again pc pc2 = (p1 : ℕ) × One code instruction.Nothing pc p1 × Into code e Nowhere 0 0 p1 pc2
+    pub Stands : Statement → (out again back : ℕ) → ℕ → ℕ → Type 0
+    Stands typed.empty out again back pc pc2 = One code instruction.Nothing pc pc2
+    Stands (typed.evaluate e) out again back pc pc2 = (p1 : ℕ) × One code instruction.Nothing pc p1 × Into code e Nowhere 0 0 p1 pc2
     -- 6.2.4p6: an object is indeterminate each time
-    Stands (typed.declare n) out again pc pc2 = One code (instruction.Forget n 1) pc pc2
-    Stands (typed.define n i) out again pc pc2 = (p1 : ℕ) × One code (instruction.Forget n 1) pc p1 × Initialises i n p1 pc2
-    Stands (typed.block first count all) out again pc pc2 =
-        (p1 : ℕ) × One code (instruction.Forget first count) pc p1 × StandAll all out again p1 pc2
-    Stands (typed.branch e a) out again pc pc2 =
-        (p1 p2 : ℕ) × One code instruction.Nothing pc p1 × Into code e (If false pc2) 0 0 p1 p2 × Stands a out again p2 pc2
-    Stands (typed.branches e a b) out again pc pc2 =
-        (p1 p2 p3 other : ℕ) × One code instruction.Nothing pc p1 × Into code e (If false other) 0 0 p1 p2 × Stands a out again p2 p3
-        × One code (instruction.Jump pc2) p3 other × Stands b out again other pc2
+    Stands (typed.declare n) out again back pc pc2 = One code (instruction.Forget n 1) pc pc2
+    Stands (typed.define n i) out again back pc pc2 = (p1 : ℕ) × One code (instruction.Forget n 1) pc p1 × Initialises i n p1 pc2
+    Stands (typed.block first count all) out again back pc pc2 =
+        (p1 : ℕ) × One code (instruction.Forget first count) pc p1 × StandAll all out again back p1 pc2
+    Stands (typed.branch e a) out again back pc pc2 =
+        (p1 p2 : ℕ) × One code instruction.Nothing pc p1 × Into code e (If false pc2) 0 0 p1 p2 × Stands a out again back p2 pc2
+    Stands (typed.branches e a b) out again back pc pc2 =
+        (p1 p2 p3 other : ℕ) × One code instruction.Nothing pc p1 × Into code e (If false other) 0 0 p1 p2 × Stands a out again back p2 p3
+        × One code (instruction.Jump pc2) p3 other × Stands b out again back other pc2
     -- its objects are forgotten behind its value, which one of them cannot hold
-    Stands (typed.switch u e first count all) out again pc pc2 =
+    Stands (typed.switch u e first count all) out again back pc pc2 =
         let o = waits_in e (is_within first count) false 0 0 in
         (p1 p2 p3 p4 : ℕ) × (places : List ℕ) × One code instruction.Nothing pc p1 × Into code e (mode_of o) 0 0 p1 p2
-        × One code (instruction.Forget first count) p2 p3 × Tests o (labels_of all) places pc2 p3 p4 × StandAt all places pc2 again p4 pc2
-    Stands (typed.case v) out again pc pc2 = One code instruction.Nothing pc pc2
-    Stands typed.default out again pc pc2 = One code instruction.Nothing pc pc2
+        × One code (instruction.Forget first count) p2 p3 × Tests o (labels_of all) places pc2 p3 p4 × StandAt all places pc2 again back p4 pc2
+    Stands (typed.case v) out again back pc pc2 = One code instruction.Nothing pc pc2
+    Stands typed.default out again back pc pc2 = One code instruction.Nothing pc pc2
     -- a loop's test stands behind its body
-    Stands (typed.while e a) out again pc pc2 =
-        (top at : ℕ) × One code (instruction.Jump at) pc top × Stands a pc2 at top at × Into code e (If true top) 0 0 at pc2
-    Stands (typed.do_while a e) out again pc pc2 =
-        (top at : ℕ) × One code instruction.Nothing pc top × Stands a pc2 at top at × Into code e (If true top) 0 0 at pc2
-    Stands (typed.for declared start test step a) out again pc pc2 =
-        (p1 p2 p3 top next at : ℕ) × One code instruction.Nothing pc p1 × StandAll declared pc2 pc2 p1 p2 × Effects start p2 p3
-        × One code (instruction.Jump at) p3 top × Stands a pc2 next top next × Effects step next at × Repeats test top at pc2
-    Stands typed.break out again pc pc2 = One code (instruction.Jump out) pc pc2
-    Stands typed.continue out again pc pc2 = One code (instruction.Jump again) pc pc2
-    Stands typed.return_nothing out again pc pc2 = (p1 : ℕ) × One code instruction.Nothing pc p1 × One code instruction.Return p1 pc2
-    Stands (typed.return_value u e) out again pc pc2 =
-        (p1 p2 : ℕ) × One code instruction.Nothing pc p1 × Gives u e (target.Temporary 0) p1 p2 × One code instruction.Return p2 pc2
+    Stands (typed.while e a) out again back pc pc2 =
+        (top at : ℕ) × One code (instruction.Jump at) pc top × Stands a pc2 at back top at × Into code e (If true top) 0 0 at pc2
+    Stands (typed.do_while a e) out again back pc pc2 =
+        (top at : ℕ) × One code instruction.Nothing pc top × Stands a pc2 at back top at × Into code e (If true top) 0 0 at pc2
+    Stands (typed.for declared start test step a) out again back pc pc2 =
+        (p1 p2 p3 top next at : ℕ) × One code instruction.Nothing pc p1 × StandAll declared pc2 pc2 back p1 p2 × Effects start p2 p3
+        × One code (instruction.Jump at) p3 top × Stands a pc2 next back top next × Effects step next at × Repeats test top at pc2
+    Stands typed.break out again back pc pc2 = One code (instruction.Jump out) pc pc2
+    Stands typed.continue out again back pc pc2 = One code (instruction.Jump again) pc pc2
+    Stands typed.return_nothing out again back pc pc2 = (p1 : ℕ) × One code instruction.Nothing pc p1 × Leaves back p1 pc2
+    Stands (typed.return_value u e) out again back pc pc2 =
+        (p1 p2 : ℕ) × One code instruction.Nothing pc p1 × Gives u e (target.Temporary 0) p1 p2 × Leaves back p2 pc2
 
-    pub StandAll : Statements → (out again : ℕ) → ℕ → ℕ → Type 0
-    StandAll typed.no_statements out again pc pc2 = pc ≡ pc2
-    StandAll (typed.and_statement x more) out again pc pc2 = (p1 : ℕ) × Stands x out again pc p1 × StandAll more out again p1 pc2
+    pub StandAll : Statements → (out again back : ℕ) → ℕ → ℕ → Type 0
+    StandAll typed.no_statements out again back pc pc2 = pc ≡ pc2
+    StandAll (typed.and_statement x more) out again back pc pc2 = (p1 : ℕ) × Stands x out again back pc p1 × StandAll more out again back p1 pc2
 
     -- the same, the labels among them standing at these places
-    pub StandAt : Statements → List ℕ → (out again : ℕ) → ℕ → ℕ → Type 0
-    StandAt typed.no_statements places out again pc pc2 = (places ≡ []) × (pc ≡ pc2)
-    StandAt (typed.and_statement x more) places out again pc pc2 =
-        (p1 : ℕ) × (rest : List ℕ) × (places ≡ label_places x pc ++ rest) × Stands x out again pc p1 × StandAt more rest out again p1 pc2
+    pub StandAt : Statements → List ℕ → (out again back : ℕ) → ℕ → ℕ → Type 0
+    StandAt typed.no_statements places out again back pc pc2 = (places ≡ []) × (pc ≡ pc2)
+    StandAt (typed.and_statement x more) places out again back pc pc2 =
+        (p1 : ℕ) × (rest : List ℕ) × (places ≡ label_places x pc ++ rest) × Stands x out again back pc p1 × StandAt more rest out again back p1 pc2
 
   -- n instructions that do nothing: the definition and each parameter take a tick
   abbrev pub Idles : ℕ → ℕ → ℕ → Type 0
   Idles zero pc pc2 = pc ≡ pc2
   Idles (suc n) pc pc2 = (p1 : ℕ) × One code instruction.Nothing pc p1 × Idles n p1 pc2
 
-  -- 5.1.2.2.3p1: the end of main's body returns 0
+  -- from the end of the body to the Return behind it; 5.1.2.2.3p1: the end of main's body returns 0
   abbrev pub Closes : (is_main : Bool) → ℕ → ℕ → Type 0
-  Closes true pc pc2 =
-      (p1 : ℕ) × One code (instruction.Move (target.Temporary 0) (operand.Constant 0)) pc p1 × One code instruction.Return p1 pc2
-  Closes false pc pc2 = One code instruction.Return pc pc2
+  Closes true end back = One code (instruction.Move (target.Temporary 0) (operand.Constant 0)) end back
+  Closes false end back = end ≡ back
 
 -- ---- functions
 
@@ -157,13 +161,15 @@ abbrev pub most : (Instruction → ℕ) → List Instruction → ℕ
 most size [] = 0
 most size (i ∷ code) = max (size i) (most size code)
 
--- its code is that of its ticks at entry, its body and its end, and it has no more temporaries and slots than its code names
+-- its code is that of its ticks at entry, its body, its end and its Return, and it has no more temporaries and slots than its code names
 pub record IsFunctionFor (q : Program) (is_main : Bool) (f : typed.Function) (g : Function) : Type 0 where
   pub start : ℕ
   pub end : ℕ
+  pub back : ℕ
   pub idles : Idles g.code (suc (length f.type.parameters)) 0 start
-  pub body : Stands g.code f.body end end start end
-  pub closes : Closes g.code is_main end (length g.code)
+  pub body : Stands g.code f.body end end back start end
+  pub closes : Closes g.code is_main end back
+  pub leaves : One g.code instruction.Return back (length g.code)
   pub objects : g.objects ≡ f.objects
   pub parameters : g.parameters ≡ map kind_of f.type.parameters
   pub temporaries : g.temporaries ≡ most (temporaries_of q) g.code
