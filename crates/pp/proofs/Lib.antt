@@ -1,5 +1,6 @@
 mod Rows
 pub mod GroupLemmas
+pub mod GuardLemmas
 pub mod StateLemmas
 pub mod RestLemmas
 pub mod FileLemmas

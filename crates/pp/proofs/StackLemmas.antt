@@ -6,6 +6,7 @@ use Rattle.srcset.specs.declared.refusal.Refusal.TheVariants.{Memory, At, Told}
 use Rattle.srcset.specs.Files.{Files}
 use Rattle.srcset.specs.NameTable.{Texts, KeepsNumbers}
 use Rattle.phases.specs.Lines.{scanned}
+use Rattle.phases.specs.Token.{Token}
 use Rattle.pp_expand.specs.Expands.{HaveFiles}
 use Rattle.pp.specs.declared.files.Includer.{Includer}
 use Rattle.pp.specs.declared.files.Reading.{Reading}
@@ -17,7 +18,8 @@ use Rattle.pp.specs.declared.conditionals.Open.{Open}
 use Rattle.pp.specs.declared.state.State.{State as Held}
 use Rattle.pp.specs.Lines.{lines_with}
 use Rattle.pp.specs.Groups.{Parsed, parsed, groups, in_first}
-use Rattle.pp.specs.Phase4.{State, Fault, Outcome, goes, stops, ◌>>=◌, Around, file_done, group_done, number_in, resumed, max_includes}
+use Rattle.pp.specs.Phase4.{State, Fault, Outcome, goes, stops, ◌>>=◌, Around, file_done, group_done, number_in, resumed, max_includes, max_tokens}
+use Rattle.pp.specs.inside.Guards.{IsPassedOver}
 use Rattle.pp.specs.inside.Including.{around_with, Waits, left_of, IsReading, IsOpened, AreWaiting, AreStacked, AreOpen, room_of, back_in, goes_on, resumed_all, Left, weight, lines_left, weighed, size_of}
 use Rattle.pp.specs.inside.Pending.{pending}
 use Rattle.pp.specs.inside.Rest.{nowhere, rest_done}
@@ -127,6 +129,31 @@ rest_stands names held run around os p s begun tokens a = record {
   comes_to = ap (λ q. rest_done around os q s) (sym (in_none [] p)) ∙ ap (λ b. rest_done around os (in_first (pending b []) p) s) (sym begun);
 }
 
+-- ---- a file is passed over
+
+passed_whole : (old : State) (around : Around) (name bytes : List ℕ) (file : ℕ) → IsPassedOver file bytes old → number_in around.texts name ≡ file
+    → (file_done around name bytes old >>= resumed old) ≡ goes old
+passed_whole old around name bytes file p n = ap (λ o. o >>= resumed old) (p.nothing around name n)
+
+pub passed_left : (names : Texts) (held : Held) (set : Files) (texts : Texts) (innermost : Reading) (is : List Includer) (source : Source) (made o : Outcome State)
+    → Waits names held innermost.file set texts (room_of is) source (left_of innermost) made → o ≡ resumed_all set texts (room_of is) is made
+    → innermost.file.run.begun ≡ false → innermost.file.run.tokens ≡ []
+    → ((s : State) → Agrees names held s → length s.given ≤ max_tokens → IsPassedOver source.name source.bytes.now s) → IsSound names held
+    → Left names held set texts innermost is o
+passed_left names held set texts innermost is source made o w e begun tokens passes sound =
+    let g = w.includes in
+    let around = around_with (room_of is) set texts in
+    let os = innermost.file.conditionals in
+    let p = left_of innermost in
+    let few = subst (λ (xs : List Token). length xs ≤ max_tokens) (sym g.agrees.given_is) sound.room in
+    let nothing = ap (λ k. k >>= resumed g.after) g.enters.enters
+    ∙ passed_whole g.after (around_with g.enters.further set texts) g.enters.name source.bytes.now source.name (passes g.after g.agrees few) g.enters.number_is in
+    record {
+      inner = rest_done around os p g.after;
+      stands = rest_stands names held innermost.file.run around os p g.after begun tokens g.agrees;
+      whole = e ∙ ap (resumed_all set texts (room_of is) is) (w.waits ∙ ap (λ k. k >>= rest_done around os p) (g.includes ∙ nothing));
+    }
+
 abbrev pub resumed_held : Includer → Held → Held
 resumed_held i held = record held { presumed = i.presumed }
 
@@ -225,6 +252,9 @@ weight_more room = weight_positive room
 
 pub less_by : (a b w : ℕ) → a + w ≡ b → 0 < w → a < b
 less_by a b w e h = omega (arith, e, h)
+
+pub less_with : (a room : ℕ) → a < a + weight room
+less_with a room = let h = weight_more room in omega (arith, h)
 
 pub stepped_reading : (old new : Reading) → IsReading old → old.next < old.end → new.next ≡ old.next + 1 → new.end ≡ old.end → new.lines ≡ old.lines → IsReading new
 stepped_reading old new r h n e l = record {

@@ -1,3 +1,4 @@
+pub mod Guards
 pub mod Including
 pub mod Pending
 pub mod Rest

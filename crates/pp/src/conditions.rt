@@ -41,8 +41,8 @@ fn truth_token<'a>(
     )
 }
 
-// Whether a macro of this name is defined.
-fn is_macro<'a>(state: &State<'a>, name: &[u8], names: &Names) -> bool
+/// Whether a macro of this name is defined.
+pub fn is_macro<'a>(state: &State<'a>, name: &[u8], names: &Names) -> bool
     ensures { (s : Done) → Agrees names.now state.now s → result ≡ is_macro s name.now }
 {
     is_predefined(name) || state.table.find(names, name).is_some()

@@ -144,8 +144,28 @@ impl<'a> Files<'a> {
         Ok(())
     }
 
+    // The same, unless the file does nothing.
+    fn include(
+        &mut self,
+        alloc: Global,
+        source: &Source<'a>,
+        state: &mut State<'a>,
+        names: &Names,
+    ) -> Result<(), Refusal>
+        requires small { length source.now.bytes.now ≤ 1048576 }
+        ensures left { (texts : Texts) (set : Set) (made o : Outcome Done) → IsSound names.now state.old → self.old.innermost.file.run.begun ≡ false → self.old.innermost.file.run.tokens ≡ [] → Waits names.now state.old self.old.innermost.file set texts (room_of self.old.includers.items) source.now (left_of self.old.innermost) made → o ≡ resumed_all set texts (room_of self.old.includers.items) self.old.includers.items made → LeftOrStops result names.now state.new set texts self.new.innermost self.new.includers.items o }
+        ensures open { AreOpen names.now self.old.innermost self.old.includers.items → IsSound names.now state.old → source.now.name < length names.now → length self.old.includers.items < max_includes → self.old.innermost.file.run.begun ≡ false → self.old.innermost.file.run.tokens ≡ [] → OnOk result (AreOpen names.now self.new.innermost self.new.includers.items) }
+        ensures sound { IsSound names.now state.old → source.now.name < length names.now → OnOk result (IsSound names.now state.new) }
+        ensures less { (further : ℕ) → room_of self.old.includers.items ≡ suc further → OnOk result (size_of self.new.innermost self.new.includers.items < size_of self.old.innermost self.old.includers.items + weight (room_of self.old.includers.items)) }
+    {
+        if self.scans.passes_over(source, state, names) {
+            return Ok(());
+        }
+        self.enter(alloc, source, state)
+    }
+
     // The file that waits for the innermost one goes on, if there is one.
-    fn leave(&mut self, state: &mut State<'a>) -> bool
+    fn leave(&mut self, alloc: Global, state: &mut State<'a>) -> bool
         ensures left { (names texts : Texts) (set : Set) (inner o : Outcome Done) → AreStacked names self.old.innermost self.old.includers.items → Goes names state.old inner → o ≡ resumed_all set texts (room_of self.old.includers.items) self.old.includers.items inner → LeftOrGoes result names state.new set texts self.new.innermost self.new.includers.items o }
         ensures open { (names : Texts) → AreStacked names self.old.innermost self.old.includers.items → result ≡ true → AreOpen names self.new.innermost self.new.includers.items }
         ensures sound { (names : Texts) → AreStacked names self.old.innermost self.old.includers.items → IsSound names state.old → IsSound names state.new }
@@ -155,7 +175,7 @@ impl<'a> Files<'a> {
             return false;
         };
         let ended = mem::replace(&mut self.innermost, includer.reading);
-        self.scans.keep(ended.lines);
+        self.scans.keep(alloc, ended.lines);
         state.presumed = includer.presumed;
         true
     }
@@ -180,7 +200,7 @@ impl<'a> Files<'a> {
         let room = self.room();
         match self.innermost.line_done(alloc, set, room, state, names)? {
             None => Ok(()),
-            Some(source) => self.enter(alloc, &source, state),
+            Some(source) => self.include(alloc, &source, state, names),
         }
     }
 
@@ -200,7 +220,7 @@ impl<'a> Files<'a> {
         ensures less { IfOk result (λ more. more ≡ true → size_of self.new.innermost self.new.includers.items < size_of self.old.innermost self.old.includers.items) }
     {
         end_done(alloc, &mut self.innermost.file, state, names)?;
-        Ok(self.leave(state))
+        Ok(self.leave(alloc, state))
     }
 
     // Does the next line, or ends the innermost file. Whether anything is left.

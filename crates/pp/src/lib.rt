@@ -7,6 +7,7 @@ mod ends;
 mod error_directive;
 mod file;
 mod files;
+mod guards;
 mod includes;
 mod line_directive;
 mod places;

@@ -1,11 +1,17 @@
-//! Files that were scanned, so that one that is included again need not be scanned again.
+//! Files that were read, so that one that is included again is passed over, or need not be scanned again.
 ghost use Rattle.std.specs.Prelude.{◌≡◌, ◌≤◌, length, slice_get, option_map, true, Ok, Err, IfOk, IfErr, IfSome, ◌⊎◌};
 ghost use Rattle.srcset.specs.declared.refusal.Refusal.TheVariants.{Memory};
 ghost use Rattle.phases.specs.Lines.{scanned};
+ghost use Rattle.pp.specs.Phase4.{State as Done, max_tokens};
+ghost use Rattle.pp.specs.inside.Guards.{IsPassedOver, IsGuarded};
+ghost use Rattle.pp.specs.inside.Stepping.{Agrees};
 
+use crate::conditions::is_macro;
+use crate::guards::guard_of;
 use crate::includes::Source;
+use crate::state::State;
 use phases::{Lines, PpToken, try_scan};
-use srcset::Refusal;
+use srcset::{Names, Refusal};
 use std::alloc::Global;
 use std::collections::VecDeque;
 use std::marker::Model;
@@ -75,9 +81,53 @@ impl<'a> Scanned<'a> {
     }
 }
 
+/// A file behind a guard, which does nothing where the guard's macro is defined.
+#[derive(Drop)]
+struct Guarded<'a> {
+    name: usize,
+    bytes: &'a [u8],
+    guard: &'a [u8],
+}
+
+impl<'a> Model for Guarded<'a> {
+    ghost use Rattle.std.specs.Prelude.{ℕ, List};
+    ghost use Rattle.pp.specs.inside.Guards.{IsGuarded};
+
+    ghost Value = { List ℕ };
+
+    ghost view = { λ g. g.guard.now };
+
+    ghost invariant = { λ g. IsGuarded g.guard.now g.name g.bytes.now };
+}
+
+impl<'a> Guarded<'a> {
+    // The file of these lines, where they have a guard.
+    fn new(alloc: Global, scanned: &Scanned<'a>) -> Option<Guarded<'a>> {
+        let guard = guard_of(alloc, scanned)?;
+        Some(Guarded {
+            name: scanned.name,
+            bytes: scanned.bytes,
+            guard,
+        })
+    }
+
+    // The macro of the guard, where this is the file.
+    fn guard_of(&self, source: &Source<'a>) -> Option<&'a [u8]>
+        ensures { IfSome result (λ guard. IsGuarded guard.now source.now.name source.now.bytes.now) }
+    {
+        if self.bytes == source.bytes && self.name == source.name {
+            Some(self.guard)
+        } else {
+            None
+        }
+    }
+}
+
 /// Files that are not open, and may be included again.
 #[derive(Drop)]
 pub struct Scans<'a> {
+    guarded: VecDeque<Guarded<'a>>,
+    // Those without a guard.
     kept: VecDeque<Scanned<'a>>,
     // How many tokens they have in all.
     tokens: usize,
@@ -87,8 +137,31 @@ impl<'a> Scans<'a> {
     /// None yet.
     pub fn new(alloc: Global) -> Scans<'a> {
         Scans {
+            guarded: VecDeque::new(alloc),
             kept: VecDeque::new(alloc),
             tokens: 0,
+        }
+    }
+
+    // The macro of the guard of a file that was read before, where it has one.
+    fn guard(&self, source: &Source<'a>) -> Option<&'a [u8]>
+        ensures { IfSome result (λ guard. IsGuarded guard.now source.now.name source.now.bytes.now) }
+    {
+        let index = self
+            .guarded
+            .iter()
+            .position(|known| known.name == source.name)?;
+        let known = self.guarded.get(index)?;
+        known.guard_of(source)
+    }
+
+    /// Whether a file that is included here does nothing, since the macro of its guard is defined.
+    pub fn passes_over(&self, source: &Source<'a>, state: &State<'a>, names: &Names) -> bool
+        ensures { result ≡ true → (s : Done) → Agrees names.now state.now s → length s.given ≤ max_tokens → IsPassedOver source.now.name source.now.bytes.now s }
+    {
+        match self.guard(source) {
+            Some(guard) => is_macro(state, guard, names),
+            None => false,
         }
     }
 
@@ -120,8 +193,22 @@ impl<'a> Scans<'a> {
         }
     }
 
-    /// Keeps a file, as long as that is not too many tokens. One that is not kept is scanned again.
-    pub fn keep(&mut self, scanned: Scanned<'a>) {
+    // Notes the guard of a file. Whether it has one.
+    fn keeps_guard(&mut self, alloc: Global, scanned: &Scanned<'a>) -> bool {
+        let Some(known) = Guarded::new(alloc, scanned) else {
+            return false;
+        };
+        if self.guarded.iter().any(|other| other.name == known.name) {
+            return true;
+        }
+        self.guarded.push_back(known).is_ok()
+    }
+
+    /// Keeps a file that has no guard, as long as that is not too many tokens. One that is not kept is scanned again.
+    pub fn keep(&mut self, alloc: Global, scanned: Scanned<'a>) {
+        if self.keeps_guard(alloc, &scanned) {
+            return;
+        }
         let tokens = scanned.tokens();
         if tokens > MAX_KEPT_TOKENS.saturating_sub(self.tokens) {
             return;

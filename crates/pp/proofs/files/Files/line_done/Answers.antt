@@ -34,7 +34,8 @@ returns-in-Some-clause-left c texts o keeps l =
     let after = c.line_done.new.self in
     let st = subst (λ n. Stands c.args.names.now c.args.state.now r.file.run (around_with n c.args.set.now texts) r.file.conditionals (left_of r) l.inner) (sym c.room-room.ensures) l.stands in
     let w = subst (λ x. StandsOrWaits (Ok x) c.line_done.new.names c.line_done.new.state after.file c.args.set.now texts c.room-room.result (left_of after) l.inner) c.in-Some.is (c.in_ok-line_done.ensures.waits texts l.inner keeps st) in
-    c.enter.ensures.left c.line_done.new.names texts c.args.set.now l.inner o
+    let can = subst (λ x. IfSome x (CanEnter c.line_done.new.names c.room-room.result after.file)) c.in-Some.is c.in_ok-line_done.ensures.ok in
+    c.include.ensures.left texts c.args.set.now l.inner o c.in_ok-line_done.ensures.sound can.begun can.tokens
     (subst (λ n. StandsOrWaits (Ok (Some c.in-Some.source)) c.line_done.new.names c.line_done.new.state after.file c.args.set.now texts n (left_of after) l.inner) c.room-room.ensures w) l.whole
 
 pub returns-in-Some-clause-open : goal.returns-in-Some-clause-open
@@ -42,7 +43,7 @@ returns-in-Some-clause-open c =
     let e = c.in_ok-line_done.ensures in
     let is = c.args.self.now.includers.items in
     let can = subst (λ x. IfSome x (CanEnter c.line_done.new.names c.room-room.result c.line_done.new.self.file)) c.in-Some.is e.ok in
-    c.enter.ensures.open c.line_done.new.names
+    c.include.ensures.open
     (stepped_open c.args.names.now c.line_done.new.names c.args.self.now.innermost c.line_done.new.self is c.requires.open e.keeps e.files
     (stepped_reading c.args.self.now.innermost c.line_done.new.self c.requires.open.stacked.reading c.requires.more e.next e.end e.lines))
     e.sound can.read.has_file (has_place max_includes (length is) (subst (λ n. 0 < n) c.room-room.ensures can.read.has_room)) can.begun can.tokens
@@ -52,9 +53,9 @@ returns-in-Some-clause-less c =
     let e = c.in_ok-line_done.ensures in
     let is = c.args.self.now.includers.items in
     let can = subst (λ x. IfSome x (CanEnter c.line_done.new.names c.room-room.result c.line_done.new.self.file)) c.in-Some.is e.ok in
-    less_then c.enter.result (size_of c.enter.new.self.innermost c.enter.new.self.includers.items) (size_of c.line_done.new.self is + weight (room_of is)) (size_of c.args.self.now.innermost is)
+    less_then c.include.result (size_of c.include.new.self.innermost c.include.new.self.includers.items) (size_of c.line_done.new.self is + weight (room_of is)) (size_of c.args.self.now.innermost is)
     (stepped_less c.args.self.now.innermost c.line_done.new.self is e.next e.end c.requires.more)
-    (c.enter.ensures.less (room_of is - 1) (one_less (room_of is) (subst (λ n. 0 < n) c.room-room.ensures can.read.has_room)))
+    (c.include.ensures.less (room_of is - 1) (one_less (room_of is) (subst (λ n. 0 < n) c.room-room.ensures can.read.has_room)))
   where
     one_less : (n : ℕ) → 0 < n → n ≡ suc (n - 1)
     one_less n h = omega (arith, h)
