@@ -1,4 +1,3 @@
 pub mod Left
 pub mod Called
 pub mod Tallies
-pub mod Whole

@@ -1,4 +1,4 @@
-//! The transitions of the abstract machine in code: calls, and one step of the whole machine, over the steps of `stepping`
+//! The transitions of the abstract machine in code: calls, and what frames do with what they waited for, over the steps of `stepping`
 //! (ISO/IEC 9899:2011 5.1.2.3, 6.5.2.2).
 #![tactic(auto)]
 
@@ -6,5 +6,4 @@ pub mod calling;
 pub mod calls;
 pub mod leaving;
 pub mod returning;
-pub mod taking;
 pub mod tally;
