@@ -1,7 +1,7 @@
 -- The texts of instructions, as assemblers for RISC-V read them (RISC-V Assembly Programmer's Manual): the name of the row
 -- in the unprivileged ISA manual, and behind a space the operands. The number of a branch or JAL is its offset, as LLVM's
 -- assembler reads it; GNU as reads it as an address. The text of FENCE, whose fields stand as numbers, neither reads.
-use Rattle.std.specs.Prelude.{ℕ, ◌/◌, ◌^◌, List, ◌++◌, codes, decimal, false, ℤ}
+use Rattle.std.specs.Prelude.{ℕ, ◌/◌, ◌^◌, List, ◌++◌, codes, decimal, true, ℤ}
 use Rattle.std.specs.Fmt.{digits, signed_decimal}
 use Rattle.std.specs.Int.{cast_signed, w32}
 use Rattle.rv32.specs.declared.instr.Instr.{Instr}
@@ -83,9 +83,9 @@ register r = codes "x" ++ decimal r
 abbrev pub signed : ℕ → ℤ
 signed v = cast_signed w32 v
 
--- the upper 20 bits of an immediate, to the base 16
+-- the upper 20 bits of an immediate, to the base 16, A to F capital
 abbrev pub upper_bits : ℕ → List ℕ
-upper_bits v = codes "0x" ++ digits 16 false (v / 2 ^ 12)
+upper_bits v = codes "0x" ++ digits 16 true (v / 2 ^ 12)
 
 -- a place in memory: an offset and a base register
 abbrev pub memory : ℕ → ℤ → List ℕ

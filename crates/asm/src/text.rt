@@ -94,7 +94,7 @@ fn op_name(op: RegisterOp) -> &'static str
 fn upper_text(alloc: Global, name: &str, rd: u8, upper: u32) -> Result<String, AllocError>
     ensures { IfOk result (λ t. t.bytes.items ≡ name.now ++ codes " " ++ register rd ++ codes "," ++ upper_bits upper) }
 {
-    format!(in alloc; "{name} x{},0x{:x}", rd, upper / 0x1000)
+    format!(in alloc; "{name} x{},0x{:X}", rd, upper / 0x1000)
 }
 
 // A name, a register and a signed number.

@@ -7,7 +7,7 @@ use Rattle.asm.specs.Text.{text_of}
 abbrev text : ℕ → Option (List ℕ)
 text w = option_map text_of (decode_of w)
 
-pub row_lui_2882397111 : text 2882397111 ≡ Some (codes "lui x7,0xabcde")
+pub row_lui_2882397111 : text 2882397111 ≡ Some (codes "lui x7,0xABCDE")
 unfolding digits
 row_lui_2882397111 = refl
 
