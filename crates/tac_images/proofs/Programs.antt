@@ -1,22 +1,26 @@
 -- The machine is in step with the abstract machine.
-use Rattle.std.proofs.Common.{◌≡◌, ℕ, ◌+◌, ◌-◌, ◌<◌, ◌≤◌, List, [], ◌∷◌, length, map, Option, Some, None, refl, ap, ◌∙◌, subst, arith}
-use Rattle.std.specs.Prelude.{slice_get}
-use Rattle.loader.specs.MemoryMap.{stack_size}
+use Rattle.std.proofs.Common.{◌≡◌, ℕ, ◌+◌, ◌-◌, ◌<◌, ◌≤◌, List, [], ◌∷◌, length, map, Option, Some, None, refl, sym, ap, ◌∙◌, subst, arith}
+use Rattle.std.specs.Prelude.{slice_get, option_map}
+use Rattle.std.proofs.lemmas.Option.{slice_get-map}
+use Rattle.rv32.specs.Step.{register}
+use Rattle.loader.specs.MemoryMap.{stack_size, stack_end}
+use Rattle.sim.specs.Runs.{World}
 use Rattle.typed.specs.Program as typed
-use Rattle.meaning.specs.History.{trace_of, weight_in, sum_of, greatest_sum}
+use Rattle.meaning.specs.History.{Entry, trace_of, active, weight_in, sum_of, greatest_sum}
 use Rattle.tac.specs.Code as tac
 use Rattle.tac.specs.Run as tac_run
-use Rattle.tac.specs.Laws.{IsSeen}
+use Rattle.tac.specs.Laws.{IsSeen, HasCalls}
 use Rattle.tac.specs.Lowered.{IsLowered}
+use Rattle.tac.proofs.Growing.{calls_are_active}
 use Rattle.tac.proofs.Weights.{weights_are_seen}
 use Rattle.frames.specs.Code as flat
 use Rattle.frames.specs.Run as flat_run
 use Rattle.frames.specs.Sound.{IsSoundProgram}
 use Rattle.flattening.specs.Flattened.{IsFlattened, HasItsCalls, behind, before}
-use Rattle.simulation.specs.Runs.{slack}
+use Rattle.simulation.specs.Runs.{StandsWith, slack}
 use Rattle.flat_images.specs.Images.{FitStack}
 use Rattle.flat_images.proofs.Images.{image_goes_on, image_ends}
-use Rattle.tac_images.specs.Programs.{ProgramGoesOn, ProgramEnds}
+use Rattle.tac_images.specs.Programs.{bytes_or_none, HasFrames, ProgramGoesOn, ProgramEnds}
 use Rattle.tac_images.proofs.Runs.{none_within, further, flattened_of}
 use Rattle.tac_images.proofs.Known.{AreKnown, Known, run_known}
 
@@ -55,6 +59,40 @@ module _ (p : typed.Program) (q : tac.Program) (f : flat.Program) (lowered : IsL
   fits (flat_run.ended status left trace) input m m2 j its le e most seen small = tt
   fits flat_run.stuck input m m2 j its le e most seen small = tt
 
+-- ---- frames
+
+module _ (f : flat.Program) where
+  abbrev frames : List ℕ
+  frames = map flat.frame_bytes f.functions
+
+  abbrev frame_in : ℕ → ℕ
+  frame_in g = bytes_or_none (slice_get frames g)
+
+  frame_known : (g : ℕ) (c : Option flat.Function) → slice_get f.functions g ≡ c → g < length f.functions → flat.frame_bytes (flat_run.function_at f g) ≡ frame_in g
+  frame_known g None e lt = absurd (none_within f.functions g e lt)
+  frame_known g (Some h) e lt =
+      let there : slice_get frames g ≡ Some (flat.frame_bytes h) = slice_get-map flat.frame_bytes f.functions g ∙ ap (option_map flat.frame_bytes) e in
+      let here : flat.frame_bytes (flat_run.function_at f g) ≡ flat.frame_bytes h = rw e refl in
+      here ∙ sym (ap bytes_or_none there)
+
+  frames_sum : (ws : List flat_run.Frame) → AreKnown (length f.functions) ws → flat_run.bytes_of f ws ≡ sum_of frame_in (map (λ w. w.function) ws)
+  frames_sum [] known = refl
+  frames_sum (w ∷ ws) known =
+      ap (λ b. flat.frame_bytes (flat_run.function_at f w.function) + b) (frames_sum ws known.1)
+      ∙ ap (λ b. b + sum_of frame_in (map (λ w. w.function) ws)) (frame_known w.function (slice_get f.functions w.function) refl known.0)
+
+  has_frames : (env : ℕ → ℕ) (u : flat_run.State) (w : World) (history : List Entry) → AreKnown (length f.functions) (u.frame ∷ u.waiting) → StandsWith f env u w → flat_run.active u ≡ active history → HasFrames frames history w
+  has_frames env u w history known stands calls =
+      let same : flat_run.bytes_of f (u.frame ∷ u.waiting) ≡ sum_of frame_in (active history) = frames_sum (u.frame ∷ u.waiting) known ∙ ap (sum_of frame_in) calls in
+      (stands.aligned, subst (λ b. register w.machine 2 + b ≡ stack_end) same stands.sp)
+
+known_at : (f : flat.Program) (sound : IsSoundProgram f) (input : List ℕ) (m : ℕ) (u : flat_run.State) → behind f input m ≡ flat_run.running u → AreKnown (length f.functions) (u.frame ∷ u.waiting)
+known_at f sound input m u e = subst (Known f sound) e (run_known f sound m (flat_run.start f input) (sound.has_main, tt))
+
+-- the open calls of three-address code are those of its history
+calls_of : (q : tac.Program) (input : List ℕ) (m : ℕ) (t : tac_run.State) → before q input m ≡ tac_run.running t → tac_run.open_calls t ≡ active t.history
+calls_of q input m t e = subst HasCalls e (calls_are_active q m input)
+
 pub program_goes_on : ProgramGoesOn
 program_goes_on p q f parts input lowered made image bytes n s over small =
     let flattened = flattened_of q f lowered.sound made in
@@ -66,8 +104,16 @@ program_goes_on p q f parts input lowered made image bytes n s over small =
     let at = c.2.2 in
     let seen : (k : ℕ) → IsSeen (weight_in p) k (before q input m) → k ≤ greatest_sum (weight_in p) s.history = λ k h.
     subst (λ x. k ≤ greatest_sum (weight_in p) x) b.2.2 (subst (IsSeen (weight_in p) k) b.2.1 h) in
-    let w = image_goes_on f parts input image bytes c.0 u c.2.1 (λ j le. fits p q f lowered flattened image.sound (behind f input j) input m c.0 j c.4 le refl (greatest_sum (weight_in p) s.history) seen small) in
-    (w.0, w.1, further (slack f) n c.0 w.0 (omega (arith, b.1, c.1)) w.2, omega (arith, w.3, c.3, b.3), w.4, w.5.trace ∙ (at.0 ∙ ap trace_of b.2.2), w.5.input ∙ (at.1 ∙ b.2.3))
+    let w = image_goes_on f parts input image bytes c.0 u c.2.1 (λ j le. fits p q f lowered flattened image.sound (behind f input j) input m c.0 j c.4 le refl (greatest_sum (weight_in p) s.history) seen small) in (
+      w.0,
+      w.1,
+      further (slack f) n c.0 w.0 (omega (arith, b.1, c.1)) w.2,
+      omega (arith, w.3, c.3, b.3),
+      w.4,
+      w.5.trace ∙ (at.0 ∙ ap trace_of b.2.2),
+      w.5.input ∙ (at.1 ∙ b.2.3),
+      has_frames f image.assembled.env u w.1 s.history (known_at f image.sound input c.0 u c.2.1) w.5 (at.2 ∙ (calls_of q input m t b.2.1 ∙ ap active b.2.2)),
+    )
 
 pub program_ends : ProgramEnds
 program_ends p q f parts input lowered made image bytes n status s over small =
