@@ -1,0 +1,4 @@
+pub mod Images
+pub mod Refusals
+pub mod Lowering
+pub mod Generates

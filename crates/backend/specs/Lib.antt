@@ -1,0 +1,5 @@
+pub mod Generated
+pub use Rattle.tac_images.specs.Programs
+pub use Rattle.lowering.specs.Plain
+pub use Rattle.checked.specs.Asked
+pub mod inside

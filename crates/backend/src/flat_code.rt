@@ -1,0 +1,62 @@
+//! From a typed program to flat code.
+
+ghost use Rattle.std.specs.Prelude.{◌≡◌, IfOk, IfErr};
+ghost use Rattle.srcset.specs.Fault.{IsMemoryFault};
+ghost use Rattle.program.specs.View.{program_of};
+ghost use Rattle.tac.specs.Code as three_address;
+ghost use Rattle.frames.specs.Code as flat;
+ghost use Rattle.backend.specs.declared.flat_code.NotGenerated.TheVariants.{Memory};
+ghost use Rattle.backend.specs.Generated.{IsReady, IsFlatCodeOf, IsRefused};
+ghost use Rattle.backend.specs.inside.Lowered.{IsLoweredTo};
+
+use flattening::flatten;
+use frames::FlatProgram;
+use lower::{NotLowered, lower};
+use program::Program;
+use srcset::Fault;
+use std::alloc::Global;
+use tac::TacProgram;
+
+/// Why a program has no file.
+#[derive(Clone, Copy, Debug, PartialEq, Eq)]
+pub enum NotGenerated {
+    /// It uses what has no code yet: arrays, string literals, objects with static storage.
+    NotBuiltYet,
+    /// Memory ran out, or what the program takes is more than the machine's.
+    Memory,
+}
+
+/// A fault that is want of memory.
+pub fn want_of_memory(fault: Fault) -> NotGenerated
+    requires { IsMemoryFault fault }
+    ensures { result ≡ Memory }
+{
+    drop(fault);
+    NotGenerated::Memory
+}
+
+/// The three-address code of a program.
+fn lowered(alloc: Global, program: &Program) -> Result<TacProgram, NotGenerated>
+    requires { IsReady (program_of program.now) }
+    ensures code { IfOk result (λ q. IsLoweredTo (program_of program.now) (three_address.program_of q)) }
+    ensures refused { IfErr result (IsRefused (program_of program.now)) }
+{
+    match lower(alloc, program) {
+        Ok(code) => Ok(code),
+        Err(NotLowered::NotBuiltYet) => Err(NotGenerated::NotBuiltYet),
+        Err(NotLowered::Memory) => Err(NotGenerated::Memory),
+    }
+}
+
+/// The flat code of a program.
+pub fn flat_code(alloc: Global, program: &Program) -> Result<FlatProgram, NotGenerated>
+    requires { IsReady (program_of program.now) }
+    ensures code { IfOk result (λ f. IsFlatCodeOf (program_of program.now) (flat.program_of f)) }
+    ensures refused { IfErr result (IsRefused (program_of program.now)) }
+{
+    let code = lowered(alloc, program)?;
+    match flatten(alloc, &code) {
+        Ok(flat) => Ok(flat),
+        Err(fault) => Err(want_of_memory(fault)),
+    }
+}

@@ -1,0 +1,4 @@
+pub mod Present
+pub mod Declared
+pub mod Sized
+pub mod Joined

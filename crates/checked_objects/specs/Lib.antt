@@ -1,0 +1,3 @@
+pub mod Laws
+pub use Rattle.checked.specs.Settled
+pub use Rattle.tac.specs.Designated

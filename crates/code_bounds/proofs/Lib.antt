@@ -1,0 +1,13 @@
+pub mod Lists
+pub mod Grounds
+pub mod Stretches
+pub mod Operands
+pub mod Leaves
+pub mod Changes
+pub mod Nodes
+pub mod Expressions
+pub mod Parts
+pub mod Statements
+pub mod Functions
+pub mod Sizes
+pub mod Whole

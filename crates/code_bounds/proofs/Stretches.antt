@@ -1,0 +1,89 @@
+-- Stretches of code: their ends, their room, and that their instructions are fine.
+use Rattle.std.proofs.Common.{◌≡◌, ⊎_elim, ℕ, ◌+◌, ◌*◌, ◌<◌, ◌≤◌, Some, sym, ap, ◌∙◌, subst, arith}
+use Rattle.std.proofs.lemmas.Bool.{cases_lt}
+use Rattle.std.specs.Prelude.{slice_get}
+use Rattle.tac.specs.declared.code.Instruction.{Instruction}
+use Rattle.lowering.specs.Code.{One}
+use Rattle.code_bounds.specs.Rooms.{room_of, before}
+use Rattle.code_bounds.proofs.Lists.{same_some, before_next}
+use Rattle.code_bounds.proofs.Grounds.{Ground, Fine}
+
+no_less : (p q : ℕ) → p + 1 ≡ q → p ≤ q
+no_less p q e = omega (arith, e)
+
+only : (p q j : ℕ) → p + 1 ≡ q → p ≤ j → j < q → p ≡ j
+only p q j e lo hi = omega (arith, e, lo, hi)
+
+one_room : (a b r d : ℕ) → b ≡ a + r → r + d ≤ 128 → b + d ≤ a + 128 * 1
+one_room a b r d e h = omega (arith, e, h)
+
+two_room : (a b r d : ℕ) → b ≡ a + r → r + d ≤ 256 → b + d ≤ a + 128 * 2
+two_room a b r d e h = omega (arith, e, h)
+
+same_room : (a b : ℕ) → a ≡ b → b + 0 ≤ a + 128 * 0
+same_room a b e = omega (arith, e)
+
+on_room : (a b c u v d e : ℕ) → b + d ≤ a + 128 * u → c + e ≤ b + 128 * v → c + (d + e) ≤ a + 128 * (u + v)
+on_room a b c u v d e x y = omega (arith, x, y)
+
+other_room : (a b u d w f : ℕ) → 128 * u + f ≤ 128 * w + d → b + d ≤ a + 128 * u → b + f ≤ a + 128 * w
+other_room a b u d w f h x = omega (arith, h, x)
+
+goes_on : (a b c : ℕ) → a ≤ b → b ≤ c → a ≤ c
+goes_on a b c x y = omega (arith, x, y)
+
+is_none : (p q j : ℕ) → p ≡ q → p ≤ j → j < q → ⊥
+is_none p q j e lo hi = omega (arith, e, lo, hi)
+
+same_le : (p q : ℕ) → p ≡ q → p ≤ q
+same_le p q e = omega (arith, e)
+
+module _ (z : Ground) where
+  -- from pc to pc2: the room of u nodes, d being left; where A holds, each instruction is fine
+  pub record Within (A : Type 0) (u d pc pc2 : ℕ) : Type 0 where
+    pub forward : pc ≤ pc2
+    pub room : before z.code pc2 + d ≤ before z.code pc + 128 * u
+    pub each : A → (j : ℕ) (x : Instruction) → pc ≤ j → j < pc2 → slice_get z.code j ≡ Some x → Fine z x
+
+  pub one : {A : Type 0} (i : Instruction) (d pc pc2 : ℕ) → One z.code i pc pc2 → room_of i + d ≤ 128 → (A → Fine z i) → Within A 1 d pc pc2
+  one i d pc pc2 o small fine = record {
+    forward = no_less pc pc2 o.next;
+    room = one_room (before z.code pc) (before z.code pc2) (room_of i) d (before_next z.code pc pc2 i o.at o.next) small;
+    each = λ a j x lo hi at. subst (Fine z) (same_some i x (sym o.at ∙ (ap (slice_get z.code) (only pc pc2 j o.next lo hi) ∙ at))) (fine a);
+  }
+
+  -- with the room of two nodes
+  pub long_one : {A : Type 0} (i : Instruction) (d pc pc2 : ℕ) → One z.code i pc pc2 → room_of i + d ≤ 256 → (A → Fine z i) → Within A 2 d pc pc2
+  long_one i d pc pc2 o small fine = record {
+    forward = no_less pc pc2 o.next;
+    room = two_room (before z.code pc) (before z.code pc2) (room_of i) d (before_next z.code pc pc2 i o.at o.next) small;
+    each = λ a j x lo hi at. subst (Fine z) (same_some i x (sym o.at ∙ (ap (slice_get z.code) (only pc pc2 j o.next lo hi) ∙ at))) (fine a);
+  }
+
+  pub none : {A : Type 0} (pc pc2 : ℕ) → pc ≡ pc2 → Within A 0 0 pc pc2
+  none pc pc2 e = record {
+    forward = same_le pc pc2 e;
+    room = same_room (before z.code pc) (before z.code pc2) (ap (before z.code) e);
+    each = λ a j x lo hi at. absurd (is_none pc pc2 j e lo hi);
+  }
+
+  pub join : {A : Type 0} {u d v e pc p1 pc2 : ℕ} → Within A u d pc p1 → Within A v e p1 pc2 → Within A (u + v) (d + e) pc pc2
+  join {A} {u} {d} {v} {e} {pc} {p1} {pc2} first second = record {
+    forward = goes_on pc p1 pc2 first.forward second.forward;
+    room = on_room (before z.code pc) (before z.code p1) (before z.code pc2) u v d e first.room second.room;
+    each = λ a j x lo hi at. ⊎_elim (λ lt. first.each a j x lo lt at) (λ ge. second.each a j x ge hi at) (cases_lt j p1);
+  }
+
+  pub settle : {A : Type 0} {u d pc pc2 : ℕ} (w f : ℕ) → 128 * u + f ≤ 128 * w + d → Within A u d pc pc2 → Within A w f pc pc2
+  settle {A} {u} {d} {pc} {pc2} w f h s = record {
+    forward = s.forward;
+    room = other_room (before z.code pc) (before z.code pc2) u d w f h s.room;
+    each = s.each;
+  }
+
+  pub aimed : {A B : Type 0} {u d pc pc2 : ℕ} → (B → A) → Within A u d pc pc2 → Within B u d pc pc2
+  aimed {A} {B} {u} {d} {pc} {pc2} g s = record {
+    forward = s.forward;
+    room = s.room;
+    each = λ b. s.each (g b);
+  }

@@ -1,0 +1,11 @@
+use Rattle.std.proofs.Common.{◌≡◌, map}
+use Rattle.program.specs.View as view
+use Rattle.tac.specs.Code as three_address
+use Rattle.lower.specs.Functions.{AreFunctionsOf}
+use Rattle.lower.proofs.programs.lowered_functions.Given as goal
+
+abbrev pub invariant-loop-function : goal.invariant-loop-function
+invariant-loop-function l = record {
+  at : l.number ≡ l.function-index;
+  all : AreFunctionsOf (map view.function_of l.functions) l.main l.function-index (map three_address.function_of l.list.items);
+}

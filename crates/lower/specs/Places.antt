@@ -1,0 +1,17 @@
+-- Where the labels of a switch stand.
+use Rattle.std.specs.Prelude.{ℕ, ℤ, List, [], ◌∷◌, ◌++◌, Option, Some, None}
+use Rattle.typed.specs.Program as typed
+use Rattle.typed.specs.Program.{Statements}
+use Rattle.lowering.specs.Bodies.{label_places}
+use Rattle.lower.specs.Parts.{plus}
+use Rattle.lower.specs.Sizes.{statement_size}
+
+-- the label that a statement is, if it is one
+abbrev pub one_label : Option (Option ℤ) → List (Option ℤ)
+one_label None = []
+one_label (Some l) = l ∷ []
+
+-- the positions of the labels among statements, the first of which stands at pc
+abbrev pub places_of : Statements → ℕ → List ℕ
+places_of typed.no_statements pc = []
+places_of (typed.and_statement x more) pc = label_places x pc ++ places_of more (plus pc (statement_size x))

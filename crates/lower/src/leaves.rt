@@ -1,0 +1,129 @@
+//! The code of statements that hold no other, and of a loop's expressions.
+
+ghost use Rattle.std.specs.Prelude.{◌≡◌, ℕ, OnOk};
+ghost use Rattle.typed.specs.Program as typed;
+ghost use Rattle.program.specs.View.{value_of, option_value, initialiser_of};
+ghost use Rattle.lowering.specs.Bodies as relation;
+ghost use Rattle.lower.specs.Parts.{Wrote};
+ghost use Rattle.lower.specs.Sizes as size;
+ghost use Rattle.lower.specs.Written.{WroteStatement};
+
+use crate::modes::Mode;
+use crate::values::{Free, put_converted, put_value};
+use crate::writing::{Code, put};
+use ctypes::IntType;
+use program::{Initialiser, Value};
+use std::alloc::AllocError;
+use tac::{Instruction, Target};
+
+/// Each full expression has all temporaries and slots.
+pub(crate) fn all_free() -> Free
+    ensures temporary { result.temporary ≡ 0 }
+    ensures slot { result.slot ≡ 0 }
+{
+    Free {
+        temporary: 0,
+        slot: 0,
+    }
+}
+
+/// An object gets its first value, which costs a tick behind its expression.
+pub(crate) fn put_first(
+    code: &mut Code,
+    initialiser: &Initialiser,
+    object: usize,
+) -> Result<(), AllocError>
+    ensures { OnOk result (Wrote (λ w p q. relation.Initialises w (initialiser_of initialiser.now) object p q) (size.initialises_size (initialiser_of initialiser.now)) code.old.list.items code.new.list.items) }
+{
+    match initialiser {
+        Initialiser::One(ty, e) => {
+            put_converted(code, *ty, e, Target::Object(object), all_free())?;
+            put(code, Instruction::Nothing)?;
+            Ok(())
+        }
+        Initialiser::Text(_) => Err(AllocError),
+        Initialiser::InBraces(inner) => {
+            put(code, Instruction::Nothing)?;
+            put_first(code, inner, object)?;
+            Ok(())
+        }
+        Initialiser::List(_) => Err(AllocError),
+    }
+}
+
+/// What may be left out: nothing is evaluated.
+pub(crate) fn put_effects(code: &mut Code, e: &Option<Value>) -> Result<(), AllocError>
+    ensures { OnOk result (Wrote (λ w p q. relation.Effects w (option_value e.now) p q) (size.effects_size (option_value e.now)) code.old.list.items code.new.list.items) }
+{
+    match e {
+        None => Ok(()),
+        Some(e) => {
+            put_value(code, e, Mode::Nowhere, all_free())?;
+            Ok(())
+        }
+    }
+}
+
+/// What may be left out: a loop goes on.
+pub(crate) fn put_repeats(code: &mut Code, e: &Option<Value>, top: usize) -> Result<(), AllocError>
+    ensures { OnOk result (Wrote (λ w p q. relation.Repeats w (option_value e.now) top p q) (size.repeats_size (option_value e.now)) code.old.list.items code.new.list.items) }
+{
+    match e {
+        None => {
+            put(code, Instruction::Jump(top))?;
+            Ok(())
+        }
+        Some(e) => {
+            put_value(code, e, Mode::If(true, top), all_free())?;
+            Ok(())
+        }
+    }
+}
+
+pub(crate) fn put_evaluated(code: &mut Code, e: &Value) -> Result<(), AllocError>
+    ensures { OnOk result ((out again back : ℕ) → WroteStatement (typed.evaluate (value_of e.now)) out again back code.old.list.items code.new.list.items) }
+{
+    put(code, Instruction::Nothing)?;
+    put_value(code, e, Mode::Nowhere, all_free())?;
+    Ok(())
+}
+
+pub(crate) fn put_defined(
+    code: &mut Code,
+    object: usize,
+    initialiser: &Initialiser,
+) -> Result<(), AllocError>
+    ensures { OnOk result ((out again back : ℕ) → WroteStatement (typed.define object (initialiser_of initialiser.now)) out again back code.old.list.items code.new.list.items) }
+{
+    put(
+        code,
+        Instruction::Forget {
+            first: object,
+            count: 1,
+        },
+    )?;
+    put_first(code, initialiser, object)?;
+    Ok(())
+}
+
+pub(crate) fn put_returned(
+    code: &mut Code,
+    ty: IntType,
+    e: &Value,
+    back: usize,
+) -> Result<(), AllocError>
+    ensures { OnOk result ((out again : ℕ) → WroteStatement (typed.return_value ty (value_of e.now)) out again back code.old.list.items code.new.list.items) }
+{
+    put(code, Instruction::Nothing)?;
+    put_converted(code, ty, e, Target::Temporary(0), all_free())?;
+    put(code, Instruction::Jump(back))?;
+    Ok(())
+}
+
+pub(crate) fn put_return(code: &mut Code, back: usize) -> Result<(), AllocError>
+    ensures { OnOk result ((out again : ℕ) → WroteStatement typed.return_nothing out again back code.old.list.items code.new.list.items) }
+{
+    put(code, Instruction::Nothing)?;
+    put(code, Instruction::Jump(back))?;
+    Ok(())
+}
