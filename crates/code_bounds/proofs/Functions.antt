@@ -16,7 +16,7 @@ use Rattle.tac.specs.Sound.{IsScalar, OperandFits, TargetFits, InstructionFits}
 use Rattle.lowering.specs.Code.{One}
 use Rattle.lowering.specs.Bodies.{Idles, Closes, Stands, temporary_in, kept_in, temporary_to, kept_to, temporaries_of, slots_of, most}
 use Rattle.code_bounds.proofs.Grounds.{Ground, IsNumber, OperandFine, TargetFine, Fine}
-use Rattle.code_bounds.proofs.Stretches.{Within, one, long_one, none, join, settle, aimed}
+use Rattle.code_bounds.proofs.Stretches.{Within, one, one_in, none, join, settle, aimed}
 use Rattle.code_bounds.proofs.Statements.{stands_within}
 
 idle_room : (n : ℕ) → 128 * (1 + n) + 124 * suc n ≤ 128 * suc n + (124 + 124 * n)
@@ -85,7 +85,7 @@ module _ (z : Ground) where
       let close = closes_within is_main end back b closes in
       let at_end : end ≤ z.limit = le_trans end back z.limit close.forward e in
       let stands = stands_within z z.function.body end end back lo (length z.function.objects) start end h (same_le (length z.function.objects)) w body in
-      join z (idles_within n 0 start idles) (join z (settle z nodes 0 (less_room nodes _) (aimed z (λ a. (at_end, at_end, at_end, e)) stands)) (join z close (long_one z _ 84 back size leaves (omega arith) (λ a. tt))))
+      join z (idles_within n 0 start idles) (join z (settle z nodes 0 (less_room nodes _) (aimed z (λ a. (at_end, at_end, at_end, e)) stands)) (join z close (one_in z 2 _ 84 back size leaves (omega arith) (λ a. tt))))
 
   -- ---- what it names is within bounds
 

@@ -6,7 +6,7 @@ use Rattle.std.proofs.lemmas.Bool.Decides.{nat_tests}
 use Rattle.ctypes.specs.declared.types.IntType.{IntType}
 use Rattle.typed.specs.Types.{ObjectType, same_type}
 use Rattle.typed.specs.Program as typed
-use Rattle.typed.specs.Program.{Value, Initialiser, Statement, Statements}
+use Rattle.typed.specs.Program.{Value, Initialiser}
 use Rattle.typed.specs.Nodes.{type_of_value, value_nodes, option_nodes, initialiser_nodes}
 use Rattle.typed.specs.WellTyped.{some_number, value_is_typed, initialiser_is_typed, definition_is_typed, option_is_typed, test_is_typed}
 use Rattle.tac.specs.Spans.{widest_initial}

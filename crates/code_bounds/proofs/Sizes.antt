@@ -18,7 +18,7 @@ use Rattle.tac.specs.Costs.{code_bytes, array_parameters}
 use Rattle.tac.specs.Lowered.{kind_of}
 use Rattle.tac.specs.Sound.{number_parameters}
 use Rattle.lowering.proofs.Words.{left_true, right_true, differ}
-use Rattle.code_bounds.specs.Rooms.{room_of, before}
+use Rattle.code_bounds.specs.inside.Rooms.{room_of, before}
 use Rattle.code_bounds.proofs.Operands.{scalar_if}
 
 -- ---- the widest full expression has no more nodes than the statement

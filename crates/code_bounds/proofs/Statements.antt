@@ -3,7 +3,7 @@ use Rattle.std.proofs.Common.{◌≡◌, ℕ, ◌+◌, ◌*◌, ◌≤◌, max, 
 use Rattle.std.specs.Prelude.{nat_le, nat_lt, slice_get}
 use Rattle.typed.specs.Types.{same_result}
 use Rattle.typed.specs.Program as typed
-use Rattle.typed.specs.Program.{Value, Initialiser, Statement, Statements}
+use Rattle.typed.specs.Program.{Value, Statement, Statements}
 use Rattle.typed.specs.Nodes.{type_of_value, value_nodes, option_nodes, initialiser_nodes, statement_nodes, statements_nodes}
 use Rattle.typed.specs.WellTyped.{some_number, value_is_typed, definition_is_typed, option_is_typed, test_is_typed, statement_is_typed, statements_are_typed}
 use Rattle.meaning.specs.Statements.{labels_at, labels_of}
@@ -40,7 +40,7 @@ module _ (z : Ground) where
   jump : {A : Type 0} (to pc pc2 : ℕ) → One z.code (instruction.Jump to) pc pc2 → (A → to ≤ z.limit) → Within z A 1 124 pc pc2
   jump to pc pc2 i aims = one z _ 124 pc pc2 i (omega arith) aims
 
-  -- a return jumps to its function's end, or falls through to it
+  -- a return jumps to its function's Return, or falls through to it
   leaves : (back pc pc2 : ℕ) → Leaves z.code back pc pc2 → Within z (back ≤ z.limit) 1 124 pc pc2
   leaves back pc pc2 (inl h) = settle z 1 124 (omega arith) (none z pc pc2 h.0)
   leaves back pc pc2 (inr i) = jump back pc pc2 i (λ c. c)

@@ -4,7 +4,7 @@ use Rattle.std.proofs.lemmas.Bool.{cases_lt}
 use Rattle.std.specs.Prelude.{slice_get}
 use Rattle.tac.specs.declared.code.Instruction.{Instruction}
 use Rattle.lowering.specs.Code.{One}
-use Rattle.code_bounds.specs.Rooms.{room_of, before}
+use Rattle.code_bounds.specs.inside.Rooms.{room_of, before}
 use Rattle.code_bounds.proofs.Lists.{same_some, before_next}
 use Rattle.code_bounds.proofs.Grounds.{Ground, Fine}
 
@@ -14,11 +14,8 @@ no_less p q e = omega (arith, e)
 only : (p q j : ℕ) → p + 1 ≡ q → p ≤ j → j < q → p ≡ j
 only p q j e lo hi = omega (arith, e, lo, hi)
 
-one_room : (a b r d : ℕ) → b ≡ a + r → r + d ≤ 128 → b + d ≤ a + 128 * 1
-one_room a b r d e h = omega (arith, e, h)
-
-two_room : (a b r d : ℕ) → b ≡ a + r → r + d ≤ 256 → b + d ≤ a + 128 * 2
-two_room a b r d e h = omega (arith, e, h)
+one_room : (a b r d u : ℕ) → b ≡ a + r → r + d ≤ 128 * u → b + d ≤ a + 128 * u
+one_room a b r d u e h = omega (arith, e, h)
 
 same_room : (a b : ℕ) → a ≡ b → b + 0 ≤ a + 128 * 0
 same_room a b e = omega (arith, e)
@@ -45,20 +42,16 @@ module _ (z : Ground) where
     pub room : before z.code pc2 + d ≤ before z.code pc + 128 * u
     pub each : A → (j : ℕ) (x : Instruction) → pc ≤ j → j < pc2 → slice_get z.code j ≡ Some x → Fine z x
 
-  pub one : {A : Type 0} (i : Instruction) (d pc pc2 : ℕ) → One z.code i pc pc2 → room_of i + d ≤ 128 → (A → Fine z i) → Within A 1 d pc pc2
-  one i d pc pc2 o small fine = record {
+  -- one instruction, with the room of u nodes
+  pub one_in : {A : Type 0} (u : ℕ) (i : Instruction) (d pc pc2 : ℕ) → One z.code i pc pc2 → room_of i + d ≤ 128 * u → (A → Fine z i) → Within A u d pc pc2
+  one_in u i d pc pc2 o small fine = record {
     forward = no_less pc pc2 o.next;
-    room = one_room (before z.code pc) (before z.code pc2) (room_of i) d (before_next z.code pc pc2 i o.at o.next) small;
+    room = one_room (before z.code pc) (before z.code pc2) (room_of i) d u (before_next z.code pc pc2 i o.at o.next) small;
     each = λ a j x lo hi at. subst (Fine z) (same_some i x (sym o.at ∙ (ap (slice_get z.code) (only pc pc2 j o.next lo hi) ∙ at))) (fine a);
   }
 
-  -- with the room of two nodes
-  pub long_one : {A : Type 0} (i : Instruction) (d pc pc2 : ℕ) → One z.code i pc pc2 → room_of i + d ≤ 256 → (A → Fine z i) → Within A 2 d pc pc2
-  long_one i d pc pc2 o small fine = record {
-    forward = no_less pc pc2 o.next;
-    room = two_room (before z.code pc) (before z.code pc2) (room_of i) d (before_next z.code pc pc2 i o.at o.next) small;
-    each = λ a j x lo hi at. subst (Fine z) (same_some i x (sym o.at ∙ (ap (slice_get z.code) (only pc pc2 j o.next lo hi) ∙ at))) (fine a);
-  }
+  pub one : {A : Type 0} (i : Instruction) (d pc pc2 : ℕ) → One z.code i pc pc2 → room_of i + d ≤ 128 → (A → Fine z i) → Within A 1 d pc pc2
+  one = one_in 1
 
   pub none : {A : Type 0} (pc pc2 : ℕ) → pc ≡ pc2 → Within A 0 0 pc pc2
   none pc pc2 e = record {

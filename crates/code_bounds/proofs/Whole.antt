@@ -1,5 +1,5 @@
 -- Plain code is sound and within its bounds: the whole program.
-use Rattle.std.proofs.Common.{◌≡◌, ℕ, zero, suc, ◌+◌, ◌*◌, ◌-◌, ◌/◌, ◌<◌, ◌≤◌, ◌^◌, List, [], ◌∷◌, length, map, Some, Bool, true, false, ◌&&◌, refl, sym, ap, ◌∙◌, subst, arith}
+use Rattle.std.proofs.Common.{◌≡◌, ℕ, zero, suc, ◌+◌, ◌*◌, ◌-◌, ◌/◌, ◌<◌, ◌≤◌, ◌^◌, List, [], ◌∷◌, length, map, Some, true, ◌&&◌, refl, sym, ap, ◌∙◌, subst, arith}
 use Rattle.std.specs.Prelude.{nat_eq, nat_le, nat_lt, slice_get, sum_by}
 use Rattle.std.proofs.lemmas.Option.{slice_get_within}
 use Rattle.std.proofs.lemmas.List.Sums.{sum_by-cons}
@@ -20,7 +20,7 @@ use Rattle.tac.specs.Lowered.{kind_of, IsChecked, IsCodeOf}
 use Rattle.lowering.specs.Bodies.{temporaries_of, slots_of, IsFunctionFor, IsCodeFor}
 use Rattle.lowering.proofs.Words.{left_true, right_true}
 use Rattle.lowering.proofs.Program.{code_behaves}
-use Rattle.code_bounds.specs.Rooms.{before}
+use Rattle.code_bounds.specs.inside.Rooms.{before}
 use Rattle.code_bounds.specs.Laws.{PlainCodeIsSound, PlainCodeIsBounded, PlainCodeIsLowered}
 use Rattle.code_bounds.proofs.Lists.{same_some, got_below, length_map}
 use Rattle.code_bounds.proofs.Grounds.{Ground, Fine}

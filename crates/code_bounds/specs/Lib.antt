@@ -1,2 +1,3 @@
-pub mod Rooms
 pub mod Laws
+pub use Rattle.tac.specs.Lowered
+pub mod inside

@@ -7,10 +7,10 @@ use Rattle.tac.specs.declared.code.Instruction.TheVariants as instruction
 use Rattle.lowering.specs.Values.{If}
 use Rattle.lowering.specs.Code.{One}
 use Rattle.lowering.specs.Bodies.{Effects, Repeats, Leaves}
-use Rattle.lower.specs.Parts.{plus, Wrote}
+use Rattle.lower.specs.inside.Parts.{plus, Wrote}
 use Rattle.lower.specs.declared.modes.Shape.TheVariants as shape
-use Rattle.lower.specs.Sizes.{value_size, effects_size, repeats_size, statement_size, statements_size}
-use Rattle.lower.specs.Written.{WroteValue, WroteStatement, WroteStatements}
+use Rattle.lower.specs.inside.Sizes.{value_size, effects_size, repeats_size, statement_size, statements_size}
+use Rattle.lower.specs.inside.Written.{WroteValue, WroteStatement, WroteStatements}
 use Rattle.lower.proofs.Parts.{plus_is, sum_two, begins_on, as_wrote, three, five, reach_one, reach_two, reach_three, reach_four, reach_five}
 
 -- a return jumps, also where it could fall through

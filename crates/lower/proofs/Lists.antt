@@ -5,7 +5,7 @@ use Rattle.typed.specs.Program.{Arguments}
 use Rattle.program.specs.View.{Given, number_given, array_given, and_given}
 use Rattle.lowering.specs.Plain.{arguments_are_plain}
 use Rattle.lowering.specs.Values.{arguments_call, arguments_write}
-use Rattle.lower.specs.Parts.{given_is_plain, given_calls, given_writes}
+use Rattle.lower.specs.inside.Parts.{given_is_plain, given_calls, given_writes}
 
 and_true : (b : Bool) → b && true ≡ b
 and_true true = refl

@@ -13,10 +13,10 @@ use Rattle.tac.specs.declared.code.Instruction.{Instruction}
 use Rattle.tac.specs.declared.code.Instruction.TheVariants as instruction
 use Rattle.lowering.specs.Values.{To, If}
 use Rattle.lowering.specs.Code.{One, Ends, Follows, Computes, Then, Compares, Operates, Truths, zero_word}
-use Rattle.lower.specs.Parts.{plus, shape_of, Wrote}
+use Rattle.lower.specs.inside.Parts.{plus, shape_of, Wrote}
 use Rattle.lower.specs.declared.modes.Shape.TheVariants as shape
-use Rattle.lower.specs.Sizes.{ends_size, follows_size, computes_size, then_size, compares_size, operates_size, truths_size}
-use Rattle.lower.specs.Emitted.{is_twofold, first_of, is_comparison, jump_of}
+use Rattle.lower.specs.inside.Sizes.{ends_size, follows_size, computes_size, then_size, compares_size, operates_size, truths_size}
+use Rattle.lower.specs.inside.Emitted.{is_twofold, first_of, is_comparison, jump_of}
 use Rattle.lower.proofs.Parts.{begins_on, none_wrote, two, three, reach_one}
 
 abbrev Either : Bool → Type 0 → Type 0 → Type 0

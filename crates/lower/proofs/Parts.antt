@@ -2,7 +2,7 @@
 use Rattle.std.proofs.Common.{◌≡◌, ℕ, ◌+◌, ◌<◌, ◌≤◌, List, [], ◌∷◌, ◌++◌, length, slice_get, Some, refl, ap, sym, ◌∙◌, subst, append_assoc, append-nil, length-append, arith}
 use Rattle.tac.specs.declared.code.Instruction.{Instruction}
 use Rattle.lowering.specs.Code.{One}
-use Rattle.lower.specs.Parts.{plus, Begins, Wrote}
+use Rattle.lower.specs.inside.Parts.{plus, Begins, Wrote}
 
 -- ---- sums
 

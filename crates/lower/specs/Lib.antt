@@ -1,6 +1,3 @@
-pub mod Parts
-pub mod Sizes
-pub mod Emitted
-pub mod Places
-pub mod Written
-pub mod Functions
+pub mod inside
+pub use Rattle.lowering.specs.Plain
+pub use Rattle.lowering.specs.Bodies

@@ -5,7 +5,7 @@ ghost use Rattle.meaning.specs.Statements.{labels_of};
 ghost use Rattle.program.specs.View.{value_of, option_value, initialiser_of, statement_of, statements_of};
 ghost use Rattle.typed.specs.Program as typed;
 ghost use Rattle.ctypes.specs.declared.types.IntType.{IntType};
-ghost use Rattle.lower.specs.Sizes as size;
+ghost use Rattle.lower.specs.inside.Sizes as size;
 
 use crate::modes::{Shape, shape_for};
 use crate::operands::waits_for_objects;

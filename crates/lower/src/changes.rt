@@ -6,10 +6,10 @@ ghost use Rattle.tac.specs.declared.code.Operand.TheVariants as operands;
 ghost use Rattle.program.specs.View.{callee_of, moment_of};
 ghost use Rattle.lowering.specs.Code as relation;
 ghost use Rattle.lowering.specs.Values.{To};
-ghost use Rattle.lower.specs.Parts.{meant, shape_of, Wrote};
-ghost use Rattle.lower.specs.Parts as parts;
-ghost use Rattle.lower.specs.Emitted as emitted;
-ghost use Rattle.lower.specs.Sizes as size;
+ghost use Rattle.lower.specs.inside.Parts.{meant, shape_of, Wrote};
+ghost use Rattle.lower.specs.inside.Parts as parts;
+ghost use Rattle.lower.specs.inside.Emitted as emitted;
+ghost use Rattle.lower.specs.inside.Sizes as size;
 
 use crate::instructions::{convert_to, move_to};
 use crate::modes::Mode;

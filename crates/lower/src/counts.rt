@@ -3,7 +3,7 @@
 ghost use Rattle.std.specs.Prelude.{◌≡◌, suc, max, map, IfOk};
 ghost use Rattle.lowering.specs.Bodies as relation;
 ghost use Rattle.program.specs.View.{function_of};
-ghost use Rattle.lower.specs.Functions.{parameters_at, temporaries_with};
+ghost use Rattle.lower.specs.inside.Functions.{parameters_at, temporaries_with};
 
 use program::Function;
 use std::alloc::AllocError;

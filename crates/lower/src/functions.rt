@@ -5,8 +5,8 @@ ghost use Rattle.program.specs.View.{parameter_type_of, function_of};
 ghost use Rattle.tac.specs.Lowered.{kind_of};
 ghost use Rattle.tac.specs.Code as three_address;
 ghost use Rattle.lowering.specs.Bodies as relation;
-ghost use Rattle.lower.specs.Parts.{Wrote};
-ghost use Rattle.lower.specs.Functions.{closing_size, parameters_at, IsBodyOf, IsFunctionWith};
+ghost use Rattle.lower.specs.inside.Parts.{Wrote};
+ghost use Rattle.lower.specs.inside.Functions.{closing_size, parameters_at, IsBodyOf, IsFunctionWith};
 
 use crate::block_sizes::statement_size;
 use crate::copies::copied_objects;

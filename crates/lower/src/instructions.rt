@@ -5,7 +5,7 @@ ghost use Rattle.ctypes.specs.Types as types;
 ghost use Rattle.meaning.specs.Machine.{choose};
 ghost use Rattle.tac.specs.declared.code.Comparison.TheVariants as comparison;
 ghost use Rattle.lowering.specs.Code as relation;
-ghost use Rattle.lower.specs.Emitted as emitted;
+ghost use Rattle.lower.specs.inside.Emitted as emitted;
 
 use ctypes::{BinOp, IntType};
 use tac::{Comparison, Instruction, Operand, Operation, Reading, Target};

@@ -4,9 +4,9 @@ ghost use Rattle.std.specs.Prelude.{◌≡◌, ℕ, OnOk};
 ghost use Rattle.typed.specs.Program as typed;
 ghost use Rattle.program.specs.View.{value_of, option_value, initialiser_of};
 ghost use Rattle.lowering.specs.Bodies as relation;
-ghost use Rattle.lower.specs.Parts.{Wrote};
-ghost use Rattle.lower.specs.Sizes as size;
-ghost use Rattle.lower.specs.Written.{WroteStatement};
+ghost use Rattle.lower.specs.inside.Parts.{Wrote};
+ghost use Rattle.lower.specs.inside.Sizes as size;
+ghost use Rattle.lower.specs.inside.Written.{WroteStatement};
 
 use crate::modes::Mode;
 use crate::values::{Free, put_converted, put_value};

@@ -2,7 +2,7 @@
 
 ghost use Rattle.std.specs.Prelude.{◌≡◌};
 ghost use Rattle.lowering.specs.Values as lowered;
-ghost use Rattle.lower.specs.Parts.{meant, shape_of};
+ghost use Rattle.lower.specs.inside.Parts.{meant, shape_of};
 
 use tac::{Operand, Target};
 

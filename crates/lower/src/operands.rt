@@ -6,7 +6,7 @@ ghost use Rattle.tac.specs.Run.{word_for};
 ghost use Rattle.lowering.specs.Asked as asked;
 ghost use Rattle.lowering.specs.Bodies as bodies;
 ghost use Rattle.lowering.specs.Values as values;
-ghost use Rattle.lower.specs.Parts.{is_written};
+ghost use Rattle.lower.specs.inside.Parts.{is_written};
 
 use crate::bools::either;
 use crate::rests::{arguments_call, arguments_write, has_calls, rests_in, writes};

@@ -2,9 +2,9 @@
 
 ghost use Rattle.std.specs.Prelude.{◌≡◌, true, false, OnOk};
 ghost use Rattle.lowering.specs.Code as relation;
-ghost use Rattle.lower.specs.Parts.{meant, shape_of, Wrote};
-ghost use Rattle.lower.specs.Sizes as size;
-ghost use Rattle.lower.specs.Emitted as emitted;
+ghost use Rattle.lower.specs.inside.Parts.{meant, shape_of, Wrote};
+ghost use Rattle.lower.specs.inside.Sizes as size;
+ghost use Rattle.lower.specs.inside.Emitted as emitted;
 
 use crate::instructions::{
     compute, first_of, is_comparison, is_true, is_twofold, jump_of, move_to, test, truth_jump,

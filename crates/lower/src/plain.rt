@@ -6,7 +6,7 @@ ghost use Rattle.std.specs.List.{list_all};
 ghost use Rattle.lowering.specs.Plain as definition;
 ghost use Rattle.srcset.specs.declared.refusal.Pos.{Pos};
 ghost use Rattle.typed.specs.Program as typed;
-ghost use Rattle.lower.specs.Parts.{given_is_plain};
+ghost use Rattle.lower.specs.inside.Parts.{given_is_plain};
 
 use crate::bools::both;
 use program::{

@@ -6,7 +6,7 @@ ghost use Rattle.program.specs.View as view;
 ghost use Rattle.tac.specs.Code as three_address;
 ghost use Rattle.lowering.specs.Plain as definition;
 ghost use Rattle.lowering.specs.Bodies.{IsCodeFor};
-ghost use Rattle.lower.specs.Functions.{parameters_at, IsFunctionWith, AreFunctionsOf};
+ghost use Rattle.lower.specs.inside.Functions.{parameters_at, IsFunctionWith, AreFunctionsOf};
 ghost use Rattle.lower.specs.declared.programs.NotLowered.TheVariants.{NotBuiltYet};
 
 use crate::copies::{copied_literals, copied_statics};

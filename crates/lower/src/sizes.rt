@@ -9,8 +9,8 @@ ghost use Rattle.srcset.specs.declared.refusal.Pos.{Pos};
 ghost use Rattle.ctypes.specs.declared.types.IntType.{IntType};
 ghost use Rattle.tree.specs.declared.expression.PrefixOp.TheVariants as prefix;
 ghost use Rattle.lower.specs.declared.modes.Shape.TheVariants as shape;
-ghost use Rattle.lower.specs.Parts as parts;
-ghost use Rattle.lower.specs.Sizes as size;
+ghost use Rattle.lower.specs.inside.Parts as parts;
+ghost use Rattle.lower.specs.inside.Sizes as size;
 
 use crate::modes::{Shape, shape_for};
 use crate::operands::{is_wide, keeps, operand_of, waits_for, waits_for_arguments};

@@ -4,9 +4,9 @@ ghost use Rattle.std.specs.Prelude.{◌≡◌, map, ℕ, OnOk};
 ghost use Rattle.ctypes.specs.declared.types.IntType.{IntType};
 ghost use Rattle.typed.specs.Program as typed;
 ghost use Rattle.program.specs.View.{value_of, option_value, statement_of, statements_of};
-ghost use Rattle.lower.specs.Parts as parts;
-ghost use Rattle.lower.specs.Sizes as size;
-ghost use Rattle.lower.specs.Written.{WroteStatement, WrotePlaced};
+ghost use Rattle.lower.specs.inside.Parts as parts;
+ghost use Rattle.lower.specs.inside.Sizes as size;
+ghost use Rattle.lower.specs.inside.Written.{WroteStatement, WrotePlaced};
 
 use crate::block_sizes::{effects_size, repeats_size, statement_size, statements_size, tests_size};
 use crate::leaves::{

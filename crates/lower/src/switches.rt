@@ -3,8 +3,8 @@
 ghost use Rattle.std.specs.Prelude.{◌≡◌, map, OnOk};
 ghost use Rattle.meaning.specs.Statements.{labels_at};
 ghost use Rattle.program.specs.View.{statement_of, statements_of};
-ghost use Rattle.lower.specs.Places.{one_label};
-ghost use Rattle.lower.specs.Written.{WroteTests};
+ghost use Rattle.lower.specs.inside.Places.{one_label};
+ghost use Rattle.lower.specs.inside.Written.{WroteTests};
 
 use crate::block_sizes::statement_size;
 use crate::instructions::branch;

@@ -9,14 +9,14 @@ ghost use Rattle.program.specs.View.{value_of, place_of, argument_of, arguments_
 ghost use Rattle.lowering.specs.Plain as plain;
 ghost use Rattle.lowering.specs.Code as relation;
 ghost use Rattle.lowering.specs.Values as lowered;
-ghost use Rattle.lower.specs.Parts.{meant, shape_of, Wrote};
-ghost use Rattle.lower.specs.Parts as parts;
-ghost use Rattle.lower.specs.Sizes as size;
+ghost use Rattle.lower.specs.inside.Parts.{meant, shape_of, Wrote};
+ghost use Rattle.lower.specs.inside.Parts as parts;
+ghost use Rattle.lower.specs.inside.Sizes as size;
 ghost use Rattle.ctypes.specs.declared.operators.BinOp.TheVariants as op;
 ghost use Rattle.meaning.specs.Machine.{choose};
 ghost use Rattle.tac.specs.declared.code.Instruction.TheVariants as instruction;
-ghost use Rattle.lower.specs.Written as written;
-ghost use Rattle.lower.specs.Written.{WroteValue, WrotePasses};
+ghost use Rattle.lower.specs.inside.Written as written;
+ghost use Rattle.lower.specs.inside.Written.{WroteValue, WrotePasses};
 
 use crate::changes::{Change, put_call, put_change, put_load, put_stepped, put_truths};
 use crate::instructions::convert_to;

@@ -2,8 +2,8 @@
 
 ghost use Rattle.std.specs.Prelude.{◌≡◌, ◌<◌, OnOk, length};
 ghost use Rattle.lowering.specs.Code.{One};
-ghost use Rattle.lower.specs.Parts as parts;
-ghost use Rattle.lower.specs.Parts.{Wrote};
+ghost use Rattle.lower.specs.inside.Parts as parts;
+ghost use Rattle.lower.specs.inside.Parts.{Wrote};
 
 use crate::sizes::plus;
 use std::alloc::AllocError;

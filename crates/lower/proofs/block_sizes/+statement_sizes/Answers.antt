@@ -1,7 +1,7 @@
 use Rattle.std.proofs.Common.{ap, map, sym, ◌∙◌}
 use Rattle.typed.specs.Program as typed
 use Rattle.program.specs.View.{value_of, statement_of, statements_of}
-use Rattle.lower.specs.Sizes as size
+use Rattle.lower.specs.inside.Sizes as size
 use Rattle.lower.proofs.HeldStatements.{sees_switch}
 use Rattle.lower.proofs.block_sizes.+statement_sizes.Goals as goal
 

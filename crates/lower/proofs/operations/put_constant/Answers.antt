@@ -4,7 +4,7 @@ use Rattle.ctypes.specs.Types as types
 use Rattle.tac.specs.Run.{word_for}
 use Rattle.tac.specs.declared.code.Operand.TheVariants as operand
 use Rattle.lowering.specs.Code as relation
-use Rattle.lower.specs.Emitted as emitted
+use Rattle.lower.specs.inside.Emitted as emitted
 use Rattle.lower.proofs.Operated.{one_as}
 use Rattle.lower.proofs.operations.put_constant.Goals as goal
 

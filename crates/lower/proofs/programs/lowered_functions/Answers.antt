@@ -3,7 +3,7 @@ use Rattle.std.specs.Prelude.{nat_eq}
 use Rattle.std.proofs.lemmas.List.{map-append}
 use Rattle.program.specs.View as view
 use Rattle.tac.specs.Code as three_address
-use Rattle.lower.specs.Functions.{parameters_at, IsFunctionWith, AreFunctionsOf}
+use Rattle.lower.specs.inside.Functions.{parameters_at, IsFunctionWith, AreFunctionsOf}
 use Rattle.lower.proofs.Whole.{item_in_map, one_more_function}
 use Rattle.lower.proofs.programs.lowered_functions.Goals as goal
 

@@ -1,7 +1,7 @@
 use Rattle.std.proofs.Common.{◌≡◌, map}
 use Rattle.program.specs.View as view
 use Rattle.tac.specs.Code as three_address
-use Rattle.lower.specs.Functions.{AreFunctionsOf}
+use Rattle.lower.specs.inside.Functions.{AreFunctionsOf}
 use Rattle.lower.proofs.programs.lowered_functions.Given as goal
 
 abbrev pub invariant-loop-function : goal.invariant-loop-function

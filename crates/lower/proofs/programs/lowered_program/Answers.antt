@@ -1,7 +1,7 @@
 use Rattle.std.proofs.Common.{length, map, ap, sym, subst, refl, ◌∙◌}
 use Rattle.program.specs.View as view
 use Rattle.tac.specs.Code as three_address
-use Rattle.lower.specs.Functions.{AreFunctionsOf}
+use Rattle.lower.specs.inside.Functions.{AreFunctionsOf}
 use Rattle.lower.proofs.Whole.{length_map, program_written}
 use Rattle.lower.proofs.programs.lowered_program.Goals as goal
 

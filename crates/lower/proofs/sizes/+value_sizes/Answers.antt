@@ -1,7 +1,7 @@
 use Rattle.std.proofs.Common.{ap, sym, ◌∙◌}
 use Rattle.typed.specs.Program as typed
 use Rattle.program.specs.View.{value_of}
-use Rattle.lower.specs.Sizes as size
+use Rattle.lower.specs.inside.Sizes as size
 use Rattle.lower.proofs.Held.{sees_unary, sees_binary}
 use Rattle.lower.proofs.sizes.+value_sizes.Goals as goal
 

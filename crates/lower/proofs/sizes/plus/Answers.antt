@@ -1,5 +1,5 @@
 use Rattle.std.proofs.Common.{arith}
-use Rattle.lower.specs.Parts.{plus}
+use Rattle.lower.specs.inside.Parts.{plus}
 use Rattle.lower.proofs.sizes.plus.Goals as goal
 
 pub returns : goal.returns

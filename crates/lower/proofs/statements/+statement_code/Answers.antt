@@ -4,8 +4,8 @@ use Rattle.lower.specs.declared.modes.Shape.TheVariants as shape
 use Rattle.meaning.specs.Statements.{labels_of}
 use Rattle.lowering.specs.Values.{waits_in, mode_of}
 use Rattle.lowering.specs.Bodies.{is_within}
-use Rattle.lower.specs.Parts.{plus, shape_of}
-use Rattle.lower.specs.Sizes.{value_size, statement_size, statements_size, tests_size, effects_size, repeats_size}
+use Rattle.lower.specs.inside.Parts.{plus, shape_of}
+use Rattle.lower.specs.inside.Sizes.{value_size, statement_size, statements_size, tests_size, effects_size, repeats_size}
 use Rattle.lower.proofs.HeldStatements.{sees_empty, sees_evaluate, sees_declare, sees_define, sees_block, sees_if, sees_ifelse, sees_switch, sees_case, sees_default, sees_while, sees_dowhile, sees_for, sees_break, sees_continue, sees_returnnothing, sees_returnvalue}
 use Rattle.lower.proofs.Parts.{two}
 use Rattle.lower.proofs.Blocks.{branch_wrote, branches_wrote, while_wrote, do_while_wrote, for_wrote}

@@ -4,10 +4,10 @@ use Rattle.typed.specs.Program as typed
 use Rattle.program.specs.View.{value_of, place_of, arguments_of, argument_of}
 use Rattle.lowering.specs.Values as lowered
 use Rattle.lower.specs.declared.modes.Shape.TheVariants as shape
-use Rattle.lower.specs.Parts.{meant, shape_of, plus}
-use Rattle.lower.specs.Emitted as emitted
-use Rattle.lower.specs.Sizes.{value_size}
-use Rattle.lower.specs.Written.{WroteValue}
+use Rattle.lower.specs.inside.Parts.{meant, shape_of, plus}
+use Rattle.lower.specs.inside.Emitted as emitted
+use Rattle.lower.specs.inside.Sizes.{value_size}
+use Rattle.lower.specs.inside.Written.{WroteValue}
 use Rattle.lower.proofs.Held.{sees_constant, sees_read, sees_assigned, sees_compound, sees_stepped, sees_unary, sees_binary, sees_bothtrue, sees_onetrue, sees_chosen, sees_sequence, sees_cast, sees_discarded, sees_call}
 use Rattle.lower.proofs.Parts.{two, three}
 use Rattle.lower.proofs.Operated.{one_as}

@@ -1,5 +1,5 @@
 use Rattle.program.specs.View.{place_of}
-use Rattle.lower.specs.Parts.{meant}
+use Rattle.lower.specs.inside.Parts.{meant}
 use Rattle.lower.proofs.Expressions.{read_wrote}
 use Rattle.lower.proofs.values.put_read.Goals as goal
 

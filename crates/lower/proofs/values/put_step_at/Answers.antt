@@ -1,5 +1,5 @@
 use Rattle.program.specs.View.{place_of, moment_of}
-use Rattle.lower.specs.Parts.{meant}
+use Rattle.lower.specs.inside.Parts.{meant}
 use Rattle.lower.proofs.Expressions.{stepped_wrote}
 use Rattle.lower.proofs.values.put_step_at.Goals as goal
 

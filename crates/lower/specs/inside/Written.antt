@@ -10,9 +10,9 @@ use Rattle.lowering.specs.Code.{One, Into, Passes, Truths}
 use Rattle.lowering.specs.Bodies.{Stands, StandAll, StandAt, Tests}
 use Rattle.lower.specs.declared.modes.Shape.TheVariants as shape
 use Rattle.tac.specs.declared.code.Operand.{Operand}
-use Rattle.lower.specs.Parts.{shape_of, plus, Wrote}
-use Rattle.lower.specs.Places.{places_of}
-use Rattle.lower.specs.Sizes.{value_size, passes_size, truths_size, tests_size, statement_size, statements_size}
+use Rattle.lower.specs.inside.Parts.{shape_of, plus, Wrote}
+use Rattle.lower.specs.inside.Places.{places_of}
+use Rattle.lower.specs.inside.Sizes.{value_size, passes_size, truths_size, tests_size, statement_size, statements_size}
 
 abbrev pub WroteValue : Value → Mode → (t k : ℕ) → (old new : List Instruction) → Type 0
 WroteValue e m t k old new = Wrote (λ w p q. Into w e m t k p q) (value_size e (shape_of m)) old new

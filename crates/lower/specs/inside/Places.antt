@@ -3,8 +3,8 @@ use Rattle.std.specs.Prelude.{ℕ, ℤ, List, [], ◌∷◌, ◌++◌, Option, S
 use Rattle.typed.specs.Program as typed
 use Rattle.typed.specs.Program.{Statements}
 use Rattle.lowering.specs.Bodies.{label_places}
-use Rattle.lower.specs.Parts.{plus}
-use Rattle.lower.specs.Sizes.{statement_size}
+use Rattle.lower.specs.inside.Parts.{plus}
+use Rattle.lower.specs.inside.Sizes.{statement_size}
 
 -- the label that a statement is, if it is one
 abbrev pub one_label : Option (Option ℤ) → List (Option ℤ)

@@ -14,7 +14,7 @@ use Rattle.lowering.specs.Values.{calls, arguments_call, writes, arguments_write
 use Rattle.lowering.specs.Bodies.{is_within}
 use Rattle.lower.specs.declared.modes.Shape.{Shape}
 use Rattle.lower.specs.declared.modes.Shape.TheVariants as shape
-use Rattle.lower.specs.Parts.{shape_of, plus}
+use Rattle.lower.specs.inside.Parts.{shape_of, plus}
 
 abbrev pub ends_size : Shape → ℕ
 ends_size shape.Nowhere = 0
