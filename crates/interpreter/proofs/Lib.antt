@@ -4,3 +4,4 @@ pub mod Following
 pub mod Telling
 pub mod Acts
 pub mod Ticking
+pub mod AtOnce

@@ -1,12 +1,11 @@
 -- Ticks, and the whole run.
-use Rattle.std.proofs.Common.{◌≡◌, ◌≤◌, ◌<◌, ◌⊎◌, inl, inr, ℕ, zero, suc, ◌+◌, ◌-◌, ℤ, List, [], ◌∷◌, ◌++◌, Option, Some, None, refl, sym, ap, ◌∙◌, subst, arith, Bor}
+use Rattle.std.proofs.Common.{◌≡◌, ◌≤◌, ◌<◌, inl, inr, ℕ, suc, ◌+◌, ◌-◌, ℤ, List, [], ◌++◌, Option, Some, None, refl, sym, ap, ◌∙◌, subst, arith, Bor}
 use Rattle.std.specs.Prelude.{Result, Ok, Err, false, slice_get}
 use Rattle.std.specs.Io.KnownBytes.{Keeps, Appends}
-use Rattle.events.specs.Events.{written}
 use Rattle.typed.specs.Program as typed
 use Rattle.program.specs.declared.units.Program as unit
 use Rattle.program.specs.View.{program_of}
-use Rattle.meaning.specs.History.{Entry, trace_of, weight_in, greatest_sum}
+use Rattle.meaning.specs.History.{Entry, weight_in, greatest_sum}
 use Rattle.meaning.specs.Machine as machine
 use Rattle.meaning.specs.Machine.{State, Ending, Goes, Stops, then_do}
 use Rattle.meaning.specs.Statements.{Returned}
@@ -21,7 +20,7 @@ use Rattle.cabs.specs.declared.frames.Step.{Step}
 use Rattle.cabs.specs.declared.frames.Step.TheVariants as step
 use Rattle.cabs.specs.inside.Frames as on
 use Rattle.cabs.specs.inside.Frames.{moves, halts, enters, to_end, a_flow}
-use Rattle.cabs.specs.inside.Presents.{given, resume, present, resumed, call_in}
+use Rattle.cabs.specs.inside.Presents.{given, resumed, call_in}
 use Rattle.cabs.specs.inside.Steps.{entered, entered_call}
 use Rattle.cabs.specs.inside.Views.{step_of, node_of}
 use Rattle.cabs.specs.inside.Agrees.{Outside, state_in, onto, Agrees, Takes, frames_of}
@@ -38,7 +37,7 @@ use Rattle.interpreter.specs.Interpreting.{IsAnswer, IsGivenUp, RunMeets}
 use Rattle.interpreter.specs.inside.Standing.{Whole, left_of, waiting, bytes_of, entered_where, history_called, Stands, StopsAs, Stopping, StoppingBy, Stopped, StoppedBy, SettleMeets, Runs, StopsBy, EndsAs, RunStops, Fresh, NearsFrom, distance}
 use Rattle.interpreter.proofs.Calm.{calm_outside, entered_calm}
 use Rattle.interpreter.proofs.Following.{outside, goes_on, stops_so, node_follows, node_stops, node_waits}
-use Rattle.interpreter.proofs.Telling.{input_kept, output_kept, output_grown, output_as, append_none, none_waits, nothing_sent, tells_as}
+use Rattle.interpreter.proofs.Telling.{input_kept, output_grown, output_as, append_none, none_waits, nothing_sent, tells_as}
 
 -- ---- a node is reached
 
@@ -130,7 +129,7 @@ module _ (p : typed.Program) (all : Whole) (o : Option (List ℕ)) where
     waits_here : StopsAs (all (0 + k)) machine.TicksUsed s.input s.history
     waits_here = node_waits p (frames_of mid.machine) (frames_of mid.machine) x mid.machine.scene mid.machine.scene s.input s.history (λ n. all (n + k)) s.follows
 
-    bytes_now : now ≡ bytes_of (last_of (all k)).history
+    pub bytes_now : now ≡ bytes_of (last_of (all k)).history
     bytes_now =
         let w = waits_here in
         let same : 0 + k ≡ k = omega arith in

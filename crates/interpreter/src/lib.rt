@@ -4,6 +4,7 @@
 mod acting;
 mod first_objects;
 mod outcome;
+mod quick_parts;
 mod running;
 mod state;
 

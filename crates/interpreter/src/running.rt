@@ -1,17 +1,19 @@
 //! Ticks, and the run.
 
-ghost use Rattle.std.specs.Prelude.{◌≡◌, ◌+◌, [], ℕ, List, Option, Some};
+ghost use Rattle.std.specs.Prelude.{◌≡◌, ◌<◌, [], ℕ, List, Option, Some};
 ghost use Rattle.typed.specs.Program as typed;
 ghost use Rattle.program.specs.View.{program_of};
 ghost use Rattle.cabs.specs.inside.Frames as on;
 ghost use Rattle.cabs.specs.inside.Views.{node_of, step_of};
 ghost use Rattle.interpreter.specs.Interpreting.{Blames, Counts, RunMeets};
-ghost use Rattle.interpreter.specs.inside.Standing.{BlamesUntil, CountsUntil, Fresh, RunStops, Runs, SettleMeets, Stands, TickMeets, Whole};
+ghost use Rattle.interpreter.specs.inside.Standing.{BlamesUntil, CountsUntil, Fresh, MeetsAt, RunStops, Runs, SettleMeets, Spends, Stands, Whole};
 
 use crate::acting::{act, finish};
 use crate::outcome::{Interpreted, Run};
+use crate::quick_parts::at_once;
 use crate::state::Interpreter;
 use cabs::frames::{Back, Node, Step};
+use evaluator::quick::is_quick_node;
 use program::{Callee, Program};
 use sim::Port;
 use std::alloc::Global;
@@ -63,16 +65,20 @@ fn settle<'p, P: Port>(
     }
 }
 
-/// One tick, and the step behind it.
+/// What takes the next tick: as a whole where it calls nothing, else one tick and the step behind it.
 ///
 /// Errors: how the run stops.
 fn tick<'p, P: Port>(
     interpreter: &mut Interpreter<'p>,
     port: &mut P,
     next: Step<'p>,
+    spent: &mut u64,
+    limit: u64,
 ) -> Result<Step<'p>, Run>
-    ensures meets { (p : typed.Program) (all : Whole) (o : Option (List ℕ)) (spent : ℕ) →
-        Runs p all o spent interpreter.old (step_of next.entry) (P.seen port.old) → TickMeets p all o spent result interpreter.new (P.seen port.new) }
+    requires room { spent.old < limit }
+    ensures meets { (p : typed.Program) (all : Whole) (o : Option (List ℕ)) →
+        Runs p all o spent.old interpreter.old (step_of next.entry) (P.seen port.old) → MeetsAt p all o limit result spent.new interpreter.new (P.seen port.new) }
+    ensures spends { Spends result spent.old spent.new limit }
     ensures counts { CountsUntil result (P.seen port.old).failures (P.seen port.new).failures }
     ensures fault { BlamesUntil (P.refused_with port.new) result }
 {
@@ -80,6 +86,10 @@ fn tick<'p, P: Port>(
         Ok(node) => node,
         Err(run) => return Err(run),
     };
+    if is_quick_node(&node) {
+        return at_once(interpreter, &node, spent, limit);
+    }
+    *spent += 1;
     match enter(&mut interpreter.machine, node) {
         Ok(then) => Ok(then),
         Err(stop) => Err(finish(interpreter, port, stop)),
@@ -99,8 +109,9 @@ fn run_on<'p, P: Port>(
     ensures fault { Blames (P.refused_with port.new) result }
 {
     let mut next = first;
-    for _ in 0..ticks {
-        match tick(interpreter, port, next) {
+    let mut spent = 0;
+    while spent < ticks {
+        match tick(interpreter, port, next, &mut spent, ticks) {
             Ok(then) => next = then,
             Err(run) => return run,
         }

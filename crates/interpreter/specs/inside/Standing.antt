@@ -23,6 +23,8 @@ use Rattle.transitions.specs.declared.tally.Tally.{Tally}
 use Rattle.transitions.specs.Tallied.{Tells}
 use Rattle.sim.specs.declared.port.PortFault.{PortFault}
 use Rattle.sim.specs.Port.{PortView}
+use Rattle.evaluator.specs.declared.clock.Why.{Why}
+use Rattle.evaluator.specs.declared.clock.Why.TheVariants as why
 use Rattle.interpreter.specs.declared.outcome.Run.{Run}
 use Rattle.interpreter.specs.declared.outcome.Run.TheVariants as run
 use Rattle.interpreter.specs.declared.state.Interpreter.{Interpreter}
@@ -203,10 +205,6 @@ StopsBy p all o spent run.TicksUsed tally port = Rests (λ n. all (n + spent))
 StopsBy p all o spent (run.Port fault) tally port = IsEarlier all o spent port
 StopsBy p all o spent run.Memory tally port = IsEarlier all o spent port
 
-abbrev pub TickMeets : typed.Program → Whole → Option (List ℕ) → ℕ → Result Step Run → Interpreter → PortView → Type 0
-TickMeets p all o spent (Ok x) m port = Runs p all o (spent + 1) m (step_of x) port
-TickMeets p all o spent (Err r) m port = StopsBy p all o (spent + 1) r m.tally port
-
 -- ---- the whole run
 
 -- before main is called
@@ -233,3 +231,28 @@ RunStops p all o ticks (run.Undefined act at) tally port = EndsAs p (all ticks) 
 RunStops p all o ticks run.TicksUsed tally port = EndsAs p (all ticks) o machine.TicksUsed tally port ⊎ ((x : on.Found) × ((s : State) × (all ticks ≡ Goes x s)))
 RunStops p all o ticks (run.Port fault) tally port = IsEarlier all o ticks port
 RunStops p all o ticks run.Memory tally port = IsEarlier all o ticks port
+
+-- ---- parts that are done as a whole
+
+abbrev pub stopped_for : Why → Run
+stopped_for why.Ticks = run.TicksUsed
+stopped_for (why.Undefined act at) = run.Undefined act at
+stopped_for why.Memory = run.Memory
+
+-- the run goes on with so many ticks spent, or it stops where so many are allowed
+abbrev pub MeetsAt : typed.Program → Whole → Option (List ℕ) → ℕ → Result Step Run → ℕ → Interpreter → PortView → Type 0
+MeetsAt p all o limit (Ok x) spent m port = Runs p all o spent m (step_of x) port
+MeetsAt p all o limit (Err r) spent m port = RunStops p all o limit r m.tally port
+
+abbrev pub Spends : Result Step Run → ℕ → ℕ → ℕ → Type 0
+Spends (Ok x) old new limit = (old < new) × (new ≤ limit)
+Spends (Err r) old new limit = ⊤
+
+-- no port was asked
+abbrev pub IsCalm : Result Step Run → Type 0
+IsCalm (Ok x) = ⊤
+IsCalm (Err (run.Ended status)) = ⊤
+IsCalm (Err (run.Undefined act at)) = ⊤
+IsCalm (Err run.TicksUsed) = ⊤
+IsCalm (Err (run.Port fault)) = ⊥
+IsCalm (Err run.Memory) = ⊤

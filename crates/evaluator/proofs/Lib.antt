@@ -1,0 +1,4 @@
+pub mod Comings
+pub mod Flows
+pub mod Leaves
+pub mod Work

@@ -1,0 +1,9 @@
+//! Evaluates the parts of a typed program that call nothing, by recursion over the tree.
+#![tactic(auto)]
+
+pub mod clock;
+pub mod definitions;
+pub mod expressions;
+pub mod parts;
+pub mod quick;
+pub mod statements;
