@@ -26,7 +26,7 @@ least() {
 cat > start.c <<'C'
 int main(void);
 char stack[65536] __attribute__((aligned(16)));
-__asm__(".globl _start\n_start: la sp, stack + 65536\n    call main\n    li a7, 93\n    ecall\n");
+__asm__(".text\n.globl _start\n_start: la sp, stack + 65536\n    call main\n    li a7, 93\n    ecall\n");
 C
 
 for kind in scalars arrays; do
