@@ -1,0 +1,3 @@
+pub use Rattle.tac.specs.Code
+pub use Rattle.tac.specs.Sound
+pub mod inside
