@@ -36,6 +36,7 @@ told 'sh run.sh' $status | tee "$logs/run"
 sh tests/documents.sh bin/cc 2>&1 | tee "$logs/documents"
 sh tests/outside/check.sh bin/cc 2>&1 | tee "$logs/outside"
 sh tests/outside/flat/check.sh crates/flat_rows/out/flat_rows 2>&1 | tee "$logs/flat"
+sh tests/outside/tac/check.sh crates/tac_rows/out/tac_rows 2>&1 | tee "$logs/tac"
 python3 tests/outside/constraints/check.py crates/check_rows/out/check_rows 2>&1 | tee "$logs/constraints"
 python3 tests/outside/interp/check.py bin/cc 2>&1 | tee "$logs/interp"
 sh tests/outside/pp/check.sh bin/cc 2>&1 | tee "$logs/macros"
@@ -44,7 +45,7 @@ python3 tests/outside/pp/nested.py bin/cc 2>&1 | tee "$logs/nested"
 python3 tests/outside/pp/includes.py bin/cc 2>&1 | tee "$logs/includes"
 python3 tests/outside/pp/units.py bin/cc 2>&1 | tee "$logs/units"
 
-for part in ci release run documents outside flat constraints interp macros conditions nested includes units; do verdict "$logs/$part"; done >"$logs/verdicts"
+for part in ci release run documents outside flat tac constraints interp macros conditions nested includes units; do verdict "$logs/$part"; done >"$logs/verdicts"
 # count WORD: the sum of the numbers before WORD in the verdicts.
 count() { sed -n "s/.*\b\([0-9][0-9]*\) $1.*/\1/p" "$logs/verdicts" | awk '{ n += $1 } END { print n + 0 }'; }
 passed=$(count passed)
