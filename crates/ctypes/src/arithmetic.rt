@@ -9,6 +9,7 @@ use crate::operators::{BinOp, Undef};
 use crate::types::{IntType, convert, low_word};
 
 /// `value` in the type, or `act` where `exact` is out of range of a signed type.
+#[inline(always)]
 fn in_range(act: Undef, ty: IntType, exact: i64, value: i64) -> Result<i64, Undef>
     ensures { result ≡ arithmetic.in_range act ty exact value }
 {
@@ -30,6 +31,7 @@ fn multiply_unsigned(ty: IntType, a: i64, b: i64) -> i64
     convert(ty, (product % 0x1_0000_0000).cast_signed())
 }
 
+#[inline(always)]
 fn multiply_signed(ty: IntType, a: i64, b: i64) -> i64
     requires kind { signed ty ≡ true }
     requires left { IsValueOf ty a }
@@ -39,6 +41,7 @@ fn multiply_signed(ty: IntType, a: i64, b: i64) -> i64
     a * b
 }
 
+#[inline(always)]
 fn multiply(ty: IntType, a: i64, b: i64) -> Result<i64, Undef>
     requires left { IsValueOf ty a }
     requires right { IsValueOf ty b }
@@ -75,6 +78,7 @@ fn remainder(ty: IntType, a: i64, b: i64) -> Result<i64, Undef>
     }
 }
 
+#[inline(always)]
 fn add(ty: IntType, a: i64, b: i64) -> Result<i64, Undef>
     requires left { IsValueOf ty a }
     requires right { IsValueOf ty b }
@@ -84,6 +88,7 @@ fn add(ty: IntType, a: i64, b: i64) -> Result<i64, Undef>
     in_range(Undef::U1, ty, sum, sum)
 }
 
+#[inline(always)]
 fn subtract(ty: IntType, a: i64, b: i64) -> Result<i64, Undef>
     requires left { IsValueOf ty a }
     requires right { IsValueOf ty b }
@@ -144,6 +149,7 @@ fn shift_right(ty: IntType, a: i64, b: i64) -> Result<i64, Undef>
 /// Errors: `U1` a result out of range of a signed type, and the least number by -1 under `/` and `%`;
 /// `U2` a zero divisor; `U3` a shift count that is negative or not less than the width, and only then
 /// `U4` a left shift of a negative number or out of range.
+#[inline(always)]
 pub fn binary(op: BinOp, ty: IntType, a: i64, b: i64) -> Result<i64, Undef>
     requires left { IsValueOf ty a }
     requires right { RightIsValueOf op ty b }

@@ -31,6 +31,7 @@ pub enum IntType {
 
 impl IntType {
     /// Whether it is a signed type (6.2.5p4).
+    #[inline(always)]
     pub fn is_signed(self) -> bool
         ensures { result ≡ signed self }
     {
@@ -54,6 +55,7 @@ impl IntType {
     }
 
     /// The least value.
+    #[inline(always)]
     pub fn min(self) -> i64
         ensures { result ≡ least self }
     {
@@ -67,6 +69,7 @@ impl IntType {
     }
 
     /// The greatest value.
+    #[inline(always)]
     pub fn max(self) -> i64
         ensures { result ≡ greatest self }
     {
@@ -82,6 +85,7 @@ impl IntType {
     }
 
     /// Whether `value` is one of its values.
+    #[inline(always)]
     pub fn contains(self, value: i64) -> bool
         ensures test { result ≡ is_value_of self value }
         ensures fact { IsTrue result ↔ IsValueOf self value }
@@ -164,12 +168,14 @@ pub fn compatible(a: IntType, b: IntType) -> bool
     a == b
 }
 
+#[inline(always)]
 fn low_byte(value: i64) -> u8
     ensures { result ≡ modulo 8 value }
 {
     (value.cast_unsigned() % 0x100) as u8
 }
 
+#[inline(always)]
 fn low_half(value: i64) -> u16
     ensures { result ≡ modulo 16 value }
 {
@@ -177,6 +183,7 @@ fn low_half(value: i64) -> u16
 }
 
 /// The low 32 bits of the number in two's complement.
+#[inline(always)]
 pub(crate) fn low_word(value: i64) -> u32
     ensures { result ≡ modulo 32 value }
 {
@@ -186,6 +193,7 @@ pub(crate) fn low_word(value: i64) -> u32
 /// The value converted to a type (6.3.1.2, 6.3.1.3): to `_Bool` 0 or 1, to an unsigned type modulo,
 /// to a signed type the value of that type that is equal to it modulo two to the width, this
 /// profile's choice.
+#[inline(always)]
 pub fn convert(to: IntType, value: i64) -> i64
     ensures value { result ≡ converted to value }
     ensures range { IsValueOf to result }
