@@ -36,6 +36,7 @@ impl Tree {
     }
 
     /// The value of an element, none where it is indeterminate or an array stands.
+    #[inline(always)]
     pub fn value(&self) -> Option<i64>
         ensures { result ≡ value_of (Some (tree_of self.now)) }
     {
@@ -46,6 +47,7 @@ impl Tree {
     }
 
     /// How many elements or rows an array has; an element has none.
+    #[inline(always)]
     pub fn len(&self) -> usize
         ensures { result ≡ length_of (Some (tree_of self.now)) }
     {

@@ -17,6 +17,7 @@ use srcset::Pos;
 use tree::{PrefixOp, StepOp};
 
 /// Whether a value counts as true (6.8.4.1p2).
+#[inline(always)]
 pub fn is_true(value: i64) -> bool
     ensures { result ≡ truth value }
 {
@@ -24,6 +25,7 @@ pub fn is_true(value: i64) -> bool
 }
 
 /// The value of a truth (6.5.8p6).
+#[inline(always)]
 pub fn of_truth(truth: bool) -> i64
     ensures { result ≡ of_truth truth }
 {
@@ -38,6 +40,7 @@ pub fn same_value(v: i64, w: i64) -> bool
 }
 
 /// The low 8 bits of a value, in two's complement.
+#[inline(always)]
 pub fn low_byte(value: i64) -> u8
     ensures { result ≡ modulo 8 value }
 {
@@ -60,6 +63,7 @@ pub fn sign_of(op: PrefixOp, ty: IntType, value: i64) -> Result<i64, Undef>
 }
 
 /// The right operand as it is computed with: a shift's keeps its own type (6.5.7p3).
+#[inline(always)]
 fn right_operand(op: BinOp, ty: IntType, value: i64) -> i64
     ensures value { result ≡ typed.right_operand op ty value }
     ensures fits { RightIsValueOf op ty result }
@@ -73,6 +77,7 @@ fn right_operand(op: BinOp, ty: IntType, value: i64) -> i64
 /// An operation on the values of its operands, each of its own type (6.5.5 to 6.5.12).
 ///
 /// Errors: `U1` to `U4`, as `ctypes::binary` has them.
+#[inline(always)]
 pub fn operated(op: BinOp, ty: IntType, a: i64, b: i64) -> Result<i64, Undef>
     ensures { result ≡ typed.operated op ty a b }
 {
@@ -82,6 +87,7 @@ pub fn operated(op: BinOp, ty: IntType, a: i64, b: i64) -> Result<i64, Undef>
 /// The same, or the undefined act that it is, at its operator.
 ///
 /// Errors: `U1` to `U4`.
+#[inline(always)]
 pub fn operated_at(at: Pos, op: BinOp, ty: IntType, a: i64, b: i64) -> Result<i64, Stop>
     ensures { (s : State) → Runs number (computed_at at (typed.operated op ty a b) s) result s }
 {
@@ -104,6 +110,7 @@ pub fn sign_at(at: Pos, op: PrefixOp, ty: IntType, value: i64) -> Result<i64, St
 }
 
 /// The operation of `++` and `--` (6.5.2.4, 6.5.3.1).
+#[inline(always)]
 pub fn step_operation(op: StepOp) -> BinOp
     ensures { result ≡ meaning.step_operation op }
 {
@@ -114,6 +121,7 @@ pub fn step_operation(op: StepOp) -> BinOp
 }
 
 /// What a step gives: the old value after it, else the new one.
+#[inline(always)]
 pub fn step_value(moment: Moment, old: i64, new: i64) -> i64
     ensures { result ≡ meaning.step_value (moment_of moment) old new }
 {
@@ -124,6 +132,7 @@ pub fn step_value(moment: Moment, old: i64, new: i64) -> i64
 }
 
 /// The value converted to a type; of type `void` it is 0, which nothing uses (6.5.15, 6.3.2.2).
+#[inline(always)]
 pub fn converted_or_none(ty: Option<IntType>, value: i64) -> i64
     ensures { result ≡ meaning.converted_or_none ty value }
 {

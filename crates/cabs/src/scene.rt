@@ -33,6 +33,7 @@ impl Scene {
     /// What a name or a string literal designates (6.5.1p2, p4).
     ///
     /// Errors: memory ran out.
+    #[inline(always)]
     pub fn designated(
         &self,
         alloc: Global,
@@ -56,6 +57,7 @@ impl Scene {
     /// Object `n` of the present call.
     ///
     /// Errors: memory ran out.
+    #[inline(always)]
     pub fn own(&self, n: usize) -> Result<Reference, Stop>
         ensures ok { (o : Outside) → IfOk result (λ r. reference_of r ≡ statements.own n (state_in self.now o)) }
         ensures err { IfErr result (λ e. e ≡ Memory) }
@@ -64,6 +66,7 @@ impl Scene {
     }
 
     /// The number of an element or row of the array at `r`, if the subscript is one of it.
+    #[inline(always)]
     fn index(&self, r: &Reference, subscript: i64) -> Option<usize>
         ensures { result ≡ index_in subscript (length_of (tree_at (store_of self.now.store) (reference_of r.now))) }
     {
@@ -103,6 +106,7 @@ impl Scene {
     /// The value of the element at `r`.
     ///
     /// Errors: `U6` where it is indeterminate (6.3.2.1p2).
+    #[inline(always)]
     pub fn read(&self, at: Pos, r: &Reference) -> Result<i64, Stop>
         ensures { (o : Outside) → let s = state_in self.now o in Runs number (read at (reference_of r.now) s) result s }
     {
@@ -113,6 +117,7 @@ impl Scene {
     }
 
     /// The element at `r` becomes `v`.
+    #[inline(always)]
     pub fn set(&mut self, r: &Reference, v: i64)
         ensures { (o : Outside) → state_in self.new o ≡ stored (reference_of r.now) v (state_in self.old o) }
     {
@@ -122,6 +127,7 @@ impl Scene {
     /// The element at `r` becomes `v`, converted to its type (6.5.16p3).
     ///
     /// Errors: `U7` in a string literal (6.4.5p7).
+    #[inline(always)]
     pub fn write(
         &mut self,
         program: &Program,
@@ -221,6 +227,7 @@ fn new_object(alloc: Global, objects: &[ObjectType], n: usize) -> Result<Tree, S
 }
 
 /// The object `n` numbers behind `first`. One past the last number that memory has is out of memory.
+#[inline(always)]
 fn object_behind(first: usize, n: usize) -> Result<Reference, Stop>
     ensures ok { IfOk result (λ r. reference_of r ≡ record { object = first + n; path = [] }) }
     ensures err { IfErr result (λ e. e ≡ Memory) }

@@ -33,6 +33,7 @@ impl Store {
     }
 
     /// What stands at a reference.
+    #[inline(always)]
     fn tree(&self, r: &Reference) -> Option<&Tree>
         ensures { option_map (λ t. tree_of t.now) result ≡ tree_at (store_of self.now) (reference_of r.now) }
     {
@@ -43,6 +44,7 @@ impl Store {
     }
 
     /// The value of the element at a reference, none where it is indeterminate.
+    #[inline(always)]
     pub fn value(&self, r: &Reference) -> Option<i64>
         ensures { result ≡ value_at (store_of self.now) (reference_of r.now) }
     {
@@ -63,6 +65,7 @@ impl Store {
     }
 
     /// Puts another tree at a reference, if something stands there.
+    #[inline(always)]
     pub fn put(&mut self, r: &Reference, new: Tree)
         ensures { store_of self.new ≡ put (store_of self.old) (reference_of r.now) (tree_of new) }
     {
