@@ -1,0 +1,12 @@
+pub mod Files
+pub mod FileSteps
+pub mod FileNames
+pub mod FileFunctionNames
+pub mod FileBindings
+pub mod FileStorage
+pub mod FileObjects
+pub mod FileDeclarations
+pub mod FileExternals
+pub mod FileFunctions
+pub mod FileEnd
+pub mod Whole
