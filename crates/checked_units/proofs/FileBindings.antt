@@ -1,16 +1,18 @@
 -- What a name stands for behind a new binding, and types of which one may be longer.
-use Rattle.std.proofs.Common.{◌≡◌, ◌≤◌, ◌<◌, ℕ, ◌*◌, zero, suc, Bool, true, false, nat_eq, List, [], ◌∷◌, ◌++◌, length, Option, Some, None, refl, sym, ap, ◌∙◌, subst, ◌⊎◌, inl, inr, arith}
-use Rattle.std.specs.Prelude.{slice_get, if◌then◌else◌}
+use Rattle.std.proofs.Common.{◌≡◌, ◌≤◌, ◌<◌, ℕ, ◌*◌, zero, suc, Bool, true, false, nat_eq, List, [], ◌∷◌}
+use Rattle.std.proofs.Common.{Option, Some, None, refl, sym, ap, ◌∙◌, subst, ◌⊎◌, inl, inr, arith}
+use Rattle.std.specs.Prelude.{if◌then◌else◌}
 use Rattle.std.proofs.lemmas.Bool.{false≢true}
 use Rattle.std.proofs.lemmas.Bool.Decides.{nat_tests}
 use Rattle.ctypes.specs.declared.types.IntType.{IntType}
-use Rattle.typed.specs.Types.{ObjectType, DeclaredType, complete, unknown_size, FunctionType, elements_in, same_object, element_type, inner_type, fits_unknown, composite, array_of}
+use Rattle.typed.specs.Types.{ObjectType, DeclaredType, complete, unknown_size, FunctionType, elements_in, same_object}
+use Rattle.typed.specs.Types.{element_type, inner_type, fits_unknown, composite, array_of}
 use Rattle.typed.specs.Program as typed
 use Rattle.typed.specs.Program.{Storage, Static}
 use Rattle.typed.specs.Nodes.{static_type}
-use Rattle.typed.specs.Scope.{Scope, Binding, Meaning, an_object, an_array_parameter, a_function, an_enumerator, lookup}
+use Rattle.typed.specs.Scope.{Scope, Binding, Meaning, an_object, a_function, lookup}
 use Rattle.typed.specs.Linkage.{completed}
-use Rattle.checked.specs.Settled.{Fits, Sized, SizedType, LengthsWider, Wider, IsWider}
+use Rattle.checked.specs.Settled.{Fits, Sized, SizedType, Wider, IsWider}
 use Rattle.checked.proofs.Same.{same_number, same_object_is}
 use Rattle.checked.proofs.Ground.{same_some}
 use Rattle.checked.proofs.Scopes.{wider_fits}
@@ -53,7 +55,8 @@ means_still n k new o m d h = by (nat_eq n k) refl
 pub newest : (n : ℕ) (new : Binding) (o : Option Binding) → behind n n new o ≡ Some new
 newest n new o = ap (λ c. if c then Some new else o) (same_test n)
 
-pub level_behind : (n k : ℕ) (new : Binding) (o : Option Binding) → new.level ≡ 0 → ((b : Binding) → o ≡ Some b → b.level ≡ 0) → (b : Binding) → behind n k new o ≡ Some b → b.level ≡ 0
+pub level_behind : (n k : ℕ) (new : Binding) (o : Option Binding) → new.level ≡ 0 → ((b : Binding) → o ≡ Some b → b.level ≡ 0) → (b : Binding) →
+    behind n k new o ≡ Some b → b.level ≡ 0
 level_behind n k new o z h b e = by (nat_eq n k) e
   where
     by : (c : Bool) → (if c then Some new else o) ≡ Some b → b.level ≡ 0
@@ -104,15 +107,18 @@ complete_rows a b None z = tt
 complete_rows a b (Some e) z = if_kept (complete a) (complete a) (same_object e b) z (wider_self a)
 
 -- elements such as those of the array of unknown size
-rows_wider : (a : ObjectType) (t : IntType) (k : Bool) (n : ℕ) (l : List ℕ) → 1 ≤ n → let e : ObjectType = record { element = t; constant = k; lengths = l } in let b : ObjectType = record { element = t; constant = k; lengths = n ∷ l } in
-    e ≡ a → Wider (array_of 1 a) b
+rows_wider : (a : ObjectType) (t : IntType) (k : Bool) (n : ℕ) (l : List ℕ) → 1 ≤ n →
+    let e : ObjectType = record { element = t; constant = k; lengths = l } in
+    let b : ObjectType = record { element = t; constant = k; lengths = n ∷ l } in e ≡ a → Wider (array_of 1 a) b
 rows_wider a t k n l h e = (ap (λ x. x.element) e, ap (λ x. x.constant) e, (n, ap (λ x. n ∷ x.lengths) e, h))
 
-known_rows : (a : ObjectType) (t : IntType) (k : Bool) (l : List ℕ) → let b : ObjectType = record { element = t; constant = k; lengths = l } in Sized b → IfTyped (unknown_size a) (fits_unknown (inner_type t k l) a b)
+known_rows : (a : ObjectType) (t : IntType) (k : Bool) (l : List ℕ) →
+    let b : ObjectType = record { element = t; constant = k; lengths = l } in Sized b → IfTyped (unknown_size a) (fits_unknown (inner_type t k l) a b)
 known_rows a t k [] z = tt
 known_rows a t k (n ∷ l) z = by (same_object (record { element = t; constant = k; lengths = l }) a) refl
   where
-    by : (c : Bool) → c ≡ same_object (record { element = t; constant = k; lengths = l }) a → IfTyped (unknown_size a) (if c then Some (complete (record { element = t; constant = k; lengths = n ∷ l })) else None)
+    by : (c : Bool) → c ≡ same_object (record { element = t; constant = k; lengths = l }) a →
+        IfTyped (unknown_size a) (if c then Some (complete (record { element = t; constant = k; lengths = n ∷ l })) else None)
     by true e = (z, rows_wider a t k n l (some_more n (elements_in l) z.0) (same_object_is (record { element = t; constant = k; lengths = l }) a (sym e)))
     by false e = tt
 

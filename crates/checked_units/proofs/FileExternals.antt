@@ -1,113 +1,47 @@
 -- The functions and declarations of a unit, one behind the other (6.9).
-use Rattle.std.proofs.Common.{◌≡◌, ℕ, true, false, List, [], ◌∷◌, ◌++◌, length, None, refl, sym, ap, ◌∙◌, append_assoc, append-nil}
-use Rattle.tree.specs.Tree.{DeclarationTree, FunctionTree, ExternalTree, definition, declaration}
-use Rattle.typed.specs.Program as typed
-use Rattle.typed.specs.Program.{Function, Program}
+use Rattle.std.proofs.Common.{ℕ, List, [], ◌∷◌, refl, sym, append-nil}
+use Rattle.tree.specs.Tree.{DeclarationTree, ExternalTree, definition, declaration}
+use Rattle.typed.specs.Program.{Program}
 use Rattle.typed.specs.Verdict.{then_check, IfFine}
-use Rattle.typed.specs.Scope.{Scope, a_function}
-use Rattle.typed.specs.Declarations.{Initial, declaration_typed}
+use Rattle.typed.specs.Declarations.{declaration_typed}
 use Rattle.typed.specs.Units as units
-use Rattle.typed.specs.Units.{Built, numbers_in, function_typed, externals_typed, definitions_in}
-use Rattle.typed.specs.Uses.{uses_in_statement}
-use Rattle.typed.specs.WellTyped.{parameters_are_first, statement_is_typed}
-use Rattle.checked.specs.Settled.{Present}
+use Rattle.typed.specs.Units.{Built, function_typed, externals_typed, definitions_in}
 use Rattle.checked.proofs.Verdicts.{then_some, more_of}
-use Rattle.checked_units.proofs.Files.{Stands, IsFile, Onward, Final, Named, Reaches}
-use Rattle.checked_units.proofs.FileSteps.{reaches_self, reaches_on, final_earlier}
-
--- ---- lists of functions
-
-abbrev pub names_of : List Function → List ℕ
-names_of [] = []
-names_of (g ∷ gs) = g.name ∷ names_of gs
-
-names_of_both : (gs hs : List Function) → names_of (gs ++ hs) ≡ names_of gs ++ names_of hs
-names_of_both [] hs = refl
-names_of_both (g ∷ gs) hs = ap (λ l. g.name ∷ l) (names_of_both gs hs)
-
-abbrev pub AllOf : (Function → Type 0) → List Function → Type 0
-AllOf P [] = Unit {0}
-AllOf P (g ∷ gs) = P g × AllOf P gs
-
-both_lists : (P : Function → Type 0) (gs hs : List Function) → AllOf P gs → AllOf P hs → AllOf P (gs ++ hs)
-both_lists P [] hs h k = k
-both_lists P (g ∷ gs) hs h k = (h.0, both_lists P gs hs h.1 k)
-
-each_of : (P Q : Function → Type 0) (gs : List Function) → ((g : Function) → P g → Q g) → AllOf P gs → AllOf Q gs
-each_of P Q [] go h = tt
-each_of P Q (g ∷ gs) go h = (go g h.0, each_of P Q gs go h.1)
-
--- of no program
-pub no_function : Function
-no_function = record { name = 0; type = record { result = None; constant = false; parameters = [] }; objects = []; body = typed.empty; nodes = 0; weight = 0 }
-
--- a function stands for its name at file scope
-abbrev pub StandsIn : Scope → Function → Type 0
-StandsIn s g = Stands s g.name (a_function g.type)
+use Rattle.checked_units.proofs.Files.{IsFile, Reaches}
+use Rattle.checked_units.proofs.FileDeclarations.{declaration_reaches}
+use Rattle.checked_units.proofs.FilePassed.{Passed, nothing_passed, passed_on}
+use Rattle.checked_units.proofs.FileFunctions.{function_passed}
 
 module _ (p : Program) (texts : List (List ℕ)) (definitions : List ℕ) where
-  -- the body is typed where what it uses is present
-  abbrev pub BodyTyped : Function → Type 0
-  BodyTyped g =
-      Present p (uses_in_statement g.body) →
-      (parameters_are_first g.type.parameters g.objects ≡ true) × (statement_is_typed p g (numbers_in g.type.parameters) (length g.objects) g.body ≡ true)
+  abbrev From : Built → List ℕ → Built → Type 0
+  From b names c = Passed p texts definitions b names c
 
-  -- from b on, past what defines functions of these names, to c
-  pub record Passed (b : Built) (names : List ℕ) (c : Built) : Type 0 where
-    pub more : List Initial
-    pub initial : c.initial ≡ b.initial ++ more
-    pub added : List Function
-    pub functions : c.functions ≡ b.functions ++ added
-    pub named : names_of added ≡ names
-    pub reaches : Reaches p texts definitions b.scope more c.scope
-    pub stand : AllOf (StandsIn c.scope) added
-    pub bodies : Named p texts definitions b.scope → Final p texts definitions c.scope → AllOf BodyTyped added
+  declaration_passed : (b : Built) → IsFile b.scope → (t : DeclarationTree) →
+      IfFine (From b []) (then_check (declaration_typed b.scope t) (units.with_declaration b))
+  declaration_passed b f t =
+      then_some (λ d. Reaches p texts definitions b.scope d.effects.initial d.scope) (From b []) (declaration_typed b.scope t) (units.with_declaration b)
+      (declaration_reaches p texts definitions b.scope f t) (λ d r. record {
+        more = d.effects.initial;
+        initial = refl;
+        added = [];
+        functions = sym (append-nil b.functions);
+        named = refl;
+        reaches = r;
+        stand = tt;
+        bodies = λ N F. tt;
+      })
 
-  nothing_passed : (b : Built) → IsFile b.scope → Passed b [] b
-  nothing_passed b f = record {
-    more = [];
-    initial = sym (append-nil b.initial);
-    added = [];
-    functions = sym (append-nil b.functions);
-    named = refl;
-    reaches = reaches_self p texts definitions b.scope f;
-    stand = tt;
-    bodies = λ N F. tt;
-  }
-
-  passed_on : (b c d : Built) (names more : List ℕ) → Passed b names c → Passed c more d → Passed b (names ++ more) d
-  passed_on b c d names more g h = record {
-    more = g.more ++ h.more;
-    initial = h.initial ∙ ap (λ l. l ++ h.more) g.initial ∙ append_assoc b.initial g.more h.more;
-    added = g.added ++ h.added;
-    functions = h.functions ∙ ap (λ l. l ++ h.added) g.functions ∙ append_assoc b.functions g.added h.added;
-    named = names_of_both g.added h.added ∙ ap (λ l. l ++ names_of h.added) g.named ∙ ap (λ l. names ++ l) h.named;
-    reaches = reaches_on p texts definitions b.scope c.scope d.scope g.more h.more g.reaches h.reaches;
-    stand = both_lists (StandsIn d.scope) g.added h.added (each_of (StandsIn c.scope) (StandsIn d.scope) g.added (λ x s. h.reaches.0.functions x.name x.type s) g.stand) h.stand;
-    bodies = λ N F.
-        let E = final_earlier p texts definitions c.scope d.scope h.reaches.0 F in both_lists BodyTyped g.added h.added (g.bodies N E) (h.bodies (g.reaches.2 N E).0 F);
-  }
-
-  module _ (declaration_reaches : (s : Scope) → IsFile s → (t : DeclarationTree) → IfFine (λ d. Reaches p texts definitions s d.effects.initial d.scope) (declaration_typed s t))
-      (function_passed : (b : Built) → IsFile b.scope → (f : FunctionTree) → IfFine (Passed b (f.name ∷ [])) (function_typed b f)) where
-    declaration_passed : (b : Built) → IsFile b.scope → (t : DeclarationTree) → IfFine (Passed b []) (then_check (declaration_typed b.scope t) (units.with_declaration b))
-    declaration_passed b f t =
-        then_some (λ d. Reaches p texts definitions b.scope d.effects.initial d.scope) (Passed b []) (declaration_typed b.scope t) (units.with_declaration b) (declaration_reaches b.scope f t) (λ d r. record {
-          more = d.effects.initial;
-          initial = refl;
-          added = [];
-          functions = sym (append-nil b.functions);
-          named = refl;
-          reaches = r;
-          stand = tt;
-          bodies = λ N F. tt;
-        })
-
-    pub externals_passed : (b : Built) → IsFile b.scope → (es : List ExternalTree) → IfFine (Passed b (definitions_in es)) (externals_typed b es)
-    externals_passed b f [] = nothing_passed b f
-    externals_passed b f (definition t ∷ es) =
-        then_some (Passed b (t.name ∷ [])) (Passed b (t.name ∷ definitions_in es)) (function_typed b t) (λ c. externals_typed c es) (function_passed b f t) (λ c g.
-        more_of (Passed c (definitions_in es)) (Passed b (t.name ∷ definitions_in es)) (externals_typed c es) (λ d h. passed_on b c d (t.name ∷ []) (definitions_in es) g h) (externals_passed c g.reaches.1 es))
-    externals_passed b f (declaration t ∷ es) =
-        then_some (Passed b []) (Passed b (definitions_in es)) (then_check (declaration_typed b.scope t) (units.with_declaration b)) (λ c. externals_typed c es) (declaration_passed b f t) (λ c g.
-        more_of (Passed c (definitions_in es)) (Passed b (definitions_in es)) (externals_typed c es) (λ d h. passed_on b c d [] (definitions_in es) g h) (externals_passed c g.reaches.1 es))
+  pub externals_passed : (b : Built) → IsFile b.scope → (es : List ExternalTree) → IfFine (From b (definitions_in es)) (externals_typed b es)
+  externals_passed b f [] = nothing_passed p texts definitions b f
+  externals_passed b f (definition t ∷ es) =
+      then_some (From b (t.name ∷ [])) (From b (t.name ∷ definitions_in es)) (function_typed b t) (λ c. externals_typed c es)
+      (function_passed p texts definitions b f t)
+      (λ c g.
+      more_of (From c (definitions_in es)) (From b (t.name ∷ definitions_in es)) (externals_typed c es)
+      (λ d h. passed_on p texts definitions b c d (t.name ∷ []) (definitions_in es) g h) (externals_passed c g.reaches.1 es))
+  externals_passed b f (declaration t ∷ es) =
+      then_some (From b []) (From b (definitions_in es)) (then_check (declaration_typed b.scope t) (units.with_declaration b))
+      (λ c. externals_typed c es) (declaration_passed b f t) (λ c g.
+      more_of (From c (definitions_in es)) (From b (definitions_in es)) (externals_typed c es)
+      (λ d h. passed_on p texts definitions b c d [] (definitions_in es) g h)
+      (externals_passed c g.reaches.1 es))

@@ -1,10 +1,10 @@
 -- The function that a definition adds, at file scope (6.9.1).
-use Rattle.std.proofs.Common.{◌≡◌, ◌≤◌, ℕ, ◌+◌, ◌-◌, true, false, nat_lt, List, [], ◌∷◌, ◌++◌, length, take, None, refl, sym, ap, ◌∙◌, subst, append-nil, arith}
+use Rattle.std.proofs.Common.{◌≡◌, ℕ, ◌+◌, ◌-◌, nat_lt, List, [], ◌∷◌, ◌++◌, length, take, None, refl, sym, ap, ◌∙◌, subst, arith}
 use Rattle.std.specs.Prelude.{slice_get}
 use Rattle.std.proofs.lemmas.List.{length-append}
 use Rattle.srcset.specs.declared.code.Code.TheVariants as code
 use Rattle.srcset.specs.declared.refusal.Pos.{Pos}
-use Rattle.tree.specs.Tree.{SpecifierTree, ParameterTree, FunctionTree}
+use Rattle.tree.specs.Tree.{FunctionTree}
 use Rattle.typed.specs.Types.{FunctionType}
 use Rattle.typed.specs.Program as typed
 use Rattle.typed.specs.Program.{Function, Program}
@@ -12,21 +12,23 @@ use Rattle.typed.specs.Verdict.{fine, then_check, provided, refuse_if, IfFine}
 use Rattle.typed.specs.Scope.{Scope, Binding, Meaning, an_object, an_array_parameter, a_function, an_enumerator, State, defined, lookup, with_name, built_in, inside}
 use Rattle.typed.specs.Declarators.{Parameters, parameters_in, behind_parameters, function_type}
 use Rattle.typed.specs.Linkage.{StorageClass, Agreed, agreed, linkage_of_function, as_built_in, redeclared, declared_at_file, agreed_in, with_storage, file_function}
-use Rattle.typed.specs.Declarations.{Initial, Specified, specified}
+use Rattle.typed.specs.Declarations.{Initial, specified}
 use Rattle.typed.specs.Statements.{AllDone, pieces}
 use Rattle.typed.specs.Units as units
 use Rattle.typed.specs.Units.{Built, function_typed, function_of, body_typed, with_function, body_scope, newer, around_of}
 use Rattle.checked.specs.Settled.{Setting, AllFit, Names, Ends}
 use Rattle.checked.proofs.Verdicts.{then_any, then_some, part, both_of, is_fine, delayed, more_of}
-use Rattle.checked.proofs.Scopes.{Extends, Grown, earlier}
+use Rattle.checked.proofs.Scopes.{Extends, extends_none, Grown, earlier}
 use Rattle.checked.proofs.Items.{InitialsGood}
 use Rattle.checked.proofs.Statements.{AllGood, pieces_good}
 use Rattle.checked.proofs.Blocks.{Deep}
 use Rattle.checked.proofs.Parameters.{Stand, parameters_stand}
 use Rattle.checked.proofs.Bodies.{function_is_typed}
-use Rattle.checked_units.proofs.Files.{Stands, IsFile, Onward, in_function, Final, Named, HaveRoom, Reaches}
+use Rattle.checked_units.proofs.Files.{Stands, IsFile, in_function, Final, Named, HaveRoom, Reaches}
 use Rattle.checked_units.proofs.FileSteps.{Keeps, reaches_keeping, reaches_on, final_earlier}
-use Rattle.checked_units.proofs.FileExternals.{Passed, no_function}
+use Rattle.checked_units.proofs.FileNames.{specified_reaches}
+use Rattle.checked_units.proofs.FileFunctionNames.{function_reaches}
+use Rattle.checked_units.proofs.FilePassed.{Passed, no_function}
 
 -- ---- a declaration of a function adds no string literal
 
@@ -88,7 +90,8 @@ module _ (p : Program) (texts : List (List ℕ)) (definitions : List ℕ) where
   abbrev ParametersStand : Scope → Parameters → Type 0
   ParametersStand u ps = (W : Setting) → Stand W [] u ps
 
-  body_keeps : (file outer : Scope) (ps : Parameters) (all : AllDone) → file.literals ≡ ps.scope.literals → Grown (body_scope file ps.scope outer) all.scope → Keeps file (behind_body file all)
+  body_keeps : (file outer : Scope) (ps : Parameters) (all : AllDone) → file.literals ≡ ps.scope.literals → Grown (body_scope file ps.scope outer) all.scope →
+      Keeps file (behind_body file all)
   body_keeps file outer ps all e g = record {
     texts = refl;
     definitions = refl;
@@ -99,8 +102,10 @@ module _ (p : Program) (texts : List (List ℕ)) (definitions : List ℕ) where
   }
 
   -- the first values in a body have room
-  body_room : (f : FunctionTree) (outer file : Scope) (ps : Parameters) (t : FunctionType) → t.parameters ≡ ps.types → ParametersStand (inside (record outer { objects = [] })) ps → (all : AllDone) →
-      BodyGood t (body_scope file ps.scope outer) all → file.texts ≡ outer.texts → file.definitions ≡ outer.definitions → Named p texts definitions file → Final p texts definitions (behind_body file all) → HaveRoom p texts definitions all.initial
+  body_room : (f : FunctionTree) (outer file : Scope) (ps : Parameters) (t : FunctionType) → t.parameters ≡ ps.types →
+      ParametersStand (inside (record outer { objects = [] })) ps → (all : AllDone) →
+      BodyGood t (body_scope file ps.scope outer) all → file.texts ≡ outer.texts → file.definitions ≡ outer.definitions → Named p texts definitions file →
+      Final p texts definitions (behind_body file all) → HaveRoom p texts definitions all.initial
   body_room f outer file ps t types stand all make te de N F a =
       let W = In (function_of f t all) in
       let st = stand W in
@@ -119,65 +124,77 @@ module _ (p : Program) (texts : List (List ℕ)) (definitions : List ℕ) where
 
   -- all that a definition does, but for its types
   abbrev Defines : Built → FunctionTree → Built → Type 0
-  Defines b f c = (g : Function) × (more : List Initial) × (c.functions ≡ b.functions ++ g ∷ []) × (g.name ≡ f.name) × (c.initial ≡ b.initial ++ more) × Reaches p texts definitions b.scope more c.scope × Stands c.scope f.name (a_function g.type)
+  Defines b f c = (g : Function) × (more : List Initial) × (c.functions ≡ b.functions ++ g ∷ []) × (g.name ≡ f.name) ×
+      (c.initial ≡ b.initial ++ more) × Reaches p texts definitions b.scope more c.scope × Stands c.scope f.name (a_function g.type)
 
-  defined_by : (b : Built) (f : FunctionTree) (outer file : Scope) (ps : Parameters) (t : FunctionType) → t.parameters ≡ ps.types → ParametersStand (inside (record outer { objects = [] })) ps → (all : AllDone) →
-      BodyGood t (body_scope file ps.scope outer) all → file.literals ≡ ps.scope.literals → file.texts ≡ outer.texts → file.definitions ≡ outer.definitions → Reached b.scope file → Stands file f.name (a_function t) →
+  defined_by : (b : Built) (f : FunctionTree) (outer file : Scope) (ps : Parameters) (t : FunctionType) → t.parameters ≡ ps.types →
+      ParametersStand (inside (record outer { objects = [] })) ps → (all : AllDone) →
+      BodyGood t (body_scope file ps.scope outer) all → file.literals ≡ ps.scope.literals → file.texts ≡ outer.texts → file.definitions ≡ outer.definitions →
+      Reached b.scope file → Stands file f.name (a_function t) →
       IfFine (Defines b f) (with_function b file f t all)
   defined_by b f outer file ps t types stand all make le te de R there =
       let u = behind_body file all in
       let K = reaches_keeping p texts definitions file u (body_keeps file outer ps all le (make (In (function_of f t all), refl)).0) R.1 in
       let J = reaches_on p texts definitions b.scope file u [] [] R K in
+      let room = λ (N : Named p texts definitions b.scope) (F : Final p texts definitions u).
+      body_room f outer file ps t types stand all make te de (R.2 N (final_earlier p texts definitions file u K.0 F)).0 F in
       part (Defines b f) (refuse_if (nat_lt units.weight_limit (units.weight f t.parameters all.scope.objects)) code.WeightLimit f.at)
       (fine (record { scope = u; functions = b.functions ++ function_of f t all ∷ []; initial = b.initial ++ all.initial }))
-      (function_of f t all, all.initial, refl, refl, refl, (J.0, J.1, λ N F. ((J.2 N F).0, body_room f outer file ps t types stand all make te de (R.2 N (final_earlier p texts definitions file u K.0 F)).0 F)), there)
+      (function_of f t all, all.initial, refl, refl, refl, (J.0, J.1, λ N F. ((J.2 N F).0, room N F)), there)
 
-  module _ (specified_reaches : (s : Scope) → IsFile s → (at : Pos) (ss : List SpecifierTree) → IfFine (λ d. Reaches p texts definitions s [] d.scope) (specified s at ss))
-      (function_reaches : (s : Scope) → IsFile s → (at : Pos) (n : ℕ) (class : StorageClass) (t : FunctionType) (state : State) →
-      IfFine (λ u. Reaches p texts definitions s [] u × Stands u n (a_function t)) (file_function s at n class t state)) where
-    abbrev FileGood : Scope → FunctionTree → FunctionType → Scope → Type 0
-    FileGood v f t file = SameLiterals v file × (Reached v file × Stands file f.name (a_function t))
+  abbrev FileGood : Scope → FunctionTree → FunctionType → Scope → Type 0
+  FileGood v f t file = SameLiterals v file × (Reached v file × Stands file f.name (a_function t))
 
-    file_good : (v : Scope) → IsFile v → (f : FunctionTree) (class : StorageClass) (t : FunctionType) → IfFine (FileGood v f t) (file_function v f.at f.name class t defined)
-    file_good v h f class t =
-        both_of (SameLiterals v) (λ u. Reached v u × Stands u f.name (a_function t)) (file_function v f.at f.name class t defined) (at_file v f.at f.name (agreed (a_function t) (linkage_of_function class (lookup v f.name)) defined))
-        (function_reaches v h f.at f.name class t defined)
+  file_good : (v : Scope) → IsFile v → (f : FunctionTree) (class : StorageClass) (t : FunctionType) →
+      IfFine (FileGood v f t) (file_function v f.at f.name class t defined)
+  file_good v h f class t =
+      both_of (SameLiterals v) (λ u. Reached v u × Stands u f.name (a_function t)) (file_function v f.at f.name class t defined)
+      (at_file v f.at f.name (agreed (a_function t) (linkage_of_function class (lookup v f.name)) defined))
+      (function_reaches p texts definitions v h f.at f.name class t defined)
 
-    behind_reached : (s : Scope) (ps : Parameters) → IsFile s → ParametersStand (inside (record s { objects = [] })) ps → Reached s (behind_parameters s ps.scope)
-    behind_reached s ps h st =
-        reaches_keeping p texts definitions s (behind_parameters s ps.scope)
-        (record { texts = refl; definitions = refl; bindings = refl; level = refl; literals = (st (In no_function)).literals; statics = record { more = []; is = sym (append-nil s.statics) } }) h
+  behind_reached : (s : Scope) (ps : Parameters) → IsFile s → ParametersStand (inside (record s { objects = [] })) ps →
+      Reached s (behind_parameters s ps.scope)
+  behind_reached s ps h st =
+      let more = (st (In no_function)).literals in
+      reaches_keeping p texts definitions s (behind_parameters s ps.scope)
+      (record { texts = refl; definitions = refl; bindings = refl; level = refl; literals = more; statics = extends_none s.statics }) h
 
-    definition_good : (b : Built) → IsFile b.scope → (f : FunctionTree) → IfFine (Defines b f) (function_typed b f)
-    definition_good b h f =
-        then_some (λ d. Reached b.scope d.scope) (Defines b f) (specified b.scope f.start f.specifiers) _ (specified_reaches b.scope h f.start f.specifiers) (λ d r.
-        let u = inside (record d.scope { objects = [] }) in
-        then_some (ParametersStand u) (Defines b f) (provided (units.all_named f.parameters) (parameters_in d.scope f.parameters)) _
-        (part (ParametersStand u) (units.all_named f.parameters) (parameters_in d.scope f.parameters) (delayed {H = Setting} (λ W ps. Stand W [] u ps) (parameters_in d.scope f.parameters) (λ W. parameters_stand W [] 0 u f.parameters refl))) (λ ps st.
-        let t = function_type d.base ps.types in
-        let v = behind_parameters d.scope ps.scope in
-        let q = behind_reached d.scope ps r.1 st in
-        then_some (FileGood v f t) (Defines b f) (file_function v f.at f.name d.class t defined) (body_typed b f d.scope ps t) (file_good v q.1 f d.class t) (λ file k.
-        let B = body_scope file ps.scope d.scope in
-        let A = around_of t in
-        let R = reaches_on p texts definitions b.scope v file [] [] (reaches_on p texts definitions b.scope d.scope v [] [] r q) k.1.0 in
-        then_some (BodyGood t B) (Defines b f) (pieces A None B f.body) (with_function b file f t)
-        (delayed {H = Gives t} (λ w all. AllGood w.0 B all) (pieces A None B f.body) (λ w. pieces_good w.0 A (sym w.1) None B (deep d.scope.level ps.scope.level (st w.0).level) f.body)) (λ all make.
-        defined_by b f d.scope file ps t refl st all make k.0 k.1.0.0.texts k.1.0.0.definitions R k.1.1))))
+  definition_good : (b : Built) → IsFile b.scope → (f : FunctionTree) → IfFine (Defines b f) (function_typed b f)
+  definition_good b h f =
+      then_some (λ d. Reached b.scope d.scope) (Defines b f) (specified b.scope f.start f.specifiers) _
+      (specified_reaches p texts definitions b.scope h f.start f.specifiers)
+      (λ d r.
+      let u = inside (record d.scope { objects = [] }) in
+      then_some (ParametersStand u) (Defines b f) (provided (units.all_named f.parameters) (parameters_in d.scope f.parameters)) _
+      (part (ParametersStand u) (units.all_named f.parameters) (parameters_in d.scope f.parameters)
+      (delayed {H = Setting} (λ W ps. Stand W [] u ps) (parameters_in d.scope f.parameters) (λ W. parameters_stand W [] 0 u f.parameters refl))) (λ ps st.
+      let t = function_type d.base ps.types in
+      let v = behind_parameters d.scope ps.scope in
+      let q = behind_reached d.scope ps r.1 st in
+      then_some (FileGood v f t) (Defines b f) (file_function v f.at f.name d.class t defined) (body_typed b f d.scope ps t) (file_good v q.1 f d.class t)
+      (λ file k.
+      let B = body_scope file ps.scope d.scope in
+      let A = around_of t in
+      let R = reaches_on p texts definitions b.scope v file [] [] (reaches_on p texts definitions b.scope d.scope v [] [] r q) k.1.0 in
+      then_some (BodyGood t B) (Defines b f) (pieces A None B f.body) (with_function b file f t)
+      (delayed {H = Gives t} (λ w all. AllGood w.0 B all) (pieces A None B f.body)
+      (λ w. pieces_good w.0 A (sym w.1) None B (deep d.scope.level ps.scope.level (st w.0).level) f.body)) (λ all make.
+      defined_by b f d.scope file ps t refl st all make k.0 k.1.0.0.texts k.1.0.0.definitions R k.1.1))))
 
-    defines_passes : (b c : Built) (f : FunctionTree) → function_typed b f ≡ fine c → Defines b f c → Passed p texts definitions b (f.name ∷ []) c
-    defines_passes b c f e d = record {
-      more = d.1;
-      initial = d.4;
-      added = d.0 ∷ [];
-      functions = d.2;
-      named = ap (λ n. n ∷ []) d.3;
-      reaches = d.5;
-      stand = (subst (λ n. Stands c.scope n (a_function d.0.type)) (sym d.3) d.6, tt);
-      bodies = λ N F. (λ u. let r = function_is_typed (In d.0) b c f e d.2 ((d.5.2 N F).0 d.0) (F.literals d.0) (F.statics d.0) u in (r.0, r.1), tt);
-    }
+  defines_passes : (b c : Built) (f : FunctionTree) → function_typed b f ≡ fine c → Defines b f c → Passed p texts definitions b (f.name ∷ []) c
+  defines_passes b c f e d = record {
+    more = d.1;
+    initial = d.4;
+    added = d.0 ∷ [];
+    functions = d.2;
+    named = ap (λ n. n ∷ []) d.3;
+    reaches = d.5;
+    stand = (subst (λ n. Stands c.scope n (a_function d.0.type)) (sym d.3) d.6, tt);
+    bodies = λ N F. (λ u. let r = function_is_typed (In d.0) b c f e d.2 ((d.5.2 N F).0 d.0) (F.literals d.0) (F.statics d.0) u in (r.0, r.1), tt);
+  }
 
-    pub function_passed : (b : Built) → IsFile b.scope → (f : FunctionTree) → IfFine (Passed p texts definitions b (f.name ∷ [])) (function_typed b f)
-    function_passed b h f =
-        more_of (λ c. (function_typed b f ≡ fine c) × Defines b f c) (Passed p texts definitions b (f.name ∷ [])) (function_typed b f) (λ c d. defines_passes b c f d.0 d.1)
-        (both_of (λ c. function_typed b f ≡ fine c) (Defines b f) (function_typed b f) (is_fine (function_typed b f)) (definition_good b h f))
+  pub function_passed : (b : Built) → IsFile b.scope → (f : FunctionTree) → IfFine (Passed p texts definitions b (f.name ∷ [])) (function_typed b f)
+  function_passed b h f =
+      more_of (λ c. (function_typed b f ≡ fine c) × Defines b f c) (Passed p texts definitions b (f.name ∷ [])) (function_typed b f)
+      (λ c d. defines_passes b c f d.0 d.1)
+      (both_of (λ c. function_typed b f ≡ fine c) (Defines b f) (function_typed b f) (is_fine (function_typed b f)) (definition_good b h f))

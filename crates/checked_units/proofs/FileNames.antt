@@ -181,7 +181,8 @@ module _ (p : Program) (texts : List (List ℕ)) (definitions : List ℕ) where
       let inner = with_tag s t false in
       let first = reaches_tag p texts definitions s t false h in
       part (Leads s) (rules.is_fresh_tag s.level at (tag_in s.tags t)) (then_check (rules.enumerators inner (pos 0) es) (λ u. fine (with_tag u t true)))
-      (then_some (Leads inner) (Leads s) (rules.enumerators inner (pos 0) es) (λ u. fine (with_tag u t true)) (enumerators_reach inner first.1 (pos 0) es) (λ u g.
+      (then_some (Leads inner) (Leads s) (rules.enumerators inner (pos 0) es) (λ u. fine (with_tag u t true)) (enumerators_reach inner first.1 (pos 0) es)
+      (λ u g.
       leads_on s u (with_tag u t true) (leads_on s inner u first g) (reaches_tag p texts definitions u t true g.1)))
 
   lists_reach : (s : Scope) → IsFile s → (at : Pos) (ss : List SpecifierTree) → IfFine (Leads s) (rules.with_lists s at ss)

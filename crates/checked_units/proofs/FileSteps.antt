@@ -135,7 +135,8 @@ module _ (p : Program) (texts : List (List ℕ)) (definitions : List ℕ) where
 
   pub reaches_literals : (s : Scope) (more : List ℕ) → IsFile s → Reaches p texts definitions s [] (with_literals s more)
   reaches_literals s more h =
-      reaches_keeping s (with_literals s more) (record { texts = refl; definitions = refl; bindings = refl; level = refl; literals = extends_by s.literals more; statics = extends_none s.statics }) h
+      reaches_keeping s (with_literals s more)
+      (record { texts = refl; definitions = refl; bindings = refl; level = refl; literals = extends_by s.literals more; statics = extends_none s.statics }) h
 
   pub reaches_tag : (s : Scope) (n : ℕ) (complete : Bool) → IsFile s → Reaches p texts definitions s [] (with_tag s n complete)
   reaches_tag s n complete h =

@@ -1,10 +1,11 @@
 -- An object with static storage is declared at file scope, for the first time or once more (6.9.2): the objects, and the scope behind it.
-use Rattle.std.proofs.Common.{◌≡◌, ℕ, zero, suc, Bool, List, [], ◌∷◌, ◌++◌, length, Option, Some, None, refl, sym, ap, ◌∙◌, subst, ◌⊎◌, inl, inr}
+use Rattle.std.proofs.Common.{◌≡◌, ℕ, zero, suc, Bool, List, [], ◌∷◌, ◌++◌, length, Some, None, refl, sym, ap, ◌∙◌, subst, inl, inr}
 use Rattle.std.specs.Prelude.{slice_get}
 use Rattle.typed.specs.Types.{DeclaredType, FunctionType}
 use Rattle.typed.specs.Program as typed
 use Rattle.typed.specs.Program.{Storage}
-use Rattle.typed.specs.Scope.{Scope, StaticObject, Binding, Meaning, an_object, an_array_parameter, a_function, an_enumerator, Linkage, State, lookup, with_name}
+use Rattle.typed.specs.Scope.{Scope, StaticObject, Binding, Meaning, an_object, an_array_parameter, a_function}
+use Rattle.typed.specs.Scope.{an_enumerator, Linkage, State, lookup, with_name}
 use Rattle.typed.specs.Linkage.{put_static, completed}
 use Rattle.checked.specs.Settled.{SizedType, Wider}
 use Rattle.checked.proofs.Ground.{same_some}
@@ -25,7 +26,8 @@ put_last : (os : List StaticObject) (x : StaticObject) → put_static os (length
 put_last [] x = refl
 put_last (y ∷ os) x = ap (λ l. y ∷ l) (put_last os x)
 
-get_put : (os : List StaticObject) (x : StaticObject) (k : ℕ) (o : StaticObject) → slice_get os k ≡ Some o → slice_get (put_static os (length os) x) k ≡ Some o
+get_put : (os : List StaticObject) (x : StaticObject) (k : ℕ) (o : StaticObject) →
+    slice_get os k ≡ Some o → slice_get (put_static os (length os) x) k ≡ Some o
 get_put os x k o e = subst (λ l. slice_get l k ≡ Some o) (sym (put_last os x)) (get_left os (x ∷ []) k o e)
 
 pub put_new : (os : List StaticObject) (x : StaticObject) → PutFits os (length os) x
@@ -50,7 +52,8 @@ put_wider (z ∷ os) zero x y e w (suc k) o f = (o, f, wider_self o.type)
 put_wider (z ∷ os) (suc n) x y e w zero o f = (o, f, wider_self o.type)
 put_wider (z ∷ os) (suc n) x y e w (suc k) o f = put_wider os n x y e w k o f
 
-put_others : (os : List StaticObject) (n : ℕ) (x : StaticObject) (k : ℕ) (o : StaticObject) → (n ≡ k → ⊥) → slice_get os k ≡ Some o → slice_get (put_static os n x) k ≡ Some o
+put_others : (os : List StaticObject) (n : ℕ) (x : StaticObject) (k : ℕ) (o : StaticObject) → (n ≡ k → ⊥) → slice_get os k ≡ Some o →
+    slice_get (put_static os n x) k ≡ Some o
 put_others [] n x k o d e = absurd (none_there k o e)
 put_others (z ∷ os) zero x zero o d e = absurd (d refl)
 put_others (z ∷ os) zero x (suc k) o d e = e
@@ -86,7 +89,8 @@ stands_new s F n t e z = record {
   alone = λ k u h. absurd (beyond s k u (F.names k (an_object (typed.static (length s.statics)) u) h).0);
 }
 
-pub stands_again : (s : Scope) → IsFile s → (n i : ℕ) (old t : DeclaredType) → Stands s n (an_object (typed.static i) old) → SizedType t → Wider (completed old) (completed t) → MayStand s n i t
+pub stands_again : (s : Scope) → IsFile s → (n i : ℕ) (old t : DeclaredType) → Stands s n (an_object (typed.static i) old) → SizedType t →
+    Wider (completed old) (completed t) → MayStand s n i t
 stands_again s F n i old t h z w =
     let had : HasStatic s i old = (F.names n (an_object (typed.static i) old) h).0 in record {
       sized = z;
@@ -131,10 +135,13 @@ module _ (s : Scope) (F : IsFile s) (n i : ℕ) (t : DeclaredType) (l : Linkage)
   names_after k m (inl h) = subst (IsOfFile after k) h.1 ((object_of t d, (M.statics d).here, refl), M.sized)
   names_after k m (inr h) = kept k m h.0 h.1 (F.names k m h.1)
 
-  apart_after : (a b j : ℕ) (u v : DeclaredType) → OneOf n a (an_object (typed.static i) t) (lookup s a) (an_object (typed.static j) u) → OneOf n b (an_object (typed.static i) t) (lookup s b) (an_object (typed.static j) v) → a ≡ b
+  apart_after : (a b j : ℕ) (u v : DeclaredType) → OneOf n a (an_object (typed.static i) t) (lookup s a) (an_object (typed.static j) u) →
+      OneOf n b (an_object (typed.static i) t) (lookup s b) (an_object (typed.static j) v) → a ≡ b
   apart_after a b j u v (inl h) (inl g) = sym h.0 ∙ g.0
-  apart_after a b j u v (inl h) (inr g) = sym h.0 ∙ sym (M.alone b v (subst (λ x. Stands s b (an_object (typed.static x) v)) (sym (one_static i j t u h.1)) g.1))
-  apart_after a b j u v (inr h) (inl g) = M.alone a u (subst (λ x. Stands s a (an_object (typed.static x) u)) (sym (one_static i j t v g.1)) h.1) ∙ g.0
+  apart_after a b j u v (inl h) (inr g) =
+      sym h.0 ∙ sym (M.alone b v (subst (λ x. Stands s b (an_object (typed.static x) v)) (sym (one_static i j t u h.1)) g.1))
+  apart_after a b j u v (inr h) (inl g) =
+      M.alone a u (subst (λ x. Stands s a (an_object (typed.static x) u)) (sym (one_static i j t v g.1)) h.1) ∙ g.0
   apart_after a b j u v (inr h) (inr g) = F.apart a b j u v h.1 g.1
 
   pub put_is_file : IsFile (put_scope s n i t l state d)

@@ -1,9 +1,9 @@
 -- Scopes of a file: what declarations at file scope keep, and what the program has in the end.
-use Rattle.std.proofs.Common.{◌≡◌, ℕ, true, List, [], ◌∷◌, ◌++◌, Option, Some, None, refl, sym, ap, ◌∙◌, subst}
+use Rattle.std.proofs.Common.{◌≡◌, ℕ, true, List, Some}
 use Rattle.std.specs.Prelude.{slice_get}
 use Rattle.ctypes.specs.declared.types.IntType.TheVariants as ty
 use Rattle.ctypes.specs.Types.{is_value_of}
-use Rattle.typed.specs.Types.{ObjectType, DeclaredType, FunctionType}
+use Rattle.typed.specs.Types.{DeclaredType, FunctionType}
 use Rattle.typed.specs.Program as typed
 use Rattle.typed.specs.Program.{Storage, Function, Program}
 use Rattle.typed.specs.Scope.{Scope, StaticObject, Binding, BuiltIn, Meaning, an_object, an_array_parameter, a_function, an_enumerator, lookup, built_in}

@@ -1,12 +1,13 @@
 pub mod Files
 pub mod FileSteps
-pub mod FileNames
-pub mod FileFunctionNames
 pub mod FileBindings
 pub mod FileStorage
 pub mod FileObjects
+pub mod FileNames
+pub mod FileFunctionNames
 pub mod FileDeclarations
-pub mod FileExternals
+pub mod FilePassed
 pub mod FileFunctions
+pub mod FileExternals
 pub mod FileEnd
 pub mod Whole
