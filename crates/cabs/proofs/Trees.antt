@@ -136,6 +136,11 @@ pub object_put : (ts : List Tree) (i : ℕ) (t hole new : Tree) (path : List ℕ
     map tree_of (slice_set (slice_set ts i hole) i new) ≡ machine.put_in (map tree_of ts) i path tree
 object_put ts i t hole new path tree h e n = ap (map tree_of) (set_twice ts i hole new) ∙ object_put_in ts i t new path tree (got ts i t h e) n
 
+pub whole_put : (ts : List Tree) (i : ℕ) (new : Tree) (path : List ℕ) → path ≡ [] → map tree_of (slice_set ts i new) ≡ machine.put_in (map tree_of ts) i path (tree_of new)
+whole_put [] i new path e = refl
+whole_put (t ∷ ts) zero new path e = sym (ap (λ p. machine.put_at p (tree_of new) (tree_of t) ∷ map tree_of ts) e)
+whole_put (t ∷ ts) (suc i) new path e = ap (λ l. tree_of t ∷ l) (whole_put ts i new path e)
+
 pub no_object_put : (ts : List Tree) (i : ℕ) (path : List ℕ) (tree : machine.Tree) → length ts ≤ i → map tree_of ts ≡ machine.put_in (map tree_of ts) i path tree
 no_object_put [] i path tree h = refl
 no_object_put (t ∷ ts) zero path tree h = absurd (omega arith)

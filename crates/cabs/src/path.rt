@@ -1,6 +1,6 @@
 //! Subscripts from an object down to a part of it.
 
-ghost use Rattle.std.specs.Prelude.{◌≡◌, ◌++◌, ◌∷◌, [], IfOk};
+ghost use Rattle.std.specs.Prelude.{◌≡◌, ◌++◌, ◌∷◌, [], IfOk, IsTrue};
 ghost use Rattle.cabs.specs.View.{path_of};
 
 use std::alloc::{AllocError, Global};
@@ -24,6 +24,17 @@ impl Path {
             Path::One(subscripts) => subscripts,
             Path::Two(subscripts) => subscripts,
             Path::More(subscripts) => subscripts.as_slice(),
+        }
+    }
+
+    /// Whether there are none.
+    #[inline(always)]
+    pub fn is_whole(&self) -> bool
+        ensures { IsTrue result → path_of self.now ≡ [] }
+    {
+        match self {
+            Path::Whole => true,
+            _ => false,
         }
     }
 

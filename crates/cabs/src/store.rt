@@ -72,6 +72,10 @@ impl Store {
         if r.object >= self.objects.len() {
             return;
         }
+        if r.path.is_whole() {
+            let _old = mem::replace(&mut self.objects[r.object], new);
+            return;
+        }
         let object = mem::replace(&mut self.objects[r.object], Tree::Element(None));
         let _hole = mem::replace(
             &mut self.objects[r.object],
