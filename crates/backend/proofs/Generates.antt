@@ -1,5 +1,5 @@
 -- The file of a program whose flat code is made.
-use Rattle.std.proofs.Common.{◌≡◌, ◌≤◌, ◌<◌, ℕ, zero, suc, ◌+◌, ◌*◌, List, [], ◌∷◌, ◌++◌, length, map, Option, Some, None, Ok, refl, sym, ap, ◌∙◌, subst, arith, true}
+use Rattle.std.proofs.Common.{◌≡◌, ◌≤◌, ◌<◌, ℕ, suc, ◌+◌, ◌*◌, List, [], ◌∷◌, length, map, Option, Some, None, Ok, refl, sym, ap, ◌∙◌, subst, arith, true}
 use Rattle.std.specs.Prelude.{slice_get, sum_by, option_map, IfOk, Result, Err}
 use Rattle.std.proofs.lemmas.Option.{slice_get-map, slice_get_within}
 use Rattle.std.proofs.lemmas.List.{length-map}
@@ -13,9 +13,17 @@ use Rattle.asm.specs.declared.item.Item.{Item}
 use Rattle.asm.specs.Layout.{AllReach, IsLow, size, longest}
 use Rattle.typed.specs.Program as typed
 use Rattle.tac.specs.Code as tac
+use Rattle.tac.specs.Sound.{data_bytes}
+use Rattle.tac.specs.Spans.{span}
 use Rattle.frames.specs.Code as flat
 use Rattle.frames.specs.Code.{frame_bytes}
+use Rattle.frames.specs.declared.code.FlatProgram.{FlatProgram}
+use Rattle.flattening.specs.Translated.{flat_program}
 use Rattle.flattening.specs.Flattened.{IsFlattened}
+use Rattle.flattening.specs.Data.{data_of}
+use Rattle.flattening.proofs.Whole.{length_data, data_bytes_are}
+use Rattle.residents.specs.Renumbered.{IsRenumbered}
+use Rattle.residents.proofs.Soundness.{stays_sound}
 use Rattle.select.specs.Program.{program_items, start_items, functions_items, function_items}
 use Rattle.select.proofs.Lengths.{code_is_short}
 use Rattle.jump_reach.specs.Reaching.{rows_of}
@@ -24,7 +32,9 @@ use Rattle.code_sizes.proofs.Programs.{code_fits, program_is_short}
 use Rattle.simulation.specs.Runs.{slack}
 use Rattle.flat_images.specs.Images.{IsImageOf}
 use Rattle.tac_images.proofs.Runs.{flattened_of, none_within}
-use Rattle.tac_images.proofs.Programs.{program_goes_on, program_ends}
+use Rattle.tac_images.proofs.Programs.{flattened_goes_on, flattened_ends}
+use Rattle.backend.specs.inside.Lowered.{IsLoweredTo}
+use Rattle.backend.proofs.Renumbering.{renumbered_is_flattened}
 use Rattle.backend.specs.Generated.{IsReady, IsFlatCodeOf, RunsAs, FramesFit, most_text, IsFileOf, AreItemsOf}
 
 -- sums of what is less at each place
@@ -48,9 +58,24 @@ functions_short k first (f ∷ fs) =
 start_short : (main : ℕ) → longest (start_items main) ≡ 24
 start_short main = refl
 
+pub code_of : (p : typed.Program) (q : tac.Program) (f : flat.Program) → IsLoweredTo p q → IsRenumbered (flat_program q) f → IsFlatCodeOf p f
+code_of p q f made renumbered = record {
+  plain = made.plain;
+  code = q;
+  lowered = made.lowered;
+  renumbered = renumbered;
+  sound = stays_sound (flat_program q) f renumbered (flattened_of q (flat_program q) made.lowered.sound refl).sound;
+}
+
+pub code_in : {E : Type 0} (p : typed.Program) (q : tac.Program) → IsLoweredTo p q → (r : Result FlatProgram E) → IfOk r (λ f. IsRenumbered (flat_program q) (flat.program_of f)) → IfOk r (λ f. IsFlatCodeOf p (flat.program_of f))
+code_in p q made (Ok f) renumbered = code_of p q (flat.program_of f) made renumbered
+code_in p q made (Err e) renumbered = tt
+
 module _ (p : typed.Program) (f : flat.Program) (ready : IsReady p) (made : IsFlatCodeOf p f) where
   flattened : IsFlattened made.code f
-  flattened = flattened_of made.code f made.lowered.sound made.flattened
+  flattened =
+      let first = flattened_of made.code (flat_program made.code) made.lowered.sound refl in
+      renumbered_is_flattened made.code (flat_program made.code) f first made.renumbered
 
   pub reach : (base : ℕ) → AllReach base (program_items f)
   reach base = jumps_reach f base made.sound (program_is_short p made.code f ready.checked made.lowered flattened)
@@ -61,14 +86,15 @@ module _ (p : typed.Program) (f : flat.Program) (ready : IsReady p) (made : IsFl
   -- ---- frames
 
   frame_fits : (k : ℕ) (g : typed.Function) (b : Option tac.Function) (c : Option flat.Function) (bytes : ℕ) → slice_get p.functions k ≡ Some g → slice_get made.code.functions k ≡ b → slice_get f.functions k ≡ c
-      → option_map frame_bytes c ≡ Some bytes → bytes ≤ g.weight
+      → option_map frame_bytes c ≡ Some bytes → (bytes ≤ g.weight) × (bytes ≤ span g)
   frame_fits k g b None bytes eg eb ec e = absurd (let z : ⊥ = cc in z)
   frame_fits k g None (Some h) bytes eg eb ec e = absurd (none_within made.code.functions k eb (subst (λ n. k < n) flattened.count (slice_get_within f.functions k h ec)))
   frame_fits k g (Some y) (Some h) bytes eg eb ec e =
       let one = (flattened.each k y h eb ec).frame in
       let two = (made.lowered.each k g y eg eb).within_weight in
+      let three = (made.lowered.each k g y eg eb).within_span in
       let same : frame_bytes h ≡ bytes = cc in
-      omega (arith, one, two, same)
+      (omega (arith, one, two, same), omega (arith, one, three, same))
 
   pub frames_fit : FramesFit p (map frame_bytes f.functions)
   frames_fit = (
@@ -86,6 +112,16 @@ module _ (p : typed.Program) (f : flat.Program) (ready : IsReady p) (made : IsFl
       let both = sum_by-append (size true) (start_items f.main) (functions_items 0 (length f.functions) f.functions) in
       omega (arith, rows, nodes, both, start_short f.main)
 
+  -- ---- the data
+
+  data_fits : (parts : Parts) → IsImageOf f parts → length parts.statics ≤ 16 + data_bytes p.literals p.statics
+  data_fits parts image =
+      let q = made.code in
+      let whole : length parts.statics ≡ length (data_of q) = ap length (image.statics ∙ flattened.statics) in
+      let same : data_bytes q.literals q.statics ≡ data_bytes p.literals p.statics =
+      ap (λ l. data_bytes l q.statics) made.lowered.literals ∙ ap (λ o. data_bytes p.literals o) made.lowered.statics in
+      omega (arith, whole, length_data q, data_bytes_are q.literals q.statics, same)
+
   -- ---- the run
 
   pub runs : (parts : Parts) (file : List ℕ) → IsImageOf f parts → file_image file ≡ Ok (program_image parts) → RunsAs stack_size p (map frame_bytes f.functions) file
@@ -93,11 +129,11 @@ module _ (p : typed.Program) (f : flat.Program) (ready : IsReady p) (made : IsFl
     image = program_image parts;
     loads = loads;
     ends = λ input bytes n status s over small.
-        let w = program_ends p made.code f parts input made.lowered made.flattened image bytes n status s over small in
+        let w = flattened_ends p made.code f parts input made.lowered flattened image bytes n status s over small in
         (w.0, w.1, w.2, (w.3, (w.4, w.5)));
     slack = slack f;
     goes_on = λ input bytes n s over small.
-        let w = program_goes_on p made.code f parts input made.lowered made.flattened image bytes n s over small in
+        let w = flattened_goes_on p made.code f parts input made.lowered flattened image bytes n s over small in
         (w.0, w.1, w.3, (w.2, (w.4, (w.5, w.6), w.7)));
   }
 
@@ -106,10 +142,15 @@ module _ (p : typed.Program) (f : flat.Program) (ready : IsReady p) (made : IsFl
   is_file parts file frames image short sizes written loads = record {
     plain = made.plain;
     runs = subst (λ xs. RunsAs stack_size p xs file) (sym sizes) (runs parts file image loads);
+    code = f;
+    code_is = made;
+    frames_are = sizes;
     frames_fit = subst (FramesFit p) (sym sizes) frames_fit;
     parts = parts;
     file_is = written;
+    image_is = image;
     text_fits = omega (arith, short, text_fits);
+    data_fits = data_fits parts image;
   }
 
   pub items_of : (items : List Item) → items ≡ program_items f → IsLow text_start items → AreItemsOf p items

@@ -1,5 +1,5 @@
 -- What the back end promises of the file of a typed program: how it runs.
-use Rattle.std.specs.Prelude.{◌≡◌, ◌≤◌, ◌<◌, ℕ, ◌+◌, ◌*◌, true, false, List, length, sum_by, slice_get, Some, Ok}
+use Rattle.std.specs.Prelude.{◌≡◌, ◌≤◌, ◌<◌, ℕ, ◌+◌, ◌*◌, true, false, List, length, map, sum_by, slice_get, Some, Ok}
 use Rattle.loader.specs.File.{Image, file_image}
 use Rattle.loader.specs.MemoryMap.{stack_size, text_start}
 use Rattle.elf_out.specs.Layout.{Parts}
@@ -13,12 +13,16 @@ use Rattle.meaning.specs.History.{trace_of, weight_in, greatest_sum}
 use Rattle.meaning.specs.Machine.{State, Stops, Ended, TicksUsed}
 use Rattle.meaning.specs.Meaning.{cstep}
 use Rattle.tac.specs.Code as tac
-use Rattle.tac.specs.Sound.{AreBytes}
+use Rattle.tac.specs.Sound.{AreBytes, data_bytes}
+use Rattle.tac.specs.Spans.{span}
 use Rattle.tac.specs.Lowered.{IsChecked, IsLowered}
 use Rattle.frames.specs.Code as flat
+use Rattle.frames.specs.Code.{frame_bytes}
 use Rattle.frames.specs.Sound as flat_sound
 use Rattle.flattening.specs.Translated.{flat_program}
+use Rattle.residents.specs.Renumbered.{IsRenumbered}
 use Rattle.select.specs.Program.{program_items}
+use Rattle.flat_images.specs.Images.{IsImageOf}
 use Rattle.checked.specs.Asked.{is_asked}
 use Rattle.lowering.specs.Plain.{is_plain}
 use Rattle.tac_images.specs.Programs.{HasFrames}
@@ -61,31 +65,38 @@ pub record RunsAs (stack : ℕ) (p : Program) (frames file : List ℕ) : Type 0 
 
 -- ---- what is answered
 
--- each function has a frame, which is no larger than its weight
+-- Flat code of the program: what its three-address code is flattened to, the words of its frames under numbers by their use.
+pub record IsFlatCodeOf (p : Program) (f : flat.Program) : Type 0 where
+  pub plain : is_plain p ≡ true
+  pub code : tac.Program
+  pub lowered : IsLowered p code
+  pub renumbered : IsRenumbered (flat_program code) f
+  pub sound : flat_sound.IsSoundProgram f
+
+-- each function has a frame, which is no larger than its weight, and than its span
 abbrev pub FramesFit : Program → List ℕ → Type 0
 FramesFit p frames =
-    (length frames ≡ length p.functions) × ((k : ℕ) (f : Function) (bytes : ℕ) → slice_get p.functions k ≡ Some f → slice_get frames k ≡ Some bytes → bytes ≤ f.weight)
+    (length frames ≡ length p.functions)
+    × ((k : ℕ) (f : Function) (bytes : ℕ) → slice_get p.functions k ≡ Some f → slice_get frames k ≡ Some bytes → (bytes ≤ f.weight) × (bytes ≤ span f))
 
 -- at most 128 bytes for each node, and 1024 for each function and for what comes before them
 abbrev pub most_text : Program → ℕ
 most_text p = 1024 + sum_by (λ f. 128 * f.nodes + 1024) p.functions
 
--- the executable file of a program whose code is built today, and the bytes of the frame of each function
+-- The executable file of a program whose code is built today, and the bytes of the frame of each function. It is the image of flat code of the
+-- program, and has its frames; so all that is known of such an image is known of the file. Its data are 16 bytes, string literals and statics.
 pub record IsFileOf (p : Program) (file frames : List ℕ) : Type 0 where
   pub plain : is_plain p ≡ true
   pub runs : RunsAs stack_size p frames file
+  pub code : flat.Program
+  pub code_is : IsFlatCodeOf p code
+  pub frames_are : frames ≡ map frame_bytes code.functions
   pub frames_fit : FramesFit p frames
   pub parts : Parts
   pub file_is : file ≡ written.file_of parts
+  pub image_is : IsImageOf code parts
   pub text_fits : length parts.text ≤ most_text p
-
--- Flat code of the program: what its three-address code is flattened to.
-pub record IsFlatCodeOf (p : Program) (f : flat.Program) : Type 0 where
-  pub plain : is_plain p ≡ true
-  pub code : tac.Program
-  pub lowered : IsLowered p code
-  pub flattened : f ≡ flat_program code
-  pub sound : flat_sound.IsSoundProgram f
+  pub data_fits : length parts.statics ≤ 16 + data_bytes p.literals p.statics
 
 -- The items of its flat code: they end where the assembler takes them, and each jump reaches its label.
 pub record AreItemsOf (p : Program) (items : List Item) : Type 0 where

@@ -4,7 +4,10 @@ ghost use Rattle.std.specs.Prelude.{◌≡◌, IfOk, IfErr};
 ghost use Rattle.srcset.specs.Fault.{IsMemoryFault};
 ghost use Rattle.program.specs.View.{program_of};
 ghost use Rattle.tac.specs.Code as three_address;
+ghost use Rattle.tac.specs.Sound as tac_sound;
 ghost use Rattle.frames.specs.Code as flat;
+ghost use Rattle.flattening.specs.Translated.{flat_program};
+ghost use Rattle.residents.specs.Renumbered.{IsRenumbered};
 ghost use Rattle.backend.specs.declared.flat_code.NotGenerated.TheVariants.{Memory};
 ghost use Rattle.backend.specs.Generated.{IsReady, IsFlatCodeOf, IsRefused};
 ghost use Rattle.backend.specs.inside.Lowered.{IsLoweredTo};
@@ -13,6 +16,7 @@ use flattening::flatten;
 use frames::FlatProgram;
 use lower::{NotLowered, lower};
 use program::Program;
+use residents::renumber;
 use srcset::Fault;
 use std::alloc::Global;
 use tac::TacProgram;
@@ -48,6 +52,22 @@ fn lowered(alloc: Global, program: &Program) -> Result<TacProgram, NotGenerated>
     }
 }
 
+/// The flat code of three-address code, with the words in front that are used most.
+fn resident_code(alloc: Global, code: &TacProgram) -> Result<FlatProgram, NotGenerated>
+    requires { tac_sound.IsSoundProgram (three_address.program_of code.now) }
+    ensures code { IfOk result (λ f. IsRenumbered (flat_program (three_address.program_of code.now)) (flat.program_of f)) }
+    ensures memory { IfErr result (λ e. e ≡ Memory) }
+{
+    let flat = match flatten(alloc, code) {
+        Ok(flat) => flat,
+        Err(fault) => return Err(want_of_memory(fault)),
+    };
+    match renumber(alloc, flat) {
+        Ok(renumbered) => Ok(renumbered),
+        Err(_) => Err(NotGenerated::Memory),
+    }
+}
+
 /// The flat code of a program.
 pub fn flat_code(alloc: Global, program: &Program) -> Result<FlatProgram, NotGenerated>
     requires { IsReady (program_of program.now) }
@@ -55,8 +75,5 @@ pub fn flat_code(alloc: Global, program: &Program) -> Result<FlatProgram, NotGen
     ensures refused { IfErr result (IsRefused (program_of program.now)) }
 {
     let code = lowered(alloc, program)?;
-    match flatten(alloc, &code) {
-        Ok(flat) => Ok(flat),
-        Err(fault) => Err(want_of_memory(fault)),
-    }
+    resident_code(alloc, &code)
 }

@@ -1,10 +1,6 @@
 pub mod Lists
 pub mod Nodes
-pub mod Held
 pub mod HeldStatements
-pub mod Parts
-pub mod Operated
-pub mod Expressions
 pub mod Blocks
 pub mod Placed
 pub mod Whole

@@ -1,29 +1,7 @@
--- Measures of trees.
+-- Measures of statements.
 use Rattle.std.proofs.Common.{ℕ, ◌+◌}
 use Rattle.typed.specs.Program as typed
-use Rattle.typed.specs.Program.{Value, Arguments, Statement, Statements}
-
-abbrev mutual
-  pub nodes : Value → ℕ
-  nodes (typed.constant t v) = 1
-  nodes (typed.read t place) = 1
-  nodes (typed.assigned at t place e) = 1 + nodes e
-  nodes (typed.compound at op t of place e) = 1 + nodes e
-  nodes (typed.stepped at moment op t of place) = 1
-  nodes (typed.unary at op t e) = 1 + nodes e
-  nodes (typed.binary at op t a b) = 1 + (nodes a + nodes b)
-  nodes (typed.both_true a b) = 1 + (nodes a + nodes b)
-  nodes (typed.one_true a b) = 1 + (nodes a + nodes b)
-  nodes (typed.chosen t c a b) = 1 + (nodes c + (nodes a + nodes b))
-  nodes (typed.sequence a b) = 1 + (nodes a + nodes b)
-  nodes (typed.cast t e) = 1 + nodes e
-  nodes (typed.discarded e) = 1 + nodes e
-  nodes (typed.call at callee result used arguments) = 1 + argument_nodes arguments
-
-  pub argument_nodes : Arguments → ℕ
-  argument_nodes typed.no_arguments = 0
-  argument_nodes (typed.and_number t e more) = 1 + (nodes e + argument_nodes more)
-  argument_nodes (typed.and_array array more) = 1 + argument_nodes more
+use Rattle.typed.specs.Program.{Statement, Statements}
 
 abbrev mutual
   pub statement_nodes : Statement → ℕ

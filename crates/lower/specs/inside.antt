@@ -1,7 +1,6 @@
 -- What only proofs and private clauses need.
-pub mod Parts
+pub mod Given
 pub mod Sizes
-pub mod Emitted
 pub mod Places
 pub mod Written
 pub mod Functions

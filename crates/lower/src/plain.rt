@@ -1,38 +1,21 @@
 //! Which programs are plain.
 
-ghost use Rattle.std.specs.Prelude.{◌≡◌, map};
-ghost use Rattle.program.specs.View.{storage_of, callee_of, place_of, value_of, argument_of, arguments_of, option_value, initialiser_of, statement_of, statements_of, object_type_of, parameter_type_of, function_of, program_of};
+ghost use Rattle.std.specs.Prelude.{◌≡◌, ◌&&◌, map};
+ghost use Rattle.program.specs.View.{callee_of, place_of, value_of, argument_of, arguments_of, option_value, initialiser_of, statement_of, statements_of, object_type_of, parameter_type_of, function_of, program_of};
 ghost use Rattle.std.specs.List.{list_all};
 ghost use Rattle.lowering.specs.Plain as definition;
-ghost use Rattle.srcset.specs.declared.refusal.Pos.{Pos};
-ghost use Rattle.typed.specs.Program as typed;
-ghost use Rattle.lower.specs.inside.Parts.{given_is_plain};
+ghost use Rattle.lower.specs.inside.Given.{given_is_plain};
 
-use crate::bools::both;
+use lower_values::objects::object_of;
 use program::{
     Argument, Callee, Function, Initialiser, ObjectType, ParameterType, Place, Program, Statement,
-    Storage, Value,
+    Value,
 };
 
-fn object_named(what: Storage) -> Option<usize>
-    ensures { (at : Pos) → result ≡ definition.object_of (typed.named at (storage_of what)) }
+fn both(a: bool, b: bool) -> bool
+    ensures { result ≡ a && b }
 {
-    match what {
-        Storage::Automatic(number) => Some(number),
-        Storage::Literal(_) => None,
-        Storage::Static(_) => None,
-        Storage::Parameter(_) => None,
-    }
-}
-
-/// The object that a place is.
-pub(crate) fn object_of(place: &Place) -> Option<usize>
-    ensures { result ≡ definition.object_of (place_of place.now) }
-{
-    match place {
-        Place::Named(_, what) => object_named(*what),
-        Place::Element(_, _, _) => None,
-    }
+    a && b
 }
 
 fn is_object(place: &Place) -> bool

@@ -7,10 +7,10 @@ ghost use Rattle.lower.specs.inside.Places.{one_label};
 ghost use Rattle.lower.specs.inside.Written.{WroteTests};
 
 use crate::block_sizes::statement_size;
-use crate::instructions::branch;
-use crate::operands::word_of;
-use crate::sizes::plus;
-use crate::writing::{Code, put};
+use lower_values::instructions::branch;
+use lower_values::operands::word_of;
+use lower_values::sizes::plus;
+use lower_values::writing::{Code, put};
 use program::Statement;
 use std::alloc::AllocError;
 use tac::{Comparison, Instruction, Operand, Reading};

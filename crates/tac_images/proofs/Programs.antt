@@ -20,7 +20,7 @@ use Rattle.flattening.specs.Flattened.{IsFlattened, HasItsCalls, behind, before}
 use Rattle.simulation.specs.Runs.{StandsWith, slack}
 use Rattle.flat_images.specs.Images.{FitStack}
 use Rattle.flat_images.proofs.Images.{image_goes_on, image_ends}
-use Rattle.tac_images.specs.Programs.{bytes_or_none, HasFrames, ProgramGoesOn, ProgramEnds}
+use Rattle.tac_images.specs.Programs.{bytes_or_none, HasFrames, FlattenedGoesOn, FlattenedEnds, ProgramGoesOn, ProgramEnds}
 use Rattle.tac_images.proofs.Runs.{none_within, further, flattened_of}
 use Rattle.tac_images.proofs.Known.{AreKnown, Known, run_known}
 
@@ -93,9 +93,8 @@ known_at f sound input m u e = subst (Known f sound) e (run_known f sound m (fla
 calls_of : (q : tac.Program) (input : List ℕ) (m : ℕ) (t : tac_run.State) → before q input m ≡ tac_run.running t → tac_run.open_calls t ≡ active t.history
 calls_of q input m t e = subst HasCalls e (calls_are_active q m input)
 
-pub program_goes_on : ProgramGoesOn
-program_goes_on p q f parts input lowered made image bytes n s over small =
-    let flattened = flattened_of q f lowered.sound made in
+pub flattened_goes_on : FlattenedGoesOn
+flattened_goes_on p q f parts input lowered flattened image bytes n s over small =
     let b = (lowered.behaves input bytes).goes_on n s over in
     let m = b.0 in
     let t = b.2.0 in
@@ -115,12 +114,17 @@ program_goes_on p q f parts input lowered made image bytes n s over small =
       has_frames f image.assembled.env u w.1 s.history (known_at f image.sound input c.0 u c.2.1) w.5 (at.2 ∙ (calls_of q input m t b.2.1 ∙ ap active b.2.2)),
     )
 
-pub program_ends : ProgramEnds
-program_ends p q f parts input lowered made image bytes n status s over small =
-    let flattened = flattened_of q f lowered.sound made in
+pub flattened_ends : FlattenedEnds
+flattened_ends p q f parts input lowered flattened image bytes n status s over small =
     let b = (lowered.behaves input bytes).ends n status s over in
     let m = b.0 in
     let c = (flattened.in_step input bytes).ends m status s.input s.history b.1 in
     let seen : (k : ℕ) → IsSeen (weight_in p) k (before q input m) → k ≤ greatest_sum (weight_in p) s.history = λ k h. subst (IsSeen (weight_in p) k) b.1 h in
     let w = image_ends f parts input image bytes c.0 status s.input (trace_of s.history) c.1 (λ j le. fits p q f lowered flattened image.sound (behind f input j) input m c.0 j c.3 le refl (greatest_sum (weight_in p) s.history) seen small) in
     (w.0, w.1, omega (arith, w.2, c.2, b.2), w.3, w.4, w.5)
+
+pub program_goes_on : ProgramGoesOn
+program_goes_on p q f parts input lowered made = flattened_goes_on p q f parts input lowered (flattened_of q f lowered.sound made)
+
+pub program_ends : ProgramEnds
+program_ends p q f parts input lowered made = flattened_ends p q f parts input lowered (flattened_of q f lowered.sound made)

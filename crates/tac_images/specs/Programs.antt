@@ -16,6 +16,7 @@ use Rattle.tac.specs.Lowered.{IsLowered}
 use Rattle.frames.specs.Code as flat
 use Rattle.frames.specs.Code.{frame_bytes}
 use Rattle.flattening.specs.Translated.{flat_program}
+use Rattle.flattening.specs.Flattened.{IsFlattened}
 use Rattle.simulation.specs.Runs.{slack}
 use Rattle.flat_images.specs.Images.{IsImageOf}
 
@@ -29,19 +30,38 @@ abbrev pub HasFrames : (frames : List ℕ) → List Entry → World → Type 0
 HasFrames frames history w =
     (register w.machine 2 % 16 ≡ 0) × (register w.machine 2 + sum_of (λ g. bytes_or_none (slice_get frames g)) (active history) ≡ stack_end)
 
--- Where the image is that of the flat program of what the typed program was lowered to, the abstract machine has used n ticks, and its calls never
--- weighed more than the stack: the machine goes on too, has done the same and has the same input left, after at most 60 n + 64 instructions, and at
--- least one for each so many ticks.
-abbrev pub ProgramGoesOn : Type 0
-ProgramGoesOn =
-    (p : Program) (q : tac.Program) (f : flat.Program) (parts : Parts) (input : List ℕ) → IsLowered p q → f ≡ flat_program q → IsImageOf f parts → AreBytes input
-    → (n : ℕ) (s : State) → cstep n p input ≡ Stops TicksUsed s → greatest_sum (weight_in p) s.history ≤ stack_size
+-- Where the abstract machine has used n ticks, and its calls never weighed more than the stack: the machine goes on from the image of flat code f too,
+-- has done the same and has the same input left, after at most 60 n + 64 instructions, and at least one for each so many ticks.
+abbrev pub GoesOnWith : Program → flat.Program → Parts → (input : List ℕ) → Type 0
+GoesOnWith p f parts input =
+    (n : ℕ) (s : State) → cstep n p input ≡ Stops TicksUsed s → greatest_sum (weight_in p) s.history ≤ stack_size
     → (k : ℕ) × (w : World) × (n < slack f * k) × (k ≤ 60 * n + 64) × (rvrun k (start_world (program_image parts) input) ≡ sim.Running w) × (w.trace ≡ trace_of s.history) × (w.input ≡ s.input)
     × HasFrames (map frame_bytes f.functions) s.history w
 
 -- Where it has ended: the machine ends with the same status.
+abbrev pub EndsWith : Program → Parts → (input : List ℕ) → Type 0
+EndsWith p parts input =
+    (n status : ℕ) (s : State) → cstep n p input ≡ Stops (Ended status) s → greatest_sum (weight_in p) s.history ≤ stack_size
+    → (k : ℕ) × (w : World) × (k ≤ 60 * n + 66) × (rvrun k (start_world (program_image parts) input) ≡ sim.Ended status w) × (w.trace ≡ trace_of s.history) × (w.input ≡ s.input)
+
+-- where the image is that of flat code that does what the typed program's three-address code does
+abbrev pub FlattenedGoesOn : Type 0
+FlattenedGoesOn =
+    (p : Program) (q : tac.Program) (f : flat.Program) (parts : Parts) (input : List ℕ) → IsLowered p q → IsFlattened q f → IsImageOf f parts → AreBytes input
+    → GoesOnWith p f parts input
+
+abbrev pub FlattenedEnds : Type 0
+FlattenedEnds =
+    (p : Program) (q : tac.Program) (f : flat.Program) (parts : Parts) (input : List ℕ) → IsLowered p q → IsFlattened q f → IsImageOf f parts → AreBytes input
+    → EndsWith p parts input
+
+-- so it is of the flat program that the three-address code is flattened to
+abbrev pub ProgramGoesOn : Type 0
+ProgramGoesOn =
+    (p : Program) (q : tac.Program) (f : flat.Program) (parts : Parts) (input : List ℕ) → IsLowered p q → f ≡ flat_program q → IsImageOf f parts → AreBytes input
+    → GoesOnWith p f parts input
+
 abbrev pub ProgramEnds : Type 0
 ProgramEnds =
     (p : Program) (q : tac.Program) (f : flat.Program) (parts : Parts) (input : List ℕ) → IsLowered p q → f ≡ flat_program q → IsImageOf f parts → AreBytes input
-    → (n status : ℕ) (s : State) → cstep n p input ≡ Stops (Ended status) s → greatest_sum (weight_in p) s.history ≤ stack_size
-    → (k : ℕ) × (w : World) × (k ≤ 60 * n + 66) × (rvrun k (start_world (program_image parts) input) ≡ sim.Ended status w) × (w.trace ≡ trace_of s.history) × (w.input ≡ s.input)
+    → EndsWith p parts input

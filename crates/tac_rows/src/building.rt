@@ -10,6 +10,7 @@ use flattening::flatten;
 use frames::FlatProgram;
 use loader::load;
 use loader::memory_map::TEXT_START;
+use residents::renumber;
 use select::select;
 use sim::{Machine, Outcome, Port, PortFault};
 use std::alloc::Global;
@@ -38,7 +39,7 @@ pub fn build(alloc: Global, program: &TacProgram) -> Result<Built> {
     if !is_sound(program) {
         return None.context("not sound");
     }
-    let flat = flatten(alloc, program)?;
+    let flat = renumber(alloc, flatten(alloc, program)?)?;
     let items = select(alloc, &flat)?;
     if !items.is_low(TEXT_START) {
         return None.context("too many items");

@@ -2,7 +2,7 @@ use Rattle.std.proofs.Common.{List, map, refl}
 use Rattle.program.specs.declared.expressions.Argument.{Argument}
 use Rattle.program.specs.View.{arguments_of, argument_of}
 use Rattle.lowering.specs.Plain as definition
-use Rattle.lower.specs.inside.Parts.{given_is_plain}
+use Rattle.lower.specs.inside.Given.{given_is_plain}
 use Rattle.lower.proofs.Lists.{next_all, plain_step}
 use Rattle.lower.proofs.plain.+plain_values.Goals as goal
 

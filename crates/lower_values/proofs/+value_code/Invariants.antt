@@ -1,0 +1,82 @@
+use Rattle.std.proofs.Common.{◌+◌, ◌*◌, map}
+use Rattle.program.specs.View.{value_of, arguments_of, argument_of}
+use Rattle.lower_values.proofs.Nodes.{nodes, argument_nodes}
+use Rattle.lower_values.proofs.+value_code.Given as goal
+
+abbrev pub decreases-values::put_value : goal.decreases-values::put_value
+decreases-values::put_value l = 8 * nodes (value_of l.e.now)
+
+abbrev pub decreases-values::put_passes : goal.decreases-values::put_passes
+decreases-values::put_passes l = 8 * argument_nodes (arguments_of (map argument_of l.arguments.now))
+
+abbrev pub decreases-values::put_call_node : goal.decreases-values::put_call_node
+decreases-values::put_call_node l = 8 * argument_nodes (arguments_of (map argument_of l.arguments.now)) + 1
+
+abbrev pub decreases-values::put_number : goal.decreases-values::put_number
+decreases-values::put_number l = 8 * (nodes (value_of l.e.now) + argument_nodes (arguments_of (map argument_of l.more.now))) + 1
+
+abbrev pub decreases-values::put_rested : goal.decreases-values::put_rested
+decreases-values::put_rested l = 8 * nodes (value_of l.e.now) + 1
+
+abbrev pub decreases-values::put_converted : goal.decreases-values::put_converted
+decreases-values::put_converted l = 8 * nodes (value_of l.e.now) + 2
+
+abbrev pub decreases-values::put_cast : goal.decreases-values::put_cast
+decreases-values::put_cast l = 8 * nodes (value_of l.e.now) + 2
+
+abbrev pub decreases-values::put_assigned : goal.decreases-values::put_assigned
+decreases-values::put_assigned l = 8 * nodes (value_of l.e.now) + 3
+
+abbrev pub decreases-values::put_cast_node : goal.decreases-values::put_cast_node
+decreases-values::put_cast_node l = 8 * nodes (value_of l.e.now) + 3
+
+abbrev pub decreases-values::put_compound : goal.decreases-values::put_compound
+decreases-values::put_compound l = 8 * nodes (value_of l.e.now) + 3
+
+abbrev pub decreases-operators::put_minus : goal.decreases-operators::put_minus
+decreases-operators::put_minus l = 8 * nodes (value_of l.e.now) + 2
+
+abbrev pub decreases-operators::put_complement : goal.decreases-operators::put_complement
+decreases-operators::put_complement l = 8 * nodes (value_of l.e.now) + 2
+
+abbrev pub decreases-operators::put_is_zero : goal.decreases-operators::put_is_zero
+decreases-operators::put_is_zero l = 8 * nodes (value_of l.e.now) + 2
+
+abbrev pub decreases-operators::put_plus : goal.decreases-operators::put_plus
+decreases-operators::put_plus l = 8 * nodes (value_of l.e.now) + 2
+
+abbrev pub decreases-operators::put_not : goal.decreases-operators::put_not
+decreases-operators::put_not l = 8 * nodes (value_of l.e.now) + 3
+
+abbrev pub decreases-operators::put_unary : goal.decreases-operators::put_unary
+decreases-operators::put_unary l = 8 * nodes (value_of l.e.now) + 4
+
+abbrev pub decreases-values::put_discarded : goal.decreases-values::put_discarded
+decreases-values::put_discarded l = 8 * nodes (value_of l.e.now) + 1
+
+abbrev pub decreases-operators::put_binary : goal.decreases-operators::put_binary
+decreases-operators::put_binary l = 8 * (nodes (value_of l.a.now) + nodes (value_of l.b.now)) + 2
+
+abbrev pub decreases-operators::put_both_jump : goal.decreases-operators::put_both_jump
+decreases-operators::put_both_jump l = 8 * (nodes (value_of l.a.now) + nodes (value_of l.b.now)) + 1
+
+abbrev pub decreases-operators::put_one_jump : goal.decreases-operators::put_one_jump
+decreases-operators::put_one_jump l = 8 * (nodes (value_of l.a.now) + nodes (value_of l.b.now)) + 1
+
+abbrev pub decreases-operators::put_both_number : goal.decreases-operators::put_both_number
+decreases-operators::put_both_number l = 8 * (nodes (value_of l.a.now) + nodes (value_of l.b.now)) + 1
+
+abbrev pub decreases-operators::put_one_number : goal.decreases-operators::put_one_number
+decreases-operators::put_one_number l = 8 * (nodes (value_of l.a.now) + nodes (value_of l.b.now)) + 1
+
+abbrev pub decreases-operators::put_both : goal.decreases-operators::put_both
+decreases-operators::put_both l = 8 * (nodes (value_of l.a.now) + nodes (value_of l.b.now)) + 2
+
+abbrev pub decreases-operators::put_one : goal.decreases-operators::put_one
+decreases-operators::put_one l = 8 * (nodes (value_of l.a.now) + nodes (value_of l.b.now)) + 2
+
+abbrev pub decreases-values::put_sequence : goal.decreases-values::put_sequence
+decreases-values::put_sequence l = 8 * (nodes (value_of l.a.now) + nodes (value_of l.b.now)) + 1
+
+abbrev pub decreases-operators::put_chosen : goal.decreases-operators::put_chosen
+decreases-operators::put_chosen l = 8 * (nodes (value_of l.c.now) + (nodes (value_of l.a.now) + nodes (value_of l.b.now))) + 1

@@ -1,0 +1,5 @@
+pub mod Pairs
+pub mod Words
+pub mod Steps
+pub mod Whole
+pub mod Soundness
