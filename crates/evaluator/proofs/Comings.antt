@@ -15,7 +15,7 @@ use Rattle.evaluator.specs.declared.clock.Why.{Why}
 use Rattle.evaluator.specs.declared.clock.Why.TheVariants as why
 use Rattle.evaluator.specs.inside.Comes.{Course, state_at, Leads, StopsBy, Comes, Idles, Gives}
 
-then_assoc : {A B C : Type 0} (r : Run A) (f : A → State → Run B) (g : B → State → Run C) → then_do (then_do r f) g ≡ then_do r (λ a s. then_do (f a s) g)
+pub then_assoc : {A B C : Type 0} (r : Run A) (f : A → State → Run B) (g : B → State → Run C) → then_do (then_do r f) g ≡ then_do r (λ a s. then_do (f a s) g)
 then_assoc (Goes a s) f g = refl
 then_assoc (Stops e s) f g = refl
 

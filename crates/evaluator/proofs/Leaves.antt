@@ -19,7 +19,7 @@ use Rattle.evaluator.specs.declared.clock.Clock.{Clock}
 use Rattle.evaluator.specs.inside.Comes.{Course, Leads, Comes, Gives}
 use Rattle.evaluator.proofs.Comings.{gave, leads_as}
 
-runs_as : {A B : Type 0} (view : A → B) (x y : Run B) (r : Result A Stop) (s : State) → x ≡ y → Runs view x r s → Runs view y r s
+pub runs_as : {A B : Type 0} (view : A → B) (x y : Run B) (r : Result A Stop) (s : State) → x ≡ y → Runs view x r s → Runs view y r s
 runs_as view x y r s e h = let P : Run _ → Type 0 = λ x. Runs view x r s in subst P e h
 
 -- a leaf of one operand that is the same as another
@@ -43,22 +43,6 @@ gave_with_both view c limit k before later part rest new same d d2 e e2 is is2 h
 pub chose : {A : Type 0} (c : Course) (k : ℕ) (scene : Scene) (b d : Bool) (f g : State → Run A) (rest : A → State → Run Found) → b ≡ d →
     Leads c k scene (λ s. choose b (f s) (g s)) rest → Leads c k scene (λ s. choose d (f s) (g s)) rest
 chose c k scene b d f g rest e h = leads_as c k scene (λ s. choose b (f s) (g s)) (λ s. choose d (f s) (g s)) rest (λ s. ap (λ b. choose b (f s) (g s)) e) h
-
--- assignments that read their element
-module _ (c : Course) (k : ℕ) (scene : Scene) (rest : ℤ → State → Run Found) (p : typed.Program) (r : Reference) (at : Pos) where
-  pub combines : (a : Compound) (v : ℤ) → a.read_at ≡ at →
-      Leads c k scene (λ s. then_do (read at r s) (λ old s. then_do (computed_at a.at (operated a.op a.of old v) s) (λ w s. write p a.at r (converted a.ty w) s))) rest →
-      Leads c k scene (λ s. combined p a r v s) rest
-  combines a v e h = leads_as c k scene _ (λ s. combined p a r v s) rest
-      (λ s. ap (λ at. then_do (read at r s) (λ old s. then_do (computed_at a.at (operated a.op a.of old v) s) (λ w s. write p a.at r (converted a.ty w) s))) (sym e)) h
-
-  pub steps : (a : Stepping) → a.read_at ≡ at →
-      Leads c k scene (λ s. then_do (read at r s) (λ old s. then_do (computed_at a.at (operated (step_operation a.op) a.of old (pos 1)) s) (λ w s.
-      then_do (write p a.at r (converted a.ty w) s) (λ new s. Goes (step_value (moment_of a.moment) old new) s)))) rest →
-      Leads c k scene (λ s. stepped p a r s) rest
-  steps a e h = leads_as c k scene _ (λ s. stepped p a r s) rest
-      (λ s. ap (λ at. then_do (read at r s) (λ old s. then_do (computed_at a.at (operated (step_operation a.op) a.of old (pos 1)) s) (λ w s.
-      then_do (write p a.at r (converted a.ty w) s) (λ new s. Goes (step_value (moment_of a.moment) old new) s)))) (sym e)) h
 
 -- what a test chooses, and then
 pub leads_chosen : {A B : Type 0} (c : Course) (k : ℕ) (scene : Scene) (b d : Bool) (f g : State → Run A) (next : A → State → Run B) (rest : B → State → Run Found) → b ≡ d →

@@ -2,3 +2,4 @@ pub mod Comings
 pub mod Flows
 pub mod Leaves
 pub mod Work
+pub mod Wholes

@@ -10,10 +10,10 @@ abbrev mutual
 
   pub work : Value → ℕ
   work (typed.constant t v) = 1
-  work (typed.read t place) = work_place place + 3
-  work (typed.assigned at t place e) = work_place place + work e + 3
-  work (typed.compound at op t of place e) = work_place place + work e + 3
-  work (typed.stepped at moment op t of place) = work_place place + 3
+  work (typed.read t place) = work_place place + 5
+  work (typed.assigned at t place e) = work_place place + work e + 4
+  work (typed.compound at op t of place e) = work_place place + work e + 4
+  work (typed.stepped at moment op t of place) = work_place place + 4
   work (typed.unary at op t e) = work e + 3
   work (typed.binary at op t a b) = work a + work b + 3
   work (typed.both_true a b) = work a + work b + 3

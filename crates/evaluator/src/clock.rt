@@ -46,19 +46,24 @@ impl Clock {
         ensures idle { OnFalse result (Idles self.new.why self.new.spent limit) }
         ensures same { OnFalse result (self.new.spent ≡ self.old.spent) }
     {
+        if self.spent < limit {
+            self.spent += 1;
+            true
+        } else {
+            self.idle(limit);
+            false
+        }
+    }
+
+    /// No tick is left.
+    fn idle(&mut self, limit: u64)
+        ensures idle { Idles self.new.why self.new.spent limit }
+        ensures same { self.new.spent ≡ self.old.spent }
+    {
         if self.spent == limit {
             self.why = Why::Ticks;
-            return false;
-        }
-        match self.spent.checked_add(1) {
-            Some(spent) => {
-                self.spent = spent;
-                true
-            }
-            None => {
-                self.why = Why::Memory;
-                false
-            }
+        } else {
+            self.why = Why::Memory;
         }
     }
 

@@ -5,13 +5,15 @@ ghost use Rattle.ctypes.specs.declared.types.IntType.{IntType};
 ghost use Rattle.ctypes.specs.Types.{truth, of_truth, converted};
 ghost use Rattle.typed.specs.Program as typed;
 ghost use Rattle.program.specs.View.{moment_of, place_of, storage_of, value_of};
-ghost use Rattle.meaning.specs.Machine.{Goes, choose, then_do, tick};
+ghost use Rattle.meaning.specs.Machine.{Goes, choose, read, subscripted, then_do, tick, write};
+ghost use Rattle.meaning.specs.Store.{whole};
 ghost use Rattle.meaning.specs.Expressions as meaning;
 ghost use Rattle.cabs.specs.View.{reference_of};
-ghost use Rattle.cabs.specs.inside.Agrees.{number};
+ghost use Rattle.cabs.specs.inside.Agrees.{combined, number, stepped};
 ghost use Rattle.evaluator.specs.inside.Comes.{Does, found, valued};
 
 use crate::clock::{Clock, Scope, Why};
+use crate::objects::{object_stepped, read_at, read_element, read_object, whole_object};
 use cabs::Reference;
 use cabs::frames::{Compound, Stepping};
 use cabs::operators::{converted_or_none, is_true, of_truth, operated_at, sign_at};
@@ -132,6 +134,30 @@ pub fn value(scope: &Scope<'_>, scene: &mut Scene, clock: &mut Clock, e: &Value)
     }
 }
 
+/// The same, where the smallest parts are done on the spot.
+#[cycle(evaluate)]
+#[inline(always)]
+pub fn operand(scope: &Scope<'_>, scene: &mut Scene, clock: &mut Clock, e: &Value) -> Option<i64>
+    ensures { Does number scope.now (valued (value_of e.now)) clock.old scene.old result clock.new scene.new }
+{
+    match e {
+        Value::Constant(ty, v) => constant(scope, scene, clock, *ty, *v),
+        Value::Read(ty, a) => read(scope, scene, clock, *ty, a),
+        Value::Assigned(_, _, _, _) => value(scope, scene, clock, e),
+        Value::Compound(_, _, _, _, _, _) => value(scope, scene, clock, e),
+        Value::Stepped(_, _, _, _, _, _) => value(scope, scene, clock, e),
+        Value::Unary(_, _, _, _) => value(scope, scene, clock, e),
+        Value::Binary(_, _, _, _, _) => value(scope, scene, clock, e),
+        Value::BothTrue(_, _) => value(scope, scene, clock, e),
+        Value::OneTrue(_, _) => value(scope, scene, clock, e),
+        Value::Chosen(_, _, _, _) => value(scope, scene, clock, e),
+        Value::Sequence(_, _) => value(scope, scene, clock, e),
+        Value::Cast(_, _) => value(scope, scene, clock, e),
+        Value::Discarded(_) => value(scope, scene, clock, e),
+        Value::Call(_, _, _, _, _) => value(scope, scene, clock, e),
+    }
+}
+
 #[inline(always)]
 fn constant(scope: &Scope<'_>, scene: &Scene, clock: &mut Clock, ty: IntType, v: i64) -> Option<i64>
     ensures { Does number scope.now (valued (typed.constant ty v)) clock.old scene.now result clock.new scene.now }
@@ -154,10 +180,115 @@ fn read(
 ) -> Option<i64>
     ensures { Does number scope.now (valued (typed.read ty (place_of a.now))) clock.old scene.old result clock.new scene.new }
 {
+    match whole_object(scope, scene, a) {
+        Some(n) => read_object(scope, scene, clock, position_of(a), n),
+        None => read_part(scope, scene, clock, ty, a),
+    }
+}
+
+/// The value of an element that is no whole object.
+#[cycle(evaluate)]
+#[inline(never)]
+fn read_part(
+    scope: &Scope<'_>,
+    scene: &mut Scene,
+    clock: &mut Clock,
+    ty: IntType,
+    a: &Place,
+) -> Option<i64>
+    ensures { Does number scope.now (valued (typed.read ty (place_of a.now))) clock.old scene.old result clock.new scene.new }
+{
+    match a {
+        Place::Named(_, _) => read_found(scope, scene, clock, ty, a),
+        Place::Element(at, array, index) => element_read(scope, scene, clock, ty, at, array, index),
+    }
+}
+
+/// The value of the element at a reference.
+#[cycle(evaluate)]
+#[inline(never)]
+fn read_found(
+    scope: &Scope<'_>,
+    scene: &mut Scene,
+    clock: &mut Clock,
+    ty: IntType,
+    a: &Place,
+) -> Option<i64>
+    ensures { Does number scope.now (valued (typed.read ty (place_of a.now))) clock.old scene.old result clock.new scene.new }
+{
     let Some(r) = place(scope, scene, clock, a) else {
         return None;
     };
     clock.given(scene.read(position_of(a), &r))
+}
+
+/// The value of an element of an array (6.5.2.1).
+#[cycle(evaluate)]
+#[inline(always)]
+fn element_read(
+    scope: &Scope<'_>,
+    scene: &mut Scene,
+    clock: &mut Clock,
+    ty: IntType,
+    at: &Pos,
+    array: &Place,
+    index: &Value,
+) -> Option<i64>
+    ensures { Does number scope.now (valued (typed.read ty (typed.element at.now (place_of array.now) (value_of index.now)))) clock.old scene.old result clock.new scene.new }
+{
+    if !clock.tick(scope.limit) {
+        return None;
+    }
+    match whole_object(scope, scene, array) {
+        Some(n) => element_of(scope, scene, clock, at, n, index),
+        None => row_read(scope, scene, clock, at, array, index),
+    }
+}
+
+/// The value of an element of the array that is object `n`.
+#[cycle(evaluate)]
+#[inline(always)]
+fn element_of(
+    scope: &Scope<'_>,
+    scene: &mut Scene,
+    clock: &mut Clock,
+    at: &Pos,
+    n: usize,
+    index: &Value,
+) -> Option<i64>
+    ensures { Does number scope.now (λ p s. tick s (λ s. then_do (valued (value_of index.now) p s) (λ v s. then_do (subscripted at.now (whole n) v s) (λ r s. read at.now r s))))
+        clock.old scene.old result clock.new scene.new }
+{
+    if !clock.tick(scope.limit) {
+        return None;
+    }
+    let Some(v) = operand(scope, scene, clock, index) else {
+        return None;
+    };
+    clock.given(read_element(scope.alloc, scene, *at, n, v))
+}
+
+/// The value of an element of a row.
+#[cycle(evaluate)]
+#[inline(never)]
+fn row_read(
+    scope: &Scope<'_>,
+    scene: &mut Scene,
+    clock: &mut Clock,
+    at: &Pos,
+    array: &Place,
+    index: &Value,
+) -> Option<i64>
+    ensures { Does number scope.now (λ p s. then_do (found (place_of array.now) p s) (λ r s. then_do (valued (value_of index.now) p s) (λ v s.
+        then_do (subscripted at.now r v s) (λ r s. read at.now r s)))) clock.old scene.old result clock.new scene.new }
+{
+    let Some(r) = place(scope, scene, clock, array) else {
+        return None;
+    };
+    let Some(v) = value(scope, scene, clock, index) else {
+        return None;
+    };
+    clock.given(read_at(scope.alloc, scene, *at, r, v))
 }
 
 /// Assignment (6.5.16.1).
@@ -177,6 +308,51 @@ fn assigned(
     if !clock.tick(scope.limit) {
         return None;
     }
+    match whole_object(scope, scene, a) {
+        Some(n) => object_assigned(scope, scene, clock, at, ty, n, e),
+        None => part_assigned(scope, scene, clock, at, ty, a, e),
+    }
+}
+
+/// Assignment to object `n`.
+#[cycle(evaluate)]
+#[inline(always)]
+fn object_assigned(
+    scope: &Scope<'_>,
+    scene: &mut Scene,
+    clock: &mut Clock,
+    at: &Pos,
+    ty: IntType,
+    n: usize,
+    e: &Value,
+) -> Option<i64>
+    ensures { Does number scope.now (λ p s. tick s (λ s. then_do (valued (value_of e.now) p s) (λ v s. write p at.now (whole n) (converted ty v) s)))
+        clock.old scene.old result clock.new scene.new }
+{
+    if !clock.tick(scope.limit) {
+        return None;
+    }
+    let Some(v) = operand(scope, scene, clock, e) else {
+        return None;
+    };
+    clock.given(scene.write(scope.program, *at, &Reference::whole(n), ty, v))
+}
+
+/// Assignment to what is no whole object.
+#[cycle(evaluate)]
+#[inline(never)]
+fn part_assigned(
+    scope: &Scope<'_>,
+    scene: &mut Scene,
+    clock: &mut Clock,
+    at: &Pos,
+    ty: IntType,
+    a: &Place,
+    e: &Value,
+) -> Option<i64>
+    ensures { Does number scope.now (λ p s. then_do (found (place_of a.now) p s) (λ r s. then_do (valued (value_of e.now) p s) (λ v s. write p at.now r (converted ty v) s)))
+        clock.old scene.old result clock.new scene.new }
+{
     let Some(r) = place(scope, scene, clock, a) else {
         return None;
     };
@@ -202,13 +378,10 @@ fn compound(
     if !clock.tick(scope.limit) {
         return None;
     }
-    let Some(r) = place(scope, scene, clock, a) else {
-        return None;
-    };
-    let Some(v) = value(scope, scene, clock, e) else {
-        return None;
-    };
-    clock.given(scene.combine(scope.program, *c, &r, v))
+    match whole_object(scope, scene, a) {
+        Some(n) => object_combined(scope, scene, clock, c, n, e),
+        None => part_combined(scope, scene, clock, c, a, e),
+    }
 }
 
 /// `++` and `--` (6.5.2.4, 6.5.3.1).
@@ -226,6 +399,68 @@ fn stepped(
     if !clock.tick(scope.limit) {
         return None;
     }
+    match whole_object(scope, scene, a) {
+        Some(n) => object_stepped(scope, scene, clock, c, n),
+        None => part_stepped(scope, scene, clock, c, a),
+    }
+}
+
+/// A compound assignment to object `n`.
+#[cycle(evaluate)]
+fn object_combined(
+    scope: &Scope<'_>,
+    scene: &mut Scene,
+    clock: &mut Clock,
+    c: &Compound,
+    n: usize,
+    e: &Value,
+) -> Option<i64>
+    ensures { Does number scope.now (λ p s. tick s (λ s. then_do (valued (value_of e.now) p s) (λ v s. combined p c.now (whole n) v s))) clock.old scene.old result clock.new scene.new }
+{
+    if !clock.tick(scope.limit) {
+        return None;
+    }
+    let Some(v) = operand(scope, scene, clock, e) else {
+        return None;
+    };
+    clock.given(scene.combine(scope.program, *c, &Reference::whole(n), v))
+}
+
+/// A compound assignment to what is no whole object.
+#[cycle(evaluate)]
+#[inline(never)]
+fn part_combined(
+    scope: &Scope<'_>,
+    scene: &mut Scene,
+    clock: &mut Clock,
+    c: &Compound,
+    a: &Place,
+    e: &Value,
+) -> Option<i64>
+    ensures { Does number scope.now (λ p s. then_do (found (place_of a.now) p s) (λ r s. then_do (valued (value_of e.now) p s) (λ v s. combined p c.now r v s)))
+        clock.old scene.old result clock.new scene.new }
+{
+    let Some(r) = place(scope, scene, clock, a) else {
+        return None;
+    };
+    let Some(v) = value(scope, scene, clock, e) else {
+        return None;
+    };
+    clock.given(scene.combine(scope.program, *c, &r, v))
+}
+
+/// `++` and `--` of what is no whole object.
+#[cycle(evaluate)]
+#[inline(never)]
+fn part_stepped(
+    scope: &Scope<'_>,
+    scene: &mut Scene,
+    clock: &mut Clock,
+    c: &Stepping,
+    a: &Place,
+) -> Option<i64>
+    ensures { Does number scope.now (λ p s. then_do (found (place_of a.now) p s) (λ r s. stepped p c.now r s)) clock.old scene.old result clock.new scene.new }
+{
     let Some(r) = place(scope, scene, clock, a) else {
         return None;
     };
@@ -272,10 +507,10 @@ fn binary(
     if !clock.tick(scope.limit) {
         return None;
     }
-    let Some(v) = value(scope, scene, clock, a) else {
+    let Some(v) = operand(scope, scene, clock, a) else {
         return None;
     };
-    let Some(w) = value(scope, scene, clock, b) else {
+    let Some(w) = operand(scope, scene, clock, b) else {
         return None;
     };
     clock.given(operated_at(*at, op, ty, v, w))

@@ -4,6 +4,7 @@
 pub mod clock;
 pub mod definitions;
 pub mod expressions;
+pub mod objects;
 pub mod parts;
 pub mod quick;
 pub mod statements;

@@ -12,7 +12,7 @@ ghost use Rattle.evaluator.specs.inside.Comes.{Does, all_executed, executed, obj
 
 use crate::clock::{Clock, Scope};
 use crate::definitions::{definition, left_out};
-use crate::expressions::value;
+use crate::expressions::{operand, value};
 use cabs::frames::Flow;
 use cabs::operators::is_true;
 use cabs::scene::Scene;
@@ -151,7 +151,7 @@ fn branch(
     if !clock.tick(scope.limit) {
         return None;
     }
-    let Some(v) = value(scope, scene, clock, e) else {
+    let Some(v) = operand(scope, scene, clock, e) else {
         return None;
     };
     if is_true(v) {
@@ -176,7 +176,7 @@ fn branches(
     if !clock.tick(scope.limit) {
         return None;
     }
-    let Some(v) = value(scope, scene, clock, e) else {
+    let Some(v) = operand(scope, scene, clock, e) else {
         return None;
     };
     if is_true(v) {
@@ -266,7 +266,7 @@ fn value_or(
 {
     match e {
         None => Some(1),
-        Some(e) => value(scope, scene, clock, e),
+        Some(e) => operand(scope, scene, clock, e),
     }
 }
 

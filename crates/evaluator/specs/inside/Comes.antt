@@ -4,14 +4,14 @@ use Rattle.typed.specs.Program as typed
 use Rattle.program.specs.View.{program_of, object_type_of}
 use Rattle.meaning.specs.History.{Entry}
 use Rattle.meaning.specs.Machine as machine
-use Rattle.meaning.specs.Machine.{State, Run, Stops, then_do}
+use Rattle.meaning.specs.Machine.{State, Run, Goes, Stops, then_do, tick}
 use Rattle.cabs.specs.declared.scene.Scene.{Scene}
 use Rattle.cabs.specs.declared.stop.Stop.{Stop}
 use Rattle.cabs.specs.declared.stop.Stop.TheVariants as stop
 use Rattle.cabs.specs.inside.Frames.{Found}
 use Rattle.cabs.specs.inside.Agrees.{state_in}
 use Rattle.cabs.specs.inside.Presents.{call_in}
-use Rattle.meaning.specs.Store.{Reference}
+use Rattle.meaning.specs.Store.{Reference, whole}
 use Rattle.meaning.specs.Expressions.{find, evaluate}
 use Rattle.meaning.specs.Statements.{Flow, Normal, Broken, Continued, Returned, execute, execute_all}
 use Rattle.typed.specs.Types.{ObjectType}
@@ -96,3 +96,20 @@ way_out Normal = None
 way_out Continued = None
 way_out Broken = Some Normal
 way_out (Returned v) = Some (Returned v)
+
+-- ---- whole objects and their elements
+
+-- a name designates a whole object
+abbrev pub Designates : Option ℕ → Reference → Type 0
+Designates None r = ⊤
+Designates (Some n) r = r ≡ whole n
+
+-- a place is a whole object, behind the tick of its name
+abbrev pub IsWhole : Option ℕ → Run Reference → State → Type 0
+IsWhole None run s = ⊤
+IsWhole (Some n) run s = run ≡ tick s (λ s. Goes (whole n) s)
+
+-- an element has a value
+abbrev pub IsPart : Option ℤ → Run ℤ → State → Type 0
+IsPart None run s = ⊤
+IsPart (Some v) run s = run ≡ Goes v s

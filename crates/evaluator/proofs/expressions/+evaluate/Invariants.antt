@@ -13,16 +13,16 @@ abbrev pub decreases-value : goal.decreases-value
 decreases-value l = work (value_of l.e.now)
 
 abbrev pub decreases-read : goal.decreases-read
-decreases-read l = work_place (place_of l.a.now) + 2
+decreases-read l = work_place (place_of l.a.now) + 4
 
 abbrev pub decreases-assigned : goal.decreases-assigned
-decreases-assigned l = work_place (place_of l.a.now) + work (value_of l.e.now) + 2
+decreases-assigned l = work_place (place_of l.a.now) + work (value_of l.e.now) + 3
 
 abbrev pub decreases-compound : goal.decreases-compound
-decreases-compound l = work_place (place_of l.a.now) + work (value_of l.e.now) + 2
+decreases-compound l = work_place (place_of l.a.now) + work (value_of l.e.now) + 3
 
 abbrev pub decreases-stepped : goal.decreases-stepped
-decreases-stepped l = work_place (place_of l.a.now) + 2
+decreases-stepped l = work_place (place_of l.a.now) + 3
 
 abbrev pub decreases-unary : goal.decreases-unary
 decreases-unary l = work (value_of l.e.now) + 2
@@ -53,3 +53,36 @@ decreases-cast l = work (value_of l.e.now) + 2
 
 abbrev pub decreases-discarded : goal.decreases-discarded
 decreases-discarded l = work (value_of l.e.now) + 2
+
+abbrev pub decreases-read_part : goal.decreases-read_part
+decreases-read_part l = work_place (place_of l.a.now) + 3
+
+abbrev pub decreases-read_found : goal.decreases-read_found
+decreases-read_found l = work_place (place_of l.a.now) + 2
+
+abbrev pub decreases-element_of : goal.decreases-element_of
+decreases-element_of l = work (value_of l.index.now) + 2
+
+abbrev pub decreases-operand : goal.decreases-operand
+decreases-operand l = work (value_of l.e.now) + 1
+
+abbrev pub decreases-object_assigned : goal.decreases-object_assigned
+decreases-object_assigned l = work (value_of l.e.now) + 2
+
+abbrev pub decreases-part_assigned : goal.decreases-part_assigned
+decreases-part_assigned l = work_place (place_of l.a.now) + work (value_of l.e.now) + 2
+
+abbrev pub decreases-object_combined : goal.decreases-object_combined
+decreases-object_combined l = work (value_of l.e.now) + 2
+
+abbrev pub decreases-part_combined : goal.decreases-part_combined
+decreases-part_combined l = work_place (place_of l.a.now) + work (value_of l.e.now) + 2
+
+abbrev pub decreases-part_stepped : goal.decreases-part_stepped
+decreases-part_stepped l = work_place (place_of l.a.now) + 2
+
+abbrev pub decreases-element_read : goal.decreases-element_read
+decreases-element_read l = work_place (place_of l.array.now) + work (value_of l.index.now) + 5
+
+abbrev pub decreases-row_read : goal.decreases-row_read
+decreases-row_read l = work_place (place_of l.array.now) + work (value_of l.index.now) + 2

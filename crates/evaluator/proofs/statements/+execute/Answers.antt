@@ -33,24 +33,24 @@ branch-returns-then-not-tick t c = λ run rest h.
 
 pub branch-returns-in_default : goal.branch-returns-in_default
 branch-returns-in_default t c = λ run rest h.
-    gone_none number run c.args.scope.now.limit c.tick.new.self.spent c.args.scene.now _ _ rest c.value.result c.value.new.clock c.value.new.scene c.in_default.is (c.value.ensures run)
+    gone_none number run c.args.scope.now.limit c.tick.new.self.spent c.args.scene.now _ _ rest c.operand.result c.operand.new.clock c.operand.new.scene c.in_default.is (c.operand.ensures run)
     (after_tick run c.args.clock.now.spent c.tick.new.self.spent c.args.scene.now _ _ c.tick.result c.if-not-tick.false c.tick.ensures.taken h)
 
 pub branch-returns-then-is_true : goal.branch-returns-then-is_true
 branch-returns-then-is_true t c = λ run rest h.
     let same : to_z w64 (of_z w64 c.in-Some.v) ≡ c.in-Some.v = search (rules, to_z-of_z) in
     let test : truth c.in-Some.v ≡ true = ap truth (sym same) ∙ sym c.is_true.ensures ∙ c.if-is_true.true in
-    c.statement.ensures run rest (chose run c.value.new.clock.spent c.value.new.scene (truth c.in-Some.v) true (λ s. executed (objects_in c.args.scope.now) (statement_of c.args.a.now) (program_of c.args.scope.now.program.now) s) (λ s. Goes Normal s) rest test
-    (gone_on number run c.args.scope.now.limit c.tick.new.self.spent c.args.scene.now _ _ rest c.value.result c.in-Some.v c.value.new.clock c.value.new.scene c.in-Some.is (c.value.ensures run)
+    c.statement.ensures run rest (chose run c.operand.new.clock.spent c.operand.new.scene (truth c.in-Some.v) true (λ s. executed (objects_in c.args.scope.now) (statement_of c.args.a.now) (program_of c.args.scope.now.program.now) s) (λ s. Goes Normal s) rest test
+    (gone_on number run c.args.scope.now.limit c.tick.new.self.spent c.args.scene.now _ _ rest c.operand.result c.in-Some.v c.operand.new.clock c.operand.new.scene c.in-Some.is (c.operand.ensures run)
     (after_tick run c.args.clock.now.spent c.tick.new.self.spent c.args.scene.now _ _ c.tick.result c.if-not-tick.false c.tick.ensures.taken h)))
 
 pub branch-returns-else-is_true : goal.branch-returns-else-is_true
 branch-returns-else-is_true t c = λ run rest h.
     let same : to_z w64 (of_z w64 c.in-Some.v) ≡ c.in-Some.v = search (rules, to_z-of_z) in
     let test : truth c.in-Some.v ≡ false = ap truth (sym same) ∙ sym c.is_true.ensures ∙ c.if-is_true.false in
-    gave_now flow_of run c.args.scope.now.limit c.value.new.scene Normal rest flow.Normal c.value.new.clock refl
-    (chose run c.value.new.clock.spent c.value.new.scene (truth c.in-Some.v) false (λ s. executed (objects_in c.args.scope.now) (statement_of c.args.a.now) (program_of c.args.scope.now.program.now) s) (λ s. Goes Normal s) rest test
-    (gone_on number run c.args.scope.now.limit c.tick.new.self.spent c.args.scene.now _ _ rest c.value.result c.in-Some.v c.value.new.clock c.value.new.scene c.in-Some.is (c.value.ensures run)
+    gave_now flow_of run c.args.scope.now.limit c.operand.new.scene Normal rest flow.Normal c.operand.new.clock refl
+    (chose run c.operand.new.clock.spent c.operand.new.scene (truth c.in-Some.v) false (λ s. executed (objects_in c.args.scope.now) (statement_of c.args.a.now) (program_of c.args.scope.now.program.now) s) (λ s. Goes Normal s) rest test
+    (gone_on number run c.args.scope.now.limit c.tick.new.self.spent c.args.scene.now _ _ rest c.operand.result c.in-Some.v c.operand.new.clock c.operand.new.scene c.in-Some.is (c.operand.ensures run)
     (after_tick run c.args.clock.now.spent c.tick.new.self.spent c.args.scene.now _ _ c.tick.result c.if-not-tick.false c.tick.ensures.taken h)))
 
 pub branches-returns-then-not-tick : goal.branches-returns-then-not-tick
@@ -59,23 +59,23 @@ branches-returns-then-not-tick t c = λ run rest h.
 
 pub branches-returns-in_default : goal.branches-returns-in_default
 branches-returns-in_default t c = λ run rest h.
-    gone_none number run c.args.scope.now.limit c.tick.new.self.spent c.args.scene.now _ _ rest c.value.result c.value.new.clock c.value.new.scene c.in_default.is (c.value.ensures run)
+    gone_none number run c.args.scope.now.limit c.tick.new.self.spent c.args.scene.now _ _ rest c.operand.result c.operand.new.clock c.operand.new.scene c.in_default.is (c.operand.ensures run)
     (after_tick run c.args.clock.now.spent c.tick.new.self.spent c.args.scene.now _ _ c.tick.result c.if-not-tick.false c.tick.ensures.taken h)
 
 pub branches-returns-then-is_true : goal.branches-returns-then-is_true
 branches-returns-then-is_true t c = λ run rest h.
     let same : to_z w64 (of_z w64 c.in-Some.v) ≡ c.in-Some.v = search (rules, to_z-of_z) in
     let test : truth c.in-Some.v ≡ true = ap truth (sym same) ∙ sym c.is_true.ensures ∙ c.if-is_true.true in
-    c.statement.ensures run rest (chose run c.value.new.clock.spent c.value.new.scene (truth c.in-Some.v) true (λ s. executed (objects_in c.args.scope.now) (statement_of c.args.a.now) (program_of c.args.scope.now.program.now) s) (λ s. executed (objects_in c.args.scope.now) (statement_of c.args.b.now) (program_of c.args.scope.now.program.now) s) rest test
-    (gone_on number run c.args.scope.now.limit c.tick.new.self.spent c.args.scene.now _ _ rest c.value.result c.in-Some.v c.value.new.clock c.value.new.scene c.in-Some.is (c.value.ensures run)
+    c.statement.ensures run rest (chose run c.operand.new.clock.spent c.operand.new.scene (truth c.in-Some.v) true (λ s. executed (objects_in c.args.scope.now) (statement_of c.args.a.now) (program_of c.args.scope.now.program.now) s) (λ s. executed (objects_in c.args.scope.now) (statement_of c.args.b.now) (program_of c.args.scope.now.program.now) s) rest test
+    (gone_on number run c.args.scope.now.limit c.tick.new.self.spent c.args.scene.now _ _ rest c.operand.result c.in-Some.v c.operand.new.clock c.operand.new.scene c.in-Some.is (c.operand.ensures run)
     (after_tick run c.args.clock.now.spent c.tick.new.self.spent c.args.scene.now _ _ c.tick.result c.if-not-tick.false c.tick.ensures.taken h)))
 
 pub branches-returns-else-is_true : goal.branches-returns-else-is_true
 branches-returns-else-is_true t c = λ run rest h.
     let same : to_z w64 (of_z w64 c.in-Some.v) ≡ c.in-Some.v = search (rules, to_z-of_z) in
     let test : truth c.in-Some.v ≡ false = ap truth (sym same) ∙ sym c.is_true.ensures ∙ c.if-is_true.false in
-    c.statement-else-is_true.ensures run rest (chose run c.value.new.clock.spent c.value.new.scene (truth c.in-Some.v) false (λ s. executed (objects_in c.args.scope.now) (statement_of c.args.a.now) (program_of c.args.scope.now.program.now) s) (λ s. executed (objects_in c.args.scope.now) (statement_of c.args.b.now) (program_of c.args.scope.now.program.now) s) rest test
-    (gone_on number run c.args.scope.now.limit c.tick.new.self.spent c.args.scene.now _ _ rest c.value.result c.in-Some.v c.value.new.clock c.value.new.scene c.in-Some.is (c.value.ensures run)
+    c.statement-else-is_true.ensures run rest (chose run c.operand.new.clock.spent c.operand.new.scene (truth c.in-Some.v) false (λ s. executed (objects_in c.args.scope.now) (statement_of c.args.a.now) (program_of c.args.scope.now.program.now) s) (λ s. executed (objects_in c.args.scope.now) (statement_of c.args.b.now) (program_of c.args.scope.now.program.now) s) rest test
+    (gone_on number run c.args.scope.now.limit c.tick.new.self.spent c.args.scene.now _ _ rest c.operand.result c.in-Some.v c.operand.new.clock c.operand.new.scene c.in-Some.is (c.operand.ensures run)
     (after_tick run c.args.clock.now.spent c.tick.new.self.spent c.args.scene.now _ _ c.tick.result c.if-not-tick.false c.tick.ensures.taken h)))
 
 pub while_loop-returns-then-not-tick : goal.while_loop-returns-then-not-tick
