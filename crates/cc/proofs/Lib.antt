@@ -1,6 +1,9 @@
 pub mod Transfers
 pub mod Outcomes
 pub mod Refusals
-pub mod Inputs
 pub mod Prints
 pub mod Checks
+pub mod Entries
+pub mod Texts
+pub mod Listings
+pub mod Ready

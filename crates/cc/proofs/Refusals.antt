@@ -16,10 +16,13 @@ use Rattle.lexer.specs.declared.token.Token.{Token}
 use Rattle.tree.specs.Tree.{ExternalTree}
 use Rattle.parser.specs.Units.{IsTreeWithin, IsOnly, IsFaultOfUnit}
 use Rattle.typed.specs.Program.{Program}
+use Rattle.backend.specs.Generated.{IsRefused}
+use Rattle.backend.specs.declared.flat_code.NotGenerated.{NotGenerated}
+use Rattle.backend.specs.declared.flat_code.NotGenerated.TheVariants as not_generated
 use Rattle.cc.specs.declared.stopping.Stop.{Stop}
 use Rattle.cc.specs.declared.stopping.Stop.TheVariants.{Memory, At, Told}
-use Rattle.cc.specs.Compiled.{HasList, FailsPreprocessing, HasTokens, HasTree, HasProgram, BreaksConstraint, HasNoProgram, IsRefused}
-use Rattle.cc.specs.inside.Stops.{IsToldAs, IsTold, IsMemory, Stops, StopsBefore, StopsUnit}
+use Rattle.cc.specs.Compiled.{HasList, FailsPreprocessing, HasTokens, HasTree, HasProgram, BreaksConstraint, HasNoProgram}
+use Rattle.cc.specs.inside.Stops.{IsToldAs, IsTold, IsMemory, Stops, StopsBefore, StopsProgram, generated_stop}
 
 -- what is said of an error that `?` hands on
 pub handed_on : {A B : Type 0} (r : Result A B) (f : B) (P : B → Type 0) → IsErrAnd r (λ e. e ≡ f) → P f → IfErr r P
@@ -100,8 +103,13 @@ module _ (set : Files) (name : List ℕ) where
   memory_stops (At code line) h = absurd h
   memory_stops (Told told) h = λ fault is. inl (subst (HasNoProgram set name) (sym is) (wants told h))
 
-  pub unit_stops : (texts : Texts) (unit : List ExternalTree) (program : Program) (stop : Stop) → HasProgram set name texts unit program → StopsUnit texts unit stop → Stops set name stop
-  unit_stops texts unit program stop has (inr m) = memory_stops stop m
-  unit_stops texts unit program stop has (inl h) = λ fault told.
+  pub program_stops : (texts : Texts) (unit : List ExternalTree) (program : Program) (stop : Stop) → HasProgram set name texts unit program → StopsProgram program stop → Stops set name stop
+  program_stops texts unit program stop has (inr m) = memory_stops stop m
+  program_stops texts unit program stop has (inl h) = λ fault told.
       let t : IsFaultOrMemory fault NotBuiltYet name 1 = subst (λ s. IsToldAs name s fault) h.1 told in
       ⊎_elim (λ f. inr (record { texts = texts; unit = unit; program = program; has_program = has; another = h.0; fault_is = f })) (λ m. inl (wants fault m)) t
+
+-- why a program has no file
+pub generated_stops : (program : Program) (reason : NotGenerated) (stop : Stop) → stop ≡ generated_stop reason → IsRefused program reason → StopsProgram program stop
+generated_stops program not_generated.NotBuiltYet stop is h = inl (h, is)
+generated_stops program not_generated.Memory stop is h = inr (subst IsMemory (sym is) tt)

@@ -1,11 +1,12 @@
 -- What the compiler promises of a file that it answers, and of a fault.
-use Rattle.std.specs.Prelude.{◌≡◌, ◌≤◌, ℕ, ◌+◌, ◌-◌, ◌*◌, List, [], ◌∷◌, length, true, false, Some, None, Ok, codes, map, replicate, ◌⊎◌, slice_get}
+use Rattle.std.specs.Prelude.{◌≡◌, ℕ, List, [], ◌∷◌, String, false, Some, map, ◌⊎◌, slice_get}
 use Rattle.std.specs.String.{string_bytes}
+use Rattle.std.specs.Global.{Global}
 use Rattle.srcset.specs.Files.{Files}
 use Rattle.srcset.specs.declared.fault.Fault.{Fault}
 use Rattle.srcset.specs.declared.code.Code.TheVariants.{NotBuiltYet}
 use Rattle.srcset.specs.Fault.{IsFault, IsMemoryFault}
-use Rattle.srcset.specs.NameTable.{Texts, NumbersOnce}
+use Rattle.srcset.specs.NameTable.{Texts, KeepsNumbers, NumbersOnce, shown_text}
 use Rattle.srcset.specs.Refusal.{IsFaultOfRefusal}
 use Rattle.srcset.specs.declared.refusal.Refusal.{Refusal}
 use Rattle.phases.specs.Token.{Token as PpToken}
@@ -13,25 +14,15 @@ use Rattle.pp.specs.Preprocessed.{IsDone, IsPreprocessFault}
 use Rattle.lexer.specs.CTokens.{ctokens}
 use Rattle.lexer.specs.Numbering.{AreAll}
 use Rattle.lexer.specs.declared.token.Token.{Token}
-use Rattle.tree.specs.Tree.{ExternalTree, FunctionTree, definition, declaration}
-use Rattle.tree.specs.Counts.{function_nodes, weight_of}
+use Rattle.tree.specs.Tree.{ExternalTree}
 use Rattle.parser.specs.Units.{IsTreeWithin, IsOnly, IsFaultOfUnit}
-use Rattle.typed.specs.Program.{Program}
+use Rattle.typed.specs.Program.{Function, Program}
 use Rattle.typed.specs.Verdict.{Verdict, fine}
 use Rattle.typed.specs.Units.{unit_typed}
 use Rattle.checker.specs.Told.{IsFaultOfVerdict}
-use Rattle.events.specs.Events.{Event, Put}
-use Rattle.rv32.specs.Step.{register}
-use Rattle.loader.specs.File.{Image, file_image}
-use Rattle.loader.specs.MemoryMap.{stack_end, data_guard}
-use Rattle.sim.specs.Runs.{World, Running, Ended, rvrun, start_world}
-use Rattle.elf_out.specs.Layout.{Parts}
-use Rattle.elf_out.specs.Written as written
+use Rattle.lowering.specs.Plain.{is_plain}
+use Rattle.backend.specs.Generated.{IsFileOf}
 use Rattle.cc.specs.declared.compiling.Built.{Built}
-use Rattle.cc.specs.thin.Sums.{Main}
-use Rattle.cc.specs.thin.Form.{thin_in}
-use Rattle.cc.specs.thin.Meaning.{Ending, meaning}
-use Rattle.cc.specs.thin.Stack.{main_address, IsSp}
 
 -- ---- what a set of files holds from its main file on, phase by phase (ISO/IEC 9899:2011 5.1.1.2)
 
@@ -41,10 +32,13 @@ pub record Numbers (texts : Texts) (name : List ℕ) : Type 0 where
   pub file : ℕ
   pub named : slice_get texts file ≡ Some name
 
--- its preprocessing tokens, by phases 1 to 4; places name files by their numbers in this table
+-- its preprocessing tokens, by phases 1 to 4; places name files by their numbers in this table, in which each name that matters has one: by
+-- every table that has grown from an earlier one the tokens are the same
 pub record HasList (set : Files) (name : List ℕ) (texts : Texts) (list : List PpToken) : Type 0 where
   pub numbers : Numbers texts name
-  pub whole : IsDone set texts name list
+  pub early : Texts
+  pub keeps : KeepsNumbers early texts
+  pub whole : (later : Texts) → KeepsNumbers early later → IsDone set later name list
 
 -- its C tokens, by phases 5 to 7, with texts numbered by this table
 pub record HasTokens (set : Files) (name : List ℕ) (texts : Texts) (tokens : List Token) : Type 0 where
@@ -76,77 +70,37 @@ pub record HasProgram (set : Files) (name : List ℕ) (texts : Texts) (unit : Li
   pub has_tree : HasTree set name texts unit
   pub is_program : IsProgramOf name texts unit program
 
--- ---- how the file of a program runs
-
--- the events of putting these bytes, the newest first, before which the history was h
-abbrev pub after_puts : List ℕ → List Event → List Event
-after_puts [] h = h
-after_puts (x ∷ rest) h = after_puts rest (Put x ∷ h)
-
--- after so many steps a run from the image has ended with this status; it has put just these bytes and read nothing
-pub record EndsAs (image : Image) (input : List ℕ) (ending : Ending) : Type 0 where
-  pub steps : ℕ
-  pub world : World
-  pub ends : rvrun steps (start_world image input) ≡ Ended ending.status world
-  pub trace_is : world.trace ≡ after_puts ending.written []
-  pub input_left : world.input ≡ input
-
--- main has a frame of so many bytes: at some step in main sp lies there below the stack's end, and at each step in main
--- sp is a multiple of 16, no lower than that and no higher than the stack's end
-pub record HasFrame (image : Image) (input : List ℕ) (frame : ℕ) : Type 0 where
-  pub used : (k : ℕ) × ((w : World) × (rvrun k (start_world image input) ≡ Running w) × (main_address ≤ w.machine.pc) × (register w.machine 2 ≡ stack_end - frame))
-  pub kept : (k : ℕ) (w : World) → rvrun k (start_world image input) ≡ Running w → main_address ≤ w.machine.pc → IsSp (stack_end - frame) (register w.machine 2)
-
--- the file has an image. Run from it on any input it ends as main means, where that is defined, and has such a frame
-pub record RunsAs (main : Main) (file : List ℕ) (frame : ℕ) : Type 0 where
-  pub image : Image
-  pub loads : file_image file ≡ Ok image
-  pub ends : (input : List ℕ) (ending : Ending) → meaning main ≡ Some ending → EndsAs image input ending
-  pub framed : (input : List ℕ) (ending : Ending) → meaning main ≡ Some ending → HasFrame image input frame
-
 -- ---- what is answered
 
--- name, bytes and weight of each entry
+-- name, bytes and weight of an entry
+abbrev pub shown_entry : String Global × ℕ × ℕ → List ℕ × ℕ × ℕ
+shown_entry e = (string_bytes e.0, e.1, e.2)
+
 abbrev pub frames_of : Built → List (List ℕ × ℕ × ℕ)
-frames_of built = map (λ f. (string_bytes f.0, f.1, f.2)) built.frames.items
+frames_of built = map shown_entry built.frames.items
 
--- the function definitions of a unit, in order
-abbrev pub definitions : List ExternalTree → List FunctionTree
-definitions [] = []
-definitions (definition f ∷ es) = f ∷ definitions es
-definitions (declaration d ∷ es) = definitions es
+-- of a function definition: its name, the bytes of its frame, its weight
+abbrev pub entry_of : Texts → Function → ℕ → List ℕ × ℕ × ℕ
+entry_of texts f n = (shown_text texts f.name, n, f.weight)
 
--- what a function without parameters and automatic objects may take of the stack
-abbrev pub function_weight : FunctionTree → ℕ
-function_weight f = weight_of (function_nodes f) 0
+abbrev pub entries : Texts → List Function → List ℕ → List (List ℕ × ℕ × ℕ)
+entries texts [] frames = []
+entries texts (f ∷ fs) [] = []
+entries texts (f ∷ fs) (n ∷ ns) = entry_of texts f n ∷ entries texts fs ns
 
--- the file of the program of the function definition f: it runs as the program means; its one frame and its text are
--- bounded by the nodes of f; its data are the zero bytes with which data begin
-pub record IsBuiltOf (f : FunctionTree) (main : Main) (built : Built) : Type 0 where
-  pub frame : ℕ
-  pub frames : frames_of built ≡ (codes "main", frame, function_weight f) ∷ []
-  pub frame_fits : frame ≤ function_weight f
-  pub parts : Parts
-  pub file : built.elf.items ≡ written.file_of parts
-  pub text_fits : length parts.text ≤ 128 * function_nodes f + 1024 + 1024
-  pub statics_are : parts.statics ≡ replicate data_guard 0
-  pub runs : RunsAs main built.elf.items frame
+-- the file of a typed program, which runs as the program does, and an entry for each of its functions
+pub record BuildsProgram (texts : Texts) (program : Program) (built : Built) : Type 0 where
+  pub frames : List ℕ
+  pub file : IsFileOf program built.elf.items frames
+  pub entries_are : frames_of built ≡ entries texts program.functions frames
 
--- the unit is of the form that is built today, and the answer is the file of the program that it holds
-pub record BuildsUnit (texts : Texts) (unit : List ExternalTree) (built : Built) : Type 0 where
-  pub main : Main
-  pub thin : thin_in texts unit ≡ Some main
-  pub function : FunctionTree
-  pub defined : definitions unit ≡ function ∷ []
-  pub built_of : IsBuiltOf function main built
-
--- the set has a main file of this name, which has a tree that breaks no constraint, and the answer is the file of that tree
+-- the set has a main file of this name, which has a tree that breaks no constraint, and the answer is the file of its program
 pub record Compiles (set : Files) (name : List ℕ) (built : Built) : Type 0 where
   pub texts : Texts
   pub unit : List ExternalTree
   pub program : Program
   pub has_program : HasProgram set name texts unit program
-  pub builds : BuildsUnit texts unit built
+  pub builds : BuildsProgram texts program built
 
 -- ---- what is refused
 
@@ -184,13 +138,13 @@ pub record FailsCheck (set : Files) (name : List ℕ) (fault : Fault) : Type 0 w
   pub has_tree : HasTree set name texts unit
   pub breaks : BreaksConstraint name texts unit fault
 
--- 699: the program is right, and its tree of another form than those that are built today
-pub record IsNotThin (set : Files) (name : List ℕ) (fault : Fault) : Type 0 where
+-- 699: the program is right, and uses arrays, string literals or objects with static storage, for which no code is made yet
+pub record IsNotPlain (set : Files) (name : List ℕ) (fault : Fault) : Type 0 where
   pub texts : Texts
   pub unit : List ExternalTree
   pub program : Program
   pub has_program : HasProgram set name texts unit program
-  pub another : thin_in texts unit ≡ None
+  pub another : is_plain program ≡ false
   pub fault_is : IsFault fault NotBuiltYet name 1
 
 -- why there is no program: the fault of the first phase that fails; or out of memory, which may hide any of them
@@ -204,4 +158,4 @@ HasNoProgram set name fault =
 
 -- there is no program, or none that can be built today; or out of memory
 abbrev pub IsRefused : Files → List ℕ → Fault → Type 0
-IsRefused set name fault = HasNoProgram set name fault ⊎ IsNotThin set name fault
+IsRefused set name fault = HasNoProgram set name fault ⊎ IsNotPlain set name fault

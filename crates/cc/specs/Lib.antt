@@ -19,16 +19,13 @@ pub use Rattle.typed.specs.Units as TypedUnits
 pub use Rattle.checker.specs.Told
 pub use Rattle.meaning.specs.Meaning
 pub use Rattle.interpreter.specs.Interpreting
-pub use Rattle.events.specs.Events
 pub use Rattle.rv32.specs.Step
 pub use Rattle.loader.specs.File
 pub use Rattle.loader.specs.MemoryMap
 pub use Rattle.sim.specs.Port
 pub use Rattle.sim.specs.Runs
 pub use Rattle.sim.specs.Meets
-pub use Rattle.elf_out.specs.Layout
-pub use Rattle.elf_out.specs.Written
-pub mod thin
+pub use Rattle.backend.specs.Generated
 pub mod Compiled
 pub mod Transfer
 pub mod Reported

@@ -1,5 +1,5 @@
 -- What a command leaves of its port, what it says, and its exit status.
-use Rattle.std.specs.Prelude.{◌≡◌, ◌⊎◌, ℕ, List, Some, Ok, Err, IsOk}
+use Rattle.std.specs.Prelude.{◌≡◌, ◌⊎◌, ℕ, List, [], Some, Ok, Err, IsOk}
 use Rattle.std.specs.Io.KnownBytes.{Appends}
 use Rattle.srcset.specs.Files.{Files}
 use Rattle.srcset.specs.NameTable.{Texts}
@@ -15,11 +15,16 @@ use Rattle.sim.specs.declared.machine.Outcome.{Outcome}
 use Rattle.sim.specs.declared.machine.Outcome.TheVariants as outcome
 use Rattle.sim.specs.Runs.{start_world}
 use Rattle.cc.specs.declared.performing.Cmd.{Cmd}
-use Rattle.cc.specs.declared.performing.Cmd.TheVariants.{Build, Pp, Run, Interp}
+use Rattle.cc.specs.declared.performing.Cmd.TheVariants as command
 use Rattle.cc.specs.declared.compiling.Built.{Built}
 use Rattle.srcset.specs.declared.fault.Fault.{Fault}
 use Rattle.srcset.specs.declared.code.Code.TheVariants.{CannotWrite}
-use Rattle.srcset.specs.Fault.{IsFaultOrMemory, IsMemoryFault}
+use Rattle.srcset.specs.Fault.{IsFault, IsFaultOrMemory, IsMemoryFault}
+use Rattle.asm.specs.declared.item.Item.{Item}
+use Rattle.asm.specs.Listing.{Lists}
+use Rattle.asm.specs.Refusals.{WritesBeginning}
+use Rattle.loader.specs.MemoryMap.{text_start}
+use Rattle.backend.specs.Generated.{AreItemsOf}
 use Rattle.loader.specs.declared.fault.LoadFault.{LoadFault}
 use Rattle.loader.specs.Fault.{code_of}
 use Rattle.tree.specs.Tree.{ExternalTree}
@@ -98,6 +103,38 @@ Prints set name out said status =
     ((status ≡ 0) × PrintsAll set name out × IsUntouched said)
     ⊎ ((status ≡ 1) × ((fault : Fault) × FailsPrint set name out fault × Says said (fault_text fault)))
 
+-- ---- listing
+
+-- the set has a program, and the whole listing of its code was written: a line for each word of the text
+pub record ListsAll (set : Files) (name : List ℕ) (out : Said) : Type 0 where
+  pub texts : Texts
+  pub unit : List ExternalTree
+  pub program : Program
+  pub has_program : HasProgram set name texts unit program
+  pub items : List Item
+  pub items_are : AreItemsOf program items
+  pub lists : Lists text_start items out.before out.after
+
+-- the set has a program, and the listing was not written whole: memory ran out before, or the writer took a beginning of it
+pub record ListsSome (set : Files) (name : List ℕ) (out : Said) (fault : Fault) : Type 0 where
+  pub texts : Texts
+  pub unit : List ExternalTree
+  pub program : Program
+  pub has_program : HasProgram set name texts unit program
+  pub items : List Item
+  pub items_are : AreItemsOf program items
+  pub refused : (IsMemoryFault fault × IsUntouched out) ⊎ (IsFault fault CannotWrite [] 0 × WritesBeginning text_start items out.before out.after)
+
+-- the set is refused, and nothing was written; or the listing was not written whole
+abbrev pub FailsList : Files → List ℕ → Said → Fault → Type 0
+FailsList set name out fault = (IsUntouched out × IsRefused set name fault) ⊎ ListsSome set name out fault
+
+-- 0, and the whole listing was written and nothing said; or 1 and a fault, which is said
+abbrev pub ListsCode : Files → List ℕ → Said → Said → ℕ → Type 0
+ListsCode set name out said status =
+    ((status ≡ 0) × ListsAll set name out × IsUntouched said)
+    ⊎ ((status ≡ 1) × ((fault : Fault) × FailsList set name out fault × Says said (fault_text fault)))
+
 -- ---- running
 
 -- the exit status after a run: the program's own, or that of why it did not end by itself
@@ -164,9 +201,10 @@ Interprets set name max refuses old new said status =
     InterpretsSet set name max refuses old new said status
     ⊎ ((status ≡ 1) × (new ≡ old) × ((fault : Fault) × HasNoProgram set name fault × Says said (fault_text fault)))
 
--- By the main file's name. Only what is printed goes to `out`; printing does not touch the port.
+-- By the main file's name. Only what is printed or listed goes to `out`, and that does not touch the port.
 abbrev pub Performs : Cmd → Files → List ℕ → List ℕ → (PortFault → Type 0) → PortView → PortView → Said → Said → ℕ → Type 0
-Performs (Build output) set name file refuses old new out said status = IsUntouched out × Builds set name output.now refuses old new said status
-Performs Pp set name file refuses old new out said status = (new ≡ old) × Prints set name out said status
-Performs (Run max) set name file refuses old new out said status = IsUntouched out × Runs file name max refuses old new said status
-Performs (Interp max) set name file refuses old new out said status = IsUntouched out × Interprets set name max refuses old new said status
+Performs (command.Build output) set name file refuses old new out said status = IsUntouched out × Builds set name output.now refuses old new said status
+Performs command.Pp set name file refuses old new out said status = (new ≡ old) × Prints set name out said status
+Performs command.List set name file refuses old new out said status = (new ≡ old) × ListsCode set name out said status
+Performs (command.Run max) set name file refuses old new out said status = IsUntouched out × Runs file name max refuses old new said status
+Performs (command.Interp max) set name file refuses old new out said status = IsUntouched out × Interprets set name max refuses old new said status

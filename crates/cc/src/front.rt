@@ -1,6 +1,6 @@
 //! From a set of files to the typed program, a function for each step.
 
-ghost use Rattle.std.specs.Prelude.{◌≡◌, ◌⊎◌, ℕ, [], Some, slice_get, IfOk, IfErr, OnOk};
+ghost use Rattle.std.specs.Prelude.{◌≡◌, ◌⊎◌, ℕ, List, [], Some, slice_get, IfOk, IfErr, OnOk};
 ghost use Rattle.srcset.specs.NameTable.{Texts, KeepsNumbers, NumbersOnce};
 ghost use Rattle.srcset.specs.Fault.{IsMemoryFault};
 ghost use Rattle.lexer.specs.CTokens.{ctokens};
@@ -8,6 +8,9 @@ ghost use Rattle.lexer.specs.Numbering.{AreAll, IsTokenFault};
 ghost use Rattle.parser.specs.Units.{IsTreeWithin, IsOnly, IsFaultOfUnit};
 ghost use Rattle.tree.specs.View.{unit_of};
 ghost use Rattle.program.specs.View.{program_of};
+ghost use Rattle.tac.specs.Sound.{AreBytes};
+ghost use Rattle.checked.specs.Laws.{AreTexts};
+ghost use Rattle.backend.specs.Generated.{IsReady};
 ghost use Rattle.cc.specs.Compiled.{HasList, HasProgram, IsProgramOf, BreaksConstraint, FailsPreprocessing};
 ghost use Rattle.cc.specs.inside.Stops.{IsTold, StopsBefore};
 
@@ -39,12 +42,14 @@ pub fn checked_unit(
 ) -> Result<Checked, Stop>
     requires new { names.old ≡ [] }
     ensures program { IfOk result (λ c. HasProgram set.now main.now names.new (unit_of c.unit) (program_of c.program)) }
+    ensures ready { IfOk result (λ c. IsReady (program_of c.program)) }
     ensures stops { IfErr result (λ stop. StopsBefore set.now main.now stop) }
 {
     let list = preprocessed(alloc, set, main, names)?;
     let tokens = c_tokens(alloc, list.as_slice(), names)?;
     let unit = syntax_tree(alloc, tokens.as_slice(), names)?;
     let program = typed_program(alloc, &unit, names, main)?;
+    texts_are_bytes(names);
     Ok(Checked { unit, program })
 }
 
@@ -90,6 +95,28 @@ fn numbers_once(names: &Names)
 {
     let _ = names.find(b"".as_slice());
 }
+
+/// The characters of each text are bytes.
+fn texts_are_bytes(names: &Names)
+    ensures { AreTexts names.now }
+{
+    for number in 0..names.len() {
+        text_is_bytes(names, number);
+    }
+}
+
+fn text_is_bytes(names: &Names, number: usize)
+    ensures { (text : List ℕ) → slice_get names.now number ≡ Some text → AreBytes text }
+{
+    if let Some(text) = names.text(number) {
+        are_bytes(text);
+    }
+}
+
+/// Each of them is below 2^8.
+fn are_bytes(bytes: &[u8])
+    ensures { AreBytes bytes.now }
+{}
 
 /// The C tokens: translation phases 5 to 7, before the grammar.
 pub fn c_tokens(alloc: Global, list: &[PpToken], names: &mut Names) -> Result<Vec<Token>, Stop>

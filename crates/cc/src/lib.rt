@@ -6,7 +6,6 @@ mod front;
 mod performing;
 mod reporting;
 mod stopping;
-mod thin;
 mod transfer;
 
 pub use compiling::{Built, compile};

@@ -1,16 +1,19 @@
 //! One command over a port and two writers.
 
-ghost use Rattle.std.specs.Prelude.{◌≡◌, ◌≢◌, ◌⊎◌, List, ℕ, MatchResult, Some, Ok};
-ghost use Rattle.cc.specs.Performed.{Performs, Runs, Interprets, interpreted_status, Builds, BuildsInto, FailsBuild, Prints, PrintsAll, FailsPrint, exit_status};
-ghost use Rattle.cc.specs.inside.Stops.{put_stop, load_stop};
+ghost use Rattle.std.specs.Prelude.{◌≡◌, ◌≢◌, ◌⊎◌, List, [], ℕ, MatchResult, IfOk, IfErr, Some, Ok};
+ghost use Rattle.cc.specs.Performed.{Performs, Runs, Interprets, interpreted_status, Builds, BuildsInto, FailsBuild, Prints, PrintsAll, FailsPrint, ListsCode, ListsAll, FailsList, exit_status};
+ghost use Rattle.cc.specs.inside.Stops.{Stops, HasItems, put_stop, load_stop};
 ghost use Rattle.cc.specs.Reported.{SaysOutcome, SaysRun};
 
-use crate::compiling::compile;
+use crate::compiling::{compile, stop_of};
 use crate::front::{checked_unit, preprocessed};
 use crate::reporting::{say_budget, say_fault, say_memory, say_port, say_trap, say_undefined};
 use crate::stopping::Stop;
 use crate::transfer::put_all;
+use asm::{Items, list};
+use backend::items;
 use interpreter::{Run, interpret};
+use loader::memory_map::TEXT_START;
 use loader::{LoadFault, load};
 use pp::print;
 use sim::{Machine, Outcome, Port, PortFault};
@@ -25,6 +28,8 @@ pub enum Cmd<'c> {
     Build(&'c str),
     /// Print the tokens of the main file after preprocessing.
     Pp,
+    /// Write the listing of the main file's code: the address, the word and the instruction of each word of its text.
+    List,
     /// Run the executable file over the port, for at most so many instructions.
     Run(u64),
     /// Interpret the program of the main file over the port, for at most so many ticks.
@@ -35,7 +40,8 @@ pub enum Cmd<'c> {
 ///
 /// `Build` compiles the file `main` of the set, and puts the executable file on the port: 0, or 1 with the
 /// line of the fault on `err`. `Pp` writes the tokens of the file `main`, with those of the files that it includes, to `out`:
-/// one space between, and a newline; 0, or 1 with the line of the fault on `err`. `Run` runs the executable file of the name `main` and the bytes `file` over
+/// one space between, and a newline; 0, or 1 with the line of the fault on `err`. `List` writes the listing of the code of the file `main` to
+/// `out`: 0, or 1 with the line of the fault on `err`. `Run` runs the executable file of the name `main` and the bytes `file` over
 /// the port: the program's status, or, each with one line on `err`, 1 where the file is refused or memory runs
 /// out, 124 where it did not end within the instructions allowed, 125 where it trapped, and 126 where the port
 /// refused. `Interp` does what the program of the file `main` of the set means, over the port: the program's status, or, each
@@ -57,6 +63,7 @@ pub fn perform<P: Port, W: Write, E: Write>(
     match command {
         Cmd::Build(name) => build(alloc, set, main, name, port, err),
         Cmd::Pp => print_tokens(alloc, set, main, out, err),
+        Cmd::List => list_code(alloc, set, main, out, err),
         Cmd::Run(max) => run(alloc, main, file, port, max, err),
         Cmd::Interp(max) => interp(alloc, set, main, port, max, err),
     }
@@ -128,6 +135,50 @@ fn print_into<W: Write>(alloc: Global, set: &FileSet, main: &str, out: &mut W) -
     match preprocessed(alloc, set, main, &mut names) {
         Ok(list) => print(alloc, list.as_slice(), out),
         Err(stop) => Err(stop.to_fault(alloc, main)),
+    }
+}
+
+fn list_code<W: Write, E: Write>(
+    alloc: Global,
+    set: &FileSet,
+    main: &str,
+    out: &mut W,
+    err: &mut E,
+) -> u8
+    ensures { ListsCode set.now main.now (record { before = W.contents out.old; after = W.contents out.new }) (record { before = E.contents err.old; after = E.contents err.new }) result }
+{
+    match list_into(alloc, set, main, out) {
+        Ok(()) => 0,
+        Err(fault) => {
+            say_fault(alloc, &fault, err);
+            1
+        }
+    }
+}
+
+/// Writes the listing.
+fn list_into<W: Write>(alloc: Global, set: &FileSet, main: &str, out: &mut W) -> Result<(), Fault>
+    ensures { MatchResult result
+        (λ _. ListsAll set.now main.now (record { before = W.contents out.old; after = W.contents out.new }))
+        (FailsList set.now main.now (record { before = W.contents out.old; after = W.contents out.new })) }
+{
+    let mut names = Names::new(alloc);
+    match items_of(alloc, set, main, &mut names) {
+        Ok(items) => list(alloc, &items, TEXT_START, out),
+        Err(stop) => Err(stop.to_fault(alloc, main)),
+    }
+}
+
+/// The items of the code of the set's program.
+fn items_of(alloc: Global, set: &FileSet, main: &str, names: &mut Names) -> Result<Items, Stop>
+    requires new { names.old ≡ [] }
+    ensures items { IfOk result (HasItems set.now main.now) }
+    ensures stops { IfErr result (Stops set.now main.now) }
+{
+    let checked = checked_unit(alloc, set, main, names)?;
+    match items(alloc, &checked.program) {
+        Ok(items) => Ok(items),
+        Err(reason) => Err(stop_of(reason)),
     }
 }
 

@@ -74,7 +74,7 @@ fn answer(rt: &HostRuntime, matches: &ArgMatches<'_>) -> Result<u8> {
     };
     match request.command {
         Cmd::Build(out) => build(rt, request, out, matches),
-        Cmd::Pp => print_tokens(rt, request, matches),
+        Cmd::Pp | Cmd::List => print_text(rt, request, matches),
         Cmd::Run(_) => run(rt, request),
         Cmd::Interp(_) => interp(rt, request, matches),
     }
@@ -109,8 +109,8 @@ fn build(
     Ok(status)
 }
 
-/// Prints the tokens of the files. What was buffered is written before the status is answered.
-fn print_tokens(rt: &HostRuntime, request: Request<'_>, matches: &ArgMatches<'_>) -> Result<u8> {
+/// Prints the tokens of the files, or the listing of their code. What was buffered is written before the status is answered.
+fn print_text(rt: &HostRuntime, request: Request<'_>, matches: &ArgMatches<'_>) -> Result<u8> {
     let mut set = FileSet::new(rt.alloc());
     if let Err(fault) = read_files(rt, request.main, matches, &mut set) {
         return Ok(say(rt, &fault));

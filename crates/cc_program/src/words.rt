@@ -20,6 +20,7 @@ pub fn command<'a>(alloc: Global) -> Result<Command<'a>, AllocError> {
         .disable_help_subcommand(true)
         .subcommand(build(alloc)?)?
         .subcommand(pp(alloc)?)?
+        .subcommand(list(alloc)?)?
         .subcommand(run(alloc)?)?
         .subcommand(interp(alloc)?)
 }
@@ -65,6 +66,13 @@ fn pp<'a>(alloc: Global) -> Result<Command<'a>, AllocError> {
         .arg(files(alloc))
 }
 
+fn list<'a>(alloc: Global) -> Result<Command<'a>, AllocError> {
+    Command::new(alloc, "list")
+        .about("Prints a listing of a program's code")
+        .arg(main_file(alloc))?
+        .arg(files(alloc))
+}
+
 fn run<'a>(alloc: Global) -> Result<Command<'a>, AllocError> {
     let file = Arg::new(alloc, "FILE")
         .help("The executable file")
@@ -93,6 +101,10 @@ pub fn read_request<'a>(matches: &ArgMatches<'a>) -> Option<Request<'a>> {
         }),
         "pp" => Some(Request {
             command: Cmd::Pp,
+            main: inner.get_str("MAIN")?,
+        }),
+        "list" => Some(Request {
+            command: Cmd::List,
             main: inner.get_str("MAIN")?,
         }),
         "run" => Some(Request {

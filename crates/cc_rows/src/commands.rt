@@ -40,8 +40,8 @@ pub fn run(alloc: Global, file: &[u8], max: u64) -> Result<Done> {
     command(alloc, Cmd::Run(max), &FileSet::new(alloc), "out", file)
 }
 
-/// Prints the tokens of the file `main.c` of these bytes: what `out` took, the status and the line.
-pub fn printed(alloc: Global, fields: &[u8]) -> Result<Vec<u8>> {
+/// Prints the tokens of the file `main.c` of these bytes, or the listing of its code: what `out` took, the status and the line.
+pub fn printed(alloc: Global, command: Cmd<'_>, fields: &[u8]) -> Result<Vec<u8>> {
     let mut set = FileSet::new(alloc);
     set.add("main.c", bytes_of(alloc, fields)?)?;
     let mut port = MemPort::new(alloc, Vec::new(alloc));
@@ -49,7 +49,7 @@ pub fn printed(alloc: Global, fields: &[u8]) -> Result<Vec<u8>> {
     let mut line = Vec::new(alloc);
     let status = perform(
         alloc,
-        Cmd::Pp,
+        command,
         &set,
         "main.c",
         b"",

@@ -8,6 +8,7 @@ mod row;
 mod sources;
 
 use anyhow::Result;
+use cc::Cmd;
 use itoa::Buffer;
 use row::{Row, read_row};
 use std::alloc::Global;
@@ -28,10 +29,11 @@ enum Subject {
     Texts,
     Narrow,
     Printed,
+    Listed,
     Interpreted,
 }
 
-const FILES: [(&str, Subject); 11] = [
+const FILES: [(&str, Subject); 12] = [
     ("runs", Subject::Runs),
     ("refused", Subject::Refused),
     ("missing", Subject::Missing),
@@ -42,6 +44,7 @@ const FILES: [(&str, Subject); 11] = [
     ("texts", Subject::Texts),
     ("narrow", Subject::Narrow),
     ("printed", Subject::Printed),
+    ("listed", Subject::Listed),
     ("interpreted", Subject::Interpreted),
 ];
 
@@ -121,7 +124,8 @@ fn found(alloc: Global, subject: Subject, row: Row<'_>) -> Result<Vec<u8>> {
         Subject::Cut => commands::cut(alloc, row.input),
         Subject::Texts => commands::text(alloc, row.input),
         Subject::Narrow => narrow::run(alloc, row.input),
-        Subject::Printed => commands::printed(alloc, row.input),
+        Subject::Printed => commands::printed(alloc, Cmd::Pp, row.input),
+        Subject::Listed => commands::printed(alloc, Cmd::List, row.input),
         Subject::Interpreted => commands::interpreted(alloc, row.input),
     }
 }

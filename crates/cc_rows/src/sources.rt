@@ -46,13 +46,16 @@ pub fn missing(alloc: Global, name: &[u8]) -> Result<Vec<u8>> {
     command(alloc, Cmd::Build("out"), &FileSet::new(alloc), &name, b"")?.fields(alloc)
 }
 
-/// Name, bytes and weight of each frame.
+/// Name, bytes and weight of each frame, each behind a tab but the first.
 pub fn frames(alloc: Global, fields: &[u8]) -> Result<Vec<u8>> {
     let mut set = FileSet::new(alloc);
     set.add("main.c", bytes_of(alloc, fields)?)?;
     let built = compile(alloc, &set, "main.c")?;
     let mut answer = Vec::new(alloc);
     for (name, bytes, weight) in &built.frames {
+        if !answer.is_empty() {
+            answer.push(b'\t')?;
+        }
         write_field(&mut answer, name.as_bytes())?;
         answer.push(b' ')?;
         write_number(&mut answer, u64::from(*bytes))?;

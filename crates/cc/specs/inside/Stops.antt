@@ -1,12 +1,9 @@
 -- Why a command stops, before it is told.
-use Rattle.std.specs.Prelude.{◌≡◌, ◌⊎◌, List, ℕ, Option, Some, None, Result, Ok, Err}
-use Rattle.std.specs.declared.alloc.AllocError.{AllocError}
+use Rattle.std.specs.Prelude.{◌≡◌, ◌⊎◌, List, ℕ, false}
 use Rattle.srcset.specs.Files.{Files}
-use Rattle.srcset.specs.NameTable.{Texts}
 use Rattle.srcset.specs.declared.fault.Fault.{Fault}
 use Rattle.srcset.specs.declared.code.Code.TheVariants.{NotBuiltYet, CannotWrite}
 use Rattle.srcset.specs.Fault.{IsFaultOrMemory, IsMemoryFault}
-use Rattle.tree.specs.Tree.{ExternalTree}
 use Rattle.loader.specs.declared.fault.LoadFault.{LoadFault}
 use Rattle.loader.specs.declared.fault.LoadFault.TheVariants as load_fault
 use Rattle.loader.specs.Fault.{code_of}
@@ -14,9 +11,15 @@ use Rattle.sim.specs.declared.port.PortFault.{PortFault}
 use Rattle.sim.specs.declared.port.PortFault.TheVariants as port_fault
 use Rattle.cc.specs.declared.stopping.Stop.{Stop}
 use Rattle.cc.specs.declared.stopping.Stop.TheVariants.{Memory, At, Told}
-use Rattle.cc.specs.declared.thin.thin_program.Program.{Program}
-use Rattle.cc.specs.thin.Form.{thin_in}
-use Rattle.cc.specs.Compiled.{HasNoProgram, IsRefused}
+use Rattle.typed.specs.Program.{Program}
+use Rattle.lowering.specs.Plain.{is_plain}
+use Rattle.srcset.specs.NameTable.{Texts}
+use Rattle.tree.specs.Tree.{ExternalTree}
+use Rattle.asm.specs.declared.item.Item.{Item}
+use Rattle.backend.specs.Generated.{AreItemsOf}
+use Rattle.backend.specs.declared.flat_code.NotGenerated.{NotGenerated}
+use Rattle.backend.specs.declared.flat_code.NotGenerated.TheVariants as not_generated
+use Rattle.cc.specs.Compiled.{HasProgram, HasNoProgram, IsRefused}
 
 -- the fault that tells it, where the command names this file; only the copy of the name may run out of memory
 abbrev pub IsToldAs : List ℕ → Stop → Fault → Type 0
@@ -44,11 +47,10 @@ StopsBefore set name stop = (fault : Fault) → IsToldAs name stop fault → Has
 abbrev pub Stops : Files → List ℕ → Stop → Type 0
 Stops set name stop = (fault : Fault) → IsToldAs name stop fault → IsRefused set name fault
 
--- what comes of a unit that was narrowed: its program, 699 where it has none, or want of memory
-abbrev pub narrowed_of : Result (Option Program) AllocError → Result Program Stop
-narrowed_of (Ok (Some program)) = Ok program
-narrowed_of (Ok None) = Err (At NotBuiltYet 1)
-narrowed_of (Err error) = Err Memory
+-- what comes of a program that has no file: 699, or want of memory
+abbrev pub generated_stop : NotGenerated → Stop
+generated_stop not_generated.NotBuiltYet = At NotBuiltYet 1
+generated_stop not_generated.Memory = Memory
 
 -- why a file was not put whole, by what the port refused
 abbrev pub put_stop : PortFault → Stop
@@ -61,6 +63,14 @@ abbrev pub load_stop : LoadFault → Stop
 load_stop load_fault.Memory = Memory
 load_stop fault = At (code_of fault) 0
 
--- the unit is of another form than those that are built today, or memory ran out
-abbrev pub StopsUnit : Texts → List ExternalTree → Stop → Type 0
-StopsUnit texts unit stop = ((thin_in texts unit ≡ None) × (stop ≡ At NotBuiltYet 1)) ⊎ IsMemory stop
+-- the program is not one of those for which code is made today, or memory ran out
+abbrev pub StopsProgram : Program → Stop → Type 0
+StopsProgram program stop = ((is_plain program ≡ false) × (stop ≡ At NotBuiltYet 1)) ⊎ IsMemory stop
+
+-- the set has a program whose code is these items
+pub record HasItems (set : Files) (name : List ℕ) (items : List Item) : Type 0 where
+  pub texts : Texts
+  pub unit : List ExternalTree
+  pub program : Program
+  pub has_program : HasProgram set name texts unit program
+  pub items_are : AreItemsOf program items

@@ -1,8 +1,8 @@
 use Rattle.tree.specs.View.{unit_of}
 use Rattle.program.specs.View.{program_of}
-use Rattle.cc.specs.Compiled.{BuildsUnit, Compiles}
-use Rattle.cc.specs.inside.Stops.{Stops, StopsUnit}
-use Rattle.cc.proofs.Refusals.{handed_on, ok_means, error_means, before_stops, unit_stops}
+use Rattle.cc.specs.Compiled.{BuildsProgram, Compiles}
+use Rattle.cc.specs.inside.Stops.{Stops, StopsProgram}
+use Rattle.cc.proofs.Refusals.{handed_on, ok_means, error_means, before_stops, program_stops}
 use Rattle.cc.proofs.compiling.by_phases.Goals as goal
 
 pub returns-in_err-checked-clause-stops : goal.returns-in_err-checked-clause-stops
@@ -10,19 +10,21 @@ returns-in_err-checked-clause-stops c =
     let stop = c.in_err-checked.field-0.0 in
     handed_on c.from_residual.result stop _ c.from_residual.ensures.1 (before_stops c.args.set.now c.args.main.now stop c.in_err-checked.ensures.stops)
 
-pub build_unit-requires : goal.build_unit-requires
-build_unit-requires c = c.in_ok-checked.ensures.program.has_tree.tree.within
+pub build-requires : goal.build-requires
+build-requires c = c.in_ok-checked.ensures.ready
 
 pub returns-clause-built : goal.returns-clause-built
 returns-clause-built c =
     let texts = c.checked_unit.new.names in
     let unit = unit_of c.in_ok-checked.checked.unit in
-    ok_means c.build_unit.result (λ built. BuildsUnit texts unit built) (λ built. Compiles c.args.set.now c.args.main.now built)
-    (λ built h. record { texts = texts; unit = unit; program = program_of c.in_ok-checked.checked.program; has_program = c.in_ok-checked.ensures.program; builds = h }) c.build_unit.ensures.built
+    let program = program_of c.in_ok-checked.checked.program in
+    ok_means c.build.result (λ built. BuildsProgram texts program built) (λ built. Compiles c.args.set.now c.args.main.now built)
+    (λ built h. record { texts = texts; unit = unit; program = program; has_program = c.in_ok-checked.ensures.program; builds = h }) c.build.ensures.built
 
 pub returns-clause-stops : goal.returns-clause-stops
 returns-clause-stops c =
     let texts = c.checked_unit.new.names in
     let unit = unit_of c.in_ok-checked.checked.unit in
-    error_means c.build_unit.result (λ stop. StopsUnit texts unit stop) (λ stop. Stops c.args.set.now c.args.main.now stop)
-    (λ stop h. unit_stops c.args.set.now c.args.main.now texts unit (program_of c.in_ok-checked.checked.program) stop c.in_ok-checked.ensures.program h) c.build_unit.ensures.stops
+    let program = program_of c.in_ok-checked.checked.program in
+    error_means c.build.result (λ stop. StopsProgram program stop) (λ stop. Stops c.args.set.now c.args.main.now stop)
+    (λ stop h. program_stops c.args.set.now c.args.main.now texts unit program stop c.in_ok-checked.ensures.program h) c.build.ensures.stops

@@ -1,6 +1,8 @@
 use Rattle.tree.specs.View.{unit_of}
 use Rattle.cc.specs.Compiled.{HasList, HasTokens, HasTree}
 use Rattle.cc.proofs.Refusals.{handed_on, list_stops, tokens_stop, has_list, has_tokens, has_tree, has_number, tree_stops, check_stops}
+use Rattle.program.specs.View.{program_of}
+use Rattle.cc.proofs.Ready.{is_ready}
 use Rattle.cc.proofs.front.checked_unit.Goals as goal
 
 pub returns-in_err-list-clause-stops : goal.returns-in_err-list-clause-stops
@@ -53,3 +55,7 @@ returns-clause-program c =
     let unit = unit_of c.in_ok-unit.unit in
     let tree : HasTree set main texts unit = has_tree set main c.preprocessed.new.names texts c.in_ok-list.list.items c.as_slice.result.now c.in_ok-tokens.tokens.items c.as_slice-2.result.now unit c.as_slice.ensures.value c.in_ok-list.ensures.list c.c_tokens.ensures.keeps c.c_tokens.ensures.once c.as_slice-2.ensures.value c.in_ok-tokens.ensures.ok c.in_ok-unit.ensures.ok c.in_ok-unit.ensures.unique in
     record { has_tree = tree; is_program = c.in_ok-program.ensures.ok }
+
+pub returns-clause-ready : goal.returns-clause-ready
+returns-clause-ready c =
+    is_ready c.args.main.now c.c_tokens.new.names c.as_slice-2.result.now (unit_of c.in_ok-unit.unit) (program_of c.in_ok-program.program) c.texts_are_bytes.ensures c.in_ok-unit.ensures.ok c.in_ok-program.ensures.ok
