@@ -39,13 +39,14 @@ sh tests/outside/flat/check.sh crates/flat_rows/out/flat_rows 2>&1 | tee "$logs/
 sh tests/outside/tac/check.sh crates/tac_rows/out/tac_rows 2>&1 | tee "$logs/tac"
 python3 tests/outside/constraints/check.py crates/check_rows/out/check_rows 2>&1 | tee "$logs/constraints"
 python3 tests/outside/interp/check.py bin/cc 2>&1 | tee "$logs/interp"
+python3 tests/outside/scalars/check.py bin/cc 2>&1 | tee "$logs/scalars"
 sh tests/outside/pp/check.sh bin/cc 2>&1 | tee "$logs/macros"
 sh tests/outside/pp/check.sh bin/cc conditions 2>&1 | tee "$logs/conditions"
 python3 tests/outside/pp/nested.py bin/cc 2>&1 | tee "$logs/nested"
 python3 tests/outside/pp/includes.py bin/cc 2>&1 | tee "$logs/includes"
 python3 tests/outside/pp/units.py bin/cc 2>&1 | tee "$logs/units"
 
-for part in ci release run documents outside flat tac constraints interp macros conditions nested includes units; do verdict "$logs/$part"; done >"$logs/verdicts"
+for part in ci release run documents outside flat tac constraints interp scalars macros conditions nested includes units; do verdict "$logs/$part"; done >"$logs/verdicts"
 # count WORD: the sum of the numbers before WORD in the verdicts.
 count() { sed -n "s/.*\b\([0-9][0-9]*\) $1.*/\1/p" "$logs/verdicts" | awk '{ n += $1 } END { print n + 0 }'; }
 passed=$(count passed)

@@ -213,6 +213,7 @@ built() {
 built examples/hello.c "$root/examples/hello.c" 48 42
 built examples/sums.c "$root/examples/sums.c" 342b333d370a4869210a 7
 built examples/nested.c "$root/examples/nested.c" 320a 4
+built examples/collatz.c "$root/examples/collatz.c" 300a 0
 
 if [ -n "$hostgcc" ]; then
     printf '#include <stdio.h>\nvoid rv_putbyte(int c) { putchar(c & 255); }\n' >port.c
@@ -236,7 +237,7 @@ while IFS= read -r line; do
         skip 1
     fi
 done <"$here/programs.txt"
-holds "programs.txt has $count programs, not 65" [ "$count" = 65 ]
+holds "programs.txt has $count programs, not 80" [ "$count" = 80 ]
 
 # 32 statements and a return of 64 constants each.
 awk -f "$here/largest.awk" </dev/null >largest.c
@@ -272,7 +273,7 @@ functions() {
 # large itself is said before.
 functions 6142 >many.c
 go "$cc" build many.c -o program
-expect '262144 nodes' 1 - 'many.c:1: 699 not built yet'
+expect '262144 nodes' 0 - ''
 printf 'int\na\n; int b;\n' >>many.c
 go "$cc" build many.c -o program
 expect '262145 nodes' 1 - 'many.c:36: 711 limit: nodes of the program'
@@ -339,7 +340,7 @@ while IFS= read -r line; do
     printf '%b' "$rest" >main.c
     refused "$f1" "$f2" main.c
 done <"$here/refused.txt"
-holds "refused.txt has $count sources, not 84" [ "$count" = 84 ]
+holds "refused.txt has $count sources, not 74" [ "$count" = 74 ]
 
 : >main.c
 refused 'an empty source' 'main.c:1: 551 no int main(void)' main.c
@@ -446,7 +447,7 @@ expect 'pp to a full device' 1 - 'cc: 803 cannot write'
 usage 'no words'
 usage 'an unknown command' compile main.c
 usage 'pp without a main file' pp
-usage 'list' list main.c
+usage 'list without a file' list
 usage 'interp without a main file' interp
 usage 'interp --max 0' interp main.c --max 0
 usage 'interp --max 9223372036854775808' interp main.c --max 9223372036854775808
@@ -503,10 +504,10 @@ bad 'too much memory' 139 '\0010' '907 too much memory'
 # The largest budget; just enough; one too few; few.
 go "$cc" run hello --max 9223372036854775807
 expect '--max 9223372036854775807' 42 48 ''
-go "$cc" run --max 35 hello
-expect '--max 35, all instructions of hello' 42 48 ''
-go "$cc" run hello --max 34
-expect '--max 34' 124 48 'cc: budget used'
+go "$cc" run --max 24 hello
+expect '--max 24, all instructions of hello' 42 48 ''
+go "$cc" run hello --max 23
+expect '--max 23' 124 48 'cc: budget used'
 go "$cc" run hello --max 5
 expect '--max 5' 124 - 'cc: budget used'
 go "$cc" run hello --max 1
@@ -696,7 +697,7 @@ else
 fi
 
 # So many checks there are; a loop that ends early, or rows that are lost, do not go unseen.
-checks=744
+checks=819
 made=$((passed + failed + skipped))
 [ $made = $checks ] || fail "$made checks were made, not $checks"
 if [ $skipped = 0 ]; then
