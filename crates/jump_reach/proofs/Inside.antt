@@ -1,6 +1,7 @@
 -- Each jump of a function's items names the label of one of its instructions.
-use Rattle.std.proofs.Common.{◌≡◌, ℕ, zero, suc, ◌+◌, ◌-◌, ◌%◌, ◌^◌, ◌<◌, ◌≤◌, Bool, true, false, List, [], ◌∷◌, ◌++◌, length, Some, refl, arith}
+use Rattle.std.proofs.Common.{◌≡◌, ℕ, zero, suc, ◌+◌, ◌-◌, ◌%◌, ◌^◌, ◌<◌, ◌≤◌, Bool, true, false, List, [], ◌∷◌, ◌++◌, length, Option, Some, None, refl, arith}
 use Rattle.std.specs.Prelude.{if◌then◌else◌, nat_lt, ◌==◌, slice_get}
+use Rattle.rv32.specs.declared.instr.Instr.{Instr}
 use Rattle.asm.specs.declared.item.Item.{Item}
 use Rattle.asm.specs.declared.item.Item.TheVariants.{Mark, Plain, Branch, Jump, Call, Constant, LabelAddress, DataAddress}
 use Rattle.asm.specs.Layout.{item_at}
@@ -19,7 +20,7 @@ use Rattle.select.specs.declared.places.Source.TheVariants as source
 use Rattle.select.specs.declared.places.Home.{Home}
 use Rattle.select.specs.declared.places.Home.TheVariants as home
 use Rattle.select.specs.Selected as selected
-use Rattle.select.specs.Selected.{source_of, home_of, fetch, into, keep, made_in, register_of, far, load_word, store_word, address_of, move, operate, narrow, reach, reference, scale, element, put_byte, get_byte, change_sp, saves, restores, entry, leave, return_home, byte_home, items_of, set_to}
+use Rattle.select.specs.Selected.{source_of, home_of, fetch, into, keep, made_in, register_of, far, load_word, store_word, address_of, move, ending, operate, form_or, combine, narrow, reach, reference, scale, element, put_byte, get_byte, change_sp, saves, restores, entry, leave, return_home, byte_home, items_of, set_to}
 use Rattle.select.specs.Program.{code_items}
 
 -- a jump to a label from a up to b
@@ -113,10 +114,21 @@ module _ (a b : ℕ) where
   move_in (home.Register r) s = into_in r s
   move_in (home.Frame o) s = both (fetch 5 s) _ (fetch_in 5 s) (store_word_in (register_of 5 s) o)
 
-  operate_in : (o : Operation) (rd x y : ℕ) → Inside a b (operate o rd x y)
-  operate_in (operation.Machine o) rd x y = tt
-  operate_in operation.Equal rd x y = tt
-  operate_in operation.NotEqual rd x y = tt
+  ending_in : (o : Operation) (rd : ℕ) → Inside a b (ending o rd)
+  ending_in (operation.Machine o) rd = tt
+  ending_in operation.Equal rd = tt
+  ending_in operation.NotEqual rd = tt
+
+  form_in : (t : Option Instr) (xs ys : List Item) → Inside a b xs → Inside a b ys → Inside a b (form_or t xs ys)
+  form_in (Some i) xs ys p q = p
+  form_in None xs ys p q = q
+
+  combine_in : (o : Operation) (rd x : ℕ) (y : Source) → Inside a b (combine o rd x y)
+  combine_in o rd x (source.Register r) = ending_in o rd
+  combine_in o rd x (source.Frame q) = both (load_word 6 q) (operate o rd x 6) (load_word_in 6 q) (ending_in o rd)
+  combine_in o rd x (source.Constant v) =
+      form_in (selected.constant_form (selected.machine_of o) rd x v) (ending o rd) (set_to 6 v ∷ operate o rd x 6) (ending_in o rd)
+      (both (set_to 6 v ∷ []) (operate o rd x 6) (set_in 6 v) (ending_in o rd))
 
   narrow_in : (c : Conversion) (rd x : ℕ) → Inside a b (narrow c rd x)
   narrow_in conversion.ToByte rd x = tt
@@ -175,8 +187,7 @@ module _ (a b : ℕ) where
     items_in m (instruction.Move d x) fit = move_in (home_of f d) (source_of f x)
     items_in m (instruction.Compute o d x y) fit =
         both (fetch 5 (source_of f x)) _ (fetch_in 5 (source_of f x))
-        (both (fetch 6 (source_of f y)) _ (fetch_in 6 (source_of f y))
-        (both (operate o (made_in (home_of f d)) (register_of 5 (source_of f x)) (register_of 6 (source_of f y))) _ (operate_in o _ _ _) (keep_in (home_of f d))))
+        (both (combine o (made_in (home_of f d)) (register_of 5 (source_of f x)) (source_of f y)) _ (combine_in o _ _ (source_of f y)) (keep_in (home_of f d)))
     items_in m (instruction.Convert c d x) fit =
         both (fetch 5 (source_of f x)) _ (fetch_in 5 (source_of f x))
         (both (narrow c (made_in (home_of f d)) (register_of 5 (source_of f x))) _ (narrow_in c _ _) (keep_in (home_of f d)))

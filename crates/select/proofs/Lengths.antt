@@ -1,5 +1,5 @@
 -- How long the selected items are.
-use Rattle.std.proofs.Common.{◌≡◌, ◌≤◌, ℕ, zero, suc, ◌+◌, ◌-◌, ◌*◌, ◌%◌, ◌^◌, Bool, true, false, List, [], ◌∷◌, ◌++◌, refl, arith}
+use Rattle.std.proofs.Common.{◌≡◌, ◌≤◌, ℕ, zero, suc, ◌+◌, ◌-◌, ◌*◌, ◌%◌, ◌^◌, Bool, true, false, List, [], ◌∷◌, ◌++◌, Option, Some, None, refl, arith}
 use Rattle.std.specs.Prelude.{if◌then◌else◌, nat_lt, ◌==◌, sum_by}
 use Rattle.std.proofs.lemmas.List.Sums.{sum_by-append, sum_by-cons}
 use Rattle.rv32.specs.declared.instr.Instr.{Instr}
@@ -22,7 +22,7 @@ use Rattle.select.specs.declared.places.Source.TheVariants as source
 use Rattle.select.specs.declared.places.Home.{Home}
 use Rattle.select.specs.declared.places.Home.TheVariants as home
 use Rattle.select.specs.Selected as selected
-use Rattle.select.specs.Selected.{source_of, home_of, fetch, into, keep, made_in, register_of, far, load_word, store_word, address_of, move, operate, narrow, reach, reference, scale, put_byte, get_byte, change_sp, saves, restores, entry, leave, return_home, byte_home, items_of, set_to}
+use Rattle.select.specs.Selected.{source_of, home_of, fetch, into, keep, made_in, register_of, far, load_word, store_word, address_of, move, ending, operate, form_or, combine, narrow, reach, reference, scale, put_byte, get_byte, change_sp, saves, restores, entry, leave, return_home, byte_home, items_of, set_to}
 use Rattle.select.specs.Program.{code_items, function_items}
 use Rattle.select.specs.Bytes.{word_bytes, fetch_bytes, keep_bytes, into_bytes, move_bytes, reach_bytes, reference_bytes, saved_bytes, entry_bytes, instruction_bytes, CodeIsShort}
 
@@ -80,10 +80,24 @@ move_short : (d : Home) (s : Source) → longest (move d s) ≤ move_bytes d s
 move_short (home.Register r) s = into_short r s
 move_short (home.Frame o) s = both (fetch 5 s) _ _ _ (fetch_short 5 s) (store_word_short (register_of 5 s) o)
 
+ending_short : (o : Operation) (rd : ℕ) → longest (ending o rd) ≤ 4
+ending_short (operation.Machine o) rd = omega arith
+ending_short operation.Equal rd = omega arith
+ending_short operation.NotEqual rd = omega arith
+
 operate_short : (o : Operation) (rd a b : ℕ) → longest (operate o rd a b) ≤ 8
-operate_short (operation.Machine o) rd a b = omega arith
-operate_short operation.Equal rd a b = omega arith
-operate_short operation.NotEqual rd a b = omega arith
+operate_short o rd a b = with_one (instr.Op (selected.machine_of o) rd a b) (ending o rd) 4 (ending_short o rd)
+
+form_short : (t : Option Instr) (xs ys : List Item) → longest xs ≤ 4 → longest ys ≤ 16 → longest (form_or t xs ys) ≤ 16
+form_short (Some i) xs ys p q = more (item.Plain i ∷ xs) 8 16 (omega arith) (with_one i xs 4 p)
+form_short None xs ys p q = q
+
+combine_short : (o : Operation) (rd a : ℕ) (y : Source) → longest (combine o rd a y) ≤ fetch_bytes y + 8
+combine_short o rd a (source.Register r) = operate_short o rd a r
+combine_short o rd a (source.Frame p) = both (load_word 6 p) (operate o rd a 6) (word_bytes p) 8 (load_word_short 6 p) (operate_short o rd a 6)
+combine_short o rd a (source.Constant v) =
+    form_short (selected.constant_form (selected.machine_of o) rd a v) (ending o rd) (set_to 6 v ∷ operate o rd a 6) (ending_short o rd)
+    (both (set_to 6 v ∷ []) (operate o rd a 6) 8 8 (set_short 6 v) (operate_short o rd a 6))
 
 narrow_short : (c : Conversion) (rd a : ℕ) → longest (narrow c rd a) ≤ 8
 narrow_short conversion.ToByte rd a = omega arith
@@ -132,8 +146,10 @@ items_short f first instruction.Nothing = omega arith
 items_short f first (instruction.Move d x) = move_short (home_of f d) (source_of f x)
 items_short f first (instruction.Compute o d x y) =
     both (fetch 5 (source_of f x)) _ _ _ (fetch_short 5 (source_of f x))
-    (both (fetch 6 (source_of f y)) _ _ _ (fetch_short 6 (source_of f y))
-    (both (operate o (made_in (home_of f d)) (register_of 5 (source_of f x)) (register_of 6 (source_of f y))) _ 8 _ (operate_short o _ _ _) (keep_short (home_of f d))))
+    (let whole = combine o (made_in (home_of f d)) (register_of 5 (source_of f x)) (source_of f y) in
+    let last = keep (home_of f d) in
+    more (whole ++ last) ((fetch_bytes (source_of f y) + 8) + keep_bytes (home_of f d)) _ (omega arith)
+    (both whole last _ _ (combine_short o _ _ (source_of f y)) (keep_short (home_of f d))))
 items_short f first (instruction.Convert c d x) =
     both (fetch 5 (source_of f x)) _ _ _ (fetch_short 5 (source_of f x))
     (both (narrow c (made_in (home_of f d)) (register_of 5 (source_of f x))) _ 8 _ (narrow_short c _ _) (keep_short (home_of f d)))

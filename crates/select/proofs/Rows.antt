@@ -6,6 +6,7 @@ use Rattle.rv32.specs.declared.instr.Instr.{Instr}
 use Rattle.rv32.specs.declared.instr.Instr.TheVariants as instr
 use Rattle.rv32.specs.declared.instr.ImmediateOp.TheVariants as immediate_op
 use Rattle.rv32.specs.declared.instr.RegisterOp.TheVariants as op
+use Rattle.rv32.specs.declared.instr.ShiftOp.TheVariants as shift_op
 use Rattle.rv32.specs.declared.instr.Test.TheVariants as test
 use Rattle.events.specs.Events.{Event, Got, GotEnd, Put}
 use Rattle.asm.specs.declared.item.Item.{Item}
@@ -22,6 +23,7 @@ use Rattle.frames.specs.declared.code.Target.{Target}
 use Rattle.frames.specs.declared.code.Instruction.{Instruction}
 use Rattle.frames.specs.Code.{Function, Program}
 use Rattle.running.specs.Light.{Fixed, Light, Go, Done, light_run, sum32}
+use Rattle.select.specs.Selected.{items_of}
 use Rattle.select.specs.Program.{program_items}
 
 -- ---- items as words
@@ -191,3 +193,25 @@ conversions :
     convert to_half (to_cell 4) (constant 0x10002) ∷ compute not_equal t0 (constant 3) (constant 3) ∷
     add t0 (temporary 0) (cell 0) ∷ add t0 (temporary 0) (cell 1) ∷ add t0 (temporary 0) (cell 2) ∷ add t0 (temporary 0) (cell 3) ∷ add t0 (temporary 0) (cell 4) ∷ return ∷ []) ∷ [])) ≡ Done 6 []
 conversions = refl
+
+-- int x = 5 - 7; each operation with a constant of 12 bits, and two with one of 13: (x < -1) + (x < 2047u), ((x ^ -1) << 3 | 3) & 9, x >> 1, + 2048, == 2057, != 57
+constants :
+    after 90 [] (whole (function 2 1 0 0 (
+    move (to_cell 0) (constant 5) ∷ compute (machine op.Sub) (to_cell 0) (cell 0) (constant 7) ∷
+    compute (machine op.Less) (to_cell 1) (cell 0) (constant (2 ^ 32 - 1)) ∷ compute (machine op.LessUnsigned) t0 (cell 0) (constant 2047) ∷ add (to_cell 1) (cell 1) (temporary 0) ∷
+    compute (machine op.Xor) t0 (cell 0) (constant (2 ^ 32 - 1)) ∷ compute (machine op.ShiftLeft) t0 (temporary 0) (constant 3) ∷
+    compute (machine op.Or) t0 (temporary 0) (constant 3) ∷ compute (machine op.And) t0 (temporary 0) (constant 9) ∷ add t0 (temporary 0) (cell 1) ∷
+    compute (machine op.ShiftRightArithmetic) (to_cell 0) (cell 0) (constant 1) ∷ add t0 (temporary 0) (cell 0) ∷ add t0 (temporary 0) (constant 2048) ∷
+    compute equal (to_cell 1) (temporary 0) (constant 2057) ∷ compute not_equal (to_cell 0) (temporary 0) (constant 57) ∷
+    add t0 (temporary 0) (cell 1) ∷ add t0 (temporary 0) (cell 0) ∷ return ∷ []) ∷ [])) ≡ Done 11 []
+constants = refl
+
+-- x + 1, x - 1, x >> 31 of an unsigned x in a0: one instruction each
+one_more : items_of (function 0 0 0 0 []) 0 (add t0 (temporary 0) (constant 1)) ≡ item.Plain (instr.Immediate immediate_op.Add 10 10 1) ∷ []
+one_more = refl
+
+one_less : items_of (function 0 0 0 0 []) 0 (compute (machine op.Sub) t0 (temporary 0) (constant 1)) ≡ item.Plain (instr.Immediate immediate_op.Add 10 10 (2 ^ 32 - 1)) ∷ []
+one_less = refl
+
+one_shift : items_of (function 0 0 0 0 []) 0 (compute (machine op.ShiftRight) t0 (temporary 0) (constant 31)) ≡ item.Plain (instr.Shift shift_op.Right 10 10 31) ∷ []
+one_shift = refl

@@ -1,9 +1,10 @@
 -- The items of a sound flat program can be assembled: each label is marked once, and no other is named.
-use Rattle.std.proofs.Common.{◌≡◌, ◌⊎◌, inl, inr, ⊎_elim, ℕ, zero, suc, ◌+◌, ◌-◌, ◌*◌, ◌<◌, ◌≤◌, ◌%◌, ◌^◌, Bool, true, false, List, [], ◌∷◌, ◌++◌, length, Some, refl, sym, ap, ◌∙◌, subst, arith, eqb}
+use Rattle.std.proofs.Common.{◌≡◌, ◌⊎◌, inl, inr, ⊎_elim, ℕ, zero, suc, ◌+◌, ◌-◌, ◌*◌, ◌<◌, ◌≤◌, ◌%◌, ◌^◌, Bool, true, false, List, [], ◌∷◌, ◌++◌, length, Option, Some, None, refl, sym, ap, ◌∙◌, subst, arith, eqb}
 use Rattle.std.specs.Prelude.{if◌then◌else◌, nat_lt, ◌==◌, slice_get}
 use Rattle.std.proofs.lemmas.Bool.{cases_lt}
 use Rattle.std.proofs.lemmas.List.{length-append}
 use Rattle.std.proofs.lemmas.List.Sums.{sum_by-cons}
+use Rattle.rv32.specs.declared.instr.Instr.{Instr}
 use Rattle.rv32.specs.declared.instr.RegisterOp.TheVariants as register_op
 use Rattle.loader.specs.MemoryMap.{stack_end}
 use Rattle.asm.specs.declared.item.Item.{Item}
@@ -27,7 +28,7 @@ use Rattle.select.specs.declared.places.Source.TheVariants as source
 use Rattle.select.specs.declared.places.Home.{Home}
 use Rattle.select.specs.declared.places.Home.TheVariants as home
 use Rattle.select.specs.Selected as selected
-use Rattle.select.specs.Selected.{source_of, home_of, fetch, into, keep, made_in, register_of, far, load_word, store_word, address_of, move, operate, compute, narrow, convert, reach, load, store, reference, scale, element, branch, put_byte, get_byte, exit, change_sp, saves, restores, entry, leave, return_home, byte_home, items_of, set_to}
+use Rattle.select.specs.Selected.{source_of, home_of, fetch, into, keep, made_in, register_of, far, load_word, store_word, address_of, move, ending, operate, form_or, combine, compute, narrow, convert, reach, load, store, reference, scale, element, branch, put_byte, get_byte, exit, change_sp, saves, restores, entry, leave, return_home, byte_home, items_of, set_to}
 use Rattle.select.specs.Program.{code_items, function_items, functions_items, start_items, program_items, labels_of}
 
 bool_cases : {A : Type 0} (b : Bool) → (b ≡ true → A) → (b ≡ false → A) → A
@@ -115,10 +116,21 @@ module _ (n : ℕ) where
   move_un (home.Register r) s p = into_un r s p
   move_un (home.Frame o) s p = both (fetch 5 s) _ (fetch_un 5 s p) (store_word_un (register_of 5 s) o)
 
-  operate_un : (o : Operation) (rd a b : ℕ) → Unmarked n (operate o rd a b)
-  operate_un (operation.Machine o) rd a b = tt
-  operate_un operation.Equal rd a b = tt
-  operate_un operation.NotEqual rd a b = tt
+  ending_un : (o : Operation) (rd : ℕ) → Unmarked n (ending o rd)
+  ending_un (operation.Machine o) rd = tt
+  ending_un operation.Equal rd = tt
+  ending_un operation.NotEqual rd = tt
+
+  form_un : (t : Option Instr) (xs ys : List Item) → Unmarked n xs → Unmarked n ys → Unmarked n (form_or t xs ys)
+  form_un (Some i) xs ys p q = p
+  form_un None xs ys p q = q
+
+  combine_un : (o : Operation) (rd a : ℕ) (y : Source) → SmallSource y → Unmarked n (combine o rd a y)
+  combine_un o rd a (source.Register r) p = ending_un o rd
+  combine_un o rd a (source.Frame q) p = both (load_word 6 q) (operate o rd a 6) (load_word_un 6 q) (ending_un o rd)
+  combine_un o rd a (source.Constant v) p =
+      form_un (selected.constant_form (selected.machine_of o) rd a v) (ending o rd) (set_to 6 v ∷ operate o rd a 6) (ending_un o rd)
+      (both (set_to 6 v ∷ []) (operate o rd a 6) (set_un 6 v p) (ending_un o rd))
 
   narrow_un : (c : Conversion) (rd a : ℕ) → Unmarked n (narrow c rd a)
   narrow_un conversion.ToByte rd a = tt
@@ -177,8 +189,7 @@ module _ (n : ℕ) where
     items_un first m le lt (instruction.Move d x) fit = move_un (home_of f d) (source_of f x) (small_source f x fit.1)
     items_un first m le lt (instruction.Compute o d x y) fit =
         both (fetch 5 (source_of f x)) _ (fetch_un 5 (source_of f x) (small_source f x fit.1))
-        (both (fetch 6 (source_of f y)) _ (fetch_un 6 (source_of f y) (small_source f y fit.2))
-        (both (operate o (made_in (home_of f d)) (register_of 5 (source_of f x)) (register_of 6 (source_of f y))) _ (operate_un o _ _ _) (keep_un (home_of f d))))
+        (both (combine o (made_in (home_of f d)) (register_of 5 (source_of f x)) (source_of f y)) _ (combine_un o _ _ (source_of f y) (small_source f y fit.2)) (keep_un (home_of f d)))
     items_un first m le lt (instruction.Convert c d x) fit =
         both (fetch 5 (source_of f x)) _ (fetch_un 5 (source_of f x) (small_source f x fit.1))
         (both (narrow c (made_in (home_of f d)) (register_of 5 (source_of f x))) _ (narrow_un c _ _) (keep_un (home_of f d)))

@@ -1,6 +1,8 @@
 -- The items of each flat instruction.
-use Rattle.std.specs.Prelude.{ℕ, zero, suc, ◌+◌, ◌*◌, ◌-◌, ◌/◌, ◌%◌, ◌^◌, ◌==◌, nat_lt, nat_le, if◌then◌else◌, List, [], ◌∷◌, ◌++◌}
+use Rattle.std.specs.Prelude.{ℕ, zero, suc, ◌+◌, ◌*◌, ◌-◌, ◌/◌, ◌%◌, ◌^◌, ◌==◌, nat_lt, nat_le, if◌then◌else◌, List, [], ◌∷◌, ◌++◌, Option, Some, None}
+use Rattle.rv32.specs.declared.instr.Instr.{Instr}
 use Rattle.rv32.specs.declared.instr.Instr.TheVariants as instr
+use Rattle.rv32.specs.declared.instr.ImmediateOp.{ImmediateOp}
 use Rattle.rv32.specs.declared.instr.ImmediateOp.TheVariants as immediate_op
 use Rattle.rv32.specs.declared.instr.RegisterOp.{RegisterOp}
 use Rattle.rv32.specs.declared.instr.RegisterOp.TheVariants as register_op
@@ -131,13 +133,62 @@ abbrev pub move : Home → Source → List Item
 move (home.Register r) x = into r x
 move (home.Frame o) x = fetch 5 x ++ store_word (register_of 5 x) o
 
+-- the machine's operation, and what makes of its result whether words are equal
+abbrev pub machine_of : Operation → RegisterOp
+machine_of (operation.Machine o) = o
+machine_of operation.Equal = register_op.Xor
+machine_of operation.NotEqual = register_op.Xor
+
+abbrev pub ending : Operation → ℕ → List Item
+ending (operation.Machine o) rd = []
+ending operation.Equal rd = item.Plain (instr.Immediate immediate_op.LessUnsigned rd rd 1) ∷ []
+ending operation.NotEqual rd = operate_on register_op.LessUnsigned rd 0 rd ∷ []
+
 abbrev pub operate : Operation → ℕ → ℕ → ℕ → List Item
-operate (operation.Machine o) rd a b = operate_on o rd a b ∷ []
-operate operation.Equal rd a b = operate_on register_op.Xor rd a b ∷ item.Plain (instr.Immediate immediate_op.LessUnsigned rd rd 1) ∷ []
-operate operation.NotEqual rd a b = operate_on register_op.Xor rd a b ∷ operate_on register_op.LessUnsigned rd 0 rd ∷ []
+operate o rd a b = operate_on (machine_of o) rd a b ∷ ending o rd
+
+-- the instruction that has the second of an operation's two words in itself, where there is one for it (unprivileged ISA manual, 2.4.1)
+abbrev pub short_form : ImmediateOp → ℕ → ℕ → ℕ → Option Instr
+short_form o rd a v = if nat_lt ((v + 0x800) % 2 ^ 32) 0x1000 then Some (instr.Immediate o rd a v) else None
+
+abbrev pub shift_form : ShiftOp → ℕ → ℕ → ℕ → Option Instr
+shift_form o rd a v = Some (instr.Shift o rd a (v % 2 ^ 5))
+
+abbrev pub constant_form : RegisterOp → ℕ → ℕ → ℕ → Option Instr
+constant_form register_op.Add rd a v = short_form immediate_op.Add rd a v
+constant_form register_op.Sub rd a v = short_form immediate_op.Add rd a ((2 ^ 32 - v) % 2 ^ 32)
+constant_form register_op.ShiftLeft rd a v = shift_form shift_op.Left rd a v
+constant_form register_op.Less rd a v = short_form immediate_op.Less rd a v
+constant_form register_op.LessUnsigned rd a v = short_form immediate_op.LessUnsigned rd a v
+constant_form register_op.Xor rd a v = short_form immediate_op.Xor rd a v
+constant_form register_op.ShiftRight rd a v = shift_form shift_op.Right rd a v
+constant_form register_op.ShiftRightArithmetic rd a v = shift_form shift_op.RightArithmetic rd a v
+constant_form register_op.Or rd a v = short_form immediate_op.Or rd a v
+constant_form register_op.And rd a v = short_form immediate_op.And rd a v
+constant_form register_op.Mul rd a v = None
+constant_form register_op.MulHigh rd a v = None
+constant_form register_op.MulHighSignedUnsigned rd a v = None
+constant_form register_op.MulHighUnsigned rd a v = None
+constant_form register_op.Div rd a v = None
+constant_form register_op.DivUnsigned rd a v = None
+constant_form register_op.Rem rd a v = None
+constant_form register_op.RemUnsigned rd a v = None
+
+abbrev pub form_or : Option Instr → List Item → List Item → List Item
+form_or (Some i) more other = item.Plain i ∷ more
+form_or None more other = other
+
+-- register a and a second operand; x6 is free
+abbrev pub with_constant : Operation → ℕ → ℕ → ℕ → List Item
+with_constant o rd a v = form_or (constant_form (machine_of o) rd a v) (ending o rd) (set_to 6 v ∷ operate o rd a 6)
+
+abbrev pub combine : Operation → ℕ → ℕ → Source → List Item
+combine o rd a (source.Register r) = operate o rd a r
+combine o rd a (source.Frame p) = load_word 6 p ++ operate o rd a 6
+combine o rd a (source.Constant v) = with_constant o rd a v
 
 abbrev pub compute : Operation → Home → Source → Source → List Item
-compute o d x y = fetch 5 x ++ (fetch 6 y ++ (operate o (made_in d) (register_of 5 x) (register_of 6 y) ++ keep d))
+compute o d x y = fetch 5 x ++ (combine o (made_in d) (register_of 5 x) y ++ keep d)
 
 abbrev pub narrow : Conversion → ℕ → ℕ → List Item
 narrow conversion.ToByte rd a = item.Plain (instr.Immediate immediate_op.And rd a 255) ∷ []

@@ -2,6 +2,7 @@
 #![tactic(auto)]
 
 mod calls;
+mod combining;
 mod elements;
 pub mod laws;
 mod operations;

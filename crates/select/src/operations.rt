@@ -4,6 +4,7 @@ ghost use Rattle.std.specs.Prelude.{◌≡◌, ◌<◌, ◌++◌, ◌∷◌, [],
 ghost use Rattle.select.specs.Selected as selected;
 ghost use Rattle.select.specs.inside.Ranges.{SourceIsNear, HomeIsNear};
 
+use crate::combining::put_combination;
 use crate::places::{Home, Source};
 use crate::words::{
     fetch, keep, made_in, operate_on, put, put_into, register_of, shifted, store_word, zero,
@@ -29,39 +30,6 @@ pub fn put_move(items: &mut Vec<Item>, home: &Home, source: &Source) -> Result<(
     }
 }
 
-fn put_operation(
-    items: &mut Vec<Item>,
-    operation: Operation,
-    rd: Five,
-    left: Five,
-    right: Five,
-) -> Result<(), AllocError>
-    ensures { OnOk result (items.new.items ≡ items.old.items ++ selected.operate operation rd left right) }
-{
-    match operation {
-        Operation::Machine(op) => put(items, &[operate_on(op, rd, left, right)]),
-        Operation::Equal => put(
-            items,
-            &[
-                operate_on(RegisterOp::Xor, rd, left, right),
-                Item::Plain(Instr::Immediate {
-                    op: ImmediateOp::LessUnsigned,
-                    rd,
-                    left: rd,
-                    right: Short::new(1),
-                }),
-            ],
-        ),
-        Operation::NotEqual => put(
-            items,
-            &[
-                operate_on(RegisterOp::Xor, rd, left, right),
-                operate_on(RegisterOp::LessUnsigned, rd, zero(), rd),
-            ],
-        ),
-    }
-}
-
 pub fn put_compute(
     items: &mut Vec<Item>,
     operation: Operation,
@@ -74,14 +42,11 @@ pub fn put_compute(
     requires home_near { HomeIsNear home.now }
     ensures { OnOk result (items.new.items ≡ items.old.items ++ selected.compute operation home.now left.now right.now) }
 {
-    let first = Five::new(5);
-    let second = Five::new(6);
+    let free = Five::new(5);
     let rd = made_in(home);
-    let left_register = register_of(first, left);
-    let right_register = register_of(second, right);
-    fetch(items, first, left)?;
-    fetch(items, second, right)?;
-    put_operation(items, operation, rd, left_register, right_register)?;
+    let register = register_of(free, left);
+    fetch(items, free, left)?;
+    put_combination(items, operation, rd, register, right)?;
     keep(items, home)
 }
 

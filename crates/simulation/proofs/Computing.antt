@@ -17,13 +17,14 @@ use Rattle.running.proofs.Steps.{comes_now, on_immediate, on_exit}
 use Rattle.running.proofs.Placing.{stands_parts}
 use Rattle.select.specs.declared.places.Source.{Source}
 use Rattle.select.specs.declared.places.Home.{Home}
-use Rattle.select.specs.Selected.{source_of, home_of, fetch, register_of, made_in, keep, operate, compute}
+use Rattle.select.specs.Selected.{source_of, home_of, fetch, register_of, made_in, keep, combine, compute}
 use Rattle.simulation.specs.Matches.{Ground, Matched, Matches, Ready, address}
 use Rattle.simulation.specs.Laws.{Anything, Follows}
-use Rattle.simulation.proofs.Registers.{off_last}
-use Rattle.simulation.proofs.Places.{SourceHolds, fetches_two}
+use Rattle.simulation.proofs.Registers.{off_none, off_only}
+use Rattle.simulation.proofs.Places.{SourceHolds, source_stays, fetches}
 use Rattle.simulation.proofs.Frames.{operand_holds}
-use Rattle.simulation.proofs.Operations.{operates, result_small}
+use Rattle.simulation.proofs.Operations.{result_small}
+use Rattle.simulation.proofs.Combining.{combines}
 use Rattle.simulation.proofs.Forms.{used, word_some, fn, open_stack, fits, no_more, made_above, finishes}
 
 module _ (G : Ground) (s : State) (r b : ℕ → ℕ) (ready : Ready G) (m : Matched G s r (address G s.frame.function s.frame.at) b) where
@@ -46,13 +47,11 @@ module _ (G : Ground) (s : State) (r b : ℕ → ℕ) (ready : Ready G) (m : Mat
       let rd = made_in hm in
       let above : 5 ≤ rd = made_above G s r b ready m d hm eh in
       let pos : 0 < rd = omega (arith, above) in
-      let body = operate o rd (register_of 5 x) (register_of 6 y) in
-      let one = stands_parts G.machine.text G.env G.data_at (fetch 5 x) (fetch 6 y ++ (body ++ keep hm)) start end st in
-      let two = stands_parts G.machine.text G.env G.data_at (fetch 6 y) (body ++ keep hm) one.0 end one.2 in
-      let three = stands_parts G.machine.text G.env G.data_at body (keep hm) two.0 end two.2 in
-      fetches_two G.machine G.env G.data_at s.input s.trace Q (open_stack G s r b ready m) r b m.sp m.sp_is 5 x y a c start one.0 two.0 hx hy one.1 two.1 (λ r2 off e5 e6.
-      operates G.machine G.env G.data_at s.input s.trace Q r2 b rd pos {a0 = 0} 3 o (register_of 5 x) (register_of 6 y) a c two.0 three.0 ha hc e5 e6 three.1 (λ r3 only held.
-      finishes G s r b ready m unset none_left d (word w) fit (result_small o a c ha hc) hm eh r3 (off_last rd r r2 r3 off only) (reg_is r3 rd pos ∙ held) three.0 three.2))
+      let one = stands_parts G.machine.text G.env G.data_at (fetch 5 x) (combine o rd (register_of 5 x) y ++ keep hm) start end st in
+      let two = stands_parts G.machine.text G.env G.data_at (combine o rd (register_of 5 x) y) (keep hm) one.0 end one.2 in
+      fetches G.machine G.env G.data_at s.input s.trace Q (open_stack G s r b ready m) r b m.sp m.sp_is 8 5 (omega arith) (omega arith) x a start one.0 r (off_none 5 r) hx one.1 (λ r2 only2 held2.
+      combines G.machine G.env G.data_at s.input s.trace Q (open_stack G s r b ready m) r b m.sp m.sp_is rd pos 3 o (register_of 5 x) a y c one.0 two.0 r2 ha hc (off_only 5 r r2 only2) held2 (source_stays r b m.sp a x hx).0 hy two.1 (λ r3 off3 held.
+      finishes G s r b ready m unset none_left d (word w) fit (result_small o a c ha hc) hm eh r3 off3 (reg_is r3 rd pos ∙ held) two.0 two.2))
 
   does_compute : (o : Operation) (d : Target) (x y : Operand) → slice_get (fn G s r b ready m).code s.frame.at ≡ Some (instruction.Compute o d x y)
       → Comes G.machine Anything 1 11 (Go r start b s.input s.trace) (Matches G (act G.program s (instruction.Compute o d x y)))

@@ -6,6 +6,7 @@ pub mod Frames
 pub mod Results
 pub mod Forms
 pub mod Operations
+pub mod Combining
 pub mod Computing
 pub mod References
 pub mod Elements

@@ -1,5 +1,5 @@
--- Operations on words give words, and what the selected ones come to.
-use Rattle.std.proofs.Common.{◌≡◌, ◌≢◌, ℕ, zero, suc, ◌+◌, ◌-◌, ◌*◌, ◌/◌, ◌%◌, ◌^◌, ◌<◌, ◌≤◌, List, Bool, true, false, refl, sym, ap, ◌∙◌, subst, arith, eqb}
+-- Operations on words give words; words are equal exactly where no bit differs.
+use Rattle.std.proofs.Common.{◌≡◌, ◌≢◌, ℕ, zero, suc, ◌+◌, ◌-◌, ◌*◌, ◌/◌, ◌%◌, ◌^◌, ◌<◌, ◌≤◌, Bool, true, false, refl, sym, ap, ◌∙◌, subst, arith, eqb}
 use Rattle.std.specs.Prelude.{nat_lt, not, bit_xor, bit_and, ℤ, pos, ◌*ℤ◌, if◌then◌else◌}
 use lib.IntN.{negsuc, neg_ℤ, negsuc-*ℤ-pos, pos-*ℤ-negsuc, negsuc-*ℤ-negsuc}
 use Rattle.std.specs.Int.{int_shr}
@@ -8,23 +8,13 @@ use Rattle.std.proofs.lemmas.Bool.{ltb-true, ltb-false}
 use Rattle.std.proofs.lemmas.Bool.Decides.{nat_tests}
 use Rattle.std.proofs.lemmas.Nat.{xor_shr, xor_mod, xor_lt, or_lt, and_le_l, mul-lt}
 use Rattle.std.proofs.Math.Nat.{div-le_self, mod-le, mul-le-mul, pow-suc}
-use Rattle.rv32.specs.declared.instr.ImmediateOp.TheVariants as immediate_op
 use Rattle.rv32.specs.declared.instr.RegisterOp.{RegisterOp}
 use Rattle.rv32.specs.declared.instr.RegisterOp.TheVariants as register_op
-use Rattle.rv32.specs.Arithmetic.{operate_of, operate_immediate_of, signed, unsigned, upper_half, one_if}
-use Rattle.asm.specs.Placed.{Stands}
-use Rattle.events.specs.Events.{Event}
+use Rattle.rv32.specs.Arithmetic.{operate_of, signed, unsigned, upper_half, one_if}
 use Rattle.frames.specs.declared.code.Operation.{Operation}
 use Rattle.frames.specs.declared.code.Operation.TheVariants as operation
 use Rattle.frames.specs.Run as flat
-use Rattle.running.specs.Light.{Fixed, Light, Go, reg, with_reg, Comes}
 use Rattle.running.proofs.Bridge.{bool_cases}
-use Rattle.running.proofs.Words.{reg_is, with_same}
-use Rattle.running.proofs.Steps.{comes_by, on_immediate, on_op}
-use Rattle.select.specs.Selected.{operate}
-use Rattle.simulation.specs.Laws.{Anything}
-use Rattle.simulation.proofs.Registers.{Only, only_one, only_then}
-use Rattle.simulation.proofs.Places.{onward}
 use Rattle.simulation.proofs.Results.{one_small}
 
 -- ---- signed numbers that are small
@@ -151,7 +141,7 @@ xor_self (suc k) a ha =
     let low : bit_xor a a % 2 ≡ 0 = xor_mod a a 1 ∙ bit_self (a % 2) (omega arith) in
     omega (arith, high, low)
 
-equal_is : (a b : ℕ) → a < 2 ^ 32 → b < 2 ^ 32 → one_if (nat_lt (bit_xor a b) 1) ≡ one_if (eqb a b)
+pub equal_is : (a b : ℕ) → a < 2 ^ 32 → b < 2 ^ 32 → one_if (nat_lt (bit_xor a b) 1) ≡ one_if (eqb a b)
 equal_is a b ha hb =
     bool_cases (eqb a b)
     (λ t.
@@ -164,7 +154,7 @@ equal_is a b ha hb =
     let no : nat_lt (bit_xor a b) 1 ≡ false = grind (arith, nat_tests) in
     rw (t, no) refl)
 
-differ_is : (a b : ℕ) → a < 2 ^ 32 → b < 2 ^ 32 → one_if (nat_lt 0 (bit_xor a b)) ≡ one_if (not (eqb a b))
+pub differ_is : (a b : ℕ) → a < 2 ^ 32 → b < 2 ^ 32 → one_if (nat_lt 0 (bit_xor a b)) ≡ one_if (not (eqb a b))
 differ_is a b ha hb =
     bool_cases (eqb a b)
     (λ t.
@@ -176,42 +166,3 @@ differ_is a b ha hb =
     let some : bit_xor a b ≢ 0 = λ z. ne (xor_same 32 a b ha hb z) in
     let yes_ : nat_lt 0 (bit_xor a b) ≡ true = grind (arith, nat_tests) in
     rw (t, yes_) refl)
-
--- ---- the selected instructions
-
-module _ (F : Fixed) (env : ℕ → ℕ) (seg : ℕ) (i : List ℕ) (h : List Event) (Q : Light → Type 0) (r b : ℕ → ℕ) (rd : ℕ) (pos : 0 < rd) where
-  pub operates : {a0 : ℕ} → (n : ℕ) (o : Operation) (p q x y here mid : ℕ) → x < 2 ^ 32 → y < 2 ^ 32 → reg r p ≡ x → reg r q ≡ y → Stands F.text env seg (operate o rd p q) here mid
-      → ((r2 : ℕ → ℕ) → Only rd r r2 → r2 rd ≡ flat.operate o x y → Comes F Anything a0 n (Go r2 mid b i h) Q) → Comes F Anything 1 (suc (suc n)) (Go r here b i h) Q
-  operates {a0} n (operation.Machine o) p q x y here mid hx hy ex ey st next =
-      let w = operate_of o x y in
-      let r2 = with_reg r rd w in
-      let is : operate_of o (reg r p) (reg r q) ≡ w = rw (ex, ey) refl in
-      let there : here + 4 ≡ mid = sym st.1.1 ∙ st.2 in
-      let c : Comes F Anything a0 n (Go r2 (here + 4) b i h) Q = onward F env seg i h Q {a0 = a0} n (here + 4) mid r2 b there (next r2 (only_one rd w r) (with_same r rd w pos)) in
-      comes_by F Anything (suc n) (suc (suc n)) (Go r here b i h) Q (omega arith)
-      (on_op F Anything Q n r here b i h tt o rd p q st.1.0 (subst (λ z. Comes F Anything a0 n (Go (with_reg r rd z) (here + 4) b i h) Q) (sym is) c))
-  operates {a0} n operation.Equal p q x y here mid hx hy ex ey st next =
-      let v = bit_xor x y in
-      let w = one_if (eqb x y) in
-      let r1 = with_reg r rd v in
-      let r2 = with_reg r1 rd w in
-      let first : operate_of register_op.Xor (reg r p) (reg r q) ≡ v = rw (ex, ey) refl in
-      let back : reg r1 rd ≡ v = reg_is r1 rd pos ∙ with_same r rd v pos in
-      let second : operate_immediate_of immediate_op.LessUnsigned (reg r1 rd) 1 ≡ w = ap (λ z. one_if (nat_lt z 1)) back ∙ equal_is x y hx hy in
-      let there : here + 4 + 4 ≡ mid = omega (arith, st.1.1, st.2.1.1, st.2.2) in
-      let c : Comes F Anything a0 n (Go r2 (here + 4 + 4) b i h) Q = onward F env seg i h Q {a0 = a0} n (here + 4 + 4) mid r2 b there (next r2 (only_then rd r r1 r2 (only_one rd v r) (only_one rd w r1)) (with_same r1 rd w pos)) in
-      let c1 : Comes F Anything 1 (suc n) (Go r1 (here + 4) b i h) Q = on_immediate F Anything Q n r1 (here + 4) b i h tt immediate_op.LessUnsigned rd rd 1 w (ap F.text (sym st.1.1) ∙ st.2.1.0) second c in
-      on_op F Anything Q (suc n) r here b i h tt register_op.Xor rd p q st.1.0 (subst (λ z. Comes F Anything 1 (suc n) (Go (with_reg r rd z) (here + 4) b i h) Q) (sym first) c1)
-  operates {a0} n operation.NotEqual p q x y here mid hx hy ex ey st next =
-      let v = bit_xor x y in
-      let w = one_if (not (eqb x y)) in
-      let r1 = with_reg r rd v in
-      let r2 = with_reg r1 rd w in
-      let first : operate_of register_op.Xor (reg r p) (reg r q) ≡ v = rw (ex, ey) refl in
-      let back : reg r1 rd ≡ v = reg_is r1 rd pos ∙ with_same r rd v pos in
-      let second : operate_of register_op.LessUnsigned (reg r1 0) (reg r1 rd) ≡ w = ap (λ z. one_if (nat_lt 0 z)) back ∙ differ_is x y hx hy in
-      let there : here + 4 + 4 ≡ mid = omega (arith, st.1.1, st.2.1.1, st.2.2) in
-      let c : Comes F Anything a0 n (Go r2 (here + 4 + 4) b i h) Q = onward F env seg i h Q {a0 = a0} n (here + 4 + 4) mid r2 b there (next r2 (only_then rd r r1 r2 (only_one rd v r) (only_one rd w r1)) (with_same r1 rd w pos)) in
-      let c1 : Comes F Anything 1 (suc n) (Go r1 (here + 4) b i h) Q =
-      on_op F Anything Q n r1 (here + 4) b i h tt register_op.LessUnsigned rd 0 rd (ap F.text (sym st.1.1) ∙ st.2.1.0) (subst (λ z. Comes F Anything a0 n (Go (with_reg r1 rd z) (here + 4 + 4) b i h) Q) (sym second) c) in
-      on_op F Anything Q (suc n) r here b i h tt register_op.Xor rd p q st.1.0 (subst (λ z. Comes F Anything 1 (suc n) (Go (with_reg r rd z) (here + 4) b i h) Q) (sym first) c1)
