@@ -20,8 +20,9 @@ use Rattle.select.specs.declared.places.Source.TheVariants as source
 use Rattle.select.specs.declared.places.Home.{Home}
 use Rattle.select.specs.declared.places.Home.TheVariants as home
 use Rattle.select.specs.Selected as selected
-use Rattle.select.specs.Selected.{source_of, home_of, fetch, into, keep, made_in, register_of, far, load_word, store_word, address_of, move, ending, operate, form_or, combine, narrow, reach, reference, scale, element, put_byte, get_byte, change_sp, saves, restores, entry, leave, return_home, byte_home, items_of, set_to}
+use Rattle.select.specs.Selected.{source_of, home_of, fetch, into, keep, made_in, register_of, far, load_word, store_word, address_of, move, ending, operate, form_or, combine, narrow, reach, reference, scale, element, put_byte, get_byte, change_sp, saves, restores, entry, leave, return_home, byte_home, items_of, set_to, shortened}
 use Rattle.select.specs.Program.{code_items}
+use Rattle.select.proofs.Shortened.{shortened_fits}
 
 -- a jump to a label from a up to b
 abbrev pub Names : ℕ → ℕ → Item → Type 0
@@ -208,4 +209,4 @@ module _ (a b : ℕ) where
 
     pub code_in : (m k : ℕ) (xs : List Instruction) → ((j : ℕ) (x : Instruction) → slice_get xs j ≡ Some x → InstructionFits m f x) → Inside a b (code_items f first k xs)
     code_in m k [] each = tt
-    code_in m k (x ∷ xs) each = both (items_of f first x) _ (items_in m x (each 0 x refl)) (code_in m (k + 1) xs (λ j y g. each (suc j) y g))
+    code_in m k (x ∷ xs) each = both (items_of f first (shortened k x)) _ (items_in m (shortened k x) (shortened_fits m f k x (each 0 x refl))) (code_in m (k + 1) xs (λ j y g. each (suc j) y g))

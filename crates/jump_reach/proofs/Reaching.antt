@@ -13,7 +13,7 @@ use Rattle.asm.proofs.Grow.{place_rises}
 use Rattle.frames.specs.declared.code.Instruction.{Instruction}
 use Rattle.frames.specs.Code.{Function, Program, frame_bytes}
 use Rattle.frames.specs.Sound.{FunctionFits, IsSoundProgram}
-use Rattle.select.specs.Selected.{entry, items_of, change_sp, store_word, saves, far, return_home}
+use Rattle.select.specs.Selected.{entry, items_of, shortened, change_sp, store_word, saves, far, return_home}
 use Rattle.select.specs.Program.{code_items, function_items, functions_items, start_items, program_items, labels_of}
 use Rattle.select.proofs.Lengths.{code_is_short}
 use Rattle.select.proofs.Sound.{is_sound}
@@ -156,7 +156,7 @@ code_marks f first k (x ∷ xs) l ge lt =
     (λ h. let same : first + k ≡ l = omega (arith, ge, h) in (0, omega arith, ap Mark same))
     (λ h.
     let m = code_marks f first (k + 1) xs l (omega (arith, h)) (omega (arith, lt)) in
-    let items = Mark (first + k) ∷ items_of f first x in
+    let items = Mark (first + k) ∷ items_of f first (shortened k x) in
     let rest = code_items f first (k + 1) xs in
     let sum = length-append items rest in
     (length items + m.0, omega (arith, m.1, sum), item_behind items rest m.0 ∙ m.2))

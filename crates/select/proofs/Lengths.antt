@@ -22,8 +22,9 @@ use Rattle.select.specs.declared.places.Source.TheVariants as source
 use Rattle.select.specs.declared.places.Home.{Home}
 use Rattle.select.specs.declared.places.Home.TheVariants as home
 use Rattle.select.specs.Selected as selected
-use Rattle.select.specs.Selected.{source_of, home_of, fetch, into, keep, made_in, register_of, far, load_word, store_word, address_of, move, ending, operate, form_or, combine, narrow, reach, reference, scale, put_byte, get_byte, change_sp, saves, restores, entry, leave, return_home, byte_home, items_of, set_to}
+use Rattle.select.specs.Selected.{source_of, home_of, fetch, into, keep, made_in, register_of, far, load_word, store_word, address_of, move, ending, operate, form_or, combine, narrow, reach, reference, scale, put_byte, get_byte, change_sp, saves, restores, entry, leave, return_home, byte_home, items_of, set_to, shortened}
 use Rattle.select.specs.Program.{code_items, function_items}
+use Rattle.select.proofs.Shortened.{shortened_bytes}
 use Rattle.select.specs.Bytes.{word_bytes, fetch_bytes, keep_bytes, into_bytes, move_bytes, reach_bytes, reference_bytes, saved_bytes, entry_bytes, instruction_bytes, CodeIsShort}
 
 both : (xs ys : List Item) (a b : ℕ) → longest xs ≤ a → longest ys ≤ b → longest (xs ++ ys) ≤ a + b
@@ -179,8 +180,9 @@ code_short : (f : Function) (first k : ℕ) (xs : List Instruction) → longest 
 code_short f first k [] = omega arith
 code_short f first k (x ∷ xs) =
     let sum : sum_by (instruction_bytes f) (x ∷ xs) ≡ instruction_bytes f x + sum_by (instruction_bytes f) xs = sum_by-cons (instruction_bytes f) x xs in
-    let rest = both (item.Mark (first + k) ∷ []) (items_of f first x ++ code_items f first (k + 1) xs) 0 _ (omega arith)
-    (both (items_of f first x) (code_items f first (k + 1) xs) _ _ (items_short f first x) (code_short f first (k + 1) xs)) in
+    let here = more (items_of f first (shortened k x)) (instruction_bytes f (shortened k x)) (instruction_bytes f x) (shortened_bytes f k x) (items_short f first (shortened k x)) in
+    let rest = both (item.Mark (first + k) ∷ []) (items_of f first (shortened k x) ++ code_items f first (k + 1) xs) 0 _ (omega arith)
+    (both (items_of f first (shortened k x)) (code_items f first (k + 1) xs) (instruction_bytes f x) _ here (code_short f first (k + 1) xs)) in
     more (code_items f first k (x ∷ xs)) (0 + (instruction_bytes f x + sum_by (instruction_bytes f) xs)) _ (omega (arith, sum)) rest
 
 pub code_is_short : CodeIsShort

@@ -1,4 +1,5 @@
 pub mod Lists
+pub mod Shortened
 pub mod Sound
 pub mod Programs
 pub mod Lengths

@@ -24,7 +24,7 @@ use Rattle.frames.specs.declared.code.Instruction.{Instruction}
 use Rattle.frames.specs.Code.{Function, Program}
 use Rattle.running.specs.Light.{Fixed, Light, Go, Done, light_run, sum32}
 use Rattle.select.specs.Selected.{items_of}
-use Rattle.select.specs.Program.{program_items}
+use Rattle.select.specs.Program.{code_items, program_items}
 
 -- ---- items as words
 
@@ -215,3 +215,10 @@ one_less = refl
 
 one_shift : items_of (function 0 0 0 0 []) 0 (compute (machine op.ShiftRight) t0 (temporary 0) (constant 31)) ≡ item.Plain (instr.Shift shift_op.Right 10 10 31) ∷ []
 one_shift = refl
+
+-- a jump to the next instruction, and a0 into itself, have no items; a jump to itself has
+nothing_left : code_items (function 0 0 0 0 []) 7 2 (jump 3 ∷ move t0 (temporary 0) ∷ []) ≡ item.Mark 9 ∷ item.Mark 10 ∷ item.Mark 11 ∷ []
+nothing_left = refl
+
+jump_back : code_items (function 0 0 0 0 []) 7 2 (jump 2 ∷ []) ≡ item.Mark 9 ∷ item.Jump 9 ∷ item.Mark 10 ∷ []
+jump_back = refl

@@ -5,14 +5,11 @@ use Rattle.std.proofs.lemmas.Bool.{cases_lt}
 use Rattle.std.proofs.lemmas.List.{length-append}
 use Rattle.std.proofs.lemmas.List.Sums.{sum_by-cons}
 use Rattle.rv32.specs.declared.instr.Instr.{Instr}
-use Rattle.rv32.specs.declared.instr.RegisterOp.TheVariants as register_op
-use Rattle.loader.specs.MemoryMap.{stack_end}
 use Rattle.asm.specs.declared.item.Item.{Item}
 use Rattle.asm.specs.declared.item.Item.TheVariants.{Mark, Plain, Branch, Jump, Call, Constant, LabelAddress, DataAddress}
 use Rattle.asm.specs.Layout.{item_at, Refers, IsSound}
 use Rattle.frames.specs.declared.code.Operand.{Operand}
 use Rattle.frames.specs.declared.code.Operand.TheVariants as operand
-use Rattle.frames.specs.declared.code.Target.{Target}
 use Rattle.frames.specs.declared.code.Location.{Location}
 use Rattle.frames.specs.declared.code.Location.TheVariants as location
 use Rattle.frames.specs.declared.code.Operation.{Operation}
@@ -28,8 +25,9 @@ use Rattle.select.specs.declared.places.Source.TheVariants as source
 use Rattle.select.specs.declared.places.Home.{Home}
 use Rattle.select.specs.declared.places.Home.TheVariants as home
 use Rattle.select.specs.Selected as selected
-use Rattle.select.specs.Selected.{source_of, home_of, fetch, into, keep, made_in, register_of, far, load_word, store_word, address_of, move, ending, operate, form_or, combine, compute, narrow, convert, reach, load, store, reference, scale, element, branch, put_byte, get_byte, exit, change_sp, saves, restores, entry, leave, return_home, byte_home, items_of, set_to}
+use Rattle.select.specs.Selected.{source_of, home_of, fetch, into, keep, made_in, register_of, far, load_word, store_word, address_of, move, ending, operate, form_or, combine, compute, narrow, convert, reach, load, store, reference, scale, element, branch, put_byte, get_byte, exit, change_sp, saves, restores, entry, leave, return_home, byte_home, items_of, set_to, shortened}
 use Rattle.select.specs.Program.{code_items, function_items, functions_items, start_items, program_items, labels_of}
+use Rattle.select.proofs.Shortened.{shortened_fits}
 
 bool_cases : {A : Type 0} (b : Bool) → (b ≡ true → A) → (b ≡ false → A) → A
 bool_cases true on_true on_false = on_true refl
@@ -351,11 +349,11 @@ module _ (n : ℕ) where
         said (λ l. l ≡ first + k) (Span (first + k) (first + length f.code + 1)) (Mark (first + k) ∷ []) (λ l a. (omega (arith, a), omega (arith, a, e))) (λ l a. omega (arith, a.0, a.1, e)) (marked (first + k) (omega (arith, lt, e)))
     code_marks k (x ∷ xs) e each =
         let rest = code_marks (k + 1) xs (omega (arith, e)) (λ j y g. each (suc j) y g) in
-        let later = behind (Span (first + (k + 1)) (first + length f.code + 1)) (items_of f first x) (code_items f first (k + 1) xs) (items_un n f fits.small first m le lt x (each 0 x refl)) rest in
+        let later = behind (Span (first + (k + 1)) (first + length f.code + 1)) (items_of f first (shortened k x)) (code_items f first (k + 1) xs) (items_un n f fits.small first m le lt (shortened k x) (shortened_fits m f k x (each 0 x refl))) rest in
         said (λ l. (l ≡ first + k) ⊎ Span (first + (k + 1)) (first + length f.code + 1) l) (Span (first + k) (first + length f.code + 1)) (code_items f first k (x ∷ xs))
         (λ l a. ⊎_elim (λ y. (omega (arith, y), omega (arith, y, e))) (λ y. (omega (arith, y.0), y.1)) a)
         (λ l a. ⊎_elim (λ y. inl (omega (arith, y, a.0))) (λ y. inr (omega (arith, y), a.1)) (cases_lt l (first + k + 1)))
-        (joined (λ l. l ≡ first + k) (Span (first + (k + 1)) (first + length f.code + 1)) (Mark (first + k) ∷ []) (items_of f first x ++ code_items f first (k + 1) xs) (marked (first + k) (omega (arith, lt, e))) later (λ l a b. omega (arith, a, b.0)))
+        (joined (λ l. l ≡ first + k) (Span (first + (k + 1)) (first + length f.code + 1)) (Mark (first + k) ∷ []) (items_of f first (shortened k x) ++ code_items f first (k + 1) xs) (marked (first + k) (omega (arith, lt, e))) later (λ l a b. omega (arith, a, b.0)))
 
     function_marks : (k : ℕ) → k < first → Marks n (λ l. (l ≡ k) ⊎ Span first (first + length f.code + 1) l) (function_items k first f)
     function_marks k below =

@@ -1,5 +1,5 @@
 -- The items of each flat instruction.
-use Rattle.std.specs.Prelude.{ℕ, zero, suc, ◌+◌, ◌*◌, ◌-◌, ◌/◌, ◌%◌, ◌^◌, ◌==◌, nat_lt, nat_le, if◌then◌else◌, List, [], ◌∷◌, ◌++◌, Option, Some, None}
+use Rattle.std.specs.Prelude.{ℕ, zero, suc, ◌+◌, ◌*◌, ◌-◌, ◌/◌, ◌%◌, ◌^◌, ◌==◌, nat_lt, nat_le, if◌then◌else◌, List, [], ◌∷◌, ◌++◌, Option, Some, None, Bool, false}
 use Rattle.rv32.specs.declared.instr.Instr.{Instr}
 use Rattle.rv32.specs.declared.instr.Instr.TheVariants as instr
 use Rattle.rv32.specs.declared.instr.ImmediateOp.{ImmediateOp}
@@ -326,3 +326,37 @@ items_of f first instruction.PutByte = put_byte f
 items_of f first instruction.GetByte = get_byte f
 items_of f first instruction.Exit = exit
 items_of f first instruction.Return = leave f
+
+-- ---- what need not be done
+
+-- a register into itself
+abbrev pub is_same : Target → Operand → Bool
+is_same (target.Temporary k) (operand.Temporary j) = if nat_lt k 8 then j == k else false
+is_same (target.Temporary k) (operand.Cell c) = false
+is_same (target.Temporary k) (operand.Constant v) = false
+is_same (target.Temporary k) (operand.Argument j) = false
+is_same (target.Cell c) x = false
+
+abbrev pub shortened_move : Target → Operand → Instruction
+shortened_move d x = if is_same d x then instruction.Nothing else instruction.Move d x
+
+abbrev pub shortened_jump : ℕ → ℕ → Instruction
+shortened_jump k to = if to == k + 1 then instruction.Nothing else instruction.Jump to
+
+-- instruction number k, or Nothing where it only goes on to the next one
+abbrev pub shortened : ℕ → Instruction → Instruction
+shortened k instruction.Nothing = instruction.Nothing
+shortened k (instruction.Move d x) = shortened_move d x
+shortened k (instruction.Compute o d x y) = instruction.Compute o d x y
+shortened k (instruction.Convert c d x) = instruction.Convert c d x
+shortened k (instruction.Load w d l) = instruction.Load w d l
+shortened k (instruction.Store w x l) = instruction.Store w x l
+shortened k (instruction.Address d l) = instruction.Address d l
+shortened k (instruction.Element d x y size) = instruction.Element d x y size
+shortened k (instruction.Jump to) = shortened_jump k to
+shortened k (instruction.Branch t x y to) = instruction.Branch t x y to
+shortened k (instruction.Call g) = instruction.Call g
+shortened k instruction.PutByte = instruction.PutByte
+shortened k instruction.GetByte = instruction.GetByte
+shortened k instruction.Exit = instruction.Exit
+shortened k instruction.Return = instruction.Return

@@ -53,7 +53,10 @@ fn put_operation(
 ) -> Result<(), AllocError>
     ensures { OnOk result (items.new.items ≡ items.old.items ++ selected.operate operation rd left right) }
 {
-    put(items, &[operate_on(machine_of(operation), rd, left, right)])?;
+    put(
+        items,
+        &[operate_on(machine_of(operation), rd, left, right)],
+    )?;
     put_ending(items, operation, rd)
 }
 

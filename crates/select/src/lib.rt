@@ -8,6 +8,7 @@ pub mod laws;
 mod operations;
 mod places;
 mod program;
+mod shortening;
 mod words;
 
 pub use program::select;

@@ -12,6 +12,7 @@ use crate::calls::{put_entry, put_exit, put_get_byte, put_leave, put_put_byte};
 use crate::elements::{put_element, put_load, put_reference, put_store};
 use crate::operations::{put_compute, put_convert, put_move};
 use crate::places::{home_of, source_of};
+use crate::shortening::shortened;
 use crate::words::{fetch, put, register_of, stack_pointer};
 use asm::{Item, Items, Label};
 use frames::{FlatProgram, Function, Instruction, Operand};
@@ -145,13 +146,13 @@ fn put_code(items: &mut Vec<Item>, function: &Function, first: usize) -> Result<
     requires labels { first + length function.now.code.items < 2 ^ 32 }
     ensures { OnOk result (items.new.items ≡ items.old.items ++ code_items (function_of function.now) first 0 function.now.code.items) }
 {
-    let mut label = first;
+    let mut number = 0;
     for instruction in &function.code {
-        put(items, &[Item::Mark(Label::new(label))])?;
-        put_instruction(items, function, first, *instruction)?;
-        label += 1;
+        put(items, &[Item::Mark(Label::new(first + number))])?;
+        put_instruction(items, function, first, shortened(number, *instruction))?;
+        number += 1;
     }
-    put(items, &[Item::Mark(Label::new(label))])
+    put(items, &[Item::Mark(Label::new(first + number))])
 }
 
 fn put_function(

@@ -1,29 +1,34 @@
 -- The machine follows flat code: the forms that read operands and set a target, and those that only go on elsewhere.
 use Rattle.std.proofs.Common.{◌≡◌, ℕ, zero, suc, ◌+◌, ◌%◌, ◌^◌, ◌<◌, ◌≤◌, List, [], ◌∷◌, ◌++◌, length, Option, Some, None, Bool, true, false, refl, sym, ap, ◌∙◌, arith}
-use Rattle.std.specs.Prelude.{if◌then◌else◌, slice_get}
+use Rattle.std.specs.Prelude.{if◌then◌else◌, slice_get, ◌==◌, nat_lt}
+use Rattle.std.proofs.lemmas.Bool.Decides.{nat_tests}
 use Rattle.rv32.specs.declared.instr.Test.{Test}
 use Rattle.rv32.specs.Arithmetic.{compare_of}
 use Rattle.asm.specs.declared.item.Item.TheVariants as item
 use Rattle.asm.specs.Placed.{Stands}
 use Rattle.frames.specs.declared.code.Operand.{Operand}
+use Rattle.frames.specs.declared.code.Operand.TheVariants as operand
 use Rattle.frames.specs.declared.code.Target.{Target}
 use Rattle.frames.specs.declared.code.Target.TheVariants as target
 use Rattle.frames.specs.declared.code.Conversion.{Conversion}
 use Rattle.frames.specs.declared.code.Instruction.{Instruction}
 use Rattle.frames.specs.declared.code.Instruction.TheVariants as instruction
 use Rattle.frames.specs.Code.{Function}
-use Rattle.frames.specs.Sound.{InstructionFits, TargetFits}
+use Rattle.frames.specs.Sound.{InstructionFits, TargetFits, OperandFits}
 use Rattle.frames.specs.Run.{Value, word, reference, Values, unset, State, Progress, running, stuck, value, word_in, word_at, set, next, past, goes_to, gives_word, converted, function_at, act, ◌>>=◌}
 use Rattle.running.specs.Light.{Light, Go, reg, Comes}
+use Rattle.running.proofs.Bridge.{bool_cases}
 use Rattle.running.proofs.Words.{reg_is}
 use Rattle.running.proofs.Steps.{comes_now, comes_by, comes_some}
 use Rattle.running.proofs.ItemSteps.{on_jump_to, on_either_branch}
 use Rattle.running.proofs.Placing.{stands_parts, after_items}
 use Rattle.select.specs.declared.places.Source.{Source}
+use Rattle.select.specs.declared.places.Source.TheVariants as source
 use Rattle.select.specs.declared.places.Home.{Home}
 use Rattle.select.specs.declared.places.Home.TheVariants as home
-use Rattle.select.specs.Selected.{source_of, home_of, fetch, register_of, move, made_in, keep, store_word, narrow, convert}
+use Rattle.select.specs.Selected.{source_of, home_of, fetch, register_of, move, made_in, keep, store_word, narrow, convert, items_of, is_same}
 use Rattle.simulation.specs.Matches.{Ground, Matched, Matches, Ready, address, first_of, shown}
+use Rattle.simulation.specs.Costs.{least, least_at}
 use Rattle.simulation.specs.Laws.{Anything, Follows}
 use Rattle.simulation.proofs.Registers.{Off, off_none, off_only, off_then, off_last, off_sp}
 use Rattle.simulation.proofs.Places.{Open, SourceHolds, source_stays, stores_word, fetches, fetches_two, intos}
@@ -112,14 +117,22 @@ module _ (G : Ground) (s : State) (r b : ℕ → ℕ) (ready : Ready G) (m : Mat
   there_aligned : (to : ℕ) → to < length fn.code → address G s.frame.function to % 4 ≡ 0
   there_aligned to lt = let x = some_at fn.code to lt in (ready.aligned s.frame.function to x.0 x.1).0
 
-  pub does_jump : (to : ℕ) → slice_get fn.code s.frame.at ≡ Some (instruction.Jump to) → Comes G.machine Anything 1 1 (Go r here b s.input s.trace) (Matches G (act G.program s (instruction.Jump to)))
-  does_jump to e =
-      let st = ready.stands s.frame.function s.frame.at (instruction.Jump to) e in
+  jumps_at : (to : ℕ) → to < length fn.code → (t : Bool) → (to == s.frame.at + 1) ≡ t → Stands G.machine.text G.env G.data_at (items_of fn (first_of G.program s.frame.function) (if t then instruction.Nothing else instruction.Jump to)) here last
+      → Comes G.machine Anything (least (if t then instruction.Nothing else instruction.Jump to)) 1 (Go r here b s.input s.trace) (Matches G (running (goes_to s to)))
+  jumps_at to lt true et st =
+      let Q : Light → Type 0 = Matches G (running (goes_to s to)) in
+      let is : to ≡ s.frame.at + 1 = grind (arith, nat_tests) in
+      let there : here ≡ address G s.frame.function to = st ∙ ap (address G s.frame.function) (sym is) in
+      comes_now G.machine Anything 1 (Go r here b s.input s.trace) Q tt (moved G ready s r here b m to here unset r (off_none 5 r) there none_left, refl, refl)
+  jumps_at to lt false et st =
       let Q : Light → Type 0 = Matches G (running (goes_to s to)) in
       let there = address G s.frame.function to in
-      on_jump_to G.machine Anything Q 0 r here b s.input s.trace tt there st.0 (there_aligned to (fits (instruction.Jump to) e)) st.1
+      on_jump_to G.machine Anything Q 0 r here b s.input s.trace tt there st.0 (there_aligned to lt) st.1
       (comes_now G.machine Anything 0 (Go r there b s.input s.trace) Q tt
       (moved G ready s r here b m to there unset r (off_none 5 r) refl none_left, refl, refl))
+
+  pub does_jump : (to : ℕ) → slice_get fn.code s.frame.at ≡ Some (instruction.Jump to) → Comes G.machine Anything (least_at s.frame.at (instruction.Jump to)) 1 (Go r here b s.input s.trace) (Matches G (act G.program s (instruction.Jump to)))
+  does_jump to e = jumps_at to (fits (instruction.Jump to) e) (to == s.frame.at + 1) refl (ready.stands s.frame.function s.frame.at (instruction.Jump to) e)
 
   either_way : (t : Bool) (to next_at : ℕ) (r2 : ℕ → ℕ) → Off 5 r r2 → next_at ≡ last
       → Matches G (running (if t then goes_to s to else next s)) (Go r2 (if t then address G s.frame.function to else next_at) b s.input s.trace)
@@ -171,13 +184,41 @@ module _ (G : Ground) (s : State) (r b : ℕ → ℕ) (ready : Ready G) (m : Mat
       comes_now G.machine Anything 0 _ Q tt
       (set_word G ready s r here b m (s.frame.at + 1) last arguments sub v small refl r3 d p eh fit (off_then 5 7 r r2 r3 (omega arith) (omega arith) off only3), set_input d v (then_at arguments), set_trace d v (then_at arguments))))
 
-  pub does_move : (d : Target) (x : Operand) → slice_get fn.code s.frame.at ≡ Some (instruction.Move d x) → Comes G.machine Anything 1 6 (Go r here b s.input s.trace) (Matches G (act G.program s (instruction.Move d x)))
-  does_move d x e =
+  -- a register is moved into itself
+  stays : (d : Target) (v : Value) (x : Operand) → is_same d x ≡ true → TargetFits fn d → shown G v < 2 ^ 32 → SourceHolds r b m.sp (source_of fn x) (shown G v) → here ≡ last → Matches G (running (set d v (then_at s.arguments))) (Go r here b s.input s.trace)
+  stays (target.Temporary k) v (operand.Temporary j) same fit small holds st =
+      bool_cases (nat_lt k 8)
+      (λ t.
+      let test : (j == k) ≡ true = rw t at same in
+      let is : j ≡ k = grind (arith, nat_tests) in
+      let tj : nat_lt j 8 ≡ true = ap (λ z. nat_lt z 8) is ∙ t in
+      let found : SourceHolds r b m.sp (source.Register (10 + j)) (shown G v) = rw tj at holds in
+      let held : r (10 + k) ≡ shown G v = ap (λ z. r (10 + z)) (sym is) ∙ (sym (reg_is r (10 + j) (omega arith)) ∙ found.0) in
+      let own : home_of fn (target.Temporary k) ≡ home.Register (10 + k) = rw t refl in
+      (set_register G ready s r here b m (s.frame.at + 1) here s.arguments (λ i w ek. ek) v small st r (target.Temporary k) (10 + k) own fit (off_none (10 + k) r) held, refl, refl))
+      (λ t. let no : false ≡ true = rw t at same in cc)
+  stays (target.Temporary k) v (operand.Cell c) same fit small holds st = cc
+  stays (target.Temporary k) v (operand.Constant w) same fit small holds st = cc
+  stays (target.Temporary k) v (operand.Argument j) same fit small holds st = cc
+  stays (target.Cell c) v x same fit small holds st = cc
+
+  moves_or_stays : (d : Target) (x : Operand) → TargetFits fn d → OperandFits fn x → (t : Bool) → is_same d x ≡ t → Stands G.machine.text G.env G.data_at (items_of fn (first_of G.program s.frame.function) (if t then instruction.Nothing else instruction.Move d x)) here last
+      → Comes G.machine Anything (least (if t then instruction.Nothing else instruction.Move d x)) 6 (Go r here b s.input s.trace) (Matches G (act G.program s (instruction.Move d x)))
+  moves_or_stays d x fd fx true same st =
+      let R : Progress → Type 0 = λ p. Comes G.machine Anything 0 6 (Go r here b s.input s.trace) (Matches G p) in
+      used (value s x) (λ v. running (set d v (past s))) R (no_more 0 6 (Go r here b s.input s.trace) (omega arith)) (λ v ev.
+      let hx = operand_holds G ready s r here b m x v fx ev in
+      comes_now G.machine Anything 6 (Go r here b s.input s.trace) (Matches G (running (set d v (past s)))) tt (stays d v x same fd hx.1 hx.0 st))
+  moves_or_stays d x fd fx false same st =
       let R : Progress → Type 0 = λ p. Comes G.machine Anything 1 6 (Go r here b s.input s.trace) (Matches G p) in
-      let fit = fits (instruction.Move d x) e in
       used (value s x) (λ v. running (set d v (past s))) R (no_more 1 6 (Go r here b s.input s.trace) (omega arith)) (λ v ev.
-      let hx = operand_holds G ready s r here b m x v fit.1 ev in
-      moves_at s.arguments (λ k w ek. ek) d v (source_of fn x) fit.0 hx.1 hx.0 (home_of fn d) refl (ready.stands s.frame.function s.frame.at (instruction.Move d x) e))
+      let hx = operand_holds G ready s r here b m x v fx ev in
+      moves_at s.arguments (λ k w ek. ek) d v (source_of fn x) fd hx.1 hx.0 (home_of fn d) refl st)
+
+  pub does_move : (d : Target) (x : Operand) → slice_get fn.code s.frame.at ≡ Some (instruction.Move d x) → Comes G.machine Anything (least_at s.frame.at (instruction.Move d x)) 6 (Go r here b s.input s.trace) (Matches G (act G.program s (instruction.Move d x)))
+  does_move d x e =
+      let fit = fits (instruction.Move d x) e in
+      moves_or_stays d x fit.0 fit.1 (is_same d x) refl (ready.stands s.frame.function s.frame.at (instruction.Move d x) e)
 
   -- ---- Convert
 

@@ -1,34 +1,26 @@
 -- Steps without items are no more in a row than a function has instructions.
-use Rattle.std.proofs.Common.{◌≡◌, ◌⊎◌, inl, inr, ⊎_elim, ℕ, zero, suc, ◌+◌, ◌*◌, ◌-◌, ◌<◌, ◌≤◌, List, [], ◌∷◌, length, Option, Some, None, refl, sym, ap, ◌∙◌, subst, arith}
-use Rattle.std.specs.Prelude.{slice_get}
+use Rattle.std.proofs.Common.{◌≡◌, Bool, true, false, ℕ, zero, suc, ◌+◌, ◌*◌, ◌-◌, ◌<◌, ◌≤◌, List, [], ◌∷◌, length, Option, Some, None, refl, sym, ap, ◌∙◌, subst, arith}
+use Rattle.std.specs.Prelude.{slice_get, if◌then◌else◌, ◌==◌}
+use Rattle.std.proofs.lemmas.Bool.Decides.{nat_tests}
 use Rattle.std.proofs.lemmas.List.Sums.{sum_by-cons}
+use Rattle.frames.specs.declared.code.Operand.{Operand}
+use Rattle.frames.specs.declared.code.Target.{Target}
+use Rattle.frames.specs.declared.code.Target.TheVariants as target
 use Rattle.frames.specs.declared.code.Instruction.{Instruction}
 use Rattle.frames.specs.declared.code.Instruction.TheVariants as instruction
 use Rattle.frames.specs.Code.{Function, Program}
 use Rattle.frames.specs.Sound.{places_of}
 use Rattle.frames.specs.Costs.{next_of, cost_on}
-use Rattle.frames.specs.Run.{State, Progress, running, ended, stuck, past, function_at, act, step, run, goes_on, ◌>>=◌}
-use Rattle.simulation.specs.Costs.{least, least_if, least_spent}
+use Rattle.frames.specs.Run.{State, Value, Progress, running, ended, stuck, past, goes_to, set, value, function_at, act, step, run, goes_on, ◌>>=◌}
+use Rattle.select.specs.Selected.{is_same}
+use Rattle.simulation.specs.Costs.{least, least_at, least_if, least_spent}
 use Rattle.simulation.specs.Runs.{slack, Progresses}
 use Rattle.simulation.proofs.Inputs.{step_is}
 use Rattle.simulation.proofs.Laying.{known, unknown}
 
-all_but_one : (x : Instruction) → (x ≡ instruction.Nothing) ⊎ (least x ≡ 1)
-all_but_one instruction.Nothing = inl refl
-all_but_one (instruction.Move d x) = inr refl
-all_but_one (instruction.Compute o d x y) = inr refl
-all_but_one (instruction.Convert c d x) = inr refl
-all_but_one (instruction.Load w d l) = inr refl
-all_but_one (instruction.Store w x l) = inr refl
-all_but_one (instruction.Address d l) = inr refl
-all_but_one (instruction.Element d x y size) = inr refl
-all_but_one (instruction.Jump to) = inr refl
-all_but_one (instruction.Branch t x y to) = inr refl
-all_but_one (instruction.Call f) = inr refl
-all_but_one instruction.PutByte = inr refl
-all_but_one instruction.GetByte = inr refl
-all_but_one instruction.Exit = inr refl
-all_but_one instruction.Return = inr refl
+set_stays : (d : Target) (v : Value) (s : State) → ((set d v s).frame.function ≡ s.frame.function) × ((set d v s).frame.at ≡ s.frame.at)
+set_stays (target.Temporary k) v s = (refl, refl)
+set_stays (target.Cell c) v s = (refl, refl)
 
 some_below : (xs : List Instruction) (k : ℕ) (x : Instruction) → slice_get xs k ≡ Some x → k < length xs
 some_below [] k x e = cc
@@ -62,34 +54,63 @@ module _ (p : Program) where
   ahead_within : (s : State) → ahead s ≤ places_of p.functions
   ahead_within s = omega (arith, code_some (slice_get p.functions s.frame.function) s.frame.function refl)
 
-  -- Nothing leaves one less, and all others come to an instruction at least
-  act_falls : (s : State) (x : Instruction) → next_of p s ≡ Some x → (t : State) → act p s x ≡ running t → 1 + ahead t ≤ slack p * least x + ahead s
-  act_falls s x e t et =
-      ⊎_elim
-      (λ no.
-      let here : next_of p s ≡ Some instruction.Nothing = e ∙ ap Some no in
-      let lt = some_below (function_at p s.frame.function).code s.frame.at instruction.Nothing here in
-      let now : running (past s) ≡ running t = ap (act p s) (sym no) ∙ et in
-      let same : past s ≡ t = cc in
-      let less : ahead (past s) ≡ ahead t = ap ahead same in
-      let first : 1 + ahead (past s) ≤ ahead s = omega (arith, lt) in
-      omega (arith, less, first))
-      (λ one.
-      let product : slack p * least x ≡ slack p = ap (λ k. slack p * k) one ∙ omega arith in
-      omega (arith, product, ahead_within t))
-      (all_but_one x)
+  -- what only goes on to the next instruction leaves one less, and all others come to an instruction at least
+  abbrev LeavesLess : State → State → ℕ → Type 0
+  LeavesLess s t n = 1 + ahead t ≤ slack p * n + ahead s
 
-  any_falls : (s : State) (o : Option Instruction) → next_of p s ≡ o → (t : State) → (o >>= act p s) ≡ running t → 1 + ahead t ≤ slack p * least_if o + ahead s
+  goes_on_one : (s t : State) (x : Instruction) (n : ℕ) → next_of p s ≡ Some x → t.frame.function ≡ s.frame.function → t.frame.at ≡ s.frame.at + 1 → LeavesLess s t n
+  goes_on_one s t x n e ef ea =
+      let lt = some_below (function_at p s.frame.function).code s.frame.at x e in
+      let size : length (function_at p t.frame.function).code ≡ length (function_at p s.frame.function).code = ap (λ f. length (function_at p f).code) ef in
+      omega (arith, lt, size, ea)
+
+  takes_one : (s t : State) → LeavesLess s t 1
+  takes_one s t = omega (arith, ahead_within t)
+
+  jump_falls : (s t : State) (to : ℕ) → next_of p s ≡ Some (instruction.Jump to) → goes_to s to ≡ t → (b : Bool) → (to == s.frame.at + 1) ≡ b → LeavesLess s t (least (if b then instruction.Nothing else instruction.Jump to))
+  jump_falls s t to e et true eb =
+      let is : to ≡ s.frame.at + 1 = grind (arith, nat_tests) in
+      goes_on_one s t (instruction.Jump to) 0 e (ap (λ (z : State). z.frame.function) (sym et)) (ap (λ (z : State). z.frame.at) (sym et) ∙ is)
+  jump_falls s t to e et false eb = takes_one s t
+
+  move_falls : (s t : State) (d : Target) (x : Operand) → next_of p s ≡ Some (instruction.Move d x) → (o : Option Value) → (o >>= λ v. running (set d v (past s))) ≡ running t → (b : Bool) → LeavesLess s t (least (if b then instruction.Nothing else instruction.Move d x))
+  move_falls s t d x e None et b = cc
+  move_falls s t d x e (Some v) et true =
+      let same : set d v (past s) ≡ t = cc in
+      let kept = set_stays d v (past s) in
+      goes_on_one s t (instruction.Move d x) 0 e (ap (λ (z : State). z.frame.function) (sym same) ∙ kept.0) (ap (λ (z : State). z.frame.at) (sym same) ∙ kept.1)
+  move_falls s t d x e (Some v) et false = takes_one s t
+
+  act_falls : (s : State) (x : Instruction) → next_of p s ≡ Some x → (t : State) → act p s x ≡ running t → LeavesLess s t (least_at s.frame.at x)
+  act_falls s instruction.Nothing e t et =
+      let same : past s ≡ t = cc in
+      goes_on_one s t instruction.Nothing 0 e (ap (λ (z : State). z.frame.function) (sym same)) (ap (λ (z : State). z.frame.at) (sym same))
+  act_falls s (instruction.Move d x) e t et = move_falls s t d x e (value s x) et (is_same d x)
+  act_falls s (instruction.Compute o d x y) e t et = takes_one s t
+  act_falls s (instruction.Convert c d x) e t et = takes_one s t
+  act_falls s (instruction.Load w d l) e t et = takes_one s t
+  act_falls s (instruction.Store w x l) e t et = takes_one s t
+  act_falls s (instruction.Address d l) e t et = takes_one s t
+  act_falls s (instruction.Element d x y size) e t et = takes_one s t
+  act_falls s (instruction.Jump to) e t et = let same : goes_to s to ≡ t = cc in jump_falls s t to e same (to == s.frame.at + 1) refl
+  act_falls s (instruction.Branch u x y to) e t et = takes_one s t
+  act_falls s (instruction.Call g) e t et = takes_one s t
+  act_falls s instruction.PutByte e t et = takes_one s t
+  act_falls s instruction.GetByte e t et = takes_one s t
+  act_falls s instruction.Exit e t et = takes_one s t
+  act_falls s instruction.Return e t et = takes_one s t
+
+  any_falls : (s : State) (o : Option Instruction) → next_of p s ≡ o → (t : State) → (o >>= act p s) ≡ running t → 1 + ahead t ≤ slack p * least_if s.frame.at o + ahead s
   any_falls s None e t et = cc
   any_falls s (Some x) e t et = act_falls s x e t et
 
   abbrev Falls : ℕ → Type 0
   Falls n = (s t : State) → run p n s ≡ running t → n + ahead t ≤ slack p * least_spent p n s + ahead s
 
-  further : (n : ℕ) → Falls n → (s t : State) (x : Progress) → step p s ≡ x → goes_on x (run p n) ≡ running t → suc n + ahead t ≤ slack p * (least_if (next_of p s) + cost_on x (least_spent p n)) + ahead s
+  further : (n : ℕ) → Falls n → (s t : State) (x : Progress) → step p s ≡ x → goes_on x (run p n) ≡ running t → suc n + ahead t ≤ slack p * (least_if s.frame.at (next_of p s) + cost_on x (least_spent p n)) + ahead s
   further n more s t (running s2) ex e =
-      let one : 1 + ahead s2 ≤ slack p * least_if (next_of p s) + ahead s = any_falls s (next_of p s) refl s2 (sym (step_is p s) ∙ ex) in
-      summed (slack p) (least_if (next_of p s)) (least_spent p n s2) n (ahead s) (ahead s2) (ahead t) one (more s2 t e)
+      let one : 1 + ahead s2 ≤ slack p * least_if s.frame.at (next_of p s) + ahead s = any_falls s (next_of p s) refl s2 (sym (step_is p s) ∙ ex) in
+      summed (slack p) (least_if s.frame.at (next_of p s)) (least_spent p n s2) n (ahead s) (ahead s2) (ahead t) one (more s2 t e)
   further n more s t (ended status input trace) ex e = cc
   further n more s t stuck ex e = cc
 

@@ -8,7 +8,7 @@ use Rattle.running.specs.Light.{Light, Go, Done, Fell, Comes}
 use Rattle.running.proofs.Steps.{comes_now, comes_then}
 use Rattle.simulation.specs.Matches.{Ground, Ready, Matched, Matches, HasRoom, IsBelow, address}
 use Rattle.frames.specs.Costs.{cost, cost_if, next_of, cost_on, spent}
-use Rattle.simulation.specs.Costs.{least, least_if, least_spent}
+use Rattle.simulation.specs.Costs.{least_at, least_if, least_spent}
 use Rattle.simulation.specs.Laws.{Anything, AreBytes}
 use Rattle.simulation.specs.Runs.{StepFollows, RunsFollow}
 use Rattle.simulation.proofs.Forms.{no_more, nothing_follows, jump_follows, branch_follows, move_follows, convert_follows}
@@ -23,7 +23,7 @@ use Rattle.simulation.proofs.Calls.{call_follows, return_follows}
 -- ---- one step
 
 every : (x : Instruction) (G : Ground) (s : State) (r b : ℕ → ℕ) → Ready G → Matched G s r (address G s.frame.function s.frame.at) b → IsBelow G (running s) → AreBytes s.input → next_of G.program s ≡ Some x → HasRoom G (act G.program s x)
-    → Comes G.machine Anything (least x) (cost x) (Go r (address G s.frame.function s.frame.at) b s.input s.trace) (Matches G (act G.program s x))
+    → Comes G.machine Anything (least_at s.frame.at x) (cost x) (Go r (address G s.frame.function s.frame.at) b s.input s.trace) (Matches G (act G.program s x))
 every instruction.Nothing G s r b ready m under bytes e room = nothing_follows G s r b ready m under e room
 every (instruction.Move d x) G s r b ready m under bytes e room = move_follows d x G s r b ready m under e room
 every (instruction.Compute o d x y) G s r b ready m under bytes e room = compute_follows o d x y G s r b ready m under e room
@@ -41,7 +41,7 @@ every instruction.Exit G s r b ready m under bytes e room = exit_follows G s r b
 every instruction.Return G s r b ready m under bytes e room = return_follows G s r b ready m under e room
 
 any : (o : Option Instruction) (G : Ground) (s : State) (r b : ℕ → ℕ) → Ready G → Matched G s r (address G s.frame.function s.frame.at) b → IsBelow G (running s) → AreBytes s.input → next_of G.program s ≡ o → HasRoom G (o >>= act G.program s)
-    → Comes G.machine Anything (least_if o) (cost_if o) (Go r (address G s.frame.function s.frame.at) b s.input s.trace) (Matches G (o >>= act G.program s))
+    → Comes G.machine Anything (least_if s.frame.at o) (cost_if o) (Go r (address G s.frame.function s.frame.at) b s.input s.trace) (Matches G (o >>= act G.program s))
 any None G s r b ready m under bytes e room = no_more G s r b ready m 0 0 _ (omega arith)
 any (Some x) G s r b ready m under bytes e room = every x G s r b ready m under bytes e room
 
@@ -49,7 +49,7 @@ pub step_follows : StepFollows
 step_follows G s r b ready m under bytes room =
     let e = step_is G.program s in
     let here = Go r (address G s.frame.function s.frame.at) b s.input s.trace in
-    subst (λ x. Comes G.machine Anything (least_if (next_of G.program s)) (cost_if (next_of G.program s)) here (Matches G x)) (sym e)
+    subst (λ x. Comes G.machine Anything (least_if s.frame.at (next_of G.program s)) (cost_if (next_of G.program s)) here (Matches G x)) (sym e)
     (any (next_of G.program s) G s r b ready m under bytes refl (subst (HasRoom G) e room))
 
 -- ---- what is left of the input is bytes

@@ -5,6 +5,7 @@ use Rattle.frames.specs.declared.code.Instruction.TheVariants as instruction
 use Rattle.frames.specs.Code.{Program}
 use Rattle.frames.specs.Run.{State, step}
 use Rattle.frames.specs.Costs.{next_of, cost_on}
+use Rattle.select.specs.Selected.{shortened}
 
 -- all but Nothing are at least one
 abbrev pub least : Instruction → ℕ
@@ -24,11 +25,15 @@ least instruction.GetByte = 1
 least instruction.Exit = 1
 least instruction.Return = 1
 
-abbrev pub least_if : Option Instruction → ℕ
-least_if None = 0
-least_if (Some x) = least x
+-- instruction number k of a function: none where it only goes on to the next one
+abbrev pub least_at : ℕ → Instruction → ℕ
+least_at k x = least (shortened k x)
+
+abbrev pub least_if : ℕ → Option Instruction → ℕ
+least_if k None = 0
+least_if k (Some x) = least_at k x
 
 -- what n steps come to at least
 abbrev pub least_spent : Program → ℕ → State → ℕ
 least_spent p zero s = 0
-least_spent p (suc n) s = least_if (next_of p s) + cost_on (step p s) (least_spent p n)
+least_spent p (suc n) s = least_if s.frame.at (next_of p s) + cost_on (step p s) (least_spent p n)

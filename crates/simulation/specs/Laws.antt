@@ -13,7 +13,7 @@ use Rattle.frames.specs.Run.{State, running, act, function_at}
 use Rattle.running.specs.Light.{Light, Go, Comes}
 use Rattle.simulation.specs.Matches.{Ground, Ready, Matched, Matches, HasRoom, IsBelow, address}
 use Rattle.frames.specs.Costs.{cost}
-use Rattle.simulation.specs.Costs.{least}
+use Rattle.simulation.specs.Costs.{least, least_at}
 
 abbrev pub Anything : Light → Type 0
 Anything m = Unit {0}
@@ -24,7 +24,7 @@ abbrev pub Follows : Instruction → Type 0
 Follows x =
     (G : Ground) (s : State) (r b : ℕ → ℕ) → Ready G → Matched G s r (address G s.frame.function s.frame.at) b → IsBelow G (running s)
     → slice_get (function_at G.program s.frame.function).code s.frame.at ≡ Some x → HasRoom G (act G.program s x)
-    → Comes G.machine Anything (least x) (cost x) (Go r (address G s.frame.function s.frame.at) b s.input s.trace) (Matches G (act G.program s x))
+    → Comes G.machine Anything (least_at s.frame.at x) (cost x) (Go r (address G s.frame.function s.frame.at) b s.input s.trace) (Matches G (act G.program s x))
 
 -- what is read is bytes
 abbrev pub AreBytes : List ℕ → Type 0

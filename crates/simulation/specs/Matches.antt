@@ -7,7 +7,7 @@ use Rattle.frames.specs.Code.{Function, Program, cell_home, area_home, frame_byt
 use Rattle.frames.specs.Sound.{IsSoundProgram, places_of}
 use Rattle.frames.specs.Run.{Value, word, reference, Values, Bytes, Frame, State, Progress, running, ended, stuck, function_at, bytes_of}
 use Rattle.running.specs.Light.{Fixed, Light, Go, Done, Fell}
-use Rattle.select.specs.Selected.{kept, items_of, entry, return_home}
+use Rattle.select.specs.Selected.{kept, items_of, entry, return_home, shortened}
 
 -- A program whose items are placed, and what its outermost call found at its entry: the stack pointer, the address to return to,
 -- s0 to s11, and the bytes from the stack pointer up. And a call that waits, of which one may speak: where its frame begins (2^32: none does),
@@ -133,7 +133,7 @@ pub record Ready (G : Ground) : Type 0 where
   pub sound : IsSoundProgram G.program
   pub aligned : (f k : ℕ) (x : Instruction) → slice_get (function_at G.program f).code k ≡ Some x → (address G f k % 4 ≡ 0) × (address G f k < 2 ^ 31)
   pub stands : (f k : ℕ) (x : Instruction) → slice_get (function_at G.program f).code k ≡ Some x
-      → Stands G.machine.text G.env G.data_at (items_of (function_at G.program f) (first_of G.program f) x) (address G f k) (address G f (k + 1))
+      → Stands G.machine.text G.env G.data_at (items_of (function_at G.program f) (first_of G.program f) (shortened k x)) (address G f k) (address G f (k + 1))
   pub entries : (f : ℕ) → f < length G.program.functions → Stands G.machine.text G.env G.data_at (entry (function_at G.program f)) (G.env f) (address G f 0)
   pub entry_aligned : (f : ℕ) → f < length G.program.functions → G.env f % 4 ≡ 0
   pub stack_read : (a : ℕ) → 0x7FF00000 ≤ a → a < 2 ^ 31 → G.machine.can_read a ≡ true

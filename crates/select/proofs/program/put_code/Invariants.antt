@@ -5,6 +5,6 @@ use Rattle.select.proofs.program.put_code.Given as goal
 
 abbrev pub invariant-loop-instruction : goal.invariant-loop-instruction
 invariant-loop-instruction l = record {
-  at : l.label ≡ l.first + l.instruction-index;
+  at : l.number ≡ l.instruction-index;
   done : l.items.items ++ code_items (function_of l.function) l.first l.instruction-index (drop l.instruction-index l.function.code.items) ≡ l.initial.items.items ++ code_items (function_of l.function) l.first 0 l.function.code.items;
 }
