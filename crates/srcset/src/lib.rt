@@ -8,8 +8,6 @@ pub mod files;
 pub mod headers;
 pub mod names;
 pub mod refusal;
-#[cfg(test)]
-mod tests;
 pub mod writing;
 
 pub use code::{Code, message};

@@ -1,5 +1,5 @@
 //! Tests: the texts and headers against lists typed anew, each limit at it and one past it.
-use crate::{Code, Fault, FileSet, Names, Pos, Refusal, TRIES, builtin, message, write_text};
+use srcset::{Code, Fault, FileSet, Names, Pos, Refusal, TRIES, builtin, message, write_text};
 use std::alloc::{AllocError, Global};
 use std::io::{self, ErrorKind, Write};
 use std::process::Abort;
