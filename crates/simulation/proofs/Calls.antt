@@ -1,5 +1,5 @@
 -- The machine follows flat code: calls and returns.
-use Rattle.std.proofs.Common.{◌≡◌, ◌≢◌, inl, inr, ℕ, ◌+◌, ◌*◌, ◌-◌, ◌%◌, ◌^◌, ◌<◌, ◌≤◌, List, [], ◌∷◌, ◌++◌, length, Some, None, true, refl, sym, ap, ◌∙◌, subst, arith, eqb}
+use Rattle.std.proofs.Common.{◌≡◌, ◌≢◌, inl, inr, ℕ, suc, ◌+◌, ◌*◌, ◌-◌, ◌%◌, ◌^◌, ◌<◌, ◌≤◌, List, [], ◌∷◌, ◌++◌, length, Some, None, true, refl, sym, ap, ◌∙◌, subst, arith, eqb}
 use Rattle.std.specs.Prelude.{nat_lt, slice_get}
 use Rattle.std.proofs.lemmas.Bool.{lt-ltb, ltb-true, ltb-false}
 use Rattle.std.proofs.lemmas.Bool.Decides.{nat_tests}
@@ -19,6 +19,7 @@ use Rattle.running.proofs.ItemSteps.{on_call}
 use Rattle.running.proofs.Placing.{stands_parts}
 use Rattle.select.specs.Selected.{kept, change_sp, return_home, restores, load_word}
 use Rattle.simulation.specs.Matches.{Ground, Ready, Returns, Holds, ArgumentsShow, Small, Waits, Matched, Matches, HasRoom, address, shown, file_below, file_of, temporary_at, argument_at}
+use Rattle.simulation.specs.Costs.{word_cost, frame_cost, opening_cost, row, step_cost}
 use Rattle.simulation.specs.Laws.{Anything, Follows}
 use Rattle.simulation.proofs.Registers.{kept_above, kept_no_temporary, kept_once}
 use Rattle.simulation.proofs.Waiting.{waits_same}
@@ -73,7 +74,7 @@ module _ (G : Ground) (s : State) (r b : ℕ → ℕ) (ready : Ready G) (m : Mat
 
   -- ---- Call
 
-  pub does_call : (g : ℕ) → (m.sp ≡ G.watch_sp → (end ≡ G.watch_ra) × ((j : ℕ) → file_of r j ≡ G.watch_file j)) → slice_get (fn G s r b ready m).code s.frame.at ≡ Some (instruction.Call g) → HasRoom G (act G.program s (instruction.Call g)) → Comes G.machine Anything 1 44 (Go r start b s.input s.trace) (Matches G (act G.program s (instruction.Call g)))
+  pub does_call : (g : ℕ) → (m.sp ≡ G.watch_sp → (end ≡ G.watch_ra) × ((j : ℕ) → file_of r j ≡ G.watch_file j)) → slice_get (fn G s r b ready m).code s.frame.at ≡ Some (instruction.Call g) → HasRoom G (act G.program s (instruction.Call g)) → Comes G.machine Anything 1 (step_cost G.program (fn G s r b ready m) (instruction.Call g)) (Go r start b s.input s.trace) (Matches G (act G.program s (instruction.Call g)))
   does_call g seen e room =
       let Q : Light → Type 0 = Matches G (running (entered s g)) in
       let f = function_at G.program g in
@@ -115,17 +116,18 @@ module _ (G : Ground) (s : State) (r b : ℕ → ℕ) (ready : Ready G) (m : Mat
       let lies = temporary_lies (fn G s r b ready m) m.sp mine k (ltb-false k 8 t) old.0 in
       let there : argument_at f sp k ≡ m.sp + 4 * (k - 8) = omega (arith, up) in
       (old.1, omega (arith, there, lies.top), ap (word_at b) there ∙ held)) in
-      on_call G.machine Anything Q 42 r start b s.input s.trace tt (G.env g) ra (ready.entry_aligned g known) q tt
-      (enters G.machine G.env G.data_at s.input s.trace Q f sp win (open_stack G s r b ready m) m.sp (G.env g) (address G g 0) r1 b fit.few fit.all up (omega (arith, mine.top)) fit.small m.sp_is words small m.bytes (ready.entries g known) (λ r2 b2 o.
+      comes_by G.machine Anything (suc (suc (opening_cost f))) (2 + opening_cost f) (Go r start b s.input s.trace) Q (omega arith)
+      (on_call G.machine Anything Q (opening_cost f) r start b s.input s.trace tt (G.env g) ra (ready.entry_aligned g known) q tt
+      (enters G.machine G.env G.data_at s.input s.trace Q f sp win (open_stack G s r b ready m) m.sp (G.env g) (address G g 0) r1 b fit.all up (omega (arith, mine.top)) fit.small m.sp_is words small m.bytes (ready.entries g known) (λ r2 b2 o.
       comes_now G.machine Anything 0 _ Q tt
-      (opened_matched G ready g sp (below_eight s.temporaries) (from_eight s.temporaries) (w ∷ s.waiting) s.statics s.input s.trace r1 b r2 b2 win words ts xs m.statics waits1 o, refl, refl)))
+      (opened_matched G ready g sp (below_eight s.temporaries) (from_eight s.temporaries) (w ∷ s.waiting) s.statics s.input s.trace r1 b r2 b2 win words ts xs m.statics waits1 o, refl, refl))))
 
   -- ---- Return
 
   -- the frame closes: the registers are those that the frame below sees
   pub leaves : (Q : Light → Type 0) → slice_get (fn G s r b ready m).code s.frame.at ≡ Some instruction.Return → word_at b (m.sp + return_home (fn G s r b ready m)) % 4 ≡ 0 → word_at b (m.sp + return_home (fn G s r b ready m)) < 2 ^ 32
       → ((r2 : ℕ → ℕ) → r2 2 ≡ m.sp + frame_bytes (fn G s r b ready m) → ((j : ℕ) → file_of r2 j ≡ file_below (fn G s r b ready m) b m.sp (file_of r) j) → r2 10 ≡ r 10 → Comes G.machine Anything 0 0 (Go r2 (word_at b (m.sp + return_home (fn G s r b ready m))) b s.input s.trace) Q)
-      → Comes G.machine Anything 1 43 (Go r start b s.input s.trace) Q
+      → Comes G.machine Anything 1 (row (fn G s r b ready m) instruction.Return) (Go r start b s.input s.trace) Q
   leaves Q e al small next_to =
       let f = fn G s r b ready m in
       let fit = function_fits G.program ready.sound s.frame.function in
@@ -138,10 +140,9 @@ module _ (G : Ground) (s : State) (r b : ℕ → ℕ) (ready : Ready G) (m : Mat
       let one = stands_parts G.machine.text G.env G.data_at (restores f f.resident) (load_word 1 (return_home f) ++ (change_sp (frame_bytes f) ++ (jump ∷ []))) start end st in
       let two = stands_parts G.machine.text G.env G.data_at (load_word 1 (return_home f)) (change_sp (frame_bytes f) ++ (jump ∷ [])) one.0 end one.2 in
       let three = stands_parts G.machine.text G.env G.data_at (change_sp (frame_bytes f)) (jump ∷ []) two.0 end two.2 in
-      comes_by G.machine Anything (3 * f.resident + 7) 43 (Go r start b s.input s.trace) Q (omega (arith, fit.few))
-      (restores_run G.machine G.env G.data_at s.input s.trace Q f m.sp win stack r m.sp_is b f.resident fit.all 7 start one.0 one.1 (λ r1 z.
+      restores_run G.machine G.env G.data_at s.input s.trace Q f m.sp win stack r m.sp_is b f.resident fit.all (word_cost (return_home f) + (frame_cost (frame_bytes f) + 1)) start one.0 one.1 (λ r1 z.
       let sp1 : r1 2 ≡ m.sp = z.others 2 (λ j lt x. omega (arith, x, kept_above j)) ∙ m.sp_is in
-      loads_word G.machine G.env G.data_at s.input s.trace Q {a0 = 1} 4 1 (return_home f) m.sp ra one.0 two.0 r1 b stack (omega arith) (λ x. omega (arith, x)) sp1 (return_lies f m.sp win) refl two.1 (λ r2 only held.
+      loads_word G.machine G.env G.data_at s.input s.trace Q {a0 = 1} (frame_cost (frame_bytes f) + 1) 1 (return_home f) m.sp ra one.0 two.0 r1 b stack (omega arith) (λ x. omega (arith, x)) sp1 (return_lies f m.sp win) refl two.1 (λ r2 only held.
       let sp2 : r2 2 ≡ m.sp = only.each 2 (λ x. omega (arith, x)) ∙ sp1 in
       changes_sp G.machine G.env G.data_at s.input s.trace Q {a0 = 1} 1 (frame_bytes f) m.sp up two.0 three.0 r2 b sp2 (omega (arith, win.top)) three.1 (λ r3 q.
       let held3 : reg r3 1 ≡ ra = q.each 1 (λ x. omega (arith, x)) (λ x. omega (arith, x)) ∙ held in
@@ -152,7 +153,7 @@ module _ (G : Ground) (s : State) (r b : ℕ → ℕ) (ready : Ready G) (m : Mat
       same ∙ bool_cases (nat_lt j f.resident)
       (λ t. rw t (z.given j (ltb-true j f.resident t)))
       (λ t. rw t (z.others (kept j) (λ c lt x. omega (arith, kept_once j c x, lt, ltb-false j f.resident t)))))
-      (q.each 10 (λ x. omega (arith, x)) (λ x. omega (arith, x)) ∙ (only.each 10 (λ x. omega (arith, x)) ∙ z.others 10 (λ j lt x. kept_no_temporary j 0 (omega arith) (sym x)))))))))
+      (q.each 10 (λ x. omega (arith, x)) (λ x. omega (arith, x)) ∙ (only.each 10 (λ x. omega (arith, x)) ∙ z.others 10 (λ j lt x. kept_no_temporary j 0 (omega arith) (sym x))))))))
 
   abbrev below : ℕ → ℕ
   below = file_below (fn G s r b ready m) b m.sp (file_of r)
@@ -163,10 +164,10 @@ module _ (G : Ground) (s : State) (r b : ℕ → ℕ) (ready : Ready G) (m : Mat
   abbrev back_to : ℕ
   back_to = word_at b (m.sp + return_home (fn G s r b ready m))
 
-  returns_to : (ws : List Frame) → Waits G ws b below base back_to → slice_get (fn G s r b ready m).code s.frame.at ≡ Some instruction.Return → Comes G.machine Anything 1 43 (Go r start b s.input s.trace) (Matches G (returned s ws))
+  returns_to : (ws : List Frame) → Waits G ws b below base back_to → slice_get (fn G s r b ready m).code s.frame.at ≡ Some instruction.Return → Comes G.machine Anything 1 (row (fn G s r b ready m) instruction.Return) (Go r start b s.input s.trace) (Matches G (returned s ws))
   returns_to [] st e =
-      let R : Progress → Type 0 = λ p. Comes G.machine Anything 1 43 (Go r start b s.input s.trace) (Matches G p) in
-      used (word_of_operand s (operand.Temporary 0)) (λ v. ended (v % 2 ^ 8) s.input s.trace) R (no_more G s r b ready m 1 43 (Go r start b s.input s.trace) (omega arith)) (λ v ev.
+      let R : Progress → Type 0 = λ p. Comes G.machine Anything 1 (row (fn G s r b ready m) instruction.Return) (Go r start b s.input s.trace) (Matches G p) in
+      used (word_of_operand s (operand.Temporary 0)) (λ v. ended (v % 2 ^ 8) s.input s.trace) R (no_more G s r b ready m 1 (row (fn G s r b ready m) instruction.Return) (Go r start b s.input s.trace) (omega arith)) (λ v ev.
       let Q : Light → Type 0 = Matches G (ended (v % 2 ^ 8) s.input s.trace) in
       let held : r 10 ≡ v = (m.temporaries 0 (word v) (word_some (value s (operand.Temporary 0)) v ev)).2 in
       leaves Q e (omega (arith, st.3, ready.return_aligned)) (omega (arith, st.3, ready.return_small)) (λ r2 e2 ef e10.

@@ -18,6 +18,7 @@ use Rattle.running.proofs.ItemSteps.{on_loads}
 use Rattle.running.proofs.Placing.{stands_parts}
 use Rattle.select.specs.Selected.{add_to, operate_on, kept, change_sp, return_home, saves, restores, store_word, load_word, entry}
 use Rattle.simulation.specs.Matches.{Small, file_of}
+use Rattle.simulation.specs.Costs.{frame_cost, word_cost, saved_cost, opening_cost}
 use Rattle.simulation.specs.Laws.{Anything}
 use Rattle.simulation.proofs.Registers.{Only, only_none, only_then, kept_above, kept_once}
 use Rattle.simulation.proofs.Places.{Open, onward, loads_word, stores_word}
@@ -52,7 +53,7 @@ pub record Opened (f : Function) (sp : ℕ) (r b r2 b2 : ℕ → ℕ) : Type 0 w
 module _ (F : Fixed) (env : ℕ → ℕ) (seg : ℕ) (i : List ℕ) (h : List Event) (Q : Light → Type 0) where
   -- the stack pointer changes
   pub changes_sp : {a0 : ℕ} → (n by sp sp2 here mid : ℕ) (r b : ℕ → ℕ) → r 2 ≡ sp → (sp + by) % 2 ^ 32 ≡ sp2 → Stands F.text env seg (change_sp by) here mid
-      → ((r2 : ℕ → ℕ) → Resized sp2 r r2 → Comes F Anything a0 n (Go r2 mid b i h) Q) → Comes F Anything 1 (3 + n) (Go r here b i h) Q
+      → ((r2 : ℕ → ℕ) → Resized sp2 r r2 → Comes F Anything a0 n (Go r2 mid b i h) Q) → Comes F Anything 1 (frame_cost by + n) (Go r here b i h) Q
   changes_sp {a0} n by sp sp2 here mid r b e2 sum st next =
       bool_cases (nat_lt ((by + 0x800) % 2 ^ 32) 0x1000)
       (λ t.
@@ -60,7 +61,7 @@ module _ (F : Fixed) (env : ℕ → ℕ) (seg : ℕ) (i : List ℕ) (h : List Ev
       let r2 = with_reg r 2 sp2 in
       let there : here + 4 ≡ mid = sym one.1.1 ∙ one.2 in
       let is : (r 2 + by) % 2 ^ 32 ≡ sp2 = ap (λ x. (x + by) % 2 ^ 32) e2 ∙ sum in
-      comes_by F Anything (suc n) (3 + n) (Go r here b i h) Q (omega arith)
+      comes_by F Anything (suc n) (frame_cost by + n) (Go r here b i h) Q (omega arith)
       (on_immediate F Anything Q n r here b i h tt immediate_op.Add 2 2 by sp2 one.1.0 is
       (onward F env seg i h Q {a0 = a0} n (here + 4) mid r2 b there (next r2 (record { sp_is = refl; each = λ k n2 n7. with_other r 2 sp2 k n2 })))))
       (λ t.
@@ -70,29 +71,30 @@ module _ (F : Fixed) (env : ℕ → ℕ) (seg : ℕ) (i : List ℕ) (h : List Ev
       let is : operate_of register_op.Add (reg r1 2) (reg r1 7) ≡ sp2 = ap (λ x. (x + by) % 2 ^ 32) e2 ∙ sum in
       let there : two.0 + 4 ≡ mid = sym two.2.1.1 ∙ two.2.2 in
       let c : Comes F Anything a0 n (Go r2 (two.0 + 4) b i h) Q = onward F env seg i h Q {a0 = a0} n (two.0 + 4) mid r2 b there (next r2 (record { sp_is = refl; each = λ k n2 n7. with_other r1 2 sp2 k n2 ∙ with_other r 7 by k n7 })) in
-      comes_by F Anything (suc (suc (suc n))) (3 + n) (Go r here b i h) Q (omega arith)
+      let count : frame_cost by ≡ 3 = rw t refl in
+      comes_by F Anything (suc (suc (suc n))) (frame_cost by + n) (Go r here b i h) Q (omega (arith, count))
       (on_loads F Anything Q (suc n) r here b i h tt 7 by two.0 refl two.1 tt
       (on_op F Anything Q n r1 two.0 b i h tt register_op.Add 2 2 7 two.2.1.0
       (subst (λ z. Comes F Anything a0 n (Go (with_reg r1 2 z) (two.0 + 4) b i h) Q) (sym is) c))))
 
   module _ (f : Function) (sp : ℕ) (win : Within f sp) (stack : Open F) where
     pub saves_run : (r : ℕ → ℕ) → r 2 ≡ sp → Small (file_of r) → (b : ℕ → ℕ) → ((k : ℕ) → b k < 2 ^ 8) → (n : ℕ) → n ≤ f.cells → (k here e : ℕ) → Stands F.text env seg (saves f n) here e
-        → ((r2 b2 : ℕ → ℕ) → Only 7 r r2 → Saved f sp r n b b2 → Comes F Anything 0 k (Go r2 e b2 i h) Q) → Comes F Anything 0 (3 * n + k) (Go r here b i h) Q
+        → ((r2 b2 : ℕ → ℕ) → Only 7 r r2 → Saved f sp r n b b2 → Comes F Anything 0 k (Go r2 e b2 i h) Q) → Comes F Anything 0 (saved_cost f n + k) (Go r here b i h) Q
     saves_run r e2 small b bytes zero le k here e st next =
         let c = next r b (only_none 7 r) (record { given = λ j lt. absurd (omega (arith, lt)); off = λ j side. refl; bytes = bytes }) in
-        comes_by F Anything k (3 * 0 + k) (Go r here b i h) Q (omega arith) (onward F env seg i h Q {a0 = 0} k here e r b st c)
+        comes_by F Anything k (0 + k) (Go r here b i h) Q (omega arith) (onward F env seg i h Q {a0 = 0} k here e r b st c)
     saves_run r e2 small b bytes (suc n) le k here e st next =
         let o = cell_home f n in
         let w = r (kept n) in
         let parts = stands_parts F.text env seg (saves f n) (store_word (kept n) o) here e st in
         let lies = cell_lies f sp win n (omega (arith, le)) in
-        comes_by F Anything (3 * n + (3 + k)) (3 * suc n + k) (Go r here b i h) Q (omega arith)
-        (saves_run r e2 small b bytes n (omega (arith, le)) (3 + k) here parts.0 parts.1 (λ r1 b1 only1 s.
+        comes_by F Anything (saved_cost f n + (word_cost o + k)) (saved_cost f (suc n) + k) (Go r here b i h) Q (omega arith)
+        (saves_run r e2 small b bytes n (omega (arith, le)) (word_cost o + k) here parts.0 parts.1 (λ r1 b1 only1 s.
         let above = kept_above n in
         let held : reg r1 (kept n) ≡ w = reg_is r1 (kept n) (omega (arith, above)) ∙ only1.each (kept n) (λ x. omega (arith, x, above)) in
         let sp1 : r1 2 ≡ sp = only1.each 2 (λ x. omega (arith, x)) ∙ e2 in
         let b2 = with_word b1 (sp + o) w in
-        comes_some F Anything (3 + k) (Go r1 parts.0 b1 i h) Q
+        comes_some F Anything (word_cost o + k) (Go r1 parts.0 b1 i h) Q
         (stores_word F env seg i h Q {a0 = 0} k (kept n) o sp w parts.0 e r1 b1 stack (λ x. omega (arith, x, above)) sp1 lies held parts.2 (λ r2 only2.
         next r2 b2 (only_then 7 r r1 r2 only1 only2) (record {
           given = λ j lt. bool_cases (eqb j n)
@@ -109,18 +111,18 @@ module _ (F : Fixed) (env : ℕ → ℕ) (seg : ℕ) (i : List ℕ) (h : List Ev
         })))))
 
     pub restores_run : (r : ℕ → ℕ) → r 2 ≡ sp → (b : ℕ → ℕ) → (n : ℕ) → n ≤ f.cells → (k here e : ℕ) → Stands F.text env seg (restores f n) here e
-        → ((r2 : ℕ → ℕ) → Restored f sp b n r r2 → Comes F Anything 1 k (Go r2 e b i h) Q) → Comes F Anything 1 (3 * n + k) (Go r here b i h) Q
+        → ((r2 : ℕ → ℕ) → Restored f sp b n r r2 → Comes F Anything 1 k (Go r2 e b i h) Q) → Comes F Anything 1 (saved_cost f n + k) (Go r here b i h) Q
     restores_run r e2 b zero le k here e st next =
         let c = next r (record { given = λ j lt. absurd (omega (arith, lt)); others = λ q ne. refl }) in
-        comes_by F Anything k (3 * 0 + k) (Go r here b i h) Q (omega arith) (onward F env seg i h Q {a0 = 1} k here e r b st c)
+        comes_by F Anything k (0 + k) (Go r here b i h) Q (omega arith) (onward F env seg i h Q {a0 = 1} k here e r b st c)
     restores_run r e2 b (suc n) le k here e st next =
         let o = cell_home f n in
         let w = word_at b (sp + o) in
         let parts = stands_parts F.text env seg (restores f n) (load_word (kept n) o) here e st in
         let lies = cell_lies f sp win n (omega (arith, le)) in
         let above = kept_above n in
-        comes_by F Anything (3 * n + (3 + k)) (3 * suc n + k) (Go r here b i h) Q (omega arith)
-        (restores_run r e2 b n (omega (arith, le)) (3 + k) here parts.0 parts.1 (λ r1 s.
+        comes_by F Anything (saved_cost f n + (word_cost o + k)) (saved_cost f (suc n) + k) (Go r here b i h) Q (omega arith)
+        (restores_run r e2 b n (omega (arith, le)) (word_cost o + k) here parts.0 parts.1 (λ r1 s.
         let sp1 : r1 2 ≡ sp = s.others 2 (λ j lt x. omega (arith, x, kept_above j)) ∙ e2 in
         loads_word F env seg i h Q {a0 = 1} k (kept n) o sp w parts.0 e r1 b stack (omega (arith, above)) (λ x. omega (arith, x, above)) sp1 lies refl parts.2 (λ r2 only held.
         next r2 (record {
@@ -135,17 +137,17 @@ module _ (F : Fixed) (env : ℕ → ℕ) (seg : ℕ) (i : List ℕ) (h : List Ev
         }))))
 
     -- the entry of a function
-    pub enters : (base here e : ℕ) (r b : ℕ → ℕ) → f.resident ≤ 12 → f.resident ≤ f.cells → sp + frame_bytes f ≡ base → base ≤ 2 ^ 31 → frame_bytes f ≤ 2 ^ 20 → r 2 ≡ base → Small (file_of r) → r 1 < 2 ^ 32 → ((k : ℕ) → b k < 2 ^ 8) → Stands F.text env seg (entry f) here e
-        → ((r2 b2 : ℕ → ℕ) → Opened f sp r b r2 b2 → Comes F Anything 0 0 (Go r2 e b2 i h) Q) → Comes F Anything 1 42 (Go r here b i h) Q
-    enters base here e r b few all up top short e2 small ra bytes st next =
+    pub enters : (base here e : ℕ) (r b : ℕ → ℕ) → f.resident ≤ f.cells → sp + frame_bytes f ≡ base → base ≤ 2 ^ 31 → frame_bytes f ≤ 2 ^ 20 → r 2 ≡ base → Small (file_of r) → r 1 < 2 ^ 32 → ((k : ℕ) → b k < 2 ^ 8) → Stands F.text env seg (entry f) here e
+        → ((r2 b2 : ℕ → ℕ) → Opened f sp r b r2 b2 → Comes F Anything 0 0 (Go r2 e b2 i h) Q) → Comes F Anything 1 (opening_cost f) (Go r here b i h) Q
+    enters base here e r b all up top short e2 small ra bytes st next =
         let by = 2 ^ 32 - frame_bytes f in
         let o = return_home f in
         let room = frame_room f in
         let one = stands_parts F.text env seg (change_sp by) (store_word 1 o ++ saves f f.resident) here e st in
         let two = stands_parts F.text env seg (store_word 1 o) (saves f f.resident) one.0 e one.2 in
-        let count = 3 * f.resident + 0 in
-        comes_by F Anything (3 + (3 + count)) 42 (Go r here b i h) Q (omega (arith, few))
-        (changes_sp {a0 = 1} (3 + count) by base sp here one.0 r b e2 (omega (arith, up, top, short, win.low)) one.1 (λ r1 z.
+        let count = saved_cost f f.resident + 0 in
+        comes_by F Anything (frame_cost by + (word_cost o + count)) (opening_cost f) (Go r here b i h) Q (omega arith)
+        (changes_sp {a0 = 1} (word_cost o + count) by base sp here one.0 r b e2 (omega (arith, up, top, short, win.low)) one.1 (λ r1 z.
         let ra1 : reg r1 1 ≡ r 1 = z.each 1 (λ x. omega (arith, x)) (λ x. omega (arith, x)) in
         let b1 = with_word b (sp + o) (r 1) in
         stores_word F env seg i h Q {a0 = 0} count 1 o sp (r 1) one.0 two.0 r1 b stack (λ x. omega (arith, x)) z.sp_is (return_lies f sp win) ra1 two.1 (λ r2 only.

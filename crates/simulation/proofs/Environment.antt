@@ -26,6 +26,7 @@ use Rattle.running.proofs.Steps.{comes_now, on_immediate, on_op, on_load_byte, o
 use Rattle.running.proofs.Placing.{stands_parts}
 use Rattle.select.specs.Selected.{add_to, operate_on, kept, address_of, byte_home}
 use Rattle.simulation.specs.Matches.{Ground, Ready, Shows, Matched, Matches, address, shown, temporary_at}
+use Rattle.simulation.specs.Costs.{row}
 use Rattle.simulation.specs.Laws.{Anything, Follows, AreBytes, GetFollows}
 use Rattle.simulation.proofs.Registers.{Only, kept_no_temporary}
 use Rattle.simulation.proofs.Waiting.{if_same}
@@ -104,7 +105,7 @@ module _ (G : Ground) (s : State) (r b : ℕ → ℕ) (ready : Ready G) (m : Mat
 
   -- ---- PutByte
 
-  puts : (v : ℕ) → r 10 ≡ v → slice_get (fn G s r b ready m).code s.frame.at ≡ Some instruction.PutByte → Comes G.machine Anything 1 8 (Go r start b s.input s.trace) (Matches G (put s v))
+  puts : (v : ℕ) → r 10 ≡ v → slice_get (fn G s r b ready m).code s.frame.at ≡ Some instruction.PutByte → Comes G.machine Anything 1 (row (fn G s r b ready m) instruction.PutByte) (Go r start b s.input s.trace) (Matches G (put s v))
   puts v held e =
       let Q : Light → Type 0 = Matches G (put s v) in
       let F = G.machine in
@@ -142,10 +143,10 @@ module _ (G : Ground) (s : State) (r b : ℕ → ℕ) (ready : Ready G) (m : Mat
       (comes_now F Anything 0 _ Q tt
       (retraced G (record (next s) { temporaries = unset }) r5 end b1 s.input trace done, refl, ap (λ x. Put x ∷ s.trace) (byte_back b a (v % 2 ^ 8)))))))))))
 
-  does_put : slice_get (fn G s r b ready m).code s.frame.at ≡ Some instruction.PutByte → Comes G.machine Anything 1 8 (Go r start b s.input s.trace) (Matches G (act G.program s instruction.PutByte))
+  does_put : slice_get (fn G s r b ready m).code s.frame.at ≡ Some instruction.PutByte → Comes G.machine Anything 1 (row (fn G s r b ready m) instruction.PutByte) (Go r start b s.input s.trace) (Matches G (act G.program s instruction.PutByte))
   does_put e =
-      let R : Progress → Type 0 = λ p. Comes G.machine Anything 1 8 (Go r start b s.input s.trace) (Matches G p) in
-      used (word_of_operand s (operand.Temporary 0)) (put s) R (no_more G s r b ready m 1 8 (Go r start b s.input s.trace) (omega arith)) (λ v ev.
+      let R : Progress → Type 0 = λ p. Comes G.machine Anything 1 (row (fn G s r b ready m) instruction.PutByte) (Go r start b s.input s.trace) (Matches G p) in
+      used (word_of_operand s (operand.Temporary 0)) (put s) R (no_more G s r b ready m 1 (row (fn G s r b ready m) instruction.PutByte) (Go r start b s.input s.trace) (omega arith)) (λ v ev.
       puts v (m.temporaries 0 (word v) (word_some (value s (operand.Temporary 0)) v ev)).2 e)
 
   -- ---- GetByte
@@ -210,7 +211,7 @@ module _ (G : Ground) (s : State) (r b : ℕ → ℕ) (ready : Ready G) (m : Mat
       comes_now G.machine Anything 0 _ Q tt
       (retraced G (record (next s) { temporaries = result_alone (Some (word c)) }) r2 end b1 rest (Got c ∷ s.trace) done, refl, refl)))
 
-  gets_from : (input : List ℕ) → s.input ≡ input → AreBytes input → slice_get (fn G s r b ready m).code s.frame.at ≡ Some instruction.GetByte → Comes G.machine Anything 1 10 (Go r start b input s.trace) (Matches G (got s input))
+  gets_from : (input : List ℕ) → s.input ≡ input → AreBytes input → slice_get (fn G s r b ready m).code s.frame.at ≡ Some instruction.GetByte → Comes G.machine Anything 1 (row (fn G s r b ready m) instruction.GetByte) (Go r start b input s.trace) (Matches G (got s input))
   gets_from input ei bytes e =
       let Q : Light → Type 0 = Matches G (got s input) in
       let F = G.machine in
