@@ -16,11 +16,12 @@ use Rattle.running.proofs.Words.{reg_is, with_other, word_off, word_same, word_a
 use Rattle.running.proofs.Steps.{comes_by, comes_some, on_immediate, on_op}
 use Rattle.running.proofs.ItemSteps.{on_loads}
 use Rattle.running.proofs.Placing.{stands_parts}
-use Rattle.select.specs.Selected.{add_to, operate_on, kept, change_sp, return_home, saves, restores, store_word, load_word, entry}
-use Rattle.simulation.specs.Matches.{Small, file_of}
-use Rattle.simulation.specs.Costs.{frame_cost, word_cost, saved_cost, opening_cost}
+use Rattle.select.specs.Selected.{add_to, operate_on, kept, calls, change_sp, return_home, keep_return, take_return, saves, restores, store_word, load_word, entry}
+use Rattle.simulation.specs.Matches.{Small, file_of, return_at}
+use Rattle.simulation.specs.Costs.{frame_cost, word_cost, saved_cost, opening_cost, return_cost}
 use Rattle.simulation.specs.Laws.{Anything}
 use Rattle.simulation.proofs.Registers.{Only, only_none, only_then, kept_above, kept_once}
+use Rattle.simulation.proofs.Waiting.{if_same}
 use Rattle.simulation.proofs.Places.{Open, onward, loads_word, stores_word}
 use Rattle.simulation.proofs.Fits.{Within, frame_room, cell_lies, return_lies}
 
@@ -35,6 +36,12 @@ pub record Restored (f : Function) (sp : ℕ) (b : ℕ → ℕ) (n : ℕ) (r r2 
   pub given : (j : ℕ) → j < n → r2 (kept j) ≡ word_at b (sp + cell_home f j)
   pub others : (q : ℕ) → ((j : ℕ) → j < n → q ≢ kept j) → r2 q ≡ r q
 
+-- the address to return to is where it is while the function runs
+pub record Kept (f : Function) (sp ra : ℕ) (b b2 : ℕ → ℕ) (r2 : ℕ → ℕ) : Type 0 where
+  pub ra_is : return_at f b2 sp (r2 1) ≡ ra
+  pub off : (k : ℕ) → (k < sp + return_home f) ⊎ (sp + return_home f + 4 ≤ k) → b2 k ≡ b k
+  pub bytes : (k : ℕ) → b2 k < 2 ^ 8
+
 -- the stack pointer has changed
 pub record Resized (sp : ℕ) (r r2 : ℕ → ℕ) : Type 0 where
   pub sp_is : r2 2 ≡ sp
@@ -46,7 +53,7 @@ pub record Opened (f : Function) (sp : ℕ) (r b r2 b2 : ℕ → ℕ) : Type 0 w
   pub file_stays : (j : ℕ) → r2 (kept j) ≡ r (kept j)
   pub temporaries_stay : (k : ℕ) → k < 8 → r2 (10 + k) ≡ r (10 + k)
   pub homes_are : (j : ℕ) → j < f.resident → word_at b2 (sp + cell_home f j) ≡ r (kept j)
-  pub ra_is : word_at b2 (sp + return_home f) ≡ r 1
+  pub ra_is : return_at f b2 sp (r2 1) ≡ r 1
   pub off : (k : ℕ) → (k < sp) ⊎ (sp + frame_bytes f ≤ k) → b2 k ≡ b k
   pub bytes : (k : ℕ) → b2 k < 2 ^ 8
 
@@ -136,6 +143,46 @@ module _ (F : Fixed) (env : ℕ → ℕ) (seg : ℕ) (i : List ℕ) (h : List Ev
           others = λ q ne. only.each q (ne n (omega arith)) ∙ s.others q (λ j lt. ne j (omega (arith, lt)));
         }))))
 
+    -- where the function calls, ra is put into the frame ..
+    keeps_return : (r b : ℕ → ℕ) → r 2 ≡ sp → r 1 < 2 ^ 32 → ((k : ℕ) → b k < 2 ^ 8) → (k here e : ℕ) → Stands F.text env seg (keep_return f) here e
+        → ((r2 b2 : ℕ → ℕ) → Only 7 r r2 → Kept f sp (r 1) b b2 r2 → Comes F Anything 0 k (Go r2 e b2 i h) Q) → Comes F Anything 0 (return_cost f + k) (Go r here b i h) Q
+    keeps_return r b e2 small bytes k here e st next =
+        let o = return_home f in
+        bool_cases (calls f.code)
+        (λ t.
+        let store : Stands F.text env seg (store_word 1 o) here e = rw t at st in
+        let b2 = with_word b (sp + o) (r 1) in
+        let count : return_cost f ≡ word_cost o = rw t refl in
+        comes_by F Anything (word_cost o + k) (return_cost f + k) (Go r here b i h) Q (omega (arith, count))
+        (comes_some F Anything (word_cost o + k) (Go r here b i h) Q
+        (stores_word F env seg i h Q {a0 = 0} k 1 o sp (r 1) here e r b stack (λ x. omega (arith, x)) e2 (return_lies f sp win) refl store (λ r2 only.
+        next r2 b2 only (record {
+          ra_is = rw t (word_back b (sp + o) (r 1) small);
+          off = λ j side. word_off b (sp + o) (r 1) j (⊎_elim (λ lt. inr (omega (arith, lt))) (λ ge. inl (omega (arith, ge))) side);
+          bytes = word_bytes b (sp + o) (r 1) small bytes;
+        })))))
+        (λ t.
+        let nothing : Stands F.text env seg [] here e = rw t at st in
+        comes_by F Anything k (return_cost f + k) (Go r here b i h) Q (omega arith)
+        (onward F env seg i h Q {a0 = 0} k here e r b nothing (next r b (only_none 7 r) (record { ra_is = rw t refl; off = λ j side. refl; bytes = bytes }))))
+
+    -- .. and taken from it
+    pub takes_return : (r b : ℕ → ℕ) → r 2 ≡ sp → (k here e : ℕ) → Stands F.text env seg (take_return f) here e
+        → ((r2 : ℕ → ℕ) → Only 1 r r2 → r2 1 ≡ return_at f b sp (r 1) → Comes F Anything 1 k (Go r2 e b i h) Q) → Comes F Anything 1 (return_cost f + k) (Go r here b i h) Q
+    takes_return r b e2 k here e st next =
+        let o = return_home f in
+        bool_cases (calls f.code)
+        (λ t.
+        let load : Stands F.text env seg (load_word 1 o) here e = rw t at st in
+        let is : return_at f b sp (r 1) ≡ word_at b (sp + o) = rw t refl in
+        let count : return_cost f ≡ word_cost o = rw t refl in
+        comes_by F Anything (word_cost o + k) (return_cost f + k) (Go r here b i h) Q (omega (arith, count))
+        (loads_word F env seg i h Q {a0 = 1} k 1 o sp (word_at b (sp + o)) here e r b stack (omega arith) (λ x. omega (arith, x)) e2 (return_lies f sp win) refl load (λ r2 only held. next r2 only (held ∙ sym is))))
+        (λ t.
+        let nothing : Stands F.text env seg [] here e = rw t at st in
+        let is : return_at f b sp (r 1) ≡ r 1 = rw t refl in
+        comes_by F Anything k (return_cost f + k) (Go r here b i h) Q (omega arith) (onward F env seg i h Q {a0 = 1} k here e r b nothing (next r (only_none 1 r) (sym is))))
+
     -- the entry of a function
     pub enters : (base here e : ℕ) (r b : ℕ → ℕ) → f.resident ≤ f.cells → sp + frame_bytes f ≡ base → base ≤ 2 ^ 31 → frame_bytes f ≤ 2 ^ 20 → r 2 ≡ base → Small (file_of r) → r 1 < 2 ^ 32 → ((k : ℕ) → b k < 2 ^ 8) → Stands F.text env seg (entry f) here e
         → ((r2 b2 : ℕ → ℕ) → Opened f sp r b r2 b2 → Comes F Anything 0 0 (Go r2 e b2 i h) Q) → Comes F Anything 1 (opening_cost f) (Go r here b i h) Q
@@ -143,23 +190,24 @@ module _ (F : Fixed) (env : ℕ → ℕ) (seg : ℕ) (i : List ℕ) (h : List Ev
         let by = 2 ^ 32 - frame_bytes f in
         let o = return_home f in
         let room = frame_room f in
-        let one = stands_parts F.text env seg (change_sp by) (store_word 1 o ++ saves f f.resident) here e st in
-        let two = stands_parts F.text env seg (store_word 1 o) (saves f f.resident) one.0 e one.2 in
+        let one = stands_parts F.text env seg (change_sp by) (keep_return f ++ saves f f.resident) here e st in
+        let two = stands_parts F.text env seg (keep_return f) (saves f f.resident) one.0 e one.2 in
         let count = saved_cost f f.resident + 0 in
-        comes_by F Anything (frame_cost by + (word_cost o + count)) (opening_cost f) (Go r here b i h) Q (omega arith)
-        (changes_sp {a0 = 1} (word_cost o + count) by base sp here one.0 r b e2 (omega (arith, up, top, short, win.low)) one.1 (λ r1 z.
-        let ra1 : reg r1 1 ≡ r 1 = z.each 1 (λ x. omega (arith, x)) (λ x. omega (arith, x)) in
-        let b1 = with_word b (sp + o) (r 1) in
-        stores_word F env seg i h Q {a0 = 0} count 1 o sp (r 1) one.0 two.0 r1 b stack (λ x. omega (arith, x)) z.sp_is (return_lies f sp win) ra1 two.1 (λ r2 only.
+        comes_by F Anything (frame_cost by + (return_cost f + count)) (opening_cost f) (Go r here b i h) Q (omega arith)
+        (changes_sp {a0 = 0} (return_cost f + count) by base sp here one.0 r b e2 (omega (arith, up, top, short, win.low)) one.1 (λ r1 z.
+        let ra1 : r1 1 ≡ r 1 = z.each 1 (λ x. omega (arith, x)) (λ x. omega (arith, x)) in
+        keeps_return r1 b z.sp_is (omega (arith, ra, ra1)) bytes count one.0 two.0 two.1 (λ r2 b1 only q.
         let sp2 : r2 2 ≡ sp = only.each 2 (λ x. omega (arith, x)) ∙ z.sp_is in
         let kept2 : (j : ℕ) → r2 (kept j) ≡ r (kept j) = λ j. only.each (kept j) (λ x. omega (arith, x, kept_above j)) ∙ z.each (kept j) (λ x. omega (arith, x, kept_above j)) (λ x. omega (arith, x, kept_above j)) in
-        saves_run r2 sp2 (λ j. subst (λ x. x < 2 ^ 32) (sym (kept2 j)) (small j)) b1 (word_bytes b (sp + o) (r 1) ra bytes) f.resident all 0 two.0 e two.2 (λ r3 b3 only3 s.
+        saves_run r2 sp2 (λ j. subst (λ x. x < 2 ^ 32) (sym (kept2 j)) (small j)) b1 q.bytes f.resident all 0 two.0 e two.2 (λ r3 b3 only3 s.
+        let stays : return_at f b3 sp (r3 1) ≡ return_at f b1 sp (r2 1) =
+        if_same (calls f.code) _ _ (r2 1) (r3 1) (word_same b1 b3 (sp + o) (λ k lo hi. s.off k (inr (omega (arith, lo, room, all))))) (only3.each 1 (λ x. omega (arith, x))) in
         next r3 b3 (record {
           sp_is = only3.each 2 (λ x. omega (arith, x)) ∙ sp2;
           file_stays = λ j. only3.each (kept j) (λ x. omega (arith, x, kept_above j)) ∙ kept2 j;
           temporaries_stay = λ k lt. only3.each (10 + k) (λ x. omega (arith, x)) ∙ (only.each (10 + k) (λ x. omega (arith, x)) ∙ z.each (10 + k) (λ x. omega (arith, x)) (λ x. omega (arith, x)));
           homes_are = λ j lt. s.given j lt ∙ kept2 j;
-          ra_is = word_same b1 b3 (sp + o) (λ k lo hi. s.off k (inr (omega (arith, lo, room, all)))) ∙ word_back b (sp + o) (r 1) ra;
-          off = λ k side. s.off k (⊎_elim (λ lt. inl (omega (arith, lt))) (λ ge. inr (omega (arith, ge, room, all))) side) ∙ word_off b (sp + o) (r 1) k (⊎_elim (λ lt. inr (omega (arith, lt))) (λ ge. inl (omega (arith, ge, room))) side);
+          ra_is = stays ∙ (q.ra_is ∙ ra1);
+          off = λ k side. s.off k (⊎_elim (λ lt. inl (omega (arith, lt))) (λ ge. inr (omega (arith, ge, room, all))) side) ∙ q.off k (⊎_elim (λ lt. inl (omega (arith, lt, room))) (λ ge. inr (omega (arith, ge, room))) side);
           bytes = s.bytes;
         })))))

@@ -18,7 +18,7 @@ use Rattle.select.specs.declared.places.Source.{Source}
 use Rattle.select.specs.declared.places.Source.TheVariants as source
 use Rattle.select.specs.declared.places.Home.{Home}
 use Rattle.select.specs.declared.places.Home.TheVariants as home
-use Rattle.select.specs.Selected.{source_of, home_of, register_of, made_in, machine_of, constant_form, byte_home, return_home, is_same}
+use Rattle.select.specs.Selected.{source_of, home_of, register_of, made_in, machine_of, constant_form, byte_home, return_home, calls, is_same}
 use Rattle.simulation.specs.Costs.{far_cost, word_cost, set_cost, fetch_cost, keep_cost, into_cost, move_cost, form_cost, second_cost, ending_cost, compute_cost, narrow_cost, reach_cost, reference_cost, scale_cost, far_frame, frame_cost, saved_cost, opening_cost, row, step_cost, most_at, most_if, most_next, most_spent, most_start, SpentIsMore, far_source, far_home, far_location, far_saved, far_in, near_cost, RowsAreFew}
 use Rattle.simulation.proofs.Fits.{function_fits}
 
@@ -28,6 +28,10 @@ choice_most false n = omega arith
 
 set_most : (v : ℕ) → set_cost v ≤ 2
 set_most v = omega (arith, choice_most (nat_lt ((v + 0x800) % 2 ^ 32) 0x1000) 1)
+
+return_near : (t : Bool) (o : ℕ) → (if t then word_cost o else 0) ≤ 1 + far_cost o
+return_near true o = omega arith
+return_near false o = omega arith
 
 scaled_most : (t u v : Bool) → (if t then 0 else if u then 1 else if v then 1 else 3) ≤ 3
 scaled_most true u v = omega arith
@@ -107,11 +111,11 @@ rows_are_few p f (instruction.Address d l) = omega (arith, reference_near f (hom
 rows_are_few p f (instruction.Element d x y size) = omega (arith, fetch_near (source_of f x), fetch_near (source_of f y), scale_most size, keep_near (home_of f d))
 rows_are_few p f (instruction.Jump to) = omega arith
 rows_are_few p f (instruction.Branch t x y to) = omega (arith, fetch_near (source_of f x), fetch_near (source_of f y))
-rows_are_few p f (instruction.Call g) = omega (arith, saved_near (function_at p g) (function_at p g).resident)
+rows_are_few p f (instruction.Call g) = omega (arith, return_near (calls (function_at p g).code) (return_home (function_at p g)), saved_near (function_at p g) (function_at p g).resident)
 rows_are_few p f instruction.PutByte = omega arith
 rows_are_few p f instruction.GetByte = omega arith
 rows_are_few p f instruction.Exit = omega arith
-rows_are_few p f instruction.Return = omega (arith, saved_near f f.resident)
+rows_are_few p f instruction.Return = omega (arith, return_near (calls f.code) (return_home f), saved_near f f.resident)
 
 -- ---- where all is far
 
@@ -162,7 +166,7 @@ saved_most f zero = omega arith
 saved_most f (suc n) = omega (arith, saved_most f n, far_most (cell_home f n))
 
 opening_most : (f : Function) → f.resident ≤ 12 → opening_cost f ≤ 42
-opening_most f few = omega (arith, few, frame_most (2 ^ 32 - frame_bytes f), far_most (return_home f), saved_most f f.resident)
+opening_most f few = omega (arith, few, return_near (calls f.code) (return_home f), frame_most (2 ^ 32 - frame_bytes f), far_most (return_home f), saved_most f f.resident)
 
 module _ (p : Program) (sound : IsSoundProgram p) where
   few : (k : ℕ) → (function_at p k).resident ≤ 12
@@ -183,7 +187,7 @@ module _ (p : Program) (sound : IsSoundProgram p) where
   step_is_more f le instruction.PutByte = omega (arith, far_most (byte_home f))
   step_is_more f le instruction.GetByte = omega (arith, far_most (byte_home f))
   step_is_more f le instruction.Exit = omega arith
-  step_is_more f le instruction.Return = omega (arith, le, saved_most f f.resident, far_most (return_home f), frame_most (frame_bytes f))
+  step_is_more f le instruction.Return = omega (arith, le, return_near (calls f.code) (return_home f), saved_most f f.resident, far_most (return_home f), frame_most (frame_bytes f))
 
   chosen_is_more : (f : Function) → f.resident ≤ 12 → (x : Instruction) (t : Bool) → step_cost p f (if t then instruction.Nothing else x) ≤ cost x
   chosen_is_more f le x true = omega arith

@@ -8,7 +8,7 @@ use Rattle.frames.specs.Run.{Value, word, reference, Values, Bytes, Frame, State
 use Rattle.running.specs.Light.{Light, Go, Done, Fell, Comes, light_run}
 use Rattle.running.proofs.Steps.{comes_now, comes_then}
 use Rattle.select.specs.Selected.{return_home}
-use Rattle.simulation.specs.Matches.{Ground, Ready, FrameHolds, Waits, Matched, Matches, IsBelow, address, file_of, file_below, shown}
+use Rattle.simulation.specs.Matches.{Ground, Ready, FrameHolds, Waits, Matched, Matches, IsBelow, address, file_of, file_below, return_at, shown}
 use Rattle.simulation.specs.Costs.{least_spent, row, step_cost, most_spent}
 use Rattle.simulation.specs.Laws.{Anything}
 use Rattle.simulation.specs.Runs.{IsWithin, IsBack, EachCallKeeps}
@@ -51,7 +51,7 @@ module _ (G : Ground) (sp ra : ℕ) (file : ℕ → ℕ) where
   waits_watched [] b s base to lt st = st
   waits_watched (w ∷ ws) b s base to lt st =
       let f = function_at G.program w.function in (
-        record { at_is = st.0.at_is; aligned = st.0.aligned; small = st.0.small; seen = λ x. absurd (omega (arith, x, lt)) },
+        record { at_is = st.0.at_is; aligned = st.0.aligned; small = st.0.small; calls = st.0.calls; seen = λ x. absurd (omega (arith, x, lt)) },
         frame_watched f w.cells w.area b base s st.1,
         waits_watched ws b (file_below f b base s) (base + frame_bytes f) (word_at b (base + return_home f)) (omega (arith, lt)) st.2,
       )
@@ -69,7 +69,7 @@ module _ (G : Ground) (sp ra : ℕ) (file : ℕ → ℕ) where
         temporaries = m.temporaries;
         arguments = m.arguments;
         statics = m.statics;
-        waits = waits_watched s.waiting b (file_below f b m.sp (file_of r)) (m.sp + frame_bytes f) (word_at b (m.sp + return_home f)) (omega (arith, e, frame_room f)) m.waits;
+        waits = waits_watched s.waiting b (file_below f b m.sp (file_of r)) (m.sp + frame_bytes f) (return_at f b m.sp (r 1)) (omega (arith, e, frame_room f)) m.waits;
       }
 
 -- a return to the call of which one speaks
@@ -78,7 +78,7 @@ module _ (G : Ground) (s : State) (r b : ℕ → ℕ) (ready : Ready G) (m : Mat
   base = m.sp + frame_bytes (function_at G.program s.frame.function)
 
   abbrev back_to : ℕ
-  back_to = word_at b (m.sp + return_home (function_at G.program s.frame.function))
+  back_to = return_at (function_at G.program s.frame.function) b m.sp (r 1)
 
   abbrev below : ℕ → ℕ
   below = file_below (function_at G.program s.frame.function) b m.sp (file_of r)

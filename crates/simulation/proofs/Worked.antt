@@ -91,6 +91,22 @@ return_with_none = refl
 starts_with_none : most_start program ≡ 6
 starts_with_none = refl
 
+-- one less where the function calls none
+abbrev leaf : Function
+leaf = record { code = instruction.Return ∷ []; cells = 1; resident = 1; area = 0; outgoing = 0 }
+
+leaf_opens : opening_cost leaf ≡ 2
+leaf_opens = refl
+
+leaf_entry_attained : longest (entry leaf) ≡ 4 * 2
+leaf_entry_attained = refl
+
+leaf_returns : row leaf instruction.Return ≡ 3
+leaf_returns = refl
+
+leaf_return_attained : items leaf instruction.Return ≡ 4 * 3
+leaf_return_attained = refl
+
 -- ---- two more for each operand that is far
 
 far_target : row wide (instruction.Move (target.Temporary 600) (operand.Temporary 0)) ≡ row wide (instruction.Move (target.Temporary 8) (operand.Temporary 0)) + 2

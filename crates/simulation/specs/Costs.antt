@@ -17,7 +17,7 @@ use Rattle.select.specs.declared.places.Source.{Source}
 use Rattle.select.specs.declared.places.Source.TheVariants as source
 use Rattle.select.specs.declared.places.Home.{Home}
 use Rattle.select.specs.declared.places.Home.TheVariants as home
-use Rattle.select.specs.Selected.{source_of, home_of, register_of, made_in, machine_of, constant_form, byte_home, return_home, shortened}
+use Rattle.select.specs.Selected.{source_of, home_of, register_of, made_in, machine_of, constant_form, byte_home, return_home, calls, shortened}
 
 -- ---- at least
 
@@ -135,9 +135,13 @@ abbrev pub saved_cost : Function → ℕ → ℕ
 saved_cost f zero = 0
 saved_cost f (suc n) = saved_cost f n + word_cost (cell_home f n)
 
+-- the address to return to, where the function calls
+abbrev pub return_cost : Function → ℕ
+return_cost f = if calls f.code then word_cost (return_home f) else 0
+
 -- a function's entry
 abbrev pub opening_cost : Function → ℕ
-opening_cost f = frame_cost (2 ^ 32 - frame_bytes f) + (word_cost (return_home f) + saved_cost f f.resident)
+opening_cost f = frame_cost (2 ^ 32 - frame_bytes f) + (return_cost f + saved_cost f f.resident)
 
 abbrev pub row : Function → Instruction → ℕ
 row f instruction.Nothing = 0
@@ -154,7 +158,7 @@ row f (instruction.Call g) = 2
 row f instruction.PutByte = word_cost (byte_home f) + 5
 row f instruction.GetByte = word_cost (byte_home f) + 7
 row f instruction.Exit = 2
-row f instruction.Return = saved_cost f f.resident + (word_cost (return_home f) + (frame_cost (frame_bytes f) + 1))
+row f instruction.Return = saved_cost f f.resident + (return_cost f + (frame_cost (frame_bytes f) + 1))
 
 -- with the entry of a function that is called
 abbrev pub step_cost : Program → Function → Instruction → ℕ
