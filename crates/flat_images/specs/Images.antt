@@ -9,12 +9,13 @@ use Rattle.sim.specs.Runs.{World, Running, Ended, rvrun, start_world}
 use Rattle.frames.specs.Code.{Program}
 use Rattle.frames.specs.Sound.{IsSoundProgram}
 use Rattle.frames.specs.declared.code.Instruction.TheVariants as instruction
-use Rattle.frames.specs.Costs.{cost, next_of, spent}
-use Rattle.frames.specs.Run.{State, Progress, running, ended, stuck, entered, bytes_of, run, start}
+use Rattle.frames.specs.Costs.{next_of}
+use Rattle.frames.specs.Run.{State, Progress, running, ended, stuck, entered, function_at, bytes_of, run, start}
 use Rattle.select.specs.Program.{program_items}
+use Rattle.simulation.specs.Costs.{step_cost, most_spent, most_start}
 use Rattle.simulation.specs.Laws.{AreBytes}
 use Rattle.simulation.specs.Matches.{first_of}
-use Rattle.simulation.specs.Runs.{IsWithin, StandsWith, BackFrom, slack, start_cost}
+use Rattle.simulation.specs.Runs.{IsWithin, StandsWith, BackFrom, slack}
 
 -- its text assembles a sound program's items, and its data are the program's statics
 pub record IsImageOf (p : Program) (parts : Parts) : Type 0 where
@@ -32,19 +33,19 @@ FitStack p (ended status input trace) = Unit {0}
 FitStack p stuck = Unit {0}
 
 -- So many steps of the program, where all frames on the way fit the stack and the input is bytes, are so many instructions of the machine from its
--- image: at most the table's sum, and at least one for each so many steps.
+-- image: at most the sum of the rows of `simulation`'s table, and at least one for each so many steps.
 abbrev pub ImageGoesOn : Type 0
 ImageGoesOn =
     (p : Program) (parts : Parts) (input : List ℕ) → (q : IsImageOf p parts) → AreBytes input
     → (n : ℕ) (s : State) → run p n (start p input) ≡ running s → ((k : ℕ) → k ≤ n → FitStack p (run p k (start p input)))
-    → (k : ℕ) × (w : World) × (n < slack p * k) × (k ≤ start_cost + spent p n (start p input)) × (rvrun k (start_world (program_image parts) input) ≡ Running w) × StandsWith p q.assembled.env s w
+    → (k : ℕ) × (w : World) × (n < slack p * k) × (k ≤ most_start p + most_spent p n (start p input)) × (rvrun k (start_world (program_image parts) input) ≡ Running w) × StandsWith p q.assembled.env s w
 
 -- and where the program ends, at most two more
 abbrev pub ImageEnds : Type 0
 ImageEnds =
     (p : Program) (parts : Parts) (input : List ℕ) → IsImageOf p parts → AreBytes input
     → (n status : ℕ) (left : List ℕ) (trace : List Event) → run p n (start p input) ≡ ended status left trace → ((k : ℕ) → k ≤ n → FitStack p (run p k (start p input)))
-    → (k : ℕ) × (w : World) × (k ≤ start_cost + spent p n (start p input) + 2) × (rvrun k (start_world (program_image parts) input) ≡ Ended status w) × (w.trace ≡ trace) × (w.input ≡ left)
+    → (k : ℕ) × (w : World) × (k ≤ most_start p + most_spent p n (start p input) + 2) × (rvrun k (start_world (program_image parts) input) ≡ Ended status w) × (w.trace ≡ trace) × (w.input ≡ left)
 
 -- At each call that the program comes to, and behind the return that ends it (m steps within the call, and then that Return): the machine stands where the
 -- program does, with the arguments of the call, and then behind the call, with the same stack pointer and s0 to s11, and the result.
@@ -54,6 +55,6 @@ ImageCallsKeep =
     → (n m f : ℕ) (s t : State) → run p n (start p input) ≡ running s → next_of p s ≡ Some (instruction.Call f) → run p m (entered s f) ≡ running t
     → next_of p t ≡ Some instruction.Return → bytes_of p t.waiting ≡ bytes_of p (s.frame ∷ s.waiting)
     → ((k : ℕ) → k ≤ n → FitStack p (run p k (start p input))) → ((k : ℕ) → k ≤ m → FitStack p (run p k (entered s f))) → ((k : ℕ) → k ≤ m → IsWithin p s (run p k (entered s f)))
-    → (k j : ℕ) × (v w : World) × (n < slack p * k) × (k ≤ start_cost + spent p n (start p input)) × (0 < j) × (j ≤ cost (instruction.Call f) + spent p m (entered s f) + cost instruction.Return)
+    → (k j : ℕ) × (v w : World) × (n < slack p * k) × (k ≤ most_start p + most_spent p n (start p input)) × (0 < j) × (j ≤ step_cost p (function_at p s.frame.function) (instruction.Call f) + most_spent p m (entered s f) + step_cost p (function_at p t.frame.function) instruction.Return)
     × (rvrun k (start_world (program_image parts) input) ≡ Running v) × StandsWith p q.assembled.env s v
     × (rvrun (k + j) (start_world (program_image parts) input) ≡ Running w) × BackFrom t (q.assembled.env (first_of p s.frame.function + (s.frame.at + 1))) v w

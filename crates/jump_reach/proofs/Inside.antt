@@ -20,7 +20,7 @@ use Rattle.select.specs.declared.places.Source.TheVariants as source
 use Rattle.select.specs.declared.places.Home.{Home}
 use Rattle.select.specs.declared.places.Home.TheVariants as home
 use Rattle.select.specs.Selected as selected
-use Rattle.select.specs.Selected.{source_of, home_of, fetch, into, keep, made_in, register_of, far, load_word, store_word, address_of, move, ending, operate, form_or, combine, narrow, reach, reference, scale, element, put_byte, get_byte, change_sp, saves, restores, entry, leave, return_home, byte_home, items_of, set_to, shortened}
+use Rattle.select.specs.Selected.{source_of, home_of, fetch, into, keep, made_in, register_of, far, load_word, store_word, address_of, move, ending, operate, form_or, combine, narrow, reach, reference, scale, element, put_byte, get_byte, change_sp, saves, restores, calls, keep_return, take_return, entry, leave, return_home, byte_home, items_of, set_to, shortened}
 use Rattle.select.specs.Program.{code_items}
 use Rattle.select.proofs.Shortened.{shortened_fits}
 
@@ -168,12 +168,12 @@ module _ (a b : ℕ) where
   pub entry_in : (f : Function) → Inside a b (entry f)
   entry_in f =
       both (change_sp (2 ^ 32 - frame_bytes f)) _ (change_in (2 ^ 32 - frame_bytes f))
-      (both (store_word 1 (return_home f)) _ (store_word_in 1 (return_home f)) (saves_in f f.resident))
+      (both (keep_return f) _ (either (calls f.code) _ _ (store_word_in 1 (return_home f)) tt) (saves_in f f.resident))
 
   leave_in : (f : Function) → Inside a b (leave f)
   leave_in f =
       both (restores f f.resident) _ (restores_in f f.resident)
-      (both (load_word 1 (return_home f)) _ (load_word_in 1 (return_home f))
+      (both (take_return f) _ (either (calls f.code) _ _ (load_word_in 1 (return_home f)) tt)
       (both (change_sp (frame_bytes f)) _ (change_in (frame_bytes f)) tt))
 
   put_in : (f : Function) → Inside a b (put_byte f)

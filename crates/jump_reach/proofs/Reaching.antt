@@ -1,6 +1,6 @@
 -- Jumps reach in functions whose code is short, and in lists made of parts in which they do.
-use Rattle.std.proofs.Common.{◌≡◌, ⊎_elim, ℕ, suc, ◌+◌, ◌-◌, ◌<◌, ◌≤◌, ◌^◌, true, List, [], ◌∷◌, ◌++◌, length, Some, refl, sym, ap, ◌∙◌, subst, arith}
-use Rattle.std.specs.Prelude.{slice_get}
+use Rattle.std.proofs.Common.{◌≡◌, ⊎_elim, ℕ, suc, ◌+◌, ◌-◌, ◌<◌, ◌≤◌, ◌%◌, ◌^◌, Bool, true, false, List, [], ◌∷◌, ◌++◌, length, Some, refl, sym, ap, ◌∙◌, subst, arith}
+use Rattle.std.specs.Prelude.{if◌then◌else◌, nat_lt, slice_get}
 use Rattle.std.proofs.lemmas.Bool.{cases_lt}
 use Rattle.std.proofs.lemmas.List.{length-append}
 use Rattle.std.proofs.lemmas.List.Sums.{sum_by-append}
@@ -13,7 +13,7 @@ use Rattle.asm.proofs.Grow.{place_rises}
 use Rattle.frames.specs.declared.code.Instruction.{Instruction}
 use Rattle.frames.specs.Code.{Function, Program, frame_bytes}
 use Rattle.frames.specs.Sound.{FunctionFits, IsSoundProgram}
-use Rattle.select.specs.Selected.{entry, items_of, shortened, change_sp, store_word, saves, far, return_home}
+use Rattle.select.specs.Selected.{entry, items_of, shortened, change_sp, keep_return, saves}
 use Rattle.select.specs.Program.{code_items, function_items, functions_items, start_items, program_items, labels_of}
 use Rattle.select.proofs.Lengths.{code_is_short}
 use Rattle.select.proofs.Sound.{is_sound}
@@ -162,15 +162,17 @@ code_marks f first k (x ∷ xs) l ge lt =
     (length items + m.0, omega (arith, m.1, sum), item_behind items rest m.0 ∙ m.2))
     (cases_lt l (first + k + 1))
 
+at_least : (t : Bool) (xs ys : List Item) (a : ℕ) → a ≤ longest xs → a ≤ longest ys → a ≤ longest (if t then xs else ys)
+at_least true xs ys a p q = p
+at_least false xs ys a p q = q
+
 -- what comes before a function's instructions has 4 bytes at least
 entry_takes : (f : Function) → 4 ≤ longest (entry f)
 entry_takes f =
-    let store = store_word 1 (return_home f) in
-    let change = change_sp (2 ^ 32 - frame_bytes f) in
-    let last : longest store ≡ longest (far 7 (return_home f)) + 4 = sum_by-append (size true) (far 7 (return_home f)) _ in
-    let inner : longest (store ++ saves f f.resident) ≡ longest store + longest (saves f f.resident) = sum_by-append (size true) store (saves f f.resident) in
-    let outer : longest (entry f) ≡ longest change + longest (store ++ saves f f.resident) = sum_by-append (size true) change (store ++ saves f f.resident) in
-    omega (arith, last, inner, outer)
+    let by = 2 ^ 32 - frame_bytes f in
+    let change : 4 ≤ longest (change_sp by) = at_least (nat_lt ((by + 0x800) % 2 ^ 32) 0x1000) _ _ 4 (omega arith) (omega arith) in
+    let outer : longest (entry f) ≡ longest (change_sp by) + longest (keep_return f ++ saves f f.resident) = sum_by-append (size true) (change_sp by) (keep_return f ++ saves f f.resident) in
+    omega (arith, change, outer)
 
 code_fits : (f : Function) (k first : ℕ) → rows_of f ≤ 2 ^ 20 → longest (code_items f first 0 f.code) ≤ 1048572
 code_fits f k first short =

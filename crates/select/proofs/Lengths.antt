@@ -22,7 +22,7 @@ use Rattle.select.specs.declared.places.Source.TheVariants as source
 use Rattle.select.specs.declared.places.Home.{Home}
 use Rattle.select.specs.declared.places.Home.TheVariants as home
 use Rattle.select.specs.Selected as selected
-use Rattle.select.specs.Selected.{source_of, home_of, fetch, into, keep, made_in, register_of, far, load_word, store_word, address_of, move, ending, operate, form_or, combine, narrow, reach, reference, scale, put_byte, get_byte, change_sp, saves, restores, entry, leave, return_home, byte_home, items_of, set_to, shortened}
+use Rattle.select.specs.Selected.{source_of, home_of, fetch, into, keep, made_in, register_of, far, load_word, store_word, address_of, move, ending, operate, form_or, combine, narrow, reach, reference, scale, put_byte, get_byte, change_sp, saves, restores, calls, keep_return, take_return, entry, leave, return_home, byte_home, items_of, set_to, shortened}
 use Rattle.select.specs.Program.{code_items, function_items}
 use Rattle.select.proofs.Shortened.{shortened_bytes}
 use Rattle.select.specs.Bytes.{word_bytes, fetch_bytes, keep_bytes, into_bytes, move_bytes, reach_bytes, reference_bytes, saved_bytes, entry_bytes, instruction_bytes, CodeIsShort}
@@ -131,15 +131,21 @@ restores_short : (f : Function) (n : ℕ) → longest (restores f n) ≤ saved_b
 restores_short f zero = omega arith
 restores_short f (suc n) = both (restores f n) _ _ _ (restores_short f n) (load_word_short (selected.kept n) (cell_home f n))
 
+keep_return_short : (f : Function) → longest (keep_return f) ≤ word_bytes (return_home f)
+keep_return_short f = either (calls f.code) (store_word 1 (return_home f)) [] _ (store_word_short 1 (return_home f)) (omega arith)
+
+take_return_short : (f : Function) → longest (take_return f) ≤ word_bytes (return_home f)
+take_return_short f = either (calls f.code) (load_word 1 (return_home f)) [] _ (load_word_short 1 (return_home f)) (omega arith)
+
 entry_short : (f : Function) → longest (entry f) ≤ entry_bytes f
 entry_short f =
     both (change_sp (2 ^ 32 - frame_bytes f)) _ 12 _ (change_short (2 ^ 32 - frame_bytes f))
-    (both (store_word 1 (return_home f)) _ _ _ (store_word_short 1 (return_home f)) (saves_short f f.resident))
+    (both (keep_return f) _ _ _ (keep_return_short f) (saves_short f f.resident))
 
 leave_short : (f : Function) → longest (leave f) ≤ saved_bytes f f.resident + (word_bytes (return_home f) + 16)
 leave_short f =
     both (restores f f.resident) _ _ _ (restores_short f f.resident)
-    (both (load_word 1 (return_home f)) _ _ 16 (load_word_short 1 (return_home f))
+    (both (take_return f) _ _ 16 (take_return_short f)
     (both (change_sp (frame_bytes f)) _ 12 4 (change_short (frame_bytes f)) (omega arith)))
 
 items_short : (f : Function) (first : ℕ) (x : Instruction) → longest (items_of f first x) ≤ instruction_bytes f x

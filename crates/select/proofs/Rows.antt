@@ -7,6 +7,7 @@ use Rattle.rv32.specs.declared.instr.Instr.TheVariants as instr
 use Rattle.rv32.specs.declared.instr.ImmediateOp.TheVariants as immediate_op
 use Rattle.rv32.specs.declared.instr.RegisterOp.TheVariants as op
 use Rattle.rv32.specs.declared.instr.ShiftOp.TheVariants as shift_op
+use Rattle.rv32.specs.declared.instr.StoreKind.TheVariants as store_kind
 use Rattle.rv32.specs.declared.instr.Test.TheVariants as test
 use Rattle.events.specs.Events.{Event, Got, GotEnd, Put}
 use Rattle.asm.specs.declared.item.Item.{Item}
@@ -23,7 +24,7 @@ use Rattle.frames.specs.declared.code.Target.{Target}
 use Rattle.frames.specs.declared.code.Instruction.{Instruction}
 use Rattle.frames.specs.Code.{Function, Program}
 use Rattle.running.specs.Light.{Fixed, Light, Go, Done, light_run, sum32}
-use Rattle.select.specs.Selected.{items_of}
+use Rattle.select.specs.Selected.{entry, items_of}
 use Rattle.select.specs.Program.{code_items, program_items}
 
 -- ---- items as words
@@ -222,3 +223,13 @@ nothing_left = refl
 
 jump_back : code_items (function 0 0 0 0 []) 7 2 (jump 2 ∷ []) ≡ item.Mark 9 ∷ item.Jump 9 ∷ item.Mark 10 ∷ []
 jump_back = refl
+
+-- a function that calls none leaves the address to return to in ra; one that calls has it in its frame
+leaf : entry (function 0 0 0 0 (return ∷ [])) ≡ item.Plain (instr.Immediate immediate_op.Add 2 2 (2 ^ 32 - 16)) ∷ []
+leaf = refl
+
+leaf_returns : items_of (function 0 0 0 0 (return ∷ [])) 0 return ≡ item.Plain (instr.Immediate immediate_op.Add 2 2 16) ∷ item.Plain (instr.Jalr 0 1 0) ∷ []
+leaf_returns = refl
+
+caller : entry (function 0 0 0 0 (call 0 ∷ return ∷ [])) ≡ item.Plain (instr.Immediate immediate_op.Add 2 2 (2 ^ 32 - 16)) ∷ item.Plain (instr.Store store_kind.Word 1 2 12) ∷ []
+caller = refl

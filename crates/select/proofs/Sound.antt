@@ -25,7 +25,7 @@ use Rattle.select.specs.declared.places.Source.TheVariants as source
 use Rattle.select.specs.declared.places.Home.{Home}
 use Rattle.select.specs.declared.places.Home.TheVariants as home
 use Rattle.select.specs.Selected as selected
-use Rattle.select.specs.Selected.{source_of, home_of, fetch, into, keep, made_in, register_of, far, load_word, store_word, address_of, move, ending, operate, form_or, combine, compute, narrow, convert, reach, load, store, reference, scale, element, branch, put_byte, get_byte, exit, change_sp, saves, restores, entry, leave, return_home, byte_home, items_of, set_to, shortened}
+use Rattle.select.specs.Selected.{source_of, home_of, fetch, into, keep, made_in, register_of, far, load_word, store_word, address_of, move, ending, operate, form_or, combine, compute, narrow, convert, reach, load, store, reference, scale, element, branch, put_byte, get_byte, exit, change_sp, saves, restores, calls, keep_return, take_return, entry, leave, return_home, byte_home, items_of, set_to, shortened}
 use Rattle.select.specs.Program.{code_items, function_items, functions_items, start_items, program_items, labels_of}
 use Rattle.select.proofs.Shortened.{shortened_fits}
 
@@ -168,12 +168,12 @@ module _ (n : ℕ) where
     entry_un : Unmarked n (entry f)
     entry_un =
         both (change_sp (2 ^ 32 - frame_bytes f)) _ (change_un (2 ^ 32 - frame_bytes f) (omega (arith, small)))
-        (both (store_word 1 (return_home f)) _ (store_word_un 1 (return_home f)) (saves_un f f.resident))
+        (both (keep_return f) _ (either (calls f.code) _ _ (store_word_un 1 (return_home f)) tt) (saves_un f f.resident))
 
     leave_un : Unmarked n (leave f)
     leave_un =
         both (restores f f.resident) _ (restores_un f f.resident)
-        (both (load_word 1 (return_home f)) _ (load_word_un 1 (return_home f))
+        (both (take_return f) _ (either (calls f.code) _ _ (load_word_un 1 (return_home f)) tt)
         (both (change_sp (frame_bytes f)) _ (change_un (frame_bytes f) (omega (arith, small))) tt))
 
     put_un : Unmarked n (put_byte f)

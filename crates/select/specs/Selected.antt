@@ -1,5 +1,6 @@
 -- The items of each flat instruction.
-use Rattle.std.specs.Prelude.{ℕ, zero, suc, ◌+◌, ◌*◌, ◌-◌, ◌/◌, ◌%◌, ◌^◌, ◌==◌, nat_lt, nat_le, if◌then◌else◌, List, [], ◌∷◌, ◌++◌, Option, Some, None, Bool, false}
+use Rattle.std.specs.Prelude.{ℕ, zero, suc, ◌+◌, ◌*◌, ◌-◌, ◌/◌, ◌%◌, ◌^◌, ◌==◌, nat_lt, nat_le, if◌then◌else◌, List, [], ◌∷◌, ◌++◌, Option, Some, None, Bool, true, false}
+use Rattle.std.specs.List.{list_any}
 use Rattle.rv32.specs.declared.instr.Instr.{Instr}
 use Rattle.rv32.specs.declared.instr.Instr.TheVariants as instr
 use Rattle.rv32.specs.declared.instr.ImmediateOp.{ImmediateOp}
@@ -288,7 +289,7 @@ abbrev pub change_sp : ℕ → List Item
 change_sp by =
     if nat_lt ((by + 0x800) % 2 ^ 32) 0x1000 then add_to 2 2 by ∷ [] else item.Constant 7 by ∷ operate_on register_op.Add 2 2 7 ∷ []
 
--- the last word of a frame
+-- the last word of a frame, for the address to return to
 abbrev pub return_home : Function → ℕ
 return_home f = frame_bytes f - 4
 
@@ -301,11 +302,39 @@ abbrev pub restores : Function → ℕ → List Item
 restores f zero = []
 restores f (suc n) = restores f n ++ load_word (kept n) (cell_home f n)
 
+abbrev pub is_call : Instruction → Bool
+is_call instruction.Nothing = false
+is_call (instruction.Move d x) = false
+is_call (instruction.Compute o d x y) = false
+is_call (instruction.Convert c d x) = false
+is_call (instruction.Load w d l) = false
+is_call (instruction.Store w x l) = false
+is_call (instruction.Address d l) = false
+is_call (instruction.Element d x y size) = false
+is_call (instruction.Jump to) = false
+is_call (instruction.Branch t x y to) = false
+is_call (instruction.Call g) = true
+is_call instruction.PutByte = false
+is_call instruction.GetByte = false
+is_call instruction.Exit = false
+is_call instruction.Return = false
+
+abbrev pub calls : List Instruction → Bool
+calls code = list_any is_call code
+
+-- ra is not preserved across calls (RISC-V ELF psABI, "Integer Register Convention"), and nothing else writes it: a function that calls none
+-- leaves it as it is
+abbrev pub keep_return : Function → List Item
+keep_return f = if calls f.code then store_word 1 (return_home f) else []
+
+abbrev pub take_return : Function → List Item
+take_return f = if calls f.code then load_word 1 (return_home f) else []
+
 abbrev pub entry : Function → List Item
-entry f = change_sp (2 ^ 32 - frame_bytes f) ++ (store_word 1 (return_home f) ++ saves f f.resident)
+entry f = change_sp (2 ^ 32 - frame_bytes f) ++ (keep_return f ++ saves f f.resident)
 
 abbrev pub leave : Function → List Item
-leave f = restores f f.resident ++ (load_word 1 (return_home f) ++ (change_sp (frame_bytes f) ++ (item.Plain (instr.Jalr 0 1 0) ∷ [])))
+leave f = restores f f.resident ++ (take_return f ++ (change_sp (frame_bytes f) ++ (item.Plain (instr.Jalr 0 1 0) ∷ [])))
 
 -- ---- an instruction
 

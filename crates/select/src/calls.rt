@@ -11,7 +11,7 @@ use crate::words::{
     add_to, address_of, load_word, operate_on, put, stack_pointer, store_word, zero,
 };
 use asm::Item;
-use frames::Function;
+use frames::{Function, Instruction};
 use rv32::{Five, Instr, LoadKind, RegisterOp, Short, StoreKind};
 use std::alloc::AllocError;
 
@@ -87,30 +87,84 @@ fn put_restores(items: &mut Vec<Item>, function: &Function) -> Result<(), AllocE
     Ok(())
 }
 
+fn is_call(instruction: &Instruction) -> bool
+    ensures { result ≡ selected.is_call instruction.now }
+{
+    match instruction {
+        Instruction::Nothing => false,
+        Instruction::Move { .. } => false,
+        Instruction::Compute { .. } => false,
+        Instruction::Convert { .. } => false,
+        Instruction::Load { .. } => false,
+        Instruction::Store { .. } => false,
+        Instruction::Address { .. } => false,
+        Instruction::Element { .. } => false,
+        Instruction::Jump(_) => false,
+        Instruction::Branch { .. } => false,
+        Instruction::Call(_) => true,
+        Instruction::PutByte => false,
+        Instruction::GetByte => false,
+        Instruction::Exit => false,
+        Instruction::Return => false,
+    }
+}
+
+/// Whether a call is among the instructions.
+pub fn has_call(code: &[Instruction]) -> bool
+    ensures { result ≡ selected.calls code.now }
+{
+    code.iter().any(is_call)
+}
+
+/// A function that calls has the address to return to in its frame.
+fn keep_return(items: &mut Vec<Item>, function: &Function, calls: bool) -> Result<(), AllocError>
+    requires small { flat.frame_bytes (function_of function.now) ≤ most_bytes }
+    requires known { calls ≡ selected.calls function.now.code.items }
+    ensures { OnOk result (items.new.items ≡ items.old.items ++ selected.keep_return (function_of function.now)) }
+{
+    if calls {
+        store_word(items, return_address(), function.frame_bytes() - 4)
+    } else {
+        Ok(())
+    }
+}
+
+fn take_return(items: &mut Vec<Item>, function: &Function, calls: bool) -> Result<(), AllocError>
+    requires small { flat.frame_bytes (function_of function.now) ≤ most_bytes }
+    requires known { calls ≡ selected.calls function.now.code.items }
+    ensures { OnOk result (items.new.items ≡ items.old.items ++ selected.take_return (function_of function.now)) }
+{
+    if calls {
+        load_word(items, return_address(), function.frame_bytes() - 4)
+    } else {
+        Ok(())
+    }
+}
+
 /// What a function begins with: its frame, the address to return to, and the caller's registers.
-pub fn put_entry(items: &mut Vec<Item>, function: &Function) -> Result<(), AllocError>
+pub fn put_entry(items: &mut Vec<Item>, function: &Function, calls: bool) -> Result<(), AllocError>
     requires small { flat.frame_bytes (function_of function.now) ≤ most_bytes }
     requires few { function.now.resident ≤ 12 }
     requires all { function.now.resident ≤ function.now.cells }
+    requires known { calls ≡ selected.calls function.now.code.items }
     ensures { OnOk result (items.new.items ≡ items.old.items ++ selected.entry (function_of function.now)) }
 {
-    let bytes = function.frame_bytes();
-    change_sp(items, 0u32.wrapping_sub(bytes))?;
-    store_word(items, return_address(), bytes - 4)?;
+    change_sp(items, 0u32.wrapping_sub(function.frame_bytes()))?;
+    keep_return(items, function, calls)?;
     put_saves(items, function)
 }
 
 /// A return from it.
-pub fn put_leave(items: &mut Vec<Item>, function: &Function) -> Result<(), AllocError>
+pub fn put_leave(items: &mut Vec<Item>, function: &Function, calls: bool) -> Result<(), AllocError>
     requires small { flat.frame_bytes (function_of function.now) ≤ most_bytes }
     requires few { function.now.resident ≤ 12 }
     requires all { function.now.resident ≤ function.now.cells }
+    requires known { calls ≡ selected.calls function.now.code.items }
     ensures { OnOk result (items.new.items ≡ items.old.items ++ selected.leave (function_of function.now)) }
 {
-    let bytes = function.frame_bytes();
     put_restores(items, function)?;
-    load_word(items, return_address(), bytes - 4)?;
-    change_sp(items, bytes)?;
+    take_return(items, function, calls)?;
+    change_sp(items, function.frame_bytes())?;
     put(
         items,
         &[Item::Plain(Instr::Jalr {

@@ -8,7 +8,7 @@ ghost use Rattle.frames.specs.Sound.{OperandFits, InstructionFits, FunctionFits,
 ghost use Rattle.select.specs.Selected as selected;
 ghost use Rattle.select.specs.Program.{code_items, function_items, functions_items, start_items, program_items, labels_of};
 
-use crate::calls::{put_entry, put_exit, put_get_byte, put_leave, put_put_byte};
+use crate::calls::{has_call, put_entry, put_exit, put_get_byte, put_leave, put_put_byte};
 use crate::elements::{put_element, put_load, put_reference, put_store};
 use crate::operations::{put_compute, put_convert, put_move};
 use crate::places::{home_of, source_of};
@@ -55,12 +55,14 @@ fn put_branch(
 fn put_instruction(
     items: &mut Vec<Item>,
     function: &Function,
+    calls: bool,
     first: usize,
     instruction: Instruction,
 ) -> Result<(), AllocError>
     requires small { flat.frame_bytes (function_of function.now) ≤ most_bytes }
     requires few { function.now.resident ≤ 12 }
     requires all { function.now.resident ≤ function.now.cells }
+    requires known { calls ≡ selected.calls function.now.code.items }
     requires labels { first + length function.now.code.items < 2 ^ 32 }
     requires fits { (n : ℕ) × InstructionFits n (function_of function.now) instruction }
     ensures { OnOk result (items.new.items ≡ items.old.items ++ selected.items_of (function_of function.now) first instruction) }
@@ -136,20 +138,32 @@ fn put_instruction(
         Instruction::PutByte => put_put_byte(items, function),
         Instruction::GetByte => put_get_byte(items, function),
         Instruction::Exit => put_exit(items),
-        Instruction::Return => put_leave(items, function),
+        Instruction::Return => put_leave(items, function, calls),
     }
 }
 
 /// The items of a function's instructions, each behind its mark, and the mark of its end.
-fn put_code(items: &mut Vec<Item>, function: &Function, first: usize) -> Result<(), AllocError>
+fn put_code(
+    items: &mut Vec<Item>,
+    function: &Function,
+    calls: bool,
+    first: usize,
+) -> Result<(), AllocError>
     requires fits { (n : ℕ) × FunctionFits n (function_of function.now) }
+    requires known { calls ≡ selected.calls function.now.code.items }
     requires labels { first + length function.now.code.items < 2 ^ 32 }
     ensures { OnOk result (items.new.items ≡ items.old.items ++ code_items (function_of function.now) first 0 function.now.code.items) }
 {
     let mut number = 0;
     for instruction in &function.code {
         put(items, &[Item::Mark(Label::new(first + number))])?;
-        put_instruction(items, function, first, shortened(number, *instruction))?;
+        put_instruction(
+            items,
+            function,
+            calls,
+            first,
+            shortened(number, *instruction),
+        )?;
         number += 1;
     }
     put(items, &[Item::Mark(Label::new(first + number))])
@@ -165,9 +179,10 @@ fn put_function(
     requires labels { first + length function.now.code.items < 2 ^ 32 }
     ensures { OnOk result (items.new.items ≡ items.old.items ++ function_items number first (function_of function.now)) }
 {
+    let calls = has_call(&function.code);
     put(items, &[Item::Mark(Label::new(number))])?;
-    put_entry(items, function)?;
-    put_code(items, function, first)
+    put_entry(items, function, calls)?;
+    put_code(items, function, calls, first)
 }
 
 /// Sets the stack pointer, calls main, and ends the program with its result.

@@ -26,6 +26,7 @@ use Rattle.select.specs.declared.places.Source.{Source}
 use Rattle.select.specs.declared.places.Home.{Home}
 use Rattle.select.specs.Selected.{source_of, home_of, fetch, register_of, made_in, keep, reach, reach_base, reach_offset, load_of, store_of, load, store}
 use Rattle.simulation.specs.Matches.{Ground, Matched, Matches, Ready, address, shown}
+use Rattle.simulation.specs.Costs.{fetch_cost, keep_cost, reach_cost, row}
 use Rattle.simulation.specs.Laws.{Anything, Follows}
 use Rattle.simulation.proofs.Registers.{Off, Only, off_none, off_only, off_then, off_last, off_sp, only_one, only_reg}
 use Rattle.simulation.proofs.Places.{SourceHolds, source_stays, onward, far_runs, fetches}
@@ -92,7 +93,7 @@ module _ (G : Ground) (s : State) (r b : ℕ → ℕ) (ready : Ready G) (m : Mat
   -- the address that a location names is in a register; r1 are the registers so far
   reaches : (Q : Light → Type 0) (n : ℕ) (l : Location) (v : Reference) → LocationFits (fn G s r b ready m) l → place G.program s l ≡ Some v → (r1 : ℕ → ℕ) → Off 5 r r1 → (here mid : ℕ) → Stands G.machine.text G.env G.data_at (reach (fn G s r b ready m) l) here mid
       → ((r2 : ℕ → ℕ) → Only 6 r1 r2 → sum32 (reg r2 (reach_base (fn G s r b ready m) l)) (reach_offset (fn G s r b ready m) l) ≡ shown G (reference v.list v.offset) → Comes G.machine Anything 1 n (Go r2 mid b s.input s.trace) Q)
-      → Comes G.machine Anything 1 (3 + n) (Go r1 here b s.input s.trace) Q
+      → Comes G.machine Anything 1 (reach_cost (fn G s r b ready m) l + n) (Go r1 here b s.input s.trace) Q
   reaches Q n (location.Statics o) v fit e r1 off here mid st next_to =
       let held : Reference = record { list = 0; offset = o } in
       let same : held ≡ v = cc in
@@ -102,7 +103,7 @@ module _ (G : Ground) (s : State) (r b : ℕ → ℕ) (ready : Ready G) (m : Mat
       let is : w ≡ shown G (reference v.list v.offset) = sym (shown_in G 0 o small) ∙ ap (λ (y : Reference). shown G (reference y.list y.offset)) same in
       let r2 = with_reg r1 6 w in
       let sum : sum32 (reg r2 6) 0 ≡ w = omega (arith, small) in
-      comes_by G.machine Anything (suc (suc n)) (3 + n) (Go r1 here b s.input s.trace) Q (omega arith)
+      comes_by G.machine Anything (suc (suc n)) (2 + n) (Go r1 here b s.input s.trace) Q (omega arith)
       (on_loads G.machine Anything Q n r1 here b s.input s.trace tt 6 w st.0 refl q tt
       (onward G.machine G.env G.data_at s.input s.trace Q {a0 = 1} n st.0 mid r2 b st.2 (next_to r2 (only_one 6 w r1) (sum ∙ is))))
   reaches Q n (location.Frame o) v fit e r1 off here mid st next_to =
@@ -114,9 +115,8 @@ module _ (G : Ground) (s : State) (r b : ℕ → ℕ) (ready : Ready G) (m : Mat
       let inside : p < frame_bytes f = omega (arith, fit, frame_room f) in
       let is : m.sp + p ≡ shown G (reference v.list v.offset) = sym (frame_shown G s r b ready m p inside) ∙ ap (λ (y : Reference). shown G (reference y.list y.offset)) same in
       let sp1 : r1 2 ≡ m.sp = off_sp 5 r r1 off (λ x. omega (arith, x)) ∙ m.sp_is in
-      comes_by G.machine Anything (suc (suc n)) (3 + n) (Go r1 here b s.input s.trace) Q (omega arith)
-      (far_runs G.machine G.env G.data_at s.input s.trace Q n 6 p m.sp here mid r1 b (omega arith) (λ x. omega (arith, x)) sp1 (omega (arith, win.top, inside)) st (λ r2 only sum.
-      next_to r2 only (sum ∙ is)))
+      far_runs G.machine G.env G.data_at s.input s.trace Q n 6 p m.sp here mid r1 b (omega arith) (λ x. omega (arith, x)) sp1 (omega (arith, win.top, inside)) st (λ r2 only sum.
+      next_to r2 only (sum ∙ is))
   reaches Q n (location.At x) v fit e r1 off here mid st next_to =
       let f = fn G s r b ready m in
       let w = shown G (reference v.list v.offset) in
@@ -128,7 +128,7 @@ module _ (G : Ground) (s : State) (r b : ℕ → ℕ) (ready : Ready G) (m : Mat
   -- ---- Load
 
   loads_at : (w : Width) (d : Target) (l : Location) (v : Reference) (x : Memory) (k : ℕ) → TargetFits (fn G s r b ready m) d → LocationFits (fn G s r b ready m) l → place G.program s l ≡ Some v → memory G.program s v.list ≡ Some x → Lying w v.offset x → element_in w x.bytes v.offset ≡ Some k → (hm : Home) → home_of (fn G s r b ready m) d ≡ hm
-      → Stands G.machine.text G.env G.data_at (load (fn G s r b ready m) w hm l) start end → Comes G.machine Anything 1 7 (Go r start b s.input s.trace) (Matches G (gives_word d s k))
+      → Stands G.machine.text G.env G.data_at (load (fn G s r b ready m) w hm l) start end → Comes G.machine Anything 1 (reach_cost (fn G s r b ready m) l + (1 + keep_cost hm)) (Go r start b s.input s.trace) (Matches G (gives_word d s k))
   loads_at w d l v x k fd fl ev em lies ek hm eh st =
       let f = fn G s r b ready m in
       let Q : Light → Type 0 = Matches G (gives_word d s k) in
@@ -143,21 +143,22 @@ module _ (G : Ground) (s : State) (r b : ℕ → ℕ) (ready : Ready G) (m : Mat
       let small : k < 2 ^ 32 = element_small w b a k m.bytes here in
       let one = stands_parts G.machine.text G.env G.data_at (reach f l) (item.Plain (instr.Load (load_of w) rd (reach_base f l) (reach_offset f l)) ∷ keep hm) start end st in
       let last = one.2 in
-      reaches Q 4 l v fl ev r (off_none 5 r) start one.0 one.1 (λ r2 only sum.
+      reaches Q (1 + keep_cost hm) l v fl ev r (off_none 5 r) start one.0 one.1 (λ r2 only sum.
       let r3 = with_reg r2 rd k in
       let off : Off rd r r3 = off_last rd r r2 r3 (off_then 5 6 r r r2 (omega arith) (omega arith) (off_none 5 r) only) (only_one rd k r2) in
       let held : reg r3 rd ≡ k = reg_is r3 rd pos ∙ with_same r2 rd k pos in
-      loads_element G.machine s.input s.trace Q 3 r2 b one.0 {a0 = 0} w rd (reach_base f l) (reach_offset f l) a k last.1.0 (sum ∙ is) (aligned_for w (start_of G v.list) v.offset live.aligned lies.even)
+      comes_by G.machine Anything (suc (keep_cost hm)) (1 + keep_cost hm) (Go r2 one.0 b s.input s.trace) Q (omega arith)
+      (loads_element G.machine s.input s.trace Q (keep_cost hm) r2 b one.0 {a0 = 0} w rd (reach_base f l) (reach_offset f l) a k last.1.0 (sum ∙ is) (aligned_for w (start_of G v.list) v.offset live.aligned lies.even)
       (λ j lo hi. live.reads j (omega (arith, lo, lies.low)) (omega (arith, hi, lies.high))) here
-      (onward G.machine G.env G.data_at s.input s.trace Q {a0 = 0} 3 (one.0 + 4) last.0 r3 b (sym last.1.1)
-      (finishes G s r b ready m unset none_left d (word k) fd small hm eh r3 off held last.0 last.2)))
+      (onward G.machine G.env G.data_at s.input s.trace Q {a0 = 0} (keep_cost hm) (one.0 + 4) last.0 r3 b (sym last.1.1)
+      (finishes G s r b ready m unset none_left d (word k) fd small hm eh r3 off held last.0 last.2))))
 
-  does_load : (w : Width) (d : Target) (l : Location) → slice_get (fn G s r b ready m).code s.frame.at ≡ Some (instruction.Load w d l) → Comes G.machine Anything 1 7 (Go r start b s.input s.trace) (Matches G (act G.program s (instruction.Load w d l)))
+  does_load : (w : Width) (d : Target) (l : Location) → slice_get (fn G s r b ready m).code s.frame.at ≡ Some (instruction.Load w d l) → Comes G.machine Anything 1 (row (fn G s r b ready m) (instruction.Load w d l)) (Go r start b s.input s.trace) (Matches G (act G.program s (instruction.Load w d l)))
   does_load w d l e =
-      let R : Progress → Type 0 = λ p. Comes G.machine Anything 1 7 (Go r start b s.input s.trace) (Matches G p) in
+      let R : Progress → Type 0 = λ p. Comes G.machine Anything 1 (row (fn G s r b ready m) (instruction.Load w d l)) (Go r start b s.input s.trace) (Matches G p) in
       let f = fn G s r b ready m in
       let fit = fits G s r b ready m (instruction.Load w d l) e in
-      let none : R stuck = no_more G s r b ready m 1 7 (Go r start b s.input s.trace) (omega arith) in
+      let none : R stuck = no_more G s r b ready m 1 (row (fn G s r b ready m) (instruction.Load w d l)) (Go r start b s.input s.trace) (omega arith) in
       used (place G.program s l) (loaded G.program s w d) R none (λ v ev.
       used (memory G.program s v.list) (λ x. if flat.fits w v.offset x then element_in w x.bytes v.offset >>= gives_word d s else stuck) R none (λ x ex.
       tested (flat.fits w v.offset x) (element_in w x.bytes v.offset >>= gives_word d s) R none (λ t.
@@ -167,7 +168,7 @@ module _ (G : Ground) (s : State) (r b : ℕ → ℕ) (ready : Ready G) (m : Mat
   -- ---- Store
 
   stores_at : (w : Width) (y : Source) (l : Location) (v : Reference) (x : Memory) (k : ℕ) → SourceHolds r b m.sp y k → k < 2 ^ 32 → LocationFits (fn G s r b ready m) l → place G.program s l ≡ Some v → memory G.program s v.list ≡ Some x → Lying w v.offset x
-      → Stands G.machine.text G.env G.data_at (store (fn G s r b ready m) w y l) start end → Comes G.machine Anything 1 7 (Go r start b s.input s.trace) (Matches G (running (with_memory G.program (next s) v.list (with_element w x.bytes v.offset k))))
+      → Stands G.machine.text G.env G.data_at (store (fn G s r b ready m) w y l) start end → Comes G.machine Anything 1 (fetch_cost y + (reach_cost (fn G s r b ready m) l + 1)) (Go r start b s.input s.trace) (Matches G (running (with_memory G.program (next s) v.list (with_element w x.bytes v.offset k))))
   stores_at w y l v x k hy small fl ev em lies st =
       let f = fn G s r b ready m in
       let bytes = with_element w x.bytes v.offset k in
@@ -185,7 +186,7 @@ module _ (G : Ground) (s : State) (r b : ℕ → ℕ) (ready : Ready G) (m : Mat
       let put = put_held x.bytes (start_of G v.list) x.first x.past b live.held w v.offset k small lies.low lies.high in
       let elsewhere : (j : ℕ) → (j < start_of G v.list + x.first) ⊎ (start_of G v.list + x.past ≤ j) → b2 j ≡ b j = λ j side.
       put_off w b a k j (⊎_elim (λ lt. inr (omega (arith, lt, lies.low))) (λ ge. inl (omega (arith, ge, lies.high))) side) in
-      fetches G.machine G.env G.data_at s.input s.trace Q (open_stack G s r b ready m) r b m.sp m.sp_is 4 5 (omega arith) (omega arith) y k start one.0 r (off_none 5 r) hy one.1 (λ r1 only1 held1.
+      fetches G.machine G.env G.data_at s.input s.trace Q (open_stack G s r b ready m) r b m.sp m.sp_is (reach_cost (fn G s r b ready m) l + 1) 5 (omega arith) (omega arith) y k start one.0 r (off_none 5 r) hy one.1 (λ r1 only1 held1.
       let off1 : Off 5 r r1 = off_only 5 r r1 only1 in
       reaches Q 1 l v fl ev r1 off1 one.0 two.0 two.1 (λ r2 only2 sum.
       let off2 : Off 5 r r2 = off_then 5 6 r r1 r2 (omega arith) (omega arith) off1 only2 in
@@ -196,12 +197,12 @@ module _ (G : Ground) (s : State) (r b : ℕ → ℕ) (ready : Ready G) (m : Mat
       (comes_now G.machine Anything 0 _ Q tt
       (matched_put G ready s r start b m end v.list x bytes r2 b2 refl off2 (put_bytes w b a k small m.bytes) em put elsewhere, memory_input G.program s v.list bytes, memory_trace G.program s v.list bytes)))))
 
-  does_store : (w : Width) (y : Operand) (l : Location) → slice_get (fn G s r b ready m).code s.frame.at ≡ Some (instruction.Store w y l) → Comes G.machine Anything 1 7 (Go r start b s.input s.trace) (Matches G (act G.program s (instruction.Store w y l)))
+  does_store : (w : Width) (y : Operand) (l : Location) → slice_get (fn G s r b ready m).code s.frame.at ≡ Some (instruction.Store w y l) → Comes G.machine Anything 1 (row (fn G s r b ready m) (instruction.Store w y l)) (Go r start b s.input s.trace) (Matches G (act G.program s (instruction.Store w y l)))
   does_store w y l e =
-      let R : Progress → Type 0 = λ p. Comes G.machine Anything 1 7 (Go r start b s.input s.trace) (Matches G p) in
+      let R : Progress → Type 0 = λ p. Comes G.machine Anything 1 (row (fn G s r b ready m) (instruction.Store w y l)) (Go r start b s.input s.trace) (Matches G p) in
       let f = fn G s r b ready m in
       let fit = fits G s r b ready m (instruction.Store w y l) e in
-      let none : R stuck = no_more G s r b ready m 1 7 (Go r start b s.input s.trace) (omega arith) in
+      let none : R stuck = no_more G s r b ready m 1 (row (fn G s r b ready m) (instruction.Store w y l)) (Go r start b s.input s.trace) (omega arith) in
       used (word_at s y) (λ k. place G.program s l >>= stored G.program s w k) R none (λ k ek.
       let hy = operand_holds G ready s r start b m y (word k) fit.0 (word_some (value s y) k ek) in
       used (place G.program s l) (stored G.program s w k) R none (λ v ev.

@@ -8,9 +8,9 @@ use Rattle.running.proofs.Bridge.{bool_cases}
 use Rattle.running.proofs.Words.{word_same}
 use Rattle.frames.specs.Code.{Function, cell_home, area_home, frame_bytes}
 use Rattle.frames.specs.Run.{reference, Values, Bytes, Frame, Memory, State, unset, next, function_at, bytes_of, name_of, arrays, memory, memory_among, changed_among, with_memory}
-use Rattle.select.specs.Selected.{return_home}
-use Rattle.simulation.specs.Matches.{Ground, Ready, Returns, FrameHolds, Holds, Waits, Matched, address, shown, file_below, file_of}
-use Rattle.simulation.proofs.Registers.{Off, off_kept_free, off_sp, off_temporary}
+use Rattle.select.specs.Selected.{calls, return_home}
+use Rattle.simulation.specs.Matches.{Ground, Ready, Returns, FrameHolds, Holds, Waits, Matched, address, shown, file_below, file_of, return_at}
+use Rattle.simulation.proofs.Registers.{Off, off_kept_free, off_sp, off_ra, off_temporary}
 use Rattle.simulation.proofs.Waiting.{if_same, waits_same, waits_sum}
 use Rattle.simulation.proofs.Fits.{Within, frame_room, function_fits}
 use Rattle.simulation.proofs.Frames.{sum_is, within, small_same, temporaries_same}
@@ -100,7 +100,7 @@ module _ (G : Ground) (ready : Ready G) where
       (λ t. rw t refl)
 
   returns_moved : (w w2 : Frame) (s : ℕ → ℕ) (base ra : ℕ) → w2.function ≡ w.function → w2.at ≡ w.at → Returns G w s base ra → Returns G w2 s base ra
-  returns_moved w w2 s base ra ef ea q = record { at_is = q.at_is ∙ (ap (λ x. address G x w.at) (sym ef) ∙ ap (address G w2.function) (sym ea)); aligned = q.aligned; small = q.small; seen = q.seen }
+  returns_moved w w2 s base ra ef ea q = record { at_is = q.at_is ∙ (ap (λ x. address G x w.at) (sym ef) ∙ ap (address G w2.function) (sym ea)); aligned = q.aligned; small = q.small; calls = ap (λ x. calls (function_at G.program x).code) ef ∙ q.calls; seen = q.seen }
 
   waits_put : (ws : List Frame) (b b2 s : ℕ → ℕ) (base ra l : ℕ) (m : Memory) (bytes : Bytes) → Waits G ws b s base ra → memory_among G.program ws (suc l) ≡ Some m → Holds bytes (G.sp - suc l) m.first m.past b2 → Elsewhere (G.sp - suc l) m b b2
       → Waits G (changed_among G.program ws (suc l) bytes) b2 s base ra
@@ -169,10 +169,11 @@ module _ (G : Ground) (ready : Ready G) (s : State) (r : ℕ → ℕ) (at : ℕ)
 
   -- everything but what is named stays, where no word before the frame's arrays changes
   stored : (a at2 : ℕ) (area : Bytes) (ws : List Frame) (statics : Bytes) (r2 b2 : ℕ → ℕ) → at2 ≡ address G s.frame.function a → Off 5 r r2 → ((k : ℕ) → b2 k < 2 ^ 8) → Holds area m.sp (area_home fn) (area_home fn + fn.area) b2 → Holds statics G.data_at 0 (length G.program.statics) b2
-      → ((o : ℕ) → o + 4 ≤ area_home fn → word_at b2 (m.sp + o) ≡ word_at b (m.sp + o)) → word_at b2 (m.sp + return_home fn) ≡ word_at b (m.sp + return_home fn) → Waits G ws b2 below (m.sp + frame_bytes fn) (word_at b (m.sp + return_home fn))
+      → ((o : ℕ) → o + 4 ≤ area_home fn → word_at b2 (m.sp + o) ≡ word_at b (m.sp + o)) → word_at b2 (m.sp + return_home fn) ≡ word_at b (m.sp + return_home fn) → Waits G ws b2 below (m.sp + frame_bytes fn) (return_at fn b m.sp (r 1))
       → Matched G (record s { frame = record s.frame { at = a; area = area }; arguments = unset; waiting = ws; statics = statics }) r2 at2 b2
   stored a at2 area ws statics r2 b2 e o bytes held globals word ret up =
       let f = off_kept_free r r2 o in
+      let back : return_at fn b2 m.sp (r2 1) ≡ return_at fn b m.sp (r 1) = if_same (calls fn.code) _ _ (r 1) (r2 1) ret (off_ra 5 r r2 o (λ x. omega (arith, x))) in
       let file : (j : ℕ) → file_below fn b2 m.sp (file_of r2) j ≡ below j = λ j. if_same (nat_lt j fn.resident) _ _ (file_of r j) (file_of r2 j) refl (f j) ∙ below_same G ready s.frame.function b b2 (file_of r) m.sp word j in
       record {
         sp = m.sp;
@@ -189,8 +190,8 @@ module _ (G : Ground) (ready : Ready G) (s : State) (r : ℕ → ℕ) (at : ℕ)
         temporaries = temporaries_same G ready s r at b m r2 b2 (λ k lk. off_temporary 5 r r2 o k (λ x. omega (arith, x))) (λ k lo hi. word (4 * (k - 8)) (omega (arith, lo, hi)));
         arguments = λ k v ek. cc;
         statics = globals;
-        waits = subst (Waits G ws b2 (file_below fn b2 m.sp (file_of r2)) (m.sp + frame_bytes fn)) (sym ret)
-            (waits_same G ws b2 b2 below (file_below fn b2 m.sp (file_of r2)) (m.sp + frame_bytes fn) (word_at b (m.sp + return_home fn)) (λ k le. refl) file up);
+        waits = subst (Waits G ws b2 (file_below fn b2 m.sp (file_of r2)) (m.sp + frame_bytes fn)) (sym back)
+            (waits_same G ws b2 b2 below (file_below fn b2 m.sp (file_of r2)) (m.sp + frame_bytes fn) (return_at fn b m.sp (r 1)) (λ k le. refl) file up);
       }
 
   -- a list that is named has changed

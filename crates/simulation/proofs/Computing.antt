@@ -1,5 +1,5 @@
 -- The machine follows flat code: operations, and references to elements.
-use Rattle.std.proofs.Common.{◌≡◌, ℕ, ◌+◌, ◌%◌, ◌^◌, ◌<◌, ◌≤◌, ◌++◌, Some, refl, sym, ap, ◌∙◌, arith}
+use Rattle.std.proofs.Common.{◌≡◌, ℕ, suc, ◌+◌, ◌%◌, ◌^◌, ◌<◌, ◌≤◌, ◌++◌, Some, refl, sym, ap, ◌∙◌, arith}
 use Rattle.std.specs.Prelude.{slice_get}
 use Rattle.rv32.specs.declared.instr.ImmediateOp.TheVariants as immediate_op
 use Rattle.asm.specs.Placed.{Stands}
@@ -13,12 +13,13 @@ use Rattle.frames.specs.Run as flat
 use Rattle.frames.specs.Sound.{TargetFits}
 use Rattle.running.specs.Light.{Light, Go, Done, with_reg, Comes}
 use Rattle.running.proofs.Words.{reg_is}
-use Rattle.running.proofs.Steps.{comes_now, on_immediate, on_exit}
+use Rattle.running.proofs.Steps.{comes_now, comes_by, on_immediate, on_exit}
 use Rattle.running.proofs.Placing.{stands_parts}
 use Rattle.select.specs.declared.places.Source.{Source}
 use Rattle.select.specs.declared.places.Home.{Home}
 use Rattle.select.specs.Selected.{source_of, home_of, fetch, register_of, made_in, keep, combine, compute}
 use Rattle.simulation.specs.Matches.{Ground, Matched, Matches, Ready, address}
+use Rattle.simulation.specs.Costs.{fetch_cost, second_cost, ending_cost, compute_cost, keep_cost, row}
 use Rattle.simulation.specs.Laws.{Anything, Follows}
 use Rattle.simulation.proofs.Registers.{off_none, off_only}
 use Rattle.simulation.proofs.Places.{SourceHolds, source_stays, fetches}
@@ -40,7 +41,7 @@ module _ (G : Ground) (s : State) (r b : ℕ → ℕ) (ready : Ready G) (m : Mat
   -- ---- Compute
 
   computes_at : (o : Operation) (d : Target) (x y : Source) (a c : ℕ) → TargetFits (fn G s r b ready m) d → a < 2 ^ 32 → c < 2 ^ 32 → SourceHolds r b m.sp x a → SourceHolds r b m.sp y c → (hm : Home) → home_of (fn G s r b ready m) d ≡ hm
-      → Stands G.machine.text G.env G.data_at (compute o hm x y) start end → Comes G.machine Anything 1 11 (Go r start b s.input s.trace) (Matches G (gives_word d s (flat.operate o a c)))
+      → Stands G.machine.text G.env G.data_at (compute o hm x y) start end → Comes G.machine Anything 1 (compute_cost o hm x y) (Go r start b s.input s.trace) (Matches G (gives_word d s (flat.operate o a c)))
   computes_at o d x y a c fit ha hc hx hy hm eh st =
       let w = flat.operate o a c in
       let Q : Light → Type 0 = Matches G (gives_word d s w) in
@@ -49,17 +50,19 @@ module _ (G : Ground) (s : State) (r b : ℕ → ℕ) (ready : Ready G) (m : Mat
       let pos : 0 < rd = omega (arith, above) in
       let one = stands_parts G.machine.text G.env G.data_at (fetch 5 x) (combine o rd (register_of 5 x) y ++ keep hm) start end st in
       let two = stands_parts G.machine.text G.env G.data_at (combine o rd (register_of 5 x) y) (keep hm) one.0 end one.2 in
-      fetches G.machine G.env G.data_at s.input s.trace Q (open_stack G s r b ready m) r b m.sp m.sp_is 8 5 (omega arith) (omega arith) x a start one.0 r (off_none 5 r) hx one.1 (λ r2 only2 held2.
-      combines G.machine G.env G.data_at s.input s.trace Q (open_stack G s r b ready m) r b m.sp m.sp_is rd pos 3 o (register_of 5 x) a y c one.0 two.0 r2 ha hc (off_only 5 r r2 only2) held2 (source_stays r b m.sp a x hx).0 hy two.1 (λ r3 off3 held.
-      finishes G s r b ready m unset none_left d (word w) fit (result_small o a c ha hc) hm eh r3 off3 (reg_is r3 rd pos ∙ held) two.0 two.2))
+      let count = second_cost o rd (register_of 5 x) y + suc (ending_cost o + keep_cost hm) in
+      comes_by G.machine Anything (fetch_cost x + count) (compute_cost o hm x y) (Go r start b s.input s.trace) Q (omega arith)
+      (fetches G.machine G.env G.data_at s.input s.trace Q (open_stack G s r b ready m) r b m.sp m.sp_is count 5 (omega arith) (omega arith) x a start one.0 r (off_none 5 r) hx one.1 (λ r2 only2 held2.
+      combines G.machine G.env G.data_at s.input s.trace Q (open_stack G s r b ready m) r b m.sp m.sp_is rd pos (keep_cost hm) o (register_of 5 x) a y c one.0 two.0 r2 ha hc (off_only 5 r r2 only2) held2 (source_stays r b m.sp a x hx).0 hy two.1 (λ r3 off3 held.
+      finishes G s r b ready m unset none_left d (word w) fit (result_small o a c ha hc) hm eh r3 off3 (reg_is r3 rd pos ∙ held) two.0 two.2)))
 
   does_compute : (o : Operation) (d : Target) (x y : Operand) → slice_get (fn G s r b ready m).code s.frame.at ≡ Some (instruction.Compute o d x y)
-      → Comes G.machine Anything 1 11 (Go r start b s.input s.trace) (Matches G (act G.program s (instruction.Compute o d x y)))
+      → Comes G.machine Anything 1 (row (fn G s r b ready m) (instruction.Compute o d x y)) (Go r start b s.input s.trace) (Matches G (act G.program s (instruction.Compute o d x y)))
   does_compute o d x y e =
-      let R : Progress → Type 0 = λ p. Comes G.machine Anything 1 11 (Go r start b s.input s.trace) (Matches G p) in
+      let R : Progress → Type 0 = λ p. Comes G.machine Anything 1 (row (fn G s r b ready m) (instruction.Compute o d x y)) (Go r start b s.input s.trace) (Matches G p) in
       let f = fn G s r b ready m in
       let fit = fits G s r b ready m (instruction.Compute o d x y) e in
-      let none : R stuck = no_more G s r b ready m 1 11 (Go r start b s.input s.trace) (omega arith) in
+      let none : R stuck = no_more G s r b ready m 1 (row (fn G s r b ready m) (instruction.Compute o d x y)) (Go r start b s.input s.trace) (omega arith) in
       used (word_at s x) (λ a. word_at s y >>= λ c. gives_word d s (flat.operate o a c)) R none (λ a ea.
       used (word_at s y) (λ c. gives_word d s (flat.operate o a c)) R none (λ c ec.
       let hx = operand_holds G ready s r start b m x (word a) fit.1 (word_some (value s x) a ea) in

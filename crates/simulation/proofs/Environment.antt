@@ -26,6 +26,7 @@ use Rattle.running.proofs.Steps.{comes_now, on_immediate, on_op, on_load_byte, o
 use Rattle.running.proofs.Placing.{stands_parts}
 use Rattle.select.specs.Selected.{add_to, operate_on, kept, address_of, byte_home}
 use Rattle.simulation.specs.Matches.{Ground, Ready, Shows, Matched, Matches, address, shown, temporary_at}
+use Rattle.simulation.specs.Costs.{row}
 use Rattle.simulation.specs.Laws.{Anything, Follows, AreBytes, GetFollows}
 use Rattle.simulation.proofs.Registers.{Only, kept_no_temporary}
 use Rattle.simulation.proofs.Waiting.{if_same}
@@ -96,15 +97,16 @@ module _ (G : Ground) (s : State) (r b : ℕ → ℕ) (ready : Ready G) (m : Mat
       let f = fn G s r b ready m in
       let file : (j : ℕ) → r2 (kept j) ≡ r (kept j) = λ j. q.each (kept j) (kept_no_temporary j 0 (omega arith)) (kept_no_temporary j 1 (omega arith)) (kept_no_temporary j 2 (omega arith)) (kept_no_temporary j 7 (omega arith)) in
       let sp2 : r2 2 ≡ r 2 = q.each 2 (λ x. omega (arith, x)) (λ x. omega (arith, x)) (λ x. omega (arith, x)) (λ x. omega (arith, x)) in
+      let ra1 : r2 1 ≡ r 1 = q.each 1 (λ x. omega (arith, x)) (λ x. omega (arith, x)) (λ x. omega (arith, x)) (λ x. omega (arith, x)) in
       let far : (c : ℕ) → word_at b2 (m.sp + cell_home f c) ≡ word_at b (m.sp + cell_home f c) = λ c. word_same b b2 (m.sp + cell_home f c) (λ k lo hi. off k (λ x. omega (arith, x, lo))) in
-      on_with G ready s r start b m (s.frame.at + 1) end s.frame.cells temporaries unset r2 b2 refl sp2 (small_same G ready s r start b m r2 file) bytes
+      on_with G ready s r start b m (s.frame.at + 1) end s.frame.cells temporaries unset r2 b2 refl sp2 ra1 (small_same G ready s r start b m r2 file) bytes
       (λ c v ec. let old = m.frame.cells c v ec in (old.0, old.1, if_same (nat_lt c f.resident) (r (kept c)) (r2 (kept c)) _ _ (file c) (far c) ∙ old.2))
       ts none_left (λ j. if_same (nat_lt j f.resident) _ _ (r (kept j)) (r2 (kept j)) (far j) (file j))
       (λ k side. off k (λ x. ⊎_elim (λ lt. omega (arith, lt, x)) (λ ge. omega (arith, ge, x)) side))
 
   -- ---- PutByte
 
-  puts : (v : ℕ) → r 10 ≡ v → slice_get (fn G s r b ready m).code s.frame.at ≡ Some instruction.PutByte → Comes G.machine Anything 1 8 (Go r start b s.input s.trace) (Matches G (put s v))
+  puts : (v : ℕ) → r 10 ≡ v → slice_get (fn G s r b ready m).code s.frame.at ≡ Some instruction.PutByte → Comes G.machine Anything 1 (row (fn G s r b ready m) instruction.PutByte) (Go r start b s.input s.trace) (Matches G (put s v))
   puts v held e =
       let Q : Light → Type 0 = Matches G (put s v) in
       let F = G.machine in
@@ -142,10 +144,10 @@ module _ (G : Ground) (s : State) (r b : ℕ → ℕ) (ready : Ready G) (m : Mat
       (comes_now F Anything 0 _ Q tt
       (retraced G (record (next s) { temporaries = unset }) r5 end b1 s.input trace done, refl, ap (λ x. Put x ∷ s.trace) (byte_back b a (v % 2 ^ 8)))))))))))
 
-  does_put : slice_get (fn G s r b ready m).code s.frame.at ≡ Some instruction.PutByte → Comes G.machine Anything 1 8 (Go r start b s.input s.trace) (Matches G (act G.program s instruction.PutByte))
+  does_put : slice_get (fn G s r b ready m).code s.frame.at ≡ Some instruction.PutByte → Comes G.machine Anything 1 (row (fn G s r b ready m) instruction.PutByte) (Go r start b s.input s.trace) (Matches G (act G.program s instruction.PutByte))
   does_put e =
-      let R : Progress → Type 0 = λ p. Comes G.machine Anything 1 8 (Go r start b s.input s.trace) (Matches G p) in
-      used (word_of_operand s (operand.Temporary 0)) (put s) R (no_more G s r b ready m 1 8 (Go r start b s.input s.trace) (omega arith)) (λ v ev.
+      let R : Progress → Type 0 = λ p. Comes G.machine Anything 1 (row (fn G s r b ready m) instruction.PutByte) (Go r start b s.input s.trace) (Matches G p) in
+      used (word_of_operand s (operand.Temporary 0)) (put s) R (no_more G s r b ready m 1 (row (fn G s r b ready m) instruction.PutByte) (Go r start b s.input s.trace) (omega arith)) (λ v ev.
       puts v (m.temporaries 0 (word v) (word_some (value s (operand.Temporary 0)) v ev)).2 e)
 
   -- ---- GetByte
@@ -210,7 +212,7 @@ module _ (G : Ground) (s : State) (r b : ℕ → ℕ) (ready : Ready G) (m : Mat
       comes_now G.machine Anything 0 _ Q tt
       (retraced G (record (next s) { temporaries = result_alone (Some (word c)) }) r2 end b1 rest (Got c ∷ s.trace) done, refl, refl)))
 
-  gets_from : (input : List ℕ) → s.input ≡ input → AreBytes input → slice_get (fn G s r b ready m).code s.frame.at ≡ Some instruction.GetByte → Comes G.machine Anything 1 10 (Go r start b input s.trace) (Matches G (got s input))
+  gets_from : (input : List ℕ) → s.input ≡ input → AreBytes input → slice_get (fn G s r b ready m).code s.frame.at ≡ Some instruction.GetByte → Comes G.machine Anything 1 (row (fn G s r b ready m) instruction.GetByte) (Go r start b input s.trace) (Matches G (got s input))
   gets_from input ei bytes e =
       let Q : Light → Type 0 = Matches G (got s input) in
       let F = G.machine in

@@ -7,8 +7,8 @@ use Rattle.events.specs.Events.{Event}
 use Rattle.sim.specs.Runs as machine
 use Rattle.frames.specs.declared.code.Instruction.TheVariants as instruction
 use Rattle.frames.specs.Code.{Program}
-use Rattle.frames.specs.Costs.{cost, next_of, spent}
-use Rattle.frames.specs.Run.{word, State, running, entered, bytes_of, run, start}
+use Rattle.frames.specs.Costs.{next_of}
+use Rattle.frames.specs.Run.{word, State, running, entered, function_at, bytes_of, run, start}
 use Rattle.running.specs.Light.{Fixed, Light, Go, Done, Fell, light_run}
 use Rattle.running.specs.Whole.{Permits, fixed}
 use Rattle.running.specs.Worlds.{Registers, world, Follows}
@@ -25,7 +25,7 @@ use Rattle.simulation.proofs.Registers.{kept_above}
 use Rattle.simulation.proofs.Inputs.{Kept, run_keeps}
 use Rattle.simulation.proofs.Steps.{BytesLeft, bytes_last}
 use Rattle.simulation.proofs.Laying.{is_ready}
-use Rattle.simulation.specs.Costs.{least_spent}
+use Rattle.simulation.specs.Costs.{least_spent, step_cost, most_spent}
 use Rattle.simulation.proofs.Progress.{progresses, times_more}
 use Rattle.simulation.proofs.Standing.{register_shown, stands_with}
 use Rattle.simulation.proofs.Whole.{comes_to}
@@ -88,7 +88,7 @@ module _ (P : Permits) (low : (a : ℕ) → P.can_execute a ≡ true → a < 2 ^
 
   from_call : (k f n : ℕ) (s t : State) (m : Light) → light_run F k begin ≡ m → Matches G (running s) m → AreBytes s.input → next_of p s ≡ Some (instruction.Call f) → run p n (entered s f) ≡ running t → next_of p t ≡ Some instruction.Return
       → bytes_of p t.waiting ≡ bytes_of p (s.frame ∷ s.waiting) → ((j : ℕ) → j ≤ n → HasRoom G (run p j (entered s f))) → ((j : ℕ) → j ≤ n → IsWithin p s (run p j (entered s f)))
-      → (j : ℕ) × (0 < j) × (j ≤ cost (instruction.Call f) + spent p n (entered s f) + cost instruction.Return) × Both p env s t (real k) (real (k + j)) (address G s.frame.function (s.frame.at + 1))
+      → (j : ℕ) × (0 < j) × (j ≤ step_cost p (function_at p s.frame.function) (instruction.Call f) + most_spent p n (entered s f) + step_cost p (function_at p t.frame.function) instruction.Return) × Both p env s t (real k) (real (k + j)) (address G s.frame.function (s.frame.at + 1))
   from_call k f n s t (Go r1 at b1 i h) em w bytes es over et same rooms within =
       let here = address G s.frame.function s.frame.at in
       let back = address G s.frame.function (s.frame.at + 1) in

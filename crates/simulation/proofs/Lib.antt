@@ -2,6 +2,7 @@ pub mod Registers
 pub mod Waiting
 pub mod Places
 pub mod Fits
+pub mod Table
 pub mod Frames
 pub mod Results
 pub mod Forms
@@ -25,4 +26,5 @@ pub mod Whole
 pub mod Standing
 pub mod Real
 pub mod Keeping
+pub mod Worked
 pub mod Rows

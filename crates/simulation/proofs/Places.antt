@@ -22,6 +22,7 @@ use Rattle.running.proofs.Placing.{stands_parts}
 use Rattle.select.specs.declared.places.Source.{Source}
 use Rattle.select.specs.declared.places.Source.TheVariants as source
 use Rattle.select.specs.Selected.{add_to, operate_on, upper_of, lower_of, far, base_of, load_word, store_word, address_of, set_to, fetch, register_of, into}
+use Rattle.simulation.specs.Costs.{far_cost, word_cost, set_cost, fetch_cost, into_cost}
 use Rattle.simulation.specs.Laws.{Anything}
 use Rattle.simulation.proofs.Registers.{Only, Off, only_none, only_one, only_then, off_then, off_sp, off_only, off_none, only_reg, off_reg}
 
@@ -58,14 +59,14 @@ module _ (F : Fixed) (env : ℕ → ℕ) (seg : ℕ) (i : List ℕ) (h : List Ev
 
   -- what comes before an access to a place past the reach of 12 bits
   pub far_runs : (n x o sp here mid : ℕ) (r b : ℕ → ℕ) → 0 < x → x ≢ 2 → r 2 ≡ sp → sp + o < 2 ^ 31 → Stands F.text env seg (far x o) here mid
-      → ((r2 : ℕ → ℕ) → Only x r r2 → sum32 (reg r2 (base_of x o)) (lower_of o) ≡ sp + o → Comes F Anything 1 n (Go r2 mid b i h) Q) → Comes F Anything 1 (suc (suc n)) (Go r here b i h) Q
+      → ((r2 : ℕ → ℕ) → Only x r r2 → sum32 (reg r2 (base_of x o)) (lower_of o) ≡ sp + o → Comes F Anything 1 n (Go r2 mid b i h) Q) → Comes F Anything 1 (far_cost o + n) (Go r here b i h) Q
   far_runs n x o sp here mid r b pos ne e2 small st next =
       bool_cases (nat_lt o 0x800)
       (λ t.
       let now : here ≡ mid = rw t at st in
       let near : o < 0x800 = ltb-true o 0x800 t in
       let sum : sum32 (reg r (base_of x o)) (lower_of o) ≡ sp + o = rw t (near_sum (r 2) sp o e2 near small) in
-      comes_by F Anything n (suc (suc n)) (Go r here b i h) Q (omega arith) (onward n here mid r b now (next r (only_none x r) sum)))
+      comes_by F Anything n (far_cost o + n) (Go r here b i h) Q (omega arith) (onward n here mid r b now (next r (only_none x r) sum)))
       (λ t.
       let two : Stands F.text env seg (item.Plain (instr.Lui x (upper_of o)) ∷ operate_on register_op.Add x x 2 ∷ []) here mid = rw t at st in
       let v = (upper_of o + sp) % 2 ^ 32 in
@@ -81,16 +82,18 @@ module _ (F : Fixed) (env : ℕ → ℕ) (seg : ℕ) (i : List ℕ) (h : List Ev
       let only : Only x r r2 = only_then x r r1 r2 (only_one x (upper_of o) r) (only_one x v r1) in
       let c : Comes F Anything 1 n (Go r2 (here + 4 + 4) b i h) Q = onward n (here + 4 + 4) mid r2 b there (next r2 only sum) in
       let second = ap F.text (sym two.1.1) ∙ two.2.1.0 in
-      on_lui F Anything Q (suc n) r here b i h tt x (upper_of o) two.1.0
+      let count : far_cost o ≡ 2 = rw t refl in
+      comes_by F Anything (suc (suc n)) (far_cost o + n) (Go r here b i h) Q (omega (arith, count))
+      (on_lui F Anything Q (suc n) r here b i h tt x (upper_of o) two.1.0
       (on_op F Anything Q n r1 (here + 4) b i h tt register_op.Add x x 2 second
-      (subst (λ z. Comes F Anything 1 n (Go (with_reg r1 x z) (here + 4 + 4) b i h) Q) (sym is) c)))
+      (subst (λ z. Comes F Anything 1 n (Go (with_reg r1 x z) (here + 4 + 4) b i h) Q) (sym is) c))))
 
   -- a word of the frame into a register
   pub loads_word : {a0 : ℕ} → (n rd o sp w here mid : ℕ) (r b : ℕ → ℕ) → Open F → 0 < rd → rd ≢ 2 → r 2 ≡ sp → Lies sp o → word_at b (sp + o) ≡ w → Stands F.text env seg (load_word rd o) here mid
-      → ((r2 : ℕ → ℕ) → Only rd r r2 → r2 rd ≡ w → Comes F Anything a0 n (Go r2 mid b i h) Q) → Comes F Anything 1 (3 + n) (Go r here b i h) Q
+      → ((r2 : ℕ → ℕ) → Only rd r r2 → r2 rd ≡ w → Comes F Anything a0 n (Go r2 mid b i h) Q) → Comes F Anything 1 (word_cost o + n) (Go r here b i h) Q
   loads_word {a0} n rd o sp w here mid r b stack pos ne e2 lies ew st next =
       let parts = stands_parts F.text env seg (far rd o) (item.Plain (instr.Load load_kind.Word rd (base_of rd o) (lower_of o)) ∷ []) here mid st in
-      comes_by F Anything (suc (suc (suc n))) (3 + n) (Go r here b i h) Q (omega arith)
+      comes_by F Anything (far_cost o + suc n) (word_cost o + n) (Go r here b i h) Q (omega arith)
       (far_runs (suc n) rd o sp here parts.0 r b pos ne e2 (omega (arith, lies.top)) parts.1 (λ r1 only sum.
       let r2 = with_reg r1 rd w in
       let there : parts.0 + 4 ≡ mid = sym parts.2.1.1 ∙ parts.2.2 in
@@ -101,10 +104,10 @@ module _ (F : Fixed) (env : ℕ → ℕ) (seg : ℕ) (i : List ℕ) (h : List Ev
 
   -- a register into a word of the frame; x7 is free
   pub stores_word : {a0 : ℕ} → (n q o sp w here mid : ℕ) (r b : ℕ → ℕ) → Open F → q ≢ 7 → r 2 ≡ sp → Lies sp o → reg r q ≡ w → Stands F.text env seg (store_word q o) here mid
-      → ((r2 : ℕ → ℕ) → Only 7 r r2 → Comes F Anything a0 n (Go r2 mid (with_word b (sp + o) w) i h) Q) → Comes F Anything 1 (3 + n) (Go r here b i h) Q
+      → ((r2 : ℕ → ℕ) → Only 7 r r2 → Comes F Anything a0 n (Go r2 mid (with_word b (sp + o) w) i h) Q) → Comes F Anything 1 (word_cost o + n) (Go r here b i h) Q
   stores_word {a0} n q o sp w here mid r b stack ne e2 lies ew st next =
       let parts = stands_parts F.text env seg (far 7 o) (item.Plain (instr.Store store_kind.Word q (base_of 7 o) (lower_of o)) ∷ []) here mid st in
-      comes_by F Anything (suc (suc (suc n))) (3 + n) (Go r here b i h) Q (omega arith)
+      comes_by F Anything (far_cost o + suc n) (word_cost o + n) (Go r here b i h) Q (omega arith)
       (far_runs (suc n) 7 o sp here parts.0 r b (omega arith) (λ e. omega (arith, e)) e2 (omega (arith, lies.top)) parts.1 (λ r1 only sum.
       let there : parts.0 + 4 ≡ mid = sym parts.2.1.1 ∙ parts.2.2 in
       let aligned : (sp + o) % 4 ≡ 0 = omega (arith, lies.aligned, lies.even) in
@@ -115,7 +118,7 @@ module _ (F : Fixed) (env : ℕ → ℕ) (seg : ℕ) (i : List ℕ) (h : List Ev
 
   -- a constant into a register
   pub sets : {a0 : ℕ} → (n rd v here mid : ℕ) (r b : ℕ → ℕ) → 0 < rd → v < 2 ^ 32 → Stands F.text env seg (set_to rd v ∷ []) here mid
-      → ((r2 : ℕ → ℕ) → Only rd r r2 → r2 rd ≡ v → Comes F Anything a0 n (Go r2 mid b i h) Q) → Comes F Anything 1 (suc (suc n)) (Go r here b i h) Q
+      → ((r2 : ℕ → ℕ) → Only rd r r2 → r2 rd ≡ v → Comes F Anything a0 n (Go r2 mid b i h) Q) → Comes F Anything 1 (set_cost v + n) (Go r here b i h) Q
   sets {a0} n rd v here mid r b pos small st next =
       let r2 = with_reg r rd v in
       let c : Comes F Anything a0 n (Go r2 mid b i h) Q = next r2 (only_one rd v r) (with_same r rd v pos) in
@@ -124,16 +127,18 @@ module _ (F : Fixed) (env : ℕ → ℕ) (seg : ℕ) (i : List ℕ) (h : List Ev
       let one : Stands F.text env seg (add_to rd 0 v ∷ []) here mid = rw t at st in
       let there : here + 4 ≡ mid = sym one.1.1 ∙ one.2 in
       let is : (0 + v) % 2 ^ 32 ≡ v = omega (arith, small) in
-      comes_by F Anything (suc n) (suc (suc n)) (Go r here b i h) Q (omega arith)
+      comes_by F Anything (suc n) (set_cost v + n) (Go r here b i h) Q (omega arith)
       (on_immediate F Anything Q n r here b i h tt immediate_op.Add rd 0 v v one.1.0 is (onward {a0 = a0} n (here + 4) mid r2 b there c)))
       (λ t.
       let two : Stands F.text env seg (item.Constant rd v ∷ []) here mid = rw t at st in
       let some : eqb rd 0 ≡ false = grind (arith, nat_tests) in
-      on_loads F Anything Q n r here b i h tt rd v two.0 some two.1 tt (onward {a0 = a0} n two.0 mid r2 b two.2 c))
+      let count : set_cost v ≡ 2 = rw t refl in
+      comes_by F Anything (suc (suc n)) (set_cost v + n) (Go r here b i h) Q (omega (arith, count))
+      (on_loads F Anything Q n r here b i h tt rd v two.0 some two.1 tt (onward {a0 = a0} n two.0 mid r2 b two.2 c)))
 
   -- the address of a place of the frame
   pub addresses : {a0 : ℕ} → (n rd o sp here mid : ℕ) (r b : ℕ → ℕ) → 0 < rd → rd ≢ 2 → r 2 ≡ sp → sp + o < 2 ^ 31 → Stands F.text env seg (address_of rd o) here mid
-      → ((r2 : ℕ → ℕ) → Only rd r r2 → r2 rd ≡ sp + o → Comes F Anything a0 n (Go r2 mid b i h) Q) → Comes F Anything 1 (3 + n) (Go r here b i h) Q
+      → ((r2 : ℕ → ℕ) → Only rd r r2 → r2 rd ≡ sp + o → Comes F Anything a0 n (Go r2 mid b i h) Q) → Comes F Anything 1 (word_cost o + n) (Go r here b i h) Q
   addresses {a0} n rd o sp here mid r b pos ne e2 small st next =
       bool_cases (nat_lt o 0x800)
       (λ t.
@@ -141,7 +146,7 @@ module _ (F : Fixed) (env : ℕ → ℕ) (seg : ℕ) (i : List ℕ) (h : List Ev
       let r2 = with_reg r rd (sp + o) in
       let there : here + 4 ≡ mid = sym one.1.1 ∙ one.2 in
       let is : (r 2 + o) % 2 ^ 32 ≡ sp + o = omega (arith, e2, small) in
-      comes_by F Anything (suc n) (3 + n) (Go r here b i h) Q (omega arith)
+      comes_by F Anything (suc n) (word_cost o + n) (Go r here b i h) Q (omega arith)
       (on_immediate F Anything Q n r here b i h tt immediate_op.Add rd 2 o (sp + o) one.1.0 is
       (onward {a0 = a0} n (here + 4) mid r2 b there (next r2 (only_one rd (sp + o) r) (with_same r rd (sp + o) pos)))))
       (λ t.
@@ -156,7 +161,8 @@ module _ (F : Fixed) (env : ℕ → ℕ) (seg : ℕ) (i : List ℕ) (h : List Ev
       let there : two.0 + 4 ≡ mid = sym two.2.1.1 ∙ two.2.2 in
       let only : Only rd r r2 = only_then rd r r1 r2 (only_one rd o r) (only_one rd (sp + o) r1) in
       let c : Comes F Anything a0 n (Go r2 (two.0 + 4) b i h) Q = onward {a0 = a0} n (two.0 + 4) mid r2 b there (next r2 only (with_same r1 rd (sp + o) pos)) in
-      comes_by F Anything (suc (suc (suc n))) (3 + n) (Go r here b i h) Q (omega arith)
+      let count : word_cost o ≡ 3 = rw t refl in
+      comes_by F Anything (suc (suc (suc n))) (word_cost o + n) (Go r here b i h) Q (omega (arith, count))
       (on_loads F Anything Q (suc n) r here b i h tt rd o two.0 some two.1 tt
       (on_op F Anything Q n r1 two.0 b i h tt register_op.Add rd rd 2 two.2.1.0
       (subst (λ z. Comes F Anything a0 n (Go (with_reg r1 rd z) (two.0 + 4) b i h) Q) (sym is) c))))
@@ -178,10 +184,10 @@ source_stays r b sp w (source.Constant v) p = (λ e. omega (arith, e), λ e. ome
 module _ (F : Fixed) (env : ℕ → ℕ) (seg : ℕ) (i : List ℕ) (h : List Event) (Q : Light → Type 0) (stack : Open F) (r b : ℕ → ℕ) (sp : ℕ) (e2 : r 2 ≡ sp) where
   -- an operand: r1 are the registers so far
   pub fetches : (n x : ℕ) → 5 ≤ x → x ≤ 6 → (o : Source) (w here mid : ℕ) (r1 : ℕ → ℕ) → Off 5 r r1 → SourceHolds r b sp o w → Stands F.text env seg (fetch x o) here mid
-      → ((r2 : ℕ → ℕ) → Only x r1 r2 → reg r2 (register_of x o) ≡ w → Comes F Anything 1 n (Go r2 mid b i h) Q) → Comes F Anything 1 (3 + n) (Go r1 here b i h) Q
+      → ((r2 : ℕ → ℕ) → Only x r1 r2 → reg r2 (register_of x o) ≡ w → Comes F Anything 1 n (Go r2 mid b i h) Q) → Comes F Anything 1 (fetch_cost o + n) (Go r1 here b i h) Q
   fetches n x lo hi (source.Register q) w here mid r1 off holds st next =
       let held : reg r1 q ≡ w = off_reg q r r1 off holds.1 holds.2 holds.3 ∙ holds.0 in
-      comes_by F Anything n (3 + n) (Go r1 here b i h) Q (omega arith) (onward F env seg i h Q n here mid r1 b st (next r1 (only_none x r1) held))
+      comes_by F Anything n (0 + n) (Go r1 here b i h) Q (omega arith) (onward F env seg i h Q n here mid r1 b st (next r1 (only_none x r1) held))
   fetches n x lo hi (source.Frame o) w here mid r1 off holds st next =
       let sp1 : r1 2 ≡ sp = off_sp 5 r r1 off (λ e. omega (arith, e)) ∙ e2 in
       let pos : 0 < x = omega (arith, lo) in
@@ -189,33 +195,30 @@ module _ (F : Fixed) (env : ℕ → ℕ) (seg : ℕ) (i : List ℕ) (h : List Ev
       (λ r2 only held. next r2 only (reg_is r2 x pos ∙ held))
   fetches n x lo hi (source.Constant v) w here mid r1 off holds st next =
       let pos : 0 < x = omega (arith, lo) in
-      comes_by F Anything (suc (suc n)) (3 + n) (Go r1 here b i h) Q (omega arith)
-      (sets F env seg i h Q {a0 = 1} n x v here mid r1 b pos holds.1 st
-      (λ r2 only held. next r2 only (reg_is r2 x pos ∙ (held ∙ holds.0))))
+      sets F env seg i h Q {a0 = 1} n x v here mid r1 b pos holds.1 st
+      (λ r2 only held. next r2 only (reg_is r2 x pos ∙ (held ∙ holds.0)))
 
   -- two operands
   pub fetches_two : (n : ℕ) (x y : Source) (v w here mid last : ℕ) → SourceHolds r b sp x v → SourceHolds r b sp y w → Stands F.text env seg (fetch 5 x) here mid → Stands F.text env seg (fetch 6 y) mid last
-      → ((r2 : ℕ → ℕ) → Off 5 r r2 → reg r2 (register_of 5 x) ≡ v → reg r2 (register_of 6 y) ≡ w → Comes F Anything 1 n (Go r2 last b i h) Q) → Comes F Anything 1 (6 + n) (Go r here b i h) Q
+      → ((r2 : ℕ → ℕ) → Off 5 r r2 → reg r2 (register_of 5 x) ≡ v → reg r2 (register_of 6 y) ≡ w → Comes F Anything 1 n (Go r2 last b i h) Q) → Comes F Anything 1 (fetch_cost x + (fetch_cost y + n)) (Go r here b i h) Q
   fetches_two n x y v w here mid last hx hy st1 st2 next =
-      comes_by F Anything (3 + (3 + n)) (6 + n) (Go r here b i h) Q (omega arith)
-      (fetches (3 + n) 5 (omega arith) (omega arith) x v here mid r (off_none 5 r) hx st1 (λ r1 only1 held1.
+      fetches (fetch_cost y + n) 5 (omega arith) (omega arith) x v here mid r (off_none 5 r) hx st1 (λ r1 only1 held1.
       let off1 : Off 5 r r1 = off_only 5 r r1 only1 in
       fetches n 6 (omega arith) (omega arith) y w mid last r1 off1 hy st2 (λ r2 only2 held2.
       let same : reg r2 (register_of 5 x) ≡ v = only_reg 6 (register_of 5 x) r1 r2 only2 (source_stays r b sp v x hx).0 ∙ held1 in
-      next r2 (off_then 5 6 r r1 r2 (omega arith) (omega arith) off1 only2) same held2)))
+      next r2 (off_then 5 6 r r1 r2 (omega arith) (omega arith) off1 only2) same held2))
 
   -- an operand into register d
   pub intos : {a0 : ℕ} → (n d : ℕ) → 0 < d → d ≢ 2 → (o : Source) (w here mid : ℕ) → SourceHolds r b sp o w → w < 2 ^ 32 → Stands F.text env seg (into d o) here mid
-      → ((r2 : ℕ → ℕ) → Only d r r2 → r2 d ≡ w → Comes F Anything a0 n (Go r2 mid b i h) Q) → Comes F Anything 1 (3 + n) (Go r here b i h) Q
+      → ((r2 : ℕ → ℕ) → Only d r r2 → r2 d ≡ w → Comes F Anything a0 n (Go r2 mid b i h) Q) → Comes F Anything 1 (into_cost o + n) (Go r here b i h) Q
   intos {a0} n d pos ne (source.Register q) w here mid holds small st next =
       let r2 = with_reg r d w in
       let there : here + 4 ≡ mid = sym st.1.1 ∙ st.2 in
       let is : (reg r q + 0) % 2 ^ 32 ≡ w = omega (arith, holds.0, small) in
-      comes_by F Anything (suc n) (3 + n) (Go r here b i h) Q (omega arith)
+      comes_by F Anything (suc n) (1 + n) (Go r here b i h) Q (omega arith)
       (on_immediate F Anything Q n r here b i h tt immediate_op.Add d q 0 w st.1.0 is
       (onward F env seg i h Q {a0 = a0} n (here + 4) mid r2 b there (next r2 (only_one d w r) (with_same r d w pos))))
   intos {a0} n d pos ne (source.Frame o) w here mid holds small st next =
       loads_word F env seg i h Q {a0 = a0} n d o sp w here mid r b stack pos ne e2 holds.0 holds.1 st next
   intos {a0} n d pos ne (source.Constant v) w here mid holds small st next =
-      comes_by F Anything (suc (suc n)) (3 + n) (Go r here b i h) Q (omega arith)
-      (sets F env seg i h Q {a0 = a0} n d v here mid r b pos holds.1 st (λ r2 only held. next r2 only (held ∙ holds.0)))
+      sets F env seg i h Q {a0 = a0} n d v here mid r b pos holds.1 st (λ r2 only held. next r2 only (held ∙ holds.0))

@@ -19,12 +19,13 @@ use Rattle.running.proofs.Placing.{stands_parts}
 use Rattle.select.specs.declared.places.Home.{Home}
 use Rattle.select.specs.Selected.{source_of, home_of, made_in, keep, address_of}
 use Rattle.simulation.specs.Matches.{Ground, Matched, Matches, Ready, address, shown}
+use Rattle.simulation.specs.Costs.{word_cost, keep_cost, move_cost, row}
 use Rattle.simulation.specs.Laws.{Anything, Follows}
 use Rattle.simulation.proofs.Registers.{off_none, off_last, only_one}
 use Rattle.simulation.proofs.Places.{addresses}
 use Rattle.simulation.proofs.Fits.{frame_room}
 use Rattle.simulation.proofs.Frames.{sum_is, within, operand_holds}
-use Rattle.simulation.proofs.Forms.{used, fn, fits, no_more, made_above, finishes, moves_at}
+use Rattle.simulation.proofs.Forms.{used, fn, fits, no_more, made_above, finishes, move_some, moves_at}
 
 pub reference_some : (o : Option Value) (x : Reference) → reference_in o ≡ Some x → o ≡ Some (reference x.list x.offset)
 reference_some None x e = cc
@@ -62,7 +63,7 @@ module _ (G : Ground) (s : State) (r b : ℕ → ℕ) (ready : Ready G) (m : Mat
   -- the address of a place of the frame's arrays
   frame_at : (d : Target) (o : ℕ) → TargetFits (fn G s r b ready m) d → o < (fn G s r b ready m).area → (hm : Home) → home_of (fn G s r b ready m) d ≡ hm
       → Stands G.machine.text G.env G.data_at (address_of (made_in hm) (area_home (fn G s r b ready m) + o) ++ keep hm) start end
-      → Comes G.machine Anything 1 6 (Go r start b s.input s.trace) (Matches G (gives d s (reference (name_of G.program s.frame s.waiting) (area_home (fn G s r b ready m) + o))))
+      → Comes G.machine Anything 1 (word_cost (area_home (fn G s r b ready m) + o) + keep_cost hm) (Go r start b s.input s.trace) (Matches G (gives d s (reference (name_of G.program s.frame s.waiting) (area_home (fn G s r b ready m) + o))))
   frame_at d o fit lt hm eh st =
       let f = fn G s r b ready m in
       let p = area_home f + o in
@@ -76,12 +77,12 @@ module _ (G : Ground) (s : State) (r b : ℕ → ℕ) (ready : Ready G) (m : Mat
       let is : shown G v ≡ m.sp + p = frame_shown p inside in
       let small : shown G v < 2 ^ 32 = omega (arith, is, win.top, inside) in
       let one = stands_parts G.machine.text G.env G.data_at (address_of rd p) (keep hm) start end st in
-      addresses G.machine G.env G.data_at s.input s.trace Q {a0 = 0} 3 rd p m.sp start one.0 r b pos (λ x. omega (arith, x, above)) m.sp_is (omega (arith, win.top, inside)) one.1 (λ r2 only held.
+      addresses G.machine G.env G.data_at s.input s.trace Q {a0 = 0} (keep_cost hm) rd p m.sp start one.0 r b pos (λ x. omega (arith, x, above)) m.sp_is (omega (arith, win.top, inside)) one.1 (λ r2 only held.
       finishes G s r b ready m unset none_left d v fit small hm eh r2 (off_last rd r r r2 (off_none 5 r) only) (reg_is r2 rd pos ∙ (held ∙ sym is)) one.0 one.2)
 
   -- an address in the statics
   statics_at : (d : Target) (o : ℕ) → TargetFits (fn G s r b ready m) d → (hm : Home) → home_of (fn G s r b ready m) d ≡ hm → Stands G.machine.text G.env G.data_at (item.DataAddress (made_in hm) o ∷ keep hm) start end
-      → Comes G.machine Anything 1 6 (Go r start b s.input s.trace) (Matches G (gives d s (reference 0 o)))
+      → Comes G.machine Anything 1 (2 + keep_cost hm) (Go r start b s.input s.trace) (Matches G (gives d s (reference 0 o)))
   statics_at d o fit hm eh st =
       let v = reference 0 o in
       let Q : Light → Type 0 = Matches G (gives d s v) in
@@ -95,21 +96,21 @@ module _ (G : Ground) (s : State) (r b : ℕ → ℕ) (ready : Ready G) (m : Mat
       let r2 = with_reg r rd w in
       let held : reg r2 rd ≡ shown G v = reg_is r2 rd pos ∙ (with_same r rd w pos ∙ sym is) in
       let none : eqb rd 0 ≡ false = grind (arith, nat_tests) in
-      comes_by G.machine Anything 5 6 (Go r start b s.input s.trace) Q (omega arith)
-      (on_loads G.machine Anything Q 3 r start b s.input s.trace tt rd w st.0 none q tt
+      comes_by G.machine Anything (suc (suc (keep_cost hm))) (2 + keep_cost hm) (Go r start b s.input s.trace) Q (omega arith)
+      (on_loads G.machine Anything Q (keep_cost hm) r start b s.input s.trace tt rd w st.0 none q tt
       (finishes G s r b ready m unset none_left d v fit (omega (arith, is, small)) hm eh r2 (off_last rd r r r2 (off_none 5 r) (only_one rd w r)) held st.0 st.2))
 
-  does_address : (d : Target) (l : Location) → slice_get (fn G s r b ready m).code s.frame.at ≡ Some (instruction.Address d l) → Comes G.machine Anything 1 6 (Go r start b s.input s.trace) (Matches G (act G.program s (instruction.Address d l)))
+  does_address : (d : Target) (l : Location) → slice_get (fn G s r b ready m).code s.frame.at ≡ Some (instruction.Address d l) → Comes G.machine Anything 1 (row (fn G s r b ready m) (instruction.Address d l)) (Go r start b s.input s.trace) (Matches G (act G.program s (instruction.Address d l)))
   does_address d (location.Statics o) e =
       statics_at d o (fits G s r b ready m (instruction.Address d (location.Statics o)) e).0 (home_of (fn G s r b ready m) d) refl (ready.stands s.frame.function s.frame.at (instruction.Address d (location.Statics o)) e)
   does_address d (location.Frame o) e =
       let fit = fits G s r b ready m (instruction.Address d (location.Frame o)) e in
       frame_at d o fit.0 fit.1 (home_of (fn G s r b ready m) d) refl (ready.stands s.frame.function s.frame.at (instruction.Address d (location.Frame o)) e)
   does_address d (location.At x) e =
-      let R : Progress → Type 0 = λ p. Comes G.machine Anything 1 6 (Go r start b s.input s.trace) (Matches G p) in
+      let R : Progress → Type 0 = λ p. Comes G.machine Anything 1 (move_cost (home_of (fn G s r b ready m) d) (source_of (fn G s r b ready m) x)) (Go r start b s.input s.trace) (Matches G p) in
       let f = fn G s r b ready m in
       let fit = fits G s r b ready m (instruction.Address d (location.At x)) e in
-      used (reference_in (value s x)) (λ y. gives d s (reference y.list y.offset)) R (no_more G s r b ready m 1 6 (Go r start b s.input s.trace) (omega arith)) (λ y ey.
+      used (reference_in (value s x)) (λ y. gives d s (reference y.list y.offset)) R (no_more G s r b ready m 1 (move_cost (home_of (fn G s r b ready m) d) (source_of (fn G s r b ready m) x)) (Go r start b s.input s.trace) (move_some (home_of (fn G s r b ready m) d) (source_of (fn G s r b ready m) x))) (λ y ey.
       let v = reference y.list y.offset in
       let hx = operand_holds G ready s r start b m x v fit.1 (reference_some (value s x) y ey) in
       moves_at G s r b ready m unset none_left d v (source_of f x) fit.0 hx.1 hx.0 (home_of f d) refl (ready.stands s.frame.function s.frame.at (instruction.Address d (location.At x)) e))

@@ -20,6 +20,7 @@ use Rattle.running.proofs.Bridge.{bool_cases}
 use Rattle.running.proofs.Words.{reg_is, with_same}
 use Rattle.running.proofs.Steps.{comes_by, on_immediate, on_op, on_shift}
 use Rattle.select.specs.Selected.{narrow, shifted}
+use Rattle.simulation.specs.Costs.{narrow_cost}
 use Rattle.simulation.specs.Laws.{Anything}
 use Rattle.simulation.proofs.Registers.{Only, only_one, only_then}
 use Rattle.simulation.proofs.Places.{onward}
@@ -76,22 +77,28 @@ module _ (F : Fixed) (env : ℕ → ℕ) (seg : ℕ) (i : List ℕ) (h : List Ev
       on_shift F Anything Q (suc n) r here b i h tt shift_op.Left rd q k st.1.0 (subst (λ z. Comes F Anything 1 (suc n) (Go (with_reg r rd z) (here + 4) b i h) Q) (sym first) c1)
 
   pub narrows : {a0 : ℕ} → (n : ℕ) (c : Conversion) (q a here mid : ℕ) → reg r q ≡ a → Stands F.text env seg (narrow c rd q) here mid
-      → ((r2 : ℕ → ℕ) → Only rd r r2 → r2 rd ≡ converted c a → Comes F Anything a0 n (Go r2 mid b i h) Q) → Comes F Anything 1 (suc (suc n)) (Go r here b i h) Q
+      → ((r2 : ℕ → ℕ) → Only rd r r2 → r2 rd ≡ converted c a → Comes F Anything a0 n (Go r2 mid b i h) Q) → Comes F Anything 1 (narrow_cost c + n) (Go r here b i h) Q
   narrows {a0} n conversion.ToByte q a here mid ea st next =
       let r2 = with_reg r rd (a % 2 ^ 8) in
       let is : bit_and (reg r q) 255 ≡ a % 2 ^ 8 = ap (λ x. bit_and x 255) ea ∙ and_mask a 8 in
       let there : here + 4 ≡ mid = sym st.1.1 ∙ st.2 in
-      comes_by F Anything (suc n) (suc (suc n)) (Go r here b i h) Q (omega arith)
+      comes_by F Anything (suc n) (1 + n) (Go r here b i h) Q (omega arith)
       (on_immediate F Anything Q n r here b i h tt immediate_op.And rd q 255 (a % 2 ^ 8) st.1.0 is
       (onward F env seg i h Q {a0 = a0} n (here + 4) mid r2 b there (next r2 (only_one rd (a % 2 ^ 8) r) (with_same r rd (a % 2 ^ 8) pos))))
-  narrows {a0} n conversion.ToSignedByte q a here mid ea st next = shifts {a0 = a0} n shift_op.RightArithmetic q 24 a (sign_extended 7 (a % 2 ^ 8)) here mid ea (signed_byte a) st next
-  narrows {a0} n conversion.ToHalf q a here mid ea st next = shifts {a0 = a0} n shift_op.Right q 16 a (a % 2 ^ 16) here mid ea (half a) st next
-  narrows {a0} n conversion.ToSignedHalf q a here mid ea st next = shifts {a0 = a0} n shift_op.RightArithmetic q 16 a (sign_extended 15 (a % 2 ^ 16)) here mid ea (signed_half a) st next
+  narrows {a0} n conversion.ToSignedByte q a here mid ea st next =
+      comes_by F Anything (suc (suc n)) (2 + n) (Go r here b i h) Q (omega arith)
+      (shifts {a0 = a0} n shift_op.RightArithmetic q 24 a (sign_extended 7 (a % 2 ^ 8)) here mid ea (signed_byte a) st next)
+  narrows {a0} n conversion.ToHalf q a here mid ea st next =
+      comes_by F Anything (suc (suc n)) (2 + n) (Go r here b i h) Q (omega arith)
+      (shifts {a0 = a0} n shift_op.Right q 16 a (a % 2 ^ 16) here mid ea (half a) st next)
+  narrows {a0} n conversion.ToSignedHalf q a here mid ea st next =
+      comes_by F Anything (suc (suc n)) (2 + n) (Go r here b i h) Q (omega arith)
+      (shifts {a0 = a0} n shift_op.RightArithmetic q 16 a (sign_extended 15 (a % 2 ^ 16)) here mid ea (signed_half a) st next)
   narrows {a0} n conversion.ToTruth q a here mid ea st next =
       let w = one_if (not (eqb a 0)) in
       let r2 = with_reg r rd w in
       let is : operate_of register_op.LessUnsigned (reg r 0) (reg r q) ≡ w = ap (λ x. one_if (nat_lt 0 x)) ea ∙ truth a in
       let there : here + 4 ≡ mid = sym st.1.1 ∙ st.2 in
       let c : Comes F Anything a0 n (Go r2 (here + 4) b i h) Q = onward F env seg i h Q {a0 = a0} n (here + 4) mid r2 b there (next r2 (only_one rd w r) (with_same r rd w pos)) in
-      comes_by F Anything (suc n) (suc (suc n)) (Go r here b i h) Q (omega arith)
+      comes_by F Anything (suc n) (1 + n) (Go r here b i h) Q (omega arith)
       (on_op F Anything Q n r here b i h tt register_op.LessUnsigned rd 0 q st.1.0 (subst (λ z. Comes F Anything a0 n (Go (with_reg r rd z) (here + 4) b i h) Q) (sym is) c))

@@ -23,7 +23,7 @@ frame_same G f cells area b b' s s' sp same e h =
     }
 
 returns_same : (G : Ground) (w : Frame) (s s' : ℕ → ℕ) (base ra : ℕ) → ((j : ℕ) → s' j ≡ s j) → Returns G w s base ra → Returns G w s' base ra
-returns_same G w s s' base ra e q = record { at_is = q.at_is; aligned = q.aligned; small = q.small; seen = λ x. let y = q.seen x in (y.0, λ j. e j ∙ y.1 j) }
+returns_same G w s s' base ra e q = record { at_is = q.at_is; aligned = q.aligned; small = q.small; calls = q.calls; seen = λ x. let y = q.seen x in (y.0, λ j. e j ∙ y.1 j) }
 
 pub waits_same : (G : Ground) (ws : List Frame) (b b' s s' : ℕ → ℕ) (base ra : ℕ) → ((k : ℕ) → base ≤ k → b' k ≡ b k) → ((j : ℕ) → s' j ≡ s j) → Waits G ws b s base ra → Waits G ws b' s' base ra
 waits_same G [] b b' s s' base ra same e st =

@@ -3,13 +3,13 @@ use Rattle.std.proofs.Common.{◌≡◌, ℕ, zero, suc, ◌+◌, ◌<◌, List,
 use Rattle.rv32.specs.Space.{word_at}
 use Rattle.frames.specs.declared.code.Instruction.TheVariants as instruction
 use Rattle.frames.specs.Code.{Function, frame_bytes}
-use Rattle.frames.specs.Costs.{next_of, spent}
+use Rattle.frames.specs.Costs.{next_of}
 use Rattle.frames.specs.Run.{Value, word, reference, Values, Bytes, Frame, State, Progress, running, ended, stuck, entered, function_at, bytes_of, run}
 use Rattle.running.specs.Light.{Light, Go, Done, Fell, Comes, light_run}
 use Rattle.running.proofs.Steps.{comes_now, comes_then}
 use Rattle.select.specs.Selected.{return_home}
-use Rattle.simulation.specs.Matches.{Ground, Ready, FrameHolds, Waits, Matched, Matches, IsBelow, address, file_of, file_below, shown}
-use Rattle.simulation.specs.Costs.{least_spent}
+use Rattle.simulation.specs.Matches.{Ground, Ready, FrameHolds, Waits, Matched, Matches, IsBelow, address, file_of, file_below, return_at, shown}
+use Rattle.simulation.specs.Costs.{least_spent, row, step_cost, most_spent}
 use Rattle.simulation.specs.Laws.{Anything}
 use Rattle.simulation.specs.Runs.{IsWithin, IsBack, EachCallKeeps}
 use Rattle.simulation.proofs.Fits.{frame_room}
@@ -51,7 +51,7 @@ module _ (G : Ground) (sp ra : ℕ) (file : ℕ → ℕ) where
   waits_watched [] b s base to lt st = st
   waits_watched (w ∷ ws) b s base to lt st =
       let f = function_at G.program w.function in (
-        record { at_is = st.0.at_is; aligned = st.0.aligned; small = st.0.small; seen = λ x. absurd (omega (arith, x, lt)) },
+        record { at_is = st.0.at_is; aligned = st.0.aligned; small = st.0.small; calls = st.0.calls; seen = λ x. absurd (omega (arith, x, lt)) },
         frame_watched f w.cells w.area b base s st.1,
         waits_watched ws b (file_below f b base s) (base + frame_bytes f) (word_at b (base + return_home f)) (omega (arith, lt)) st.2,
       )
@@ -69,7 +69,7 @@ module _ (G : Ground) (sp ra : ℕ) (file : ℕ → ℕ) where
         temporaries = m.temporaries;
         arguments = m.arguments;
         statics = m.statics;
-        waits = waits_watched s.waiting b (file_below f b m.sp (file_of r)) (m.sp + frame_bytes f) (word_at b (m.sp + return_home f)) (omega (arith, e, frame_room f)) m.waits;
+        waits = waits_watched s.waiting b (file_below f b m.sp (file_of r)) (m.sp + frame_bytes f) (return_at f b m.sp (r 1)) (omega (arith, e, frame_room f)) m.waits;
       }
 
 -- a return to the call of which one speaks
@@ -78,13 +78,13 @@ module _ (G : Ground) (s : State) (r b : ℕ → ℕ) (ready : Ready G) (m : Mat
   base = m.sp + frame_bytes (function_at G.program s.frame.function)
 
   abbrev back_to : ℕ
-  back_to = word_at b (m.sp + return_home (function_at G.program s.frame.function))
+  back_to = return_at (function_at G.program s.frame.function) b m.sp (r 1)
 
   abbrev below : ℕ → ℕ
   below = file_below (function_at G.program s.frame.function) b m.sp (file_of r)
 
   comes_back : (r0 : ℕ → ℕ) → G.watch_sp ≡ r0 2 → ((j : ℕ) → G.watch_file j ≡ file_of r0 j) → (ws : List Frame) → Waits G ws b below base back_to → base ≡ G.watch_sp → 0 < bytes_of G.program ws → next_of G.program s ≡ Some instruction.Return
-      → Comes G.machine Anything 1 43 (Go r (address G s.frame.function s.frame.at) b s.input s.trace) (IsBack G r0 s G.watch_ra)
+      → Comes G.machine Anything 1 (row (function_at G.program s.frame.function) instruction.Return) (Go r (address G s.frame.function s.frame.at) b s.input s.trace) (IsBack G r0 s G.watch_ra)
   comes_back r0 e2 ef [] st eb some e = absurd (omega (arith, some))
   comes_back r0 e2 ef (w ∷ ws) st eb some e =
       let q = st.0.seen eb in
@@ -93,9 +93,9 @@ module _ (G : Ground) (s : State) (r b : ℕ → ℕ) (ready : Ready G) (m : Mat
 
 module _ (G : Ground) (ready : Ready G) where
   returns_back : (r0 : ℕ → ℕ) → G.watch_sp ≡ r0 2 → ((j : ℕ) → G.watch_file j ≡ file_of r0 j) → (t : State) → bytes_of G.program t.waiting + G.watch_sp ≡ G.sp → 0 < bytes_of G.program t.waiting → next_of G.program t ≡ Some instruction.Return → (m : Light) → Matches G (running t) m
-      → Comes G.machine Anything 1 43 m (IsBack G r0 t G.watch_ra)
+      → Comes G.machine Anything 1 (row (function_at G.program t.frame.function) instruction.Return) m (IsBack G r0 t G.watch_ra)
   returns_back r0 e2 ef t sum some e (Go r at b i h) q =
-      let R : Light → Type 0 = λ x. Comes G.machine Anything 1 43 x (IsBack G r0 t G.watch_ra) in
+      let R : Light → Type 0 = λ x. Comes G.machine Anything 1 (row (function_at G.program t.frame.function) instruction.Return) x (IsBack G r0 t G.watch_ra) in
       let m = subst (λ x. Matched G t r x b) q.0.at_is q.0 in
       let there = address G t.frame.function t.frame.at in
       let whole = sum_is G ready t r there b m in
@@ -132,12 +132,14 @@ each_call_keeps G s t f n r b ready m bytes e over et same rooms within =
     let hm = matched_watched G m.sp to (file_of r) s r here b m refl in
     let sum = sum_is G ready s r here b m in
     let s1 = entered s f in
+    let call = step_cost p mine (instruction.Call f) in
+    let leaving = row (function_at p t.frame.function) instruction.Return in
     let begin = Go r here b s.input s.trace in
-    let one : Comes H.machine Anything 1 44 begin (Matches H (running s1)) = does_call H s r b hr hm f (λ x. (refl, λ j. refl)) e (rooms 0 (omega arith)) in
-    let two : Comes H.machine Anything (1 + least_spent p n s1) (44 + spent p n s1) begin (Matches H (run p n s1)) =
-    comes_then H.machine Anything 44 (spent p n s1) begin (Matches H (running s1)) (Matches H (run p n s1)) one
+    let one : Comes H.machine Anything 1 call begin (Matches H (running s1)) = does_call H s r b hr hm f (λ x. (refl, λ j. refl)) e (rooms 0 (omega arith)) in
+    let two : Comes H.machine Anything (1 + least_spent p n s1) (call + most_spent p n s1) begin (Matches H (run p n s1)) =
+    comes_then H.machine Anything call (most_spent p n s1) begin (Matches H (running s1)) (Matches H (run p n s1)) one
     (λ m2 q. steps H hr n s1 m2 q bytes rooms (λ k lt. under H s (run p k s1) (omega (arith, sum)) (within k (omega (arith, lt))))) in
-    let three : Comes H.machine Anything (1 + least_spent p n s1 + 1) (44 + spent p n s1 + 43) begin (IsBack H r t to) =
-    comes_then H.machine Anything (44 + spent p n s1) 43 begin (Matches H (run p n s1)) (IsBack H r t to) two
+    let three : Comes H.machine Anything (1 + least_spent p n s1 + 1) (call + most_spent p n s1 + leaving) begin (IsBack H r t to) =
+    comes_then H.machine Anything (call + most_spent p n s1) leaving begin (Matches H (run p n s1)) (IsBack H r t to) two
     (λ m2 q. returns_back H hr r (sym m.sp_is) (λ j. refl) t (omega (arith, sum, same)) (omega (arith, same, frame_room mine)) et m2 (subst (λ x. Matches H x m2) over q)) in
     record { j = three.j; some = omega (arith, three.some); within = three.within; kept = three.kept; good = back_same G m.sp to (file_of r) r t to (light_run G.machine three.j begin) three.good }

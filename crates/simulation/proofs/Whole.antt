@@ -1,5 +1,5 @@
 -- The machine follows flat code: from a program's entry to its end.
-use Rattle.std.proofs.Common.{◌≡◌, ℕ, ◌+◌, ◌*◌, ◌-◌, ◌^◌, ◌<◌, ◌≤◌, List, [], length, refl, sym, ap, ◌∙◌, subst, arith}
+use Rattle.std.proofs.Common.{◌≡◌, ℕ, ◌+◌, ◌*◌, ◌-◌, ◌^◌, ◌<◌, ◌≤◌, List, [], length, suc, refl, sym, ap, ◌∙◌, subst, arith}
 use Rattle.std.specs.Prelude.{slice_get}
 use Rattle.loader.specs.MemoryMap.{stack_end}
 use Rattle.rv32.specs.declared.instr.ImmediateOp.TheVariants as immediate_op
@@ -7,19 +7,18 @@ use Rattle.rv32.specs.Space.{word_at}
 use Rattle.asm.specs.Placed.{Stands}
 use Rattle.events.specs.Events.{Event}
 use Rattle.frames.specs.Code.{Program, frame_bytes}
-use Rattle.frames.specs.Costs.{entry_cost, spent}
 use Rattle.frames.specs.Run.{unset, Progress, running, ended, stuck, run, start, function_at}
 use Rattle.running.specs.Light.{Fixed, Light, Go, Done, Fell, with_reg, Comes}
 use Rattle.running.proofs.Words.{with_other}
-use Rattle.running.proofs.Steps.{comes_now, comes_some, comes_then, on_immediate, on_exit}
+use Rattle.running.proofs.Steps.{comes_now, comes_by, comes_some, comes_then, on_immediate, on_exit}
 use Rattle.running.proofs.ItemSteps.{on_loads, on_call}
 use Rattle.running.proofs.Placing.{stands_parts}
 use Rattle.select.specs.Selected.{kept, exit}
 use Rattle.select.specs.Program.{functions_items}
 use Rattle.simulation.specs.Matches.{HasRoom, IsBelow, Ground, ArgumentsShow, Waits, Matches, address, argument_at, file_of}
-use Rattle.simulation.specs.Costs.{least_spent}
+use Rattle.simulation.specs.Costs.{least_spent, opening_cost, most_start, most_spent}
 use Rattle.simulation.specs.Laws.{Anything, AreBytes}
-use Rattle.simulation.specs.Runs.{Laid, Entered, outermost, ground_at, start_cost, EntriesFollow, ConventionKept, BeginsFollow, EndsFollow}
+use Rattle.simulation.specs.Runs.{Laid, Entered, outermost, ground_at, EntriesFollow, ConventionKept, BeginsFollow, EndsFollow}
 use Rattle.simulation.proofs.Registers.{kept_above}
 use Rattle.simulation.proofs.Fits.{Within, frame_tall, function_fits}
 use Rattle.simulation.proofs.Entering.{enters}
@@ -48,8 +47,8 @@ entries G g temporaries arguments statics input trace r at b ready known q room 
     let old = q.further k v ek in
     let there : argument_at f sp k ≡ G.sp + 4 * (k - 8) = omega (arith, up) in
     (old.0, omega (arith, there, old.1), ap (word_at b) there ∙ old.2) in
-    subst (λ x. Comes G.machine Anything 1 42 (Go r x b input trace) Q) (sym q.at_is)
-    (enters G.machine G.env G.data_at input trace Q f sp win (record { reads = ready.stack_read; writes = ready.stack_written }) G.sp (G.env g) (address G g 0) r b fit.few fit.all up ready.top fit.small q.sp_is q.small small q.bytes (ready.entries g known) (λ r2 b2 o.
+    subst (λ x. Comes G.machine Anything 1 (opening_cost f) (Go r x b input trace) Q) (sym q.at_is)
+    (enters G.machine G.env G.data_at input trace Q f sp win (record { reads = ready.stack_read; writes = ready.stack_written }) G.sp (G.env g) (address G g 0) r b fit.all up ready.top fit.small q.sp_is q.small small q.bytes (ready.entries g known) (λ r2 b2 o.
     comes_now G.machine Anything 0 _ Q tt
     (opened_matched G ready g sp temporaries arguments [] statics input trace r b r2 b2 win q.small q.registers xs q.globals waits o, refl, refl)))
 
@@ -59,9 +58,9 @@ convention G f temporaries arguments statics input trace r at b ready known q by
     let s = outermost f temporaries arguments statics input trace in
     let here = Go r at b input trace in
     let one = entries G f temporaries arguments statics input trace r at b ready known q (rooms 0 (omega arith)) in
-    let two = comes_then G.machine Anything entry_cost (spent p n s) here (Matches G (running s)) (Matches G (run p n s)) one (λ m k. steps G ready n s m k bytes rooms (λ j lt. unwatched G q.unwatched ready.top (run p j s))) in
-    let all : Comes G.machine Anything (1 + least_spent p n s) (entry_cost + spent p n s) here (Matches G (ended status left later)) =
-    subst (λ x. Comes G.machine Anything (1 + least_spent p n s) (entry_cost + spent p n s) here (Matches G x)) over two in
+    let two = comes_then G.machine Anything (opening_cost (function_at p f)) (most_spent p n s) here (Matches G (running s)) (Matches G (run p n s)) one (λ m k. steps G ready n s m k bytes rooms (λ j lt. unwatched G q.unwatched ready.top (run p j s))) in
+    let all : Comes G.machine Anything (1 + least_spent p n s) (opening_cost (function_at p f) + most_spent p n s) here (Matches G (ended status left later)) =
+    subst (λ x. Comes G.machine Anything (1 + least_spent p n s) (opening_cost (function_at p f) + most_spent p n s) here (Matches G x)) over two in
     record { j = all.j; some = omega (arith, all.some); within = all.within; kept = all.kept; good = all.good }
 
 pub begins : BeginsFollow
@@ -90,9 +89,11 @@ begins p F env data_at base e r b input q room =
       globals = q.statics;
       unwatched = omega arith;
     } in
-    on_loads F Anything Q 44 r base b input [] tt 2 stack_end st.0 refl c tt
-    (on_call F Anything Q 42 r1 st.0 b input [] tt (env p.main) ra (ready.entry_aligned p.main ready.sound.has_main) call tt
-    (entries G p.main unset unset (slice_get p.statics) input [] r2 (env p.main) b ready ready.sound.has_main entered room))
+    let opened = opening_cost (function_at p p.main) in
+    comes_by F Anything (suc (suc (suc (suc opened)))) (4 + opened) (Go r base b input []) Q (omega arith)
+    (on_loads F Anything Q (suc (suc opened)) r base b input [] tt 2 stack_end st.0 refl c tt
+    (on_call F Anything Q opened r1 st.0 b input [] tt (env p.main) ra (ready.entry_aligned p.main ready.sound.has_main) call tt
+    (entries G p.main unset unset (slice_get p.statics) input [] r2 (env p.main) b ready ready.sound.has_main entered room)))
 
 -- behind main's call, or where the program has exited
 exits : (G : Ground) (status : ℕ) (left : List ℕ) (trace : List Event) (e : ℕ) → Stands G.machine.text G.env G.data_at exit G.ra e → (m : Light) → Matches G (ended status left trace) m → Comes G.machine Anything 0 2 m (λ x. x ≡ Done status trace)
@@ -108,12 +109,12 @@ exits G status left trace e st (Fell h) q = absurd q
 
 -- after n steps
 pub comes_to : (p : Program) (F : Fixed) (env : ℕ → ℕ) (data_at base e : ℕ) (r b : ℕ → ℕ) (input : List ℕ) → Laid p F env data_at base e r b → AreBytes input → (n : ℕ) → ((k : ℕ) → k ≤ n → HasRoom (ground_at p F env data_at base r b) (run p k (start p input)))
-    → Comes F Anything (1 + least_spent p n (start p input)) (start_cost + spent p n (start p input)) (Go r base b input []) (Matches (ground_at p F env data_at base r b) (run p n (start p input)))
+    → Comes F Anything (1 + least_spent p n (start p input)) (most_start p + most_spent p n (start p input)) (Go r base b input []) (Matches (ground_at p F env data_at base r b) (run p n (start p input)))
 comes_to p F env data_at base e r b input q bytes n rooms =
     let G = ground_at p F env data_at base r b in
     let s = start p input in
     let one = begins p F env data_at base e r b input q (rooms 0 (omega arith)) in
-    comes_then F Anything start_cost (spent p n s) (Go r base b input []) (Matches G (running s)) (Matches G (run p n s)) one (λ m k. steps G (is_ready p F env data_at base e r b q) n s m k bytes rooms (λ j lt. unwatched G (omega arith) (omega arith) (run p j s)))
+    comes_then F Anything (most_start p) (most_spent p n s) (Go r base b input []) (Matches G (running s)) (Matches G (run p n s)) one (λ m k. steps G (is_ready p F env data_at base e r b q) n s m k bytes rooms (λ j lt. unwatched G (omega arith) (omega arith) (run p j s)))
 
 pub ends : EndsFollow
 ends p F env data_at base e r b input q bytes n status left trace over rooms =
@@ -126,6 +127,6 @@ ends p F env data_at base e r b input q bytes n status left trace over rooms =
     let parts = stands_parts F.text env data_at exit (functions_items 0 (length p.functions) p.functions) ra e q.stands.2.2 in
     let tail : Stands F.text env data_at exit (base + 16) parts.0 = subst (λ x. Stands F.text env data_at exit x parts.0) ra_is parts.1 in
     let two = comes_to p F env data_at base e r b input q bytes n rooms in
-    let all : Comes F Anything (1 + least_spent p n s + 0) (start_cost + spent p n s + 2) here P =
-    comes_then F Anything (start_cost + spent p n s) 2 here (Matches G (run p n s)) P two (λ m k. exits G status left trace parts.0 tail m (subst (λ x. Matches G x m) over k)) in
+    let all : Comes F Anything (1 + least_spent p n s + 0) (most_start p + most_spent p n s + 2) here P =
+    comes_then F Anything (most_start p + most_spent p n s) 2 here (Matches G (run p n s)) P two (λ m k. exits G status left trace parts.0 tail m (subst (λ x. Matches G x m) over k)) in
     record { j = all.j; some = omega (arith, all.some); within = all.within; kept = all.kept; good = all.good }

@@ -12,8 +12,7 @@ use Rattle.frames.specs.declared.code.Instruction.TheVariants as instruction
 use Rattle.frames.specs.Run.{State, running, act, function_at}
 use Rattle.running.specs.Light.{Light, Go, Comes}
 use Rattle.simulation.specs.Matches.{Ground, Ready, Matched, Matches, HasRoom, IsBelow, address}
-use Rattle.frames.specs.Costs.{cost}
-use Rattle.simulation.specs.Costs.{least, least_at}
+use Rattle.simulation.specs.Costs.{least, least_at, most_at, row}
 
 abbrev pub Anything : Light → Type 0
 Anything m = Unit {0}
@@ -24,7 +23,7 @@ abbrev pub Follows : Instruction → Type 0
 Follows x =
     (G : Ground) (s : State) (r b : ℕ → ℕ) → Ready G → Matched G s r (address G s.frame.function s.frame.at) b → IsBelow G (running s)
     → slice_get (function_at G.program s.frame.function).code s.frame.at ≡ Some x → HasRoom G (act G.program s x)
-    → Comes G.machine Anything (least_at s.frame.at x) (cost x) (Go r (address G s.frame.function s.frame.at) b s.input s.trace) (Matches G (act G.program s x))
+    → Comes G.machine Anything (least_at s.frame.at x) (most_at G.program (function_at G.program s.frame.function) s.frame.at x) (Go r (address G s.frame.function s.frame.at) b s.input s.trace) (Matches G (act G.program s x))
 
 -- what is read is bytes
 abbrev pub AreBytes : List ℕ → Type 0
@@ -71,7 +70,7 @@ abbrev pub GetFollows : Type 0
 GetFollows =
     (G : Ground) (s : State) (r b : ℕ → ℕ) → Ready G → Matched G s r (address G s.frame.function s.frame.at) b → IsBelow G (running s) → AreBytes s.input
     → slice_get (function_at G.program s.frame.function).code s.frame.at ≡ Some instruction.GetByte → HasRoom G (act G.program s instruction.GetByte)
-    → Comes G.machine Anything (least instruction.GetByte) (cost instruction.GetByte) (Go r (address G s.frame.function s.frame.at) b s.input s.trace) (Matches G (act G.program s instruction.GetByte))
+    → Comes G.machine Anything (least instruction.GetByte) (row (function_at G.program s.frame.function) instruction.GetByte) (Go r (address G s.frame.function s.frame.at) b s.input s.trace) (Matches G (act G.program s instruction.GetByte))
 
 abbrev pub CallsFollow : Type 0
 CallsFollow = (f : ℕ) → Follows (instruction.Call f)

@@ -7,7 +7,7 @@ use Rattle.frames.specs.Code.{Function, Program, cell_home, area_home, frame_byt
 use Rattle.frames.specs.Sound.{IsSoundProgram, places_of}
 use Rattle.frames.specs.Run.{Value, word, reference, Values, Bytes, Frame, State, Progress, running, ended, stuck, function_at, bytes_of}
 use Rattle.running.specs.Light.{Fixed, Light, Go, Done, Fell}
-use Rattle.select.specs.Selected.{kept, items_of, entry, return_home, shortened}
+use Rattle.select.specs.Selected.{kept, calls, items_of, entry, return_home, shortened}
 
 -- A program whose items are placed, and what its outermost call found at its entry: the stack pointer, the address to return to,
 -- s0 to s11, and the bytes from the stack pointer up. And a call that waits, of which one may speak: where its frame begins (2^32: none does),
@@ -51,6 +51,10 @@ cell_at f b sp s c = if nat_lt c f.resident then s c else word_at b (sp + cell_h
 abbrev pub file_below : Function → (ℕ → ℕ) → ℕ → (ℕ → ℕ) → ℕ → ℕ
 file_below f b sp s j = if nat_lt j f.resident then word_at b (sp + cell_home f j) else s j
 
+-- where a frame is returned to: a function that calls has the address in its frame, and ra has it in another one
+abbrev pub return_at : Function → (ℕ → ℕ) → (sp ra : ℕ) → ℕ
+return_at f b sp ra = if calls f.code then word_at b (sp + return_home f) else ra
+
 abbrev pub temporary_at : (r b : ℕ → ℕ) → ℕ → ℕ → ℕ
 temporary_at r b sp k = if nat_lt k 8 then r (10 + k) else word_at b (sp + 4 * (k - 8))
 
@@ -78,11 +82,12 @@ pub record FrameHolds (G : Ground) (f : Function) (values : Values) (arrays : By
   pub cells : Shows G f.cells values (cell_at f b sp s)
   pub area : Holds arrays sp (area_home f) (area_home f + f.area) b
 
--- an address to return to, of a call whose frame begins at base and which sees the registers s
+-- an address to return to, of a call whose frame begins at base and which sees the registers s; it is in a function that calls
 pub record Returns (G : Ground) (w : Frame) (s : ℕ → ℕ) (base ra : ℕ) : Type 0 where
   pub at_is : ra ≡ address G w.function w.at
   pub aligned : ra % 4 ≡ 0
   pub small : ra < 2 ^ 32
+  pub calls : calls (function_at G.program w.function).code ≡ true
   pub seen : base ≡ G.watch_sp → (ra ≡ G.watch_ra) × ((j : ℕ) → s j ≡ G.watch_file j)
 
 -- The calls that wait, from base up, where the one on top sees the registers s, and is returned to at ra. Below them all is what the
@@ -106,7 +111,7 @@ pub record Matched (G : Ground) (s : State) (r : ℕ → ℕ) (at : ℕ) (b : �
   pub arguments : ArgumentsShow G (function_at G.program s.frame.function) s.arguments b sp
   pub statics : Holds s.statics G.data_at 0 (length G.program.statics) b
   pub waits : Waits G s.waiting b (file_below (function_at G.program s.frame.function) b sp (file_of r))
-      (sp + frame_bytes (function_at G.program s.frame.function)) (word_at b (sp + return_home (function_at G.program s.frame.function)))
+      (sp + frame_bytes (function_at G.program s.frame.function)) (return_at (function_at G.program s.frame.function) b sp (r 1))
 
 -- The outermost call has returned: the stack pointer, s0 to s11 and the bytes from the stack pointer up are as it found them, and its
 -- result is in a0 (RISC-V ELF psABI, "Integer Calling Convention").

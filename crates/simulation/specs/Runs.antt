@@ -8,7 +8,7 @@ use Rattle.events.specs.Events.{Event}
 use Rattle.frames.specs.declared.code.Instruction.TheVariants as instruction
 use Rattle.frames.specs.Code.{Program}
 use Rattle.frames.specs.Sound.{IsSoundProgram, places_of}
-use Rattle.frames.specs.Run.{Value, word, Values, Bytes, unset, State, Progress, running, ended, stuck, entered, bytes_of, step, run, start}
+use Rattle.frames.specs.Run.{Value, word, Values, Bytes, unset, State, Progress, running, ended, stuck, entered, function_at, bytes_of, step, run, start}
 use Rattle.sim.specs.Runs.{World, Running, Ended, rvrun}
 use Rattle.running.specs.Light.{Fixed, Light, Go, Done, Fell, Comes}
 use Rattle.running.specs.Whole.{Permits, fixed}
@@ -16,22 +16,22 @@ use Rattle.running.specs.Worlds.{Registers, world}
 use Rattle.select.specs.Selected.{kept}
 use Rattle.select.specs.Program.{program_items}
 use Rattle.simulation.specs.Matches.{Ground, Ready, Matched, Matches, HasRoom, IsBelow, Holds, Small, address, first_of, file_of, shown}
-use Rattle.frames.specs.Costs.{entry_cost, cost, cost_if, next_of, spent}
-use Rattle.simulation.specs.Costs.{least_if, least_spent}
+use Rattle.frames.specs.Costs.{next_of}
+use Rattle.simulation.specs.Costs.{least_if, least_spent, opening_cost, step_cost, most_next, most_spent, most_start}
 use Rattle.simulation.specs.Laws.{Anything, AreBytes}
 
 -- Whatever instruction stands there; also where none does, or the step is stuck.
 abbrev pub StepFollows : Type 0
 StepFollows =
     (G : Ground) (s : State) (r b : ℕ → ℕ) → Ready G → Matched G s r (address G s.frame.function s.frame.at) b → IsBelow G (running s) → AreBytes s.input → HasRoom G (step G.program s)
-    → Comes G.machine Anything (least_if s.frame.at (next_of G.program s)) (cost_if (next_of G.program s)) (Go r (address G s.frame.function s.frame.at) b s.input s.trace) (Matches G (step G.program s))
+    → Comes G.machine Anything (least_if s.frame.at (next_of G.program s)) (most_next G.program s) (Go r (address G s.frame.function s.frame.at) b s.input s.trace) (Matches G (step G.program s))
 
 -- After n steps of flat code, after a count of instructions between the sums of the table's rows, the machine matches, where all frames on
 -- the way fit the stack, and lie below the call of which one speaks, if any.
 abbrev pub RunsFollow : Type 0
 RunsFollow =
     (G : Ground) (n : ℕ) (s : State) (r b : ℕ → ℕ) → Ready G → Matched G s r (address G s.frame.function s.frame.at) b → AreBytes s.input → ((k : ℕ) → k ≤ n → HasRoom G (run G.program k s)) → ((k : ℕ) → k < n → IsBelow G (run G.program k s))
-    → Comes G.machine Anything (least_spent G.program n s) (spent G.program n s) (Go r (address G s.frame.function s.frame.at) b s.input s.trace) (Matches G (run G.program n s))
+    → Comes G.machine Anything (least_spent G.program n s) (most_spent G.program n s) (Go r (address G s.frame.function s.frame.at) b s.input s.trace) (Matches G (run G.program n s))
 
 -- Steps without items are no more in a row than a function has instructions: a run that goes on for n steps lets the machine go on too.
 abbrev pub slack : Program → ℕ
@@ -74,7 +74,7 @@ abbrev pub EntriesFollow : Type 0
 EntriesFollow =
     (G : Ground) (f : ℕ) (temporaries arguments : Values) (statics : Bytes) (input : List ℕ) (trace : List Event) (r : ℕ → ℕ) (at : ℕ) (b : ℕ → ℕ) → Ready G → f < length G.program.functions
     → Entered G f temporaries arguments statics r at b → HasRoom G (running (outermost f temporaries arguments statics input trace))
-    → Comes G.machine Anything 1 entry_cost (Go r at b input trace) (Matches G (running (outermost f temporaries arguments statics input trace)))
+    → Comes G.machine Anything 1 (opening_cost (function_at G.program f)) (Go r at b input trace) (Matches G (running (outermost f temporaries arguments statics input trace)))
 
 -- Where its run ends, the machine stands where it is returned to, with the stack pointer, s0 to s11 and the bytes above as it found them, and
 -- with its result in a0; or the program has exited.
@@ -84,7 +84,7 @@ ConventionKept =
     → Entered G f temporaries arguments statics r at b → AreBytes input
     → (n status : ℕ) (left : List ℕ) (later : List Event) → run G.program n (outermost f temporaries arguments statics input trace) ≡ ended status left later
     → ((k : ℕ) → k ≤ n → HasRoom G (run G.program k (outermost f temporaries arguments statics input trace)))
-    → Comes G.machine Anything 1 (entry_cost + spent G.program n (outermost f temporaries arguments statics input trace)) (Go r at b input trace) (Matches G (ended status left later))
+    → Comes G.machine Anything 1 (opening_cost (function_at G.program f) + most_spent G.program n (outermost f temporaries arguments statics input trace)) (Go r at b input trace) (Matches G (ended status left later))
 
 -- ---- each call within a run
 
@@ -109,7 +109,7 @@ EachCallKeeps =
     → next_of G.program s ≡ Some (instruction.Call f) → run G.program n (entered s f) ≡ running t
     → next_of G.program t ≡ Some instruction.Return → bytes_of G.program t.waiting ≡ bytes_of G.program (s.frame ∷ s.waiting)
     → ((k : ℕ) → k ≤ n → HasRoom G (run G.program k (entered s f))) → ((k : ℕ) → k ≤ n → IsWithin G.program s (run G.program k (entered s f)))
-    → Comes G.machine Anything 1 (cost (instruction.Call f) + spent G.program n (entered s f) + cost instruction.Return) (Go r (address G s.frame.function s.frame.at) b s.input s.trace)
+    → Comes G.machine Anything 1 (step_cost G.program (function_at G.program s.frame.function) (instruction.Call f) + most_spent G.program n (entered s f) + step_cost G.program (function_at G.program t.frame.function) instruction.Return) (Go r (address G s.frame.function s.frame.at) b s.input s.trace)
     (IsBack G r t (address G s.frame.function (s.frame.at + 1)))
 
 -- ---- whole programs
@@ -151,15 +151,11 @@ pub record Laid (p : Program) (F : Fixed) (env : ℕ → ℕ) (data_at base e : 
 abbrev pub LaidIsReady : Type 0
 LaidIsReady = (p : Program) (F : Fixed) (env : ℕ → ℕ) (data_at base e : ℕ) (r b : ℕ → ℕ) → Laid p F env data_at base e r b → Ready (ground_at p F env data_at base r b)
 
--- the items before main's call, the call, and main's entry
-abbrev pub start_cost : ℕ
-start_cost = 4 + entry_cost
-
 -- from its entry the machine comes to match the flat program's beginning
 abbrev pub BeginsFollow : Type 0
 BeginsFollow =
     (p : Program) (F : Fixed) (env : ℕ → ℕ) (data_at base e : ℕ) (r b : ℕ → ℕ) (input : List ℕ) → Laid p F env data_at base e r b → HasRoom (ground_at p F env data_at base r b) (running (start p input))
-    → Comes F Anything 1 start_cost (Go r base b input []) (Matches (ground_at p F env data_at base r b) (running (start p input)))
+    → Comes F Anything 1 (most_start p) (Go r base b input []) (Matches (ground_at p F env data_at base r b) (running (start p input)))
 
 -- a flat program that ends in n steps: the machine ends with the same status, having done the same
 abbrev pub EndsFollow : Type 0
@@ -167,7 +163,7 @@ EndsFollow =
     (p : Program) (F : Fixed) (env : ℕ → ℕ) (data_at base e : ℕ) (r b : ℕ → ℕ) (input : List ℕ) → Laid p F env data_at base e r b → AreBytes input
     → (n status : ℕ) (left : List ℕ) (trace : List Event) → run p n (start p input) ≡ ended status left trace
     → ((k : ℕ) → k ≤ n → HasRoom (ground_at p F env data_at base r b) (run p k (start p input)))
-    → Comes F Anything 1 (start_cost + spent p n (start p input) + 2) (Go r base b input []) (λ m. m ≡ Done status trace)
+    → Comes F Anything 1 (most_start p + most_spent p n (start p input) + 2) (Go r base b input []) (λ m. m ≡ Done status trace)
 
 -- ---- on the machine of the table, where no byte may be both executed and written, and text lies below 2^31
 
@@ -190,7 +186,7 @@ MachineGoesOn =
     → (p : Program) (env : ℕ → ℕ) (data_at base e : ℕ) (r b : ℕ → ℕ) (list input : List ℕ) → Laid p (fixed P b) env data_at base e r b → Registers list r → AreBytes input
     → (n : ℕ) (s : State) → run p n (start p input) ≡ running s
     → ((k : ℕ) → k ≤ n → HasRoom (ground_at p (fixed P b) env data_at base r b) (run p k (start p input)))
-    → (k : ℕ) × (w : World) × (n < slack p * k) × (k ≤ start_cost + spent p n (start p input)) × (rvrun k (world P list base b input []) ≡ Running w) × StandsWith p env s w
+    → (k : ℕ) × (w : World) × (n < slack p * k) × (k ≤ most_start p + most_spent p n (start p input)) × (rvrun k (world P list base b input []) ≡ Running w) × StandsWith p env s w
 
 -- where it ends
 abbrev pub MachineEnds : Type 0
@@ -199,7 +195,7 @@ MachineEnds =
     → (p : Program) (env : ℕ → ℕ) (data_at base e : ℕ) (r b : ℕ → ℕ) (list input : List ℕ) → Laid p (fixed P b) env data_at base e r b → Registers list r → AreBytes input
     → (n status : ℕ) (left : List ℕ) (trace : List Event) → run p n (start p input) ≡ ended status left trace
     → ((k : ℕ) → k ≤ n → HasRoom (ground_at p (fixed P b) env data_at base r b) (run p k (start p input)))
-    → (k : ℕ) × (w : World) × (k ≤ start_cost + spent p n (start p input) + 2) × (rvrun k (world P list base b input []) ≡ Ended status w) × (w.trace ≡ trace) × (w.input ≡ left)
+    → (k : ℕ) × (w : World) × (k ≤ most_start p + most_spent p n (start p input) + 2) × (rvrun k (world P list base b input []) ≡ Ended status w) × (w.trace ≡ trace) × (w.input ≡ left)
 
 -- Behind a call that t ends, which began in v: the machine stands there, the stack pointer and s0 to s11 are the same, the result, where it is a word, is
 -- in a0, and all is done that t has done.
@@ -220,6 +216,6 @@ MachineCallsKeep =
     → next_of p t ≡ Some instruction.Return → bytes_of p t.waiting ≡ bytes_of p (s.frame ∷ s.waiting)
     → ((k : ℕ) → k ≤ n → HasRoom (ground_at p (fixed P b) env data_at base r b) (run p k (start p input)))
     → ((k : ℕ) → k ≤ m → HasRoom (ground_at p (fixed P b) env data_at base r b) (run p k (entered s f))) → ((k : ℕ) → k ≤ m → IsWithin p s (run p k (entered s f)))
-    → (k j : ℕ) × (v w : World) × (n < slack p * k) × (k ≤ start_cost + spent p n (start p input)) × (0 < j) × (j ≤ cost (instruction.Call f) + spent p m (entered s f) + cost instruction.Return)
+    → (k j : ℕ) × (v w : World) × (n < slack p * k) × (k ≤ most_start p + most_spent p n (start p input)) × (0 < j) × (j ≤ step_cost p (function_at p s.frame.function) (instruction.Call f) + most_spent p m (entered s f) + step_cost p (function_at p t.frame.function) instruction.Return)
     × (rvrun k (world P list base b input []) ≡ Running v) × StandsWith p env s v
     × (rvrun (k + j) (world P list base b input []) ≡ Running w) × BackFrom t (env (first_of p s.frame.function + (s.frame.at + 1))) v w

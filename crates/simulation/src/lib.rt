@@ -2,7 +2,19 @@
 #![tactic(auto)]
 
 ghost use Rattle.simulation.specs.Laws.{NothingFollows, JumpsFollow, BranchesFollow, MovesFollow, ConversionsFollow, OperationsFollow, ExitFollows, AddressesFollow, ElementsFollow, LoadsFollow, StoresFollow, PutFollows, GetFollows, CallsFollow, ReturnsFollow};
+ghost use Rattle.simulation.specs.Costs.{SpentIsMore, RowsAreFew};
 ghost use Rattle.simulation.specs.Runs.{StepFollows, RunsFollow, Progresses, EachCallKeeps, LaidIsReady, EntriesFollow, ConventionKept, BeginsFollow, EndsFollow, MachineGoesOn, MachineEnds, MachineCallsKeep};
+
+/// The rows in short: a call and its entry come to 4 and the residents, a return to 3 and the residents, all else to 12 at most; and to 2 more for
+/// each operand that is far.
+pub fn rows_are_few()
+    ensures { RowsAreFew }
+{}
+
+/// A run comes to no more than by the table of `frames`, which needs no function.
+pub fn spent_is_more()
+    ensures { SpentIsMore }
+{}
 
 /// `Nothing` has no items, and the machine stays where it is.
 pub fn nothing_follows()

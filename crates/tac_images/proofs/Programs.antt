@@ -19,6 +19,7 @@ use Rattle.frames.specs.Sound.{IsSoundProgram}
 use Rattle.flattening.specs.Flattened.{IsFlattened, HasItsCalls, behind, before}
 use Rattle.simulation.specs.Runs.{StandsWith, slack}
 use Rattle.flat_images.specs.Images.{FitStack}
+use Rattle.simulation.proofs.Table.{spent_is_more}
 use Rattle.flat_images.proofs.Images.{image_goes_on, image_ends}
 use Rattle.tac_images.specs.Programs.{bytes_or_none, HasFrames, FlattenedGoesOn, FlattenedEnds, ProgramGoesOn, ProgramEnds}
 use Rattle.tac_images.proofs.Runs.{none_within, further, flattened_of}
@@ -103,11 +104,12 @@ flattened_goes_on p q f parts input lowered flattened image bytes n s over small
     let at = c.2.2 in
     let seen : (k : ℕ) → IsSeen (weight_in p) k (before q input m) → k ≤ greatest_sum (weight_in p) s.history = λ k h.
     subst (λ x. k ≤ greatest_sum (weight_in p) x) b.2.2 (subst (IsSeen (weight_in p) k) b.2.1 h) in
-    let w = image_goes_on f parts input image bytes c.0 u c.2.1 (λ j le. fits p q f lowered flattened image.sound (behind f input j) input m c.0 j c.4 le refl (greatest_sum (weight_in p) s.history) seen small) in (
+    let w = image_goes_on f parts input image bytes c.0 u c.2.1 (λ j le. fits p q f lowered flattened image.sound (behind f input j) input m c.0 j c.4 le refl (greatest_sum (weight_in p) s.history) seen small) in
+    let table = spent_is_more f image.sound in (
       w.0,
       w.1,
       further (slack f) n c.0 w.0 (omega (arith, b.1, c.1)) w.2,
-      omega (arith, w.3, c.3, b.3),
+      omega (arith, w.3, table.0, table.1 c.0 (flat_run.start f input), c.3, b.3),
       w.4,
       w.5.trace ∙ (at.0 ∙ ap trace_of b.2.2),
       w.5.input ∙ (at.1 ∙ b.2.3),
@@ -121,7 +123,8 @@ flattened_ends p q f parts input lowered flattened image bytes n status s over s
     let c = (flattened.in_step input bytes).ends m status s.input s.history b.1 in
     let seen : (k : ℕ) → IsSeen (weight_in p) k (before q input m) → k ≤ greatest_sum (weight_in p) s.history = λ k h. subst (IsSeen (weight_in p) k) b.1 h in
     let w = image_ends f parts input image bytes c.0 status s.input (trace_of s.history) c.1 (λ j le. fits p q f lowered flattened image.sound (behind f input j) input m c.0 j c.3 le refl (greatest_sum (weight_in p) s.history) seen small) in
-    (w.0, w.1, omega (arith, w.2, c.2, b.2), w.3, w.4, w.5)
+    let table = spent_is_more f image.sound in
+    (w.0, w.1, omega (arith, w.2, table.0, table.1 c.0 (flat_run.start f input), c.2, b.2), w.3, w.4, w.5)
 
 pub program_goes_on : ProgramGoesOn
 program_goes_on p q f parts input lowered made = flattened_goes_on p q f parts input lowered (flattened_of q f lowered.sound made)

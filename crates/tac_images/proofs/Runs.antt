@@ -15,6 +15,7 @@ use Rattle.flattening.specs.Flattened.{IsFlattened, HasItsCalls, behind, before}
 use Rattle.flat_steps.proofs.Whole.{flat_is_flattened}
 use Rattle.simulation.specs.Runs.{slack}
 use Rattle.flat_images.specs.Images.{FitStack}
+use Rattle.simulation.proofs.Table.{spent_is_more}
 use Rattle.flat_images.proofs.Images.{image_goes_on, image_ends}
 use Rattle.tac_images.specs.Runs.{CallsFit, TacGoesOn, TacEnds}
 
@@ -69,7 +70,8 @@ tac_goes_on q f parts input sound made image bytes n t over fit =
     let s = c.2.0 in
     let at = c.2.2 in
     let w = image_goes_on f parts input image bytes m s c.2.1 (λ j le. fits q f flattened (behind f input j) input n m j c.4 le refl fit) in
-    (w.0, w.1, further (slack f) n m w.0 c.1 w.2, omega (arith, w.3, c.3), w.4, w.5.trace ∙ at.0, w.5.input ∙ at.1)
+    let table = spent_is_more f image.sound in
+    (w.0, w.1, further (slack f) n m w.0 c.1 w.2, omega (arith, w.3, table.0, table.1 m (flat_run.start f input), c.3), w.4, w.5.trace ∙ at.0, w.5.input ∙ at.1)
 
 pub tac_ends : TacEnds
 tac_ends q f parts input sound made image bytes n status left history over fit =
@@ -77,4 +79,5 @@ tac_ends q f parts input sound made image bytes n status left history over fit =
     let c = (flattened.in_step input bytes).ends n status left history over in
     let m = c.0 in
     let w = image_ends f parts input image bytes m status left (trace_of history) c.1 (λ j le. fits q f flattened (behind f input j) input n m j c.3 le refl fit) in
-    (w.0, w.1, omega (arith, w.2, c.2), w.3, w.4, w.5)
+    let table = spent_is_more f image.sound in
+    (w.0, w.1, omega (arith, w.2, table.0, table.1 m (flat_run.start f input), c.2), w.3, w.4, w.5)

@@ -1,0 +1,5 @@
+use Rattle.simulation.proofs.Table as laws
+use Rattle.simulation.proofs.spent_is_more.Goals as goal
+
+pub returns : goal.returns
+returns c = laws.spent_is_more
