@@ -55,27 +55,54 @@ grep ' steps, ' told | tr -d ',:' | while read -r name _ _ instructions _ _ _ _ 
         "$(riscv64-unknown-elf-size $kernel-0 | awk 'NR == 2 { print $1 }')" "$(riscv64-unknown-elf-size $kernel-s | awk 'NR == 2 { print $1 }')"
 done
 
-# made TIMES: nanoseconds to read, build and run once a program with eight functions of TIMES additions that are never reached.
-made() {
-    {
-        echo 'program long'
-        for _ in 1 2 3 4 5 6 7 8; do
-            echo 'function 3 2 0 0'
-            echo 'move t0 0'
-            echo 'return'
-            echo "$1* add c2 c0 c1"
-        done
-        echo 'ends 0'
-    } >long.txt
-    best=
-    for _ in 1 2 3 4 5; do
-        begin=$(date +%s%N)
-        "$rows" long.txt >/dev/null || exit 1
-        took=$(($(date +%s%N) - begin))
-        [ -n "$best" ] && [ "$best" -le $took ] || best=$took
-    done
-    echo "$best"
+# mix COUNT FILE..: a program of the functions of these files' programs, each named as often as chance has it, until it has COUNT instructions.
+mix() {
+    count=$1
+    shift
+    awk -v count="$count" 'function chance(n) { seed = (seed * 1103515245 + 12345) % 2147483648; return int(seed / 65536) % n }
+        BEGIN { seed = 7 }
+        /^(#|input|statics|ends|main|$)/ { next }
+        $1 == "program" { programs++; next }
+        $1 == "function" { functions[programs]++ }
+        { sub(/^[0-9]+: /, ""); line[programs, ++lines[programs]] = $0 }
+        END {
+            print "program mix\nstatics 00*65536\nfunction 0 0 0 0\nmove t0 0\nreturn"
+            first = 1
+            while (made < count) {
+                k = chance(programs) + 1
+                for (l = 1; l <= lines[k]; l++) {
+                    text = line[k, l]
+                    if (text ~ /^call /) text = "call " (substr(text, 6) + first)
+                    if (text !~ /^function/) made++
+                    print text
+                }
+                first += functions[k]
+            }
+            print "ends 0"
+        }' "$@"
 }
-few=$(made 10000)
-many=$(made 110000)
-awk -v a="$few" -v b="$many" 'BEGIN { printf "\n%.2f million flat instructions a second, %.2f million machine instructions: select, assemble, write_elf and load (800,000 flat instructions more, in %.3f s)\n", 800000 / (b - a) * 1e3, 1600000 / (b - a) * 1e3, (b - a) / 1e9 }'
+
+# least TIMES: the least nanoseconds of processor time, of eleven runs, to make the text of mix.txt so many times.
+least() {
+    python3 - "$rows" "$1" <<'PY'
+import resource, subprocess, sys
+def spent():
+    usage = resource.getrusage(resource.RUSAGE_CHILDREN)
+    return usage.ru_utime + usage.ru_stime
+best = 1e9
+for _ in range(11):
+    before = spent()
+    subprocess.run([sys.argv[1], 'mix.txt', '--times', sys.argv[2]], stdout=subprocess.DEVNULL, check=True)
+    best = min(best, spent() - before)
+print(int(best * 1e9))
+PY
+}
+
+echo
+for files in "$root/bench/flat.txt" "$root/crates/flat_rows/data/random.txt"; do
+    mix 200000 "$files" >mix.txt
+    once=$(least 1)
+    often=$(least 11)
+    count=$("$rows" mix.txt --times 1 | awk '{ print $1 }')
+    echo "$(basename "$files") $count $once $often" | awk '{ printf "%-10s %6.2f million flat instructions a second, select and assemble (%d, ten times, in %.3f s)\n", $1, $2 * 1e4 / ($4 - $3), $2, ($4 - $3) / 1e9 }'
+done

@@ -1,12 +1,12 @@
 -- The table from labels to items.
-use Rattle.std.proofs.Common.{length, ◌≡◌, inl, inr, ℕ, ◌+◌, ◌<◌, List, Bool, refl, sym, ap, ◌∙◌, subst, arith}
+use Rattle.std.proofs.Common.{◌≢◌, length, set, ◌≡◌, inl, inr, ℕ, ◌+◌, ◌<◌, List, Bool, refl, sym, ap, ◌∙◌, subst, arith, get_or-set_same, get_or-set_other, length-set}
 use Rattle.std.specs.Prelude.{slice_index}
-use Rattle.std.proofs.lemmas.Bool.{cases_lt}
+use Rattle.std.proofs.lemmas.Bool.{cases_lt, cases_eq}
 use Rattle.rv32.specs.declared.instr.Test.{Test}
 use Rattle.asm.specs.declared.item.Item.{Item}
 use Rattle.asm.specs.declared.item.Item.TheVariants.{Mark, Plain, Branch, Jump, Call, Constant, LabelAddress, DataAddress}
 use Rattle.asm.specs.Layout.{item_at, place, Near, Refers, IsSound}
-use Rattle.asm.specs.inside.Choice.{IsMark, IsFine, IsTable, AllFine, AllMarked, Notes}
+use Rattle.asm.specs.inside.Choice.{IsMark, IsTable, IsNoted, IsUnfit, IsHome, AllAre, AllInside, Noting}
 
 is_mark : (x : Item) (l : ℕ) → IsMark x l → x ≡ Mark l
 is_mark (Mark k) l e = ap Mark e
@@ -35,54 +35,92 @@ home_of homes xs k t l r to s lt e =
 pub near_mark : (homes : List ℕ) (L : ℕ → Bool) (base : ℕ) (xs : List Item) (i h to : ℕ) → IsTable homes xs → h < length xs → item_at xs h ≡ Mark to → Near (place L base xs i) (place L base xs (slice_index homes to)) → Near (place L base xs i) (place L base xs h)
 near_mark homes L base xs i h to s lt m n = subst (λ (j : ℕ). Near (place L base xs i) (place L base xs j)) (s.once h to lt m) n
 
--- ---- from the tests to the table
+-- ---- how the table is filled
 
-refers_of : (homes : List ℕ) (k : ℕ) (x : Item) → IsFine homes k x → Refers (length homes) x
-refers_of homes k (Mark l) f = f.0
-refers_of homes k (Plain i) f = f
-refers_of homes k (Branch t a b to) f = f
-refers_of homes k (Jump to) f = f
-refers_of homes k (Call to) f = f
-refers_of homes k (Constant rd v) f = f
-refers_of homes k (LabelAddress rd l) f = f
-refers_of homes k (DataAddress rd o) f = f
-
-fine_of : (homes : List ℕ) (k : ℕ) (x : Item) → Refers (length homes) x → ((l : ℕ) → x ≡ Mark l → slice_index homes l ≡ k) → IsFine homes k x
-fine_of homes k (Mark l) f home = (f, home l refl)
-fine_of homes k (Plain i) f home = f
-fine_of homes k (Branch t a b to) f home = f
-fine_of homes k (Jump to) f home = f
-fine_of homes k (Call to) f home = f
-fine_of homes k (Constant rd v) f home = f
-fine_of homes k (LabelAddress rd l) f home = f
-fine_of homes k (DataAddress rd o) f home = f
-
-home_is : (homes : List ℕ) (k l : ℕ) (x : Item) → IsFine homes k x → x ≡ Mark l → slice_index homes l ≡ k
-home_is homes k l x f e = (subst (λ (y : Item). IsFine homes k y) e f).1
-
-pub table_of : (homes : List ℕ) (xs : List Item) → AllFine homes xs (length xs) → AllMarked homes xs (length homes) → IsTable homes xs
-table_of homes xs f m = record {
-  refers = λ k lt. refers_of homes k (item_at xs k) (f.all k lt);
-  inside = m.inside;
-  marks = m.marks;
-  once = λ k l lt e. home_is homes k l (item_at xs k) (f.all k lt) e;
+pub noting_none : (homes : List ℕ) (xs : List Item) → AllAre homes (length xs) (length homes) → Noting homes xs 0
+noting_none homes xs a = record {
+  refers = λ k lt. absurd (omega (arith, lt));
+  once = λ k l lt e. absurd (omega (arith, lt));
+  marks = λ l lt ne. absurd (ne (a.all l lt));
 }
 
-pub all_fine : (homes : List ℕ) (xs : List Item) → IsTable homes xs → AllFine homes xs (length xs)
-all_fine homes xs s = record { all = λ k lt. fine_of homes k (item_at xs k) (s.refers k lt) (λ l e. s.once k l lt e) }
+-- item n marks no label
+noting_other : (homes : List ℕ) (xs : List Item) (n : ℕ) → Noting homes xs n → Refers (length homes) (item_at xs n) → ((l : ℕ) → item_at xs n ≡ Mark l → ⊥) → Noting homes xs (n + 1)
+noting_other homes xs n s r bare = record {
+  refers = λ k lt. elim (cases_lt k n) [ inl below ↦ s.refers k below | inr above ↦ (let same : k ≡ n = omega arith in rw same r) ];
+  once = λ k l lt e. elim (cases_lt k n) [
+    | inl below ↦ s.once k l below e
+    | inr above ↦ (let same : k ≡ n = omega arith in absurd (bare l (subst (λ (j : ℕ). item_at xs j ≡ Mark l) same e)))
+  ];
+  marks = λ l lt ne. (let h = s.marks l lt ne in (omega (arith, h.0), h.1));
+}
 
-pub all_marked : (homes : List ℕ) (xs : List Item) → IsTable homes xs → AllMarked homes xs (length homes)
-all_marked homes xs s = record { inside = s.inside; marks = s.marks }
+same_label : (k l : ℕ) → Mark k ≡ Mark l → k ≡ l
+same_label k l e = subst (λ (x : Item). IsMark x l) (sym e) refl
 
--- ---- loops
+-- item n marks a label that has the end
+noting_mark : (homes : List ℕ) (xs : List Item) (n m : ℕ) → Noting homes xs n → n < length xs → item_at xs n ≡ Mark m → m < length homes → slice_index homes m ≡ length xs → Noting (set homes m n) xs (n + 1)
+noting_mark homes xs n m s lt is known free =
+    let here : slice_index (set homes m n) m ≡ n = rw get_or-set_same in
+    let there : (l : ℕ) → l ≢ m → slice_index (set homes m n) l ≡ slice_index homes l = λ l ne. rw get_or-set_other in
+    let size : length (set homes m n) ≡ length homes = rw length-set in
+    record {
+      refers = λ k below. subst (λ (w : ℕ). Refers w (item_at xs k)) (sym size) (elim (cases_lt k n) [
+        | inl before ↦ s.refers k before
+        | inr above ↦ (let same : k ≡ n = omega arith in rw (same, is) known)
+      ]);
+      once = λ k l below e. elim (cases_lt k n) [
+        | inl before ↦ there l (λ same. (let home = s.once k l before e in let full = subst (λ (j : ℕ). slice_index homes j ≡ k) same home in omega (arith, full, free))) ∙ s.once k l before e
+        | inr above ↦ (let same : k ≡ n = omega arith in
+            let label : m ≡ l = same_label m l (sym is ∙ subst (λ (j : ℕ). item_at xs j ≡ Mark l) same e) in
+            subst (λ (j : ℕ). slice_index (set homes m n) j ≡ k) label (here ∙ sym same))
+      ];
+      marks = λ l below ne. elim (cases_eq l m) [
+        | inl same ↦ subst (λ (j : ℕ). IsHome xs (n + 1) j (slice_index (set homes m n) j)) (sym same)
+            (subst (λ (j : ℕ). IsHome xs (n + 1) m j) (sym here) (omega arith, mark_is (item_at xs n) m is))
+        | inr other ↦ (let h = s.marks l (omega (arith, below, size)) (λ e. ne (there l other ∙ e)) in
+            subst (λ (j : ℕ). IsHome xs (n + 1) l j) (sym (there l other)) (omega (arith, h.0), h.1))
+      ];
+    }
 
-pub fine_more : (homes : List ℕ) (xs : List Item) (n : ℕ) → AllFine homes xs n → IsFine homes n (item_at xs n) → AllFine homes xs (n + 1)
-fine_more homes xs n f here = record { all = λ k lt. elim (cases_lt k n) [ inl below ↦ f.all k below | inr above ↦ (let same : k ≡ n = omega arith in rw same here) ] }
+-- item n is x, which marks no label
+kept : (was now : List ℕ) (xs : List Item) (n : ℕ) (x : Item) → Noting was xs n → item_at xs n ≡ x → now ≡ was → Refers (length was) x → ((l : ℕ) → IsMark x l → ⊥) → Noting now xs (n + 1)
+kept was now xs n x s e same r bare =
+    let P : Item → Type 0 = λ y. Refers (length was) y in
+    subst (λ (h : List ℕ). Noting h xs (n + 1)) (sym same) (noting_other was xs n s (subst P (sym e) r) (λ l m. bare l (mark_is x l (sym e ∙ m))))
 
-pub marked_more : (homes : List ℕ) (xs : List Item) (n : ℕ) → AllMarked homes xs n → slice_index homes n < length xs → IsMark (item_at xs (slice_index homes n)) n → AllMarked homes xs (n + 1)
-marked_more homes xs n f inside mark = record {
-  inside = λ k lt. elim (cases_lt k n) [ inl below ↦ f.inside k below | inr above ↦ (let same : k ≡ n = omega arith in rw same inside) ];
-  marks = λ k lt. elim (cases_lt k n) [ inl below ↦ f.marks k below | inr above ↦ (let same : k ≡ n = omega arith in rw same mark) ];
+pub noting_more : (was now : List ℕ) (xs : List Item) (n : ℕ) (x : Item) → Noting was xs n → n < length xs → item_at xs n ≡ x → IsNoted was now (length xs) n x → Noting now xs (n + 1)
+noting_more was now xs n (Mark l) s lt e f = subst (λ (h : List ℕ). Noting h xs (n + 1)) (sym f.2) (noting_mark was xs n l s lt e f.0 f.1)
+noting_more was now xs n (Plain i) s lt e f = kept was now xs n (Plain i) s e f tt (λ l m. m)
+noting_more was now xs n (Branch t a b to) s lt e f = kept was now xs n (Branch t a b to) s e f.1 f.0 (λ l m. m)
+noting_more was now xs n (Jump to) s lt e f = kept was now xs n (Jump to) s e f.1 f.0 (λ l m. m)
+noting_more was now xs n (Call to) s lt e f = kept was now xs n (Call to) s e f.1 f.0 (λ l m. m)
+noting_more was now xs n (Constant rd v) s lt e f = kept was now xs n (Constant rd v) s e f.1 f.0 (λ l m. m)
+noting_more was now xs n (LabelAddress rd k) s lt e f = kept was now xs n (LabelAddress rd k) s e f.1 f.0 (λ l m. m)
+noting_more was now xs n (DataAddress rd o) s lt e f = kept was now xs n (DataAddress rd o) s e f.1 f.0 (λ l m. m)
+
+pub unfit_unsound : (homes : List ℕ) (xs : List Item) (n : ℕ) (x : Item) → Noting homes xs n → n < length xs → item_at xs n ≡ x → IsUnfit homes (length xs) x → IsSound (length homes) xs → ⊥
+unfit_unsound homes xs n x s lt e u sound = unfit homes xs n x s lt e u sound (subst (λ (y : Item). Refers (length homes) y) e (sound.refers n lt))
+  where
+    unfit : (homes : List ℕ) (xs : List Item) (n : ℕ) (x : Item) → Noting homes xs n → n < length xs → item_at xs n ≡ x → IsUnfit homes (length xs) x → IsSound (length homes) xs → Refers (length homes) x → ⊥
+    unfit homes xs n (Mark l) s lt e u sound r =
+        let h = s.marks l r (u r) in
+        let same = sound.once (slice_index homes l) n l (omega (arith, h.0, lt)) lt (is_mark (item_at xs (slice_index homes l)) l h.1) e in
+        omega (arith, same, h.0)
+    unfit homes xs n (Plain i) s lt e u sound r = u
+    unfit homes xs n (Branch t a b to) s lt e u sound r = u r
+    unfit homes xs n (Jump to) s lt e u sound r = u r
+    unfit homes xs n (Call to) s lt e u sound r = u r
+    unfit homes xs n (Constant rd v) s lt e u sound r = u
+    unfit homes xs n (LabelAddress rd k) s lt e u sound r = u r
+    unfit homes xs n (DataAddress rd o) s lt e u sound r = u r
+
+pub table_of : (homes : List ℕ) (xs : List Item) → Noting homes xs (length xs) → AllInside homes (length xs) (length homes) → IsTable homes xs
+table_of homes xs s a = record {
+  refers = s.refers;
+  inside = a.all;
+  marks = λ l lt. (s.marks l lt (λ e. omega (arith, e, a.all l lt))).1;
+  once = s.once;
 }
 
 -- ---- sound lists
@@ -94,12 +132,5 @@ sound_of homes xs s = record {
   once = λ j k l a b p q. sym (s.once j l a p) ∙ s.once k l b q;
 }
 
-pub table_when_sound : (homes : List ℕ) (xs : List Item) → IsSound (length homes) xs → Notes homes xs (length xs) → IsTable homes xs
-table_when_sound homes xs s n = record {
-  refers = s.refers;
-  inside = λ l lt. (let m = s.marked l lt in n.inside m.0 l m.1 lt m.2);
-  marks = λ l lt. (let m = s.marked l lt in mark_is (item_at xs (slice_index homes l)) l (n.marks m.0 l m.1 lt m.2));
-  once = λ k l lt e.
-      let known : l < length homes = subst (λ (x : Item). Refers (length homes) x) e (s.refers k lt) in
-      s.once (slice_index homes l) k l (n.inside k l lt known e) lt (n.marks k l lt known e) e;
-}
+pub all_inside : (homes : List ℕ) (xs : List Item) → Noting homes xs (length xs) → IsSound (length homes) xs → AllInside homes (length xs) (length homes)
+all_inside homes xs s sound = record { all = λ l lt. (let m = sound.marked l lt in let e = s.once m.0 l m.1 m.2 in omega (arith, e, m.1)) }

@@ -1,18 +1,43 @@
 //! Tests of items against their table of labels.
 
-ghost use Rattle.std.specs.Prelude.{◌≡◌, ◌↔◌, ◌≤◌, ◌<◌, ◌+◌, ℕ, length, slice_index, IsTrue};
-ghost use Rattle.std.specs.Bool.{OnTrue};
+ghost use Rattle.std.specs.Prelude.{◌≡◌, ◌↔◌, ◌≤◌, ◌<◌, ◌+◌, ℕ, length, slice_index, slice_set, IsTrue};
+ghost use Rattle.std.specs.Bool.{OnTrue, OnFalse};
 ghost use Rattle.asm.specs.Layout.{IsLow, IsSound};
-ghost use Rattle.asm.specs.inside.Choice.{IsFine, IsMark, IsTable, AllFine, AllMarked, Notes};
+ghost use Rattle.asm.specs.inside.Choice.{IsTable, IsNoted, IsUnfit, AllAre, AllInside, Noting};
 
 use crate::item::Item;
 use crate::layout::size;
 
-fn is_fine(homes: &[usize], number: usize, item: Item) -> bool
-    ensures { IsTrue result ↔ IsFine homes.now number item }
+/// Puts at each label the end, which is the number of no item.
+fn clear(homes: &mut [usize], end: usize)
+    ensures { AllAre homes.new end (length homes.new) }
+{
+    for l in 0..homes.len() {
+        homes[l] = end;
+    }
+}
+
+/// Puts the number of the item that marks the label, which has to have the end; says whether it had.
+fn mark_home(homes: &mut [usize], end: usize, number: usize, label: usize) -> bool
+    ensures marked { OnTrue result ((label < length homes.old) × (slice_index homes.old label ≡ end)
+        × (homes.new ≡ slice_set homes.old label number)) }
+    ensures failed { OnFalse result (label < length homes.old → slice_index homes.old label ≡ end → ⊥) }
+{
+    if label < homes.len() && homes[label] == end {
+        homes[label] = number;
+        true
+    } else {
+        false
+    }
+}
+
+/// Whether the item names only labels of the table, and marks none that is marked already; its number is put for a label that it marks.
+fn note(homes: &mut [usize], end: usize, number: usize, item: Item) -> bool
+    ensures noted { OnTrue result (IsNoted homes.old homes.new end number item) }
+    ensures unfit { OnFalse result (IsUnfit homes.old end item) }
 {
     match item {
-        Item::Mark(label) => label.number() < homes.len() && homes[label.number()] == number,
+        Item::Mark(label) => mark_home(homes, end, number, label.number()),
         Item::Plain(_) | Item::Constant { .. } => true,
         Item::Branch { to, .. } | Item::Jump { to } | Item::Call { to } => to.number()
             < homes.len(),
@@ -21,55 +46,30 @@ fn is_fine(homes: &[usize], number: usize, item: Item) -> bool
     }
 }
 
-fn is_mark(item: Item, number: usize) -> bool
-    ensures { IsTrue result ↔ IsMark item number }
-{
-    match item {
-        Item::Mark(label) => label.number() == number,
-        _ => false,
-    }
-}
-
-fn is_all_fine(items: &[Item], homes: &[usize]) -> bool
-    ensures { IsTrue result ↔ AllFine homes.now items.now (length items.now) }
+/// Puts for each label that is marked the number of the item that marks it; says whether no item stands against a table.
+fn note_items(items: &[Item], homes: &mut [usize]) -> bool
+    requires clear { AllAre homes.old (length items.now) (length homes.old) }
+    ensures noted { OnTrue result (Noting homes.new items.now (length items.now)) }
+    ensures unsound { OnFalse result (IsSound (length homes.old) items.now → ⊥) }
 {
     for (i, item) in items.iter().enumerate() {
-        if !is_fine(homes, i, *item) {
+        if !note(homes, items.len(), i, *item) {
             return false;
         }
     }
     true
 }
 
-fn is_all_marked(items: &[Item], homes: &[usize]) -> bool
-    ensures { IsTrue result ↔ AllMarked homes.now items.now (length homes.now) }
+/// Whether each label has an item.
+fn is_full(homes: &[usize], end: usize) -> bool
+    ensures { IsTrue result ↔ AllInside homes.now end (length homes.now) }
 {
-    for (l, home) in homes.iter().enumerate() {
-        if *home >= items.len() || !is_mark(items[*home], l) {
+    for home in homes {
+        if *home >= end {
             return false;
         }
     }
     true
-}
-
-/// Whether the table has for each label the one item that marks it.
-fn is_table(items: &[Item], homes: &[usize]) -> bool
-    ensures { IsTrue result ↔ IsTable homes.now items.now }
-{
-    is_all_fine(items, homes) && is_all_marked(items, homes)
-}
-
-/// Puts for each label of the table the number of the last item that marks it.
-fn note_marks(items: &[Item], homes: &mut [usize])
-    ensures { Notes homes.new items.now (length items.now) }
-{
-    for (i, item) in items.iter().enumerate() {
-        if let Item::Mark(label) = *item {
-            if label.number() < homes.len() {
-                homes[label.number()] = i;
-            }
-        }
-    }
 }
 
 /// Whether each label of the table is marked exactly once and no other is named; the table then has
@@ -78,8 +78,12 @@ pub fn fill_table(items: &[Item], homes: &mut [usize]) -> bool
     ensures sound { IsTrue result ↔ IsSound (length homes.old) items.now }
     ensures table { OnTrue result (IsTable homes.new items.now) }
 {
-    note_marks(items, homes);
-    is_table(items, homes)
+    clear(homes, items.len());
+    if note_items(items, homes) {
+        is_full(homes, items.len())
+    } else {
+        false
+    }
 }
 
 /// Whether the items end below 0x70000000 with all branches long.

@@ -9,20 +9,42 @@ ghost use Rattle.asm.specs.inside.Choice.{longs, shorts, IsTable, IsMeasured, Wi
 use crate::item::Item;
 use std::alloc::{AllocError, Global};
 
-/// The bytes of an item, which may be a long branch.
-pub fn size(long: bool, item: Item) -> u32
-    ensures value { result ≡ spec.size long item }
-    ensures small { result ≤ spec.size true item }
+/// The bytes of an item where branches are long.
+fn most(item: Item) -> u32
+    ensures { result ≡ spec.size true item }
 {
     match item {
         Item::Mark(_) => 0,
         Item::Plain(_) | Item::Jump { .. } => 4,
-        Item::Branch { .. } => if long { 8 } else { 4 },
+        Item::Branch { .. }
+        | Item::Call { .. }
+        | Item::Constant { .. }
+        | Item::LabelAddress { .. }
+        | Item::DataAddress { .. } => 8,
+    }
+}
+
+/// The bytes of an item where branches are short.
+fn least(item: Item) -> u32
+    ensures value { result ≡ spec.size false item }
+    ensures small { result ≤ spec.size true item }
+{
+    match item {
+        Item::Mark(_) => 0,
+        Item::Plain(_) | Item::Jump { .. } | Item::Branch { .. } => 4,
         Item::Call { .. }
         | Item::Constant { .. }
         | Item::LabelAddress { .. }
         | Item::DataAddress { .. } => 8,
     }
+}
+
+/// The bytes of an item, which may be a long branch; from two tables, since kinds of items cannot be foretold.
+pub fn size(long: bool, item: Item) -> u32
+    ensures value { result ≡ spec.size long item }
+    ensures small { result ≤ spec.size true item }
+{
+    if long { most(item) } else { least(item) }
 }
 
 /// Puts at each number the address of that item, and at last the end.
@@ -186,6 +208,34 @@ pub struct Layout {
     pub places: Vec<u32>,
 }
 
+/// How often all items are looked at before the parts are.
+const ROUNDS: usize = 4;
+
+/// Some rounds over all items, which are enough where few branches are long; says whether none is too far.
+fn settle(
+    items: &[Item],
+    homes: &[usize],
+    base: u32,
+    places: &mut [u32],
+    long: &mut [bool],
+) -> bool
+    requires table { IsTable homes.now items.now }
+    requires room { length places.old ≡ length items.now + 1 }
+    requires longs { length long.old ≡ length items.now }
+    requires least { IsBelowAll (longs long.old) base items.now }
+    requires low { IsLow base items.now }
+    ensures least { IsBelowAll (longs long.new) base items.now }
+    ensures settled { OnTrue result (IsChosen base items.now long.new places.new) }
+{
+    for _turn in 0..ROUNDS {
+        measure(items, long, base, places);
+        if !widen(items, homes, base, places, long) {
+            return true;
+        }
+    }
+    false
+}
+
 /// Makes long what must be long, and measures.
 fn relax(items: &[Item], homes: &[usize], base: u32, places: &mut [u32], long: &mut [bool])
     requires table { IsTable homes.now items.now }
@@ -195,6 +245,9 @@ fn relax(items: &[Item], homes: &[usize], base: u32, places: &mut [u32], long: &
     requires low { IsLow base items.now }
     ensures { IsChosen base items.now long.new places.new }
 {
+    if settle(items, homes, base, places, long) {
+        return;
+    }
     widen_parts(items, homes, base, places, long);
     measure(items, long, base, places);
     while widen(items, homes, base, places, long) {

@@ -1,6 +1,8 @@
 //! The file of a flat program, and its run on the machine.
 
 ghost use Rattle.std.specs.Prelude.{◌≡◌};
+ghost use Rattle.frames.specs.Code.{program_of};
+ghost use Rattle.frames.specs.Sound.{IsSoundProgram};
 
 use crate::trace::Event;
 use anyhow::{Context, Result};
@@ -21,15 +23,34 @@ pub struct Built {
     pub text: usize,
 }
 
-pub fn build(alloc: Global, program: &FlatProgram) -> Result<Built> {
-    if !is_sound(program) {
-        return None.context("not sound");
-    }
+/// The bytes of the text.
+fn text_of(alloc: Global, program: &FlatProgram) -> Result<Vec<u8>>
+    requires { IsSoundProgram (program_of program.now) }
+{
     let items = select(alloc, program)?;
     if !items.is_low(TEXT_START) {
         return None.context("too many items");
     }
     let text = assemble(alloc, &items, TEXT_START)?;
+    Ok(text)
+}
+
+/// Makes the text so many times, and each time anew.
+pub fn build_text(alloc: Global, program: &FlatProgram, times: usize) -> Result<()> {
+    if !is_sound(program) {
+        return None.context("not sound");
+    }
+    for _ in 0..times {
+        text_of(alloc, program)?;
+    }
+    Ok(())
+}
+
+pub fn build(alloc: Global, program: &FlatProgram) -> Result<Built> {
+    if !is_sound(program) {
+        return None.context("not sound");
+    }
+    let text = text_of(alloc, program)?;
     let size = text.len();
     let statics = Vec::from_slice(alloc, program.statics.as_slice())?;
     let image = Image::new(text, statics).context("too large")?;

@@ -12,9 +12,12 @@ mod trying;
 mod words;
 
 use anyhow::{Context, Result};
+use building::build_text;
+use frames::FlatProgram;
 use reader::{Reader, Row};
 use std::{env, fs};
 use trying::{Taken, tried};
+use words::number;
 
 /// The files that are tried where no words are given.
 const FILES: [&str; 2] = ["programs.txt", "random.txt"];
@@ -24,6 +27,7 @@ fn main(rt: HostRuntime) -> Result<()> {
     match words.as_slice() {
         [_, name] => try_file(&rt, name.as_str(), "", true),
         [_, name, folder] => try_file(&rt, name.as_str(), folder.as_str(), true),
+        [_, name, option, times] => build_file(&rt, name.as_str(), option.as_str(), times.as_str()),
         _ => try_files(&rt),
     }
 }
@@ -55,6 +59,32 @@ fn try_file(rt: &HostRuntime, name: &str, folder: &str, told: bool) -> Result<()
     }
     println!(rt; "{name}: {count} programs")?;
     Ok(())
+}
+
+/// Builds the text of each program of a file so many times, and tells how many flat instructions it has.
+fn build_file(rt: &HostRuntime, name: &str, option: &str, times: &str) -> Result<()> {
+    if option != "--times" {
+        return None.context("FILE --times NUMBER");
+    }
+    let text = fs::read_to_string(rt, name)?;
+    let times = number(times.as_bytes())?;
+    let mut reader = Reader::new(rt.alloc());
+    for line in text.lines() {
+        if let Some(row) = reader.take(line)? {
+            build_text(rt.alloc(), &row.program, times)?;
+            let count = instructions_of(&row.program);
+            println!(rt; "{count} flat instructions, {times} times")?;
+        }
+    }
+    Ok(())
+}
+
+fn instructions_of(program: &FlatProgram) -> usize {
+    let mut count: usize = 0;
+    for function in &program.functions {
+        count = count.saturating_add(function.code.len());
+    }
+    count
 }
 
 fn try_row(rt: &HostRuntime, name: &str, folder: &str, told: bool, row: &Row) -> Result<()> {

@@ -5,7 +5,7 @@ ghost use Rattle.select.specs.Selected as selected;
 ghost use Rattle.select.specs.inside.Ranges.{SourceIsNear};
 
 use crate::places::Source;
-use crate::words::{load_word, operate_on, put, set_to, zero};
+use crate::words::{load_word, operate_on, put_one, set_to, zero};
 use asm::Item;
 use frames::Operation;
 use rv32::{Five, ImmediateOp, Instr, RegisterOp, ShiftOp, Short};
@@ -28,18 +28,18 @@ fn put_ending(items: &mut Vec<Item>, operation: Operation, rd: Five) -> Result<(
 {
     match operation {
         Operation::Machine(_) => Ok(()),
-        Operation::Equal => put(
+        Operation::Equal => put_one(
             items,
-            &[Item::Plain(Instr::Immediate {
+            Item::Plain(Instr::Immediate {
                 op: ImmediateOp::LessUnsigned,
                 rd,
                 left: rd,
                 right: Short::new(1),
-            })],
+            }),
         ),
-        Operation::NotEqual => put(
+        Operation::NotEqual => put_one(
             items,
-            &[operate_on(RegisterOp::LessUnsigned, rd, zero(), rd)],
+            operate_on(RegisterOp::LessUnsigned, rd, zero(), rd),
         ),
     }
 }
@@ -53,10 +53,7 @@ fn put_operation(
 ) -> Result<(), AllocError>
     ensures { OnOk result (items.new.items ≡ items.old.items ++ selected.operate operation rd left right) }
 {
-    put(
-        items,
-        &[operate_on(machine_of(operation), rd, left, right)],
-    )?;
+    put_one(items, operate_on(machine_of(operation), rd, left, right))?;
     put_ending(items, operation, rd)
 }
 
@@ -126,11 +123,11 @@ fn put_with_constant(
     let free = Five::new(6);
     match constant_form(machine_of(operation), rd, left, value) {
         Some(form) => {
-            put(items, &[Item::Plain(form)])?;
+            put_one(items, Item::Plain(form))?;
             put_ending(items, operation, rd)
         }
         None => {
-            put(items, &[set_to(free, value)])?;
+            put_one(items, set_to(free, value))?;
             put_operation(items, operation, rd, left, free)
         }
     }

@@ -10,7 +10,7 @@ ghost use Rattle.select.specs.inside.Ranges.{SourceIsNear, HomeIsNear};
 use crate::operations::put_move;
 use crate::places::{Home, Source, source_of};
 use crate::words::{
-    address_of, base_of, fetch, keep, lower_of, made_in, operate_on, put, put_far, register_of,
+    address_of, base_of, fetch, keep, lower_of, made_in, operate_on, put, put_far, put_one, register_of,
     shifted,
 };
 use asm::Item;
@@ -55,12 +55,12 @@ fn put_reach(
 {
     let free = Five::new(6);
     match location {
-        Location::Statics(offset) => put(
+        Location::Statics(offset) => put_one(
             items,
-            &[Item::DataAddress {
+            Item::DataAddress {
                 rd: free,
                 offset: *offset as u32,
-            }],
+            },
         ),
         Location::Frame(offset) => put_far(items, free, function.area_home() + *offset as u32),
         Location::At(operand) => fetch(items, free, &source_of(function, *operand)),
@@ -115,7 +115,7 @@ pub fn put_load(
         offset: reach_offset(function, location),
     };
     put_reach(items, function, location)?;
-    put(items, &[Item::Plain(load)])?;
+    put_one(items, Item::Plain(load))?;
     keep(items, home)
 }
 
@@ -141,7 +141,7 @@ pub fn put_store(
     };
     fetch(items, free, source)?;
     put_reach(items, function, location)?;
-    put(items, &[Item::Plain(store)])
+    put_one(items, Item::Plain(store))
 }
 
 /// A reference to a location.
@@ -163,7 +163,7 @@ pub fn put_reference(
                 rd: made_in(home),
                 offset: *offset as u32,
             };
-            put(items, &[address])?;
+            put_one(items, address)?;
             keep(items, home)
         }
         Location::Frame(offset) => {
@@ -187,9 +187,9 @@ fn put_scale(items: &mut Vec<Item>, register: Five, size: usize) -> Result<(), A
     if size == 1 {
         Ok(())
     } else if size == 2 {
-        put(items, &[shifted(ShiftOp::Left, rd, register, 1)])
+        put_one(items, shifted(ShiftOp::Left, rd, register, 1))
     } else if size == 4 {
-        put(items, &[shifted(ShiftOp::Left, rd, register, 2)])
+        put_one(items, shifted(ShiftOp::Left, rd, register, 2))
     } else {
         let free = Five::new(7);
         put(
@@ -238,6 +238,6 @@ pub fn put_element(
     fetch(items, first, array)?;
     fetch(items, second, index)?;
     put_scale(items, counted, size)?;
-    put(items, &[sum])?;
+    put_one(items, sum)?;
     keep(items, home)
 }

@@ -7,7 +7,7 @@ ghost use Rattle.select.specs.inside.Ranges.{SourceIsNear, HomeIsNear};
 use crate::combining::put_combination;
 use crate::places::{Home, Source};
 use crate::words::{
-    fetch, keep, made_in, operate_on, put, put_into, register_of, shifted, store_word, zero,
+    fetch, keep, made_in, operate_on, put, put_into, put_one, register_of, shifted, store_word, zero,
 };
 use asm::Item;
 use frames::{Conversion, Operation};
@@ -79,21 +79,21 @@ fn put_narrow(
     ensures { OnOk result (items.new.items ≡ items.old.items ++ selected.narrow conversion rd source) }
 {
     match conversion {
-        Conversion::ToByte => put(
+        Conversion::ToByte => put_one(
             items,
-            &[Item::Plain(Instr::Immediate {
+            Item::Plain(Instr::Immediate {
                 op: ImmediateOp::And,
                 rd,
                 left: source,
                 right: Short::new(255),
-            })],
+            }),
         ),
         Conversion::ToSignedByte => put_shifts(items, ShiftOp::RightArithmetic, rd, source, 24),
         Conversion::ToHalf => put_shifts(items, ShiftOp::Right, rd, source, 16),
         Conversion::ToSignedHalf => put_shifts(items, ShiftOp::RightArithmetic, rd, source, 16),
-        Conversion::ToTruth => put(
+        Conversion::ToTruth => put_one(
             items,
-            &[operate_on(RegisterOp::LessUnsigned, rd, zero(), source)],
+            operate_on(RegisterOp::LessUnsigned, rd, zero(), source),
         ),
     }
 }

@@ -13,7 +13,7 @@ use crate::elements::{put_element, put_load, put_reference, put_store};
 use crate::operations::{put_compute, put_convert, put_move};
 use crate::places::{home_of, source_of};
 use crate::shortening::shortened;
-use crate::words::{fetch, put, register_of, stack_pointer};
+use crate::words::{fetch, put, put_one, register_of, stack_pointer};
 use asm::{Item, Items, Label};
 use frames::{FlatProgram, Function, Instruction, Operand};
 use loader::memory_map::STACK_END;
@@ -48,7 +48,7 @@ fn put_branch(
     };
     fetch(items, first, &left)?;
     fetch(items, second, &right)?;
-    put(items, &[jump])
+    put_one(items, jump)
 }
 
 /// The items of an instruction, in a function whose instructions have the labels from `first` on.
@@ -123,7 +123,7 @@ fn put_instruction(
         }
         Instruction::Jump(to) => {
             let to = Label::new(first + to);
-            put(items, &[Item::Jump { to }])
+            put_one(items, Item::Jump { to })
         }
         Instruction::Branch {
             test,
@@ -133,7 +133,7 @@ fn put_instruction(
         } => put_branch(items, function, test, left, right, first + to),
         Instruction::Call(number) => {
             let to = Label::new(number);
-            put(items, &[Item::Call { to }])
+            put_one(items, Item::Call { to })
         }
         Instruction::PutByte => put_put_byte(items, function),
         Instruction::GetByte => put_get_byte(items, function),
@@ -156,7 +156,7 @@ fn put_code(
 {
     let mut number = 0;
     for instruction in &function.code {
-        put(items, &[Item::Mark(Label::new(first + number))])?;
+        put_one(items, Item::Mark(Label::new(first + number)))?;
         put_instruction(
             items,
             function,
@@ -166,7 +166,7 @@ fn put_code(
         )?;
         number += 1;
     }
-    put(items, &[Item::Mark(Label::new(first + number))])
+    put_one(items, Item::Mark(Label::new(first + number)))
 }
 
 fn put_function(
@@ -180,7 +180,7 @@ fn put_function(
     ensures { OnOk result (items.new.items ≡ items.old.items ++ function_items number first (function_of function.now)) }
 {
     let calls = has_call(&function.code);
-    put(items, &[Item::Mark(Label::new(number))])?;
+    put_one(items, Item::Mark(Label::new(number)))?;
     put_entry(items, function, calls)?;
     put_code(items, function, calls, first)
 }

@@ -16,6 +16,21 @@ pub fn put(items: &mut Vec<Item>, more: &[Item]) -> Result<(), AllocError>
     items.extend_from_slice(more)
 }
 
+/// Puts an item behind those that are there. A word that is pushed costs less than a list of one; `Instr` is named
+/// so that the borrow checker meets it.
+pub fn put_one(items: &mut Vec<Item>, item: Item) -> Result<(), AllocError>
+    ensures { OnOk result (items.new.items ≡ items.old.items ++ item ∷ []) }
+{
+    let item = match item {
+        Item::Plain(instr) => Item::Plain(instr),
+        _ => item,
+    };
+    match items.push(item) {
+        Ok(()) => Ok(()),
+        Err(_) => Err(AllocError),
+    }
+}
+
 /// x0, which is always 0.
 pub fn zero() -> Five
     ensures { result ≡ 0 }
@@ -117,15 +132,13 @@ pub fn load_word(items: &mut Vec<Item>, rd: Five, offset: u32) -> Result<(), All
     ensures { OnOk result (items.new.items ≡ items.old.items ++ selected.load_word rd offset) }
 {
     put_far(items, rd, offset)?;
-    put(
-        items,
-        &[Item::Plain(Instr::Load {
-            kind: LoadKind::Word,
-            rd,
-            base: base_of(rd, offset),
-            offset: lower_of(offset),
-        })],
-    )
+    let load = Instr::Load {
+        kind: LoadKind::Word,
+        rd,
+        base: base_of(rd, offset),
+        offset: lower_of(offset),
+    };
+    put_one(items, Item::Plain(load))
 }
 
 pub fn store_word(items: &mut Vec<Item>, source: Five, offset: u32) -> Result<(), AllocError>
@@ -134,15 +147,13 @@ pub fn store_word(items: &mut Vec<Item>, source: Five, offset: u32) -> Result<()
 {
     let free = Five::new(7);
     put_far(items, free, offset)?;
-    put(
-        items,
-        &[Item::Plain(Instr::Store {
-            kind: StoreKind::Word,
-            source,
-            base: base_of(free, offset),
-            offset: lower_of(offset),
-        })],
-    )
+    let store = Instr::Store {
+        kind: StoreKind::Word,
+        source,
+        base: base_of(free, offset),
+        offset: lower_of(offset),
+    };
+    put_one(items, Item::Plain(store))
 }
 
 /// The address of a place of the frame.
@@ -151,7 +162,7 @@ pub fn address_of(items: &mut Vec<Item>, rd: Five, offset: u32) -> Result<(), Al
     ensures { OnOk result (items.new.items ≡ items.old.items ++ selected.address_of rd offset) }
 {
     if offset < 0x800 {
-        put(items, &[add_to(rd, stack_pointer(), Short::new(offset))])
+        put_one(items, add_to(rd, stack_pointer(), Short::new(offset)))
     } else {
         put(
             items,
@@ -182,7 +193,7 @@ pub fn fetch(items: &mut Vec<Item>, free: Five, source: &Source) -> Result<(), A
     match source {
         Source::Register(_) => Ok(()),
         Source::Frame(offset) => load_word(items, free, *offset),
-        Source::Constant(value) => put(items, &[set_to(free, *value)]),
+        Source::Constant(value) => put_one(items, set_to(free, *value)),
     }
 }
 
@@ -203,9 +214,9 @@ pub fn put_into(items: &mut Vec<Item>, rd: Five, source: &Source) -> Result<(), 
     ensures { OnOk result (items.new.items ≡ items.old.items ++ selected.into rd source.now) }
 {
     match source {
-        Source::Register(register) => put(items, &[add_to(rd, *register, Short::new(0))]),
+        Source::Register(register) => put_one(items, add_to(rd, *register, Short::new(0))),
         Source::Frame(offset) => load_word(items, rd, *offset),
-        Source::Constant(value) => put(items, &[set_to(rd, *value)]),
+        Source::Constant(value) => put_one(items, set_to(rd, *value)),
     }
 }
 

@@ -1,5 +1,5 @@
 -- The table from labels to items, and how the long branches are chosen over it.
-use Rattle.std.specs.Prelude.{◌≡◌, ◌≤◌, ◌<◌, ℕ, ◌+◌, ◌^◌, Bool, false, if◌then◌else◌, List, slice_index_or, slice_index, length, sum_by}
+use Rattle.std.specs.Prelude.{◌≡◌, ◌≤◌, ◌<◌, ℕ, ◌+◌, ◌^◌, Bool, false, if◌then◌else◌, List, slice_index_or, slice_index, slice_set, length, sum_by}
 use Rattle.asm.specs.declared.item.Item.{Item}
 use Rattle.asm.specs.declared.item.Item.TheVariants.{Mark, Plain, Branch, Jump, Call, Constant, LabelAddress, DataAddress}
 use Rattle.asm.specs.Layout.{item_at, place, Fits, Within, IsBelowAll, Refers}
@@ -14,24 +14,45 @@ IsMark (Constant rd v) l = ⊥
 IsMark (LabelAddress rd k) l = ⊥
 IsMark (DataAddress rd o) l = ⊥
 
--- item k is fine: it names only labels of the table, and a mark is where the table has its label
-abbrev pub IsFine : List ℕ → ℕ → Item → Type 0
-IsFine homes k (Mark l) = (l < length homes) × (slice_index homes l ≡ k)
-IsFine homes k (Plain i) = Unit {0}
-IsFine homes k (Branch t l r to) = to < length homes
-IsFine homes k (Jump to) = to < length homes
-IsFine homes k (Call to) = to < length homes
-IsFine homes k (Constant rd v) = v < 2 ^ 32
-IsFine homes k (LabelAddress rd l) = l < length homes
-IsFine homes k (DataAddress rd o) = o < 0x10000000
+-- the first n labels have x
+pub record AllAre (homes : List ℕ) (x n : ℕ) : Type 0 where
+  pub all : (l : ℕ) → l < n → slice_index homes l ≡ x
 
-pub record AllFine (homes : List ℕ) (xs : List Item) (n : ℕ) : Type 0 where
-  pub all : (k : ℕ) → k < n → IsFine homes k (item_at xs k)
+-- the first n labels have less than x
+pub record AllInside (homes : List ℕ) (x n : ℕ) : Type 0 where
+  pub all : (l : ℕ) → l < n → slice_index homes l < x
 
--- each label below n is marked where the table has it
-pub record AllMarked (homes : List ℕ) (xs : List Item) (n : ℕ) : Type 0 where
-  pub inside : (l : ℕ) → l < n → slice_index homes l < length xs
-  pub marks : (l : ℕ) → l < n → IsMark (item_at xs (slice_index homes l)) l
+-- item k, which names only labels of the table, made one table of the other: a mark puts k where the end was
+abbrev pub IsNoted : (was now : List ℕ) (end k : ℕ) → Item → Type 0
+IsNoted was now end k (Mark l) = (l < length was) × (slice_index was l ≡ end) × (now ≡ slice_set was l k)
+IsNoted was now end k (Plain i) = now ≡ was
+IsNoted was now end k (Branch t l r to) = (to < length was) × (now ≡ was)
+IsNoted was now end k (Jump to) = (to < length was) × (now ≡ was)
+IsNoted was now end k (Call to) = (to < length was) × (now ≡ was)
+IsNoted was now end k (Constant rd v) = (v < 2 ^ 32) × (now ≡ was)
+IsNoted was now end k (LabelAddress rd l) = (l < length was) × (now ≡ was)
+IsNoted was now end k (DataAddress rd o) = (o < 0x10000000) × (now ≡ was)
+
+-- an item stands against the table
+abbrev pub IsUnfit : List ℕ → ℕ → Item → Type 0
+IsUnfit homes end (Mark l) = l < length homes → slice_index homes l ≡ end → ⊥
+IsUnfit homes end (Plain i) = ⊥
+IsUnfit homes end (Branch t l r to) = to < length homes → ⊥
+IsUnfit homes end (Jump to) = to < length homes → ⊥
+IsUnfit homes end (Call to) = to < length homes → ⊥
+IsUnfit homes end (Constant rd v) = ⊥
+IsUnfit homes end (LabelAddress rd l) = l < length homes → ⊥
+IsUnfit homes end (DataAddress rd o) = o < 0x10000000 → ⊥
+
+-- item k of the first n marks label l
+abbrev pub IsHome : List Item → ℕ → ℕ → ℕ → Type 0
+IsHome xs n l k = (k < n) × IsMark (item_at xs k) l
+
+-- the table of the first n items: a label has the item that marks it, or the end
+pub record Noting (homes : List ℕ) (xs : List Item) (n : ℕ) : Type 0 where
+  pub refers : (k : ℕ) → k < n → Refers (length homes) (item_at xs k)
+  pub once : (k l : ℕ) → k < n → item_at xs k ≡ Mark l → slice_index homes l ≡ k
+  pub marks : (l : ℕ) → l < length homes → (slice_index homes l ≡ length xs → ⊥) → IsHome xs n l (slice_index homes l)
 
 -- the table has for each label the one item that marks it
 pub record IsTable (homes : List ℕ) (xs : List Item) : Type 0 where
@@ -39,11 +60,6 @@ pub record IsTable (homes : List ℕ) (xs : List Item) : Type 0 where
   pub inside : (l : ℕ) → l < length homes → slice_index homes l < length xs
   pub marks : (l : ℕ) → l < length homes → IsMark (item_at xs (slice_index homes l)) l
   pub once : (k l : ℕ) → k < length xs → item_at xs k ≡ Mark l → slice_index homes l ≡ k
-
--- each label that is marked before item n is marked where the table has it
-pub record Notes (homes : List ℕ) (xs : List Item) (n : ℕ) : Type 0 where
-  pub inside : (k l : ℕ) → k < n → l < length homes → item_at xs k ≡ Mark l → slice_index homes l < n
-  pub marks : (k l : ℕ) → k < n → l < length homes → item_at xs k ≡ Mark l → item_at xs (slice_index homes l) ≡ Mark l
 
 abbrev pub longs : List Bool → ℕ → Bool
 longs bs k = slice_index_or bs k false
