@@ -212,13 +212,7 @@ pub struct Layout {
 const ROUNDS: usize = 4;
 
 /// Some rounds over all items, which are enough where few branches are long; says whether none is too far.
-fn settle(
-    items: &[Item],
-    homes: &[usize],
-    base: u32,
-    places: &mut [u32],
-    long: &mut [bool],
-) -> bool
+fn settle(items: &[Item], homes: &[usize], base: u32, places: &mut [u32], long: &mut [bool]) -> bool
     requires table { IsTable homes.now items.now }
     requires room { length places.old ≡ length items.now + 1 }
     requires longs { length long.old ≡ length items.now }

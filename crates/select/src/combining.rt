@@ -37,10 +37,7 @@ fn put_ending(items: &mut Vec<Item>, operation: Operation, rd: Five) -> Result<(
                 right: Short::new(1),
             }),
         ),
-        Operation::NotEqual => put_one(
-            items,
-            operate_on(RegisterOp::LessUnsigned, rd, zero(), rd),
-        ),
+        Operation::NotEqual => put_one(items, operate_on(RegisterOp::LessUnsigned, rd, zero(), rd)),
     }
 }
 

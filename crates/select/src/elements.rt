@@ -10,8 +10,8 @@ ghost use Rattle.select.specs.inside.Ranges.{SourceIsNear, HomeIsNear};
 use crate::operations::put_move;
 use crate::places::{Home, Source, source_of};
 use crate::words::{
-    address_of, base_of, fetch, keep, lower_of, made_in, operate_on, put, put_far, put_one, register_of,
-    shifted,
+    address_of, base_of, fetch, keep, lower_of, made_in, operate_on, put, put_far, put_one,
+    register_of, shifted,
 };
 use asm::Item;
 use frames::{Function, Location, Width};

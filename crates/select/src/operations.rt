@@ -7,7 +7,8 @@ ghost use Rattle.select.specs.inside.Ranges.{SourceIsNear, HomeIsNear};
 use crate::combining::put_combination;
 use crate::places::{Home, Source};
 use crate::words::{
-    fetch, keep, made_in, operate_on, put, put_into, put_one, register_of, shifted, store_word, zero,
+    fetch, keep, made_in, operate_on, put, put_into, put_one, register_of, shifted, store_word,
+    zero,
 };
 use asm::Item;
 use frames::{Conversion, Operation};

@@ -11,13 +11,7 @@ fn is_same(target: Target, source: Operand) -> bool
 {
     match target {
         Target::Temporary(number) => match source {
-            Operand::Temporary(other) => {
-                if number < 8 {
-                    other == number
-                } else {
-                    false
-                }
-            }
+            Operand::Temporary(other) => { if number < 8 { other == number } else { false } }
             Operand::Cell(_) => false,
             Operand::Constant(_) => false,
             Operand::Argument(_) => false,

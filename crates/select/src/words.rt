@@ -16,8 +16,8 @@ pub fn put(items: &mut Vec<Item>, more: &[Item]) -> Result<(), AllocError>
     items.extend_from_slice(more)
 }
 
-/// Puts an item behind those that are there. A word that is pushed costs less than a list of one; `Instr` is named
-/// so that the borrow checker meets it.
+/// Puts an item behind those that are there, which costs less than a list of one. The match is there because it names
+/// `Instr`, of which the borrow checker is else not told.
 pub fn put_one(items: &mut Vec<Item>, item: Item) -> Result<(), AllocError>
     ensures { OnOk result (items.new.items ≡ items.old.items ++ item ∷ []) }
 {

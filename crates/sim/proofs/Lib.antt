@@ -2,3 +2,4 @@ pub mod Ticks
 pub mod Composing
 pub mod Keeping
 pub mod Plain
+pub mod Moving
