@@ -3,6 +3,7 @@ pub mod Waiting
 pub mod Places
 pub mod Fits
 pub mod Table
+pub mod Lengths
 pub mod Frames
 pub mod Results
 pub mod Forms

@@ -19,7 +19,7 @@ use Rattle.select.specs.declared.places.Source.TheVariants as source
 use Rattle.select.specs.declared.places.Home.{Home}
 use Rattle.select.specs.declared.places.Home.TheVariants as home
 use Rattle.select.specs.Selected.{source_of, home_of, register_of, made_in, machine_of, constant_form, byte_home, return_home, calls, is_same}
-use Rattle.simulation.specs.Costs.{far_cost, word_cost, set_cost, fetch_cost, keep_cost, into_cost, move_cost, form_cost, second_cost, ending_cost, compute_cost, narrow_cost, reach_cost, reference_cost, scale_cost, far_frame, frame_cost, saved_cost, opening_cost, row, step_cost, most_at, most_if, most_next, most_spent, most_start, SpentIsMore, far_source, far_home, far_location, far_saved, far_in, near_cost, RowsAreFew}
+use Rattle.simulation.specs.Costs.{far_cost, word_cost, set_cost, fetch_cost, keep_cost, into_cost, move_cost, form_cost, second_cost, ending_cost, compute_cost, narrow_cost, reach_cost, reference_cost, scale_cost, far_frame, saved_cost, opening_cost, step_cost, most_at, most_if, most_next, most_spent, SpentIsMore, far_source, far_home, far_location, far_saved, RowsAreFew}
 use Rattle.simulation.proofs.Fits.{function_fits}
 
 choice_most : (t : Bool) (n : ℕ) → (if t then 0 else n) ≤ n

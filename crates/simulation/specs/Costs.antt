@@ -1,6 +1,7 @@
 -- How many instructions of the machine a run of flat code comes to, at least and at most.
-use Rattle.std.specs.Prelude.{ℕ, zero, suc, ◌+◌, ◌-◌, ◌%◌, ◌^◌, ◌==◌, ◌≤◌, nat_lt, if◌then◌else◌, Option, Some, None}
+use Rattle.std.specs.Prelude.{◌≡◌, ℕ, zero, suc, ◌+◌, ◌-◌, ◌*◌, ◌%◌, ◌^◌, ◌==◌, ◌≤◌, nat_lt, if◌then◌else◌, Option, Some, None}
 use Rattle.rv32.specs.declared.instr.Instr.{Instr}
+use Rattle.asm.specs.Layout.{longest}
 use Rattle.frames.specs.declared.code.Location.{Location}
 use Rattle.frames.specs.declared.code.Location.TheVariants as location
 use Rattle.frames.specs.declared.code.Operation.{Operation}
@@ -17,7 +18,7 @@ use Rattle.select.specs.declared.places.Source.{Source}
 use Rattle.select.specs.declared.places.Source.TheVariants as source
 use Rattle.select.specs.declared.places.Home.{Home}
 use Rattle.select.specs.declared.places.Home.TheVariants as home
-use Rattle.select.specs.Selected.{source_of, home_of, register_of, made_in, machine_of, constant_form, byte_home, return_home, calls, shortened}
+use Rattle.select.specs.Selected.{source_of, home_of, register_of, made_in, machine_of, constant_form, byte_home, return_home, calls, entry, items_of, shortened}
 
 -- ---- at least
 
@@ -159,6 +160,10 @@ row f instruction.PutByte = word_cost (byte_home f) + 5
 row f instruction.GetByte = word_cost (byte_home f) + 7
 row f instruction.Exit = 2
 row f instruction.Return = saved_cost f f.resident + (return_cost f + (frame_cost (frame_bytes f) + 1))
+
+-- a row is how many instructions the items are, with all branches long
+abbrev pub RowsAreLengths : Type 0
+RowsAreLengths = (f : Function) (first : ℕ) → (longest (entry f) ≡ 4 * opening_cost f) × ((x : Instruction) → longest (items_of f first x) ≡ 4 * row f x)
 
 -- with the entry of a function that is called
 abbrev pub step_cost : Program → Function → Instruction → ℕ

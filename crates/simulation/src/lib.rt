@@ -2,8 +2,13 @@
 #![tactic(auto)]
 
 ghost use Rattle.simulation.specs.Laws.{NothingFollows, JumpsFollow, BranchesFollow, MovesFollow, ConversionsFollow, OperationsFollow, ExitFollows, AddressesFollow, ElementsFollow, LoadsFollow, StoresFollow, PutFollows, GetFollows, CallsFollow, ReturnsFollow};
-ghost use Rattle.simulation.specs.Costs.{SpentIsMore, RowsAreFew};
+ghost use Rattle.simulation.specs.Costs.{RowsAreLengths, RowsAreFew, SpentIsMore};
 ghost use Rattle.simulation.specs.Runs.{StepFollows, RunsFollow, Progresses, EachCallKeeps, LaidIsReady, EntriesFollow, ConventionKept, BeginsFollow, EndsFollow, MachineGoesOn, MachineEnds, MachineCallsKeep};
+
+/// A row of the table of costs is how many instructions the items are, with all branches long.
+pub fn rows_are_lengths()
+    ensures { RowsAreLengths }
+{}
 
 /// The rows in short: a call and its entry come to 4 and the residents, a return to 3 and the residents, all else to 12 at most; and to 2 more for
 /// each operand that is far.
