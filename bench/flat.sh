@@ -1,6 +1,6 @@
 #!/bin/bash
 # Measures the kernels of flat.txt, which select and the assembler translate, beside the same in C by gcc -O0 and -Os: executed
-# instructions and bytes of text, and how many instructions a second select and assemble make.
+# instructions and bytes of text, and how many flat instructions a second select and assemble take.
 #
 #   bash bench/flat.sh [FLAT_ROWS [CC]]
 #
@@ -82,7 +82,7 @@ mix() {
         }' "$@"
 }
 
-# least TIMES: the least nanoseconds of processor time, of eleven runs, to make the text of mix.txt so many times.
+# least TIMES: the least nanoseconds of processor time, of eight runs, to make the text of mix.txt so many times.
 least() {
     python3 - "$rows" "$1" <<'PY'
 import resource, subprocess, sys
@@ -90,7 +90,7 @@ def spent():
     usage = resource.getrusage(resource.RUSAGE_CHILDREN)
     return usage.ru_utime + usage.ru_stime
 best = 1e9
-for _ in range(11):
+for _ in range(8):
     before = spent()
     subprocess.run([sys.argv[1], 'mix.txt', '--times', sys.argv[2]], stdout=subprocess.DEVNULL, check=True)
     best = min(best, spent() - before)
@@ -102,7 +102,7 @@ echo
 for files in "$root/bench/flat.txt" "$root/crates/flat_rows/data/random.txt"; do
     mix 200000 "$files" >mix.txt
     once=$(least 1)
-    often=$(least 11)
+    often=$(least 31)
     count=$("$rows" mix.txt --times 1 | awk '{ print $1 }')
-    echo "$(basename "$files") $count $once $often" | awk '{ printf "%-10s %6.2f million flat instructions a second, select and assemble (%d, ten times, in %.3f s)\n", $1, $2 * 1e4 / ($4 - $3), $2, ($4 - $3) / 1e9 }'
+    echo "$(basename "$files") $count $once $often" | awk '{ printf "%-10s %6.2f million flat instructions a second, select and assemble (%d, thirty times, in %.3f s)\n", $1, $2 * 3e4 / ($4 - $3), $2, ($4 - $3) / 1e9 }'
 done
