@@ -86,7 +86,7 @@ module _ (p : typed.Program) (tf : Function) (call : Calling) (q : Program) (dee
 
   mutual
     pub into_does : (e : Expression) (m : Mode) (t k pc pc2 : ℕ) → value_is_typed p tf e ≡ true → value_is_asked e ≡ true → Wanted p call q deep f m (gives e)
-        → IsFreeFor m t k → Suits q f m (extent e)
+        → IsFreeFor m t k → Suits p q f m (extent e)
         → Into (function_at q f).code e m t k pc pc2 → IntoDoes p call q deep f e m t k pc pc2
     into_does (typed.constant u v) m t k pc pc2 ht ha w fr su h =
         constant_does p call q deep f u v m t k pc pc2 fr su (is_value u v ht) h

@@ -1,7 +1,9 @@
 pub mod Words
 pub mod Steps
 pub mod Standing
+pub mod Shapes
 pub mod Stores
+pub mod Memory
 pub mod Goods
 pub mod Operations
 pub mod Leaves
@@ -20,4 +22,5 @@ pub mod Loops
 pub mod Switches
 pub mod Statements
 pub mod Entering
+pub mod Beginning
 pub mod Program
