@@ -16,7 +16,8 @@ use Rattle.lowering.specs.Values.{calls, writes, extent, Mode, Nowhere, To, If}
 use Rattle.lowering.specs.Code.{One}
 use Rattle.lowering.proofs.Words.{Ranged, ranged, wide_word}
 use Rattle.lowering.proofs.Steps.{stays, GoesTo, goes, from, Sim, sim_then, sim_move}
-use Rattle.lowering.proofs.Standing.{Scratch, here, put_state, does_jump}
+use Rattle.lowering.proofs.Standing.{Scratch, here, put_state, does_jump, world}
+use Rattle.lowering.proofs.Stores.{World}
 use Rattle.lowering.proofs.Goods.{meets, Known, Good}
 use Rattle.lowering.proofs.Leaves.{or_left, or_right, IntoDoes}
 use Rattle.lowering.proofs.Operators.{same_truth}
@@ -27,26 +28,26 @@ module _ (p : typed.Program) (call : Calling) (q : Program) (deep f : ℕ) where
   jump_if : (e : Expression) (sense : Bool) (to t k p3 other pc2 : ℕ) (before : machine.State) (old now : Scratch) (ws : List Call) (v : ℤ) (s : machine.State)
       (z : State) (b : Bool) → meets sense (truth v) ≡ b
       → z ≡ here f (choose b to p3) now ws s → One (function_at q f).code (instruction.Jump pc2) p3 other
-      → Known (function_at q f).objects e t k before old v s now
-      → GoesTo q 14 (60 * s.clock + 16) s.clock z (Good q f e (If sense to) t k pc2 before old ws v) s
+      → Known (world p q f ws) e t k before old v s now
+      → GoesTo q 14 (60 * s.clock + 16) s.clock z (Good p q f e (If sense to) t k pc2 before old ws v) s
   jump_if e sense to t k p3 other pc2 before old now ws v s z true h ez i known =
-      goes q 14 (Good q f e (If sense to) t k pc2 before old ws v) (60 * s.clock + 16) s.clock 0 0 z z s (stays q z) (omega arith) (omega arith)
+      goes q 14 (Good p q f e (If sense to) t k pc2 before old ws v) (60 * s.clock + 16) s.clock 0 0 z z s (stays q z) (omega arith) (omega arith)
       (record { now = now; at = ez ∙ ap (λ b. here f (choose b to pc2) now ws s) (sym h); has = tt; known = known })
   jump_if e sense to t k p3 other pc2 before old now ws v s z false h ez i known =
-      goes q 14 (Good q f e (If sense to) t k pc2 before old ws v) (60 * s.clock + 16) s.clock 1 1 z (here f pc2 now ws s) s
+      goes q 14 (Good p q f e (If sense to) t k pc2 before old ws v) (60 * s.clock + 16) s.clock 1 1 z (here f pc2 now ws s) s
       (from q z (here f p3 now ws s) 1 1 (running (here f pc2 now ws s)) ez (does_jump q f pc2 p3 other now ws s i)) (omega arith) (omega arith)
       (record { now = now; at = ap (λ b. here f (choose b to pc2) now ws s) (sym h); has = tt; known = known })
 
   jump_on : (e : Expression) (m : Mode) (t k p3 other pc2 : ℕ) (before : machine.State) (old : Scratch) (ws : List Call) (v : ℤ) (s : machine.State) (z : State)
       → One (function_at q f).code (instruction.Jump pc2) p3 other
-      → Good q f e m t k p3 before old ws v s z → GoesTo q 14 (60 * s.clock + 16) s.clock z (Good q f e m t k pc2 before old ws v) s
+      → Good p q f e m t k p3 before old ws v s z → GoesTo q 14 (60 * s.clock + 16) s.clock z (Good p q f e m t k pc2 before old ws v) s
   jump_on e Nowhere t k p3 other pc2 before old ws v s z i g =
-      goes q 14 (Good q f e Nowhere t k pc2 before old ws v) (60 * s.clock + 16) s.clock 1 1 z (here f pc2 g.now ws s) s
+      goes q 14 (Good p q f e Nowhere t k pc2 before old ws v) (60 * s.clock + 16) s.clock 1 1 z (here f pc2 g.now ws s) s
       (from q z (here f p3 g.now ws s) 1 1 (running (here f pc2 g.now ws s)) g.at (does_jump q f pc2 p3 other g.now ws s i)) (omega arith) (omega arith)
       (record { now = g.now; at = refl; has = tt; known = g.known })
   jump_on e (To y) t k p3 other pc2 before old ws v s z i g =
       let s2 = put_state q f y (word_for v) s in
-      goes q 14 (Good q f e (To y) t k pc2 before old ws v) (60 * s.clock + 16) s.clock 1 1 z (here f pc2 g.now ws s2) s
+      goes q 14 (Good p q f e (To y) t k pc2 before old ws v) (60 * s.clock + 16) s.clock 1 1 z (here f pc2 g.now ws s2) s
       (from q z (here f p3 g.now ws s2) 1 1 (running (here f pc2 g.now ws s2)) g.at (does_jump q f pc2 p3 other g.now ws s2 i)) (omega arith) (omega arith)
       (record { now = g.now; at = refl; has = g.has; known = g.known })
   jump_on e (If sense to) t k p3 other pc2 before old ws v s z i g =
@@ -55,20 +56,20 @@ module _ (p : typed.Program) (call : Calling) (q : Program) (deep f : ℕ) where
   module _ (u : Option IntType) (c a b : Expression) (m : Mode) (t k : ℕ)
       (same : (e : Expression) (w : ℤ) → IsValueOf (extent e) w → IsSameFor p call q deep f m (converted_or_none u w) w)
       (value : (w : ℤ) → IsValueOf (extent (typed.chosen u c a b)) (converted_or_none u w)) where
-    join_first : (n : ℕ) (s : machine.State) (now now2 now3 : Scratch) (v w : ℤ) (s2 s3 : machine.State)
-        → Known (function_at q f).objects c t k (record s { clock = n }) now v s2 now2
-        → Known (function_at q f).objects a t k s2 now2 w s3 now3
-        → Known (function_at q f).objects (typed.chosen u c a b) t k s now (converted_or_none u w) s3 now3
+    join_first : {W : World} (n : ℕ) (s : machine.State) (now now2 now3 : Scratch) (v w : ℤ) (s2 s3 : machine.State)
+        → Known W c t k (record s { clock = n }) now v s2 now2
+        → Known W a t k s2 now2 w s3 now3
+        → Known W (typed.chosen u c a b) t k s now (converted_or_none u w) s3 now3
     join_first n s now now2 now3 v w s2 s3 kc ka =
         known_join p call q deep f (typed.chosen u c a b) c a t k n s now now2 now3 v w (converted_or_none u w) s2 s3 (or_left (calls c) (calls a || calls b))
         (λ h. or_left (calls a) (calls b) (or_right (calls c) (calls a || calls b) h))
         (λ x h. or_left (writes c x) (writes a x || writes b x) h)
         (λ x h. or_left (writes a x) (writes b x) (or_right (writes c x) (writes a x || writes b x) h)) refl refl (value w) kc ka
 
-    join_second : (n : ℕ) (s : machine.State) (now now2 now3 : Scratch) (v w : ℤ) (s2 s3 : machine.State)
-        → Known (function_at q f).objects c t k (record s { clock = n }) now v s2 now2
-        → Known (function_at q f).objects b t k s2 now2 w s3 now3
-        → Known (function_at q f).objects (typed.chosen u c a b) t k s now (converted_or_none u w) s3 now3
+    join_second : {W : World} (n : ℕ) (s : machine.State) (now now2 now3 : Scratch) (v w : ℤ) (s2 s3 : machine.State)
+        → Known W c t k (record s { clock = n }) now v s2 now2
+        → Known W b t k s2 now2 w s3 now3
+        → Known W (typed.chosen u c a b) t k s now (converted_or_none u w) s3 now3
     join_second n s now now2 now3 v w s2 s3 kc kb =
         known_join p call q deep f (typed.chosen u c a b) c b t k n s now now2 now3 v w (converted_or_none u w) s2 s3 (or_left (calls c) (calls a || calls b))
         (λ h. or_right (calls a) (calls b) (or_right (calls c) (calls a || calls b) h))
@@ -85,14 +86,14 @@ module _ (p : typed.Program) (call : Calling) (q : Program) (deep f : ℕ) where
         (λ n v s2 z le2 g. rest (truth v) n v s2 z le2 g.now g.at g.known)
       where
         rest : (d : Bool) (n : ℕ) (v : ℤ) (s2 : machine.State) (z : State) → s2.clock ≤ deep → (now2 : Scratch)
-            → z ≡ here f (choose (not d) other p2) now2 ws s2 → Known (function_at q f).objects c t k (record s { clock = n }) now v s2 now2
-            → Sim q 14 (60 * s2.clock + 74) s2.clock z (Good q f (typed.chosen u c a b) m t k pc2 s now ws)
+            → z ≡ here f (choose (not d) other p2) now2 ws s2 → Known (world p q f ws) c t k (record s { clock = n }) now v s2 now2
+            → Sim q 14 (60 * s2.clock + 74) s2.clock z (Good p q f (typed.chosen u c a b) m t k pc2 s now ws)
             (then_do (choose d (evaluate p call a s2) (evaluate p call b s2)) (λ w s. Goes (converted_or_none u w) s))
         rest true n v s2 z le2 now2 ez kc =
-            let Result2 = Good q f (typed.chosen u c a b) m t k pc2 s now ws in
+            let Result2 = Good p q f (typed.chosen u c a b) m t k pc2 s now ws in
             sim_move q 14 Result2 (60 * s2.clock + 74) s2.clock z (here f p2 now2 ws s2)
             (then_do (evaluate p call a s2) (λ w s. Goes (converted_or_none u w) s)) ez
-            (sim_then q 14 14 (Good q f a m t k p3 s2 now2 ws) Result2 (60 * s2.clock) 16 (60 * s2.clock + 74) s2.clock (here f p2 now2 ws s2)
+            (sim_then q 14 14 (Good p q f a m t k p3 s2 now2 ws) Result2 (60 * s2.clock) 16 (60 * s2.clock + 74) s2.clock (here f p2 now2 ws s2)
             (evaluate p call a s2) (λ w s. Goes (converted_or_none u w) s) (omega arith) (omega arith)
             (da s2 now2 ws le2 kc.fine)
             (λ w s3 z3 lt g.
@@ -101,10 +102,10 @@ module _ (p : typed.Program) (call : Calling) (q : Program) (deep f : ℕ) where
             (remode p call q deep f a (typed.chosen u c a b) m t k pc2 s2 s now2 now ws w (converted_or_none u w) s3 l.u (same a w l.good.known.value)
             (λ now3 ka. join_first n s now now2 now3 v w s2 s3 kc ka) l.good)))
         rest false n v s2 z le2 now2 ez kc =
-            let Result2 = Good q f (typed.chosen u c a b) m t k pc2 s now ws in
+            let Result2 = Good p q f (typed.chosen u c a b) m t k pc2 s now ws in
             sim_move q 14 Result2 (60 * s2.clock + 74) s2.clock z (here f other now2 ws s2)
             (then_do (evaluate p call b s2) (λ w s. Goes (converted_or_none u w) s)) ez
-            (sim_then q 14 14 (Good q f b m t k pc2 s2 now2 ws) Result2 (60 * s2.clock) 16 (60 * s2.clock + 74) s2.clock (here f other now2 ws s2)
+            (sim_then q 14 14 (Good p q f b m t k pc2 s2 now2 ws) Result2 (60 * s2.clock) 16 (60 * s2.clock + 74) s2.clock (here f other now2 ws s2)
             (evaluate p call b s2) (λ w s. Goes (converted_or_none u w) s) (omega arith) (omega arith)
             (db s2 now2 ws le2 kc.fine)
             (λ w s3 z3 lt g.

@@ -18,14 +18,14 @@ use Rattle.lowering.specs.Values.{If}
 use Rattle.lowering.specs.Code.{One}
 use Rattle.lowering.proofs.Words.{differ, ranged, converts_again}
 use Rattle.lowering.proofs.Steps.{stays, GoesTo, goes, from, Sim, sim_after, sim_then, sim_more, sim_map, sim_move, tick_in}
-use Rattle.lowering.proofs.Standing.{Scratch, here, does_nothing, does_jump, does_forget}
+use Rattle.lowering.proofs.Standing.{Scratch, here, does_nothing, does_jump, does_forget, world, first_automatic}
 use Rattle.lowering.proofs.Stores.{Fine, After, after_on, with_tree, fine_put, after_put, fine_later, after_since}
 use Rattle.lowering.proofs.Goods.{Good, object_state}
 use Rattle.lowering.proofs.Leaves.{IsNumber, scalar_is, IntoDoes, Converted, ConvertsDoes}
-use Rattle.lowering.proofs.Flows.{writes_all, AreNumbers, all_forgotten, StandsAt, FlowGood, Runs, Lists, flow_since, there}
+use Rattle.lowering.proofs.Flows.{writes_all, all_forgotten, StandsAt, FlowGood, Runs, Lists, flow_since, there}
 
-module _ (p : typed.Program) (call : Calling) (q : Program) (deep f : ℕ) (result : Option IntType) (numbers : AreNumbers (function_at q f).objects) where
-  all_after : (w : ℕ → Bool) (a b : machine.State) → After w a b → After writes_all a b
+module _ (p : typed.Program) (call : Calling) (q : Program) (deep f : ℕ) (result : Option IntType) where
+  all_after : (w : ℕ → Bool) (a b : machine.State) → After (first_automatic q) w a b → After (first_automatic q) writes_all a b
   all_after w a b h = record { base = h.base; arrays = h.arrays; below = h.below; still = λ x e. absurd (differ (sym e)) }
 
   loosely : {A : Type 0} (Good2 : A → machine.State → State → Type 0) (hi lo hi2 lo2 : ℕ) (z : State) (r : Run A) → hi2 ≤ hi → lo ≤ lo2
@@ -44,7 +44,7 @@ module _ (p : typed.Program) (call : Calling) (q : Program) (deep f : ℕ) (resu
       (does_forget q f first count pc p1 now ws s o)
       (λ n lt.
       let s1 : machine.State = record s { clock = n } in
-      let h = all_forgotten (function_at q f).objects first count s1 numbers (fine_later (function_at q f).objects s n fine) in
+      let h = all_forgotten (world p q f ws) first count s1 (fine_later (world p q f ws) s n fine) in
       let s2 = all_renewed (function_at q f).objects first count s1 in
       sim_move q 14 Good2 (60 * n + 60 + 0) n (here f p1 now ws (record s1 { store = forgotten (function_at q f).objects s1.base first count s1.store }))
       (here f p1 now ws s2) (rb s2) (ap (here f p1 now ws) h.same)
@@ -62,7 +62,7 @@ module _ (p : typed.Program) (call : Calling) (q : Program) (deep f : ℕ) (resu
       (does_forget q f x 1 pc end now ws s o)
       (λ n lt.
       let s1 : machine.State = record s { clock = n } in
-      let h = all_forgotten (function_at q f).objects x 1 s1 numbers (fine_later (function_at q f).objects s n fine) in
+      let h = all_forgotten (world p q f ws) x 1 s1 (fine_later (world p q f ws) s n fine) in
       there p call q deep f result end out again (60 * n + 60 + 0) s ws Normal (renewed (function_at q f).objects x s1)
       (here f end now ws (record s { store = forgotten (function_at q f).objects s.base x 1 s.store })) (omega arith)
       (record { now = now; at = refl; fine = h.fine; after = after_since writes_all s (renewed (function_at q f).objects x s1) n h.after }))
@@ -70,7 +70,7 @@ module _ (p : typed.Program) (call : Calling) (q : Program) (deep f : ℕ) (resu
   -- ---- first values (6.7.9)
 
   abbrev pub BeginsAt : (machine.State → Run (Unit {0})) → (b pc pc2 : ℕ) → Type 0
-  BeginsAt r b pc pc2 = (s : machine.State) (now : Scratch) (ws : List Call) → s.base ≡ b → s.clock ≤ deep → Fine (function_at q f).objects s
+  BeginsAt r b pc pc2 = (s : machine.State) (now : Scratch) (ws : List Call) → s.base ≡ b → s.clock ≤ deep → Fine (world p q f ws) s
       → Sim q 14 (60 * s.clock + 8) s.clock (here f pc now ws s) (λ u. StandsAt p call q deep f result pc2 s ws) (r s)
 
   pub value_begins : (u : IntType) (e : Expression) (x b pc p1 pc2 : ℕ) → IsNumber (function_at q f).objects x u
@@ -86,7 +86,7 @@ module _ (p : typed.Program) (call : Calling) (q : Program) (deep f : ℕ) (resu
       let s3 = with_tree x (Element (Some cv)) s2 in
       let eb2 : s2.base ≡ b = c.known.after.base ∙ eb in
       let at : z ≡ here f p1 c.now ws s3 = c.at
-      ∙ ap (here f p1 c.now ws) (object_state q f x u (word_for cv) cv s2 (scalar_is (function_at q f).objects x u num)
+      ∙ ap (here f p1 c.now ws) (object_state p q f x u (word_for cv) cv s2 (scalar_is (function_at q f).objects x u num)
       (converts_again u cv (ranged u cv (converted_fits u v)) ∙ converted_keeps u cv (converted_fits u v))) in
       sim_move q 14 Good2 (60 * s2.clock + 14) s2.clock z (here f p1 c.now ws s3) (tick s2 (λ s. Goes tt (stored (whole (b + x)) cv s))) at
       (subst (λ n. Sim q 14 (60 * s2.clock + 14) s2.clock (here f p1 c.now ws s3) Good2 (tick s2 (λ s. Goes tt (stored (whole (n + x)) cv s)))) eb2
@@ -99,8 +99,8 @@ module _ (p : typed.Program) (call : Calling) (q : Program) (deep f : ℕ) (resu
       (record {
         now = c.now;
         at = refl;
-        fine = fine_put (function_at q f).objects x num.type (Element (Some cv)) (record s2 { clock = k }) num.at
-            (subst (λ y. IsValueOf y cv) (sym num.element) (converted_fits u v)) (fine_later (function_at q f).objects s2 k c.known.fine);
+        fine = fine_put (world p q f ws) x num.type cv (record s2 { clock = k }) num.at num.lengths
+            (subst (λ y. IsValueOf y cv) (sym num.element) (converted_fits u v)) (fine_later (world p q f ws) s2 k c.known.fine);
         after = after_on writes_all writes_all writes_all s s2 s4 (λ y h. h) (λ y h. h) (all_after _ s s2 c.known.after)
             (after_since writes_all s2 s4 k (after_put writes_all x (Element (Some cv)) (record s2 { clock = k }) refl));
       })))))
@@ -114,7 +114,7 @@ module _ (p : typed.Program) (call : Calling) (q : Program) (deep f : ℕ) (resu
       let s1 : machine.State = record s { clock = k } in
       let Good3 : Unit {0} → machine.State → State → Type 0 = λ y. StandsAt p call q deep f result pc2 s1 ws in
       sim_map q 14 14 Good3 Good2 (60 * k + 8) (60 * k + 60 + 8) k (here f p1 now ws s) (ri s1) (omega arith) (omega arith)
-      (di s1 now ws eb (omega (arith, le, lt)) (fine_later (function_at q f).objects s k fine))
+      (di s1 now ws eb (omega (arith, le, lt)) (fine_later (world p q f ws) s k fine))
       (λ y s2 z g. record { now = g.now; at = g.at; fine = g.fine; after = after_since writes_all s s2 k g.after }))
 
   pub define_runs : (ri : ℕ → machine.State → Run (Unit {0})) (x pc p1 end out again : ℕ) → One (function_at q f).code (instruction.Forget x 1) pc p1
@@ -129,7 +129,7 @@ module _ (p : typed.Program) (call : Calling) (q : Program) (deep f : ℕ) (resu
       (λ n lt.
       let s1 : machine.State = record s { clock = n } in
       let s2 = renewed (function_at q f).objects x s1 in
-      let h = all_forgotten (function_at q f).objects x 1 s1 numbers (fine_later (function_at q f).objects s n fine) in
+      let h = all_forgotten (world p q f ws) x 1 s1 (fine_later (world p q f ws) s n fine) in
       let Good3 : Unit {0} → machine.State → State → Type 0 = λ y. StandsAt p call q deep f result end s2 ws in
       sim_then q 14 14 Good3 Good2 (60 * n + 8) 66 (60 * n + 60 + 0) n (here f p1 now ws s2) (ri s.base s2) last (omega arith) (omega arith)
       (di s.base s2 now ws refl (omega (arith, le, lt)) h.fine)
@@ -151,8 +151,8 @@ module _ (p : typed.Program) (call : Calling) (q : Program) (deep f : ℕ) (resu
   -- a condition, and what follows by its truth
   pub condition_runs : (e : Expression) (last : ℤ → machine.State → Run Flow) (pc p1 p2 other end out again : ℕ)
       → One (function_at q f).code instruction.Nothing pc p1 → IntoDoes p call q deep f e (If false other) 0 0 p1 p2
-      → ((v : ℤ) (s2 : machine.State) (now2 : Scratch) (before : machine.State) (ws : List Call) → s2.clock ≤ deep → Fine (function_at q f).objects s2
-      → After writes_all before s2
+      → ((v : ℤ) (s2 : machine.State) (now2 : Scratch) (before : machine.State) (ws : List Call) → s2.clock ≤ deep → Fine (world p q f ws) s2
+      → After (first_automatic q) writes_all before s2
       → Sim q 14 (60 * s2.clock + 74) s2.clock (here f (choose (truth v) p2 other) now2 ws s2) (FlowGood p call q deep f result end out again before ws)
       (last v s2))
       → Runs p call q deep f result (λ s. tick s (λ s. then_do (evaluate p call e s) last)) pc end out again
@@ -162,16 +162,16 @@ module _ (p : typed.Program) (call : Calling) (q : Program) (deep f : ℕ) (resu
       (does_nothing q f pc p1 now ws s o)
       (λ n lt.
       let s1 : machine.State = record s { clock = n } in
-      sim_then q 14 14 (Good q f e (If false other) 0 0 p2 s1 now ws) Good2 (60 * n) 74 (60 * n + 60 + 0) n (here f p1 now ws s) (evaluate p call e s1) last
+      sim_then q 14 14 (Good p q f e (If false other) 0 0 p2 s1 now ws) Good2 (60 * n) 74 (60 * n + 60 + 0) n (here f p1 now ws s) (evaluate p call e s1) last
       (omega arith) (omega arith)
-      (de s1 now ws (omega (arith, le, lt)) (fine_later (function_at q f).objects s n fine))
+      (de s1 now ws (omega (arith, le, lt)) (fine_later (world p q f ws) s n fine))
       (λ v s2 z lt2 g. sim_move q 14 Good2 (60 * s2.clock + 74) s2.clock z (here f (choose (truth v) p2 other) g.now ws s2) (last v s2)
       (g.at ∙ ap (λ n. here f n g.now ws s2) (choose_not (truth v) other p2))
       (next v s2 g.now s ws (omega (arith, le, lt, lt2)) g.known.fine (all_after _ s s2 (after_since _ s s2 n g.known.after)))))
 
   -- what runs from an earlier state
   run_since : (ra : machine.State → Run Flow) (pc end out again hi : ℕ) (before s : machine.State) (now : Scratch) (ws : List Call)
-      → Runs p call q deep f result ra pc end out again → s.clock ≤ deep → Fine (function_at q f).objects s → After writes_all before s
+      → Runs p call q deep f result ra pc end out again → s.clock ≤ deep → Fine (world p q f ws) s → After (first_automatic q) writes_all before s
       → 60 * s.clock ≤ hi → Sim q 14 hi s.clock (here f pc now ws s) (FlowGood p call q deep f result end out again before ws) (ra s)
   run_since ra pc end out again hi before s now ws da le fine after h =
       sim_map q 14 14 (FlowGood p call q deep f result end out again s ws) (FlowGood p call q deep f result end out again before ws) (60 * s.clock) hi s.clock
@@ -186,7 +186,7 @@ module _ (p : typed.Program) (call : Calling) (q : Program) (deep f : ℕ) (resu
       (λ v s2 now2 before ws le fine after. by_truth (truth v) s2 now2 before ws le fine after)
     where
       by_truth : (b : Bool) (s2 : machine.State) (now2 : Scratch) (before : machine.State) (ws : List Call) → s2.clock ≤ deep
-          → Fine (function_at q f).objects s2 → After writes_all before s2
+          → Fine (world p q f ws) s2 → After (first_automatic q) writes_all before s2
           → Sim q 14 (60 * s2.clock + 74) s2.clock (here f (choose b p2 end) now2 ws s2) (FlowGood p call q deep f result end out again before ws)
           (choose b (ra s2) (Goes Normal s2))
       by_truth true s2 now2 before ws le fine after = run_since ra p2 end out again (60 * s2.clock + 74) before s2 now2 ws da le fine after (omega arith)
@@ -218,7 +218,7 @@ module _ (p : typed.Program) (call : Calling) (q : Program) (deep f : ℕ) (resu
       (λ v s2 now2 before ws le fine after. by_truth (truth v) s2 now2 before ws le fine after)
     where
       by_truth : (b : Bool) (s2 : machine.State) (now2 : Scratch) (before : machine.State) (ws : List Call) → s2.clock ≤ deep
-          → Fine (function_at q f).objects s2 → After writes_all before s2
+          → Fine (world p q f ws) s2 → After (first_automatic q) writes_all before s2
           → Sim q 14 (60 * s2.clock + 74) s2.clock (here f (choose b p2 other) now2 ws s2) (FlowGood p call q deep f result end out again before ws)
           (choose b (ra s2) (rb s2))
       by_truth true s2 now2 before ws le fine after =

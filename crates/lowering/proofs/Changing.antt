@@ -26,7 +26,7 @@ use Rattle.lowering.specs.Values.{calls, writes, writes_none, rests_in, extent, 
 use Rattle.lowering.specs.Code.{Ends, Changes, Into}
 use Rattle.lowering.proofs.Words.{Ranged, ranged, converts_again, wide_word, is_word}
 use Rattle.lowering.proofs.Steps.{Reaches, reaches_on, Sim, sim_after, sim_then, sim_move, tick_in, find_in}
-use Rattle.lowering.proofs.Standing.{Scratch, here, put_scratch, set_same, put_state, Holds, does_nothing, does_convert}
+use Rattle.lowering.proofs.Standing.{Scratch, here, put_scratch, set_same, put_state, Holds, does_nothing, does_convert, world, sizes}
 use Rattle.lowering.proofs.Stores.{Fine, after_on, after_put, with_tree, fine_put, read_back, read_fits, fine_later, after_since}
 use Rattle.lowering.proofs.Goods.{Keeps, keeps_put, IsFreeFor, Known, Suits, Good, ends, mode_free, mode_suits, held, object_state}
 use Rattle.lowering.proofs.Operations.{computes_do, operated_extent}
@@ -55,7 +55,7 @@ module _ (p : typed.Program) (call : Calling) (q : Program) (deep f : ℕ) where
       → Changed x u t pc2 w now ws s (here f pc now ws s)
   changes_do true o u of x a t old b w pc pc2 now ws s hu hof num ro rb i hx ha e =
       let rw_ = ranged _ w (operated_extent o of old b w e) in
-      let c = computes_do q f o of (target.Object x) (operand.Object x) a t old b w pc pc2 now ws s hof ro rb i hx ha e
+      let c = computes_do p q f o of (target.Object x) (operand.Object x) a t old b w pc pc2 now ws s hof ro rb i hx ha e
       (u, scalar_is (function_at q f).objects x u num, is_word u w rw_ (wide_word u w hu)) in
       record {
         j = c.j;
@@ -71,7 +71,7 @@ module _ (p : typed.Program) (call : Calling) (q : Program) (deep f : ℕ) where
   changes_do false o u of x a t old b w pc pc2 now ws s hu hof num ro rb i hx ha e =
       let rw_ = ranged _ w (operated_extent o of old b w e) in
       let g = target.Temporary t in
-      let c = computes_do q f o of g (operand.Object x) a t old b w pc i.0 now ws s hof ro rb i.1 hx ha e tt in
+      let c = computes_do p q f o of g (operand.Object x) a t old b w pc i.0 now ws s hof ro rb i.1 hx ha e tt in
       let now2 = put_scratch g (word_for w) c.now2 in
       let word2 = word_for (number_of u (word_for w)) in
       let same : number_of u (word_for w) ≡ converted u w = converts_again u w rw_ in
@@ -90,7 +90,7 @@ module _ (p : typed.Program) (call : Calling) (q : Program) (deep f : ℕ) where
         is = ap (λ n. number_of u (word_for n)) same ∙ (converts_again u cw (ranged u cw (converted_fits u w)) ∙ converted_keeps u cw (converted_fits u w));
       }
 
-  undefined_then : {B : Type 0} (Good2 : B → machine.State → State → Type 0) (hi lo : ℕ) (t : State) (b : Bool) (act : Undef) (at : Pos) (s : machine.State)
+  pub undefined_then : {B : Type 0} (Good2 : B → machine.State → State → Type 0) (hi lo : ℕ) (t : State) (b : Bool) (act : Undef) (at : Pos) (s : machine.State)
       (r : Run ℤ) (go : ℤ → machine.State → Run B)
       → Sim q 14 hi lo t Good2 (then_do r go) → Sim q 14 hi lo t Good2 (then_do (choose b (undefined act at s) r) go)
   undefined_then Good2 hi lo t true act at s r go l = tt
@@ -99,17 +99,17 @@ module _ (p : typed.Program) (call : Calling) (q : Program) (deep f : ℕ) where
   -- the object has its new value: on from there
   write_in : (Good2 : ℤ → machine.State → State → Type 0) (go : ℤ → machine.State → Run ℤ) (at : Pos) (x : ℕ) (u : IntType) (pc hi b w : ℕ) (now : Scratch)
       (ws : List Call) (v : ℤ) (s : machine.State)
-      → IsNumber (function_at q f).objects x u → s.base ≡ b → Fine (function_at q f).objects s → number_of u w ≡ v → IsValueOf u v
-      → (Fine (function_at q f).objects (with_tree x (Element (Some v)) s)
+      → IsNumber (function_at q f).objects x u → s.base ≡ b → Fine (world p q f ws) s → number_of u w ≡ v → IsValueOf u v
+      → (Fine (world p q f ws) (with_tree x (Element (Some v)) s)
       → value_at (put s.store (whole (s.base + x)) (Element (Some v))) (whole (s.base + x)) ≡ Some v
       → Sim q 14 hi s.clock (here f pc now ws (with_tree x (Element (Some v)) s)) Good2 (go v (with_tree x (Element (Some v)) s)))
       → Sim q 14 hi s.clock (here f pc now ws (put_state q f (target.Object x) w s)) Good2 (then_do (write p at (whole (b + x)) v s) go)
   write_in Good2 go at x u pc hi b w now ws v s num eb fine ew hv next =
       let s3 = with_tree x (Element (Some v)) s in
       let z = here f pc now ws (put_state q f (target.Object x) w s) in
-      let there = read_back (function_at q f).objects x num.type v s num.at fine in
-      let fine3 = fine_put (function_at q f).objects x num.type (Element (Some v)) s num.at (subst (λ y. IsValueOf y v) (sym num.element) hv) fine in
-      let now_at : z ≡ here f pc now ws s3 = ap (here f pc now ws) (object_state q f x u w v s (scalar_is (function_at q f).objects x u num) ew) in
+      let there = read_back (world p q f ws) x num.type v s num.at fine in
+      let fine3 = fine_put (world p q f ws) x num.type v s num.at num.lengths (subst (λ y. IsValueOf y v) (sym num.element) hv) fine in
+      let now_at : z ≡ here f pc now ws s3 = ap (here f pc now ws) (object_state p q f x u w v s (scalar_is (function_at q f).objects x u num) ew) in
       subst (λ n. Sim q 14 hi s.clock z Good2 (then_do (write p at (whole (n + x)) v s) go)) eb
       (undefined_then Good2 hi s.clock z (nat_lt (s.base + x) (length p.literals)) U7 at s (Goes v s3) go
       (sim_move q 14 Good2 hi s.clock z (here f pc now ws s3) (go v s3) now_at (next fine3 there)))
@@ -117,18 +117,18 @@ module _ (p : typed.Program) (call : Calling) (q : Program) (deep f : ℕ) where
   -- the object changes: on from there
   pub change_in : (Good2 : ℤ → machine.State → State → Type 0) (go : ℤ → machine.State → Run ℤ) (at : Pos) (o : BinOp) (x : ℕ) (u of : IntType) (a : Operand)
       (t pc pc2 hi top b : ℕ) (old v : ℤ) (now : Scratch) (ws : List Call) (s : machine.State) (r : Result ℤ Undef)
-      → hi + 30 ≤ top → operated o of old v ≡ r → is_wide of ≡ true → IsNumber (function_at q f).objects x u → s.base ≡ b → Fine (function_at q f).objects s
+      → hi + 30 ≤ top → operated o of old v ≡ r → is_wide of ≡ true → IsNumber (function_at q f).objects x u → s.base ≡ b → Fine (world p q f ws) s
       → Ranged v
       → Changes (function_at q f).code (is_wide u) o u of x a t pc pc2 → value_at s.store (whole (s.base + x)) ≡ Some old → Holds q f a (word_for v) now s
       → ((w : ℤ) (now2 : Scratch) → ((y : Bool) (i k : ℕ) (before : Scratch) → i ≤ t → Keeps y i k before now → Keeps y i k before now2)
-      → Fine (function_at q f).objects (with_tree x (Element (Some (converted u w))) s)
+      → Fine (world p q f ws) (with_tree x (Element (Some (converted u w))) s)
       → value_at (put s.store (whole (s.base + x)) (Element (Some (converted u w)))) (whole (s.base + x)) ≡ Some (converted u w)
       → Sim q 14 hi s.clock (here f pc2 now2 ws (with_tree x (Element (Some (converted u w))) s)) Good2
       (go (converted u w) (with_tree x (Element (Some (converted u w))) s)))
       → Sim q 14 top s.clock (here f pc now ws s) Good2 (then_do (computed_at at r s) (λ w s. then_do (write p at (whole (b + x)) (converted u w) s) go))
   change_in Good2 go at o x u of a t pc pc2 hi top b old v now ws s (Err act) h1 e hof num eb fine rv i ex ha next = tt
   change_in Good2 go at o x u of a t pc pc2 hi top b old v now ws s (Ok w) h1 e hof num eb fine rv i ex ha next =
-      let ro = ranged num.type.element old (read_fits (function_at q f).objects x num.type old s num.at fine ex) in
+      let ro = ranged num.type.element old (read_fits (world p q f ws) x num.type old s num.at fine ex) in
       let c = changes_do (is_wide u) o u of x a t old v w pc pc2 now ws s refl hof num ro rv i (ap (option_map (λ y. word (word_for y))) ex) ha e in
       sim_after q 14 Good2 top s.clock hi s.clock c.j c.c (here f pc now ws s) (here f pc2 c.now2 ws (put_state q f (target.Object x) c.word2 s))
       (then_do (write p at (whole (b + x)) (converted u w) s) go)
@@ -138,7 +138,7 @@ module _ (p : typed.Program) (call : Calling) (q : Program) (deep f : ℕ) where
 
   -- ---- compound assignment (6.5.16.2)
 
-  goes_same : (Good2 : ℤ → machine.State → State → Type 0) (hi lo : ℕ) (t : State) (r : Run ℤ) → Sim q 14 hi lo t Good2 (then_do r (λ v s. Goes v s))
+  pub goes_same : (Good2 : ℤ → machine.State → State → Type 0) (hi lo : ℕ) (t : State) (r : Run ℤ) → Sim q 14 hi lo t Good2 (then_do r (λ v s. Goes v s))
       → Sim q 14 hi lo t Good2 r
   goes_same Good2 hi lo t (Goes v s) l = l
   goes_same Good2 hi lo t (Stops machine.TicksUsed s) l = l
@@ -146,14 +146,14 @@ module _ (p : typed.Program) (call : Calling) (q : Program) (deep f : ℕ) where
   goes_same Good2 hi lo t (Stops (machine.Undefined act at) s) l = l
 
   module _ (at at2 : Pos) (o : BinOp) (u of : IntType) (x : ℕ) (e : Expression) (m : Mode) (t k : ℕ) (hof : is_wide of ≡ true)
-      (num : IsNumber (function_at q f).objects x u) (fr : IsFreeFor m t k) (su : Suits q f m u) where
+      (num : IsNumber (function_at q f).objects x u) (fr : IsFreeFor m t k) (su : Suits p q f m u) where
     compound_last : (n p2 p3 pc2 : ℕ) (now now1 : Scratch) (ws : List Call) (s : machine.State)
         → Changes (function_at q f).code (is_wide u) o u of x (operand_of e t k) t p2 p3 → Ends (function_at q f).code m (operand.Object x) p3 pc2
         → (v : ℤ) (s2 : machine.State) → Holds q f (operand_of e t k) (word_for v) now1 s2
-        → Known (function_at q f).objects e t k (record s { clock = n }) now v s2 now1
+        → Known (world p q f ws) e t k (record s { clock = n }) now v s2 now1
         → (old : Option ℤ) → value_at s2.store (whole (s2.base + x)) ≡ old
         → Sim q 14 (60 * s2.clock + 134) s2.clock (here f p2 now1 ws s2)
-        (Good q f (typed.compound at o u of (typed.named at2 (typed.automatic x)) e) m t k pc2 s now ws)
+        (Good p q f (typed.compound at o u of (typed.named at2 (typed.automatic x)) e) m t k pc2 s now ws)
         (then_do (value_or_undefined at2 old s2)
         (λ old s. then_do (computed_at at (operated o of old v) s) (λ w s. write p at (whole (s2.base + x)) (converted u w) s)))
     compound_last n p2 p3 pc2 now now1 ws s i i2 v s2 h known None ex = tt
@@ -161,16 +161,16 @@ module _ (p : typed.Program) (call : Calling) (q : Program) (deep f : ℕ) where
       where
         by_result : (r : Result ℤ Undef) → operated o of old v ≡ r
             → Sim q 14 (60 * s2.clock + 134) s2.clock (here f p2 now1 ws s2)
-            (Good q f (typed.compound at o u of (typed.named at2 (typed.automatic x)) e) m t k pc2 s now ws)
+            (Good p q f (typed.compound at o u of (typed.named at2 (typed.automatic x)) e) m t k pc2 s now ws)
             (then_do (computed_at at r s2) (λ w s. write p at (whole (s2.base + x)) (converted u w) s))
         by_result (Err act) er = tt
         by_result (Ok w) er =
-            let Result2 = Good q f (typed.compound at o u of (typed.named at2 (typed.automatic x)) e) m t k pc2 s now ws in
+            let Result2 = Good p q f (typed.compound at o u of (typed.named at2 (typed.automatic x)) e) m t k pc2 s now ws in
             goes_same Result2 (60 * s2.clock + 134) s2.clock (here f p2 now1 ws s2) (write p at (whole (s2.base + x)) (converted u w) s2)
             (change_in Result2 (λ v s. Goes v s) at o x u of (operand_of e t k) t p2 p3 (60 * s2.clock + 104) (60 * s2.clock + 134) s2.base old v now1 ws s2
             (Ok w) (omega arith) er hof num refl known.fine (ranged (extent e) v known.value) i ex h
             (λ w2 now2 keeps fine3 there.
-            ends q f (typed.compound at o u of (typed.named at2 (typed.automatic x)) e) m t k (operand.Object x) p3 pc2 (60 * s2.clock + 104) s now now2 ws
+            ends p q f (typed.compound at o u of (typed.named at2 (typed.automatic x)) e) m t k (operand.Object x) p3 pc2 (60 * s2.clock + 104) s now now2 ws
             (converted u w2) (with_tree x (Element (Some (converted u w2))) s2) fr su i2
             (ap (option_map (λ y. word (word_for y))) there) (omega arith)
             (record {
@@ -185,12 +185,12 @@ module _ (p : typed.Program) (call : Calling) (q : Program) (deep f : ℕ) where
               constant = tt;
             })))
 
-    pub compound_does : (pc pc2 : ℕ) → ((n : Mode) (a z : ℕ) → IsFreeFor n t k → Suits q f n (extent e) → Into (function_at q f).code e n t k a z
+    pub compound_does : (pc pc2 : ℕ) → ((n : Mode) (a z : ℕ) → IsFreeFor n t k → Suits p q f n (extent e) → Into (function_at q f).code (sizes p f) e n t k a z
         → IntoDoes p call q deep f e n t k a z)
-        → Into (function_at q f).code (typed.compound at o u of (typed.named at2 (typed.automatic x)) e) m t k pc pc2
+        → Into (function_at q f).code (sizes p f) (typed.compound at o u of (typed.named at2 (typed.automatic x)) e) m t k pc pc2
         → IntoDoes p call q deep f (typed.compound at o u of (typed.named at2 (typed.automatic x)) e) m t k pc pc2
     compound_does pc pc2 de h s now ws le fine =
-        let Result2 = Good q f (typed.compound at o u of (typed.named at2 (typed.automatic x)) e) m t k pc2 s now ws in
+        let Result2 = Good p q f (typed.compound at o u of (typed.named at2 (typed.automatic x)) e) m t k pc2 s now ws in
         let a = operand_of e t k in
         let last : Reference → ℤ → machine.State
         → Run ℤ = λ r v s. then_do (read at2 r s) (λ old s. then_do (computed_at at (operated o of old v) s) (λ w s. write p at r (converted u w) s)) in
@@ -201,13 +201,13 @@ module _ (p : typed.Program) (call : Calling) (q : Program) (deep f : ℕ) where
         (λ s. Goes (whole (s.base + x)) s) (λ r s. then_do (evaluate p call e s) (last r)) (omega arith) refl refl (does_nothing q f h.0 h.1 now ws s h.5)
         (λ n2 lt2.
         let s2 : machine.State = record s { clock = n2 } in
-        sim_then q 14 14 (Good q f e (mode_of a) t k h.2 s2 now ws) Result2 (60 * n2) 134 (60 * n2 + 60 + 60) n2 (here f h.1 now ws s) (evaluate p call e s2)
+        sim_then q 14 14 (Good p q f e (mode_of a) t k h.2 s2 now ws) Result2 (60 * n2) 134 (60 * n2 + 60 + 60) n2 (here f h.1 now ws s) (evaluate p call e s2)
         (last (whole (s.base + x))) (omega arith) (omega arith)
-        (de (mode_of a) h.1 h.2 (mode_free q f (constant_of e) (rests_in e) writes_none false t k)
-        (mode_suits q f (constant_of e) (rests_in e) writes_none false t k (extent e)) h.6 s2 now ws (omega (arith, le, lt, lt2))
-        (fine_later (function_at q f).objects s n2 fine))
+        (de (mode_of a) h.1 h.2 (mode_free p q f (constant_of e) (rests_in e) writes_none false t k)
+        (mode_suits p q f (constant_of e) (rests_in e) writes_none false t k (extent e)) h.6 s2 now ws (omega (arith, le, lt, lt2))
+        (fine_later (world p q f ws) s n2 fine))
         (λ v s3 z lt3 good.
-        let hd = held q f e writes_none false t k h.2 s2 now ws v s3 z good in
+        let hd = held p q f e writes_none false t k h.2 s2 now ws v s3 z good in
         sim_move q 14 Result2 (60 * s3.clock + 134) s3.clock z (here f h.2 hd.now ws s3) (last (whole (s.base + x)) v s3) hd.at
         (subst (λ b. Sim q 14 (60 * s3.clock + 134) s3.clock (here f h.2 hd.now ws s3) Result2 (last (whole (b + x)) v s3)) hd.known.after.base
         (compound_last n2 h.2 h.3 pc2 now hd.now ws s h.7 h.8 v s3 hd.holds hd.known (value_at s3.store (whole (s3.base + x))) refl)))))

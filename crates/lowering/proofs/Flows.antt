@@ -7,7 +7,7 @@ use Rattle.ctypes.proofs.Uses.{converted_fits}
 use Rattle.typed.specs.Types.{ObjectType}
 use Rattle.typed.specs.Program as typed
 use Rattle.typed.specs.Program.{Initialiser, Statement, Statements, Value as Expression}
-use Rattle.meaning.specs.Store.{Tree, whole, put, indeterminate}
+use Rattle.meaning.specs.Store.{Tree, whole, put_in, put}
 use Rattle.meaning.specs.Machine as machine
 use Rattle.meaning.specs.Machine.{Run, Goes, Stops, then_do, choose, tick, stored}
 use Rattle.meaning.specs.Expressions.{Calling, evaluate}
@@ -21,79 +21,64 @@ use Rattle.lowering.specs.Code.{One}
 use Rattle.lowering.specs.Bodies.{Leaves}
 use Rattle.lowering.proofs.Words.{differ}
 use Rattle.lowering.proofs.Steps.{stays, GoesTo, goes, from, Sim, sim_then, sim_map, sim_move, tick_in, tick_ends}
-use Rattle.lowering.proofs.Standing.{Scratch, here, does_nothing, does_jump}
-use Rattle.lowering.proofs.Stores.{ObjectFits, Fine, After, after_on, after_none, put_here, put_elsewhere, put_above, fine_later, after_later, after_since}
+use Rattle.lowering.proofs.Standing.{Scratch, here, does_nothing, does_jump, world, first_automatic}
+use Rattle.lowering.proofs.Shapes.{filled_has}
+use Rattle.lowering.proofs.Stores.{World, all_types, ObjectFits, Fine, After, after_on, after_none, after_put, put_here, put_elsewhere, put_length, behind, nat_cases, tree_is, fine_later, after_later, after_since}
 use Rattle.lowering.proofs.Goods.{Good}
 use Rattle.lowering.proofs.Leaves.{IntoDoes, Converted, ConvertsDoes}
 
 abbrev pub writes_all : ℕ → Bool
 writes_all x = true
 
--- every object of the call is a number
-abbrev pub AreNumbers : List ObjectType → Type 0
-AreNumbers objects = (n : ℕ) (o : ObjectType) → slice_get objects n ≡ Some o → o.lengths ≡ []
-
 -- ---- objects that become indeterminate (6.2.4p6)
 
-new_fits : (objects : List ObjectType) (n : ℕ) (o : ObjectType) → AreNumbers objects → slice_get objects n ≡ Some o
-    → ObjectFits o.element (Some (new_object (slice_get objects n)))
-new_fits objects n o h e =
-    subst (λ x. ObjectFits o.element (Some (new_object x))) (sym e)
-    (subst (λ l. ObjectFits o.element (Some (indeterminate (record { element = o.element; constant = o.constant; lengths = l })))) (sym (h n o e)) tt)
-
-nat_cases : {P : Type 0} (m n : ℕ) → ((m ≡ n) → P) → ((m ≡ n → ⊥) → P) → P
-nat_cases zero zero a b = a refl
-nat_cases zero (suc n) a b = b (λ e. let z : ⊥ = omega (arith, e) in z)
-nat_cases (suc m) zero a b = b (λ e. let z : ⊥ = omega (arith, e) in z)
-nat_cases (suc m) (suc n) a b = nat_cases m n (λ e. a (ap suc e)) (λ h. b (λ e. h (let z : m ≡ n = omega (arith, e) in z)))
-
-some_tree : (t : IntType) (o : Option Tree) → ObjectFits t o → (old : Tree) × (o ≡ Some old)
-some_tree t None h = absurd h
-some_tree t (Some old) h = (old, refl)
-
-fine_renewed : (objects : List ObjectType) (x : ℕ) (s : machine.State) → AreNumbers objects → Fine objects s → Fine objects (renewed objects x s)
-fine_renewed objects x s numbers h = record { fits = fits; input = h.input }
+fine_renewed : (W : World) (x : ℕ) (s : machine.State) → Fine W s → Fine W (renewed W.own x s)
+fine_renewed W x s h = record {
+  low = h.low;
+  base = h.base;
+  size = put_length s.store (s.base + x) [] new ∙ h.size;
+  fits = fits;
+  arrays = h.arrays;
+  input = h.input;
+}
   where
     new : Tree
-    new = new_object (slice_get objects x)
+    new = new_object (slice_get W.own x)
 
-    fits : (n : ℕ) (o : ObjectType) → slice_get objects n ≡ Some o
-        → ObjectFits o.element (slice_get (put s.store (whole (s.base + x)) (new_object (slice_get objects x))) (s.base + n))
-    fits n o e = nat_cases n x
+    own_there : (o : ObjectType) → slice_get (all_types W) (s.base + x) ≡ Some o → slice_get W.own x ≡ Some o
+    own_there o e = sym (behind W.outer W.own x) ∙ (ap (λ n. slice_get (all_types W) (n + x)) (sym h.base) ∙ e)
+
+    new_fits : (o : ObjectType) → slice_get W.own x ≡ Some o → ObjectFits o (Some new)
+    new_fits o e = subst (λ y. ObjectFits o (Some (new_object y))) (sym e) (filled_has o.element None o.lengths tt)
+
+    fits : (n : ℕ) (o : ObjectType) → slice_get (all_types W) n ≡ Some o → ObjectFits o (slice_get (put_in s.store (s.base + x) [] new) n)
+    fits n o e = nat_cases n (s.base + x)
         (λ m.
-        let old = some_tree o.element (slice_get s.store (s.base + n)) (h.fits n o e) in
-        let there : slice_get (put s.store (whole (s.base + n)) (new_object (slice_get objects n))) (s.base + n) ≡ Some (new_object (slice_get objects n)) =
-        put_here s.store (s.base + n) old.0 (new_object (slice_get objects n)) old.1 in
-        subst (λ y. ObjectFits o.element (slice_get (put s.store (whole (s.base + y)) (new_object (slice_get objects y))) (s.base + n))) m
-        (subst (λ z. ObjectFits o.element z) (sym there) (new_fits objects n o numbers e)))
-        (λ d. subst (λ z. ObjectFits o.element z)
-        (sym (put_elsewhere s.store (s.base + x) (s.base + n) (new_object (slice_get objects x)) (λ m. d (let z : n ≡ x = omega (arith, m) in z))))
-        (h.fits n o e))
+        let e2 : slice_get (all_types W) (s.base + x) ≡ Some o = ap (slice_get (all_types W)) (sym m) ∙ e in
+        let old = tree_is o (slice_get s.store (s.base + x)) (h.fits (s.base + x) o e2) in
+        subst (λ k. ObjectFits o (slice_get (put_in s.store (s.base + x) [] new) k)) (sym m)
+        (subst (λ z. ObjectFits o z) (sym (put_here s.store (s.base + x) [] old.0 new old.1)) (new_fits o (own_there o e2))))
+        (λ d. subst (λ z. ObjectFits o z) (sym (put_elsewhere s.store (s.base + x) n [] new d)) (h.fits n o e))
 
-after_renewed : (objects : List ObjectType) (x : ℕ) (s : machine.State) → After writes_all s (renewed objects x s)
-after_renewed objects x s = record {
-  base = refl;
-  arrays = refl;
-  below = put_above s.store s.base (s.base + x) (new_object (slice_get objects x)) (omega arith);
-  still = λ y h. absurd (differ (sym h));
-}
+after_renewed : {first : ℕ} (objects : List ObjectType) (x : ℕ) (s : machine.State) → After first writes_all s (renewed objects x s)
+after_renewed objects x s = after_put writes_all x (new_object (slice_get objects x)) s refl
 
 -- what the abstract machine makes indeterminate, the code forgets
-pub record Forgets (objects : List ObjectType) (n k : ℕ) (s : machine.State) : Type 0 where
-  pub same : (record s { store = forgotten objects s.base n k s.store }) ≡ all_renewed objects n k s
-  pub fine : Fine objects (all_renewed objects n k s)
-  pub after : After writes_all s (all_renewed objects n k s)
-  pub clock : (all_renewed objects n k s).clock ≡ s.clock
+pub record Forgets (W : World) (n k : ℕ) (s : machine.State) : Type 0 where
+  pub same : (record s { store = forgotten W.own s.base n k s.store }) ≡ all_renewed W.own n k s
+  pub fine : Fine W (all_renewed W.own n k s)
+  pub after : After W.first writes_all s (all_renewed W.own n k s)
+  pub clock : (all_renewed W.own n k s).clock ≡ s.clock
 
-pub all_forgotten : (objects : List ObjectType) (n k : ℕ) (s : machine.State) → AreNumbers objects → Fine objects s → Forgets objects n k s
-all_forgotten objects n zero s numbers fine = record { same = refl; fine = fine; after = after_none writes_all s; clock = refl }
-all_forgotten objects n (suc k) s numbers fine =
-    let h = all_forgotten objects (suc n) k (renewed objects n s) numbers (fine_renewed objects n s numbers fine) in
+pub all_forgotten : (W : World) (n k : ℕ) (s : machine.State) → Fine W s → Forgets W n k s
+all_forgotten W n zero s fine = record { same = refl; fine = fine; after = after_none writes_all s; clock = refl }
+all_forgotten W n (suc k) s fine =
+    let h = all_forgotten W (suc n) k (renewed W.own n s) (fine_renewed W n s fine) in
     record {
       same = h.same;
       fine = h.fine;
-      after = after_on writes_all writes_all writes_all s (renewed objects n s) (all_renewed objects (suc n) k (renewed objects n s)) (λ x e. e) (λ x e. e)
-          (after_renewed objects n s) h.after;
+      after = after_on writes_all writes_all writes_all s (renewed W.own n s) (all_renewed W.own (suc n) k (renewed W.own n s)) (λ x e. e) (λ x e. e)
+          (after_renewed W.own n s) h.after;
       clock = h.clock;
     }
 
@@ -104,8 +89,8 @@ module _ (p : typed.Program) (call : Calling) (q : Program) (deep f : ℕ) (resu
   pub record StandsAt (pc : ℕ) (before : machine.State) (ws : List Call) (s : machine.State) (z : State) : Type 0 where
     pub now : Scratch
     pub at : z ≡ here f pc now ws s
-    pub fine : Fine (function_at q f).objects s
-    pub after : After writes_all before s
+    pub fine : Fine (world p q f ws) s
+    pub after : After (first_automatic q) writes_all before s
 
   -- a call's value, where it has one
   abbrev pub Returning : Option ℤ → Values → Type 0
@@ -120,8 +105,8 @@ module _ (p : typed.Program) (call : Calling) (q : Program) (deep f : ℕ) (resu
     pub at : z ≡ here f pc now ws s
     pub leave : One (function_at q f).code instruction.Return pc pc2
     pub gives : Returning o now.temporaries
-    pub fine : Fine (function_at q f).objects s
-    pub after : After writes_all before s
+    pub fine : Fine (world p q f ws) s
+    pub after : After (first_automatic q) writes_all before s
 
   abbrev pub FlowGood : (end out again : ℕ) → machine.State → List Call → Flow → machine.State → State → Type 0
   FlowGood end out again before ws Normal = StandsAt end before ws
@@ -130,16 +115,16 @@ module _ (p : typed.Program) (call : Calling) (q : Program) (deep f : ℕ) (resu
   FlowGood end out again before ws (Returned v) = AboutToReturn v before ws
 
   abbrev pub Runs : (machine.State → Run Flow) → (pc end out again : ℕ) → Type 0
-  Runs r pc end out again = (s : machine.State) (now : Scratch) (ws : List Call) → s.clock ≤ deep → Fine (function_at q f).objects s
+  Runs r pc end out again = (s : machine.State) (now : Scratch) (ws : List Call) → s.clock ≤ deep → Fine (world p q f ws) s
       → Sim q 14 (60 * s.clock) s.clock (here f pc now ws s) (FlowGood end out again s ws) (r s)
 
   -- lists of statements, which may be empty
   abbrev pub Lists : (machine.State → Run Flow) → (pc end out again : ℕ) → Type 0
-  Lists r pc end out again = (s : machine.State) (now : Scratch) (ws : List Call) → s.clock ≤ deep → Fine (function_at q f).objects s
+  Lists r pc end out again = (s : machine.State) (now : Scratch) (ws : List Call) → s.clock ≤ deep → Fine (world p q f ws) s
       → Sim q 14 (60 * s.clock + 14) s.clock (here f pc now ws s) (FlowGood end out again s ws) (r s)
 
   -- the same from an earlier state
-  pub flow_since : (end out again : ℕ) (a b : machine.State) (ws : List Call) → After writes_all a b → (flow : Flow) (s : machine.State) (z : State)
+  pub flow_since : (end out again : ℕ) (a b : machine.State) (ws : List Call) → After (first_automatic q) writes_all a b → (flow : Flow) (s : machine.State) (z : State)
       → FlowGood end out again b ws flow s z → FlowGood end out again a ws flow s z
   flow_since end out again a b ws h Normal s z g =
       record { now = g.now; at = g.at; fine = g.fine; after = after_on writes_all writes_all writes_all a b s (λ x e. e) (λ x e. e) h g.after }
@@ -161,7 +146,7 @@ module _ (p : typed.Program) (call : Calling) (q : Program) (deep f : ℕ) (resu
       }
 
   -- a value's own account of what it leaves is enough
-  all_after : (w : ℕ → Bool) (a b : machine.State) → After w a b → After writes_all a b
+  all_after : (w : ℕ → Bool) (a b : machine.State) → After (first_automatic q) w a b → After (first_automatic q) writes_all a b
   all_after w a b h = record { base = h.base; arrays = h.arrays; below = h.below; still = λ x e. absurd (differ (sym e)) }
 
   -- no step
@@ -178,7 +163,7 @@ module _ (p : typed.Program) (call : Calling) (q : Program) (deep f : ℕ) (resu
       tick_in q 14 (FlowGood end out again s ws) (here f pc now ws s) (here f end now ws s) s 0 (60 * s.clock) (λ s. Goes Normal s) (omega arith) refl refl
       (does_nothing q f pc end now ws s o)
       (λ n lt. there end out again (60 * n + 60 + 0) s ws Normal (record s { clock = n }) (here f end now ws s) (omega arith)
-      (record { now = now; at = refl; fine = fine_later (function_at q f).objects s n fine; after = after_later writes_all s n }))
+      (record { now = now; at = refl; fine = fine_later (world p q f ws) s n fine; after = after_later writes_all s n }))
 
   jump_ends : (to pc pc2 n : ℕ) (now : Scratch) (ws : List Call) (s : machine.State) (Good2 : machine.State → State → Type 0)
       → One (function_at q f).code (instruction.Jump to) pc pc2
@@ -191,19 +176,19 @@ module _ (p : typed.Program) (call : Calling) (q : Program) (deep f : ℕ) (resu
   break_runs pc end out again o s now ws le fine =
       tick_ends q 14 (FlowGood end out again s ws) (here f pc now ws s) s (λ s. Goes Broken s) refl refl
       (λ n lt. jump_ends out pc end n now ws s (FlowGood end out again s ws Broken) o
-      (record { now = now; at = refl; fine = fine_later (function_at q f).objects s n fine; after = after_later writes_all s n }))
+      (record { now = now; at = refl; fine = fine_later (world p q f ws) s n fine; after = after_later writes_all s n }))
 
   pub continue_runs : (pc end out again : ℕ) → One (function_at q f).code (instruction.Jump again) pc end
       → Runs (λ s. tick s (λ s. Goes Continued s)) pc end out again
   continue_runs pc end out again o s now ws le fine =
       tick_ends q 14 (FlowGood end out again s ws) (here f pc now ws s) s (λ s. Goes Continued s) refl refl
       (λ n lt. jump_ends again pc end n now ws s (FlowGood end out again s ws Continued) o
-      (record { now = now; at = refl; fine = fine_later (function_at q f).objects s n fine; after = after_later writes_all s n }))
+      (record { now = now; at = refl; fine = fine_later (world p q f ws) s n fine; after = after_later writes_all s n }))
 
   -- the one Return of the function is next, or jumped to
   leave_ends : (o : Option ℤ) (back last pc pc2 end out again hi : ℕ) (now : Scratch) (before : machine.State) (ws : List Call) (s : machine.State) (z : State)
       → 60 * s.clock + 15 ≤ hi → One (function_at q f).code instruction.Return back last → Leaves (function_at q f).code back pc pc2
-      → z ≡ here f pc now ws s → Returning o now.temporaries → Fine (function_at q f).objects s → After writes_all before s
+      → z ≡ here f pc now ws s → Returning o now.temporaries → Fine (world p q f ws) s → After (first_automatic q) writes_all before s
       → GoesTo q 14 hi s.clock z (FlowGood end out again before ws (Returned o)) s
   leave_ends o back last pc pc2 end out again hi now before ws s z h r (inl next) ez gives fine after =
       goes q 14 (FlowGood end out again before ws (Returned o)) hi s.clock 0 0 z z s (stays q z) (omega (arith, h)) (omega arith)
@@ -230,7 +215,7 @@ module _ (p : typed.Program) (call : Calling) (q : Program) (deep f : ℕ) (resu
       tick_in q 14 (FlowGood end out again s ws) (here f pc now ws s) (here f p1 now ws s) s 0 (60 * s.clock) (λ s. Goes (Returned None) s) (omega arith) refl
       refl (does_nothing q f pc p1 now ws s o)
       (λ n lt. leave_ends None back last p1 end end out again (60 * n + 60 + 0) now s ws (record s { clock = n }) (here f p1 now ws s) (omega arith) r i refl hr
-      (fine_later (function_at q f).objects s n fine) (after_later writes_all s n))
+      (fine_later (world p q f ws) s n fine) (after_later writes_all s n))
 
   pub return_value_runs : (u : IntType) (e : Expression) (back last pc p1 p2 end out again : ℕ) → result ≡ Some u
       → One (function_at q f).code instruction.Return back last
@@ -245,7 +230,7 @@ module _ (p : typed.Program) (call : Calling) (q : Program) (deep f : ℕ) (resu
       let s1 : machine.State = record s { clock = n } in
       sim_then q 14 14 (Converted p call q deep f e u (target.Temporary 0) 0 0 p2 s1 now ws) (FlowGood end out again s ws) (60 * n + 8) 66 (60 * n + 60 + 0) n
       (here f p1 now ws s) (evaluate p call e s1) last_step (omega arith) (omega arith)
-      (de s1 now ws (omega (arith, le, lt)) (fine_later (function_at q f).objects s n fine))
+      (de s1 now ws (omega (arith, le, lt)) (fine_later (world p q f ws) s n fine))
       (λ v s2 z lt2 c. leave_ends (Some (converted u v)) back last p2 end end out again (60 * s2.clock + 66) c.now s ws s2 z (omega arith) r i c.at
       (subst (λ r. IsValueOf (or_int r) (converted u v)) (sym hr) (converted_fits u v), c.has) c.known.fine
       (all_after _ s s2 (after_since _ s s2 n c.known.after))))
@@ -261,9 +246,9 @@ module _ (p : typed.Program) (call : Calling) (q : Program) (deep f : ℕ) (resu
       (omega arith) refl refl (does_nothing q f pc p1 now ws s o)
       (λ n lt.
       let s1 : machine.State = record s { clock = n } in
-      sim_then q 14 14 (Good q f e Nowhere 0 0 end s1 now ws) (FlowGood end out again s ws) (60 * n) 74 (60 * n + 60 + 0) n (here f p1 now ws s)
+      sim_then q 14 14 (Good p q f e Nowhere 0 0 end s1 now ws) (FlowGood end out again s ws) (60 * n) 74 (60 * n + 60 + 0) n (here f p1 now ws s)
       (evaluate p call e s1) last (omega arith) (omega arith)
-      (de s1 now ws (omega (arith, le, lt)) (fine_later (function_at q f).objects s n fine))
+      (de s1 now ws (omega (arith, le, lt)) (fine_later (world p q f ws) s n fine))
       (λ v s2 z lt2 g. there end out again (60 * s2.clock + 74) s ws Normal s2 z (omega arith)
       (record { now = g.now; at = g.at; fine = g.known.fine; after = all_after _ s s2 (after_since _ s s2 n g.known.after) })))
 

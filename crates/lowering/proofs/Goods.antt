@@ -4,8 +4,9 @@ use Rattle.std.specs.Prelude.{if◌then◌else◌, slice_get, option_map}
 use Rattle.ctypes.specs.declared.types.IntType.{IntType}
 use Rattle.ctypes.specs.Types.{IsValueOf, truth}
 use Rattle.typed.specs.Types.{ObjectType}
+use Rattle.typed.specs.Program as typed
 use Rattle.typed.specs.Program.{Value as Expression}
-use Rattle.meaning.specs.Store.{Element, whole, value_of, value_at}
+use Rattle.meaning.specs.Store.{Tree, Element, Array, whole, value_of, value_at}
 use Rattle.meaning.specs.Machine as machine
 use Rattle.meaning.specs.Machine.{choose}
 use Rattle.tac.specs.declared.code.Operand.{Operand}
@@ -15,13 +16,13 @@ use Rattle.tac.specs.declared.code.Target.TheVariants as target
 use Rattle.tac.specs.declared.code.Reading.TheVariants as reading
 use Rattle.tac.specs.declared.code.Comparison.TheVariants as comparison
 use Rattle.tac.specs.Code.{Program, function_at}
-use Rattle.tac.specs.Run.{word, Call, State, running, word_for, number_of}
+use Rattle.tac.specs.Run.{word, Call, State, running, word_for, number_of, is_element}
 use Rattle.lowering.specs.Values.{calls, writes, rests_in, extent, stays_word, pending, unless_written, at_rest, constant_of, constant_or, waits_in, free_temporary, free_kept, Mode, Nowhere, To, If, mode_of, target_of}
 use Rattle.lowering.specs.Code.{One, Ends, Follows, test, zero_word}
 use Rattle.lowering.proofs.Words.{Ranged, ranged, zero_test, is_word, word_stays}
 use Rattle.lowering.proofs.Steps.{Reaches, stays, GoesTo, goes}
-use Rattle.lowering.proofs.Standing.{Scratch, here, put_scratch, put_typed, set_same, set_other, type_in, put_state, Takes, Holds, does_move, does_branch}
-use Rattle.lowering.proofs.Stores.{Fine, After, with_tree}
+use Rattle.lowering.proofs.Standing.{Scratch, here, put_scratch, put_typed, set_same, set_other, type_in, put_state, Takes, Holds, does_move, does_branch, world, first_automatic}
+use Rattle.lowering.proofs.Stores.{World, Fine, After, with_tree}
 
 -- ---- temporaries and slots
 
@@ -106,23 +107,29 @@ abbrev pub IsConstant : Option ℤ → ℤ → Type 0
 IsConstant None v = Unit {0}
 IsConstant (Some u) v = u ≡ v
 
-pub record Known (objects : List ObjectType) (e : Expression) (t k : ℕ) (before : machine.State) (old : Scratch) (v : ℤ) (s : machine.State) (now : Scratch) :
+pub record Known (W : World) (e : Expression) (t k : ℕ) (before : machine.State) (old : Scratch) (v : ℤ) (s : machine.State) (now : Scratch) :
     Type 0 where
   pub keeps : Keeps (calls e) t k old now
-  pub fine : Fine objects s
+  pub fine : Fine W s
   pub value : IsValueOf (extent e) v
-  pub after : After (writes e) before s
+  pub after : After W.first (writes e) before s
   pub rests : RestsIn (rests_in e) v s
   pub constant : IsConstant (constant_of e) v
 
 -- with other temporaries and slots
-pub known_with : (objects : List ObjectType) (e : Expression) (t k : ℕ) (before : machine.State) (old : Scratch) (v : ℤ) (s : machine.State)
+pub known_with : (W : World) (e : Expression) (t k : ℕ) (before : machine.State) (old : Scratch) (v : ℤ) (s : machine.State)
     (now now2 : Scratch)
-    → Keeps (calls e) t k old now2 → Known objects e t k before old v s now → Known objects e t k before old v s now2
-known_with objects e t k before old v s now now2 h n =
+    → Keeps (calls e) t k old now2 → Known W e t k before old v s now → Known W e t k before old v s now2
+known_with W e t k before old v s now now2 h n =
     record { keeps = h; fine = n.fine; value = n.value; after = n.after; rests = n.rests; constant = n.constant }
 
-module _ (q : Program) (f : ℕ) where
+-- a value is in an object that is no array
+pub is_number_there : (o : Option Tree) (w : ℕ) → option_map (λ z. word (word_for z)) (value_of o) ≡ Some (word w) → is_element o ≡ true
+is_number_there None w e = absurd (let z : ⊥ = cc in z)
+is_number_there (Some (Element v)) w e = refl
+is_number_there (Some (Array row)) w e = absurd (let z : ⊥ = cc in z)
+
+module _ (p : typed.Program) (q : Program) (f : ℕ) where
   abbrev pub put_mode : Mode → ℕ → machine.State → machine.State
   put_mode Nowhere w s = s
   put_mode (To g) w s = put_state q f g w s
@@ -155,7 +162,7 @@ module _ (q : Program) (f : ℕ) where
     pub now : Scratch
     pub at : u ≡ here f (lands m (truth v) pc2) now ws (put_mode m (word_for v) s)
     pub has : Has m (word_for v) now
-    pub known : Known (function_at q f).objects e t k before old v s now
+    pub known : Known (world p q f ws) e t k before old v s now
 
   -- ---- the end of an expression
 
@@ -182,7 +189,7 @@ module _ (q : Program) (f : ℕ) where
   pub ends : (e : Expression) (m : Mode) (t k : ℕ) (o : Operand) (pc pc2 hi : ℕ) (before : machine.State) (old now : Scratch) (ws : List Call) (v : ℤ)
       (s : machine.State)
       → IsFreeFor m t k → Suits m (extent e) → Ends (function_at q f).code m o pc pc2 → Holds q f o (word_for v) now s → 60 * s.clock + 22 ≤ hi
-      → Known (function_at q f).objects e t k before old v s now → GoesTo q 14 hi s.clock (here f pc now ws s) (Good e m t k pc2 before old ws v) s
+      → Known (world p q f ws) e t k before old v s now → GoesTo q 14 hi s.clock (here f pc now ws s) (Good e m t k pc2 before old ws v) s
   ends e Nowhere t k o pc pc2 hi before old now ws v s fr su i h b n =
       goes q 14 (Good e Nowhere t k pc2 before old ws v) hi s.clock 0 0 (here f pc now ws s) (here f pc now ws s) s (stays q (here f pc now ws s))
       (omega (arith, b)) (omega arith)
@@ -197,7 +204,7 @@ module _ (q : Program) (f : ℕ) where
         at = refl;
         has = has_put g w now;
         known =
-            known_with (function_at q f).objects e t k before old v s now now2 (keeps_put g w (calls e) t k old now fr n.keeps) n;
+            known_with (world p q f ws) e t k before old v s now now2 (keeps_put g w (calls e) t k old now fr n.keeps) n;
       })
   ends e (If sense to) t k o pc pc2 hi before old now ws v s fr su i h b n =
       goes q 14 (Good e (If sense to) t k pc2 before old ws v) hi s.clock 1 8 (here f pc now ws s) (here f (choose (meets sense (truth v)) to pc2) now ws s) s
@@ -206,7 +213,7 @@ module _ (q : Program) (f : ℕ) where
 
   -- the value is in the mode's target
   pub follows : (e : Expression) (m : Mode) (t k pc pc2 hi : ℕ) (before : machine.State) (old now : Scratch) (ws : List Call) (v : ℤ) (s : machine.State)
-      → IsFreeFor m t k → Follows (function_at q f).code m t pc pc2 → 60 * s.clock + 22 ≤ hi → Known (function_at q f).objects e t k before old v s now
+      → IsFreeFor m t k → Follows (function_at q f).code m t pc pc2 → 60 * s.clock + 22 ≤ hi → Known (world p q f ws) e t k before old v s now
       → GoesTo q 14 hi s.clock (here f pc (put_scratch (target_of m t) (word_for v) now) ws (put_state q f (target_of m t) (word_for v) s))
       (Good e m t k pc2 before old ws v) s
   follows e Nowhere t k pc pc2 hi before old now ws v s fr i b n =
@@ -217,7 +224,7 @@ module _ (q : Program) (f : ℕ) where
         now = now2;
         at = ap (λ n. here f n now2 ws s) i;
         has = tt;
-        known = known_with (function_at q f).objects e t k before old v s now now2
+        known = known_with (world p q f ws) e t k before old v s now now2
             (keeps_put (target.Temporary t) (word_for v) (calls e) t k old now (let le : t ≤ t = omega arith in le) n.keeps) n;
       })
   follows e (To g) t k pc pc2 hi before old now ws v s fr i b n =
@@ -229,7 +236,7 @@ module _ (q : Program) (f : ℕ) where
         now = now2;
         at = ap (λ n. here f n now2 ws s2) i;
         has = has_put g (word_for v) now;
-        known = known_with (function_at q f).objects e t k before old v s now now2 (keeps_put g (word_for v) (calls e) t k old now fr n.keeps) n;
+        known = known_with (world p q f ws) e t k before old v s now now2 (keeps_put g (word_for v) (calls e) t k old now fr n.keeps) n;
       })
   follows e (If sense to) t k pc pc2 hi before old now ws v s fr i b n =
       let now2 = put_scratch (target.Temporary t) (word_for v) now in
@@ -240,7 +247,7 @@ module _ (q : Program) (f : ℕ) where
         now = now2;
         at = refl;
         has = tt;
-        known = known_with (function_at q f).objects e t k before old v s now now2
+        known = known_with (world p q f ws) e t k before old v s now now2
             (keeps_put (target.Temporary t) (word_for v) (calls e) t k old now (let le : t ≤ t = omega arith in le) n.keeps) n;
       })
 
@@ -276,7 +283,7 @@ module _ (q : Program) (f : ℕ) where
     pub now : Scratch
     pub at : u ≡ here f pc2 now ws s
     pub holds : Holds q f o (word_for v) now s
-    pub known : Known (function_at q f).objects e t k before old v s now
+    pub known : Known (world p q f ws) e t k before old v s now
 
   abbrev IsHeld : Operand → ℕ → ℕ → Bool → Scratch → List Call → machine.State → Type 0
   IsHeld o w pc2 b now ws s = (here f (lands (mode_of o) b pc2) now ws (put_mode (mode_of o) w s) ≡ here f pc2 now ws s) × Holds q f o w now s
@@ -306,7 +313,7 @@ module _ (q : Program) (f : ℕ) where
   -- it is still there where another was evaluated, which calls as c says and writes to some objects
   pub stays_there : (n : Option ℤ) (r : Option ℕ) (written : ℕ → Bool) (c : Bool) (t k w : ℕ) (old now : Scratch) (a b : machine.State)
       → Keeps c (free_temporary (constant_or n (at_rest r written (pending c t k))) t) (free_kept (constant_or n (at_rest r written (pending c t k))) k) old now
-      → After written a b
+      → After (first_automatic q) written a b
       → Holds q f (constant_or n (at_rest r written (pending c t k))) w old a → Holds q f (constant_or n (at_rest r written (pending c t k))) w now b
   stays_there (Some v) r written c t k w old now a b h l e = e
   stays_there None None written true t k w old now a b h l e = h.kept k (omega arith) ∙ e
@@ -320,7 +327,7 @@ module _ (q : Program) (f : ℕ) where
       at_written true false ez ec h e = h.temporaries refl t (omega arith) ∙ e
       at_written false c2 ez ec h e =
           ap (λ n. option_map (λ z. word (word_for z)) (value_of (slice_get b.store (n + x)))) l.base
-          ∙ (ap (λ o. option_map (λ z. word (word_for z)) (value_of o)) (l.still x ez) ∙ e)
+          ∙ (ap (λ o. option_map (λ z. word (word_for z)) (value_of o)) (l.still x ez (is_number_there (slice_get a.store (a.base + x)) w e)) ∙ e)
 
   pub free_more : (o : Operand) (t k : ℕ) → (t ≤ free_temporary o t) × (k ≤ free_kept o k)
   free_more (operand.Temporary j) t k = (omega arith, omega arith)

@@ -15,37 +15,37 @@ use Rattle.lowering.specs.Values.{Nowhere, If}
 use Rattle.lowering.specs.Code.{One}
 use Rattle.lowering.proofs.Words.{differ}
 use Rattle.lowering.proofs.Steps.{stays, goes, Sim, sim_after, sim_then, sim_map, sim_move, tick_in, tick_ends}
-use Rattle.lowering.proofs.Standing.{Scratch, here, does_nothing, does_jump}
+use Rattle.lowering.proofs.Standing.{Scratch, here, does_nothing, does_jump, world, first_automatic}
 use Rattle.lowering.proofs.Stores.{Fine, After, after_on, after_none, fine_later, after_later}
 use Rattle.lowering.proofs.Goods.{Good}
 use Rattle.lowering.proofs.Leaves.{IntoDoes}
 use Rattle.lowering.proofs.Flows.{writes_all, StandsAt, FlowGood, Runs, flow_since, there}
 
 module _ (p : typed.Program) (call : Calling) (q : Program) (deep f : ℕ) (result : Option IntType) where
-  all_after : (w : ℕ → Bool) (a b : machine.State) → After w a b → After writes_all a b
+  all_after : (w : ℕ → Bool) (a b : machine.State) → After (first_automatic q) w a b → After (first_automatic q) writes_all a b
   all_after w a b h = record { base = h.base; arrays = h.arrays; below = h.below; still = λ x e. absurd (differ (sym e)) }
 
-  join_after : (a b z : machine.State) → After writes_all a b → After writes_all b z → After writes_all a z
+  join_after : (a b z : machine.State) → After (first_automatic q) writes_all a b → After (first_automatic q) writes_all b z → After (first_automatic q) writes_all a z
   join_after a b z h g = after_on writes_all writes_all writes_all a b z (λ x e. e) (λ x e. e) h g
 
   -- the code stands at `top` where a test is true, else at `end`
   pub record TestGood (top end : ℕ) (before : machine.State) (ws : List Call) (v : ℤ) (s : machine.State) (z : State) : Type 0 where
     pub now : Scratch
     pub at : z ≡ here f (choose (truth v) top end) now ws s
-    pub fine : Fine (function_at q f).objects s
-    pub after : After writes_all before s
+    pub fine : Fine (world p q f ws) s
+    pub after : After (first_automatic q) writes_all before s
 
   abbrev pub TestDoes : (machine.State → Run ℤ) → (pc top end : ℕ) → Type 0
-  TestDoes r pc top end = (s : machine.State) (now : Scratch) (ws : List Call) → s.clock ≤ deep → Fine (function_at q f).objects s
+  TestDoes r pc top end = (s : machine.State) (now : Scratch) (ws : List Call) → s.clock ≤ deep → Fine (world p q f ws) s
       → Sim q 14 (60 * s.clock + 15) s.clock (here f pc now ws s) (TestGood top end s ws) (r s)
 
   abbrev pub EffectDoes : (machine.State → Run ℤ) → (pc pc2 : ℕ) → Type 0
-  EffectDoes r pc pc2 = (s : machine.State) (now : Scratch) (ws : List Call) → s.clock ≤ deep → Fine (function_at q f).objects s
+  EffectDoes r pc pc2 = (s : machine.State) (now : Scratch) (ws : List Call) → s.clock ≤ deep → Fine (world p q f ws) s
       → Sim q 14 (60 * s.clock + 14) s.clock (here f pc now ws s) (λ v. StandsAt p call q deep f result pc2 s ws) (r s)
 
   pub test_does : (e : Expression) (pc top end : ℕ) → IntoDoes p call q deep f e (If true top) 0 0 pc end → TestDoes (evaluate p call e) pc top end
   test_does e pc top end de s now ws le fine =
-      sim_map q 14 14 (Good q f e (If true top) 0 0 end s now ws) (TestGood top end s ws) (60 * s.clock) (60 * s.clock + 15) s.clock (here f pc now ws s)
+      sim_map q 14 14 (Good p q f e (If true top) 0 0 end s now ws) (TestGood top end s ws) (60 * s.clock) (60 * s.clock + 15) s.clock (here f pc now ws s)
       (evaluate p call e s) (omega arith) (omega arith) (de s now ws le fine)
       (λ v s2 z g. record { now = g.now; at = g.at; fine = g.known.fine; after = all_after _ s s2 g.known.after })
 
@@ -57,7 +57,7 @@ module _ (p : typed.Program) (call : Calling) (q : Program) (deep f : ℕ) (resu
 
   pub effect_does : (e : Expression) (pc pc2 : ℕ) → IntoDoes p call q deep f e Nowhere 0 0 pc pc2 → EffectDoes (evaluate p call e) pc pc2
   effect_does e pc pc2 de s now ws le fine =
-      sim_map q 14 14 (Good q f e Nowhere 0 0 pc2 s now ws) (λ v. StandsAt p call q deep f result pc2 s ws) (60 * s.clock) (60 * s.clock + 14) s.clock
+      sim_map q 14 14 (Good p q f e Nowhere 0 0 pc2 s now ws) (λ v. StandsAt p call q deep f result pc2 s ws) (60 * s.clock) (60 * s.clock + 14) s.clock
       (here f pc now ws s) (evaluate p call e s) (omega arith) (omega arith) (de s now ws le fine)
       (λ v s2 z g. record { now = g.now; at = g.at; fine = g.known.fine; after = all_after _ s s2 g.known.after })
 
@@ -71,7 +71,7 @@ module _ (p : typed.Program) (call : Calling) (q : Program) (deep f : ℕ) (resu
       (db : Runs p call q deep f result rb top next end next) (ds : EffectDoes rs next test) where
     -- behind the body: the step, and the test again
     step_runs : (go : machine.State → Run Flow) (k : ℕ) (before : machine.State) (ws : List Call)
-        → ((s : machine.State) (now : Scratch) → s.clock ≤ k → s.clock ≤ deep → Fine (function_at q f).objects s → After writes_all before s
+        → ((s : machine.State) (now : Scratch) → s.clock ≤ k → s.clock ≤ deep → Fine (world p q f ws) s → After (first_automatic q) writes_all before s
         → Sim q 14 (60 * s.clock + 15) s.clock (here f test now ws s) (FlowGood p call q deep f result end out again before ws) (go s))
         → (s : machine.State) (z : State) → s.clock ≤ k → s.clock ≤ deep → StandsAt p call q deep f result next before ws s z
         → Sim q 14 (60 * s.clock + 28) s.clock z (FlowGood p call q deep f result end out again before ws) (then_do (rs s) (λ w s. go s))
@@ -85,7 +85,7 @@ module _ (p : typed.Program) (call : Calling) (q : Program) (deep f : ℕ) (resu
         (goes_on s2 g2.now (omega (arith, lt, lek)) (omega (arith, lt, le)) g2.fine (join_after before s s2 g.after g2.after))))
 
     after_runs : (go : machine.State → Run Flow) (k : ℕ) (before : machine.State) (ws : List Call)
-        → ((s : machine.State) (now : Scratch) → s.clock ≤ k → s.clock ≤ deep → Fine (function_at q f).objects s → After writes_all before s
+        → ((s : machine.State) (now : Scratch) → s.clock ≤ k → s.clock ≤ deep → Fine (world p q f ws) s → After (first_automatic q) writes_all before s
         → Sim q 14 (60 * s.clock + 15) s.clock (here f test now ws s) (FlowGood p call q deep f result end out again before ws) (go s))
         → (flow : Flow) (s : machine.State) (z : State) → s.clock ≤ k → s.clock ≤ deep → FlowGood p call q deep f result next end next before ws flow s z
         → Sim q 14 (60 * s.clock + 28) s.clock z (FlowGood p call q deep f result end out again before ws)
@@ -98,9 +98,9 @@ module _ (p : typed.Program) (call : Calling) (q : Program) (deep f : ℕ) (resu
 
     -- a turn, by its test
     turn_runs : (go : machine.State → Run Flow) (k : ℕ) (before : machine.State) (ws : List Call)
-        → ((s : machine.State) (now : Scratch) → s.clock ≤ k → s.clock ≤ deep → Fine (function_at q f).objects s → After writes_all before s
+        → ((s : machine.State) (now : Scratch) → s.clock ≤ k → s.clock ≤ deep → Fine (world p q f ws) s → After (first_automatic q) writes_all before s
         → Sim q 14 (60 * s.clock + 15) s.clock (here f test now ws s) (FlowGood p call q deep f result end out again before ws) (go s))
-        → (b : Bool) (s : machine.State) (now : Scratch) → s.clock ≤ suc k → s.clock ≤ deep → Fine (function_at q f).objects s → After writes_all before s
+        → (b : Bool) (s : machine.State) (now : Scratch) → s.clock ≤ suc k → s.clock ≤ deep → Fine (world p q f ws) s → After (first_automatic q) writes_all before s
         → Sim q 14 (60 * s.clock + 14) s.clock (here f (choose b top end) now ws s) (FlowGood p call q deep f result end out again before ws)
         (choose b (then_do (rb s) (λ flow s. after_body flow s (λ s. then_do (rs s) (λ w s. go s)))) (Goes Normal s))
     turn_runs go k before ws goes_on true s now lek le fine after =
@@ -115,7 +115,7 @@ module _ (p : typed.Program) (call : Calling) (q : Program) (deep f : ℕ) (resu
         (record { now = now; at = refl; fine = fine; after = after })
 
     turns_run : (k : ℕ) (before : machine.State) (ws : List Call) (s : machine.State) (now : Scratch) → s.clock ≤ k → s.clock ≤ deep
-        → Fine (function_at q f).objects s → After writes_all before s
+        → Fine (world p q f ws) s → After (first_automatic q) writes_all before s
         → Sim q 14 (60 * s.clock + 15) s.clock (here f test now ws s) (FlowGood p call q deep f result end out again before ws) (turns k rt rb rs s)
     turns_run zero before ws s now lek le fine after =
         record {
@@ -149,7 +149,7 @@ module _ (p : typed.Program) (call : Calling) (q : Program) (deep f : ℕ) (resu
         let s1 : machine.State = record s { clock = n } in
         sim_after q 14 Good2 (60 * n + 60) (suc n) (60 * n + 15) n 1 1 (here f pc now ws s) (here f test now ws s) (turns n rt rb rs s1)
         (does_jump q f test pc top now ws s o) (omega arith) (omega arith)
-        (turns_run n s ws s1 now (let l : n ≤ n = omega arith in l) (omega (arith, le, lt)) (fine_later (function_at q f).objects s n fine)
+        (turns_run n s ws s1 now (let l : n ≤ n = omega arith in l) (omega (arith, le, lt)) (fine_later (world p q f ws) s n fine)
         (after_later writes_all s n)))
 
     -- `do` (6.8.5.2)
@@ -164,7 +164,7 @@ module _ (p : typed.Program) (call : Calling) (q : Program) (deep f : ℕ) (resu
         (λ n lt.
         let s1 : machine.State = record s { clock = n } in
         sim_then q 14 14 (FlowGood p call q deep f result next end next s1 ws) Good2 (60 * n) 28 (60 * n + 60 + 0) n (here f top now ws s) (rb s1) last
-        (omega arith) (omega arith) (db s1 now ws (omega (arith, le, lt)) (fine_later (function_at q f).objects s n fine))
+        (omega arith) (omega arith) (db s1 now ws (omega (arith, le, lt)) (fine_later (world p q f ws) s n fine))
         (λ flow s2 z lt2 g. after_runs (λ s. turns s.clock rt rb rs s) s2.clock s ws
         (λ s3 now3 le3 led fine3 after3. turns_run s3.clock s ws s3 now3 (let l : s3.clock ≤ s3.clock = omega arith in l) led fine3 after3) flow s2 z
         (let l : s2.clock ≤ s2.clock = omega arith in l) (omega (arith, le, lt, lt2))
@@ -172,7 +172,7 @@ module _ (p : typed.Program) (call : Calling) (q : Program) (deep f : ℕ) (resu
 
     -- `for` (6.8.5.3): declarations, which only go on, the first expression, the turns
     pub for_runs : (rd : machine.State → Run Flow) (r1 : machine.State → Run ℤ) (pc p1 p2 p3 : ℕ) → One (function_at q f).code instruction.Nothing pc p1
-        → ((s : machine.State) (now : Scratch) (ws : List Call) → s.clock ≤ deep → Fine (function_at q f).objects s
+        → ((s : machine.State) (now : Scratch) (ws : List Call) → s.clock ≤ deep → Fine (world p q f ws) s
         → Sim q 14 (60 * s.clock + 14) s.clock (here f p1 now ws s) (λ flow. StandsAt p call q deep f result p2 s ws) (rd s))
         → EffectDoes r1 p2 p3 → One (function_at q f).code (instruction.Jump test) p3 top
         → Runs p call q deep f result (λ s. tick s (λ s. then_do (rd s) (λ flow s. then_do (r1 s) (λ v s. turns s.clock rt rb rs s)))) pc end out again
@@ -184,7 +184,7 @@ module _ (p : typed.Program) (call : Calling) (q : Program) (deep f : ℕ) (resu
         let s1 : machine.State = record s { clock = n } in
         sim_then q 14 14 (λ flow. StandsAt p call q deep f result p2 s1 ws) Good2 (60 * n + 14) 60 (60 * n + 60 + 0) n (here f p1 now ws s) (rd s1)
         (λ flow s. then_do (r1 s) (λ v s. turns s.clock rt rb rs s)) (omega arith) (omega arith)
-        (dd s1 now ws (omega (arith, le, lt)) (fine_later (function_at q f).objects s n fine))
+        (dd s1 now ws (omega (arith, le, lt)) (fine_later (world p q f ws) s n fine))
         (λ flow s2 z lt2 g. sim_move q 14 Good2 (60 * s2.clock + 60) s2.clock z (here f p2 g.now ws s2) (then_do (r1 s2) (λ v s. turns s.clock rt rb rs s)) g.at
         (sim_then q 14 14 (λ v. StandsAt p call q deep f result p3 s2 ws) Good2 (60 * s2.clock + 14) 60 (60 * s2.clock + 60) s2.clock (here f p2 g.now ws s2)
         (r1 s2) (λ v s. turns s.clock rt rb rs s) (omega arith) (omega arith)

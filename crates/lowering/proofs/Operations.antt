@@ -11,6 +11,7 @@ use Rattle.ctypes.specs.declared.operators.Undef.{Undef}
 use Rattle.ctypes.specs.Types.{IsValueOf, truth, of_truth, converted}
 use Rattle.ctypes.specs.Arithmetic.{result_type}
 use Rattle.typed.specs.Operators.{operated}
+use Rattle.typed.specs.Program as typed
 use Rattle.typed.specs.Program.{Value as Expression}
 use Rattle.meaning.specs.Machine as machine
 use Rattle.meaning.specs.Machine.{choose}
@@ -33,7 +34,7 @@ use Rattle.lowering.specs.Values.{calls, extent, reading_of, computed_extent, Mo
 use Rattle.lowering.specs.Code.{One, Computes, Then, Compares, Operates}
 use Rattle.lowering.proofs.Words.{Ranged, truth_of, truth_fits, operated_words, number_again, wide_word, bool_cases}
 use Rattle.lowering.proofs.Steps.{Reaches, reaches_on, GoesTo, goes}
-use Rattle.lowering.proofs.Standing.{Scratch, here, put_scratch, set_same, put_state, Takes, Holds, does_compute, does_branch}
+use Rattle.lowering.proofs.Standing.{Scratch, here, put_scratch, set_same, put_state, Takes, Holds, does_compute, does_branch, world}
 use Rattle.lowering.proofs.Goods.{Keeps, keeps_put, IsFreeFor, meets, Known, known_with, Suits, takes, target_suits, Good, follows}
 
 -- ---- what operations give
@@ -78,7 +79,7 @@ flips false = refl
 not_less : (x y : ℤ) → int_le x y ≡ not (int_lt y x)
 not_less x y = grind (arith, nat_tests, ints)
 
-module _ (q : Program) (f : ℕ) where
+module _ (p : typed.Program) (q : Program) (f : ℕ) where
   -- an operation was done: its word went to g, and perhaps another to temporary t before
   pub record Computed (g : Target) (t w pc2 : ℕ) (now : Scratch) (ws : List Call) (s : machine.State) (u : State) : Type 0 where
     pub j : ℕ
@@ -194,16 +195,16 @@ module _ (q : Program) (f : ℕ) where
   -- an operation and what becomes of its value
   pub then_does : (e : Expression) (o : BinOp) (u : IntType) (m : Mode) (x y : Operand) (t k : ℕ) (a b w : ℤ) (pc pc2 hi : ℕ) (before : machine.State)
       (old now : Scratch) (ws : List Call) (s : machine.State)
-      → is_wide u ≡ true → Ranged a → Ranged b → IsFreeFor m t k → Suits q f m (extent e) → Then (function_at q f).code o (reading_of u) m x y t pc pc2
+      → is_wide u ≡ true → Ranged a → Ranged b → IsFreeFor m t k → Suits p q f m (extent e) → Then (function_at q f).code o (reading_of u) m x y t pc pc2
       → Holds q f x (word_for a) now s → Holds q f y (word_for b) now s → operated o u a b ≡ Ok w → 60 * s.clock + 44 ≤ hi
-      → Known (function_at q f).objects e t k before old w s now → GoesTo q 14 hi s.clock (here f pc now ws s) (Good q f e m t k pc2 before old ws w) s
+      → Known (world p q f ws) e t k before old w s now → GoesTo q 14 hi s.clock (here f pc now ws s) (Good p q f e m t k pc2 before old ws w) s
   then_does e o u m x y t k a b w pc pc2 hi before old now ws s h ra rb fr su i hx hy eo b1 n =
       let g = target_of m t in
-      let c = computes_do o u g x y t a b w pc i.0 now ws s h ra rb i.1 hx hy eo (takes q f g (extent e) w (target_suits q f m t (extent e) su) n.value) in
+      let c = computes_do o u g x y t a b w pc i.0 now ws s h ra rb i.1 hx hy eo (takes p q f g (extent e) w (target_suits p q f m t (extent e) su) n.value) in
       let le : t ≤ t = omega arith in
-      let n2 = known_with (function_at q f).objects e t k before old w s now c.now2 (c.keeps (calls e) t k old le n.keeps) n in
-      let l = follows q f e m t k i.0 pc2 (60 * s.clock + 22) before old c.now2 ws w s fr i.2 (omega arith) n2 in
-      goes q 14 (Good q f e m t k pc2 before old ws w) hi s.clock (c.j + l.j) (c.c + l.c) (here f pc now ws s) l.u s
+      let n2 = known_with (world p q f ws) e t k before old w s now c.now2 (c.keeps (calls e) t k old le n.keeps) n in
+      let l = follows p q f e m t k i.0 pc2 (60 * s.clock + 22) before old c.now2 ws w s fr i.2 (omega arith) n2 in
+      goes q 14 (Good p q f e m t k pc2 before old ws w) hi s.clock (c.j + l.j) (c.c + l.c) (here f pc now ws s) l.u s
       (reaches_on q (here f pc now ws s) (here f i.0 (put_scratch g (word_for w) c.now2) ws (put_state q f g (word_for w) s)) c.j c.c l.j l.c (running l.u)
       c.reaches l.reaches)
       (omega (arith, l.within, c.small, b1)) (omega arith) l.good
@@ -218,11 +219,11 @@ module _ (q : Program) (f : ℕ) where
       (before : machine.State) (old now : Scratch) (ws : List Call) (s : machine.State)
       → One (function_at q f).code (instruction.Branch c r x y to) pc pc2 → Holds q f x a now s → Holds q f y b now s → holds c r a b ≡ meets sense z
       → of_truth z ≡ w → 60 * s.clock + 44 ≤ hi
-      → Known (function_at q f).objects e t k before old w s now
-      → GoesTo q 14 hi s.clock (here f pc now ws s) (Good q f e (If sense to) t k pc2 before old ws w) s
+      → Known (world p q f ws) e t k before old w s now
+      → GoesTo q 14 hi s.clock (here f pc now ws s) (Good p q f e (If sense to) t k pc2 before old ws w) s
   jumps e c r sense to x y t k a b z w pc pc2 hi before old now ws s i hx hy h1 h2 b1 n =
       let there : truth w ≡ z = ap truth (sym h2) ∙ truth_of z in
-      goes q 14 (Good q f e (If sense to) t k pc2 before old ws w) hi s.clock 1 8 (here f pc now ws s) (here f (if meets sense z then to else pc2) now ws s) s
+      goes q 14 (Good p q f e (If sense to) t k pc2 before old ws w) hi s.clock 1 8 (here f pc now ws s) (here f (if meets sense z then to else pc2) now ws s) s
       (does_branch q f c r x y to a b (meets sense z) pc pc2 now ws s i hx hy h1) (omega (arith, b1)) (omega arith)
       (record {
         now = now;
@@ -278,8 +279,8 @@ module _ (q : Program) (f : ℕ) where
       (before : machine.State) (old now : Scratch) (ws : List Call) (s : machine.State)
       → is_wide u ≡ true → Ranged a → Ranged b → Compares (function_at q f).code o (reading_of u) sense to x y t pc pc2
       → Holds q f x (word_for a) now s → Holds q f y (word_for b) now s → operated o u a b ≡ Ok w → 60 * s.clock + 44 ≤ hi
-      → Known (function_at q f).objects e t k before old w s now
-      → GoesTo q 14 hi s.clock (here f pc now ws s) (Good q f e (If sense to) t k pc2 before old ws w) s
+      → Known (world p q f ws) e t k before old w s now
+      → GoesTo q 14 hi s.clock (here f pc now ws s) (Good p q f e (If sense to) t k pc2 before old ws w) s
   compares_do e op.Less u true to x y t k a b w pc pc2 hi before old now ws s h ra rb i hx hy eo b1 n =
       jumps e comparison.Less (reading_of u) true to x y t k (word_for a) (word_for b) (int_lt (converted u a) (converted u b)) w pc pc2 hi before old now ws s
       i hx hy
@@ -356,9 +357,9 @@ module _ (q : Program) (f : ℕ) where
 
   pub operates_do : (e : Expression) (o : BinOp) (u : IntType) (m : Mode) (x y : Operand) (t k : ℕ) (a b w : ℤ) (pc pc2 hi : ℕ) (before : machine.State)
       (old now : Scratch) (ws : List Call) (s : machine.State)
-      → is_wide u ≡ true → Ranged a → Ranged b → IsFreeFor m t k → Suits q f m (extent e) → Operates (function_at q f).code o (reading_of u) m x y t pc pc2
+      → is_wide u ≡ true → Ranged a → Ranged b → IsFreeFor m t k → Suits p q f m (extent e) → Operates (function_at q f).code o (reading_of u) m x y t pc pc2
       → Holds q f x (word_for a) now s → Holds q f y (word_for b) now s → operated o u a b ≡ Ok w → 60 * s.clock + 44 ≤ hi
-      → Known (function_at q f).objects e t k before old w s now → GoesTo q 14 hi s.clock (here f pc now ws s) (Good q f e m t k pc2 before old ws w) s
+      → Known (world p q f ws) e t k before old w s now → GoesTo q 14 hi s.clock (here f pc now ws s) (Good p q f e m t k pc2 before old ws w) s
   operates_do e o u Nowhere x y t k a b w pc pc2 hi before old now ws s h ra rb fr su i hx hy eo b1 n =
       then_does e o u Nowhere x y t k a b w pc pc2 hi before old now ws s h ra rb fr su i hx hy eo b1 n
   operates_do e o u (To g) x y t k a b w pc pc2 hi before old now ws s h ra rb fr su i hx hy eo b1 n =

@@ -28,22 +28,23 @@ use Rattle.tac.specs.Run as tac
 use Rattle.tac.specs.Run.{Values, Call, State, running, ended, word, word_in, word_for, unset, result_alone, entered, returned, numbers_in, arrays_in, begun, ◌>>=◌}
 use Rattle.tac.specs.Sound.{AreBytes}
 use Rattle.tac.specs.Lowered.{kind_of}
-use Rattle.lowering.specs.Plain.{is_plain, function_is_plain, object_is_plain, parameter_is_plain, statement_is_plain}
 use Rattle.checked.specs.Asked.{is_asked, statement_is_asked}
-use Rattle.lowering.specs.Values.{or_int}
+use Rattle.lowering.specs.Values.{or_int, writes_none}
+use Rattle.lowering.specs.Places.{size_of_type, size_of_place}
 use Rattle.lowering.specs.Code.{One}
 use Rattle.lowering.specs.Bodies.{Idles, Closes, Stands, IsFunctionFor, IsCodeFor}
 use Rattle.lowering.specs.Laws.{CodeBehaves}
 use Rattle.lowering.proofs.Words.{differ, low8, left_true, right_true}
 use Rattle.lowering.proofs.Steps.{stays, from, GoesTo, EndsAt, PausesAt, Sim, goes, sim_after, sim_then, sim_more, sim_map, sim_move, tick_in}
-use Rattle.lowering.proofs.Standing.{Scratch, here, put_scratch, set_same, does_one, does_nothing, does_move}
-use Rattle.lowering.proofs.Stores.{ObjectFits, Fine, After, fine_later, after_later}
+use Rattle.lowering.proofs.Standing.{Scratch, here, put_scratch, set_same, does_one, does_nothing, does_move, world, first_automatic, types_below, rows_of, parameters_of, type_at, sizes, IsCode}
+use Rattle.lowering.proofs.Stores.{below_length, length_mapped, all_types, Fine, After, fine_later, after_later}
 use Rattle.lowering.proofs.Passing.{Fitting, Gave, CallGood, CallsDo}
-use Rattle.lowering.proofs.Flows.{writes_all, AreNumbers, StandsAt, FlowGood, flow_since}
+use Rattle.lowering.proofs.Flows.{writes_all, StandsAt, FlowGood, flow_since}
 use Rattle.lowering.proofs.Expressions.{zero_fits}
 use Rattle.std.proofs.lemmas.Bool.Decides.{nat_tests}
 use Rattle.lowering.proofs.Statements.{statement_runs}
-use Rattle.lowering.proofs.Entering.{item_is, function_is, item_below, below_length, taken, length_mapped, are_numbers, no_arrays, arrays_are, numbers_are, fine_entered}
+use Rattle.lowering.proofs.Entering.{item_is, function_is, item_below, arrays_are, numbers_are, fine_lives, fine_entered, fine_left, after_left}
+use Rattle.lowering.proofs.Beginning.{first_world, lives_first}
 
 -- ---- ticks of a definition and its parameters
 
@@ -82,20 +83,24 @@ not_none x e = cc
 same_type : (x y : FunctionType) → Some x ≡ Some y → x ≡ y
 same_type x y e = cc
 
-module _ (p : typed.Program) (q : Program) (typed_well : is_typed p ≡ true) (asked : is_asked p ≡ true) (plain : is_plain p ≡ true) (code : IsCodeFor p q)
+module _ (p : typed.Program) (q : Program) (typed_well : is_typed p ≡ true) (asked : is_asked p ≡ true) (texts : (n : ℕ) (text : List ℕ) → slice_get p.literals n ≡ Some text → AreBytes text) (code : IsCodeFor p q)
     (main_gives : (f : Function) → slice_get p.functions p.main ≡ Some f → f.type.result ≡ Some ty.Int) where
   -- ---- a function and its code
 
   record Both (g : ℕ) (f : Function) : Type 0 where
     pub h : tac_code.Function
     pub at : slice_get q.functions g ≡ Some h
-    pub is : IsFunctionFor q (nat_eq g p.main) f h
+    pub is : IsFunctionFor p q (nat_eq g p.main) f h
 
   both : (g : ℕ) (f : Function) → slice_get p.functions g ≡ Some f → Both g f
   both g f e =
       let lt : g < length q.functions = subst (λ n. g < n) (sym code.count) (below_length p.functions g f e) in
       let i = item_below q.functions g lt in
       record { h = i.element; at = i.is; is = code.each g f i.element e i.is }
+
+  statics_typed : statics_are_typed p.statics ≡ true
+  statics_typed = left_true (statics_are_typed p.statics) (nat_lt p.main (length p.functions))
+      (right_true (functions_are_typed p p.functions) (statics_are_typed p.statics && nat_lt p.main (length p.functions)) typed_well)
 
   typed_function : (g : ℕ) (f : Function) → slice_get p.functions g ≡ Some f → function_is_typed p f ≡ true
   typed_function g f e = function_is p p.functions g f
@@ -110,16 +115,6 @@ module _ (p : typed.Program) (q : Program) (typed_well : is_typed p ≡ true) (a
 
     parameters_same : (function_at q g).parameters ≡ map kind_of f.type.parameters
     parameters_same = ap (λ h. h.parameters) here_is ∙ (both g f e).is.parameters
-
-    plain_is : function_is_plain f ≡ true
-    plain_is = item_is function_is_plain p.functions g f plain e
-
-    numbers_own : AreNumbers f.objects
-    numbers_own = are_numbers f.objects (left_true (list_all object_is_plain f.objects)
-        (list_all parameter_is_plain f.type.parameters && statement_is_plain f.body) plain_is)
-
-    numbers_there : AreNumbers (function_at q g).objects
-    numbers_there = subst AreNumbers (sym objects_same) numbers_own
 
     asked_body : statement_is_asked f.body ≡ true
     asked_body = item_is (λ f. statement_is_asked f.body) p.functions g f asked e
@@ -149,8 +144,22 @@ module _ (p : typed.Program) (q : Program) (typed_well : is_typed p ≡ true) (a
       pub leave : One (function_at q g).code instruction.Return pc pc2
       pub gave : (v : ℤ) → o ≡ Some v → IsValueOf (or_int f.type.result) v × (now.temporaries 0 ≡ Some (word (word_for v)))
       pub has : nat_eq g p.main ≡ true → (v : ℤ) × (o ≡ Some v)
-      pub fine : Fine (function_at q g).objects s
-      pub after : After writes_all before s
+      pub fine : Fine (world p q g ws) s
+      pub after : After (first_automatic q) writes_all before s
+
+    is_code : IsCode p f q g
+    is_code = record { function = e; objects = objects_same; literals = code.literals; statics = code.statics }
+
+    sized : (P : (typed.Place → ℕ) → Type 0) → P (size_of_place p f) → P (sizes p g)
+    sized P h = subst (λ o. P (λ a. size_of_type (type_at p o a))) (sym e) h
+
+    -- the call's objects and parameters are those of its code
+    in_world : (first : ℕ) (outer : List ObjectType) (s : machine.State)
+        → Fine (record { first = first; outer = outer; own = f.objects; rows = rows_of f.type.parameters }) s
+        → Fine (record { first = first; outer = outer; own = (function_at q g).objects; rows = rows_of (parameters_of (slice_get p.functions g)) }) s
+    in_world first outer s h =
+        subst (λ x. Fine (record { first = first; outer = outer; own = (function_at q g).objects; rows = rows_of (parameters_of x) }) s) (sym e)
+        (subst (λ l. Fine (record { first = first; outer = outer; own = l; rows = rows_of f.type.parameters }) s) (sym objects_same) h)
 
     is_main : nat_eq g p.main ≡ true → f.type.result ≡ Some ty.Int
     is_main h = main_gives f (ap (slice_get p.functions) (let z : p.main ≡ g = grind (arith, nat_tests) in z) ∙ e)
@@ -227,7 +236,7 @@ module _ (p : typed.Program) (q : Program) (typed_well : is_typed p ≡ true) (a
           })
 
       -- the definition's ticks, the body, and what is left at its end
-      body_does : (s : machine.State) (ws : List Call) → s.clock ≤ suc deep → Fine (function_at q g).objects s
+      body_does : (s : machine.State) (ws : List Call) → s.clock ≤ suc deep → Fine (world p q g ws) s
           → Sim q 84 (60 * s.clock + 16) s.clock (here g 0 fresh ws s) (λ flow. AtReturn s ws (value_left (nat_eq g p.main) flow)) (body_of p call f s)
       body_does s ws le fine =
           let c = both g f e in
@@ -238,7 +247,8 @@ module _ (p : typed.Program) (q : Program) (typed_well : is_typed p ≡ true) (a
           subst (λ l. Closes l (nat_eq g p.main) c.is.end c.is.back) code_same c.is.closes in
           let leaves : One (function_at q g).code instruction.Return c.is.back (length c.h.code) =
           subst (λ l. One l instruction.Return c.is.back (length c.h.code)) code_same c.is.leaves in
-          let stands = subst (λ l. Stands l f.body c.is.end c.is.end c.is.back c.is.start c.is.end) code_same c.is.body in
+          let stands = sized (λ sizes. Stands (function_at q g).code sizes f.body c.is.end c.is.end c.is.back c.is.start c.is.end)
+          (subst (λ l. Stands l (size_of_place p f) f.body c.is.end c.is.end c.is.back c.is.start c.is.end) code_same c.is.body) in
           let Good2 : Flow → machine.State → State → Type 0 = λ flow. AtReturn s ws (value_left (nat_eq g p.main) flow) in
           sim_then q (60 * suc n + 16) 84 (λ u. Idle q g c.is.start fresh ws s) Good2 (60 * s.clock + 16) (60 * suc n + 16) (60 * s.clock + 16) s.clock
           (here g 0 fresh ws s) (ticks (suc n) s) (λ u s. execute p call f.objects f.body s) (omega arith) (omega arith)
@@ -252,17 +262,17 @@ module _ (p : typed.Program) (q : Program) (typed_well : is_typed p ≡ true) (a
           (subst (λ l. Sim q 84 (60 * i.k + (60 * suc n + 16)) i.k (here g c.is.start fresh ws s) Good2 (execute p call l f.body s3)) objects_same
           (sim_more q 14 84 (FlowGood p call q deep g f.type.result c.is.end c.is.end c.is.end s3 ws) Good2 (60 * i.k) 90 (60 * i.k + (60 * suc n + 16)) i.k
           (here g c.is.start fresh ws s) (execute p call (function_at q g).objects f.body s3) (omega arith) (omega arith)
-          (statement_runs p f call q deep g objects_same ok numbers_there c.is.back (length c.h.code) leaves f.body
-          (units.numbers_in f.type.parameters) (length f.objects) c.is.end c.is.end c.is.start c.is.end body_typed asked_body stands s3 fresh ws (omega (arith, le, lt, ck)) (fine_later (function_at q g).objects s i.k fine))
+          (statement_runs p f call q deep g is_code ok c.is.back (length c.h.code) leaves f.body
+          (units.numbers_in f.type.parameters) (length f.objects) c.is.end c.is.end c.is.start c.is.end body_typed asked_body stands s3 fresh ws (omega (arith, le, lt, ck)) (fine_later (world p q g ws) s i.k fine))
           (λ flow s4 z4 lt4 good. to_return c.is.end c.is.back (length c.h.code) s ws closes leaves flow s4 z4
           (flow_since p call q deep g f.type.result c.is.end c.is.end c.is.end s s3 ws (after_later writes_all s i.k) flow s4 z4 good))))))
 
   -- ---- calls
 
   module _ (g : ℕ) (fn : Function) (e : slice_get p.functions g ≡ Some fn) (f : ℕ) (passed : List Passed) (s : machine.State) (now : Scratch) (ws : List Call)
-      (pc pc2 : ℕ) (fine : Fine (function_at q f).objects s) where
+      (pc pc2 : ℕ) (fine : Fine (world p q f ws) s) where
     -- the call begins
-    begins : Fitting fn.type.parameters passed 0 now.temporaries
+    begins : Fitting (world p q f ws) fn.type.parameters passed 0 now.temporaries
         → tac.act q (here f pc now ws s) (instruction.Call g) ≡ running
         (here g 0 (record { temporaries = unset; kept = unset })
         (record { function = f; at = pc + 1; kept = now.kept; base = s.base; arrays = s.arrays } ∷ ws) (enter g fn passed s))
@@ -272,24 +282,20 @@ module _ (p : typed.Program) (q : Program) (typed_well : is_typed p ≡ true) (a
         let numbers : numbers_in b.h.parameters b.h.objects now.temporaries 0 ≡ Some (numbers_of passed) =
         ap (λ l. numbers_in l b.h.objects now.temporaries 0) b.is.parameters
         ∙ (ap (λ l. numbers_in (map kind_of fn.type.parameters) l now.temporaries 0) b.is.objects
-        ∙ numbers_are fn.type.parameters fn.objects passed 0 now.temporaries (parameters_first g fn e) fits) in
-        let arrays : arrays_in b.h.parameters now.temporaries 0 ≡ Some [] =
-        ap (λ l. arrays_in l now.temporaries 0) b.is.parameters ∙ arrays_are fn.type.parameters passed 0 now.temporaries fits in
+        ∙ numbers_are (world p q f ws) fn.type.parameters fn.objects passed 0 now.temporaries (parameters_first g fn e) fits) in
+        let arrays : arrays_in b.h.parameters now.temporaries 0 ≡ Some (arrays_of passed) =
+        ap (λ l. arrays_in l now.temporaries 0) b.is.parameters ∙ arrays_are (world p q f ws) fn.type.parameters passed 0 now.temporaries fits in
         ap (λ o. o >>= λ h. numbers_in h.parameters h.objects now.temporaries 0 >>= λ numbers. arrays_in h.parameters now.temporaries 0 >>= λ arrays. begun t g
         h numbers arrays) b.at
         ∙ (ap (λ o. o >>= λ numbers. arrays_in b.h.parameters now.temporaries 0 >>= λ arrays. begun t g b.h numbers arrays) numbers
         ∙ (ap (λ o. o >>= λ arrays. begun t g b.h (numbers_of passed) arrays) arrays
-        ∙ (ap (λ l. begun t g b.h (numbers_of passed) l) (sym (no_arrays fn.type.parameters passed 0 now.temporaries fits))
         ∙ ap (λ l. running (record t {
           call = record { function = g; at = 0; kept = unset; base = length s.store; arrays = arrays_of passed };
           temporaries = unset;
           waiting = record { function = f; at = pc + 1; kept = now.kept; base = s.base; arrays = s.arrays } ∷ ws;
           store = s.store ++ (numbers_of passed ++ map indeterminate (drop (length (numbers_of passed)) l));
           history = Entered g ∷ s.history;
-        })) b.is.objects)))
-
-    store_back : (s2 : machine.State) → After writes_all (enter g fn passed s) s2 → take (length s.store) s2.store ≡ s.store
-    store_back s2 a = a.below ∙ taken s.store (objects_of fn.objects passed)
+        })) b.is.objects))
 
     -- and ends
     abbrev waits : Call
@@ -316,7 +322,6 @@ module _ (p : typed.Program) (q : Program) (typed_well : is_typed p ≡ true) (a
           history = Left ∷ s2.history;
         } in
         let u = here f pc2 (record { temporaries = temporaries; kept = now.kept }) ws (leave s s2) in
-        let back = store_back s2 r.after in
         let step : tac.act q (here g r.pc r.now (waits ∷ ws) s2) instruction.Return ≡ running u =
         ap (λ n. running (shape n (pc + 1))) r.after.base ∙ ap (λ m. running (shape (length s.store) m)) en in
         goes q 22 (CallGood p call q deep f pc2 now.kept ws s fn.type.result o) (60 * s2.clock + 84) s2.clock 1 43 z u (leave s s2)
@@ -326,13 +331,13 @@ module _ (p : typed.Program) (q : Program) (typed_well : is_typed p ≡ true) (a
           temporaries = temporaries;
           at = refl;
           gave = gave_of call deep o r.now.temporaries r.gave;
-          fine = record { fits = λ n x h. subst (λ st. ObjectFits x.element (slice_get st (s.base + n))) (sym back) (fine.fits n x h); input = r.fine.input };
-          after = record { base = refl; arrays = refl; below = ap (take s.base) back; still = λ x h. ap (λ st. slice_get st (s.base + x)) back };
+          fine = fine_left (world p q f ws) (function_at q g).objects (rows_of (parameters_of (slice_get p.functions g))) s s2 fine r.fine;
+          after = after_left (world p q f ws) writes_none g fn passed s s2 fine r.after;
         })
 
   call_of : (d g f : ℕ) (fn : Function) (e : slice_get p.functions g ≡ Some fn) (ok : CallsDo p (calling p d) q d g) (passed : List Passed) (s : machine.State)
-      (now : Scratch) (ws : List Call) (pc pc2 : ℕ) → s.clock ≤ suc d → Fine (function_at q f).objects s
-      → One (function_at q f).code (instruction.Call g) pc pc2 → Fitting fn.type.parameters passed 0 now.temporaries
+      (now : Scratch) (ws : List Call) (pc pc2 : ℕ) → s.clock ≤ suc d → Fine (world p q f ws) s
+      → One (function_at q f).code (instruction.Call g) pc pc2 → Fitting (world p q f ws) fn.type.parameters passed 0 now.temporaries
       → Sim q 22 (60 * s.clock + (60 + 6 * length fn.type.parameters)) s.clock (here f pc now ws s)
       (CallGood p (calling p (suc d)) q (suc d) f pc2 now.kept ws s fn.type.result) (call_defined p (calling p d) (Some fn) g passed s)
   call_of d g f fn e ok passed s now ws pc pc2 le fine o fits =
@@ -340,9 +345,9 @@ module _ (p : typed.Program) (q : Program) (typed_well : is_typed p ≡ true) (a
       let s1 = enter g fn passed s in
       let n = length fn.type.parameters in
       let size : length (function_at q g).parameters ≡ n = ap length (parameters_same g fn e) ∙ length_mapped kind_of fn.type.parameters in
-      let fine1 : Fine (function_at q g).objects s1 =
-      subst (λ l. Fine l s1) (sym (objects_same g fn e))
-      (fine_entered g fn passed 0 now.temporaries s (function_at q f).objects (parameters_first g fn e) (numbers_own g fn e) fits fine) in
+      let fine1 : Fine (world p q g (w ∷ ws)) s1 =
+      in_world g fn e (first_automatic q) (all_types (world p q f ws)) s1
+      (fine_entered (world p q f ws) g fn passed 0 now.temporaries s (parameters_first g fn e) fits (fine_lives (world p q f ws) s fine)) in
       let Good2 = CallGood p (calling p (suc d)) q (suc d) f pc2 now.kept ws s fn.type.result in
       sim_after q 22 Good2 (60 * s.clock + (60 + 6 * n)) s.clock (60 * s.clock + 16) s.clock 1 (cost q (instruction.Call g)) (here f pc now ws s)
       (here g 0 fresh (w ∷ ws) s1) (call_defined p (calling p d) (Some fn) g passed s)
@@ -356,7 +361,7 @@ module _ (p : typed.Program) (q : Program) (typed_well : is_typed p ≡ true) (a
 
   call_at : (d g f : ℕ) (x : Option Function) → slice_get p.functions g ≡ x → CallsDo p (calling p d) q d g
       → (type : FunctionType) (passed : List Passed) (s : machine.State) (now : Scratch) (ws : List Call) (pc pc2 : ℕ) → type_or x ≡ Some type → s.clock ≤ suc d
-      → Fine (function_at q f).objects s → One (function_at q f).code (instruction.Call g) pc pc2 → Fitting type.parameters passed 0 now.temporaries
+      → Fine (world p q f ws) s → One (function_at q f).code (instruction.Call g) pc pc2 → Fitting (world p q f ws) type.parameters passed 0 now.temporaries
       → Sim q 22 (60 * s.clock + (60 + 6 * length type.parameters)) s.clock (here f pc now ws s)
       (CallGood p (calling p (suc d)) q (suc d) f pc2 now.kept ws s type.result) (call_defined p (calling p d) x g passed s)
   call_at d g f None e ok type passed s now ws pc pc2 ht le fine o fits = absurd (not_none type ht)
@@ -364,7 +369,7 @@ module _ (p : typed.Program) (q : Program) (typed_well : is_typed p ≡ true) (a
       let same = same_type fn.type type ht in
       subst (λ y. Sim q 22 (60 * s.clock + (60 + 6 * length y.parameters)) s.clock (here f pc now ws s)
       (CallGood p (calling p (suc d)) q (suc d) f pc2 now.kept ws s y.result) (call_defined p (calling p d) (Some fn) g passed s)) same
-      (call_of d g f fn e ok passed s now ws pc pc2 le fine o (subst (λ y. Fitting y.parameters passed 0 now.temporaries) (sym same) fits))
+      (call_of d g f fn e ok passed s now ws pc pc2 le fine o (subst (λ y. Fitting (world p q f ws) y.parameters passed 0 now.temporaries) (sym same) fits))
 
   calls_do : (d f : ℕ) → CallsDo p (calling p d) q d f
   calls_do zero f g type passed s now ws pc pc2 ht le fine o fits =
@@ -445,11 +450,11 @@ module _ (p : typed.Program) (q : Program) (typed_well : is_typed p ≡ true) (a
           let s0 = start n p input in
           let s1 = enter p.main fn [] s0 in
           let z = here p.main 0 (record { temporaries = unset; kept = unset }) [] s1 in
-          let fits : Fitting fn.type.parameters [] 0 unset = subst (λ l. Fitting l [] 0 unset) (sym nothing) tt in
-          let none : Fine [] s0 = record { fits = λ k o h. absurd (let y : ⊥ = cc in y); input = bytes } in
-          let fine1 : Fine (function_at q p.main).objects s1 =
-          subst (λ l. Fine l s1) (sym (objects_same p.main fn e))
-          (fine_entered p.main fn [] 0 unset s0 [] (parameters_first p.main fn e) (numbers_own p.main fn e) fits none) in
+          let fits : Fitting (first_world q) fn.type.parameters [] 0 unset = subst (λ l. Fitting (first_world q) l [] 0 unset) (sym nothing) tt in
+          let fine1 : Fine (world p q p.main []) s1 =
+          in_world p.main fn e (first_automatic q) (types_below q []) s1
+          (fine_entered (first_world q) p.main fn [] 0 unset s0 (parameters_first p.main fn e) fits
+          (lives_first p q n input code.literals code.statics texts statics_typed bytes)) in
           let le : n ≤ suc n = omega arith in
           sim_move q 14 Never (60 * n + 18) n (tac.start q input) z (then_do (call_defined p (calling p n) (Some fn) p.main [] s0) end_with) begun_same
           (sim_then q 84 14 Waits Never (60 * n + 16) 84 (60 * n + 18) n z (call_defined p (calling p n) (Some fn) p.main [] s0) end_with (omega arith)
@@ -473,17 +478,17 @@ module _ (p : typed.Program) (q : Program) (typed_well : is_typed p ≡ true) (a
 pub code_behaves : CodeBehaves
 code_behaves p q input checked asked plain code bytes =
     let lt : p.main < length p.functions = less (left_part checked.well_typed) in
-    let all : (n : ℕ) → Sim q 14 (60 * n + 18) n (tac.start q input) (Never p q checked.well_typed asked plain code checked.main_gives_int) (cstep n p input) =
-    λ n. follows_at p q checked.well_typed asked plain code checked.main_gives_int (slice_get p.functions p.main) refl n input bytes checked.main_takes_nothing
+    let all : (n : ℕ) → Sim q 14 (60 * n + 18) n (tac.start q input) (Never p q checked.well_typed asked checked.literals code checked.main_gives_int) (cstep n p input) =
+    λ n. follows_at p q checked.well_typed asked checked.literals code checked.main_gives_int (slice_get p.functions p.main) refl n input bytes checked.main_takes_nothing
     lt in
     record {
       ends = λ n status s h.
           let l : EndsAt q (60 * n + 18) (tac.start q input) status s.input s.history =
-          subst (λ r. Sim q 14 (60 * n + 18) n (tac.start q input) (Never p q checked.well_typed asked plain code checked.main_gives_int) r) h (all n) in
+          subst (λ r. Sim q 14 (60 * n + 18) n (tac.start q input) (Never p q checked.well_typed asked checked.literals code checked.main_gives_int) r) h (all n) in
           (l.j, l.reaches.by, costs n l.j l.c l.reaches.spends l.within);
       goes_on = λ n s h.
           let l : PausesAt q (60 * n + 18) n (tac.start q input) s =
-          subst (λ r. Sim q 14 (60 * n + 18) n (tac.start q input) (Never p q checked.well_typed asked plain code checked.main_gives_int) r) h (all n) in
+          subst (λ r. Sim q 14 (60 * n + 18) n (tac.start q input) (Never p q checked.well_typed asked checked.literals code checked.main_gives_int) r) h (all n) in
           (l.j, l.progress, (l.u, l.reaches.by, l.history, l.input), costs n l.j l.c l.reaches.spends l.within);
     }
   where
@@ -498,7 +503,7 @@ code_behaves p q input checked asked plain code bytes =
     no_parameters =
         let i = item_below p.functions p.main (less (left_part checked.well_typed)) in
         ap (λ m. length (function_at q m).parameters) code.main
-        ∙ (ap length (parameters_same p q checked.well_typed asked plain code checked.main_gives_int p.main i.element i.is)
+        ∙ (ap length (parameters_same p q checked.well_typed asked checked.literals code checked.main_gives_int p.main i.element i.is)
         ∙ (length_mapped kind_of i.element.type.parameters ∙ ap length (checked.main_takes_nothing i.element i.is)))
 
     costs : (n j c : ℕ) → spent q j (tac.start q input) ≡ c → c ≤ 60 * n + 18 → spent_in_all q j (tac.start q input) ≤ 60 * n + 60

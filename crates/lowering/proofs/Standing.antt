@@ -1,8 +1,13 @@
 -- Where three-address code stands, beside a state of the abstract machine, and what one instruction does there.
-use Rattle.std.proofs.Common.{◌≡◌, ℕ, ◌+◌, List, [], Option, Some, None, Bool, true, false, refl, sym, ap, ◌∙◌, arith}
+use Rattle.std.proofs.Common.{◌≡◌, ℕ, ◌+◌, List, [], ◌∷◌, ◌++◌, length, map, Option, Some, None, Bool, true, false, refl, sym, ap, ◌∙◌, arith}
 use Rattle.std.specs.Prelude.{◌==◌, if◌then◌else◌, slice_get}
 use Rattle.std.proofs.lemmas.Bool.Decides.{nat_tests}
 use Rattle.ctypes.specs.declared.types.IntType.{IntType}
+use Rattle.ctypes.specs.declared.types.IntType.TheVariants as ty
+use Rattle.typed.specs.Types.{ObjectType, DeclaredType, ParameterType, number, elements}
+use Rattle.typed.specs.Program as typed
+use Rattle.typed.specs.Program.{Place, Function}
+use Rattle.typed.specs.Nodes.{type_of_place}
 use Rattle.meaning.specs.Store.{Element, whole, put}
 use Rattle.meaning.specs.Machine as machine
 use Rattle.tac.specs.declared.code.Operand.{Operand}
@@ -17,8 +22,10 @@ use Rattle.tac.specs.declared.code.Instruction.TheVariants as instruction
 use Rattle.tac.specs.Code.{Program, function_at, scalar_type}
 use Rattle.tac.specs.Costs.{cost, cost_if}
 use Rattle.tac.specs.Run.{Value, word, Values, with_at, Call, State, Progress, running, ◌>>=◌, where_true, word_in, word_for, number_of, is_word_of, operate, holds, value, word_at, goes_to, next, with_number, own, gives, gives_word, forgotten, act, step}
+use Rattle.lowering.specs.Places.{size_of_type}
 use Rattle.lowering.specs.Code.{One}
 use Rattle.lowering.proofs.Steps.{Reaches, one_step}
+use Rattle.lowering.proofs.Stores.{World}
 
 -- the temporaries and the slots of a call
 pub record Scratch : Type 0 where
@@ -59,6 +66,50 @@ set_same m k x = ap (λ b. if b then Some x else m k) (is_same k)
 pub set_other : (m : Values) (k j : ℕ) (x : Value) → (j ≡ k → ⊥) → with_at m k x j ≡ m j
 set_other m k j x h = ap (λ b. if b then Some x else m j) (is_other j k h)
 
+-- ---- what lives while a call of function f runs, beside the calls that wait
+
+abbrev pub literal_type : List ℕ → ObjectType
+literal_type text = record { element = ty.Char; constant = false; lengths = length text ∷ [] }
+
+abbrev pub types_below : Program → List Call → List ObjectType
+types_below q [] = map literal_type q.literals ++ map (λ o. o.type) q.statics
+types_below q (c ∷ earlier) = types_below q earlier ++ (function_at q c.function).objects
+
+abbrev pub first_automatic : Program → ℕ
+first_automatic q = length q.literals + length q.statics
+
+abbrev pub rows_of : List ParameterType → List ObjectType
+rows_of [] = []
+rows_of (number t ∷ ps) = rows_of ps
+rows_of (elements t ∷ ps) = t ∷ rows_of ps
+
+abbrev pub parameters_of : Option Function → List ParameterType
+parameters_of None = []
+parameters_of (Some g) = g.type.parameters
+
+-- the type of a place, and the bytes of an element or a row, in function f
+abbrev pub type_at : typed.Program → Option Function → Place → Option DeclaredType
+type_at p None a = None
+type_at p (Some g) a = type_of_place p g a
+
+abbrev pub sizes : typed.Program → ℕ → Place → ℕ
+sizes p f a = size_of_type (type_at p (slice_get p.functions f) a)
+
+-- function f of q is the code of tf
+pub record IsCode (p : typed.Program) (tf : Function) (q : Program) (f : ℕ) : Type 0 where
+  pub function : slice_get p.functions f ≡ Some tf
+  pub objects : (function_at q f).objects ≡ tf.objects
+  pub literals : q.literals ≡ p.literals
+  pub statics : q.statics ≡ p.statics
+
+abbrev pub world : typed.Program → Program → ℕ → List Call → World
+world p q f ws = record {
+  first = first_automatic q;
+  outer = types_below q ws;
+  own = (function_at q f).objects;
+  rows = rows_of (parameters_of (slice_get p.functions f));
+}
+
 module _ (q : Program) (f : ℕ) where
   abbrev pub type_in : ℕ → Option IntType
   type_in n = scalar_type (slice_get (function_at q f).objects n)
@@ -86,7 +137,7 @@ module _ (q : Program) (f : ℕ) where
       ∙ (ap (λ b. where_true b (running (here f (pc + 1) now ws (put_typed (Some u) n w s)))) h
       ∙ sym (ap (λ x. running (here f (pc + 1) now ws (put_typed x n w s))) e))
 
-  given : (g : Target) (pc w : ℕ) (now : Scratch) (ws : List Call) (s : machine.State) → Takes g w
+  pub given : (g : Target) (pc w : ℕ) (now : Scratch) (ws : List Call) (s : machine.State) → Takes g w
       → gives_word q g (here f pc now ws s) w ≡ running (here f (pc + 1) (put_scratch g w now) ws (put_state g w s))
   given (target.Temporary k) pc w now ws s h = refl
   given (target.Kept k) pc w now ws s h = refl

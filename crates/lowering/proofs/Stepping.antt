@@ -24,7 +24,7 @@ use Rattle.checked.specs.Asked.{is_wide}
 use Rattle.lowering.specs.Values.{Mode, Nowhere, To, If}
 use Rattle.lowering.specs.Code.{One, Steps, StepsAfter, StepsBy, Into}
 use Rattle.lowering.proofs.Steps.{Reaches, stays, goes, Sim, sim_after, sim_map, tick_in, find_in}
-use Rattle.lowering.proofs.Standing.{Scratch, here, put_scratch, set_same, put_state, Takes, does_nothing, does_move}
+use Rattle.lowering.proofs.Standing.{Scratch, here, put_scratch, set_same, put_state, Takes, does_nothing, does_move, world, sizes}
 use Rattle.lowering.proofs.Stores.{Fine, after_put, with_tree, read_fits, fine_later, after_since}
 use Rattle.lowering.proofs.Goods.{Keeps, keeps_all, keeps_put, IsFree, IsFreeFor, HasIn, Known, Suits, Good, ends}
 use Rattle.lowering.proofs.Leaves.{IsNumber, IntoDoes}
@@ -33,7 +33,7 @@ use Rattle.lowering.proofs.Changing.{one_fits, change_in}
 module _ (p : typed.Program) (call : Calling) (q : Program) (deep f : ℕ) where
   module _ (at at2 : Pos) (so : StepOp) (u of : IntType) (x : ℕ) (t k : ℕ) (hof : is_wide of ≡ true) (num : IsNumber (function_at q f).objects x u) where
     abbrev Stepped : Moment → Mode → ℕ → machine.State → Scratch → List Call → ℤ → machine.State → State → Type 0
-    Stepped moment m pc2 s now ws = Good q f (typed.stepped at moment so u of (typed.named at2 (typed.automatic x))) m t k pc2 s now ws
+    Stepped moment m pc2 s now ws = Good p q f (typed.stepped at moment so u of (typed.named at2 (typed.automatic x))) m t k pc2 s now ws
 
     -- what is done with the old value and the new one
     abbrev finishes : Moment → (old : ℤ) → ℤ → machine.State → Run ℤ
@@ -42,10 +42,10 @@ module _ (p : typed.Program) (call : Calling) (q : Program) (deep f : ℕ) where
     -- the change itself, from a state that keeps what is to be kept
     step_in : (moment : Moment) (m : Mode) (t1 p1 p2 pc2 hi top : ℕ) (now now1 : Scratch) (ws : List Call) (s : machine.State) (n : ℕ) (old : ℤ) → hi + 30 ≤ top
         → t ≤ t1 → Keeps false t k now now1
-        → Steps (function_at q f).code (is_wide u) (step_operation so) u of x t1 p1 p2 → Fine (function_at q f).objects s
+        → Steps (function_at q f).code (is_wide u) (step_operation so) u of x t1 p1 p2 → Fine (world p q f ws) s
         → value_at s.store (whole (s.base + x)) ≡ Some old
         → ((w : ℤ) (now2 : Scratch) → ((y : Bool) (i k : ℕ) (before : Scratch) → i ≤ t1 → Keeps y i k before now1 → Keeps y i k before now2)
-        → Known (function_at q f).objects (typed.stepped at typed.after so u of (typed.named at2 (typed.automatic x))) t k s now old
+        → Known (world p q f ws) (typed.stepped at typed.after so u of (typed.named at2 (typed.automatic x))) t k s now old
         (record s { clock = n; store = put s.store (whole (s.base + x)) (Element (Some (converted u w))) }) now2
         → value_at (put s.store (whole (s.base + x)) (Element (Some (converted u w)))) (whole (s.base + x)) ≡ Some (converted u w)
         → Sim q 14 hi n (here f p2 now2 ws (record s { clock = n; store = put s.store (whole (s.base + x)) (Element (Some (converted u w))) }))
@@ -57,12 +57,12 @@ module _ (p : typed.Program) (call : Calling) (q : Program) (deep f : ℕ) where
     step_in moment m t1 p1 p2 pc2 hi top now now1 ws s n old h1 lt keeps i fine ex next =
         change_in p call q deep f (Stepped moment m pc2 s now ws) (finishes moment old) at (step_operation so) x u of (operand.Constant 1) t1 p1 p2 hi top
         s.base old (pos 1) now1 ws (record s { clock = n }) (operated (step_operation so) of old (pos 1))
-        h1 refl hof num refl (fine_later (function_at q f).objects s n fine) one_fits i ex refl
+        h1 refl hof num refl (fine_later (world p q f ws) s n fine) one_fits i ex refl
         (λ w now2 keeps2 fine3 there. next w now2 keeps2
         (record {
           keeps = keeps2 false t k now lt keeps;
           fine = fine3;
-          value = subst (λ z. IsValueOf z old) num.element (read_fits (function_at q f).objects x num.type old s num.at fine ex);
+          value = subst (λ z. IsValueOf z old) num.element (read_fits (world p q f ws) x num.type old s num.at fine ex);
           after = after_since (nat_eq x) s (with_tree x (Element (Some (converted u w))) (record s { clock = n })) n
               (after_put (nat_eq x) x (Element (Some (converted u w))) (record s { clock = n }) (same_number x));
           rests = tt;
@@ -78,15 +78,15 @@ module _ (p : typed.Program) (call : Calling) (q : Program) (deep f : ℕ) where
         then_do (computed_at at (operated (step_operation so) of old (pos 1)) (record s { clock = n }))
         (λ w s2. then_do (write p at (whole (s.base + x)) (converted u w) s2) (finishes moment old))
 
-    before_ends : (m : Mode) (p1 pc2 n : ℕ) (now : Scratch) (ws : List Call) (s : machine.State) (old : ℤ) → IsFreeFor m t k → Suits q f m u
-        → StepsBy (function_at q f).code typed.before (is_wide u) (step_operation so) u of m x t p1 pc2 → Fine (function_at q f).objects s
+    before_ends : (m : Mode) (p1 pc2 n : ℕ) (now : Scratch) (ws : List Call) (s : machine.State) (old : ℤ) → IsFreeFor m t k → Suits p q f m u
+        → StepsBy (function_at q f).code typed.before (is_wide u) (step_operation so) u of m x t p1 pc2 → Fine (world p q f ws) s
         → value_at s.store (whole (s.base + x)) ≡ Some old
         → Sim q 14 (60 * n + 120) n (here f p1 now ws s) (Stepped typed.before m pc2 s now ws) (changing typed.before n s old)
     before_ends m p1 pc2 n now ws s old fr su i fine ex =
         step_in typed.before m t p1 i.0 pc2 (60 * n + 90) (60 * n + 120) now now ws s n old (omega arith) (let le : t ≤ t = omega arith in le)
         (keeps_all false t k now) i.1 fine ex
         (λ w now2 keeps2 known there.
-        ends q f (typed.stepped at typed.before so u of (typed.named at2 (typed.automatic x))) m t k (operand.Object x) i.0 pc2 (60 * n + 90) s now now2 ws
+        ends p q f (typed.stepped at typed.before so u of (typed.named at2 (typed.automatic x))) m t k (operand.Object x) i.0 pc2 (60 * n + 90) s now now2 ws
         (converted u w)
         (record s { clock = n; store = put s.store (whole (s.base + x)) (Element (Some (converted u w))) }) fr su i.2
         (ap (option_map (λ y. word (word_for y))) there) (omega arith)
@@ -94,7 +94,7 @@ module _ (p : typed.Program) (call : Calling) (q : Program) (deep f : ℕ) where
 
     nowhere_ends : (p1 pc2 n : ℕ) (now : Scratch) (ws : List Call) (s : machine.State) (old : ℤ)
         → Steps (function_at q f).code (is_wide u) (step_operation so) u of x t p1 pc2
-        → Fine (function_at q f).objects s → value_at s.store (whole (s.base + x)) ≡ Some old
+        → Fine (world p q f ws) s → value_at s.store (whole (s.base + x)) ≡ Some old
         → Sim q 14 (60 * n + 120) n (here f p1 now ws s) (Stepped typed.after Nowhere pc2 s now ws) (changing typed.after n s old)
     nowhere_ends p1 pc2 n now ws s old i fine ex =
         step_in typed.after Nowhere t p1 pc2 pc2 (60 * n + 90) (60 * n + 120) now now ws s n old (omega arith) (let le : t ≤ t = omega arith in le)
@@ -139,9 +139,9 @@ module _ (p : typed.Program) (call : Calling) (q : Program) (deep f : ℕ) where
         → t ≤ t1
         → One (function_at q f).code (instruction.Move g (operand.Object x)) pc p1
         → Steps (function_at q f).code (is_wide u) (step_operation so) u of x t1 p1 p2
-        → Fine (function_at q f).objects s → value_at s.store (whole (s.base + x)) ≡ Some old
+        → Fine (world p q f ws) s → value_at s.store (whole (s.base + x)) ≡ Some old
         → ((now2 : Scratch) (w : ℤ) → HasIn g (word_for old) now2
-        → Known (function_at q f).objects (typed.stepped at typed.after so u of (typed.named at2 (typed.automatic x))) t k s now old
+        → Known (world p q f ws) (typed.stepped at typed.after so u of (typed.named at2 (typed.automatic x))) t k s now old
         (record s { clock = n; store = put s.store (whole (s.base + x)) (Element (Some (converted u w))) }) now2
         → Sim q 14 (60 * n + 84) n (here f p2 now2 ws (record s { clock = n; store = put s.store (whole (s.base + x)) (Element (Some (converted u w))) }))
         (Stepped typed.after m pc2 s now ws)
@@ -158,8 +158,8 @@ module _ (p : typed.Program) (call : Calling) (q : Program) (deep f : ℕ) where
         (keeps_put g w0 false t k now now fr (keeps_all false t k now)) i2 fine ex
         (λ w now2 keeps2 known there. next now2 w (target_held g t1 old now now2 hs keeps2) known))
 
-    after_ends : (m : Mode) (p1 pc2 n : ℕ) (now : Scratch) (ws : List Call) (s : machine.State) (old : ℤ) → IsFreeFor m t k → Suits q f m u
-        → StepsAfter (function_at q f).code (is_wide u) (step_operation so) u of m x t p1 pc2 → Fine (function_at q f).objects s
+    after_ends : (m : Mode) (p1 pc2 n : ℕ) (now : Scratch) (ws : List Call) (s : machine.State) (old : ℤ) → IsFreeFor m t k → Suits p q f m u
+        → StepsAfter (function_at q f).code (is_wide u) (step_operation so) u of m x t p1 pc2 → Fine (world p q f ws) s
         → value_at s.store (whole (s.base + x)) ≡ Some old
         → Sim q 14 (60 * n + 120) n (here f p1 now ws s) (Stepped typed.after m pc2 s now ws) (changing typed.after n s old)
     after_ends Nowhere p1 pc2 n now ws s old fr su i fine ex = nowhere_ends p1 pc2 n now ws s old i fine ex
@@ -182,19 +182,19 @@ module _ (p : typed.Program) (call : Calling) (q : Program) (deep f : ℕ) where
         i.2 i.3 fine ex
         (λ now2 w has known.
         let s3 : machine.State = record s { clock = n; store = put s.store (whole (s.base + x)) (Element (Some (converted u w))) } in
-        ends q f (typed.stepped at typed.after so u of (typed.named at2 (typed.automatic x))) (To (target.Object y)) t k (operand.Temporary t) i.1 pc2
+        ends p q f (typed.stepped at typed.after so u of (typed.named at2 (typed.automatic x))) (To (target.Object y)) t k (operand.Temporary t) i.1 pc2
         (60 * n + 84) s now now2 ws old s3 fr su i.4 has (omega arith) known)
     after_ends (If sense to) p1 pc2 n now ws s old fr su i fine ex =
         aside (If sense to) (target.Temporary t) (t + 1) p1 i.0 i.1 pc2 n now ws s old (omega arith) (let le : t ≤ t = omega arith in le) (omega arith) i.2 i.3
         fine ex
         (λ now2 w has known.
         let s3 : machine.State = record s { clock = n; store = put s.store (whole (s.base + x)) (Element (Some (converted u w))) } in
-        ends q f (typed.stepped at typed.after so u of (typed.named at2 (typed.automatic x))) (If sense to) t k (operand.Temporary t) i.1 pc2 (60 * n + 84) s
+        ends p q f (typed.stepped at typed.after so u of (typed.named at2 (typed.automatic x))) (If sense to) t k (operand.Temporary t) i.1 pc2 (60 * n + 84) s
         now now2 ws old s3 fr su i.4 has (omega arith) known)
 
     step_ends : (moment : Moment) (m : Mode) (p1 pc2 n : ℕ) (now : Scratch) (ws : List Call) (s : machine.State) (old : Option ℤ) → IsFreeFor m t k
-        → Suits q f m u
-        → StepsBy (function_at q f).code moment (is_wide u) (step_operation so) u of m x t p1 pc2 → Fine (function_at q f).objects s
+        → Suits p q f m u
+        → StepsBy (function_at q f).code moment (is_wide u) (step_operation so) u of m x t p1 pc2 → Fine (world p q f ws) s
         → value_at s.store (whole (s.base + x)) ≡ old
         → Sim q 14 (60 * n + 120) n (here f p1 now ws s) (Stepped moment m pc2 s now ws)
         (then_do (value_or_undefined at2 old (record s { clock = n })) (λ old s3.
@@ -204,8 +204,8 @@ module _ (p : typed.Program) (call : Calling) (q : Program) (deep f : ℕ) where
     step_ends typed.before m p1 pc2 n now ws s (Some old) fr su i fine ex = before_ends m p1 pc2 n now ws s old fr su i fine ex
     step_ends typed.after m p1 pc2 n now ws s (Some old) fr su i fine ex = after_ends m p1 pc2 n now ws s old fr su i fine ex
 
-    pub step_does : (moment : Moment) (m : Mode) (pc pc2 : ℕ) → IsFreeFor m t k → Suits q f m u
-        → Into (function_at q f).code (typed.stepped at moment so u of (typed.named at2 (typed.automatic x))) m t k pc pc2
+    pub step_does : (moment : Moment) (m : Mode) (pc pc2 : ℕ) → IsFreeFor m t k → Suits p q f m u
+        → Into (function_at q f).code (sizes p f) (typed.stepped at moment so u of (typed.named at2 (typed.automatic x))) m t k pc pc2
         → IntoDoes p call q deep f (typed.stepped at moment so u of (typed.named at2 (typed.automatic x))) m t k pc pc2
     step_does moment m pc pc2 fr su h s now ws le fine =
         let Result2 = Stepped moment m pc2 s now ws in

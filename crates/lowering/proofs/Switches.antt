@@ -22,7 +22,7 @@ use Rattle.lowering.specs.Code.{One}
 use Rattle.lowering.specs.Bodies.{is_within, Tests}
 use Rattle.lowering.proofs.Words.{differ, Ranged, ranged, is_value, left_true, right_true}
 use Rattle.lowering.proofs.Steps.{stays, goes, Sim, sim_after, sim_then, sim_move, sim_tick, tick_in}
-use Rattle.lowering.proofs.Standing.{Scratch, here, Holds, does_nothing, does_jump, does_branch, does_forget}
+use Rattle.lowering.proofs.Standing.{Scratch, here, Holds, does_nothing, does_jump, does_branch, does_forget, world, first_automatic}
 use Rattle.lowering.proofs.Operations.{equal_words}
 use Rattle.tac.specs.declared.code.Reading.TheVariants as reading
 use Rattle.tac.specs.declared.code.Comparison.TheVariants as comparison
@@ -31,12 +31,12 @@ use Rattle.std.specs.List.{list_all}
 use Rattle.lowering.proofs.Stores.{After, after_on, after_none, after_put, fine_later, after_later, after_since}
 use Rattle.lowering.proofs.Goods.{keeps_all, Good, held, stays_there}
 use Rattle.lowering.proofs.Leaves.{IntoDoes}
-use Rattle.lowering.proofs.Flows.{writes_all, AreNumbers, all_forgotten, FlowGood, Runs, Lists, flow_since, there}
+use Rattle.lowering.proofs.Flows.{writes_all, all_forgotten, FlowGood, Runs, Lists, flow_since, there}
 
 -- ---- objects outside a switch's block
 
-after_all : (w : ℕ → Bool) (objects : List ObjectType) (n k : ℕ) (s : machine.State) → ((x : ℕ) → n ≤ x → x < n + k → w x ≡ true)
-    → After w s (all_renewed objects n k s)
+after_all : {first : ℕ} (w : ℕ → Bool) (objects : List ObjectType) (n k : ℕ) (s : machine.State) → ((x : ℕ) → n ≤ x → x < n + k → w x ≡ true)
+    → After first w s (all_renewed objects n k s)
 after_all w objects n zero s h = after_none w s
 after_all w objects n (suc k) s h =
     after_on w w w s (renewed objects n s) (all_renewed objects (suc n) k (renewed objects n s)) (λ x e. e) (λ x e. e)
@@ -74,8 +74,8 @@ and_swaps true false = refl
 and_swaps false true = refl
 and_swaps false false = refl
 
-module _ (p : typed.Program) (call : Calling) (q : Program) (deep f : ℕ) (result : Option IntType) (numbers : AreNumbers (function_at q f).objects) where
-  all_after : (w : ℕ → Bool) (a b : machine.State) → After w a b → After writes_all a b
+module _ (p : typed.Program) (call : Calling) (q : Program) (deep f : ℕ) (result : Option IntType) where
+  all_after : (w : ℕ → Bool) (a b : machine.State) → After (first_automatic q) w a b → After (first_automatic q) writes_all a b
   all_after w a b h = record { base = h.base; arrays = h.arrays; below = h.below; still = λ x e. absurd (differ (sym e)) }
 
   -- behind the tests: at the place of the label, in the same state but for the clock
@@ -90,7 +90,7 @@ module _ (p : typed.Program) (call : Calling) (q : Program) (deep f : ℕ) (resu
   -- a case's test
   case_test : (u : IntType) (v c : ℤ) → is_wide u ≡ true → Ranged v → IsValueOf u c → (word_for v == word_for c) ≡ same_value c (converted u v)
   case_test u v c hu r hc =
-      equal_words q f u v c hu r (ranged u c hc)
+      equal_words p q f u v c hu r (ranged u c hc)
       ∙ (ap (λ z. int_le (converted u v) z && int_le z (converted u v)) (converted_keeps u c hc)
       ∙ and_swaps (int_le (converted u v) c) (int_le c (converted u v)))
 
@@ -177,11 +177,11 @@ module _ (p : typed.Program) (call : Calling) (q : Program) (deep f : ℕ) (resu
       (does_nothing q f pc p1 now ws s o)
       (λ n lt.
       let s1 : machine.State = record s { clock = n } in
-      sim_then q 14 14 (Good q f e (mode_of a) 0 0 p2 s1 now ws) Good2 (60 * n) 74 (60 * n + 60 + 0) n (here f p1 now ws s) (evaluate p call e s1) second
+      sim_then q 14 14 (Good p q f e (mode_of a) 0 0 p2 s1 now ws) Good2 (60 * n) 74 (60 * n + 60 + 0) n (here f p1 now ws s) (evaluate p call e s1) second
       (omega arith) (omega arith)
-      (de s1 now ws (omega (arith, le, lt)) (fine_later (function_at q f).objects s n fine))
+      (de s1 now ws (omega (arith, le, lt)) (fine_later (world p q f ws) s n fine))
       (λ v s2 z lt2 good.
-      let h = held q f e (is_within first count) false 0 0 p2 s1 now ws v s2 z good in
+      let h = held p q f e (is_within first count) false 0 0 p2 s1 now ws v s2 z good in
       sim_move q 14 Good2 (60 * s2.clock + 74) s2.clock z (here f p2 h.now ws s2) (second v s2) h.at
       (tick_in q 14 Good2 (here f p2 h.now ws s2) (here f p3 h.now ws (record s2 { store = forgotten (function_at q f).objects s2.base first count s2.store }))
       s2 74 (60 * s2.clock + 74)
@@ -189,12 +189,12 @@ module _ (p : typed.Program) (call : Calling) (q : Program) (deep f : ℕ) (resu
       (does_forget q f first count p2 p3 h.now ws s2 i1)
       (λ k lt3.
       let s3 : machine.State = record s2 { clock = k } in
-      let g = all_forgotten (function_at q f).objects first count s3 numbers (fine_later (function_at q f).objects s2 k h.known.fine) in
+      let g = all_forgotten (world p q f ws) first count s3 (fine_later (world p q f ws) s2 k h.known.fine) in
       let s4 = all_renewed (function_at q f).objects first count s3 in
       let w4 = after_all (is_within first count) (function_at q f).objects first count s3 (λ x lo hi. within_is first count x lo hi) in
-      let ho = stays_there q f (constant_of e) (rests_in e) (is_within first count) false 0 0 (word_for v) h.now h.now s2 s4 (keeps_all false _ _ h.now)
+      let ho = stays_there p q f (constant_of e) (rests_in e) (is_within first count) false 0 0 (word_for v) h.now h.now s2 s4 (keeps_all false _ _ h.now)
       (after_since (is_within first count) s2 s4 k w4) h.holds in
-      let into4 : After writes_all s s4 = after_on writes_all writes_all writes_all s s2 s4 (λ x y. y) (λ x y. y)
+      let into4 : After (first_automatic q) writes_all s s4 = after_on writes_all writes_all writes_all s s2 s4 (λ x y. y) (λ x y. y)
       (all_after _ s s2 (after_since _ s s2 n h.known.after)) (after_since writes_all s2 s4 k g.after) in
       let c4 : s4.clock ≡ k = g.clock in
       sim_move q 14 Good2 (60 * k + 60 + 74) k (here f p3 h.now ws (record s3 { store = forgotten (function_at q f).objects s3.base first count s3.store }))
@@ -213,7 +213,7 @@ module _ (p : typed.Program) (call : Calling) (q : Program) (deep f : ℕ) (resu
       (subst (λ y. Sim q 14 (60 * y.clock + 60) y.clock (here f found.to h.now ws s4) Good2 (last label y)) (sym e6)
       (sim_then q 14 14 (FlowGood p call q deep f result end end again s6 ws) Good2 (60 * found.k + 14) 60 (60 * found.k + 60) found.k
       (here f found.to h.now ws s4) (rf label s6) after_switch (omega arith) (omega arith)
-      (df label found.to found.place s6 h.now ws (omega (arith, le, lt, lt2, lt3, lt5, c4, ck)) (fine_later (function_at q f).objects s4 found.k g.fine))
+      (df label found.to found.place s6 h.now ws (omega (arith, le, lt, lt2, lt3, lt5, c4, ck)) (fine_later (world p q f ws) s4 found.k g.fine))
       (λ flow s7 z7 lt7 good7. leave_switch end again (60 * s7.clock + 60) out s ws flow s7 z7 (omega arith)
       (flow_since p call q deep f result end end again s s6 ws
       (after_on writes_all writes_all writes_all s s4 s6 (λ x y. y) (λ x y. y) into4 (after_later writes_all s4 found.k)) flow s7 z7 good7)))))))))))

@@ -45,7 +45,7 @@ same_result_is (Some a) (Some b) e = ap Some (same_type_is a b e)
 same_result_is None (Some b) e = absurd (differ e)
 same_result_is (Some a) None e = absurd (differ e)
 
-no_length : (l : List ℕ) → nat_eq (length l) 0 ≡ true → l ≡ []
+pub no_length : (l : List ℕ) → nat_eq (length l) 0 ≡ true → l ≡ []
 no_length [] e = refl
 no_length (n ∷ l) e = absurd (let z : ⊥ = grind (arith, nat_tests) in z)
 
