@@ -87,7 +87,13 @@ fn is_close(homes: &[usize], number: usize, item: Item) -> bool
 }
 
 /// Puts the addresses as `measure` does; says whether all branches are close to their labels, which most code has.
-fn measure_close(items: &[Item], homes: &[usize], long: &[bool], base: u32, places: &mut [u32]) -> bool
+fn measure_close(
+    items: &[Item],
+    homes: &[usize],
+    long: &[bool],
+    base: u32,
+    places: &mut [u32],
+) -> bool
     requires table { IsTable homes.now items.now }
     requires room { length places.old ≡ length items.now + 1 }
     requires longs { length long.now ≡ length items.now }
