@@ -1,6 +1,6 @@
 -- More long branches put every item further on, and no two nearer.
 use Rattle.std.proofs.lemmas.List.{get_or_default}
-use Rattle.std.proofs.Common.{length, get_or, ◌≡◌, inl, inr, ℕ, zero, suc, ◌+◌, ◌<◌, ◌≤◌, List, Bool, true, false, refl, sym, ◌∙◌, arith}
+use Rattle.std.proofs.Common.{length, get_or, ◌≡◌, inl, inr, ℕ, zero, suc, ◌+◌, ◌*◌, ◌<◌, ◌≤◌, List, Bool, true, false, refl, sym, ◌∙◌, arith}
 use Rattle.std.proofs.lemmas.Bool.{cases_lt}
 use Rattle.asm.specs.declared.item.Item.{Item}
 use Rattle.asm.specs.declared.item.Item.TheVariants.{Mark, Plain, Branch, Jump, Call, Constant, LabelAddress, DataAddress}
@@ -18,6 +18,30 @@ size_grows (Call l) a b h = omega arith
 size_grows (Constant l v) a b h = omega arith
 size_grows (LabelAddress l v) a b h = omega arith
 size_grows (DataAddress l v) a b h = omega arith
+
+-- an item has at most 8 bytes
+size_most : (l : Bool) (x : Item) → size l x ≤ 8
+size_most true (Branch t a b to) = omega arith
+size_most false (Branch t a b to) = omega arith
+size_most l (Mark k) = omega arith
+size_most l (Plain i) = omega arith
+size_most l (Jump to) = omega arith
+size_most l (Call to) = omega arith
+size_most l (Constant rd v) = omega arith
+size_most l (LabelAddress rd k) = omega arith
+size_most l (DataAddress rd o) = omega arith
+
+pub apart_most : (L : ℕ → Bool) (base : ℕ) (xs : List Item) (j k : ℕ) → j ≤ k → place L base xs k + 8 * j ≤ place L base xs j + 8 * k
+apart_most L base xs j zero le =
+    let e : j ≡ 0 = omega arith in
+    rw e (omega arith)
+apart_most L base xs j (suc k) le =
+    elim (cases_lt k j) [
+      | inl lt ↦ (let e : j ≡ suc k = omega arith in rw e (omega arith))
+      | inr ge ↦ (let s = size_most (L k) (item_at xs k) in
+          let h = apart_most L base xs j k ge in
+          omega (arith, h, s))
+    ]
 
 -- the bytes between item j and item k
 pub apart_grows : (L M : ℕ → Bool) → Within L M → (base : ℕ) (xs : List Item) (j k : ℕ) → j ≤ k → place L base xs k + place M base xs j ≤ place M base xs k + place L base xs j
@@ -51,6 +75,14 @@ place_grows L M w base xs (suc k) =
 
 pub in_all : (L : ℕ → Bool) → Within L all_long
 in_all L = record { all = λ k e. refl }
+
+-- items that are at most 500 apart are near
+pub near_few : (L : ℕ → Bool) (base : ℕ) (xs : List Item) (j k : ℕ) → j ≤ k + 500 → k ≤ j + 500 → Near (place L base xs j) (place L base xs k)
+near_few L base xs j k a b =
+    elim (cases_lt k j) [
+      | inl lt ↦ (omega (arith, apart_most L base xs k j (omega arith)), omega (arith, place_rises L base xs k j (omega arith)))
+      | inr ge ↦ (omega (arith, place_rises L base xs j k ge), omega (arith, apart_most L base xs j k ge))
+    ]
 
 -- what is near under more long branches is near under fewer
 pub near_back : (L M : ℕ → Bool) → Within L M → (base : ℕ) (xs : List Item) (j k : ℕ) → Near (place M base xs j) (place M base xs k) → Near (place L base xs j) (place L base xs k)

@@ -6,6 +6,7 @@ pub mod Widening
 pub mod Emitting
 pub mod Standing
 pub mod WordLemmas
+pub mod Writing
 pub mod Listings
 pub mod Opposites
 pub mod Telling

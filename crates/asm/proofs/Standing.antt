@@ -1,17 +1,18 @@
 -- The instructions of the items, at their addresses, are the items placed.
 use Rattle.std.proofs.Common.{length, get_or, ◌≡◌, inl, inr, ℕ, zero, suc, ◌+◌, ◌-◌, ◌*◌, ◌/◌, ◌%◌, ◌^◌, ◌<◌, ◌≤◌, List, [], ◌∷◌, ◌++◌, Option, Some, Bool, true, false, refl, sym, ap, ◌∙◌, subst, arith, length-append}
-use Rattle.std.specs.Prelude.{slice_index}
+use Rattle.std.specs.Prelude.{slice_index, slice_index_or}
 use Rattle.std.proofs.lemmas.Bool.{cases_lt}
 use Rattle.std.proofs.lemmas.List.{get_or-append_right, length-map}
 use Rattle.std.specs.Prelude.{map}
 use Rattle.rv32.specs.declared.instr.Instr.{Instr}
+use Rattle.rv32.specs.declared.instr.Instr.TheVariants as instr
 use Rattle.rv32.specs.Words.{decode_of, word_of}
 use Rattle.rv32.specs.Space.{word_at}
 use Rattle.asm.specs.declared.item.Item.{Item}
 use Rattle.asm.specs.declared.item.Item.TheVariants.{Mark, Plain, Branch, Jump, Call, Constant, LabelAddress, DataAddress}
 use Rattle.asm.specs.Layout.{item_at, size, place, all_long, all_short, IsLow, IsSized, Within, Refers}
 use Rattle.asm.specs.inside.Choice.{longs, IsTable}
-use Rattle.asm.specs.inside.Code.{address, code, item_code, upper, lower, offset_from, IsResolved, AllDecode}
+use Rattle.asm.specs.inside.Code.{address, code, item_code, upper, lower, offset_from, whole_code, Decoding, IsResolved}
 use Rattle.asm.specs.Placed.{bytes_of, word_bytes}
 use Rattle.asm.specs.Placed.{sum32, ItemAt, Stands, StandsInParts, IsPlacedWith, IsFewest, text_of, data_start, Holds, Assembles}
 use Rattle.asm.proofs.Emitting.{good, place_even}
@@ -96,10 +97,6 @@ pub bytes_len : (ws : List ℕ) → length (bytes_of ws) ≡ 4 * length ws
 bytes_len [] = refl
 bytes_len (w ∷ ws) = omega (arith, bytes_len ws)
 
-pub bytes_more : (ws : List ℕ) (w : ℕ) → bytes_of (ws ++ w ∷ []) ≡ bytes_of ws ++ word_bytes w
-bytes_more [] w = refl
-bytes_more (v ∷ ws) w = ap (λ bs. word_bytes v ++ bs) (bytes_more ws w)
-
 -- the word in memory is the first word of the bytes
 word_held : (m : ℕ → ℕ) (a w : ℕ) (bs : List ℕ) → Holds m a (word_bytes w ++ bs) → word_at m a ≡ w
 word_held m a w bs h =
@@ -118,23 +115,35 @@ rest_held m a w bs h = record {
       ap m (omega arith) ∙ h.at (4 + j) (omega arith) ∙ moved ∙ ap (λ n. get_or bs n 0) same;
 }
 
-text_held : (m : ℕ → ℕ) (a : ℕ) (is : List Instr) → Holds m a (bytes_of (map word_of is)) → AllDecode is (length is) → TextIs (text_of m) a is
+text_held : (m : ℕ → ℕ) (a : ℕ) (is : List Instr) → Holds m a (bytes_of (map word_of is)) → Decoding is → TextIs (text_of m) a is
 text_held m a [] h d = tt
 text_held m a (i ∷ is) h d =
     let w = word_held m a (word_of i) (bytes_of (map word_of is)) h in
-    (ap decode_of w ∙ d.word 0 (omega arith), text_held m (a + 4) is (rest_held m a (word_of i) (bytes_of (map word_of is)) h) (record { word = λ j lt. d.word (suc j) (omega arith) }))
+    (ap decode_of w ∙ d.0, text_held m (a + 4) is (rest_held m a (word_of i) (bytes_of (map word_of is)) h) d.1)
+
+-- word n and what it decodes to
+pub held_at : (m : ℕ → ℕ) (a : ℕ) (is : List Instr) (n : ℕ) → Holds m a (bytes_of (map word_of is)) → Decoding is → n < length is → (word_at m (a + 4 * n) ≡ word_of (slice_index_or is n instr.Ebreak)) × (decode_of (word_at m (a + 4 * n)) ≡ Some (slice_index_or is n instr.Ebreak))
+held_at m a [] n h d lt = absurd (omega (arith, lt))
+held_at m a (i ∷ is) zero h d lt =
+    let w = word_held m a (word_of i) (bytes_of (map word_of is)) h in
+    let same : a + 4 * 0 ≡ a = omega arith in
+    subst (λ (b : ℕ). (word_at m b ≡ word_of i) × (decode_of (word_at m b) ≡ Some i)) (sym same) (w, ap decode_of w ∙ d.0)
+held_at m a (i ∷ is) (suc n) h d lt =
+    let q = held_at m (a + 4) is n (rest_held m a (word_of i) (bytes_of (map word_of is)) h) d.1 (omega (arith, lt)) in
+    let same : a + 4 * suc n ≡ a + 4 + 4 * n = omega arith in
+    subst (λ (b : ℕ). (word_at m b ≡ word_of (slice_index_or is n instr.Ebreak)) × (decode_of (word_at m b) ≡ Some (slice_index_or is n instr.Ebreak))) (sym same) q
 
 -- ---- the whole
 
-placed_with : (homes : List ℕ) (base : ℕ) (xs : List Item) (is : List Instr) (m : ℕ → ℕ) → IsTable homes xs → base % 4 ≡ 0 → IsLow base xs → (r : IsResolved homes base xs is) → TextIs (text_of m) base is → IsPlacedWith (address homes r.places) (longs r.long) xs base m
-placed_with homes base xs is m table aligned fits r text =
+placed_with : (homes : List ℕ) (base : ℕ) (xs : List Item) (bs : List ℕ) (m : ℕ → ℕ) → IsTable homes xs → base % 4 ≡ 0 → IsLow base xs → (r : IsResolved homes base xs bs) → TextIs (text_of m) base (whole_code homes r.long r.places base xs) → IsPlacedWith (address homes r.places) (longs r.long) xs base m
+placed_with homes base xs bs m table aligned fits r text =
     let n = length xs in
     let L = longs r.long in
     let env = address homes r.places in
     let seg = data_start (slice_index r.places n) in
     let g = good homes base xs r.long r.places table r.chosen aligned fits in
     let low = λ (k : ℕ) (le : k ≤ n). measured_low r.places L base xs k r.chosen.measured le fits in
-    let text2 : TextIs (text_of m) base (code env seg L base xs n) = subst (TextIs (text_of m) base) r.is_code text in
+    let text2 : TextIs (text_of m) base (code env seg L base xs n) = text in
     let top : slice_index r.places n < 0x70000000 = low n (omega arith) in
     let mark : (k : ℕ) → k < n → (l : ℕ) → item_at xs k ≡ Mark l → env l ≡ place L base xs k = λ k lt l e. ap (slice_index r.places) (table.once k l lt e) ∙ r.chosen.measured.at k (omega arith) in
     record {
@@ -164,27 +173,28 @@ stands_joined T env seg (x ∷ xs) ys a mid e s t = (s.0, s.1, stands_joined T e
 pub in_parts : StandsInParts
 in_parts T env seg xs ys a e = (stands_split T env seg xs ys a e, λ p. stands_joined T env seg xs ys a p.0 e p.1 p.2)
 
--- the instructions end where the items do
-resolved_end : (homes : List ℕ) (base : ℕ) (xs : List Item) (is : List Instr) → (r : IsResolved homes base xs is) → base + 4 * length is ≡ place (longs r.long) base xs (length xs)
-resolved_end homes base xs is r =
+-- the bytes end where the items do
+resolved_end : (homes : List ℕ) (base : ℕ) (xs : List Item) (bs : List ℕ) → (r : IsResolved homes base xs bs) → base + length bs ≡ place (longs r.long) base xs (length xs)
+resolved_end homes base xs bs r =
     let n = length xs in
     let L = longs r.long in
     let env = address homes r.places in
     let seg = data_start (slice_index r.places n) in
-    let len : length is ≡ length (code env seg L base xs n) = ap length r.is_code in
-    omega (arith, len, code_length env seg L base xs n)
+    let is : List Instr = code env seg L base xs n in
+    let len : length bs ≡ length (bytes_of (map word_of is)) = ap length r.written.bytes in
+    omega (arith, len, bytes_len (map word_of is), length-map is word_of, code_length env seg L base xs n)
 
-pub resolved_low : (homes : List ℕ) (base : ℕ) (xs : List Item) (is : List Instr) → IsResolved homes base xs is → IsLow base xs → base + 4 * length is < 0x70000000
-resolved_low homes base xs is r fits = omega (arith, resolved_end homes base xs is r, place_grows (longs r.long) all_long (in_all (longs r.long)) base xs (length xs), fits)
+pub resolved_low : (homes : List ℕ) (base : ℕ) (xs : List Item) (bs : List ℕ) → IsResolved homes base xs bs → IsLow base xs → base + length bs < 0x70000000
+resolved_low homes base xs bs r fits = omega (arith, resolved_end homes base xs bs r, place_grows (longs r.long) all_long (in_all (longs r.long)) base xs (length xs), fits)
 
-pub assembled : (homes : List ℕ) (base : ℕ) (xs : List Item) (is : List Instr) → IsTable homes xs → base % 4 ≡ 0 → IsLow base xs → IsResolved homes base xs is → AllDecode is (length is) → IsFewest xs base (bytes_of (map word_of is))
-assembled homes base xs is table aligned fits r d = record {
+pub assembled : (homes : List ℕ) (base : ℕ) (xs : List Item) (bs : List ℕ) → IsTable homes xs → base % 4 ≡ 0 → IsLow base xs → IsResolved homes base xs bs → IsFewest xs base bs
+assembled homes base xs bs table aligned fits r = record {
   long = longs r.long;
   fits = r.chosen.fits;
   least = r.chosen.least;
-  size = omega (arith, bytes_len (map word_of is), length-map is word_of, resolved_end homes base xs is r);
+  size = resolved_end homes base xs bs r;
   env = address homes r.places;
-  placed = λ m h. placed_with homes base xs is m table aligned fits r (text_held m base is h d);
+  placed = λ m h. placed_with homes base xs bs m table aligned fits r (text_held m base (whole_code homes r.long r.places base xs) (subst (λ (b : List ℕ). Holds m base b) r.written.bytes h) r.written.decoding);
 }
 
 pub assembles : (xs : List Item) (base : ℕ) (bs : List ℕ) → IsFewest xs base bs → Assembles xs base bs

@@ -1,15 +1,16 @@
 -- One round over the branches.
 use Rattle.std.proofs.Common.{◌≢◌, length, set, ◌≡◌, inl, inr, ℕ, zero, suc, ◌+◌, ◌<◌, ◌≤◌, List, Bool, true, false, refl, sym, ◌∙◌, subst, arith, get_or-set_same, get_or-set_other}
 use Rattle.std.specs.Prelude.{slice_index, if◌then◌else◌, ◌↔◌, replicate}
+use Rattle.std.specs.Bool.{OnTrue}
 use Rattle.std.proofs.lemmas.List.Sums.{sum_by-set}
 use Rattle.std.proofs.lemmas.Bool.{cases_lt, cases_eq}
 use Rattle.asm.specs.declared.item.Item.{Item}
 use Rattle.asm.specs.declared.item.Item.TheVariants.{Mark, Plain, Branch, Jump, Call, Constant, LabelAddress, DataAddress}
 use Rattle.rv32.specs.declared.instr.Test.{Test}
 use Rattle.asm.specs.Layout.{item_at, place, Within, Near, Fits, FitsAt, IsBelowAll}
-use Rattle.asm.specs.inside.Choice.{longs, shorts, IsTable, IsMeasured, Widens, Counted}
+use Rattle.asm.specs.inside.Choice.{longs, shorts, IsTable, IsMeasured, IsClose, Widens, Counted}
 use Rattle.asm.proofs.Tables.{home_of, mark_there, near_mark}
-use Rattle.asm.proofs.Grow.{near_back}
+use Rattle.asm.proofs.Grow.{near_back, near_few}
 
 -- before item i; `was` are the branches long at the start of the round
 pub record Widening (homes : List ℕ) (base : ℕ) (xs : List Item) (was now : List Bool) (i : ℕ) (changed : Bool) : Type 0 where
@@ -95,6 +96,24 @@ pub stays_branch : (homes : List ℕ) (base : ℕ) (xs : List Item) (was now : L
 stays_branch homes base xs was now i changed t l r to s w is near =
     let P : Item → Type 0 = λ x. FitsAt (longs was) base xs i x in
     stays homes base xs was now i changed w (subst P (sym is) (λ short h lt m. near_mark homes (longs was) base xs i h to s lt m (near (w.rest i (omega arith) ∙ short))))
+
+-- where all branches are close to their labels each choice fits
+close_fits : (homes : List ℕ) (L : ℕ → Bool) (base : ℕ) (xs : List Item) (k : ℕ) (x : Item) → IsTable homes xs → IsClose homes k x → FitsAt L base xs k x
+close_fits homes L base xs k (Branch t l r to) s c = λ short h lt m. near_mark homes L base xs k h to s lt m (near_few L base xs k (slice_index homes to) c.1 c.0)
+close_fits homes L base xs k (Mark l) s c = tt
+close_fits homes L base xs k (Plain i) s c = tt
+close_fits homes L base xs k (Jump to) s c = tt
+close_fits homes L base xs k (Call to) s c = tt
+close_fits homes L base xs k (Constant rd v) s c = tt
+close_fits homes L base xs k (LabelAddress rd l) s c = tt
+close_fits homes L base xs k (DataAddress rd o) s c = tt
+
+all_close : (homes : List ℕ) (L : ℕ → Bool) (base : ℕ) (xs : List Item) → IsTable homes xs → ((k : ℕ) → k < length xs → IsClose homes k (item_at xs k)) → Fits L base xs
+all_close homes L base xs s c = record { all = λ k lt. close_fits homes L base xs k (item_at xs k) s (c k lt) }
+
+pub if_close : (homes : List ℕ) (L : ℕ → Bool) (base : ℕ) (xs : List Item) (close : Bool) → IsTable homes xs → (close ≡ true → (k : ℕ) → k < length xs → IsClose homes k (item_at xs k)) → OnTrue close (Fits L base xs)
+if_close homes L base xs true s c = all_close homes L base xs s (c refl)
+if_close homes L base xs false s c = tt
 
 -- near by the measured addresses
 pub near_measured : (places homes : List ℕ) (base : ℕ) (xs : List Item) (L : ℕ → Bool) (i to : ℕ) → IsMeasured places L base xs → i ≤ length xs → slice_index homes to ≤ length xs → Near (place L base xs i) (place L base xs (slice_index homes to)) ↔ Near (slice_index places i) (slice_index places (slice_index homes to))

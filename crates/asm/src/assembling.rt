@@ -1,13 +1,10 @@
 //! Machine code of items.
 
-ghost use Rattle.std.specs.Prelude.{◌≡◌, ◌<◌, ◌+◌, ◌*◌, ◌-◌, ◌/◌, ◌%◌, ◌^◌, length, map, OnOk, IfOk, IfErr, [], ◌++◌};
-ghost use Rattle.rv32.specs.Words.{word_of};
+ghost use Rattle.std.specs.Prelude.{◌≡◌, ◌%◌, length, IfOk, IfErr};
 ghost use Rattle.srcset.specs.Fault.{IsMemoryFault};
 ghost use Rattle.asm.specs.Layout.{IsLow, IsSized, SomeMisses, AllReach};
 ghost use Rattle.asm.specs.inside.Choice.{IsTable};
 ghost use Rattle.asm.specs.Placed.{Assembles, IsFewest};
-ghost use Rattle.asm.specs.inside.Code.{AllDecode};
-ghost use Rattle.asm.specs.Placed.{bytes_of, word_bytes};
 ghost use Rattle.asm.specs.Refusals.{IsRefused};
 ghost use Rattle.asm.specs.inside.Refusing.{IfFar};
 
@@ -15,32 +12,8 @@ use crate::emit::resolve;
 use crate::item::Item;
 use crate::items::Items;
 use crate::refusal::{Refusal, told};
-use rv32::{Instr, encode};
 use srcset::Fault;
-use std::alloc::{AllocError, Global};
-
-fn put_word(bytes: &mut Vec<u8>, word: u32) -> Result<(), AllocError>
-    ensures { OnOk result (bytes.new.items ≡ bytes.old.items ++ word_bytes word) }
-{
-    bytes.extend_from_slice(&[
-        (word % 0x100) as u8,
-        (word / 0x100 % 0x100) as u8,
-        (word / 0x1_0000 % 0x100) as u8,
-        (word / 0x100_0000) as u8,
-    ])
-}
-
-/// The words of the instructions, the lowest byte first.
-fn write_words(alloc: Global, instrs: &[Instr]) -> Result<Vec<u8>, AllocError>
-    ensures bytes { IfOk result (λ v. v.items ≡ bytes_of (map word_of instrs.now)) }
-    ensures decode { IfOk result (λ v. AllDecode instrs.now (length instrs.now)) }
-{
-    let mut bytes = Vec::with_capacity(alloc, instrs.len().saturating_mul(4))?;
-    for instr in instrs {
-        put_word(&mut bytes, encode(*instr))?;
-    }
-    Ok(bytes)
-}
+use std::alloc::Global;
 
 fn assemble_parts(
     alloc: Global,
@@ -54,9 +27,7 @@ fn assemble_parts(
     ensures ok { IfOk result (λ bytes. IsFewest items.now base bytes.items) }
     ensures err { IfErr result (IfFar (SomeMisses base items.now)) }
 {
-    let instrs = resolve(alloc, items, homes, base)?;
-    let bytes = write_words(alloc, &instrs)?;
-    Ok(bytes)
+    resolve(alloc, items, homes, base)
 }
 
 /// The machine code of the items at the address `base`, each word with its lowest byte first, and

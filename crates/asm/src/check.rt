@@ -1,8 +1,8 @@
 //! Tests of items against their table of labels.
 
-ghost use Rattle.std.specs.Prelude.{◌≡◌, ◌↔◌, ◌≤◌, ◌<◌, ◌+◌, ℕ, length, slice_index, slice_set, IsTrue};
+ghost use Rattle.std.specs.Prelude.{◌≡◌, ◌↔◌, ◌≤◌, ◌<◌, ◌+◌, ◌*◌, ℕ, length, slice_index, slice_set, IsTrue};
 ghost use Rattle.std.specs.Bool.{OnTrue, OnFalse};
-ghost use Rattle.asm.specs.Layout.{IsLow, IsSound};
+ghost use Rattle.asm.specs.Layout.{IsLow, IsSound, Refers};
 ghost use Rattle.asm.specs.inside.Choice.{IsTable, IsNoted, IsUnfit, AllAre, AllInside, Noting};
 
 use crate::item::Item;
@@ -31,18 +31,33 @@ fn mark_home(homes: &mut [usize], end: usize, number: usize, label: usize) -> bo
     }
 }
 
+/// Whether the item names only labels of the table.
+fn names_known(homes: &[usize], item: Item) -> bool
+    ensures { IsTrue result ↔ Refers (length homes.now) item }
+{
+    match item {
+        Item::Plain(_) | Item::Constant { .. } => true,
+        Item::Mark(to)
+        | Item::Branch { to, .. }
+        | Item::Jump { to }
+        | Item::Call { to }
+        | Item::LabelAddress { of: to, .. } => to.number() < homes.len(),
+        Item::DataAddress { offset, .. } => offset < 0x1000_0000,
+    }
+}
+
 /// Whether the item names only labels of the table, and marks none that is marked already; its number is put for a label that it marks.
+/// Most items are marks and instructions, which are told by two tests.
 fn note(homes: &mut [usize], end: usize, number: usize, item: Item) -> bool
     ensures noted { OnTrue result (IsNoted homes.old homes.new end number item) }
     ensures unfit { OnFalse result (IsUnfit homes.old end item) }
 {
-    match item {
-        Item::Mark(label) => mark_home(homes, end, number, label.number()),
-        Item::Plain(_) | Item::Constant { .. } => true,
-        Item::Branch { to, .. } | Item::Jump { to } | Item::Call { to } => to.number()
-            < homes.len(),
-        Item::LabelAddress { of, .. } => of.number() < homes.len(),
-        Item::DataAddress { offset, .. } => offset < 0x1000_0000,
+    if let Item::Mark(label) = item {
+        mark_home(homes, end, number, label.number())
+    } else if let Item::Plain(_) = item {
+        true
+    } else {
+        names_known(homes, item)
     }
 }
 
@@ -86,10 +101,20 @@ pub fn fill_table(items: &[Item], homes: &mut [usize]) -> bool
     }
 }
 
+/// Whether so many items end below 0x70000000 whatever they are: an item has at most 8 bytes.
+fn are_few(count: usize, base: u32) -> bool
+    ensures { OnTrue result (base + 8 * count < 0x70000000) }
+{
+    base < 0x7000_0000 && count < ((0x7000_0000 - base) / 8) as usize
+}
+
 /// Whether the items end below 0x70000000 with all branches long.
 pub fn ends_low(items: &[Item], base: u32) -> bool
     ensures { IsTrue result ↔ IsLow base items.now }
 {
+    if are_few(items.len(), base) {
+        return true;
+    }
     let mut at = base;
     if at >= 0x7000_0000 {
         return false;

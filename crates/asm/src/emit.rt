@@ -1,18 +1,20 @@
-//! From items to instructions.
+//! From items to machine code.
+#![tactic(auto, using(crate::proofs::Writing::writes_none, crate::proofs::Writing::writes_two))]
 
 ghost use Rattle.std.specs.Prelude.{◌≡◌, ◌≤◌, ◌<◌, ◌+◌, ◌*◌, ◌-◌, ◌/◌, ◌%◌, ◌^◌, ℕ, true, false, length, OnOk, IfOk, IfErr, ◌↔◌, [], ◌∷◌, ◌++◌, Err, IsOk};
 ghost use Rattle.asm.specs.Layout.{IsLow, Refers, Reach, Near, SomeMisses};
 ghost use Rattle.asm.specs.inside.Choice.{IsTable, IsChosen};
 ghost use Rattle.asm.specs.Placed as placed;
-ghost use Rattle.asm.specs.inside.Code.{item_code, address, NearIfShort, Misses, IsGood, load_code, branch_code, jump_code, call_code, whole_code, IsResolved};
+ghost use Rattle.asm.specs.Placed.{word_bytes};
+ghost use Rattle.asm.specs.inside.Code.{item_code, address, NearIfShort, Misses, IsGood, load_code, branch_code, jump_code, call_code, whole_code, Writes, IsResolved};
 ghost use Rattle.asm.specs.inside.Refusing.{IfFar};
 
 use crate::item::{Item, Label};
 use crate::layout::choose;
 use crate::offset::{branch_offset, jump_offset, split};
 use crate::refusal::Refusal;
-use rv32::{BranchOffset, Five, ImmediateOp, Instr, Test};
-use std::alloc::Global;
+use rv32::{BranchOffset, Five, ImmediateOp, Instr, Test, encode};
+use std::alloc::{AllocError, Global};
 
 /// The test that is true exactly where `test` is not.
 fn opposite(test: Test) -> Test
@@ -28,11 +30,23 @@ fn opposite(test: Test) -> Test
     }
 }
 
-fn put(code: &mut Vec<Instr>, instr: Instr) -> Result<(), Refusal>
-    ensures ok { OnOk result (code.new.items ≡ code.old.items ++ instr ∷ []) }
+/// Writes a word, the lowest byte first.
+fn put_word(code: &mut Vec<u8>, word: u32) -> Result<(), AllocError>
+    ensures { OnOk result (code.new.items ≡ code.old.items ++ word_bytes word) }
+{
+    code.extend_from_slice(&[
+        (word % 0x100) as u8,
+        (word / 0x100 % 0x100) as u8,
+        (word / 0x1_0000 % 0x100) as u8,
+        (word / 0x100_0000) as u8,
+    ])
+}
+
+fn put(code: &mut Vec<u8>, instr: Instr) -> Result<(), Refusal>
+    ensures ok { OnOk result (Writes code.old.items code.new.items (instr ∷ [])) }
     ensures err { IfErr result (λ e. e ≡ Refusal.Memory) }
 {
-    code.push(instr)?;
+    put_word(code, encode(instr))?;
     Ok(())
 }
 
@@ -57,10 +71,10 @@ fn check_reach(from: u32, to: u32) -> Result<(), Refusal>
 }
 
 /// The jump from `from` to `to`.
-fn put_jump(code: &mut Vec<Instr>, from: u32, to: u32) -> Result<(), Refusal>
+fn put_jump(code: &mut Vec<u8>, from: u32, to: u32) -> Result<(), Refusal>
     requires small { (from < 0x70000010) × (to < 0x70000000) }
     requires even { (from % 4 ≡ 0) × (to % 4 ≡ 0) }
-    ensures ok { OnOk result (code.new.items ≡ code.old.items ++ jump_code from to) }
+    ensures ok { OnOk result (Writes code.old.items code.new.items (jump_code from to)) }
     ensures err { IfErr result (IfFar (Reach from to → ⊥)) }
     ensures far { (Reach from to → ⊥) → result ≡ Err Refusal.Far }
 {
@@ -75,8 +89,8 @@ fn put_jump(code: &mut Vec<Instr>, from: u32, to: u32) -> Result<(), Refusal>
 }
 
 /// LUI and ADDI that put `value` in `rd`.
-fn put_load(code: &mut Vec<Instr>, rd: Five, value: u32) -> Result<(), Refusal>
-    ensures ok { OnOk result (code.new.items ≡ code.old.items ++ load_code rd value) }
+fn put_load(code: &mut Vec<u8>, rd: Five, value: u32) -> Result<(), Refusal>
+    ensures ok { OnOk result (Writes code.old.items code.new.items (load_code rd value)) }
     ensures err { IfErr result (λ e. e ≡ Refusal.Memory) }
 {
     let (upper, low) = split(value);
@@ -93,8 +107,8 @@ fn put_load(code: &mut Vec<Instr>, rd: Five, value: u32) -> Result<(), Refusal>
 }
 
 /// AUIPC and JALR from `from` to `to`.
-fn put_call(code: &mut Vec<Instr>, from: u32, to: u32) -> Result<(), Refusal>
-    ensures ok { OnOk result (code.new.items ≡ code.old.items ++ call_code from to) }
+fn put_call(code: &mut Vec<u8>, from: u32, to: u32) -> Result<(), Refusal>
+    ensures ok { OnOk result (Writes code.old.items code.new.items (call_code from to)) }
     ensures err { IfErr result (λ e. e ≡ Refusal.Memory) }
 {
     let (upper, low) = split(to.wrapping_sub(from));
@@ -112,7 +126,7 @@ fn put_call(code: &mut Vec<Instr>, from: u32, to: u32) -> Result<(), Refusal>
 
 /// A branch from `from` to `to`, or its opposite over a jump.
 fn put_branch(
-    code: &mut Vec<Instr>,
+    code: &mut Vec<u8>,
     long: bool,
     test: Test,
     left: Five,
@@ -123,7 +137,7 @@ fn put_branch(
     requires small { (from < 0x70000000) × (to < 0x70000000) }
     requires even { (from % 4 ≡ 0) × (to % 4 ≡ 0) }
     requires near { long ≡ false → Near from to }
-    ensures ok { OnOk result (code.new.items ≡ code.old.items ++ branch_code long test left right from to) }
+    ensures ok { OnOk result (Writes code.old.items code.new.items (branch_code long test left right from to)) }
     ensures err { IfErr result (IfFar ((long ≡ true) × (Reach (from + 4) to → ⊥))) }
     ensures far { (long ≡ true) × (Reach (from + 4) to → ⊥) → result ≡ Err Refusal.Far }
 {
@@ -163,9 +177,9 @@ fn address_of(homes: &[usize], places: &[u32], label: Label) -> u32
     places[homes[label.number()]]
 }
 
-/// The instructions of one item.
+/// Writes the words of one item.
 fn put_item(
-    code: &mut Vec<Instr>,
+    code: &mut Vec<u8>,
     item: Item,
     long: bool,
     at: u32,
@@ -177,7 +191,7 @@ fn put_item(
     requires refers { Refers (length homes.now) item }
     requires small { (at < 0x70000000) × (at % 4 ≡ 0) × (data_start < 0x70001000) }
     requires near { NearIfShort long at (address homes.now places.now) item }
-    ensures ok { OnOk result (code.new.items ≡ code.old.items ++ item_code (address homes.now places.now) data_start long at item) }
+    ensures ok { OnOk result (Writes code.old.items code.new.items (item_code (address homes.now places.now) data_start long at item)) }
     ensures err { IfErr result (IfFar (Misses long at (address homes.now places.now) item)) }
     ensures far { Misses long at (address homes.now places.now) item → result ≡ Err Refusal.Far }
 {
@@ -206,13 +220,13 @@ fn put_item(
     }
 }
 
-/// The instructions of all items, with the fewest long branches.
+/// The machine code of all items, with the fewest long branches.
 pub fn resolve(
     alloc: Global,
     items: &[Item],
     homes: &[usize],
     base: u32,
-) -> Result<Vec<Instr>, Refusal>
+) -> Result<Vec<u8>, Refusal>
     requires table { IsTable homes.now items.now }
     requires aligned { base % 4 ≡ 0 }
     requires low { IsLow base items.now }
@@ -230,16 +244,17 @@ fn emit(
     base: u32,
     long: &[bool],
     places: &[u32],
-) -> Result<Vec<Instr>, Refusal>
+) -> Result<Vec<u8>, Refusal>
     requires table { IsTable homes.now items.now }
     requires aligned { base % 4 ≡ 0 }
     requires low { IsLow base items.now }
     requires chosen { IsChosen base items.now long.now places.now }
     ensures err { IfErr result (IfFar (SomeMisses base items.now)) }
-    ensures ok { IfOk result (λ v. v.items ≡ whole_code homes.now long.now places.now base items.now) }
+    ensures ok { IfOk result (λ v. Writes [] v.items (whole_code homes.now long.now places.now base items.now)) }
 {
-    let data_start = (places[items.len()] + 0xfff) / 0x1000 * 0x1000;
-    let mut code = Vec::with_capacity(alloc, items.len())?;
+    let end = places[items.len()];
+    let data_start = (end + 0xfff) / 0x1000 * 0x1000;
+    let mut code = Vec::with_capacity(alloc, end.saturating_sub(base) as usize)?;
     for (i, item) in items.iter().enumerate() {
         put_item(
             &mut code, *item, long[i], places[i], homes, places, data_start,

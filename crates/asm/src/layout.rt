@@ -3,8 +3,8 @@
 ghost use Rattle.std.specs.Prelude.{◌≡◌, ◌≤◌, ◌<◌, ◌+◌, ◌*◌, ◌-◌, ◌/◌, ◌%◌, ◌^◌, ℕ, true, false, Bool, length, not, slice_index, slice_index_or, sum_by, slice_set, vec_len, IfOk};
 ghost use Rattle.std.specs.Bool.{OnTrue, OnFalse};
 ghost use Rattle.asm.specs.Layout as spec;
-ghost use Rattle.asm.specs.Layout.{place, Fits, Near, IsBelowAll, IsLow};
-ghost use Rattle.asm.specs.inside.Choice.{longs, shorts, IsTable, IsMeasured, Widens, IsChosen, Counted};
+ghost use Rattle.asm.specs.Layout.{place, Refers, Fits, Near, IsBelowAll, IsLow};
+ghost use Rattle.asm.specs.inside.Choice.{longs, shorts, IsTable, IsMeasured, IsClose, Widens, IsChosen, Counted};
 
 use crate::item::Item;
 use std::alloc::{AllocError, Global};
@@ -68,6 +68,48 @@ fn is_near(from: u32, to: u32) -> bool
     ensures far { OnFalse result (Near from to → ⊥) }
 {
     u64::from(from) <= u64::from(to) + 4096 && u64::from(to) <= u64::from(from) + 4094
+}
+
+/// How many items with at most 8 bytes each a branch surely reaches over.
+const CLOSE: usize = 500;
+
+/// Whether the item is no branch, or one whose label is so few items away that it is near whatever is long.
+fn is_close(homes: &[usize], number: usize, item: Item) -> bool
+    requires refers { Refers (length homes.now) item }
+    ensures { OnTrue result (IsClose homes.now number item) }
+{
+    if let Item::Branch { to, .. } = item {
+        let home = homes[to.number()];
+        number.saturating_sub(home) <= CLOSE && home.saturating_sub(number) <= CLOSE
+    } else {
+        true
+    }
+}
+
+/// Puts the addresses as `measure` does; says whether all branches are close to their labels, which most code has.
+fn measure_close(
+    items: &[Item],
+    homes: &[usize],
+    long: &[bool],
+    base: u32,
+    places: &mut [u32],
+) -> bool
+    requires table { IsTable homes.now items.now }
+    requires room { length places.old ≡ length items.now + 1 }
+    requires longs { length long.now ≡ length items.now }
+    requires low { IsLow base items.now }
+    ensures measured { IsMeasured places.new (longs long.now) base items.now }
+    ensures fits { OnTrue result (Fits (longs long.now) base items.now) }
+{
+    let mut at = base;
+    let mut close = true;
+    for (i, item) in items.iter().enumerate() {
+        places[i] = at;
+        at += size(long[i], *item);
+        close &= is_close(homes, i, *item);
+    }
+    places[items.len()] = at;
+    close
 }
 
 /// Makes long each short branch that is too far from its label; says whether there was one.
@@ -216,16 +258,17 @@ fn settle(items: &[Item], homes: &[usize], base: u32, places: &mut [u32], long: 
     requires table { IsTable homes.now items.now }
     requires room { length places.old ≡ length items.now + 1 }
     requires longs { length long.old ≡ length items.now }
+    requires measured { IsMeasured places.old (longs long.old) base items.now }
     requires least { IsBelowAll (longs long.old) base items.now }
     requires low { IsLow base items.now }
     ensures least { IsBelowAll (longs long.new) base items.now }
     ensures settled { OnTrue result (IsChosen base items.now long.new places.new) }
 {
     for _turn in 0..ROUNDS {
-        measure(items, long, base, places);
         if !widen(items, homes, base, places, long) {
             return true;
         }
+        measure(items, long, base, places);
     }
     false
 }
@@ -239,6 +282,9 @@ fn relax(items: &[Item], homes: &[usize], base: u32, places: &mut [u32], long: &
     requires low { IsLow base items.now }
     ensures { IsChosen base items.now long.new places.new }
 {
+    if measure_close(items, homes, long, base, places) {
+        return;
+    }
     if settle(items, homes, base, places, long) {
         return;
     }

@@ -1,12 +1,14 @@
 //! A listing: address, word and text of each instruction.
 
-ghost use Rattle.std.specs.Prelude.{◌≡◌, ◌<◌, ◌≤◌, ◌+◌, ◌-◌, ◌*◌, ◌/◌, ◌%◌, ◌^◌, ◌↔◌, OnOk, IfOk, ◌++◌, length, map, IfErr, IsOk, IsTrue};
-ghost use Rattle.rv32.specs.Words.{word_of};
+ghost use Rattle.std.specs.Prelude.{◌≡◌, ◌<◌, ◌≤◌, ◌+◌, ◌-◌, ◌*◌, ◌/◌, ◌%◌, ◌^◌, ◌↔◌, OnOk, IfOk, ◌++◌, List, [], length, map, slice_index, Some, IsSome, IfErr, IsOk, IsTrue};
+ghost use Rattle.rv32.specs.declared.instr.Instr.{Instr};
+ghost use Rattle.rv32.specs.Space.{word_at};
+ghost use Rattle.rv32.specs.Words.{decode_of, word_of};
 ghost use Rattle.srcset.specs.Fault.{IsMemoryFault};
 ghost use Rattle.asm.specs.Listing.{line, IsListing, IsListingOf, Lists};
 ghost use Rattle.asm.specs.Layout.{IsLow, SomeMisses, AllReach};
 ghost use Rattle.asm.specs.inside.Choice.{IsTable};
-ghost use Rattle.asm.specs.inside.Code.{AllDecode};
+ghost use Rattle.asm.specs.inside.Code.{Writes, AreWords};
 ghost use Rattle.asm.specs.Refusals.{IsListRefused};
 ghost use Rattle.asm.specs.inside.Refusing.{IfFar};
 
@@ -16,7 +18,7 @@ use crate::item::Item;
 use crate::items::Items;
 use crate::refusal::{Refusal, told};
 use crate::text::text;
-use rv32::{Instr, encode};
+use rv32::{Instr, decode};
 use srcset::{Fault, write_text};
 use std::alloc::{AllocError, Global};
 use std::io::Write;
@@ -35,17 +37,41 @@ fn put_line(bytes: &mut Vec<u8>, at: u32, word: u32, text: &str) -> Result<(), A
     Ok(())
 }
 
-/// The lines of the instructions from `base` on.
-fn lines(alloc: Global, instrs: &[Instr], base: u32) -> Result<Vec<u8>, AllocError>
-    requires { base + 4 * length instrs.now < 2 ^ 32 }
-    ensures lines { IfOk result (λ v. IsListing base (map word_of instrs.now) v.items) }
-    ensures decode { IfOk result (λ v. AllDecode instrs.now (length instrs.now)) }
+/// A word of the code, the lowest byte first.
+fn word_in(code: &[u8], number: usize) -> u32
+    requires { 4 * number + 4 ≤ length code.now }
+    ensures { result ≡ word_at (slice_index code.now) (4 * number) }
+{
+    let at = 4 * number;
+    u32::from(code[at])
+        + u32::from(code[at + 1]) * 0x100
+        + u32::from(code[at + 2]) * 0x1_0000
+        + u32::from(code[at + 3]) * 0x100_0000
+}
+
+/// The instruction that a word is.
+fn instr_in(word: u32) -> Instr
+    requires { IsSome (decode_of word) }
+    ensures { decode_of word ≡ Some result }
+{
+    let Some(instr) = decode(word) else {
+        unreachable!()
+    };
+    instr
+}
+
+/// The lines of the words from `base` on.
+fn lines(alloc: Global, code: &[u8], base: u32) -> Result<Vec<u8>, AllocError>
+    requires words { AreWords code.now }
+    requires low { base + length code.now < 2 ^ 32 }
+    ensures { IfOk result (λ v. (is : List Instr) → Writes [] code.now is → IsListing base (map word_of is) v.items) }
 {
     let mut bytes = Vec::new(alloc);
     let mut at = base;
-    for instr in instrs {
-        let words = text(alloc, *instr)?;
-        put_line(&mut bytes, at, encode(*instr), words.as_str())?;
+    for number in 0..code.len() / 4 {
+        let word = word_in(code, number);
+        let words = text(alloc, instr_in(word))?;
+        put_line(&mut bytes, at, word, words.as_str())?;
         at += 4;
     }
     Ok(bytes)
@@ -59,8 +85,8 @@ fn listing_of(alloc: Global, items: &[Item], homes: &[usize], base: u32) -> Resu
     ensures ok { IfOk result (λ bytes. IsListingOf base items.now bytes.items) }
     ensures err { IfErr result (IfFar (SomeMisses base items.now)) }
 {
-    let instrs = resolve(alloc, items, homes, base)?;
-    let bytes = lines(alloc, &instrs, base)?;
+    let code = resolve(alloc, items, homes, base)?;
+    let bytes = lines(alloc, &code, base)?;
     Ok(bytes)
 }
 

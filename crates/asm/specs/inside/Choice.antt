@@ -72,6 +72,17 @@ shorts bs = sum_by (λ b. if b then 0 else 1) bs
 pub record IsMeasured (places : List ℕ) (L : ℕ → Bool) (base : ℕ) (xs : List Item) : Type 0 where
   pub at : (k : ℕ) → k ≤ length xs → slice_index places k ≡ place L base xs k
 
+-- item k, if a branch, is at most 500 items from the table's item of its label
+abbrev pub IsClose : List ℕ → ℕ → Item → Type 0
+IsClose homes k (Branch t l r to) = (slice_index homes to ≤ k + 500) × (k ≤ slice_index homes to + 500)
+IsClose homes k (Mark l) = Unit {0}
+IsClose homes k (Plain i) = Unit {0}
+IsClose homes k (Jump to) = Unit {0}
+IsClose homes k (Call to) = Unit {0}
+IsClose homes k (Constant rd v) = Unit {0}
+IsClose homes k (LabelAddress rd l) = Unit {0}
+IsClose homes k (DataAddress rd o) = Unit {0}
+
 -- L became M: more branches are long, and only those that must be
 pub record Widens (base : ℕ) (xs : List Item) (L M : ℕ → Bool) : Type 0 where
   pub grows : Within L M

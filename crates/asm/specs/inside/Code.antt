@@ -1,5 +1,5 @@
 -- The instructions of the items.
-use Rattle.std.specs.Prelude.{◌≡◌, ◌<◌, ℕ, zero, suc, ◌+◌, ◌*◌, ◌-◌, ◌/◌, ◌%◌, ◌^◌, Bool, true, false, List, [], ◌∷◌, ◌++◌, Some, length, slice_index, slice_index_or}
+use Rattle.std.specs.Prelude.{◌≡◌, ◌<◌, ℕ, zero, suc, ◌+◌, ◌*◌, ◌-◌, ◌/◌, ◌%◌, ◌^◌, Bool, true, false, List, [], ◌∷◌, ◌++◌, Some, length, map, slice_index}
 use Rattle.rv32.specs.declared.instr.Instr.{Instr}
 use Rattle.rv32.specs.declared.instr.Instr.TheVariants as instr
 use Rattle.rv32.specs.declared.instr.Test.{Test}
@@ -9,7 +9,7 @@ use Rattle.asm.specs.declared.item.Item.TheVariants.{Mark, Plain, Branch, Jump, 
 use Rattle.rv32.specs.Words.{decode_of, word_of}
 use Rattle.asm.specs.Layout.{item_at, place, Near, Reach}
 use Rattle.asm.specs.inside.Choice.{longs, IsChosen}
-use Rattle.asm.specs.Placed.{opposite, data_start}
+use Rattle.asm.specs.Placed.{opposite, data_start, bytes_of}
 
 -- a number of 32 bits as an upper part and a signed lower part of 12 bits
 abbrev pub upper : ℕ → ℕ
@@ -85,13 +85,24 @@ pub record IsGood (homes places : List ℕ) : Type 0 where
 abbrev pub whole_code : List ℕ → List Bool → List ℕ → ℕ → List Item → List Instr
 whole_code homes long places base xs = code (address homes places) (data_start (slice_index places (length xs))) (longs long) base xs (length xs)
 
--- the instructions of the items, with the fewest long branches
-pub record IsResolved (homes : List ℕ) (base : ℕ) (xs : List Item) (instrs : List Instr) : Type 0 where
+-- each instruction is what its word decodes to
+abbrev pub Decoding : List Instr → Type 0
+Decoding [] = Unit {0}
+Decoding (i ∷ is) = (decode_of (word_of i) ≡ Some i) × Decoding is
+
+-- the words of the instructions were written after what was there
+pub record Writes (was now : List ℕ) (is : List Instr) : Type 0 where
+  pub bytes : now ≡ was ++ bytes_of (map word_of is)
+  pub decoding : Decoding is
+
+-- the words of the items' instructions, with the fewest long branches
+pub record IsResolved (homes : List ℕ) (base : ℕ) (xs : List Item) (bytes : List ℕ) : Type 0 where
   pub long : List Bool
   pub places : List ℕ
   pub chosen : IsChosen base xs long places
-  pub is_code : instrs ≡ whole_code homes long places base xs
+  pub written : Writes [] bytes (whole_code homes long places base xs)
 
--- each of the first n instructions is what its word decodes to
-pub record AllDecode (is : List Instr) (n : ℕ) : Type 0 where
-  pub word : (j : ℕ) → j < n → decode_of (word_of (slice_index_or is j instr.Ebreak)) ≡ Some (slice_index_or is j instr.Ebreak)
+-- words of instructions
+pub record AreWords (bytes : List ℕ) : Type 0 where
+  pub instrs : List Instr
+  pub written : Writes [] bytes instrs

@@ -1,8 +1,11 @@
 use Rattle.std.proofs.Common.{arith, ◌∙◌, ◌≡◌, ◌+◌, sym, ap, refl, suc, true}
-use Rattle.asm.proofs.Ends.{not_low}
+use Rattle.asm.proofs.Ends.{few_low, not_low}
 use Rattle.asm.specs.Layout.{item_at, size}
 use Rattle.asm.proofs.Grow.{item_read}
 use Rattle.asm.proofs.check.ends_low.Goals as goal
+
+pub returns-then-are_few : goal.returns-then-are_few
+returns-then-are_few c = few_low c.args.base c.args.items.now c.if-are_few.ensures
 
 pub returns-then-at-ge1879048192 : goal.returns-then-at-ge1879048192
 returns-then-at-ge1879048192 c = not_low c.args.base c.args.items.now 0 c.args.base (omega arith) refl (omega arith)

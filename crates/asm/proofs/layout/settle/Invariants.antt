@@ -1,6 +1,5 @@
-use Rattle.asm.specs.inside.Choice.{longs}
-use Rattle.asm.specs.Layout.{IsBelowAll}
+use Rattle.asm.proofs.Widening.{Choosing}
 use Rattle.asm.proofs.layout.settle.Given as goal
 
 abbrev pub invariant-loop-turn : goal.invariant-loop-turn
-invariant-loop-turn l = IsBelowAll (longs l.long) l.base l.items
+invariant-loop-turn l = Choosing l.base l.items l.long l.places
