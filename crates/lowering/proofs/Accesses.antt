@@ -242,4 +242,3 @@ module _ (p : typed.Program) (tf : Function) (call : Calling) (q : Program) (dee
       (keeps_put (target.Temporary j) w c (free_temporary_at (found a c t k) t) (free_kept_at (found a c t k) k) now now le
       (keeps_all c (free_temporary_at (found a c t k) t) (free_kept_at (found a c t k) k) now))
       (after_none writes_none s) h
-

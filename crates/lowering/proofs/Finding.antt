@@ -172,8 +172,7 @@ module _ (p : typed.Program) (tf : Function) (call : Calling) (q : Program) (dee
       → IsAt p q f (place.Array n) (whole (s.base + n)) now s × RefersAs (world p q f ws) (whole (s.base + n)) (object_type o)
   automatic_named n now ws s None e ha fine = absurd (differ ha)
   automatic_named n now ws s (Some t) e ha fine =
-      let e2 : slice_get (function_at q f).objects n ≡ Some t = ap (λ l. slice_get l n) is.objects ∙ e in
-      (
+      let e2 : slice_get (function_at q f).objects n ≡ Some t = ap (λ l. slice_get l n) is.objects ∙ e in (
         ap (λ x. array_if (scalar_type x) x (whole (s.base + n))) e2
             ∙ ap (λ x. array_if x (Some t) (whole (s.base + n))) (not_scalar t.lengths t.element ha),
         record {
