@@ -105,7 +105,7 @@ pub has_type : (T : Option DeclaredType) → elim T as (λ x. Bool) [ None ↦ f
 has_type None h = absurd (differ h)
 has_type (Some t) h = tt
 
-not_scalar : (l : List ℕ) (t : IntType) → nat_lt 0 (length l) ≡ true → type_if_scalar l t ≡ None
+pub not_scalar : (l : List ℕ) (t : IntType) → nat_lt 0 (length l) ≡ true → type_if_scalar l t ≡ None
 not_scalar [] t h = absurd (differ h)
 not_scalar (n ∷ l) t h = refl
 
