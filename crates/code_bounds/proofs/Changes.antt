@@ -81,7 +81,7 @@ module _ (z : Ground) where
   loads_within true u (operand.Temporary j) t pc pc2 fo ft i = settle z 1 96 (omega arith) (none z pc pc2 i)
   loads_within true u (operand.Kept j) t pc pc2 fo ft i = one z _ 96 pc pc2 i (omega arith) (λ a. (ft, fo))
   loads_within true u (operand.Object j) t pc pc2 fo ft i = one z _ 96 pc pc2 i (omega arith) (λ a. (ft, fo))
-  loads_within true u (operand.Parameter j) t pc pc2 fo ft i = absurd fo
+  loads_within true u (operand.Parameter j) t pc pc2 fo ft i = one z _ 96 pc pc2 i (omega arith) (λ a. (ft, fo))
   loads_within true u (operand.Constant j) t pc pc2 fo ft i = one z _ 96 pc pc2 i (omega arith) (λ a. (ft, fo))
 
   abbrev pub CalleeFine : Callee → Type 0

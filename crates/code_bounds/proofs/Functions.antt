@@ -1,5 +1,5 @@
 -- The code of a function keeps within its nodes' room, and is fine.
-use Rattle.std.proofs.Common.{◌≡◌, ℕ, zero, suc, ◌+◌, ◌*◌, ◌<◌, ◌≤◌, ◌^◌, max, List, [], ◌∷◌, length, Some, Bool, true, false, refl, sym, ap, ◌∙◌, subst, arith}
+use Rattle.std.proofs.Common.{◌≡◌, ℕ, zero, suc, ◌+◌, ◌*◌, ◌<◌, ◌≤◌, ◌^◌, max, List, [], ◌∷◌, length, map, Some, Bool, true, false, refl, sym, ap, ◌∙◌, subst, arith}
 use Rattle.std.specs.Prelude.{slice_get}
 use Rattle.std.proofs.Math.Nat.{max-le, le-max_left, le-max_right}
 use Rattle.typed.specs.Nodes.{statement_nodes}
@@ -9,13 +9,19 @@ use Rattle.tac.specs.declared.code.Operand.{Operand}
 use Rattle.tac.specs.declared.code.Operand.TheVariants as operand
 use Rattle.tac.specs.declared.code.Target.{Target}
 use Rattle.tac.specs.declared.code.Target.TheVariants as target
+use Rattle.tac.specs.declared.code.Place.{Place as Spot}
+use Rattle.tac.specs.declared.code.Place.TheVariants as place
 use Rattle.tac.specs.declared.code.Instruction.{Instruction}
 use Rattle.tac.specs.declared.code.Instruction.TheVariants as instruction
 use Rattle.tac.specs.Code.{Function, function_at, scalar_type}
-use Rattle.tac.specs.Sound.{IsScalar, OperandFits, TargetFits, InstructionFits}
+use Rattle.tac.specs.Costs.{array_parameters}
+use Rattle.tac.specs.Designated.{in_function}
+use Rattle.tac.specs.Lowered.{kind_of}
+use Rattle.tac.specs.Sound as sound
+use Rattle.tac.specs.Sound.{IsScalar, OperandFits, TargetFits, PlaceFits, InstructionFits}
 use Rattle.lowering.specs.Code.{One}
-use Rattle.lowering.specs.Bodies.{Idles, Closes, Stands, temporary_in, kept_in, temporary_to, kept_to, temporaries_of, slots_of, most}
-use Rattle.code_bounds.proofs.Grounds.{Ground, IsNumber, OperandFine, TargetFine, Fine}
+use Rattle.lowering.specs.Bodies.{Idles, Closes, Stands, temporary_in, kept_in, temporary_at, kept_at, temporary_to, kept_to, temporaries_of, slots_of, most}
+use Rattle.code_bounds.proofs.Grounds.{Ground, IsNumber, IsArray, OperandFine, SpotFine, TargetFine, Fine, sizes}
 use Rattle.code_bounds.proofs.Stretches.{Within, one, one_in, none, join, settle, aimed}
 use Rattle.code_bounds.proofs.Statements.{stands_within}
 
@@ -78,13 +84,13 @@ module _ (z : Ground) where
   closes_within false pc pc2 b i = settle z 1 104 (omega arith) (none z pc pc2 i)
 
   pub all_within : (n start end back size lo : ℕ) (is_main : Bool) → back ≤ z.limit → statement_is_typed z.source z.function lo (length z.function.objects) z.function.body ≡ true
-      → widest z.function.body + 1 ≤ z.bound → 0 < z.bound → Idles z.code n 0 start → Stands z.code z.function.body end end back start end → Closes z.code is_main end back → One z.code instruction.Return back size
+      → in_function z.source z.function ≡ true → widest z.function.body + 1 ≤ z.bound → 0 < z.bound → Idles z.code n 0 start → Stands z.code (sizes z) z.function.body end end back start end → Closes z.code is_main end back → One z.code instruction.Return back size
       → Within z (Unit {0}) (n + (statement_nodes z.function.body + (1 + 2))) (124 * n + (0 + (104 + 84))) 0 size
-  all_within n start end back size lo is_main e h w b idles body closes leaves =
+  all_within n start end back size lo is_main e h d w b idles body closes leaves =
       let nodes = statement_nodes z.function.body in
       let close = closes_within is_main end back b closes in
       let at_end : end ≤ z.limit = le_trans end back z.limit close.forward e in
-      let stands = stands_within z z.function.body end end back lo (length z.function.objects) start end h (same_le (length z.function.objects)) w body in
+      let stands = stands_within z z.function.body end end back lo (length z.function.objects) start end h d (same_le (length z.function.objects)) w body in
       join z (idles_within n 0 start idles) (join z (settle z nodes 0 (less_room nodes _) (aimed z (λ a. (at_end, at_end, at_end, e)) stands)) (join z close (one_in z 2 _ 84 back size leaves (omega arith) (λ a. tt))))
 
   -- ---- what it names is within bounds
@@ -113,15 +119,27 @@ module _ (z : Ground) where
   kept_to_le (target.Kept j) f = past j z.bound f
   kept_to_le (target.Object j) f = nothing_below z.bound
 
+  temporary_at_le : (a : Spot) → SpotFine z a → temporary_at a ≤ z.bound
+  temporary_at_le (place.Literal n) f = nothing_below z.bound
+  temporary_at_le (place.Static n) f = nothing_below z.bound
+  temporary_at_le (place.Array n) f = nothing_below z.bound
+  temporary_at_le (place.At o) f = temporary_in_le o f
+
+  kept_at_le : (a : Spot) → SpotFine z a → kept_at a ≤ z.bound
+  kept_at_le (place.Literal n) f = nothing_below z.bound
+  kept_at_le (place.Static n) f = nothing_below z.bound
+  kept_at_le (place.Array n) f = nothing_below z.bound
+  kept_at_le (place.At o) f = kept_in_le o f
+
   pub temporaries_le : (x : Instruction) → 1 ≤ z.bound → Fine z x → temporaries_of z.made x ≤ z.bound
   temporaries_le instruction.Nothing b f = nothing_below z.bound
   temporaries_le (instruction.Move g x) b f = max-le (temporary_to_le g f.0) (temporary_in_le x f.1)
   temporaries_le (instruction.Compute o r g x y) b f = max-le (temporary_to_le g f.0) (max-le (temporary_in_le x f.1) (temporary_in_le y f.2))
   temporaries_le (instruction.Convert t g x) b f = max-le (temporary_to_le g f.0) (temporary_in_le x f.1)
-  temporaries_le (instruction.Load t g l) b f = absurd f
-  temporaries_le (instruction.Store t x l) b f = absurd f
-  temporaries_le (instruction.Address g l) b f = absurd f
-  temporaries_le (instruction.Part g x y size) b f = absurd f
+  temporaries_le (instruction.Load t g l) b f = max-le (temporary_to_le g f.0) (temporary_at_le l f.1)
+  temporaries_le (instruction.Store t x l) b f = max-le (temporary_in_le x f.0) (temporary_at_le l f.1)
+  temporaries_le (instruction.Address g l) b f = max-le (temporary_to_le g f.0) (temporary_at_le l f.1)
+  temporaries_le (instruction.Part g x y size) b f = max-le (temporary_to_le g f.0) (max-le (temporary_in_le x f.1) (temporary_in_le y f.2))
   temporaries_le (instruction.Forget n k) b f = nothing_below z.bound
   temporaries_le (instruction.Jump to) b f = nothing_below z.bound
   temporaries_le (instruction.Branch c r x y to) b f = max-le (temporary_in_le x f.0) (temporary_in_le y f.1)
@@ -136,10 +154,10 @@ module _ (z : Ground) where
   slots_le (instruction.Move g x) f = max-le (kept_to_le g f.0) (kept_in_le x f.1)
   slots_le (instruction.Compute o r g x y) f = max-le (kept_to_le g f.0) (max-le (kept_in_le x f.1) (kept_in_le y f.2))
   slots_le (instruction.Convert t g x) f = max-le (kept_to_le g f.0) (kept_in_le x f.1)
-  slots_le (instruction.Load t g l) f = absurd f
-  slots_le (instruction.Store t x l) f = absurd f
-  slots_le (instruction.Address g l) f = absurd f
-  slots_le (instruction.Part g x y size) f = absurd f
+  slots_le (instruction.Load t g l) f = max-le (kept_to_le g f.0) (kept_at_le l f.1)
+  slots_le (instruction.Store t x l) f = max-le (kept_in_le x f.0) (kept_at_le l f.1)
+  slots_le (instruction.Address g l) f = max-le (kept_to_le g f.0) (kept_at_le l f.1)
+  slots_le (instruction.Part g x y size) f = max-le (kept_to_le g f.0) (max-le (kept_in_le x f.1) (kept_in_le y f.2))
   slots_le (instruction.Forget n k) f = nothing_below z.bound
   slots_le (instruction.Jump to) f = nothing_below z.bound
   slots_le (instruction.Branch c r x y to) f = max-le (kept_in_le x f.0) (kept_in_le y f.1)
@@ -151,7 +169,7 @@ module _ (z : Ground) where
 
   -- ---- and is there
 
-  module _ (g : Function) (same : g.objects ≡ z.function.objects) (inside : z.limit < length g.code) where
+  module _ (g : Function) (same : g.objects ≡ z.function.objects) (given : g.parameters ≡ map kind_of z.function.type.parameters) (inside : z.limit < length g.code) where
     scalar : (n : ℕ) → IsNumber z n → IsScalar g n
     scalar n f = (f.0, ap (λ l. scalar_type (slice_get l n)) same ∙ f.1)
 
@@ -159,13 +177,22 @@ module _ (z : Ground) where
     operand_fits (operand.Temporary j) f t k = before_it j g.temporaries t
     operand_fits (operand.Kept j) f t k = before_it j g.kept k
     operand_fits (operand.Object n) f t k = scalar n f
-    operand_fits (operand.Parameter n) f t k = absurd f
+    operand_fits (operand.Parameter n) f t k = subst (λ ps. n < array_parameters ps) (sym given) f
     operand_fits (operand.Constant v) f t k = f
 
     target_fits : (d : Target) → TargetFine z d → temporary_to d ≤ g.temporaries → kept_to d ≤ g.kept → TargetFits g d
     target_fits (target.Temporary j) f t k = before_it j g.temporaries t
     target_fits (target.Kept j) f t k = before_it j g.kept k
     target_fits (target.Object n) f t k = scalar n f
+
+    array : (n : ℕ) → IsArray z n → sound.IsArray g n
+    array n f = (subst (λ l. n < length l) (sym same) f.0, ap (λ l. scalar_type (slice_get l n)) same ∙ f.1)
+
+    spot_fits : (a : Spot) → SpotFine z a → temporary_at a ≤ g.temporaries → kept_at a ≤ g.kept → PlaceFits z.made g a
+    spot_fits (place.Literal n) f t k = f
+    spot_fits (place.Static n) f t k = f
+    spot_fits (place.Array n) f t k = array n f
+    spot_fits (place.At o) f t k = operand_fits o f t k
 
     pub fits : (x : Instruction) → Fine z x → temporaries_of z.made x ≤ g.temporaries → slots_of x ≤ g.kept → InstructionFits z.made g x
     fits instruction.Nothing f t k = tt
@@ -184,10 +211,26 @@ module _ (z : Ground) where
       target_fits d f.0 (left_max (temporary_to d) (temporary_in x) g.temporaries t) (left_max (kept_to d) (kept_in x) g.kept k),
       operand_fits x f.1 (right_max (temporary_to d) (temporary_in x) g.temporaries t) (right_max (kept_to d) (kept_in x) g.kept k),
     )
-    fits (instruction.Load u d l) f t k = absurd f
-    fits (instruction.Store u x l) f t k = absurd f
-    fits (instruction.Address d l) f t k = absurd f
-    fits (instruction.Part d x y size) f t k = absurd f
+    fits (instruction.Load u d l) f t k = (
+      target_fits d f.0 (left_max (temporary_to d) (temporary_at l) g.temporaries t) (left_max (kept_to d) (kept_at l) g.kept k),
+      spot_fits l f.1 (right_max (temporary_to d) (temporary_at l) g.temporaries t) (right_max (kept_to d) (kept_at l) g.kept k),
+    )
+    fits (instruction.Store u x l) f t k = (
+      operand_fits x f.0 (left_max (temporary_in x) (temporary_at l) g.temporaries t) (left_max (kept_in x) (kept_at l) g.kept k),
+      spot_fits l f.1 (right_max (temporary_in x) (temporary_at l) g.temporaries t) (right_max (kept_in x) (kept_at l) g.kept k),
+    )
+    fits (instruction.Address d l) f t k = (
+      target_fits d f.0 (left_max (temporary_to d) (temporary_at l) g.temporaries t) (left_max (kept_to d) (kept_at l) g.kept k),
+      spot_fits l f.1 (right_max (temporary_to d) (temporary_at l) g.temporaries t) (right_max (kept_to d) (kept_at l) g.kept k),
+    )
+    fits (instruction.Part d x y size) f t k =
+        let t2 = right_max (temporary_to d) (max (temporary_in x) (temporary_in y)) g.temporaries t in
+        let k2 = right_max (kept_to d) (max (kept_in x) (kept_in y)) g.kept k in (
+          target_fits d f.0 (left_max (temporary_to d) (max (temporary_in x) (temporary_in y)) g.temporaries t) (left_max (kept_to d) (max (kept_in x) (kept_in y)) g.kept k),
+          operand_fits x f.1 (left_max (temporary_in x) (temporary_in y) g.temporaries t2) (left_max (kept_in x) (kept_in y) g.kept k2),
+          operand_fits y f.2 (right_max (temporary_in x) (temporary_in y) g.temporaries t2) (right_max (kept_in x) (kept_in y) g.kept k2),
+          f.3,
+        )
     fits (instruction.Forget n c) f t k = subst (λ l. n + c ≤ length l) (sym same) f
     fits (instruction.Jump to) f t k = to_inside to z.limit (length g.code) f inside
     fits (instruction.Branch c r x y to) f t k = (

@@ -1,9 +1,11 @@
 pub mod Lists
+pub mod Bytes
 pub mod Grounds
 pub mod Stretches
 pub mod Operands
 pub mod Leaves
 pub mod Changes
+pub mod Spots
 pub mod Nodes
 pub mod Expressions
 pub mod Parts

@@ -1,3 +1,4 @@
+pub mod Sized
 pub mod Laws
 pub use Rattle.tac.specs.Lowered
 pub mod inside

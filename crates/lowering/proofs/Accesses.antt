@@ -1,48 +1,41 @@
 -- The code reads what lies in memory, and writes to it (ISO/IEC 9899:2011 6.3.2.1, 6.5.16, 6.5.2.4, 6.5.3.1), if it finds it.
-use Rattle.std.proofs.Common.{◌≡◌, ℕ, zero, suc, ◌+◌, ◌*◌, ◌<◌, ◌≤◌, List, [], ◌∷◌, length, Option, Some, None, Bool, true, false, not, ◌&&◌, ◌||◌, ℤ, pos, Result, Ok, Err, refl, sym, ap, ◌∙◌, subst, arith}
+use Rattle.std.proofs.Common.{◌≡◌, ℕ, ◌+◌, ◌*◌, ◌≤◌, List, [], length, Option, Some, None, Bool, true, false, not, ◌||◌, ℤ, refl, sym, ap, ◌∙◌, subst, arith}
 use Rattle.std.specs.Prelude.{nat_eq, nat_lt, slice_get, option_map}
 use Rattle.srcset.specs.declared.refusal.Pos.{Pos}
 use Rattle.ctypes.specs.declared.types.IntType.{IntType}
 use Rattle.ctypes.specs.declared.types.IntType.TheVariants as ty
-use Rattle.ctypes.specs.declared.operators.BinOp.{BinOp}
-use Rattle.ctypes.specs.declared.operators.Undef.{Undef}
 use Rattle.ctypes.specs.declared.operators.Undef.TheVariants.{U7}
-use Rattle.ctypes.specs.Types.{IsValueOf, truth, converted}
-use Rattle.ctypes.proofs.Uses.{converted_fits, converted_keeps}
-use Rattle.typed.specs.Types.{ObjectType, DeclaredType, complete, unknown_size, same_type}
-use Rattle.typed.specs.Operators.{operated}
+use Rattle.ctypes.specs.Types.{IsValueOf, converted}
+use Rattle.ctypes.proofs.Uses.{converted_fits}
+use Rattle.typed.specs.Types.{DeclaredType, complete, unknown_size, same_type}
 use Rattle.typed.specs.Program as typed
 use Rattle.typed.specs.Program.{Moment, Place, Function, Value as Expression}
 use Rattle.typed.specs.Nodes.{type_of_place}
 use Rattle.typed.specs.WellTyped.{is_scalar}
-use Rattle.meaning.specs.Store.{Tree, Element, Reference, tree_at, value_of, value_at, put}
+use Rattle.meaning.specs.Store.{Element, Reference, value_of, value_at, put}
 use Rattle.meaning.specs.Machine as machine
 use Rattle.meaning.specs.Machine.{Run, Goes, Stops, then_do, tick, choose, undefined, computed_at, read, write, value_or_undefined, stored}
-use Rattle.meaning.specs.Expressions.{Calling, evaluate, find, position_of}
+use Rattle.meaning.specs.Expressions.{Calling, find, position_of}
 use Rattle.tac.specs.declared.code.Operand.{Operand}
 use Rattle.tac.specs.declared.code.Operand.TheVariants as operand
 use Rattle.tac.specs.declared.code.Target.TheVariants as target
 use Rattle.tac.specs.declared.code.Place.{Place as Spot}
 use Rattle.tac.specs.Code.{Program, function_at}
 use Rattle.tac.specs.Run.{word, Call, State, running, word_for, number_of, held_by}
-use Rattle.checked.specs.Asked.{is_wide}
 use Rattle.lowering.specs.Plain.{object_of}
-use Rattle.lowering.specs.Values.{calls, place_calls, writes, place_writes, writes_none, is_object, pending, at_rest, constant_or, rests_in, constant_of, extent, keeps, stays_word, reading_of, operand_of, free_temporary, free_kept, Mode, Nowhere, To, If, mode_of, target_of}
+use Rattle.lowering.specs.Values.{place_calls, place_writes, writes_none, extent, Mode, Nowhere, To, If, target_of}
 use Rattle.lowering.specs.Places.{is_truth, cuts, found, free_temporary_at, free_kept_at}
-use Rattle.lowering.specs.Code.{One, Ends, Follows, Computes, Gets, Puts, Alters, Finds, Into}
-use Rattle.lowering.proofs.Words.{Ranged, ranged, differ, bool_cases, left_true, right_true, converts_again, wide_word, word_stays}
-use Rattle.lowering.proofs.Steps.{Reaches, reaches_on, stays, from, GoesTo, goes, Sim, sim_after, sim_then, sim_move, tick_in}
-use Rattle.lowering.proofs.Shapes.{HasShape, value_in}
-use Rattle.lowering.proofs.Stores.{World, Refers, Fine, After, after_on, after_none, after_since, after_store, fine_changed, fine_later}
-use Rattle.lowering.proofs.Standing.{Scratch, here, put_scratch, set_same, set_other, put_state, Holds, Takes, does_nothing, does_convert, first_automatic, world, sizes, IsCode}
+use Rattle.lowering.specs.Code.{Ends, Gets, Puts}
+use Rattle.lowering.proofs.Words.{Ranged, differ, bool_cases, left_true, right_true, converts_again}
+use Rattle.lowering.proofs.Steps.{Reaches, reaches_on, stays, GoesTo, goes, Sim, sim_then, sim_move}
+use Rattle.lowering.proofs.Shapes.{value_in}
+use Rattle.lowering.proofs.Stores.{World, Refers, Fine, After, after_none, after_store}
+use Rattle.lowering.proofs.Standing.{Scratch, here, put_scratch, set_same, put_state, Holds, does_convert, first_automatic, world, IsCode}
 use Rattle.lowering.proofs.Memory.{IsAt, tree_there, held_word, does_load, does_store}
-use Rattle.lowering.proofs.Goods.{Keeps, keeps_all, keeps_on, keeps_put, IsFreeFor, RestsIn, Known, is_number_there, Suits, takes, target_suits, Good, ends, follows, mode_free, mode_suits, held, free_more}
-use Rattle.lowering.proofs.Operations.{Computed, computes_do, operated_extent}
-use Rattle.lowering.proofs.Leaves.{or_left, or_right, IntoDoes}
-use Rattle.lowering.proofs.Changing.{undefined_then, goes_same}
-use Rattle.lowering.proofs.Operators.{DoesAt}
+use Rattle.lowering.proofs.Goods.{Keeps, keeps_all, keeps_put, IsFreeFor, RestsIn, Known, is_number_there, Suits, takes, target_suits, Good, ends, follows}
+use Rattle.lowering.proofs.Leaves.{IntoDoes}
 use Rattle.lowering.proofs.Typing.{same_type_is, no_length}
-use Rattle.lowering.proofs.Finding.{RefersAs, Found, FindsDo, stays_found, free_more_at}
+use Rattle.lowering.proofs.Finding.{RefersAs, Found, FindsDo, stays_found}
 
 pub scalar_refers : (W : World) (r : Reference) (u : IntType) (T : Option DeclaredType) → is_scalar u T ≡ true → RefersAs W r T → Refers W r u []
 scalar_refers W r u None h g = absurd g
@@ -249,4 +242,3 @@ module _ (p : typed.Program) (tf : Function) (call : Calling) (q : Program) (dee
       (keeps_put (target.Temporary j) w c (free_temporary_at (found a c t k) t) (free_kept_at (found a c t k) k) now now le
       (keeps_all c (free_temporary_at (found a c t k) t) (free_kept_at (found a c t k) k) now))
       (after_none writes_none s) h
-

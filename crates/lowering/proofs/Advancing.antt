@@ -15,27 +15,27 @@ use Rattle.typed.specs.WellTyped.{is_scalar}
 use Rattle.meaning.specs.Store.{Reference, value_of, value_at}
 use Rattle.meaning.specs.Machine as machine
 use Rattle.meaning.specs.Machine.{Run, Goes, then_do, computed_at, read, write, value_or_undefined}
-use Rattle.meaning.specs.Expressions.{Calling, evaluate, find, position_of, step_operation, step_value}
+use Rattle.meaning.specs.Expressions.{Calling, find, position_of, step_operation, step_value}
 use Rattle.tac.specs.declared.code.Operand.TheVariants as operand
 use Rattle.tac.specs.declared.code.Target.TheVariants as target
 use Rattle.tac.specs.declared.code.Place.{Place as Spot}
 use Rattle.tac.specs.declared.code.Instruction.TheVariants as instruction
 use Rattle.tac.specs.Code.{Program, function_at}
-use Rattle.tac.specs.Run.{word, Call, State, running, word_for}
+use Rattle.tac.specs.Run.{word, Call, running, word_for}
 use Rattle.checked.specs.Asked.{is_wide}
 use Rattle.lowering.specs.Plain.{object_of}
-use Rattle.lowering.specs.Values.{calls, place_calls, writes, place_writes, writes_none, is_object, extent, Mode, Nowhere, To, If}
+use Rattle.lowering.specs.Values.{place_calls, place_writes, writes_none, is_object, Mode, Nowhere, To, If}
 use Rattle.lowering.specs.Places.{cuts, found, free_temporary_at, free_kept_at}
-use Rattle.lowering.specs.Code.{One, Alters, AltersAside, AltersBy}
-use Rattle.lowering.proofs.Words.{Ranged, ranged, wide_word}
-use Rattle.lowering.proofs.Steps.{Reaches, reaches_on, from, GoesTo, goes, Sim, sim_after, sim_then, sim_move, tick_in}
+use Rattle.lowering.specs.Code.{One, AltersAside, AltersBy}
+use Rattle.lowering.proofs.Words.{ranged, wide_word}
+use Rattle.lowering.proofs.Steps.{Reaches, reaches_on, goes, Sim, sim_after, sim_then, sim_move, tick_in}
 use Rattle.lowering.proofs.Shapes.{value_in}
 use Rattle.lowering.proofs.Stores.{Refers, Fine, After, after_none, fine_later}
 use Rattle.lowering.proofs.Standing.{Scratch, here, put_scratch, set_same, does_nothing, first_automatic, world, IsCode}
 use Rattle.lowering.proofs.Memory.{IsAt, tree_there, does_load}
 use Rattle.lowering.proofs.Goods.{Keeps, keeps_all, keeps_put, IsFreeFor, Known, Suits, Good, ends}
 use Rattle.lowering.proofs.Operations.{computes_do, operated_extent}
-use Rattle.lowering.proofs.Leaves.{or_left, or_right, IntoDoes}
+use Rattle.lowering.proofs.Leaves.{or_left, IntoDoes}
 use Rattle.lowering.proofs.Changing.{one_fits}
 use Rattle.lowering.proofs.Finding.{RefersAs, Found, FindsDo, stays_found, free_more_at}
 use Rattle.lowering.proofs.Accesses.{scalar_refers, can_stay, IsFinal, with_element, puts_do, write_there, found_beside}

@@ -1,48 +1,46 @@
 -- The code follows assignments, increments and decrements of what lies in memory (ISO/IEC 9899:2011 6.5.16, 6.5.2.4, 6.5.3.1).
-use Rattle.std.proofs.Common.{◌≡◌, ℕ, zero, suc, ◌+◌, ◌*◌, ◌<◌, ◌≤◌, List, [], length, Option, Some, None, Bool, true, false, ◌||◌, ℤ, pos, Result, Ok, Err, refl, sym, ap, ◌∙◌, subst, arith}
+use Rattle.std.proofs.Common.{◌≡◌, ℕ, ◌+◌, ◌*◌, ◌≤◌, List, [], length, Option, Some, None, Bool, true, false, ◌||◌, ℤ, Result, Ok, Err, refl, sym, ap, ◌∙◌, subst, arith}
 use Rattle.std.specs.Prelude.{nat_lt}
 use Rattle.srcset.specs.declared.refusal.Pos.{Pos}
 use Rattle.ctypes.specs.declared.types.IntType.{IntType}
-use Rattle.ctypes.specs.declared.types.IntType.TheVariants as ty
 use Rattle.ctypes.specs.declared.operators.BinOp.{BinOp}
 use Rattle.ctypes.specs.declared.operators.Undef.{Undef}
 use Rattle.ctypes.specs.Types.{IsValueOf, converted}
 use Rattle.ctypes.proofs.Uses.{converted_fits}
-use Rattle.tree.specs.declared.expression.StepOp.{StepOp}
 use Rattle.typed.specs.Operators.{operated}
 use Rattle.typed.specs.Program as typed
 use Rattle.typed.specs.Program.{Moment, Place, Function, Value as Expression}
 use Rattle.typed.specs.Nodes.{type_of_place}
 use Rattle.typed.specs.WellTyped.{is_scalar}
-use Rattle.meaning.specs.Store.{Element, Reference, tree_at, value_of, value_at}
+use Rattle.meaning.specs.Store.{Element, Reference, value_of, value_at}
 use Rattle.meaning.specs.Machine as machine
 use Rattle.meaning.specs.Machine.{Run, Goes, Stops, then_do, tick, choose, computed_at, read, write, value_or_undefined}
-use Rattle.meaning.specs.Expressions.{Calling, evaluate, find, position_of, step_operation, step_value}
+use Rattle.meaning.specs.Expressions.{Calling, evaluate, find, position_of}
 use Rattle.tac.specs.declared.code.Operand.{Operand}
 use Rattle.tac.specs.declared.code.Operand.TheVariants as operand
 use Rattle.tac.specs.declared.code.Target.TheVariants as target
 use Rattle.tac.specs.declared.code.Place.{Place as Spot}
 use Rattle.tac.specs.declared.code.Instruction.TheVariants as instruction
 use Rattle.tac.specs.Code.{Program, function_at}
-use Rattle.tac.specs.Run.{word, Call, State, running, word_for}
+use Rattle.tac.specs.Run.{word, Call, running, word_for}
 use Rattle.checked.specs.Asked.{is_wide}
 use Rattle.lowering.specs.Plain.{object_of}
-use Rattle.lowering.specs.Values.{calls, place_calls, writes, place_writes, writes_none, is_object, pending, at_rest, constant_or, rests_in, constant_of, extent, keeps, operand_of, free_temporary, free_kept, Mode, Nowhere, To, If, mode_of}
+use Rattle.lowering.specs.Values.{calls, place_calls, writes, place_writes, writes_none, is_object, pending, at_rest, constant_or, rests_in, constant_of, extent, keeps, operand_of, free_temporary, Mode, mode_of}
 use Rattle.lowering.specs.Places.{cuts, found, free_temporary_at, free_kept_at}
-use Rattle.lowering.specs.Code.{One, Ends, Puts, Alters, AltersAside, AltersBy, Finds, Into}
+use Rattle.lowering.specs.Code.{One, Puts, Alters, Into}
 use Rattle.lowering.proofs.Words.{Ranged, ranged, wide_word, word_stays}
-use Rattle.lowering.proofs.Steps.{Reaches, reaches_on, stays, from, GoesTo, goes, Sim, sim_after, sim_then, sim_move, tick_in}
-use Rattle.lowering.proofs.Shapes.{HasShape, value_in}
-use Rattle.lowering.proofs.Stores.{World, Refers, Fine, After, after_on, after_none, after_since, after_store, fine_changed, fine_later}
+use Rattle.lowering.proofs.Steps.{reaches_on, goes, Sim, sim_after, sim_then, sim_move, tick_in}
+use Rattle.lowering.proofs.Shapes.{value_in}
+use Rattle.lowering.proofs.Stores.{Refers, Fine, After, after_on, after_none, after_since, after_store, fine_changed, fine_later}
 use Rattle.lowering.proofs.Standing.{Scratch, here, put_scratch, set_same, set_other, Holds, does_nothing, first_automatic, world, sizes, IsCode}
 use Rattle.lowering.proofs.Memory.{IsAt, tree_there, does_load}
-use Rattle.lowering.proofs.Goods.{Keeps, keeps_all, keeps_on, keeps_put, IsFreeFor, RestsIn, IsConstant, Known, Suits, Good, ends, mode_free, mode_suits, held, free_more}
+use Rattle.lowering.proofs.Goods.{Keeps, keeps_all, keeps_on, keeps_put, IsFreeFor, RestsIn, IsConstant, Known, Suits, Good, mode_free, mode_suits, held, free_more}
 use Rattle.lowering.proofs.Operations.{computes_do, operated_extent}
 use Rattle.lowering.proofs.Leaves.{or_left, or_right, IntoDoes}
-use Rattle.lowering.proofs.Changing.{one_fits, goes_same}
+use Rattle.lowering.proofs.Changing.{goes_same}
 use Rattle.lowering.proofs.Operators.{DoesAt}
 use Rattle.lowering.proofs.Finding.{RefersAs, Found, FindsDo, stays_found, free_more_at}
-use Rattle.lowering.proofs.Accesses.{scalar_refers, CanStay, can_stay, IsFinal, final_same, with_element, Stored, puts_do, store_ends, write_there, found_beside}
+use Rattle.lowering.proofs.Accesses.{scalar_refers, can_stay, IsFinal, final_same, with_element, puts_do, store_ends, write_there, found_beside}
 
 module _ (p : typed.Program) (tf : Function) (call : Calling) (q : Program) (deep f : ℕ) (is : IsCode p tf q f) where
   -- what is known behind a place, perhaps an expression, and a store

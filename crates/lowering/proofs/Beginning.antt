@@ -1,5 +1,5 @@
 -- What a run begins with: the string literals and the objects with static storage (ISO/IEC 9899:2011 5.1.2, 6.4.5p6, 6.7.9p10).
-use Rattle.std.proofs.Common.{◌≡◌, ℕ, zero, suc, ◌+◌, ◌<◌, ◌≤◌, ◌^◌, List, [], ◌∷◌, ◌++◌, length, drop, map, Some, Bool, true, ◌&&◌, ℤ, pos, refl, sym, ap, ◌∙◌, subst, arith}
+use Rattle.std.proofs.Common.{◌≡◌, ℕ, zero, suc, ◌+◌, ◌<◌, ◌^◌, List, [], ◌∷◌, ◌++◌, length, drop, map, Some, true, ◌&&◌, ℤ, pos, refl, sym, ap, ◌∙◌, subst, arith}
 use Rattle.std.specs.Prelude.{nat_le, slice_get}
 use Rattle.std.proofs.lemmas.Int.{ints}
 use Rattle.ctypes.specs.declared.types.IntType.{IntType}
@@ -9,7 +9,7 @@ use Rattle.typed.specs.Types.{ObjectType, elements_in}
 use Rattle.typed.specs.Program as typed
 use Rattle.typed.specs.Program.{Static}
 use Rattle.typed.specs.WellTyped.{values_fit, statics_are_typed}
-use Rattle.meaning.specs.Store.{Tree, Row, first_or_zero, row_of, laid_out, static_object, characters_of, literal_object}
+use Rattle.meaning.specs.Store.{Tree, first_or_zero, row_of, laid_out, static_object, characters_of, literal_object}
 use Rattle.meaning.specs.Meaning.{start}
 use Rattle.tac.specs.Code.{Program}
 use Rattle.tac.specs.Sound.{AreBytes}

@@ -1,5 +1,5 @@
 -- The code finds lvalues and arrays that lie in memory (ISO/IEC 9899:2011 6.3.2.1, 6.5.2.1), if it follows their indices.
-use Rattle.std.proofs.Common.{◌≡◌, ◌⊎◌, inl, inr, ℕ, zero, suc, ◌+◌, ◌*◌, ◌<◌, ◌≤◌, List, [], ◌∷◌, ◌++◌, length, map, Option, Some, None, Bool, true, false, ◌&&◌, ◌||◌, ℤ, pos, negsuc, refl, sym, ap, ◌∙◌, subst, arith}
+use Rattle.std.proofs.Common.{◌≡◌, inl, inr, ℕ, zero, suc, ◌+◌, ◌*◌, ◌<◌, ◌≤◌, List, [], ◌∷◌, length, map, Option, Some, None, Bool, true, false, ◌||◌, ℤ, pos, negsuc, refl, sym, ap, ◌∙◌, subst, arith}
 use Rattle.std.specs.Prelude.{◌%◌, ◌^◌, nat_lt, slice_get, option_map}
 use Rattle.std.proofs.lemmas.Int.{ints}
 use Rattle.std.proofs.lemmas.Bool.Decides.{nat_tests}
@@ -7,7 +7,7 @@ use Rattle.srcset.specs.declared.refusal.Pos.{Pos}
 use Rattle.ctypes.specs.declared.types.IntType.{IntType}
 use Rattle.ctypes.specs.declared.operators.Undef.TheVariants.{U5}
 use Rattle.ctypes.specs.Types.{bytes_of}
-use Rattle.typed.specs.Types.{ObjectType, DeclaredType, complete, unknown_size, ParameterType, number, elements, inner_type, elements_in}
+use Rattle.typed.specs.Types.{ObjectType, DeclaredType, complete, unknown_size, ParameterType, number, elements, elements_in}
 use Rattle.typed.specs.Program as typed
 use Rattle.typed.specs.Program.{Storage, Place, Function, Value as Expression}
 use Rattle.typed.specs.Nodes.{text_type, static_type, object_type, reference_in, type_of_storage, row_type, type_of_place}
@@ -25,17 +25,16 @@ use Rattle.tac.specs.declared.code.Place.TheVariants as place
 use Rattle.tac.specs.declared.code.Instruction.TheVariants as instruction
 use Rattle.tac.specs.Code.{Program, function_at, scalar_type, type_if_scalar}
 use Rattle.tac.specs.Run.{reference, Call, State, running, reference_in as reference_of_value, word_for, array_if}
-use Rattle.lowering.specs.Values.{calls, place_calls, writes, place_writes, writes_none, pending, at_rest, constant_or, rests_in, constant_of, extent, operand_of, free_temporary, free_kept, Mode, mode_of}
+use Rattle.lowering.specs.Values.{calls, place_calls, writes, place_writes, writes_none, pending, at_rest, constant_or, rests_in, constant_of, extent, operand_of, free_temporary, mode_of}
 use Rattle.lowering.specs.Places.{size_of_type, target_for, named_spot, found, free_temporary_at, free_kept_at}
-use Rattle.lowering.specs.Code.{One, Parts, PartsNamed, Finds, Into}
-use Rattle.lowering.proofs.Words.{Ranged, ranged, differ, bool_cases}
-use Rattle.lowering.proofs.Steps.{Reaches, reaches_on, stays, GoesTo, goes, Sim, sim_then, sim_move, sim_map, tick_in}
-use Rattle.lowering.proofs.Shapes.{Leads}
-use Rattle.lowering.proofs.Stores.{World, all_types, Refers, RefersToRows, Fine, After, after_on, after_none, own_at, before_it, behind, below_length, length_mapped, fine_later, after_later, after_since}
+use Rattle.lowering.specs.Code.{One, Parts, PartsNamed, Finds}
+use Rattle.lowering.proofs.Words.{Ranged, ranged, differ}
+use Rattle.lowering.proofs.Steps.{Reaches, reaches_on, stays, goes, Sim, sim_then, sim_move, tick_in}
+use Rattle.lowering.proofs.Stores.{World, all_types, Refers, RefersToRows, Fine, After, after_on, own_at, before_it, behind, below_length, length_mapped, fine_later, after_later, after_since}
 use Rattle.lowering.proofs.Standing.{Scratch, here, Holds, set_same, set_other, does_nothing, literal_type, types_below, first_automatic, rows_of, parameters_of, world, sizes, type_at, IsCode}
 use Rattle.lowering.proofs.Memory.{put_reference, IsAside, IsAt, got_mapped, length_there, refers_into, does_address, does_part}
 use Rattle.lowering.proofs.Goods.{Keeps, keeps_all, keeps_on, free_more, Good, mode_free, mode_suits, held}
-use Rattle.lowering.proofs.Leaves.{or_left, or_right, IntoDoes}
+use Rattle.lowering.proofs.Leaves.{or_left, or_right}
 use Rattle.lowering.proofs.Operators.{DoesAt}
 
 -- ---- what a type says of a reference
@@ -106,7 +105,7 @@ pub has_type : (T : Option DeclaredType) → elim T as (λ x. Bool) [ None ↦ f
 has_type None h = absurd (differ h)
 has_type (Some t) h = tt
 
-not_scalar : (l : List ℕ) (t : IntType) → nat_lt 0 (length l) ≡ true → type_if_scalar l t ≡ None
+pub not_scalar : (l : List ℕ) (t : IntType) → nat_lt 0 (length l) ≡ true → type_if_scalar l t ≡ None
 not_scalar [] t h = absurd (differ h)
 not_scalar (n ∷ l) t h = refl
 
@@ -173,8 +172,7 @@ module _ (p : typed.Program) (tf : Function) (call : Calling) (q : Program) (dee
       → IsAt p q f (place.Array n) (whole (s.base + n)) now s × RefersAs (world p q f ws) (whole (s.base + n)) (object_type o)
   automatic_named n now ws s None e ha fine = absurd (differ ha)
   automatic_named n now ws s (Some t) e ha fine =
-      let e2 : slice_get (function_at q f).objects n ≡ Some t = ap (λ l. slice_get l n) is.objects ∙ e in
-      (
+      let e2 : slice_get (function_at q f).objects n ≡ Some t = ap (λ l. slice_get l n) is.objects ∙ e in (
         ap (λ x. array_if (scalar_type x) x (whole (s.base + n))) e2
             ∙ ap (λ x. array_if x (Some t) (whole (s.base + n))) (not_scalar t.lengths t.element ha),
         record {

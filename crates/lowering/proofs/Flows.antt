@@ -7,7 +7,7 @@ use Rattle.ctypes.proofs.Uses.{converted_fits}
 use Rattle.typed.specs.Types.{ObjectType}
 use Rattle.typed.specs.Program as typed
 use Rattle.typed.specs.Program.{Initialiser, Statement, Statements, Value as Expression}
-use Rattle.meaning.specs.Store.{Tree, whole, put_in, put}
+use Rattle.meaning.specs.Store.{Tree, put_in}
 use Rattle.meaning.specs.Machine as machine
 use Rattle.meaning.specs.Machine.{Run, Goes, Stops, then_do, choose, tick, stored}
 use Rattle.meaning.specs.Expressions.{Calling, evaluate}

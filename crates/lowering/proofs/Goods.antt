@@ -3,7 +3,6 @@ use Rattle.std.proofs.Common.{◌≡◌, ℕ, ◌+◌, ◌*◌, ◌<◌, ◌≤�
 use Rattle.std.specs.Prelude.{if◌then◌else◌, slice_get, option_map}
 use Rattle.ctypes.specs.declared.types.IntType.{IntType}
 use Rattle.ctypes.specs.Types.{IsValueOf, truth}
-use Rattle.typed.specs.Types.{ObjectType}
 use Rattle.typed.specs.Program as typed
 use Rattle.typed.specs.Program.{Value as Expression}
 use Rattle.meaning.specs.Store.{Tree, Element, Array, whole, value_of, value_at}

@@ -1,9 +1,9 @@
 -- The code hands over references to arrays as arguments (ISO/IEC 9899:2011 6.5.2.2p4, 6.7.6.3p7), if it finds them.
 use Rattle.std.proofs.Common.{◌≡◌, ℕ, suc, ◌+◌, ◌*◌, ◌≤◌, List, [], ◌∷◌, Option, Some, None, Bool, true, false, ◌&&◌, ◌||◌, refl, sym, ap, ◌∙◌, subst, arith}
-use Rattle.std.specs.Prelude.{slice_get, nat_eq, nat_lt, length}
+use Rattle.std.specs.Prelude.{nat_eq, nat_lt, length}
 use Rattle.std.proofs.lemmas.Bool.Decides.{nat_tests}
 use Rattle.ctypes.specs.declared.types.IntType.{IntType}
-use Rattle.typed.specs.Types.{ObjectType, DeclaredType, complete, unknown_size, ParameterType, elements, inner_type, same_type, same_lengths, alike}
+use Rattle.typed.specs.Types.{ObjectType, DeclaredType, complete, unknown_size, ParameterType, elements, inner_type, same_type, same_lengths}
 use Rattle.typed.specs.Program as typed
 use Rattle.typed.specs.Program.{Place, Arguments, Function}
 use Rattle.typed.specs.Nodes.{type_of_place}
@@ -12,7 +12,6 @@ use Rattle.meaning.specs.Store.{Reference}
 use Rattle.meaning.specs.Machine as machine
 use Rattle.meaning.specs.Machine.{Run, Goes, then_do}
 use Rattle.meaning.specs.Expressions.{Passed, Referred, Calling, find, pass}
-use Rattle.tac.specs.declared.code.Operand.{Operand}
 use Rattle.tac.specs.declared.code.Operand.TheVariants as operand
 use Rattle.tac.specs.declared.code.Target.TheVariants as target
 use Rattle.tac.specs.declared.code.Place.{Place as Spot}
@@ -23,14 +22,13 @@ use Rattle.lowering.specs.Values.{place_calls, arguments_call, place_writes, arg
 use Rattle.lowering.specs.Places.{found, free_temporary_at, free_kept_at}
 use Rattle.lowering.specs.Code.{HandsOver}
 use Rattle.lowering.proofs.Words.{differ, left_true, right_true}
-use Rattle.lowering.proofs.Steps.{Reaches, stays, from, goes, Sim, sim_then, sim_move}
-use Rattle.lowering.proofs.Stores.{World, Refers, RefersToRows, Fine, After, after_on}
-use Rattle.lowering.proofs.Standing.{Scratch, here, set_same, set_other, first_automatic, world, IsCode}
+use Rattle.lowering.proofs.Steps.{Reaches, stays, from, goes, sim_then, sim_move}
+use Rattle.lowering.proofs.Stores.{World, Refers, RefersToRows, after_on}
+use Rattle.lowering.proofs.Standing.{Scratch, here, set_same, set_other, world, IsCode}
 use Rattle.lowering.proofs.Memory.{IsAt, value_is, does_address, does_move_reference, put_reference}
-use Rattle.lowering.proofs.Goods.{Keeps}
 use Rattle.lowering.proofs.Leaves.{or_left, or_right}
 use Rattle.lowering.proofs.Typing.{same_type_is}
-use Rattle.lowering.proofs.Passing.{count, Fitting, fitting_moved, free_bound, keeps_less, Row, RowDoes}
+use Rattle.lowering.proofs.Passing.{count, fitting_moved, free_bound, keeps_less, Row, RowDoes}
 use Rattle.lowering.proofs.Finding.{RefersAs, Found, FindsDo, stays_found, free_more_at}
 
 -- ---- the rows of an argument are those of its parameter

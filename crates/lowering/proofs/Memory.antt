@@ -1,15 +1,15 @@
 -- What one instruction does that loads, stores, or makes a reference.
-use Rattle.std.proofs.Common.{◌≡◌, ◌⊎◌, ℕ, zero, suc, ◌+◌, ◌*◌, ◌<◌, ◌≤◌, List, [], ◌∷◌, ◌++◌, length, map, Option, Some, None, Bool, true, false, not, ◌&&◌, ℤ, pos, refl, sym, ap, ◌∙◌, subst, arith}
+use Rattle.std.proofs.Common.{◌≡◌, ℕ, zero, suc, ◌+◌, ◌*◌, ◌<◌, List, [], ◌∷◌, ◌++◌, length, map, Option, Some, None, true, false, not, ◌&&◌, ℤ, pos, refl, sym, ap, ◌∙◌, subst, arith}
 use Rattle.std.specs.Prelude.{◌==◌, nat_lt, slice_get}
 use Rattle.std.proofs.lemmas.Int.{ints}
 use Rattle.std.proofs.lemmas.Bool.Decides.{nat_tests}
 use Rattle.ctypes.specs.declared.types.IntType.{IntType}
 use Rattle.ctypes.specs.declared.types.IntType.TheVariants as ty
-use Rattle.ctypes.specs.Types.{IsValueOf, bytes_of, converted}
+use Rattle.ctypes.specs.Types.{IsValueOf, bytes_of}
 use Rattle.ctypes.proofs.Uses.{converted_keeps}
-use Rattle.typed.specs.Types.{ObjectType, same_type, place_of, elements_in}
+use Rattle.typed.specs.Types.{ObjectType, same_type, elements_in}
 use Rattle.typed.specs.Program as typed
-use Rattle.meaning.specs.Store.{Tree, Element, Array, Reference, whole, into, tree_at, at_path, length_of, value_at, put}
+use Rattle.meaning.specs.Store.{Tree, Element, Array, Reference, into, tree_at, at_path, length_of, value_at, put}
 use Rattle.meaning.specs.Machine as machine
 use Rattle.tac.specs.declared.code.Operand.{Operand}
 use Rattle.tac.specs.declared.code.Operand.TheVariants as operand
@@ -22,7 +22,7 @@ use Rattle.tac.specs.Code.{Program, function_at}
 use Rattle.tac.specs.Run.{Value, reference, with_at, Call, State, Progress, running, ◌>>=◌, where_true, reference_in, word_for, number_of, held_by, value, word_at, gives, gives_word, element_types, element_type, is_type, may_write, is_element, elements_of, reference_to, loaded, stored, part}
 use Rattle.tac.specs.Run as tac
 use Rattle.lowering.specs.Code.{One}
-use Rattle.lowering.proofs.Words.{Ranged, ranged, converts_again, bool_cases}
+use Rattle.lowering.proofs.Words.{ranged, converts_again}
 use Rattle.lowering.proofs.Steps.{Reaches}
 use Rattle.lowering.proofs.Shapes.{HasShape, Leads, Sub, sub_there, is_scalar_tree, parts_are, elements_are}
 use Rattle.lowering.proofs.Stores.{World, all_types, Refers, Fine, tree_is}

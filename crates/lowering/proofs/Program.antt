@@ -1,7 +1,6 @@
 -- The code follows calls to any depth, and so whole programs.
 use Rattle.std.proofs.Common.{◌≡◌, ℕ, zero, suc, ◌+◌, ◌*◌, ◌<◌, ◌≤◌, List, [], ◌∷◌, ◌++◌, length, take, drop, map, Option, Some, None, Bool, true, false, ◌&&◌, ℤ, pos, refl, sym, ap, ◌∙◌, subst, arith}
 use Rattle.std.specs.Prelude.{nat_eq, nat_le, nat_lt, slice_get, ◌%◌, ◌^◌}
-use Rattle.std.specs.List.{list_all}
 use Rattle.ctypes.specs.declared.types.IntType.TheVariants as ty
 use Rattle.ctypes.specs.Types.{IsValueOf}
 use Rattle.typed.specs.Types.{ObjectType, FunctionType}
@@ -17,7 +16,7 @@ use Rattle.meaning.specs.Machine as machine
 use Rattle.meaning.specs.Machine.{Run, Goes, Stops, Ended, TicksUsed, then_do, tick, ticks}
 use Rattle.meaning.specs.Expressions.{Passed, Calling}
 use Rattle.meaning.specs.Statements.{Flow, Normal, Broken, Continued, Returned, execute}
-use Rattle.meaning.specs.Meaning.{objects_of, arrays_of, numbers_of, enter, leave, value_at_end, value_left, body_of, call_defined, calling, start, status_of, end_with, cstep}
+use Rattle.meaning.specs.Meaning.{arrays_of, numbers_of, enter, leave, value_at_end, value_left, body_of, call_defined, calling, start, status_of, end_with, cstep}
 use Rattle.tac.specs.declared.code.Operand.TheVariants as operand
 use Rattle.tac.specs.declared.code.Target.TheVariants as target
 use Rattle.tac.specs.declared.code.Instruction.TheVariants as instruction

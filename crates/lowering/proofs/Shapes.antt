@@ -1,5 +1,5 @@
 -- Trees of elements: their lengths, the types of their values, and the parts that a path leads to (ISO/IEC 9899:2011 6.2.5p20, 6.5.2.1).
-use Rattle.std.proofs.Common.{◌≡◌, ℕ, zero, suc, ◌+◌, ◌*◌, ◌<◌, List, [], ◌∷◌, Option, Some, None, Bool, true, false, ℤ, refl, sym, ap, ◌∙◌, subst, arith}
+use Rattle.std.proofs.Common.{◌≡◌, ℕ, zero, suc, ◌*◌, ◌<◌, List, [], ◌∷◌, Option, Some, None, true, ℤ, refl, sym, ap, ◌∙◌, subst, arith}
 use Rattle.ctypes.specs.declared.types.IntType.{IntType}
 use Rattle.ctypes.specs.Types.{IsValueOf}
 use Rattle.typed.specs.Types.{elements_in}

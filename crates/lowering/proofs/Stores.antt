@@ -4,7 +4,7 @@ use Rattle.std.specs.Prelude.{slice_get}
 use Rattle.ctypes.specs.declared.types.IntType.{IntType}
 use Rattle.ctypes.specs.Types.{IsValueOf}
 use Rattle.typed.specs.Types.{ObjectType}
-use Rattle.meaning.specs.Store.{Tree, Element, Array, Store, Reference, whole, value_of, value_at, put_at, put_in, put}
+use Rattle.meaning.specs.Store.{Tree, Element, Store, Reference, whole, value_of, value_at, put_at, put_in, put}
 use Rattle.meaning.specs.Machine as machine
 use Rattle.tac.specs.Run.{is_element}
 use Rattle.tac.specs.Sound.{AreBytes}

@@ -1,5 +1,5 @@
 -- Where the reference is that an lvalue or an array gives, in three-address code (ISO/IEC 9899:2011 6.3.2.1, 6.5.2.1).
-use Rattle.std.specs.Prelude.{ℕ, ◌+◌, Bool, true, false, not, Option, Some, None}
+use Rattle.std.specs.Prelude.{ℕ, Bool, true, false, not, Option, Some, None}
 use Rattle.ctypes.specs.declared.types.IntType.{IntType}
 use Rattle.ctypes.specs.declared.types.IntType.TheVariants as ty
 use Rattle.typed.specs.Types.{DeclaredType, complete, unknown_size, size_of_object}

@@ -45,6 +45,7 @@ abbrev mutual
   arguments_are_plain typed.no_arguments = true
   arguments_are_plain (typed.and_number t e more) = value_is_plain e && arguments_are_plain more
   arguments_are_plain (typed.and_array array more) = place_is_plain array && arguments_are_plain more
+
 abbrev pub option_is_plain : Option Value → Bool
 option_is_plain None = true
 option_is_plain (Some e) = value_is_plain e
