@@ -6,7 +6,7 @@ use Rattle.std.proofs.lemmas.Option.{slice_get_within}
 use Rattle.std.proofs.lemmas.List.Sums.{sum_by-cons}
 use Rattle.std.proofs.lemmas.Bool.Decides.{nat_tests}
 use Rattle.tree.specs.Counts.{weight_of}
-use Rattle.typed.specs.Types.{ObjectType, elements_in, size_of_object}
+use Rattle.typed.specs.Types.{elements_in}
 use Rattle.typed.specs.Program as typed
 use Rattle.typed.specs.Program.{Static}
 use Rattle.typed.specs.Nodes.{statement_nodes, typed_nodes}
@@ -18,16 +18,16 @@ use Rattle.tac.specs.Costs.{code_bytes, array_parameters, call_bytes}
 use Rattle.tac.specs.Spans.{widest, own_bytes}
 use Rattle.tac.specs.Sound.{IsScalar, InstructionFits, number_parameters, FunctionFits, data_bytes, IsSoundProgram}
 use Rattle.tac.specs.Lowered.{kind_of, IsChecked, IsCodeOf}
+use Rattle.checked.specs.Asked.{bodies_are_asked, is_sized, function_is_sized, types_are_sized, is_asked}
 use Rattle.lowering.specs.Bodies.{temporaries_of, slots_of, IsFunctionFor, IsCodeFor}
 use Rattle.lowering.proofs.Words.{left_true, right_true}
 use Rattle.lowering.proofs.Program.{code_behaves}
 use Rattle.code_bounds.specs.inside.Rooms.{before}
-use Rattle.code_bounds.specs.Sized.{function_is_sized, static_is_sized, is_sized}
 use Rattle.code_bounds.specs.Laws.{PlainCodeIsSound, PlainCodeIsBounded, PlainCodeIsLowered}
 use Rattle.code_bounds.proofs.Lists.{same_some, got_below, length_map}
-use Rattle.code_bounds.proofs.Bytes.{in_sum, item_is, element_size}
 use Rattle.code_bounds.proofs.Grounds.{Ground, Fine}
 use Rattle.code_bounds.proofs.Stretches.{Within}
+use Rattle.code_bounds.proofs.Rows.{of_all, small_part}
 use Rattle.code_bounds.proofs.Functions.{most_le, in_most, all_within, temporaries_le, slots_le, fits}
 use Rattle.code_bounds.proofs.Sizes.{widest_le, references, first_scalar, stack_fits, bytes_le, length_le}
 
@@ -63,9 +63,6 @@ less_nodes w s n l h g = omega (arith, h, g)
 limit_is : (b c : ℕ) → b ≤ c → c ≤ 1048576 → b ≤ 2 ^ 20
 limit_is b c h g = omega (arith, h, g)
 
-object_below : (s o r n w : ℕ) → s ≤ o → w ≡ (64 + (r + o) + 16 * n + 15) / 16 * 16 → w ≤ 1048576 → s < 2 ^ 32
-object_below s o r n w h e le = omega (arith, h, e, le)
-
 bytes_fit : (c b l s n m : ℕ) → c ≤ b → b + (124 * suc l + (0 + (104 + 84))) ≤ 0 + 128 * (suc l + (s + (1 + 2))) → s + l + 1 ≤ n → m ≡ l → 4 * (42 + 6 * m) + c ≤ 128 * n + 1024
 bytes_fit c b l s n m x h g e = omega (arith, x, h, g, e)
 
@@ -97,7 +94,7 @@ static_typed (x ∷ os) zero o h e =
 static_typed (x ∷ os) (suc n) o h e =
     static_typed os n o (right_true (values_fit x.type.element x.values) (statics_are_typed os) (right_true (nat_le (length x.values) (elements_in x.type.lengths)) (values_fit x.type.element x.values && statics_are_typed os) h)) e
 
-module _ (p : typed.Program) (q : Program) (checked : IsChecked p) (sized : is_sized p ≡ true) (code : IsCodeFor p q) where
+module _ (p : typed.Program) (q : Program) (checked : IsChecked p) (asked : is_asked p ≡ true) (code : IsCodeFor p q) where
   parts : (functions_are_typed p p.functions ≡ true) × (statics_are_typed p.statics ≡ true) × (nat_lt p.main (length p.functions) ≡ true)
   parts =
       let h = checked.well_typed in
@@ -106,6 +103,12 @@ module _ (p : typed.Program) (q : Program) (checked : IsChecked p) (sized : is_s
         left_true (statics_are_typed p.statics) (nat_lt p.main (length p.functions)) rest,
         right_true (statics_are_typed p.statics) (nat_lt p.main (length p.functions)) rest,
       )
+
+  sized : (list_all function_is_sized p.functions ≡ true) × (list_all (λ o. is_sized o.type) p.statics ≡ true)
+  sized =
+      let h = right_true (bodies_are_asked p) (types_are_sized p) asked in
+      let a = list_all function_is_sized p.functions in
+      let b = list_all (λ (o : Static). is_sized o.type) p.statics in (left_true a b h, right_true a b h)
 
   callees : (n : ℕ) (f : typed.Function) → slice_get p.functions n ≡ Some f → (n < length q.functions) × (length (function_at q n).parameters ≡ length f.type.parameters)
   callees n f e =
@@ -119,6 +122,18 @@ module _ (p : typed.Program) (q : Program) (checked : IsChecked p) (sized : is_s
     abbrev made : IsFunctionFor p q (nat_eq k p.main) f g
     made = code.each k f g ef eg
 
+    abbrev ground : Ground
+    ground = record {
+      source = p;
+      function = f;
+      made = q;
+      code = g.code;
+      limit = made.back;
+      bound = widest f.body + 1;
+      callees = callees;
+      sized = small_part p f (of_all function_is_sized p.functions k f sized.0 ef) sized.1;
+    }
+
     typed_parts : (typed_nodes f ≤ f.nodes) × (f.weight ≤ 1048576) × (parameters_are_first f.type.parameters f.objects ≡ true)
         × (statement_is_typed p f (numbers_in f.type.parameters) (length f.objects) f.body ≡ true)
     typed_parts =
@@ -130,31 +145,6 @@ module _ (p : typed.Program) (q : Program) (checked : IsChecked p) (sized : is_s
         let h2 = right_true a (b && (c && d)) h in
         let h3 = right_true b (c && d) h2 in
         (le_holds (typed_nodes f) f.nodes (left_true a (b && (c && d)) h), le_holds f.weight 1048576 (left_true b (c && d) h2), left_true c d h3, right_true c d h3)
-
-    functions_sized : list_all function_is_sized p.functions ≡ true
-    functions_sized = left_true (list_all function_is_sized p.functions) (list_all static_is_sized p.statics) sized
-
-    object_small : (n : ℕ) (o : ObjectType) → slice_get f.objects n ≡ Some o → (0 < size_of_object o) × (size_of_object o < 2 ^ 32)
-    object_small n o e = (
-      (checked.each k f ef).sized n o e,
-      object_below (size_of_object o) (bytes_of_objects f.objects) (bytes_of_references f.type.parameters) f.nodes f.weight (in_sum f.objects n o e)
-          (checked.each k f ef).weight typed_parts.1,
-    )
-
-    abbrev ground : Ground
-    ground = record {
-      source = p;
-      function = f;
-      made = q;
-      code = g.code;
-      limit = made.back;
-      bound = widest f.body + 1;
-      literals = code.literals;
-      statics = code.statics;
-      sized = element_size p f (right_true (list_all function_is_sized p.functions) (list_all static_is_sized p.statics) sized)
-          (item_is function_is_sized p.functions k f functions_sized ef) object_small;
-      callees = callees;
-    }
 
     whole : Within ground (Unit {0}) (suc (length f.type.parameters) + (statement_nodes f.body + (1 + 2))) (124 * suc (length f.type.parameters) + (0 + (104 + 84))) 0 (length g.code)
     whole = all_within ground (suc (length f.type.parameters)) made.start made.end made.back (length g.code) (numbers_in f.type.parameters) (nat_eq k p.main)
@@ -196,7 +186,7 @@ module _ (p : typed.Program) (q : Program) (checked : IsChecked p) (sized : is_s
         (length_le g.code) whole.room typed_parts.0 parameters_same (checked.each k f ef).nodes
 
     instruction_fits : (j : ℕ) (x : Instruction) → slice_get g.code j ≡ Some x → InstructionFits q g x
-    instruction_fits j x e = fits ground g made.objects made.parameters (one_on made.back (length g.code) made.leaves.next) x (each_fine j x e)
+    instruction_fits j x e = fits ground g made.objects made.parameters code.literals code.statics (one_on made.back (length g.code) made.leaves.next) x (each_fine j x e)
         (subst (λ n. temporaries_of q x ≤ n) (sym made.temporaries) (in_most (temporaries_of q) g.code j x e))
         (subst (λ n. slots_of x ≤ n) (sym made.kept) (in_most slots_of g.code j x e))
 
@@ -246,12 +236,12 @@ pub plain_code_is_bounded : PlainCodeIsBounded
 plain_code_is_bounded = bounded
 
 pub plain_code_is_lowered : PlainCodeIsLowered
-plain_code_is_lowered p q checked asked sized plain code = record {
-  sound = sound p q checked sized code;
+plain_code_is_lowered p q checked asked plain code = record {
+  sound = sound p q checked asked code;
   behaves = λ input bytes. code_behaves p q input checked asked plain code bytes;
   literals = code.literals;
   statics = code.statics;
   main = code.main;
   count = code.count;
-  each = bounded p q checked sized code;
+  each = bounded p q checked asked code;
 }
