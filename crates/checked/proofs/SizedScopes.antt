@@ -1,5 +1,6 @@
--- What a scope has is sized (6.7p7, 6.7.6.2p1, 6.9.2): objects of the function, objects with static storage, what names stand for; and stays so behind a declaration.
-use Rattle.std.proofs.Common.{◌≡◌, ◌≤◌, ◌<◌, ℕ, zero, suc, ◌*◌, Bool, true, false, not, ◌&&◌, ℤ, pos, ◌+ℤ◌, nat_eq, List, [], ◌∷◌, ◌++◌, length, Option, Some, None, refl, sym, subst, arith}
+-- What a scope has is sized (6.7p7, 6.7.6.2p1, 6.9.2): objects of the function, those with static storage, and what names stand for. Behind a
+-- declaration it still is.
+use Rattle.std.proofs.Common.{◌≡◌, ◌≤◌, ◌<◌, ℕ, zero, suc, ◌*◌, Bool, true, false, not, ◌&&◌, ℤ, pos, ◌+ℤ◌, nat_eq, List, [], ◌∷◌, ◌++◌, Option, Some, None, sym, subst, arith}
 use Rattle.std.specs.Prelude.{if◌then◌else◌}
 use Rattle.srcset.specs.declared.code.Code.TheVariants as code
 use Rattle.srcset.specs.declared.refusal.Pos.{Pos}
@@ -7,10 +8,10 @@ use Rattle.ctypes.specs.Types.{truth, bytes_of}
 use Rattle.tree.specs.Tree.{Tree, Init, EnumeratorTree, SpecifierTree, extern_specifier, static_specifier, plain_specifier, enumerators_specifier, ParameterTree, ItemTree, object, function, DeclarationTree, declared, assertion}
 use Rattle.typed.specs.Types.{ObjectType, DeclaredType, complete, unknown_size, FunctionType, elements_in, array_of, same_object, element_type, fits_unknown, composite, same_function}
 use Rattle.typed.specs.Program as typed
-use Rattle.typed.specs.Verdict.{Verdict, fine, both, then_check, provided, refuse_if, each, IfFine}
+use Rattle.typed.specs.Verdict.{fine, then_check, provided, refuse_if, each, IfFine}
 use Rattle.typed.specs.Scope.{Scope, StaticObject, Binding, Meaning, an_object, an_array_parameter, a_function, an_enumerator, State, no_linkage, mentioned, defined, lookup, binding_in, built_in, tag_in, with_name, with_tag, with_literals, past}
 use Rattle.typed.specs.Specifiers.{BaseType}
-use Rattle.typed.specs.Expressions.{constant_value, too_large}
+use Rattle.typed.specs.Expressions.{constant_value}
 use Rattle.typed.specs.Declarators.{declared_type, strings_in_sizes, fresh, parameters_in, behind_parameters, function_type}
 use Rattle.typed.specs.Initialisers.{past_init}
 use Rattle.typed.specs.Linkage as linkage

@@ -1,4 +1,4 @@
--- What lowering asks of a typed program besides `IsChecked`: the constraints of ISO/IEC 9899:2011 6.3, 6.5 and 6.8 that the typed form
+-- What lowering asks of a typed program besides `IsChecked`: the constraints of ISO/IEC 9899:2011 6.3, 6.5, 6.7 and 6.8 that the typed form
 -- would let pass, each with its section.
 use Rattle.std.specs.Prelude.{◌≡◌, ℕ, ℤ, Bool, true, false, ◌&&◌, nat_le, nat_lt, List, Option, Some, None}
 use Rattle.std.specs.List.{list_all}

@@ -1,12 +1,12 @@
 -- No object of a function is without bytes (6.7p7, 6.7.6.2p1).
-use Rattle.std.proofs.Common.{◌≡◌, ◌<◌, ℕ, zero, suc, Bool, true, ◌&&◌, nat_lt, nat_le, List, [], ◌∷◌, Some, subst, arith}
+use Rattle.std.proofs.Common.{◌≡◌, ◌<◌, ℕ, zero, suc, Bool, true, nat_lt, nat_le, List, [], ◌∷◌, Some, subst, arith}
 use Rattle.std.specs.Prelude.{slice_get}
 use Rattle.std.specs.List.{list_all}
 use Rattle.std.proofs.lemmas.Bool.Decides.{nat_tests}
 use Rattle.ctypes.specs.declared.types.IntType.{IntType}
 use Rattle.ctypes.specs.declared.types.IntType.TheVariants as ty
 use Rattle.ctypes.specs.Types.{bytes_of}
-use Rattle.typed.specs.Types.{ObjectType, elements_in, size_of_object}
+use Rattle.typed.specs.Types.{elements_in, size_of_object}
 use Rattle.typed.specs.Expressions.{object_limit}
 use Rattle.checked.specs.Asked.{is_sized, parameter_is_sized, function_is_sized}
 use Rattle.checked.proofs.Same.{both_true}

@@ -1,5 +1,5 @@
 -- The code of each kind of node keeps within its room, and is fine, if that of its parts does.
-use Rattle.std.proofs.Common.{◌≡◌, ℕ, ◌+◌, ◌*◌, ◌<◌, ◌≤◌, ◌^◌, Option, Some, None, Bool, true, false, ◌||◌, arith}
+use Rattle.std.proofs.Common.{◌≡◌, ℕ, ◌+◌, ◌*◌, ◌<◌, ◌≤◌, ◌^◌, Option, None, Bool, true, false, ◌||◌, arith}
 use Rattle.srcset.specs.declared.refusal.Pos.{Pos}
 use Rattle.ctypes.specs.declared.types.IntType.{IntType}
 use Rattle.ctypes.specs.declared.operators.BinOp.{BinOp}
@@ -21,7 +21,7 @@ use Rattle.lowering.specs.Places.{found, free_temporary_at, free_kept_at, cuts}
 use Rattle.lowering.specs.Code.{zero_word, One, Then, Truths, Into, Passes}
 use Rattle.code_bounds.proofs.Grounds.{Ground, sizes, OperandFine, SpotFine, ModeLands, Aims}
 use Rattle.code_bounds.proofs.Stretches.{Within, one, join, settle, aimed}
-use Rattle.code_bounds.proofs.Operands.{Free, RestsFine, operand_fine, target_fine, target_lands, mode_lands, mode_aims, waits}
+use Rattle.code_bounds.proofs.Operands.{Free, RestsFine, operand_fine, target_fine, target_lands, mode_lands, waits}
 use Rattle.code_bounds.proofs.Leaves.{ends_within, then_within, operates_within, converts_within, casts_within}
 use Rattle.code_bounds.proofs.Changes.{CalleeFine, changes_within, steps_by_within, calls_within, truths_within}
 use Rattle.code_bounds.proofs.Memory.{on, DoesAt, FindsAt, nothing, held, on_object, read_memory, assigned_memory, compound_memory, stepped_memory}

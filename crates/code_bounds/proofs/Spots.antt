@@ -1,10 +1,10 @@
 -- Where lvalues and arrays of a typed program are found: what they name is there.
-use Rattle.std.proofs.Common.{◌≡◌, ℕ, zero, suc, ◌+◌, ◌<◌, ◌≤◌, List, [], ◌∷◌, length, map, Option, Some, None, Bool, true, false, ◌&&◌, refl, ap, ◌∙◌, arith}
+use Rattle.std.proofs.Common.{◌≡◌, ℕ, zero, suc, ◌+◌, ◌<◌, ◌≤◌, List, [], ◌∷◌, length, map, Option, Some, None, Bool, true, false, refl, ap, ◌∙◌, arith}
 use Rattle.std.specs.Prelude.{nat_lt, slice_get}
 use Rattle.std.proofs.lemmas.Option.{slice_get_within}
 use Rattle.std.proofs.lemmas.Bool.Decides.{nat_tests}
 use Rattle.ctypes.specs.declared.types.IntType.{IntType}
-use Rattle.typed.specs.Types.{ObjectType, DeclaredType, complete, unknown_size, ParameterType, number, elements, element_type, inner_type}
+use Rattle.typed.specs.Types.{ObjectType, DeclaredType, complete, unknown_size, ParameterType, number, elements, inner_type}
 use Rattle.typed.specs.Program as typed
 use Rattle.typed.specs.Program.{Storage, Static, Place, Value}
 use Rattle.typed.specs.Nodes.{text_type, object_type, reference_in, type_of_place, place_nodes, value_nodes, argument_nodes}
@@ -12,9 +12,6 @@ use Rattle.typed.specs.WellTyped.{is_array, rows_of, rows_alike, place_is_typed}
 use Rattle.tac.specs.Costs.{array_parameters}
 use Rattle.tac.specs.Designated.{is_defined, in_place}
 use Rattle.tac.specs.Lowered.{kind_of}
-use Rattle.tac.specs.declared.code.Operand.TheVariants as operand
-use Rattle.tac.specs.declared.code.Target.{Target}
-use Rattle.tac.specs.declared.code.Target.TheVariants as target
 use Rattle.tac.specs.declared.code.Place.{Place as Spot}
 use Rattle.tac.specs.declared.code.Place.TheVariants as place
 use Rattle.tac.specs.Code.{scalar_type, type_if_scalar}
