@@ -194,7 +194,8 @@ meant_again at (an_enumerator x) (an_enumerator v) h k = tt
 abbrev AgreedSized : Agreed → Type 0
 AgreedSized a = MeaningSized a.meaning
 
-linked_again : (c : Bool) (at : Pos) (new : Agreed) (old : Binding) → MeaningSized old.meaning → AgreedSized new → IfFine AgreedSized (linkage.by_linkage c at new old)
+linked_again : (c : Bool) (at : Pos) (new : Agreed) (old : Binding) → MeaningSized old.meaning → AgreedSized new
+    → IfFine AgreedSized (linkage.by_linkage c at new old)
 linked_again false at new old h k = tt
 linked_again true at new old h k =
     both_any MeaningSized AgreedSized
@@ -223,7 +224,8 @@ file_good s at n new g h =
     (then_some AgreedSized Good (redeclared at new (lookup s n)) (linkage.agreed_in s n) (declared_again at new (lookup s n) (bound s.bindings n g.0) h) (λ a k.
     stored_at_file (with_name s n a.meaning a.linkage a.state) a.state a.meaning ((k, g.0), g.1, g.2) k))
 
-pub file_function_good : (s : Scope) (at : Pos) (n : ℕ) (class : StorageClass) (f : FunctionType) (state : State) → Good s → IfFine Good (file_function s at n class f state)
+pub file_function_good : (s : Scope) (at : Pos) (n : ℕ) (class : StorageClass) (f : FunctionType) (state : State) → Good s
+    → IfFine Good (file_function s at n class f state)
 file_function_good s at n class f state g =
     file_good s at n (linkage.agreed (a_function f) (linkage.linkage_of_function class (lookup s n)) state) g tt
 
@@ -232,7 +234,8 @@ file_function_good s at n class f state g =
 object_good : (level : ℕ) (s : Scope) (at : Pos) (n : ℕ) (class : StorageClass) (t : DeclaredType) (b : Bool) → Good s → SizedType t
     → IfFine Good (rules.object_at level s at n class t b)
 object_good zero s at n class t b g z =
-    file_good s at n (linkage.agreed (an_object (linkage.storage_before s (lookup s n)) t) (linkage.linkage_of_object class (lookup s n)) (linkage.state_of_object class b)) g z
+    file_good s at n (linkage.agreed (an_object (linkage.storage_before s (lookup s n)) t) (linkage.linkage_of_object class (lookup s n))
+    (linkage.state_of_object class b)) g z
 object_good (suc level) s at n no_class t b g z =
     part Good (fresh s at n) (fine (with_automatic s n t)) ((z, g.0), one_more s.objects (completed t) g.1 (completed_sized t z), g.2)
 object_good (suc level) s at n by_static t b g z =
@@ -268,7 +271,8 @@ stored s (an_array_parameter n u) g h = g
 stored s (a_function f) g h = g
 stored s (an_enumerator v) g h = g
 
-retyped_good : (s : Scope) (at : Pos) (t : DeclaredType) (n : ℕ) (b : Option Binding) → Good s → SizedType t → BindingSized b → IfFine Good (rules.retyped s at t n b)
+retyped_good : (s : Scope) (at : Pos) (t : DeclaredType) (n : ℕ) (b : Option Binding) → Good s → SizedType t → BindingSized b
+    → IfFine Good (rules.retyped s at t n b)
 retyped_good s at t n None g z h = g
 retyped_good s at t n (Some b) g z h =
     then_some MeaningSized Good (rules.retyped_meaning at t b.meaning) _ (retyped_meaning_good at t b.meaning z h)
@@ -287,7 +291,8 @@ finished_good o (unknown_size t) None g z = unknown_good o.scope.level o.class o
 finished_good o (unknown_size t) (Some i) g z =
     let u = past_init o.scope i in
     then_some (LengthGood o.scope t i) Good (rules.length_from o.scope o.at t i) (rules.sized u o.at o.name t) (length_good o.scope o.at t i) (λ m h.
-    sized_part Good o.at (array_of m t) (rules.retyped u o.at (complete (array_of m t)) o.name (lookup u o.name)) (product_positive m (elements_in t.lengths) h.1 z.0) (λ y.
+    sized_part Good o.at (array_of m t) (rules.retyped u o.at (complete (array_of m t)) o.name (lookup u o.name))
+    (product_positive m (elements_in t.lengths) h.1 z.0) (λ y.
     retyped_good u o.at (complete (array_of m t)) o.name (lookup u o.name) g y (bound u.bindings o.name g.0)))
 
 -- ---- declarations
@@ -309,7 +314,8 @@ items_good class b (object at n sizes init ∷ is) s g =
     (then_some Good DeclaredGood (finished o) (λ inner. items_typed inner class b is) (finished_good o o.type o.init h.0 h.1)
     (λ u k. items_good class b is u k)) (λ e d k. k))
 items_good class b (function at n ps ∷ is) s g =
-    then_some Good DeclaredGood (rules.function_at s.level s class b at n ps) (λ inner. items_typed inner class b is) (function_good s.level s class b at n ps g)
+    then_some Good DeclaredGood (rules.function_at s.level s class b at n ps) (λ inner. items_typed inner class b is)
+    (function_good s.level s class b at n ps g)
     (λ u k. items_good class b is u k)
 
 asserted_good : (s : Scope) (at : Pos) (e : Tree) → Good s → IfFine Good (rules.asserted s at e)

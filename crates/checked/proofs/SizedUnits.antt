@@ -93,7 +93,8 @@ mutual
       then_some DoneGood DoneGood (statement A (Some t) s a) (rules.with_label (record { at = at; value = None })) (statement_good A (Some t) s a g) (λ x h. h)
   statement_good A None s (default_stmt at a) g = misplaced at A.in_switch
   statement_good A d s (block_stmt at ps) g =
-      then_some AllGood DoneGood (pieces A None (inside s) ps) (rules.block_of s) (pieces_good A None (inside s) ps (inside_good s g)) (λ all h. (g.0, h.1, h.2))
+      then_some AllGood DoneGood (pieces A None (inside s) ps) (rules.block_of s) (pieces_good A None (inside s) ps (inside_good s g))
+      (λ all h. (g.0, h.1, h.2))
   statement_good A d s (empty_stmt at) g = g
   statement_good A d s (expression_stmt at e) g =
       then_any DoneGood (typing s e) (λ x. then_check (effect x) (λ v. rules.done (past s e) (typed.evaluate v))) (λ x.
@@ -242,7 +243,8 @@ function_sized b f g =
     (λ ps h.
     let t = function_type d.base ps.types in
     let v = behind_parameters d.scope ps.scope in
-    then_some Good BuiltSized (file_function v f.at f.name d.class t defined) (body_typed b f d.scope ps t) (file_function_good v f.at f.name d.class t defined s)
+    then_some Good BuiltSized (file_function v f.at f.name d.class t defined) (body_typed b f d.scope ps t)
+    (file_function_good v f.at f.name d.class t defined s)
     (λ file i.
     then_some AllGood BuiltSized (pieces (units.around_of t) None (units.body_scope file ps.scope d.scope) f.body) (with_function b file f t)
     (pieces_good (units.around_of t) None (units.body_scope file ps.scope d.scope) f.body (body_good file ps.scope d.scope i h.0)) (λ all k.
@@ -274,7 +276,8 @@ below a b h = grind (arith, nat_tests, h)
 
 sized_test : (t : ObjectType) → Sized t → is_sized t ≡ true
 sized_test t z =
-    and_from (nat_lt 0 (elements_in t.lengths)) (nat_le (size_of_object t) object_limit) (below 0 (elements_in t.lengths) z.0) (at_most (size_of_object t) object_limit z.1)
+    and_from (nat_lt 0 (elements_in t.lengths)) (nat_le (size_of_object t) object_limit) (below 0 (elements_in t.lengths) z.0)
+    (at_most (size_of_object t) object_limit z.1)
 
 parameters_test : (ps : List ParameterType) → TypesSized ps → list_all parameter_is_sized ps ≡ true
 parameters_test [] h = refl
@@ -289,13 +292,16 @@ functions_test : (fs : List Function) → FunctionsSized fs → list_all functio
 functions_test [] h = refl
 functions_test (f ∷ fs) h =
     and_from (function_is_sized f) (list_all function_is_sized fs)
-    (and_from (list_all parameter_is_sized f.type.parameters) (list_all is_sized f.objects) (parameters_test f.type.parameters h.0.0) (objects_test f.objects h.0.1))
+    (and_from (list_all parameter_is_sized f.type.parameters) (list_all is_sized f.objects) (parameters_test f.type.parameters h.0.0)
+    (objects_test f.objects h.0.1))
     (functions_test fs h.1)
 
-statics_test : (n : ℕ) (os : List StaticObject) (initial : List Initial) → StaticsSized os → list_all (λ o. is_sized o.type) (units.statics_from n os initial) ≡ true
+statics_test : (n : ℕ) (os : List StaticObject) (initial : List Initial) → StaticsSized os
+    → list_all (λ o. is_sized o.type) (units.statics_from n os initial) ≡ true
 statics_test n [] initial h = refl
 statics_test n (o ∷ os) initial h =
-    and_from (is_sized o.type) (list_all (λ o. is_sized o.type) (units.statics_from (n + 1) os initial)) (sized_test o.type h.0) (statics_test (n + 1) os initial h.1)
+    and_from (is_sized o.type) (list_all (λ o. is_sized o.type) (units.statics_from (n + 1) os initial)) (sized_test o.type h.0)
+    (statics_test (n + 1) os initial h.1)
 
 -- ---- the law
 
@@ -311,10 +317,13 @@ whole_sized : (whole : Pos) (b : Built) → BuiltSized b → IfFine ProgramSized
 whole_sized whole b g =
     part ProgramSized (each (units.within_limits whole b) (all_defined b.scope [] (uses_in_functions b.functions)))
     (then_check (units.main_or_fault whole (units.main_from b.scope 0 b.functions)) (λ main. fine (program_of b main)))
-    (then_any ProgramSized (units.main_or_fault whole (units.main_from b.scope 0 b.functions)) (λ main. fine (program_of b main)) (λ main. built_sized b main g))
+    (then_any ProgramSized (units.main_or_fault whole (units.main_from b.scope 0 b.functions)) (λ main. fine (program_of b main))
+    (λ main. built_sized b main g))
 
-pub types_sized : (texts : List (List ℕ)) (whole : Pos) (unit : List ExternalTree) (p : Program) → unit_typed texts whole unit ≡ fine p → types_are_sized p ≡ true
+pub types_sized : (texts : List (List ℕ)) (whole : Pos) (unit : List ExternalTree) (p : Program) → unit_typed texts whole unit ≡ fine p
+    → types_are_sized p ≡ true
 types_sized texts whole unit p e =
     let start : Built = record { scope = file_scope texts (units.definitions_in unit); functions = []; initial = [] } in
     of_fine ProgramSized (unit_typed texts whole unit) p e
-    (then_some BuiltSized ProgramSized (externals_typed start unit) (whole_program whole) (externals_sized start unit (tt, (tt, tt, tt))) (λ c h. whole_sized whole c h))
+    (then_some BuiltSized ProgramSized (externals_typed start unit) (whole_program whole) (externals_sized start unit (tt, (tt, tt, tt)))
+    (λ c h. whole_sized whole c h))

@@ -1,5 +1,5 @@
 -- The code of an expression keeps within its nodes' room, and is fine.
-use Rattle.std.proofs.Common.{◌≡◌, ℕ, suc, ◌+◌, ◌*◌, ◌<◌, ◌≤◌, ◌^◌, ◌-◌, List, [], ◌∷◌, length, Option, Some, None, Bool, true, false, not, ◌&&◌, refl, sym, subst, arith}
+use Rattle.std.proofs.Common.{◌≡◌, ℕ, ◌+◌, ◌<◌, ◌≤◌, ◌^◌, ◌-◌, List, [], ◌∷◌, length, Option, Some, None, Bool, true, false, not, ◌&&◌, refl, sym, subst, arith}
 use Rattle.std.specs.Prelude.{slice_get}
 use Rattle.ctypes.specs.declared.types.IntType.{IntType}
 use Rattle.ctypes.specs.declared.operators.BinOp.TheVariants as op
@@ -17,6 +17,7 @@ use Rattle.lowering.specs.Values.{calls, arguments_call, writes, arguments_write
 use Rattle.lowering.specs.Places.{target_for, found}
 use Rattle.lowering.specs.Code.{zero_word, Finds, Into, Passes}
 use Rattle.lowering.proofs.Words.{left_true, right_true, differ}
+use Rattle.code_bounds.proofs.Numbers.{inner, only, first, first3, second3, third3, of_both, less, beside, beside_argument, two, two_beside, third, some_node, from_zero, few, same_le, past_two, on, row_room, array_room, counted_first, counted, zero_small, ones_small}
 use Rattle.code_bounds.proofs.Grounds.{Ground, sizes, OperandFine, ModeLands, Aims}
 use Rattle.code_bounds.proofs.Stretches.{Within, none, join, settle, aimed}
 use Rattle.code_bounds.proofs.Operands.{Free, operand_fine, target_fine, mode_lands, mode_aims, waits, more_temporaries, more_kept, read_fine, write_fine, rests_fine}
@@ -25,83 +26,6 @@ use Rattle.code_bounds.proofs.Changes.{CalleeFine, loads_within}
 use Rattle.code_bounds.proofs.Spots.{some_place, some_value, has_rows, free_beside, NamedFine, array_fine, memory_fine, found_fine, lands_for, more_temporaries_at, more_kept_at}
 use Rattle.code_bounds.proofs.Memory.{nothing, hands_over_within, element_within}
 use Rattle.code_bounds.proofs.Nodes.{temporary_beside, slot_beside, chosen_le, read_within, assigned_within, compound_within, stepped_within, same_within, signed_within, binary_within, jumps_within, truth_within, chosen_within, sequence_within, cast_within, discarded_within, call_within}
-
--- ---- numbers
-
-inner : (p e : ℕ) → e ≤ p + e + 1
-inner p e = omega arith
-
-only : (e : ℕ) → e ≤ e + 1
-only e = omega arith
-
-first : (a b : ℕ) → a ≤ a + b + 1
-first a b = omega arith
-
-first3 : (a b c : ℕ) → a ≤ a + b + c + 1
-first3 a b c = omega arith
-
-second3 : (a b c : ℕ) → b ≤ a + b + c + 1
-second3 a b c = omega arith
-
-third3 : (a b c : ℕ) → c ≤ a + b + c + 1
-third3 a b c = omega arith
-
-of_both : (a b : ℕ) → a ≤ a + b
-of_both a b = omega arith
-
-less : (t n m b : ℕ) → m ≤ n → t + n ≤ b → t + m ≤ b
-less t n m b h x = omega (arith, h, x)
-
-beside : (t t2 a c b : ℕ) → t2 ≤ t + 1 → t + (a + c + 1) ≤ b → t2 + c ≤ b
-beside t t2 a c b h x = omega (arith, h, x)
-
-beside_argument : (t t2 a c b : ℕ) → 1 ≤ a → t2 ≤ t + 1 → t + (a + c) ≤ b → t2 + c ≤ b
-beside_argument t t2 a c b s h x = omega (arith, s, h, x)
-
-two : (t p b : ℕ) → 1 ≤ p → t + (p + 1) ≤ b → t + 2 ≤ b
-two t p b h x = omega (arith, h, x)
-
-two_beside : (t2 t p b : ℕ) → t2 + 1 ≤ t + p → t + (p + 1) ≤ b → t2 + 1 < b
-two_beside t2 t p b h x = omega (arith, h, x)
-
-third : (j t2 t p e b : ℕ) → j ≤ t2 + 1 → t2 ≤ t + 1 → 1 ≤ p → 1 ≤ e → t + (p + e + 1) ≤ b → j < b
-third j t2 t p e b x y h g f = omega (arith, x, y, h, g, f)
-
-some_node : (n : ℕ) → 1 ≤ n + 1
-some_node n = omega arith
-
-from_zero : (t n b : ℕ) → t + (n + 1) ≤ b → 0 + n ≤ b
-from_zero t n b x = omega (arith, x)
-
-few : (n a t b : ℕ) → n ≤ a → t + (a + 1) ≤ b → n ≤ b
-few n a t b h x = omega (arith, h, x)
-
-same_le : (n : ℕ) → n ≤ n
-same_le n = omega arith
-
-past_two : (p q r : ℕ) → p + 1 ≡ q → q + 1 ≡ r → p ≤ r
-past_two p q r x y = omega (arith, x, y)
-
-on : (p q l : ℕ) → p ≤ q → q ≤ l → p ≤ l
-on p q l x y = omega (arith, x, y)
-
-row_room : (e m : ℕ) → 128 * (e + (m + 1)) + 0 ≤ 128 * (e + m) + (32 + (0 + 96))
-row_room e m = omega arith
-
-array_room : (e m : ℕ) → 128 * (e + (m + 1)) + 0 ≤ 128 * (e + m) + (124 + (0 + 104))
-array_room e m = omega arith
-
-counted_first : (a m : ℕ) → 1 ≤ a → 1 ≤ a + m
-counted_first a m h = omega (arith, h)
-
-counted : (n a m : ℕ) → 1 ≤ a → n ≤ m → suc n ≤ a + m
-counted n a m h x = omega (arith, h, x)
-
-zero_small : 0 < 2 ^ 32
-zero_small = omega arith
-
-ones_small : 2 ^ 32 - 1 < 2 ^ 32
-ones_small = omega arith
 
 module _ (z : Ground) where
   abbrev V : Value → Bool
@@ -147,9 +71,10 @@ module _ (z : Ground) where
 
   -- beside a place, and a temporary beside both
   fits_beside : (place : Place) (c : Bool) (t k n : ℕ) → Fits (place_nodes place + n + 1) t k → Fits n (temporary_beside place c t k) (slot_beside place c t k)
-  fits_beside place c t k n f =
-      (beside t (temporary_beside place c t k) (place_nodes place) n z.bound (more_temporaries_at z (found place c t k) t) f.0,
-      beside k (slot_beside place c t k) (place_nodes place) n z.bound (more_kept_at z (found place c t k) k) f.1)
+  fits_beside place c t k n f = (
+    beside t (temporary_beside place c t k) (place_nodes place) n z.bound (more_temporaries_at z (found place c t k) t) f.0,
+    beside k (slot_beside place c t k) (place_nodes place) n z.bound (more_kept_at z (found place c t k) k) f.1,
+  )
 
   third_free : (place : Place) (e : Value) (c : Bool) (t k : ℕ) → Fits (place_nodes place + value_nodes e + 1) t k
       → free_temporary (operand_of e (temporary_beside place c t k) (slot_beside place c t k)) (temporary_beside place c t k) < z.bound
@@ -204,14 +129,16 @@ module _ (z : Ground) where
   -- ---- all expressions
 
   mutual
-    pub into_within : (e : Value) (m : Mode) (t k pc pc2 : ℕ) → value_is_typed z.source z.function e ≡ true → in_value z.source e ≡ true → Fits (value_nodes e) t k → ModeLands z m t k → Into z.code (sizes z) e m t k pc pc2
+    pub into_within : (e : Value) (m : Mode) (t k pc pc2 : ℕ) → value_is_typed z.source z.function e ≡ true → in_value z.source e ≡ true
+        → Fits (value_nodes e) t k → ModeLands z m t k → Into z.code (sizes z) e m t k pc pc2
         → Within z (Aims z m pc2) (value_nodes e) 32 pc pc2
     into_within (typed.constant u v) m t k pc pc2 h d f l i = settle z 1 32 (omega arith) (constantly_within z m v t k pc pc2 l f i)
     into_within (typed.read u place) m t k pc pc2 h d f l i =
         let hp = left_true (P place) (S u place) h in
         let fr = free (typed.read u place) t k f in
         read_within z u place m t k pc pc2 (read_fine z u place h) (some_place place) l fr
-        (λ none. let there = memory_fine z place hp d none in (λ y y2 i2. find_within place false t k y y2 hp d there f i2, found_fine z place false t k fr there)) i
+        (λ none. let there = memory_fine z place hp d none in
+        (λ y y2 i2. find_within place false t k y y2 hp d there f i2, found_fine z place false t k fr there)) i
     into_within (typed.assigned at u place e) m t k pc pc2 h d f l i =
         let t2 = temporary_beside place (calls e) t k in
         let k2 = slot_beside place (calls e) t k in
@@ -225,7 +152,8 @@ module _ (z : Ground) where
         let fb = fits_beside place (calls e) t k (value_nodes e) f in
         assigned_within z at u place e m t k pc pc2 (write_fine z u place (V e && N e) h) (rests_fine z e he) (some_place place) l fr (free e t2 k2 fb)
         (λ n y y2 l2 i2. into_within e n t k y y2 he de fe l2 i2) (λ n y y2 l2 i2. into_within e n t2 k2 y y2 he de fb l2 i2)
-        (λ none. let there = memory_fine z place hp dp none in (λ y y2 i2. find_within place (calls e) t k y y2 hp dp there fp i2, found_fine z place (calls e) t k fr there)) i
+        (λ none. let there = memory_fine z place hp dp none in
+        (λ y y2 i2. find_within place (calls e) t k y y2 hp dp there fp i2, found_fine z place (calls e) t k fr there)) i
     into_within (typed.compound at o u of place e) m t k pc pc2 h d f l i =
         let t2 = temporary_beside place (calls e) t k in
         let k2 = slot_beside place (calls e) t k in
@@ -238,15 +166,19 @@ module _ (z : Ground) where
         let fe = fewer (place_nodes place + value_nodes e + 1) (value_nodes e) t k (inner (place_nodes place) (value_nodes e)) f in
         let fb = fits_beside place (calls e) t k (value_nodes e) f in
         compound_within z at o u of place e m t k pc pc2 (write_fine z u place (V e && N e) h) (rests_fine z e he) (some_place place) l fr (free e t2 k2 fb)
-        (third_free place e (calls e) t k f) (λ n y y2 l2 i2. into_within e n t k y y2 he de fe l2 i2) (λ n y y2 l2 i2. into_within e n t2 k2 y y2 he de fb l2 i2)
-        (λ none. let there = memory_fine z place hp dp none in (λ y y2 i2. find_within place (calls e) t k y y2 hp dp there fp i2, found_fine z place (calls e) t k fr there)) i
+        (third_free place e (calls e) t k f) (λ n y y2 l2 i2. into_within e n t k y y2 he de fe l2 i2)
+        (λ n y y2 l2 i2. into_within e n t2 k2 y y2 he de fb l2 i2)
+        (λ none. let there = memory_fine z place hp dp none in
+        (λ y y2 i2. find_within place (calls e) t k y y2 hp dp there fp i2, found_fine z place (calls e) t k fr there)) i
     into_within (typed.stepped at moment o u of place) m t k pc pc2 h d f l i =
         let hp = left_true (P place) (S u place) h in
         let fr = free (typed.stepped at moment o u of place) t k f in
         let fp = fewer (place_nodes place + 1) (place_nodes place) t k (only (place_nodes place)) f in
-        stepped_within z at moment o u of place m t k pc pc2 (read_fine z u place h) (some_place place) l fr (two t (place_nodes place) z.bound (some_place place) f.0)
+        stepped_within z at moment o u of place m t k pc pc2 (read_fine z u place h) (some_place place) l fr
+        (two t (place_nodes place) z.bound (some_place place) f.0)
         (two_beside (temporary_beside place false t k) t (place_nodes place) z.bound (free_beside place false t k) f.0)
-        (λ none. let there = memory_fine z place hp d none in (λ y y2 i2. find_within place false t k y y2 hp d there fp i2, found_fine z place false t k fr there)) i
+        (λ none. let there = memory_fine z place hp d none in
+        (λ y y2 i2. find_within place false t k y y2 hp d there fp i2, found_fine z place false t k fr there)) i
     into_within (typed.unary at prefix.Plus u e) m t k pc pc2 h d f l i =
         let he = left_true (V e) (N e) h in
         let fe = fewer (value_nodes e + 1) (value_nodes e) t k (only (value_nodes e)) f in
@@ -285,59 +217,78 @@ module _ (z : Ground) where
         let fb : Fits (value_nodes b) t2 k2 =
         (beside t t2 (value_nodes a) (value_nodes b) z.bound (more_temporaries z x t) f.0, beside k k2 (value_nodes a) (value_nodes b) z.bound (more_kept z x k) f.1) in
         binary_within z at o u a b m t k pc pc2 (rests_fine z a ha) (rests_fine z b hb) l (free a t k fa) (free b t2 k2 fb)
-        (λ n y y2 l2 i2. into_within a n t k y y2 ha (left_true (E a) (E b) d) fa l2 i2) (λ n y y2 l2 i2. into_within b n t2 k2 y y2 hb (right_true (E a) (E b) d) fb l2 i2) i
+        (λ n y y2 l2 i2. into_within a n t k y y2 ha (left_true (E a) (E b) d) fa l2 i2)
+        (λ n y y2 l2 i2. into_within b n t2 k2 y y2 hb (right_true (E a) (E b) d) fb l2 i2) i
     into_within (typed.both_true a b) (If sense to) t k pc pc2 h d f l i =
         let fa = fewer (value_nodes a + value_nodes b + 1) (value_nodes a) t k (first (value_nodes a) (value_nodes b)) f in
         let fb = fewer (value_nodes a + value_nodes b + 1) (value_nodes b) t k (inner (value_nodes a) (value_nodes b)) f in
         jumps_within z a b false sense to (choose sense pc2 to) t k pc i.0 i.1 pc2
-        (λ n y y2 l2 i2. into_within a n t k y y2 (left_of a b h) (left_true (E a) (E b) d) fa l2 i2) (λ n y y2 l2 i2. into_within b n t k y y2 (right_of a b h) (right_true (E a) (E b) d) fb l2 i2)
+        (λ n y y2 l2 i2. into_within a n t k y y2 (left_of a b h) (left_true (E a) (E b) d) fa l2 i2)
+        (λ n y y2 l2 i2. into_within b n t k y y2 (right_of a b h) (right_true (E a) (E b) d) fb l2 i2)
         (λ p q. chosen_le sense pc2 to z.limit p q) i.2 i.3 i.4
     into_within (typed.both_true a b) Nowhere t k pc pc2 h d f l i =
         let fa = fewer (value_nodes a + value_nodes b + 1) (value_nodes a) t k (first (value_nodes a) (value_nodes b)) f in
         let fb = fewer (value_nodes a + value_nodes b + 1) (value_nodes b) t k (inner (value_nodes a) (value_nodes b)) f in
         truth_within z a b Nowhere false i.3 t k pc i.0 i.1 i.2 i.3 pc2 (same_le i.3) l (free a t k fa)
-        (λ n y y2 l2 i2. into_within a n t k y y2 (left_of a b h) (left_true (E a) (E b) d) fa l2 i2) (λ n y y2 l2 i2. into_within b n t k y y2 (right_of a b h) (right_true (E a) (E b) d) fb l2 i2) i.4 i.5 i.6 i.7
+        (λ n y y2 l2 i2. into_within a n t k y y2 (left_of a b h) (left_true (E a) (E b) d) fa l2 i2)
+        (λ n y y2 l2 i2. into_within b n t k y y2 (right_of a b h) (right_true (E a) (E b) d) fb l2 i2) i.4 i.5 i.6 i.7
     into_within (typed.both_true a b) (To g) t k pc pc2 h d f l i =
         let fa = fewer (value_nodes a + value_nodes b + 1) (value_nodes a) t k (first (value_nodes a) (value_nodes b)) f in
         let fb = fewer (value_nodes a + value_nodes b + 1) (value_nodes b) t k (inner (value_nodes a) (value_nodes b)) f in
         truth_within z a b (To g) false i.3 t k pc i.0 i.1 i.2 i.3 pc2 (same_le i.3) l (free a t k fa)
-        (λ n y y2 l2 i2. into_within a n t k y y2 (left_of a b h) (left_true (E a) (E b) d) fa l2 i2) (λ n y y2 l2 i2. into_within b n t k y y2 (right_of a b h) (right_true (E a) (E b) d) fb l2 i2) i.4 i.5 i.6 i.7
+        (λ n y y2 l2 i2. into_within a n t k y y2 (left_of a b h) (left_true (E a) (E b) d) fa l2 i2)
+        (λ n y y2 l2 i2. into_within b n t k y y2 (right_of a b h) (right_true (E a) (E b) d) fb l2 i2) i.4 i.5 i.6 i.7
     into_within (typed.one_true a b) (If sense to) t k pc pc2 h d f l i =
         let fa = fewer (value_nodes a + value_nodes b + 1) (value_nodes a) t k (first (value_nodes a) (value_nodes b)) f in
         let fb = fewer (value_nodes a + value_nodes b + 1) (value_nodes b) t k (inner (value_nodes a) (value_nodes b)) f in
         jumps_within z a b true sense to (choose sense to pc2) t k pc i.0 i.1 pc2
-        (λ n y y2 l2 i2. into_within a n t k y y2 (left_of a b h) (left_true (E a) (E b) d) fa l2 i2) (λ n y y2 l2 i2. into_within b n t k y y2 (right_of a b h) (right_true (E a) (E b) d) fb l2 i2)
+        (λ n y y2 l2 i2. into_within a n t k y y2 (left_of a b h) (left_true (E a) (E b) d) fa l2 i2)
+        (λ n y y2 l2 i2. into_within b n t k y y2 (right_of a b h) (right_true (E a) (E b) d) fb l2 i2)
         (λ p q. chosen_le sense to pc2 z.limit q p) i.2 i.3 i.4
     into_within (typed.one_true a b) Nowhere t k pc pc2 h d f l i =
         let fa = fewer (value_nodes a + value_nodes b + 1) (value_nodes a) t k (first (value_nodes a) (value_nodes b)) f in
         let fb = fewer (value_nodes a + value_nodes b + 1) (value_nodes b) t k (inner (value_nodes a) (value_nodes b)) f in
         let last = i.7 in
         truth_within z a b Nowhere true i.2 t k pc i.0 i.1 i.2 i.3 pc2 (past_two i.2 last.0 i.3 last.1.next last.2.next) l (free a t k fa)
-        (λ n y y2 l2 i2. into_within a n t k y y2 (left_of a b h) (left_true (E a) (E b) d) fa l2 i2) (λ n y y2 l2 i2. into_within b n t k y y2 (right_of a b h) (right_true (E a) (E b) d) fb l2 i2) i.4 i.5 i.6 i.7
+        (λ n y y2 l2 i2. into_within a n t k y y2 (left_of a b h) (left_true (E a) (E b) d) fa l2 i2)
+        (λ n y y2 l2 i2. into_within b n t k y y2 (right_of a b h) (right_true (E a) (E b) d) fb l2 i2) i.4 i.5 i.6 i.7
     into_within (typed.one_true a b) (To g) t k pc pc2 h d f l i =
         let fa = fewer (value_nodes a + value_nodes b + 1) (value_nodes a) t k (first (value_nodes a) (value_nodes b)) f in
         let fb = fewer (value_nodes a + value_nodes b + 1) (value_nodes b) t k (inner (value_nodes a) (value_nodes b)) f in
         let last = i.7 in
         truth_within z a b (To g) true i.2 t k pc i.0 i.1 i.2 i.3 pc2 (past_two i.2 last.0 i.3 last.1.next last.2.next) l (free a t k fa)
-        (λ n y y2 l2 i2. into_within a n t k y y2 (left_of a b h) (left_true (E a) (E b) d) fa l2 i2) (λ n y y2 l2 i2. into_within b n t k y y2 (right_of a b h) (right_true (E a) (E b) d) fb l2 i2) i.4 i.5 i.6 i.7
+        (λ n y y2 l2 i2. into_within a n t k y y2 (left_of a b h) (left_true (E a) (E b) d) fa l2 i2)
+        (λ n y y2 l2 i2. into_within b n t k y y2 (right_of a b h) (right_true (E a) (E b) d) fb l2 i2) i.4 i.5 i.6 i.7
     into_within (typed.chosen (Some u) c a b) m t k pc pc2 h d f l i =
         chosen_within z (Some u) c a b m t k pc pc2 l
-        (λ n y y2 l2 i2. into_within c n t k y y2 (left_true (V c) (N c) (left_true (V c && N c) ((V a && N a) && (V b && N b)) h)) (left_true (E c) (E a && E b) d) (fewer (value_nodes c + value_nodes a + value_nodes b + 1) (value_nodes c) t k (first3 (value_nodes c) (value_nodes a) (value_nodes b)) f) l2 i2)
-        (λ n y y2 l2 i2. into_within a n t k y y2 (left_of a b (right_true (V c && N c) ((V a && N a) && (V b && N b)) h)) (left_true (E a) (E b) (right_true (E c) (E a && E b) d)) (fewer (value_nodes c + value_nodes a + value_nodes b + 1) (value_nodes a) t k (second3 (value_nodes c) (value_nodes a) (value_nodes b)) f) l2 i2)
-        (λ n y y2 l2 i2. into_within b n t k y y2 (right_of a b (right_true (V c && N c) ((V a && N a) && (V b && N b)) h)) (right_true (E a) (E b) (right_true (E c) (E a && E b) d)) (fewer (value_nodes c + value_nodes a + value_nodes b + 1) (value_nodes b) t k (third3 (value_nodes c) (value_nodes a) (value_nodes b)) f) l2 i2) i
+        (λ n y y2 l2 i2. into_within c n t k y y2 (left_true (V c) (N c) (left_true (V c && N c) ((V a && N a) && (V b && N b)) h))
+        (left_true (E c) (E a && E b) d) (fewer (value_nodes c + value_nodes a + value_nodes b + 1) (value_nodes c) t k
+        (first3 (value_nodes c) (value_nodes a) (value_nodes b)) f) l2 i2)
+        (λ n y y2 l2 i2. into_within a n t k y y2 (left_of a b (right_true (V c && N c) ((V a && N a) && (V b && N b)) h))
+        (left_true (E a) (E b) (right_true (E c) (E a && E b) d))
+        (fewer (value_nodes c + value_nodes a + value_nodes b + 1) (value_nodes a) t k (second3 (value_nodes c) (value_nodes a) (value_nodes b)) f) l2 i2)
+        (λ n y y2 l2 i2. into_within b n t k y y2 (right_of a b (right_true (V c && N c) ((V a && N a) && (V b && N b)) h))
+        (right_true (E a) (E b) (right_true (E c) (E a && E b) d))
+        (fewer (value_nodes c + value_nodes a + value_nodes b + 1) (value_nodes b) t k (third3 (value_nodes c) (value_nodes a) (value_nodes b)) f) l2 i2) i
     into_within (typed.chosen None c a b) m t k pc pc2 h d f l i =
         let na = same_none (type_of_value a) in
         let nb = same_none (type_of_value b) in
         let h2 = right_true (V c && N c) (V a && (na && (V b && nb))) h in
         chosen_within z None c a b m t k pc pc2 l
-        (λ n y y2 l2 i2. into_within c n t k y y2 (left_true (V c) (N c) (left_true (V c && N c) (V a && (na && (V b && nb))) h)) (left_true (E c) (E a && E b) d) (fewer (value_nodes c + value_nodes a + value_nodes b + 1) (value_nodes c) t k (first3 (value_nodes c) (value_nodes a) (value_nodes b)) f) l2 i2)
-        (λ n y y2 l2 i2. into_within a n t k y y2 (left_true (V a) (na && (V b && nb)) h2) (left_true (E a) (E b) (right_true (E c) (E a && E b) d)) (fewer (value_nodes c + value_nodes a + value_nodes b + 1) (value_nodes a) t k (second3 (value_nodes c) (value_nodes a) (value_nodes b)) f) l2 i2)
-        (λ n y y2 l2 i2. into_within b n t k y y2 (left_true (V b) nb (right_true na (V b && nb) (right_true (V a) (na && (V b && nb)) h2))) (right_true (E a) (E b) (right_true (E c) (E a && E b) d)) (fewer (value_nodes c + value_nodes a + value_nodes b + 1) (value_nodes b) t k (third3 (value_nodes c) (value_nodes a) (value_nodes b)) f) l2 i2) i
+        (λ n y y2 l2 i2. into_within c n t k y y2 (left_true (V c) (N c) (left_true (V c && N c) (V a && (na && (V b && nb))) h))
+        (left_true (E c) (E a && E b) d) (fewer (value_nodes c + value_nodes a + value_nodes b + 1) (value_nodes c) t k
+        (first3 (value_nodes c) (value_nodes a) (value_nodes b)) f) l2 i2)
+        (λ n y y2 l2 i2. into_within a n t k y y2 (left_true (V a) (na && (V b && nb)) h2) (left_true (E a) (E b) (right_true (E c) (E a && E b) d))
+        (fewer (value_nodes c + value_nodes a + value_nodes b + 1) (value_nodes a) t k (second3 (value_nodes c) (value_nodes a) (value_nodes b)) f) l2 i2)
+        (λ n y y2 l2 i2. into_within b n t k y y2 (left_true (V b) nb (right_true na (V b && nb) (right_true (V a) (na && (V b && nb)) h2)))
+        (right_true (E a) (E b) (right_true (E c) (E a && E b) d))
+        (fewer (value_nodes c + value_nodes a + value_nodes b + 1) (value_nodes b) t k (third3 (value_nodes c) (value_nodes a) (value_nodes b)) f) l2 i2) i
     into_within (typed.sequence a b) m t k pc pc2 h d f l i =
         let fa = fewer (value_nodes a + value_nodes b + 1) (value_nodes a) t k (first (value_nodes a) (value_nodes b)) f in
         let fb = fewer (value_nodes a + value_nodes b + 1) (value_nodes b) t k (inner (value_nodes a) (value_nodes b)) f in
         sequence_within z a b m t k pc pc2 l
-        (λ n y y2 l2 i2. into_within a n t k y y2 (left_true (V a) (V b) h) (left_true (E a) (E b) d) fa l2 i2) (λ n y y2 l2 i2. into_within b n t k y y2 (right_true (V a) (V b) h) (right_true (E a) (E b) d) fb l2 i2) i
+        (λ n y y2 l2 i2. into_within a n t k y y2 (left_true (V a) (V b) h) (left_true (E a) (E b) d) fa l2 i2)
+        (λ n y y2 l2 i2. into_within b n t k y y2 (right_true (V a) (V b) h) (right_true (E a) (E b) d) fb l2 i2) i
     into_within (typed.cast u e) m t k pc pc2 h d f l i =
         let he = left_true (V e) (N e) h in
         let fe = fewer (value_nodes e + 1) (value_nodes e) t k (only (value_nodes e)) f in
@@ -351,10 +302,15 @@ module _ (z : Ground) where
         let c = callee_fine callee result used (right_true (A ps arguments) (call_fits result used (callee_type z.source callee)) h)
         (few (length ps) (argument_nodes arguments) t z.bound (parameters_few ps arguments typed_arguments) f.0) in
         call_within z at callee result used arguments m t k pc pc2 l (free (typed.call at callee result used arguments) t k f) c
-        (λ y y2 i2. passes_within arguments ps 0 k y y2 typed_arguments d (from_zero t (argument_nodes arguments) z.bound f.0, less k (argument_nodes arguments + 1) (argument_nodes arguments) z.bound (only (argument_nodes arguments)) f.1) i2) i
+        (λ y y2 i2. passes_within arguments ps 0 k y y2 typed_arguments d (
+          from_zero t (argument_nodes arguments) z.bound f.0,
+          less k (argument_nodes arguments + 1) (argument_nodes arguments) z.bound
+              (only (argument_nodes arguments)) f.1,
+        ) i2) i
 
     -- the name of what is found stands for what is there
-    pub find_within : (place : Place) (c : Bool) (t k pc pc2 : ℕ) → place_is_typed z.source z.function place ≡ true → in_place z.source place ≡ true → NamedFine z place
+    pub find_within : (place : Place) (c : Bool) (t k pc pc2 : ℕ) → place_is_typed z.source z.function place ≡ true → in_place z.source place ≡ true
+        → NamedFine z place
         → Fits (place_nodes place) t k → Finds z.code (sizes z) place c t k pc pc2 → Within z (pc2 ≤ z.limit) (place_nodes place) 124 pc pc2
     find_within (typed.named at what) c t k pc pc2 h d n f i = nothing z pc pc2 i
     find_within (typed.element at array index) c t k pc pc2 h d n f i =
@@ -373,12 +329,14 @@ module _ (z : Ground) where
         let fi = fits_beside array b t k (value_nodes index) f in
         let s = waits z index writes_none false t2 k2 (rests_fine z index hi) in
         let there = array_fine z array ha da (left_true is (V index && N index) h2) in
-        element_within z array index b t k t2 k2 (free_temporary x t2) (sizes z (typed.element at array index)) (found array b t k) (target_for c t k) x pc i.0 i.1 i.2 pc2
+        element_within z array index b t k t2 k2 (free_temporary x t2) (sizes z (typed.element at array index)) (found array b t k)
+        (target_for c t k) x pc i.0 i.1 i.2 pc2
         (λ y y2 i2. find_within array b t k y y2 ha da there fa i2) (λ m y y2 l2 i2. into_within index m t2 k2 y y2 hi di fi l2 i2) (mode_lands z x t2 k2 s)
         (target_fine z (target_for c t k) t k fr (lands_for z c t k)) (found_fine z array b t k fr there) (operand_fine z x t2 k2 (free index t2 k2 fi) s)
         (third_free array index b t k f) (z.sized at array index) i.3 i.4 i.5 i.6
 
-    pub passes_within : (arguments : Arguments) (ps : List ParameterType) (t k pc pc2 : ℕ) → arguments_are_typed z.source z.function ps arguments ≡ true → in_arguments z.source arguments ≡ true → Fits (argument_nodes arguments) t k
+    pub passes_within : (arguments : Arguments) (ps : List ParameterType) (t k pc pc2 : ℕ) → arguments_are_typed z.source z.function ps arguments ≡ true
+        → in_arguments z.source arguments ≡ true → Fits (argument_nodes arguments) t k
         → Passes z.code (sizes z) arguments t k pc pc2 → Within z (pc2 ≤ z.limit) (argument_nodes arguments) 0 pc pc2
     passes_within typed.no_arguments ps t k pc pc2 h d f i = none z pc pc2 i
     passes_within (typed.and_array array more) [] t k pc pc2 h d f i = absurd (differ h)
@@ -392,11 +350,13 @@ module _ (z : Ground) where
         let fa = fewer (place_nodes array + argument_nodes more) (place_nodes array) t k (of_both (place_nodes array) (argument_nodes more)) f in
         let fm : Fits (argument_nodes more) (t + 1) (slot_beside array b t k) = (
           beside_argument t (t + 1) (place_nodes array) (argument_nodes more) z.bound (some_place array) (same_le (t + 1)) f.0,
-          beside_argument k (slot_beside array b t k) (place_nodes array) (argument_nodes more) z.bound (some_place array) (more_kept_at z (found array b t k) k) f.1,
+          beside_argument k (slot_beside array b t k) (place_nodes array) (argument_nodes more) z.bound (some_place array)
+              (more_kept_at z (found array b t k) k) f.1,
         ) in
         let fr = fewer (place_nodes array + argument_nodes more) 1 t k (counted_first (place_nodes array) (argument_nodes more) (some_place array)) f in
         let there = array_fine z array ha da (has_rows v (type_of_place z.source z.function array) (left_true rows (A ps more) h2)) in
-        let last = hands_over_within z (found array b t k) t i.1 pc2 (found_fine z array b t k fr there) (let g = fr.0 in let below : t < z.bound = omega (arith, g) in below) i.4 in
+        let last = hands_over_within z (found array b t k) t i.1 pc2 (found_fine z array b t k fr there)
+        (let g = fr.0 in let below : t < z.bound = omega (arith, g) in below) i.4 in
         let rest = passes_within more ps (t + 1) (slot_beside array b t k) i.0 i.1 (right_true rows (A ps more) h2) (right_true (D array) (R more) d) fm i.3 in
         settle z (place_nodes array + argument_nodes more) 0 (array_room (place_nodes array) (argument_nodes more))
         (join z (aimed z (λ a. on i.0 pc2 z.limit (on i.0 i.1 pc2 rest.forward last.forward) a) (find_within array b t k pc i.0 ha da there fa i.2))
@@ -416,5 +376,6 @@ module _ (z : Ground) where
         let last = loads_within z (keeps u e) u o t i.1 pc2 (operand_fine z o t k fr s) (let g = fr.0 in let below : t < z.bound = omega (arith, g) in below) i.4 in
         let rest = passes_within more ps (t + 1) (free_kept o k) i.0 i.1 (argument_rest v u e (A ps more) h) (right_true (E e) (R more) d) fm i.3 in
         settle z (value_nodes e + argument_nodes more) 0 (row_room (value_nodes e) (argument_nodes more))
-        (join z (aimed z (λ a. (on i.0 pc2 z.limit (on i.0 i.1 pc2 rest.forward last.forward) a, mode_aims z o)) (into_within e (mode_of o) t k pc i.0 he (left_true (E e) (R more) d) fe (mode_lands z o t k s) i.2))
+        (join z (aimed z (λ a. (on i.0 pc2 z.limit (on i.0 i.1 pc2 rest.forward last.forward) a, mode_aims z o))
+        (into_within e (mode_of o) t k pc i.0 he (left_true (E e) (R more) d) fe (mode_lands z o t k s) i.2))
         (join z (aimed z (λ a. on i.1 pc2 z.limit last.forward a) rest) last))

@@ -82,8 +82,10 @@ module _ (z : Ground) where
   closes_within true pc pc2 b i = one z _ 104 pc pc2 i (omega arith) (λ a. (b, zero_small))
   closes_within false pc pc2 b i = settle z 1 104 (omega arith) (none z pc pc2 i)
 
-  pub all_within : (n start end back size lo : ℕ) (is_main : Bool) → back ≤ z.limit → statement_is_typed z.source z.function lo (length z.function.objects) z.function.body ≡ true → in_statement z.source z.function.body ≡ true
-      → widest z.function.body + 1 ≤ z.bound → 0 < z.bound → Idles z.code n 0 start → Stands z.code (sizes z) z.function.body end end back start end → Closes z.code is_main end back → One z.code instruction.Return back size
+  pub all_within : (n start end back size lo : ℕ) (is_main : Bool) → back ≤ z.limit
+      → statement_is_typed z.source z.function lo (length z.function.objects) z.function.body ≡ true → in_statement z.source z.function.body ≡ true
+      → widest z.function.body + 1 ≤ z.bound → 0 < z.bound → Idles z.code n 0 start → Stands z.code (sizes z) z.function.body end end back start end
+      → Closes z.code is_main end back → One z.code instruction.Return back size
       → Within z (Unit {0}) (n + (statement_nodes z.function.body + (1 + 2))) (124 * n + (0 + (104 + 84))) 0 size
   all_within n start end back size lo is_main e h d w b idles body closes leaves =
       let nodes = statement_nodes z.function.body in

@@ -1,4 +1,5 @@
 pub mod Lists
+pub mod Numbers
 pub mod Grounds
 pub mod Stretches
 pub mod Rows

@@ -109,7 +109,8 @@ module _ (z : Ground) where
   pub read_within : (u : IntType) (place : Place) (m : Mode) (t k pc pc2 : ℕ) → RestsFine z (object_of place) → 1 ≤ place_nodes place → ModeLands z m t k → Free z t k
       → FoundAt place false t k → Into z.code (sizes z) (typed.read u place) m t k pc pc2 → Within z (Aims z m pc2) (place_nodes place) 32 pc pc2
   read_within u place m t k pc pc2 r w l f there h = on_object z (object_of place) _ _ r h
-      (λ x n i. settle z (place_nodes place) 32 (read_room (place_nodes place) w) (join z (nothing z pc i.0 i.1) (ends_within z m (operand.Object x) t k i.0 pc2 l f n i.2)))
+      (λ x n i. settle z (place_nodes place) 32 (read_room (place_nodes place) w)
+      (join z (nothing z pc i.0 i.1) (ends_within z m (operand.Object x) t k i.0 pc2 l f n i.2)))
       (λ none i. read_memory z u place m t k (found place false t k) pc i.0 pc2 l f (there none).0 (there none).1 i.1 i.2)
 
   pub assigned_within : (at : Pos) (u : IntType) (place : Place) (e : Value) (m : Mode) (t k pc pc2 : ℕ) → RestsFine z (object_of place) → RestsFine z (rests_in e) → 1 ≤ place_nodes place
@@ -118,7 +119,8 @@ module _ (z : Ground) where
       → Into z.code (sizes z) (typed.assigned at u place e) m t k pc pc2 → Within z (Aims z m pc2) (place_nodes place + value_nodes e + 1) 32 pc pc2
   assigned_within at u place e m t k pc pc2 r re w l f f2 de de2 there h = on_object z (object_of place) _ _ r h (λ x n i.
       let last = ends_within z m (operand.Object x) t k i.2 pc2 l f n i.6 in
-      let stored = converts_within z (keeps u e) (λ n a b. Into z.code (sizes z) e n t k a b) u (operand_of e t k) (target.Object x) (value_nodes e) t k i.1 i.2 n (waits z e writes_none false t k re) f de i.5 in
+      let stored = converts_within z (keeps u e) (λ n a b. Into z.code (sizes z) e n t k a b) u (operand_of e t k) (target.Object x)
+      (value_nodes e) t k i.1 i.2 n (waits z e writes_none false t k re) f de i.5 in
       settle z (place_nodes place + value_nodes e + 1) 32 (assigned_room (place_nodes place) (value_nodes e) w)
       (join z (nothing z pc i.0 i.3) (join z (nothing z i.0 i.1 i.4) (join z (aimed z (λ a. (on i.2 pc2 z.limit last.forward a.0, tt)) stored) last))))
       (λ none i.
@@ -126,12 +128,14 @@ module _ (z : Ground) where
       let k2 = slot_beside place (calls e) t k in
       let x = operand_of e t2 k2 in
       let s = waits z e writes_none false t2 k2 re in
-      assigned_memory z (cuts u m || keeps u e) u place e m (calls e) t k t2 k2 (found place (calls e) t k) x pc i.0 i.1 i.2 pc2 l f (there none).0 de2 (mode_lands z x t2 k2 s)
+      assigned_memory z (cuts u m || keeps u e) u place e m (calls e) t k t2 k2 (found place (calls e) t k) x pc i.0 i.1 i.2 pc2 l f (there none).0 de2
+      (mode_lands z x t2 k2 s)
       (there none).1 (operand_fine z x t2 k2 f2 s) (below t2 z.bound f2.0) i.3 i.4 i.5 i.6)
 
   pub compound_within : (at : Pos) (o : BinOp) (u of : IntType) (place : Place) (e : Value) (m : Mode) (t k pc pc2 : ℕ) → RestsFine z (object_of place) → RestsFine z (rests_in e) → 1 ≤ place_nodes place
       → ModeLands z m t k → Free z t k → Free z (temporary_beside place (calls e) t k) (slot_beside place (calls e) t k)
-      → free_temporary (operand_of e (temporary_beside place (calls e) t k) (slot_beside place (calls e) t k)) (temporary_beside place (calls e) t k) < z.bound → DoesAt z e t k
+      → free_temporary (operand_of e (temporary_beside place (calls e) t k) (slot_beside place (calls e) t k)) (temporary_beside place (calls e) t k) < z.bound
+      → DoesAt z e t k
       → DoesAt z e (temporary_beside place (calls e) t k) (slot_beside place (calls e) t k) → FoundAt place (calls e) t k
       → Into z.code (sizes z) (typed.compound at o u of place e) m t k pc pc2 → Within z (Aims z m pc2) (place_nodes place + value_nodes e + 1) 32 pc pc2
   compound_within at o u of place e m t k pc pc2 r re w l f f2 fj de de2 there h = on_object z (object_of place) _ _ r h (λ x n i.
@@ -140,7 +144,8 @@ module _ (z : Ground) where
       let last = ends_within z m (operand.Object x) t k i.3 pc2 l f n i.8 in
       let done = join z (changes_within z (is_wide u) o u of x a t i.2 i.3 n (operand_fine z a t k f s) (below t z.bound f.0) i.7) last in
       settle z (place_nodes place + value_nodes e + 1) 32 (compound_room (place_nodes place) (value_nodes e) w)
-      (join z (nothing z pc i.0 i.4) (join z (nothing z i.0 i.1 i.5) (join z (held z m a i.2 pc2 done.forward (de (mode_of a) i.1 i.2 (mode_lands z a t k s) i.6)) done))))
+      (join z (nothing z pc i.0 i.4) (join z (nothing z i.0 i.1 i.5)
+      (join z (held z m a i.2 pc2 done.forward (de (mode_of a) i.1 i.2 (mode_lands z a t k s) i.6)) done))))
       (λ none i.
       let t2 = temporary_beside place (calls e) t k in
       let k2 = slot_beside place (calls e) t k in
@@ -154,9 +159,11 @@ module _ (z : Ground) where
       → Into z.code (sizes z) (typed.stepped at moment o u of place) m t k pc pc2 → Within z (Aims z m pc2) (place_nodes place + 1) 32 pc pc2
   stepped_within at moment o u of place m t k pc pc2 r w l f b fj there h = on_object z (object_of place) _ _ r h (λ x n i.
       settle z (place_nodes place + 1) 32 (stepped_room (place_nodes place) w)
-      (join z (nothing z pc i.0 i.2) (join z (nothing z i.0 i.1 i.3) (steps_by_within z moment (is_wide u) (step_operation o) u of m x t k i.1 pc2 n l f b i.4))))
+      (join z (nothing z pc i.0 i.2) (join z (nothing z i.0 i.1 i.3)
+      (steps_by_within z moment (is_wide u) (step_operation o) u of m x t k i.1 pc2 n l f b i.4))))
       (λ none i.
-      stepped_memory z moment (step_operation o) u of place m false t k (temporary_beside place false t k) (found place false t k) pc i.0 i.1 i.2 pc2 l f (there none).0 (there none).1 fj
+      stepped_memory z moment (step_operation o) u of place m false t k (temporary_beside place false t k) (found place false t k) pc i.0 i.1 i.2 pc2 l f
+      (there none).0 (there none).1 fj
       i.3 i.4 i.5 i.6)
 
   -- ---- operators
@@ -166,8 +173,10 @@ module _ (z : Ground) where
   same_within e m n t k pc p1 pc2 aims l de i1 i2 =
       settle z (value_nodes e + 1) 32 (same_room (value_nodes e)) (join z (nothing z pc p1 i1) (aimed z aims (de n p1 pc2 l i2)))
 
-  pub signed_within : (e : Value) (o : BinOp) (r : Reading) (x y : Operand) (m : Mode) (t k pc p1 p2 pc2 : ℕ) → RestsFine z (rests_in e) → ModeLands z m t k → Free z t k → DoesAt z e t k
-      → OperandFine z x → OperandFine z y → One z.code instruction.Nothing pc p1 → Into z.code (sizes z) e (mode_of (operand_of e t k)) t k p1 p2 → Then z.code o r m x y t p2 pc2
+  pub signed_within : (e : Value) (o : BinOp) (r : Reading) (x y : Operand) (m : Mode) (t k pc p1 p2 pc2 : ℕ) → RestsFine z (rests_in e) → ModeLands z m t k
+      → Free z t k → DoesAt z e t k
+      → OperandFine z x → OperandFine z y → One z.code instruction.Nothing pc p1 → Into z.code (sizes z) e (mode_of (operand_of e t k)) t k p1 p2
+      → Then z.code o r m x y t p2 pc2
       → Within z (Aims z m pc2) (value_nodes e + 1) 32 pc pc2
   signed_within e o r x y m t k pc p1 p2 pc2 re l f de fx fy i1 i2 i3 =
       let a = operand_of e t k in
@@ -202,8 +211,10 @@ module _ (z : Ground) where
       settle z (value_nodes a + value_nodes b + 1) 32 (both_room (value_nodes a) (value_nodes b)) (join z (nothing z pc p1 i1)
       (join z (aimed z (λ c. (on p2 pc2 z.limit last.forward c.0, aims c.0 c.1)) (da (If s to2) p1 p2 tt i2)) last))
 
-  pub truth_within : (a b : Value) (m : Mode) (s : Bool) (to t k pc p1 p2 p3 other pc2 : ℕ) → to ≤ other → ModeLands z m t k → Free z t k → DoesAt z a t k → DoesAt z b t k
-      → One z.code instruction.Nothing pc p1 → Into z.code (sizes z) a (If s to) t k p1 p2 → Into z.code (sizes z) b (If false other) t k p2 p3 → Truths z.code (target_of m t) p3 other pc2
+  pub truth_within : (a b : Value) (m : Mode) (s : Bool) (to t k pc p1 p2 p3 other pc2 : ℕ) → to ≤ other → ModeLands z m t k → Free z t k → DoesAt z a t k
+      → DoesAt z b t k
+      → One z.code instruction.Nothing pc p1 → Into z.code (sizes z) a (If s to) t k p1 p2 → Into z.code (sizes z) b (If false other) t k p2 p3
+      → Truths z.code (target_of m t) p3 other pc2
       → Within z (Aims z m pc2) (value_nodes a + value_nodes b + 1) 32 pc pc2
   truth_within a b m s to t k pc p1 p2 p3 other pc2 h l f da db i1 i2 i3 i4 =
       let last = truths_within z m (target_of m t) p3 other pc2 (target_fine z (target_of m t) t k f (target_lands z m t k l)) i4 in
@@ -221,7 +232,8 @@ module _ (z : Ground) where
       let last = db m i.3 pc2 l i.8 in
       let middle = da m i.1 i.2 l i.6 in
       let there : i.2 ≤ pc2 = on i.2 i.3 pc2 (next_le i.2 i.3 i.7.next) last.forward in
-      settle z (value_nodes c + value_nodes a + value_nodes b + 1) 32 (chosen_room (value_nodes c) (value_nodes a) (value_nodes b)) (join z (nothing z pc i.0 i.4)
+      settle z (value_nodes c + value_nodes a + value_nodes b + 1) 32 (chosen_room (value_nodes c) (value_nodes a) (value_nodes b))
+      (join z (nothing z pc i.0 i.4)
       (join z (jumping m false i.3 i.1 pc2 (on i.1 i.2 pc2 middle.forward there) last.forward (dc (If false i.3) i.0 i.1 tt i.5))
       (join z (shorter m i.2 pc2 there middle)
       (join z (one z _ 124 i.2 i.3 i.7 (omega arith) (λ x. x.0)) last))))
@@ -237,7 +249,8 @@ module _ (z : Ground) where
       → Into z.code (sizes z) (typed.cast u e) m t k pc pc2 → Within z (Aims z m pc2) (value_nodes e + 1) 32 pc pc2
   cast_within u e m t k pc pc2 re l f de i =
       settle z (value_nodes e + 1) 32 (cast_room (value_nodes e)) (join z (nothing z pc i.0 i.1)
-      (casts_within z (keeps u e) (λ n a b. Into z.code (sizes z) e n t k a b) u (operand_of e t k) m (value_nodes e) t k i.0 pc2 l (waits z e writes_none false t k re) f de i.2))
+      (casts_within z (keeps u e) (λ n a b. Into z.code (sizes z) e n t k a b) u (operand_of e t k) m (value_nodes e) t k i.0 pc2 l
+      (waits z e writes_none false t k re) f de i.2))
 
   pub discarded_within : (e : Value) (m : Mode) (t k pc pc2 : ℕ) → ModeLands z m t k → Free z t k → DoesAt z e t k
       → Into z.code (sizes z) (typed.discarded e) m t k pc pc2 → Within z (Aims z m pc2) (value_nodes e + 1) 32 pc pc2

@@ -148,7 +148,8 @@ module _ (p : typed.Program) (q : Program) (checked : IsChecked p) (asked : is_a
 
     whole : Within ground (Unit {0}) (suc (length f.type.parameters) + (statement_nodes f.body + (1 + 2))) (124 * suc (length f.type.parameters) + (0 + (104 + 84))) 0 (length g.code)
     whole = all_within ground (suc (length f.type.parameters)) made.start made.end made.back (length g.code) (numbers_in f.type.parameters) (nat_eq k p.main)
-        (same_le made.back) typed_parts.3 (checked.each k f ef).defined (same_le (widest f.body + 1)) (positive (widest f.body)) made.idles made.body made.closes made.leaves
+        (same_le made.back) typed_parts.3 (checked.each k f ef).defined (same_le (widest f.body + 1))
+        (positive (widest f.body)) made.idles made.body made.closes made.leaves
 
     each_fine : (j : ℕ) (x : Instruction) → slice_get g.code j ≡ Some x → Fine ground x
     each_fine j x e = whole.each tt j x (nothing_below j) (slice_get_within g.code j x e) e
@@ -186,7 +187,8 @@ module _ (p : typed.Program) (q : Program) (checked : IsChecked p) (asked : is_a
         (length_le g.code) whole.room typed_parts.0 parameters_same (checked.each k f ef).nodes
 
     instruction_fits : (j : ℕ) (x : Instruction) → slice_get g.code j ≡ Some x → InstructionFits q g x
-    instruction_fits j x e = fits ground g made.objects made.parameters code.literals code.statics (one_on made.back (length g.code) made.leaves.next) x (each_fine j x e)
+    instruction_fits j x e = fits ground g made.objects made.parameters code.literals code.statics (one_on made.back (length g.code) made.leaves.next) x
+        (each_fine j x e)
         (subst (λ n. temporaries_of q x ≤ n) (sym made.temporaries) (in_most (temporaries_of q) g.code j x e))
         (subst (λ n. slots_of x ≤ n) (sym made.kept) (in_most slots_of g.code j x e))
 
