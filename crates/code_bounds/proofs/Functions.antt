@@ -18,6 +18,7 @@ use Rattle.tac.specs.Costs.{array_parameters}
 use Rattle.tac.specs.Designated.{in_statement}
 use Rattle.tac.specs.Lowered.{kind_of}
 use Rattle.tac.specs.Sound.{IsScalar, OperandFits, TargetFits, PlaceFits, InstructionFits}
+use Rattle.checked.specs.Asked.{types_are_sized}
 use Rattle.lowering.specs.Code.{One}
 use Rattle.lowering.specs.Bodies.{Idles, Closes, Stands, temporary_in, kept_in, temporary_at, kept_at, temporary_to, kept_to, temporaries_of, slots_of, most}
 use Rattle.code_bounds.proofs.Grounds.{Ground, sizes, IsNumber, OperandFine, TargetFine, SpotFine, Fine}
@@ -171,7 +172,7 @@ module _ (z : Ground) where
   -- ---- and is there
 
   module _ (g : Function) (same : g.objects ≡ z.function.objects) (passed : g.parameters ≡ map kind_of z.function.type.parameters)
-      (literals : z.made.literals ≡ z.source.literals) (statics : z.made.statics ≡ z.source.statics) (inside : z.limit < length g.code) where
+      (literals : z.made.literals ≡ z.source.literals) (statics : z.made.statics ≡ z.source.statics) (sized : types_are_sized z.source ≡ true) (inside : z.limit < length g.code) where
     scalar : (n : ℕ) → IsNumber z n → IsScalar g n
     scalar n f = (f.0, ap (λ l. scalar_type (slice_get l n)) same ∙ f.1)
 
@@ -228,7 +229,7 @@ module _ (z : Ground) where
           target_fits d f.0 (left_max (temporary_to d) (max (temporary_in x) (temporary_in y)) g.temporaries t) (left_max (kept_to d) (max (kept_in x) (kept_in y)) g.kept k),
           operand_fits x f.1 (left_max (temporary_in x) (temporary_in y) g.temporaries t2) (left_max (kept_in x) (kept_in y) g.kept k2),
           operand_fits y f.2 (right_max (temporary_in x) (temporary_in y) g.temporaries t2) (right_max (kept_in x) (kept_in y) g.kept k2),
-          f.3,
+          f.3 sized,
         )
     fits (instruction.Forget n c) f t k = subst (λ l. n + c ≤ length l) (sym same) f
     fits (instruction.Jump to) f t k = to_inside to z.limit (length g.code) f inside

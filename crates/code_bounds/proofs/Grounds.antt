@@ -15,11 +15,12 @@ use Rattle.tac.specs.declared.code.Instruction.TheVariants as instruction
 use Rattle.tac.specs.Code.{Program, function_at, scalar_type}
 use Rattle.tac.specs.Costs.{array_parameters}
 use Rattle.tac.specs.Lowered.{kind_of}
+use Rattle.checked.specs.Asked.{types_are_sized}
 use Rattle.lowering.specs.Values.{Mode, Nowhere, To, If}
 use Rattle.lowering.specs.Places.{size_of_place}
 
 -- a function of a typed program, the code of it, up to where it jumps, and what temporaries and slots are below; the others' parameters,
--- and that elements and rows have sizes that are words
+-- and that elements and rows have sizes that are words, where types are sized
 pub record Ground : Type 0 where
   pub source : typed.Program
   pub function : typed.Function
@@ -29,7 +30,8 @@ pub record Ground : Type 0 where
   pub bound : ℕ
   pub callees : (n : ℕ) (g : typed.Function) → slice_get source.functions n ≡ Some g
       → (n < length made.functions) × (length (function_at made n).parameters ≡ length g.type.parameters)
-  pub sized : (at : Pos) (array : typed.Place) (index : typed.Value) → size_of_place source function (typed.element at array index) < 2 ^ 32
+  pub sized : (at : Pos) (array : typed.Place) (index : typed.Value) → types_are_sized source ≡ true
+      → size_of_place source function (typed.element at array index) < 2 ^ 32
 
 module _ (z : Ground) where
   abbrev pub sizes : typed.Place → ℕ
@@ -61,6 +63,9 @@ module _ (z : Ground) where
   abbrev pub SpotFine : Spot → Type 0
   SpotFine a = SpotIs OperandFine a
 
+  abbrev pub SizeFine : ℕ → Type 0
+  SizeFine size = types_are_sized z.source ≡ true → size < 2 ^ 32
+
   abbrev pub Fine : Instruction → Type 0
   Fine instruction.Nothing = Unit {0}
   Fine (instruction.Move d x) = TargetFine d × OperandFine x
@@ -69,7 +74,7 @@ module _ (z : Ground) where
   Fine (instruction.Load t d l) = TargetFine d × SpotFine l
   Fine (instruction.Store t x l) = OperandFine x × SpotFine l
   Fine (instruction.Address d l) = TargetFine d × SpotFine l
-  Fine (instruction.Part d x y size) = TargetFine d × OperandFine x × OperandFine y × (size < 2 ^ 32)
+  Fine (instruction.Part d x y size) = TargetFine d × OperandFine x × OperandFine y × SizeFine size
   Fine (instruction.Forget n k) = n + k ≤ length z.function.objects
   Fine (instruction.Jump to) = to ≤ z.limit
   Fine (instruction.Branch c r x y to) = OperandFine x × OperandFine y × (to ≤ z.limit)

@@ -16,7 +16,7 @@ use Rattle.checked.specs.Asked.{is_wide}
 use Rattle.lowering.specs.Values.{reading_of, Mode, Nowhere, To, If, mode_of, target_of}
 use Rattle.lowering.specs.Places.{cuts}
 use Rattle.lowering.specs.Code.{OnObject, One, Parts, PartsNamed, Gets, Puts, Alters, AltersAside, AltersBy, HandsOver, Finds, Into}
-use Rattle.code_bounds.proofs.Grounds.{Ground, sizes, IsNumber, OperandFine, TargetFine, SpotFine, ModeLands, Aims}
+use Rattle.code_bounds.proofs.Grounds.{Ground, sizes, IsNumber, OperandFine, TargetFine, SpotFine, SizeFine, ModeLands, Aims}
 use Rattle.code_bounds.proofs.Stretches.{Within, one, none, join, settle, aimed}
 use Rattle.code_bounds.proofs.Operands.{Free, RestsFine, target_fine, target_lands, mode_aims}
 use Rattle.code_bounds.proofs.Leaves.{ends_within, follows_within, computes_within}
@@ -51,13 +51,13 @@ module _ (z : Ground) where
   -- ---- parts, loads and stores
 
   named_parts_within : {A : Type 0} (a : Spot) (g : Target) (i : Operand) (size t pc pc2 : ℕ) → TargetFine z g → SpotFine z a → OperandFine z i → t < z.bound
-      → size < 2 ^ 32
+      → SizeFine z size
       → PartsNamed z.code a g i size t pc pc2 → Within z A 1 52 pc pc2
   named_parts_within a g i size t pc pc2 fg fa fi ft fs h =
       settle z 1 52 (omega arith) (join z (one z _ 104 pc h.0 h.1 (omega arith) (λ x. (ft, fa))) (one z _ 76 h.0 pc2 h.2 (omega arith) (λ x. (fg, ft, fi, fs))))
 
   pub parts_within : {A : Type 0} (a : Spot) (g : Target) (i : Operand) (size t pc pc2 : ℕ) → TargetFine z g → SpotFine z a → OperandFine z i → t < z.bound
-      → size < 2 ^ 32
+      → SizeFine z size
       → Parts z.code a g i size t pc pc2 → Within z A 1 52 pc pc2
   parts_within (place.At o) g i size t pc pc2 fg fa fi ft fs h = settle z 1 52 (omega arith) (one z _ 76 pc pc2 h (omega arith) (λ x. (fg, fa, fi, fs)))
   parts_within (place.Literal n) g i size t pc pc2 fg fa fi ft fs h = named_parts_within (place.Literal n) g i size t pc pc2 fg fa fi ft fs h
@@ -158,7 +158,7 @@ module _ (z : Ground) where
 
   pub element_within : (array : Place) (index : Value) (b : Bool) (t k t2 k2 j size : ℕ) (a : Spot) (g : Target) (x : Operand) (pc p1 p2 p3 pc2 : ℕ)
       → FindsAt array b t k
-      → DoesAt index t2 k2 → ModeLands z (mode_of x) t2 k2 → TargetFine z g → SpotFine z a → OperandFine z x → j < z.bound → size < 2 ^ 32
+      → DoesAt index t2 k2 → ModeLands z (mode_of x) t2 k2 → TargetFine z g → SpotFine z a → OperandFine z x → j < z.bound → SizeFine z size
       → One z.code instruction.Nothing pc p1 → Finds z.code (sizes z) array b t k p1 p2 → Into z.code (sizes z) index (mode_of x) t2 k2 p2 p3
       → Parts z.code a g x size j p3 pc2
       → Within z (pc2 ≤ z.limit) (place_nodes array + value_nodes index + 1) 124 pc pc2

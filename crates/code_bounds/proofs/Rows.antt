@@ -10,7 +10,7 @@ use Rattle.typed.specs.Expressions.{object_limit}
 use Rattle.typed.specs.Program as typed
 use Rattle.typed.specs.Program.{Static, Storage, Place, Value, Function, Program}
 use Rattle.typed.specs.Nodes.{reference_in, text_type, static_type, object_type, row_type, type_of_storage, type_of_place}
-use Rattle.checked.specs.Asked.{is_sized, parameter_is_sized, function_is_sized}
+use Rattle.checked.specs.Asked.{is_sized, parameter_is_sized, function_is_sized, types_are_sized}
 use Rattle.checked.specs.Settled.{Sized}
 use Rattle.checked.proofs.Ground.{row_sized}
 use Rattle.lowering.specs.Places.{size_of_type, size_of_place}
@@ -19,7 +19,7 @@ use Rattle.code_bounds.proofs.Lists.{same_some}
 
 -- ---- the test
 
-pub of_all : {A : Type 0} (test : A → Bool) (xs : List A) (n : ℕ) (x : A) → list_all test xs ≡ true → slice_get xs n ≡ Some x → test x ≡ true
+of_all : {A : Type 0} (test : A → Bool) (xs : List A) (n : ℕ) (x : A) → list_all test xs ≡ true → slice_get xs n ≡ Some x → test x ≡ true
 of_all test [] n x h e = absurd (let no_such : ⊥ = cc in no_such)
 of_all test (y ∷ xs) zero x h e = subst (λ z. test z ≡ true) (same_some y x e) (left_true (test y) (list_all test xs) h)
 of_all test (y ∷ xs) (suc n) x h e = of_all test xs n x (right_true (test y) (list_all test xs) h) e
@@ -105,5 +105,12 @@ module _ (p : Program) (f : Function) (of_function : function_is_sized f ≡ tru
   of_place (typed.named at what) = of_storage what
   of_place (typed.element at array index) = of_row (type_of_place p f array) (of_place array)
 
-  pub small_part : (at : Pos) (array : Place) (index : Value) → size_of_place p f (typed.element at array index) < 2 ^ 32
+  small_part : (at : Pos) (array : Place) (index : Value) → size_of_place p f (typed.element at array index) < 2 ^ 32
   small_part at array index = small_row (type_of_place p f array) (of_place array)
+
+pub parts_are_small : (p : Program) (k : ℕ) (f : Function) → slice_get p.functions k ≡ Some f → types_are_sized p ≡ true
+    → (at : Pos) (array : Place) (index : Value) → size_of_place p f (typed.element at array index) < 2 ^ 32
+parts_are_small p k f e h =
+    let functions = list_all function_is_sized p.functions in
+    let statics = list_all (λ (o : Static). is_sized o.type) p.statics in
+    small_part p f (of_all function_is_sized p.functions k f (left_true functions statics h) e) (right_true functions statics h)

@@ -1,7 +1,6 @@
 -- Plain code is sound and within its bounds: the whole program.
 use Rattle.std.proofs.Common.{◌≡◌, ℕ, zero, suc, ◌+◌, ◌*◌, ◌-◌, ◌/◌, ◌<◌, ◌≤◌, ◌^◌, List, [], ◌∷◌, length, map, Some, true, ◌&&◌, refl, sym, ap, ◌∙◌, subst, arith}
 use Rattle.std.specs.Prelude.{nat_eq, nat_le, nat_lt, slice_get, sum_by}
-use Rattle.std.specs.List.{list_all}
 use Rattle.std.proofs.lemmas.Option.{slice_get_within}
 use Rattle.std.proofs.lemmas.List.Sums.{sum_by-cons}
 use Rattle.std.proofs.lemmas.Bool.Decides.{nat_tests}
@@ -18,7 +17,7 @@ use Rattle.tac.specs.Costs.{code_bytes, array_parameters, call_bytes}
 use Rattle.tac.specs.Spans.{widest, own_bytes}
 use Rattle.tac.specs.Sound.{IsScalar, InstructionFits, number_parameters, FunctionFits, data_bytes, IsSoundProgram}
 use Rattle.tac.specs.Lowered.{kind_of, IsChecked, IsCodeOf}
-use Rattle.checked.specs.Asked.{bodies_are_asked, is_sized, function_is_sized, types_are_sized, is_asked}
+use Rattle.checked.specs.Asked.{bodies_are_asked, types_are_sized}
 use Rattle.lowering.specs.Bodies.{temporaries_of, slots_of, IsFunctionFor, IsCodeFor}
 use Rattle.lowering.proofs.Words.{left_true, right_true}
 use Rattle.lowering.proofs.Program.{code_behaves}
@@ -27,7 +26,7 @@ use Rattle.code_bounds.specs.Laws.{PlainCodeIsSound, PlainCodeIsBounded, PlainCo
 use Rattle.code_bounds.proofs.Lists.{same_some, got_below, length_map}
 use Rattle.code_bounds.proofs.Grounds.{Ground, Fine}
 use Rattle.code_bounds.proofs.Stretches.{Within}
-use Rattle.code_bounds.proofs.Rows.{of_all, small_part}
+use Rattle.code_bounds.proofs.Rows.{parts_are_small}
 use Rattle.code_bounds.proofs.Functions.{most_le, in_most, all_within, temporaries_le, slots_le, fits}
 use Rattle.code_bounds.proofs.Sizes.{widest_le, references, first_scalar, stack_fits, bytes_le, length_le}
 
@@ -94,7 +93,7 @@ static_typed (x ∷ os) zero o h e =
 static_typed (x ∷ os) (suc n) o h e =
     static_typed os n o (right_true (values_fit x.type.element x.values) (statics_are_typed os) (right_true (nat_le (length x.values) (elements_in x.type.lengths)) (values_fit x.type.element x.values && statics_are_typed os) h)) e
 
-module _ (p : typed.Program) (q : Program) (checked : IsChecked p) (asked : is_asked p ≡ true) (code : IsCodeFor p q) where
+module _ (p : typed.Program) (q : Program) (checked : IsChecked p) (code : IsCodeFor p q) where
   parts : (functions_are_typed p p.functions ≡ true) × (statics_are_typed p.statics ≡ true) × (nat_lt p.main (length p.functions) ≡ true)
   parts =
       let h = checked.well_typed in
@@ -103,12 +102,6 @@ module _ (p : typed.Program) (q : Program) (checked : IsChecked p) (asked : is_a
         left_true (statics_are_typed p.statics) (nat_lt p.main (length p.functions)) rest,
         right_true (statics_are_typed p.statics) (nat_lt p.main (length p.functions)) rest,
       )
-
-  sized : (list_all function_is_sized p.functions ≡ true) × (list_all (λ o. is_sized o.type) p.statics ≡ true)
-  sized =
-      let h = right_true (bodies_are_asked p) (types_are_sized p) asked in
-      let a = list_all function_is_sized p.functions in
-      let b = list_all (λ (o : Static). is_sized o.type) p.statics in (left_true a b h, right_true a b h)
 
   callees : (n : ℕ) (f : typed.Function) → slice_get p.functions n ≡ Some f → (n < length q.functions) × (length (function_at q n).parameters ≡ length f.type.parameters)
   callees n f e =
@@ -131,7 +124,7 @@ module _ (p : typed.Program) (q : Program) (checked : IsChecked p) (asked : is_a
       limit = made.back;
       bound = widest f.body + 1;
       callees = callees;
-      sized = small_part p f (of_all function_is_sized p.functions k f sized.0 ef) sized.1;
+      sized = λ at array index h. parts_are_small p k f ef h at array index;
     }
 
     typed_parts : (typed_nodes f ≤ f.nodes) × (f.weight ≤ 1048576) × (parameters_are_first f.type.parameters f.objects ≡ true)
@@ -186,8 +179,8 @@ module _ (p : typed.Program) (q : Program) (checked : IsChecked p) (asked : is_a
     short = length_fits (length g.code) (before g.code (length g.code)) (length f.type.parameters) (statement_nodes f.body) f.nodes (length g.parameters)
         (length_le g.code) whole.room typed_parts.0 parameters_same (checked.each k f ef).nodes
 
-    instruction_fits : (j : ℕ) (x : Instruction) → slice_get g.code j ≡ Some x → InstructionFits q g x
-    instruction_fits j x e = fits ground g made.objects made.parameters code.literals code.statics (one_on made.back (length g.code) made.leaves.next) x
+    instruction_fits : types_are_sized p ≡ true → (j : ℕ) (x : Instruction) → slice_get g.code j ≡ Some x → InstructionFits q g x
+    instruction_fits sized j x e = fits ground g made.objects made.parameters code.literals code.statics sized (one_on made.back (length g.code) made.leaves.next) x
         (each_fine j x e)
         (subst (λ n. temporaries_of q x ≤ n) (sym made.temporaries) (in_most (temporaries_of q) g.code j x e))
         (subst (λ n. slots_of x ≤ n) (sym made.kept) (in_most slots_of g.code j x e))
@@ -197,12 +190,12 @@ module _ (p : typed.Program) (q : Program) (checked : IsChecked p) (asked : is_a
         let s = first_scalar f.type.parameters f.objects n typed_parts.2 (subst (λ ps. n < number_parameters ps) made.parameters lt) in
         (s.0, ap (λ l. scalar_type (slice_get l n)) made.objects ∙ s.1)
 
-    function_fits : FunctionFits q g
-    function_fits = record {
+    function_fits : types_are_sized p ≡ true → FunctionFits q g
+    function_fits sized = record {
       small = limit_is (call_bytes g) f.weight bounded.within_weight typed_parts.1;
       parameters = parameter_scalar;
       sized = λ n o e. (checked.each k f ef).sized n o (subst (λ l. slice_get l n ≡ Some o) made.objects e);
-      each = instruction_fits;
+      each = instruction_fits sized;
     }
 
   -- ---- all functions
@@ -219,11 +212,11 @@ module _ (p : typed.Program) (q : Program) (checked : IsChecked p) (asked : is_a
       let g = got_below q.functions p.main (callees p.main f.element f.is).0 in
       ap (λ o. (or_no_function o).parameters) g.is ∙ ((code.each p.main f.element g.element f.is g.is).parameters ∙ ap (map kind_of) (checked.main_takes_nothing f.element f.is))
 
-  sound : IsSoundProgram q
-  sound = record {
+  sound : types_are_sized p ≡ true → IsSoundProgram q
+  sound sized = record {
     has_main = main_there;
     main_takes_nothing = ap (λ n. (function_at q n).parameters) code.main ∙ main_bare;
-    each = λ k g e. let f = got_below p.functions k (source_of k g e) in function_fits k f.element g f.is e;
+    each = λ k g e. let f = got_below p.functions k (source_of k g e) in function_fits k f.element g f.is e sized;
     literals = λ n text e. checked.literals n text (subst (λ l. slice_get l n ≡ Some text) code.literals e);
     statics = λ n o e. static_typed p.statics n o parts.1 (subst (λ l. slice_get l n ≡ Some o) code.statics e);
     small = subst (λ l. data_bytes l q.statics ≤ 2 ^ 24) (sym code.literals) (subst (λ s. data_bytes p.literals s ≤ 2 ^ 24) (sym code.statics) checked.small);
@@ -232,18 +225,18 @@ module _ (p : typed.Program) (q : Program) (checked : IsChecked p) (asked : is_a
   }
 
 pub plain_code_is_sound : PlainCodeIsSound
-plain_code_is_sound = sound
+plain_code_is_sound p q checked sized code = sound p q checked code sized
 
 pub plain_code_is_bounded : PlainCodeIsBounded
 plain_code_is_bounded = bounded
 
 pub plain_code_is_lowered : PlainCodeIsLowered
 plain_code_is_lowered p q checked asked plain code = record {
-  sound = sound p q checked asked code;
+  sound = sound p q checked code (right_true (bodies_are_asked p) (types_are_sized p) asked);
   behaves = λ input bytes. code_behaves p q input checked asked plain code bytes;
   literals = code.literals;
   statics = code.statics;
   main = code.main;
   count = code.count;
-  each = bounded p q checked asked code;
+  each = bounded p q checked code;
 }
