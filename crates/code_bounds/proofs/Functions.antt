@@ -172,7 +172,8 @@ module _ (z : Ground) where
   -- ---- and is there
 
   module _ (g : Function) (same : g.objects ≡ z.function.objects) (passed : g.parameters ≡ map kind_of z.function.type.parameters)
-      (literals : z.made.literals ≡ z.source.literals) (statics : z.made.statics ≡ z.source.statics) (sized : types_are_sized z.source ≡ true) (inside : z.limit < length g.code) where
+      (literals : z.made.literals ≡ z.source.literals) (statics : z.made.statics ≡ z.source.statics) (sized : types_are_sized z.source ≡ true)
+      (inside : z.limit < length g.code) where
     scalar : (n : ℕ) → IsNumber z n → IsScalar g n
     scalar n f = (f.0, ap (λ l. scalar_type (slice_get l n)) same ∙ f.1)
 

@@ -180,7 +180,8 @@ module _ (p : typed.Program) (q : Program) (checked : IsChecked p) (code : IsCod
         (length_le g.code) whole.room typed_parts.0 parameters_same (checked.each k f ef).nodes
 
     instruction_fits : types_are_sized p ≡ true → (j : ℕ) (x : Instruction) → slice_get g.code j ≡ Some x → InstructionFits q g x
-    instruction_fits sized j x e = fits ground g made.objects made.parameters code.literals code.statics sized (one_on made.back (length g.code) made.leaves.next) x
+    instruction_fits sized j x e = fits ground g made.objects made.parameters code.literals code.statics sized
+        (one_on made.back (length g.code) made.leaves.next) x
         (each_fine j x e)
         (subst (λ n. temporaries_of q x ≤ n) (sym made.temporaries) (in_most (temporaries_of q) g.code j x e))
         (subst (λ n. slots_of x ≤ n) (sym made.kept) (in_most slots_of g.code j x e))
