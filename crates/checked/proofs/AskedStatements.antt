@@ -27,11 +27,12 @@ use Rattle.typed.specs.Units as units
 use Rattle.typed.specs.Units.{Built, external_typed, externals_typed, function_typed, body_typed, with_function, function_of, whole_program, program_of, unit_typed}
 use Rattle.typed.specs.Uses.{all_defined, uses_in_functions}
 use Rattle.meaning.specs.Statements.{labels_at, labels_of}
-use Rattle.checked.specs.Asked.{is_wide, gives, value_is_asked, initialiser_is_asked, initialisers_are_asked, option_is_asked, test_is_asked, declares, all_declare, label_fits, statement_is_asked, statements_are_asked, is_asked, ProgramIsAsked}
+use Rattle.checked.specs.Asked.{is_wide, gives, value_is_asked, initialiser_is_asked, initialisers_are_asked, option_is_asked, test_is_asked, declares, all_declare, label_fits, statement_is_asked, statements_are_asked, bodies_are_asked, types_are_sized, ProgramIsAsked}
 use Rattle.checked.proofs.Same.{both_true}
 use Rattle.checked.proofs.Verdicts.{then_any, then_some, both_some, part, of_fine}
 use Rattle.checked.proofs.Typings.{converted_is_value}
 use Rattle.checked.proofs.AskedValues.{Asked, WorthAsked, ValueAsked, number_asked, worth_asked, effect_asked, typing_asked, promoted_wide}
+use Rattle.checked.proofs.SizedUnits.{types_sized}
 
 -- ---- initialisers
 
@@ -391,7 +392,7 @@ externals_asked b [] h = h
 externals_asked b (e ∷ es) h = then_some BuiltAsked BuiltAsked (external_typed b e) (λ c. externals_typed c es) (external_asked b e h) (λ c k. externals_asked c es k)
 
 abbrev ProgramAsked : Program → Type 0
-ProgramAsked p = is_asked p ≡ true
+ProgramAsked p = bodies_are_asked p ≡ true
 
 whole_asked : (whole : Pos) (b : Built) → BuiltAsked b → IfFine ProgramAsked (whole_program whole b)
 whole_asked whole b h =
@@ -402,5 +403,6 @@ whole_asked whole b h =
 pub program_is_asked : ProgramIsAsked
 program_is_asked texts whole unit p e =
     let start : Built = record { scope = file_scope texts (units.definitions_in unit); functions = []; initial = [] } in
-    of_fine ProgramAsked (unit_typed texts whole unit) p e
-    (then_some BuiltAsked ProgramAsked (externals_typed start unit) (whole_program whole) (externals_asked start unit refl) (λ c h. whole_asked whole c h))
+    let bodies = of_fine ProgramAsked (unit_typed texts whole unit) p e
+    (then_some BuiltAsked ProgramAsked (externals_typed start unit) (whole_program whole) (externals_asked start unit refl) (λ c h. whole_asked whole c h)) in
+    and_from (bodies_are_asked p) (types_are_sized p) bodies (types_sized texts whole unit p e)

@@ -17,6 +17,8 @@ pub mod StatementNodes
 pub mod Texts
 pub mod Measured
 pub mod Whole
+pub mod SizedScopes
+pub mod SizedUnits
 pub mod AskedValues
 pub mod AskedStatements
 pub mod Parameters

@@ -1,12 +1,14 @@
--- What lowering asks of a typed program besides `IsChecked`: the constraints of ISO/IEC 9899:2011 6.3, 6.5 and 6.8 that the typed form
+-- What lowering asks of a typed program besides `IsChecked`: the constraints of ISO/IEC 9899:2011 6.3, 6.5, 6.7 and 6.8 that the typed form
 -- would let pass, each with its section.
-use Rattle.std.specs.Prelude.{◌≡◌, ℕ, ℤ, Bool, true, false, ◌&&◌, List, Option, Some, None}
+use Rattle.std.specs.Prelude.{◌≡◌, ℕ, ℤ, Bool, true, false, ◌&&◌, nat_le, nat_lt, List, Option, Some, None}
 use Rattle.std.specs.List.{list_all}
 use Rattle.ctypes.specs.declared.types.IntType.{IntType}
 use Rattle.ctypes.specs.declared.types.IntType.TheVariants as ty
 use Rattle.ctypes.specs.Types.{is_value_of}
 use Rattle.srcset.specs.declared.refusal.Pos.{Pos}
 use Rattle.tree.specs.Tree.{ExternalTree}
+use Rattle.typed.specs.Types.{ObjectType, ParameterType, number, elements, elements_in, size_of_object}
+use Rattle.typed.specs.Expressions.{object_limit}
 use Rattle.typed.specs.Program as typed
 use Rattle.typed.specs.Verdict.{fine}
 use Rattle.typed.specs.Units.{unit_typed}
@@ -149,8 +151,31 @@ abbrev mutual
   statements_are_asked typed.no_statements = true
   statements_are_asked (typed.and_statement x more) = statement_is_asked x && statements_are_asked more
 
+abbrev pub bodies_are_asked : Program → Bool
+bodies_are_asked p = list_all (λ f. statement_is_asked f.body) p.functions
+
+-- ---- sizes
+
+-- an array has elements (6.7.6.2p1), and no object has more bytes than this profile lets it have (5.2.4.1)
+abbrev pub is_sized : ObjectType → Bool
+is_sized t = nat_lt 0 (elements_in t.lengths) && nat_le (size_of_object t) object_limit
+
+-- 6.7.6.3p7: what an array parameter refers to
+abbrev pub parameter_is_sized : ParameterType → Bool
+parameter_is_sized (number t) = true
+parameter_is_sized (elements t) = is_sized t
+
+abbrev pub function_is_sized : Function → Bool
+function_is_sized f = list_all parameter_is_sized f.type.parameters && list_all is_sized f.objects
+
+-- 6.9.2p5: a size that stays unknown is 1
+abbrev pub types_are_sized : Program → Bool
+types_are_sized p = list_all function_is_sized p.functions && list_all (λ o. is_sized o.type) p.statics
+
+-- ---- all of it
+
 abbrev pub is_asked : Program → Bool
-is_asked p = list_all (λ f. statement_is_asked f.body) p.functions
+is_asked p = bodies_are_asked p && types_are_sized p
 
 -- ---- the law
 

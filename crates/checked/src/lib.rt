@@ -16,7 +16,7 @@ pub fn block_is_typed()
     ensures { BlockIsTyped }
 {}
 
-/// Operands have promoted types, what is used gives a value, a `for` declares, and cases are values of their switch's type.
+/// Operands have promoted types, what is used gives a value, a `for` declares, cases are values of their switch's type, and types are sized.
 pub fn program_is_asked()
     ensures { ProgramIsAsked }
 {}

@@ -1,4 +1,3 @@
 pub mod Present
-pub mod Declared
 pub mod Sized
 pub mod Joined

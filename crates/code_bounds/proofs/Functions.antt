@@ -15,13 +15,13 @@ use Rattle.tac.specs.declared.code.Instruction.{Instruction}
 use Rattle.tac.specs.declared.code.Instruction.TheVariants as instruction
 use Rattle.tac.specs.Code.{Function, function_at, scalar_type}
 use Rattle.tac.specs.Costs.{array_parameters}
-use Rattle.tac.specs.Designated.{in_function}
+use Rattle.tac.specs.Designated.{in_statement}
 use Rattle.tac.specs.Lowered.{kind_of}
-use Rattle.tac.specs.Sound as sound
 use Rattle.tac.specs.Sound.{IsScalar, OperandFits, TargetFits, PlaceFits, InstructionFits}
+use Rattle.checked.specs.Asked.{types_are_sized}
 use Rattle.lowering.specs.Code.{One}
 use Rattle.lowering.specs.Bodies.{Idles, Closes, Stands, temporary_in, kept_in, temporary_at, kept_at, temporary_to, kept_to, temporaries_of, slots_of, most}
-use Rattle.code_bounds.proofs.Grounds.{Ground, IsNumber, IsArray, OperandFine, SpotFine, TargetFine, Fine, sizes}
+use Rattle.code_bounds.proofs.Grounds.{Ground, sizes, IsNumber, OperandFine, TargetFine, SpotFine, Fine}
 use Rattle.code_bounds.proofs.Stretches.{Within, one, one_in, none, join, settle, aimed}
 use Rattle.code_bounds.proofs.Statements.{stands_within}
 
@@ -83,8 +83,10 @@ module _ (z : Ground) where
   closes_within true pc pc2 b i = one z _ 104 pc pc2 i (omega arith) (λ a. (b, zero_small))
   closes_within false pc pc2 b i = settle z 1 104 (omega arith) (none z pc pc2 i)
 
-  pub all_within : (n start end back size lo : ℕ) (is_main : Bool) → back ≤ z.limit → statement_is_typed z.source z.function lo (length z.function.objects) z.function.body ≡ true
-      → in_function z.source z.function ≡ true → widest z.function.body + 1 ≤ z.bound → 0 < z.bound → Idles z.code n 0 start → Stands z.code (sizes z) z.function.body end end back start end → Closes z.code is_main end back → One z.code instruction.Return back size
+  pub all_within : (n start end back size lo : ℕ) (is_main : Bool) → back ≤ z.limit
+      → statement_is_typed z.source z.function lo (length z.function.objects) z.function.body ≡ true → in_statement z.source z.function.body ≡ true
+      → widest z.function.body + 1 ≤ z.bound → 0 < z.bound → Idles z.code n 0 start → Stands z.code (sizes z) z.function.body end end back start end
+      → Closes z.code is_main end back → One z.code instruction.Return back size
       → Within z (Unit {0}) (n + (statement_nodes z.function.body + (1 + 2))) (124 * n + (0 + (104 + 84))) 0 size
   all_within n start end back size lo is_main e h d w b idles body closes leaves =
       let nodes = statement_nodes z.function.body in
@@ -169,7 +171,9 @@ module _ (z : Ground) where
 
   -- ---- and is there
 
-  module _ (g : Function) (same : g.objects ≡ z.function.objects) (given : g.parameters ≡ map kind_of z.function.type.parameters) (inside : z.limit < length g.code) where
+  module _ (g : Function) (same : g.objects ≡ z.function.objects) (passed : g.parameters ≡ map kind_of z.function.type.parameters)
+      (literals : z.made.literals ≡ z.source.literals) (statics : z.made.statics ≡ z.source.statics) (sized : types_are_sized z.source ≡ true)
+      (inside : z.limit < length g.code) where
     scalar : (n : ℕ) → IsNumber z n → IsScalar g n
     scalar n f = (f.0, ap (λ l. scalar_type (slice_get l n)) same ∙ f.1)
 
@@ -177,7 +181,7 @@ module _ (z : Ground) where
     operand_fits (operand.Temporary j) f t k = before_it j g.temporaries t
     operand_fits (operand.Kept j) f t k = before_it j g.kept k
     operand_fits (operand.Object n) f t k = scalar n f
-    operand_fits (operand.Parameter n) f t k = subst (λ ps. n < array_parameters ps) (sym given) f
+    operand_fits (operand.Parameter n) f t k = subst (λ ps. n < array_parameters ps) (sym passed) f
     operand_fits (operand.Constant v) f t k = f
 
     target_fits : (d : Target) → TargetFine z d → temporary_to d ≤ g.temporaries → kept_to d ≤ g.kept → TargetFits g d
@@ -185,14 +189,11 @@ module _ (z : Ground) where
     target_fits (target.Kept j) f t k = before_it j g.kept k
     target_fits (target.Object n) f t k = scalar n f
 
-    array : (n : ℕ) → IsArray z n → sound.IsArray g n
-    array n f = (subst (λ l. n < length l) (sym same) f.0, ap (λ l. scalar_type (slice_get l n)) same ∙ f.1)
-
-    spot_fits : (a : Spot) → SpotFine z a → temporary_at a ≤ g.temporaries → kept_at a ≤ g.kept → PlaceFits z.made g a
-    spot_fits (place.Literal n) f t k = f
-    spot_fits (place.Static n) f t k = f
-    spot_fits (place.Array n) f t k = array n f
-    spot_fits (place.At o) f t k = operand_fits o f t k
+    place_fits : (a : Spot) → SpotFine z a → temporary_at a ≤ g.temporaries → kept_at a ≤ g.kept → PlaceFits z.made g a
+    place_fits (place.Literal n) f t k = subst (λ l. n < length l) (sym literals) f
+    place_fits (place.Static n) f t k = (f.0, ap (λ l. slice_get l n) statics ∙ f.1, f.2)
+    place_fits (place.Array n) f t k = (subst (λ l. n < length l) (sym same) f.0, ap (λ l. scalar_type (slice_get l n)) same ∙ f.1)
+    place_fits (place.At o) f t k = operand_fits o f t k
 
     pub fits : (x : Instruction) → Fine z x → temporaries_of z.made x ≤ g.temporaries → slots_of x ≤ g.kept → InstructionFits z.made g x
     fits instruction.Nothing f t k = tt
@@ -213,15 +214,15 @@ module _ (z : Ground) where
     )
     fits (instruction.Load u d l) f t k = (
       target_fits d f.0 (left_max (temporary_to d) (temporary_at l) g.temporaries t) (left_max (kept_to d) (kept_at l) g.kept k),
-      spot_fits l f.1 (right_max (temporary_to d) (temporary_at l) g.temporaries t) (right_max (kept_to d) (kept_at l) g.kept k),
+      place_fits l f.1 (right_max (temporary_to d) (temporary_at l) g.temporaries t) (right_max (kept_to d) (kept_at l) g.kept k),
     )
     fits (instruction.Store u x l) f t k = (
       operand_fits x f.0 (left_max (temporary_in x) (temporary_at l) g.temporaries t) (left_max (kept_in x) (kept_at l) g.kept k),
-      spot_fits l f.1 (right_max (temporary_in x) (temporary_at l) g.temporaries t) (right_max (kept_in x) (kept_at l) g.kept k),
+      place_fits l f.1 (right_max (temporary_in x) (temporary_at l) g.temporaries t) (right_max (kept_in x) (kept_at l) g.kept k),
     )
     fits (instruction.Address d l) f t k = (
       target_fits d f.0 (left_max (temporary_to d) (temporary_at l) g.temporaries t) (left_max (kept_to d) (kept_at l) g.kept k),
-      spot_fits l f.1 (right_max (temporary_to d) (temporary_at l) g.temporaries t) (right_max (kept_to d) (kept_at l) g.kept k),
+      place_fits l f.1 (right_max (temporary_to d) (temporary_at l) g.temporaries t) (right_max (kept_to d) (kept_at l) g.kept k),
     )
     fits (instruction.Part d x y size) f t k =
         let t2 = right_max (temporary_to d) (max (temporary_in x) (temporary_in y)) g.temporaries t in
@@ -229,7 +230,7 @@ module _ (z : Ground) where
           target_fits d f.0 (left_max (temporary_to d) (max (temporary_in x) (temporary_in y)) g.temporaries t) (left_max (kept_to d) (max (kept_in x) (kept_in y)) g.kept k),
           operand_fits x f.1 (left_max (temporary_in x) (temporary_in y) g.temporaries t2) (left_max (kept_in x) (kept_in y) g.kept k2),
           operand_fits y f.2 (right_max (temporary_in x) (temporary_in y) g.temporaries t2) (right_max (kept_in x) (kept_in y) g.kept k2),
-          f.3,
+          f.3 sized,
         )
     fits (instruction.Forget n c) f t k = subst (λ l. n + c ≤ length l) (sym same) f
     fits (instruction.Jump to) f t k = to_inside to z.limit (length g.code) f inside

@@ -1,10 +1,9 @@
 -- What the instructions of plain code may name.
-use Rattle.std.proofs.Common.{◌≡◌, ℕ, ◌+◌, ◌<◌, ◌≤◌, ◌^◌, List, length, map, Some, None, true}
+use Rattle.std.proofs.Common.{◌≡◌, ℕ, ◌+◌, ◌<◌, ◌≤◌, ◌^◌, List, length, map, true, Some, None}
 use Rattle.std.specs.Prelude.{slice_get}
 use Rattle.srcset.specs.declared.refusal.Pos.{Pos}
 use Rattle.ctypes.specs.declared.types.IntType.{IntType}
 use Rattle.typed.specs.Program as typed
-use Rattle.typed.specs.Program.{Place, Value}
 use Rattle.tac.specs.declared.code.Operand.{Operand}
 use Rattle.tac.specs.declared.code.Operand.TheVariants as operand
 use Rattle.tac.specs.declared.code.Target.{Target}
@@ -15,14 +14,13 @@ use Rattle.tac.specs.declared.code.Instruction.{Instruction}
 use Rattle.tac.specs.declared.code.Instruction.TheVariants as instruction
 use Rattle.tac.specs.Code.{Program, function_at, scalar_type}
 use Rattle.tac.specs.Costs.{array_parameters}
-use Rattle.tac.specs.Designated.{in_place}
 use Rattle.tac.specs.Lowered.{kind_of}
-use Rattle.tac.specs.Sound.{IsDefined}
-use Rattle.lowering.specs.Places.{size_of_place}
+use Rattle.checked.specs.Asked.{types_are_sized}
 use Rattle.lowering.specs.Values.{Mode, Nowhere, To, If}
+use Rattle.lowering.specs.Places.{size_of_place}
 
--- a function of a typed program, the code of it, up to where it jumps, and what temporaries and slots are below; its elements and rows are
--- small; the others' parameters
+-- a function of a typed program, the code of it, up to where it jumps, and what temporaries and slots are below; the others' parameters,
+-- and that elements and rows have sizes that are words, where types are sized
 pub record Ground : Type 0 where
   pub source : typed.Program
   pub function : typed.Function
@@ -30,32 +28,24 @@ pub record Ground : Type 0 where
   pub code : List Instruction
   pub limit : ℕ
   pub bound : ℕ
-  pub literals : made.literals ≡ source.literals
-  pub statics : made.statics ≡ source.statics
-  pub sized : (at : Pos) (array : Place) (index : Value) → in_place source array ≡ true
-      → size_of_place source function (typed.element at array index) < 2 ^ 32
   pub callees : (n : ℕ) (g : typed.Function) → slice_get source.functions n ≡ Some g
       → (n < length made.functions) × (length (function_at made n).parameters ≡ length g.type.parameters)
-
-abbrev pub sizes : Ground → Place → ℕ
-sizes z a = size_of_place z.source z.function a
+  pub sized : (at : Pos) (array : typed.Place) (index : typed.Value) → types_are_sized source ≡ true
+      → size_of_place source function (typed.element at array index) < 2 ^ 32
 
 module _ (z : Ground) where
+  abbrev pub sizes : typed.Place → ℕ
+  sizes = size_of_place z.source z.function
+
   -- object n is no array
   abbrev pub IsNumber : ℕ → Type 0
   IsNumber n = (t : IntType) × (scalar_type (slice_get z.function.objects n) ≡ Some t)
-
-  abbrev pub IsArray : ℕ → Type 0
-  IsArray n = (n < length z.function.objects) × (scalar_type (slice_get z.function.objects n) ≡ None)
-
-  abbrev pub IsReference : ℕ → Type 0
-  IsReference n = n < array_parameters (map kind_of z.function.type.parameters)
 
   abbrev pub OperandFine : Operand → Type 0
   OperandFine (operand.Temporary j) = j < z.bound
   OperandFine (operand.Kept j) = j < z.bound
   OperandFine (operand.Object n) = IsNumber n
-  OperandFine (operand.Parameter n) = IsReference n
+  OperandFine (operand.Parameter n) = n < array_parameters (map kind_of z.function.type.parameters)
   OperandFine (operand.Constant v) = v < 2 ^ 32
 
   abbrev pub TargetFine : Target → Type 0
@@ -63,11 +53,18 @@ module _ (z : Ground) where
   TargetFine (target.Kept j) = j < z.bound
   TargetFine (target.Object n) = IsNumber n
 
+  -- what a place is, where its operand is as said
+  abbrev pub SpotIs : (Operand → Type 0) → Spot → Type 0
+  SpotIs P (place.Literal n) = n < length z.source.literals
+  SpotIs P (place.Static n) = (o : typed.Static) × (slice_get z.source.statics n ≡ Some o) × (o.defined ≡ true)
+  SpotIs P (place.Array n) = (n < length z.function.objects) × (scalar_type (slice_get z.function.objects n) ≡ None)
+  SpotIs P (place.At o) = P o
+
   abbrev pub SpotFine : Spot → Type 0
-  SpotFine (place.Literal n) = n < length z.made.literals
-  SpotFine (place.Static n) = IsDefined z.made n
-  SpotFine (place.Array n) = IsArray n
-  SpotFine (place.At o) = OperandFine o
+  SpotFine a = SpotIs OperandFine a
+
+  abbrev pub SizeFine : ℕ → Type 0
+  SizeFine size = types_are_sized z.source ≡ true → size < 2 ^ 32
 
   abbrev pub Fine : Instruction → Type 0
   Fine instruction.Nothing = Unit {0}
@@ -77,7 +74,7 @@ module _ (z : Ground) where
   Fine (instruction.Load t d l) = TargetFine d × SpotFine l
   Fine (instruction.Store t x l) = OperandFine x × SpotFine l
   Fine (instruction.Address d l) = TargetFine d × SpotFine l
-  Fine (instruction.Part d x y size) = TargetFine d × OperandFine x × OperandFine y × (size < 2 ^ 32)
+  Fine (instruction.Part d x y size) = TargetFine d × OperandFine x × OperandFine y × SizeFine size
   Fine (instruction.Forget n k) = n + k ≤ length z.function.objects
   Fine (instruction.Jump to) = to ≤ z.limit
   Fine (instruction.Branch c r x y to) = OperandFine x × OperandFine y × (to ≤ z.limit)
@@ -93,19 +90,16 @@ module _ (z : Ground) where
   Stays (operand.Temporary j) t k = j ≤ t
   Stays (operand.Kept j) t k = j ≤ k
   Stays (operand.Object n) t k = IsNumber n
-  Stays (operand.Parameter n) t k = IsReference n
+  Stays (operand.Parameter n) t k = n < array_parameters (map kind_of z.function.type.parameters)
   Stays (operand.Constant v) t k = v < 2 ^ 32
+
+  abbrev pub StaysAt : Spot → ℕ → ℕ → Type 0
+  StaysAt a t k = SpotIs (λ o. Stays o t k) a
 
   abbrev pub Lands : Target → ℕ → ℕ → Type 0
   Lands (target.Temporary j) t k = j ≤ t
   Lands (target.Kept j) t k = j ≤ k
   Lands (target.Object n) t k = IsNumber n
-
-  abbrev pub SpotStays : Spot → ℕ → ℕ → Type 0
-  SpotStays (place.Literal n) t k = SpotFine (place.Literal n)
-  SpotStays (place.Static n) t k = SpotFine (place.Static n)
-  SpotStays (place.Array n) t k = SpotFine (place.Array n)
-  SpotStays (place.At o) t k = Stays o t k
 
   abbrev pub ModeLands : Mode → ℕ → ℕ → Type 0
   ModeLands Nowhere t k = Unit {0}

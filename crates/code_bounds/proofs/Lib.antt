@@ -1,11 +1,13 @@
 pub mod Lists
-pub mod Bytes
+pub mod Numbers
 pub mod Grounds
 pub mod Stretches
+pub mod Rows
 pub mod Operands
+pub mod Spots
 pub mod Leaves
 pub mod Changes
-pub mod Spots
+pub mod Memory
 pub mod Nodes
 pub mod Expressions
 pub mod Parts

@@ -1,11 +1,11 @@
 -- The code of each kind of node keeps within its room, and is fine, if that of its parts does.
-use Rattle.std.proofs.Common.{◌≡◌, ℕ, ◌+◌, ◌*◌, ◌<◌, ◌≤◌, ◌^◌, Option, Some, None, Bool, true, false, ◌||◌, refl, arith}
+use Rattle.std.proofs.Common.{◌≡◌, ℕ, ◌+◌, ◌*◌, ◌<◌, ◌≤◌, ◌^◌, Option, None, Bool, true, false, ◌||◌, arith}
 use Rattle.srcset.specs.declared.refusal.Pos.{Pos}
 use Rattle.ctypes.specs.declared.types.IntType.{IntType}
 use Rattle.ctypes.specs.declared.operators.BinOp.{BinOp}
 use Rattle.tree.specs.declared.expression.StepOp.{StepOp}
 use Rattle.typed.specs.Program as typed
-use Rattle.typed.specs.Program.{Place, Value, Arguments, Callee, Moment, Storage}
+use Rattle.typed.specs.Program.{Place, Value, Arguments, Callee, Moment}
 use Rattle.typed.specs.Nodes.{place_nodes, value_nodes, argument_nodes}
 use Rattle.meaning.specs.Machine.{choose}
 use Rattle.meaning.specs.Expressions.{step_operation}
@@ -14,18 +14,17 @@ use Rattle.tac.specs.declared.code.Operand.TheVariants as operand
 use Rattle.tac.specs.declared.code.Target.TheVariants as target
 use Rattle.tac.specs.declared.code.Reading.{Reading}
 use Rattle.tac.specs.declared.code.Instruction.TheVariants as instruction
-use Rattle.tac.specs.Designated.{in_place}
 use Rattle.lowering.specs.Plain.{object_of}
 use Rattle.checked.specs.Asked.{is_wide}
 use Rattle.lowering.specs.Values.{calls, writes, writes_none, rests_in, keeps, reading_of, operand_of, waits_in, free_temporary, free_kept, Mode, Nowhere, If, mode_of, target_of}
-use Rattle.lowering.specs.Places.{target_for, found, free_temporary_at, free_kept_at, cuts}
-use Rattle.lowering.specs.Code.{zero_word, OnObject, One, Then, Truths, Into, Passes, Finds, Gets, Puts, Alters, AltersBy}
-use Rattle.code_bounds.proofs.Grounds.{Ground, IsNumber, OperandFine, ModeLands, Aims, sizes, SpotFine, TargetFine}
+use Rattle.lowering.specs.Places.{found, free_temporary_at, free_kept_at, cuts}
+use Rattle.lowering.specs.Code.{zero_word, One, Then, Truths, Into, Passes}
+use Rattle.code_bounds.proofs.Grounds.{Ground, sizes, OperandFine, SpotFine, ModeLands, Aims}
 use Rattle.code_bounds.proofs.Stretches.{Within, one, join, settle, aimed}
-use Rattle.code_bounds.proofs.Operands.{Free, RestsFine, operand_fine, target_fine, target_lands, mode_lands, mode_aims, waits, more_temporaries}
+use Rattle.code_bounds.proofs.Operands.{Free, RestsFine, operand_fine, target_fine, target_lands, mode_lands, waits}
 use Rattle.code_bounds.proofs.Leaves.{ends_within, then_within, operates_within, converts_within, casts_within}
-use Rattle.code_bounds.proofs.Spots.{parts_within, gets_within, puts_within, alters_within, alters_by_within}
 use Rattle.code_bounds.proofs.Changes.{CalleeFine, changes_within, steps_by_within, calls_within, truths_within}
+use Rattle.code_bounds.proofs.Memory.{on, DoesAt, FindsAt, nothing, held, on_object, read_memory, assigned_memory, compound_memory, stepped_memory}
 
 -- ---- room
 
@@ -40,21 +39,6 @@ compound_room p e h = omega (arith, h)
 
 stepped_room : (p : ℕ) → 1 ≤ p → 128 * (1 + (1 + 2)) + 32 ≤ 128 * (p + 1) + (124 + (124 + 80))
 stepped_room p h = omega (arith, h)
-
-element_room : (a e : ℕ) → 128 * (1 + (a + (e + 1))) + 124 ≤ 128 * (a + e + 1) + (124 + (124 + (32 + 52)))
-element_room a e = omega arith
-
-get_room : (a : ℕ) → 128 * (a + 1) + 32 ≤ 128 * a + (124 + 68)
-get_room a = omega arith
-
-put_room : (a e : ℕ) → 128 * (1 + (a + (e + 1))) + 32 ≤ 128 * (a + e + 1) + (124 + (124 + (32 + 36)))
-put_room a e = omega arith
-
-alter_room : (a e : ℕ) → 128 * (1 + (a + (e + (1 + 2)))) + 32 ≤ 128 * (a + e + 1) + (124 + (124 + (32 + (100 + 76))))
-alter_room a e = omega arith
-
-step_room : (a : ℕ) → 128 * (1 + (a + (1 + 2))) + 32 ≤ 128 * (a + 1) + (124 + (124 + (100 + 76)))
-step_room a = omega arith
 
 same_room : (e : ℕ) → 128 * (1 + e) + 32 ≤ 128 * (e + 1) + (124 + 32)
 same_room e = omega arith
@@ -85,11 +69,11 @@ call_room a = omega arith
 
 -- ---- positions
 
-on : (p q l : ℕ) → p ≤ q → q ≤ l → p ≤ l
-on p q l x y = omega (arith, x, y)
-
 next_le : (p q : ℕ) → p + 1 ≡ q → p ≤ q
 next_le p q e = omega (arith, e)
+
+below : (t b : ℕ) → t + 1 ≤ b → t < b
+below t b h = omega (arith, h)
 
 zero_small : 0 < 2 ^ 32
 zero_small = omega arith
@@ -98,18 +82,15 @@ pub chosen_le : (sense : Bool) (a b l : ℕ) → a ≤ l → b ≤ l → choose 
 chosen_le true a b l x y = x
 chosen_le false a b l x y = y
 
+-- the first temporary and slot that are free beside a place
+abbrev pub temporary_beside : Place → Bool → ℕ → ℕ → ℕ
+temporary_beside place c t k = free_temporary_at (found place c t k) t
+
+abbrev pub slot_beside : Place → Bool → ℕ → ℕ → ℕ
+slot_beside place c t k = free_kept_at (found place c t k) k
+
 module _ (z : Ground) where
-  -- an expression's code is within its nodes' room, for each use of its value
-  abbrev pub DoesAt : Value → ℕ → ℕ → Type 0
-  DoesAt e t k = (m : Mode) (pc pc2 : ℕ) → ModeLands z m t k → Into z.code (sizes z) e m t k pc pc2 → Within z (Aims z m pc2) (value_nodes e) 32 pc pc2
-
-  nothing : {A : Type 0} (pc pc2 : ℕ) → One z.code instruction.Nothing pc pc2 → Within z A 1 124 pc pc2
-  nothing pc pc2 i = one z _ 124 pc pc2 i (omega arith) (λ a. tt)
-
-  -- a part whose value goes to an operand; one that jumps
-  held : {u d pc : ℕ} (m : Mode) (o : Operand) (p pc2 : ℕ) → p ≤ pc2 → Within z (Aims z (mode_of o) p) u d pc p → Within z (Aims z m pc2) u d pc p
-  held m o p pc2 h s = aimed z (λ a. (on p pc2 z.limit h a.0, mode_aims z o)) s
-
+  -- a part that jumps
   jumping : {u d pc : ℕ} (m : Mode) (sense : Bool) (to p pc2 : ℕ) → p ≤ pc2 → to ≤ pc2 → Within z (Aims z (If sense to) p) u d pc p → Within z (Aims z m pc2) u d pc p
   jumping m sense to p pc2 h g s = aimed z (λ a. (on p pc2 z.limit h a.0, on to pc2 z.limit g a.0)) s
 
@@ -119,173 +100,93 @@ module _ (z : Ground) where
   unused : {u d pc : ℕ} (m : Mode) (p pc2 : ℕ) → p ≤ pc2 → Within z (Aims z Nowhere p) u d pc p → Within z (Aims z m pc2) u d pc p
   unused m p pc2 h s = aimed z (λ a. (on p pc2 z.limit h a.0, tt)) s
 
-  -- what is said of the object that a place is
-  pub on_object : {G : Type 0} (o : Option ℕ) (F : ℕ → Type 0) (M : Type 0) → RestsFine z o → OnObject o F M → ((x : ℕ) → IsNumber z x → F x → G)
-      → (o ≡ None → M → G) → G
-  on_object None F M r i g h = h refl i
-  on_object (Some x) F M r i g h = g x r i
-
-  -- ---- what lies in memory
-
-  -- the code that finds a place is within its nodes' room
-  abbrev pub FindsAt : Place → Bool → ℕ → ℕ → Type 0
-  FindsAt a c t k = (pc pc2 : ℕ) → Finds z.code (sizes z) a c t k pc pc2 → Within z (pc2 ≤ z.limit) (place_nodes a) 124 pc pc2
-
-  -- and where it was found is fine; so is an expression beside it
-  pub record FoundAt (a : Place) (c : Bool) (t k : ℕ) : Type 0 where
-    pub finds : FindsAt a c t k
-    pub spot : SpotFine z (found a c t k)
-
-  pub record BesideAt (a : Place) (e : Value) (t k : ℕ) : Type 0 where
-    pub found_at : FoundAt a (calls e) t k
-    pub wide : free_temporary_at (found a (calls e) t k) t + 2 ≤ z.bound
-    pub does : DoesAt e (free_temporary_at (found a (calls e) t k) t) (free_kept_at (found a (calls e) t k) k)
-    pub free : Free z (free_temporary_at (found a (calls e) t k) t) (free_kept_at (found a (calls e) t k) k)
-    pub rests : RestsFine z (rests_in e)
-
-  -- an operand beside it
-  held_beside : (e : Value) (t k : ℕ) → Free z t k → RestsFine z (rests_in e) → OperandFine z (operand_of e t k)
-  held_beside e t k f r = operand_fine z (operand_of e t k) t k f (waits z e writes_none false t k r)
-
-  lands_beside : (e : Value) (t k : ℕ) → RestsFine z (rests_in e) → ModeLands z (mode_of (operand_of e t k)) t k
-  lands_beside e t k r = mode_lands z (operand_of e t k) t k (waits z e writes_none false t k r)
-
-  target_for_fine : (c : Bool) (t k : ℕ) → Free z t k → TargetFine z (target_for c t k)
-  target_for_fine true t k f = let h = f.1 in let e : k < z.bound = omega (arith, h) in e
-  target_for_fine false t k f = let h = f.0 in let e : t < z.bound = omega (arith, h) in e
-
-  pub named_within : (at : Pos) (what : Storage) (c : Bool) (t k : ℕ) → FindsAt (typed.named at what) c t k
-  named_within at what c t k pc pc2 i = nothing pc pc2 i
-
-  pub element_within : (at : Pos) (array : Place) (index : Value) (c : Bool) (t k : ℕ) → BesideAt array index t k → Free z t k → in_place z.source array ≡ true
-      → FindsAt (typed.element at array index) c t k
-  element_within at array index c t k b f d pc pc2 i =
-      let a = found array (calls index) t k in
-      let t2 = free_temporary_at a t in
-      let k2 = free_kept_at a k in
-      let o = operand_of index t2 k2 in
-      let last = parts_within z a (target_for c t k) o (sizes z (typed.element at array index)) (free_temporary o t2) i.2 pc2 b.found_at.spot
-      (target_for_fine c t k f) (held_beside index t2 k2 b.free b.rests)
-      (let x = more_temporaries z o t2 in let y = b.wide in let e : free_temporary o t2 < z.bound = omega (arith, x, y) in e)
-      (z.sized at array index d) i.6 in
-      let done = join z (aimed z (λ x. (on i.2 pc2 z.limit last.forward x, mode_aims z o)) (b.does (mode_of o) i.1 i.2 (lands_beside index t2 k2 b.rests) i.5)) last in
-      settle z (place_nodes array + value_nodes index + 1) 124 (element_room (place_nodes array) (value_nodes index))
-      (join z (nothing pc i.0 i.3) (join z (aimed z (λ x. on i.1 pc2 z.limit done.forward x) (b.found_at.finds i.0 i.1 i.4)) done))
-
-  read_memory : (u : IntType) (a : Place) (m : Mode) (t k pc p1 pc2 : ℕ) → FoundAt a false t k → ModeLands z m t k → Free z t k
-      → Finds z.code (sizes z) a false t k pc p1 → Gets z.code u (found a false t k) m t p1 pc2 → Within z (Aims z m pc2) (place_nodes a) 32 pc pc2
-  read_memory u a m t k pc p1 pc2 b l f i1 i2 =
-      let last = gets_within z u (found a false t k) m t k p1 pc2 b.spot l f i2 in
-      settle z (place_nodes a) 32 (get_room (place_nodes a)) (join z (aimed z (λ x. on p1 pc2 z.limit last.forward x.0) (b.finds pc p1 i1)) last)
-
-  assigned_memory : (u : IntType) (a : Place) (e : Value) (m : Mode) (t k pc p1 p2 p3 pc2 : ℕ) → BesideAt a e t k → ModeLands z m t k → Free z t k
-      → One z.code instruction.Nothing pc p1 → Finds z.code (sizes z) a (calls e) t k p1 p2
-      → Into z.code (sizes z) e (mode_of (operand_of e (free_temporary_at (found a (calls e) t k) t) (free_kept_at (found a (calls e) t k) k)))
-      (free_temporary_at (found a (calls e) t k) t) (free_kept_at (found a (calls e) t k) k) p2 p3
-      → Puts z.code (cuts u m || keeps u e) u (operand_of e (free_temporary_at (found a (calls e) t k) t) (free_kept_at (found a (calls e) t k) k))
-      (found a (calls e) t k) m (free_temporary_at (found a (calls e) t k) t) p3 pc2
-      → Within z (Aims z m pc2) (place_nodes a + value_nodes e + 1) 32 pc pc2
-  assigned_memory u a e m t k pc p1 p2 p3 pc2 b l f i1 i2 i3 i4 =
-      let s = found a (calls e) t k in
-      let t2 = free_temporary_at s t in
-      let k2 = free_kept_at s k in
-      let o = operand_of e t2 k2 in
-      let last = puts_within z (cuts u m || keeps u e) u o s m t k t2 p3 pc2 b.found_at.spot (held_beside e t2 k2 b.free b.rests)
-      (let h = b.wide in let x : t2 < z.bound = omega (arith, h) in x) l f i4 in
-      let done = join z (held m o p3 pc2 last.forward (b.does (mode_of o) p2 p3 (lands_beside e t2 k2 b.rests) i3)) last in
-      settle z (place_nodes a + value_nodes e + 1) 32 (put_room (place_nodes a) (value_nodes e))
-      (join z (nothing pc p1 i1) (join z (aimed z (λ x. on p2 pc2 z.limit done.forward x.0) (b.found_at.finds p1 p2 i2)) done))
-
-  compound_memory : (o : BinOp) (u of : IntType) (a : Place) (e : Value) (m : Mode) (t k pc p1 p2 p3 p4 pc2 : ℕ) → BesideAt a e t k → ModeLands z m t k
-      → Free z t k → One z.code instruction.Nothing pc p1 → Finds z.code (sizes z) a (calls e) t k p1 p2
-      → Into z.code (sizes z) e (mode_of (operand_of e (free_temporary_at (found a (calls e) t k) t) (free_kept_at (found a (calls e) t k) k)))
-      (free_temporary_at (found a (calls e) t k) t) (free_kept_at (found a (calls e) t k) k) p2 p3
-      → One z.code (instruction.Load u (target.Temporary (free_temporary (operand_of e (free_temporary_at (found a (calls e) t k) t)
-      (free_kept_at (found a (calls e) t k) k)) (free_temporary_at (found a (calls e) t k) t))) (found a (calls e) t k)) p3 p4
-      → Alters z.code o u of (operand_of e (free_temporary_at (found a (calls e) t k) t) (free_kept_at (found a (calls e) t k) k)) (found a (calls e) t k) m
-      (free_temporary (operand_of e (free_temporary_at (found a (calls e) t k) t) (free_kept_at (found a (calls e) t k) k))
-      (free_temporary_at (found a (calls e) t k) t)) p4 pc2
-      → Within z (Aims z m pc2) (place_nodes a + value_nodes e + 1) 32 pc pc2
-  compound_memory o u of a e m t k pc p1 p2 p3 p4 pc2 b l f i1 i2 i3 i4 i5 =
-      let s = found a (calls e) t k in
-      let t2 = free_temporary_at s t in
-      let k2 = free_kept_at s k in
-      let w = operand_of e t2 k2 in
-      let j = free_temporary w t2 in
-      let fj : j < z.bound = (let x = more_temporaries z w t2 in let y = b.wide in omega (arith, x, y)) in
-      let last = alters_within z o u of w s m t k j p4 pc2 b.found_at.spot (held_beside e t2 k2 b.free b.rests) fj l f i5 in
-      let later = join z (one z _ 100 p3 p4 i4 (omega arith) (λ x. (fj, b.found_at.spot))) last in
-      let done = join z (held m w p3 pc2 later.forward (b.does (mode_of w) p2 p3 (lands_beside e t2 k2 b.rests) i3)) later in
-      settle z (place_nodes a + value_nodes e + 1) 32 (alter_room (place_nodes a) (value_nodes e))
-      (join z (nothing pc p1 i1) (join z (aimed z (λ x. on p2 pc2 z.limit done.forward x.0) (b.found_at.finds p1 p2 i2)) done))
-
-  stepped_memory : (moment : Moment) (o : BinOp) (u of : IntType) (a : Place) (m : Mode) (t k pc p1 p2 p3 pc2 : ℕ) → FoundAt a false t k → free_temporary_at (found a false t k) t + 2 ≤ z.bound → ModeLands z m t k
-      → Free z t k → One z.code instruction.Nothing pc p1 → Finds z.code (sizes z) a false t k p1 p2
-      → One z.code (instruction.Load u (target.Temporary (free_temporary_at (found a false t k) t)) (found a false t k)) p2 p3
-      → AltersBy z.code moment o u of (found a false t k) m (free_temporary_at (found a false t k) t) p3 pc2
-      → Within z (Aims z m pc2) (place_nodes a + 1) 32 pc pc2
-  stepped_memory moment o u of a m t k pc p1 p2 p3 pc2 b wide l f i1 i2 i3 i4 =
-      let s = found a false t k in
-      let j = free_temporary_at s t in
-      let last = alters_by_within z moment o u of s m t k j p3 pc2 b.spot wide l f i4 in
-      let done = join z (one z _ 100 p2 p3 i3 (omega arith) (λ x. (let y : j < z.bound = omega (arith, wide) in y, b.spot))) last in
-      settle z (place_nodes a + 1) 32 (step_room (place_nodes a))
-      (join z (nothing pc p1 i1) (join z (aimed z (λ x. on p2 pc2 z.limit done.forward x.0) (b.finds p1 p2 i2)) done))
-
   -- ---- objects
 
+  -- where they lie in memory, they are found first
+  abbrev pub FoundAt : Place → Bool → ℕ → ℕ → Type 0
+  FoundAt place c t k = object_of place ≡ None → FindsAt z place c t k × SpotFine z (found place c t k)
+
   pub read_within : (u : IntType) (place : Place) (m : Mode) (t k pc pc2 : ℕ) → RestsFine z (object_of place) → 1 ≤ place_nodes place → ModeLands z m t k → Free z t k
-      → (object_of place ≡ None → FoundAt place false t k) → Into z.code (sizes z) (typed.read u place) m t k pc pc2 → Within z (Aims z m pc2) (place_nodes place) 32 pc pc2
-  read_within u place m t k pc pc2 r w l f memory h = on_object (object_of place) _ _ r h (λ x n i.
-      settle z (place_nodes place) 32 (read_room (place_nodes place) w) (join z (nothing pc i.0 i.1) (ends_within z m (operand.Object x) t k i.0 pc2 l f n i.2)))
-      (λ e i. read_memory u place m t k pc i.0 pc2 (memory e) l f i.1 i.2)
+      → FoundAt place false t k → Into z.code (sizes z) (typed.read u place) m t k pc pc2 → Within z (Aims z m pc2) (place_nodes place) 32 pc pc2
+  read_within u place m t k pc pc2 r w l f there h = on_object z (object_of place) _ _ r h
+      (λ x n i. settle z (place_nodes place) 32 (read_room (place_nodes place) w)
+      (join z (nothing z pc i.0 i.1) (ends_within z m (operand.Object x) t k i.0 pc2 l f n i.2)))
+      (λ none i. read_memory z u place m t k (found place false t k) pc i.0 pc2 l f (there none).0 (there none).1 i.1 i.2)
 
   pub assigned_within : (at : Pos) (u : IntType) (place : Place) (e : Value) (m : Mode) (t k pc pc2 : ℕ) → RestsFine z (object_of place) → RestsFine z (rests_in e) → 1 ≤ place_nodes place
-      → ModeLands z m t k → Free z t k → DoesAt e t k → (object_of place ≡ None → BesideAt place e t k) → Into z.code (sizes z) (typed.assigned at u place e) m t k pc pc2 → Within z (Aims z m pc2) (place_nodes place + value_nodes e + 1) 32 pc pc2
-  assigned_within at u place e m t k pc pc2 r re w l f de memory h = on_object (object_of place) _ _ r h (λ x n i.
+      → ModeLands z m t k → Free z t k → Free z (temporary_beside place (calls e) t k) (slot_beside place (calls e) t k) → DoesAt z e t k
+      → DoesAt z e (temporary_beside place (calls e) t k) (slot_beside place (calls e) t k) → FoundAt place (calls e) t k
+      → Into z.code (sizes z) (typed.assigned at u place e) m t k pc pc2 → Within z (Aims z m pc2) (place_nodes place + value_nodes e + 1) 32 pc pc2
+  assigned_within at u place e m t k pc pc2 r re w l f f2 de de2 there h = on_object z (object_of place) _ _ r h (λ x n i.
       let last = ends_within z m (operand.Object x) t k i.2 pc2 l f n i.6 in
-      let stored = converts_within z (keeps u e) (λ n a b. Into z.code (sizes z) e n t k a b) u (operand_of e t k) (target.Object x) (value_nodes e) t k i.1 i.2 n (waits z e writes_none false t k re) f de i.5 in
+      let stored = converts_within z (keeps u e) (λ n a b. Into z.code (sizes z) e n t k a b) u (operand_of e t k) (target.Object x)
+      (value_nodes e) t k i.1 i.2 n (waits z e writes_none false t k re) f de i.5 in
       settle z (place_nodes place + value_nodes e + 1) 32 (assigned_room (place_nodes place) (value_nodes e) w)
-      (join z (nothing pc i.0 i.3) (join z (nothing i.0 i.1 i.4) (join z (aimed z (λ a. (on i.2 pc2 z.limit last.forward a.0, tt)) stored) last))))
-      (λ y i. assigned_memory u place e m t k pc i.0 i.1 i.2 pc2 (memory y) l f i.3 i.4 i.5 i.6)
+      (join z (nothing z pc i.0 i.3) (join z (nothing z i.0 i.1 i.4) (join z (aimed z (λ a. (on i.2 pc2 z.limit last.forward a.0, tt)) stored) last))))
+      (λ none i.
+      let t2 = temporary_beside place (calls e) t k in
+      let k2 = slot_beside place (calls e) t k in
+      let x = operand_of e t2 k2 in
+      let s = waits z e writes_none false t2 k2 re in
+      assigned_memory z (cuts u m || keeps u e) u place e m (calls e) t k t2 k2 (found place (calls e) t k) x pc i.0 i.1 i.2 pc2 l f (there none).0 de2
+      (mode_lands z x t2 k2 s)
+      (there none).1 (operand_fine z x t2 k2 f2 s) (below t2 z.bound f2.0) i.3 i.4 i.5 i.6)
 
   pub compound_within : (at : Pos) (o : BinOp) (u of : IntType) (place : Place) (e : Value) (m : Mode) (t k pc pc2 : ℕ) → RestsFine z (object_of place) → RestsFine z (rests_in e) → 1 ≤ place_nodes place
-      → ModeLands z m t k → Free z t k → DoesAt e t k → (object_of place ≡ None → BesideAt place e t k) → Into z.code (sizes z) (typed.compound at o u of place e) m t k pc pc2 → Within z (Aims z m pc2) (place_nodes place + value_nodes e + 1) 32 pc pc2
-  compound_within at o u of place e m t k pc pc2 r re w l f de memory h = on_object (object_of place) _ _ r h (λ x n i.
+      → ModeLands z m t k → Free z t k → Free z (temporary_beside place (calls e) t k) (slot_beside place (calls e) t k)
+      → free_temporary (operand_of e (temporary_beside place (calls e) t k) (slot_beside place (calls e) t k)) (temporary_beside place (calls e) t k) < z.bound
+      → DoesAt z e t k
+      → DoesAt z e (temporary_beside place (calls e) t k) (slot_beside place (calls e) t k) → FoundAt place (calls e) t k
+      → Into z.code (sizes z) (typed.compound at o u of place e) m t k pc pc2 → Within z (Aims z m pc2) (place_nodes place + value_nodes e + 1) 32 pc pc2
+  compound_within at o u of place e m t k pc pc2 r re w l f f2 fj de de2 there h = on_object z (object_of place) _ _ r h (λ x n i.
       let a = operand_of e t k in
       let s = waits z e writes_none false t k re in
       let last = ends_within z m (operand.Object x) t k i.3 pc2 l f n i.8 in
-      let done = join z (changes_within z (is_wide u) o u of x a t i.2 i.3 n (operand_fine z a t k f s) (let h = f.0 in let e : t < z.bound = omega (arith, h) in e) i.7) last in
+      let done = join z (changes_within z (is_wide u) o u of x a t i.2 i.3 n (operand_fine z a t k f s) (below t z.bound f.0) i.7) last in
       settle z (place_nodes place + value_nodes e + 1) 32 (compound_room (place_nodes place) (value_nodes e) w)
-      (join z (nothing pc i.0 i.4) (join z (nothing i.0 i.1 i.5) (join z (held m a i.2 pc2 done.forward (de (mode_of a) i.1 i.2 (mode_lands z a t k s) i.6)) done))))
-      (λ y i. compound_memory o u of place e m t k pc i.0 i.1 i.2 i.3 pc2 (memory y) l f i.4 i.5 i.6 i.7 i.8)
+      (join z (nothing z pc i.0 i.4) (join z (nothing z i.0 i.1 i.5)
+      (join z (held z m a i.2 pc2 done.forward (de (mode_of a) i.1 i.2 (mode_lands z a t k s) i.6)) done))))
+      (λ none i.
+      let t2 = temporary_beside place (calls e) t k in
+      let k2 = slot_beside place (calls e) t k in
+      let x = operand_of e t2 k2 in
+      let s = waits z e writes_none false t2 k2 re in
+      compound_memory z o u of place e m (calls e) t k t2 k2 (free_temporary x t2) (found place (calls e) t k) x pc i.0 i.1 i.2 i.3 pc2 l f (there none).0 de2
+      (mode_lands z x t2 k2 s) (there none).1 (operand_fine z x t2 k2 f2 s) fj i.4 i.5 i.6 i.7 i.8)
 
   pub stepped_within : (at : Pos) (moment : Moment) (o : StepOp) (u of : IntType) (place : Place) (m : Mode) (t k pc pc2 : ℕ) → RestsFine z (object_of place) → 1 ≤ place_nodes place
-      → ModeLands z m t k → Free z t k → t + 2 ≤ z.bound → free_temporary_at (found place false t k) t + 2 ≤ z.bound → (object_of place ≡ None → FoundAt place false t k) → Into z.code (sizes z) (typed.stepped at moment o u of place) m t k pc pc2 → Within z (Aims z m pc2) (place_nodes place + 1) 32 pc pc2
-  stepped_within at moment o u of place m t k pc pc2 r w l f b wide memory h = on_object (object_of place) _ _ r h (λ x n i.
+      → ModeLands z m t k → Free z t k → t + 2 ≤ z.bound → temporary_beside place false t k + 1 < z.bound → FoundAt place false t k
+      → Into z.code (sizes z) (typed.stepped at moment o u of place) m t k pc pc2 → Within z (Aims z m pc2) (place_nodes place + 1) 32 pc pc2
+  stepped_within at moment o u of place m t k pc pc2 r w l f b fj there h = on_object z (object_of place) _ _ r h (λ x n i.
       settle z (place_nodes place + 1) 32 (stepped_room (place_nodes place) w)
-      (join z (nothing pc i.0 i.2) (join z (nothing i.0 i.1 i.3) (steps_by_within z moment (is_wide u) (step_operation o) u of m x t k i.1 pc2 n l f b i.4))))
-      (λ y i. stepped_memory moment (step_operation o) u of place m t k pc i.0 i.1 i.2 pc2 (memory y) wide l f i.3 i.4 i.5 i.6)
+      (join z (nothing z pc i.0 i.2) (join z (nothing z i.0 i.1 i.3)
+      (steps_by_within z moment (is_wide u) (step_operation o) u of m x t k i.1 pc2 n l f b i.4))))
+      (λ none i.
+      stepped_memory z moment (step_operation o) u of place m false t k (temporary_beside place false t k) (found place false t k) pc i.0 i.1 i.2 pc2 l f
+      (there none).0 (there none).1 fj
+      i.3 i.4 i.5 i.6)
 
   -- ---- operators
 
-  pub same_within : (e : Value) (m n : Mode) (t k pc p1 pc2 : ℕ) → (Aims z m pc2 → Aims z n pc2) → ModeLands z n t k → DoesAt e t k
+  pub same_within : (e : Value) (m n : Mode) (t k pc p1 pc2 : ℕ) → (Aims z m pc2 → Aims z n pc2) → ModeLands z n t k → DoesAt z e t k
       → One z.code instruction.Nothing pc p1 → Into z.code (sizes z) e n t k p1 pc2 → Within z (Aims z m pc2) (value_nodes e + 1) 32 pc pc2
   same_within e m n t k pc p1 pc2 aims l de i1 i2 =
-      settle z (value_nodes e + 1) 32 (same_room (value_nodes e)) (join z (nothing pc p1 i1) (aimed z aims (de n p1 pc2 l i2)))
+      settle z (value_nodes e + 1) 32 (same_room (value_nodes e)) (join z (nothing z pc p1 i1) (aimed z aims (de n p1 pc2 l i2)))
 
-  pub signed_within : (e : Value) (o : BinOp) (r : Reading) (x y : Operand) (m : Mode) (t k pc p1 p2 pc2 : ℕ) → RestsFine z (rests_in e) → ModeLands z m t k → Free z t k → DoesAt e t k
-      → OperandFine z x → OperandFine z y → One z.code instruction.Nothing pc p1 → Into z.code (sizes z) e (mode_of (operand_of e t k)) t k p1 p2 → Then z.code o r m x y t p2 pc2
+  pub signed_within : (e : Value) (o : BinOp) (r : Reading) (x y : Operand) (m : Mode) (t k pc p1 p2 pc2 : ℕ) → RestsFine z (rests_in e) → ModeLands z m t k
+      → Free z t k → DoesAt z e t k
+      → OperandFine z x → OperandFine z y → One z.code instruction.Nothing pc p1 → Into z.code (sizes z) e (mode_of (operand_of e t k)) t k p1 p2
+      → Then z.code o r m x y t p2 pc2
       → Within z (Aims z m pc2) (value_nodes e + 1) 32 pc pc2
   signed_within e o r x y m t k pc p1 p2 pc2 re l f de fx fy i1 i2 i3 =
       let a = operand_of e t k in
       let last = then_within z o r m x y t k p2 pc2 l f fx fy i3 in
-      settle z (value_nodes e + 1) 32 (signed_room (value_nodes e)) (join z (nothing pc p1 i1)
-      (join z (held m a p2 pc2 last.forward (de (mode_of a) p1 p2 (mode_lands z a t k (waits z e writes_none false t k re)) i2)) last))
+      settle z (value_nodes e + 1) 32 (signed_room (value_nodes e)) (join z (nothing z pc p1 i1)
+      (join z (held z m a p2 pc2 last.forward (de (mode_of a) p1 p2 (mode_lands z a t k (waits z e writes_none false t k re)) i2)) last))
 
   pub binary_within : (at : Pos) (o : BinOp) (u : IntType) (a b : Value) (m : Mode) (t k pc pc2 : ℕ) → RestsFine z (rests_in a) → RestsFine z (rests_in b) → ModeLands z m t k → Free z t k
-      → Free z (free_temporary (waits_in a (writes b) (calls b) t k) t) (free_kept (waits_in a (writes b) (calls b) t k) k) → DoesAt a t k
-      → DoesAt b (free_temporary (waits_in a (writes b) (calls b) t k) t) (free_kept (waits_in a (writes b) (calls b) t k) k)
+      → Free z (free_temporary (waits_in a (writes b) (calls b) t k) t) (free_kept (waits_in a (writes b) (calls b) t k) k) → DoesAt z a t k
+      → DoesAt z b (free_temporary (waits_in a (writes b) (calls b) t k) t) (free_kept (waits_in a (writes b) (calls b) t k) k)
       → Into z.code (sizes z) (typed.binary at o u a b) m t k pc pc2 → Within z (Aims z m pc2) (value_nodes a + value_nodes b + 1) 32 pc pc2
   binary_within at o u a b m t k pc pc2 ra rb l f f2 da db i =
       let x = waits_in a (writes b) (calls b) t k in
@@ -295,63 +196,67 @@ module _ (z : Ground) where
       let sx = waits z a (writes b) (calls b) t k ra in
       let sy = waits z b writes_none false t2 k2 rb in
       let last = operates_within z o (reading_of u) m x y t k i.2 pc2 l f (operand_fine z x t k f sx) (operand_fine z y t2 k2 f2 sy) i.6 in
-      let done = join z (held m y i.2 pc2 last.forward (db (mode_of y) i.1 i.2 (mode_lands z y t2 k2 sy) i.5)) last in
+      let done = join z (held z m y i.2 pc2 last.forward (db (mode_of y) i.1 i.2 (mode_lands z y t2 k2 sy) i.5)) last in
       settle z (value_nodes a + value_nodes b + 1) 32 (binary_room (value_nodes a) (value_nodes b))
-      (join z (nothing pc i.0 i.3) (join z (held m x i.1 pc2 done.forward (da (mode_of x) i.0 i.1 (mode_lands z x t k sx) i.4)) done))
+      (join z (nothing z pc i.0 i.3) (join z (held z m x i.1 pc2 done.forward (da (mode_of x) i.0 i.1 (mode_lands z x t k sx) i.4)) done))
 
   -- ---- truths
 
-  pub jumps_within : (a b : Value) (s sense : Bool) (to to2 t k pc p1 p2 pc2 : ℕ) → DoesAt a t k → DoesAt b t k
+  pub jumps_within : (a b : Value) (s sense : Bool) (to to2 t k pc p1 p2 pc2 : ℕ) → DoesAt z a t k → DoesAt z b t k
       → (pc2 ≤ z.limit → to ≤ z.limit → to2 ≤ z.limit)
       → One z.code instruction.Nothing pc p1 → Into z.code (sizes z) a (If s to2) t k p1 p2 → Into z.code (sizes z) b (If sense to) t k p2 pc2
       → Within z (Aims z (If sense to) pc2) (value_nodes a + value_nodes b + 1) 32 pc pc2
   jumps_within a b s sense to to2 t k pc p1 p2 pc2 da db aims i1 i2 i3 =
       let last = db (If sense to) p2 pc2 tt i3 in
-      settle z (value_nodes a + value_nodes b + 1) 32 (both_room (value_nodes a) (value_nodes b)) (join z (nothing pc p1 i1)
+      settle z (value_nodes a + value_nodes b + 1) 32 (both_room (value_nodes a) (value_nodes b)) (join z (nothing z pc p1 i1)
       (join z (aimed z (λ c. (on p2 pc2 z.limit last.forward c.0, aims c.0 c.1)) (da (If s to2) p1 p2 tt i2)) last))
 
-  pub truth_within : (a b : Value) (m : Mode) (s : Bool) (to t k pc p1 p2 p3 other pc2 : ℕ) → to ≤ other → ModeLands z m t k → Free z t k → DoesAt a t k → DoesAt b t k
-      → One z.code instruction.Nothing pc p1 → Into z.code (sizes z) a (If s to) t k p1 p2 → Into z.code (sizes z) b (If false other) t k p2 p3 → Truths z.code (target_of m t) p3 other pc2
+  pub truth_within : (a b : Value) (m : Mode) (s : Bool) (to t k pc p1 p2 p3 other pc2 : ℕ) → to ≤ other → ModeLands z m t k → Free z t k → DoesAt z a t k
+      → DoesAt z b t k
+      → One z.code instruction.Nothing pc p1 → Into z.code (sizes z) a (If s to) t k p1 p2 → Into z.code (sizes z) b (If false other) t k p2 p3
+      → Truths z.code (target_of m t) p3 other pc2
       → Within z (Aims z m pc2) (value_nodes a + value_nodes b + 1) 32 pc pc2
   truth_within a b m s to t k pc p1 p2 p3 other pc2 h l f da db i1 i2 i3 i4 =
       let last = truths_within z m (target_of m t) p3 other pc2 (target_fine z (target_of m t) t k f (target_lands z m t k l)) i4 in
       let there : other ≤ pc2 = next_le other pc2 i4.3.next in
       let second = db (If false other) p2 p3 tt i3 in
-      settle z (value_nodes a + value_nodes b + 1) 32 (truth_room (value_nodes a) (value_nodes b)) (join z (nothing pc p1 i1)
+      settle z (value_nodes a + value_nodes b + 1) 32 (truth_room (value_nodes a) (value_nodes b)) (join z (nothing z pc p1 i1)
       (join z (jumping m s to p2 pc2 (on p2 p3 pc2 second.forward last.forward) (on to other pc2 h there) (da (If s to) p1 p2 tt i2))
       (join z (jumping m false other p3 pc2 last.forward there second) last)))
 
   -- ---- choices, commas, casts
 
-  pub chosen_within : (u : Option IntType) (c a b : Value) (m : Mode) (t k pc pc2 : ℕ) → ModeLands z m t k → DoesAt c t k → DoesAt a t k → DoesAt b t k
+  pub chosen_within : (u : Option IntType) (c a b : Value) (m : Mode) (t k pc pc2 : ℕ) → ModeLands z m t k → DoesAt z c t k → DoesAt z a t k → DoesAt z b t k
       → Into z.code (sizes z) (typed.chosen u c a b) m t k pc pc2 → Within z (Aims z m pc2) (value_nodes c + value_nodes a + value_nodes b + 1) 32 pc pc2
   chosen_within u c a b m t k pc pc2 l dc da db i =
       let last = db m i.3 pc2 l i.8 in
       let middle = da m i.1 i.2 l i.6 in
       let there : i.2 ≤ pc2 = on i.2 i.3 pc2 (next_le i.2 i.3 i.7.next) last.forward in
-      settle z (value_nodes c + value_nodes a + value_nodes b + 1) 32 (chosen_room (value_nodes c) (value_nodes a) (value_nodes b)) (join z (nothing pc i.0 i.4)
+      settle z (value_nodes c + value_nodes a + value_nodes b + 1) 32 (chosen_room (value_nodes c) (value_nodes a) (value_nodes b))
+      (join z (nothing z pc i.0 i.4)
       (join z (jumping m false i.3 i.1 pc2 (on i.1 i.2 pc2 middle.forward there) last.forward (dc (If false i.3) i.0 i.1 tt i.5))
       (join z (shorter m i.2 pc2 there middle)
       (join z (one z _ 124 i.2 i.3 i.7 (omega arith) (λ x. x.0)) last))))
 
-  pub sequence_within : (a b : Value) (m : Mode) (t k pc pc2 : ℕ) → ModeLands z m t k → DoesAt a t k → DoesAt b t k
+  pub sequence_within : (a b : Value) (m : Mode) (t k pc pc2 : ℕ) → ModeLands z m t k → DoesAt z a t k → DoesAt z b t k
       → Into z.code (sizes z) (typed.sequence a b) m t k pc pc2 → Within z (Aims z m pc2) (value_nodes a + value_nodes b + 1) 32 pc pc2
   sequence_within a b m t k pc pc2 l da db i =
       let last = db m i.1 pc2 l i.4 in
-      settle z (value_nodes a + value_nodes b + 1) 32 (both_room (value_nodes a) (value_nodes b)) (join z (nothing pc i.0 i.2)
+      settle z (value_nodes a + value_nodes b + 1) 32 (both_room (value_nodes a) (value_nodes b)) (join z (nothing z pc i.0 i.2)
       (join z (unused m i.1 pc2 last.forward (da Nowhere i.0 i.1 tt i.3)) last))
 
-  pub cast_within : (u : IntType) (e : Value) (m : Mode) (t k pc pc2 : ℕ) → RestsFine z (rests_in e) → ModeLands z m t k → Free z t k → DoesAt e t k
+  pub cast_within : (u : IntType) (e : Value) (m : Mode) (t k pc pc2 : ℕ) → RestsFine z (rests_in e) → ModeLands z m t k → Free z t k → DoesAt z e t k
       → Into z.code (sizes z) (typed.cast u e) m t k pc pc2 → Within z (Aims z m pc2) (value_nodes e + 1) 32 pc pc2
   cast_within u e m t k pc pc2 re l f de i =
-      settle z (value_nodes e + 1) 32 (cast_room (value_nodes e)) (join z (nothing pc i.0 i.1)
-      (casts_within z (keeps u e) (λ n a b. Into z.code (sizes z) e n t k a b) u (operand_of e t k) m (value_nodes e) t k i.0 pc2 l (waits z e writes_none false t k re) f de i.2))
+      settle z (value_nodes e + 1) 32 (cast_room (value_nodes e)) (join z (nothing z pc i.0 i.1)
+      (casts_within z (keeps u e) (λ n a b. Into z.code (sizes z) e n t k a b) u (operand_of e t k) m (value_nodes e) t k i.0 pc2 l
+      (waits z e writes_none false t k re) f de i.2))
 
-  pub discarded_within : (e : Value) (m : Mode) (t k pc pc2 : ℕ) → ModeLands z m t k → Free z t k → DoesAt e t k
+  pub discarded_within : (e : Value) (m : Mode) (t k pc pc2 : ℕ) → ModeLands z m t k → Free z t k → DoesAt z e t k
       → Into z.code (sizes z) (typed.discarded e) m t k pc pc2 → Within z (Aims z m pc2) (value_nodes e + 1) 32 pc pc2
   discarded_within e m t k pc pc2 l f de i =
       let last = ends_within z m zero_word t k i.1 pc2 l f zero_small i.4 in
-      settle z (value_nodes e + 1) 32 (discarded_room (value_nodes e)) (join z (nothing pc i.0 i.2)
+      settle z (value_nodes e + 1) 32 (discarded_room (value_nodes e)) (join z (nothing z pc i.0 i.2)
       (join z (unused m i.1 pc2 last.forward (de Nowhere i.0 i.1 tt i.3)) last))
 
   -- ---- calls
@@ -361,5 +266,5 @@ module _ (z : Ground) where
       → Into z.code (sizes z) (typed.call at callee result used arguments) m t k pc pc2 → Within z (Aims z m pc2) (argument_nodes arguments + 1) 32 pc pc2
   call_within at callee result used arguments m t k pc pc2 l f c row i =
       let last = calls_within z callee m t k i.1 pc2 c l f (let h = f.0 in let e : 0 < z.bound = omega (arith, h) in e) i.4 in
-      settle z (argument_nodes arguments + 1) 32 (call_room (argument_nodes arguments)) (join z (nothing pc i.0 i.2)
+      settle z (argument_nodes arguments + 1) 32 (call_room (argument_nodes arguments)) (join z (nothing z pc i.0 i.2)
       (join z (aimed z (λ a. on i.1 pc2 z.limit last.forward a.0) (row i.0 i.1 i.3)) last))

@@ -1,31 +1,22 @@
 -- Operands and targets of plain code are fine.
-use Rattle.std.proofs.Common.{◌≡◌, ℕ, zero, suc, ◌+◌, ◌<◌, ◌≤◌, List, [], ◌∷◌, length, map, Option, Some, None, Bool, true, false, ◌&&◌, ℤ, refl, sym, ap, ◌∙◌, subst, arith}
-use Rattle.std.specs.Prelude.{nat_eq, nat_lt, slice_get}
-use Rattle.std.proofs.lemmas.Option.{slice_get_within}
+use Rattle.std.proofs.Common.{◌≡◌, ℕ, ◌+◌, ◌<◌, ◌≤◌, List, [], ◌∷◌, length, Option, Some, None, Bool, true, false, ◌&&◌, ℤ, refl, arith}
+use Rattle.std.specs.Prelude.{nat_eq, slice_get}
 use Rattle.std.proofs.lemmas.Bool.Decides.{nat_tests}
 use Rattle.ctypes.specs.declared.types.IntType.{IntType}
-use Rattle.typed.specs.Types.{ObjectType, ParameterType, number, elements, same_type}
+use Rattle.typed.specs.Types.{ObjectType, same_type}
 use Rattle.typed.specs.Program as typed
-use Rattle.typed.specs.Program.{Storage, Place, Value}
-use Rattle.typed.specs.Nodes.{type_of_value, type_of_place, type_of_storage, text_type, object_type, reference_in}
-use Rattle.typed.specs.WellTyped.{is_array, is_scalar, some_number, place_is_typed, value_is_typed}
+use Rattle.typed.specs.Program.{Place, Value}
+use Rattle.typed.specs.Nodes.{type_of_value, type_of_place, object_type}
+use Rattle.typed.specs.WellTyped.{is_scalar, some_number, place_is_typed, value_is_typed}
 use Rattle.tac.specs.declared.code.Operand.{Operand}
 use Rattle.tac.specs.declared.code.Operand.TheVariants as operand
 use Rattle.tac.specs.declared.code.Target.{Target}
 use Rattle.tac.specs.declared.code.Target.TheVariants as target
-use Rattle.tac.specs.declared.code.Place.{Place as Spot}
-use Rattle.tac.specs.declared.code.Place.TheVariants as place
 use Rattle.tac.specs.Code.{scalar_type, type_if_scalar}
-use Rattle.tac.specs.Costs.{array_parameters}
-use Rattle.tac.specs.Designated.{is_defined, storage_is_defined, in_place}
-use Rattle.tac.specs.Lowered.{kind_of}
-use Rattle.tac.specs.Sound.{IsDefined}
-use Rattle.lowering.specs.Places.{named_spot, found, free_temporary_at, free_kept_at}
 use Rattle.lowering.specs.Plain.{object_of}
 use Rattle.lowering.specs.Values.{rests_in, pending, unless_written, at_rest, constant_of, constant_or, waits_in, free_temporary, free_kept, Mode, Nowhere, To, If, mode_of, target_of}
 use Rattle.lowering.proofs.Words.{word_small, left_true, right_true, differ}
-use Rattle.lowering.proofs.Finding.{HasType, has_type, not_scalar}
-use Rattle.code_bounds.proofs.Grounds.{Ground, IsNumber, IsArray, OperandFine, SpotFine, TargetFine, Stays, SpotStays, Lands, ModeLands, ModeAims}
+use Rattle.code_bounds.proofs.Grounds.{Ground, IsNumber, OperandFine, TargetFine, Stays, Lands, ModeLands, ModeAims}
 
 below : (j t b : ℕ) → j ≤ t → t + 1 ≤ b → j < b
 below j t b x y = omega (arith, x, y)
@@ -43,9 +34,6 @@ pub scalar_of : (u : IntType) (o : Option ObjectType) → is_scalar u (object_ty
 scalar_of u None e = absurd (differ e)
 scalar_of u (Some t) e = (t.element, scalar_if t.lengths t.element (right_true (same_type u t.element) (nat_eq (length t.lengths) 0) e))
 
-some_none : (n : ℕ) → Some n ≡ None → ⊥
-some_none n e = cc
-
 module _ (z : Ground) where
   -- a temporary and a slot may be written
   abbrev pub Free : ℕ → ℕ → Type 0
@@ -62,12 +50,6 @@ module _ (z : Ground) where
   target_fine (target.Temporary j) t k f s = below j t z.bound s f.0
   target_fine (target.Kept j) t k f s = below j k z.bound s f.1
   target_fine (target.Object n) t k f s = s
-
-  pub spot_fine : (a : Spot) (t k : ℕ) → Free t k → SpotStays z a t k → SpotFine z a
-  spot_fine (place.Literal n) t k f s = s
-  spot_fine (place.Static n) t k f s = s
-  spot_fine (place.Array n) t k f s = s
-  spot_fine (place.At o) t k f s = operand_fine o t k f s
 
   pub target_lands : (m : Mode) (t k : ℕ) → ModeLands z m t k → Lands z (target_of m t) t k
   target_lands Nowhere t k l = same t
@@ -94,7 +76,7 @@ module _ (z : Ground) where
   RestsFine None = Unit {0}
   RestsFine (Some x) = IsNumber z x
 
-  pub stays_pending : (b : Bool) (t k : ℕ) → Stays z (pending b t k) t k
+  stays_pending : (b : Bool) (t k : ℕ) → Stays z (pending b t k) t k
   stays_pending true t k = same k
   stays_pending false t k = same t
 
@@ -129,75 +111,7 @@ module _ (z : Ground) where
   more_kept (operand.Parameter n) k = omega arith
   more_kept (operand.Constant v) k = omega arith
 
-  pub more_temporaries_at : (a : Spot) (t : ℕ) → free_temporary_at a t ≤ t + 1
-  more_temporaries_at (place.Literal n) t = omega arith
-  more_temporaries_at (place.Static n) t = omega arith
-  more_temporaries_at (place.Array n) t = omega arith
-  more_temporaries_at (place.At o) t = more_temporaries o t
-
-  pub more_kept_at : (a : Spot) (k : ℕ) → free_kept_at a k ≤ k + 1
-  more_kept_at (place.Literal n) k = omega arith
-  more_kept_at (place.Static n) k = omega arith
-  more_kept_at (place.Array n) k = omega arith
-  more_kept_at (place.At o) k = more_kept o k
-
   -- ---- places of typed programs
-
-  -- what lies in memory, for a name: an automatic object is an array
-  abbrev pub InMemory : Storage → Type 0
-  InMemory (typed.literal n) = Unit {0}
-  InMemory (typed.static n) = Unit {0}
-  InMemory (typed.automatic n) = is_array (object_type (slice_get z.function.objects n)) ≡ true
-  InMemory (typed.parameter n) = Unit {0}
-
-  abbrev pub PlaceInMemory : Place → Type 0
-  PlaceInMemory (typed.named at what) = InMemory what
-  PlaceInMemory (typed.element at array index) = Unit {0}
-
-  pub array_in_memory : (a : Place) → is_array (type_of_place z.source z.function a) ≡ true → PlaceInMemory a
-  array_in_memory (typed.named at (typed.literal n)) h = tt
-  array_in_memory (typed.named at (typed.static n)) h = tt
-  array_in_memory (typed.named at (typed.automatic n)) h = h
-  array_in_memory (typed.named at (typed.parameter n)) h = tt
-  array_in_memory (typed.element at array index) h = tt
-
-  pub no_object : (a : Place) → object_of a ≡ None → PlaceInMemory a
-  no_object (typed.named at (typed.literal n)) e = tt
-  no_object (typed.named at (typed.static n)) e = tt
-  no_object (typed.named at (typed.automatic n)) e = absurd (some_none n e)
-  no_object (typed.named at (typed.parameter n)) e = tt
-  no_object (typed.element at array index) e = tt
-
-  literal_there : (n : ℕ) (o : Option (List ℕ)) → slice_get z.source.literals n ≡ o → HasType (text_type o) → n < length z.made.literals
-  literal_there n None e h = absurd h
-  literal_there n (Some text) e h = subst (λ l. n < length l) (sym z.literals) (slice_get_within z.source.literals n text e)
-
-  static_there : (n : ℕ) (o : Option typed.Static) → slice_get z.source.statics n ≡ o → is_defined o ≡ true → IsDefined z.made n
-  static_there n None e h = absurd (differ h)
-  static_there n (Some o) e h = (o, ap (λ l. slice_get l n) z.statics ∙ e, h)
-
-  array_there : (n : ℕ) (o : Option ObjectType) → slice_get z.function.objects n ≡ o → is_array (object_type o) ≡ true → IsArray z n
-  array_there n None e h = absurd (differ h)
-  array_there n (Some t) e h = (slice_get_within z.function.objects n t e, ap scalar_type e ∙ not_scalar t.lengths t.element h)
-
-  reference_there : (ps : List ParameterType) (n : ℕ) → HasType (reference_in ps n) → n < array_parameters (map kind_of ps)
-  reference_there [] n h = absurd h
-  reference_there (number t ∷ ps) n h = reference_there ps n h
-  reference_there (elements t ∷ ps) zero h = omega arith
-  reference_there (elements t ∷ ps) (suc n) h = let lt = reference_there ps n h in omega (arith, lt)
-
-  named_stays : (what : Storage) (t k : ℕ) → InMemory what → HasType (type_of_storage z.source z.function what) → storage_is_defined z.source what ≡ true
-      → SpotStays z (named_spot what) t k
-  named_stays (typed.literal n) t k hm ht hd = literal_there n (slice_get z.source.literals n) refl ht
-  named_stays (typed.static n) t k hm ht hd = static_there n (slice_get z.source.statics n) refl hd
-  named_stays (typed.automatic n) t k hm ht hd = array_there n (slice_get z.function.objects n) refl hm
-  named_stays (typed.parameter n) t k hm ht hd = reference_there z.function.type.parameters n ht
-
-  -- where a place was found
-  pub found_stays : (a : Place) (c : Bool) (t k : ℕ) → PlaceInMemory a → place_is_typed z.source z.function a ≡ true → in_place z.source a ≡ true
-      → SpotStays z (found a c t k) t k
-  found_stays (typed.named at what) c t k hm ht hd = named_stays what t k hm (has_type (type_of_storage z.source z.function what) ht) hd
-  found_stays (typed.element at array index) c t k hm ht hd = stays_pending c t k
 
   pub place_fine : (u : IntType) (place : Place) → is_scalar u (type_of_place z.source z.function place) ≡ true → RestsFine (object_of place)
   place_fine u (typed.named at (typed.automatic n)) e = scalar_of u (slice_get z.function.objects n) e

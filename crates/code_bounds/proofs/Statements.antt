@@ -18,7 +18,7 @@ use Rattle.lowering.proofs.Words.{left_true, right_true}
 use Rattle.code_bounds.proofs.Grounds.{Ground, sizes}
 use Rattle.code_bounds.proofs.Stretches.{Within, one, none, join, settle, aimed}
 use Rattle.code_bounds.proofs.Operands.{operand_fine, mode_lands, mode_aims, waits, rests_fine}
-use Rattle.code_bounds.proofs.Expressions.{Ok, free}
+use Rattle.code_bounds.proofs.Expressions.{free}
 use Rattle.code_bounds.proofs.Parts.{on, next_le, same_le, le_holds, lt_holds, one_object, left_wide, right_wide, evaluate_room, define_room, block_room, branch_room, branches_room, switch_room, while_room, do_room, for_room, return_room, less_room, labels_room, length_both, Leads, Inside, inside_labels, whole, effect_within, gives_within, nothing, defined_within, effects_within, repeats_within, tests_within}
 
 module _ (z : Ground) where
@@ -28,20 +28,20 @@ module _ (z : Ground) where
   abbrev N : Value → Bool
   N e = some_number (type_of_value e)
 
-  abbrev D : Value → Bool
-  D e = in_value z.source e
-
-  abbrev S : Statement → Bool
-  S x = in_statement z.source x
-
-  abbrev Every : Statements → Bool
-  Every all = in_statements z.source all
-
   abbrev T : ℕ → ℕ → Statement → Bool
   T lo hi x = statement_is_typed z.source z.function lo hi x
 
   abbrev All : ℕ → ℕ → Statements → Bool
   All lo hi all = statements_are_typed z.source z.function lo hi all
+
+  abbrev E : Value → Bool
+  E e = in_value z.source e
+
+  abbrev S : Statement → Bool
+  S x = in_statement z.source x
+
+  abbrev B : Statements → Bool
+  B all = in_statements z.source all
 
   unlabelled : {A : Type 0} {u d pc pc2 : ℕ} → Within z A u d pc pc2 → Within z A u 0 pc pc2
   unlabelled {A} {u} {d} s = settle z u 0 (less_room u d) s
@@ -66,11 +66,13 @@ module _ (z : Ground) where
   block_typed lo hi a k b h = right_true (nat_le (a + k) hi) b (right_true (nat_le lo a) (nat_le (a + k) hi && b) h)
 
   mutual
-    pub stands_within : (x : Statement) (out again back lo hi pc pc2 : ℕ) → statement_is_typed z.source z.function lo hi x ≡ true → in_statement z.source x ≡ true → hi ≤ length z.function.objects → widest x + 1 ≤ z.bound
+    pub stands_within : (x : Statement) (out again back lo hi pc pc2 : ℕ) → statement_is_typed z.source z.function lo hi x ≡ true
+        → in_statement z.source x ≡ true → hi ≤ length z.function.objects → widest x + 1 ≤ z.bound
         → Stands z.code (sizes z) x out again back pc pc2 → Within z (Leads z out again back pc2) (statement_nodes x) (32 * length (labels_at x)) pc pc2
     stands_within typed.empty out again back lo hi pc pc2 h d le w i = settle z 1 0 (omega arith) (nothing z pc pc2 i)
     stands_within (typed.evaluate e) out again back lo hi pc pc2 h d le w i =
-        settle z (value_nodes e + 1) 0 (evaluate_room (value_nodes e)) (join z (nothing z pc i.0 i.1) (aimed z (λ a. (a.0, tt)) (effect_within z e Nowhere i.0 pc2 (h, d) w tt i.2)))
+        settle z (value_nodes e + 1) 0 (evaluate_room (value_nodes e))
+        (join z (nothing z pc i.0 i.1) (aimed z (λ a. (a.0, tt)) (effect_within z e Nowhere i.0 pc2 h d w tt i.2)))
     stands_within (typed.declare n) out again back lo hi pc pc2 h d le w i =
         settle z 1 0 (omega arith) (forget n 1 pc pc2 i (one_object n hi (length z.function.objects) (lt_holds n hi (right_true (nat_le lo n) (nat_lt n hi) h)) le))
     stands_within (typed.define n v) out again back lo hi pc pc2 h d le w i =
@@ -84,50 +86,58 @@ module _ (z : Ground) where
         settle z (statements_nodes all + 1) 0 (block_room (statements_nodes all)) (join z
         (forget a k pc i.0 i.1 inside) (all_within all out again back a (a + k) i.0 pc2 (block_typed lo hi a k (All a (a + k) all) h) d inside w i.2))
     stands_within (typed.branch e a) out again back lo hi pc pc2 h d le w i =
-        let body = unlabelled (stands_within a out again back lo hi i.1 pc2 (right_true (V e && N e) (T lo hi a) h) (right_true (D e) (S a) d) le (right_wide (value_nodes e) (widest a) z.bound w) i.4) in
+        let body = unlabelled (stands_within a out again back lo hi i.1 pc2 (right_true (V e && N e) (T lo hi a) h) (right_true (E e) (S a) d) le
+        (right_wide (value_nodes e) (widest a) z.bound w) i.4) in
         settle z (value_nodes e + statement_nodes a + 1) 0 (branch_room (value_nodes e) (statement_nodes a)) (join z (nothing z pc i.0 i.2)
         (join z (aimed z (λ c. (on i.1 pc2 z.limit body.forward c.0, c.0))
-        (effect_within z e (If false pc2) i.0 i.1 (left_true (V e) (N e) (left_true (V e && N e) (T lo hi a) h), left_true (D e) (S a) d) (left_wide (value_nodes e) (widest a) z.bound w) tt i.3)) body))
+        (effect_within z e (If false pc2) i.0 i.1 (left_true (V e) (N e) (left_true (V e && N e) (T lo hi a) h)) (left_true (E e) (S a) d)
+        (left_wide (value_nodes e) (widest a) z.bound w) tt i.3)) body))
     stands_within (typed.branches e a b) out again back lo hi pc pc2 h d le w i =
         let h2 = right_true (V e && N e) (T lo hi a && T lo hi b) h in
-        let d2 = right_true (D e) (S a && S b) d in
         let w2 = right_wide (value_nodes e) (max (widest a) (widest b)) z.bound w in
-        let last = unlabelled (stands_within b out again back lo hi i.3 pc2 (right_true (T lo hi a) (T lo hi b) h2) (right_true (S a) (S b) d2) le (right_wide (widest a) (widest b) z.bound w2) i.8) in
-        let body = unlabelled (stands_within a out again back lo hi i.1 i.2 (left_true (T lo hi a) (T lo hi b) h2) (left_true (S a) (S b) d2) le (left_wide (widest a) (widest b) z.bound w2) i.6) in
+        let d2 = right_true (E e) (S a && S b) d in
+        let last = unlabelled (stands_within b out again back lo hi i.3 pc2 (right_true (T lo hi a) (T lo hi b) h2) (right_true (S a) (S b) d2) le
+        (right_wide (widest a) (widest b) z.bound w2) i.8) in
+        let body = unlabelled (stands_within a out again back lo hi i.1 i.2 (left_true (T lo hi a) (T lo hi b) h2) (left_true (S a) (S b) d2) le
+        (left_wide (widest a) (widest b) z.bound w2) i.6) in
         let there = on i.2 i.3 pc2 (next_le i.2 i.3 i.7.next) last.forward in
         settle z (value_nodes e + statement_nodes a + statement_nodes b + 1) 0 (branches_room (value_nodes e) (statement_nodes a) (statement_nodes b)) (join z (nothing z pc i.0 i.4)
         (join z (aimed z (λ c. (on i.1 pc2 z.limit (on i.1 i.2 pc2 body.forward there) c.0, on i.3 pc2 z.limit last.forward c.0))
-        (effect_within z e (If false i.3) i.0 i.1 (left_true (V e) (N e) (left_true (V e && N e) (T lo hi a && T lo hi b) h), left_true (D e) (S a && S b) d) (left_wide (value_nodes e) (max (widest a) (widest b)) z.bound w) tt i.5))
+        (effect_within z e (If false i.3) i.0 i.1 (left_true (V e) (N e) (left_true (V e && N e) (T lo hi a && T lo hi b) h)) (left_true (E e) (S a && S b) d)
+        (left_wide (value_nodes e) (max (widest a) (widest b)) z.bound w) tt i.5))
         (join z (aimed z (λ c. (on i.2 pc2 z.limit there c.0, c.1, c.2, c.3)) body) (join z (jump pc2 i.2 i.3 i.7 (λ c. c.0)) last))))
     stands_within (typed.switch u e a k all) out again back lo hi pc pc2 h d le w i =
         let o = waits_in e (is_within a k) false 0 0 in
-        let he : Ok z e =
-        (left_true (V e) (N e) (left_true (V e && N e) (nat_le lo a && (nat_le (a + k) hi && All a (a + k) all)) h), left_true (D e) (Every all) d) in
+        let he = left_true (V e) (N e) (left_true (V e && N e) (nat_le lo a && (nat_le (a + k) hi && All a (a + k) all)) h) in
         let h2 = right_true (V e && N e) (nat_le lo a && (nat_le (a + k) hi && All a (a + k) all)) h in
         let inside = block_inside lo hi a k (All a (a + k) all) h2 le in
         let we = left_wide (value_nodes e) (widest_of all) z.bound w in
-        let s = waits z e (is_within a k) false 0 0 (rests_fine z e he.0) in
-        let body = at_within all i.4 pc2 again back a (a + k) i.3 pc2 (block_typed lo hi a k (All a (a + k) all) h2) (right_true (D e) (Every all) d) inside (right_wide (value_nodes e) (widest_of all) z.bound w) i.9 in
+        let s = waits z e (is_within a k) false 0 0 (rests_fine z e he) in
+        let body = at_within all i.4 pc2 again back a (a + k) i.3 pc2 (block_typed lo hi a k (All a (a + k) all) h2) (right_true (E e) (B all) d) inside
+        (right_wide (value_nodes e) (widest_of all) z.bound w) i.9 in
         let tests = tests_within z o (labels_of all) i.4 pc2 i.2 i.3 (operand_fine z o 0 0 (free z e 0 0 (whole z e we)) s) i.8 in
         let first : i.1 ≤ pc2 = on i.1 i.2 pc2 (next_le i.1 i.2 i.7.next) (on i.2 i.3 pc2 tests.forward body.0.forward) in
         settle z (value_nodes e + statements_nodes all + 2) 0 (switch_room (value_nodes e) (statements_nodes all) (length (labels_of all))) (join z (nothing z pc i.0 i.5)
-        (join z (aimed z (λ c. (on i.1 pc2 z.limit first c.0, mode_aims z o)) (effect_within z e (mode_of o) i.0 i.1 he we (mode_lands z o 0 0 s) i.6))
+        (join z (aimed z (λ c. (on i.1 pc2 z.limit first c.0, mode_aims z o))
+        (effect_within z e (mode_of o) i.0 i.1 he (left_true (E e) (B all) d) we (mode_lands z o 0 0 s) i.6))
         (join z (forget a k i.1 i.2 i.7 inside)
         (join z (aimed z (λ c. (body.1 c.0, c.0)) tests) (aimed z (λ c. (c.0, c.0, c.2, c.3)) body.0)))))
     stands_within (typed.case v) out again back lo hi pc pc2 h d le w i = settle z 1 32 (omega arith) (nothing z pc pc2 i)
     stands_within typed.default out again back lo hi pc pc2 h d le w i = settle z 1 32 (omega arith) (nothing z pc pc2 i)
     stands_within (typed.while e a) out again back lo hi pc pc2 h d le w i =
-        let he : Ok z e = (left_true (V e) (N e) (left_true (V e && N e) (T lo hi a) h), left_true (D e) (S a) d) in
-        let body = unlabelled (stands_within a pc2 i.1 back lo hi i.0 i.1 (right_true (V e && N e) (T lo hi a) h) (right_true (D e) (S a) d) le (right_wide (value_nodes e) (widest a) z.bound w) i.3) in
-        let last = effect_within z e (If true i.0) i.1 pc2 he (left_wide (value_nodes e) (widest a) z.bound w) tt i.4 in
+        let he = left_true (V e) (N e) (left_true (V e && N e) (T lo hi a) h) in
+        let body = unlabelled (stands_within a pc2 i.1 back lo hi i.0 i.1 (right_true (V e && N e) (T lo hi a) h) (right_true (E e) (S a) d) le
+        (right_wide (value_nodes e) (widest a) z.bound w) i.3) in
+        let last = effect_within z e (If true i.0) i.1 pc2 he (left_true (E e) (S a) d) (left_wide (value_nodes e) (widest a) z.bound w) tt i.4 in
         settle z (value_nodes e + statement_nodes a + 1) 0 (while_room (value_nodes e) (statement_nodes a)) (join z
         (jump i.1 pc i.0 i.2 (λ c. on i.1 pc2 z.limit last.forward c.0))
         (join z (aimed z (λ c. (on i.1 pc2 z.limit last.forward c.0, c.0, on i.1 pc2 z.limit last.forward c.0, c.3)) body)
         (aimed z (λ c. (c.0, on i.0 pc2 z.limit (on i.0 i.1 pc2 body.forward last.forward) c.0)) last)))
     stands_within (typed.do_while a e) out again back lo hi pc pc2 h d le w i =
-        let he : Ok z e = (left_true (V e) (N e) (right_true (T lo hi a) (V e && N e) h), right_true (S a) (D e) d) in
-        let body = unlabelled (stands_within a pc2 i.1 back lo hi i.0 i.1 (left_true (T lo hi a) (V e && N e) h) (left_true (S a) (D e) d) le (right_wide (value_nodes e) (widest a) z.bound w) i.3) in
-        let last = effect_within z e (If true i.0) i.1 pc2 he (left_wide (value_nodes e) (widest a) z.bound w) tt i.4 in
+        let he = left_true (V e) (N e) (right_true (T lo hi a) (V e && N e) h) in
+        let body = unlabelled (stands_within a pc2 i.1 back lo hi i.0 i.1 (left_true (T lo hi a) (V e && N e) h) (left_true (S a) (E e) d) le
+        (right_wide (value_nodes e) (widest a) z.bound w) i.3) in
+        let last = effect_within z e (If true i.0) i.1 pc2 he (right_true (S a) (E e) d) (left_wide (value_nodes e) (widest a) z.bound w) tt i.4 in
         settle z (statement_nodes a + value_nodes e + 1) 0 (do_room (value_nodes e) (statement_nodes a)) (join z (nothing z pc i.0 i.2)
         (join z (aimed z (λ c. (on i.1 pc2 z.limit last.forward c.0, c.0, on i.1 pc2 z.limit last.forward c.0, c.3)) body)
         (aimed z (λ c. (c.0, on i.0 pc2 z.limit (on i.0 i.1 pc2 body.forward last.forward) c.0)) last)))
@@ -144,20 +154,26 @@ module _ (z : Ground) where
         let h2 = right_true (All lo hi declared) (od && (ot && (os && T lo hi a))) h in
         let h3 = right_true od (ot && (os && T lo hi a)) h2 in
         let h4 = right_true ot (os && T lo hi a) h3 in
-        let in_start = in_option z.source start in
-        let in_test = in_option z.source test in
-        let in_step = in_option z.source step in
-        let d2 = right_true (Every declared) (in_start && (in_test && (in_step && S a))) d in
-        let d3 = right_true in_start (in_test && (in_step && S a)) d2 in
-        let d4 = right_true in_test (in_step && S a) d3 in
+        let is = in_option z.source start in
+        let it = in_option z.source test in
+        let iu = in_option z.source step in
+        let d2 = right_true (B declared) (is && (it && (iu && S a))) d in
+        let d3 = right_true is (it && (iu && S a)) d2 in
+        let d4 = right_true it (iu && S a) d3 in
         let w2 = right_wide (widest_of declared) (max (option_nodes start) (max (option_nodes test) (max (option_nodes step) (widest a)))) z.bound w in
         let w3 = right_wide (option_nodes start) (max (option_nodes test) (max (option_nodes step) (widest a))) z.bound w2 in
         let w4 = right_wide (option_nodes test) (max (option_nodes step) (widest a)) z.bound w3 in
-        let last = repeats_within z test top at pc2 (left_true ot (os && T lo hi a) h3) (left_true in_test (in_step && S a) d3) (left_wide (option_nodes test) (max (option_nodes step) (widest a)) z.bound w3) i.12 in
-        let steps = effects_within z step next at (left_true os (T lo hi a) h4) (left_true in_step (S a) d4) (left_wide (option_nodes step) (widest a) z.bound w4) i.11 in
-        let body = unlabelled (stands_within a pc2 next back lo hi top next (right_true os (T lo hi a) h4) (right_true in_step (S a) d4) le (right_wide (option_nodes step) (widest a) z.bound w4) i.10) in
-        let starts = effects_within z start p2 p3 (left_true od (ot && (os && T lo hi a)) h2) (left_true in_start (in_test && (in_step && S a)) d2) (left_wide (option_nodes start) (max (option_nodes test) (max (option_nodes step) (widest a))) z.bound w2) i.8 in
-        let first = all_within declared pc2 pc2 back lo hi p1 p2 (left_true (All lo hi declared) (od && (ot && (os && T lo hi a))) h) (left_true (Every declared) (in_start && (in_test && (in_step && S a))) d) le (left_wide (widest_of declared) (max (option_nodes start) (max (option_nodes test) (max (option_nodes step) (widest a)))) z.bound w) i.7 in
+        let last = repeats_within z test top at pc2 (left_true ot (os && T lo hi a) h3) (left_true it (iu && S a) d3)
+        (left_wide (option_nodes test) (max (option_nodes step) (widest a)) z.bound w3) i.12 in
+        let steps = effects_within z step next at (left_true os (T lo hi a) h4) (left_true iu (S a) d4)
+        (left_wide (option_nodes step) (widest a) z.bound w4) i.11 in
+        let body = unlabelled (stands_within a pc2 next back lo hi top next (right_true os (T lo hi a) h4) (right_true iu (S a) d4) le
+        (right_wide (option_nodes step) (widest a) z.bound w4) i.10) in
+        let starts = effects_within z start p2 p3 (left_true od (ot && (os && T lo hi a)) h2) (left_true is (it && (iu && S a)) d2)
+        (left_wide (option_nodes start) (max (option_nodes test) (max (option_nodes step) (widest a))) z.bound w2) i.8 in
+        let first = all_within declared pc2 pc2 back lo hi p1 p2 (left_true (All lo hi declared) (od && (ot && (os && T lo hi a))) h)
+        (left_true (B declared) (is && (it && (iu && S a))) d) le
+        (left_wide (widest_of declared) (max (option_nodes start) (max (option_nodes test) (max (option_nodes step) (widest a)))) z.bound w) i.7 in
         let from_next : next ≤ pc2 = on next at pc2 steps.forward last.forward in
         let from_top : top ≤ pc2 = on top next pc2 body.forward from_next in
         let from_three : p3 ≤ pc2 = on p3 top pc2 (next_le p3 top i.9.next) from_top in
@@ -175,29 +191,35 @@ module _ (z : Ground) where
     stands_within typed.return_nothing out again back lo hi pc pc2 h d le w i =
         settle z 1 0 (omega arith) (join z (nothing z pc i.0 i.1) (aimed z (λ c. c.3) (leaves back i.0 pc2 i.2)))
     stands_within (typed.return_value u e) out again back lo hi pc pc2 h d le w i =
-        let he : Ok z e = (left_true (V e) (N e) (right_true (same_result z.function.type.result (Some u)) (V e && N e) h), d) in
+        let he = left_true (V e) (N e) (right_true (same_result z.function.type.result (Some u)) (V e && N e) h) in
         let last = leaves back i.1 pc2 i.4 in
         settle z (value_nodes e + 1) 0 (return_room (value_nodes e)) (join z (nothing z pc i.0 i.2)
-        (join z (aimed z (λ c. (on i.1 pc2 z.limit last.forward c.0, tt)) (gives_within z u e (target.Temporary 0) i.0 i.1 he w (same_le 0) i.3))
+        (join z (aimed z (λ c. (on i.1 pc2 z.limit last.forward c.0, tt)) (gives_within z u e (target.Temporary 0) i.0 i.1 he d w (same_le 0) i.3))
         (aimed z (λ c. c.3) last)))
 
-    pub all_within : (all : Statements) (out again back lo hi pc pc2 : ℕ) → statements_are_typed z.source z.function lo hi all ≡ true → in_statements z.source all ≡ true → hi ≤ length z.function.objects → widest_of all + 1 ≤ z.bound
+    pub all_within : (all : Statements) (out again back lo hi pc pc2 : ℕ) → statements_are_typed z.source z.function lo hi all ≡ true
+        → in_statements z.source all ≡ true → hi ≤ length z.function.objects → widest_of all + 1 ≤ z.bound
         → StandAll z.code (sizes z) all out again back pc pc2 → Within z (Leads z out again back pc2) (statements_nodes all) 0 pc pc2
     all_within typed.no_statements out again back lo hi pc pc2 h d le w i = none z pc pc2 i
     all_within (typed.and_statement x more) out again back lo hi pc pc2 h d le w i =
-        let rest = all_within more out again back lo hi i.0 pc2 (right_true (T lo hi x) (All lo hi more) h) (right_true (S x) (Every more) d) le (right_wide (widest x) (widest_of more) z.bound w) i.2 in
-        let this = unlabelled (stands_within x out again back lo hi pc i.0 (left_true (T lo hi x) (All lo hi more) h) (left_true (S x) (Every more) d) le (left_wide (widest x) (widest_of more) z.bound w) i.1) in
+        let rest = all_within more out again back lo hi i.0 pc2 (right_true (T lo hi x) (All lo hi more) h) (right_true (S x) (B more) d) le
+        (right_wide (widest x) (widest_of more) z.bound w) i.2 in
+        let this = unlabelled (stands_within x out again back lo hi pc i.0 (left_true (T lo hi x) (All lo hi more) h) (left_true (S x) (B more) d) le
+        (left_wide (widest x) (widest_of more) z.bound w) i.1) in
         settle z (statement_nodes x + statements_nodes more) 0 (less_room (statement_nodes x + statements_nodes more) (0 + 0))
         (join z (aimed z (λ c. (on i.0 pc2 z.limit rest.forward c.0, c.1, c.2, c.3)) this) rest)
 
     -- and its labels do not stand beyond its end
-    pub at_within : (all : Statements) (places : List ℕ) (out again back lo hi pc pc2 : ℕ) → statements_are_typed z.source z.function lo hi all ≡ true → in_statements z.source all ≡ true → hi ≤ length z.function.objects
+    pub at_within : (all : Statements) (places : List ℕ) (out again back lo hi pc pc2 : ℕ) → statements_are_typed z.source z.function lo hi all ≡ true
+        → in_statements z.source all ≡ true → hi ≤ length z.function.objects
         → widest_of all + 1 ≤ z.bound → StandAt z.code (sizes z) all places out again back pc pc2
         → Within z (Leads z out again back pc2) (statements_nodes all) (32 * length (labels_of all)) pc pc2 × (pc2 ≤ z.limit → Inside z places)
     at_within typed.no_statements places out again back lo hi pc pc2 h d le w i = (none z pc pc2 i.1, λ l. subst (Inside z) (sym i.0) tt)
     at_within (typed.and_statement x more) places out again back lo hi pc pc2 h d le w i =
-        let rest = at_within more i.1 out again back lo hi i.0 pc2 (right_true (T lo hi x) (All lo hi more) h) (right_true (S x) (Every more) d) le (right_wide (widest x) (widest_of more) z.bound w) i.4 in
-        let this = stands_within x out again back lo hi pc i.0 (left_true (T lo hi x) (All lo hi more) h) (left_true (S x) (Every more) d) le (left_wide (widest x) (widest_of more) z.bound w) i.3 in (
+        let rest = at_within more i.1 out again back lo hi i.0 pc2 (right_true (T lo hi x) (All lo hi more) h) (right_true (S x) (B more) d) le
+        (right_wide (widest x) (widest_of more) z.bound w) i.4 in
+        let this = stands_within x out again back lo hi pc i.0 (left_true (T lo hi x) (All lo hi more) h) (left_true (S x) (B more) d) le
+        (left_wide (widest x) (widest_of more) z.bound w) i.3 in (
           settle z (statement_nodes x + statements_nodes more) (32 * length (labels_at x ++ labels_of more))
               (labels_room (statement_nodes x) (statements_nodes more) (length (labels_at x)) (length (labels_of more)) (length (labels_at x ++ labels_of more)) (length_both (labels_at x) (labels_of more)))
               (join z (aimed z (λ c. (on i.0 pc2 z.limit rest.0.forward c.0, c.1, c.2, c.3)) this) rest.0),

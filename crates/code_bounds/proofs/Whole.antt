@@ -1,12 +1,11 @@
 -- Plain code is sound and within its bounds: the whole program.
 use Rattle.std.proofs.Common.{◌≡◌, ℕ, zero, suc, ◌+◌, ◌*◌, ◌-◌, ◌/◌, ◌<◌, ◌≤◌, ◌^◌, List, [], ◌∷◌, length, map, Some, true, ◌&&◌, refl, sym, ap, ◌∙◌, subst, arith}
 use Rattle.std.specs.Prelude.{nat_eq, nat_le, nat_lt, slice_get, sum_by}
-use Rattle.std.specs.List.{list_all}
 use Rattle.std.proofs.lemmas.Option.{slice_get_within}
 use Rattle.std.proofs.lemmas.List.Sums.{sum_by-cons}
 use Rattle.std.proofs.lemmas.Bool.Decides.{nat_tests}
 use Rattle.tree.specs.Counts.{weight_of}
-use Rattle.typed.specs.Types.{ObjectType, elements_in, size_of_object}
+use Rattle.typed.specs.Types.{elements_in}
 use Rattle.typed.specs.Program as typed
 use Rattle.typed.specs.Program.{Static}
 use Rattle.typed.specs.Nodes.{statement_nodes, typed_nodes}
@@ -18,16 +17,16 @@ use Rattle.tac.specs.Costs.{code_bytes, array_parameters, call_bytes}
 use Rattle.tac.specs.Spans.{widest, own_bytes}
 use Rattle.tac.specs.Sound.{IsScalar, InstructionFits, number_parameters, FunctionFits, data_bytes, IsSoundProgram}
 use Rattle.tac.specs.Lowered.{kind_of, IsChecked, IsCodeOf}
+use Rattle.checked.specs.Asked.{bodies_are_asked, types_are_sized}
 use Rattle.lowering.specs.Bodies.{temporaries_of, slots_of, IsFunctionFor, IsCodeFor}
 use Rattle.lowering.proofs.Words.{left_true, right_true}
 use Rattle.lowering.proofs.Program.{code_behaves}
 use Rattle.code_bounds.specs.inside.Rooms.{before}
-use Rattle.code_bounds.specs.Sized.{function_is_sized, static_is_sized, is_sized}
 use Rattle.code_bounds.specs.Laws.{PlainCodeIsSound, PlainCodeIsBounded, PlainCodeIsLowered}
 use Rattle.code_bounds.proofs.Lists.{same_some, got_below, length_map}
-use Rattle.code_bounds.proofs.Bytes.{in_sum, item_is, element_size}
 use Rattle.code_bounds.proofs.Grounds.{Ground, Fine}
 use Rattle.code_bounds.proofs.Stretches.{Within}
+use Rattle.code_bounds.proofs.Rows.{parts_are_small}
 use Rattle.code_bounds.proofs.Functions.{most_le, in_most, all_within, temporaries_le, slots_le, fits}
 use Rattle.code_bounds.proofs.Sizes.{widest_le, references, first_scalar, stack_fits, bytes_le, length_le}
 
@@ -63,9 +62,6 @@ less_nodes w s n l h g = omega (arith, h, g)
 limit_is : (b c : ℕ) → b ≤ c → c ≤ 1048576 → b ≤ 2 ^ 20
 limit_is b c h g = omega (arith, h, g)
 
-object_below : (s o r n w : ℕ) → s ≤ o → w ≡ (64 + (r + o) + 16 * n + 15) / 16 * 16 → w ≤ 1048576 → s < 2 ^ 32
-object_below s o r n w h e le = omega (arith, h, e, le)
-
 bytes_fit : (c b l s n m : ℕ) → c ≤ b → b + (124 * suc l + (0 + (104 + 84))) ≤ 0 + 128 * (suc l + (s + (1 + 2))) → s + l + 1 ≤ n → m ≡ l → 4 * (42 + 6 * m) + c ≤ 128 * n + 1024
 bytes_fit c b l s n m x h g e = omega (arith, x, h, g, e)
 
@@ -97,7 +93,7 @@ static_typed (x ∷ os) zero o h e =
 static_typed (x ∷ os) (suc n) o h e =
     static_typed os n o (right_true (values_fit x.type.element x.values) (statics_are_typed os) (right_true (nat_le (length x.values) (elements_in x.type.lengths)) (values_fit x.type.element x.values && statics_are_typed os) h)) e
 
-module _ (p : typed.Program) (q : Program) (checked : IsChecked p) (sized : is_sized p ≡ true) (code : IsCodeFor p q) where
+module _ (p : typed.Program) (q : Program) (checked : IsChecked p) (code : IsCodeFor p q) where
   parts : (functions_are_typed p p.functions ≡ true) × (statics_are_typed p.statics ≡ true) × (nat_lt p.main (length p.functions) ≡ true)
   parts =
       let h = checked.well_typed in
@@ -119,6 +115,18 @@ module _ (p : typed.Program) (q : Program) (checked : IsChecked p) (sized : is_s
     abbrev made : IsFunctionFor p q (nat_eq k p.main) f g
     made = code.each k f g ef eg
 
+    abbrev ground : Ground
+    ground = record {
+      source = p;
+      function = f;
+      made = q;
+      code = g.code;
+      limit = made.back;
+      bound = widest f.body + 1;
+      callees = callees;
+      sized = λ at array index h. parts_are_small p k f ef h at array index;
+    }
+
     typed_parts : (typed_nodes f ≤ f.nodes) × (f.weight ≤ 1048576) × (parameters_are_first f.type.parameters f.objects ≡ true)
         × (statement_is_typed p f (numbers_in f.type.parameters) (length f.objects) f.body ≡ true)
     typed_parts =
@@ -131,34 +139,10 @@ module _ (p : typed.Program) (q : Program) (checked : IsChecked p) (sized : is_s
         let h3 = right_true b (c && d) h2 in
         (le_holds (typed_nodes f) f.nodes (left_true a (b && (c && d)) h), le_holds f.weight 1048576 (left_true b (c && d) h2), left_true c d h3, right_true c d h3)
 
-    functions_sized : list_all function_is_sized p.functions ≡ true
-    functions_sized = left_true (list_all function_is_sized p.functions) (list_all static_is_sized p.statics) sized
-
-    object_small : (n : ℕ) (o : ObjectType) → slice_get f.objects n ≡ Some o → (0 < size_of_object o) × (size_of_object o < 2 ^ 32)
-    object_small n o e = (
-      (checked.each k f ef).sized n o e,
-      object_below (size_of_object o) (bytes_of_objects f.objects) (bytes_of_references f.type.parameters) f.nodes f.weight (in_sum f.objects n o e)
-          (checked.each k f ef).weight typed_parts.1,
-    )
-
-    abbrev ground : Ground
-    ground = record {
-      source = p;
-      function = f;
-      made = q;
-      code = g.code;
-      limit = made.back;
-      bound = widest f.body + 1;
-      literals = code.literals;
-      statics = code.statics;
-      sized = element_size p f (right_true (list_all function_is_sized p.functions) (list_all static_is_sized p.statics) sized)
-          (item_is function_is_sized p.functions k f functions_sized ef) object_small;
-      callees = callees;
-    }
-
     whole : Within ground (Unit {0}) (suc (length f.type.parameters) + (statement_nodes f.body + (1 + 2))) (124 * suc (length f.type.parameters) + (0 + (104 + 84))) 0 (length g.code)
     whole = all_within ground (suc (length f.type.parameters)) made.start made.end made.back (length g.code) (numbers_in f.type.parameters) (nat_eq k p.main)
-        (same_le made.back) typed_parts.3 (checked.each k f ef).defined (same_le (widest f.body + 1)) (positive (widest f.body)) made.idles made.body made.closes made.leaves
+        (same_le made.back) typed_parts.3 (checked.each k f ef).defined (same_le (widest f.body + 1))
+        (positive (widest f.body)) made.idles made.body made.closes made.leaves
 
     each_fine : (j : ℕ) (x : Instruction) → slice_get g.code j ≡ Some x → Fine ground x
     each_fine j x e = whole.each tt j x (nothing_below j) (slice_get_within g.code j x e) e
@@ -195,8 +179,10 @@ module _ (p : typed.Program) (q : Program) (checked : IsChecked p) (sized : is_s
     short = length_fits (length g.code) (before g.code (length g.code)) (length f.type.parameters) (statement_nodes f.body) f.nodes (length g.parameters)
         (length_le g.code) whole.room typed_parts.0 parameters_same (checked.each k f ef).nodes
 
-    instruction_fits : (j : ℕ) (x : Instruction) → slice_get g.code j ≡ Some x → InstructionFits q g x
-    instruction_fits j x e = fits ground g made.objects made.parameters (one_on made.back (length g.code) made.leaves.next) x (each_fine j x e)
+    instruction_fits : types_are_sized p ≡ true → (j : ℕ) (x : Instruction) → slice_get g.code j ≡ Some x → InstructionFits q g x
+    instruction_fits sized j x e = fits ground g made.objects made.parameters code.literals code.statics sized
+        (one_on made.back (length g.code) made.leaves.next) x
+        (each_fine j x e)
         (subst (λ n. temporaries_of q x ≤ n) (sym made.temporaries) (in_most (temporaries_of q) g.code j x e))
         (subst (λ n. slots_of x ≤ n) (sym made.kept) (in_most slots_of g.code j x e))
 
@@ -205,12 +191,12 @@ module _ (p : typed.Program) (q : Program) (checked : IsChecked p) (sized : is_s
         let s = first_scalar f.type.parameters f.objects n typed_parts.2 (subst (λ ps. n < number_parameters ps) made.parameters lt) in
         (s.0, ap (λ l. scalar_type (slice_get l n)) made.objects ∙ s.1)
 
-    function_fits : FunctionFits q g
-    function_fits = record {
+    function_fits : types_are_sized p ≡ true → FunctionFits q g
+    function_fits sized = record {
       small = limit_is (call_bytes g) f.weight bounded.within_weight typed_parts.1;
       parameters = parameter_scalar;
       sized = λ n o e. (checked.each k f ef).sized n o (subst (λ l. slice_get l n ≡ Some o) made.objects e);
-      each = instruction_fits;
+      each = instruction_fits sized;
     }
 
   -- ---- all functions
@@ -227,11 +213,11 @@ module _ (p : typed.Program) (q : Program) (checked : IsChecked p) (sized : is_s
       let g = got_below q.functions p.main (callees p.main f.element f.is).0 in
       ap (λ o. (or_no_function o).parameters) g.is ∙ ((code.each p.main f.element g.element f.is g.is).parameters ∙ ap (map kind_of) (checked.main_takes_nothing f.element f.is))
 
-  sound : IsSoundProgram q
-  sound = record {
+  sound : types_are_sized p ≡ true → IsSoundProgram q
+  sound sized = record {
     has_main = main_there;
     main_takes_nothing = ap (λ n. (function_at q n).parameters) code.main ∙ main_bare;
-    each = λ k g e. let f = got_below p.functions k (source_of k g e) in function_fits k f.element g f.is e;
+    each = λ k g e. let f = got_below p.functions k (source_of k g e) in function_fits k f.element g f.is e sized;
     literals = λ n text e. checked.literals n text (subst (λ l. slice_get l n ≡ Some text) code.literals e);
     statics = λ n o e. static_typed p.statics n o parts.1 (subst (λ l. slice_get l n ≡ Some o) code.statics e);
     small = subst (λ l. data_bytes l q.statics ≤ 2 ^ 24) (sym code.literals) (subst (λ s. data_bytes p.literals s ≤ 2 ^ 24) (sym code.statics) checked.small);
@@ -240,18 +226,18 @@ module _ (p : typed.Program) (q : Program) (checked : IsChecked p) (sized : is_s
   }
 
 pub plain_code_is_sound : PlainCodeIsSound
-plain_code_is_sound = sound
+plain_code_is_sound p q checked sized code = sound p q checked code sized
 
 pub plain_code_is_bounded : PlainCodeIsBounded
 plain_code_is_bounded = bounded
 
 pub plain_code_is_lowered : PlainCodeIsLowered
-plain_code_is_lowered p q checked asked sized plain code = record {
-  sound = sound p q checked sized code;
+plain_code_is_lowered p q checked asked plain code = record {
+  sound = sound p q checked code (right_true (bodies_are_asked p) (types_are_sized p) asked);
   behaves = λ input bytes. code_behaves p q input checked asked plain code bytes;
   literals = code.literals;
   statics = code.statics;
   main = code.main;
   count = code.count;
-  each = bounded p q checked sized code;
+  each = bounded p q checked code;
 }

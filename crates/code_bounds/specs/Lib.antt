@@ -1,4 +1,3 @@
-pub mod Sized
 pub mod Laws
 pub use Rattle.tac.specs.Lowered
 pub mod inside

@@ -19,17 +19,13 @@ use Rattle.lowering.specs.Values.{calls, arguments_call, writes, arguments_write
 use Rattle.lowering.specs.Code.{Into, Passes, Finds}
 use Rattle.lowering.specs.Places.{found, free_temporary_at, free_kept_at}
 use Rattle.lowering.proofs.Finding.{InMemory, FindsDo, has_type, named_found, element_found}
-use Rattle.lowering.proofs.Accesses.{get_does}
-use Rattle.lowering.proofs.Assigning.{assigned_does, compound_memory}
-use Rattle.lowering.proofs.Advancing.{step_memory}
-use Rattle.lowering.proofs.Handing.{rows_of_array, array_row}
+use Rattle.lowering.proofs.Placed.{placed_read, placed_assigned, placed_compound, placed_stepped, PlaceInMemory, array_in_memory, rows_in_memory}
+use Rattle.lowering.proofs.Handing.{array_row}
 use Rattle.lowering.proofs.Words.{ranged, is_value, left_true, right_true, differ}
 use Rattle.lowering.proofs.Standing.{sizes, IsCode}
 use Rattle.lowering.proofs.Goods.{IsFreeFor, Suits}
 use Rattle.lowering.proofs.Leaves.{IsNumber, IntoDoes, constant_does, read_does, assign_does}
-use Rattle.lowering.proofs.Changing.{compound_does}
-use Rattle.lowering.proofs.Stepping.{step_does}
-use Rattle.lowering.proofs.Operators.{wide_stays, suits_through, plus_does, minus_does, complement_does, not_does, not_jumps, cast_does, binary_does}
+use Rattle.lowering.proofs.Operators.{DoesAt, wide_stays, suits_through, plus_does, minus_does, complement_does, not_does, not_jumps, cast_does, binary_does}
 use Rattle.lowering.proofs.Choices.{sequence_does, discarded_does, both_value, both_jumps, one_value, one_jumps}
 use Rattle.lowering.proofs.Arms.{chosen_does, same_chosen}
 use Rattle.lowering.proofs.Passing.{AreFor, RowDoes, CallsDo, Wanted, none_row, number_row}
@@ -55,14 +51,19 @@ module _ (p : typed.Program) (tf : Function) (call : Calling) (q : Program) (dee
     (ok : CallsDo p call q deep f) where
   -- ---- parts that are typed and asked for
 
-  number_at : (x : ℕ) (u : IntType) (b : Bool) → (b && is_scalar u (object_type (slice_get tf.objects x))) ≡ true → IsNumber (function_at q f).objects x u
-  number_at x u b h = subst (λ l. IsNumber l x u) (sym same.objects)
-      (number_is tf.objects x u (slice_get tf.objects x) refl (right_true b (is_scalar u (object_type (slice_get tf.objects x))) h))
-
   pub wanted_any : (m : Mode) (b : Bool) → b ≡ true → Wanted p call q deep f m b
   wanted_any Nowhere b h = tt
   wanted_any (To g) b h = h
   wanted_any (If sense to) b h = h
+
+  -- a part whose value is used
+  number_does : (e : Expression) (t k : ℕ)
+      → ((m : Mode) (pc pc2 : ℕ) → value_is_typed p tf e ≡ true → value_is_asked e ≡ true → Wanted p call q deep f m (gives e) → IsFreeFor m t k
+      → Suits p q f m (extent e) → Into (function_at q f).code (sizes p f) e m t k pc pc2 → IntoDoes p call q deep f e m t k pc pc2)
+      → (value_is_typed p tf e && some_number (type_of_value e)) ≡ true → (value_is_asked e && gives e) ≡ true → DoesAt p call q deep f e t k
+  number_does e t k does ht ha m pc pc2 fr su i =
+      does m pc pc2 (left_true (value_is_typed p tf e) (some_number (type_of_value e)) ht) (left_true (value_is_asked e) (gives e) ha)
+      (wanted_any m (gives e) (right_true (value_is_asked e) (gives e) ha)) fr su i
 
   wanted_left : (m : Mode) (a b : Bool) → Wanted p call q deep f m (a && b) → Wanted p call q deep f m a
   wanted_left Nowhere a b h = tt
@@ -94,239 +95,80 @@ module _ (p : typed.Program) (tf : Function) (call : Calling) (q : Program) (dee
   are_for (elements u ∷ ps) typed.no_arguments t k pc pc2 h i = absurd (differ h)
   are_for (elements u ∷ ps) (typed.and_number z e more) t k pc pc2 h i = absurd (differ h)
 
-  abbrev PlaceInMemory : Place → Type 0
-  PlaceInMemory (typed.named at what) = InMemory p tf call q deep f same what
-  PlaceInMemory (typed.element at array index) = Unit {0}
-
-  array_in_memory : (a : Place) → is_array (type_of_place p tf a) ≡ true → PlaceInMemory a
-  array_in_memory (typed.named at (typed.literal n)) h = tt
-  array_in_memory (typed.named at (typed.static n)) h = tt
-  array_in_memory (typed.named at (typed.automatic n)) h = h
-  array_in_memory (typed.named at (typed.parameter n)) h = tt
-  array_in_memory (typed.element at array index) h = tt
-
-  rows_in_memory : (u : ObjectType) (a : Place) → rows_alike u (rows_of (type_of_place p tf a)) ≡ true → PlaceInMemory a
-  rows_in_memory u a h = array_in_memory a (rows_of_array u (type_of_place p tf a) h)
-
   mutual
     pub into_does : (e : Expression) (m : Mode) (t k pc pc2 : ℕ) → value_is_typed p tf e ≡ true → value_is_asked e ≡ true → Wanted p call q deep f m (gives e)
         → IsFreeFor m t k → Suits p q f m (extent e)
         → Into (function_at q f).code (sizes p f) e m t k pc pc2 → IntoDoes p call q deep f e m t k pc pc2
     into_does (typed.constant u v) m t k pc pc2 ht ha w fr su h =
         constant_does p call q deep f u v m t k pc pc2 fr su (is_value u v ht) h
-    into_does (typed.read u (typed.named at2 (typed.automatic x))) m t k pc pc2 ht ha w fr su h =
-        read_does p call q deep f at2 x u m t k pc pc2 (number_at x u (place_is_typed p tf (typed.named at2 (typed.automatic x))) ht) fr su h
-    into_does (typed.read u (typed.named at2 (typed.literal x))) m t k pc pc2 ht ha w fr su h =
-        get_does p tf call q deep f same (typed.named at2 (typed.literal x)) u m t k pc h.0 pc2 refl (right_true (place_is_typed p tf (typed.named at2 (typed.literal x))) (is_scalar u (type_of_place p tf (typed.named at2 (typed.literal x)))) ht) fr su
-        (find_does (typed.named at2 (typed.literal x)) false t k pc h.0 (left_true (place_is_typed p tf (typed.named at2 (typed.literal x))) (is_scalar u (type_of_place p tf (typed.named at2 (typed.literal x)))) ht) ha tt h.1) h.2
-    into_does (typed.read u (typed.named at2 (typed.static x))) m t k pc pc2 ht ha w fr su h =
-        get_does p tf call q deep f same (typed.named at2 (typed.static x)) u m t k pc h.0 pc2 refl (right_true (place_is_typed p tf (typed.named at2 (typed.static x))) (is_scalar u (type_of_place p tf (typed.named at2 (typed.static x)))) ht) fr su
-        (find_does (typed.named at2 (typed.static x)) false t k pc h.0 (left_true (place_is_typed p tf (typed.named at2 (typed.static x))) (is_scalar u (type_of_place p tf (typed.named at2 (typed.static x)))) ht) ha tt h.1) h.2
-    into_does (typed.read u (typed.named at2 (typed.parameter x))) m t k pc pc2 ht ha w fr su h =
-        get_does p tf call q deep f same (typed.named at2 (typed.parameter x)) u m t k pc h.0 pc2 refl (right_true (place_is_typed p tf (typed.named at2 (typed.parameter x))) (is_scalar u (type_of_place p tf (typed.named at2 (typed.parameter x)))) ht) fr su
-        (find_does (typed.named at2 (typed.parameter x)) false t k pc h.0 (left_true (place_is_typed p tf (typed.named at2 (typed.parameter x))) (is_scalar u (type_of_place p tf (typed.named at2 (typed.parameter x)))) ht) ha tt h.1) h.2
-    into_does (typed.read u (typed.element at2 array index)) m t k pc pc2 ht ha w fr su h =
-        get_does p tf call q deep f same (typed.element at2 array index) u m t k pc h.0 pc2 refl (right_true (place_is_typed p tf (typed.element at2 array index)) (is_scalar u (type_of_place p tf (typed.element at2 array index))) ht) fr su
-        (find_does (typed.element at2 array index) false t k pc h.0 (left_true (place_is_typed p tf (typed.element at2 array index)) (is_scalar u (type_of_place p tf (typed.element at2 array index))) ht) ha tt h.1) h.2
-    into_does (typed.assigned at u (typed.named at2 (typed.automatic x)) e) m t k pc pc2 ht ha w fr su h =
-        assign_does p call q deep f at at2 u x e m t k pc pc2
-        (number_at x u (place_is_typed p tf (typed.named at2 (typed.automatic x)))
-        (and_both (place_is_typed p tf (typed.named at2 (typed.automatic x))) (is_scalar u (object_type (slice_get tf.objects x)))
-        (left_true (place_is_typed p tf (typed.named at2 (typed.automatic x)))
-        (is_scalar u (object_type (slice_get tf.objects x)) && (value_is_typed p tf e && some_number (type_of_value e))) ht)
-        (left_true (is_scalar u (object_type (slice_get tf.objects x))) (value_is_typed p tf e && some_number (type_of_value e))
-        (right_true (place_is_typed p tf (typed.named at2 (typed.automatic x)))
-        (is_scalar u (object_type (slice_get tf.objects x)) && (value_is_typed p tf e && some_number (type_of_value e))) ht)))) fr
-        su
-        (λ n y z fr2 su2 i2. into_does e n t k y z
-        (left_true (value_is_typed p tf e) (some_number (type_of_value e))
-        (right_true (is_scalar u (object_type (slice_get tf.objects x))) (value_is_typed p tf e && some_number (type_of_value e))
-        (right_true (place_is_typed p tf (typed.named at2 (typed.automatic x)))
-        (is_scalar u (object_type (slice_get tf.objects x)) && (value_is_typed p tf e && some_number (type_of_value e))) ht)))
-        (left_true (value_is_asked e) (gives e) ha) (wanted_any n (gives e) (right_true (value_is_asked e) (gives e) ha)) fr2 su2 i2) h
-    into_does (typed.assigned at u (typed.named at2 (typed.literal x)) e) m t k pc pc2 ht ha w fr su h =
-        let a = (typed.named at2 (typed.literal x)) in
-        let h1 = right_true (place_is_typed p tf (typed.named at2 (typed.literal x))) (is_scalar u (type_of_place p tf (typed.named at2 (typed.literal x))) && (value_is_typed p tf e && some_number (type_of_value e))) ht in
-        let a1 = right_true (place_is_asked a) (value_is_asked e && gives e) ha in
-        assigned_does p tf call q deep f same at a u e m t k refl (left_true (is_scalar u (type_of_place p tf (typed.named at2 (typed.literal x)))) (value_is_typed p tf e && some_number (type_of_value e)) h1) fr su pc h.0 h.1 h.2 pc2
-        (find_does (typed.named at2 (typed.literal x)) (calls e) t k h.0 h.1 (left_true (place_is_typed p tf (typed.named at2 (typed.literal x))) (is_scalar u (type_of_place p tf (typed.named at2 (typed.literal x))) && (value_is_typed p tf e && some_number (type_of_value e))) ht)
-        (left_true (place_is_asked a) (value_is_asked e && gives e) ha) tt h.4)
-        (λ n y z fr2 su2 i2. into_does e n (free_temporary_at (found a (calls e) t k) t) (free_kept_at (found a (calls e) t k) k) y z
-        (left_true (value_is_typed p tf e) (some_number (type_of_value e)) (right_true (is_scalar u (type_of_place p tf (typed.named at2 (typed.literal x)))) (value_is_typed p tf e && some_number (type_of_value e)) h1)) (left_true (value_is_asked e) (gives e) a1)
-        (wanted_any n (gives e) (right_true (value_is_asked e) (gives e) a1)) fr2 su2 i2) h.3 h.5 h.6
-    into_does (typed.assigned at u (typed.named at2 (typed.static x)) e) m t k pc pc2 ht ha w fr su h =
-        let a = (typed.named at2 (typed.static x)) in
-        let h1 = right_true (place_is_typed p tf (typed.named at2 (typed.static x))) (is_scalar u (type_of_place p tf (typed.named at2 (typed.static x))) && (value_is_typed p tf e && some_number (type_of_value e))) ht in
-        let a1 = right_true (place_is_asked a) (value_is_asked e && gives e) ha in
-        assigned_does p tf call q deep f same at a u e m t k refl (left_true (is_scalar u (type_of_place p tf (typed.named at2 (typed.static x)))) (value_is_typed p tf e && some_number (type_of_value e)) h1) fr su pc h.0 h.1 h.2 pc2
-        (find_does (typed.named at2 (typed.static x)) (calls e) t k h.0 h.1 (left_true (place_is_typed p tf (typed.named at2 (typed.static x))) (is_scalar u (type_of_place p tf (typed.named at2 (typed.static x))) && (value_is_typed p tf e && some_number (type_of_value e))) ht)
-        (left_true (place_is_asked a) (value_is_asked e && gives e) ha) tt h.4)
-        (λ n y z fr2 su2 i2. into_does e n (free_temporary_at (found a (calls e) t k) t) (free_kept_at (found a (calls e) t k) k) y z
-        (left_true (value_is_typed p tf e) (some_number (type_of_value e)) (right_true (is_scalar u (type_of_place p tf (typed.named at2 (typed.static x)))) (value_is_typed p tf e && some_number (type_of_value e)) h1)) (left_true (value_is_asked e) (gives e) a1)
-        (wanted_any n (gives e) (right_true (value_is_asked e) (gives e) a1)) fr2 su2 i2) h.3 h.5 h.6
-    into_does (typed.assigned at u (typed.named at2 (typed.parameter x)) e) m t k pc pc2 ht ha w fr su h =
-        let a = (typed.named at2 (typed.parameter x)) in
-        let h1 = right_true (place_is_typed p tf (typed.named at2 (typed.parameter x))) (is_scalar u (type_of_place p tf (typed.named at2 (typed.parameter x))) && (value_is_typed p tf e && some_number (type_of_value e))) ht in
-        let a1 = right_true (place_is_asked a) (value_is_asked e && gives e) ha in
-        assigned_does p tf call q deep f same at a u e m t k refl (left_true (is_scalar u (type_of_place p tf (typed.named at2 (typed.parameter x)))) (value_is_typed p tf e && some_number (type_of_value e)) h1) fr su pc h.0 h.1 h.2 pc2
-        (find_does (typed.named at2 (typed.parameter x)) (calls e) t k h.0 h.1 (left_true (place_is_typed p tf (typed.named at2 (typed.parameter x))) (is_scalar u (type_of_place p tf (typed.named at2 (typed.parameter x))) && (value_is_typed p tf e && some_number (type_of_value e))) ht)
-        (left_true (place_is_asked a) (value_is_asked e && gives e) ha) tt h.4)
-        (λ n y z fr2 su2 i2. into_does e n (free_temporary_at (found a (calls e) t k) t) (free_kept_at (found a (calls e) t k) k) y z
-        (left_true (value_is_typed p tf e) (some_number (type_of_value e)) (right_true (is_scalar u (type_of_place p tf (typed.named at2 (typed.parameter x)))) (value_is_typed p tf e && some_number (type_of_value e)) h1)) (left_true (value_is_asked e) (gives e) a1)
-        (wanted_any n (gives e) (right_true (value_is_asked e) (gives e) a1)) fr2 su2 i2) h.3 h.5 h.6
-    into_does (typed.assigned at u (typed.element at2 array index) e) m t k pc pc2 ht ha w fr su h =
-        let a = (typed.element at2 array index) in
-        let h1 = right_true (place_is_typed p tf (typed.element at2 array index)) (is_scalar u (type_of_place p tf (typed.element at2 array index)) && (value_is_typed p tf e && some_number (type_of_value e))) ht in
-        let a1 = right_true (place_is_asked a) (value_is_asked e && gives e) ha in
-        assigned_does p tf call q deep f same at a u e m t k refl (left_true (is_scalar u (type_of_place p tf (typed.element at2 array index))) (value_is_typed p tf e && some_number (type_of_value e)) h1) fr su pc h.0 h.1 h.2 pc2
-        (find_does (typed.element at2 array index) (calls e) t k h.0 h.1 (left_true (place_is_typed p tf (typed.element at2 array index)) (is_scalar u (type_of_place p tf (typed.element at2 array index)) && (value_is_typed p tf e && some_number (type_of_value e))) ht)
-        (left_true (place_is_asked a) (value_is_asked e && gives e) ha) tt h.4)
-        (λ n y z fr2 su2 i2. into_does e n (free_temporary_at (found a (calls e) t k) t) (free_kept_at (found a (calls e) t k) k) y z
-        (left_true (value_is_typed p tf e) (some_number (type_of_value e)) (right_true (is_scalar u (type_of_place p tf (typed.element at2 array index))) (value_is_typed p tf e && some_number (type_of_value e)) h1)) (left_true (value_is_asked e) (gives e) a1)
-        (wanted_any n (gives e) (right_true (value_is_asked e) (gives e) a1)) fr2 su2 i2) h.3 h.5 h.6
-    into_does (typed.compound at o u of (typed.named at2 (typed.automatic x)) e) m t k pc pc2 ht ha w fr su h =
-        compound_does p call q deep f at at2 o u of x e m t k (left_true (is_wide of) (value_is_asked e && gives e) ha)
-        (number_at x u (place_is_typed p tf (typed.named at2 (typed.automatic x)))
-        (and_both (place_is_typed p tf (typed.named at2 (typed.automatic x))) (is_scalar u (object_type (slice_get tf.objects x)))
-        (left_true (place_is_typed p tf (typed.named at2 (typed.automatic x)))
-        (is_scalar u (object_type (slice_get tf.objects x)) && (value_is_typed p tf e && some_number (type_of_value e))) ht)
-        (left_true (is_scalar u (object_type (slice_get tf.objects x))) (value_is_typed p tf e && some_number (type_of_value e))
-        (right_true (place_is_typed p tf (typed.named at2 (typed.automatic x)))
-        (is_scalar u (object_type (slice_get tf.objects x)) && (value_is_typed p tf e && some_number (type_of_value e))) ht)))) fr
-        su pc pc2
-        (λ n y z fr2 su2 i2. into_does e n t k y z
-        (left_true (value_is_typed p tf e) (some_number (type_of_value e))
-        (right_true (is_scalar u (object_type (slice_get tf.objects x))) (value_is_typed p tf e && some_number (type_of_value e))
-        (right_true (place_is_typed p tf (typed.named at2 (typed.automatic x)))
-        (is_scalar u (object_type (slice_get tf.objects x)) && (value_is_typed p tf e && some_number (type_of_value e))) ht)))
-        (left_true (value_is_asked e) (gives e) (right_true (is_wide of) (value_is_asked e && gives e) ha))
-        (wanted_any n (gives e) (right_true (value_is_asked e) (gives e) (right_true (is_wide of) (value_is_asked e && gives e) ha)))
-        fr2 su2 i2) h
-    into_does (typed.compound at o u of (typed.named at2 (typed.literal x)) e) m t k pc pc2 ht ha w fr su h =
-        let a = (typed.named at2 (typed.literal x)) in
-        let h1 = right_true (place_is_typed p tf (typed.named at2 (typed.literal x))) (is_scalar u (type_of_place p tf (typed.named at2 (typed.literal x))) && (value_is_typed p tf e && some_number (type_of_value e))) ht in
-        let a0 = right_true (is_wide of) (place_is_asked a && (value_is_asked e && gives e)) ha in
-        let a1 = right_true (place_is_asked a) (value_is_asked e && gives e) a0 in
-        compound_memory p tf call q deep f same at o u of a e m t k refl (left_true (is_scalar u (type_of_place p tf (typed.named at2 (typed.literal x)))) (value_is_typed p tf e && some_number (type_of_value e)) h1)
-        (left_true (is_wide of) (place_is_asked a && (value_is_asked e && gives e)) ha) fr su pc h.0 h.1 h.2 h.3 pc2
-        (find_does (typed.named at2 (typed.literal x)) (calls e) t k h.0 h.1 (left_true (place_is_typed p tf (typed.named at2 (typed.literal x))) (is_scalar u (type_of_place p tf (typed.named at2 (typed.literal x))) && (value_is_typed p tf e && some_number (type_of_value e))) ht)
-        (left_true (place_is_asked a) (value_is_asked e && gives e) a0) tt h.5)
-        (λ n y z fr2 su2 i2. into_does e n (free_temporary_at (found a (calls e) t k) t) (free_kept_at (found a (calls e) t k) k) y z
-        (left_true (value_is_typed p tf e) (some_number (type_of_value e)) (right_true (is_scalar u (type_of_place p tf (typed.named at2 (typed.literal x)))) (value_is_typed p tf e && some_number (type_of_value e)) h1)) (left_true (value_is_asked e) (gives e) a1)
-        (wanted_any n (gives e) (right_true (value_is_asked e) (gives e) a1)) fr2 su2 i2) h.4 h.6 h.7 h.8
-    into_does (typed.compound at o u of (typed.named at2 (typed.static x)) e) m t k pc pc2 ht ha w fr su h =
-        let a = (typed.named at2 (typed.static x)) in
-        let h1 = right_true (place_is_typed p tf (typed.named at2 (typed.static x))) (is_scalar u (type_of_place p tf (typed.named at2 (typed.static x))) && (value_is_typed p tf e && some_number (type_of_value e))) ht in
-        let a0 = right_true (is_wide of) (place_is_asked a && (value_is_asked e && gives e)) ha in
-        let a1 = right_true (place_is_asked a) (value_is_asked e && gives e) a0 in
-        compound_memory p tf call q deep f same at o u of a e m t k refl (left_true (is_scalar u (type_of_place p tf (typed.named at2 (typed.static x)))) (value_is_typed p tf e && some_number (type_of_value e)) h1)
-        (left_true (is_wide of) (place_is_asked a && (value_is_asked e && gives e)) ha) fr su pc h.0 h.1 h.2 h.3 pc2
-        (find_does (typed.named at2 (typed.static x)) (calls e) t k h.0 h.1 (left_true (place_is_typed p tf (typed.named at2 (typed.static x))) (is_scalar u (type_of_place p tf (typed.named at2 (typed.static x))) && (value_is_typed p tf e && some_number (type_of_value e))) ht)
-        (left_true (place_is_asked a) (value_is_asked e && gives e) a0) tt h.5)
-        (λ n y z fr2 su2 i2. into_does e n (free_temporary_at (found a (calls e) t k) t) (free_kept_at (found a (calls e) t k) k) y z
-        (left_true (value_is_typed p tf e) (some_number (type_of_value e)) (right_true (is_scalar u (type_of_place p tf (typed.named at2 (typed.static x)))) (value_is_typed p tf e && some_number (type_of_value e)) h1)) (left_true (value_is_asked e) (gives e) a1)
-        (wanted_any n (gives e) (right_true (value_is_asked e) (gives e) a1)) fr2 su2 i2) h.4 h.6 h.7 h.8
-    into_does (typed.compound at o u of (typed.named at2 (typed.parameter x)) e) m t k pc pc2 ht ha w fr su h =
-        let a = (typed.named at2 (typed.parameter x)) in
-        let h1 = right_true (place_is_typed p tf (typed.named at2 (typed.parameter x))) (is_scalar u (type_of_place p tf (typed.named at2 (typed.parameter x))) && (value_is_typed p tf e && some_number (type_of_value e))) ht in
-        let a0 = right_true (is_wide of) (place_is_asked a && (value_is_asked e && gives e)) ha in
-        let a1 = right_true (place_is_asked a) (value_is_asked e && gives e) a0 in
-        compound_memory p tf call q deep f same at o u of a e m t k refl (left_true (is_scalar u (type_of_place p tf (typed.named at2 (typed.parameter x)))) (value_is_typed p tf e && some_number (type_of_value e)) h1)
-        (left_true (is_wide of) (place_is_asked a && (value_is_asked e && gives e)) ha) fr su pc h.0 h.1 h.2 h.3 pc2
-        (find_does (typed.named at2 (typed.parameter x)) (calls e) t k h.0 h.1 (left_true (place_is_typed p tf (typed.named at2 (typed.parameter x))) (is_scalar u (type_of_place p tf (typed.named at2 (typed.parameter x))) && (value_is_typed p tf e && some_number (type_of_value e))) ht)
-        (left_true (place_is_asked a) (value_is_asked e && gives e) a0) tt h.5)
-        (λ n y z fr2 su2 i2. into_does e n (free_temporary_at (found a (calls e) t k) t) (free_kept_at (found a (calls e) t k) k) y z
-        (left_true (value_is_typed p tf e) (some_number (type_of_value e)) (right_true (is_scalar u (type_of_place p tf (typed.named at2 (typed.parameter x)))) (value_is_typed p tf e && some_number (type_of_value e)) h1)) (left_true (value_is_asked e) (gives e) a1)
-        (wanted_any n (gives e) (right_true (value_is_asked e) (gives e) a1)) fr2 su2 i2) h.4 h.6 h.7 h.8
-    into_does (typed.compound at o u of (typed.element at2 array index) e) m t k pc pc2 ht ha w fr su h =
-        let a = (typed.element at2 array index) in
-        let h1 = right_true (place_is_typed p tf (typed.element at2 array index)) (is_scalar u (type_of_place p tf (typed.element at2 array index)) && (value_is_typed p tf e && some_number (type_of_value e))) ht in
-        let a0 = right_true (is_wide of) (place_is_asked a && (value_is_asked e && gives e)) ha in
-        let a1 = right_true (place_is_asked a) (value_is_asked e && gives e) a0 in
-        compound_memory p tf call q deep f same at o u of a e m t k refl (left_true (is_scalar u (type_of_place p tf (typed.element at2 array index))) (value_is_typed p tf e && some_number (type_of_value e)) h1)
-        (left_true (is_wide of) (place_is_asked a && (value_is_asked e && gives e)) ha) fr su pc h.0 h.1 h.2 h.3 pc2
-        (find_does (typed.element at2 array index) (calls e) t k h.0 h.1 (left_true (place_is_typed p tf (typed.element at2 array index)) (is_scalar u (type_of_place p tf (typed.element at2 array index)) && (value_is_typed p tf e && some_number (type_of_value e))) ht)
-        (left_true (place_is_asked a) (value_is_asked e && gives e) a0) tt h.5)
-        (λ n y z fr2 su2 i2. into_does e n (free_temporary_at (found a (calls e) t k) t) (free_kept_at (found a (calls e) t k) k) y z
-        (left_true (value_is_typed p tf e) (some_number (type_of_value e)) (right_true (is_scalar u (type_of_place p tf (typed.element at2 array index))) (value_is_typed p tf e && some_number (type_of_value e)) h1)) (left_true (value_is_asked e) (gives e) a1)
-        (wanted_any n (gives e) (right_true (value_is_asked e) (gives e) a1)) fr2 su2 i2) h.4 h.6 h.7 h.8
-    into_does (typed.stepped at moment o u of (typed.named at2 (typed.automatic x))) m t k pc pc2 ht ha w fr su h =
-        step_does p call q deep f at at2 o u of x t k (left_true (is_wide of) (true) ha)
-        (number_at x u (place_is_typed p tf (typed.named at2 (typed.automatic x))) ht) moment m pc pc2 fr su h
-    into_does (typed.stepped at moment o u of (typed.named at2 (typed.literal x))) m t k pc pc2 ht ha w fr su h =
-        let a = (typed.named at2 (typed.literal x)) in
-        step_memory p tf call q deep f same at o u of a t k refl (right_true (place_is_typed p tf (typed.named at2 (typed.literal x))) (is_scalar u (type_of_place p tf (typed.named at2 (typed.literal x)))) ht) (left_true (is_wide of) (place_is_asked a) ha) moment m pc h.0
-        h.1 h.2 pc2 fr su
-        (find_does (typed.named at2 (typed.literal x)) false t k h.0 h.1 (left_true (place_is_typed p tf (typed.named at2 (typed.literal x))) (is_scalar u (type_of_place p tf (typed.named at2 (typed.literal x)))) ht) (right_true (is_wide of) (place_is_asked a) ha) tt h.4) h.3 h.5 h.6
-    into_does (typed.stepped at moment o u of (typed.named at2 (typed.static x))) m t k pc pc2 ht ha w fr su h =
-        let a = (typed.named at2 (typed.static x)) in
-        step_memory p tf call q deep f same at o u of a t k refl (right_true (place_is_typed p tf (typed.named at2 (typed.static x))) (is_scalar u (type_of_place p tf (typed.named at2 (typed.static x)))) ht) (left_true (is_wide of) (place_is_asked a) ha) moment m pc h.0
-        h.1 h.2 pc2 fr su
-        (find_does (typed.named at2 (typed.static x)) false t k h.0 h.1 (left_true (place_is_typed p tf (typed.named at2 (typed.static x))) (is_scalar u (type_of_place p tf (typed.named at2 (typed.static x)))) ht) (right_true (is_wide of) (place_is_asked a) ha) tt h.4) h.3 h.5 h.6
-    into_does (typed.stepped at moment o u of (typed.named at2 (typed.parameter x))) m t k pc pc2 ht ha w fr su h =
-        let a = (typed.named at2 (typed.parameter x)) in
-        step_memory p tf call q deep f same at o u of a t k refl (right_true (place_is_typed p tf (typed.named at2 (typed.parameter x))) (is_scalar u (type_of_place p tf (typed.named at2 (typed.parameter x)))) ht) (left_true (is_wide of) (place_is_asked a) ha) moment m pc h.0
-        h.1 h.2 pc2 fr su
-        (find_does (typed.named at2 (typed.parameter x)) false t k h.0 h.1 (left_true (place_is_typed p tf (typed.named at2 (typed.parameter x))) (is_scalar u (type_of_place p tf (typed.named at2 (typed.parameter x)))) ht) (right_true (is_wide of) (place_is_asked a) ha) tt h.4) h.3 h.5 h.6
-    into_does (typed.stepped at moment o u of (typed.element at2 array index)) m t k pc pc2 ht ha w fr su h =
-        let a = (typed.element at2 array index) in
-        step_memory p tf call q deep f same at o u of a t k refl (right_true (place_is_typed p tf (typed.element at2 array index)) (is_scalar u (type_of_place p tf (typed.element at2 array index))) ht) (left_true (is_wide of) (place_is_asked a) ha) moment m pc h.0
-        h.1 h.2 pc2 fr su
-        (find_does (typed.element at2 array index) false t k h.0 h.1 (left_true (place_is_typed p tf (typed.element at2 array index)) (is_scalar u (type_of_place p tf (typed.element at2 array index))) ht) (right_true (is_wide of) (place_is_asked a) ha) tt h.4) h.3 h.5 h.6
+    into_does (typed.read u place) m t k pc pc2 ht ha w fr su h =
+        placed_read p tf call q deep f same u place m t k pc pc2 ht
+        (λ y z hm i. find_does place false t k y z (left_true (place_is_typed p tf place) (is_scalar u (type_of_place p tf place)) ht) ha hm i) fr su h
+    into_does (typed.assigned at u place e) m t k pc pc2 ht ha w fr su h =
+        let scalar = is_scalar u (type_of_place p tf place) in
+        let typed_e = value_is_typed p tf e && some_number (type_of_value e) in
+        placed_assigned p tf call q deep f same at u place e m t k pc pc2 ht
+        (λ y z hm i. find_does place (calls e) t k y z (left_true (place_is_typed p tf place) (scalar && typed_e) ht)
+        (left_true (place_is_asked place) (value_is_asked e && gives e) ha) hm i)
+        (λ t2 k2. number_does e t2 k2 (λ n y z. into_does e n t2 k2 y z) (right_true scalar typed_e (right_true (place_is_typed p tf place) (scalar && typed_e) ht))
+        (right_true (place_is_asked place) (value_is_asked e && gives e) ha)) fr su h
+    into_does (typed.compound at o u of place e) m t k pc pc2 ht ha w fr su h =
+        let scalar = is_scalar u (type_of_place p tf place) in
+        let typed_e = value_is_typed p tf e && some_number (type_of_value e) in
+        let a1 = right_true (is_wide of) (place_is_asked place && (value_is_asked e && gives e)) ha in
+        placed_compound p tf call q deep f same at o u of place e m t k pc pc2 ht (left_true (is_wide of) (place_is_asked place && (value_is_asked e && gives e)) ha)
+        (λ y z hm i. find_does place (calls e) t k y z (left_true (place_is_typed p tf place) (scalar && typed_e) ht)
+        (left_true (place_is_asked place) (value_is_asked e && gives e) a1) hm i)
+        (λ t2 k2. number_does e t2 k2 (λ n y z. into_does e n t2 k2 y z) (right_true scalar typed_e (right_true (place_is_typed p tf place) (scalar && typed_e) ht))
+        (right_true (place_is_asked place) (value_is_asked e && gives e) a1)) fr su h
+    into_does (typed.stepped at moment o u of place) m t k pc pc2 ht ha w fr su h =
+        placed_stepped p tf call q deep f same at moment o u of place m t k pc pc2 ht (left_true (is_wide of) (place_is_asked place) ha)
+        (λ y z hm i. find_does place false t k y z (left_true (place_is_typed p tf place) (is_scalar u (type_of_place p tf place)) ht)
+        (right_true (is_wide of) (place_is_asked place) ha) hm i) fr su h
     into_does (typed.unary at prefix.Plus u e) m t k pc pc2 ht ha w fr su h =
         plus_does p call q deep f at u e m t k pc pc2 (left_true (is_wide u) (value_is_asked e && gives e) ha)
-        (λ n y z fr2 su2 i2. into_does e n t k y z (left_true (value_is_typed p tf e) (some_number (type_of_value e)) ht)
-        (left_true (value_is_asked e) (gives e) (right_true (is_wide u) (value_is_asked e && gives e) ha))
-        (wanted_any n (gives e) (right_true (value_is_asked e) (gives e) (right_true (is_wide u) (value_is_asked e && gives e) ha))) fr2 su2 i2) fr
+        (number_does e t k (λ n y z. into_does e n t k y z)
+        ht
+        (right_true (is_wide u) (value_is_asked e && gives e) ha)) fr
         su h
     into_does (typed.unary at prefix.Minus u e) m t k pc pc2 ht ha w fr su h =
         minus_does p call q deep f at u e m t k pc pc2 (left_true (is_wide u) (value_is_asked e && gives e) ha)
-        (λ n y z fr2 su2 i2. into_does e n t k y z (left_true (value_is_typed p tf e) (some_number (type_of_value e)) ht)
-        (left_true (value_is_asked e) (gives e) (right_true (is_wide u) (value_is_asked e && gives e) ha))
-        (wanted_any n (gives e) (right_true (value_is_asked e) (gives e) (right_true (is_wide u) (value_is_asked e && gives e) ha))) fr2 su2 i2) fr
+        (number_does e t k (λ n y z. into_does e n t k y z)
+        ht
+        (right_true (is_wide u) (value_is_asked e && gives e) ha)) fr
         su h
     into_does (typed.unary at prefix.Complement u e) m t k pc pc2 ht ha w fr su h =
         complement_does p call q deep f at u e m t k pc pc2 (left_true (is_wide u) (value_is_asked e && gives e) ha)
-        (λ n y z fr2 su2 i2. into_does e n t k y z (left_true (value_is_typed p tf e) (some_number (type_of_value e)) ht)
-        (left_true (value_is_asked e) (gives e) (right_true (is_wide u) (value_is_asked e && gives e) ha))
-        (wanted_any n (gives e) (right_true (value_is_asked e) (gives e) (right_true (is_wide u) (value_is_asked e && gives e) ha))) fr2 su2 i2) fr
+        (number_does e t k (λ n y z. into_does e n t k y z)
+        ht
+        (right_true (is_wide u) (value_is_asked e && gives e) ha)) fr
         su h
     into_does (typed.unary at prefix.Not u e) Nowhere t k pc pc2 ht ha w fr su h =
         not_does p call q deep f at u e Nowhere t k pc h.0 h.1 pc2 (left_true (is_wide u) (value_is_asked e && gives e) ha)
-        (λ n y z fr2 su2 i2. into_does e n t k y z (left_true (value_is_typed p tf e) (some_number (type_of_value e)) ht)
-        (left_true (value_is_asked e) (gives e) (right_true (is_wide u) (value_is_asked e && gives e) ha))
-        (wanted_any n (gives e) (right_true (value_is_asked e) (gives e) (right_true (is_wide u) (value_is_asked e && gives e) ha))) fr2 su2 i2) fr
+        (number_does e t k (λ n y z. into_does e n t k y z)
+        ht
+        (right_true (is_wide u) (value_is_asked e && gives e) ha)) fr
         su h.2 h.3 h.4
     into_does (typed.unary at prefix.Not u e) (To g) t k pc pc2 ht ha w fr su h =
         not_does p call q deep f at u e (To g) t k pc h.0 h.1 pc2 (left_true (is_wide u) (value_is_asked e && gives e) ha)
-        (λ n y z fr2 su2 i2. into_does e n t k y z (left_true (value_is_typed p tf e) (some_number (type_of_value e)) ht)
-        (left_true (value_is_asked e) (gives e) (right_true (is_wide u) (value_is_asked e && gives e) ha))
-        (wanted_any n (gives e) (right_true (value_is_asked e) (gives e) (right_true (is_wide u) (value_is_asked e && gives e) ha))) fr2 su2 i2) fr
+        (number_does e t k (λ n y z. into_does e n t k y z)
+        ht
+        (right_true (is_wide u) (value_is_asked e && gives e) ha)) fr
         su h.2 h.3 h.4
     into_does (typed.unary at prefix.Not u e) (If sense to) t k pc pc2 ht ha w fr su h =
         not_jumps p call q deep f at u e sense to t k pc h.0 pc2 (left_true (is_wide u) (value_is_asked e && gives e) ha)
-        (λ n y z fr2 su2 i2. into_does e n t k y z (left_true (value_is_typed p tf e) (some_number (type_of_value e)) ht)
-        (left_true (value_is_asked e) (gives e) (right_true (is_wide u) (value_is_asked e && gives e) ha))
-        (wanted_any n (gives e) (right_true (value_is_asked e) (gives e) (right_true (is_wide u) (value_is_asked e && gives e) ha))) fr2 su2 i2) h.1
+        (number_does e t k (λ n y z. into_does e n t k y z)
+        ht
+        (right_true (is_wide u) (value_is_asked e && gives e) ha)) h.1
         h.2
     into_does (typed.binary at o u a b) m t k pc pc2 ht ha w fr su h =
         binary_does p call q deep f at o u a b m t k (left_true (is_wide u) ((value_is_asked a && gives a) && (value_is_asked b && gives b)) ha) fr su pc pc2
-        (λ n y z fr2 su2 i2. into_does a n t k y z
-        (left_true (value_is_typed p tf a) (some_number (type_of_value a))
-        (left_true (value_is_typed p tf a && some_number (type_of_value a)) (value_is_typed p tf b && some_number (type_of_value b)) ht))
-        (left_true (value_is_asked a) (gives a) (left_true (value_is_asked a && gives a) (value_is_asked b && gives b)
-        (right_true (is_wide u) ((value_is_asked a && gives a) && (value_is_asked b && gives b)) ha)))
-        (wanted_any n (gives a) (right_true (value_is_asked a) (gives a)
-        (left_true (value_is_asked a && gives a) (value_is_asked b && gives b)
-        (right_true (is_wide u) ((value_is_asked a && gives a) && (value_is_asked b && gives b)) ha)))) fr2 su2 i2)
-        (λ n y z fr2 su2 i2. into_does b n (free_temporary (waits_in a (writes b) (calls b) t k) t) (free_kept (waits_in a (writes b) (calls b) t k) k) y z
-        (left_true (value_is_typed p tf b) (some_number (type_of_value b))
-        (right_true (value_is_typed p tf a && some_number (type_of_value a)) (value_is_typed p tf b && some_number (type_of_value b)) ht))
-        (left_true (value_is_asked b) (gives b) (right_true (value_is_asked a && gives a) (value_is_asked b && gives b)
-        (right_true (is_wide u) ((value_is_asked a && gives a) && (value_is_asked b && gives b)) ha)))
-        (wanted_any n (gives b) (right_true (value_is_asked b) (gives b)
-        (right_true (value_is_asked a && gives a) (value_is_asked b && gives b)
-        (right_true (is_wide u) ((value_is_asked a && gives a) && (value_is_asked b && gives b)) ha)))) fr2 su2 i2) h
+        (number_does a t k (λ n y z. into_does a n t k y z)
+        (left_true (value_is_typed p tf a && some_number (type_of_value a)) (value_is_typed p tf b && some_number (type_of_value b)) ht)
+        (left_true (value_is_asked a && gives a) (value_is_asked b && gives b) (right_true (is_wide u) ((value_is_asked a && gives a) && (value_is_asked b && gives b)) ha)))
+        (number_does b (free_temporary (waits_in a (writes b) (calls b) t k) t) (free_kept (waits_in a (writes b) (calls b) t k) k) (λ n y z. into_does b n (free_temporary (waits_in a (writes b) (calls b) t k) t) (free_kept (waits_in a (writes b) (calls b) t k) k) y z)
+        (right_true (value_is_typed p tf a && some_number (type_of_value a)) (value_is_typed p tf b && some_number (type_of_value b)) ht)
+        (right_true (value_is_asked a && gives a) (value_is_asked b && gives b) (right_true (is_wide u) ((value_is_asked a && gives a) && (value_is_asked b && gives b)) ha))) h
     into_does (typed.both_true a b) Nowhere t k pc pc2 ht ha w fr su h =
         both_value p call q deep f a b t k Nowhere pc h.0 h.1 h.2 h.3 pc2 fr su refl h.4
         (into_does a (If false h.3) t k h.0 h.1 (left_true (value_is_typed p tf a) (some_number (type_of_value a))
@@ -455,8 +297,9 @@ module _ (p : typed.Program) (tf : Function) (call : Calling) (q : Program) (dee
         h.4)
     into_does (typed.cast u e) m t k pc pc2 ht ha w fr su h =
         cast_does p call q deep f (keeps u e) u e m t k pc h.0 pc2 refl
-        (λ n y z fr2 su2 i2. into_does e n t k y z (left_true (value_is_typed p tf e) (some_number (type_of_value e)) ht)
-        (left_true (value_is_asked e) (gives e) ha) (wanted_any n (gives e) (right_true (value_is_asked e) (gives e) ha)) fr2 su2 i2) fr su h.1 h.2
+        (number_does e t k (λ n y z. into_does e n t k y z)
+        ht
+        ha) fr su h.1 h.2
     into_does (typed.discarded e) m t k pc pc2 ht ha w fr su h =
         discarded_does p call q deep f e m t k pc h.0 h.1 pc2 h.2 (into_does e Nowhere t k h.0 h.1 ht ha tt tt tt h.3) fr su h.4
     into_does (typed.call at (typed.function g) result used args) m t k pc pc2 ht ha w fr su h =
@@ -491,7 +334,7 @@ module _ (p : typed.Program) (tf : Function) (call : Calling) (q : Program) (dee
         absurd h.4
 
     -- a place in memory
-    pub find_does : (a : Place) (c : Bool) (t k pc pc2 : ℕ) → place_is_typed p tf a ≡ true → place_is_asked a ≡ true → PlaceInMemory a
+    pub find_does : (a : Place) (c : Bool) (t k pc pc2 : ℕ) → place_is_typed p tf a ≡ true → place_is_asked a ≡ true → PlaceInMemory p tf call q deep f same a
         → Finds (function_at q f).code (sizes p f) a c t k pc pc2 → FindsDo p tf call q deep f same a c t k pc pc2
     find_does (typed.named at what) c t k pc pc2 ht ha hm h =
         named_found p tf call q deep f same at what c t k pc pc2 hm (has_type (type_of_storage p tf what) ht) h
@@ -502,11 +345,10 @@ module _ (p : typed.Program) (tf : Function) (call : Calling) (q : Program) (dee
         let a1 = right_true (place_is_asked array) (value_is_asked index && gives index) ha in
         element_found p tf call q deep f same at array index c t k an_array pc pc2
         (λ y z i2. find_does array (calls index) t k y z (left_true (place_is_typed p tf array) (is_array (type_of_place p tf array) && index_typed) ht)
-        (left_true (place_is_asked array) (value_is_asked index && gives index) ha) (array_in_memory array an_array) i2)
-        (λ n y z fr2 su2 i2. into_does index n (free_temporary_at (found array (calls index) t k) t) (free_kept_at (found array (calls index) t k) k) y z
-        (left_true (value_is_typed p tf index) (some_number (type_of_value index)) (right_true (is_array (type_of_place p tf array)) index_typed h1))
-        (left_true (value_is_asked index) (gives index) a1)
-        (wanted_any n (gives index) (right_true (value_is_asked index) (gives index) a1)) fr2 su2 i2) h
+        (left_true (place_is_asked array) (value_is_asked index && gives index) ha) (array_in_memory p tf call q deep f same array an_array) i2)
+        (number_does index (free_temporary_at (found array (calls index) t k) t) (free_kept_at (found array (calls index) t k) k) (λ n y z. into_does index n (free_temporary_at (found array (calls index) t k) t) (free_kept_at (found array (calls index) t k) k) y z)
+        (right_true (is_array (type_of_place p tf array)) index_typed h1)
+        a1) h
 
     pub row_does : (ps : List ParameterType) (args : Arguments) (t k pc pc2 : ℕ) → arguments_are_typed p tf ps args ≡ true → arguments_are_asked args ≡ true
         → Passes (function_at q f).code (sizes p f) args t k pc pc2 → RowDoes p call q deep f ps args t k pc pc2
@@ -531,7 +373,7 @@ module _ (p : typed.Program) (tf : Function) (call : Calling) (q : Program) (dee
         array_row p tf call q deep f same u ps array more t k pc h.0 h.1 pc2 (left_true rows (arguments_are_typed p tf ps more) h1)
         (find_does array (arguments_call more) t k pc h.0 (left_true (place_is_typed p tf array) (rows && arguments_are_typed p tf ps more) ht)
         (left_true (place_is_asked array) (arguments_are_asked more) ha)
-        (rows_in_memory u array (left_true rows (arguments_are_typed p tf ps more) h1)) h.2)
+        (rows_in_memory p tf call q deep f same u array (left_true rows (arguments_are_typed p tf ps more) h1)) h.2)
         (row_does ps more (t + 1) (free_kept_at (found array (arguments_call more) t k) k) h.0 h.1 (right_true rows (arguments_are_typed p tf ps more) h1)
         (right_true (place_is_asked array) (arguments_are_asked more) ha) h.3) h.4
     row_does [] (typed.and_number u e more) t k pc pc2 ht ha h = absurd (differ ht)

@@ -19,6 +19,7 @@ pub mod Choices
 pub mod Arms
 pub mod Passing
 pub mod Handing
+pub mod Placed
 pub mod Calling
 pub mod Expressions
 pub mod Flows

@@ -27,7 +27,7 @@ use Rattle.tac.specs.Run as tac
 use Rattle.tac.specs.Run.{Values, Call, State, running, ended, word, word_in, word_for, unset, result_alone, entered, returned, numbers_in, arrays_in, begun, ◌>>=◌}
 use Rattle.tac.specs.Sound.{AreBytes}
 use Rattle.tac.specs.Lowered.{kind_of}
-use Rattle.checked.specs.Asked.{is_asked, statement_is_asked}
+use Rattle.checked.specs.Asked.{bodies_are_asked, types_are_sized, is_asked, statement_is_asked}
 use Rattle.lowering.specs.Values.{or_int, writes_none}
 use Rattle.lowering.specs.Places.{size_of_type, size_of_place}
 use Rattle.lowering.specs.Code.{One}
@@ -116,7 +116,7 @@ module _ (p : typed.Program) (q : Program) (typed_well : is_typed p ≡ true) (a
     parameters_same = ap (λ h. h.parameters) here_is ∙ (both g f e).is.parameters
 
     asked_body : statement_is_asked f.body ≡ true
-    asked_body = item_is (λ f. statement_is_asked f.body) p.functions g f asked e
+    asked_body = item_is (λ f. statement_is_asked f.body) p.functions g f (left_true (bodies_are_asked p) (types_are_sized p) asked) e
 
     behind_weight : (parameters_are_first f.type.parameters f.objects && statement_is_typed p f (units.numbers_in f.type.parameters) (length f.objects) f.body)
         ≡ true
