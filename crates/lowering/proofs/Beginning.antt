@@ -15,10 +15,10 @@ use Rattle.tac.specs.Code.{Program}
 use Rattle.tac.specs.Sound.{AreBytes}
 use Rattle.lowering.proofs.Words.{is_value, left_true, right_true}
 use Rattle.lowering.proofs.Shapes.{HasShape, RowHas}
-use Rattle.lowering.proofs.Stores.{World, ObjectFits}
+use Rattle.lowering.proofs.Stores.{length_mapped, World, ObjectFits}
 use Rattle.lowering.proofs.Standing.{literal_type, types_below, first_automatic}
 use Rattle.lowering.proofs.Expressions.{zero_fits}
-use Rattle.lowering.proofs.Entering.{Lives, length_mapped, length_joined}
+use Rattle.lowering.proofs.Entering.{Lives, length_joined}
 
 char_fits : (c : ℕ) → c < 2 ^ 8 → IsValueOf ty.Char (pos c)
 char_fits c h = (omega (arith, ints), omega (arith, ints, h))

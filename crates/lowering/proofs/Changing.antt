@@ -26,7 +26,7 @@ use Rattle.lowering.specs.Values.{calls, writes, writes_none, rests_in, extent, 
 use Rattle.lowering.specs.Code.{Ends, Changes, Into}
 use Rattle.lowering.proofs.Words.{Ranged, ranged, converts_again, wide_word, is_word}
 use Rattle.lowering.proofs.Steps.{Reaches, reaches_on, Sim, sim_after, sim_then, sim_move, tick_in, find_in}
-use Rattle.lowering.proofs.Standing.{Scratch, here, put_scratch, set_same, put_state, Holds, does_nothing, does_convert, world}
+use Rattle.lowering.proofs.Standing.{Scratch, here, put_scratch, set_same, put_state, Holds, does_nothing, does_convert, world, sizes}
 use Rattle.lowering.proofs.Stores.{Fine, after_on, after_put, with_tree, fine_put, read_back, read_fits, fine_later, after_since}
 use Rattle.lowering.proofs.Goods.{Keeps, keeps_put, IsFreeFor, Known, Suits, Good, ends, mode_free, mode_suits, held, object_state}
 use Rattle.lowering.proofs.Operations.{computes_do, operated_extent}
@@ -90,7 +90,7 @@ module _ (p : typed.Program) (call : Calling) (q : Program) (deep f : ℕ) where
         is = ap (λ n. number_of u (word_for n)) same ∙ (converts_again u cw (ranged u cw (converted_fits u w)) ∙ converted_keeps u cw (converted_fits u w));
       }
 
-  undefined_then : {B : Type 0} (Good2 : B → machine.State → State → Type 0) (hi lo : ℕ) (t : State) (b : Bool) (act : Undef) (at : Pos) (s : machine.State)
+  pub undefined_then : {B : Type 0} (Good2 : B → machine.State → State → Type 0) (hi lo : ℕ) (t : State) (b : Bool) (act : Undef) (at : Pos) (s : machine.State)
       (r : Run ℤ) (go : ℤ → machine.State → Run B)
       → Sim q 14 hi lo t Good2 (then_do r go) → Sim q 14 hi lo t Good2 (then_do (choose b (undefined act at s) r) go)
   undefined_then Good2 hi lo t true act at s r go l = tt
@@ -138,7 +138,7 @@ module _ (p : typed.Program) (call : Calling) (q : Program) (deep f : ℕ) where
 
   -- ---- compound assignment (6.5.16.2)
 
-  goes_same : (Good2 : ℤ → machine.State → State → Type 0) (hi lo : ℕ) (t : State) (r : Run ℤ) → Sim q 14 hi lo t Good2 (then_do r (λ v s. Goes v s))
+  pub goes_same : (Good2 : ℤ → machine.State → State → Type 0) (hi lo : ℕ) (t : State) (r : Run ℤ) → Sim q 14 hi lo t Good2 (then_do r (λ v s. Goes v s))
       → Sim q 14 hi lo t Good2 r
   goes_same Good2 hi lo t (Goes v s) l = l
   goes_same Good2 hi lo t (Stops machine.TicksUsed s) l = l
@@ -185,9 +185,9 @@ module _ (p : typed.Program) (call : Calling) (q : Program) (deep f : ℕ) where
               constant = tt;
             })))
 
-    pub compound_does : (pc pc2 : ℕ) → ((n : Mode) (a z : ℕ) → IsFreeFor n t k → Suits p q f n (extent e) → Into (function_at q f).code e n t k a z
+    pub compound_does : (pc pc2 : ℕ) → ((n : Mode) (a z : ℕ) → IsFreeFor n t k → Suits p q f n (extent e) → Into (function_at q f).code (sizes p f) e n t k a z
         → IntoDoes p call q deep f e n t k a z)
-        → Into (function_at q f).code (typed.compound at o u of (typed.named at2 (typed.automatic x)) e) m t k pc pc2
+        → Into (function_at q f).code (sizes p f) (typed.compound at o u of (typed.named at2 (typed.automatic x)) e) m t k pc pc2
         → IntoDoes p call q deep f (typed.compound at o u of (typed.named at2 (typed.automatic x)) e) m t k pc pc2
     compound_does pc pc2 de h s now ws le fine =
         let Result2 = Good p q f (typed.compound at o u of (typed.named at2 (typed.automatic x)) e) m t k pc2 s now ws in

@@ -20,7 +20,7 @@ use Rattle.tac.specs.Run.{Values, word_in, word_for, number_of, is_word_of, numb
 use Rattle.tac.specs.Sound.{AreBytes}
 use Rattle.lowering.proofs.Words.{differ, left_true, right_true, ranged, converts_again, is_word}
 use Rattle.lowering.proofs.Shapes.{HasShape, filled_has}
-use Rattle.lowering.proofs.Stores.{World, all_types, ObjectFits, Refers, RefersToRows, Fine, After, behind, before_it, cases_lt}
+use Rattle.lowering.proofs.Stores.{World, all_types, ObjectFits, Refers, RefersToRows, Fine, After, behind, before_it, below_length, length_mapped, cases_lt}
 use Rattle.lowering.proofs.Standing.{rows_of}
 use Rattle.lowering.proofs.Typing.{same_type_is, no_length}
 use Rattle.lowering.proofs.Passing.{Fitting}
@@ -43,11 +43,6 @@ pub record Item {A : Type 0} (xs : List A) (n : ℕ) : Type 0 where
   pub element : A
   pub is : slice_get xs n ≡ Some element
 
-pub below_length : {A : Type 0} (xs : List A) (n : ℕ) (x : A) → slice_get xs n ≡ Some x → n < length xs
-below_length [] n x e = absurd (let z : ⊥ = cc in z)
-below_length (z ∷ xs) zero x e = omega arith
-below_length (z ∷ xs) (suc n) x e = omega (arith, below_length xs n x e)
-
 pub item_below : {A : Type 0} (xs : List A) (n : ℕ) → n < length xs → Item xs n
 item_below [] n lt = absurd (omega (arith, lt))
 item_below (z ∷ xs) zero lt = record { element = z; is = refl }
@@ -56,10 +51,6 @@ item_below (z ∷ xs) (suc n) lt = let more = item_below xs n (omega (arith, lt)
 pub taken : {A : Type 0} (xs ys : List A) → take (length xs) (xs ++ ys) ≡ xs
 taken [] ys = refl
 taken (x ∷ xs) ys = ap (λ l. x ∷ l) (taken xs ys)
-
-pub length_mapped : {A B : Type 0} (f : A → B) (xs : List A) → length (map f xs) ≡ length xs
-length_mapped f [] = refl
-length_mapped f (x ∷ xs) = ap suc (length_mapped f xs)
 
 -- ---- parameters
 

@@ -6,18 +6,25 @@ use Rattle.ctypes.specs.declared.types.IntType.TheVariants as ty
 use Rattle.ctypes.specs.Types.{IsValueOf, converted}
 use Rattle.ctypes.proofs.Uses.{converted_fits}
 use Rattle.tree.specs.declared.expression.PrefixOp.TheVariants as prefix
-use Rattle.typed.specs.Types.{ParameterType, number, elements, same_type}
+use Rattle.typed.specs.Types.{ParameterType, number, elements, same_type, ObjectType}
 use Rattle.typed.specs.Program as typed
 use Rattle.typed.specs.Program.{Callee, Place, Arguments, Function, Value as Expression}
-use Rattle.typed.specs.Nodes.{object_type, type_of_value}
-use Rattle.typed.specs.WellTyped.{is_scalar, some_number, same_none, callee_type, params_of, call_fits, place_is_typed, value_is_typed, arguments_are_typed}
+use Rattle.typed.specs.Nodes.{object_type, type_of_value, type_of_place, type_of_storage}
+use Rattle.typed.specs.WellTyped.{is_scalar, some_number, same_none, callee_type, params_of, call_fits, place_is_typed, value_is_typed, arguments_are_typed, is_array, rows_of, rows_alike}
 use Rattle.meaning.specs.Expressions.{Calling}
 use Rattle.meaning.specs.Machine.{choose}
 use Rattle.tac.specs.Code.{Program, function_at}
-use Rattle.checked.specs.Asked.{is_wide, gives, value_is_asked, arguments_are_asked}
+use Rattle.checked.specs.Asked.{is_wide, gives, value_is_asked, arguments_are_asked, place_is_asked}
 use Rattle.lowering.specs.Values.{calls, arguments_call, writes, arguments_write, extent, keeps, or_int, waits_in, free_temporary, free_kept, Mode, Nowhere, To, If}
-use Rattle.lowering.specs.Code.{Into, Passes}
+use Rattle.lowering.specs.Code.{Into, Passes, Finds}
+use Rattle.lowering.specs.Places.{found, free_temporary_at, free_kept_at}
+use Rattle.lowering.proofs.Finding.{InMemory, FindsDo, has_type, named_found, element_found}
+use Rattle.lowering.proofs.Accesses.{get_does}
+use Rattle.lowering.proofs.Assigning.{assigned_does, compound_memory}
+use Rattle.lowering.proofs.Advancing.{step_memory}
+use Rattle.lowering.proofs.Handing.{rows_of_array, array_row}
 use Rattle.lowering.proofs.Words.{ranged, is_value, left_true, right_true, differ}
+use Rattle.lowering.proofs.Standing.{sizes, IsCode}
 use Rattle.lowering.proofs.Goods.{IsFreeFor, Suits}
 use Rattle.lowering.proofs.Leaves.{IsNumber, IntoDoes, constant_does, read_does, assign_does}
 use Rattle.lowering.proofs.Changing.{compound_does}
@@ -44,12 +51,12 @@ zero_fits t = subst (IsValueOf (or_int t)) (zero_converted (or_int t)) (converte
     zero_converted ty.Long = refl
     zero_converted ty.ULong = refl
 
-module _ (p : typed.Program) (tf : Function) (call : Calling) (q : Program) (deep f : ℕ) (same : (function_at q f).objects ≡ tf.objects)
+module _ (p : typed.Program) (tf : Function) (call : Calling) (q : Program) (deep f : ℕ) (same : IsCode p tf q f)
     (ok : CallsDo p call q deep f) where
   -- ---- parts that are typed and asked for
 
   number_at : (x : ℕ) (u : IntType) (b : Bool) → (b && is_scalar u (object_type (slice_get tf.objects x))) ≡ true → IsNumber (function_at q f).objects x u
-  number_at x u b h = subst (λ l. IsNumber l x u) (sym same)
+  number_at x u b h = subst (λ l. IsNumber l x u) (sym same.objects)
       (number_is tf.objects x u (slice_get tf.objects x) refl (right_true b (is_scalar u (object_type (slice_get tf.objects x))) h))
 
   pub wanted_any : (m : Mode) (b : Bool) → b ≡ true → Wanted p call q deep f m b
@@ -68,7 +75,7 @@ module _ (p : typed.Program) (tf : Function) (call : Calling) (q : Program) (dee
   wanted_right (If sense to) a b h = right_true a b h
 
   are_for : (ps : List ParameterType) (args : Arguments) (t k pc pc2 : ℕ) → arguments_are_typed p tf ps args ≡ true
-      → Passes (function_at q f).code args t k pc pc2 → AreFor ps args
+      → Passes (function_at q f).code (sizes p f) args t k pc pc2 → AreFor ps args
   are_for [] typed.no_arguments t k pc pc2 h i = tt
   are_for (number u ∷ ps) (typed.and_number z e more) t k pc pc2 h i = (
     same_type_is u z (left_true (same_type u z) ((value_is_typed p tf e && some_number (type_of_value e)) && arguments_are_typed p tf ps more) h),
@@ -76,26 +83,51 @@ module _ (p : typed.Program) (tf : Function) (call : Calling) (q : Program) (dee
         (right_true (value_is_typed p tf e && some_number (type_of_value e)) (arguments_are_typed p tf ps more)
         (right_true (same_type u z) ((value_is_typed p tf e && some_number (type_of_value e)) && arguments_are_typed p tf ps more) h)) i.3,
   )
-  are_for (elements u ∷ ps) (typed.and_array array more) t k pc pc2 h i = absurd i
+  are_for (elements u ∷ ps) (typed.and_array array more) t k pc pc2 h i =
+      are_for ps more (t + 1) (free_kept_at (found array (arguments_call more) t k) k) i.0 i.1
+      (right_true (rows_alike u (rows_of (type_of_place p tf array))) (arguments_are_typed p tf ps more)
+      (right_true (place_is_typed p tf array) (rows_alike u (rows_of (type_of_place p tf array)) && arguments_are_typed p tf ps more) h)) i.3
   are_for [] (typed.and_number u e more) t k pc pc2 h i = absurd (differ h)
-  are_for [] (typed.and_array array more) t k pc pc2 h i = absurd i
+  are_for [] (typed.and_array array more) t k pc pc2 h i = absurd (differ h)
   are_for (number u ∷ ps) typed.no_arguments t k pc pc2 h i = absurd (differ h)
-  are_for (number u ∷ ps) (typed.and_array array more) t k pc pc2 h i = absurd i
+  are_for (number u ∷ ps) (typed.and_array array more) t k pc pc2 h i = absurd (differ h)
   are_for (elements u ∷ ps) typed.no_arguments t k pc pc2 h i = absurd (differ h)
   are_for (elements u ∷ ps) (typed.and_number z e more) t k pc pc2 h i = absurd (differ h)
+
+  abbrev PlaceInMemory : Place → Type 0
+  PlaceInMemory (typed.named at what) = InMemory p tf call q deep f same what
+  PlaceInMemory (typed.element at array index) = Unit {0}
+
+  array_in_memory : (a : Place) → is_array (type_of_place p tf a) ≡ true → PlaceInMemory a
+  array_in_memory (typed.named at (typed.literal n)) h = tt
+  array_in_memory (typed.named at (typed.static n)) h = tt
+  array_in_memory (typed.named at (typed.automatic n)) h = h
+  array_in_memory (typed.named at (typed.parameter n)) h = tt
+  array_in_memory (typed.element at array index) h = tt
+
+  rows_in_memory : (u : ObjectType) (a : Place) → rows_alike u (rows_of (type_of_place p tf a)) ≡ true → PlaceInMemory a
+  rows_in_memory u a h = array_in_memory a (rows_of_array u (type_of_place p tf a) h)
 
   mutual
     pub into_does : (e : Expression) (m : Mode) (t k pc pc2 : ℕ) → value_is_typed p tf e ≡ true → value_is_asked e ≡ true → Wanted p call q deep f m (gives e)
         → IsFreeFor m t k → Suits p q f m (extent e)
-        → Into (function_at q f).code e m t k pc pc2 → IntoDoes p call q deep f e m t k pc pc2
+        → Into (function_at q f).code (sizes p f) e m t k pc pc2 → IntoDoes p call q deep f e m t k pc pc2
     into_does (typed.constant u v) m t k pc pc2 ht ha w fr su h =
         constant_does p call q deep f u v m t k pc pc2 fr su (is_value u v ht) h
     into_does (typed.read u (typed.named at2 (typed.automatic x))) m t k pc pc2 ht ha w fr su h =
         read_does p call q deep f at2 x u m t k pc pc2 (number_at x u (place_is_typed p tf (typed.named at2 (typed.automatic x))) ht) fr su h
-    into_does (typed.read u (typed.named at2 (typed.literal x))) m t k pc pc2 ht ha w fr su h = absurd h
-    into_does (typed.read u (typed.named at2 (typed.static x))) m t k pc pc2 ht ha w fr su h = absurd h
-    into_does (typed.read u (typed.named at2 (typed.parameter x))) m t k pc pc2 ht ha w fr su h = absurd h
-    into_does (typed.read u (typed.element at2 array index)) m t k pc pc2 ht ha w fr su h = absurd h
+    into_does (typed.read u (typed.named at2 (typed.literal x))) m t k pc pc2 ht ha w fr su h =
+        get_does p tf call q deep f same (typed.named at2 (typed.literal x)) u m t k pc h.0 pc2 refl (right_true (place_is_typed p tf (typed.named at2 (typed.literal x))) (is_scalar u (type_of_place p tf (typed.named at2 (typed.literal x)))) ht) fr su
+        (find_does (typed.named at2 (typed.literal x)) false t k pc h.0 (left_true (place_is_typed p tf (typed.named at2 (typed.literal x))) (is_scalar u (type_of_place p tf (typed.named at2 (typed.literal x)))) ht) ha tt h.1) h.2
+    into_does (typed.read u (typed.named at2 (typed.static x))) m t k pc pc2 ht ha w fr su h =
+        get_does p tf call q deep f same (typed.named at2 (typed.static x)) u m t k pc h.0 pc2 refl (right_true (place_is_typed p tf (typed.named at2 (typed.static x))) (is_scalar u (type_of_place p tf (typed.named at2 (typed.static x)))) ht) fr su
+        (find_does (typed.named at2 (typed.static x)) false t k pc h.0 (left_true (place_is_typed p tf (typed.named at2 (typed.static x))) (is_scalar u (type_of_place p tf (typed.named at2 (typed.static x)))) ht) ha tt h.1) h.2
+    into_does (typed.read u (typed.named at2 (typed.parameter x))) m t k pc pc2 ht ha w fr su h =
+        get_does p tf call q deep f same (typed.named at2 (typed.parameter x)) u m t k pc h.0 pc2 refl (right_true (place_is_typed p tf (typed.named at2 (typed.parameter x))) (is_scalar u (type_of_place p tf (typed.named at2 (typed.parameter x)))) ht) fr su
+        (find_does (typed.named at2 (typed.parameter x)) false t k pc h.0 (left_true (place_is_typed p tf (typed.named at2 (typed.parameter x))) (is_scalar u (type_of_place p tf (typed.named at2 (typed.parameter x)))) ht) ha tt h.1) h.2
+    into_does (typed.read u (typed.element at2 array index)) m t k pc pc2 ht ha w fr su h =
+        get_does p tf call q deep f same (typed.element at2 array index) u m t k pc h.0 pc2 refl (right_true (place_is_typed p tf (typed.element at2 array index)) (is_scalar u (type_of_place p tf (typed.element at2 array index))) ht) fr su
+        (find_does (typed.element at2 array index) false t k pc h.0 (left_true (place_is_typed p tf (typed.element at2 array index)) (is_scalar u (type_of_place p tf (typed.element at2 array index))) ht) ha tt h.1) h.2
     into_does (typed.assigned at u (typed.named at2 (typed.automatic x)) e) m t k pc pc2 ht ha w fr su h =
         assign_does p call q deep f at at2 u x e m t k pc pc2
         (number_at x u (place_is_typed p tf (typed.named at2 (typed.automatic x)))
@@ -112,10 +144,46 @@ module _ (p : typed.Program) (tf : Function) (call : Calling) (q : Program) (dee
         (right_true (place_is_typed p tf (typed.named at2 (typed.automatic x)))
         (is_scalar u (object_type (slice_get tf.objects x)) && (value_is_typed p tf e && some_number (type_of_value e))) ht)))
         (left_true (value_is_asked e) (gives e) ha) (wanted_any n (gives e) (right_true (value_is_asked e) (gives e) ha)) fr2 su2 i2) h
-    into_does (typed.assigned at u (typed.named at2 (typed.literal x)) e) m t k pc pc2 ht ha w fr su h = absurd h
-    into_does (typed.assigned at u (typed.named at2 (typed.static x)) e) m t k pc pc2 ht ha w fr su h = absurd h
-    into_does (typed.assigned at u (typed.named at2 (typed.parameter x)) e) m t k pc pc2 ht ha w fr su h = absurd h
-    into_does (typed.assigned at u (typed.element at2 array index) e) m t k pc pc2 ht ha w fr su h = absurd h
+    into_does (typed.assigned at u (typed.named at2 (typed.literal x)) e) m t k pc pc2 ht ha w fr su h =
+        let a = (typed.named at2 (typed.literal x)) in
+        let h1 = right_true (place_is_typed p tf (typed.named at2 (typed.literal x))) (is_scalar u (type_of_place p tf (typed.named at2 (typed.literal x))) && (value_is_typed p tf e && some_number (type_of_value e))) ht in
+        let a1 = right_true (place_is_asked a) (value_is_asked e && gives e) ha in
+        assigned_does p tf call q deep f same at a u e m t k refl (left_true (is_scalar u (type_of_place p tf (typed.named at2 (typed.literal x)))) (value_is_typed p tf e && some_number (type_of_value e)) h1) fr su pc h.0 h.1 h.2 pc2
+        (find_does (typed.named at2 (typed.literal x)) (calls e) t k h.0 h.1 (left_true (place_is_typed p tf (typed.named at2 (typed.literal x))) (is_scalar u (type_of_place p tf (typed.named at2 (typed.literal x))) && (value_is_typed p tf e && some_number (type_of_value e))) ht)
+        (left_true (place_is_asked a) (value_is_asked e && gives e) ha) tt h.4)
+        (λ n y z fr2 su2 i2. into_does e n (free_temporary_at (found a (calls e) t k) t) (free_kept_at (found a (calls e) t k) k) y z
+        (left_true (value_is_typed p tf e) (some_number (type_of_value e)) (right_true (is_scalar u (type_of_place p tf (typed.named at2 (typed.literal x)))) (value_is_typed p tf e && some_number (type_of_value e)) h1)) (left_true (value_is_asked e) (gives e) a1)
+        (wanted_any n (gives e) (right_true (value_is_asked e) (gives e) a1)) fr2 su2 i2) h.3 h.5 h.6
+    into_does (typed.assigned at u (typed.named at2 (typed.static x)) e) m t k pc pc2 ht ha w fr su h =
+        let a = (typed.named at2 (typed.static x)) in
+        let h1 = right_true (place_is_typed p tf (typed.named at2 (typed.static x))) (is_scalar u (type_of_place p tf (typed.named at2 (typed.static x))) && (value_is_typed p tf e && some_number (type_of_value e))) ht in
+        let a1 = right_true (place_is_asked a) (value_is_asked e && gives e) ha in
+        assigned_does p tf call q deep f same at a u e m t k refl (left_true (is_scalar u (type_of_place p tf (typed.named at2 (typed.static x)))) (value_is_typed p tf e && some_number (type_of_value e)) h1) fr su pc h.0 h.1 h.2 pc2
+        (find_does (typed.named at2 (typed.static x)) (calls e) t k h.0 h.1 (left_true (place_is_typed p tf (typed.named at2 (typed.static x))) (is_scalar u (type_of_place p tf (typed.named at2 (typed.static x))) && (value_is_typed p tf e && some_number (type_of_value e))) ht)
+        (left_true (place_is_asked a) (value_is_asked e && gives e) ha) tt h.4)
+        (λ n y z fr2 su2 i2. into_does e n (free_temporary_at (found a (calls e) t k) t) (free_kept_at (found a (calls e) t k) k) y z
+        (left_true (value_is_typed p tf e) (some_number (type_of_value e)) (right_true (is_scalar u (type_of_place p tf (typed.named at2 (typed.static x)))) (value_is_typed p tf e && some_number (type_of_value e)) h1)) (left_true (value_is_asked e) (gives e) a1)
+        (wanted_any n (gives e) (right_true (value_is_asked e) (gives e) a1)) fr2 su2 i2) h.3 h.5 h.6
+    into_does (typed.assigned at u (typed.named at2 (typed.parameter x)) e) m t k pc pc2 ht ha w fr su h =
+        let a = (typed.named at2 (typed.parameter x)) in
+        let h1 = right_true (place_is_typed p tf (typed.named at2 (typed.parameter x))) (is_scalar u (type_of_place p tf (typed.named at2 (typed.parameter x))) && (value_is_typed p tf e && some_number (type_of_value e))) ht in
+        let a1 = right_true (place_is_asked a) (value_is_asked e && gives e) ha in
+        assigned_does p tf call q deep f same at a u e m t k refl (left_true (is_scalar u (type_of_place p tf (typed.named at2 (typed.parameter x)))) (value_is_typed p tf e && some_number (type_of_value e)) h1) fr su pc h.0 h.1 h.2 pc2
+        (find_does (typed.named at2 (typed.parameter x)) (calls e) t k h.0 h.1 (left_true (place_is_typed p tf (typed.named at2 (typed.parameter x))) (is_scalar u (type_of_place p tf (typed.named at2 (typed.parameter x))) && (value_is_typed p tf e && some_number (type_of_value e))) ht)
+        (left_true (place_is_asked a) (value_is_asked e && gives e) ha) tt h.4)
+        (λ n y z fr2 su2 i2. into_does e n (free_temporary_at (found a (calls e) t k) t) (free_kept_at (found a (calls e) t k) k) y z
+        (left_true (value_is_typed p tf e) (some_number (type_of_value e)) (right_true (is_scalar u (type_of_place p tf (typed.named at2 (typed.parameter x)))) (value_is_typed p tf e && some_number (type_of_value e)) h1)) (left_true (value_is_asked e) (gives e) a1)
+        (wanted_any n (gives e) (right_true (value_is_asked e) (gives e) a1)) fr2 su2 i2) h.3 h.5 h.6
+    into_does (typed.assigned at u (typed.element at2 array index) e) m t k pc pc2 ht ha w fr su h =
+        let a = (typed.element at2 array index) in
+        let h1 = right_true (place_is_typed p tf (typed.element at2 array index)) (is_scalar u (type_of_place p tf (typed.element at2 array index)) && (value_is_typed p tf e && some_number (type_of_value e))) ht in
+        let a1 = right_true (place_is_asked a) (value_is_asked e && gives e) ha in
+        assigned_does p tf call q deep f same at a u e m t k refl (left_true (is_scalar u (type_of_place p tf (typed.element at2 array index))) (value_is_typed p tf e && some_number (type_of_value e)) h1) fr su pc h.0 h.1 h.2 pc2
+        (find_does (typed.element at2 array index) (calls e) t k h.0 h.1 (left_true (place_is_typed p tf (typed.element at2 array index)) (is_scalar u (type_of_place p tf (typed.element at2 array index)) && (value_is_typed p tf e && some_number (type_of_value e))) ht)
+        (left_true (place_is_asked a) (value_is_asked e && gives e) ha) tt h.4)
+        (λ n y z fr2 su2 i2. into_does e n (free_temporary_at (found a (calls e) t k) t) (free_kept_at (found a (calls e) t k) k) y z
+        (left_true (value_is_typed p tf e) (some_number (type_of_value e)) (right_true (is_scalar u (type_of_place p tf (typed.element at2 array index))) (value_is_typed p tf e && some_number (type_of_value e)) h1)) (left_true (value_is_asked e) (gives e) a1)
+        (wanted_any n (gives e) (right_true (value_is_asked e) (gives e) a1)) fr2 su2 i2) h.3 h.5 h.6
     into_does (typed.compound at o u of (typed.named at2 (typed.automatic x)) e) m t k pc pc2 ht ha w fr su h =
         compound_does p call q deep f at at2 o u of x e m t k (left_true (is_wide of) (value_is_asked e && gives e) ha)
         (number_at x u (place_is_typed p tf (typed.named at2 (typed.automatic x)))
@@ -134,17 +202,77 @@ module _ (p : typed.Program) (tf : Function) (call : Calling) (q : Program) (dee
         (left_true (value_is_asked e) (gives e) (right_true (is_wide of) (value_is_asked e && gives e) ha))
         (wanted_any n (gives e) (right_true (value_is_asked e) (gives e) (right_true (is_wide of) (value_is_asked e && gives e) ha)))
         fr2 su2 i2) h
-    into_does (typed.compound at o u of (typed.named at2 (typed.literal x)) e) m t k pc pc2 ht ha w fr su h = absurd h
-    into_does (typed.compound at o u of (typed.named at2 (typed.static x)) e) m t k pc pc2 ht ha w fr su h = absurd h
-    into_does (typed.compound at o u of (typed.named at2 (typed.parameter x)) e) m t k pc pc2 ht ha w fr su h = absurd h
-    into_does (typed.compound at o u of (typed.element at2 array index) e) m t k pc pc2 ht ha w fr su h = absurd h
+    into_does (typed.compound at o u of (typed.named at2 (typed.literal x)) e) m t k pc pc2 ht ha w fr su h =
+        let a = (typed.named at2 (typed.literal x)) in
+        let h1 = right_true (place_is_typed p tf (typed.named at2 (typed.literal x))) (is_scalar u (type_of_place p tf (typed.named at2 (typed.literal x))) && (value_is_typed p tf e && some_number (type_of_value e))) ht in
+        let a0 = right_true (is_wide of) (place_is_asked a && (value_is_asked e && gives e)) ha in
+        let a1 = right_true (place_is_asked a) (value_is_asked e && gives e) a0 in
+        compound_memory p tf call q deep f same at o u of a e m t k refl (left_true (is_scalar u (type_of_place p tf (typed.named at2 (typed.literal x)))) (value_is_typed p tf e && some_number (type_of_value e)) h1)
+        (left_true (is_wide of) (place_is_asked a && (value_is_asked e && gives e)) ha) fr su pc h.0 h.1 h.2 h.3 pc2
+        (find_does (typed.named at2 (typed.literal x)) (calls e) t k h.0 h.1 (left_true (place_is_typed p tf (typed.named at2 (typed.literal x))) (is_scalar u (type_of_place p tf (typed.named at2 (typed.literal x))) && (value_is_typed p tf e && some_number (type_of_value e))) ht)
+        (left_true (place_is_asked a) (value_is_asked e && gives e) a0) tt h.5)
+        (λ n y z fr2 su2 i2. into_does e n (free_temporary_at (found a (calls e) t k) t) (free_kept_at (found a (calls e) t k) k) y z
+        (left_true (value_is_typed p tf e) (some_number (type_of_value e)) (right_true (is_scalar u (type_of_place p tf (typed.named at2 (typed.literal x)))) (value_is_typed p tf e && some_number (type_of_value e)) h1)) (left_true (value_is_asked e) (gives e) a1)
+        (wanted_any n (gives e) (right_true (value_is_asked e) (gives e) a1)) fr2 su2 i2) h.4 h.6 h.7 h.8
+    into_does (typed.compound at o u of (typed.named at2 (typed.static x)) e) m t k pc pc2 ht ha w fr su h =
+        let a = (typed.named at2 (typed.static x)) in
+        let h1 = right_true (place_is_typed p tf (typed.named at2 (typed.static x))) (is_scalar u (type_of_place p tf (typed.named at2 (typed.static x))) && (value_is_typed p tf e && some_number (type_of_value e))) ht in
+        let a0 = right_true (is_wide of) (place_is_asked a && (value_is_asked e && gives e)) ha in
+        let a1 = right_true (place_is_asked a) (value_is_asked e && gives e) a0 in
+        compound_memory p tf call q deep f same at o u of a e m t k refl (left_true (is_scalar u (type_of_place p tf (typed.named at2 (typed.static x)))) (value_is_typed p tf e && some_number (type_of_value e)) h1)
+        (left_true (is_wide of) (place_is_asked a && (value_is_asked e && gives e)) ha) fr su pc h.0 h.1 h.2 h.3 pc2
+        (find_does (typed.named at2 (typed.static x)) (calls e) t k h.0 h.1 (left_true (place_is_typed p tf (typed.named at2 (typed.static x))) (is_scalar u (type_of_place p tf (typed.named at2 (typed.static x))) && (value_is_typed p tf e && some_number (type_of_value e))) ht)
+        (left_true (place_is_asked a) (value_is_asked e && gives e) a0) tt h.5)
+        (λ n y z fr2 su2 i2. into_does e n (free_temporary_at (found a (calls e) t k) t) (free_kept_at (found a (calls e) t k) k) y z
+        (left_true (value_is_typed p tf e) (some_number (type_of_value e)) (right_true (is_scalar u (type_of_place p tf (typed.named at2 (typed.static x)))) (value_is_typed p tf e && some_number (type_of_value e)) h1)) (left_true (value_is_asked e) (gives e) a1)
+        (wanted_any n (gives e) (right_true (value_is_asked e) (gives e) a1)) fr2 su2 i2) h.4 h.6 h.7 h.8
+    into_does (typed.compound at o u of (typed.named at2 (typed.parameter x)) e) m t k pc pc2 ht ha w fr su h =
+        let a = (typed.named at2 (typed.parameter x)) in
+        let h1 = right_true (place_is_typed p tf (typed.named at2 (typed.parameter x))) (is_scalar u (type_of_place p tf (typed.named at2 (typed.parameter x))) && (value_is_typed p tf e && some_number (type_of_value e))) ht in
+        let a0 = right_true (is_wide of) (place_is_asked a && (value_is_asked e && gives e)) ha in
+        let a1 = right_true (place_is_asked a) (value_is_asked e && gives e) a0 in
+        compound_memory p tf call q deep f same at o u of a e m t k refl (left_true (is_scalar u (type_of_place p tf (typed.named at2 (typed.parameter x)))) (value_is_typed p tf e && some_number (type_of_value e)) h1)
+        (left_true (is_wide of) (place_is_asked a && (value_is_asked e && gives e)) ha) fr su pc h.0 h.1 h.2 h.3 pc2
+        (find_does (typed.named at2 (typed.parameter x)) (calls e) t k h.0 h.1 (left_true (place_is_typed p tf (typed.named at2 (typed.parameter x))) (is_scalar u (type_of_place p tf (typed.named at2 (typed.parameter x))) && (value_is_typed p tf e && some_number (type_of_value e))) ht)
+        (left_true (place_is_asked a) (value_is_asked e && gives e) a0) tt h.5)
+        (λ n y z fr2 su2 i2. into_does e n (free_temporary_at (found a (calls e) t k) t) (free_kept_at (found a (calls e) t k) k) y z
+        (left_true (value_is_typed p tf e) (some_number (type_of_value e)) (right_true (is_scalar u (type_of_place p tf (typed.named at2 (typed.parameter x)))) (value_is_typed p tf e && some_number (type_of_value e)) h1)) (left_true (value_is_asked e) (gives e) a1)
+        (wanted_any n (gives e) (right_true (value_is_asked e) (gives e) a1)) fr2 su2 i2) h.4 h.6 h.7 h.8
+    into_does (typed.compound at o u of (typed.element at2 array index) e) m t k pc pc2 ht ha w fr su h =
+        let a = (typed.element at2 array index) in
+        let h1 = right_true (place_is_typed p tf (typed.element at2 array index)) (is_scalar u (type_of_place p tf (typed.element at2 array index)) && (value_is_typed p tf e && some_number (type_of_value e))) ht in
+        let a0 = right_true (is_wide of) (place_is_asked a && (value_is_asked e && gives e)) ha in
+        let a1 = right_true (place_is_asked a) (value_is_asked e && gives e) a0 in
+        compound_memory p tf call q deep f same at o u of a e m t k refl (left_true (is_scalar u (type_of_place p tf (typed.element at2 array index))) (value_is_typed p tf e && some_number (type_of_value e)) h1)
+        (left_true (is_wide of) (place_is_asked a && (value_is_asked e && gives e)) ha) fr su pc h.0 h.1 h.2 h.3 pc2
+        (find_does (typed.element at2 array index) (calls e) t k h.0 h.1 (left_true (place_is_typed p tf (typed.element at2 array index)) (is_scalar u (type_of_place p tf (typed.element at2 array index)) && (value_is_typed p tf e && some_number (type_of_value e))) ht)
+        (left_true (place_is_asked a) (value_is_asked e && gives e) a0) tt h.5)
+        (λ n y z fr2 su2 i2. into_does e n (free_temporary_at (found a (calls e) t k) t) (free_kept_at (found a (calls e) t k) k) y z
+        (left_true (value_is_typed p tf e) (some_number (type_of_value e)) (right_true (is_scalar u (type_of_place p tf (typed.element at2 array index))) (value_is_typed p tf e && some_number (type_of_value e)) h1)) (left_true (value_is_asked e) (gives e) a1)
+        (wanted_any n (gives e) (right_true (value_is_asked e) (gives e) a1)) fr2 su2 i2) h.4 h.6 h.7 h.8
     into_does (typed.stepped at moment o u of (typed.named at2 (typed.automatic x))) m t k pc pc2 ht ha w fr su h =
         step_does p call q deep f at at2 o u of x t k (left_true (is_wide of) (true) ha)
         (number_at x u (place_is_typed p tf (typed.named at2 (typed.automatic x))) ht) moment m pc pc2 fr su h
-    into_does (typed.stepped at moment o u of (typed.named at2 (typed.literal x))) m t k pc pc2 ht ha w fr su h = absurd h
-    into_does (typed.stepped at moment o u of (typed.named at2 (typed.static x))) m t k pc pc2 ht ha w fr su h = absurd h
-    into_does (typed.stepped at moment o u of (typed.named at2 (typed.parameter x))) m t k pc pc2 ht ha w fr su h = absurd h
-    into_does (typed.stepped at moment o u of (typed.element at2 array index)) m t k pc pc2 ht ha w fr su h = absurd h
+    into_does (typed.stepped at moment o u of (typed.named at2 (typed.literal x))) m t k pc pc2 ht ha w fr su h =
+        let a = (typed.named at2 (typed.literal x)) in
+        step_memory p tf call q deep f same at o u of a t k refl (right_true (place_is_typed p tf (typed.named at2 (typed.literal x))) (is_scalar u (type_of_place p tf (typed.named at2 (typed.literal x)))) ht) (left_true (is_wide of) (place_is_asked a) ha) moment m pc h.0
+        h.1 h.2 pc2 fr su
+        (find_does (typed.named at2 (typed.literal x)) false t k h.0 h.1 (left_true (place_is_typed p tf (typed.named at2 (typed.literal x))) (is_scalar u (type_of_place p tf (typed.named at2 (typed.literal x)))) ht) (right_true (is_wide of) (place_is_asked a) ha) tt h.4) h.3 h.5 h.6
+    into_does (typed.stepped at moment o u of (typed.named at2 (typed.static x))) m t k pc pc2 ht ha w fr su h =
+        let a = (typed.named at2 (typed.static x)) in
+        step_memory p tf call q deep f same at o u of a t k refl (right_true (place_is_typed p tf (typed.named at2 (typed.static x))) (is_scalar u (type_of_place p tf (typed.named at2 (typed.static x)))) ht) (left_true (is_wide of) (place_is_asked a) ha) moment m pc h.0
+        h.1 h.2 pc2 fr su
+        (find_does (typed.named at2 (typed.static x)) false t k h.0 h.1 (left_true (place_is_typed p tf (typed.named at2 (typed.static x))) (is_scalar u (type_of_place p tf (typed.named at2 (typed.static x)))) ht) (right_true (is_wide of) (place_is_asked a) ha) tt h.4) h.3 h.5 h.6
+    into_does (typed.stepped at moment o u of (typed.named at2 (typed.parameter x))) m t k pc pc2 ht ha w fr su h =
+        let a = (typed.named at2 (typed.parameter x)) in
+        step_memory p tf call q deep f same at o u of a t k refl (right_true (place_is_typed p tf (typed.named at2 (typed.parameter x))) (is_scalar u (type_of_place p tf (typed.named at2 (typed.parameter x)))) ht) (left_true (is_wide of) (place_is_asked a) ha) moment m pc h.0
+        h.1 h.2 pc2 fr su
+        (find_does (typed.named at2 (typed.parameter x)) false t k h.0 h.1 (left_true (place_is_typed p tf (typed.named at2 (typed.parameter x))) (is_scalar u (type_of_place p tf (typed.named at2 (typed.parameter x)))) ht) (right_true (is_wide of) (place_is_asked a) ha) tt h.4) h.3 h.5 h.6
+    into_does (typed.stepped at moment o u of (typed.element at2 array index)) m t k pc pc2 ht ha w fr su h =
+        let a = (typed.element at2 array index) in
+        step_memory p tf call q deep f same at o u of a t k refl (right_true (place_is_typed p tf (typed.element at2 array index)) (is_scalar u (type_of_place p tf (typed.element at2 array index))) ht) (left_true (is_wide of) (place_is_asked a) ha) moment m pc h.0
+        h.1 h.2 pc2 fr su
+        (find_does (typed.element at2 array index) false t k h.0 h.1 (left_true (place_is_typed p tf (typed.element at2 array index)) (is_scalar u (type_of_place p tf (typed.element at2 array index))) ht) (right_true (is_wide of) (place_is_asked a) ha) tt h.4) h.3 h.5 h.6
     into_does (typed.unary at prefix.Plus u e) m t k pc pc2 ht ha w fr su h =
         plus_does p call q deep f at u e m t k pc pc2 (left_true (is_wide u) (value_is_asked e && gives e) ha)
         (λ n y z fr2 su2 i2. into_does e n t k y z (left_true (value_is_typed p tf e) (some_number (type_of_value e)) ht)
@@ -362,8 +490,26 @@ module _ (p : typed.Program) (tf : Function) (call : Calling) (q : Program) (dee
     into_does (typed.call at (typed.missing name) result used args) m t k pc pc2 ht ha w fr su h =
         absurd h.4
 
+    -- a place in memory
+    pub find_does : (a : Place) (c : Bool) (t k pc pc2 : ℕ) → place_is_typed p tf a ≡ true → place_is_asked a ≡ true → PlaceInMemory a
+        → Finds (function_at q f).code (sizes p f) a c t k pc pc2 → FindsDo p tf call q deep f same a c t k pc pc2
+    find_does (typed.named at what) c t k pc pc2 ht ha hm h =
+        named_found p tf call q deep f same at what c t k pc pc2 hm (has_type (type_of_storage p tf what) ht) h
+    find_does (typed.element at array index) c t k pc pc2 ht ha hm h =
+        let index_typed = value_is_typed p tf index && some_number (type_of_value index) in
+        let h1 = right_true (place_is_typed p tf array) (is_array (type_of_place p tf array) && index_typed) ht in
+        let an_array = left_true (is_array (type_of_place p tf array)) index_typed h1 in
+        let a1 = right_true (place_is_asked array) (value_is_asked index && gives index) ha in
+        element_found p tf call q deep f same at array index c t k an_array pc pc2
+        (λ y z i2. find_does array (calls index) t k y z (left_true (place_is_typed p tf array) (is_array (type_of_place p tf array) && index_typed) ht)
+        (left_true (place_is_asked array) (value_is_asked index && gives index) ha) (array_in_memory array an_array) i2)
+        (λ n y z fr2 su2 i2. into_does index n (free_temporary_at (found array (calls index) t k) t) (free_kept_at (found array (calls index) t k) k) y z
+        (left_true (value_is_typed p tf index) (some_number (type_of_value index)) (right_true (is_array (type_of_place p tf array)) index_typed h1))
+        (left_true (value_is_asked index) (gives index) a1)
+        (wanted_any n (gives index) (right_true (value_is_asked index) (gives index) a1)) fr2 su2 i2) h
+
     pub row_does : (ps : List ParameterType) (args : Arguments) (t k pc pc2 : ℕ) → arguments_are_typed p tf ps args ≡ true → arguments_are_asked args ≡ true
-        → Passes (function_at q f).code args t k pc pc2 → RowDoes p call q deep f ps args t k pc pc2
+        → Passes (function_at q f).code (sizes p f) args t k pc pc2 → RowDoes p call q deep f ps args t k pc pc2
     row_does [] typed.no_arguments t k pc pc2 ht ha h = none_row p call q deep f t k pc pc2 h
     row_does (number u ∷ ps) (typed.and_number z e more) t k pc pc2 ht ha h =
         number_row p call q deep f u z ps e more t k pc h.0 h.1 pc2
@@ -379,10 +525,18 @@ module _ (p : typed.Program) (tf : Function) (call : Calling) (q : Program) (dee
         (right_true (value_is_typed p tf e && some_number (type_of_value e)) (arguments_are_typed p tf ps more)
         (right_true (same_type u z) ((value_is_typed p tf e && some_number (type_of_value e)) && arguments_are_typed p tf ps more) ht))
         (right_true (value_is_asked e && gives e) (arguments_are_asked more) ha) h.3) h.4
-    row_does (elements u ∷ ps) (typed.and_array array more) t k pc pc2 ht ha h = absurd h
+    row_does (elements u ∷ ps) (typed.and_array array more) t k pc pc2 ht ha h =
+        let rows = rows_alike u (rows_of (type_of_place p tf array)) in
+        let h1 = right_true (place_is_typed p tf array) (rows && arguments_are_typed p tf ps more) ht in
+        array_row p tf call q deep f same u ps array more t k pc h.0 h.1 pc2 (left_true rows (arguments_are_typed p tf ps more) h1)
+        (find_does array (arguments_call more) t k pc h.0 (left_true (place_is_typed p tf array) (rows && arguments_are_typed p tf ps more) ht)
+        (left_true (place_is_asked array) (arguments_are_asked more) ha)
+        (rows_in_memory u array (left_true rows (arguments_are_typed p tf ps more) h1)) h.2)
+        (row_does ps more (t + 1) (free_kept_at (found array (arguments_call more) t k) k) h.0 h.1 (right_true rows (arguments_are_typed p tf ps more) h1)
+        (right_true (place_is_asked array) (arguments_are_asked more) ha) h.3) h.4
     row_does [] (typed.and_number u e more) t k pc pc2 ht ha h = absurd (differ ht)
-    row_does [] (typed.and_array array more) t k pc pc2 ht ha h = absurd h
+    row_does [] (typed.and_array array more) t k pc pc2 ht ha h = absurd (differ ht)
     row_does (number u ∷ ps) typed.no_arguments t k pc pc2 ht ha h = absurd (differ ht)
-    row_does (number u ∷ ps) (typed.and_array array more) t k pc pc2 ht ha h = absurd h
+    row_does (number u ∷ ps) (typed.and_array array more) t k pc pc2 ht ha h = absurd (differ ht)
     row_does (elements u ∷ ps) typed.no_arguments t k pc pc2 ht ha h = absurd (differ ht)
     row_does (elements u ∷ ps) (typed.and_number z e more) t k pc pc2 ht ha h = absurd (differ ht)

@@ -124,7 +124,7 @@ known_with W e t k before old v s now now2 h n =
     record { keeps = h; fine = n.fine; value = n.value; after = n.after; rests = n.rests; constant = n.constant }
 
 -- a value is in an object that is no array
-is_number_there : (o : Option Tree) (w : ℕ) → option_map (λ z. word (word_for z)) (value_of o) ≡ Some (word w) → is_element o ≡ true
+pub is_number_there : (o : Option Tree) (w : ℕ) → option_map (λ z. word (word_for z)) (value_of o) ≡ Some (word w) → is_element o ≡ true
 is_number_there None w e = absurd (let z : ⊥ = cc in z)
 is_number_there (Some (Element v)) w e = refl
 is_number_there (Some (Array row)) w e = absurd (let z : ⊥ = cc in z)

@@ -25,7 +25,7 @@ use Rattle.lowering.specs.Values.{calls, writes, writes_none, rests_in, extent, 
 use Rattle.lowering.specs.Code.{One, Ends, Constantly, Converts, Into, truth_jump}
 use Rattle.lowering.proofs.Words.{Ranged, ranged, smallest_has, converts_again, converted_is_word, word_stays, differ}
 use Rattle.lowering.proofs.Steps.{Reaches, GoesTo, goes, from, Sim, sim_then, sim_more, sim_map, sim_move, undefined_or, tick_in, tick_ends, find_in}
-use Rattle.lowering.proofs.Standing.{Scratch, here, put_scratch, type_in, put_state, Takes, does_nothing, does_move, does_jump, does_convert, world}
+use Rattle.lowering.proofs.Standing.{Scratch, here, put_scratch, type_in, put_state, Takes, does_nothing, does_move, does_jump, does_convert, world, sizes}
 use Rattle.lowering.proofs.Stores.{World, Fine, after_on, after_put, with_tree, fine_put, read_back, read_fits, fine_later, after_later, after_since}
 use Rattle.lowering.proofs.Goods.{keeps_all, keeps_put, IsFree, IsFreeFor, HasIn, has_put, meets, Known, known_with, SuitsIn, Suits, takes, Good, ends, mode_free, mode_suits, Held, held, object_state}
 
@@ -136,7 +136,7 @@ module _ (p : typed.Program) (call : Calling) (q : Program) (deep f : ℕ) where
       })
 
   pub read_does : (at : Pos) (x : ℕ) (u : IntType) (m : Mode) (t k pc pc2 : ℕ) → IsNumber (function_at q f).objects x u → IsFreeFor m t k → Suits p q f m u
-      → Into (function_at q f).code (typed.read u (typed.named at (typed.automatic x))) m t k pc pc2
+      → Into (function_at q f).code (sizes p f) (typed.read u (typed.named at (typed.automatic x))) m t k pc pc2
       → IntoDoes (typed.read u (typed.named at (typed.automatic x))) m t k pc pc2
   read_does at x u m t k pc pc2 num fr su h s now ws le fine =
       find_in q 14 (Good p q f (typed.read u (typed.named at (typed.automatic x))) m t k pc2 s now ws) (here f pc now ws s) (here f h.0 now ws s) s 0
@@ -205,8 +205,8 @@ module _ (p : typed.Program) (call : Calling) (q : Program) (deep f : ℕ) where
       })
 
   pub converts_does : (b : Bool) (e : Expression) (u : IntType) (g : Target) (t k pc pc2 : ℕ) → keeps u e ≡ b → IsTyped g u → IsFree g t k
-      → ((m : Mode) (a z : ℕ) → IsFreeFor m t k → Suits p q f m (extent e) → Into (function_at q f).code e m t k a z → IntoDoes e m t k a z)
-      → Converts (function_at q f).code b (λ m a z. Into (function_at q f).code e m t k a z) u (operand_of e t k) g pc pc2 → ConvertsDoes e u g t k pc pc2
+      → ((m : Mode) (a z : ℕ) → IsFreeFor m t k → Suits p q f m (extent e) → Into (function_at q f).code (sizes p f) e m t k a z → IntoDoes e m t k a z)
+      → Converts (function_at q f).code b (λ m a z. Into (function_at q f).code (sizes p f) e m t k a z) u (operand_of e t k) g pc pc2 → ConvertsDoes e u g t k pc pc2
   converts_does true e u g t k pc pc2 h ty fr de i s now ws le fine =
       sim_map q 14 14 (Good p q f e (To g) t k pc2 s now ws) (Converted e u g t k pc2 s now ws) (60 * s.clock) (60 * s.clock + 8) s.clock (here f pc now ws s)
       (evaluate p call e s) (omega arith) (omega arith)
@@ -268,8 +268,8 @@ module _ (p : typed.Program) (call : Calling) (q : Program) (deep f : ℕ) where
 
   pub assign_does : (at at2 : Pos) (u : IntType) (x : ℕ) (e : Expression) (m : Mode) (t k pc pc2 : ℕ) → IsNumber (function_at q f).objects x u → IsFreeFor m t k
       → Suits p q f m u
-      → ((n : Mode) (a z : ℕ) → IsFreeFor n t k → Suits p q f n (extent e) → Into (function_at q f).code e n t k a z → IntoDoes e n t k a z)
-      → Into (function_at q f).code (typed.assigned at u (typed.named at2 (typed.automatic x)) e) m t k pc pc2
+      → ((n : Mode) (a z : ℕ) → IsFreeFor n t k → Suits p q f n (extent e) → Into (function_at q f).code (sizes p f) e n t k a z → IntoDoes e n t k a z)
+      → Into (function_at q f).code (sizes p f) (typed.assigned at u (typed.named at2 (typed.automatic x)) e) m t k pc pc2
       → IntoDoes (typed.assigned at u (typed.named at2 (typed.automatic x)) e) m t k pc pc2
   assign_does at at2 u x e m t k pc pc2 num fr su de h s now ws le fine =
       let Result = Good p q f (typed.assigned at u (typed.named at2 (typed.automatic x)) e) m t k pc2 s now ws in

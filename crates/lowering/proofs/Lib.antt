@@ -10,11 +10,16 @@ pub mod Leaves
 pub mod Changing
 pub mod Stepping
 pub mod Operators
+pub mod Typing
+pub mod Finding
+pub mod Accesses
+pub mod Assigning
+pub mod Advancing
 pub mod Choices
 pub mod Arms
 pub mod Passing
+pub mod Handing
 pub mod Calling
-pub mod Typing
 pub mod Expressions
 pub mod Flows
 pub mod Blocks

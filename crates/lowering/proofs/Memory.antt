@@ -193,7 +193,7 @@ module _ (p : typed.Program) (q : Program) (f : ℕ) where
       (ap (λ o. o >>= λ r. gives q g (here f pc now ws s) (reference r)) (reference_there a pc r now ws s ha)
       ∙ (given_reference g pc r now ws s hg ∙ ap (λ n. running (here f n (put_reference g r now) ws s)) i.next))
 
-  value_is : (o : Option Value) (r : Reference) → reference_in o ≡ Some r → o ≡ Some (reference r)
+  pub value_is : (o : Option Value) (r : Reference) → reference_in o ≡ Some r → o ≡ Some (reference r)
   value_is None r e = absurd (let z : ⊥ = cc in z)
   value_is (Some (tac.word w)) r e = absurd (let z : ⊥ = cc in z)
   value_is (Some (tac.reference x)) r e = let same : x ≡ r = cc in ap (λ z. Some (reference z)) same

@@ -30,7 +30,7 @@ use Rattle.lowering.specs.Values.{calls, writes, writes_none, rests_in, extent, 
 use Rattle.lowering.specs.Code.{One, Then, Operates, Casts, Into, zero_word}
 use Rattle.lowering.proofs.Words.{Ranged, ranged, zero_test, truth_of, truth_fits, converts_again, wide_word, word_stays, has_all, le_holds, left_true, right_true, differ}
 use Rattle.lowering.proofs.Steps.{Reaches, reaches_on, stays, goes, Sim, sim_then, sim_move, tick_in}
-use Rattle.lowering.proofs.Standing.{Scratch, here, put_scratch, put_state, Takes, Holds, does_nothing, does_convert, world}
+use Rattle.lowering.proofs.Standing.{Scratch, here, put_scratch, put_state, Takes, Holds, does_nothing, does_convert, world, sizes}
 use Rattle.lowering.proofs.Stores.{World, Fine, after_on, after_none, fine_later, after_since}
 use Rattle.lowering.proofs.Goods.{Keeps, keeps_on, IsFreeFor, Has, meets, lands, RestsIn, IsConstant, Known, put_mode, Suits, takes, target_suits, Good, follows, mode_free, mode_suits, held, stays_there, free_more}
 use Rattle.lowering.proofs.Operations.{operated_extent, then_does, operates_do}
@@ -132,7 +132,7 @@ equals_zero (negsuc n) = refl
 module _ (p : typed.Program) (call : Calling) (q : Program) (deep f : ℕ) where
   -- the code follows an expression for each use, wherever it stands
   abbrev pub DoesAt : Expression → ℕ → ℕ → Type 0
-  DoesAt e t k = (m : Mode) (a z : ℕ) → IsFreeFor m t k → Suits p q f m (extent e) → Into (function_at q f).code e m t k a z
+  DoesAt e t k = (m : Mode) (a z : ℕ) → IsFreeFor m t k → Suits p q f m (extent e) → Into (function_at q f).code (sizes p f) e m t k a z
       → IntoDoes p call q deep f e m t k a z
 
   -- with the same word it is the value of another expression
@@ -161,7 +161,7 @@ module _ (p : typed.Program) (call : Calling) (q : Program) (deep f : ℕ) where
   -- an operand and what follows it, in one tick
   pub one_operand : (e : Expression) (t k pc p1 p2 : ℕ) (Result2 : ℤ → machine.State → State → Type 0) (last : ℤ → machine.State → Run ℤ) (s : machine.State)
       (now : Scratch) (ws : List Call) → DoesAt e t k
-      → One (function_at q f).code instruction.Nothing pc p1 → Into (function_at q f).code e (mode_of (operand_of e t k)) t k p1 p2 → s.clock ≤ deep
+      → One (function_at q f).code instruction.Nothing pc p1 → Into (function_at q f).code (sizes p f) e (mode_of (operand_of e t k)) t k p1 p2 → s.clock ≤ deep
       → Fine (world p q f ws) s
       → ((n : ℕ) (v : ℤ) (s2 : machine.State) (now2 : Scratch) → Holds q f (operand_of e t k) (word_for v) now2 s2
       → Known (world p q f ws) e t k (record s { clock = n }) now v s2 now2
@@ -203,7 +203,7 @@ module _ (p : typed.Program) (call : Calling) (q : Program) (deep f : ℕ) where
   no_writes e x = refl
 
   pub plus_does : (at : Pos) (u : IntType) (e : Expression) (m : Mode) (t k pc pc2 : ℕ) → is_wide u ≡ true → DoesAt e t k → IsFreeFor m t k → Suits p q f m u
-      → Into (function_at q f).code (typed.unary at prefix.Plus u e) m t k pc pc2 → IntoDoes p call q deep f (typed.unary at prefix.Plus u e) m t k pc pc2
+      → Into (function_at q f).code (sizes p f) (typed.unary at prefix.Plus u e) m t k pc pc2 → IntoDoes p call q deep f (typed.unary at prefix.Plus u e) m t k pc pc2
   plus_does at u e m t k pc pc2 hu de fr su h s now ws le fine =
       let a = typed.unary at prefix.Plus u e in
       let Result2 = Good p q f a m t k pc2 s now ws in
@@ -235,7 +235,7 @@ module _ (p : typed.Program) (call : Calling) (q : Program) (deep f : ℕ) where
       then_does p q f a o u m x y t k b c w pc pc2 (60 * s.clock + 74) before old now ws s hu rb rc fr su i hx hy e (omega arith) (known w refl)
 
   pub minus_does : (at : Pos) (u : IntType) (e : Expression) (m : Mode) (t k pc pc2 : ℕ) → is_wide u ≡ true → DoesAt e t k → IsFreeFor m t k → Suits p q f m u
-      → Into (function_at q f).code (typed.unary at prefix.Minus u e) m t k pc pc2 → IntoDoes p call q deep f (typed.unary at prefix.Minus u e) m t k pc pc2
+      → Into (function_at q f).code (sizes p f) (typed.unary at prefix.Minus u e) m t k pc pc2 → IntoDoes p call q deep f (typed.unary at prefix.Minus u e) m t k pc pc2
   minus_does at u e m t k pc pc2 hu de fr su h s now ws le fine =
       let a = typed.unary at prefix.Minus u e in
       one_operand e t k pc h.0 h.1 (Good p q f a m t k pc2 s now ws) (λ v s. computed_at at (sign_of prefix.Minus u v) s) s now ws de h.2 h.3 le fine
@@ -247,7 +247,7 @@ module _ (p : typed.Program) (call : Calling) (q : Program) (deep f : ℕ) where
 
   pub complement_does : (at : Pos) (u : IntType) (e : Expression) (m : Mode) (t k pc pc2 : ℕ) → is_wide u ≡ true → DoesAt e t k → IsFreeFor m t k
       → Suits p q f m u
-      → Into (function_at q f).code (typed.unary at prefix.Complement u e) m t k pc pc2
+      → Into (function_at q f).code (sizes p f) (typed.unary at prefix.Complement u e) m t k pc pc2
       → IntoDoes p call q deep f (typed.unary at prefix.Complement u e) m t k pc pc2
   complement_does at u e m t k pc pc2 hu de fr su h s now ws le fine =
       let a = typed.unary at prefix.Complement u e in
@@ -266,7 +266,7 @@ module _ (p : typed.Program) (call : Calling) (q : Program) (deep f : ℕ) where
 
   pub not_does : (at : Pos) (u : IntType) (e : Expression) (m : Mode) (t k pc p1 p2 pc2 : ℕ) → is_wide u ≡ true → DoesAt e t k → IsFreeFor m t k
       → Suits p q f m ty.Bool
-      → One (function_at q f).code instruction.Nothing pc p1 → Into (function_at q f).code e (mode_of (operand_of e t k)) t k p1 p2
+      → One (function_at q f).code instruction.Nothing pc p1 → Into (function_at q f).code (sizes p f) e (mode_of (operand_of e t k)) t k p1 p2
       → Then (function_at q f).code op.Equal (reading_of ty.Int) m (operand_of e t k) zero_word t p2 pc2
       → IntoDoes p call q deep f (typed.unary at prefix.Not u e) m t k pc pc2
   not_does at u e m t k pc p1 p2 pc2 hu de fr su i1 i2 i3 s now ws le fine =
@@ -281,7 +281,7 @@ module _ (p : typed.Program) (call : Calling) (q : Program) (deep f : ℕ) where
 
   -- a condition is met where its opposite is not
   pub not_jumps : (at : Pos) (u : IntType) (e : Expression) (sense : Bool) (to t k pc p1 pc2 : ℕ) → is_wide u ≡ true → DoesAt e t k
-      → One (function_at q f).code instruction.Nothing pc p1 → Into (function_at q f).code e (If (not sense) to) t k p1 pc2
+      → One (function_at q f).code instruction.Nothing pc p1 → Into (function_at q f).code (sizes p f) e (If (not sense) to) t k p1 pc2
       → IntoDoes p call q deep f (typed.unary at prefix.Not u e) (If sense to) t k pc pc2
   not_jumps at u e sense to t k pc p1 pc2 hu de i1 i2 s now ws le fine =
       let a = typed.unary at prefix.Not u e in
@@ -311,7 +311,7 @@ module _ (p : typed.Program) (call : Calling) (q : Program) (deep f : ℕ) where
 
   pub cast_does : (b : Bool) (u : IntType) (e : Expression) (m : Mode) (t k pc p1 pc2 : ℕ) → keeps u e ≡ b → DoesAt e t k → IsFreeFor m t k → Suits p q f m u
       → One (function_at q f).code instruction.Nothing pc p1
-      → Casts (function_at q f).code b (λ m a z. Into (function_at q f).code e m t k a z) u (operand_of e t k) m t p1 pc2
+      → Casts (function_at q f).code b (λ m a z. Into (function_at q f).code (sizes p f) e m t k a z) u (operand_of e t k) m t p1 pc2
       → IntoDoes p call q deep f (typed.cast u e) m t k pc pc2
   cast_does true u e m t k pc p1 pc2 hk de fr su i1 i2 s now ws le fine =
       let a = typed.cast u e in
@@ -394,7 +394,7 @@ module _ (p : typed.Program) (call : Calling) (q : Program) (deep f : ℕ) where
 
     pub binary_does : (pc pc2 : ℕ) → DoesAt a t k
         → DoesAt b (free_temporary (waits_in a (writes b) (calls b) t k) t) (free_kept (waits_in a (writes b) (calls b) t k) k)
-        → Into (function_at q f).code (typed.binary at o u a b) m t k pc pc2 → IntoDoes p call q deep f (typed.binary at o u a b) m t k pc pc2
+        → Into (function_at q f).code (sizes p f) (typed.binary at o u a b) m t k pc pc2 → IntoDoes p call q deep f (typed.binary at o u a b) m t k pc pc2
     binary_does pc pc2 da db h s now ws le fine =
         let l = waits_in a (writes b) (calls b) t k in
         let t2 = free_temporary l t in

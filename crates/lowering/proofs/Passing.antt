@@ -22,16 +22,17 @@ use Rattle.lowering.specs.Values.{calls, arguments_call, writes, arguments_write
 use Rattle.lowering.specs.Code.{One, Ends, Into, Loads}
 use Rattle.lowering.proofs.Words.{ranged, converts_again, word_stays, differ}
 use Rattle.lowering.proofs.Steps.{Reaches, stays, GoesTo, goes, from, Sim, sim_then, sim_move, tick_in}
-use Rattle.lowering.proofs.Standing.{Scratch, here, put_scratch, Holds, set_same, set_other, does_nothing, does_convert, does_move, world, first_automatic}
+use Rattle.lowering.proofs.Standing.{Scratch, here, put_scratch, Holds, set_same, set_other, does_nothing, does_convert, does_move, world, first_automatic, sizes}
 use Rattle.lowering.proofs.Stores.{World, RefersToRows, Fine, After, after_on, after_none, fine_later, after_since}
 use Rattle.lowering.proofs.Goods.{Keeps, keeps_all, IsFreeFor, Known, Suits, Good, ends, mode_free, mode_suits, held, stays_there, free_more}
 use Rattle.lowering.proofs.Leaves.{or_left, or_right}
 use Rattle.lowering.proofs.Operators.{DoesAt}
 
--- arguments of numbers, each of its parameter's type
+-- numbers, each of its parameter's type, and references
 abbrev pub AreFor : List ParameterType → Arguments → Type 0
 AreFor [] typed.no_arguments = Unit {0}
 AreFor (number t ∷ ps) (typed.and_number u e more) = (t ≡ u) × AreFor ps more
+AreFor (elements t ∷ ps) (typed.and_array array more) = AreFor ps more
 AreFor ps args = ⊥
 
 abbrev pub count : Arguments → ℕ
@@ -48,7 +49,7 @@ counts_same (number t ∷ ps) typed.no_arguments h = absurd h
 counts_same (number t ∷ ps) (typed.and_array array more) h = absurd h
 counts_same (elements t ∷ ps) typed.no_arguments h = absurd h
 counts_same (elements t ∷ ps) (typed.and_number u e more) h = absurd h
-counts_same (elements t ∷ ps) (typed.and_array array more) h = absurd h
+counts_same (elements t ∷ ps) (typed.and_array array more) h = let e = counts_same ps more h in omega (arith, e)
 
 -- their values in the temporaries from t on
 abbrev pub Fitting : World → List ParameterType → List Passed → ℕ → Values → Type 0
@@ -90,14 +91,14 @@ is_at None (Some x) written c t k = at_written (written x) c
     at_written true false = refl
     at_written false c = tt
 
-free_bound : (o : Operand) (t : ℕ) → free_temporary o t ≤ t + 1
+pub free_bound : (o : Operand) (t : ℕ) → free_temporary o t ≤ t + 1
 free_bound (operand.Temporary j) t = omega arith
 free_bound (operand.Kept j) t = omega arith
 free_bound (operand.Object x) t = omega arith
 free_bound (operand.Parameter n) t = omega arith
 free_bound (operand.Constant v) t = omega arith
 
-keeps_less : (c : Bool) (t k t1 : ℕ) (a b : Scratch) → t ≤ t1 → Keeps c t1 k a b → Keeps c t k a b
+pub keeps_less : (c : Bool) (t k t1 : ℕ) (a b : Scratch) → t ≤ t1 → Keeps c t1 k a b → Keeps c t k a b
 keeps_less c t k t1 a b h l = record { temporaries = λ e i lt. l.temporaries e i (omega (arith, lt, h)); kept = l.kept }
 
 module _ (p : typed.Program) (call : Calling) (q : Program) (deep f : ℕ) where
@@ -183,7 +184,7 @@ module _ (p : typed.Program) (call : Calling) (q : Program) (deep f : ℕ) where
       (record { now = now; at = ap (λ n. here f n now ws s) h; fits = tt; keeps = keeps_all false t k now; fine = fine; after = after_none writes_none s })
 
   pub number_row : (t0 u : IntType) (ps : List ParameterType) (e : Expression) (more : Arguments) (t k pc p1 p2 pc2 : ℕ) → t0 ≡ u → DoesAt p call q deep f e t k
-      → Into (function_at q f).code e (mode_of (waits_in e (arguments_write more) (arguments_call more) t k)) t k pc p1
+      → Into (function_at q f).code (sizes p f) e (mode_of (waits_in e (arguments_write more) (arguments_call more) t k)) t k pc p1
       → RowDoes ps more (t + 1) (free_kept (waits_in e (arguments_write more) (arguments_call more) t k) k) p1 p2
       → Loads (function_at q f).code (keeps u e) u (waits_in e (arguments_write more) (arguments_call more) t k) t p2 pc2
       → RowDoes (number t0 ∷ ps) (typed.and_number u e more) t k pc pc2

@@ -30,19 +30,20 @@ use Rattle.tac.specs.Sound.{AreBytes}
 use Rattle.tac.specs.Lowered.{kind_of}
 use Rattle.checked.specs.Asked.{is_asked, statement_is_asked}
 use Rattle.lowering.specs.Values.{or_int, writes_none}
+use Rattle.lowering.specs.Places.{size_of_type, size_of_place}
 use Rattle.lowering.specs.Code.{One}
 use Rattle.lowering.specs.Bodies.{Idles, Closes, Stands, IsFunctionFor, IsCodeFor}
 use Rattle.lowering.specs.Laws.{CodeBehaves}
 use Rattle.lowering.proofs.Words.{differ, low8, left_true, right_true}
 use Rattle.lowering.proofs.Steps.{stays, from, GoesTo, EndsAt, PausesAt, Sim, goes, sim_after, sim_then, sim_more, sim_map, sim_move, tick_in}
-use Rattle.lowering.proofs.Standing.{Scratch, here, put_scratch, set_same, does_one, does_nothing, does_move, world, first_automatic, types_below, rows_of, parameters_of}
-use Rattle.lowering.proofs.Stores.{all_types, Fine, After, fine_later, after_later}
+use Rattle.lowering.proofs.Standing.{Scratch, here, put_scratch, set_same, does_one, does_nothing, does_move, world, first_automatic, types_below, rows_of, parameters_of, type_at, sizes, IsCode}
+use Rattle.lowering.proofs.Stores.{below_length, length_mapped, all_types, Fine, After, fine_later, after_later}
 use Rattle.lowering.proofs.Passing.{Fitting, Gave, CallGood, CallsDo}
 use Rattle.lowering.proofs.Flows.{writes_all, StandsAt, FlowGood, flow_since}
 use Rattle.lowering.proofs.Expressions.{zero_fits}
 use Rattle.std.proofs.lemmas.Bool.Decides.{nat_tests}
 use Rattle.lowering.proofs.Statements.{statement_runs}
-use Rattle.lowering.proofs.Entering.{item_is, function_is, item_below, below_length, length_mapped, arrays_are, numbers_are, fine_lives, fine_entered, fine_left, after_left}
+use Rattle.lowering.proofs.Entering.{item_is, function_is, item_below, arrays_are, numbers_are, fine_lives, fine_entered, fine_left, after_left}
 use Rattle.lowering.proofs.Beginning.{first_world, lives_first}
 
 -- ---- ticks of a definition and its parameters
@@ -89,7 +90,7 @@ module _ (p : typed.Program) (q : Program) (typed_well : is_typed p ≡ true) (a
   record Both (g : ℕ) (f : Function) : Type 0 where
     pub h : tac_code.Function
     pub at : slice_get q.functions g ≡ Some h
-    pub is : IsFunctionFor q (nat_eq g p.main) f h
+    pub is : IsFunctionFor p q (nat_eq g p.main) f h
 
   both : (g : ℕ) (f : Function) → slice_get p.functions g ≡ Some f → Both g f
   both g f e =
@@ -145,6 +146,12 @@ module _ (p : typed.Program) (q : Program) (typed_well : is_typed p ≡ true) (a
       pub has : nat_eq g p.main ≡ true → (v : ℤ) × (o ≡ Some v)
       pub fine : Fine (world p q g ws) s
       pub after : After (first_automatic q) writes_all before s
+
+    is_code : IsCode p f q g
+    is_code = record { function = e; objects = objects_same; literals = code.literals; statics = code.statics }
+
+    sized : (P : (typed.Place → ℕ) → Type 0) → P (size_of_place p f) → P (sizes p g)
+    sized P h = subst (λ o. P (λ a. size_of_type (type_at p o a))) (sym e) h
 
     -- the call's objects and parameters are those of its code
     in_world : (first : ℕ) (outer : List ObjectType) (s : machine.State)
@@ -240,7 +247,8 @@ module _ (p : typed.Program) (q : Program) (typed_well : is_typed p ≡ true) (a
           subst (λ l. Closes l (nat_eq g p.main) c.is.end c.is.back) code_same c.is.closes in
           let leaves : One (function_at q g).code instruction.Return c.is.back (length c.h.code) =
           subst (λ l. One l instruction.Return c.is.back (length c.h.code)) code_same c.is.leaves in
-          let stands = subst (λ l. Stands l f.body c.is.end c.is.end c.is.back c.is.start c.is.end) code_same c.is.body in
+          let stands = sized (λ sizes. Stands (function_at q g).code sizes f.body c.is.end c.is.end c.is.back c.is.start c.is.end)
+          (subst (λ l. Stands l (size_of_place p f) f.body c.is.end c.is.end c.is.back c.is.start c.is.end) code_same c.is.body) in
           let Good2 : Flow → machine.State → State → Type 0 = λ flow. AtReturn s ws (value_left (nat_eq g p.main) flow) in
           sim_then q (60 * suc n + 16) 84 (λ u. Idle q g c.is.start fresh ws s) Good2 (60 * s.clock + 16) (60 * suc n + 16) (60 * s.clock + 16) s.clock
           (here g 0 fresh ws s) (ticks (suc n) s) (λ u s. execute p call f.objects f.body s) (omega arith) (omega arith)
@@ -254,7 +262,7 @@ module _ (p : typed.Program) (q : Program) (typed_well : is_typed p ≡ true) (a
           (subst (λ l. Sim q 84 (60 * i.k + (60 * suc n + 16)) i.k (here g c.is.start fresh ws s) Good2 (execute p call l f.body s3)) objects_same
           (sim_more q 14 84 (FlowGood p call q deep g f.type.result c.is.end c.is.end c.is.end s3 ws) Good2 (60 * i.k) 90 (60 * i.k + (60 * suc n + 16)) i.k
           (here g c.is.start fresh ws s) (execute p call (function_at q g).objects f.body s3) (omega arith) (omega arith)
-          (statement_runs p f call q deep g objects_same ok c.is.back (length c.h.code) leaves f.body
+          (statement_runs p f call q deep g is_code ok c.is.back (length c.h.code) leaves f.body
           (units.numbers_in f.type.parameters) (length f.objects) c.is.end c.is.end c.is.start c.is.end body_typed asked_body stands s3 fresh ws (omega (arith, le, lt, ck)) (fine_later (world p q g ws) s i.k fine))
           (λ flow s4 z4 lt4 good. to_return c.is.end c.is.back (length c.h.code) s ws closes leaves flow s4 z4
           (flow_since p call q deep g f.type.result c.is.end c.is.end c.is.end s s3 ws (after_later writes_all s i.k) flow s4 z4 good))))))

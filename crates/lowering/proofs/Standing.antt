@@ -4,9 +4,10 @@ use Rattle.std.specs.Prelude.{◌==◌, if◌then◌else◌, slice_get}
 use Rattle.std.proofs.lemmas.Bool.Decides.{nat_tests}
 use Rattle.ctypes.specs.declared.types.IntType.{IntType}
 use Rattle.ctypes.specs.declared.types.IntType.TheVariants as ty
-use Rattle.typed.specs.Types.{ObjectType, ParameterType, number, elements}
+use Rattle.typed.specs.Types.{ObjectType, DeclaredType, ParameterType, number, elements}
 use Rattle.typed.specs.Program as typed
-use Rattle.typed.specs.Program.{Function}
+use Rattle.typed.specs.Program.{Place, Function}
+use Rattle.typed.specs.Nodes.{type_of_place}
 use Rattle.meaning.specs.Store.{Element, whole, put}
 use Rattle.meaning.specs.Machine as machine
 use Rattle.tac.specs.declared.code.Operand.{Operand}
@@ -21,6 +22,7 @@ use Rattle.tac.specs.declared.code.Instruction.TheVariants as instruction
 use Rattle.tac.specs.Code.{Program, function_at, scalar_type}
 use Rattle.tac.specs.Costs.{cost, cost_if}
 use Rattle.tac.specs.Run.{Value, word, Values, with_at, Call, State, Progress, running, ◌>>=◌, where_true, word_in, word_for, number_of, is_word_of, operate, holds, value, word_at, goes_to, next, with_number, own, gives, gives_word, forgotten, act, step}
+use Rattle.lowering.specs.Places.{size_of_type}
 use Rattle.lowering.specs.Code.{One}
 use Rattle.lowering.proofs.Steps.{Reaches, one_step}
 use Rattle.lowering.proofs.Stores.{World}
@@ -84,6 +86,21 @@ rows_of (elements t ∷ ps) = t ∷ rows_of ps
 abbrev pub parameters_of : Option Function → List ParameterType
 parameters_of None = []
 parameters_of (Some g) = g.type.parameters
+
+-- the type of a place, and the bytes of an element or a row, in function f
+abbrev pub type_at : typed.Program → Option Function → Place → Option DeclaredType
+type_at p None a = None
+type_at p (Some g) a = type_of_place p g a
+
+abbrev pub sizes : typed.Program → ℕ → Place → ℕ
+sizes p f a = size_of_type (type_at p (slice_get p.functions f) a)
+
+-- function f of q is the code of tf
+pub record IsCode (p : typed.Program) (tf : Function) (q : Program) (f : ℕ) : Type 0 where
+  pub function : slice_get p.functions f ≡ Some tf
+  pub objects : (function_at q f).objects ≡ tf.objects
+  pub literals : q.literals ≡ p.literals
+  pub statics : q.statics ≡ p.statics
 
 abbrev pub world : typed.Program → Program → ℕ → List Call → World
 world p q f ws = record {

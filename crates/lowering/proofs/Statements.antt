@@ -22,7 +22,7 @@ use Rattle.lowering.specs.Code.{One, Into}
 use Rattle.lowering.specs.Bodies.{is_within, Initialises, Effects, Repeats, Stands, StandAll, StandAt}
 use Rattle.lowering.proofs.Words.{left_true, right_true, differ}
 use Rattle.lowering.proofs.Steps.{Sim}
-use Rattle.lowering.proofs.Standing.{here}
+use Rattle.lowering.proofs.Standing.{here, sizes, IsCode}
 use Rattle.lowering.proofs.Goods.{mode_free, mode_suits}
 use Rattle.lowering.proofs.Leaves.{IsNumber, scalar_is, IntoDoes, converts_does}
 use Rattle.lowering.proofs.Operators.{DoesAt}
@@ -91,7 +91,7 @@ module _ (p : typed.Program) (call : Calling) (objects : List ObjectType) where
       normal_next (execute p call objects x s) (execute_all p call objects more) (declared_normal x s (left_true (declares x) (all_declare more) h))
       (λ s2. all_normal more s2 (right_true (declares x) (all_declare more) h))
 
-module _ (p : typed.Program) (tf : Function) (call : Calling) (q : Program) (deep f : ℕ) (same : (function_at q f).objects ≡ tf.objects)
+module _ (p : typed.Program) (tf : Function) (call : Calling) (q : Program) (deep f : ℕ) (same : IsCode p tf q f)
     (ok : CallsDo p call q deep f) (back last : ℕ)
     (leaves : One (function_at q f).code instruction.Return back last) where
   does_at : (e : Expression) (t k : ℕ) → value_is_typed p tf e ≡ true → (value_is_asked e && gives e) ≡ true → DoesAt p call q deep f e t k
@@ -100,10 +100,10 @@ module _ (p : typed.Program) (tf : Function) (call : Calling) (q : Program) (dee
       (wanted_any p tf call q deep f same ok m (gives e) (right_true (value_is_asked e) (gives e) ha)) fr su i
 
   jumps_at : (e : Expression) (sense : Bool) (to pc pc2 : ℕ) → number_is_typed p tf e ≡ true → number_is_asked e ≡ true
-      → Into (function_at q f).code e (If sense to) 0 0 pc pc2 → IntoDoes p call q deep f e (If sense to) 0 0 pc pc2
+      → Into (function_at q f).code (sizes p f) e (If sense to) 0 0 pc pc2 → IntoDoes p call q deep f e (If sense to) 0 0 pc pc2
   jumps_at e sense to pc pc2 ht ha i = does_at e 0 0 (left_true (value_is_typed p tf e) (some_number (type_of_value e)) ht) ha (If sense to) pc pc2 tt tt i
 
-  nowhere_at : (e : Expression) (pc pc2 : ℕ) → value_is_typed p tf e ≡ true → value_is_asked e ≡ true → Into (function_at q f).code e Nowhere 0 0 pc pc2
+  nowhere_at : (e : Expression) (pc pc2 : ℕ) → value_is_typed p tf e ≡ true → value_is_asked e ≡ true → Into (function_at q f).code (sizes p f) e Nowhere 0 0 pc pc2
       → IntoDoes p call q deep f e Nowhere 0 0 pc pc2
   nowhere_at e pc pc2 ht ha i = into_does p tf call q deep f same ok e Nowhere 0 0 pc pc2 ht ha tt tt tt i
 
@@ -111,7 +111,7 @@ module _ (p : typed.Program) (tf : Function) (call : Calling) (q : Program) (dee
 
   init_begins : (i : Initialiser) (t : ObjectType) (x b pc pc2 : ℕ) → slice_get (function_at q f).objects x ≡ Some t
       → initialiser_is_typed p tf t.element t.lengths i ≡ true → initialiser_is_asked i ≡ true
-      → Initialises (function_at q f).code i x pc pc2
+      → Initialises (function_at q f).code (sizes p f) i x pc pc2
       → BeginsAt p call q deep f tf.type.result (initialise p call i t.element t.lengths (whole (b + x))) b pc pc2
   init_begins (typed.one_value u e) t x b pc pc2 at ht ha h =
       let h1 = right_true (same_type t.element u) (nat_eq (length t.lengths) 0 && number_is_typed p tf e) ht in
@@ -135,7 +135,7 @@ module _ (p : typed.Program) (tf : Function) (call : Calling) (q : Program) (dee
 
   define_at : (o : Option ObjectType) (n : ℕ) (i : Initialiser) (out again pc p1 pc2 : ℕ) → slice_get (function_at q f).objects n ≡ o
       → definition_is_typed p tf o i ≡ true → initialiser_is_asked i ≡ true
-      → One (function_at q f).code (instruction.Forget n 1) pc p1 → Initialises (function_at q f).code i n p1 pc2
+      → One (function_at q f).code (instruction.Forget n 1) pc p1 → Initialises (function_at q f).code (sizes p f) i n p1 pc2
       → Runs p call q deep f tf.type.result (λ s. tick s (λ s. define_object p call (function_at q f).objects o n i (renewed (function_at q f).objects n s))) pc
       pc2 out again
   define_at None n i out again pc p1 pc2 at ht ha i1 i2 = absurd (differ ht)
@@ -145,12 +145,12 @@ module _ (p : typed.Program) (tf : Function) (call : Calling) (q : Program) (dee
 
   -- ---- parts of loops
 
-  effect_at : (e : Option Expression) (pc pc2 : ℕ) → option_is_typed p tf e ≡ true → option_is_asked e ≡ true → Effects (function_at q f).code e pc pc2
+  effect_at : (e : Option Expression) (pc pc2 : ℕ) → option_is_typed p tf e ≡ true → option_is_asked e ≡ true → Effects (function_at q f).code (sizes p f) e pc pc2
       → EffectDoes p call q deep f tf.type.result (evaluate_or p call e) pc pc2
   effect_at None pc pc2 ht ha i = no_effect p call q deep f tf.type.result pc pc2 i
   effect_at (Some e) pc pc2 ht ha i = effect_does p call q deep f tf.type.result e pc pc2 (nowhere_at e pc pc2 ht ha i)
 
-  test_at : (e : Option Expression) (top pc pc2 : ℕ) → test_is_typed p tf e ≡ true → test_is_asked e ≡ true → Repeats (function_at q f).code e top pc pc2
+  test_at : (e : Option Expression) (top pc pc2 : ℕ) → test_is_typed p tf e ≡ true → test_is_asked e ≡ true → Repeats (function_at q f).code (sizes p f) e top pc pc2
       → TestDoes p call q deep f tf.type.result (evaluate_or p call e) pc top pc2
   test_at None top pc pc2 ht ha i = no_test p call q deep f tf.type.result pc top pc2 i
   test_at (Some e) top pc pc2 ht ha i = test_does p call q deep f tf.type.result e pc top pc2 (jumps_at e true top pc pc2 ht ha i)
@@ -180,7 +180,7 @@ module _ (p : typed.Program) (tf : Function) (call : Calling) (q : Program) (dee
 
   mutual
     pub statement_runs : (a : Statement) (lo hi out again pc pc2 : ℕ) → statement_is_typed p tf lo hi a ≡ true → statement_is_asked a ≡ true
-        → Stands (function_at q f).code a out again back pc pc2
+        → Stands (function_at q f).code (sizes p f) a out again back pc pc2
         → Runs p call q deep f tf.type.result (execute p call (function_at q f).objects a) pc pc2 out again
     statement_runs typed.empty lo hi out again pc pc2 ht ha h = nothing_runs p call q deep f tf.type.result pc pc2 out again h
     statement_runs (typed.evaluate e) lo hi out again pc pc2 ht ha h =
@@ -188,7 +188,7 @@ module _ (p : typed.Program) (tf : Function) (call : Calling) (q : Program) (dee
     statement_runs (typed.declare n) lo hi out again pc pc2 ht ha h = declare_runs p call q deep f tf.type.result n pc pc2 out again h
     statement_runs (typed.define n i) lo hi out again pc pc2 ht ha h =
         define_at (slice_get (function_at q f).objects n) n i out again pc h.0 pc2 refl
-        (subst (λ l. definition_is_typed p tf (slice_get l n) i ≡ true) (sym same)
+        (subst (λ l. definition_is_typed p tf (slice_get l n) i ≡ true) (sym same.objects)
         (right_true (nat_lt n hi) (definition_is_typed p tf (slice_get tf.objects n) i)
         (right_true (nat_le lo n) (nat_lt n hi && definition_is_typed p tf (slice_get tf.objects n) i) ht))) ha h.1 h.2
     statement_runs (typed.block first count all) lo hi out again pc pc2 ht ha h =
@@ -328,7 +328,7 @@ module _ (p : typed.Program) (tf : Function) (call : Calling) (q : Program) (dee
         (right_true (same_result tf.type.result (Some u)) (number_is_typed p tf e) ht)) ha) h.3) h.4
 
     pub all_run : (all : Statements) (lo hi out again pc pc2 : ℕ) → statements_are_typed p tf lo hi all ≡ true → statements_are_asked all ≡ true
-        → StandAll (function_at q f).code all out again back pc pc2
+        → StandAll (function_at q f).code (sizes p f) all out again back pc pc2
         → Lists p call q deep f tf.type.result (execute_all p call (function_at q f).objects all) pc pc2 out again
     all_run typed.no_statements lo hi out again pc pc2 ht ha h = no_list p call q deep f tf.type.result pc pc2 out again h
     all_run (typed.and_statement a more) lo hi out again pc pc2 ht ha h =
@@ -340,7 +340,7 @@ module _ (p : typed.Program) (tf : Function) (call : Calling) (q : Program) (dee
         (right_true (statement_is_asked a) (statements_are_asked more) ha) h.2)
 
     at_runs : (all : Statements) (lo hi : ℕ) (places : List ℕ) (out again pc pc2 : ℕ) → statements_are_typed p tf lo hi all ≡ true
-        → statements_are_asked all ≡ true → StandAt (function_at q f).code all places out again back pc pc2
+        → statements_are_asked all ≡ true → StandAt (function_at q f).code (sizes p f) all places out again back pc pc2
         → Lists p call q deep f tf.type.result (execute_all p call (function_at q f).objects all) pc pc2 out again
     at_runs typed.no_statements lo hi places out again pc pc2 ht ha h = no_list p call q deep f tf.type.result pc pc2 out again h.1
     at_runs (typed.and_statement a more) lo hi places out again pc pc2 ht ha h =
@@ -354,7 +354,7 @@ module _ (p : typed.Program) (tf : Function) (call : Calling) (q : Program) (dee
     -- from a label on
     from_runs : (all : Statements) (lo hi : ℕ) (places : List ℕ) (label : Option ℕ) (out again pc to pc2 : ℕ) → statements_are_typed p tf lo hi all ≡ true
         → statements_are_asked all ≡ true
-        → StandAt (function_at q f).code all places out again back pc pc2 → IsPlace places pc2 label to
+        → StandAt (function_at q f).code (sizes p f) all places out again back pc pc2 → IsPlace places pc2 label to
         → Lists p call q deep f tf.type.result (execute_from p call (function_at q f).objects label all) to pc2 out again
     from_runs typed.no_statements lo hi places None out again pc to pc2 ht ha h place = no_list p call q deep f tf.type.result to pc2 out again place
     from_runs typed.no_statements lo hi places (Some n) out again pc to pc2 ht ha h place = absurd (let z : ⊥ = nothing_there places n to h.0 place in z)

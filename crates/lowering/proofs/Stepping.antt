@@ -24,7 +24,7 @@ use Rattle.checked.specs.Asked.{is_wide}
 use Rattle.lowering.specs.Values.{Mode, Nowhere, To, If}
 use Rattle.lowering.specs.Code.{One, Steps, StepsAfter, StepsBy, Into}
 use Rattle.lowering.proofs.Steps.{Reaches, stays, goes, Sim, sim_after, sim_map, tick_in, find_in}
-use Rattle.lowering.proofs.Standing.{Scratch, here, put_scratch, set_same, put_state, Takes, does_nothing, does_move, world}
+use Rattle.lowering.proofs.Standing.{Scratch, here, put_scratch, set_same, put_state, Takes, does_nothing, does_move, world, sizes}
 use Rattle.lowering.proofs.Stores.{Fine, after_put, with_tree, read_fits, fine_later, after_since}
 use Rattle.lowering.proofs.Goods.{Keeps, keeps_all, keeps_put, IsFree, IsFreeFor, HasIn, Known, Suits, Good, ends}
 use Rattle.lowering.proofs.Leaves.{IsNumber, IntoDoes}
@@ -205,7 +205,7 @@ module _ (p : typed.Program) (call : Calling) (q : Program) (deep f : ℕ) where
     step_ends typed.after m p1 pc2 n now ws s (Some old) fr su i fine ex = after_ends m p1 pc2 n now ws s old fr su i fine ex
 
     pub step_does : (moment : Moment) (m : Mode) (pc pc2 : ℕ) → IsFreeFor m t k → Suits p q f m u
-        → Into (function_at q f).code (typed.stepped at moment so u of (typed.named at2 (typed.automatic x))) m t k pc pc2
+        → Into (function_at q f).code (sizes p f) (typed.stepped at moment so u of (typed.named at2 (typed.automatic x))) m t k pc pc2
         → IntoDoes p call q deep f (typed.stepped at moment so u of (typed.named at2 (typed.automatic x))) m t k pc pc2
     step_does moment m pc pc2 fr su h s now ws le fine =
         let Result2 = Stepped moment m pc2 s now ws in

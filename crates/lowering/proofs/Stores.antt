@@ -1,5 +1,5 @@
 -- The objects that live: each has its shape and values of its type, and what is not written to stays.
-use Rattle.std.proofs.Common.{◌≡◌, ◌⊎◌, inl, inr, ℕ, zero, suc, ◌+◌, ◌<◌, ◌≤◌, List, [], ◌∷◌, ◌++◌, length, Option, Some, None, Bool, true, false, ℤ, refl, sym, ap, ◌∙◌, subst, arith}
+use Rattle.std.proofs.Common.{◌≡◌, ◌⊎◌, inl, inr, ℕ, zero, suc, ◌+◌, ◌<◌, ◌≤◌, List, [], ◌∷◌, ◌++◌, length, map, Option, Some, None, Bool, true, false, ℤ, refl, sym, ap, ◌∙◌, subst, arith}
 use Rattle.std.specs.Prelude.{slice_get}
 use Rattle.ctypes.specs.declared.types.IntType.{IntType}
 use Rattle.ctypes.specs.Types.{IsValueOf}
@@ -39,6 +39,15 @@ pub before_it : {A : Type 0} (xs ys : List A) (k : ℕ) → k < length xs → sl
 before_it [] ys k lt = absurd (omega (arith, lt))
 before_it (x ∷ xs) ys zero lt = refl
 before_it (x ∷ xs) ys (suc k) lt = before_it xs ys k (omega (arith, lt))
+
+pub below_length : {A : Type 0} (xs : List A) (n : ℕ) (x : A) → slice_get xs n ≡ Some x → n < length xs
+below_length [] n x e = absurd (let z : ⊥ = cc in z)
+below_length (z ∷ xs) zero x e = omega arith
+below_length (z ∷ xs) (suc n) x e = omega (arith, below_length xs n x e)
+
+pub length_mapped : {A B : Type 0} (f : A → B) (xs : List A) → length (map f xs) ≡ length xs
+length_mapped f [] = refl
+length_mapped f (x ∷ xs) = ap suc (length_mapped f xs)
 
 pub nat_cases : {P : Type 0} (m n : ℕ) → ((m ≡ n) → P) → ((m ≡ n → ⊥) → P) → P
 nat_cases zero zero a b = a refl

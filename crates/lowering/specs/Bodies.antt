@@ -5,12 +5,14 @@
 use Rattle.std.specs.Prelude.{◌≡◌, ℕ, zero, suc, ◌+◌, Bool, true, false, ◌&&◌, max, nat_le, nat_lt, nat_eq, ℤ, List, [], ◌∷◌, ◌++◌, length, map, Option, Some, None, slice_get, ◌⊎◌}
 use Rattle.ctypes.specs.declared.types.IntType.{IntType}
 use Rattle.typed.specs.Program as typed
-use Rattle.typed.specs.Program.{Value, Initialiser, Statement, Statements}
+use Rattle.typed.specs.Program.{Place, Value, Initialiser, Statement, Statements}
 use Rattle.meaning.specs.Statements.{labels_at, labels_of}
 use Rattle.tac.specs.declared.code.Operand.{Operand}
 use Rattle.tac.specs.declared.code.Operand.TheVariants as operand
 use Rattle.tac.specs.declared.code.Target.{Target}
 use Rattle.tac.specs.declared.code.Target.TheVariants as target
+use Rattle.tac.specs.declared.code.Place.{Place as Spot}
+use Rattle.tac.specs.declared.code.Place.TheVariants as place
 use Rattle.tac.specs.declared.code.Reading.TheVariants as reading
 use Rattle.tac.specs.declared.code.Comparison.TheVariants as comparison
 use Rattle.tac.specs.declared.code.Instruction.{Instruction}
@@ -19,6 +21,7 @@ use Rattle.tac.specs.Code.{Function, Program, function_at}
 use Rattle.tac.specs.Run.{word_for}
 use Rattle.tac.specs.Lowered.{kind_of}
 use Rattle.lowering.specs.Values.{keeps, waits_in, operand_of, Nowhere, If, mode_of}
+use Rattle.lowering.specs.Places.{size_of_place}
 use Rattle.lowering.specs.Code.{One, Converts, Into}
 
 -- object x is one of the k objects from number n on
@@ -30,26 +33,6 @@ abbrev pub label_places : Statement → ℕ → List ℕ
 label_places x pc = map (λ l. pc) (labels_at x)
 
 module _ (code : List Instruction) where
-  -- one value to a target, converted (6.5.16.1, 6.8.6.4p3)
-  abbrev pub Gives : IntType → Value → Target → ℕ → ℕ → Type 0
-  Gives u e g pc pc2 = Converts code (keeps u e) (λ m a b. Into code e m 0 0 a b) u (operand_of e 0 0) g pc pc2
-
-  -- object n gets its first value, which costs a tick behind its expression
-  abbrev pub Initialises : Initialiser → ℕ → ℕ → ℕ → Type 0
-  Initialises (typed.one_value u e) n pc pc2 = (p1 : ℕ) × Gives u e (target.Object n) pc p1 × One code instruction.Nothing p1 pc2
-  Initialises (typed.text literal) n pc pc2 = ⊥
-  Initialises (typed.in_braces i) n pc pc2 = (p1 : ℕ) × One code instruction.Nothing pc p1 × Initialises i n p1 pc2
-  Initialises (typed.list all) n pc pc2 = ⊥
-
-  -- what may be left out: nothing is evaluated; a loop goes on
-  abbrev pub Effects : Option Value → ℕ → ℕ → Type 0
-  Effects None pc pc2 = pc ≡ pc2
-  Effects (Some e) pc pc2 = Into code e Nowhere 0 0 pc pc2
-
-  abbrev pub Repeats : Option Value → ℕ → ℕ → ℕ → Type 0
-  Repeats None top pc pc2 = One code (instruction.Jump top) pc pc2
-  Repeats (Some e) top pc pc2 = Into code e (If true top) 0 0 pc pc2
-
   -- 6.8.4.2p5: the tests of the labels, which stand at these places; the last default, or `default` where there is none
   abbrev pub Tests : Operand → List (Option ℤ) → List ℕ → (default : ℕ) → ℕ → ℕ → Type 0
   Tests o [] places default pc pc2 = One code (instruction.Jump default) pc pc2
@@ -63,50 +46,72 @@ module _ (code : List Instruction) where
   abbrev pub Leaves : (back : ℕ) → ℕ → ℕ → Type 0
   Leaves back pc pc2 = ((pc ≡ pc2) × (pc ≡ back)) ⊎ One code (instruction.Jump back) pc pc2
 
-  abbrev mutual
-    pub Stands : Statement → (out again back : ℕ) → ℕ → ℕ → Type 0
-    Stands typed.empty out again back pc pc2 = One code instruction.Nothing pc pc2
-    Stands (typed.evaluate e) out again back pc pc2 = (p1 : ℕ) × One code instruction.Nothing pc p1 × Into code e Nowhere 0 0 p1 pc2
-    -- 6.2.4p6: an object is indeterminate each time
-    Stands (typed.declare n) out again back pc pc2 = One code (instruction.Forget n 1) pc pc2
-    Stands (typed.define n i) out again back pc pc2 = (p1 : ℕ) × One code (instruction.Forget n 1) pc p1 × Initialises i n p1 pc2
-    Stands (typed.block first count all) out again back pc pc2 =
-        (p1 : ℕ) × One code (instruction.Forget first count) pc p1 × StandAll all out again back p1 pc2
-    Stands (typed.branch e a) out again back pc pc2 =
-        (p1 p2 : ℕ) × One code instruction.Nothing pc p1 × Into code e (If false pc2) 0 0 p1 p2 × Stands a out again back p2 pc2
-    Stands (typed.branches e a b) out again back pc pc2 =
-        (p1 p2 p3 other : ℕ) × One code instruction.Nothing pc p1 × Into code e (If false other) 0 0 p1 p2 × Stands a out again back p2 p3
-        × One code (instruction.Jump pc2) p3 other × Stands b out again back other pc2
-    -- its objects are forgotten behind its value, which one of them cannot hold
-    Stands (typed.switch u e first count all) out again back pc pc2 =
-        let o = waits_in e (is_within first count) false 0 0 in
-        (p1 p2 p3 p4 : ℕ) × (places : List ℕ) × One code instruction.Nothing pc p1 × Into code e (mode_of o) 0 0 p1 p2
-        × One code (instruction.Forget first count) p2 p3 × Tests o (labels_of all) places pc2 p3 p4 × StandAt all places pc2 again back p4 pc2
-    Stands (typed.case v) out again back pc pc2 = One code instruction.Nothing pc pc2
-    Stands typed.default out again back pc pc2 = One code instruction.Nothing pc pc2
-    -- a loop's test stands behind its body
-    Stands (typed.while e a) out again back pc pc2 =
-        (top at : ℕ) × One code (instruction.Jump at) pc top × Stands a pc2 at back top at × Into code e (If true top) 0 0 at pc2
-    Stands (typed.do_while a e) out again back pc pc2 =
-        (top at : ℕ) × One code instruction.Nothing pc top × Stands a pc2 at back top at × Into code e (If true top) 0 0 at pc2
-    Stands (typed.for declared start test step a) out again back pc pc2 =
-        (p1 p2 p3 top next at : ℕ) × One code instruction.Nothing pc p1 × StandAll declared pc2 pc2 back p1 p2 × Effects start p2 p3
-        × One code (instruction.Jump at) p3 top × Stands a pc2 next back top next × Effects step next at × Repeats test top at pc2
-    Stands typed.break out again back pc pc2 = One code (instruction.Jump out) pc pc2
-    Stands typed.continue out again back pc pc2 = One code (instruction.Jump again) pc pc2
-    Stands typed.return_nothing out again back pc pc2 = (p1 : ℕ) × One code instruction.Nothing pc p1 × Leaves back p1 pc2
-    Stands (typed.return_value u e) out again back pc pc2 =
-        (p1 p2 : ℕ) × One code instruction.Nothing pc p1 × Gives u e (target.Temporary 0) p1 p2 × Leaves back p2 pc2
+  -- `size` has the bytes of each element and row
+  module _ (size : Place → ℕ) where
+    -- one value to a target, converted (6.5.16.1, 6.8.6.4p3)
+    abbrev pub Gives : IntType → Value → Target → ℕ → ℕ → Type 0
+    Gives u e g pc pc2 = Converts code (keeps u e) (λ m a b. Into code size e m 0 0 a b) u (operand_of e 0 0) g pc pc2
 
-    pub StandAll : Statements → (out again back : ℕ) → ℕ → ℕ → Type 0
-    StandAll typed.no_statements out again back pc pc2 = pc ≡ pc2
-    StandAll (typed.and_statement x more) out again back pc pc2 = (p1 : ℕ) × Stands x out again back pc p1 × StandAll more out again back p1 pc2
+    -- object n gets its first value, which costs a tick behind its expression
+    abbrev pub Initialises : Initialiser → ℕ → ℕ → ℕ → Type 0
+    Initialises (typed.one_value u e) n pc pc2 = (p1 : ℕ) × Gives u e (target.Object n) pc p1 × One code instruction.Nothing p1 pc2
+    Initialises (typed.text literal) n pc pc2 = ⊥
+    Initialises (typed.in_braces i) n pc pc2 = (p1 : ℕ) × One code instruction.Nothing pc p1 × Initialises i n p1 pc2
+    Initialises (typed.list all) n pc pc2 = ⊥
 
-    -- the same, the labels among them standing at these places
-    pub StandAt : Statements → List ℕ → (out again back : ℕ) → ℕ → ℕ → Type 0
-    StandAt typed.no_statements places out again back pc pc2 = (places ≡ []) × (pc ≡ pc2)
-    StandAt (typed.and_statement x more) places out again back pc pc2 =
-        (p1 : ℕ) × (rest : List ℕ) × (places ≡ label_places x pc ++ rest) × Stands x out again back pc p1 × StandAt more rest out again back p1 pc2
+    -- what may be left out: nothing is evaluated; a loop goes on
+    abbrev pub Effects : Option Value → ℕ → ℕ → Type 0
+    Effects None pc pc2 = pc ≡ pc2
+    Effects (Some e) pc pc2 = Into code size e Nowhere 0 0 pc pc2
+
+    abbrev pub Repeats : Option Value → ℕ → ℕ → ℕ → Type 0
+    Repeats None top pc pc2 = One code (instruction.Jump top) pc pc2
+    Repeats (Some e) top pc pc2 = Into code size e (If true top) 0 0 pc pc2
+
+    abbrev mutual
+      pub Stands : Statement → (out again back : ℕ) → ℕ → ℕ → Type 0
+      Stands typed.empty out again back pc pc2 = One code instruction.Nothing pc pc2
+      Stands (typed.evaluate e) out again back pc pc2 = (p1 : ℕ) × One code instruction.Nothing pc p1 × Into code size e Nowhere 0 0 p1 pc2
+      -- 6.2.4p6: an object is indeterminate each time
+      Stands (typed.declare n) out again back pc pc2 = One code (instruction.Forget n 1) pc pc2
+      Stands (typed.define n i) out again back pc pc2 = (p1 : ℕ) × One code (instruction.Forget n 1) pc p1 × Initialises i n p1 pc2
+      Stands (typed.block first count all) out again back pc pc2 =
+          (p1 : ℕ) × One code (instruction.Forget first count) pc p1 × StandAll all out again back p1 pc2
+      Stands (typed.branch e a) out again back pc pc2 =
+          (p1 p2 : ℕ) × One code instruction.Nothing pc p1 × Into code size e (If false pc2) 0 0 p1 p2 × Stands a out again back p2 pc2
+      Stands (typed.branches e a b) out again back pc pc2 =
+          (p1 p2 p3 other : ℕ) × One code instruction.Nothing pc p1 × Into code size e (If false other) 0 0 p1 p2 × Stands a out again back p2 p3
+          × One code (instruction.Jump pc2) p3 other × Stands b out again back other pc2
+      -- its objects are forgotten behind its value, which one of them cannot hold
+      Stands (typed.switch u e first count all) out again back pc pc2 =
+          let o = waits_in e (is_within first count) false 0 0 in
+          (p1 p2 p3 p4 : ℕ) × (places : List ℕ) × One code instruction.Nothing pc p1 × Into code size e (mode_of o) 0 0 p1 p2
+          × One code (instruction.Forget first count) p2 p3 × Tests o (labels_of all) places pc2 p3 p4 × StandAt all places pc2 again back p4 pc2
+      Stands (typed.case v) out again back pc pc2 = One code instruction.Nothing pc pc2
+      Stands typed.default out again back pc pc2 = One code instruction.Nothing pc pc2
+      -- a loop's test stands behind its body
+      Stands (typed.while e a) out again back pc pc2 =
+          (top at : ℕ) × One code (instruction.Jump at) pc top × Stands a pc2 at back top at × Into code size e (If true top) 0 0 at pc2
+      Stands (typed.do_while a e) out again back pc pc2 =
+          (top at : ℕ) × One code instruction.Nothing pc top × Stands a pc2 at back top at × Into code size e (If true top) 0 0 at pc2
+      Stands (typed.for declared start test step a) out again back pc pc2 =
+          (p1 p2 p3 top next at : ℕ) × One code instruction.Nothing pc p1 × StandAll declared pc2 pc2 back p1 p2 × Effects start p2 p3
+          × One code (instruction.Jump at) p3 top × Stands a pc2 next back top next × Effects step next at × Repeats test top at pc2
+      Stands typed.break out again back pc pc2 = One code (instruction.Jump out) pc pc2
+      Stands typed.continue out again back pc pc2 = One code (instruction.Jump again) pc pc2
+      Stands typed.return_nothing out again back pc pc2 = (p1 : ℕ) × One code instruction.Nothing pc p1 × Leaves back p1 pc2
+      Stands (typed.return_value u e) out again back pc pc2 =
+          (p1 p2 : ℕ) × One code instruction.Nothing pc p1 × Gives u e (target.Temporary 0) p1 p2 × Leaves back p2 pc2
+
+      pub StandAll : Statements → (out again back : ℕ) → ℕ → ℕ → Type 0
+      StandAll typed.no_statements out again back pc pc2 = pc ≡ pc2
+      StandAll (typed.and_statement x more) out again back pc pc2 = (p1 : ℕ) × Stands x out again back pc p1 × StandAll more out again back p1 pc2
+
+      -- the same, the labels among them standing at these places
+      pub StandAt : Statements → List ℕ → (out again back : ℕ) → ℕ → ℕ → Type 0
+      StandAt typed.no_statements places out again back pc pc2 = (places ≡ []) × (pc ≡ pc2)
+      StandAt (typed.and_statement x more) places out again back pc pc2 =
+          (p1 : ℕ) × (rest : List ℕ) × (places ≡ label_places x pc ++ rest) × Stands x out again back pc p1 × StandAt more rest out again back p1 pc2
 
   -- n instructions that do nothing: the definition and each parameter take a tick
   abbrev pub Idles : ℕ → ℕ → ℕ → Type 0
@@ -129,6 +134,14 @@ abbrev pub kept_in : Operand → ℕ
 kept_in (operand.Kept k) = suc k
 kept_in o = 0
 
+abbrev pub temporary_at : Spot → ℕ
+temporary_at (place.At o) = temporary_in o
+temporary_at a = 0
+
+abbrev pub kept_at : Spot → ℕ
+kept_at (place.At o) = kept_in o
+kept_at a = 0
+
 abbrev pub temporary_to : Target → ℕ
 temporary_to (target.Temporary k) = suc k
 temporary_to g = 0
@@ -142,6 +155,10 @@ abbrev pub temporaries_of : Program → Instruction → ℕ
 temporaries_of q (instruction.Move g x) = max (temporary_to g) (temporary_in x)
 temporaries_of q (instruction.Compute o r g x y) = max (temporary_to g) (max (temporary_in x) (temporary_in y))
 temporaries_of q (instruction.Convert t g x) = max (temporary_to g) (temporary_in x)
+temporaries_of q (instruction.Load t g a) = max (temporary_to g) (temporary_at a)
+temporaries_of q (instruction.Store t x a) = max (temporary_in x) (temporary_at a)
+temporaries_of q (instruction.Address g a) = max (temporary_to g) (temporary_at a)
+temporaries_of q (instruction.Part g x y size) = max (temporary_to g) (max (temporary_in x) (temporary_in y))
 temporaries_of q (instruction.Branch c r x y to) = max (temporary_in x) (temporary_in y)
 temporaries_of q (instruction.Call f) = max 1 (length (function_at q f).parameters)
 temporaries_of q instruction.PutByte = 1
@@ -154,6 +171,10 @@ abbrev pub slots_of : Instruction → ℕ
 slots_of (instruction.Move g x) = max (kept_to g) (kept_in x)
 slots_of (instruction.Compute o r g x y) = max (kept_to g) (max (kept_in x) (kept_in y))
 slots_of (instruction.Convert t g x) = max (kept_to g) (kept_in x)
+slots_of (instruction.Load t g a) = max (kept_to g) (kept_at a)
+slots_of (instruction.Store t x a) = max (kept_in x) (kept_at a)
+slots_of (instruction.Address g a) = max (kept_to g) (kept_at a)
+slots_of (instruction.Part g x y size) = max (kept_to g) (max (kept_in x) (kept_in y))
 slots_of (instruction.Branch c r x y to) = max (kept_in x) (kept_in y)
 slots_of i = 0
 
@@ -162,12 +183,12 @@ most size [] = 0
 most size (i ∷ code) = max (size i) (most size code)
 
 -- its code is that of its ticks at entry, its body, its end and its Return, and it has no more temporaries and slots than its code names
-pub record IsFunctionFor (q : Program) (is_main : Bool) (f : typed.Function) (g : Function) : Type 0 where
+pub record IsFunctionFor (p : typed.Program) (q : Program) (is_main : Bool) (f : typed.Function) (g : Function) : Type 0 where
   pub start : ℕ
   pub end : ℕ
   pub back : ℕ
   pub idles : Idles g.code (suc (length f.type.parameters)) 0 start
-  pub body : Stands g.code f.body end end back start end
+  pub body : Stands g.code (size_of_place p f) f.body end end back start end
   pub closes : Closes g.code is_main end back
   pub leaves : One g.code instruction.Return back (length g.code)
   pub objects : g.objects ≡ f.objects
@@ -181,4 +202,4 @@ pub record IsCodeFor (p : typed.Program) (q : Program) : Type 0 where
   pub main : q.main ≡ p.main
   pub count : length q.functions ≡ length p.functions
   pub each : (n : ℕ) (f : typed.Function) (g : Function) → slice_get p.functions n ≡ Some f → slice_get q.functions n ≡ Some g
-      → IsFunctionFor q (nat_eq n p.main) f g
+      → IsFunctionFor p q (nat_eq n p.main) f g

@@ -1,21 +1,24 @@
 -- What it is for instructions to be the code of an expression: which stand from position pc on, up to pc2 (ISO/IEC 9899:2011 6.5).
 --
 -- `t` and `k` are the first temporary and the first slot that may be written. Each node's code begins with an instruction of its own,
--- which costs nothing, and so does the element that is assigned to: the abstract machine takes a tick for each. Array elements, string literals and static objects have no code yet: their cases come beside those of objects.
-use Rattle.std.specs.Prelude.{◌≡◌, ℕ, ◌+◌, ◌-◌, ◌^◌, Bool, true, false, not, ℤ, List, Option, Some, None, slice_get}
+-- which costs nothing, and so does the element that is assigned to: the abstract machine takes a tick for each. An automatic object that is no
+-- array is an operand; what lies in memory is found first (`Finds`), and loaded and stored.
+use Rattle.std.specs.Prelude.{◌≡◌, ℕ, ◌+◌, ◌-◌, ◌^◌, Bool, true, false, not, ◌||◌, ℤ, List, Option, Some, None, slice_get}
 use Rattle.ctypes.specs.declared.types.IntType.{IntType}
 use Rattle.ctypes.specs.declared.operators.BinOp.{BinOp}
 use Rattle.ctypes.specs.declared.operators.BinOp.TheVariants as op
 use Rattle.ctypes.specs.Types.{truth}
 use Rattle.tree.specs.declared.expression.PrefixOp.TheVariants as prefix
 use Rattle.typed.specs.Program as typed
-use Rattle.typed.specs.Program.{Callee, Moment, Value, Arguments}
+use Rattle.typed.specs.Program.{Callee, Moment, Place, Value, Arguments}
 use Rattle.meaning.specs.Machine.{choose}
 use Rattle.meaning.specs.Expressions.{step_operation}
 use Rattle.tac.specs.declared.code.Operand.{Operand}
 use Rattle.tac.specs.declared.code.Operand.TheVariants as operand
 use Rattle.tac.specs.declared.code.Target.{Target}
 use Rattle.tac.specs.declared.code.Target.TheVariants as target
+use Rattle.tac.specs.declared.code.Place.{Place as Spot}
+use Rattle.tac.specs.declared.code.Place.TheVariants as place
 use Rattle.tac.specs.declared.code.Reading.{Reading}
 use Rattle.tac.specs.declared.code.Reading.TheVariants as reading
 use Rattle.tac.specs.declared.code.Operation.TheVariants as operation
@@ -26,6 +29,7 @@ use Rattle.tac.specs.Run.{word_for}
 use Rattle.lowering.specs.Plain.{object_of}
 use Rattle.checked.specs.Asked.{is_wide}
 use Rattle.lowering.specs.Values.{calls, arguments_call, writes, arguments_write, keeps, reading_of, waits_in, operand_of, free_temporary, free_kept, Mode, Nowhere, To, If, mode_of, target_of}
+use Rattle.lowering.specs.Places.{found, target_for, free_temporary_at, free_kept_at, cuts}
 
 -- of a constant, whose truth is known: a jump where it is `sense`
 abbrev pub truth_jump : Bool → Bool → ℕ → Instruction
@@ -42,10 +46,10 @@ abbrev pub test : Bool → Operand → ℕ → Instruction
 test true o to = instruction.Branch comparison.NotEqual reading.Signed o zero_word to
 test false o to = instruction.Branch comparison.Equal reading.Signed o zero_word to
 
--- none of something that has no code
-abbrev pub OnObject : Option ℕ → (ℕ → Type 0) → Type 0
-OnObject None P = ⊥
-OnObject (Some x) P = P x
+-- an object of the call that is an operand, or else what lies in memory
+abbrev pub OnObject : Option ℕ → (ℕ → Type 0) → Type 0 → Type 0
+OnObject None P Memory = Memory
+OnObject (Some x) P Memory = P x
 
 -- one of two, by a test
 abbrev pub Either : Bool → Type 0 → Type 0 → Type 0
@@ -170,7 +174,54 @@ module _ (code : List Instruction) where
   StepsBy typed.before wide o u of m x t pc pc2 = (p1 : ℕ) × Steps wide o u of x t pc p1 × Ends m (operand.Object x) p1 pc2
   StepsBy typed.after wide o u of m x t pc pc2 = StepsAfter wide o u of m x t pc pc2
 
+  -- ---- what lies in memory (6.5.2.1, 6.5.16): a is where its reference is
+
+  abbrev pub PartsNamed : Spot → Target → Operand → ℕ → ℕ → ℕ → ℕ → Type 0
+  PartsNamed a g i size t pc pc2 =
+      (p1 : ℕ) × One (instruction.Address (target.Temporary t) a) pc p1 × One (instruction.Part g (operand.Temporary t) i size) p1 pc2
+
+  -- a part of an array, whose reference is put into temporary t where it is no operand yet
+  abbrev pub Parts : Spot → Target → Operand → ℕ → ℕ → ℕ → ℕ → Type 0
+  Parts (place.At o) g i size t pc pc2 = One (instruction.Part g o i size) pc pc2
+  Parts (place.Literal n) g i size t pc pc2 = PartsNamed (place.Literal n) g i size t pc pc2
+  Parts (place.Static n) g i size t pc pc2 = PartsNamed (place.Static n) g i size t pc pc2
+  Parts (place.Array n) g i size t pc pc2 = PartsNamed (place.Array n) g i size t pc pc2
+
+  abbrev pub Gets : IntType → Spot → Mode → ℕ → ℕ → ℕ → Type 0
+  Gets u a m t pc pc2 = (p1 : ℕ) × One (instruction.Load u (target_of m t) a) pc p1 × Follows m t p1 pc2
+
+  -- o is stored, as it is or converted by way of temporary t, and is the value (6.5.16p3)
+  abbrev pub Puts : Bool → IntType → Operand → Spot → Mode → ℕ → ℕ → ℕ → Type 0
+  Puts true u o a m t pc pc2 = (p1 : ℕ) × One (instruction.Store u o a) pc p1 × Ends m o p1 pc2
+  Puts false u o a m t pc pc2 =
+      (p1 p2 : ℕ) × One (instruction.Convert u (target.Temporary t) o) pc p1 × One (instruction.Store u (operand.Temporary t) a) p1 p2
+      × Ends m (operand.Temporary t) p2 pc2
+
+  -- temporary j has the old value, and gets the result
+  abbrev pub Alters : BinOp → IntType → IntType → Operand → Spot → Mode → ℕ → ℕ → ℕ → Type 0
+  Alters o u of b a m j pc pc2 =
+      (p1 : ℕ) × Computes o (reading_of of) (target.Temporary j) (operand.Temporary j) b j pc p1
+      × Puts (cuts u m || is_wide u) u (operand.Temporary j) a m j p1 pc2
+
+  -- the same beside the old value, which is the value
+  abbrev pub AltersAside : BinOp → IntType → IntType → Spot → Mode → ℕ → ℕ → ℕ → Type 0
+  AltersAside o u of a m j pc pc2 =
+      (p1 p2 : ℕ) × Computes o (reading_of of) (target.Temporary (j + 1)) (operand.Temporary j) (operand.Constant 1) (j + 1) pc p1
+      × Puts (cuts u Nowhere || is_wide u) u (operand.Temporary (j + 1)) a Nowhere (j + 1) p1 p2 × Ends m (operand.Temporary j) p2 pc2
+
+  abbrev pub AltersBy : Moment → BinOp → IntType → IntType → Spot → Mode → ℕ → ℕ → ℕ → Type 0
+  AltersBy typed.before o u of a m j pc pc2 = Alters o u of (operand.Constant 1) a m j pc pc2
+  AltersBy typed.after o u of a Nowhere j pc pc2 = Alters o u of (operand.Constant 1) a Nowhere j pc pc2
+  AltersBy typed.after o u of a (To g) j pc pc2 = AltersAside o u of a (To g) j pc pc2
+  AltersBy typed.after o u of a (If sense to) j pc pc2 = AltersAside o u of a (If sense to) j pc pc2
+
   -- ---- calls
+
+  -- the reference of an array to temporary t
+  abbrev pub HandsOver : Spot → ℕ → ℕ → ℕ → Type 0
+  HandsOver (place.At (operand.Temporary j)) t pc pc2 = pc ≡ pc2
+  HandsOver (place.At o) t pc pc2 = One (instruction.Move (target.Temporary t) o) pc pc2
+  HandsOver a t pc pc2 = One (instruction.Address (target.Temporary t) a) pc pc2
 
   -- an argument to temporary t, converted to its parameter's type
   abbrev pub Loads : Bool → IntType → Operand → ℕ → ℕ → ℕ → Type 0
@@ -191,64 +242,95 @@ module _ (code : List Instruction) where
       (p1 : ℕ) × One (instruction.Move g (operand.Constant 1)) pc p1 × One (instruction.Jump pc2) p1 other
       × One (instruction.Move g zero_word) other pc2
 
-  abbrev mutual
-    pub Into : Value → Mode → ℕ → ℕ → ℕ → ℕ → Type 0
-    Into (typed.constant u v) m t k pc pc2 = Constantly m v pc pc2
-    Into (typed.read u place) m t k pc pc2 =
-        OnObject (object_of place) (λ x. (p1 : ℕ) × One instruction.Nothing pc p1 × Ends m (operand.Object x) p1 pc2)
-    Into (typed.assigned at u place e) m t k pc pc2 =
-        OnObject (object_of place) (λ x. (p0 p1 p2 : ℕ) × One instruction.Nothing pc p0 × One instruction.Nothing p0 p1
-        × Converts (keeps u e) (λ n a b. Into e n t k a b) u (operand_of e t k) (target.Object x) p1 p2
-        × Ends m (operand.Object x) p2 pc2)
-    Into (typed.compound at o u of place e) m t k pc pc2 =
-        OnObject (object_of place) (λ x. (p0 p1 p2 p3 : ℕ) × One instruction.Nothing pc p0 × One instruction.Nothing p0 p1
-        × Into e (mode_of (operand_of e t k)) t k p1 p2
-        × Changes (is_wide u) o u of x (operand_of e t k) t p2 p3 × Ends m (operand.Object x) p3 pc2)
-    Into (typed.stepped at moment o u of place) m t k pc pc2 =
-        OnObject (object_of place) (λ x. (p0 p1 : ℕ) × One instruction.Nothing pc p0 × One instruction.Nothing p0 p1
-        × StepsBy moment (is_wide u) (step_operation o) u of m x t p1 pc2)
-    Into (typed.unary at prefix.Plus u e) m t k pc pc2 = (p1 : ℕ) × One instruction.Nothing pc p1 × Into e m t k p1 pc2
-    Into (typed.unary at prefix.Minus u e) m t k pc pc2 =
-        (p1 p2 : ℕ) × One instruction.Nothing pc p1 × Into e (mode_of (operand_of e t k)) t k p1 p2 × Negates u m (operand_of e t k) t p2 pc2
-    Into (typed.unary at prefix.Complement u e) m t k pc pc2 =
-        (p1 p2 : ℕ) × One instruction.Nothing pc p1 × Into e (mode_of (operand_of e t k)) t k p1 p2 × Complements u m (operand_of e t k) t p2 pc2
-    Into (typed.unary at prefix.Not u e) (If sense to) t k pc pc2 =
-        (p1 : ℕ) × One instruction.Nothing pc p1 × Into e (If (not sense) to) t k p1 pc2
-    Into (typed.unary at prefix.Not u e) m t k pc pc2 =
-        (p1 p2 : ℕ) × One instruction.Nothing pc p1 × Into e (mode_of (operand_of e t k)) t k p1 p2 × IsZero m (operand_of e t k) t p2 pc2
-    -- the left value waits where the right side leaves it
-    Into (typed.binary at o u a b) m t k pc pc2 =
-        let l = waits_in a (writes b) (calls b) t k in
-        let r = operand_of b (free_temporary l t) (free_kept l k) in
-        (p1 p2 p3 : ℕ) × One instruction.Nothing pc p1 × Into a (mode_of l) t k p1 p2
-        × Into b (mode_of r) (free_temporary l t) (free_kept l k) p2 p3 × Operates o (reading_of u) m l r t p3 pc2
-    -- 6.5.13p4, 6.5.14p4: what is not wanted is jumped over
-    Into (typed.both_true a b) (If sense to) t k pc pc2 =
-        (p1 p2 : ℕ) × One instruction.Nothing pc p1 × Into a (If false (choose sense pc2 to)) t k p1 p2 × Into b (If sense to) t k p2 pc2
-    Into (typed.both_true a b) m t k pc pc2 =
-        (p1 p2 p3 other : ℕ) × One instruction.Nothing pc p1 × Into a (If false other) t k p1 p2 × Into b (If false other) t k p2 p3
-        × Truths (target_of m t) p3 other pc2
-    Into (typed.one_true a b) (If sense to) t k pc pc2 =
-        (p1 p2 : ℕ) × One instruction.Nothing pc p1 × Into a (If true (choose sense to pc2)) t k p1 p2 × Into b (If sense to) t k p2 pc2
-    Into (typed.one_true a b) m t k pc pc2 =
-        (p1 p2 here other : ℕ) × One instruction.Nothing pc p1 × Into a (If true here) t k p1 p2 × Into b (If false other) t k p2 here
-        × Truths (target_of m t) here other pc2
-    Into (typed.chosen u c a b) m t k pc pc2 =
-        (p1 p2 p3 other : ℕ) × One instruction.Nothing pc p1 × Into c (If false other) t k p1 p2 × Into a m t k p2 p3
-        × One (instruction.Jump pc2) p3 other × Into b m t k other pc2
-    Into (typed.sequence a b) m t k pc pc2 =
-        (p1 p2 : ℕ) × One instruction.Nothing pc p1 × Into a Nowhere t k p1 p2 × Into b m t k p2 pc2
-    Into (typed.cast u e) m t k pc pc2 =
-        (p1 : ℕ) × One instruction.Nothing pc p1 × Casts (keeps u e) (λ n a b. Into e n t k a b) u (operand_of e t k) m t p1 pc2
-    Into (typed.discarded e) m t k pc pc2 =
-        (p1 p2 : ℕ) × One instruction.Nothing pc p1 × Into e Nowhere t k p1 p2 × Ends m zero_word p2 pc2
-    Into (typed.call at callee result used arguments) m t k pc pc2 =
-        (p1 p2 : ℕ) × One instruction.Nothing pc p1 × Passes arguments 0 k p1 p2 × Calls callee m p2 pc2
+  -- `size` has the bytes of each element and row
+  module _ (size : Place → ℕ) where
+    abbrev mutual
+      -- the reference is where `found` says; what is evaluated behind it calls, or not
+      pub Finds : Place → (has_calls : Bool) → ℕ → ℕ → ℕ → ℕ → Type 0
+      Finds (typed.named at what) c t k pc pc2 = One instruction.Nothing pc pc2
+      Finds (typed.element at array index) c t k pc pc2 =
+          let a = found array (calls index) t k in
+          let t2 = free_temporary_at a t in
+          let i = operand_of index t2 (free_kept_at a k) in
+          (p1 p2 p3 : ℕ) × One instruction.Nothing pc p1 × Finds array (calls index) t k p1 p2
+          × Into index (mode_of i) t2 (free_kept_at a k) p2 p3
+          × Parts a (target_for c t k) i (size (typed.element at array index)) (free_temporary i t2) p3 pc2
 
-    -- argument i goes to temporary i, from t on; it waits for those behind it
-    pub Passes : Arguments → ℕ → ℕ → ℕ → ℕ → Type 0
-    Passes typed.no_arguments t k pc pc2 = pc ≡ pc2
-    Passes (typed.and_number u e more) t k pc pc2 =
-        let o = waits_in e (arguments_write more) (arguments_call more) t k in
-        (p1 p2 : ℕ) × Into e (mode_of o) t k pc p1 × Passes more (t + 1) (free_kept o k) p1 p2 × Loads (keeps u e) u o t p2 pc2
-    Passes (typed.and_array array more) t k pc pc2 = ⊥
+      pub Into : Value → Mode → ℕ → ℕ → ℕ → ℕ → Type 0
+      Into (typed.constant u v) m t k pc pc2 = Constantly m v pc pc2
+      Into (typed.read u place) m t k pc pc2 =
+          OnObject (object_of place) (λ x. (p1 : ℕ) × One instruction.Nothing pc p1 × Ends m (operand.Object x) p1 pc2)
+          ((p1 : ℕ) × Finds place false t k pc p1 × Gets u (found place false t k) m t p1 pc2)
+      Into (typed.assigned at u place e) m t k pc pc2 =
+          OnObject (object_of place) (λ x. (p0 p1 p2 : ℕ) × One instruction.Nothing pc p0 × One instruction.Nothing p0 p1
+          × Converts (keeps u e) (λ n a b. Into e n t k a b) u (operand_of e t k) (target.Object x) p1 p2
+          × Ends m (operand.Object x) p2 pc2)
+          (let a = found place (calls e) t k in
+          let t2 = free_temporary_at a t in
+          let o = operand_of e t2 (free_kept_at a k) in
+          (p1 p2 p3 : ℕ) × One instruction.Nothing pc p1 × Finds place (calls e) t k p1 p2 × Into e (mode_of o) t2 (free_kept_at a k) p2 p3
+          × Puts (cuts u m || keeps u e) u o a m t2 p3 pc2)
+      Into (typed.compound at o u of place e) m t k pc pc2 =
+          OnObject (object_of place) (λ x. (p0 p1 p2 p3 : ℕ) × One instruction.Nothing pc p0 × One instruction.Nothing p0 p1
+          × Into e (mode_of (operand_of e t k)) t k p1 p2
+          × Changes (is_wide u) o u of x (operand_of e t k) t p2 p3 × Ends m (operand.Object x) p3 pc2)
+          (let a = found place (calls e) t k in
+          let t2 = free_temporary_at a t in
+          let b = operand_of e t2 (free_kept_at a k) in
+          let j = free_temporary b t2 in
+          (p1 p2 p3 p4 : ℕ) × One instruction.Nothing pc p1 × Finds place (calls e) t k p1 p2 × Into e (mode_of b) t2 (free_kept_at a k) p2 p3
+          × One (instruction.Load u (target.Temporary j) a) p3 p4 × Alters o u of b a m j p4 pc2)
+      Into (typed.stepped at moment o u of place) m t k pc pc2 =
+          OnObject (object_of place) (λ x. (p0 p1 : ℕ) × One instruction.Nothing pc p0 × One instruction.Nothing p0 p1
+          × StepsBy moment (is_wide u) (step_operation o) u of m x t p1 pc2)
+          (let a = found place false t k in
+          let j = free_temporary_at a t in
+          (p1 p2 p3 : ℕ) × One instruction.Nothing pc p1 × Finds place false t k p1 p2 × One (instruction.Load u (target.Temporary j) a) p2 p3
+          × AltersBy moment (step_operation o) u of a m j p3 pc2)
+      Into (typed.unary at prefix.Plus u e) m t k pc pc2 = (p1 : ℕ) × One instruction.Nothing pc p1 × Into e m t k p1 pc2
+      Into (typed.unary at prefix.Minus u e) m t k pc pc2 =
+          (p1 p2 : ℕ) × One instruction.Nothing pc p1 × Into e (mode_of (operand_of e t k)) t k p1 p2 × Negates u m (operand_of e t k) t p2 pc2
+      Into (typed.unary at prefix.Complement u e) m t k pc pc2 =
+          (p1 p2 : ℕ) × One instruction.Nothing pc p1 × Into e (mode_of (operand_of e t k)) t k p1 p2 × Complements u m (operand_of e t k) t p2 pc2
+      Into (typed.unary at prefix.Not u e) (If sense to) t k pc pc2 =
+          (p1 : ℕ) × One instruction.Nothing pc p1 × Into e (If (not sense) to) t k p1 pc2
+      Into (typed.unary at prefix.Not u e) m t k pc pc2 =
+          (p1 p2 : ℕ) × One instruction.Nothing pc p1 × Into e (mode_of (operand_of e t k)) t k p1 p2 × IsZero m (operand_of e t k) t p2 pc2
+      -- the left value waits where the right side leaves it
+      Into (typed.binary at o u a b) m t k pc pc2 =
+          let l = waits_in a (writes b) (calls b) t k in
+          let r = operand_of b (free_temporary l t) (free_kept l k) in
+          (p1 p2 p3 : ℕ) × One instruction.Nothing pc p1 × Into a (mode_of l) t k p1 p2
+          × Into b (mode_of r) (free_temporary l t) (free_kept l k) p2 p3 × Operates o (reading_of u) m l r t p3 pc2
+      -- 6.5.13p4, 6.5.14p4: what is not wanted is jumped over
+      Into (typed.both_true a b) (If sense to) t k pc pc2 =
+          (p1 p2 : ℕ) × One instruction.Nothing pc p1 × Into a (If false (choose sense pc2 to)) t k p1 p2 × Into b (If sense to) t k p2 pc2
+      Into (typed.both_true a b) m t k pc pc2 =
+          (p1 p2 p3 other : ℕ) × One instruction.Nothing pc p1 × Into a (If false other) t k p1 p2 × Into b (If false other) t k p2 p3
+          × Truths (target_of m t) p3 other pc2
+      Into (typed.one_true a b) (If sense to) t k pc pc2 =
+          (p1 p2 : ℕ) × One instruction.Nothing pc p1 × Into a (If true (choose sense to pc2)) t k p1 p2 × Into b (If sense to) t k p2 pc2
+      Into (typed.one_true a b) m t k pc pc2 =
+          (p1 p2 here other : ℕ) × One instruction.Nothing pc p1 × Into a (If true here) t k p1 p2 × Into b (If false other) t k p2 here
+          × Truths (target_of m t) here other pc2
+      Into (typed.chosen u c a b) m t k pc pc2 =
+          (p1 p2 p3 other : ℕ) × One instruction.Nothing pc p1 × Into c (If false other) t k p1 p2 × Into a m t k p2 p3
+          × One (instruction.Jump pc2) p3 other × Into b m t k other pc2
+      Into (typed.sequence a b) m t k pc pc2 =
+          (p1 p2 : ℕ) × One instruction.Nothing pc p1 × Into a Nowhere t k p1 p2 × Into b m t k p2 pc2
+      Into (typed.cast u e) m t k pc pc2 =
+          (p1 : ℕ) × One instruction.Nothing pc p1 × Casts (keeps u e) (λ n a b. Into e n t k a b) u (operand_of e t k) m t p1 pc2
+      Into (typed.discarded e) m t k pc pc2 =
+          (p1 p2 : ℕ) × One instruction.Nothing pc p1 × Into e Nowhere t k p1 p2 × Ends m zero_word p2 pc2
+      Into (typed.call at callee result used arguments) m t k pc pc2 =
+          (p1 p2 : ℕ) × One instruction.Nothing pc p1 × Passes arguments 0 k p1 p2 × Calls callee m p2 pc2
+
+      -- argument i goes to temporary i, from t on; it waits for those behind it
+      pub Passes : Arguments → ℕ → ℕ → ℕ → ℕ → Type 0
+      Passes typed.no_arguments t k pc pc2 = pc ≡ pc2
+      Passes (typed.and_number u e more) t k pc pc2 =
+          let o = waits_in e (arguments_write more) (arguments_call more) t k in
+          (p1 p2 : ℕ) × Into e (mode_of o) t k pc p1 × Passes more (t + 1) (free_kept o k) p1 p2 × Loads (keeps u e) u o t p2 pc2
+      Passes (typed.and_array array more) t k pc pc2 =
+          let a = found array (arguments_call more) t k in
+          (p1 p2 : ℕ) × Finds array (arguments_call more) t k pc p1 × Passes more (t + 1) (free_kept_at a k) p1 p2 × HandsOver a t p2 pc2

@@ -1,6 +1,7 @@
 pub mod Plain
 pub use Rattle.checked.specs.Asked
 pub mod Values
+pub mod Places
 pub mod Code
 pub mod Bodies
 pub mod Laws

@@ -1,21 +1,16 @@
--- Which programs are plain: their functions use automatic objects that are no arrays, and nothing else that lies in memory.
-use Rattle.std.specs.Prelude.{ℕ, Bool, true, false, ◌&&◌, List, [], ◌∷◌, Option, Some, None}
+-- Which programs are plain: they have no initialisers of arrays, whose code comes later.
+use Rattle.std.specs.Prelude.{ℕ, Bool, true, false, ◌&&◌, Option, Some, None}
 use Rattle.std.specs.List.{list_all}
-use Rattle.typed.specs.Types.{ObjectType, ParameterType, number, elements}
 use Rattle.typed.specs.Program as typed
-use Rattle.typed.specs.Program.{Storage, Callee, Place, Value, Arguments, Initialiser, Statement, Statements, Function, Program}
+use Rattle.typed.specs.Program.{Callee, Place, Value, Arguments, Initialiser, Statement, Statements, Function, Program}
 
--- the object that a place is
+-- the automatic object that a place is, by its name
 abbrev pub object_of : Place → Option ℕ
 object_of (typed.named at (typed.automatic n)) = Some n
 object_of (typed.named at (typed.literal n)) = None
 object_of (typed.named at (typed.static n)) = None
 object_of (typed.named at (typed.parameter n)) = None
 object_of (typed.element at array index) = None
-
-abbrev pub is_some : Option ℕ → Bool
-is_some None = false
-is_some (Some n) = true
 
 -- nothing evaluated calls what has no definition
 abbrev pub callee_is_plain : Callee → Bool
@@ -26,12 +21,16 @@ callee_is_plain typed.exit = true
 callee_is_plain (typed.missing name) = false
 
 abbrev mutual
+  pub place_is_plain : Place → Bool
+  place_is_plain (typed.named at what) = true
+  place_is_plain (typed.element at array index) = place_is_plain array && value_is_plain index
+
   pub value_is_plain : Value → Bool
   value_is_plain (typed.constant t v) = true
-  value_is_plain (typed.read t place) = is_some (object_of place)
-  value_is_plain (typed.assigned at t place e) = is_some (object_of place) && value_is_plain e
-  value_is_plain (typed.compound at op t of place e) = is_some (object_of place) && value_is_plain e
-  value_is_plain (typed.stepped at moment op t of place) = is_some (object_of place)
+  value_is_plain (typed.read t place) = place_is_plain place
+  value_is_plain (typed.assigned at t place e) = place_is_plain place && value_is_plain e
+  value_is_plain (typed.compound at op t of place e) = place_is_plain place && value_is_plain e
+  value_is_plain (typed.stepped at moment op t of place) = place_is_plain place
   value_is_plain (typed.unary at op t e) = value_is_plain e
   value_is_plain (typed.binary at op t a b) = value_is_plain a && value_is_plain b
   value_is_plain (typed.both_true a b) = value_is_plain a && value_is_plain b
@@ -45,8 +44,7 @@ abbrev mutual
   pub arguments_are_plain : Arguments → Bool
   arguments_are_plain typed.no_arguments = true
   arguments_are_plain (typed.and_number t e more) = value_is_plain e && arguments_are_plain more
-  arguments_are_plain (typed.and_array array more) = false
-
+  arguments_are_plain (typed.and_array array more) = place_is_plain array && arguments_are_plain more
 abbrev pub option_is_plain : Option Value → Bool
 option_is_plain None = true
 option_is_plain (Some e) = value_is_plain e
@@ -83,19 +81,8 @@ abbrev mutual
   statements_are_plain typed.no_statements = true
   statements_are_plain (typed.and_statement x more) = statement_is_plain x && statements_are_plain more
 
-abbrev pub has_no_lengths : List ℕ → Bool
-has_no_lengths [] = true
-has_no_lengths (n ∷ lengths) = false
-
-abbrev pub object_is_plain : ObjectType → Bool
-object_is_plain t = has_no_lengths t.lengths
-
-abbrev pub parameter_is_plain : ParameterType → Bool
-parameter_is_plain (number t) = true
-parameter_is_plain (elements t) = false
-
 abbrev pub function_is_plain : Function → Bool
-function_is_plain f = list_all object_is_plain f.objects && (list_all parameter_is_plain f.type.parameters && statement_is_plain f.body)
+function_is_plain f = statement_is_plain f.body
 
 abbrev pub is_plain : Program → Bool
 is_plain p = list_all function_is_plain p.functions

@@ -23,12 +23,16 @@ use Rattle.checked.specs.Asked.{is_wide}
 
 -- a call makes all temporaries but its result unset
 abbrev mutual
+  pub place_calls : Place → Bool
+  place_calls (typed.named at what) = false
+  place_calls (typed.element at array index) = place_calls array || calls index
+
   pub calls : Value → Bool
   calls (typed.constant t v) = false
-  calls (typed.read t place) = false
-  calls (typed.assigned at t place e) = calls e
-  calls (typed.compound at op t of place e) = calls e
-  calls (typed.stepped at moment op t of place) = false
+  calls (typed.read t place) = place_calls place
+  calls (typed.assigned at t place e) = place_calls place || calls e
+  calls (typed.compound at op t of place e) = place_calls place || calls e
+  calls (typed.stepped at moment op t of place) = place_calls place
   calls (typed.unary at op t e) = calls e
   calls (typed.binary at op t a b) = calls a || calls b
   calls (typed.both_true a b) = calls a || calls b
@@ -42,7 +46,7 @@ abbrev mutual
   pub arguments_call : Arguments → Bool
   arguments_call typed.no_arguments = false
   arguments_call (typed.and_number t e more) = calls e || arguments_call more
-  arguments_call (typed.and_array array more) = arguments_call more
+  arguments_call (typed.and_array array more) = place_calls array || arguments_call more
 
 abbrev pub is_object : Option ℕ → ℕ → Bool
 is_object None x = false
@@ -50,12 +54,16 @@ is_object (Some y) x = nat_eq y x
 
 -- whether object x of the present call is assigned to; a call assigns to no object of its caller
 abbrev mutual
+  pub place_writes : Place → ℕ → Bool
+  place_writes (typed.named at what) x = false
+  place_writes (typed.element at array index) x = place_writes array x || writes index x
+
   pub writes : Value → ℕ → Bool
   writes (typed.constant t v) x = false
-  writes (typed.read t place) x = false
-  writes (typed.assigned at t place e) x = is_object (object_of place) x || writes e x
-  writes (typed.compound at op t of place e) x = is_object (object_of place) x || writes e x
-  writes (typed.stepped at moment op t of place) x = is_object (object_of place) x
+  writes (typed.read t place) x = place_writes place x
+  writes (typed.assigned at t place e) x = place_writes place x || (is_object (object_of place) x || writes e x)
+  writes (typed.compound at op t of place e) x = place_writes place x || (is_object (object_of place) x || writes e x)
+  writes (typed.stepped at moment op t of place) x = place_writes place x || is_object (object_of place) x
   writes (typed.unary at op t e) x = writes e x
   writes (typed.binary at op t a b) x = writes a x || writes b x
   writes (typed.both_true a b) x = writes a x || writes b x
@@ -69,7 +77,7 @@ abbrev mutual
   pub arguments_write : Arguments → ℕ → Bool
   arguments_write typed.no_arguments x = false
   arguments_write (typed.and_number t e more) x = writes e x || arguments_write more x
-  arguments_write (typed.and_array array more) x = arguments_write more x
+  arguments_write (typed.and_array array more) x = place_writes array x || arguments_write more x
 
 abbrev pub writes_none : ℕ → Bool
 writes_none x = false
