@@ -7,13 +7,13 @@ use Rattle.tac.specs.declared.code.Instruction.TheVariants as instruction
 use Rattle.lowering.specs.Values.{If}
 use Rattle.lowering.specs.Code.{One}
 use Rattle.lowering.specs.Bodies.{Effects, Repeats, Leaves}
-use Rattle.lower_values.specs.inside.Parts.{plus, Wrote}
-use Rattle.lower_values.specs.declared.modes.Shape.TheVariants as shape
+use Rattle.lower_forms.specs.inside.Parts.{plus, Wrote}
+use Rattle.lower_forms.specs.declared.modes.Shape.TheVariants as shape
 use Rattle.lower_values.specs.inside.Sizes.{value_size}
 use Rattle.lower.specs.inside.Sizes.{effects_size, repeats_size, statement_size, statements_size}
 use Rattle.lower_values.specs.inside.Written.{WroteValue}
 use Rattle.lower.specs.inside.Written.{WroteStatement, WroteStatements}
-use Rattle.lower_values.proofs.Parts.{plus_is, sum_two, begins_on, as_wrote, three, five, reach_one, reach_two, reach_three, reach_four, reach_five}
+use Rattle.lower_forms.proofs.Parts.{plus_is, sum_two, begins_on, as_wrote, three, five, reach_one, reach_two, reach_three, reach_four, reach_five}
 
 -- a return jumps, also where it could fall through
 pub leaves_wrote : (back : ℕ) {c0 c1 : List Instruction} → Wrote (λ w p q. One w (instruction.Jump back) p q) 1 c0 c1 → Wrote (λ w p q. Leaves w back p q) 1 c0 c1

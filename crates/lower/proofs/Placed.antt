@@ -14,13 +14,13 @@ use Rattle.tac.specs.Run.{word_for}
 use Rattle.lowering.specs.Values.{waits_in, mode_of}
 use Rattle.lowering.specs.Code.{One}
 use Rattle.lowering.specs.Bodies.{is_within, label_places, StandAll, StandAt, Tests}
-use Rattle.lower_values.specs.inside.Parts.{plus, shape_of, Wrote}
+use Rattle.lower_forms.specs.inside.Parts.{plus, shape_of, Wrote}
 use Rattle.lower_values.specs.inside.Sizes.{value_size}
 use Rattle.lower.specs.inside.Sizes.{tests_size, statement_size, statements_size}
 use Rattle.lower.specs.inside.Places.{one_label, places_of}
 use Rattle.lower_values.specs.inside.Written.{WroteValue}
 use Rattle.lower.specs.inside.Written.{WroteStatement, WroteStatements, WrotePlaced, WroteTests}
-use Rattle.lower_values.proofs.Parts.{begins_on, as_wrote, none_wrote, two, five, reach_one, reach_four, reach_five}
+use Rattle.lower_forms.proofs.Parts.{begins_on, as_wrote, none_wrote, two, five, reach_one, reach_four, reach_five}
 
 -- ---- tests
 

@@ -9,11 +9,11 @@ use Rattle.tac.specs.Code.{Function, Program, function_at, or_no_function}
 use Rattle.tac.specs.Lowered.{kind_of}
 use Rattle.lowering.specs.Code.{One}
 use Rattle.lowering.specs.Bodies.{Idles, Closes, most, temporaries_of, IsCodeFor}
-use Rattle.lower_values.specs.inside.Parts.{plus, Wrote}
+use Rattle.lower_forms.specs.inside.Parts.{plus, Wrote}
 use Rattle.lower.specs.inside.Sizes.{statement_size}
 use Rattle.lower.specs.inside.Written.{WroteStatement}
 use Rattle.lower.specs.inside.Functions.{closing_size, parameters_if, parameters_at, temporaries_with, IsBodyOf, IsFunctionWith, AreFunctionsOf}
-use Rattle.lower_values.proofs.Parts.{as_wrote, begins_all, begins_on, reach_one}
+use Rattle.lower_forms.proofs.Parts.{as_wrote, begins_all, begins_on, reach_one}
 
 -- ---- the most of instructions
 

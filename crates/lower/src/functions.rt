@@ -5,15 +5,15 @@ ghost use Rattle.program.specs.View.{parameter_type_of, function_of};
 ghost use Rattle.tac.specs.Lowered.{kind_of};
 ghost use Rattle.tac.specs.Code as three_address;
 ghost use Rattle.lowering.specs.Bodies as relation;
-ghost use Rattle.lower_values.specs.inside.Parts.{Wrote};
+ghost use Rattle.lower_forms.specs.inside.Parts.{Wrote};
 ghost use Rattle.lower.specs.inside.Functions.{closing_size, parameters_at, IsBodyOf, IsFunctionWith};
 
 use crate::block_sizes::statement_size;
 use crate::copies::copied_objects;
 use crate::counts::{most_slots, most_temporaries};
 use crate::statements::put_statement;
-use lower_values::sizes::plus;
-use lower_values::writing::{Code, ahead, put};
+use lower_forms::form_sizes::plus;
+use lower_forms::writing::{Code, ahead, put};
 use program::{Function, ParameterType};
 use std::alloc::{AllocError, Global};
 use tac::{Instruction, Operand, Parameter, Target};

@@ -4,14 +4,14 @@ ghost use Rattle.std.specs.Prelude.{◌≡◌, ℕ, OnOk};
 ghost use Rattle.typed.specs.Program as typed;
 ghost use Rattle.program.specs.View.{value_of, option_value, initialiser_of};
 ghost use Rattle.lowering.specs.Bodies as relation;
-ghost use Rattle.lower_values.specs.inside.Parts.{Wrote};
+ghost use Rattle.lower_forms.specs.inside.Parts.{Wrote};
 ghost use Rattle.lower.specs.inside.Sizes as size;
 ghost use Rattle.lower.specs.inside.Written.{WroteStatement};
 
 use ctypes::IntType;
-use lower_values::modes::Mode;
+use lower_forms::modes::Mode;
 use lower_values::values::{Free, put_converted, put_value};
-use lower_values::writing::{Code, put};
+use lower_forms::writing::{Code, put};
 use program::{Initialiser, Value};
 use std::alloc::AllocError;
 use tac::{Instruction, Target};

@@ -6,7 +6,7 @@ ghost use Rattle.std.specs.List.{list_all};
 ghost use Rattle.lowering.specs.Plain as definition;
 ghost use Rattle.lower.specs.inside.Given.{given_is_plain};
 
-use lower_values::objects::object_of;
+use lower_forms::objects::object_of;
 use program::{
     Argument, Callee, Function, Initialiser, ObjectType, ParameterType, Place, Program, Statement,
     Value,

@@ -4,7 +4,7 @@ ghost use Rattle.std.specs.Prelude.{◌≡◌, map, ℕ, OnOk};
 ghost use Rattle.ctypes.specs.declared.types.IntType.{IntType};
 ghost use Rattle.typed.specs.Program as typed;
 ghost use Rattle.program.specs.View.{value_of, option_value, statement_of, statements_of};
-ghost use Rattle.lower_values.specs.inside.Parts as parts;
+ghost use Rattle.lower_forms.specs.inside.Parts as parts;
 ghost use Rattle.lower.specs.inside.Sizes as size;
 ghost use Rattle.lower.specs.inside.Written.{WroteStatement, WrotePlaced};
 
@@ -13,11 +13,11 @@ use crate::leaves::{
     all_free, put_defined, put_effects, put_evaluated, put_repeats, put_return, put_returned,
 };
 use crate::switches::put_tests;
-use lower_values::modes::{Mode, Shape, mode_of, shape_for};
+use lower_forms::modes::{Mode, Shape, mode_of, shape_for};
 use lower_values::operands::waits_for_objects;
 use lower_values::sizes::{plus, value_size};
 use lower_values::values::put_value;
-use lower_values::writing::{Code, ahead, put};
+use lower_forms::writing::{Code, ahead, put};
 use program::{Statement, Value};
 use std::alloc::AllocError;
 use tac::Instruction;

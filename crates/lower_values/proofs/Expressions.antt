@@ -21,11 +21,11 @@ use Rattle.lowering.specs.Plain.{object_of}
 use Rattle.lowering.specs.Asked.{is_wide}
 use Rattle.lowering.specs.Values.{calls, arguments_call, writes, arguments_write, rests_in, constant_of, constant_or, at_rest, unless_written, pending, keeps, reading_of, waits_in, operand_of, free_temporary, free_kept, Mode, To, If, mode_of}
 use Rattle.lowering.specs.Code.{One, Ends, Operates, Converts, Changes, StepsBy, IsZero, Loads, Truths, OnObject, Into}
-use Rattle.lower_values.specs.inside.Parts.{plus, shape_of, Wrote}
-use Rattle.lower_values.specs.declared.modes.Shape.TheVariants as shape
+use Rattle.lower_forms.specs.inside.Parts.{plus, shape_of, Wrote}
+use Rattle.lower_forms.specs.declared.modes.Shape.TheVariants as shape
 use Rattle.lower_values.specs.inside.Sizes.{ends_size, then_size, changes_size, steps_by_size, converts_size, operates_size, loads_size, truths_size, wait_shape, rest_shape, value_size}
 use Rattle.lower_values.specs.inside.Written.{WroteValue, WrotePasses, BothNumber, OneNumber, truth_size}
-use Rattle.lower_values.proofs.Parts.{begins_on, as_wrote, two, three, four, five, plus_is, reach_three, reach_four, reach_five}
+use Rattle.lower_forms.proofs.Parts.{begins_on, as_wrote, two, three, four, five, plus_is, reach_three, reach_four, reach_five}
 
 -- ---- sizes do not depend on what is free
 

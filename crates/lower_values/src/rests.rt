@@ -8,7 +8,7 @@ ghost use Rattle.ctypes.specs.declared.types.IntType.{IntType};
 ghost use Rattle.tree.specs.declared.expression.StepOp.{StepOp};
 ghost use Rattle.typed.specs.Program as typed;
 ghost use Rattle.lowering.specs.Plain as definition;
-ghost use Rattle.lower_values.specs.inside.Parts.{given_calls, given_writes, is_written};
+ghost use Rattle.lower_forms.specs.inside.Parts.{given_calls, given_writes, is_written};
 
 use crate::bools::either;
 use crate::objects::object_of;

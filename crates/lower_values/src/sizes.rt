@@ -8,8 +8,8 @@ ghost use Rattle.lowering.specs.Values as values;
 ghost use Rattle.srcset.specs.declared.refusal.Pos.{Pos};
 ghost use Rattle.ctypes.specs.declared.types.IntType.{IntType};
 ghost use Rattle.tree.specs.declared.expression.PrefixOp.TheVariants as prefix;
-ghost use Rattle.lower_values.specs.declared.modes.Shape.TheVariants as shape;
-ghost use Rattle.lower_values.specs.inside.Parts as parts;
+ghost use Rattle.lower_forms.specs.declared.modes.Shape.TheVariants as shape;
+ghost use Rattle.lower_forms.specs.inside.Parts as parts;
 ghost use Rattle.lower_values.specs.inside.Sizes as size;
 
 use crate::modes::{Shape, shape_for};
@@ -19,176 +19,11 @@ use program::{Argument, Callee, Moment, Value};
 use tac::Operand;
 use tree::{PrefixOp, StepOp};
 
-/// The sum, as far as a word counts.
-pub fn plus(a: usize, b: usize) -> usize
-    ensures { result ≡ parts.plus a b }
-{
-    a.saturating_add(b)
-}
-
-fn ends_size(shape: Shape) -> usize
-    ensures { result ≡ size.ends_size shape }
-{
-    match shape {
-        Shape::Nowhere => 0,
-        Shape::Local => 1,
-        Shape::Object => 1,
-        Shape::Jump => 1,
-    }
-}
-
-fn follows_size(shape: Shape) -> usize
-    ensures { result ≡ size.follows_size shape }
-{
-    match shape {
-        Shape::Nowhere => 0,
-        Shape::Local => 0,
-        Shape::Object => 0,
-        Shape::Jump => 1,
-    }
-}
-
 // ---- operations
-
-fn computes_size(op: BinOp) -> usize
-    ensures { result ≡ size.computes_size op }
-{
-    match op {
-        BinOp::LessEqual => plus(1, 1),
-        BinOp::GreaterEqual => plus(1, 1),
-        BinOp::Mul => 1,
-        BinOp::Div => 1,
-        BinOp::Rem => 1,
-        BinOp::Add => 1,
-        BinOp::Sub => 1,
-        BinOp::Shl => 1,
-        BinOp::Shr => 1,
-        BinOp::Less => 1,
-        BinOp::Greater => 1,
-        BinOp::Equal => 1,
-        BinOp::NotEqual => 1,
-        BinOp::BitAnd => 1,
-        BinOp::BitXor => 1,
-        BinOp::BitOr => 1,
-    }
-}
-
-fn then_size(op: BinOp, shape: Shape) -> usize
-    ensures { result ≡ size.then_size op shape }
-{
-    plus(computes_size(op), follows_size(shape))
-}
-
-fn compares_size(op: BinOp) -> usize
-    ensures { result ≡ size.compares_size op }
-{
-    match op {
-        BinOp::Less => 1,
-        BinOp::Greater => 1,
-        BinOp::LessEqual => 1,
-        BinOp::GreaterEqual => 1,
-        BinOp::Equal => 1,
-        BinOp::NotEqual => 1,
-        BinOp::Mul => then_size(op, Shape::Jump),
-        BinOp::Div => then_size(op, Shape::Jump),
-        BinOp::Rem => then_size(op, Shape::Jump),
-        BinOp::Add => then_size(op, Shape::Jump),
-        BinOp::Sub => then_size(op, Shape::Jump),
-        BinOp::Shl => then_size(op, Shape::Jump),
-        BinOp::Shr => then_size(op, Shape::Jump),
-        BinOp::BitAnd => then_size(op, Shape::Jump),
-        BinOp::BitXor => then_size(op, Shape::Jump),
-        BinOp::BitOr => then_size(op, Shape::Jump),
-    }
-}
-
-fn operates_size(op: BinOp, shape: Shape) -> usize
-    ensures { result ≡ size.operates_size op shape }
-{
-    match shape {
-        Shape::Nowhere => then_size(op, Shape::Nowhere),
-        Shape::Local => then_size(op, Shape::Local),
-        Shape::Object => then_size(op, Shape::Object),
-        Shape::Jump => compares_size(op),
-    }
-}
 
 // ---- objects that change
 
-fn changes_size(wide: bool, op: BinOp) -> usize
-    ensures { result ≡ size.changes_size wide op }
-{
-    if wide {
-        computes_size(op)
-    } else {
-        plus(computes_size(op), 1)
-    }
-}
-
-/// Of one more or less.
-pub(crate) fn step_operation(op: StepOp) -> BinOp
-    ensures { result ≡ meaning.step_operation op }
-{
-    match op {
-        StepOp::Increment => BinOp::Add,
-        StepOp::Decrement => BinOp::Sub,
-    }
-}
-
-fn steps_aside_size(wide: bool, op: BinOp, shape: Shape) -> usize
-    ensures { result ≡ size.steps_aside_size wide op shape }
-{
-    plus(1, plus(changes_size(wide, op), ends_size(shape)))
-}
-
-fn steps_after_size(wide: bool, op: BinOp, shape: Shape) -> usize
-    ensures { result ≡ size.steps_after_size wide op shape }
-{
-    match shape {
-        Shape::Nowhere => changes_size(wide, op),
-        Shape::Local => plus(1, changes_size(wide, op)),
-        Shape::Object => steps_aside_size(wide, op, Shape::Object),
-        Shape::Jump => steps_aside_size(wide, op, Shape::Jump),
-    }
-}
-
-fn steps_by_size(moment: Moment, wide: bool, op: BinOp, shape: Shape) -> usize
-    ensures { result ≡ size.steps_by_size (moment_of moment) wide op shape }
-{
-    match moment {
-        Moment::Before => plus(changes_size(wide, op), ends_size(shape)),
-        Moment::After => steps_after_size(wide, op, shape),
-    }
-}
-
 // ---- calls
-
-fn loads_size(kept: bool, operand: Operand) -> usize
-    ensures { result ≡ size.loads_size kept operand }
-{
-    if !kept {
-        return 1;
-    }
-    match operand {
-        Operand::Temporary(_) => 0,
-        Operand::Kept(_) => 1,
-        Operand::Object(_) => 1,
-        Operand::Parameter(_) => 1,
-        Operand::Constant(_) => 1,
-    }
-}
-
-fn calls_size(callee: Callee, shape: Shape) -> usize
-    ensures { result ≡ size.calls_size (callee_of callee) shape }
-{
-    match callee {
-        Callee::Function(_) => plus(1, ends_size(shape)),
-        Callee::GetByte => plus(1, ends_size(shape)),
-        Callee::PutByte => plus(1, ends_size(shape)),
-        Callee::Exit => 1,
-        Callee::Missing(_) => 0,
-    }
-}
 
 // ---- expressions
 

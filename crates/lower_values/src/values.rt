@@ -8,7 +8,7 @@ ghost use Rattle.program.specs.View.{value_of, place_of, argument_of, arguments_
 ghost use Rattle.lowering.specs.Plain as plain;
 ghost use Rattle.lowering.specs.Code as relation;
 ghost use Rattle.lowering.specs.Values as lowered;
-ghost use Rattle.lower_values.specs.inside.Parts.{meant, shape_of, Wrote};
+ghost use Rattle.lower_forms.specs.inside.Parts.{meant, shape_of, Wrote};
 ghost use Rattle.lower_values.specs.inside.Sizes as size;
 ghost use Rattle.lower_values.specs.inside.Written.{WroteValue, WrotePasses};
 

@@ -5,8 +5,8 @@ use Rattle.typed.specs.Program.{Value, Initialiser, Statement, Statements}
 use Rattle.meaning.specs.Statements.{labels_of}
 use Rattle.lowering.specs.Values.{keeps}
 use Rattle.lowering.specs.Bodies.{is_within}
-use Rattle.lower_values.specs.declared.modes.Shape.TheVariants as shape
-use Rattle.lower_values.specs.inside.Parts.{plus}
+use Rattle.lower_forms.specs.declared.modes.Shape.TheVariants as shape
+use Rattle.lower_forms.specs.inside.Parts.{plus}
 use Rattle.lower_values.specs.inside.Sizes.{converts_size, value_size, wait_shape, rest_shape}
 
 abbrev pub initialises_size : Initialiser → ℕ

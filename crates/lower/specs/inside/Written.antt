@@ -5,7 +5,7 @@ use Rattle.tac.specs.declared.code.Operand.{Operand}
 use Rattle.tac.specs.declared.code.Instruction.{Instruction}
 use Rattle.meaning.specs.Statements.{labels_of}
 use Rattle.lowering.specs.Bodies.{Stands, StandAll, StandAt, Tests}
-use Rattle.lower_values.specs.inside.Parts.{Wrote}
+use Rattle.lower_forms.specs.inside.Parts.{Wrote}
 use Rattle.lower.specs.inside.Places.{places_of}
 use Rattle.lower.specs.inside.Sizes.{tests_size, statement_size, statements_size}
 

@@ -3,14 +3,14 @@ use Rattle.std.proofs.Math.Facts.{to_z-of_z}
 use Rattle.typed.specs.Program as typed
 use Rattle.program.specs.View.{value_of, place_of, arguments_of, argument_of}
 use Rattle.lowering.specs.Values as lowered
-use Rattle.lower_values.specs.declared.modes.Shape.TheVariants as shape
-use Rattle.lower_values.specs.inside.Parts.{meant, shape_of, plus}
-use Rattle.lower_values.specs.inside.Emitted as emitted
+use Rattle.lower_forms.specs.declared.modes.Shape.TheVariants as shape
+use Rattle.lower_forms.specs.inside.Parts.{meant, shape_of, plus}
+use Rattle.lower_forms.specs.inside.Emitted as emitted
 use Rattle.lower_values.specs.inside.Sizes.{value_size}
 use Rattle.lower_values.specs.inside.Written.{WroteValue}
 use Rattle.lower_values.proofs.Held.{sees_constant, sees_read, sees_assigned, sees_compound, sees_stepped, sees_unary, sees_binary, sees_bothtrue, sees_onetrue, sees_chosen, sees_sequence, sees_cast, sees_discarded, sees_call}
-use Rattle.lower_values.proofs.Parts.{two, three}
-use Rattle.lower_values.proofs.Operated.{one_as}
+use Rattle.lower_forms.proofs.Parts.{two, three}
+use Rattle.lower_forms.proofs.Operated.{one_as}
 use Rattle.lower_values.proofs.Expressions.{waiting, binary_wrote, number_wrote, both_jump_wrote, one_jump_wrote, both_number_wrote, one_number_wrote, chosen_wrote, assigned_wrote, compound_wrote, not_to, both_to, one_to}
 use Rattle.lower_values.proofs.+value_code.Goals as goal
 

@@ -6,8 +6,8 @@ use Rattle.tac.specs.declared.code.Instruction.{Instruction}
 use Rattle.tac.specs.declared.code.Instruction.TheVariants as instruction
 use Rattle.lowering.specs.Values.{Mode, If}
 use Rattle.lowering.specs.Code.{One, Into, Passes, Truths}
-use Rattle.lower_values.specs.declared.modes.Shape.TheVariants as shape
-use Rattle.lower_values.specs.inside.Parts.{shape_of, plus, Wrote}
+use Rattle.lower_forms.specs.declared.modes.Shape.TheVariants as shape
+use Rattle.lower_forms.specs.inside.Parts.{shape_of, plus, Wrote}
 use Rattle.lower_values.specs.inside.Sizes.{value_size, passes_size, truths_size}
 
 abbrev pub WroteValue : Value → Mode → (t k : ℕ) → (old new : List Instruction) → Type 0

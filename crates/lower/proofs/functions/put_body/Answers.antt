@@ -1,6 +1,6 @@
 use Rattle.std.proofs.Common.{length, map, ap, sym, ◌∙◌}
 use Rattle.program.specs.View.{parameter_type_of, function_of}
-use Rattle.lower_values.specs.inside.Parts.{plus}
+use Rattle.lower_forms.specs.inside.Parts.{plus}
 use Rattle.lower.proofs.Whole.{idles_all, length_map, body_written}
 use Rattle.lower.proofs.functions.put_body.Goals as goal
 

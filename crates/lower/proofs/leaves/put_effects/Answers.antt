@@ -1,7 +1,7 @@
 use Rattle.std.proofs.Common.{refl}
 use Rattle.std.specs.Prelude.{None}
 use Rattle.lowering.specs.Bodies as relation
-use Rattle.lower_values.proofs.Parts.{none_wrote}
+use Rattle.lower_forms.proofs.Parts.{none_wrote}
 use Rattle.lower.proofs.leaves.put_effects.Goals as goal
 
 pub returns-in-None : goal.returns-in-None

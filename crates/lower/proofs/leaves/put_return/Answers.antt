@@ -1,4 +1,4 @@
-use Rattle.lower_values.proofs.Parts.{two}
+use Rattle.lower_forms.proofs.Parts.{two}
 use Rattle.lower.proofs.Blocks.{leaves_wrote}
 use Rattle.lower.proofs.leaves.put_return.Goals as goal
 

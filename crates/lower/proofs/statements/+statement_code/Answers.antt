@@ -1,14 +1,14 @@
 use Rattle.std.proofs.Common.{◌≡◌, false, ap, map, length, ◌∙◌}
 use Rattle.program.specs.View.{value_of, option_value, statement_of, statements_of}
-use Rattle.lower_values.specs.declared.modes.Shape.TheVariants as shape
+use Rattle.lower_forms.specs.declared.modes.Shape.TheVariants as shape
 use Rattle.meaning.specs.Statements.{labels_of}
 use Rattle.lowering.specs.Values.{waits_in, mode_of}
 use Rattle.lowering.specs.Bodies.{is_within}
-use Rattle.lower_values.specs.inside.Parts.{plus, shape_of}
+use Rattle.lower_forms.specs.inside.Parts.{plus, shape_of}
 use Rattle.lower_values.specs.inside.Sizes.{value_size}
 use Rattle.lower.specs.inside.Sizes.{statement_size, statements_size, tests_size, effects_size, repeats_size}
 use Rattle.lower.proofs.HeldStatements.{sees_empty, sees_evaluate, sees_declare, sees_define, sees_block, sees_if, sees_ifelse, sees_switch, sees_case, sees_default, sees_while, sees_dowhile, sees_for, sees_break, sees_continue, sees_returnnothing, sees_returnvalue}
-use Rattle.lower_values.proofs.Parts.{two}
+use Rattle.lower_forms.proofs.Parts.{two}
 use Rattle.lower.proofs.Blocks.{branch_wrote, branches_wrote, while_wrote, do_while_wrote, for_wrote}
 use Rattle.lower.proofs.Placed.{and_placed, placed_all, switch_wrote}
 use Rattle.lower.proofs.statements.+statement_code.Goals as goal

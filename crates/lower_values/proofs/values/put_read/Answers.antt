@@ -1,5 +1,5 @@
 use Rattle.program.specs.View.{place_of}
-use Rattle.lower_values.specs.inside.Parts.{meant}
+use Rattle.lower_forms.specs.inside.Parts.{meant}
 use Rattle.lower_values.proofs.Expressions.{read_wrote}
 use Rattle.lower_values.proofs.values.put_read.Goals as goal
 

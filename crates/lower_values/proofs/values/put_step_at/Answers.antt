@@ -1,5 +1,5 @@
 use Rattle.program.specs.View.{place_of, moment_of}
-use Rattle.lower_values.specs.inside.Parts.{meant}
+use Rattle.lower_forms.specs.inside.Parts.{meant}
 use Rattle.lower_values.proofs.Expressions.{stepped_wrote}
 use Rattle.lower_values.proofs.values.put_step_at.Goals as goal
 
