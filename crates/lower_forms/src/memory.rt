@@ -7,7 +7,7 @@ ghost use Rattle.lowering.specs.Code as relation;
 ghost use Rattle.lowering.specs.Values.{Nowhere};
 ghost use Rattle.lower_forms.specs.inside.Parts.{meant, shape_of, Wrote};
 ghost use Rattle.lower_forms.specs.inside.Parts as parts;
-ghost use Rattle.lower_forms.specs.inside.FormSizes as size;
+ghost use Rattle.lower_forms.specs.inside.FormSizes as form;
 ghost use Rattle.lower_forms.specs.inside.Emitted as emitted;
 
 use crate::bools::either;
@@ -101,7 +101,7 @@ pub fn put_part(
     size: usize,
     temporary: usize,
 ) -> Result<(), AllocError>
-    ensures { OnOk result (Wrote (λ w p q. relation.Parts w spot target index size temporary p q) (size.parts_size spot) code.old.list.items code.new.list.items) }
+    ensures { OnOk result (Wrote (λ w p q. relation.Parts w spot target index size temporary p q) (form.parts_size spot) code.old.list.items code.new.list.items) }
 {
     match spot {
         Spot::Literal(_) => {
@@ -133,7 +133,7 @@ pub fn put_get(
     mode: Mode,
     temporary: usize,
 ) -> Result<(), AllocError>
-    ensures { OnOk result (Wrote (λ w p q. relation.Gets w ty spot (meant mode) temporary p q) (size.gets_size (shape_of (meant mode))) code.old.list.items code.new.list.items) }
+    ensures { OnOk result (Wrote (λ w p q. relation.Gets w ty spot (meant mode) temporary p q) (form.gets_size (shape_of (meant mode))) code.old.list.items code.new.list.items) }
 {
     put(code, load_from(ty, target_of(mode, temporary), spot))?;
     put_follow(code, mode, temporary)?;
@@ -163,7 +163,7 @@ pub fn put_stored(
     mode: Mode,
     temporary: usize,
 ) -> Result<(), AllocError>
-    ensures { OnOk result (Wrote (λ w p q. relation.Puts w kept ty operand spot (meant mode) temporary p q) (size.puts_size kept (shape_of (meant mode))) code.old.list.items code.new.list.items) }
+    ensures { OnOk result (Wrote (λ w p q. relation.Puts w kept ty operand spot (meant mode) temporary p q) (form.puts_size kept (shape_of (meant mode))) code.old.list.items code.new.list.items) }
 {
     if kept {
         put(code, store_to(ty, operand, spot))?;
@@ -195,7 +195,7 @@ pub fn put_altered(
     mode: Mode,
     temporary: usize,
 ) -> Result<(), AllocError>
-    ensures { OnOk result (Wrote (λ w p q. relation.Alters w change.op change.ty change.of operand change.spot (meant mode) temporary p q) (size.alters_size change.op change.ty (shape_of (meant mode))) code.old.list.items code.new.list.items) }
+    ensures { OnOk result (Wrote (λ w p q. relation.Alters w change.op change.ty change.of operand change.spot (meant mode) temporary p q) (form.alters_size change.op change.ty (shape_of (meant mode))) code.old.list.items code.new.list.items) }
 {
     let reading = reading_of(change.of);
     let old = Operand::Temporary(temporary);
@@ -213,7 +213,7 @@ fn put_altered_aside(
     mode: Mode,
     temporary: usize,
 ) -> Result<(), AllocError>
-    ensures { OnOk result (Wrote (λ w p q. relation.AltersAside w change.op change.ty change.of change.spot (meant mode) temporary p q) (size.alters_aside_size change.op change.ty (shape_of (meant mode))) code.old.list.items code.new.list.items) }
+    ensures { OnOk result (Wrote (λ w p q. relation.AltersAside w change.op change.ty change.of change.spot (meant mode) temporary p q) (form.alters_aside_size change.op change.ty (shape_of (meant mode))) code.old.list.items code.new.list.items) }
 {
     let reading = reading_of(change.of);
     let old = Operand::Temporary(temporary);
@@ -234,7 +234,7 @@ fn put_altered_after(
     mode: Mode,
     temporary: usize,
 ) -> Result<(), AllocError>
-    ensures { OnOk result (Wrote (λ w p q. relation.AltersBy w typed.after change.op change.ty change.of change.spot (meant mode) temporary p q) (size.alters_after_size change.op change.ty (shape_of (meant mode))) code.old.list.items code.new.list.items) }
+    ensures { OnOk result (Wrote (λ w p q. relation.AltersBy w typed.after change.op change.ty change.of change.spot (meant mode) temporary p q) (form.alters_after_size change.op change.ty (shape_of (meant mode))) code.old.list.items code.new.list.items) }
 {
     match mode {
         Mode::Nowhere => {
@@ -260,7 +260,7 @@ pub fn put_altered_by(
     mode: Mode,
     temporary: usize,
 ) -> Result<(), AllocError>
-    ensures { OnOk result (Wrote (λ w p q. relation.AltersBy w (moment_of moment) change.op change.ty change.of change.spot (meant mode) temporary p q) (size.alters_by_size (moment_of moment) change.op change.ty (shape_of (meant mode))) code.old.list.items code.new.list.items) }
+    ensures { OnOk result (Wrote (λ w p q. relation.AltersBy w (moment_of moment) change.op change.ty change.of change.spot (meant mode) temporary p q) (form.alters_by_size (moment_of moment) change.op change.ty (shape_of (meant mode))) code.old.list.items code.new.list.items) }
 {
     match moment {
         Moment::Before => {
@@ -277,7 +277,7 @@ pub fn put_altered_by(
 // ---- arguments
 
 fn put_reference(code: &mut Code, operand: Operand, temporary: usize) -> Result<(), AllocError>
-    ensures { OnOk result (Wrote (λ w p q. relation.HandsOver w (emitted.at operand) temporary p q) (size.loads_size true operand) code.old.list.items code.new.list.items) }
+    ensures { OnOk result (Wrote (λ w p q. relation.HandsOver w (emitted.at operand) temporary p q) (form.loads_size true operand) code.old.list.items code.new.list.items) }
 {
     let way = Target::Temporary(temporary);
     match operand {
@@ -303,7 +303,7 @@ fn put_reference(code: &mut Code, operand: Operand, temporary: usize) -> Result<
 
 /// The reference of an array to a temporary.
 pub fn put_handed(code: &mut Code, spot: Spot, temporary: usize) -> Result<(), AllocError>
-    ensures { OnOk result (Wrote (λ w p q. relation.HandsOver w spot temporary p q) (size.hands_over_size spot) code.old.list.items code.new.list.items) }
+    ensures { OnOk result (Wrote (λ w p q. relation.HandsOver w spot temporary p q) (form.hands_over_size spot) code.old.list.items code.new.list.items) }
 {
     let way = Target::Temporary(temporary);
     match spot {

@@ -2,3 +2,4 @@ pub mod Lists
 pub mod Nodes
 pub mod Held
 pub mod Expressions
+pub mod Located

@@ -3,6 +3,7 @@
 
 pub mod operands;
 mod operators;
+pub mod places;
 mod rests;
 pub mod sizes;
 pub mod values;

@@ -1,20 +1,18 @@
 //! Where values are.
 
-ghost use Rattle.std.specs.Prelude.{◌≡◌, ◌+◌, map, ℕ, Bool, false, IfOk, int_le};
+ghost use Rattle.std.specs.Prelude.{◌≡◌, map, ℕ, Bool, false};
 ghost use Rattle.program.specs.View.{value_of, argument_of, arguments_of};
-ghost use Rattle.tac.specs.Run.{word_for};
-ghost use Rattle.lowering.specs.Asked as asked;
 ghost use Rattle.lowering.specs.Bodies as bodies;
 ghost use Rattle.lowering.specs.Values as values;
 ghost use Rattle.lower_forms.specs.inside.Parts.{is_written};
 
-use crate::bools::either;
 use crate::rests::{arguments_call, arguments_write, has_calls, rests_in, writes};
-use ctypes::{BinOp, IntType};
+use ctypes::IntType;
+use lower_forms::bools::either;
+use lower_forms::waiting::{at_rest, constant_or, pending};
+use lower_forms::words::{computed_extent, holds_all, is_wide, or_int, signed_extent, smallest};
 use program::{Argument, Value};
-use std::alloc::AllocError;
-use tac::{Operand, Reading};
-use tree::PrefixOp;
+use tac::Operand;
 
 // ---- words that need no conversion
 
@@ -160,6 +158,3 @@ pub(crate) fn operand_of(e: &Value, temporary: usize, slot: usize) -> Operand
 {
     waits(e, false, false, temporary, slot)
 }
-
-// ---- what is free beside it
-
