@@ -32,7 +32,9 @@ pub(crate) fn all_free() -> Free
 }
 
 /// An object gets its first value, which costs a tick behind its expression.
-pub(crate) fn put_first(scope: &Scope<'_>, code: &mut Code,
+pub(crate) fn put_first(
+    scope: &Scope<'_>,
+    code: &mut Code,
     initialiser: &Initialiser,
     object: usize,
 ) -> Result<(), AllocError>
@@ -55,7 +57,11 @@ pub(crate) fn put_first(scope: &Scope<'_>, code: &mut Code,
 }
 
 /// What may be left out: nothing is evaluated.
-pub(crate) fn put_effects(scope: &Scope<'_>, code: &mut Code, e: &Option<Value>) -> Result<(), AllocError>
+pub(crate) fn put_effects(
+    scope: &Scope<'_>,
+    code: &mut Code,
+    e: &Option<Value>,
+) -> Result<(), AllocError>
     ensures { OnOk result (Wrote (λ w p q. relation.Effects w (rows.sizes_in scope.now) (option_value e.now) p q) (size.effects_size (option_value e.now)) code.old.list.items code.new.list.items) }
 {
     match e {
@@ -68,7 +74,12 @@ pub(crate) fn put_effects(scope: &Scope<'_>, code: &mut Code, e: &Option<Value>)
 }
 
 /// What may be left out: a loop goes on.
-pub(crate) fn put_repeats(scope: &Scope<'_>, code: &mut Code, e: &Option<Value>, top: usize) -> Result<(), AllocError>
+pub(crate) fn put_repeats(
+    scope: &Scope<'_>,
+    code: &mut Code,
+    e: &Option<Value>,
+    top: usize,
+) -> Result<(), AllocError>
     ensures { OnOk result (Wrote (λ w p q. relation.Repeats w (rows.sizes_in scope.now) (option_value e.now) top p q) (size.repeats_size (option_value e.now)) code.old.list.items code.new.list.items) }
 {
     match e {
@@ -91,7 +102,9 @@ pub(crate) fn put_evaluated(scope: &Scope<'_>, code: &mut Code, e: &Value) -> Re
     Ok(())
 }
 
-pub(crate) fn put_defined(scope: &Scope<'_>, code: &mut Code,
+pub(crate) fn put_defined(
+    scope: &Scope<'_>,
+    code: &mut Code,
     object: usize,
     initialiser: &Initialiser,
 ) -> Result<(), AllocError>
@@ -108,7 +121,9 @@ pub(crate) fn put_defined(scope: &Scope<'_>, code: &mut Code,
     Ok(())
 }
 
-pub(crate) fn put_returned(scope: &Scope<'_>, code: &mut Code,
+pub(crate) fn put_returned(
+    scope: &Scope<'_>,
+    code: &mut Code,
     ty: IntType,
     e: &Value,
     back: usize,

@@ -6,9 +6,7 @@ ghost use Rattle.std.specs.List.{list_all};
 ghost use Rattle.lowering.specs.Plain as definition;
 ghost use Rattle.lower.specs.inside.Given.{given_is_plain};
 
-use program::{
-    Argument, Callee, Function, Initialiser, Place, Program, Statement, Value,
-};
+use program::{Argument, Callee, Function, Initialiser, Place, Program, Statement, Value};
 
 fn both(a: bool, b: bool) -> bool
     ensures { result ≡ a && b }

@@ -25,10 +25,7 @@ pub enum NotLowered {
     Memory,
 }
 
-fn lowered_functions(
-    alloc: Global,
-    program: &Program,
-) -> Result<Vec<tac::Function>, AllocError>
+fn lowered_functions(alloc: Global, program: &Program) -> Result<Vec<tac::Function>, AllocError>
     ensures { IfOk result (λ gs. AreFunctionsOf (view.program_of program.now) (length program.now.functions.items) (map three_address.function_of gs.items)) }
 {
     let mut list = Vec::new(alloc);

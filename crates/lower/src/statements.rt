@@ -14,19 +14,21 @@ use crate::leaves::{
     all_free, put_defined, put_effects, put_evaluated, put_repeats, put_return, put_returned,
 };
 use crate::switches::put_tests;
-use lower_forms::modes::{Mode, Shape, mode_of, shape_for};
-use lower_values::operands::waits_for_objects;
 use lower_forms::form_sizes::plus;
+use lower_forms::modes::{Mode, Shape, mode_of, shape_for};
 use lower_forms::row_sizes::Scope;
+use lower_forms::writing::{Code, ahead, put};
+use lower_values::operands::waits_for_objects;
 use lower_values::sizes::value_size;
 use lower_values::values::put_value;
-use lower_forms::writing::{Code, ahead, put};
 use program::{Statement, Value};
 use std::alloc::AllocError;
 use tac::Instruction;
 
 #[cycle(statement_code)]
-fn put_block(scope: &Scope<'_>, code: &mut Code,
+fn put_block(
+    scope: &Scope<'_>,
+    code: &mut Code,
     first: usize,
     count: usize,
     all: &[Statement],
@@ -42,7 +44,9 @@ fn put_block(scope: &Scope<'_>, code: &mut Code,
 }
 
 #[cycle(statement_code)]
-fn put_if(scope: &Scope<'_>, code: &mut Code,
+fn put_if(
+    scope: &Scope<'_>,
+    code: &mut Code,
     e: &Value,
     a: &Statement,
     out: usize,
@@ -60,7 +64,9 @@ fn put_if(scope: &Scope<'_>, code: &mut Code,
 }
 
 #[cycle(statement_code)]
-fn put_if_else(scope: &Scope<'_>, code: &mut Code,
+fn put_if_else(
+    scope: &Scope<'_>,
+    code: &mut Code,
     e: &Value,
     a: &Statement,
     b: &Statement,
@@ -84,7 +90,13 @@ fn put_if_else(scope: &Scope<'_>, code: &mut Code,
 }
 
 #[cycle(statement_code)]
-fn put_while(scope: &Scope<'_>, code: &mut Code, e: &Value, a: &Statement, back: usize) -> Result<(), AllocError>
+fn put_while(
+    scope: &Scope<'_>,
+    code: &mut Code,
+    e: &Value,
+    a: &Statement,
+    back: usize,
+) -> Result<(), AllocError>
     ensures { OnOk result ((out again : ℕ) → WroteStatement (rows.sizes_in scope.now) (typed.while (value_of e.now) (statement_of a.now)) out again back code.old.list.items code.new.list.items) }
 {
     let body = statement_size(a);
@@ -99,7 +111,13 @@ fn put_while(scope: &Scope<'_>, code: &mut Code, e: &Value, a: &Statement, back:
 }
 
 #[cycle(statement_code)]
-fn put_do_while(scope: &Scope<'_>, code: &mut Code, a: &Statement, e: &Value, back: usize) -> Result<(), AllocError>
+fn put_do_while(
+    scope: &Scope<'_>,
+    code: &mut Code,
+    a: &Statement,
+    e: &Value,
+    back: usize,
+) -> Result<(), AllocError>
     ensures { OnOk result ((out again : ℕ) → WroteStatement (rows.sizes_in scope.now) (typed.do_while (statement_of a.now) (value_of e.now)) out again back code.old.list.items code.new.list.items) }
 {
     let body = statement_size(a);
@@ -115,7 +133,9 @@ fn put_do_while(scope: &Scope<'_>, code: &mut Code, a: &Statement, e: &Value, ba
 
 /// A `for`, whose test stands behind its body.
 #[cycle(statement_code)]
-fn put_for(scope: &Scope<'_>, code: &mut Code,
+fn put_for(
+    scope: &Scope<'_>,
+    code: &mut Code,
     declared: &[Statement],
     start: &Option<Value>,
     test: &Option<Value>,
@@ -155,7 +175,9 @@ fn before_body(declared: &[Statement], start: &Option<Value>, more: usize) -> us
 
 /// Its objects are forgotten behind its value, which one of them cannot hold.
 #[cycle(statement_code)]
-fn put_switch(scope: &Scope<'_>, code: &mut Code,
+fn put_switch(
+    scope: &Scope<'_>,
+    code: &mut Code,
     e: &Value,
     first: usize,
     count: usize,
@@ -181,7 +203,9 @@ fn put_switch(scope: &Scope<'_>, code: &mut Code,
 
 /// The code of statements, one behind the other.
 #[cycle(statement_code)]
-fn put_statements(scope: &Scope<'_>, code: &mut Code,
+fn put_statements(
+    scope: &Scope<'_>,
+    code: &mut Code,
     all: &[Statement],
     out: usize,
     again: usize,
@@ -201,7 +225,9 @@ fn put_statements(scope: &Scope<'_>, code: &mut Code,
 
 /// The code of a statement, `break`, `continue` and the returns going to these positions.
 #[cycle(statement_code)]
-pub(crate) fn put_statement(scope: &Scope<'_>, code: &mut Code,
+pub(crate) fn put_statement(
+    scope: &Scope<'_>,
+    code: &mut Code,
     statement: &Statement,
     out: usize,
     again: usize,

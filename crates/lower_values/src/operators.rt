@@ -38,7 +38,9 @@ use tree::PrefixOp;
 
 /// Of a sign: what is computed from the value, and 0 or all bits.
 #[cycle(value_code)]
-fn put_minus(scope: &Scope<'_>, code: &mut Code,
+fn put_minus(
+    scope: &Scope<'_>,
+    code: &mut Code,
     ty: IntType,
     e: &Value,
     mode: Mode,
@@ -63,7 +65,9 @@ fn put_minus(scope: &Scope<'_>, code: &mut Code,
 }
 
 #[cycle(value_code)]
-fn put_complement(scope: &Scope<'_>, code: &mut Code,
+fn put_complement(
+    scope: &Scope<'_>,
+    code: &mut Code,
     ty: IntType,
     e: &Value,
     mode: Mode,
@@ -88,7 +92,13 @@ fn put_complement(scope: &Scope<'_>, code: &mut Code,
 }
 
 #[cycle(value_code)]
-fn put_is_zero(scope: &Scope<'_>, code: &mut Code, e: &Value, mode: Mode, free: Free) -> Result<(), AllocError>
+fn put_is_zero(
+    scope: &Scope<'_>,
+    code: &mut Code,
+    e: &Value,
+    mode: Mode,
+    free: Free,
+) -> Result<(), AllocError>
     ensures { OnOk result (Wrote (λ w p q. (p1 p2 : ℕ) × relation.One w instruction.Nothing p p1 × relation.Into w (rows.sizes_in scope.now) (value_of e.now) (lowered.mode_of (lowered.operand_of (value_of e.now) free.temporary free.slot)) free.temporary free.slot p1 p2
         × relation.IsZero w (meant mode) (lowered.operand_of (value_of e.now) free.temporary free.slot) free.temporary p2 q)
         (parts.plus 1 (parts.plus (size.value_size (value_of e.now) (size.rest_shape (value_of e.now))) (form.then_size op.Equal (shape_of (meant mode))))) code.old.list.items code.new.list.items) }
@@ -109,7 +119,13 @@ fn put_is_zero(scope: &Scope<'_>, code: &mut Code, e: &Value, mode: Mode, free: 
 }
 
 #[cycle(value_code)]
-fn put_not(scope: &Scope<'_>, code: &mut Code, e: &Value, mode: Mode, free: Free) -> Result<(), AllocError>
+fn put_not(
+    scope: &Scope<'_>,
+    code: &mut Code,
+    e: &Value,
+    mode: Mode,
+    free: Free,
+) -> Result<(), AllocError>
     ensures { OnOk result ((at : Pos) → (u : IntType) → WroteValue (rows.sizes_in scope.now) (typed.unary at prefix.Not u (value_of e.now)) (meant mode) free.temporary free.slot code.old.list.items code.new.list.items) }
 {
     match mode {
@@ -130,7 +146,13 @@ fn put_not(scope: &Scope<'_>, code: &mut Code, e: &Value, mode: Mode, free: Free
 }
 
 #[cycle(value_code)]
-fn put_plus(scope: &Scope<'_>, code: &mut Code, e: &Value, mode: Mode, free: Free) -> Result<(), AllocError>
+fn put_plus(
+    scope: &Scope<'_>,
+    code: &mut Code,
+    e: &Value,
+    mode: Mode,
+    free: Free,
+) -> Result<(), AllocError>
     ensures { OnOk result ((at : Pos) → (u : IntType) → WroteValue (rows.sizes_in scope.now) (typed.unary at prefix.Plus u (value_of e.now)) (meant mode) free.temporary free.slot code.old.list.items code.new.list.items) }
 {
     put(code, Instruction::Nothing)?;
@@ -139,7 +161,9 @@ fn put_plus(scope: &Scope<'_>, code: &mut Code, e: &Value, mode: Mode, free: Fre
 }
 
 #[cycle(value_code)]
-pub(crate) fn put_unary(scope: &Scope<'_>, code: &mut Code,
+pub(crate) fn put_unary(
+    scope: &Scope<'_>,
+    code: &mut Code,
     op: PrefixOp,
     ty: IntType,
     e: &Value,
@@ -169,7 +193,9 @@ pub(crate) fn put_unary(scope: &Scope<'_>, code: &mut Code,
 }
 
 #[cycle(value_code)]
-pub(crate) fn put_binary(scope: &Scope<'_>, code: &mut Code,
+pub(crate) fn put_binary(
+    scope: &Scope<'_>,
+    code: &mut Code,
     op: BinOp,
     ty: IntType,
     a: &Value,
@@ -197,7 +223,9 @@ fn pick(sense: bool, one: usize, other: usize) -> usize
 
 /// `&&` where a jump wants it.
 #[cycle(value_code)]
-fn put_both_jump(scope: &Scope<'_>, code: &mut Code,
+fn put_both_jump(
+    scope: &Scope<'_>,
+    code: &mut Code,
     a: &Value,
     b: &Value,
     sense: bool,
@@ -216,7 +244,9 @@ fn put_both_jump(scope: &Scope<'_>, code: &mut Code,
 }
 
 #[cycle(value_code)]
-fn put_one_jump(scope: &Scope<'_>, code: &mut Code,
+fn put_one_jump(
+    scope: &Scope<'_>,
+    code: &mut Code,
     a: &Value,
     b: &Value,
     sense: bool,
@@ -236,7 +266,9 @@ fn put_one_jump(scope: &Scope<'_>, code: &mut Code,
 
 /// `&&` where its value is wanted, or nothing.
 #[cycle(value_code)]
-fn put_both_number(scope: &Scope<'_>, code: &mut Code,
+fn put_both_number(
+    scope: &Scope<'_>,
+    code: &mut Code,
     a: &Value,
     b: &Value,
     target: Target,
@@ -255,7 +287,9 @@ fn put_both_number(scope: &Scope<'_>, code: &mut Code,
 }
 
 #[cycle(value_code)]
-fn put_one_number(scope: &Scope<'_>, code: &mut Code,
+fn put_one_number(
+    scope: &Scope<'_>,
+    code: &mut Code,
     a: &Value,
     b: &Value,
     target: Target,
@@ -275,7 +309,9 @@ fn put_one_number(scope: &Scope<'_>, code: &mut Code,
 }
 
 #[cycle(value_code)]
-pub(crate) fn put_both(scope: &Scope<'_>, code: &mut Code,
+pub(crate) fn put_both(
+    scope: &Scope<'_>,
+    code: &mut Code,
     a: &Value,
     b: &Value,
     mode: Mode,
@@ -300,7 +336,9 @@ pub(crate) fn put_both(scope: &Scope<'_>, code: &mut Code,
 }
 
 #[cycle(value_code)]
-pub(crate) fn put_one(scope: &Scope<'_>, code: &mut Code,
+pub(crate) fn put_one(
+    scope: &Scope<'_>,
+    code: &mut Code,
     a: &Value,
     b: &Value,
     mode: Mode,
@@ -325,7 +363,9 @@ pub(crate) fn put_one(scope: &Scope<'_>, code: &mut Code,
 }
 
 #[cycle(value_code)]
-pub(crate) fn put_chosen(scope: &Scope<'_>, code: &mut Code,
+pub(crate) fn put_chosen(
+    scope: &Scope<'_>,
+    code: &mut Code,
     c: &Value,
     a: &Value,
     b: &Value,

@@ -111,11 +111,7 @@ pub(crate) fn put_found(
 
 // ---- reads
 
-fn put_read_object(
-    code: &mut Code,
-    object: usize,
-    mode: Mode,
-) -> Result<(), AllocError>
+fn put_read_object(code: &mut Code, object: usize, mode: Mode) -> Result<(), AllocError>
     ensures { OnOk result (written.WroteReadObject object (meant mode) code.old.list.items code.new.list.items) }
 {
     put(code, Instruction::Nothing)?;

@@ -33,7 +33,12 @@ use tac::{Instruction, Operand, Target};
 
 /// A value into the operand that it is in where nothing is evaluated behind it.
 #[cycle(value_code)]
-pub(crate) fn put_rested(scope: &Scope<'_>, code: &mut Code, e: &Value, free: Free) -> Result<Operand, AllocError>
+pub(crate) fn put_rested(
+    scope: &Scope<'_>,
+    code: &mut Code,
+    e: &Value,
+    free: Free,
+) -> Result<Operand, AllocError>
     ensures { IfOk result (λ o. (o ≡ lowered.operand_of (value_of e.now) free.temporary free.slot)
         × Wrote (λ w p q. relation.Into w (rows.sizes_in scope.now) (value_of e.now) (lowered.mode_of (lowered.operand_of (value_of e.now) free.temporary free.slot)) free.temporary free.slot p q) (size.value_size (value_of e.now) (size.rest_shape (value_of e.now))) code.old.list.items code.new.list.items) }
 {
@@ -44,7 +49,9 @@ pub(crate) fn put_rested(scope: &Scope<'_>, code: &mut Code, e: &Value, free: Fr
 
 /// A value into a target, converted if need be.
 #[cycle(value_code)]
-pub fn put_converted(scope: &Scope<'_>, code: &mut Code,
+pub fn put_converted(
+    scope: &Scope<'_>,
+    code: &mut Code,
     ty: IntType,
     e: &Value,
     target: Target,
@@ -64,7 +71,9 @@ pub fn put_converted(scope: &Scope<'_>, code: &mut Code,
 }
 
 #[cycle(value_code)]
-fn put_cast(scope: &Scope<'_>, code: &mut Code,
+fn put_cast(
+    scope: &Scope<'_>,
+    code: &mut Code,
     ty: IntType,
     e: &Value,
     mode: Mode,
@@ -88,7 +97,9 @@ fn put_cast(scope: &Scope<'_>, code: &mut Code,
 }
 
 #[cycle(value_code)]
-fn put_sequence(scope: &Scope<'_>, code: &mut Code,
+fn put_sequence(
+    scope: &Scope<'_>,
+    code: &mut Code,
     a: &Value,
     b: &Value,
     mode: Mode,
@@ -103,7 +114,13 @@ fn put_sequence(scope: &Scope<'_>, code: &mut Code,
 }
 
 #[cycle(value_code)]
-fn put_discarded(scope: &Scope<'_>, code: &mut Code, e: &Value, mode: Mode, free: Free) -> Result<(), AllocError>
+fn put_discarded(
+    scope: &Scope<'_>,
+    code: &mut Code,
+    e: &Value,
+    mode: Mode,
+    free: Free,
+) -> Result<(), AllocError>
     ensures { OnOk result (WroteValue (rows.sizes_in scope.now) (typed.discarded (value_of e.now)) (meant mode) free.temporary free.slot code.old.list.items code.new.list.items) }
 {
     put(code, Instruction::Nothing)?;
@@ -113,7 +130,9 @@ fn put_discarded(scope: &Scope<'_>, code: &mut Code, e: &Value, mode: Mode, free
 }
 
 #[cycle(value_code)]
-fn put_cast_node(scope: &Scope<'_>, code: &mut Code,
+fn put_cast_node(
+    scope: &Scope<'_>,
+    code: &mut Code,
     ty: IntType,
     e: &Value,
     mode: Mode,
@@ -128,7 +147,9 @@ fn put_cast_node(scope: &Scope<'_>, code: &mut Code,
 
 /// An argument, those behind it, and its move into its temporary.
 #[cycle(value_code)]
-fn put_number(scope: &Scope<'_>, code: &mut Code,
+fn put_number(
+    scope: &Scope<'_>,
+    code: &mut Code,
     ty: IntType,
     e: &Value,
     more: &[Argument],
@@ -170,7 +191,12 @@ fn put_array(
 
 /// The arguments of a call.
 #[cycle(value_code)]
-fn put_passes(scope: &Scope<'_>, code: &mut Code, arguments: &[Argument], free: Free) -> Result<(), AllocError>
+fn put_passes(
+    scope: &Scope<'_>,
+    code: &mut Code,
+    arguments: &[Argument],
+    free: Free,
+) -> Result<(), AllocError>
     ensures { OnOk result (WrotePasses (rows.sizes_in scope.now) (arguments_of (map argument_of arguments.now)) free.temporary free.slot code.old.list.items code.new.list.items) }
 {
     match arguments.split_first() {
@@ -187,7 +213,9 @@ fn put_passes(scope: &Scope<'_>, code: &mut Code, arguments: &[Argument], free: 
 }
 
 #[cycle(value_code)]
-fn put_call_node(scope: &Scope<'_>, code: &mut Code,
+fn put_call_node(
+    scope: &Scope<'_>,
+    code: &mut Code,
     callee: Callee,
     arguments: &[Argument],
     mode: Mode,
@@ -207,7 +235,13 @@ fn put_call_node(scope: &Scope<'_>, code: &mut Code,
 
 /// The code of an expression. The recursion is as deep as the tree.
 #[cycle(value_code)]
-pub fn put_value(scope: &Scope<'_>, code: &mut Code, e: &Value, mode: Mode, free: Free) -> Result<(), AllocError>
+pub fn put_value(
+    scope: &Scope<'_>,
+    code: &mut Code,
+    e: &Value,
+    mode: Mode,
+    free: Free,
+) -> Result<(), AllocError>
     ensures { OnOk result (WroteValue (rows.sizes_in scope.now) (value_of e.now) (meant mode) free.temporary free.slot code.old.list.items code.new.list.items) }
 {
     match e {
