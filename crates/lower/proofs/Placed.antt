@@ -2,7 +2,7 @@
 use Rattle.std.proofs.Common.{◌≡◌, ℕ, ◌<◌, ℤ, false, List, [], ◌++◌, map, length, Option, Some, None, refl, ap, sym, subst, arith}
 use Rattle.ctypes.specs.declared.types.IntType.{IntType}
 use Rattle.typed.specs.Program as typed
-use Rattle.typed.specs.Program.{Value, Statement, Statements}
+use Rattle.typed.specs.Program.{Place, Value, Statement, Statements}
 use Rattle.meaning.specs.Statements.{labels_at, labels_of}
 use Rattle.tac.specs.declared.code.Operand.{Operand}
 use Rattle.tac.specs.declared.code.Operand.TheVariants as operand
@@ -14,13 +14,13 @@ use Rattle.tac.specs.Run.{word_for}
 use Rattle.lowering.specs.Values.{waits_in, mode_of}
 use Rattle.lowering.specs.Code.{One}
 use Rattle.lowering.specs.Bodies.{is_within, label_places, StandAll, StandAt, Tests}
-use Rattle.lower_values.specs.inside.Parts.{plus, shape_of, Wrote}
+use Rattle.lower_forms.specs.inside.Parts.{plus, shape_of, Wrote}
 use Rattle.lower_values.specs.inside.Sizes.{value_size}
 use Rattle.lower.specs.inside.Sizes.{tests_size, statement_size, statements_size}
 use Rattle.lower.specs.inside.Places.{one_label, places_of}
 use Rattle.lower_values.specs.inside.Written.{WroteValue}
 use Rattle.lower.specs.inside.Written.{WroteStatement, WroteStatements, WrotePlaced, WroteTests}
-use Rattle.lower_values.proofs.Parts.{begins_on, as_wrote, none_wrote, two, five, reach_one, reach_four, reach_five}
+use Rattle.lower_forms.proofs.Parts.{begins_on, as_wrote, none_wrote, two, five, reach_one, reach_four, reach_five}
 
 -- ---- tests
 
@@ -46,12 +46,12 @@ module _ (o : Operand) (x : Statement) (more : Statements) (at next other : ℕ)
 
 -- ---- statements with the places of their labels
 
-pub none_placed : (out again back : ℕ) (c0 c1 : List Instruction) → c1 ≡ c0 → length c0 < 4611686018427387904 → WrotePlaced typed.no_statements out again back c0 c1
-none_placed out again back c0 c1 e l = none_wrote (λ w p q. StandAt w typed.no_statements [] out again back p q) c0 c1 e l (λ w. (refl, refl))
+pub none_placed : (size : Place → ℕ) (out again back : ℕ) (c0 c1 : List Instruction) → c1 ≡ c0 → length c0 < 4611686018427387904 → WrotePlaced size typed.no_statements out again back c0 c1
+none_placed size out again back c0 c1 e l = none_wrote (λ w p q. StandAt w size typed.no_statements [] out again back p q) c0 c1 e l (λ w. (refl, refl))
 
-pub and_placed : (x : Statement) (more : Statements) (out again back : ℕ) {c0 c1 c2 : List Instruction}
-    → WroteStatement x out again back c0 c1 → WrotePlaced more out again back c1 c2 → WrotePlaced (typed.and_statement x more) out again back c0 c2
-and_placed x more out again back {c0} {c1} {c2} y z =
+pub and_placed : (size : Place → ℕ) (x : Statement) (more : Statements) (out again back : ℕ) {c0 c1 c2 : List Instruction}
+    → WroteStatement size x out again back c0 c1 → WrotePlaced size more out again back c1 c2 → WrotePlaced size (typed.and_statement x more) out again back c0 c2
+and_placed size x more out again back {c0} {c1} {c2} y z =
     let here : plus (length c0) (statement_size x) ≡ length c1 = reach_one (plus (length c0) (statement_size x)) (length c0) (statement_size x) (length c1) refl y.grows y.short in
     let all = two y z in
     record {
@@ -67,24 +67,24 @@ and_placed x more out again back {c0} {c1} {c2} y z =
       );
     }
 
-at_all : (w : List Instruction) (all : Statements) (places : List ℕ) (out again back p q : ℕ) → StandAt w all places out again back p q → StandAll w all out again back p q
-at_all w typed.no_statements places out again back p q (e, h) = h
-at_all w (typed.and_statement x more) places out again back p q (p1, rest, e, h, k) = (p1, h, at_all w more rest out again back p1 q k)
+at_all : (size : Place → ℕ) (w : List Instruction) (all : Statements) (places : List ℕ) (out again back p q : ℕ) → StandAt w size all places out again back p q → StandAll w size all out again back p q
+at_all size w typed.no_statements places out again back p q (e, h) = h
+at_all size w (typed.and_statement x more) places out again back p q (p1, rest, e, h, k) = (p1, h, at_all size w more rest out again back p1 q k)
 
-pub placed_all : (all : Statements) (out again back : ℕ) {c0 c1 : List Instruction} → WrotePlaced all out again back c0 c1 → WroteStatements all out again back c0 c1
-placed_all all out again back {c0} {c1} y =
-    as_wrote (λ w p q. StandAll w all out again back p q) y (λ w h. at_all w all (places_of all (length c0)) out again back (length c0) (length c1) h)
+pub placed_all : (size : Place → ℕ) (all : Statements) (out again back : ℕ) {c0 c1 : List Instruction} → WrotePlaced size all out again back c0 c1 → WroteStatements size all out again back c0 c1
+placed_all size all out again back {c0} {c1} y =
+    as_wrote (λ w p q. StandAll w size all out again back p q) y (λ w h. at_all size w all (places_of all (length c0)) out again back (length c0) (length c1) h)
 
 -- ---- the whole
 
-pub switch_wrote : (u : IntType) (e : Value) (first count : ℕ) (all : Statements) (out again back body end : ℕ) {c0 c1 c2 c3 c4 c5 : List Instruction}
+pub switch_wrote : (size : Place → ℕ) (u : IntType) (e : Value) (first count : ℕ) (all : Statements) (out again back body end : ℕ) {c0 c1 c2 c3 c4 c5 : List Instruction}
     → (let o = waits_in e (is_within first count) false 0 0 in
     body ≡ plus (length c0) (plus 1 (plus (value_size e (shape_of (mode_of o))) (plus 1 (tests_size (labels_of all)))))
     → end ≡ plus (length c0) (plus 1 (plus (value_size e (shape_of (mode_of o))) (plus 1 (plus (tests_size (labels_of all)) (statements_size all)))))
-    → Wrote (λ w p q. One w instruction.Nothing p q) 1 c0 c1 → WroteValue e (mode_of o) 0 0 c1 c2
-    → Wrote (λ w p q. One w (instruction.Forget first count) p q) 1 c2 c3 → WroteTests o all body end c3 c4 → WrotePlaced all end again back c4 c5
-    → WroteStatement (typed.switch u e first count all) out again back c0 c5)
-switch_wrote u e first count all out again back body end {c0} {c1} {c2} {c3} {c4} {c5} h1 h2 x0 x1 x2 x3 x4 =
+    → Wrote (λ w p q. One w instruction.Nothing p q) 1 c0 c1 → WroteValue size e (mode_of o) 0 0 c1 c2
+    → Wrote (λ w p q. One w (instruction.Forget first count) p q) 1 c2 c3 → WroteTests o all body end c3 c4 → WrotePlaced size all end again back c4 c5
+    → WroteStatement size (typed.switch u e first count all) out again back c0 c5)
+switch_wrote size u e first count all out again back body end {c0} {c1} {c2} {c3} {c4} {c5} h1 h2 x0 x1 x2 x3 x4 =
     let o = waits_in e (is_within first count) false 0 0 in
     let nv = value_size e (shape_of (mode_of o)) in
     let nt = tests_size (labels_of all) in
@@ -92,7 +92,7 @@ switch_wrote u e first count all out again back body end {c0} {c1} {c2} {c3} {c4
     let there : body ≡ length c4 = reach_four body (length c0) 1 nv 1 nt (length c4) h1 (omega (arith, x0.grows, x1.grows, x2.grows, x3.grows)) x3.short in
     let at_end : end ≡ length c5 = reach_five end (length c0) 1 nv 1 nt ns (length c5) h2 (omega (arith, x0.grows, x1.grows, x2.grows, x3.grows, x4.grows)) x4.short in
     let y3 = subst (λ n. WroteTests o all n (length c5) c3 c4) there (subst (λ n. WroteTests o all body n c3 c4) at_end x3) in
-    let y4 = subst (λ n. WrotePlaced all n again back c4 c5) at_end x4 in
+    let y4 = subst (λ n. WrotePlaced size all n again back c4 c5) at_end x4 in
     let sum = five x0 x1 x2 y3 y4 in
     record {
       begins = sum.begins;

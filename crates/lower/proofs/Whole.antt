@@ -7,13 +7,14 @@ use Rattle.tac.specs.declared.code.Instruction.{Instruction}
 use Rattle.tac.specs.declared.code.Instruction.TheVariants as instruction
 use Rattle.tac.specs.Code.{Function, Program, function_at, or_no_function}
 use Rattle.tac.specs.Lowered.{kind_of}
+use Rattle.lowering.specs.Places.{size_of_place}
 use Rattle.lowering.specs.Code.{One}
 use Rattle.lowering.specs.Bodies.{Idles, Closes, most, temporaries_of, IsCodeFor}
-use Rattle.lower_values.specs.inside.Parts.{plus, Wrote}
+use Rattle.lower_forms.specs.inside.Parts.{plus, Wrote}
 use Rattle.lower.specs.inside.Sizes.{statement_size}
 use Rattle.lower.specs.inside.Written.{WroteStatement}
 use Rattle.lower.specs.inside.Functions.{closing_size, parameters_if, parameters_at, temporaries_with, IsBodyOf, IsFunctionWith, AreFunctionsOf}
-use Rattle.lower_values.proofs.Parts.{as_wrote, begins_all, begins_on, reach_one}
+use Rattle.lower_forms.proofs.Parts.{as_wrote, begins_all, begins_on, reach_one}
 
 -- ---- the most of instructions
 
@@ -55,14 +56,14 @@ idles_all n m e {c0} {c1} x = subst (λ k. Wrote (λ w p q. Idles w (suc k) p q)
 
 -- ---- one function
 
-pub body_written : (m : Bool) (f : typed.Function) (end back : ℕ) {c0 c1 c2 c3 c4 : List Instruction} → c0 ≡ []
+pub body_written : (p : typed.Program) (m : Bool) (f : typed.Function) (end back : ℕ) {c0 c1 c2 c3 c4 : List Instruction} → c0 ≡ []
     → end ≡ plus (length c1) (statement_size f.body) → back ≡ plus end (closing_size m)
-    → Wrote (λ w p q. Idles w (suc (length f.type.parameters)) p q) (suc (length f.type.parameters)) c0 c1 → WroteStatement f.body end end back c1 c2
-    → Wrote (λ w p q. Closes w m p q) (closing_size m) c2 c3 → Wrote (λ w p q. One w instruction.Return p q) 1 c3 c4 → IsBodyOf m f c4
-body_written m f end back {c0} {c1} {c2} {c3} {c4} none h1 h2 x0 x1 x2 x3 =
+    → Wrote (λ w p q. Idles w (suc (length f.type.parameters)) p q) (suc (length f.type.parameters)) c0 c1 → WroteStatement (size_of_place p f) f.body end end back c1 c2
+    → Wrote (λ w p q. Closes w m p q) (closing_size m) c2 c3 → Wrote (λ w p q. One w instruction.Return p q) 1 c3 c4 → IsBodyOf p m f c4
+body_written p m f end back {c0} {c1} {c2} {c3} {c4} none h1 h2 x0 x1 x2 x3 =
     let at_end : end ≡ length c2 = reach_one end (length c1) (statement_size f.body) (length c2) h1 x1.grows x1.short in
     let at_back : back ≡ length c3 = reach_one back (length c2) (closing_size m) (length c3) (h2 ∙ ap (λ k. plus k (closing_size m)) at_end) x2.grows x2.short in
-    let y1 = subst (λ k. WroteStatement f.body (length c2) (length c2) k c1 c2) at_back (subst (λ k. WroteStatement f.body k k back c1 c2) at_end x1) in
+    let y1 = subst (λ k. WroteStatement (size_of_place p f) f.body (length c2) (length c2) k c1 c2) at_back (subst (λ k. WroteStatement (size_of_place p f) f.body k k back c1 c2) at_end x1) in
     let b3 = begins_on x3.begins (begins_all c4) in
     let b2 = begins_on x2.begins b3 in
     let b1 = begins_on y1.begins b2 in
@@ -97,16 +98,16 @@ each_snoc P (x ∷ fs) (y ∷ gs) f0 g0 there last each zero f g e h = each zero
 each_snoc P (x ∷ fs) (y ∷ gs) f0 g0 there last each (suc n) f g e h =
     each_snoc (λ k. P (suc k)) fs gs f0 g0 there last (λ k a b u v. each (suc k) a b u v) n f g e h
 
-pub no_functions : (fs : List typed.Function) (main : ℕ) → AreFunctionsOf fs main 0 []
-no_functions fs main = record { count = refl; each = λ n f g e h. absurd (let z : ⊥ = cc in z) }
+pub no_functions : (p : typed.Program) → AreFunctionsOf p 0 []
+no_functions p = record { count = refl; each = λ n f g e h. absurd (let z : ⊥ = cc in z) }
 
-pub one_more_function : (fs : List typed.Function) (main n : ℕ) (old : List Function) (f : typed.Function) (g : Function) → slice_get fs n ≡ Some f → AreFunctionsOf fs main n old
-    → IsFunctionWith (parameters_at fs) (nat_eq n main) f g → AreFunctionsOf fs main (n + 1) (old ++ g ∷ [])
-one_more_function fs main n old f g there x last =
+pub one_more_function : (p : typed.Program) (n : ℕ) (old : List Function) (f : typed.Function) (g : Function) → slice_get p.functions n ≡ Some f → AreFunctionsOf p n old
+    → IsFunctionWith p (nat_eq n p.main) f g → AreFunctionsOf p (n + 1) (old ++ g ∷ [])
+one_more_function p n old f g there x last =
     let count : length old ≡ n = x.count in
     record {
       count = length-append old (g ∷ []) ∙ ap (λ k. k + 1) count;
-      each = each_snoc (λ k a b. IsFunctionWith (parameters_at fs) (nat_eq k main) a b) fs old f g (ap (slice_get fs) count ∙ there) (subst (λ k. IsFunctionWith (parameters_at fs) (nat_eq k main) f g) (sym count) last) x.each;
+      each = each_snoc (λ k a b. IsFunctionWith p (nat_eq k p.main) a b) p.functions old f g (ap (slice_get p.functions) count ∙ there) (subst (λ k. IsFunctionWith p (nat_eq k p.main) f g) (sym count) last) x.each;
     }
 
 -- ---- the whole program
@@ -145,7 +146,7 @@ same_most : (s t : Instruction → ℕ) → ((i : Instruction) → s i ≡ t i) 
 same_most s t h [] = refl
 same_most s t h (i ∷ code) = ap (λ n. max n (most s code)) (h i) ∙ ap (λ n. max (t i) n) (same_most s t h code)
 
-pub program_written : (p : typed.Program) (q : Program) (n : ℕ) → AreFunctionsOf p.functions p.main n q.functions → n ≡ length p.functions
+pub program_written : (p : typed.Program) (q : Program) (n : ℕ) → AreFunctionsOf p n q.functions → n ≡ length p.functions
     → q.literals ≡ p.literals → q.statics ≡ p.statics → q.main ≡ p.main → IsCodeFor p q
 program_written p q n0 all same literals statics main =
     let counts : (f : ℕ) → length (function_at q f).parameters ≡ parameters_at p.functions f =

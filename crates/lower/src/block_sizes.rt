@@ -7,9 +7,10 @@ ghost use Rattle.typed.specs.Program as typed;
 ghost use Rattle.ctypes.specs.declared.types.IntType.{IntType};
 ghost use Rattle.lower.specs.inside.Sizes as size;
 
-use lower_values::modes::{Shape, shape_for};
+use lower_forms::form_sizes::plus;
+use lower_forms::modes::{Shape, shape_for};
 use lower_values::operands::waits_for_objects;
-use lower_values::sizes::{converted_size, plus, value_size};
+use lower_values::sizes::{converted_size, value_size};
 use program::{Initialiser, Statement, Value};
 
 fn initialises_size(initialiser: &Initialiser) -> usize

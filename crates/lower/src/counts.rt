@@ -7,7 +7,7 @@ ghost use Rattle.lower.specs.inside.Functions.{parameters_at, temporaries_with};
 
 use program::Function;
 use std::alloc::AllocError;
-use tac::{Instruction, Operand, Target};
+use tac::{Instruction, Operand, Place, Target};
 
 fn greater(a: usize, b: usize) -> usize
     ensures { result ≡ max a b }
@@ -73,6 +73,33 @@ fn temporaries_among(target: Target, left: Operand, right: Operand) -> Result<us
     Ok(greater(first, second))
 }
 
+fn temporary_at(spot: Place) -> Result<usize, AllocError>
+    ensures { IfOk result (λ n. n ≡ relation.temporary_at spot) }
+{
+    match spot {
+        Place::Literal(_) => Ok(0),
+        Place::Static(_) => Ok(0),
+        Place::Array(_) => Ok(0),
+        Place::At(operand) => temporary_in(operand),
+    }
+}
+
+fn temporaries_towards(target: Target, spot: Place) -> Result<usize, AllocError>
+    ensures { IfOk result (λ n. n ≡ max (relation.temporary_to target) (relation.temporary_at spot)) }
+{
+    let first = temporary_to(target)?;
+    let second = temporary_at(spot)?;
+    Ok(greater(first, second))
+}
+
+fn temporaries_from(source: Operand, spot: Place) -> Result<usize, AllocError>
+    ensures { IfOk result (λ n. n ≡ max (relation.temporary_in source) (relation.temporary_at spot)) }
+{
+    let first = temporary_in(source)?;
+    let second = temporary_at(spot)?;
+    Ok(greater(first, second))
+}
+
 fn parameters_of(functions: &[Function], number: usize) -> usize
     ensures { result ≡ parameters_at (map function_of functions.now) number }
 {
@@ -102,21 +129,21 @@ fn temporaries_of(functions: &[Function], instruction: Instruction) -> Result<us
         } => temporaries_between(target, source),
         Instruction::Load {
             element: _,
-            target: _,
-            from: _,
-        } => Ok(0),
+            target,
+            from,
+        } => temporaries_towards(target, from),
         Instruction::Store {
             element: _,
-            source: _,
-            to: _,
-        } => Ok(0),
-        Instruction::Address { target: _, of: _ } => Ok(0),
+            source,
+            to,
+        } => temporaries_from(source, to),
+        Instruction::Address { target, of } => temporaries_towards(target, of),
         Instruction::Part {
-            target: _,
-            array: _,
-            index: _,
+            target,
+            array,
+            index,
             size: _,
-        } => Ok(0),
+        } => temporaries_among(target, array, index),
         Instruction::Forget { first: _, count: _ } => Ok(0),
         Instruction::Jump(_) => Ok(0),
         Instruction::Branch {
@@ -196,6 +223,33 @@ fn slots_among(target: Target, left: Operand, right: Operand) -> Result<usize, A
     Ok(greater(first, second))
 }
 
+fn kept_at(spot: Place) -> Result<usize, AllocError>
+    ensures { IfOk result (λ n. n ≡ relation.kept_at spot) }
+{
+    match spot {
+        Place::Literal(_) => Ok(0),
+        Place::Static(_) => Ok(0),
+        Place::Array(_) => Ok(0),
+        Place::At(operand) => kept_in(operand),
+    }
+}
+
+fn slots_towards(target: Target, spot: Place) -> Result<usize, AllocError>
+    ensures { IfOk result (λ n. n ≡ max (relation.kept_to target) (relation.kept_at spot)) }
+{
+    let first = kept_to(target)?;
+    let second = kept_at(spot)?;
+    Ok(greater(first, second))
+}
+
+fn slots_from(source: Operand, spot: Place) -> Result<usize, AllocError>
+    ensures { IfOk result (λ n. n ≡ max (relation.kept_in source) (relation.kept_at spot)) }
+{
+    let first = kept_in(source)?;
+    let second = kept_at(spot)?;
+    Ok(greater(first, second))
+}
+
 fn slots_of(instruction: Instruction) -> Result<usize, AllocError>
     ensures { IfOk result (λ n. n ≡ relation.slots_of instruction) }
 {
@@ -216,21 +270,21 @@ fn slots_of(instruction: Instruction) -> Result<usize, AllocError>
         } => slots_between(target, source),
         Instruction::Load {
             element: _,
-            target: _,
-            from: _,
-        } => Ok(0),
+            target,
+            from,
+        } => slots_towards(target, from),
         Instruction::Store {
             element: _,
-            source: _,
-            to: _,
-        } => Ok(0),
-        Instruction::Address { target: _, of: _ } => Ok(0),
+            source,
+            to,
+        } => slots_from(source, to),
+        Instruction::Address { target, of } => slots_towards(target, of),
         Instruction::Part {
-            target: _,
-            array: _,
-            index: _,
+            target,
+            array,
+            index,
             size: _,
-        } => Ok(0),
+        } => slots_among(target, array, index),
         Instruction::Forget { first: _, count: _ } => Ok(0),
         Instruction::Jump(_) => Ok(0),
         Instruction::Branch {

@@ -1,20 +1,21 @@
 //! The code of functions.
 
 ghost use Rattle.std.specs.Prelude.{ℕ, suc, ◌≡◌, [], map, length, OnOk, IfOk};
-ghost use Rattle.program.specs.View.{parameter_type_of, function_of};
+ghost use Rattle.program.specs.View.{parameter_type_of, function_of, program_of};
 ghost use Rattle.tac.specs.Lowered.{kind_of};
 ghost use Rattle.tac.specs.Code as three_address;
 ghost use Rattle.lowering.specs.Bodies as relation;
-ghost use Rattle.lower_values.specs.inside.Parts.{Wrote};
-ghost use Rattle.lower.specs.inside.Functions.{closing_size, parameters_at, IsBodyOf, IsFunctionWith};
+ghost use Rattle.lower_forms.specs.inside.Parts.{Wrote};
+ghost use Rattle.lower.specs.inside.Functions.{closing_size, IsBodyOf, IsFunctionWith};
 
 use crate::block_sizes::statement_size;
 use crate::copies::copied_objects;
 use crate::counts::{most_slots, most_temporaries};
 use crate::statements::put_statement;
-use lower_values::sizes::plus;
-use lower_values::writing::{Code, ahead, put};
-use program::{Function, ParameterType};
+use lower_forms::form_sizes::plus;
+use lower_forms::row_sizes::Scope;
+use lower_forms::writing::{Code, ahead, put};
+use program::{Function, ParameterType, Program};
 use std::alloc::{AllocError, Global};
 use tac::{Instruction, Operand, Parameter, Target};
 
@@ -51,14 +52,14 @@ fn put_closing(code: &mut Code, is_main: bool) -> Result<(), AllocError>
     Ok(())
 }
 
-fn put_body(code: &mut Code, function: &Function, is_main: bool) -> Result<(), AllocError>
+fn put_body(scope: &Scope<'_>, code: &mut Code, is_main: bool) -> Result<(), AllocError>
     requires { code.old.list.items ≡ [] }
-    ensures { OnOk result (IsBodyOf is_main (function_of function.now) code.new.list.items) }
+    ensures { OnOk result (IsBodyOf (program_of scope.now.program.now) is_main (function_of scope.now.function.now) code.new.list.items) }
 {
-    put_idles(code, &function.function_type.parameters)?;
-    let end = ahead(code, statement_size(&function.body));
+    put_idles(code, &scope.function.function_type.parameters)?;
+    let end = ahead(code, statement_size(&scope.function.body));
     let back = plus(end, closing_size(is_main));
-    put_statement(code, &function.body, end, end, back)?;
+    put_statement(scope, code, &scope.function.body, end, end, back)?;
     put_closing(code, is_main)?;
     put(code, Instruction::Return)?;
     Ok(())
@@ -66,15 +67,17 @@ fn put_body(code: &mut Code, function: &Function, is_main: bool) -> Result<(), A
 
 fn body_of(
     alloc: Global,
+    program: &Program,
     function: &Function,
     is_main: bool,
 ) -> Result<Vec<Instruction>, AllocError>
-    ensures { IfOk result (λ code. IsBodyOf is_main (function_of function.now) code.items) }
+    ensures { IfOk result (λ code. IsBodyOf (program_of program.now) is_main (function_of function.now) code.items) }
 {
     let mut code = Code {
         list: Vec::new(alloc),
     };
-    put_body(&mut code, function, is_main)?;
+    let scope = Scope { program, function };
+    put_body(&scope, &mut code, is_main)?;
     Ok(code.list)
 }
 
@@ -97,17 +100,17 @@ fn kinds(alloc: Global, parameters: &[ParameterType]) -> Result<Vec<Parameter>, 
     Ok(list)
 }
 
-/// A function, in a program with these.
+/// A function of a program.
 pub(crate) fn lowered_function(
     alloc: Global,
-    functions: &[Function],
+    program: &Program,
     function: &Function,
     is_main: bool,
 ) -> Result<tac::Function, AllocError>
-    ensures { IfOk result (λ g. IsFunctionWith (parameters_at (map function_of functions.now)) is_main (function_of function.now) (three_address.function_of g)) }
+    ensures { IfOk result (λ g. IsFunctionWith (program_of program.now) is_main (function_of function.now) (three_address.function_of g)) }
 {
-    let code = body_of(alloc, function, is_main)?;
-    let temporaries = most_temporaries(functions, &code)?;
+    let code = body_of(alloc, program, function, is_main)?;
+    let temporaries = most_temporaries(&program.functions, &code)?;
     let kept = most_slots(&code)?;
     Ok(tac::Function {
         code,

@@ -2,16 +2,20 @@
 
 ghost use Rattle.std.specs.Prelude.{◌≡◌, ℕ, OnOk};
 ghost use Rattle.typed.specs.Program as typed;
+ghost use Rattle.typed.specs.Program.{Place};
 ghost use Rattle.program.specs.View.{value_of, option_value, initialiser_of};
 ghost use Rattle.lowering.specs.Bodies as relation;
-ghost use Rattle.lower_values.specs.inside.Parts.{Wrote};
+ghost use Rattle.lower_forms.specs.inside.Parts.{Wrote};
+ghost use Rattle.lower_forms.specs.inside.Rows as rows;
 ghost use Rattle.lower.specs.inside.Sizes as size;
 ghost use Rattle.lower.specs.inside.Written.{WroteStatement};
 
 use ctypes::IntType;
-use lower_values::modes::Mode;
-use lower_values::values::{Free, put_converted, put_value};
-use lower_values::writing::{Code, put};
+use lower_forms::modes::Mode;
+use lower_forms::row_sizes::Scope;
+use lower_forms::writing::{Code, put};
+use lower_values::places::Free;
+use lower_values::values::{put_converted, put_value};
 use program::{Initialiser, Value};
 use std::alloc::AllocError;
 use tac::{Instruction, Target};
@@ -29,22 +33,23 @@ pub(crate) fn all_free() -> Free
 
 /// An object gets its first value, which costs a tick behind its expression.
 pub(crate) fn put_first(
+    scope: &Scope<'_>,
     code: &mut Code,
     initialiser: &Initialiser,
     object: usize,
 ) -> Result<(), AllocError>
-    ensures { OnOk result (Wrote (λ w p q. relation.Initialises w (initialiser_of initialiser.now) object p q) (size.initialises_size (initialiser_of initialiser.now)) code.old.list.items code.new.list.items) }
+    ensures { OnOk result (Wrote (λ w p q. relation.Initialises w (rows.sizes_in scope.now) (initialiser_of initialiser.now) object p q) (size.initialises_size (initialiser_of initialiser.now)) code.old.list.items code.new.list.items) }
 {
     match initialiser {
         Initialiser::One(ty, e) => {
-            put_converted(code, *ty, e, Target::Object(object), all_free())?;
+            put_converted(scope, code, *ty, e, Target::Object(object), all_free())?;
             put(code, Instruction::Nothing)?;
             Ok(())
         }
         Initialiser::Text(_) => Err(AllocError),
         Initialiser::InBraces(inner) => {
             put(code, Instruction::Nothing)?;
-            put_first(code, inner, object)?;
+            put_first(scope, code, inner, object)?;
             Ok(())
         }
         Initialiser::List(_) => Err(AllocError),
@@ -52,21 +57,30 @@ pub(crate) fn put_first(
 }
 
 /// What may be left out: nothing is evaluated.
-pub(crate) fn put_effects(code: &mut Code, e: &Option<Value>) -> Result<(), AllocError>
-    ensures { OnOk result (Wrote (λ w p q. relation.Effects w (option_value e.now) p q) (size.effects_size (option_value e.now)) code.old.list.items code.new.list.items) }
+pub(crate) fn put_effects(
+    scope: &Scope<'_>,
+    code: &mut Code,
+    e: &Option<Value>,
+) -> Result<(), AllocError>
+    ensures { OnOk result (Wrote (λ w p q. relation.Effects w (rows.sizes_in scope.now) (option_value e.now) p q) (size.effects_size (option_value e.now)) code.old.list.items code.new.list.items) }
 {
     match e {
         None => Ok(()),
         Some(e) => {
-            put_value(code, e, Mode::Nowhere, all_free())?;
+            put_value(scope, code, e, Mode::Nowhere, all_free())?;
             Ok(())
         }
     }
 }
 
 /// What may be left out: a loop goes on.
-pub(crate) fn put_repeats(code: &mut Code, e: &Option<Value>, top: usize) -> Result<(), AllocError>
-    ensures { OnOk result (Wrote (λ w p q. relation.Repeats w (option_value e.now) top p q) (size.repeats_size (option_value e.now)) code.old.list.items code.new.list.items) }
+pub(crate) fn put_repeats(
+    scope: &Scope<'_>,
+    code: &mut Code,
+    e: &Option<Value>,
+    top: usize,
+) -> Result<(), AllocError>
+    ensures { OnOk result (Wrote (λ w p q. relation.Repeats w (rows.sizes_in scope.now) (option_value e.now) top p q) (size.repeats_size (option_value e.now)) code.old.list.items code.new.list.items) }
 {
     match e {
         None => {
@@ -74,26 +88,27 @@ pub(crate) fn put_repeats(code: &mut Code, e: &Option<Value>, top: usize) -> Res
             Ok(())
         }
         Some(e) => {
-            put_value(code, e, Mode::If(true, top), all_free())?;
+            put_value(scope, code, e, Mode::If(true, top), all_free())?;
             Ok(())
         }
     }
 }
 
-pub(crate) fn put_evaluated(code: &mut Code, e: &Value) -> Result<(), AllocError>
-    ensures { OnOk result ((out again back : ℕ) → WroteStatement (typed.evaluate (value_of e.now)) out again back code.old.list.items code.new.list.items) }
+pub(crate) fn put_evaluated(scope: &Scope<'_>, code: &mut Code, e: &Value) -> Result<(), AllocError>
+    ensures { OnOk result ((out again back : ℕ) → WroteStatement (rows.sizes_in scope.now) (typed.evaluate (value_of e.now)) out again back code.old.list.items code.new.list.items) }
 {
     put(code, Instruction::Nothing)?;
-    put_value(code, e, Mode::Nowhere, all_free())?;
+    put_value(scope, code, e, Mode::Nowhere, all_free())?;
     Ok(())
 }
 
 pub(crate) fn put_defined(
+    scope: &Scope<'_>,
     code: &mut Code,
     object: usize,
     initialiser: &Initialiser,
 ) -> Result<(), AllocError>
-    ensures { OnOk result ((out again back : ℕ) → WroteStatement (typed.define object (initialiser_of initialiser.now)) out again back code.old.list.items code.new.list.items) }
+    ensures { OnOk result ((out again back : ℕ) → WroteStatement (rows.sizes_in scope.now) (typed.define object (initialiser_of initialiser.now)) out again back code.old.list.items code.new.list.items) }
 {
     put(
         code,
@@ -102,26 +117,27 @@ pub(crate) fn put_defined(
             count: 1,
         },
     )?;
-    put_first(code, initialiser, object)?;
+    put_first(scope, code, initialiser, object)?;
     Ok(())
 }
 
 pub(crate) fn put_returned(
+    scope: &Scope<'_>,
     code: &mut Code,
     ty: IntType,
     e: &Value,
     back: usize,
 ) -> Result<(), AllocError>
-    ensures { OnOk result ((out again : ℕ) → WroteStatement (typed.return_value ty (value_of e.now)) out again back code.old.list.items code.new.list.items) }
+    ensures { OnOk result ((out again : ℕ) → WroteStatement (rows.sizes_in scope.now) (typed.return_value ty (value_of e.now)) out again back code.old.list.items code.new.list.items) }
 {
     put(code, Instruction::Nothing)?;
-    put_converted(code, ty, e, Target::Temporary(0), all_free())?;
+    put_converted(scope, code, ty, e, Target::Temporary(0), all_free())?;
     put(code, Instruction::Jump(back))?;
     Ok(())
 }
 
 pub(crate) fn put_return(code: &mut Code, back: usize) -> Result<(), AllocError>
-    ensures { OnOk result ((out again : ℕ) → WroteStatement typed.return_nothing out again back code.old.list.items code.new.list.items) }
+    ensures { OnOk result ((size : Place → ℕ) → (out again : ℕ) → WroteStatement size typed.return_nothing out again back code.old.list.items code.new.list.items) }
 {
     put(code, Instruction::Nothing)?;
     put(code, Instruction::Jump(back))?;

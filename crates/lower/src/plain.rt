@@ -1,30 +1,17 @@
 //! Which programs are plain.
 
 ghost use Rattle.std.specs.Prelude.{◌≡◌, ◌&&◌, map};
-ghost use Rattle.program.specs.View.{callee_of, place_of, value_of, argument_of, arguments_of, option_value, initialiser_of, statement_of, statements_of, object_type_of, parameter_type_of, function_of, program_of};
+ghost use Rattle.program.specs.View.{callee_of, place_of, value_of, argument_of, arguments_of, option_value, initialiser_of, statement_of, statements_of, function_of, program_of};
 ghost use Rattle.std.specs.List.{list_all};
 ghost use Rattle.lowering.specs.Plain as definition;
 ghost use Rattle.lower.specs.inside.Given.{given_is_plain};
 
-use lower_values::objects::object_of;
-use program::{
-    Argument, Callee, Function, Initialiser, ObjectType, ParameterType, Place, Program, Statement,
-    Value,
-};
+use program::{Argument, Callee, Function, Initialiser, Place, Program, Statement, Value};
 
 fn both(a: bool, b: bool) -> bool
     ensures { result ≡ a && b }
 {
     a && b
-}
-
-fn is_object(place: &Place) -> bool
-    ensures { result ≡ definition.is_some (definition.object_of (place_of place.now)) }
-{
-    match object_of(place) {
-        Some(_) => true,
-        None => false,
-    }
 }
 
 fn callee_is_plain(callee: Callee) -> bool
@@ -42,12 +29,22 @@ fn callee_is_plain(callee: Callee) -> bool
 // ---- expressions
 
 #[cycle(plain_values)]
+fn place_is_plain(place: &Place) -> bool
+    ensures { result ≡ definition.place_is_plain (place_of place.now) }
+{
+    match place {
+        Place::Named(_, _) => true,
+        Place::Element(_, array, index) => both(place_is_plain(array), value_is_plain(index)),
+    }
+}
+
+#[cycle(plain_values)]
 fn argument_is_plain(argument: &Argument) -> bool
     ensures { result ≡ given_is_plain (argument_of argument.now) }
 {
     match argument {
         Argument::Number(_, e) => value_is_plain(e),
-        Argument::Array(_) => false,
+        Argument::Array(array) => place_is_plain(array),
     }
 }
 
@@ -68,10 +65,10 @@ fn value_is_plain(e: &Value) -> bool
 {
     match e {
         Value::Constant(_, _) => true,
-        Value::Read(_, place) => is_object(place),
-        Value::Assigned(_, _, place, e) => both(is_object(place), value_is_plain(e)),
-        Value::Compound(_, _, _, _, place, e) => both(is_object(place), value_is_plain(e)),
-        Value::Stepped(_, _, _, _, _, place) => is_object(place),
+        Value::Read(_, place) => place_is_plain(place),
+        Value::Assigned(_, _, place, e) => both(place_is_plain(place), value_is_plain(e)),
+        Value::Compound(_, _, _, _, place, e) => both(place_is_plain(place), value_is_plain(e)),
+        Value::Stepped(_, _, _, _, _, place) => place_is_plain(place),
         Value::Unary(_, _, _, e) => value_is_plain(e),
         Value::Binary(_, _, _, a, b) => both(value_is_plain(a), value_is_plain(b)),
         Value::BothTrue(a, b) => both(value_is_plain(a), value_is_plain(b)),
@@ -161,51 +158,10 @@ fn statement_is_plain(statement: &Statement) -> bool
 
 // ---- functions
 
-fn object_is_plain(object: &ObjectType) -> bool
-    ensures { result ≡ definition.object_is_plain (object_type_of object.now) }
-{
-    object.lengths.is_empty()
-}
-
-fn objects_are_plain(objects: &[ObjectType]) -> bool
-    ensures { result ≡ list_all definition.object_is_plain (map object_type_of objects.now) }
-{
-    let mut all = true;
-    for object in objects {
-        all = both(all, object_is_plain(object));
-    }
-    all
-}
-
-fn parameter_is_plain(parameter: &ParameterType) -> bool
-    ensures { result ≡ definition.parameter_is_plain (parameter_type_of parameter.now) }
-{
-    match parameter {
-        ParameterType::Number(_) => true,
-        ParameterType::Elements(_) => false,
-    }
-}
-
-fn parameters_are_plain(parameters: &[ParameterType]) -> bool
-    ensures { result ≡ list_all definition.parameter_is_plain (map parameter_type_of parameters.now) }
-{
-    let mut all = true;
-    for parameter in parameters {
-        all = both(all, parameter_is_plain(parameter));
-    }
-    all
-}
-
 fn function_is_plain(function: &Function) -> bool
     ensures { result ≡ definition.function_is_plain (function_of function.now) }
 {
-    both(
-        objects_are_plain(&function.objects),
-        both(
-            parameters_are_plain(&function.function_type.parameters),
-            statement_is_plain(&function.body),
-        ),
-    )
+    statement_is_plain(&function.body)
 }
 
 fn functions_are_plain(functions: &[Function]) -> bool
@@ -218,7 +174,7 @@ fn functions_are_plain(functions: &[Function]) -> bool
     all
 }
 
-/// Whether its functions use automatic objects that are no arrays, and nothing else that lies in memory.
+/// Whether none of its automatic arrays has an initialiser.
 pub fn is_plain(program: &Program) -> bool
     ensures { result ≡ definition.is_plain (program_of program.now) }
 {

@@ -4,7 +4,8 @@ ghost use Rattle.std.specs.Prelude.{◌≡◌, map, ℕ, OnOk};
 ghost use Rattle.ctypes.specs.declared.types.IntType.{IntType};
 ghost use Rattle.typed.specs.Program as typed;
 ghost use Rattle.program.specs.View.{value_of, option_value, statement_of, statements_of};
-ghost use Rattle.lower_values.specs.inside.Parts as parts;
+ghost use Rattle.lower_forms.specs.inside.Parts as parts;
+ghost use Rattle.lower_forms.specs.inside.Rows as rows;
 ghost use Rattle.lower.specs.inside.Sizes as size;
 ghost use Rattle.lower.specs.inside.Written.{WroteStatement, WrotePlaced};
 
@@ -13,17 +14,20 @@ use crate::leaves::{
     all_free, put_defined, put_effects, put_evaluated, put_repeats, put_return, put_returned,
 };
 use crate::switches::put_tests;
-use lower_values::modes::{Mode, Shape, mode_of, shape_for};
+use lower_forms::form_sizes::plus;
+use lower_forms::modes::{Mode, Shape, mode_of, shape_for};
+use lower_forms::row_sizes::Scope;
+use lower_forms::writing::{Code, ahead, put};
 use lower_values::operands::waits_for_objects;
-use lower_values::sizes::{plus, value_size};
+use lower_values::sizes::value_size;
 use lower_values::values::put_value;
-use lower_values::writing::{Code, ahead, put};
 use program::{Statement, Value};
 use std::alloc::AllocError;
 use tac::Instruction;
 
 #[cycle(statement_code)]
 fn put_block(
+    scope: &Scope<'_>,
     code: &mut Code,
     first: usize,
     count: usize,
@@ -32,15 +36,16 @@ fn put_block(
     again: usize,
     back: usize,
 ) -> Result<(), AllocError>
-    ensures { OnOk result (WroteStatement (typed.block first count (statements_of (map statement_of all.now))) out again back code.old.list.items code.new.list.items) }
+    ensures { OnOk result (WroteStatement (rows.sizes_in scope.now) (typed.block first count (statements_of (map statement_of all.now))) out again back code.old.list.items code.new.list.items) }
 {
     put(code, Instruction::Forget { first, count })?;
-    put_statements(code, all, out, again, back)?;
+    put_statements(scope, code, all, out, again, back)?;
     Ok(())
 }
 
 #[cycle(statement_code)]
 fn put_if(
+    scope: &Scope<'_>,
     code: &mut Code,
     e: &Value,
     a: &Statement,
@@ -48,18 +53,19 @@ fn put_if(
     again: usize,
     back: usize,
 ) -> Result<(), AllocError>
-    ensures { OnOk result (WroteStatement (typed.branch (value_of e.now) (statement_of a.now)) out again back code.old.list.items code.new.list.items) }
+    ensures { OnOk result (WroteStatement (rows.sizes_in scope.now) (typed.branch (value_of e.now) (statement_of a.now)) out again back code.old.list.items code.new.list.items) }
 {
     let test = value_size(e, Shape::Jump);
     let end = ahead(code, plus(1, plus(test, statement_size(a))));
     put(code, Instruction::Nothing)?;
-    put_value(code, e, Mode::If(false, end), all_free())?;
-    put_statement(code, a, out, again, back)?;
+    put_value(scope, code, e, Mode::If(false, end), all_free())?;
+    put_statement(scope, code, a, out, again, back)?;
     Ok(())
 }
 
 #[cycle(statement_code)]
 fn put_if_else(
+    scope: &Scope<'_>,
     code: &mut Code,
     e: &Value,
     a: &Statement,
@@ -68,7 +74,7 @@ fn put_if_else(
     again: usize,
     back: usize,
 ) -> Result<(), AllocError>
-    ensures { OnOk result (WroteStatement (typed.branches (value_of e.now) (statement_of a.now) (statement_of b.now)) out again back code.old.list.items code.new.list.items) }
+    ensures { OnOk result (WroteStatement (rows.sizes_in scope.now) (typed.branches (value_of e.now) (statement_of a.now) (statement_of b.now)) out again back code.old.list.items code.new.list.items) }
 {
     let test = value_size(e, Shape::Jump);
     let first = statement_size(a);
@@ -76,16 +82,22 @@ fn put_if_else(
     let other = ahead(code, plus(1, plus(test, plus(first, 1))));
     let end = ahead(code, plus(1, plus(test, plus(first, plus(1, second)))));
     put(code, Instruction::Nothing)?;
-    put_value(code, e, Mode::If(false, other), all_free())?;
-    put_statement(code, a, out, again, back)?;
+    put_value(scope, code, e, Mode::If(false, other), all_free())?;
+    put_statement(scope, code, a, out, again, back)?;
     put(code, Instruction::Jump(end))?;
-    put_statement(code, b, out, again, back)?;
+    put_statement(scope, code, b, out, again, back)?;
     Ok(())
 }
 
 #[cycle(statement_code)]
-fn put_while(code: &mut Code, e: &Value, a: &Statement, back: usize) -> Result<(), AllocError>
-    ensures { OnOk result ((out again : ℕ) → WroteStatement (typed.while (value_of e.now) (statement_of a.now)) out again back code.old.list.items code.new.list.items) }
+fn put_while(
+    scope: &Scope<'_>,
+    code: &mut Code,
+    e: &Value,
+    a: &Statement,
+    back: usize,
+) -> Result<(), AllocError>
+    ensures { OnOk result ((out again : ℕ) → WroteStatement (rows.sizes_in scope.now) (typed.while (value_of e.now) (statement_of a.now)) out again back code.old.list.items code.new.list.items) }
 {
     let body = statement_size(a);
     let test = value_size(e, Shape::Jump);
@@ -93,14 +105,20 @@ fn put_while(code: &mut Code, e: &Value, a: &Statement, back: usize) -> Result<(
     let at = ahead(code, plus(1, body));
     let end = ahead(code, plus(1, plus(body, test)));
     put(code, Instruction::Jump(at))?;
-    put_statement(code, a, end, at, back)?;
-    put_value(code, e, Mode::If(true, top), all_free())?;
+    put_statement(scope, code, a, end, at, back)?;
+    put_value(scope, code, e, Mode::If(true, top), all_free())?;
     Ok(())
 }
 
 #[cycle(statement_code)]
-fn put_do_while(code: &mut Code, a: &Statement, e: &Value, back: usize) -> Result<(), AllocError>
-    ensures { OnOk result ((out again : ℕ) → WroteStatement (typed.do_while (statement_of a.now) (value_of e.now)) out again back code.old.list.items code.new.list.items) }
+fn put_do_while(
+    scope: &Scope<'_>,
+    code: &mut Code,
+    a: &Statement,
+    e: &Value,
+    back: usize,
+) -> Result<(), AllocError>
+    ensures { OnOk result ((out again : ℕ) → WroteStatement (rows.sizes_in scope.now) (typed.do_while (statement_of a.now) (value_of e.now)) out again back code.old.list.items code.new.list.items) }
 {
     let body = statement_size(a);
     let test = value_size(e, Shape::Jump);
@@ -108,14 +126,15 @@ fn put_do_while(code: &mut Code, a: &Statement, e: &Value, back: usize) -> Resul
     let at = ahead(code, plus(1, body));
     let end = ahead(code, plus(1, plus(body, test)));
     put(code, Instruction::Nothing)?;
-    put_statement(code, a, end, at, back)?;
-    put_value(code, e, Mode::If(true, top), all_free())?;
+    put_statement(scope, code, a, end, at, back)?;
+    put_value(scope, code, e, Mode::If(true, top), all_free())?;
     Ok(())
 }
 
 /// A `for`, whose test stands behind its body.
 #[cycle(statement_code)]
 fn put_for(
+    scope: &Scope<'_>,
     code: &mut Code,
     declared: &[Statement],
     start: &Option<Value>,
@@ -124,7 +143,7 @@ fn put_for(
     a: &Statement,
     back: usize,
 ) -> Result<(), AllocError>
-    ensures { OnOk result ((out again : ℕ) → WroteStatement (typed.for (statements_of (map statement_of declared.now)) (option_value start.now) (option_value test.now) (option_value step.now) (statement_of a.now)) out again back code.old.list.items code.new.list.items) }
+    ensures { OnOk result ((out again : ℕ) → WroteStatement (rows.sizes_in scope.now) (typed.for (statements_of (map statement_of declared.now)) (option_value start.now) (option_value test.now) (option_value step.now) (statement_of a.now)) out again back code.old.list.items code.new.list.items) }
 {
     let top = ahead(code, before_body(declared, start, 1));
     let body = plus(1, statement_size(a));
@@ -135,12 +154,12 @@ fn put_for(
     let all = plus(1, plus(statement_size(a), rest));
     let end = ahead(code, before_body(declared, start, all));
     put(code, Instruction::Nothing)?;
-    put_statements(code, declared, end, end, back)?;
-    put_effects(code, start)?;
+    put_statements(scope, code, declared, end, end, back)?;
+    put_effects(scope, code, start)?;
     put(code, Instruction::Jump(at))?;
-    put_statement(code, a, end, next, back)?;
-    put_effects(code, step)?;
-    put_repeats(code, test, top)?;
+    put_statement(scope, code, a, end, next, back)?;
+    put_effects(scope, code, step)?;
+    put_repeats(scope, code, test, top)?;
     Ok(())
 }
 
@@ -157,6 +176,7 @@ fn before_body(declared: &[Statement], start: &Option<Value>, more: usize) -> us
 /// Its objects are forgotten behind its value, which one of them cannot hold.
 #[cycle(statement_code)]
 fn put_switch(
+    scope: &Scope<'_>,
     code: &mut Code,
     e: &Value,
     first: usize,
@@ -165,7 +185,7 @@ fn put_switch(
     again: usize,
     back: usize,
 ) -> Result<(), AllocError>
-    ensures { OnOk result ((u : IntType) → (out : ℕ) → WroteStatement (typed.switch u (value_of e.now) first count (statements_of (map statement_of all.now))) out again back code.old.list.items code.new.list.items) }
+    ensures { OnOk result ((u : IntType) → (out : ℕ) → WroteStatement (rows.sizes_in scope.now) (typed.switch u (value_of e.now) first count (statements_of (map statement_of all.now))) out again back code.old.list.items code.new.list.items) }
 {
     let operand = waits_for_objects(e, first, count);
     let value = value_size(e, shape_for(operand));
@@ -174,29 +194,30 @@ fn put_switch(
     let behind = plus(1, plus(tests, statements_size(all)));
     let end = ahead(code, plus(1, plus(value, behind)));
     put(code, Instruction::Nothing)?;
-    put_value(code, e, mode_of(operand), all_free())?;
+    put_value(scope, code, e, mode_of(operand), all_free())?;
     put(code, Instruction::Forget { first, count })?;
     put_tests(code, operand, all, body, end)?;
-    put_statements(code, all, end, again, back)?;
+    put_statements(scope, code, all, end, again, back)?;
     Ok(())
 }
 
 /// The code of statements, one behind the other.
 #[cycle(statement_code)]
 fn put_statements(
+    scope: &Scope<'_>,
     code: &mut Code,
     all: &[Statement],
     out: usize,
     again: usize,
     back: usize,
 ) -> Result<(), AllocError>
-    ensures { OnOk result (WrotePlaced (statements_of (map statement_of all.now)) out again back code.old.list.items code.new.list.items) }
+    ensures { OnOk result (WrotePlaced (rows.sizes_in scope.now) (statements_of (map statement_of all.now)) out again back code.old.list.items code.new.list.items) }
 {
     match all.split_first() {
         None => Ok(()),
         Some((statement, more)) => {
-            put_statement(code, statement, out, again, back)?;
-            put_statements(code, more, out, again, back)?;
+            put_statement(scope, code, statement, out, again, back)?;
+            put_statements(scope, code, more, out, again, back)?;
             Ok(())
         }
     }
@@ -205,13 +226,14 @@ fn put_statements(
 /// The code of a statement, `break`, `continue` and the returns going to these positions.
 #[cycle(statement_code)]
 pub(crate) fn put_statement(
+    scope: &Scope<'_>,
     code: &mut Code,
     statement: &Statement,
     out: usize,
     again: usize,
     back: usize,
 ) -> Result<(), AllocError>
-    ensures { OnOk result (WroteStatement (statement_of statement.now) out again back code.old.list.items code.new.list.items) }
+    ensures { OnOk result (WroteStatement (rows.sizes_in scope.now) (statement_of statement.now) out again back code.old.list.items code.new.list.items) }
 {
     match statement {
         Statement::Empty => {
@@ -219,7 +241,7 @@ pub(crate) fn put_statement(
             Ok(())
         }
         Statement::Evaluate(e) => {
-            put_evaluated(code, e)?;
+            put_evaluated(scope, code, e)?;
             Ok(())
         }
         Statement::Declare(object) => {
@@ -233,23 +255,23 @@ pub(crate) fn put_statement(
             Ok(())
         }
         Statement::Define(object, initialiser) => {
-            put_defined(code, *object, initialiser)?;
+            put_defined(scope, code, *object, initialiser)?;
             Ok(())
         }
         Statement::Block(first, count, all) => {
-            put_block(code, *first, *count, all, out, again, back)?;
+            put_block(scope, code, *first, *count, all, out, again, back)?;
             Ok(())
         }
         Statement::If(e, a) => {
-            put_if(code, e, a, out, again, back)?;
+            put_if(scope, code, e, a, out, again, back)?;
             Ok(())
         }
         Statement::IfElse(e, a, b) => {
-            put_if_else(code, e, a, b, out, again, back)?;
+            put_if_else(scope, code, e, a, b, out, again, back)?;
             Ok(())
         }
         Statement::Switch(_, e, first, count, all) => {
-            put_switch(code, e, *first, *count, all, again, back)?;
+            put_switch(scope, code, e, *first, *count, all, again, back)?;
             Ok(())
         }
         Statement::Case(_) => {
@@ -261,15 +283,15 @@ pub(crate) fn put_statement(
             Ok(())
         }
         Statement::While(e, a) => {
-            put_while(code, e, a, back)?;
+            put_while(scope, code, e, a, back)?;
             Ok(())
         }
         Statement::DoWhile(a, e) => {
-            put_do_while(code, a, e, back)?;
+            put_do_while(scope, code, a, e, back)?;
             Ok(())
         }
         Statement::For(declared, start, test, step, a) => {
-            put_for(code, declared, start, test, step, a, back)?;
+            put_for(scope, code, declared, start, test, step, a, back)?;
             Ok(())
         }
         Statement::Break => {
@@ -285,7 +307,7 @@ pub(crate) fn put_statement(
             Ok(())
         }
         Statement::ReturnValue(ty, e) => {
-            put_returned(code, *ty, e, back)?;
+            put_returned(scope, code, *ty, e, back)?;
             Ok(())
         }
     }

@@ -7,10 +7,10 @@ ghost use Rattle.lower.specs.inside.Places.{one_label};
 ghost use Rattle.lower.specs.inside.Written.{WroteTests};
 
 use crate::block_sizes::statement_size;
-use lower_values::instructions::branch;
-use lower_values::operands::word_of;
-use lower_values::sizes::plus;
-use lower_values::writing::{Code, put};
+use lower_forms::form_sizes::plus;
+use lower_forms::instructions::branch;
+use lower_forms::words::word_of;
+use lower_forms::writing::{Code, put};
 use program::Statement;
 use std::alloc::AllocError;
 use tac::{Comparison, Instruction, Operand, Reading};

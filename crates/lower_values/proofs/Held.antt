@@ -17,12 +17,6 @@ use Rattle.program.specs.declared.expressions.Value as V
 use Rattle.program.specs.View.{value_of, place_of, storage_of, callee_of, moment_of, argument_of, arguments_of}
 use Rattle.typed.specs.Program as typed
 
-named_is : (at : Pos) (what : Storage) → place_of (P.Named at what) ≡ typed.named at (storage_of what)
-named_is at what = search (rules, the_lemmas)
-
-pub sees_named : (x : Place) (at : Pos) (what : Storage) → x ≡ P.Named at what → place_of x ≡ typed.named at (storage_of what)
-sees_named x at what e = ap place_of e ∙ named_is at what
-
 constant_is : (u : IntType) (v : ℤ) → value_of (V.Constant u v) ≡ typed.constant u v
 constant_is u v = search (rules, the_lemmas)
 

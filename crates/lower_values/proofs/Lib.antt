@@ -1,6 +1,5 @@
 pub mod Lists
 pub mod Nodes
 pub mod Held
-pub mod Parts
-pub mod Operated
 pub mod Expressions
+pub mod Located

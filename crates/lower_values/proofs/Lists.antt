@@ -4,7 +4,7 @@ use Rattle.std.proofs.lemmas.List.{take_more}
 use Rattle.typed.specs.Program.{Arguments}
 use Rattle.program.specs.View.{Given, number_given, array_given, and_given}
 use Rattle.lowering.specs.Values.{arguments_call, arguments_write}
-use Rattle.lower_values.specs.inside.Parts.{given_calls, given_writes}
+use Rattle.lower_values.specs.inside.Given.{given_calls, given_writes}
 
 or_false : (b : Bool) → b || false ≡ b
 or_false true = refl

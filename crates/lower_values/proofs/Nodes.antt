@@ -1,15 +1,19 @@
 -- Measures of expressions.
 use Rattle.std.proofs.Common.{ℕ, ◌+◌}
 use Rattle.typed.specs.Program as typed
-use Rattle.typed.specs.Program.{Value, Arguments}
+use Rattle.typed.specs.Program.{Place, Value, Arguments}
 
 abbrev mutual
+  pub place_nodes : Place → ℕ
+  place_nodes (typed.named at what) = 1
+  place_nodes (typed.element at array index) = 1 + (place_nodes array + nodes index)
+
   pub nodes : Value → ℕ
   nodes (typed.constant t v) = 1
-  nodes (typed.read t place) = 1
-  nodes (typed.assigned at t place e) = 1 + nodes e
-  nodes (typed.compound at op t of place e) = 1 + nodes e
-  nodes (typed.stepped at moment op t of place) = 1
+  nodes (typed.read t place) = 1 + place_nodes place
+  nodes (typed.assigned at t place e) = 1 + (place_nodes place + nodes e)
+  nodes (typed.compound at op t of place e) = 1 + (place_nodes place + nodes e)
+  nodes (typed.stepped at moment op t of place) = 1 + place_nodes place
   nodes (typed.unary at op t e) = 1 + nodes e
   nodes (typed.binary at op t a b) = 1 + (nodes a + nodes b)
   nodes (typed.both_true a b) = 1 + (nodes a + nodes b)
@@ -23,4 +27,4 @@ abbrev mutual
   pub argument_nodes : Arguments → ℕ
   argument_nodes typed.no_arguments = 0
   argument_nodes (typed.and_number t e more) = 1 + (nodes e + argument_nodes more)
-  argument_nodes (typed.and_array array more) = 1 + argument_nodes more
+  argument_nodes (typed.and_array array more) = 1 + (place_nodes array + argument_nodes more)

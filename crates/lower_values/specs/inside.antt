@@ -1,5 +1,4 @@
 -- What the code of an expression is to be as it is written; nothing of it has to be believed.
-pub mod Parts
+pub mod Given
 pub mod Sizes
-pub mod Emitted
 pub mod Written

@@ -1,6 +1,6 @@
 //! The code of operators whose operands are expressions.
 
-ghost use Rattle.std.specs.Prelude.{◌≡◌, ℕ, Option, OnOk, IfOk};
+ghost use Rattle.std.specs.Prelude.{◌≡◌, ℕ, Option, OnOk};
 ghost use Rattle.srcset.specs.declared.refusal.Pos.{Pos};
 ghost use Rattle.ctypes.specs.declared.types.IntType.{IntType};
 ghost use Rattle.ctypes.specs.declared.operators.BinOp.TheVariants as op;
@@ -11,20 +11,26 @@ ghost use Rattle.meaning.specs.Machine.{choose};
 ghost use Rattle.tac.specs.declared.code.Instruction.TheVariants as instruction;
 ghost use Rattle.lowering.specs.Code as relation;
 ghost use Rattle.lowering.specs.Values as lowered;
-ghost use Rattle.lower_values.specs.inside.Parts.{meant, shape_of, Wrote};
-ghost use Rattle.lower_values.specs.inside.Parts as parts;
+ghost use Rattle.lower_forms.specs.inside.Rows as rows;
+ghost use Rattle.lower_forms.specs.inside.FormSizes as form;
+ghost use Rattle.lower_forms.specs.inside.Parts.{meant, shape_of, Wrote};
+ghost use Rattle.lower_forms.specs.inside.Parts as parts;
 ghost use Rattle.lower_values.specs.inside.Sizes as size;
 ghost use Rattle.lower_values.specs.inside.Written as written;
 ghost use Rattle.lower_values.specs.inside.Written.{WroteValue};
 
-use crate::changes::put_truths;
-use crate::modes::{Mode, Shape, mode_of, shape_in};
-use crate::operands::{free_slot, free_temporary, reading_of, waits_for};
-use crate::operations::{put_operated, put_then};
-use crate::sizes::{plus, value_size};
-use crate::values::{Free, put_rested, put_value};
-use crate::writing::{Code, ahead, put};
+use crate::operands::waits_for;
+use crate::places::{Free, beside};
+use crate::sizes::value_size;
+use crate::values::{put_rested, put_value};
 use ctypes::{BinOp, IntType};
+use lower_forms::changes::put_truths;
+use lower_forms::form_sizes::plus;
+use lower_forms::modes::{Mode, Shape, mode_of, shape_in};
+use lower_forms::operations::{put_operated, put_then};
+use lower_forms::row_sizes::Scope;
+use lower_forms::words::reading_of;
+use lower_forms::writing::{Code, ahead, put};
 use program::Value;
 use std::alloc::AllocError;
 use tac::{Instruction, Operand, Reading, Target};
@@ -33,16 +39,17 @@ use tree::PrefixOp;
 /// Of a sign: what is computed from the value, and 0 or all bits.
 #[cycle(value_code)]
 fn put_minus(
+    scope: &Scope<'_>,
     code: &mut Code,
     ty: IntType,
     e: &Value,
     mode: Mode,
     free: Free,
 ) -> Result<(), AllocError>
-    ensures { OnOk result ((at : Pos) → WroteValue (typed.unary at prefix.Minus ty (value_of e.now)) (meant mode) free.temporary free.slot code.old.list.items code.new.list.items) }
+    ensures { OnOk result ((at : Pos) → WroteValue (rows.sizes_in scope.now) (typed.unary at prefix.Minus ty (value_of e.now)) (meant mode) free.temporary free.slot code.old.list.items code.new.list.items) }
 {
     put(code, Instruction::Nothing)?;
-    let operand = put_rested(code, e, free)?;
+    let operand = put_rested(scope, code, e, free)?;
     let reading = reading_of(ty);
     let zero = Operand::Constant(0);
     put_then(
@@ -59,16 +66,17 @@ fn put_minus(
 
 #[cycle(value_code)]
 fn put_complement(
+    scope: &Scope<'_>,
     code: &mut Code,
     ty: IntType,
     e: &Value,
     mode: Mode,
     free: Free,
 ) -> Result<(), AllocError>
-    ensures { OnOk result ((at : Pos) → WroteValue (typed.unary at prefix.Complement ty (value_of e.now)) (meant mode) free.temporary free.slot code.old.list.items code.new.list.items) }
+    ensures { OnOk result ((at : Pos) → WroteValue (rows.sizes_in scope.now) (typed.unary at prefix.Complement ty (value_of e.now)) (meant mode) free.temporary free.slot code.old.list.items code.new.list.items) }
 {
     put(code, Instruction::Nothing)?;
-    let operand = put_rested(code, e, free)?;
+    let operand = put_rested(scope, code, e, free)?;
     let reading = reading_of(ty);
     let all = Operand::Constant(0xffff_ffff);
     put_then(
@@ -84,13 +92,19 @@ fn put_complement(
 }
 
 #[cycle(value_code)]
-fn put_is_zero(code: &mut Code, e: &Value, mode: Mode, free: Free) -> Result<(), AllocError>
-    ensures { OnOk result (Wrote (λ w p q. (p1 p2 : ℕ) × relation.One w instruction.Nothing p p1 × relation.Into w (value_of e.now) (lowered.mode_of (lowered.operand_of (value_of e.now) free.temporary free.slot)) free.temporary free.slot p1 p2
+fn put_is_zero(
+    scope: &Scope<'_>,
+    code: &mut Code,
+    e: &Value,
+    mode: Mode,
+    free: Free,
+) -> Result<(), AllocError>
+    ensures { OnOk result (Wrote (λ w p q. (p1 p2 : ℕ) × relation.One w instruction.Nothing p p1 × relation.Into w (rows.sizes_in scope.now) (value_of e.now) (lowered.mode_of (lowered.operand_of (value_of e.now) free.temporary free.slot)) free.temporary free.slot p1 p2
         × relation.IsZero w (meant mode) (lowered.operand_of (value_of e.now) free.temporary free.slot) free.temporary p2 q)
-        (parts.plus 1 (parts.plus (size.value_size (value_of e.now) (size.rest_shape (value_of e.now))) (size.then_size op.Equal (shape_of (meant mode))))) code.old.list.items code.new.list.items) }
+        (parts.plus 1 (parts.plus (size.value_size (value_of e.now) (size.rest_shape (value_of e.now))) (form.then_size op.Equal (shape_of (meant mode))))) code.old.list.items code.new.list.items) }
 {
     put(code, Instruction::Nothing)?;
-    let operand = put_rested(code, e, free)?;
+    let operand = put_rested(scope, code, e, free)?;
     let zero = Operand::Constant(0);
     put_then(
         code,
@@ -105,37 +119,50 @@ fn put_is_zero(code: &mut Code, e: &Value, mode: Mode, free: Free) -> Result<(),
 }
 
 #[cycle(value_code)]
-fn put_not(code: &mut Code, e: &Value, mode: Mode, free: Free) -> Result<(), AllocError>
-    ensures { OnOk result ((at : Pos) → (u : IntType) → WroteValue (typed.unary at prefix.Not u (value_of e.now)) (meant mode) free.temporary free.slot code.old.list.items code.new.list.items) }
+fn put_not(
+    scope: &Scope<'_>,
+    code: &mut Code,
+    e: &Value,
+    mode: Mode,
+    free: Free,
+) -> Result<(), AllocError>
+    ensures { OnOk result ((at : Pos) → (u : IntType) → WroteValue (rows.sizes_in scope.now) (typed.unary at prefix.Not u (value_of e.now)) (meant mode) free.temporary free.slot code.old.list.items code.new.list.items) }
 {
     match mode {
         Mode::Nowhere => {
-            put_is_zero(code, e, mode, free)?;
+            put_is_zero(scope, code, e, mode, free)?;
             Ok(())
         }
         Mode::To(_) => {
-            put_is_zero(code, e, mode, free)?;
+            put_is_zero(scope, code, e, mode, free)?;
             Ok(())
         }
         Mode::If(sense, to) => {
             put(code, Instruction::Nothing)?;
-            put_value(code, e, Mode::If(!sense, to), free)?;
+            put_value(scope, code, e, Mode::If(!sense, to), free)?;
             Ok(())
         }
     }
 }
 
 #[cycle(value_code)]
-fn put_plus(code: &mut Code, e: &Value, mode: Mode, free: Free) -> Result<(), AllocError>
-    ensures { OnOk result ((at : Pos) → (u : IntType) → WroteValue (typed.unary at prefix.Plus u (value_of e.now)) (meant mode) free.temporary free.slot code.old.list.items code.new.list.items) }
+fn put_plus(
+    scope: &Scope<'_>,
+    code: &mut Code,
+    e: &Value,
+    mode: Mode,
+    free: Free,
+) -> Result<(), AllocError>
+    ensures { OnOk result ((at : Pos) → (u : IntType) → WroteValue (rows.sizes_in scope.now) (typed.unary at prefix.Plus u (value_of e.now)) (meant mode) free.temporary free.slot code.old.list.items code.new.list.items) }
 {
     put(code, Instruction::Nothing)?;
-    put_value(code, e, mode, free)?;
+    put_value(scope, code, e, mode, free)?;
     Ok(())
 }
 
 #[cycle(value_code)]
 pub(crate) fn put_unary(
+    scope: &Scope<'_>,
     code: &mut Code,
     op: PrefixOp,
     ty: IntType,
@@ -143,39 +170,31 @@ pub(crate) fn put_unary(
     mode: Mode,
     free: Free,
 ) -> Result<(), AllocError>
-    ensures { OnOk result ((at : Pos) → WroteValue (typed.unary at op ty (value_of e.now)) (meant mode) free.temporary free.slot code.old.list.items code.new.list.items) }
+    ensures { OnOk result ((at : Pos) → WroteValue (rows.sizes_in scope.now) (typed.unary at op ty (value_of e.now)) (meant mode) free.temporary free.slot code.old.list.items code.new.list.items) }
 {
     match op {
         PrefixOp::Plus => {
-            put_plus(code, e, mode, free)?;
+            put_plus(scope, code, e, mode, free)?;
             Ok(())
         }
         PrefixOp::Minus => {
-            put_minus(code, ty, e, mode, free)?;
+            put_minus(scope, code, ty, e, mode, free)?;
             Ok(())
         }
         PrefixOp::Complement => {
-            put_complement(code, ty, e, mode, free)?;
+            put_complement(scope, code, ty, e, mode, free)?;
             Ok(())
         }
         PrefixOp::Not => {
-            put_not(code, e, mode, free)?;
+            put_not(scope, code, e, mode, free)?;
             Ok(())
         }
     }
 }
 
-/// What is free beside a value that waits.
-fn beside(operand: Operand, free: Free) -> Result<Free, AllocError>
-    ensures { IfOk result (λ f. (f.temporary ≡ lowered.free_temporary operand free.temporary) × (f.slot ≡ lowered.free_kept operand free.slot)) }
-{
-    let temporary = free_temporary(operand, free.temporary)?;
-    let slot = free_slot(operand, free.slot)?;
-    Ok(Free { temporary, slot })
-}
-
 #[cycle(value_code)]
 pub(crate) fn put_binary(
+    scope: &Scope<'_>,
     code: &mut Code,
     op: BinOp,
     ty: IntType,
@@ -184,13 +203,13 @@ pub(crate) fn put_binary(
     mode: Mode,
     free: Free,
 ) -> Result<(), AllocError>
-    ensures { OnOk result ((at : Pos) → WroteValue (typed.binary at op ty (value_of a.now) (value_of b.now)) (meant mode) free.temporary free.slot code.old.list.items code.new.list.items) }
+    ensures { OnOk result ((at : Pos) → WroteValue (rows.sizes_in scope.now) (typed.binary at op ty (value_of a.now) (value_of b.now)) (meant mode) free.temporary free.slot code.old.list.items code.new.list.items) }
 {
     let left = waits_for(a, b, free.temporary, free.slot);
     put(code, Instruction::Nothing)?;
-    put_value(code, a, mode_of(left), free)?;
+    put_value(scope, code, a, mode_of(left), free)?;
     let less = beside(left, free)?;
-    let right = put_rested(code, b, less)?;
+    let right = put_rested(scope, code, b, less)?;
     let reading = reading_of(ty);
     put_operated(code, op, reading, mode, left, right, free.temporary)?;
     Ok(())
@@ -205,6 +224,7 @@ fn pick(sense: bool, one: usize, other: usize) -> usize
 /// `&&` where a jump wants it.
 #[cycle(value_code)]
 fn put_both_jump(
+    scope: &Scope<'_>,
     code: &mut Code,
     a: &Value,
     b: &Value,
@@ -212,19 +232,20 @@ fn put_both_jump(
     to: usize,
     free: Free,
 ) -> Result<(), AllocError>
-    ensures { OnOk result (WroteValue (typed.both_true (value_of a.now) (value_of b.now)) (lowered.If sense to) free.temporary free.slot code.old.list.items code.new.list.items) }
+    ensures { OnOk result (WroteValue (rows.sizes_in scope.now) (typed.both_true (value_of a.now) (value_of b.now)) (lowered.If sense to) free.temporary free.slot code.old.list.items code.new.list.items) }
 {
     let left = value_size(a, Shape::Jump);
     let right = value_size(b, Shape::Jump);
     let end = ahead(code, plus(1, plus(left, right)));
     put(code, Instruction::Nothing)?;
-    put_value(code, a, Mode::If(false, pick(sense, end, to)), free)?;
-    put_value(code, b, Mode::If(sense, to), free)?;
+    put_value(scope, code, a, Mode::If(false, pick(sense, end, to)), free)?;
+    put_value(scope, code, b, Mode::If(sense, to), free)?;
     Ok(())
 }
 
 #[cycle(value_code)]
 fn put_one_jump(
+    scope: &Scope<'_>,
     code: &mut Code,
     a: &Value,
     b: &Value,
@@ -232,80 +253,83 @@ fn put_one_jump(
     to: usize,
     free: Free,
 ) -> Result<(), AllocError>
-    ensures { OnOk result (WroteValue (typed.one_true (value_of a.now) (value_of b.now)) (lowered.If sense to) free.temporary free.slot code.old.list.items code.new.list.items) }
+    ensures { OnOk result (WroteValue (rows.sizes_in scope.now) (typed.one_true (value_of a.now) (value_of b.now)) (lowered.If sense to) free.temporary free.slot code.old.list.items code.new.list.items) }
 {
     let left = value_size(a, Shape::Jump);
     let right = value_size(b, Shape::Jump);
     let end = ahead(code, plus(1, plus(left, right)));
     put(code, Instruction::Nothing)?;
-    put_value(code, a, Mode::If(true, pick(sense, to, end)), free)?;
-    put_value(code, b, Mode::If(sense, to), free)?;
+    put_value(scope, code, a, Mode::If(true, pick(sense, to, end)), free)?;
+    put_value(scope, code, b, Mode::If(sense, to), free)?;
     Ok(())
 }
 
 /// `&&` where its value is wanted, or nothing.
 #[cycle(value_code)]
 fn put_both_number(
+    scope: &Scope<'_>,
     code: &mut Code,
     a: &Value,
     b: &Value,
     target: Target,
     free: Free,
 ) -> Result<(), AllocError>
-    ensures { OnOk result (Wrote (λ w p q. written.BothNumber w (value_of a.now) (value_of b.now) target free.temporary free.slot p q) (written.truth_size (value_of a.now) (value_of b.now)) code.old.list.items code.new.list.items) }
+    ensures { OnOk result (Wrote (λ w p q. written.BothNumber w (rows.sizes_in scope.now) (value_of a.now) (value_of b.now) target free.temporary free.slot p q) (written.truth_size (value_of a.now) (value_of b.now)) code.old.list.items code.new.list.items) }
 {
     let left = value_size(a, Shape::Jump);
     let right = value_size(b, Shape::Jump);
     let other = ahead(code, plus(1, plus(left, plus(right, 2))));
     put(code, Instruction::Nothing)?;
-    put_value(code, a, Mode::If(false, other), free)?;
-    put_value(code, b, Mode::If(false, other), free)?;
+    put_value(scope, code, a, Mode::If(false, other), free)?;
+    put_value(scope, code, b, Mode::If(false, other), free)?;
     put_truths(code, target)?;
     Ok(())
 }
 
 #[cycle(value_code)]
 fn put_one_number(
+    scope: &Scope<'_>,
     code: &mut Code,
     a: &Value,
     b: &Value,
     target: Target,
     free: Free,
 ) -> Result<(), AllocError>
-    ensures { OnOk result (Wrote (λ w p q. written.OneNumber w (value_of a.now) (value_of b.now) target free.temporary free.slot p q) (written.truth_size (value_of a.now) (value_of b.now)) code.old.list.items code.new.list.items) }
+    ensures { OnOk result (Wrote (λ w p q. written.OneNumber w (rows.sizes_in scope.now) (value_of a.now) (value_of b.now) target free.temporary free.slot p q) (written.truth_size (value_of a.now) (value_of b.now)) code.old.list.items code.new.list.items) }
 {
     let left = value_size(a, Shape::Jump);
     let right = value_size(b, Shape::Jump);
     let here = ahead(code, plus(1, plus(left, right)));
     let other = ahead(code, plus(1, plus(left, plus(right, 2))));
     put(code, Instruction::Nothing)?;
-    put_value(code, a, Mode::If(true, here), free)?;
-    put_value(code, b, Mode::If(false, other), free)?;
+    put_value(scope, code, a, Mode::If(true, here), free)?;
+    put_value(scope, code, b, Mode::If(false, other), free)?;
     put_truths(code, target)?;
     Ok(())
 }
 
 #[cycle(value_code)]
 pub(crate) fn put_both(
+    scope: &Scope<'_>,
     code: &mut Code,
     a: &Value,
     b: &Value,
     mode: Mode,
     free: Free,
 ) -> Result<(), AllocError>
-    ensures { OnOk result (WroteValue (typed.both_true (value_of a.now) (value_of b.now)) (meant mode) free.temporary free.slot code.old.list.items code.new.list.items) }
+    ensures { OnOk result (WroteValue (rows.sizes_in scope.now) (typed.both_true (value_of a.now) (value_of b.now)) (meant mode) free.temporary free.slot code.old.list.items code.new.list.items) }
 {
     match mode {
         Mode::Nowhere => {
-            put_both_number(code, a, b, Target::Temporary(free.temporary), free)?;
+            put_both_number(scope, code, a, b, Target::Temporary(free.temporary), free)?;
             Ok(())
         }
         Mode::To(target) => {
-            put_both_number(code, a, b, target, free)?;
+            put_both_number(scope, code, a, b, target, free)?;
             Ok(())
         }
         Mode::If(sense, to) => {
-            put_both_jump(code, a, b, sense, to, free)?;
+            put_both_jump(scope, code, a, b, sense, to, free)?;
             Ok(())
         }
     }
@@ -313,25 +337,26 @@ pub(crate) fn put_both(
 
 #[cycle(value_code)]
 pub(crate) fn put_one(
+    scope: &Scope<'_>,
     code: &mut Code,
     a: &Value,
     b: &Value,
     mode: Mode,
     free: Free,
 ) -> Result<(), AllocError>
-    ensures { OnOk result (WroteValue (typed.one_true (value_of a.now) (value_of b.now)) (meant mode) free.temporary free.slot code.old.list.items code.new.list.items) }
+    ensures { OnOk result (WroteValue (rows.sizes_in scope.now) (typed.one_true (value_of a.now) (value_of b.now)) (meant mode) free.temporary free.slot code.old.list.items code.new.list.items) }
 {
     match mode {
         Mode::Nowhere => {
-            put_one_number(code, a, b, Target::Temporary(free.temporary), free)?;
+            put_one_number(scope, code, a, b, Target::Temporary(free.temporary), free)?;
             Ok(())
         }
         Mode::To(target) => {
-            put_one_number(code, a, b, target, free)?;
+            put_one_number(scope, code, a, b, target, free)?;
             Ok(())
         }
         Mode::If(sense, to) => {
-            put_one_jump(code, a, b, sense, to, free)?;
+            put_one_jump(scope, code, a, b, sense, to, free)?;
             Ok(())
         }
     }
@@ -339,6 +364,7 @@ pub(crate) fn put_one(
 
 #[cycle(value_code)]
 pub(crate) fn put_chosen(
+    scope: &Scope<'_>,
     code: &mut Code,
     c: &Value,
     a: &Value,
@@ -346,7 +372,7 @@ pub(crate) fn put_chosen(
     mode: Mode,
     free: Free,
 ) -> Result<(), AllocError>
-    ensures { OnOk result ((u : Option IntType) → WroteValue (typed.chosen u (value_of c.now) (value_of a.now) (value_of b.now)) (meant mode) free.temporary free.slot code.old.list.items code.new.list.items) }
+    ensures { OnOk result ((u : Option IntType) → WroteValue (rows.sizes_in scope.now) (typed.chosen u (value_of c.now) (value_of a.now) (value_of b.now)) (meant mode) free.temporary free.slot code.old.list.items code.new.list.items) }
 {
     let test = value_size(c, Shape::Jump);
     let first = value_size(a, shape_in(mode));
@@ -354,9 +380,9 @@ pub(crate) fn put_chosen(
     let other = ahead(code, plus(1, plus(test, plus(first, 1))));
     let end = ahead(code, plus(1, plus(test, plus(first, plus(1, second)))));
     put(code, Instruction::Nothing)?;
-    put_value(code, c, Mode::If(false, other), free)?;
-    put_value(code, a, mode, free)?;
+    put_value(scope, code, c, Mode::If(false, other), free)?;
+    put_value(scope, code, a, mode, free)?;
     put(code, Instruction::Jump(end))?;
-    put_value(code, b, mode, free)?;
+    put_value(scope, code, b, mode, free)?;
     Ok(())
 }

@@ -8,10 +8,10 @@ ghost use Rattle.ctypes.specs.declared.types.IntType.{IntType};
 ghost use Rattle.tree.specs.declared.expression.StepOp.{StepOp};
 ghost use Rattle.typed.specs.Program as typed;
 ghost use Rattle.lowering.specs.Plain as definition;
-ghost use Rattle.lower_values.specs.inside.Parts.{given_calls, given_writes, is_written};
+ghost use Rattle.lower_values.specs.inside.Given.{given_calls, given_writes};
 
-use crate::bools::either;
-use crate::objects::object_of;
+use lower_forms::bools::either;
+use lower_forms::objects::object_of;
 use program::{Argument, Moment, Place, Value};
 
 fn argument_calls(argument: &Argument) -> bool
@@ -19,7 +19,7 @@ fn argument_calls(argument: &Argument) -> bool
 {
     match argument {
         Argument::Number(_, e) => has_calls(e),
-        Argument::Array(_) => false,
+        Argument::Array(array) => place_calls(array),
     }
 }
 
@@ -33,16 +33,27 @@ pub(crate) fn arguments_call(arguments: &[Argument]) -> bool
     some
 }
 
+#[cycle(calls)]
+pub(crate) fn place_calls(place: &Place) -> bool
+    ensures { result ≡ values.place_calls (place_of place.now) }
+{
+    match place {
+        Place::Named(_, _) => false,
+        Place::Element(_, array, index) => either(place_calls(array), has_calls(index)),
+    }
+}
+
 /// Whether it calls, which makes all temporaries but the result unset.
+#[cycle(calls)]
 pub(crate) fn has_calls(e: &Value) -> bool
     ensures { result ≡ values.calls (value_of e.now) }
 {
     match e {
         Value::Constant(_, _) => false,
-        Value::Read(_, _) => false,
-        Value::Assigned(_, _, _, e) => has_calls(e),
-        Value::Compound(_, _, _, _, _, e) => has_calls(e),
-        Value::Stepped(_, _, _, _, _, _) => false,
+        Value::Read(_, place) => place_calls(place),
+        Value::Assigned(_, _, place, e) => either(place_calls(place), has_calls(e)),
+        Value::Compound(_, _, _, _, place, e) => either(place_calls(place), has_calls(e)),
+        Value::Stepped(_, _, _, _, _, place) => place_calls(place),
         Value::Unary(_, _, _, e) => has_calls(e),
         Value::Binary(_, _, _, a, b) => either(has_calls(a), has_calls(b)),
         Value::BothTrue(a, b) => either(has_calls(a), has_calls(b)),
@@ -65,12 +76,24 @@ fn is_object(place: &Place, object: usize) -> bool
 }
 
 #[cycle(writes)]
+fn place_writes(place: &Place, object: usize) -> bool
+    ensures { result ≡ values.place_writes (place_of place.now) object }
+{
+    match place {
+        Place::Named(_, _) => false,
+        Place::Element(_, array, index) => {
+            either(place_writes(array, object), writes(index, object))
+        }
+    }
+}
+
+#[cycle(writes)]
 fn argument_writes(argument: &Argument, object: usize) -> bool
     ensures { result ≡ given_writes (argument_of argument.now) object }
 {
     match argument {
         Argument::Number(_, e) => writes(e, object),
-        Argument::Array(_) => false,
+        Argument::Array(array) => place_writes(array, object),
     }
 }
 
@@ -92,12 +115,18 @@ pub(crate) fn writes(e: &Value, object: usize) -> bool
 {
     match e {
         Value::Constant(_, _) => false,
-        Value::Read(_, _) => false,
-        Value::Assigned(_, _, place, e) => either(is_object(place, object), writes(e, object)),
-        Value::Compound(_, _, _, _, place, e) => {
-            either(is_object(place, object), writes(e, object))
+        Value::Read(_, place) => place_writes(place, object),
+        Value::Assigned(_, _, place, e) => either(
+            place_writes(place, object),
+            either(is_object(place, object), writes(e, object)),
+        ),
+        Value::Compound(_, _, _, _, place, e) => either(
+            place_writes(place, object),
+            either(is_object(place, object), writes(e, object)),
+        ),
+        Value::Stepped(_, _, _, _, _, place) => {
+            either(place_writes(place, object), is_object(place, object))
         }
-        Value::Stepped(_, _, _, _, _, place) => is_object(place, object),
         Value::Unary(_, _, _, e) => writes(e, object),
         Value::Binary(_, _, _, a, b) => either(writes(a, object), writes(b, object)),
         Value::BothTrue(a, b) => either(writes(a, object), writes(b, object)),

@@ -1,196 +1,32 @@
-//! How many instructions plain code has.
+//! How many instructions the code of expressions has.
 
 ghost use Rattle.std.specs.Prelude.{◌≡◌, map};
-ghost use Rattle.meaning.specs.Expressions as meaning;
-ghost use Rattle.program.specs.View.{value_of, argument_of, arguments_of, callee_of, moment_of};
+ghost use Rattle.program.specs.View.{place_of, value_of, argument_of, arguments_of, callee_of, moment_of};
 ghost use Rattle.typed.specs.Program as typed;
 ghost use Rattle.lowering.specs.Values as values;
 ghost use Rattle.srcset.specs.declared.refusal.Pos.{Pos};
 ghost use Rattle.ctypes.specs.declared.types.IntType.{IntType};
 ghost use Rattle.tree.specs.declared.expression.PrefixOp.TheVariants as prefix;
-ghost use Rattle.lower_values.specs.declared.modes.Shape.TheVariants as shape;
-ghost use Rattle.lower_values.specs.inside.Parts as parts;
+ghost use Rattle.lower_forms.specs.declared.modes.Shape.TheVariants as shape;
+ghost use Rattle.lower_forms.specs.inside.Parts as parts;
+ghost use Rattle.lower_forms.specs.inside.FormSizes as form;
 ghost use Rattle.lower_values.specs.inside.Sizes as size;
 
-use crate::modes::{Shape, shape_for};
-use crate::operands::{is_wide, keeps, operand_of, waits_for, waits_for_arguments};
+use crate::operands::{keeps, operand_of, waits_for, waits_for_arguments};
+use crate::rests::arguments_call;
 use ctypes::{BinOp, IntType};
-use program::{Argument, Callee, Moment, Value};
-use tac::Operand;
+use lower_forms::bools::either;
+use lower_forms::form_sizes::{
+    alters_by_size, alters_size, calls_size, changes_size, ends_size, follows_size, gets_size,
+    hands_over_size, loads_size, operates_size, parts_size, plus, puts_size, step_operation,
+    steps_by_size, then_size,
+};
+use lower_forms::modes::{Shape, shape_for};
+use lower_forms::objects::object_of;
+use lower_forms::spots::{cuts_for, found};
+use lower_forms::words::is_wide;
+use program::{Argument, Moment, Place, Value};
 use tree::{PrefixOp, StepOp};
-
-/// The sum, as far as a word counts.
-pub fn plus(a: usize, b: usize) -> usize
-    ensures { result ≡ parts.plus a b }
-{
-    a.saturating_add(b)
-}
-
-fn ends_size(shape: Shape) -> usize
-    ensures { result ≡ size.ends_size shape }
-{
-    match shape {
-        Shape::Nowhere => 0,
-        Shape::Local => 1,
-        Shape::Object => 1,
-        Shape::Jump => 1,
-    }
-}
-
-fn follows_size(shape: Shape) -> usize
-    ensures { result ≡ size.follows_size shape }
-{
-    match shape {
-        Shape::Nowhere => 0,
-        Shape::Local => 0,
-        Shape::Object => 0,
-        Shape::Jump => 1,
-    }
-}
-
-// ---- operations
-
-fn computes_size(op: BinOp) -> usize
-    ensures { result ≡ size.computes_size op }
-{
-    match op {
-        BinOp::LessEqual => plus(1, 1),
-        BinOp::GreaterEqual => plus(1, 1),
-        BinOp::Mul => 1,
-        BinOp::Div => 1,
-        BinOp::Rem => 1,
-        BinOp::Add => 1,
-        BinOp::Sub => 1,
-        BinOp::Shl => 1,
-        BinOp::Shr => 1,
-        BinOp::Less => 1,
-        BinOp::Greater => 1,
-        BinOp::Equal => 1,
-        BinOp::NotEqual => 1,
-        BinOp::BitAnd => 1,
-        BinOp::BitXor => 1,
-        BinOp::BitOr => 1,
-    }
-}
-
-fn then_size(op: BinOp, shape: Shape) -> usize
-    ensures { result ≡ size.then_size op shape }
-{
-    plus(computes_size(op), follows_size(shape))
-}
-
-fn compares_size(op: BinOp) -> usize
-    ensures { result ≡ size.compares_size op }
-{
-    match op {
-        BinOp::Less => 1,
-        BinOp::Greater => 1,
-        BinOp::LessEqual => 1,
-        BinOp::GreaterEqual => 1,
-        BinOp::Equal => 1,
-        BinOp::NotEqual => 1,
-        BinOp::Mul => then_size(op, Shape::Jump),
-        BinOp::Div => then_size(op, Shape::Jump),
-        BinOp::Rem => then_size(op, Shape::Jump),
-        BinOp::Add => then_size(op, Shape::Jump),
-        BinOp::Sub => then_size(op, Shape::Jump),
-        BinOp::Shl => then_size(op, Shape::Jump),
-        BinOp::Shr => then_size(op, Shape::Jump),
-        BinOp::BitAnd => then_size(op, Shape::Jump),
-        BinOp::BitXor => then_size(op, Shape::Jump),
-        BinOp::BitOr => then_size(op, Shape::Jump),
-    }
-}
-
-fn operates_size(op: BinOp, shape: Shape) -> usize
-    ensures { result ≡ size.operates_size op shape }
-{
-    match shape {
-        Shape::Nowhere => then_size(op, Shape::Nowhere),
-        Shape::Local => then_size(op, Shape::Local),
-        Shape::Object => then_size(op, Shape::Object),
-        Shape::Jump => compares_size(op),
-    }
-}
-
-// ---- objects that change
-
-fn changes_size(wide: bool, op: BinOp) -> usize
-    ensures { result ≡ size.changes_size wide op }
-{
-    if wide {
-        computes_size(op)
-    } else {
-        plus(computes_size(op), 1)
-    }
-}
-
-/// Of one more or less.
-pub(crate) fn step_operation(op: StepOp) -> BinOp
-    ensures { result ≡ meaning.step_operation op }
-{
-    match op {
-        StepOp::Increment => BinOp::Add,
-        StepOp::Decrement => BinOp::Sub,
-    }
-}
-
-fn steps_aside_size(wide: bool, op: BinOp, shape: Shape) -> usize
-    ensures { result ≡ size.steps_aside_size wide op shape }
-{
-    plus(1, plus(changes_size(wide, op), ends_size(shape)))
-}
-
-fn steps_after_size(wide: bool, op: BinOp, shape: Shape) -> usize
-    ensures { result ≡ size.steps_after_size wide op shape }
-{
-    match shape {
-        Shape::Nowhere => changes_size(wide, op),
-        Shape::Local => plus(1, changes_size(wide, op)),
-        Shape::Object => steps_aside_size(wide, op, Shape::Object),
-        Shape::Jump => steps_aside_size(wide, op, Shape::Jump),
-    }
-}
-
-fn steps_by_size(moment: Moment, wide: bool, op: BinOp, shape: Shape) -> usize
-    ensures { result ≡ size.steps_by_size (moment_of moment) wide op shape }
-{
-    match moment {
-        Moment::Before => plus(changes_size(wide, op), ends_size(shape)),
-        Moment::After => steps_after_size(wide, op, shape),
-    }
-}
-
-// ---- calls
-
-fn loads_size(kept: bool, operand: Operand) -> usize
-    ensures { result ≡ size.loads_size kept operand }
-{
-    if !kept {
-        return 1;
-    }
-    match operand {
-        Operand::Temporary(_) => 0,
-        Operand::Kept(_) => 1,
-        Operand::Object(_) => 1,
-        Operand::Parameter(_) => 1,
-        Operand::Constant(_) => 1,
-    }
-}
-
-fn calls_size(callee: Callee, shape: Shape) -> usize
-    ensures { result ≡ size.calls_size (callee_of callee) shape }
-{
-    match callee {
-        Callee::Function(_) => plus(1, ends_size(shape)),
-        Callee::GetByte => plus(1, ends_size(shape)),
-        Callee::PutByte => plus(1, ends_size(shape)),
-        Callee::Exit => 1,
-        Callee::Missing(_) => 0,
-    }
-}
-
-// ---- expressions
 
 fn rest_shape(e: &Value) -> Shape
     ensures { result ≡ size.rest_shape (value_of e.now) }
@@ -198,9 +34,91 @@ fn rest_shape(e: &Value) -> Shape
     shape_for(operand_of(e, 0, 0))
 }
 
+/// How many instructions find a place.
+#[cycle(value_sizes)]
+fn place_size(place: &Place) -> usize
+    ensures { result ≡ size.place_size (place_of place.now) }
+{
+    match place {
+        Place::Named(_, _) => 1,
+        Place::Element(_, array, index) => element_size(array, index),
+    }
+}
+
+#[cycle(value_sizes)]
+fn element_size(array: &Place, index: &Value) -> usize
+    ensures { (at : Pos) → result ≡ size.place_size (typed.element at (place_of array.now) (value_of index.now)) }
+{
+    let part = parts_size(found(array, false, 0, 0));
+    let value = value_size(index, rest_shape(index));
+    plus(1, plus(place_size(array), plus(value, part)))
+}
+
+#[cycle(value_sizes)]
+fn read_size(place: &Place, shape: Shape) -> usize
+    ensures { (u : IntType) → result ≡ size.value_size (typed.read u (place_of place.now)) shape }
+{
+    match object_of(place) {
+        Some(_) => plus(1, ends_size(shape)),
+        None => plus(place_size(place), gets_size(shape)),
+    }
+}
+
+#[cycle(value_sizes)]
+fn assigned_size(ty: IntType, place: &Place, e: &Value, shape: Shape) -> usize
+    ensures { (at : Pos) → result ≡ size.value_size (typed.assigned at ty (place_of place.now) (value_of e.now)) shape }
+{
+    match object_of(place) {
+        Some(_) => {
+            let converted = converted_size(ty, e, Shape::Object);
+            plus(1, plus(1, plus(converted, ends_size(shape))))
+        }
+        None => {
+            let kept = either(cuts_for(ty, shape), keeps(ty, e));
+            let value = value_size(e, rest_shape(e));
+            let stored = plus(value, puts_size(kept, shape));
+            plus(1, plus(place_size(place), stored))
+        }
+    }
+}
+
+#[cycle(value_sizes)]
+fn compound_size(op: BinOp, ty: IntType, place: &Place, e: &Value, shape: Shape) -> usize
+    ensures { (at : Pos) → (of : IntType) → result ≡ size.value_size (typed.compound at op ty of (place_of place.now) (value_of e.now)) shape }
+{
+    let value = value_size(e, rest_shape(e));
+    match object_of(place) {
+        Some(_) => {
+            let changed = plus(changes_size(is_wide(ty), op), ends_size(shape));
+            plus(1, plus(1, plus(value, changed)))
+        }
+        None => {
+            let altered = plus(1, alters_size(op, ty, shape));
+            plus(1, plus(place_size(place), plus(value, altered)))
+        }
+    }
+}
+
+#[cycle(value_sizes)]
+fn stepped_size(moment: Moment, op: StepOp, ty: IntType, place: &Place, shape: Shape) -> usize
+    ensures { (at : Pos) → (of : IntType) → result ≡ size.value_size (typed.stepped at (moment_of moment) op ty of (place_of place.now)) shape }
+{
+    let operation = step_operation(op);
+    match object_of(place) {
+        Some(_) => {
+            let stepped = steps_by_size(moment, is_wide(ty), operation, shape);
+            plus(1, plus(1, stepped))
+        }
+        None => {
+            let altered = plus(1, alters_by_size(moment, operation, ty, shape));
+            plus(1, plus(place_size(place), altered))
+        }
+    }
+}
+
 #[cycle(value_sizes)]
 pub fn converted_size(ty: IntType, e: &Value, shape: Shape) -> usize
-    ensures { result ≡ size.converts_size (values.keeps ty (value_of e.now)) (size.value_size (value_of e.now)) (size.rest_shape (value_of e.now)) shape }
+    ensures { result ≡ form.converts_size (values.keeps ty (value_of e.now)) (size.value_size (value_of e.now)) (size.rest_shape (value_of e.now)) shape }
 {
     if keeps(ty, e) {
         value_size(e, shape)
@@ -211,7 +129,7 @@ pub fn converted_size(ty: IntType, e: &Value, shape: Shape) -> usize
 
 #[cycle(value_sizes)]
 fn cast_size(ty: IntType, e: &Value, shape: Shape) -> usize
-    ensures { result ≡ size.casts_size (values.keeps ty (value_of e.now)) (size.value_size (value_of e.now)) (size.rest_shape (value_of e.now)) shape }
+    ensures { result ≡ form.casts_size (values.keeps ty (value_of e.now)) (size.value_size (value_of e.now)) (size.rest_shape (value_of e.now)) shape }
 {
     if keeps(ty, e) {
         value_size(e, shape)
@@ -234,7 +152,7 @@ fn unary_size(op: PrefixOp, e: &Value, shape: Shape) -> usize
 
 #[cycle(value_sizes)]
 fn computed_size(e: &Value, op: BinOp, shape: Shape) -> usize
-    ensures { result ≡ parts.plus 1 (parts.plus (size.value_size (value_of e.now) (size.rest_shape (value_of e.now))) (size.then_size op shape)) }
+    ensures { result ≡ parts.plus 1 (parts.plus (size.value_size (value_of e.now) (size.rest_shape (value_of e.now))) (form.then_size op shape)) }
 {
     plus(1, plus(value_size(e, rest_shape(e)), then_size(op, shape)))
 }
@@ -301,13 +219,21 @@ fn number_size(ty: IntType, e: &Value, more: &[Argument]) -> usize
 }
 
 #[cycle(value_sizes)]
+fn array_size(array: &Place, more: &[Argument]) -> usize
+    ensures { result ≡ size.passes_size (typed.and_array (place_of array.now) (arguments_of (map argument_of more.now))) }
+{
+    let handed = hands_over_size(found(array, arguments_call(more), 0, 0));
+    plus(place_size(array), plus(passes_size(more), handed))
+}
+
+#[cycle(value_sizes)]
 fn passes_size(arguments: &[Argument]) -> usize
     ensures { result ≡ size.passes_size (arguments_of (map argument_of arguments.now)) }
 {
     match arguments.split_first() {
         None => 0,
         Some((Argument::Number(ty, e), more)) => number_size(*ty, e, more),
-        Some((Argument::Array(_), _)) => 0,
+        Some((Argument::Array(array), more)) => array_size(array, more),
     }
 }
 
@@ -318,31 +244,12 @@ pub fn value_size(e: &Value, shape: Shape) -> usize
 {
     match e {
         Value::Constant(_, _) => 1,
-        Value::Read(_, _) => plus(1, ends_size(shape)),
-        Value::Assigned(_, ty, _, e) => plus(
-            1,
-            plus(
-                1,
-                plus(converted_size(*ty, e, Shape::Object), ends_size(shape)),
-            ),
-        ),
-        Value::Compound(_, op, ty, _, _, e) => plus(
-            1,
-            plus(
-                1,
-                plus(
-                    value_size(e, rest_shape(e)),
-                    plus(changes_size(is_wide(*ty), *op), ends_size(shape)),
-                ),
-            ),
-        ),
-        Value::Stepped(_, moment, op, ty, _, _) => plus(
-            1,
-            plus(
-                1,
-                steps_by_size(*moment, is_wide(*ty), step_operation(*op), shape),
-            ),
-        ),
+        Value::Read(_, place) => read_size(place, shape),
+        Value::Assigned(_, ty, place, e) => assigned_size(*ty, place, e, shape),
+        Value::Compound(_, op, ty, _, place, e) => compound_size(*op, *ty, place, e, shape),
+        Value::Stepped(_, moment, op, ty, _, place) => {
+            stepped_size(*moment, *op, *ty, place, shape)
+        }
         Value::Unary(_, op, _, e) => unary_size(*op, e, shape),
         Value::Binary(_, op, _, a, b) => binary_size(*op, a, b, shape),
         Value::BothTrue(a, b) => both_size(a, b, shape),

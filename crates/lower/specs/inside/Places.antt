@@ -3,7 +3,7 @@ use Rattle.std.specs.Prelude.{ℕ, ℤ, List, [], ◌∷◌, ◌++◌, Option, S
 use Rattle.typed.specs.Program as typed
 use Rattle.typed.specs.Program.{Statements}
 use Rattle.lowering.specs.Bodies.{label_places}
-use Rattle.lower_values.specs.inside.Parts.{plus}
+use Rattle.lower_forms.specs.inside.Parts.{plus}
 use Rattle.lower.specs.inside.Sizes.{statement_size}
 
 -- the label that a statement is, if it is one

@@ -1,13 +1,14 @@
--- How many instructions the plain code of statements has.
+-- How many instructions the code of statements has.
 use Rattle.std.specs.Prelude.{ℕ, false, ℤ, List, [], ◌∷◌, Option, Some, None}
 use Rattle.typed.specs.Program as typed
 use Rattle.typed.specs.Program.{Value, Initialiser, Statement, Statements}
 use Rattle.meaning.specs.Statements.{labels_of}
 use Rattle.lowering.specs.Values.{keeps}
 use Rattle.lowering.specs.Bodies.{is_within}
-use Rattle.lower_values.specs.declared.modes.Shape.TheVariants as shape
-use Rattle.lower_values.specs.inside.Parts.{plus}
-use Rattle.lower_values.specs.inside.Sizes.{converts_size, value_size, wait_shape, rest_shape}
+use Rattle.lower_forms.specs.declared.modes.Shape.TheVariants as shape
+use Rattle.lower_forms.specs.inside.Parts.{plus}
+use Rattle.lower_forms.specs.inside.FormSizes.{converts_size}
+use Rattle.lower_values.specs.inside.Sizes.{value_size, wait_shape, rest_shape}
 
 abbrev pub initialises_size : Initialiser → ℕ
 initialises_size (typed.one_value u e) = plus (converts_size (keeps u e) (value_size e) (rest_shape e) shape.Object) 1

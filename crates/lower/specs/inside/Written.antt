@@ -1,23 +1,23 @@
 -- What it is to write the code of a statement.
 use Rattle.std.specs.Prelude.{ℕ, List}
-use Rattle.typed.specs.Program.{Statement, Statements}
+use Rattle.typed.specs.Program.{Place, Statement, Statements}
 use Rattle.tac.specs.declared.code.Operand.{Operand}
 use Rattle.tac.specs.declared.code.Instruction.{Instruction}
 use Rattle.meaning.specs.Statements.{labels_of}
 use Rattle.lowering.specs.Bodies.{Stands, StandAll, StandAt, Tests}
-use Rattle.lower_values.specs.inside.Parts.{Wrote}
+use Rattle.lower_forms.specs.inside.Parts.{Wrote}
 use Rattle.lower.specs.inside.Places.{places_of}
 use Rattle.lower.specs.inside.Sizes.{tests_size, statement_size, statements_size}
 
-abbrev pub WroteStatement : Statement → (out again back : ℕ) → (old new : List Instruction) → Type 0
-WroteStatement a out again back old new = Wrote (λ w p q. Stands w a out again back p q) (statement_size a) old new
+abbrev pub WroteStatement : (size : Place → ℕ) → Statement → (out again back : ℕ) → (old new : List Instruction) → Type 0
+WroteStatement size a out again back old new = Wrote (λ w p q. Stands w size a out again back p q) (statement_size a) old new
 
-abbrev pub WroteStatements : Statements → (out again back : ℕ) → (old new : List Instruction) → Type 0
-WroteStatements all out again back old new = Wrote (λ w p q. StandAll w all out again back p q) (statements_size all) old new
+abbrev pub WroteStatements : (size : Place → ℕ) → Statements → (out again back : ℕ) → (old new : List Instruction) → Type 0
+WroteStatements size all out again back old new = Wrote (λ w p q. StandAll w size all out again back p q) (statements_size all) old new
 
 -- the same, each label of them standing where it was said
-abbrev pub WrotePlaced : Statements → (out again back : ℕ) → (old new : List Instruction) → Type 0
-WrotePlaced all out again back old new = Wrote (λ w p q. StandAt w all (places_of all p) out again back p q) (statements_size all) old new
+abbrev pub WrotePlaced : (size : Place → ℕ) → Statements → (out again back : ℕ) → (old new : List Instruction) → Type 0
+WrotePlaced size all out again back old new = Wrote (λ w p q. StandAt w size all (places_of all p) out again back p q) (statements_size all) old new
 
 -- the tests of labels among statements that are to stand from `at` on
 abbrev pub WroteTests : Operand → Statements → (at other : ℕ) → (old new : List Instruction) → Type 0

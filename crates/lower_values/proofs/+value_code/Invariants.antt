@@ -1,6 +1,6 @@
 use Rattle.std.proofs.Common.{◌+◌, ◌*◌, map}
-use Rattle.program.specs.View.{value_of, arguments_of, argument_of}
-use Rattle.lower_values.proofs.Nodes.{nodes, argument_nodes}
+use Rattle.program.specs.View.{value_of, place_of, arguments_of, argument_of}
+use Rattle.lower_values.proofs.Nodes.{nodes, place_nodes, argument_nodes}
 use Rattle.lower_values.proofs.+value_code.Given as goal
 
 abbrev pub decreases-values::put_value : goal.decreases-values::put_value
@@ -24,14 +24,8 @@ decreases-values::put_converted l = 8 * nodes (value_of l.e.now) + 2
 abbrev pub decreases-values::put_cast : goal.decreases-values::put_cast
 decreases-values::put_cast l = 8 * nodes (value_of l.e.now) + 2
 
-abbrev pub decreases-values::put_assigned : goal.decreases-values::put_assigned
-decreases-values::put_assigned l = 8 * nodes (value_of l.e.now) + 3
-
 abbrev pub decreases-values::put_cast_node : goal.decreases-values::put_cast_node
 decreases-values::put_cast_node l = 8 * nodes (value_of l.e.now) + 3
-
-abbrev pub decreases-values::put_compound : goal.decreases-values::put_compound
-decreases-values::put_compound l = 8 * nodes (value_of l.e.now) + 3
 
 abbrev pub decreases-operators::put_minus : goal.decreases-operators::put_minus
 decreases-operators::put_minus l = 8 * nodes (value_of l.e.now) + 2
@@ -80,3 +74,42 @@ decreases-values::put_sequence l = 8 * (nodes (value_of l.a.now) + nodes (value_
 
 abbrev pub decreases-operators::put_chosen : goal.decreases-operators::put_chosen
 decreases-operators::put_chosen l = 8 * (nodes (value_of l.c.now) + (nodes (value_of l.a.now) + nodes (value_of l.b.now))) + 1
+
+abbrev pub decreases-values::put_array : goal.decreases-values::put_array
+decreases-values::put_array l = 8 * (place_nodes (place_of l.array.now) + argument_nodes (arguments_of (map argument_of l.more.now))) + 1
+
+abbrev pub decreases-places::put_element : goal.decreases-places::put_element
+decreases-places::put_element l = 8 * (place_nodes (place_of l.array.now) + nodes (value_of l.index.now)) + 2
+
+abbrev pub decreases-places::put_found : goal.decreases-places::put_found
+decreases-places::put_found l = 8 * place_nodes (place_of l.place.now)
+
+abbrev pub decreases-places::put_read_memory : goal.decreases-places::put_read_memory
+decreases-places::put_read_memory l = 8 * place_nodes (place_of l.place.now) + 1
+
+abbrev pub decreases-places::put_read : goal.decreases-places::put_read
+decreases-places::put_read l = 8 * place_nodes (place_of l.place.now) + 2
+
+abbrev pub decreases-places::put_assigned_object : goal.decreases-places::put_assigned_object
+decreases-places::put_assigned_object l = 8 * nodes (value_of l.e.now) + 3
+
+abbrev pub decreases-places::put_assigned_memory : goal.decreases-places::put_assigned_memory
+decreases-places::put_assigned_memory l = 8 * (place_nodes (place_of l.place.now) + nodes (value_of l.e.now)) + 3
+
+abbrev pub decreases-places::put_assigned : goal.decreases-places::put_assigned
+decreases-places::put_assigned l = 8 * (place_nodes (place_of l.place.now) + nodes (value_of l.e.now)) + 4
+
+abbrev pub decreases-places::put_compound_object : goal.decreases-places::put_compound_object
+decreases-places::put_compound_object l = 8 * nodes (value_of l.e.now) + 3
+
+abbrev pub decreases-places::put_compound_memory : goal.decreases-places::put_compound_memory
+decreases-places::put_compound_memory l = 8 * (place_nodes (place_of l.place.now) + nodes (value_of l.e.now)) + 3
+
+abbrev pub decreases-places::put_compound : goal.decreases-places::put_compound
+decreases-places::put_compound l = 8 * (place_nodes (place_of l.place.now) + nodes (value_of l.e.now)) + 4
+
+abbrev pub decreases-places::put_step_memory : goal.decreases-places::put_step_memory
+decreases-places::put_step_memory l = 8 * place_nodes (place_of l.place.now) + 1
+
+abbrev pub decreases-places::put_step : goal.decreases-places::put_step
+decreases-places::put_step l = 8 * place_nodes (place_of l.place.now) + 2

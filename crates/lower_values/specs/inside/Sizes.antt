@@ -1,101 +1,18 @@
--- How many instructions the plain code of expressions has.
-use Rattle.std.specs.Prelude.{ℕ, Bool, true, false}
-use Rattle.ctypes.specs.declared.operators.BinOp.{BinOp}
+-- How many instructions the code of expressions has.
+use Rattle.std.specs.Prelude.{ℕ, Bool, true, false, ◌||◌, Option, Some, None}
 use Rattle.ctypes.specs.declared.operators.BinOp.TheVariants as op
 use Rattle.tree.specs.declared.expression.PrefixOp.TheVariants as prefix
 use Rattle.typed.specs.Program as typed
-use Rattle.typed.specs.Program.{Callee, Moment, Value, Arguments}
+use Rattle.typed.specs.Program.{Place, Value, Arguments}
 use Rattle.meaning.specs.Expressions.{step_operation}
-use Rattle.tac.specs.declared.code.Operand.{Operand}
-use Rattle.tac.specs.declared.code.Operand.TheVariants as operand
 use Rattle.lowering.specs.Asked.{is_wide}
+use Rattle.lowering.specs.Plain.{object_of}
 use Rattle.lowering.specs.Values.{calls, arguments_call, writes, arguments_write, keeps, waits_in, operand_of, mode_of}
-use Rattle.lower_values.specs.declared.modes.Shape.{Shape}
-use Rattle.lower_values.specs.declared.modes.Shape.TheVariants as shape
-use Rattle.lower_values.specs.inside.Parts.{shape_of, plus}
-
-abbrev pub ends_size : Shape → ℕ
-ends_size shape.Nowhere = 0
-ends_size shape.Local = 1
-ends_size shape.Object = 1
-ends_size shape.Jump = 1
-
-abbrev pub follows_size : Shape → ℕ
-follows_size shape.Nowhere = 0
-follows_size shape.Local = 0
-follows_size shape.Object = 0
-follows_size shape.Jump = 1
-
--- ---- operations
-
-abbrev pub computes_size : BinOp → ℕ
-computes_size op.LessEqual = plus 1 1
-computes_size op.GreaterEqual = plus 1 1
-computes_size o = 1
-
-abbrev pub then_size : BinOp → Shape → ℕ
-then_size o s = plus (computes_size o) (follows_size s)
-
-abbrev pub compares_size : BinOp → ℕ
-compares_size op.Less = 1
-compares_size op.Greater = 1
-compares_size op.LessEqual = 1
-compares_size op.GreaterEqual = 1
-compares_size op.Equal = 1
-compares_size op.NotEqual = 1
-compares_size o = then_size o shape.Jump
-
-abbrev pub operates_size : BinOp → Shape → ℕ
-operates_size o shape.Nowhere = then_size o shape.Nowhere
-operates_size o shape.Local = then_size o shape.Local
-operates_size o shape.Object = then_size o shape.Object
-operates_size o shape.Jump = compares_size o
-
--- ---- conversions; `size` is that of the expression, r what becomes of it till then
-
-abbrev pub converts_size : Bool → (Shape → ℕ) → (r g : Shape) → ℕ
-converts_size true size r g = size g
-converts_size false size r g = plus (size r) 1
-
-abbrev pub casts_size : Bool → (Shape → ℕ) → (r s : Shape) → ℕ
-casts_size true size r s = size s
-casts_size false size r s = plus (size r) (plus 1 (follows_size s))
-
--- ---- objects that change
-
-abbrev pub changes_size : Bool → BinOp → ℕ
-changes_size true o = computes_size o
-changes_size false o = plus (computes_size o) 1
-
-abbrev pub steps_aside_size : Bool → BinOp → Shape → ℕ
-steps_aside_size wide o s = plus 1 (plus (changes_size wide o) (ends_size s))
-
-abbrev pub steps_after_size : Bool → BinOp → Shape → ℕ
-steps_after_size wide o shape.Nowhere = changes_size wide o
-steps_after_size wide o shape.Local = plus 1 (changes_size wide o)
-steps_after_size wide o shape.Object = steps_aside_size wide o shape.Object
-steps_after_size wide o shape.Jump = steps_aside_size wide o shape.Jump
-
-abbrev pub steps_by_size : Moment → Bool → BinOp → Shape → ℕ
-steps_by_size typed.before wide o s = plus (changes_size wide o) (ends_size s)
-steps_by_size typed.after wide o s = steps_after_size wide o s
-
--- ---- calls
-
-abbrev pub loads_size : Bool → Operand → ℕ
-loads_size false o = 1
-loads_size true (operand.Temporary j) = 0
-loads_size true o = 1
-
-abbrev pub calls_size : Callee → Shape → ℕ
-calls_size (typed.function f) s = plus 1 (ends_size s)
-calls_size typed.get_byte s = plus 1 (ends_size s)
-calls_size typed.put_byte s = plus 1 (ends_size s)
-calls_size typed.exit s = 1
-calls_size (typed.missing name) s = 0
-
-abbrev pub truths_size : ℕ
-truths_size = plus 1 (plus 1 1)
+use Rattle.lowering.specs.Places.{found}
+use Rattle.lower_forms.specs.declared.modes.Shape.{Shape}
+use Rattle.lower_forms.specs.declared.modes.Shape.TheVariants as shape
+use Rattle.lower_forms.specs.inside.Parts.{shape_of, plus}
+use Rattle.lower_forms.specs.inside.FormSizes.{ends_size, follows_size, then_size, operates_size, changes_size, steps_by_size, loads_size, calls_size, truths_size, converts_size, casts_size, parts_size, gets_size, puts_size, cuts_for, alters_size, alters_by_size, hands_over_size}
 
 -- ---- expressions
 
@@ -106,14 +23,29 @@ wait_shape e written has_calls = shape_of (mode_of (waits_in e written has_calls
 abbrev pub rest_shape : Value → Shape
 rest_shape e = shape_of (mode_of (operand_of e 0 0))
 
+-- where a place is an object of the call that is an operand, or else lies in memory
+abbrev pub size_on : Option ℕ → ℕ → ℕ → ℕ
+size_on None n m = m
+size_on (Some x) n m = n
+
 abbrev mutual
+  pub place_size : Place → ℕ
+  place_size (typed.named at what) = 1
+  place_size (typed.element at array index) =
+      plus 1 (plus (place_size array) (plus (value_size index (rest_shape index)) (parts_size (found array false 0 0))))
+
   pub value_size : Value → Shape → ℕ
   value_size (typed.constant u v) s = 1
-  value_size (typed.read u place) s = plus 1 (ends_size s)
-  value_size (typed.assigned at u place e) s = plus 1 (plus 1 (plus (converts_size (keeps u e) (value_size e) (rest_shape e) shape.Object) (ends_size s)))
+  value_size (typed.read u place) s = size_on (object_of place) (plus 1 (ends_size s)) (plus (place_size place) (gets_size s))
+  value_size (typed.assigned at u place e) s =
+      size_on (object_of place) (plus 1 (plus 1 (plus (converts_size (keeps u e) (value_size e) (rest_shape e) shape.Object) (ends_size s))))
+      (plus 1 (plus (place_size place) (plus (value_size e (rest_shape e)) (puts_size (cuts_for u s || keeps u e) s))))
   value_size (typed.compound at o u of place e) s =
-      plus 1 (plus 1 (plus (value_size e (rest_shape e)) (plus (changes_size (is_wide u) o) (ends_size s))))
-  value_size (typed.stepped at moment o u of place) s = plus 1 (plus 1 (steps_by_size moment (is_wide u) (step_operation o) s))
+      size_on (object_of place) (plus 1 (plus 1 (plus (value_size e (rest_shape e)) (plus (changes_size (is_wide u) o) (ends_size s)))))
+      (plus 1 (plus (place_size place) (plus (value_size e (rest_shape e)) (plus 1 (alters_size o u s)))))
+  value_size (typed.stepped at moment o u of place) s =
+      size_on (object_of place) (plus 1 (plus 1 (steps_by_size moment (is_wide u) (step_operation o) s)))
+      (plus 1 (plus (place_size place) (plus 1 (alters_by_size moment (step_operation o) u s))))
   value_size (typed.unary at prefix.Plus u e) s = plus 1 (value_size e s)
   value_size (typed.unary at prefix.Minus u e) s = plus 1 (plus (value_size e (rest_shape e)) (then_size op.Sub s))
   value_size (typed.unary at prefix.Complement u e) s = plus 1 (plus (value_size e (rest_shape e)) (then_size op.BitXor s))
@@ -136,4 +68,5 @@ abbrev mutual
   passes_size (typed.and_number u e more) =
       plus (value_size e (wait_shape e (arguments_write more) (arguments_call more)))
       (plus (passes_size more) (loads_size (keeps u e) (waits_in e (arguments_write more) (arguments_call more) 0 0)))
-  passes_size (typed.and_array array more) = 0
+  passes_size (typed.and_array array more) =
+      plus (place_size array) (plus (passes_size more) (hands_over_size (found array (arguments_call more) 0 0)))

@@ -1,13 +1,13 @@
 use Rattle.std.proofs.Common.{length, map, ap, sym, ◌∙◌}
-use Rattle.program.specs.View.{parameter_type_of, function_of}
-use Rattle.lower_values.specs.inside.Parts.{plus}
+use Rattle.program.specs.View.{parameter_type_of, function_of, program_of}
+use Rattle.lower_forms.specs.inside.Parts.{plus}
 use Rattle.lower.proofs.Whole.{idles_all, length_map, body_written}
 use Rattle.lower.proofs.functions.put_body.Goals as goal
 
 pub returns : goal.returns
 returns c =
-    let parameters = c.args.function.now.function_type.parameters.items in
-    body_written c.args.is_main (function_of c.args.function.now) c.ahead-end.result c.plus-back.result c.requires
+    let parameters = c.args.scope.now.function.now.function_type.parameters.items in
+    body_written (program_of c.args.scope.now.program.now) c.args.is_main (function_of c.args.scope.now.function.now) c.ahead-end.result c.plus-back.result c.requires
     (c.ahead-end.ensures ∙ ap (λ n. plus (length c.put_idles.new.code.list.items) n) c.statement_size.ensures)
     (c.plus-back.ensures ∙ ap (λ n. plus c.ahead-end.result n) c.closing_size.ensures)
     (idles_all (length c.deref.result.now) (length (map parameter_type_of parameters)) (ap length c.deref.ensures.value ∙ sym (length_map parameter_type_of parameters)) c.in_ok-put_idles.ensures)

@@ -1,6 +1,6 @@
 use Rattle.std.proofs.Common.{suc}
 use Rattle.lowering.specs.Bodies.{Idles}
-use Rattle.lower_values.specs.inside.Parts.{Wrote}
+use Rattle.lower_forms.specs.inside.Parts.{Wrote}
 use Rattle.lower.proofs.functions.put_idles.Given as goal
 
 abbrev pub invariant-loop : goal.invariant-loop

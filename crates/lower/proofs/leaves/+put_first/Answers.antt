@@ -1,4 +1,4 @@
-use Rattle.lower_values.proofs.Parts.{two}
+use Rattle.lower_forms.proofs.Parts.{two}
 use Rattle.lower.proofs.HeldStatements.{sees_one, sees_inbraces}
 use Rattle.lower.proofs.leaves.+put_first.Goals as goal
 

@@ -1,4 +1,4 @@
-use Rattle.lower_values.proofs.Parts.{two}
+use Rattle.lower_forms.proofs.Parts.{two}
 use Rattle.lower.proofs.leaves.put_evaluated.Goals as goal
 
 pub returns : goal.returns

@@ -1,4 +1,4 @@
-use Rattle.lower_values.proofs.Parts.{three}
+use Rattle.lower_forms.proofs.Parts.{three}
 use Rattle.lower.proofs.Blocks.{leaves_wrote}
 use Rattle.lower.proofs.leaves.put_returned.Goals as goal
 

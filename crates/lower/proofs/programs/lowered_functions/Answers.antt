@@ -3,22 +3,22 @@ use Rattle.std.specs.Prelude.{nat_eq}
 use Rattle.std.proofs.lemmas.List.{map-append}
 use Rattle.program.specs.View as view
 use Rattle.tac.specs.Code as three_address
-use Rattle.lower.specs.inside.Functions.{parameters_at, IsFunctionWith, AreFunctionsOf}
+use Rattle.lower.specs.inside.Functions.{IsFunctionWith, AreFunctionsOf}
 use Rattle.lower.proofs.Whole.{item_in_map, one_more_function}
 use Rattle.lower.proofs.programs.lowered_functions.Goals as goal
 
 pub loop-function-preserved : goal.loop-function-preserved
 loop-function-preserved c =
-    let all = map view.function_of c.args.functions.now in
+    let p = view.program_of c.args.program.now in
     let old = map three_address.function_of c.loop-function.list.items in
     let n = c.loop-function.function-index in
     let f = c.function-item.result in
     let g = c.in_ok-lowered_function.field-0 in
     let put : map three_address.function_of c.push.new.self.items ≡ old ++ three_address.function_of g ∷ [] =
     ap (map three_address.function_of) c.in_ok-push.ensures.items ∙ map-append three_address.function_of c.loop-function.list.items (g ∷ []) in
-    let it = subst (λ k. IsFunctionWith (parameters_at all) (nat_eq k c.args.main) (view.function_of f) (three_address.function_of g)) c.loop-function.invariant.at c.in_ok-lowered_function.ensures in
+    let it = subst (λ k. IsFunctionWith p (nat_eq k p.main) (view.function_of f) (three_address.function_of g)) c.loop-function.invariant.at c.in_ok-lowered_function.ensures in
     record {
       at = ap (λ k. k + 1) c.loop-function.invariant.at;
-      all = subst (λ gs. AreFunctionsOf all c.args.main (n + 1) gs) (sym put) (one_more_function all c.args.main n old (view.function_of f) (three_address.function_of g)
-          (item_in_map view.function_of c.args.functions.now n f c.loop-function-test.true c.function-item.is) c.loop-function.invariant.all it);
+      all = subst (λ gs. AreFunctionsOf p (n + 1) gs) (sym put) (one_more_function p n old (view.function_of f) (three_address.function_of g)
+          (item_in_map view.function_of c.args.program.now.functions.items n f c.loop-function-test.true c.function-item.is) c.loop-function.invariant.all it);
     }

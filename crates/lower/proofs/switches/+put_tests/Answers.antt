@@ -2,7 +2,7 @@ use Rattle.std.proofs.Common.{◌≡◌, Some, map, ap, rules, ◌∙◌, w64, t
 use Rattle.std.proofs.Math.Facts.{to_z-of_z}
 use Rattle.meaning.specs.Statements.{labels_at}
 use Rattle.program.specs.View.{statement_of, statements_of}
-use Rattle.lower_values.specs.inside.Parts.{plus}
+use Rattle.lower_forms.specs.inside.Parts.{plus}
 use Rattle.lower.specs.inside.Sizes.{statement_size}
 use Rattle.lower.specs.inside.Places.{one_label}
 use Rattle.lower.proofs.Placed.{tests_case}

@@ -1,7 +1,7 @@
 use Rattle.std.proofs.Common.{◌≡◌, ℕ, false, Option, Some, None, refl}
 use Rattle.program.specs.View.{value_of}
 use Rattle.lowering.specs.Values as values
-use Rattle.lower_values.specs.inside.Parts.{is_written}
+use Rattle.lower_forms.specs.inside.Parts.{is_written}
 use Rattle.lower_values.proofs.operands.operand_of.Goals as goal
 
 none_written : (o : Option ℕ) → false ≡ is_written o values.writes_none

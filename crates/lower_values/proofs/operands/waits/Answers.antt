@@ -1,7 +1,7 @@
 use Rattle.std.proofs.Common.{ap, sym, ◌∙◌}
 use Rattle.program.specs.View.{value_of}
 use Rattle.lowering.specs.Values as values
-use Rattle.lower_values.specs.inside.Parts.{is_written}
+use Rattle.lower_forms.specs.inside.Parts.{is_written}
 use Rattle.lower_values.proofs.operands.waits.Goals as goal
 
 pub returns : goal.returns

@@ -2,7 +2,7 @@ use Rattle.std.proofs.Common.{List, map, refl}
 use Rattle.program.specs.declared.expressions.Argument.{Argument}
 use Rattle.program.specs.View.{arguments_of, argument_of}
 use Rattle.lowering.specs.Values as values
-use Rattle.lower_values.specs.inside.Parts.{given_calls}
+use Rattle.lower_values.specs.inside.Given.{given_calls}
 use Rattle.lower_values.proofs.Lists.{next_some, calls_step}
 use Rattle.lower_values.proofs.rests.arguments_call.Goals as goal
 

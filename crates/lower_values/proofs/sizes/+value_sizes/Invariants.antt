@@ -1,6 +1,6 @@
 use Rattle.std.proofs.Common.{◌+◌, ◌*◌, map}
-use Rattle.program.specs.View.{value_of, arguments_of, argument_of}
-use Rattle.lower_values.proofs.Nodes.{nodes, argument_nodes}
+use Rattle.program.specs.View.{value_of, place_of, arguments_of, argument_of}
+use Rattle.lower_values.proofs.Nodes.{nodes, place_nodes, argument_nodes}
 use Rattle.lower_values.proofs.sizes.+value_sizes.Given as goal
 
 abbrev pub decreases-value_size : goal.decreases-value_size
@@ -35,3 +35,24 @@ decreases-truth_size l = 4 * (nodes (value_of l.a.now) + nodes (value_of l.b.now
 
 abbrev pub decreases-both_size : goal.decreases-both_size
 decreases-both_size l = 4 * (nodes (value_of l.a.now) + nodes (value_of l.b.now)) + 2
+
+abbrev pub decreases-place_size : goal.decreases-place_size
+decreases-place_size l = 4 * place_nodes (place_of l.place.now)
+
+abbrev pub decreases-element_size : goal.decreases-element_size
+decreases-element_size l = 4 * (place_nodes (place_of l.array.now) + nodes (value_of l.index.now)) + 1
+
+abbrev pub decreases-read_size : goal.decreases-read_size
+decreases-read_size l = 4 * place_nodes (place_of l.place.now) + 1
+
+abbrev pub decreases-assigned_size : goal.decreases-assigned_size
+decreases-assigned_size l = 4 * (place_nodes (place_of l.place.now) + nodes (value_of l.e.now)) + 2
+
+abbrev pub decreases-compound_size : goal.decreases-compound_size
+decreases-compound_size l = 4 * (place_nodes (place_of l.place.now) + nodes (value_of l.e.now)) + 2
+
+abbrev pub decreases-stepped_size : goal.decreases-stepped_size
+decreases-stepped_size l = 4 * place_nodes (place_of l.place.now) + 1
+
+abbrev pub decreases-array_size : goal.decreases-array_size
+decreases-array_size l = 4 * (place_nodes (place_of l.array.now) + argument_nodes (arguments_of (map argument_of l.more.now))) + 1

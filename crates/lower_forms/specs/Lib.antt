@@ -1,0 +1,3 @@
+pub mod inside
+pub use Rattle.lowering.specs.Values
+pub use Rattle.lowering.specs.Code
