@@ -223,7 +223,15 @@ fn put_altered_aside(
     put_operation(code, change.op, reading, way, old, one, free)?;
     let kept = either(cuts(change.ty, Mode::Nowhere), is_wide(change.ty));
     let changed = Operand::Temporary(free);
-    put_stored(code, kept, change.ty, changed, change.spot, Mode::Nowhere, free)?;
+    put_stored(
+        code,
+        kept,
+        change.ty,
+        changed,
+        change.spot,
+        Mode::Nowhere,
+        free,
+    )?;
     put_end(code, mode, old)?;
     Ok(())
 }
