@@ -12,14 +12,16 @@ use Rattle.tac.specs.declared.code.Target.TheVariants as target
 use Rattle.tac.specs.declared.code.Place.{Place as Spot}
 use Rattle.tac.specs.declared.code.Instruction.{Instruction}
 use Rattle.tac.specs.declared.code.Instruction.TheVariants as instruction
+use Rattle.meaning.specs.Expressions.{step_operation}
 use Rattle.lowering.specs.Plain.{object_of}
+use Rattle.lowering.specs.Asked.{is_wide}
 use Rattle.lowering.specs.Values.{calls, arguments_call, keeps, operand_of, free_temporary, Mode, mode_of}
 use Rattle.lowering.specs.Places.{found, target_for, free_temporary_at, free_kept_at, cuts}
 use Rattle.lowering.specs.Code.{One, OnObject, Parts, Puts, Alters, AltersBy, Gets, HandsOver, Finds, Into}
 use Rattle.lower_forms.specs.inside.Parts.{plus, shape_of, Wrote}
 use Rattle.lower_forms.specs.inside.FormSizes.{parts_size, gets_size, puts_size, cuts_for, alters_size, alters_by_size, hands_over_size}
 use Rattle.lower_values.specs.inside.Sizes.{size_on, rest_shape, place_size, value_size, passes_size}
-use Rattle.lower_values.specs.inside.Written.{WroteValue, WrotePasses, WroteFinds, WroteReadMemory, WroteAssignedMemory, WroteCompoundMemory, WroteStepMemory}
+use Rattle.lower_values.specs.inside.Written.{WroteValue, WrotePasses, WroteFinds, WroteReadObject, WroteReadMemory, WroteAssignedObject, WroteAssignedMemory, WroteCompoundObject, WroteCompoundMemory, WroteStepObject, WroteStepMemory}
 use Rattle.lower_forms.proofs.Parts.{two, three, four, five}
 use Rattle.lower_forms.proofs.Stored.{stored_by}
 
@@ -36,13 +38,44 @@ same_hand (typed.element at array index) false t k = refl
 
 -- ---- one of two cases
 
-pub on_object : (Q : List Instruction → ℕ → ℕ → ℕ → Type 0) (R : List Instruction → ℕ → ℕ → Type 0) (n m : ℕ) {a b : List Instruction} (o : Option ℕ) (x : ℕ) → o ≡ Some x
-    → Wrote (λ w p q. Q w x p q) n a b → Wrote (λ w p q. OnObject o (λ y. Q w y p q) (R w p q)) (size_on o n m) a b
-on_object Q R n m {a} {b} o x e h = subst (λ r. Wrote (λ w p q. OnObject r (λ y. Q w y p q) (R w p q)) (size_on r n m) a b) (sym e) h
+module _ (Q : List Instruction → ℕ → ℕ → ℕ → Type 0) (R : List Instruction → ℕ → ℕ → Type 0) (n m : ℕ) {a b : List Instruction} where
+  pub on_object : (o : Option ℕ) (x : ℕ) → o ≡ Some x → Wrote (λ w p q. Q w x p q) n a b → Wrote (λ w p q. OnObject o (λ y. Q w y p q) (R w p q)) (size_on o n m) a b
+  on_object o x e h = subst (λ r. Wrote (λ w p q. OnObject r (λ y. Q w y p q) (R w p q)) (size_on r n m) a b) (sym e) h
 
-pub in_memory : (Q : List Instruction → ℕ → ℕ → ℕ → Type 0) (R : List Instruction → ℕ → ℕ → Type 0) (n m : ℕ) {a b : List Instruction} (o : Option ℕ) → o ≡ None
-    → Wrote R m a b → Wrote (λ w p q. OnObject o (λ y. Q w y p q) (R w p q)) (size_on o n m) a b
-in_memory Q R n m {a} {b} o e h = subst (λ r. Wrote (λ w p q. OnObject r (λ y. Q w y p q) (R w p q)) (size_on r n m) a b) (sym e) h
+  pub in_memory : (o : Option ℕ) → o ≡ None → Wrote (λ w p q. R w p q) m a b → Wrote (λ w p q. OnObject o (λ y. Q w y p q) (R w p q)) (size_on o n m) a b
+  in_memory o e h = subst (λ r. Wrote (λ w p q. OnObject r (λ y. Q w y p q) (R w p q)) (size_on r n m) a b) (sym e) h
+
+module _ (size : Place → ℕ) (place : Place) (m : Mode) (t k : ℕ) {c0 c1 : List Instruction} where
+  pub read_object : (u : IntType) (x : ℕ) → object_of place ≡ Some x → WroteReadObject x m c0 c1 → WroteValue size (typed.read u place) m t k c0 c1
+  read_object u x e h = on_object _ _ _ _ (object_of place) x e h
+
+  pub read_memory : (u : IntType) → object_of place ≡ None → WroteReadMemory size u place m t k c0 c1 → WroteValue size (typed.read u place) m t k c0 c1
+  read_memory u e h = in_memory _ _ _ _ (object_of place) e h
+
+  pub assigned_object : (at : Pos) (u : IntType) (v : Value) (x : ℕ) → object_of place ≡ Some x → WroteAssignedObject size u x v m t k c0 c1
+      → WroteValue size (typed.assigned at u place v) m t k c0 c1
+  assigned_object at u v x e h = on_object _ _ _ _ (object_of place) x e h
+
+  pub assigned_memory : (at : Pos) (u : IntType) (v : Value) → object_of place ≡ None → WroteAssignedMemory size u place v m t k c0 c1
+      → WroteValue size (typed.assigned at u place v) m t k c0 c1
+  assigned_memory at u v e h = in_memory _ _ _ _ (object_of place) e h
+
+  pub compound_object : (at : Pos) (o : BinOp) (u of : IntType) (v : Value) (x : ℕ) (wide : Bool) → object_of place ≡ Some x → wide ≡ is_wide u
+      → WroteCompoundObject size wide o u of x v m t k c0 c1 → WroteValue size (typed.compound at o u of place v) m t k c0 c1
+  compound_object at o u of v x wide e ew h = on_object _ _ _ _ (object_of place) x e (subst (λ n. WroteCompoundObject size n o u of x v m t k c0 c1) ew h)
+
+  pub compound_memory : (at : Pos) (o : BinOp) (u of : IntType) (v : Value) → object_of place ≡ None → WroteCompoundMemory size o u of place v m t k c0 c1
+      → WroteValue size (typed.compound at o u of place v) m t k c0 c1
+  compound_memory at o u of v e h = in_memory _ _ _ _ (object_of place) e h
+
+  pub step_object : (at : Pos) (moment : Moment) (o : StepOp) (u of : IntType) (x : ℕ) (wide : Bool) (b : BinOp) → object_of place ≡ Some x → wide ≡ is_wide u → b ≡ step_operation o
+      → WroteStepObject moment wide b u of x m t c0 c1 → WroteValue size (typed.stepped at moment o u of place) m t k c0 c1
+  step_object at moment o u of x wide b e ew eb h = on_object _ _ _ _ (object_of place) x e (subst (λ n. WroteStepObject moment n (step_operation o) u of x m t c0 c1) ew
+      (subst (λ n. WroteStepObject moment wide n u of x m t c0 c1) eb h))
+
+  pub step_memory : (at : Pos) (moment : Moment) (o : StepOp) (u of : IntType) (b : BinOp) → object_of place ≡ None → b ≡ step_operation o
+      → WroteStepMemory size moment b u of place m t k c0 c1 → WroteValue size (typed.stepped at moment o u of place) m t k c0 c1
+  step_memory at moment o u of b e eb h = in_memory _ _ _ _ (object_of place) e (subst (λ n. WroteStepMemory size moment n u of place m t k c0 c1) eb h)
 
 -- ---- what is found, and a value behind it
 

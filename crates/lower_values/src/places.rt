@@ -1,6 +1,6 @@
 //! The code of what reads and changes places.
 
-ghost use Rattle.std.specs.Prelude.{◌≡◌, ◌×◌, ◌||◌, ℕ, Bool, Some, OnOk, IfOk};
+ghost use Rattle.std.specs.Prelude.{◌≡◌, OnOk, IfOk};
 ghost use Rattle.srcset.specs.declared.refusal.Pos.{Pos};
 ghost use Rattle.ctypes.specs.declared.types.IntType.{IntType};
 ghost use Rattle.typed.specs.Program as typed;

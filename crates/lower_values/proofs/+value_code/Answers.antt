@@ -15,7 +15,7 @@ use Rattle.lower_forms.proofs.Held.{sees_named, sees_element}
 use Rattle.lower_forms.proofs.Parts.{two, three, four, five}
 use Rattle.lower_forms.proofs.Operated.{one_as}
 use Rattle.lower_values.proofs.Expressions.{waiting, binary_wrote, number_wrote, both_jump_wrote, one_jump_wrote, both_number_wrote, one_number_wrote, chosen_wrote, not_to, both_to, one_to}
-use Rattle.lower_values.proofs.Located.{on_object, in_memory, element_wrote, assigned_there, compound_there, read_there, step_there, array_wrote}
+use Rattle.lower_values.proofs.Located.{read_object, read_memory, assigned_object, assigned_memory, compound_object, compound_memory, step_object, step_memory, element_wrote, assigned_there, compound_there, read_there, step_there, array_wrote}
 use Rattle.lower_values.proofs.+value_code.Goals as goal
 
 pub values::put_rested-returns : goal.values::put_rested-returns
@@ -59,7 +59,7 @@ places::put_found-returns-in_ok-put-in-Named t c =
 pub places::put_found-returns-in_ok-put_element-in-Element : goal.places::put_found-returns-in_ok-put_element-in-Element
 places::put_found-returns-in_ok-put_element-in-Element t c =
     let s = c.in-Element in
-    rw (sees_element c.args.place.now s.field-0 s.array s.index s.is) (rw (c.deref-in-Element.ensures, c.deref-in-Element-2.ensures) at (c.in_ok-put_element-in-Element.ensures s.field-0))
+    rw (sees_element c.args.place.now s.field-0 s.array s.index s.is) (rw (c.deref.ensures, c.deref-in-Element.ensures) at (c.in_ok-put_element-in-Element.ensures s.field-0))
 
 pub places::put_read_memory-returns : goal.places::put_read_memory-returns
 places::put_read_memory-returns t c = read_there (sizes_in c.args.scope.now) c.args.ty (place_of c.args.place.now) (meant c.args.mode) c.args.free.temporary c.args.free.slot c.found-spot.result c.found-spot.ensures c.in_ok-put_found.ensures c.in_ok-put_get.ensures
@@ -91,6 +91,30 @@ places::put_step_memory-returns t c = step_there (sizes_in c.args.scope.now) (mo
 pub values::put_array-returns : goal.values::put_array-returns
 values::put_array-returns t c = array_wrote (sizes_in c.args.scope.now) (place_of c.args.array.now) (arguments_of (map argument_of c.args.more.now)) c.args.free.temporary c.args.free.slot c.in_ok-temporary.temporary c.in_ok-slot.slot c.arguments_call-calls.result c.found-spot.result
     c.arguments_call-calls.ensures c.found-spot.ensures c.in_ok-temporary.ensures c.in_ok-slot.ensures c.in_ok-put_found.ensures c.in_ok-put_passes.ensures c.in_ok-put_handed.ensures
+
+pub places::put_read-returns-in_ok-put_read_object-in-Some : goal.places::put_read-returns-in_ok-put_read_object-in-Some
+places::put_read-returns-in_ok-put_read_object-in-Some t c = read_object (sizes_in c.args.scope.now) (place_of c.args.place.now) (meant c.args.mode) c.args.free.temporary c.args.free.slot c.args.ty c.in-Some.object (sym c.object_of.ensures ∙ c.in-Some.is) c.in_ok-put_read_object-in-Some.ensures
+
+pub places::put_read-returns-in_ok-put_read_memory-in-None : goal.places::put_read-returns-in_ok-put_read_memory-in-None
+places::put_read-returns-in_ok-put_read_memory-in-None t c = read_memory (sizes_in c.args.scope.now) (place_of c.args.place.now) (meant c.args.mode) c.args.free.temporary c.args.free.slot c.args.ty (sym c.object_of.ensures ∙ c.in-None.is) c.in_ok-put_read_memory-in-None.ensures
+
+pub places::put_assigned-returns-in_ok-put_assigned_object-in-Some : goal.places::put_assigned-returns-in_ok-put_assigned_object-in-Some
+places::put_assigned-returns-in_ok-put_assigned_object-in-Some t c = λ at. assigned_object (sizes_in c.args.scope.now) (place_of c.args.place.now) (meant c.args.mode) c.args.free.temporary c.args.free.slot at c.args.ty (value_of c.args.e.now) c.in-Some.object (sym c.object_of.ensures ∙ c.in-Some.is) c.in_ok-put_assigned_object-in-Some.ensures
+
+pub places::put_assigned-returns-in_ok-put_assigned_memory-in-None : goal.places::put_assigned-returns-in_ok-put_assigned_memory-in-None
+places::put_assigned-returns-in_ok-put_assigned_memory-in-None t c = λ at. assigned_memory (sizes_in c.args.scope.now) (place_of c.args.place.now) (meant c.args.mode) c.args.free.temporary c.args.free.slot at c.args.ty (value_of c.args.e.now) (sym c.object_of.ensures ∙ c.in-None.is) c.in_ok-put_assigned_memory-in-None.ensures
+
+pub places::put_compound-returns-in_ok-put_compound_object-in-Some : goal.places::put_compound-returns-in_ok-put_compound_object-in-Some
+places::put_compound-returns-in_ok-put_compound_object-in-Some t c = λ at. compound_object (sizes_in c.args.scope.now) (place_of c.args.place.now) (meant c.args.mode) c.args.free.temporary c.args.free.slot at c.args.op c.args.ty c.args.of (value_of c.args.e.now) c.in-Some.object c.is_wide-wide.result (sym c.object_of.ensures ∙ c.in-Some.is) c.is_wide-wide.ensures c.in_ok-put_compound_object-in-Some.ensures
+
+pub places::put_compound-returns-in_ok-put_compound_memory-in-None : goal.places::put_compound-returns-in_ok-put_compound_memory-in-None
+places::put_compound-returns-in_ok-put_compound_memory-in-None t c = λ at. compound_memory (sizes_in c.args.scope.now) (place_of c.args.place.now) (meant c.args.mode) c.args.free.temporary c.args.free.slot at c.args.op c.args.ty c.args.of (value_of c.args.e.now) (sym c.object_of.ensures ∙ c.in-None.is) c.in_ok-put_compound_memory-in-None.ensures
+
+pub places::put_step-returns-in_ok-put_step_object-in-Some : goal.places::put_step-returns-in_ok-put_step_object-in-Some
+places::put_step-returns-in_ok-put_step_object-in-Some t c = λ at. step_object (sizes_in c.args.scope.now) (place_of c.args.place.now) (meant c.args.mode) c.args.free.temporary c.args.free.slot at (moment_of c.args.moment) c.args.op c.args.ty c.args.of c.in-Some.object c.is_wide-wide.result c.step_operation-operation.result (sym c.object_of.ensures ∙ c.in-Some.is) c.is_wide-wide.ensures c.step_operation-operation.ensures c.in_ok-put_step_object-in-Some.ensures
+
+pub places::put_step-returns-in_ok-put_step_memory-in-None : goal.places::put_step-returns-in_ok-put_step_memory-in-None
+places::put_step-returns-in_ok-put_step_memory-in-None t c = λ at. step_memory (sizes_in c.args.scope.now) (place_of c.args.place.now) (meant c.args.mode) c.args.free.temporary c.args.free.slot at (moment_of c.args.moment) c.args.op c.args.ty c.args.of c.step_operation-operation.result (sym c.object_of.ensures ∙ c.in-None.is) c.step_operation-operation.ensures c.in_ok-put_step_memory-in-None.ensures
 
 pub operators::put_minus-returns : goal.operators::put_minus-returns
 operators::put_minus-returns t c = λ at. three c.in_ok-put.ensures c.in_ok-operand.ensures.1 (rw (c.reading_of-reading.ensures, c.in_ok-operand.ensures.0) at c.in_ok-put_then.ensures)

@@ -1,3 +1,4 @@
+use Rattle.lower_values.proofs.Located.{read_object}
 use Rattle.lower_forms.proofs.Parts.{two}
 use Rattle.lower_values.proofs.places.put_read_object.Goals as goal
 

@@ -10,8 +10,8 @@ pub place_size-returns-in-Element : goal.place_size-returns-in-Element
 place_size-returns-in-Element t c =
     let s = c.in-Element in
     c.element_size.ensures s.field-0
-    ∙ ap (λ x. size.place_size (typed.element s.field-0 (place_of x) (value_of c.deref-2.result.now))) c.deref.ensures
-    ∙ ap (λ x. size.place_size (typed.element s.field-0 (place_of s.array.value) (value_of x))) c.deref-2.ensures
+    ∙ ap (λ x. size.place_size (typed.element s.field-0 (place_of x) (value_of c.deref-in-Element.result.now))) c.deref.ensures
+    ∙ ap (λ x. size.place_size (typed.element s.field-0 (place_of s.array.value) (value_of x))) c.deref-in-Element.ensures
     ∙ ap size.place_size (sym (sees_element c.args.place.now s.field-0 s.array s.index s.is))
 
 pub unary_size-returns-in-Not : goal.unary_size-returns-in-Not
