@@ -7,5 +7,5 @@ use Rattle.lower.proofs.programs.lowered_functions.Given as goal
 abbrev pub invariant-loop-function : goal.invariant-loop-function
 invariant-loop-function l = record {
   at : l.number ≡ l.function-index;
-  all : AreFunctionsOf (view.program_of l.program.now) l.function-index (map three_address.function_of l.list.items);
+  all : AreFunctionsOf (view.program_of l.program) l.function-index (map three_address.function_of l.list.items);
 }
