@@ -5,7 +5,7 @@
 #
 # Called from the repository's root; CC is bin/cc by default, TURNS 9. Of each measurement the least time of the processor
 # (user and system) is printed, of whole processes, in turn. What needs a missing tool is left out, and said so. `cc build` goes
-# through preprocessing, tokens, tree and constraints, and ends with 699, since each source has a function with an array, for which
+# through preprocessing, tokens, tree and constraints, and ends with 699, since each source has an automatic array with an initialiser, for which
 # there is no code yet.
 set -u
 LC_ALL=C
@@ -25,7 +25,7 @@ has() { command -v "$1" >/dev/null 2>&1; }
 # ------------------------------------------------------------- the sources
 
 # the function that ends each of them
-with_array() { cat; echo 'int last(void) { int a[1]; a[0] = 0; return a[0]; }'; }
+with_array() { cat; echo 'int last(void) { int a[1] = {0}; return a[0]; }'; }
 
 # names N: so many objects at file scope, each declared once and never used
 names() { awk -v n="$1" 'BEGIN { for (k = 0; k < n; k++) printf "%s%s%s", k % 20 ? "," : "extern int ", sprintf("x%x", k), k % 20 == 19 || k == n - 1 ? ";\n" : ""

@@ -30,15 +30,18 @@ PROGRAMS = [
     ('int p(int c) { rv_putbyte(c); return c; } void q(int a, int b, int c) { }', 'q(p(65), p(66), p(67)); return 0;', 0, b'ABC'),
     ('void w(int a, int b, int c, int d, int e, int f, int g, int h, int i, int j) { rv_putbyte(i); rv_putbyte(j); }',
      'w(65, 66, 67, 68, 69, 70, 71, 72, 73, 74); return 0;', 0, b'IJ'),
+    ('', 'int a[2]; a[0] = 1; return a[0];', 1, b''),
+    ('', 'return "a"[0];', 97, b''),
+    ('', 'static int n; return n;', 0, b''),
+    ('int n;', 'return n;', 0, b''),
+    ('int f(int a[]) { return a[0]; }', 'int a[1]; a[0] = 3; return f(a);', 3, b''),
+    ('int m[2][2] = {{1, 2}, {3, 4}};', 'return m[1][0] * 10 + (int)(sizeof(m) / sizeof(m[0]));', 32, b''),
 ]
 REFUSED = [
     ('int main(void) { return -2147483648; }', '609 left out: long long constant'),
     ('int main(void) { return %s0%s; }' % ('(' * 253, ')' * 253), '709 limit: depth'),
-    ('int main(void) { int a[2]; a[0] = 1; return a[0]; }', '699 not built yet'),
-    ('int main(void) { return "a"[0]; }', '699 not built yet'),
-    ('int main(void) { static int n; return n; }', '699 not built yet'),
-    ('int n; int main(void) { return n; }', '699 not built yet'),
-    ('int f(int a[]) { return a[0]; } int main(void) { int a[1]; a[0] = 3; return f(a); }', '699 not built yet'),
+    ('int main(void) { int a[2] = { 1 }; return a[0]; }', '699 not built yet'),
+    ('int main(void) { char a[2] = "a"; return a[0]; }', '699 not built yet'),
     ('int main(void) { return y; }', '528 undeclared name'),
 ]
 
