@@ -24,7 +24,7 @@ use tac::TacProgram;
 /// Why a program has no file.
 #[derive(Clone, Copy, Debug, PartialEq, Eq)]
 pub enum NotGenerated {
-    /// It uses what has no code yet: arrays, string literals, objects with static storage.
+    /// It has what has no code yet: an automatic array with an initialiser.
     NotBuiltYet,
     /// Memory ran out, or what the program takes is more than the machine's.
     Memory,

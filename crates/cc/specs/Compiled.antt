@@ -138,7 +138,7 @@ pub record FailsCheck (set : Files) (name : List ℕ) (fault : Fault) : Type 0 w
   pub has_tree : HasTree set name texts unit
   pub breaks : BreaksConstraint name texts unit fault
 
--- 699: the program is right, and uses arrays, string literals or objects with static storage, for which no code is made yet
+-- 699: the program is right, and an automatic array of it has an initialiser, for which no code is made yet
 pub record IsNotPlain (set : Files) (name : List ℕ) (fault : Fault) : Type 0 where
   pub texts : Texts
   pub unit : List ExternalTree

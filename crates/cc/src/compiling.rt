@@ -27,7 +27,7 @@ pub struct Built {
 ///
 /// Refuses with the fault of its preprocessing tokens (103; 111 to 113, 703; 201 to 235, 704 to 708), of its C tokens (301 to 303,
 /// 601 to 609), of its tree (401, 709 to 711), or of a constraint that this breaks (501 to 553, 620 to 623, 712 to 715), in this
-/// order; with 699 where it uses arrays, string literals or objects with static storage; and with 801 where there is no memory.
+/// order; with 699 where an automatic array has an initialiser; and with 801 where there is no memory.
 pub fn compile(alloc: Global, set: &FileSet, main: &str) -> Result<Built, Fault>
     ensures built { IfOk result (λ built. Compiles set.now main.now built) }
     ensures refused { IfErr result (λ fault. IsRefused set.now main.now fault) }
