@@ -1,6 +1,6 @@
 //! The code of functions.
 
-ghost use Rattle.std.specs.Prelude.{ℕ, suc, ◌≡◌, [], map, length, OnOk, IfOk};
+ghost use Rattle.std.specs.Prelude.{suc, ◌≡◌, [], map, length, OnOk, IfOk};
 ghost use Rattle.program.specs.View.{parameter_type_of, function_of, program_of};
 ghost use Rattle.tac.specs.Lowered.{kind_of};
 ghost use Rattle.tac.specs.Code as three_address;

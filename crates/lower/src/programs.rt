@@ -1,7 +1,6 @@
 //! The code of programs.
 
-ghost use Rattle.std.specs.Prelude.{ℕ, ◌≡◌, true, false, map, length, slice_get, nat_eq, Some, IfOk, IfErr};
-ghost use Rattle.typed.specs.Program as typed;
+ghost use Rattle.std.specs.Prelude.{◌≡◌, true, false, map, length, IfOk, IfErr};
 ghost use Rattle.program.specs.View as view;
 ghost use Rattle.tac.specs.Code as three_address;
 ghost use Rattle.lowering.specs.Plain as definition;

@@ -1,5 +1,6 @@
 use Rattle.std.proofs.Common.{◌≡◌, ◌+◌, [], ◌∷◌, ◌++◌, map, ap, sym, subst, ◌∙◌}
-use Rattle.std.specs.Prelude.{nat_eq}
+use Rattle.std.specs.Prelude.{nat_eq, List, Some, slice_get}
+use Rattle.program.specs.declared.units.Function.{Function}
 use Rattle.std.proofs.lemmas.List.{map-append}
 use Rattle.program.specs.View as view
 use Rattle.tac.specs.Code as three_address
@@ -13,6 +14,8 @@ loop-function-preserved c =
     let old = map three_address.function_of c.loop-function.list.items in
     let n = c.loop-function.function-index in
     let f = c.function-item.result in
+    let there = subst (λ (fs : List Function). slice_get (map view.function_of fs) n ≡ Some (view.function_of f)) c.deref-function-items.ensures.value
+    (item_in_map view.function_of c.deref-function-items.result.now n f c.loop-function-test.true c.function-item.is) in
     let g = c.in_ok-lowered_function.field-0 in
     let put : map three_address.function_of c.push.new.self.items ≡ old ++ three_address.function_of g ∷ [] =
     ap (map three_address.function_of) c.in_ok-push.ensures.items ∙ map-append three_address.function_of c.loop-function.list.items (g ∷ []) in
@@ -20,5 +23,5 @@ loop-function-preserved c =
     record {
       at = ap (λ k. k + 1) c.loop-function.invariant.at;
       all = subst (λ gs. AreFunctionsOf p (n + 1) gs) (sym put) (one_more_function p n old (view.function_of f) (three_address.function_of g)
-          (item_in_map view.function_of c.args.program.now.functions.items n f c.loop-function-test.true c.function-item.is) c.loop-function.invariant.all it);
+          there c.loop-function.invariant.all it);
     }

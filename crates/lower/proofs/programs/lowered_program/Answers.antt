@@ -1,4 +1,4 @@
-use Rattle.std.proofs.Common.{length, map, ap, sym, subst, refl, ◌∙◌}
+use Rattle.std.proofs.Common.{length, map, ap, sym, refl, ◌∙◌}
 use Rattle.program.specs.View as view
 use Rattle.lower.proofs.Whole.{length_map, program_written}
 use Rattle.lower.proofs.programs.lowered_program.Goals as goal
