@@ -1,5 +1,5 @@
 #!/usr/bin/env python3
-"""Holds programs of automatic scalars against what they come to, four ways: `check.py CC`. The last line counts what passed and failed.
+"""Holds programs against what they come to, four ways: `check.py CC`. The last line counts what passed and failed.
 
 Each is interpreted with just its ticks, built, run by `cc run` with 60 instructions for each tick and 66 more, and run by qemu-riscv32;
 its listing has to be that of the file.
@@ -41,7 +41,7 @@ def known(compiler, row):
 
 
 def other(compiler, row, refused):
-    """One of the programs for the interpreter: refused where it has arrays, strings or objects with static storage."""
+    """One of the programs for the interpreter: refused where an automatic array has an initialiser."""
     if not refused and row.status.isdigit():
         return known(compiler, row)
     counted = four.Counted()
