@@ -7,6 +7,7 @@ pub mod Memory
 pub mod Frames
 pub mod Values
 pub mod Targets
+pub mod Elements
 pub mod Computing
 pub mod Outside
 pub mod Ground

@@ -1,16 +1,17 @@
 -- Where places lie, and the types of what lies there.
-use Rattle.std.proofs.Common.{◌≡◌, ℕ, zero, suc, ◌+◌, ◌*◌, List, [], ◌∷◌, ◌++◌, length, map, Option, Some, None, true, false, refl, sym, ap, ◌∙◌, subst, arith}
-use Rattle.std.specs.Prelude.{slice_get, not}
+use Rattle.std.proofs.Common.{◌≡◌, ℕ, zero, suc, ◌+◌, ◌*◌, List, [], ◌∷◌, ◌++◌, length, map, Bool, Option, Some, None, true, false, refl, sym, ap, ◌∙◌, subst, arith}
+use Rattle.std.specs.Prelude.{slice_get, not, option_map, if◌then◌else◌}
 use Rattle.ctypes.specs.declared.types.IntType.{IntType}
 use Rattle.ctypes.specs.declared.types.IntType.TheVariants as ty
 use Rattle.ctypes.specs.Types.{bytes_of}
+use Rattle.typed.specs.Types.{ObjectType}
 use Rattle.typed.specs.Program.{Static}
 use Rattle.typed.specs.Units.{in_words}
 use Rattle.meaning.specs.Store.{Reference, whole}
 use Rattle.tac.specs.declared.code.Place.{Place}
 use Rattle.tac.specs.declared.code.Place.TheVariants as place
 use Rattle.tac.specs.Code.{Program, Function, function_at, scalar_type}
-use Rattle.tac.specs.Run.{State, Call, reference_to, element_types, element_type, array_if, own, own_type, open_calls}
+use Rattle.tac.specs.Run.{State, Call, reference_to, element_types, element_type, array_if, is_type, path_of, element_of, own, own_type, open_calls}
 use Rattle.tac.specs.Sound.{PlaceFits}
 use Rattle.frames.specs.Code as flat_code
 use Rattle.frames.specs.Code.{area_home}
@@ -22,10 +23,11 @@ use Rattle.flattening.specs.Layout as layout
 use Rattle.flattening.specs.Translated.{location_of}
 use Rattle.flattening.proofs.Places.{array_lengths}
 use Rattle.flat_steps.specs.Matched.{Spot, Piece, Matched, Leads, spot_of, spots_from, literal_piece, static_piece, own_piece, function_for, stack_bytes, spots, elements_before, offset_at, list_in, offset_in}
-use Rattle.flat_steps.proofs.Lists.{same_some, get_left, get_right, get_map, map_both, got_below}
+use Rattle.flat_steps.proofs.Lists.{same_some, some_below, get_left, get_right, get_map, map_both, got_below}
 use Rattle.flat_steps.proofs.Spots.{own_spot, own_offset}
 use Rattle.flat_steps.proofs.Frames.{functions_of}
-use Rattle.flat_steps.proofs.Values.{reference_shows}
+use Rattle.flat_steps.proofs.Values.{gave, reference_shows}
+use Rattle.flat_steps.proofs.Elements.{path_found}
 use Rattle.flat_steps.proofs.Ground.{IsMadeOf, name_is, function_is}
 
 -- ---- literals and statics
@@ -58,10 +60,10 @@ static_at q n x e = behind_literals q.literals (map static_piece q.statics) 16 n
 
 -- ---- types of elements
 
-abbrev element_of : Spot → IntType
-element_of x = x.type.element
+abbrev kind_of : Spot → IntType
+kind_of x = x.type.element
 
-element_from : (list o : ℕ) (ps : List Piece) → map element_of (spots_from list o ps) ≡ map (λ p. p.type.element) ps
+element_from : (list o : ℕ) (ps : List Piece) → map kind_of (spots_from list o ps) ≡ map (λ p. p.type.element) ps
 element_from list o [] = refl
 element_from list o (p ∷ ps) = ap (λ z. p.type.element ∷ z) (element_from list (o + p.size) ps)
 
@@ -69,7 +71,7 @@ twice : {A B C : Type 0} (g : B → C) (h : A → B) (xs : List A) → map g (ma
 twice g h [] = refl
 twice g h (x ∷ xs) = ap (λ z. g (h x) ∷ z) (twice g h xs)
 
-pub types_are : (q : Program) (cs : List Call) → map element_of (spots q (functions_of cs)) ≡ element_types q cs
+pub types_are : (q : Program) (cs : List Call) → map kind_of (spots q (functions_of cs)) ≡ element_types q cs
 types_are q [] =
     element_from 0 16 (map literal_piece q.literals ++ map static_piece q.statics)
     ∙ (map_both (λ (p : Piece). p.type.element) (map literal_piece q.literals) (map static_piece q.statics)
@@ -78,13 +80,13 @@ types_are q [] =
 types_are q (c ∷ cs) =
     let ps = map own_piece (function_at q c.function).objects in
     let own = spots_from (stack_bytes q (functions_of (c ∷ cs))) (area_home (function_for q c.function)) ps in
-    map_both element_of (spots q (functions_of cs)) own
-    ∙ (ap (λ z. z ++ map element_of own) (types_are q cs)
+    map_both kind_of (spots q (functions_of cs)) own
+    ∙ (ap (λ z. z ++ map kind_of own) (types_are q cs)
     ∙ ap (λ z. element_types q cs ++ z) (element_from (stack_bytes q (functions_of (c ∷ cs))) (area_home (function_for q c.function)) ps ∙ twice (λ (p : Piece). p.type.element) own_piece (function_at q c.function).objects))
 
 pub type_is : (q : Program) (t : State) (r : Reference) (x : Spot) → slice_get (spots q (open_calls t)) r.object ≡ Some x → element_type q t r ≡ Some x.type.element
 type_is q t r x e =
-    ap (λ z. slice_get z r.object) (sym (types_are q (t.call ∷ t.waiting))) ∙ get_map element_of (spots q (open_calls t)) r.object x e
+    ap (λ z. slice_get z r.object) (sym (types_are q (t.call ∷ t.waiting))) ∙ get_map kind_of (spots q (open_calls t)) r.object x e
 
 -- ---- places
 
@@ -135,6 +137,51 @@ module _ (q : Program) (f : flat_code.Program) (g : IsMadeOf q f) (t : State) (s
       ∙ (ap (λ (h : flat_code.Function). Some (record { list = mine.spot.list; offset = area_home h + layout.offset_in (slice_get (layout_of the).homes n) })) (function_is q f g t s m)
       ∙ ap (λ k. Some (record { list = mine.spot.list; offset = k })) (sym offset))))
 
+  array_fits : (n i : ℕ) (e : IntType) → PlaceFits q the (place.Element n i e) → PlaceFits q the (place.Array n)
+  array_fits n i e fit = (some_below the.objects n fit.0 fit.1, ap scalar_type fit.1 ∙ fit.2)
+
+  array_is : (n i : ℕ) (e : IntType) → PlaceFits q the (place.Element n i e) → reference_to q t (place.Array n) ≡ Some (own t n)
+  array_is n i e fit = ap (λ o. array_if (scalar_type o) o (own t n)) fit.1 ∙ ap (λ o. array_if o (Some fit.0) (own t n)) fit.2
+
+  where_so : {A : Type 0} (b : Bool) (o : Option A) (r : A) → (if b then o else None) ≡ Some r → o ≡ Some r
+  where_so true o r e = e
+  where_so false o r e = absurd (let z : ⊥ = cc in z)
+
+  by_number : (h o p b n k : ℕ) → h + o ≡ p + b * 0 → n ≡ k → h + (o + k * b) ≡ p + b * n
+  by_number h o p b n k e same = let s : k * b ≡ b * k = grind arith in let d : b * n ≡ b * k = ap (λ z. b * z) same in omega (arith, e, s, d)
+
+  element_there : (n i : ℕ) (e : IntType) (r : Reference) → PlaceFits q the (place.Element n i e) → reference_to q t (place.Element n i e) ≡ Some r → PlaceThere (place.Element n i e) r
+  element_there n i e r fit er =
+      let whole_one = array_there n (own t n) (array_fits n i e fit) (array_is n i e fit) in
+      let x = whole_one.leads.spot in
+      let here : slice_get xs (t.call.base + n) ≡ Some x = whole_one.leads.spot_is in
+      let mine = own_spot q t.call.function (functions_of t.waiting) n fit.0 fit.1 in
+      let one : mine.spot ≡ x = same_some mine.spot x (sym mine.is ∙ (ap (λ b. slice_get xs (b + n)) (sym m.frames.0.base) ∙ here)) in
+      let kind : e ≡ x.type.element = fit.4 ∙ (ap (λ (z : ObjectType). z.element) (sym mine.type_is) ∙ ap (λ (z : Spot). z.type.element) one) in
+      let in_place = m.in_place (t.call.base + n) x here whole_one.leads.in_bytes in
+      let at : element_of (t.call.base + n) (Some in_place.tree) i ≡ Some r =
+      ap (λ o. element_of (t.call.base + n) o i) (sym in_place.tree_is) ∙ where_so (is_type e (option_map (λ (o : ObjectType). o.element) (own_type q t n))) (element_of (t.call.base + n) (slice_get t.store (t.call.base + n)) i) r er in
+      let g = gave (λ path. record { object = t.call.base + n; path = path }) (path_of in_place.tree i) r at in
+      let found = path_found x.type.lengths in_place.tree i g.from in_place.shaped g.from_is in
+      subst (PlaceThere (place.Element n i e)) g.is (record {
+        leads = record { spot = x; spot_is = here; in_bytes = whole_one.leads.in_bytes; path = found.within };
+        is = reached_at n i e x g.from here kind found.number whole_one.is;
+      })
+    where
+      reached_at : (n i : ℕ) (e : IntType) (x : Spot) (path : List ℕ) → slice_get xs (t.call.base + n) ≡ Some x → e ≡ x.type.element → elements_before x.type.lengths path ≡ i
+          → flat.place f s (location_of (starts_of q) (layout_of the) (place.Array n)) ≡ Some (record { list = list_in (slice_get xs (t.call.base + n)); offset = offset_in (slice_get xs (t.call.base + n)) [] })
+          → flat.place f s (location_of (starts_of q) (layout_of the) (place.Element n i e)) ≡ Some (record { list = list_in (slice_get xs (t.call.base + n)); offset = offset_in (slice_get xs (t.call.base + n)) path })
+      reached_at n i e x path here kind number is =
+          let home = area_home (flat.function_at f s.frame.function) in
+          let off = layout.offset_in (slice_get (layout_of the).homes n) in
+          let start = same_some (record { list = name_of f s.frame s.waiting; offset = home + off }) (record { list = list_in (slice_get xs (t.call.base + n)); offset = offset_in (slice_get xs (t.call.base + n)) [] }) is in
+          let list : name_of f s.frame s.waiting ≡ list_in (slice_get xs (t.call.base + n)) = ap (λ (z : flat.Reference). z.list) start in
+          let offset : home + off ≡ offset_at x [] = ap (λ (z : flat.Reference). z.offset) start ∙ ap (λ o. offset_in o []) here in
+          let first : home + off ≡ x.offset + bytes_of x.type.element * 0 = offset ∙ ap (λ k. x.offset + bytes_of x.type.element * k) (none_before x.type.lengths) in
+          let sum : home + (off + i * bytes_of x.type.element) ≡ offset_at x path = by_number home off x.offset (bytes_of x.type.element) (elements_before x.type.lengths path) i first number in
+          let there : home + (off + i * bytes_of e) ≡ offset_in (slice_get xs (t.call.base + n)) path = ap (λ u. home + (off + i * bytes_of u)) kind ∙ (sum ∙ ap (λ o. offset_in o path) (sym here)) in
+          ap (λ l. Some (record { list = l; offset = home + (off + i * bytes_of e) })) list ∙ ap (λ o. Some (record { list = list_in (slice_get xs (t.call.base + n)); offset = o })) there
+
   literal_there : (n : ℕ) (r : Reference) → PlaceFits q the (place.Literal n) → Some (whole n) ≡ Some r → PlaceThere (place.Literal n) r
   literal_there n r fit e =
       let got = got_below q.literals n fit in
@@ -152,4 +199,5 @@ module _ (q : Program) (f : flat_code.Program) (g : IsMadeOf q f) (t : State) (s
   place_there (place.Literal n) r fit e = literal_there n r fit e
   place_there (place.Static n) r fit e = static_there n r fit e
   place_there (place.Array n) r fit e = array_there n r fit e
+  place_there (place.Element n i k) r fit e = element_there n i k r fit e
   place_there (place.At x) r fit e = let h = reference_shows q f t s m x r fit e in record { leads = h.leads; is = h.is }

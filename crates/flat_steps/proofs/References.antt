@@ -11,7 +11,7 @@ use Rattle.tac.specs.declared.code.Place.{Place}
 use Rattle.tac.specs.declared.code.Instruction.TheVariants as instruction
 use Rattle.tac.specs.Code.{Program}
 use Rattle.tac.specs.Run as tac
-use Rattle.tac.specs.Run.{State, Value, word, reference, Progress, value, word_at, reference_in, reference_to, element_type, elements_of, gives, part, where_true, open_calls, ◌>>=◌}
+use Rattle.tac.specs.Run.{State, Value, word, reference, Progress, value, word_at, reference_in, reference_to, element_type, elements_of, path_of, first_of, first_at, element_of, element_behind, is_type, gives, part, element, where_true, open_calls, ◌>>=◌}
 use Rattle.tac.specs.Sound.{OperandFits, TargetFits, PlaceFits}
 use Rattle.frames.specs.Code as flat_code
 use Rattle.frames.specs.Run as flat
@@ -20,7 +20,9 @@ use Rattle.flattening.specs.Translated.{operand_of, target_of, location_of, tran
 use Rattle.flat_steps.specs.Matched.{Spot, Matched, Alike, Leads, elements_before, offset_at, list_in, offset_in}
 use Rattle.flat_steps.proofs.Lists.{same_some}
 use Rattle.flat_steps.proofs.Trees.{behind, reached, count_elements, before_more}
-use Rattle.flat_steps.proofs.Values.{word_shows, reference_shows}
+use Rattle.flat_steps.proofs.Values.{gave, word_shows, reference_shows}
+use Rattle.flat_steps.proofs.Elements.{path_found, first_is}
+use Rattle.flat_steps.proofs.Accesses.{type_known}
 use Rattle.flat_steps.proofs.Targets.{bound, tested, found, given}
 use Rattle.flat_steps.proofs.Places.{xs, the, place_there, type_is}
 use Rattle.flat_steps.proofs.Ground.{IsMadeOf}
@@ -90,3 +92,43 @@ module _ (q : Program) (f : flat_code.Program) (g : IsMadeOf q f) (t : State) (s
           let offset : offset_in (slice_get here r.object) (into r i).path ≡ offset_in (slice_get here r.object) r.path + i * size = h.offset ∙ ap (λ k. offset_in (slice_get here r.object) r.path + i * k) sizes in
           subst (λ k. Alike q f (gives q d t (reference (into r i))) (flat.gives (target_of lay d) s (flat.reference (list_in (slice_get here r.object)) k))) offset
           (given q f t s m d (reference (into r i)) flat.unset fd h.leads))))
+
+  -- the number of an element behind a reference, in bytes
+  on_by : (o b e n i : ℕ) → n ≡ e + i → o + b * n ≡ o + b * e + i * b
+  on_by o b e n i h = let d : b * (e + i) ≡ b * e + i * b = grind arith in let c : b * n ≡ b * (e + i) = ap (λ z. b * z) h in omega (arith, d, c)
+
+  pub does_element : (e : IntType) (d : Target) (x y : Operand) → TargetFits (the q f g t s m) d → OperandFits (the q f g t s m) x → OperandFits (the q f g t s m) y
+      → Alike q f (tac.act q t (instruction.Element e d x y)) (flat.act f s (translated (starts_of q) (layout_of (the q f g t s m)) (instruction.Element e d x y)))
+  does_element e d x y fd fx fy =
+      let lay = layout_of (the q f g t s m) in
+      let here = xs q f g t s m in
+      let last : flat.Reference → ℕ → flat.Progress = λ r n. flat.gives (target_of lay d) s (flat.reference r.list (r.offset + n * bytes_of e)) in
+      bound q f (reference_in (value t x)) (λ r. word_at t y >>= λ i. element q t e d r i) (flat.act f s (translated (starts_of q) lay (instruction.Element e d x y))) (λ r er.
+      let hx = reference_shows q f t s m x r fx er in
+      let at : flat.Reference = record { list = list_in (slice_get here r.object); offset = offset_in (slice_get here r.object) r.path } in
+      found q f (word_at t y >>= λ i. element q t e d r i) (flat.reference_in (flat.value s (operand_of lay x))) at (λ r2. flat.◌>>=◌ (flat.word_at s (operand_of lay y)) (last r2)) hx.is
+      (bound q f (word_at t y) (λ i. element q t e d r i) (flat.◌>>=◌ (flat.word_at s (operand_of lay y)) (last at)) (λ i ei.
+      let hy = word_shows q f t s m y i fy ei in
+      found q f (element q t e d r i) (flat.word_at s (operand_of lay y)) i (last at) hy.is
+      (elements r i hx.leads))))
+    where
+      elements : (r : Reference) (i : ℕ) → Leads (xs q f g t s m) r → Alike q f (element q t e d r i) (flat.gives (target_of (layout_of (the q f g t s m)) d) s (flat.reference (list_in (slice_get (xs q f g t s m) r.object)) (offset_in (slice_get (xs q f g t s m) r.object) r.path + i * bytes_of e)))
+      elements r i l =
+          let here = xs q f g t s m in
+          let lay = layout_of (the q f g t s m) in
+          let R = flat.gives (target_of lay d) s (flat.reference (list_in (slice_get here r.object)) (offset_in (slice_get here r.object) r.path + i * bytes_of e)) in
+          let z = l.spot in
+          let in_place = m.in_place r.object z l.spot_is l.in_bytes in
+          tested q f (is_type e (element_type q t r)) (element_behind t.store r i >>= λ r2. gives q d t (reference r2)) R (λ et.
+          let kind : e ≡ z.type.element = type_known e z.type.element (element_type q t r) (type_is q t r z l.spot_is) et in
+          bound q f (element_behind t.store r i) (λ r2. gives q d t (reference r2)) R (λ r2 e2.
+          let behind_it : element_of r.object (Some in_place.tree) (first_of in_place.tree r.path + i) ≡ Some r2 = ap (λ o. element_of r.object o (first_at o r.path + i)) (sym in_place.tree_is) ∙ e2 in
+          let gv = gave (λ path. record { object = r.object; path = path }) (path_of in_place.tree (first_of in_place.tree r.path + i)) r2 behind_it in
+          let p = path_found z.type.lengths in_place.tree (first_of in_place.tree r.path + i) gv.from in_place.shaped gv.from_is in
+          let number : elements_before z.type.lengths gv.from ≡ elements_before z.type.lengths r.path + i = p.number ∙ ap (λ k. k + i) (first_is z.type.lengths r.path in_place.tree in_place.shaped l.path) in
+          let sum : offset_at z gv.from ≡ offset_at z r.path + i * bytes_of z.type.element = on_by z.offset (bytes_of z.type.element) (elements_before z.type.lengths r.path) (elements_before z.type.lengths gv.from) i number in
+          let offset : offset_in (slice_get here r.object) gv.from ≡ offset_in (slice_get here r.object) r.path + i * bytes_of e =
+          ap (λ o. offset_in o gv.from) l.spot_is ∙ (sum ∙ (ap (λ u. offset_at z r.path + i * bytes_of u) (sym kind) ∙ ap (λ o. offset_in o r.path + i * bytes_of e) (sym l.spot_is))) in
+          subst (λ r3. Alike q f (gives q d t (reference r3)) R) gv.is
+          (subst (λ k. Alike q f (gives q d t (reference (record { object = r.object; path = gv.from }))) (flat.gives (target_of lay d) s (flat.reference (list_in (slice_get here r.object)) k))) offset
+          (given q f t s m d (reference (record { object = r.object; path = gv.from })) flat.unset fd (record { spot = z; spot_is = l.spot_is; in_bytes = l.in_bytes; path = p.within })))))

@@ -29,7 +29,7 @@ use Rattle.flat_steps.proofs.Frames.{functions_same}
 use Rattle.flat_steps.proofs.Ground.{IsMadeOf, function_is}
 use Rattle.flat_steps.proofs.Computing.{does_nothing, does_move, does_compute, does_convert, does_jump, does_branch}
 use Rattle.flat_steps.proofs.Outside.{does_put, does_get, does_exit}
-use Rattle.flat_steps.proofs.References.{does_address, does_part}
+use Rattle.flat_steps.proofs.References.{does_address, does_part, does_element}
 use Rattle.flat_steps.proofs.Storing.{does_load, does_store}
 use Rattle.flat_steps.proofs.Forgetting.{does_forget}
 use Rattle.flat_steps.proofs.Returning.{does_return}
@@ -47,6 +47,7 @@ IsNoCall (instruction.Load e d l) = Unit {0}
 IsNoCall (instruction.Store e x l) = Unit {0}
 IsNoCall (instruction.Address d l) = Unit {0}
 IsNoCall (instruction.Part d x y size) = Unit {0}
+IsNoCall (instruction.Element e d x y) = Unit {0}
 IsNoCall (instruction.Forget n k) = Unit {0}
 IsNoCall (instruction.Jump to) = Unit {0}
 IsNoCall (instruction.Branch c r x y to) = Unit {0}
@@ -77,6 +78,7 @@ costs_no_more q u l (instruction.Load e d p) h = omega arith
 costs_no_more q u l (instruction.Store e x p) h = omega arith
 costs_no_more q u l (instruction.Address d p) h = omega arith
 costs_no_more q u l (instruction.Part d x y size) h = omega arith
+costs_no_more q u l (instruction.Element e d x y) h = omega arith
 costs_no_more q u l (instruction.Forget n k) h = omega arith
 costs_no_more q u l (instruction.Jump to) h = omega arith
 costs_no_more q u l (instruction.Branch c r x y to) h = omega arith
@@ -116,6 +118,7 @@ module _ (q : Program) (f : flat_code.Program) (g : IsMadeOf q f) (t : State) (s
   acts (instruction.Store e x l) h fit = does_store q f g t s m e x l fit.0 fit.1
   acts (instruction.Address d l) h fit = does_address q f g t s m d l fit.0 fit.1
   acts (instruction.Part d x y size) h fit = does_part q f g t s m d x y size fit.0 fit.1 fit.2
+  acts (instruction.Element e d x y) h fit = does_element q f g t s m e d x y fit.0 fit.1 fit.2
   acts (instruction.Forget n k) h fit = does_forget q f t s m (starts_of q) n k fit
   acts (instruction.Jump to) h fit = does_jump q f t s m (starts_of q) to
   acts (instruction.Branch c r x y to) h fit = does_branch q f t s m (starts_of q) c r x y to fit.0 fit.1
@@ -239,6 +242,7 @@ module _ (q : Program) (f : flat_code.Program) (g : IsMadeOf q f) (t : State) (s
   instruction_follows (instruction.Store c x l) e fit = plain_follows (instruction.Store c x l) e tt fit
   instruction_follows (instruction.Address d l) e fit = plain_follows (instruction.Address d l) e tt fit
   instruction_follows (instruction.Part d x y size) e fit = plain_follows (instruction.Part d x y size) e tt fit
+  instruction_follows (instruction.Element c d x y) e fit = plain_follows (instruction.Element c d x y) e tt fit
   instruction_follows (instruction.Forget n k) e fit = plain_follows (instruction.Forget n k) e tt fit
   instruction_follows (instruction.Jump to) e fit = plain_follows (instruction.Jump to) e tt fit
   instruction_follows (instruction.Branch c r x y to) e fit = plain_follows (instruction.Branch c r x y to) e tt fit

@@ -13,7 +13,7 @@ use Rattle.tac.specs.declared.code.Instruction.TheVariants as instruction
 use Rattle.tac.specs.Code.{Function, Program}
 use Rattle.tac.specs.Costs.{array_parameters}
 use Rattle.tac.specs.Sound as tac_sound
-use Rattle.flattening.specs.Layout.{words_in, bytes_in}
+use Rattle.flattening.specs.Layout.{layout_of, words_in, bytes_in}
 use Rattle.flattening.specs.inside.Held.{OperandIsNear, TargetIsNear, PlaceIsNear, InstructionIsNear}
 use Rattle.flattening.proofs.Elements.{one_of_sum}
 use Rattle.flattening.proofs.Places.{of_objects}
@@ -50,14 +50,15 @@ module _ (p : Program) (f : Function) (fits : tac_sound.FunctionFits p f) where
   target_near (target.Kept k) h = omega (arith, h, parts.0)
   target_near (target.Object n) h = tt
 
-  place_near : (at : Place) → tac_sound.PlaceFits p f at → PlaceIsNear at
+  place_near : (at : Place) → tac_sound.PlaceFits p f at → PlaceIsNear (layout_of f) at
   place_near (place.Literal n) h = tt
   place_near (place.Static n) h = tt
   place_near (place.Array n) h = tt
+  place_near (place.Element n i t) h = omega (arith, parts.2, of_objects f.objects, sound.element_fits f n i t h)
   place_near (place.At x) h = operand_near x h
 
   module _ (short : length f.code < 2 ^ 32) where
-    instruction_near : (x : Instruction) → tac_sound.InstructionFits p f x → InstructionIsNear x
+    instruction_near : (x : Instruction) → tac_sound.InstructionFits p f x → InstructionIsNear (layout_of f) x
     instruction_near instruction.Nothing h = tt
     instruction_near (instruction.Move d x) h = (target_near d h.0, operand_near x h.1)
     instruction_near (instruction.Compute o r d x y) h = (target_near d h.0, operand_near x h.1, operand_near y h.2)
@@ -66,6 +67,7 @@ module _ (p : Program) (f : Function) (fits : tac_sound.FunctionFits p f) where
     instruction_near (instruction.Store t x at) h = (operand_near x h.0, place_near at h.1)
     instruction_near (instruction.Address d at) h = (target_near d h.0, place_near at h.1)
     instruction_near (instruction.Part d x y size) h = (target_near d h.0, operand_near x h.1, operand_near y h.2)
+    instruction_near (instruction.Element t d x y) h = (target_near d h.0, operand_near x h.1, operand_near y h.2)
     instruction_near (instruction.Forget n k) h = tt
     instruction_near (instruction.Jump to) h = omega (arith, h, short)
     instruction_near (instruction.Branch c r x y to) h = (operand_near x h.0, operand_near y h.1, omega (arith, h.2, short))
@@ -75,7 +77,7 @@ module _ (p : Program) (f : Function) (fits : tac_sound.FunctionFits p f) where
     instruction_near instruction.Exit h = tt
     instruction_near instruction.Return h = tt
 
-    pub is_near : (k : ℕ) (x : Instruction) → slice_get f.code k ≡ Some x → InstructionIsNear x
+    pub is_near : (k : ℕ) (x : Instruction) → slice_get f.code k ≡ Some x → InstructionIsNear (layout_of f) x
     is_near k x e = instruction_near x (fits.each k x e)
 
 pub short_code : (p : Program) → tac_sound.IsSoundProgram p → (k : ℕ) (f : Function) → slice_get p.functions k ≡ Some f → length f.code < 2 ^ 32

@@ -5,8 +5,9 @@ use Rattle.std.proofs.lemmas.Bool.Decides.{nat_tests}
 use Rattle.std.proofs.lemmas.List.{length-map}
 use Rattle.ctypes.specs.declared.types.IntType.{IntType}
 use Rattle.ctypes.specs.declared.types.IntType.TheVariants as ty
-use Rattle.typed.specs.Types.{ObjectType, size_of_object}
-use Rattle.typed.specs.Units.{bytes_of_objects}
+use Rattle.ctypes.specs.Types.{bytes_of}
+use Rattle.typed.specs.Types.{ObjectType, elements_in, size_of_object}
+use Rattle.typed.specs.Units.{in_words, bytes_of_objects}
 use Rattle.frames.specs.declared.code.Operand as flat_operand
 use Rattle.frames.specs.declared.code.Operand.TheVariants as source
 use Rattle.frames.specs.declared.code.Target as flat_target
@@ -88,6 +89,37 @@ few_parameters p f fits =
     let words : number_parameters f.parameters ≤ words_in f.objects = scalars_are_words f.objects (number_parameters f.parameters) fits.parameters in
     omega (arith, words, few_words p f fits, both_kinds f.parameters)
 
+within : (t : IntType) (e i : ℕ) → i < e → i * bytes_of t < in_words (bytes_of t * e)
+within ty.Bool e i h = omega (arith, h)
+within ty.Char e i h = omega (arith, h)
+within ty.SChar e i h = omega (arith, h)
+within ty.UChar e i h = omega (arith, h)
+within ty.Short e i h = omega (arith, h)
+within ty.UShort e i h = omega (arith, h)
+within ty.Int e i h = omega (arith, h)
+within ty.UInt e i h = omega (arith, h)
+within ty.Long e i h = omega (arith, h)
+within ty.ULong e i h = omega (arith, h)
+
+bytes_small : (t : IntType) → bytes_of t < 2 ^ 32
+bytes_small ty.Bool = omega arith
+bytes_small ty.Char = omega arith
+bytes_small ty.SChar = omega arith
+bytes_small ty.UChar = omega arith
+bytes_small ty.Short = omega arith
+bytes_small ty.UShort = omega arith
+bytes_small ty.Int = omega arith
+bytes_small ty.UInt = omega arith
+bytes_small ty.Long = omega arith
+bytes_small ty.ULong = omega arith
+
+-- an element lies within the frame's arrays
+pub element_fits : (f : Function) (n i : ℕ) (t : IntType) → tac_sound.HasElement f n i t → offset_in (slice_get (layout_of f).homes n) + i * bytes_of t < bytes_in f.objects
+element_fits f n i t h =
+    let b = bytes_of_one f.objects 0 0 n h.0 h.1 h.2 in
+    let small : i * bytes_of t < in_words (size_of_object h.0) = subst (λ u. i * bytes_of u < in_words (size_of_object h.0)) (sym h.4) (within h.0.element (elements_in h.0.lengths) i h.3) in
+    subst (λ o. offset_in o + i * bytes_of t < bytes_in f.objects) (sym b.is) (omega (arith, b.below, small))
+
 module _ (p : Program) (f : Function) (s : Starts) (fits : tac_sound.FunctionFits p f) (near : AreNear s) where
   abbrev l : Layout
   l = layout_of f
@@ -122,6 +154,7 @@ module _ (p : Program) (f : Function) (s : Starts) (fits : tac_sound.FunctionFit
   place_fits (place.Literal n) h = near.literals n
   place_fits (place.Static n) h = near.statics n
   place_fits (place.Array n) h = array_fits n h
+  place_fits (place.Element n i t) h = element_fits f n i t h
   place_fits (place.At x) h = operand_fits x h
 
   conversion_fits : (n : ℕ) (t : IntType) (d : flat_target.Target) (x : flat_operand.Operand) → flat_sound.TargetFits g d → flat_sound.OperandFits g x → flat_sound.InstructionFits n g (conversion_of t d x)
@@ -148,6 +181,7 @@ module _ (p : Program) (f : Function) (s : Starts) (fits : tac_sound.FunctionFit
   instruction_fits (instruction.Store t x at) h = (operand_fits x h.0, place_fits at h.1)
   instruction_fits (instruction.Address d at) h = (target_fits d h.0, place_fits at h.1)
   instruction_fits (instruction.Part d x y size) h = (target_fits d h.0, operand_fits x h.1, operand_fits y h.2, h.3)
+  instruction_fits (instruction.Element t d x y) h = (target_fits d h.0, operand_fits x h.1, operand_fits y h.2, bytes_small t)
   instruction_fits (instruction.Forget n k) h = tt
   instruction_fits (instruction.Jump to) h = jump_fits to h
   instruction_fits (instruction.Branch c r x y to) h = (operand_fits x h.0, operand_fits y h.1, jump_fits to h.2)

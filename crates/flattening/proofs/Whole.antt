@@ -1,10 +1,12 @@
 -- The flat code of a sound program: sound, and within the bounds of three-address code.
-use Rattle.std.proofs.Common.{◌≡◌, ℕ, zero, suc, ◌+◌, ◌*◌, ◌^◌, ◌<◌, ◌≤◌, List, [], ◌∷◌, ◌++◌, length, map, Bool, true, false, Some, refl, sym, ap, ◌∙◌, subst, length-append, arith}
-use Rattle.std.specs.Prelude.{slice_get, sum_by}
+use Rattle.std.proofs.Common.{◌≡◌, ℕ, zero, suc, ◌+◌, ◌*◌, ◌^◌, ◌<◌, ◌≤◌, max, List, [], ◌∷◌, ◌++◌, length, map, Bool, true, false, Some, refl, sym, ap, ◌∙◌, subst, length-append, arith}
+use Rattle.std.specs.Prelude.{slice_get, sum_by, nat_lt, ◌==◌, if◌then◌else◌}
+use Rattle.std.proofs.Math.Nat.{max-le}
 use Rattle.std.proofs.lemmas.List.{length-map, length-take}
 use Rattle.std.proofs.lemmas.List.Sums.{sum_by-cons, sum_by-append}
 use Rattle.ctypes.specs.declared.types.IntType.{IntType}
 use Rattle.ctypes.specs.declared.types.IntType.TheVariants as ty
+use Rattle.ctypes.specs.Types.{bytes_of}
 use Rattle.typed.specs.Types.{size_of_object}
 use Rattle.typed.specs.Program.{Static}
 use Rattle.typed.specs.Units.{in_words}
@@ -12,10 +14,17 @@ use Rattle.frames.specs.Code as frames
 use Rattle.frames.specs.Sound as flat_sound
 use Rattle.frames.specs.Sound.{places_of}
 use Rattle.frames.specs.declared.code.Operand as flat_operand
+use Rattle.frames.specs.declared.code.Operand.TheVariants as source
 use Rattle.frames.specs.declared.code.Target as flat_target
 use Rattle.frames.specs.declared.code.Target.TheVariants as into
 use Rattle.frames.specs.declared.code.Instruction as flat_instruction
 use Rattle.frames.specs.declared.code.Instruction.TheVariants as flat
+use Rattle.tac.specs.declared.code.Operand.{Operand}
+use Rattle.tac.specs.declared.code.Operand.TheVariants as operand
+use Rattle.tac.specs.declared.code.Target.{Target}
+use Rattle.tac.specs.declared.code.Target.TheVariants as target
+use Rattle.tac.specs.declared.code.Place.{Place}
+use Rattle.tac.specs.declared.code.Place.TheVariants as place
 use Rattle.tac.specs.declared.code.Parameter.{Parameter}
 use Rattle.tac.specs.declared.code.Parameter.TheVariants as parameter
 use Rattle.tac.specs.declared.code.Instruction.{Instruction}
@@ -26,7 +35,7 @@ use Rattle.tac.specs.Sound.{IsSoundProgram, static_bytes, data_bytes}
 use Rattle.flattening.specs.Data.{zeros, filled_up, if_defined, bytes_of_values, bytes_of_static, bytes_of_literals, bytes_of_statics, data_of}
 use Rattle.flattening.specs.Sizes.{literal_sizes, static_sizes, literal_bytes, statics_bytes}
 use Rattle.flattening.specs.Layout.{Layout, layout_of, Starts, starts_of, cell_in}
-use Rattle.flattening.specs.Translated.{conversion_of, target_of, operand_of, translated, argument, moves_from, code_of, flat_function, flat_program}
+use Rattle.flattening.specs.Translated.{conversion_of, target_of, operand_of, location_of, translated, argument, moves_from, code_of, flat_function, flat_program}
 use Rattle.flattening.specs.Costs as flat_costs
 use Rattle.flattening.specs.Flattened.{IsCodeOf}
 use Rattle.flattening.proofs.Elements.{each_in_map, got_in_map, sum_by_map, sum_by_map_le, same_some}
@@ -124,45 +133,122 @@ flat_is_sound p sound =
 
 -- ---- bytes of code
 
-conversion_bytes : (t : IntType) (d : flat_target.Target) (x : flat_operand.Operand) → flat_costs.code_bytes (conversion_of t d x) ≤ 32
+same_le : (a b : ℕ) → a ≡ b → a ≤ b
+same_le a b e = omega (arith, e)
+
+fetch_same : (l : Layout) (x : Operand) → flat_costs.fetch_bytes (operand_of l x) ≡ tac_costs.fetch_bytes x
+fetch_same l (operand.Temporary k) = refl
+fetch_same l (operand.Kept k) = refl
+fetch_same l (operand.Object n) = refl
+fetch_same l (operand.Parameter n) = refl
+fetch_same l (operand.Constant v) = refl
+
+keep_same : (l : Layout) (d : Target) → flat_costs.keep_bytes (target_of l d) ≡ tac_costs.keep_bytes d
+keep_same l (target.Temporary k) = refl
+keep_same l (target.Kept k) = refl
+keep_same l (target.Object n) = refl
+
+move_same : (l : Layout) (d : Target) (x : Operand) → flat_costs.move_bytes (target_of l d) (operand_of l x) ≡ tac_costs.move_bytes d x
+move_same l d x =
+    ap (λ n. max 4 (n + flat_costs.keep_bytes (target_of l d))) (fetch_same l x) ∙ ap (λ n. max 4 (tac_costs.fetch_bytes x + n)) (keep_same l d)
+
+reach_same : (s : Starts) (l : Layout) (at : Place) → flat_costs.reach_bytes (location_of s l at) ≡ tac_costs.reach_bytes at
+reach_same s l (place.Literal n) = refl
+reach_same s l (place.Static n) = refl
+reach_same s l (place.Array n) = refl
+reach_same s l (place.Element n i t) = refl
+reach_same s l (place.At x) = fetch_same l x
+
+reference_same : (s : Starts) (l : Layout) (d : Target) (at : Place) → flat_costs.reference_bytes (target_of l d) (location_of s l at) ≡ tac_costs.reference_bytes d at
+reference_same s l d (place.Literal n) = ap (λ k. 8 + k) (keep_same l d)
+reference_same s l d (place.Static n) = ap (λ k. 8 + k) (keep_same l d)
+reference_same s l d (place.Array n) = ap (λ k. 12 + k) (keep_same l d)
+reference_same s l d (place.Element n i t) = ap (λ k. 12 + k) (keep_same l d)
+reference_same s l d (place.At x) = move_same l d x
+
+scale_same : (t : IntType) → flat_costs.scale_bytes (bytes_of t) ≡ tac_costs.scale_bytes (bytes_of t)
+scale_same ty.Bool = refl
+scale_same ty.Char = refl
+scale_same ty.SChar = refl
+scale_same ty.UChar = refl
+scale_same ty.Short = refl
+scale_same ty.UShort = refl
+scale_same ty.Int = refl
+scale_same ty.UInt = refl
+scale_same ty.Long = refl
+scale_same ty.ULong = refl
+
+-- a move takes no more than a conversion
+move_within : (a b : ℕ) → max 4 (a + b) ≤ a + (8 + b)
+move_within a b = let x : 4 ≤ a + (8 + b) = omega arith in let y : a + b ≤ a + (8 + b) = omega arith in max-le x y
+
+conversion_bytes : (t : IntType) (d : flat_target.Target) (x : flat_operand.Operand) → flat_costs.code_bytes (conversion_of t d x) ≤ flat_costs.fetch_bytes x + (8 + flat_costs.keep_bytes d)
 conversion_bytes ty.Bool d x = omega arith
 conversion_bytes ty.Char d x = omega arith
 conversion_bytes ty.SChar d x = omega arith
 conversion_bytes ty.UChar d x = omega arith
 conversion_bytes ty.Short d x = omega arith
 conversion_bytes ty.UShort d x = omega arith
-conversion_bytes ty.Int d x = omega arith
-conversion_bytes ty.UInt d x = omega arith
-conversion_bytes ty.Long d x = omega arith
-conversion_bytes ty.ULong d x = omega arith
+conversion_bytes ty.Int d x = move_within (flat_costs.fetch_bytes x) (flat_costs.keep_bytes d)
+conversion_bytes ty.UInt d x = move_within (flat_costs.fetch_bytes x) (flat_costs.keep_bytes d)
+conversion_bytes ty.Long d x = move_within (flat_costs.fetch_bytes x) (flat_costs.keep_bytes d)
+conversion_bytes ty.ULong d x = move_within (flat_costs.fetch_bytes x) (flat_costs.keep_bytes d)
 
 pub instruction_bytes : (s : Starts) (l : Layout) (x : Instruction) → flat_costs.code_bytes (translated s l x) ≤ tac_costs.code_bytes x
 instruction_bytes s l instruction.Nothing = omega arith
-instruction_bytes s l (instruction.Move d x) = omega arith
-instruction_bytes s l (instruction.Compute o r d x y) = omega arith
-instruction_bytes s l (instruction.Convert t d x) = conversion_bytes t (target_of l d) (operand_of l x)
-instruction_bytes s l (instruction.Load t d at) = omega arith
-instruction_bytes s l (instruction.Store t x at) = omega arith
-instruction_bytes s l (instruction.Address d at) = omega arith
-instruction_bytes s l (instruction.Part d x y size) = omega arith
+instruction_bytes s l (instruction.Move d x) = same_le _ _ (move_same l d x)
+instruction_bytes s l (instruction.Compute o r d x y) = omega (arith, fetch_same l x, fetch_same l y, keep_same l d)
+instruction_bytes s l (instruction.Convert t d x) = omega (arith, conversion_bytes t (target_of l d) (operand_of l x), fetch_same l x, keep_same l d)
+instruction_bytes s l (instruction.Load t d at) = omega (arith, reach_same s l at, keep_same l d)
+instruction_bytes s l (instruction.Store t x at) = omega (arith, fetch_same l x, reach_same s l at)
+instruction_bytes s l (instruction.Address d at) = same_le _ _ (reference_same s l d at)
+instruction_bytes s l (instruction.Part d x y size) = omega (arith, fetch_same l x, fetch_same l y, keep_same l d, part_scale size)
+  where
+    small : (a b c : Bool) → (if a then 4 else (if b then 8 else (if c then 8 else 16))) ≤ 16
+    small true b c = omega arith
+    small false true c = omega arith
+    small false false true = omega arith
+    small false false false = omega arith
+
+    part_scale : (n : ℕ) → flat_costs.scale_bytes n ≤ 16
+    part_scale n = small (n == 1) (n == 2) (n == 4)
+instruction_bytes s l (instruction.Element t d x y) = omega (arith, fetch_same l x, fetch_same l y, keep_same l d, scale_same t)
 instruction_bytes s l (instruction.Forget n k) = omega arith
 instruction_bytes s l (instruction.Jump to) = omega arith
-instruction_bytes s l (instruction.Branch c r x y to) = omega arith
+instruction_bytes s l (instruction.Branch c r x y to) = omega (arith, fetch_same l x, fetch_same l y)
 instruction_bytes s l (instruction.Call k) = omega arith
 instruction_bytes s l instruction.PutByte = omega arith
 instruction_bytes s l instruction.GetByte = omega arith
 instruction_bytes s l instruction.Exit = omega arith
 instruction_bytes s l instruction.Return = omega arith
 
-one_move : (d : flat_target.Target) (x : flat_operand.Operand) (more : List flat_instruction.Instruction) (n : ℕ) → sum_by flat_costs.code_bytes more ≡ 24 * n → sum_by flat_costs.code_bytes (flat.Move d x ∷ more) ≡ 24 * suc n
-one_move d x more n e = sum_by-cons flat_costs.code_bytes (flat.Move d x) more ∙ (omega (arith, e))
+in_register : (b : Bool) → (if b then 0 else 12) ≤ 12
+in_register true = omega arith
+in_register false = omega arith
 
-moves_bytes : (l : Layout) (k n m : ℕ) (ps : List Parameter) → sum_by flat_costs.code_bytes (moves_from l k n m ps) ≡ 24 * length ps
-moves_bytes l k n m [] = refl
+fetch_small : (x : flat_operand.Operand) → flat_costs.fetch_bytes x ≤ 12
+fetch_small (source.Temporary k) = in_register (nat_lt k 8)
+fetch_small (source.Cell c) = omega arith
+fetch_small (source.Constant v) = omega arith
+fetch_small (source.Argument k) = omega arith
+
+move_small : (a : ℕ) → a ≤ 12 → max 4 (a + 12) ≤ 24
+move_small a h = let x : 4 ≤ 24 = omega arith in let y : a + 12 ≤ 24 = omega (arith, h) in max-le x y
+
+one_more : (a b c n : ℕ) → c ≡ a + b → a ≤ 24 → b ≤ 24 * n → c ≤ 24 * suc n
+one_more a b c n e h k = omega (arith, e, h, k)
+
+one_move : (c : ℕ) (x : flat_operand.Operand) (more : List flat_instruction.Instruction) (n : ℕ) → sum_by flat_costs.code_bytes more ≤ 24 * n → sum_by flat_costs.code_bytes (flat.Move (into.Cell c) x ∷ more) ≤ 24 * suc n
+one_move c x more n h =
+    one_more (flat_costs.move_bytes (into.Cell c) x) (sum_by flat_costs.code_bytes more) (sum_by flat_costs.code_bytes (flat.Move (into.Cell c) x ∷ more)) n
+    (sum_by-cons flat_costs.code_bytes (flat.Move (into.Cell c) x) more) (move_small (flat_costs.fetch_bytes x) (fetch_small x)) h
+
+moves_bytes : (l : Layout) (k n m : ℕ) (ps : List Parameter) → sum_by flat_costs.code_bytes (moves_from l k n m ps) ≤ 24 * length ps
+moves_bytes l k n m [] = omega arith
 moves_bytes l k n m (parameter.Number ∷ ps) =
-    one_move (into.Cell (cell_in (slice_get l.homes n))) (argument k) (moves_from l (k + 1) (n + 1) m ps) (length ps) (moves_bytes l (k + 1) (n + 1) m ps)
+    one_move (cell_in (slice_get l.homes n)) (argument k) (moves_from l (k + 1) (n + 1) m ps) (length ps) (moves_bytes l (k + 1) (n + 1) m ps)
 moves_bytes l k n m (parameter.Array ∷ ps) =
-    one_move (into.Cell (l.references + m)) (argument k) (moves_from l (k + 1) n (m + 1) ps) (length ps) (moves_bytes l (k + 1) n (m + 1) ps)
+    one_move (l.references + m) (argument k) (moves_from l (k + 1) n (m + 1) ps) (length ps) (moves_bytes l (k + 1) n (m + 1) ps)
 
 function_bytes_within : (s : Starts) (f : Function) → flat_costs.function_bytes (flat_function s f) ≤ tac_costs.function_bytes f
 function_bytes_within s f =

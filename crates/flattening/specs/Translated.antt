@@ -1,7 +1,8 @@
 -- The flat code of three-address code: one instruction for each, behind a move of each parameter into its place.
-use Rattle.std.specs.Prelude.{ℕ, ◌+◌, ◌-◌, nat_lt, min, if◌then◌else◌, List, [], ◌∷◌, ◌++◌, map, slice_get}
+use Rattle.std.specs.Prelude.{ℕ, ◌+◌, ◌-◌, ◌*◌, nat_lt, min, if◌then◌else◌, List, [], ◌∷◌, ◌++◌, map, slice_get}
 use Rattle.ctypes.specs.declared.types.IntType.{IntType}
 use Rattle.ctypes.specs.declared.types.IntType.TheVariants as ty
+use Rattle.ctypes.specs.Types.{bytes_of}
 use Rattle.rv32.specs.declared.instr.RegisterOp.{RegisterOp}
 use Rattle.rv32.specs.declared.instr.RegisterOp.TheVariants as register_op
 use Rattle.rv32.specs.declared.instr.Test.{Test}
@@ -59,6 +60,7 @@ abbrev pub location_of : Starts → Layout → Place → Location
 location_of s l (place.Literal n) = location.Statics (start_in (slice_get s.literals n))
 location_of s l (place.Static n) = location.Statics (start_in (slice_get s.statics n))
 location_of s l (place.Array n) = location.Frame (offset_in (slice_get l.homes n))
+location_of s l (place.Element n i t) = location.Frame (offset_in (slice_get l.homes n) + i * bytes_of t)
 location_of s l (place.At x) = location.At (operand_of l x)
 
 -- ---- operations (ISO/IEC 9899:2011 6.5.5 to 6.5.12)
@@ -136,6 +138,7 @@ translated s l (instruction.Load t d from) = flat.Load (width_of t) (target_of l
 translated s l (instruction.Store t x to) = flat.Store (width_of t) (operand_of l x) (location_of s l to)
 translated s l (instruction.Address d of) = flat.Address (target_of l d) (location_of s l of)
 translated s l (instruction.Part d x y size) = flat.Element (target_of l d) (operand_of l x) (operand_of l y) size
+translated s l (instruction.Element t d x y) = flat.Element (target_of l d) (operand_of l x) (operand_of l y) (bytes_of t)
 translated s l (instruction.Forget n k) = flat.Nothing
 translated s l (instruction.Jump to) = flat.Jump (l.first + to)
 translated s l (instruction.Branch c r x y to) = flat.Branch (test_of c r) (operand_of l x) (operand_of l y) (l.first + to)

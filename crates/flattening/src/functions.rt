@@ -68,7 +68,7 @@ fn put_code(
     layout: &Layout,
     instructions: &[tac::Instruction],
 ) -> Result<(), AllocError>
-    requires near { (k : ℕ) (x : instruction.Instruction) → slice_get instructions.now k ≡ Some x → InstructionIsNear x }
+    requires near { (k : ℕ) (x : instruction.Instruction) → slice_get instructions.now k ≡ Some x → InstructionIsNear (layout_in layout.now) x }
     ensures { OnOk result (code.new.items ≡ code.old.items ++ map (translated (starts_in starts.now) (layout_in layout.now)) instructions.now) }
 {
     for instruction in instructions {

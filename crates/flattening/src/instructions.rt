@@ -7,7 +7,7 @@ ghost use Rattle.flattening.specs.inside.Held.{layout_in, starts_in, OperandIsNe
 use crate::layout::Layout;
 use crate::operations::{operation_of, test_of, width_of};
 use crate::starts::Starts;
-use ctypes::IntType;
+use ctypes::{IntType, size_of};
 use frames::{Conversion, Location};
 use tac::{Operand, Place, Target};
 
@@ -36,13 +36,18 @@ fn target_of(layout: &Layout, target: Target) -> frames::Target
 }
 
 fn location_of(starts: &Starts, layout: &Layout, place: Place) -> Location
-    requires { PlaceIsNear place }
+    requires { PlaceIsNear (layout_in layout.now) place }
     ensures { result ≡ flat.location_of (starts_in starts.now) (layout_in layout.now) place }
 {
     match place {
         Place::Literal(number) => Location::Statics(starts.literal(number)),
         Place::Static(number) => Location::Statics(starts.object(number)),
         Place::Array(number) => Location::Frame(layout.offset(number)),
+        Place::Element {
+            array,
+            number,
+            element,
+        } => Location::Frame(layout.offset(array) + number * size_of(element) as usize),
         Place::At(reference) => Location::At(operand_of(layout, reference)),
     }
 }
@@ -89,7 +94,7 @@ pub fn translate(
     layout: &Layout,
     instruction: tac::Instruction,
 ) -> frames::Instruction
-    requires { InstructionIsNear instruction }
+    requires { InstructionIsNear (layout_in layout.now) instruction }
     ensures { result ≡ flat.translated (starts_in starts.now) (layout_in layout.now) instruction }
 {
     match instruction {
@@ -145,6 +150,17 @@ pub fn translate(
             array: operand_of(layout, array),
             index: operand_of(layout, index),
             size,
+        },
+        tac::Instruction::Element {
+            element,
+            target,
+            from,
+            count,
+        } => frames::Instruction::Element {
+            target: target_of(layout, target),
+            array: operand_of(layout, from),
+            index: operand_of(layout, count),
+            size: size_of(element) as usize,
         },
         tac::Instruction::Forget { .. } => frames::Instruction::Nothing,
         tac::Instruction::Jump(to) => frames::Instruction::Jump(layout.first + to),

@@ -1,15 +1,14 @@
 -- The code follows each expression, for each use of its value.
 use Rattle.std.proofs.Common.{◌≡◌, ℕ, ◌+◌, List, [], ◌∷◌, Option, Some, None, Bool, true, false, ◌&&◌, pos, refl, sym, ap, ◌∙◌, subst}
-use Rattle.std.specs.Prelude.{slice_get}
 use Rattle.ctypes.specs.declared.types.IntType.{IntType}
 use Rattle.ctypes.specs.declared.types.IntType.TheVariants as ty
 use Rattle.ctypes.specs.Types.{IsValueOf, converted}
 use Rattle.ctypes.proofs.Uses.{converted_fits}
 use Rattle.tree.specs.declared.expression.PrefixOp.TheVariants as prefix
-use Rattle.typed.specs.Types.{ParameterType, number, elements, same_type, ObjectType}
+use Rattle.typed.specs.Types.{ParameterType, number, elements, same_type}
 use Rattle.typed.specs.Program as typed
 use Rattle.typed.specs.Program.{Callee, Place, Arguments, Function, Value as Expression}
-use Rattle.typed.specs.Nodes.{object_type, type_of_value, type_of_place, type_of_storage}
+use Rattle.typed.specs.Nodes.{type_of_value, type_of_place, type_of_storage}
 use Rattle.typed.specs.WellTyped.{is_scalar, some_number, same_none, callee_type, params_of, call_fits, place_is_typed, value_is_typed, arguments_are_typed, is_array, rows_of, rows_alike}
 use Rattle.meaning.specs.Expressions.{Calling}
 use Rattle.meaning.specs.Machine.{choose}
@@ -18,19 +17,19 @@ use Rattle.checked.specs.Asked.{is_wide, gives, value_is_asked, arguments_are_as
 use Rattle.lowering.specs.Values.{calls, arguments_call, writes, arguments_write, extent, keeps, or_int, waits_in, free_temporary, free_kept, Mode, Nowhere, To, If}
 use Rattle.lowering.specs.Code.{Into, Passes, Finds}
 use Rattle.lowering.specs.Places.{found, free_temporary_at, free_kept_at}
-use Rattle.lowering.proofs.Finding.{InMemory, FindsDo, has_type, named_found, element_found}
+use Rattle.lowering.proofs.Finding.{FindsDo, has_type, named_found, element_found}
 use Rattle.lowering.proofs.Placed.{placed_read, placed_assigned, placed_compound, placed_stepped, PlaceInMemory, array_in_memory, rows_in_memory}
 use Rattle.lowering.proofs.Handing.{array_row}
 use Rattle.lowering.proofs.Words.{ranged, is_value, left_true, right_true, differ}
 use Rattle.lowering.proofs.Standing.{sizes, IsCode}
 use Rattle.lowering.proofs.Goods.{IsFreeFor, Suits}
-use Rattle.lowering.proofs.Leaves.{IsNumber, IntoDoes, constant_does, read_does, assign_does}
+use Rattle.lowering.proofs.Leaves.{IntoDoes, constant_does}
 use Rattle.lowering.proofs.Operators.{DoesAt, wide_stays, suits_through, plus_does, minus_does, complement_does, not_does, not_jumps, cast_does, binary_does}
 use Rattle.lowering.proofs.Choices.{sequence_does, discarded_does, both_value, both_jumps, one_value, one_jumps}
 use Rattle.lowering.proofs.Arms.{chosen_does, same_chosen}
 use Rattle.lowering.proofs.Passing.{AreFor, RowDoes, CallsDo, Wanted, none_row, number_row}
 use Rattle.lowering.proofs.Calling.{function_does, get_byte_does, put_byte_does, exit_does}
-use Rattle.lowering.proofs.Typing.{same_type_is, number_is, and_both, call_is, call_result}
+use Rattle.lowering.proofs.Typing.{same_type_is, call_is, call_result}
 
 pub zero_fits : (t : Option IntType) → IsValueOf (or_int t) (pos 0)
 zero_fits t = subst (IsValueOf (or_int t)) (zero_converted (or_int t)) (converted_fits (or_int t) (pos 0))

@@ -266,6 +266,7 @@ module _ (p : typed.Program) (tf : Function) (call : Calling) (q : Program) (dee
   free_more_at (place.Literal n) t k = (omega arith, omega arith)
   free_more_at (place.Static n) t k = (omega arith, omega arith)
   free_more_at (place.Array n) t k = (omega arith, omega arith)
+  free_more_at (place.Element n i u) t k = (omega arith, omega arith)
   free_more_at (place.At o) t k = free_more p q f o t k
 
   -- ---- elements and rows
@@ -349,6 +350,8 @@ module _ (p : typed.Program) (tf : Function) (call : Calling) (q : Program) (dee
       named_parts (place.Static x) g o size n i rest t r j pc pc2 now ws s h ha h2 hr fine lt hs hg
   parts_do (place.Array x) g o size n i rest t r j pc pc2 now ws s h ha h1 h2 hr fine lt hs hg =
       named_parts (place.Array x) g o size n i rest t r j pc pc2 now ws s h ha h2 hr fine lt hs hg
+  parts_do (place.Element x y u) g o size n i rest t r j pc pc2 now ws s h ha h1 h2 hr fine lt hs hg =
+      named_parts (place.Element x y u) g o size n i rest t r j pc pc2 now ws s h ha h2 hr fine lt hs hg
 
   module _ (at : Pos) (array : Place) (index : Expression) (c : Bool) (t k : ℕ) (ha : is_array (type_of_place p tf array) ≡ true) where
     abbrev where_found : Spot

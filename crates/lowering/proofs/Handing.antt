@@ -120,6 +120,7 @@ module _ (p : typed.Program) (tf : Function) (call : Calling) (q : Program) (dee
   free_bound_at (place.Literal n) t = omega arith
   free_bound_at (place.Static n) t = omega arith
   free_bound_at (place.Array n) t = omega arith
+  free_bound_at (place.Element n i u) t = omega arith
   free_bound_at (place.At o) t = free_bound o t
 
   pub array_row : (u : ObjectType) (ps : List ParameterType) (array : Place) (more : Arguments) (t k pc p1 p2 pc2 : ℕ)

@@ -2,8 +2,16 @@ pub mod Words
 pub mod Steps
 pub mod Standing
 pub mod Shapes
+pub mod Elements
+pub mod Elementwise
+pub mod Written
+pub mod Zeros
+pub mod Filling
 pub mod Stores
 pub mod Memory
+pub mod Counting
+pub mod Turning
+pub mod Clearing
 pub mod Goods
 pub mod Operations
 pub mod Leaves

@@ -1,6 +1,6 @@
 -- What one instruction does that loads, stores, or makes a reference.
 use Rattle.std.proofs.Common.{◌≡◌, ℕ, zero, suc, ◌+◌, ◌*◌, ◌<◌, List, [], ◌∷◌, ◌++◌, length, map, Option, Some, None, true, false, not, ◌&&◌, ℤ, pos, refl, sym, ap, ◌∙◌, subst, arith}
-use Rattle.std.specs.Prelude.{◌==◌, nat_lt, slice_get}
+use Rattle.std.specs.Prelude.{◌==◌, nat_lt, slice_get, option_map, if◌then◌else◌}
 use Rattle.std.proofs.lemmas.Int.{ints}
 use Rattle.std.proofs.lemmas.Bool.Decides.{nat_tests}
 use Rattle.ctypes.specs.declared.types.IntType.{IntType}
@@ -19,7 +19,7 @@ use Rattle.tac.specs.declared.code.Place.{Place}
 use Rattle.tac.specs.declared.code.Place.TheVariants as place
 use Rattle.tac.specs.declared.code.Instruction.TheVariants as instruction
 use Rattle.tac.specs.Code.{Program, function_at}
-use Rattle.tac.specs.Run.{Value, reference, with_at, Call, State, Progress, running, ◌>>=◌, where_true, reference_in, word_for, number_of, held_by, value, word_at, gives, gives_word, element_types, element_type, is_type, may_write, is_element, elements_of, reference_to, loaded, stored, part}
+use Rattle.tac.specs.Run.{Value, reference, with_at, Call, State, Progress, running, ◌>>=◌, where_true, reference_in, word_for, number_of, held_by, value, word_at, gives, gives_word, element_types, element_type, is_type, may_write, is_element, elements_of, path_of, first_of, first_at, element_behind, reference_to, loaded, stored, part, element}
 use Rattle.tac.specs.Run as tac
 use Rattle.lowering.specs.Code.{One}
 use Rattle.lowering.proofs.Words.{ranged, converts_again}
@@ -132,6 +132,7 @@ module _ (p : typed.Program) (q : Program) (f : ℕ) where
   reference_there (place.Literal n) pc r now ws s h = h
   reference_there (place.Static n) pc r now ws s h = h
   reference_there (place.Array n) pc r now ws s h = h
+  reference_there (place.Element n i u) pc r now ws s h = h
   reference_there (place.At (operand.Temporary j)) pc r now ws s h = h
   reference_there (place.At (operand.Kept j)) pc r now ws s h = h
   reference_there (place.At (operand.Object x)) pc r now ws s h = h
@@ -232,3 +233,32 @@ module _ (p : typed.Program) (q : Program) (f : ℕ) where
       ∙ (ap (λ a. a >>= λ tree. where_true (bytes_of t * elements_of tree == size) (gives q g z (reference r2))) sub.is
       ∙ (ap (λ b. where_true b (gives q g z (reference r2))) sized
       ∙ (given_reference g pc r2 now ws s hg ∙ ap (λ n. running (here f n (put_reference g r2 now) ws s)) o.next))))))
+
+  -- the element `count` elements behind the first one that a reference leads to, in an object of these lengths
+  pub does_element : (t : IntType) (g : Target) (x y : Operand) (r : Reference) (rest : List ℕ) (tree : Tree) (i : ℕ) (path : List ℕ) (pc pc2 : ℕ) (now : Scratch)
+      (ws : List Call) (s : machine.State)
+      → One (function_at q f).code (instruction.Element t g x y) pc pc2 → IsAt (place.At x) r now s → Holds q f y i now s
+      → Refers (world p q f ws) r t rest → slice_get s.store r.object ≡ Some tree → path_of tree (first_of tree r.path + i) ≡ Some path → IsAside g
+      → Reaches q (here f pc now ws s) 1 13 (running (here f pc2 (put_reference g (record { object = r.object; path = path }) now) ws s))
+  does_element t g x y r rest tree i path pc pc2 now ws s o hx hy hr ht hp hg =
+      let z = here f pc now ws s in
+      let r2 : Reference = record { object = r.object; path = path } in
+      let behind : element_behind s.store r i ≡ Some r2 =
+      ap (λ a. tac.element_of r.object a (first_at a r.path + i)) ht ∙ ap (λ a. option_map (λ path. record { object = r.object; path = path }) a) hp in
+      does_one q f (instruction.Element t g x y) pc pc2 now ws s (running (here f pc2 (put_reference g r2 now) ws s)) o
+      (ap (λ a. a >>= λ r. word_at z y >>= λ i. element q z t g r i) (reference_there (place.At x) pc r now ws s hx)
+      ∙ (ap (λ a. a >>= λ i. element q z t g r i) (word_there q f y pc i now ws s hy)
+      ∙ (ap (λ a. where_true (is_type t a) (element_behind s.store r i >>= λ r3. gives q g z (reference r3))) (element_there pc r t rest now ws s hr)
+      ∙ (ap (λ b. where_true b (element_behind s.store r i >>= λ r3. gives q g z (reference r3))) (same_itself t)
+      ∙ (ap (λ a. a >>= λ r3. gives q g z (reference r3)) behind
+      ∙ (given_reference g pc r2 now ws s hg ∙ ap (λ n. running (here f n (put_reference g r2 now) ws s)) o.next))))))
+
+  -- an element of an array of the call, by its number
+  pub is_at_element : (n i : ℕ) (t : IntType) (o : ObjectType) (tree : Tree) (path : List ℕ) (now : Scratch) (s : machine.State)
+      → slice_get (function_at q f).objects n ≡ Some o → t ≡ o.element → slice_get s.store (s.base + n) ≡ Some tree → path_of tree i ≡ Some path
+      → IsAt (place.Element n i t) (record { object = s.base + n; path = path }) now s
+  is_at_element n i t o tree path now s ho ht hs hp =
+      let test : is_type t (option_map (λ (x : ObjectType). x.element) (slice_get (function_at q f).objects n)) ≡ true =
+      ap (λ a. is_type t (option_map (λ (x : ObjectType). x.element) a)) ho ∙ (ap (λ u. same_type t u) (sym ht) ∙ same_itself t) in
+      ap (λ b. if b then tac.element_of (s.base + n) (slice_get s.store (s.base + n)) i else None) test
+      ∙ (ap (λ a. tac.element_of (s.base + n) a i) hs ∙ ap (λ a. option_map (λ path. record { object = s.base + n; path = path }) a) hp)

@@ -1,5 +1,5 @@
 -- Reads and writes, by whether the place is an operand or lies in memory.
-use Rattle.std.proofs.Common.{◌≡◌, ℕ, Option, Some, None, Bool, true, false, ◌&&◌, refl, sym, subst}
+use Rattle.std.proofs.Common.{◌≡◌, ℕ, Bool, true, false, ◌&&◌, refl, sym, subst}
 use Rattle.std.specs.Prelude.{slice_get}
 use Rattle.srcset.specs.declared.refusal.Pos.{Pos}
 use Rattle.ctypes.specs.declared.types.IntType.{IntType}
@@ -13,7 +13,7 @@ use Rattle.typed.specs.WellTyped.{is_array, is_scalar, rows_of, rows_alike, some
 use Rattle.meaning.specs.Expressions.{Calling}
 use Rattle.tac.specs.Code.{Program, function_at}
 use Rattle.checked.specs.Asked.{is_wide}
-use Rattle.lowering.specs.Values.{calls, extent, Mode}
+use Rattle.lowering.specs.Values.{calls, Mode}
 use Rattle.lowering.specs.Places.{found, free_temporary_at, free_kept_at}
 use Rattle.lowering.specs.Code.{Finds, Into}
 use Rattle.lowering.proofs.Words.{left_true, right_true}

@@ -4,6 +4,7 @@
 -- Each full expression has all temporaries and slots.
 use Rattle.std.specs.Prelude.{◌≡◌, ℕ, zero, suc, ◌+◌, Bool, true, false, ◌&&◌, max, nat_le, nat_lt, nat_eq, ℤ, List, [], ◌∷◌, ◌++◌, length, map, Option, Some, None, slice_get, ◌⊎◌}
 use Rattle.ctypes.specs.declared.types.IntType.{IntType}
+use Rattle.typed.specs.Types.{ObjectType}
 use Rattle.typed.specs.Program as typed
 use Rattle.typed.specs.Program.{Place, Value, Initialiser, Statement, Statements}
 use Rattle.meaning.specs.Statements.{labels_at, labels_of}
@@ -23,6 +24,7 @@ use Rattle.tac.specs.Lowered.{kind_of}
 use Rattle.lowering.specs.Values.{keeps, waits_in, operand_of, Nowhere, If, mode_of}
 use Rattle.lowering.specs.Places.{size_of_place}
 use Rattle.lowering.specs.Code.{One, Converts, Into}
+use Rattle.lowering.specs.Initialisers.{Fills}
 
 -- object x is one of the k objects from number n on
 abbrev pub is_within : ℕ → ℕ → ℕ → Bool
@@ -46,54 +48,64 @@ module _ (code : List Instruction) where
   abbrev pub Leaves : (back : ℕ) → ℕ → ℕ → Type 0
   Leaves back pc pc2 = ((pc ≡ pc2) × (pc ≡ back)) ⊎ One code (instruction.Jump back) pc pc2
 
-  -- `size` has the bytes of each element and row
-  module _ (size : Place → ℕ) where
+  -- f is the function, of program p, that the statements are of
+  module _ (p : typed.Program) (f : typed.Function) where
     -- one value to a target, converted (6.5.16.1, 6.8.6.4p3)
     abbrev pub Gives : IntType → Value → Target → ℕ → ℕ → Type 0
-    Gives u e g pc pc2 = Converts code (keeps u e) (λ m a b. Into code size e m 0 0 a b) u (operand_of e 0 0) g pc pc2
+    Gives u e g pc pc2 = Converts code (keeps u e) (λ m a b. Into code (size_of_place p f) e m 0 0 a b) u (operand_of e 0 0) g pc pc2
 
-    -- object n gets its first value, which costs a tick behind its expression
-    abbrev pub Initialises : Initialiser → ℕ → ℕ → ℕ → Type 0
-    Initialises (typed.one_value u e) n pc pc2 = (p1 : ℕ) × Gives u e (target.Object n) pc p1 × One code instruction.Nothing p1 pc2
-    Initialises (typed.text literal) n pc pc2 = ⊥
-    Initialises (typed.in_braces i) n pc pc2 = (p1 : ℕ) × One code instruction.Nothing pc p1 × Initialises i n p1 pc2
-    Initialises (typed.list all) n pc pc2 = ⊥
+    -- object n, which is no array, gets its first value, which costs a tick behind its expression (6.7.9p11)
+    abbrev pub InitialisesWord : Initialiser → ℕ → ℕ → ℕ → Type 0
+    InitialisesWord (typed.one_value u e) n pc pc2 = (p1 : ℕ) × Gives u e (target.Object n) pc p1 × One code instruction.Nothing p1 pc2
+    InitialisesWord (typed.text literal) n pc pc2 = ⊥
+    InitialisesWord (typed.in_braces i) n pc pc2 = (p1 : ℕ) × One code instruction.Nothing pc p1 × InitialisesWord i n p1 pc2
+    InitialisesWord (typed.list all) n pc pc2 = ⊥
+
+    -- object n, of this element type and these lengths; an array from its first element on (6.7.9p14, p17)
+    abbrev pub InitialisesObject : IntType → List ℕ → Initialiser → ℕ → ℕ → ℕ → Type 0
+    InitialisesObject t [] i n pc pc2 = InitialisesWord i n pc pc2
+    InitialisesObject t (k ∷ lengths) i n pc pc2 = Fills code p.literals (size_of_place p f) i t (k ∷ lengths) n 0 pc pc2
+
+    -- the object that has this type, if any
+    abbrev pub Initialises : Option ObjectType → Initialiser → ℕ → ℕ → ℕ → Type 0
+    Initialises None i n pc pc2 = pc ≡ pc2
+    Initialises (Some t) i n pc pc2 = InitialisesObject t.element t.lengths i n pc pc2
 
     -- what may be left out: nothing is evaluated; a loop goes on
     abbrev pub Effects : Option Value → ℕ → ℕ → Type 0
     Effects None pc pc2 = pc ≡ pc2
-    Effects (Some e) pc pc2 = Into code size e Nowhere 0 0 pc pc2
+    Effects (Some e) pc pc2 = Into code (size_of_place p f) e Nowhere 0 0 pc pc2
 
     abbrev pub Repeats : Option Value → ℕ → ℕ → ℕ → Type 0
     Repeats None top pc pc2 = One code (instruction.Jump top) pc pc2
-    Repeats (Some e) top pc pc2 = Into code size e (If true top) 0 0 pc pc2
+    Repeats (Some e) top pc pc2 = Into code (size_of_place p f) e (If true top) 0 0 pc pc2
 
     abbrev mutual
       pub Stands : Statement → (out again back : ℕ) → ℕ → ℕ → Type 0
       Stands typed.empty out again back pc pc2 = One code instruction.Nothing pc pc2
-      Stands (typed.evaluate e) out again back pc pc2 = (p1 : ℕ) × One code instruction.Nothing pc p1 × Into code size e Nowhere 0 0 p1 pc2
+      Stands (typed.evaluate e) out again back pc pc2 = (p1 : ℕ) × One code instruction.Nothing pc p1 × Into code (size_of_place p f) e Nowhere 0 0 p1 pc2
       -- 6.2.4p6: an object is indeterminate each time
       Stands (typed.declare n) out again back pc pc2 = One code (instruction.Forget n 1) pc pc2
-      Stands (typed.define n i) out again back pc pc2 = (p1 : ℕ) × One code (instruction.Forget n 1) pc p1 × Initialises i n p1 pc2
+      Stands (typed.define n i) out again back pc pc2 = (p1 : ℕ) × One code (instruction.Forget n 1) pc p1 × Initialises (slice_get f.objects n) i n p1 pc2
       Stands (typed.block first count all) out again back pc pc2 =
           (p1 : ℕ) × One code (instruction.Forget first count) pc p1 × StandAll all out again back p1 pc2
       Stands (typed.branch e a) out again back pc pc2 =
-          (p1 p2 : ℕ) × One code instruction.Nothing pc p1 × Into code size e (If false pc2) 0 0 p1 p2 × Stands a out again back p2 pc2
+          (p1 p2 : ℕ) × One code instruction.Nothing pc p1 × Into code (size_of_place p f) e (If false pc2) 0 0 p1 p2 × Stands a out again back p2 pc2
       Stands (typed.branches e a b) out again back pc pc2 =
-          (p1 p2 p3 other : ℕ) × One code instruction.Nothing pc p1 × Into code size e (If false other) 0 0 p1 p2 × Stands a out again back p2 p3
+          (p1 p2 p3 other : ℕ) × One code instruction.Nothing pc p1 × Into code (size_of_place p f) e (If false other) 0 0 p1 p2 × Stands a out again back p2 p3
           × One code (instruction.Jump pc2) p3 other × Stands b out again back other pc2
       -- its objects are forgotten behind its value, which one of them cannot hold
       Stands (typed.switch u e first count all) out again back pc pc2 =
           let o = waits_in e (is_within first count) false 0 0 in
-          (p1 p2 p3 p4 : ℕ) × (places : List ℕ) × One code instruction.Nothing pc p1 × Into code size e (mode_of o) 0 0 p1 p2
+          (p1 p2 p3 p4 : ℕ) × (places : List ℕ) × One code instruction.Nothing pc p1 × Into code (size_of_place p f) e (mode_of o) 0 0 p1 p2
           × One code (instruction.Forget first count) p2 p3 × Tests o (labels_of all) places pc2 p3 p4 × StandAt all places pc2 again back p4 pc2
       Stands (typed.case v) out again back pc pc2 = One code instruction.Nothing pc pc2
       Stands typed.default out again back pc pc2 = One code instruction.Nothing pc pc2
       -- a loop's test stands behind its body
       Stands (typed.while e a) out again back pc pc2 =
-          (top at : ℕ) × One code (instruction.Jump at) pc top × Stands a pc2 at back top at × Into code size e (If true top) 0 0 at pc2
+          (top at : ℕ) × One code (instruction.Jump at) pc top × Stands a pc2 at back top at × Into code (size_of_place p f) e (If true top) 0 0 at pc2
       Stands (typed.do_while a e) out again back pc pc2 =
-          (top at : ℕ) × One code instruction.Nothing pc top × Stands a pc2 at back top at × Into code size e (If true top) 0 0 at pc2
+          (top at : ℕ) × One code instruction.Nothing pc top × Stands a pc2 at back top at × Into code (size_of_place p f) e (If true top) 0 0 at pc2
       Stands (typed.for declared start test step a) out again back pc pc2 =
           (p1 p2 p3 top next at : ℕ) × One code instruction.Nothing pc p1 × StandAll declared pc2 pc2 back p1 p2 × Effects start p2 p3
           × One code (instruction.Jump at) p3 top × Stands a pc2 next back top next × Effects step next at × Repeats test top at pc2
@@ -159,6 +171,7 @@ temporaries_of q (instruction.Load t g a) = max (temporary_to g) (temporary_at a
 temporaries_of q (instruction.Store t x a) = max (temporary_in x) (temporary_at a)
 temporaries_of q (instruction.Address g a) = max (temporary_to g) (temporary_at a)
 temporaries_of q (instruction.Part g x y size) = max (temporary_to g) (max (temporary_in x) (temporary_in y))
+temporaries_of q (instruction.Element t g x y) = max (temporary_to g) (max (temporary_in x) (temporary_in y))
 temporaries_of q (instruction.Branch c r x y to) = max (temporary_in x) (temporary_in y)
 temporaries_of q (instruction.Call f) = max 1 (length (function_at q f).parameters)
 temporaries_of q instruction.PutByte = 1
@@ -175,6 +188,7 @@ slots_of (instruction.Load t g a) = max (kept_to g) (kept_at a)
 slots_of (instruction.Store t x a) = max (kept_in x) (kept_at a)
 slots_of (instruction.Address g a) = max (kept_to g) (kept_at a)
 slots_of (instruction.Part g x y size) = max (kept_to g) (max (kept_in x) (kept_in y))
+slots_of (instruction.Element t g x y) = max (kept_to g) (max (kept_in x) (kept_in y))
 slots_of (instruction.Branch c r x y to) = max (kept_in x) (kept_in y)
 slots_of i = 0
 
@@ -188,7 +202,7 @@ pub record IsFunctionFor (p : typed.Program) (q : Program) (is_main : Bool) (f :
   pub end : ℕ
   pub back : ℕ
   pub idles : Idles g.code (suc (length f.type.parameters)) 0 start
-  pub body : Stands g.code (size_of_place p f) f.body end end back start end
+  pub body : Stands g.code p f f.body end end back start end
   pub closes : Closes g.code is_main end back
   pub leaves : One g.code instruction.Return back (length g.code)
   pub objects : g.objects ≡ f.objects

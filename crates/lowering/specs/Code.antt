@@ -186,6 +186,7 @@ module _ (code : List Instruction) where
   Parts (place.Literal n) g i size t pc pc2 = PartsNamed (place.Literal n) g i size t pc pc2
   Parts (place.Static n) g i size t pc pc2 = PartsNamed (place.Static n) g i size t pc pc2
   Parts (place.Array n) g i size t pc pc2 = PartsNamed (place.Array n) g i size t pc pc2
+  Parts (place.Element n j u) g i size t pc pc2 = PartsNamed (place.Element n j u) g i size t pc pc2
 
   abbrev pub Gets : IntType → Spot → Mode → ℕ → ℕ → ℕ → Type 0
   Gets u a m t pc pc2 = (p1 : ℕ) × One (instruction.Load u (target_of m t) a) pc p1 × Follows m t p1 pc2

@@ -44,12 +44,14 @@ abbrev pub free_temporary_at : Spot → ℕ → ℕ
 free_temporary_at (place.Literal n) t = t
 free_temporary_at (place.Static n) t = t
 free_temporary_at (place.Array n) t = t
+free_temporary_at (place.Element n i u) t = t
 free_temporary_at (place.At o) t = free_temporary o t
 
 abbrev pub free_kept_at : Spot → ℕ → ℕ
 free_kept_at (place.Literal n) k = k
 free_kept_at (place.Static n) k = k
 free_kept_at (place.Array n) k = k
+free_kept_at (place.Element n i u) k = k
 free_kept_at (place.At o) k = free_kept o k
 
 -- a store takes the low bytes (but _Bool, 6.3.1.2), so that a value that is not used afterwards needs no conversion

@@ -25,7 +25,7 @@ use Rattle.select.specs.Selected as selected
 use Rattle.select.specs.Selected.{source_of, home_of, fetch, into, keep, made_in, register_of, far, load_word, store_word, address_of, move, ending, operate, form_or, combine, narrow, reach, reference, scale, put_byte, get_byte, change_sp, saves, restores, calls, keep_return, take_return, entry, leave, return_home, byte_home, items_of, set_to, shortened}
 use Rattle.select.specs.Program.{code_items, function_items}
 use Rattle.select.proofs.Shortened.{shortened_bytes}
-use Rattle.select.specs.Bytes.{word_bytes, fetch_bytes, keep_bytes, into_bytes, move_bytes, reach_bytes, reference_bytes, saved_bytes, entry_bytes, instruction_bytes, CodeIsShort}
+use Rattle.select.specs.Bytes.{word_bytes, fetch_bytes, keep_bytes, into_bytes, move_bytes, reach_bytes, reference_bytes, scale_bytes, saved_bytes, entry_bytes, instruction_bytes, CodeIsShort}
 
 both : (xs ys : List Item) (a b : ℕ) → longest xs ≤ a → longest ys ≤ b → longest (xs ++ ys) ≤ a + b
 both xs ys a b p q = let sum : longest (xs ++ ys) ≡ longest xs + longest ys = sum_by-append (size true) xs ys in omega (arith, p, q, sum)
@@ -117,8 +117,18 @@ reference_short f d (location.Statics o) = both (item.DataAddress (made_in d) o 
 reference_short f d (location.Frame o) = both (address_of (made_in d) (area_home f + o)) (keep d) 12 _ (address_short (made_in d) (area_home f + o)) (keep_short d)
 reference_short f d (location.At x) = move_short d (source_of f x)
 
-scale_short : (a n : ℕ) → longest (scale a n) ≤ 12
-scale_short a n = either (n == 1) _ _ 12 (omega arith) (either (n == 2) _ _ 12 (omega arith) (either (n == 4) _ _ 12 (omega arith) (omega arith)))
+scale_by : (a b c : Bool) (xs ys zs us : List Item) → longest xs ≤ 0 → longest ys ≤ 4 → longest zs ≤ 4 → longest us ≤ 12
+    → longest (if a then xs else (if b then ys else (if c then zs else us))) + 4 ≤ (if a then 4 else (if b then 8 else (if c then 8 else 16)))
+scale_by true b c xs ys zs us x y z u = omega (arith, x)
+scale_by false true c xs ys zs us x y z u = omega (arith, y)
+scale_by false false true xs ys zs us x y z u = omega (arith, z)
+scale_by false false false xs ys zs us x y z u = omega (arith, u)
+
+scale_short : (a n : ℕ) → longest (scale a n) + 4 ≤ scale_bytes n
+scale_short a n = scale_by (n == 1) (n == 2) (n == 4) _ _ _ _ (omega arith) (omega arith) (omega arith) (omega arith)
+
+with_sum : (xs ys : List Item) (a b : ℕ) → longest xs + 4 ≤ a → longest ys ≤ 4 + b → longest (xs ++ ys) ≤ a + b
+with_sum xs ys a b p q = let sum : longest (xs ++ ys) ≡ longest xs + longest ys = sum_by-append (size true) xs ys in omega (arith, p, q, sum)
 
 change_short : (by : ℕ) → longest (change_sp by) ≤ 12
 change_short by = either (nat_lt ((by + 0x800) % 2 ^ 32) 0x1000) _ _ 12 (omega arith) (omega arith)
@@ -171,8 +181,7 @@ items_short f first (instruction.Element d x y n) =
     (let sum = instr.Op register_op.Add (made_in (home_of f d)) (register_of 5 (source_of f x)) (selected.scaled_in (register_of 6 (source_of f y)) n) in
     let last = keep (home_of f d) in
     let scaled = scale (register_of 6 (source_of f y)) n in
-    more (scaled ++ (item.Plain sum ∷ last)) (12 + (4 + keep_bytes (home_of f d))) _ (omega arith)
-    (both scaled (item.Plain sum ∷ last) 12 _ (scale_short _ n) (with_one sum last _ (keep_short (home_of f d))))))
+    with_sum scaled (item.Plain sum ∷ last) (scale_bytes n) (keep_bytes (home_of f d)) (scale_short _ n) (with_one sum last _ (keep_short (home_of f d)))))
 items_short f first (instruction.Jump to) = omega arith
 items_short f first (instruction.Branch t x y to) =
     both (fetch 5 (source_of f x)) _ _ _ (fetch_short 5 (source_of f x)) (both (fetch 6 (source_of f y)) _ _ 8 (fetch_short 6 (source_of f y)) (omega arith))

@@ -1,5 +1,5 @@
 -- The most bytes of code, with all branches long, that each flat instruction comes to.
-use Rattle.std.specs.Prelude.{ℕ, zero, suc, ◌≤◌, ◌+◌, nat_lt, if◌then◌else◌, sum_by}
+use Rattle.std.specs.Prelude.{ℕ, zero, suc, ◌≤◌, ◌+◌, ◌==◌, nat_lt, if◌then◌else◌, sum_by}
 use Rattle.asm.specs.Layout.{longest}
 use Rattle.frames.specs.declared.code.Location.{Location}
 use Rattle.frames.specs.declared.code.Location.TheVariants as location
@@ -45,6 +45,10 @@ reference_bytes f d (location.Statics o) = 8 + keep_bytes d
 reference_bytes f d (location.Frame o) = 12 + keep_bytes d
 reference_bytes f d (location.At x) = move_bytes d (source_of f x)
 
+-- to go on by elements of this size: a sum, behind a shift or a product with a constant, but for one byte
+abbrev pub scale_bytes : ℕ → ℕ
+scale_bytes size = if size == 1 then 4 else (if size == 2 then 8 else (if size == 4 then 8 else 16))
+
 -- the homes of the first n resident words
 abbrev pub saved_bytes : Function → ℕ → ℕ
 saved_bytes f zero = 0
@@ -61,7 +65,7 @@ instruction_bytes f (instruction.Convert c d x) = fetch_bytes (source_of f x) + 
 instruction_bytes f (instruction.Load w d l) = reach_bytes f l + (4 + keep_bytes (home_of f d))
 instruction_bytes f (instruction.Store w x l) = fetch_bytes (source_of f x) + (reach_bytes f l + 4)
 instruction_bytes f (instruction.Address d l) = reference_bytes f (home_of f d) l
-instruction_bytes f (instruction.Element d x y size) = fetch_bytes (source_of f x) + (fetch_bytes (source_of f y) + (16 + keep_bytes (home_of f d)))
+instruction_bytes f (instruction.Element d x y size) = fetch_bytes (source_of f x) + (fetch_bytes (source_of f y) + (scale_bytes size + keep_bytes (home_of f d)))
 instruction_bytes f (instruction.Jump to) = 4
 instruction_bytes f (instruction.Branch t x y to) = fetch_bytes (source_of f x) + (fetch_bytes (source_of f y) + 8)
 instruction_bytes f (instruction.Call g) = 8

@@ -14,7 +14,7 @@ use Rattle.tac.specs.declared.code.Operand.TheVariants as operand
 use Rattle.tac.specs.declared.code.Instruction.{Instruction}
 use Rattle.tac.specs.declared.code.Instruction.TheVariants as instruction
 use Rattle.tac.specs.Code.{Program, Function, scalar_type}
-use Rattle.tac.specs.Run.{State, Call, Progress, Value, word, reference, running, ended, stuck, ◌>>=◌, where_true, open_calls, word_for, number_of, is_word_of, held_by, reference_in, word_of, operate, holds, own, own_type, value, word_at, goes_to, next, with_number, gives, gives_word, element_type, elements_of, reference_to, loaded, stored, part, numbers_in, arrays_in, begun, entered, returned, got, put_byte, act, instruction_at, step, goes_on, run, start}
+use Rattle.tac.specs.Run.{State, Call, Progress, Value, word, reference, running, ended, stuck, ◌>>=◌, where_true, open_calls, word_for, number_of, is_word_of, held_by, reference_in, word_of, operate, holds, own, own_type, value, word_at, goes_to, next, with_number, gives, gives_word, element_type, elements_of, element_behind, reference_to, loaded, stored, part, element, numbers_in, arrays_in, begun, entered, returned, got, put_byte, act, instruction_at, step, goes_on, run, start}
 
 abbrev pub Adds : State → Progress → Type 0
 Adds s (running t) = (new : List Entry) × (t.history ≡ new ++ s.history) × (open_calls s ≡ active s.history → open_calls t ≡ active t.history)
@@ -64,6 +64,10 @@ part_follows p s d r size =
     in_bytes : IntType → Tree → Progress
     in_bytes t tree = where_true (bytes_of t * elements_of tree == size) (gives p d s (reference r))
 
+element_follows : (p : Program) (s : State) (t : IntType) (d : Target) (r : Reference) (i : ℕ) → Follows s (element p s t d r i)
+element_follows p s t d r i =
+    tested s _ _ (bound s (element_behind s.store r i) (λ r2. gives p d s (reference r2)) (λ r2. gives_follows p d s (reference r2)))
+
 -- with a call its function is the innermost
 begun_follows : (s : State) (f : ℕ) (g : Function) (numbers : List Tree) (arrays : List Reference) → Follows s (begun s f g numbers arrays)
 begun_follows s f g numbers arrays = record { adds = (Entered f ∷ [], refl, λ e. ap (λ fs. f ∷ fs) e) }
@@ -112,6 +116,8 @@ act_follows p s (instruction.Store t x l) =
 act_follows p s (instruction.Address d l) = bound s (reference_to p s l) (λ r. gives p d s (reference r)) (λ r. gives_follows p d s (reference r))
 act_follows p s (instruction.Part d x y size) =
     bound s (reference_in (value s x)) _ (λ r. bound s (word_at s y) (λ i. part p s d (into r i) size) (λ i. part_follows p s d (into r i) size))
+act_follows p s (instruction.Element t d x y) =
+    bound s (reference_in (value s x)) _ (λ r. bound s (word_at s y) (element p s t d r) (λ i. element_follows p s t d r i))
 act_follows p s (instruction.Forget n k) = quiet s _ refl refl
 act_follows p s (instruction.Jump to) = quiet s _ refl refl
 act_follows p s (instruction.Branch c r x y to) =

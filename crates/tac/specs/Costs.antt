@@ -1,7 +1,14 @@
 -- How many instructions of RV32IM each instruction comes to at most, how many bytes of code, and how many bytes of the stack a
 -- call takes. A word of the frame takes up to three to read or write, where it lies past the reach of 12 bits; a constant two.
-use Rattle.std.specs.Prelude.{ℕ, zero, suc, ◌+◌, ◌*◌, ◌-◌, ◌/◌, List, [], ◌∷◌, length, sum_by, Option, Some, None}
+use Rattle.std.specs.Prelude.{ℕ, zero, suc, ◌+◌, ◌*◌, ◌-◌, ◌/◌, max, nat_lt, if◌then◌else◌, List, [], ◌∷◌, length, sum_by, Option, Some, None}
+use Rattle.ctypes.specs.Types.{bytes_of}
 use Rattle.typed.specs.Units.{bytes_of_objects}
+use Rattle.tac.specs.declared.code.Operand.{Operand}
+use Rattle.tac.specs.declared.code.Operand.TheVariants as operand
+use Rattle.tac.specs.declared.code.Target.{Target}
+use Rattle.tac.specs.declared.code.Target.TheVariants as target
+use Rattle.tac.specs.declared.code.Place.{Place}
+use Rattle.tac.specs.declared.code.Place.TheVariants as place
 use Rattle.tac.specs.declared.code.Parameter.{Parameter}
 use Rattle.tac.specs.declared.code.Parameter.TheVariants as parameter
 use Rattle.tac.specs.declared.code.Instruction.{Instruction}
@@ -24,6 +31,7 @@ cost p (instruction.Load t d l) = 7
 cost p (instruction.Store t x l) = 7
 cost p (instruction.Address d l) = 6
 cost p (instruction.Part d x y size) = 13
+cost p (instruction.Element t d x y) = 13
 cost p (instruction.Forget n k) = 0
 cost p (instruction.Jump to) = 1
 cost p (instruction.Branch c r x y to) = 8
@@ -53,18 +61,57 @@ spent_in_all p n s = entry_cost (function_at p p.main) + spent p n s
 
 -- ---- bytes of code
 
+-- temporaries below 8 are registers
+abbrev pub temporary_bytes : ℕ → ℕ
+temporary_bytes k = if nat_lt k 8 then 0 else 12
+
+abbrev pub fetch_bytes : Operand → ℕ
+fetch_bytes (operand.Temporary k) = temporary_bytes k
+fetch_bytes (operand.Kept k) = 12
+fetch_bytes (operand.Object n) = 12
+fetch_bytes (operand.Parameter n) = 12
+fetch_bytes (operand.Constant v) = 8
+
+abbrev pub keep_bytes : Target → ℕ
+keep_bytes (target.Temporary k) = temporary_bytes k
+keep_bytes (target.Kept k) = 12
+keep_bytes (target.Object n) = 12
+
+abbrev pub move_bytes : Target → Operand → ℕ
+move_bytes d x = max 4 (fetch_bytes x + keep_bytes d)
+
+-- before an access
+abbrev pub reach_bytes : Place → ℕ
+reach_bytes (place.Literal n) = 8
+reach_bytes (place.Static n) = 8
+reach_bytes (place.Array n) = 8
+reach_bytes (place.Element n i t) = 8
+reach_bytes (place.At x) = fetch_bytes x
+
+abbrev pub reference_bytes : Target → Place → ℕ
+reference_bytes d (place.Literal n) = 8 + keep_bytes d
+reference_bytes d (place.Static n) = 8 + keep_bytes d
+reference_bytes d (place.Array n) = 12 + keep_bytes d
+reference_bytes d (place.Element n i t) = 12 + keep_bytes d
+reference_bytes d (place.At x) = move_bytes d x
+
+-- to go on by elements of this size: a shift, but for one byte
+abbrev pub scale_bytes : ℕ → ℕ
+scale_bytes size = if nat_lt size 2 then 4 else 8
+
 abbrev pub code_bytes : Instruction → ℕ
 code_bytes instruction.Nothing = 0
-code_bytes (instruction.Move d x) = 24
-code_bytes (instruction.Compute o r d x y) = 44
-code_bytes (instruction.Convert t d x) = 32
-code_bytes (instruction.Load t d l) = 28
-code_bytes (instruction.Store t x l) = 28
-code_bytes (instruction.Address d l) = 24
-code_bytes (instruction.Part d x y size) = 52
+code_bytes (instruction.Move d x) = move_bytes d x
+code_bytes (instruction.Compute o r d x y) = fetch_bytes x + (fetch_bytes y + (8 + keep_bytes d))
+code_bytes (instruction.Convert t d x) = fetch_bytes x + (8 + keep_bytes d)
+code_bytes (instruction.Load t d l) = reach_bytes l + (4 + keep_bytes d)
+code_bytes (instruction.Store t x l) = fetch_bytes x + (reach_bytes l + 4)
+code_bytes (instruction.Address d l) = reference_bytes d l
+code_bytes (instruction.Part d x y size) = fetch_bytes x + (fetch_bytes y + (16 + keep_bytes d))
+code_bytes (instruction.Element t d x y) = fetch_bytes x + (fetch_bytes y + (scale_bytes (bytes_of t) + keep_bytes d))
 code_bytes (instruction.Forget n k) = 0
 code_bytes (instruction.Jump to) = 4
-code_bytes (instruction.Branch c r x y to) = 32
+code_bytes (instruction.Branch c r x y to) = fetch_bytes x + (fetch_bytes y + 8)
 code_bytes (instruction.Call f) = 8
 code_bytes instruction.PutByte = 32
 code_bytes instruction.GetByte = 40

@@ -227,6 +227,44 @@ abbrev mutual
   elements_of_row no_parts = 0
   elements_of_row (and_part t row) = elements_of t + elements_of_row row
 
+-- ---- elements, counted in the order in which they lie (6.5.2.1p3)
+
+-- the subscripts of element i
+abbrev mutual
+  pub path_of : Tree → ℕ → Option (List ℕ)
+  path_of (Element v) zero = Some []
+  path_of (Element v) (suc i) = None
+  path_of (Array row) i = path_in row 0 i
+
+  pub path_in : Row → (k i : ℕ) → Option (List ℕ)
+  path_in no_parts k i = None
+  path_in (and_part t row) k i =
+      if nat_lt i (elements_of t) then option_map (λ path. k ∷ path) (path_of t i) else path_in row (suc k) (i - elements_of t)
+
+-- the number of the first element of a part
+abbrev mutual
+  pub first_of : Tree → List ℕ → ℕ
+  first_of (Element v) path = 0
+  first_of (Array row) [] = 0
+  first_of (Array row) (k ∷ path) = first_in row k path
+
+  pub first_in : Row → ℕ → List ℕ → ℕ
+  first_in no_parts k path = 0
+  first_in (and_part t row) zero path = first_of t path
+  first_in (and_part t row) (suc k) path = elements_of t + first_in row k path
+
+-- element i of an object, and the one that lies i elements behind a reference
+abbrev pub element_of : (object : ℕ) → Option Tree → ℕ → Option Reference
+element_of x None i = None
+element_of x (Some t) i = option_map (λ path. record { object = x; path = path }) (path_of t i)
+
+abbrev pub first_at : Option Tree → List ℕ → ℕ
+first_at None path = 0
+first_at (Some t) path = first_of t path
+
+abbrev pub element_behind : Store → Reference → ℕ → Option Reference
+element_behind store r i = element_of r.object (slice_get store r.object) (first_at (slice_get store r.object) r.path + i)
+
 abbrev pub array_if : Option IntType → Option ObjectType → Reference → Option Reference
 array_if scalar None r = None
 array_if None (Some t) r = Some r
@@ -236,6 +274,8 @@ abbrev pub reference_to : Program → State → Place → Option Reference
 reference_to p s (place.Literal n) = Some (whole n)
 reference_to p s (place.Static n) = Some (whole (length p.literals + n))
 reference_to p s (place.Array n) = array_if (scalar_type (own_type p s n)) (own_type p s n) (own s n)
+reference_to p s (place.Element n i t) =
+    if is_type t (option_map (λ o. o.element) (own_type p s n)) then element_of (s.call.base + n) (slice_get s.store (s.call.base + n)) i else None
 reference_to p s (place.At x) = reference_in (value s x)
 
 abbrev pub loaded : Program → State → IntType → Target → Reference → Progress
@@ -252,6 +292,10 @@ abbrev pub part : Program → State → Target → Reference → ℕ → Progres
 part p s d r size =
     element_type p s r >>= λ t. tree_at s.store r >>= λ tree.
     where_true (bytes_of t * elements_of tree == size) (gives p d s (reference r))
+
+abbrev pub element : Program → State → IntType → Target → Reference → ℕ → Progress
+element p s t d r i =
+    where_true (is_type t (element_type p s r)) (element_behind s.store r i >>= λ r2. gives p d s (reference r2))
 
 -- k objects of the call from number n on become indeterminate
 abbrev pub forgotten : List ObjectType → (base n k : ℕ) → Store → Store
@@ -336,6 +380,7 @@ act p s (instruction.Store t x l) = word_at s x >>= λ a. reference_to p s l >>=
 act p s (instruction.Address d l) = reference_to p s l >>= λ r. gives p d s (reference r)
 act p s (instruction.Part d x y size) =
     reference_in (value s x) >>= λ r. word_at s y >>= λ i. part p s d (into r i) size
+act p s (instruction.Element t d x y) = reference_in (value s x) >>= λ r. word_at s y >>= λ i. element p s t d r i
 act p s (instruction.Forget n k) =
     running (record (next s) { store = forgotten (function_at p s.call.function).objects s.call.base n k s.store })
 act p s (instruction.Jump to) = running (goes_to s to)

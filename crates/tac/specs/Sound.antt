@@ -1,7 +1,7 @@
 -- Which three-address programs are sound: each instruction names what there is, and what there is has its place. What the next step takes.
 use Rattle.std.specs.Prelude.{◌≡◌, ◌≤◌, ◌<◌, ℕ, ◌+◌, ◌^◌, Bool, true, false, List, [], ◌∷◌, length, slice_get, sum_by, Some, None}
 use Rattle.ctypes.specs.declared.types.IntType.{IntType}
-use Rattle.typed.specs.Types.{ObjectType, size_of_object}
+use Rattle.typed.specs.Types.{ObjectType, elements_in, size_of_object}
 use Rattle.typed.specs.Program.{Static}
 use Rattle.typed.specs.WellTyped.{values_fit}
 use Rattle.tac.specs.declared.code.Operand.{Operand}
@@ -25,6 +25,11 @@ IsScalar f n = (t : IntType) × (scalar_type (slice_get f.objects n) ≡ Some t)
 abbrev pub IsArray : Function → ℕ → Type 0
 IsArray f n = (n < length f.objects) × (scalar_type (slice_get f.objects n) ≡ None)
 
+-- it is an array of this type that has element i
+abbrev pub HasElement : Function → ℕ → ℕ → IntType → Type 0
+HasElement f n i t =
+    (o : ObjectType) × (slice_get f.objects n ≡ Some o) × (scalar_type (Some o) ≡ None) × (i < elements_in o.lengths) × (t ≡ o.element)
+
 -- it has bytes
 abbrev pub IsDefined : Program → ℕ → Type 0
 IsDefined p n = (o : Static) × (slice_get p.statics n ≡ Some o) × (o.defined ≡ true)
@@ -45,6 +50,7 @@ abbrev pub PlaceFits : Program → Function → Place → Type 0
 PlaceFits p f (place.Literal n) = n < length p.literals
 PlaceFits p f (place.Static n) = IsDefined p n
 PlaceFits p f (place.Array n) = IsArray f n
+PlaceFits p f (place.Element n i t) = HasElement f n i t
 PlaceFits p f (place.At x) = OperandFits f x
 
 abbrev pub CallFits : Program → Function → ℕ → Type 0
@@ -59,6 +65,7 @@ InstructionFits p f (instruction.Load t d l) = TargetFits f d × PlaceFits p f l
 InstructionFits p f (instruction.Store t x l) = OperandFits f x × PlaceFits p f l
 InstructionFits p f (instruction.Address d l) = TargetFits f d × PlaceFits p f l
 InstructionFits p f (instruction.Part d x y size) = TargetFits f d × OperandFits f x × OperandFits f y × (size < 2 ^ 32)
+InstructionFits p f (instruction.Element t d x y) = TargetFits f d × OperandFits f x × OperandFits f y
 InstructionFits p f (instruction.Forget n k) = n + k ≤ length f.objects
 InstructionFits p f (instruction.Jump to) = to < length f.code
 InstructionFits p f (instruction.Branch c r x y to) = OperandFits f x × OperandFits f y × (to < length f.code)

@@ -33,6 +33,12 @@ pub enum Place {
     Static(usize),
     /// An array of the present call.
     Array(usize),
+    /// One of its elements, counted from 0 in the order in which they lie (6.5.2.1p3), and their type.
+    Element {
+        array: usize,
+        number: usize,
+        element: IntType,
+    },
     /// Where a reference leads.
     At(Operand),
 }
@@ -118,6 +124,14 @@ pub enum Instruction {
         array: Operand,
         index: Operand,
         size: usize,
+    },
+    /// A reference to the element that lies `count` elements behind the one that `from` leads to, or behind the first one there, in the
+    /// same object.
+    Element {
+        element: IntType,
+        target: Target,
+        from: Operand,
+        count: Operand,
     },
     /// So many objects of the call, from number `first` on, become indeterminate (6.2.4p6).
     Forget {

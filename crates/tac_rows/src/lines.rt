@@ -96,7 +96,7 @@ pub fn instruction(name: &str, words: &mut Words<'_>) -> Result<Instruction> {
             right: next_operand(words)?,
             to: words.number()?,
         }),
-        "load" | "store" | "address" | "part" => access(name, words),
+        "load" | "store" | "address" | "element" | "part" => access(name, words),
         _ => computation(name, words),
     }
 }
@@ -116,6 +116,12 @@ fn access(name: &str, words: &mut Words<'_>) -> Result<Instruction> {
         "address" => Ok(Instruction::Address {
             target: next_target(words)?,
             of: next_place(words)?,
+        }),
+        "element" => Ok(Instruction::Element {
+            element: element(words.part())?,
+            target: next_target(words)?,
+            from: next_operand(words)?,
+            count: next_operand(words)?,
         }),
         _ => Ok(Instruction::Part {
             target: next_target(words)?,

@@ -1,5 +1,6 @@
 -- The layouts and starts that the code's values hold.
-use Rattle.std.specs.Prelude.{◌≡◌, ◌<◌, ◌^◌}
+use Rattle.std.specs.Prelude.{◌≡◌, ◌<◌, ◌+◌, ◌*◌, ◌^◌, slice_get}
+use Rattle.ctypes.specs.Types.{bytes_of}
 use Rattle.tac.specs.Code.{Function}
 use Rattle.tac.specs.declared.code.Operand.{Operand}
 use Rattle.tac.specs.declared.code.Operand.TheVariants as operand
@@ -11,7 +12,7 @@ use Rattle.tac.specs.declared.code.Instruction.{Instruction}
 use Rattle.tac.specs.declared.code.Instruction.TheVariants as instruction
 use Rattle.flattening.specs.declared.layout.Layout as held
 use Rattle.flattening.specs.declared.starts.Starts as held_starts
-use Rattle.flattening.specs.Layout.{Starts, Layout, layout_of, cells_of, bytes_in}
+use Rattle.flattening.specs.Layout.{Starts, Layout, layout_of, cells_of, bytes_in, offset_in}
 
 abbrev pub layout_in : held.Layout → Layout
 layout_in l = record { homes = l.homes.items; references = l.references; slots = l.slots; first = l.first }
@@ -37,26 +38,28 @@ TargetIsNear (target.Temporary k) = Unit {0}
 TargetIsNear (target.Kept k) = k < 2 ^ 40
 TargetIsNear (target.Object n) = Unit {0}
 
-abbrev pub PlaceIsNear : Place → Type 0
-PlaceIsNear (place.Literal n) = Unit {0}
-PlaceIsNear (place.Static n) = Unit {0}
-PlaceIsNear (place.Array n) = Unit {0}
-PlaceIsNear (place.At x) = OperandIsNear x
+abbrev pub PlaceIsNear : Layout → Place → Type 0
+PlaceIsNear l (place.Literal n) = Unit {0}
+PlaceIsNear l (place.Static n) = Unit {0}
+PlaceIsNear l (place.Array n) = Unit {0}
+PlaceIsNear l (place.Element n i t) = offset_in (slice_get l.homes n) + i * bytes_of t < 2 ^ 40
+PlaceIsNear l (place.At x) = OperandIsNear x
 
-abbrev pub InstructionIsNear : Instruction → Type 0
-InstructionIsNear instruction.Nothing = Unit {0}
-InstructionIsNear (instruction.Move d x) = TargetIsNear d × OperandIsNear x
-InstructionIsNear (instruction.Compute o r d x y) = TargetIsNear d × OperandIsNear x × OperandIsNear y
-InstructionIsNear (instruction.Convert t d x) = TargetIsNear d × OperandIsNear x
-InstructionIsNear (instruction.Load t d l) = TargetIsNear d × PlaceIsNear l
-InstructionIsNear (instruction.Store t x l) = OperandIsNear x × PlaceIsNear l
-InstructionIsNear (instruction.Address d l) = TargetIsNear d × PlaceIsNear l
-InstructionIsNear (instruction.Part d x y size) = TargetIsNear d × OperandIsNear x × OperandIsNear y
-InstructionIsNear (instruction.Forget n k) = Unit {0}
-InstructionIsNear (instruction.Jump to) = to < 2 ^ 40
-InstructionIsNear (instruction.Branch c r x y to) = OperandIsNear x × OperandIsNear y × (to < 2 ^ 40)
-InstructionIsNear (instruction.Call g) = Unit {0}
-InstructionIsNear instruction.PutByte = Unit {0}
-InstructionIsNear instruction.GetByte = Unit {0}
-InstructionIsNear instruction.Exit = Unit {0}
-InstructionIsNear instruction.Return = Unit {0}
+abbrev pub InstructionIsNear : Layout → Instruction → Type 0
+InstructionIsNear h instruction.Nothing = Unit {0}
+InstructionIsNear h (instruction.Move d x) = TargetIsNear d × OperandIsNear x
+InstructionIsNear h (instruction.Compute o r d x y) = TargetIsNear d × OperandIsNear x × OperandIsNear y
+InstructionIsNear h (instruction.Convert t d x) = TargetIsNear d × OperandIsNear x
+InstructionIsNear h (instruction.Load t d l) = TargetIsNear d × PlaceIsNear h l
+InstructionIsNear h (instruction.Store t x l) = OperandIsNear x × PlaceIsNear h l
+InstructionIsNear h (instruction.Address d l) = TargetIsNear d × PlaceIsNear h l
+InstructionIsNear h (instruction.Part d x y size) = TargetIsNear d × OperandIsNear x × OperandIsNear y
+InstructionIsNear h (instruction.Element t d x y) = TargetIsNear d × OperandIsNear x × OperandIsNear y
+InstructionIsNear h (instruction.Forget n k) = Unit {0}
+InstructionIsNear h (instruction.Jump to) = to < 2 ^ 40
+InstructionIsNear h (instruction.Branch c r x y to) = OperandIsNear x × OperandIsNear y × (to < 2 ^ 40)
+InstructionIsNear h (instruction.Call g) = Unit {0}
+InstructionIsNear h instruction.PutByte = Unit {0}
+InstructionIsNear h instruction.GetByte = Unit {0}
+InstructionIsNear h instruction.Exit = Unit {0}
+InstructionIsNear h instruction.Return = Unit {0}

@@ -1,6 +1,7 @@
-use Rattle.std.proofs.Common.{◌∙◌, ap, sym}
+use Rattle.std.proofs.Common.{◌∙◌, ap, sym, subst}
 use Rattle.std.specs.Prelude.{slice_get}
 use Rattle.tac.specs.Code.{function_of}
+use Rattle.flattening.specs.inside.Held.{InstructionIsNear}
 use Rattle.flattening.proofs.Near.{few_bytes, few_parameters, is_near}
 use Rattle.flattening.proofs.functions.flat_code.Goals as goal
 
@@ -12,5 +13,6 @@ new-requires-clause-parameters c = few_parameters c.requires.fits.0 (function_of
 
 pub put_code-requires : goal.put_code-requires
 put_code-requires c = record {
-  near = λ k x e. is_near c.requires.fits.0 (function_of c.args.function.now) c.requires.fits.1 c.requires.code k x (ap (λ xs. slice_get xs k) (sym c.deref-2.ensures.value) ∙ e);
+  near = λ k x e. subst (λ l. InstructionIsNear l x) (sym c.in_ok-layout.ensures.layout)
+      (is_near c.requires.fits.0 (function_of c.args.function.now) c.requires.fits.1 c.requires.code k x (ap (λ xs. slice_get xs k) (sym c.deref-2.ensures.value) ∙ e));
 }
