@@ -39,7 +39,7 @@ while IFS='|' read -r code text source; do
     said=$(cd "$work" && "$cc" build main.c -o program 2>&1 >/dev/null)
     if [ "$said" = "main.c:$(($(wc -l <"$work/main.c"))): $code $text" ]; then pass; else fail "$source: '$said', not $code"; fi
 done <"$work/sources"
-[ "$built" -eq 78 ] && pass || fail "FAULTS.md has $built sources to build, not 78"
+[ "$built" -eq 77 ] && pass || fail "FAULTS.md has $built sources to build, not 77"
 
 # ------------------------------------------------------- the crates' order
 awk -F: '!/^#/ && NF > 1 { print $1 }' crates.txt >"$work/crates"

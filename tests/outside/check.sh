@@ -237,7 +237,7 @@ while IFS= read -r line; do
         skip 1
     fi
 done <"$here/programs.txt"
-holds "programs.txt has $count programs, not 80" [ "$count" = 80 ]
+holds "programs.txt has $count programs, not 86" [ "$count" = 86 ]
 
 # 32 statements and a return of 64 constants each.
 awk -f "$here/largest.awk" </dev/null >largest.c
@@ -340,7 +340,7 @@ while IFS= read -r line; do
     printf '%b' "$rest" >main.c
     refused "$f1" "$f2" main.c
 done <"$here/refused.txt"
-holds "refused.txt has $count sources, not 74" [ "$count" = 74 ]
+holds "refused.txt has $count sources, not 68" [ "$count" = 68 ]
 
 : >main.c
 refused 'an empty source' 'main.c:1: 551 no int main(void)' main.c

@@ -31,6 +31,8 @@ PROGRAMS = [
     ('void w(int a, int b, int c, int d, int e, int f, int g, int h, int i, int j) { rv_putbyte(i); rv_putbyte(j); }',
      'w(65, 66, 67, 68, 69, 70, 71, 72, 73, 74); return 0;', 0, b'IJ'),
     ('', 'int a[2]; a[0] = 1; return a[0];', 1, b''),
+    ('', 'int a[2] = { 1 }; return a[0] + a[1];', 1, b''),
+    ('', 'char a[2] = "a"; return a[0] + a[1];', 97, b''),
     ('', 'return "a"[0];', 97, b''),
     ('', 'static int n; return n;', 0, b''),
     ('int n;', 'return n;', 0, b''),
@@ -40,8 +42,6 @@ PROGRAMS = [
 REFUSED = [
     ('int main(void) { return -2147483648; }', '609 left out: long long constant'),
     ('int main(void) { return %s0%s; }' % ('(' * 253, ')' * 253), '709 limit: depth'),
-    ('int main(void) { int a[2] = { 1 }; return a[0]; }', '699 not built yet'),
-    ('int main(void) { char a[2] = "a"; return a[0]; }', '699 not built yet'),
     ('int main(void) { return y; }', '528 undeclared name'),
 ]
 
