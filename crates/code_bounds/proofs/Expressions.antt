@@ -61,10 +61,10 @@ module _ (z : Ground) where
   -- ---- n temporaries from t on, and n slots from k on
 
   abbrev pub Fits : ℕ → ℕ → ℕ → Type 0
-  Fits n t k = (t + n ≤ z.bound) × (k + n ≤ z.bound)
+  Fits n t k = (t + n ≤ z.bound) × (k + n ≤ z.slots)
 
   fewer : (n m t k : ℕ) → m ≤ n → Fits n t k → Fits m t k
-  fewer n m t k h f = (less t n m z.bound h f.0, less k n m z.bound h f.1)
+  fewer n m t k h f = (less t n m z.bound h f.0, less k n m z.slots h f.1)
 
   pub free : (e : Value) (t k : ℕ) → Fits (value_nodes e) t k → Free z t k
   free e t k f = fewer (value_nodes e) 1 t k (some_value e) f
@@ -73,7 +73,7 @@ module _ (z : Ground) where
   fits_beside : (place : Place) (c : Bool) (t k n : ℕ) → Fits (place_nodes place + n + 1) t k → Fits n (temporary_beside place c t k) (slot_beside place c t k)
   fits_beside place c t k n f = (
     beside t (temporary_beside place c t k) (place_nodes place) n z.bound (more_temporaries_at z (found place c t k) t) f.0,
-    beside k (slot_beside place c t k) (place_nodes place) n z.bound (more_kept_at z (found place c t k) k) f.1,
+    beside k (slot_beside place c t k) (place_nodes place) n z.slots (more_kept_at z (found place c t k) k) f.1,
   )
 
   third_free : (place : Place) (e : Value) (c : Bool) (t k : ℕ) → Fits (place_nodes place + value_nodes e + 1) t k
@@ -215,7 +215,7 @@ module _ (z : Ground) where
         let hb = right_of a b h in
         let fa = fewer (value_nodes a + value_nodes b + 1) (value_nodes a) t k (first (value_nodes a) (value_nodes b)) f in
         let fb : Fits (value_nodes b) t2 k2 =
-        (beside t t2 (value_nodes a) (value_nodes b) z.bound (more_temporaries z x t) f.0, beside k k2 (value_nodes a) (value_nodes b) z.bound (more_kept z x k) f.1) in
+        (beside t t2 (value_nodes a) (value_nodes b) z.bound (more_temporaries z x t) f.0, beside k k2 (value_nodes a) (value_nodes b) z.slots (more_kept z x k) f.1) in
         binary_within z at o u a b m t k pc pc2 (rests_fine z a ha) (rests_fine z b hb) l (free a t k fa) (free b t2 k2 fb)
         (λ n y y2 l2 i2. into_within a n t k y y2 ha (left_true (E a) (E b) d) fa l2 i2)
         (λ n y y2 l2 i2. into_within b n t2 k2 y y2 hb (right_true (E a) (E b) d) fb l2 i2) i
@@ -304,7 +304,7 @@ module _ (z : Ground) where
         call_within z at callee result used arguments m t k pc pc2 l (free (typed.call at callee result used arguments) t k f) c
         (λ y y2 i2. passes_within arguments ps 0 k y y2 typed_arguments d (
           from_zero t (argument_nodes arguments) z.bound f.0,
-          less k (argument_nodes arguments + 1) (argument_nodes arguments) z.bound
+          less k (argument_nodes arguments + 1) (argument_nodes arguments) z.slots
               (only (argument_nodes arguments)) f.1,
         ) i2) i
 
@@ -350,7 +350,7 @@ module _ (z : Ground) where
         let fa = fewer (place_nodes array + argument_nodes more) (place_nodes array) t k (of_both (place_nodes array) (argument_nodes more)) f in
         let fm : Fits (argument_nodes more) (t + 1) (slot_beside array b t k) = (
           beside_argument t (t + 1) (place_nodes array) (argument_nodes more) z.bound (some_place array) (same_le (t + 1)) f.0,
-          beside_argument k (slot_beside array b t k) (place_nodes array) (argument_nodes more) z.bound (some_place array)
+          beside_argument k (slot_beside array b t k) (place_nodes array) (argument_nodes more) z.slots (some_place array)
               (more_kept_at z (found array b t k) k) f.1,
         ) in
         let fr = fewer (place_nodes array + argument_nodes more) 1 t k (counted_first (place_nodes array) (argument_nodes more) (some_place array)) f in
@@ -369,7 +369,7 @@ module _ (z : Ground) where
         let fe = fewer (value_nodes e + argument_nodes more) (value_nodes e) t k (of_both (value_nodes e) (argument_nodes more)) f in
         let fm : Fits (argument_nodes more) (t + 1) (free_kept o k) = (
           beside_argument t (t + 1) (value_nodes e) (argument_nodes more) z.bound (some_value e) (same_le (t + 1)) f.0,
-          beside_argument k (free_kept o k) (value_nodes e) (argument_nodes more) z.bound (some_value e) (more_kept z o k) f.1,
+          beside_argument k (free_kept o k) (value_nodes e) (argument_nodes more) z.slots (some_value e) (more_kept z o k) f.1,
         ) in
         let s = waits z e (arguments_write more) (arguments_call more) t k (rests_fine z e he) in
         let fr = free e t k fe in

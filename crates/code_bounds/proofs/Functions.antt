@@ -21,7 +21,7 @@ use Rattle.tac.specs.Sound.{IsScalar, OperandFits, TargetFits, PlaceFits, Instru
 use Rattle.checked.specs.Asked.{types_are_sized}
 use Rattle.lowering.specs.Code.{One}
 use Rattle.lowering.specs.Bodies.{Idles, Closes, Stands, temporary_in, kept_in, temporary_at, kept_at, temporary_to, kept_to, temporaries_of, slots_of, most}
-use Rattle.code_bounds.proofs.Grounds.{Ground, sizes, IsNumber, OperandFine, TargetFine, SpotFine, Fine}
+use Rattle.code_bounds.proofs.Grounds.{Ground, IsNumber, OperandFine, TargetFine, SpotFine, Fine}
 use Rattle.code_bounds.proofs.Stretches.{Within, one, one_in, none, join, settle, aimed}
 use Rattle.code_bounds.proofs.Statements.{stands_within}
 
@@ -85,7 +85,7 @@ module _ (z : Ground) where
 
   pub all_within : (n start end back size lo : ℕ) (is_main : Bool) → back ≤ z.limit
       → statement_is_typed z.source z.function lo (length z.function.objects) z.function.body ≡ true → in_statement z.source z.function.body ≡ true
-      → widest z.function.body + 1 ≤ z.bound → 0 < z.bound → Idles z.code n 0 start → Stands z.code (sizes z) z.function.body end end back start end
+      → widest z.function.body + 1 ≤ z.slots → 0 < z.bound → Idles z.code n 0 start → Stands z.code z.source z.function z.function.body end end back start end
       → Closes z.code is_main end back → One z.code instruction.Return back size
       → Within z (Unit {0}) (n + (statement_nodes z.function.body + (1 + 2))) (124 * n + (0 + (104 + 84))) 0 size
   all_within n start end back size lo is_main e h d w b idles body closes leaves =
@@ -104,33 +104,35 @@ module _ (z : Ground) where
   temporary_in_le (operand.Parameter j) f = nothing_below z.bound
   temporary_in_le (operand.Constant j) f = nothing_below z.bound
 
-  kept_in_le : (o : Operand) → OperandFine z o → kept_in o ≤ z.bound
-  kept_in_le (operand.Temporary j) f = nothing_below z.bound
-  kept_in_le (operand.Kept j) f = past j z.bound f
-  kept_in_le (operand.Object j) f = nothing_below z.bound
-  kept_in_le (operand.Parameter j) f = nothing_below z.bound
-  kept_in_le (operand.Constant j) f = nothing_below z.bound
+  kept_in_le : (o : Operand) → OperandFine z o → kept_in o ≤ z.slots
+  kept_in_le (operand.Temporary j) f = nothing_below z.slots
+  kept_in_le (operand.Kept j) f = past j z.slots f
+  kept_in_le (operand.Object j) f = nothing_below z.slots
+  kept_in_le (operand.Parameter j) f = nothing_below z.slots
+  kept_in_le (operand.Constant j) f = nothing_below z.slots
 
   temporary_to_le : (g : Target) → TargetFine z g → temporary_to g ≤ z.bound
   temporary_to_le (target.Temporary j) f = past j z.bound f
   temporary_to_le (target.Kept j) f = nothing_below z.bound
   temporary_to_le (target.Object j) f = nothing_below z.bound
 
-  kept_to_le : (g : Target) → TargetFine z g → kept_to g ≤ z.bound
-  kept_to_le (target.Temporary j) f = nothing_below z.bound
-  kept_to_le (target.Kept j) f = past j z.bound f
-  kept_to_le (target.Object j) f = nothing_below z.bound
+  kept_to_le : (g : Target) → TargetFine z g → kept_to g ≤ z.slots
+  kept_to_le (target.Temporary j) f = nothing_below z.slots
+  kept_to_le (target.Kept j) f = past j z.slots f
+  kept_to_le (target.Object j) f = nothing_below z.slots
 
   temporary_at_le : (a : Spot) → SpotFine z a → temporary_at a ≤ z.bound
   temporary_at_le (place.Literal n) f = nothing_below z.bound
   temporary_at_le (place.Static n) f = nothing_below z.bound
   temporary_at_le (place.Array n) f = nothing_below z.bound
+  temporary_at_le (place.Element n i t) f = nothing_below z.bound
   temporary_at_le (place.At o) f = temporary_in_le o f
 
-  kept_at_le : (a : Spot) → SpotFine z a → kept_at a ≤ z.bound
-  kept_at_le (place.Literal n) f = nothing_below z.bound
-  kept_at_le (place.Static n) f = nothing_below z.bound
-  kept_at_le (place.Array n) f = nothing_below z.bound
+  kept_at_le : (a : Spot) → SpotFine z a → kept_at a ≤ z.slots
+  kept_at_le (place.Literal n) f = nothing_below z.slots
+  kept_at_le (place.Static n) f = nothing_below z.slots
+  kept_at_le (place.Array n) f = nothing_below z.slots
+  kept_at_le (place.Element n i t) f = nothing_below z.slots
   kept_at_le (place.At o) f = kept_in_le o f
 
   pub temporaries_le : (x : Instruction) → 1 ≤ z.bound → Fine z x → temporaries_of z.made x ≤ z.bound
@@ -142,6 +144,7 @@ module _ (z : Ground) where
   temporaries_le (instruction.Store t x l) b f = max-le (temporary_in_le x f.0) (temporary_at_le l f.1)
   temporaries_le (instruction.Address g l) b f = max-le (temporary_to_le g f.0) (temporary_at_le l f.1)
   temporaries_le (instruction.Part g x y size) b f = max-le (temporary_to_le g f.0) (max-le (temporary_in_le x f.1) (temporary_in_le y f.2))
+  temporaries_le (instruction.Element t g x y) b f = max-le (temporary_to_le g f.0) (max-le (temporary_in_le x f.1) (temporary_in_le y f.2))
   temporaries_le (instruction.Forget n k) b f = nothing_below z.bound
   temporaries_le (instruction.Jump to) b f = nothing_below z.bound
   temporaries_le (instruction.Branch c r x y to) b f = max-le (temporary_in_le x f.0) (temporary_in_le y f.1)
@@ -151,8 +154,8 @@ module _ (z : Ground) where
   temporaries_le instruction.Exit b f = b
   temporaries_le instruction.Return b f = b
 
-  pub slots_le : (x : Instruction) → Fine z x → slots_of x ≤ z.bound
-  slots_le instruction.Nothing f = nothing_below z.bound
+  pub slots_le : (x : Instruction) → Fine z x → slots_of x ≤ z.slots
+  slots_le instruction.Nothing f = nothing_below z.slots
   slots_le (instruction.Move g x) f = max-le (kept_to_le g f.0) (kept_in_le x f.1)
   slots_le (instruction.Compute o r g x y) f = max-le (kept_to_le g f.0) (max-le (kept_in_le x f.1) (kept_in_le y f.2))
   slots_le (instruction.Convert t g x) f = max-le (kept_to_le g f.0) (kept_in_le x f.1)
@@ -160,14 +163,15 @@ module _ (z : Ground) where
   slots_le (instruction.Store t x l) f = max-le (kept_in_le x f.0) (kept_at_le l f.1)
   slots_le (instruction.Address g l) f = max-le (kept_to_le g f.0) (kept_at_le l f.1)
   slots_le (instruction.Part g x y size) f = max-le (kept_to_le g f.0) (max-le (kept_in_le x f.1) (kept_in_le y f.2))
-  slots_le (instruction.Forget n k) f = nothing_below z.bound
-  slots_le (instruction.Jump to) f = nothing_below z.bound
+  slots_le (instruction.Element t g x y) f = max-le (kept_to_le g f.0) (max-le (kept_in_le x f.1) (kept_in_le y f.2))
+  slots_le (instruction.Forget n k) f = nothing_below z.slots
+  slots_le (instruction.Jump to) f = nothing_below z.slots
   slots_le (instruction.Branch c r x y to) f = max-le (kept_in_le x f.0) (kept_in_le y f.1)
-  slots_le (instruction.Call g) f = nothing_below z.bound
-  slots_le instruction.PutByte f = nothing_below z.bound
-  slots_le instruction.GetByte f = nothing_below z.bound
-  slots_le instruction.Exit f = nothing_below z.bound
-  slots_le instruction.Return f = nothing_below z.bound
+  slots_le (instruction.Call g) f = nothing_below z.slots
+  slots_le instruction.PutByte f = nothing_below z.slots
+  slots_le instruction.GetByte f = nothing_below z.slots
+  slots_le instruction.Exit f = nothing_below z.slots
+  slots_le instruction.Return f = nothing_below z.slots
 
   -- ---- and is there
 
@@ -193,6 +197,7 @@ module _ (z : Ground) where
     place_fits (place.Literal n) f t k = subst (λ l. n < length l) (sym literals) f
     place_fits (place.Static n) f t k = (f.0, ap (λ l. slice_get l n) statics ∙ f.1, f.2)
     place_fits (place.Array n) f t k = (subst (λ l. n < length l) (sym same) f.0, ap (λ l. scalar_type (slice_get l n)) same ∙ f.1)
+    place_fits (place.Element n i u) f t k = (f.0, ap (λ l. slice_get l n) same ∙ f.1, f.2, f.3, f.4)
     place_fits (place.At o) f t k = operand_fits o f t k
 
     pub fits : (x : Instruction) → Fine z x → temporaries_of z.made x ≤ g.temporaries → slots_of x ≤ g.kept → InstructionFits z.made g x
@@ -231,6 +236,14 @@ module _ (z : Ground) where
           operand_fits x f.1 (left_max (temporary_in x) (temporary_in y) g.temporaries t2) (left_max (kept_in x) (kept_in y) g.kept k2),
           operand_fits y f.2 (right_max (temporary_in x) (temporary_in y) g.temporaries t2) (right_max (kept_in x) (kept_in y) g.kept k2),
           f.3 sized,
+        )
+    fits (instruction.Element u d x y) f t k =
+        let t2 = right_max (temporary_to d) (max (temporary_in x) (temporary_in y)) g.temporaries t in
+        let k2 = right_max (kept_to d) (max (kept_in x) (kept_in y)) g.kept k in (
+          target_fits d f.0 (left_max (temporary_to d) (max (temporary_in x) (temporary_in y)) g.temporaries t)
+              (left_max (kept_to d) (max (kept_in x) (kept_in y)) g.kept k),
+          operand_fits x f.1 (left_max (temporary_in x) (temporary_in y) g.temporaries t2) (left_max (kept_in x) (kept_in y) g.kept k2),
+          operand_fits y f.2 (right_max (temporary_in x) (temporary_in y) g.temporaries t2) (right_max (kept_in x) (kept_in y) g.kept k2),
         )
     fits (instruction.Forget n c) f t k = subst (λ l. n + c ≤ length l) (sym same) f
     fits (instruction.Jump to) f t k = to_inside to z.limit (length g.code) f inside

@@ -3,6 +3,7 @@ use Rattle.std.proofs.Common.{◌≡◌, ℕ, ◌+◌, ◌<◌, ◌≤◌, ◌^�
 use Rattle.std.specs.Prelude.{slice_get}
 use Rattle.srcset.specs.declared.refusal.Pos.{Pos}
 use Rattle.ctypes.specs.declared.types.IntType.{IntType}
+use Rattle.typed.specs.Types.{ObjectType, elements_in}
 use Rattle.typed.specs.Program as typed
 use Rattle.tac.specs.declared.code.Operand.{Operand}
 use Rattle.tac.specs.declared.code.Operand.TheVariants as operand
@@ -19,8 +20,9 @@ use Rattle.checked.specs.Asked.{types_are_sized}
 use Rattle.lowering.specs.Values.{Mode, Nowhere, To, If}
 use Rattle.lowering.specs.Places.{size_of_place}
 
--- a function of a typed program, the code of it, up to where it jumps, and what temporaries and slots are below; the others' parameters,
--- and that elements and rows have sizes that are words, where types are sized
+-- a function of a typed program, the code of it, up to where it jumps, and what temporaries and slots are below: there are as many
+-- temporaries as registers for them, which take no stack. The others' parameters, and that elements and rows have sizes that are words,
+-- where types are sized; that each object has elements, and how many is a word
 pub record Ground : Type 0 where
   pub source : typed.Program
   pub function : typed.Function
@@ -28,10 +30,14 @@ pub record Ground : Type 0 where
   pub code : List Instruction
   pub limit : ℕ
   pub bound : ℕ
+  pub slots : ℕ
+  pub fewer : slots ≤ bound
+  pub registers : 8 ≤ bound
   pub callees : (n : ℕ) (g : typed.Function) → slice_get source.functions n ≡ Some g
       → (n < length made.functions) × (length (function_at made n).parameters ≡ length g.type.parameters)
   pub sized : (at : Pos) (array : typed.Place) (index : typed.Value) → types_are_sized source ≡ true
       → size_of_place source function (typed.element at array index) < 2 ^ 32
+  pub filled : (n : ℕ) (o : ObjectType) → slice_get function.objects n ≡ Some o → (0 < elements_in o.lengths) × (elements_in o.lengths < 2 ^ 32)
 
 module _ (z : Ground) where
   abbrev pub sizes : typed.Place → ℕ
@@ -41,16 +47,21 @@ module _ (z : Ground) where
   abbrev pub IsNumber : ℕ → Type 0
   IsNumber n = (t : IntType) × (scalar_type (slice_get z.function.objects n) ≡ Some t)
 
+  -- it is an array of this type that has element i
+  abbrev pub HasNumber : ℕ → ℕ → IntType → Type 0
+  HasNumber n i t =
+      (o : ObjectType) × (slice_get z.function.objects n ≡ Some o) × (scalar_type (Some o) ≡ None) × (i < elements_in o.lengths) × (t ≡ o.element)
+
   abbrev pub OperandFine : Operand → Type 0
   OperandFine (operand.Temporary j) = j < z.bound
-  OperandFine (operand.Kept j) = j < z.bound
+  OperandFine (operand.Kept j) = j < z.slots
   OperandFine (operand.Object n) = IsNumber n
   OperandFine (operand.Parameter n) = n < array_parameters (map kind_of z.function.type.parameters)
   OperandFine (operand.Constant v) = v < 2 ^ 32
 
   abbrev pub TargetFine : Target → Type 0
   TargetFine (target.Temporary j) = j < z.bound
-  TargetFine (target.Kept j) = j < z.bound
+  TargetFine (target.Kept j) = j < z.slots
   TargetFine (target.Object n) = IsNumber n
 
   -- what a place is, where its operand is as said
@@ -58,6 +69,7 @@ module _ (z : Ground) where
   SpotIs P (place.Literal n) = n < length z.source.literals
   SpotIs P (place.Static n) = (o : typed.Static) × (slice_get z.source.statics n ≡ Some o) × (o.defined ≡ true)
   SpotIs P (place.Array n) = (n < length z.function.objects) × (scalar_type (slice_get z.function.objects n) ≡ None)
+  SpotIs P (place.Element n i t) = HasNumber n i t
   SpotIs P (place.At o) = P o
 
   abbrev pub SpotFine : Spot → Type 0
@@ -75,6 +87,7 @@ module _ (z : Ground) where
   Fine (instruction.Store t x l) = OperandFine x × SpotFine l
   Fine (instruction.Address d l) = TargetFine d × SpotFine l
   Fine (instruction.Part d x y size) = TargetFine d × OperandFine x × OperandFine y × SizeFine size
+  Fine (instruction.Element t d x y) = TargetFine d × OperandFine x × OperandFine y
   Fine (instruction.Forget n k) = n + k ≤ length z.function.objects
   Fine (instruction.Jump to) = to ≤ z.limit
   Fine (instruction.Branch c r x y to) = OperandFine x × OperandFine y × (to ≤ z.limit)

@@ -1,6 +1,7 @@
 pub mod Lists
 pub mod Numbers
 pub mod Grounds
+pub mod Bytes
 pub mod Stretches
 pub mod Rows
 pub mod Operands
@@ -11,6 +12,7 @@ pub mod Memory
 pub mod Nodes
 pub mod Expressions
 pub mod Parts
+pub mod Initialisers
 pub mod Statements
 pub mod Functions
 pub mod Sizes

@@ -63,6 +63,7 @@ module _ (z : Ground) where
   parts_within (place.Literal n) g i size t pc pc2 fg fa fi ft fs h = named_parts_within (place.Literal n) g i size t pc pc2 fg fa fi ft fs h
   parts_within (place.Static n) g i size t pc pc2 fg fa fi ft fs h = named_parts_within (place.Static n) g i size t pc pc2 fg fa fi ft fs h
   parts_within (place.Array n) g i size t pc pc2 fg fa fi ft fs h = named_parts_within (place.Array n) g i size t pc pc2 fg fa fi ft fs h
+  parts_within (place.Element n j u) g i size t pc pc2 fg fa fi ft fs h = named_parts_within (place.Element n j u) g i size t pc pc2 fg fa fi ft fs h
 
   gets_within : (u : IntType) (a : Spot) (m : Mode) (t k pc pc2 : ℕ) → ModeLands z m t k → Free z t k → SpotFine z a → Gets z.code u a m t pc pc2
       → Within z (Aims z m pc2) 1 68 pc pc2
@@ -127,6 +128,7 @@ module _ (z : Ground) where
   hands_over_within (place.Literal n) t pc pc2 fa ft i = one z _ 104 pc pc2 i (omega arith) (λ x. (ft, fa))
   hands_over_within (place.Static n) t pc pc2 fa ft i = one z _ 104 pc pc2 i (omega arith) (λ x. (ft, fa))
   hands_over_within (place.Array n) t pc pc2 fa ft i = one z _ 104 pc pc2 i (omega arith) (λ x. (ft, fa))
+  hands_over_within (place.Element n j u) t pc pc2 fa ft i = one z _ 104 pc pc2 i (omega arith) (λ x. (ft, fa))
 
   -- ---- parts of expressions
 

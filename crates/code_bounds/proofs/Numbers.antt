@@ -1,5 +1,5 @@
 -- What the code of expressions takes: nodes, temporaries and room.
-use Rattle.std.proofs.Common.{◌≡◌, ℕ, suc, ◌+◌, ◌*◌, ◌-◌, ◌<◌, ◌≤◌, ◌^◌, arith}
+use Rattle.std.proofs.Common.{◌≡◌, ℕ, zero, suc, ◌+◌, ◌*◌, ◌-◌, ◌<◌, ◌≤◌, ◌^◌, arith}
 
 pub inner : (p e : ℕ) → e ≤ p + e + 1
 inner p e = omega arith
@@ -75,3 +75,7 @@ zero_small = omega arith
 
 pub ones_small : 2 ^ 32 - 1 < 2 ^ 32
 ones_small = omega arith
+
+pub some_inside : (n e : ℕ) → 0 < n * e → 0 < e
+some_inside n zero h = absurd (let z : n * 0 ≡ 0 = grind arith in omega (arith, h, z))
+some_inside n (suc e) h = omega arith

@@ -37,18 +37,18 @@ scalar_of u (Some t) e = (t.element, scalar_if t.lengths t.element (right_true (
 module _ (z : Ground) where
   -- a temporary and a slot may be written
   abbrev pub Free : ℕ → ℕ → Type 0
-  Free t k = (t + 1 ≤ z.bound) × (k + 1 ≤ z.bound)
+  Free t k = (t + 1 ≤ z.bound) × (k + 1 ≤ z.slots)
 
   pub operand_fine : (o : Operand) (t k : ℕ) → Free t k → Stays z o t k → OperandFine z o
   operand_fine (operand.Temporary j) t k f s = below j t z.bound s f.0
-  operand_fine (operand.Kept j) t k f s = below j k z.bound s f.1
+  operand_fine (operand.Kept j) t k f s = below j k z.slots s f.1
   operand_fine (operand.Object n) t k f s = s
   operand_fine (operand.Parameter n) t k f s = s
   operand_fine (operand.Constant v) t k f s = s
 
   pub target_fine : (g : Target) (t k : ℕ) → Free t k → Lands z g t k → TargetFine z g
   target_fine (target.Temporary j) t k f s = below j t z.bound s f.0
-  target_fine (target.Kept j) t k f s = below j k z.bound s f.1
+  target_fine (target.Kept j) t k f s = below j k z.slots s f.1
   target_fine (target.Object n) t k f s = s
 
   pub target_lands : (m : Mode) (t k : ℕ) → ModeLands z m t k → Lands z (target_of m t) t k

@@ -8,7 +8,7 @@ use Rattle.typed.specs.Types.{ObjectType, same_type}
 use Rattle.typed.specs.Program as typed
 use Rattle.typed.specs.Program.{Value, Initialiser}
 use Rattle.typed.specs.Nodes.{type_of_value, value_nodes, option_nodes, initialiser_nodes}
-use Rattle.typed.specs.WellTyped.{some_number, value_is_typed, initialiser_is_typed, definition_is_typed, option_is_typed, test_is_typed}
+use Rattle.typed.specs.WellTyped.{some_number, value_is_typed, initialiser_is_typed, option_is_typed, test_is_typed}
 use Rattle.tac.specs.Designated.{in_value, in_initialiser, in_option}
 use Rattle.tac.specs.Spans.{widest_initial}
 use Rattle.tac.specs.declared.code.Operand.{Operand}
@@ -18,8 +18,8 @@ use Rattle.tac.specs.declared.code.Instruction.TheVariants as instruction
 use Rattle.tac.specs.Code.{scalar_type}
 use Rattle.lowering.specs.Values.{writes_none, keeps, operand_of, Mode, Nowhere, To, If}
 use Rattle.lowering.specs.Code.{One, Into}
-use Rattle.lowering.specs.Bodies.{Gives, Initialises, Effects, Repeats, Tests}
-use Rattle.lowering.proofs.Words.{word_small, left_true, right_true, differ}
+use Rattle.lowering.specs.Bodies.{Gives, InitialisesWord, Effects, Repeats, Tests}
+use Rattle.lowering.proofs.Words.{word_small, left_true, right_true}
 use Rattle.code_bounds.proofs.Grounds.{Ground, sizes, IsNumber, OperandFine, Lands, ModeLands, Aims}
 use Rattle.code_bounds.proofs.Stretches.{Within, one, none, join, settle, aimed}
 use Rattle.code_bounds.proofs.Operands.{scalar_if, waits, rests_fine}
@@ -136,15 +136,15 @@ module _ (z : Ground) where
 
   -- ---- full expressions
 
-  pub whole : (e : Value) → value_nodes e + 1 ≤ z.bound → Fits z (value_nodes e) 0 0
-  whole e w = let f = wide_fits (value_nodes e) z.bound w in (f, f)
+  pub whole : (e : Value) → value_nodes e + 1 ≤ z.slots → Fits z (value_nodes e) 0 0
+  whole e w = let f = wide_fits (value_nodes e) z.slots w in (on (0 + value_nodes e) z.slots z.bound f z.fewer, f)
 
-  pub effect_within : (e : Value) (m : Mode) (pc pc2 : ℕ) → V e ≡ true → in_value z.source e ≡ true → value_nodes e + 1 ≤ z.bound → ModeLands z m 0 0
+  pub effect_within : (e : Value) (m : Mode) (pc pc2 : ℕ) → V e ≡ true → in_value z.source e ≡ true → value_nodes e + 1 ≤ z.slots → ModeLands z m 0 0
       → Into z.code (sizes z) e m 0 0 pc pc2 → Within z (Aims z m pc2) (value_nodes e) 32 pc pc2
   effect_within e m pc pc2 h d w l i = into_within z e m 0 0 pc pc2 h d (whole e w) l i
 
-  pub gives_within : (u : IntType) (e : Value) (g : Target) (pc pc2 : ℕ) → V e ≡ true → in_value z.source e ≡ true → value_nodes e + 1 ≤ z.bound → Lands z g 0 0
-      → Gives z.code (sizes z) u e g pc pc2 → Within z (Aims z (To g) pc2) (value_nodes e) 0 pc pc2
+  pub gives_within : (u : IntType) (e : Value) (g : Target) (pc pc2 : ℕ) → V e ≡ true → in_value z.source e ≡ true → value_nodes e + 1 ≤ z.slots → Lands z g 0 0
+      → Gives z.code z.source z.function u e g pc pc2 → Within z (Aims z (To g) pc2) (value_nodes e) 0 pc pc2
   gives_within u e g pc pc2 h d w l i =
       converts_within z (keeps u e) (λ m a b. Into z.code (sizes z) e m 0 0 a b) u (operand_of e 0 0) g (value_nodes e) 0 0 pc pc2 l
       (waits z e writes_none false 0 0 (rests_fine z e h)) (free z e 0 0 (whole e w))
@@ -153,38 +153,33 @@ module _ (z : Ground) where
   pub nothing : {A : Type 0} (pc pc2 : ℕ) → One z.code instruction.Nothing pc pc2 → Within z A 1 124 pc pc2
   nothing pc pc2 i = one z _ 124 pc pc2 i (omega arith) (λ a. tt)
 
-  -- ---- initialisers
+  -- ---- first values of objects that are no arrays
 
-  initial_within : (i : Initialiser) (n : ℕ) (o : ObjectType) (pc pc2 : ℕ) → slice_get z.function.objects n ≡ Some o
+  pub word_within : (i : Initialiser) (n : ℕ) (o : ObjectType) (pc pc2 : ℕ) → slice_get z.function.objects n ≡ Some o
       → initialiser_is_typed z.source z.function o.element o.lengths i ≡ true → in_initialiser z.source i ≡ true
-      → widest_initial i + 1 ≤ z.bound → Initialises z.code (sizes z) i n pc pc2 → Within z (pc2 ≤ z.limit) (initialiser_nodes i + 1) 64 pc pc2
-  initial_within (typed.one_value u e) n o pc pc2 at h d w i =
+      → widest_initial i + 1 ≤ z.slots → InitialisesWord z.code z.source z.function i n pc pc2
+      → Within z (pc2 ≤ z.limit) (initialiser_nodes i + 1) 64 pc pc2
+  word_within (typed.one_value u e) n o pc pc2 at h d w i =
       let h2 = right_true (same_type o.element u) (nat_eq (length o.lengths) 0 && (V e && N e)) h in
       let he = left_true (V e) (N e) (right_true (nat_eq (length o.lengths) 0) (V e && N e) h2) in
       let is : IsNumber z n = (o.element, ap scalar_type at ∙ scalar_if o.lengths o.element (left_true (nat_eq (length o.lengths) 0) (V e && N e) h2)) in
       settle z (value_nodes e + 1) 64 (initial_room (value_nodes e)) (join z
       (aimed z (λ a. (on i.0 pc2 z.limit (next_le i.0 pc2 i.2.next) a, tt)) (gives_within u e (target.Object n) pc i.0 he d w is i.1)) (nothing i.0 pc2 i.2))
-  initial_within (typed.text t) n o pc pc2 at h d w i = absurd i
-  initial_within (typed.list all) n o pc pc2 at h d w i = absurd i
-  initial_within (typed.in_braces b) n o pc pc2 at h d w i =
-      settle z (initialiser_nodes b + 1 + 1) 64 (braces_room (initialiser_nodes b)) (join z (nothing pc i.0 i.1) (initial_within b n o i.0 pc2 at h d w i.2))
-
-  pub defined_within : (i : Initialiser) (n : ℕ) (o : Option ObjectType) (pc pc2 : ℕ) → slice_get z.function.objects n ≡ o
-      → definition_is_typed z.source z.function o i ≡ true → in_initialiser z.source i ≡ true
-      → widest_initial i + 1 ≤ z.bound → Initialises z.code (sizes z) i n pc pc2 → Within z (pc2 ≤ z.limit) (initialiser_nodes i + 1) 64 pc pc2
-  defined_within i n None pc pc2 at h d w s = absurd (differ h)
-  defined_within i n (Some o) pc pc2 at h d w s = initial_within i n o pc pc2 at h d w s
+  word_within (typed.text t) n o pc pc2 at h d w i = absurd i
+  word_within (typed.list all) n o pc pc2 at h d w i = absurd i
+  word_within (typed.in_braces b) n o pc pc2 at h d w i =
+      settle z (initialiser_nodes b + 1 + 1) 64 (braces_room (initialiser_nodes b)) (join z (nothing pc i.0 i.1) (word_within b n o i.0 pc2 at h d w i.2))
 
   -- ---- parts of loops
 
   pub effects_within : (o : Option Value) (pc pc2 : ℕ) → option_is_typed z.source z.function o ≡ true → in_option z.source o ≡ true
-      → option_nodes o + 1 ≤ z.bound → Effects z.code (sizes z) o pc pc2 → Within z (pc2 ≤ z.limit) (option_nodes o) 0 pc pc2
+      → option_nodes o + 1 ≤ z.slots → Effects z.code z.source z.function o pc pc2 → Within z (pc2 ≤ z.limit) (option_nodes o) 0 pc pc2
   effects_within None pc pc2 h d w i = none z pc pc2 i
   effects_within (Some e) pc pc2 h d w i = settle z (value_nodes e) 0 (less_room (value_nodes e) 32)
       (aimed z (λ a. (a, tt)) (effect_within e Nowhere pc pc2 h d w tt i))
 
   pub repeats_within : (o : Option Value) (top pc pc2 : ℕ) → test_is_typed z.source z.function o ≡ true → in_option z.source o ≡ true
-      → option_nodes o + 1 ≤ z.bound → Repeats z.code (sizes z) o top pc pc2
+      → option_nodes o + 1 ≤ z.slots → Repeats z.code z.source z.function o top pc pc2
       → Within z ((pc2 ≤ z.limit) × (top ≤ z.limit)) (option_nodes o + 1) 124 pc pc2
   repeats_within None top pc pc2 h d w i = settle z (0 + 1) 124 (omega arith) (one z _ 124 pc pc2 i (omega arith) (λ a. a.1))
   repeats_within (Some e) top pc pc2 h d w i = settle z (value_nodes e + 1) 124 (repeat_room (value_nodes e))

@@ -1,24 +1,27 @@
 -- Bytes of the stack and of code against nodes.
-use Rattle.std.proofs.Common.{◌≡◌, ℕ, zero, suc, ◌+◌, ◌*◌, ◌-◌, ◌/◌, ◌<◌, ◌≤◌, max, List, [], ◌∷◌, length, map, Some, true, ◌&&◌, refl, arith}
+use Rattle.std.proofs.Common.{◌≡◌, ℕ, zero, suc, ◌+◌, ◌*◌, ◌-◌, ◌/◌, ◌<◌, ◌≤◌, ◌^◌, max, List, [], ◌∷◌, length, map, Some, true, ◌&&◌, refl, subst, arith}
 use Rattle.std.specs.Prelude.{sum_by, slice_get, nat_eq}
-use Rattle.std.proofs.Math.Nat.{max-le}
+use Rattle.std.proofs.Math.Nat.{max-le, le-max_left, le-max_right}
 use Rattle.std.proofs.lemmas.List.Sums.{sum_by-cons}
 use Rattle.ctypes.specs.declared.types.IntType.{IntType}
-use Rattle.typed.specs.Types.{ObjectType, ParameterType, number, elements, same_type}
+use Rattle.ctypes.specs.declared.types.IntType.TheVariants as ty
+use Rattle.ctypes.specs.Types.{bytes_of}
+use Rattle.typed.specs.Types.{ObjectType, ParameterType, number, elements, same_type, elements_in, size_of_object}
 use Rattle.typed.specs.Program as typed
 use Rattle.typed.specs.Program.{Initialiser, Initialisers, Statement, Statements}
 use Rattle.typed.specs.Nodes.{value_nodes, option_nodes, initialiser_nodes, initialisers_nodes, statement_nodes, statements_nodes}
-use Rattle.typed.specs.Units.{bytes_of_references}
+use Rattle.typed.specs.Units.{bytes_of_objects, bytes_of_references}
 use Rattle.typed.specs.WellTyped.{parameters_are_first}
 use Rattle.tac.specs.Spans.{widest_initial, widest_initials, widest, widest_of}
 use Rattle.tac.specs.declared.code.Instruction.{Instruction}
-use Rattle.tac.specs.declared.code.Instruction.TheVariants as instruction
 use Rattle.tac.specs.Code.{scalar_type}
 use Rattle.tac.specs.Costs.{code_bytes, array_parameters}
 use Rattle.tac.specs.Lowered.{kind_of}
 use Rattle.tac.specs.Sound.{number_parameters}
 use Rattle.lowering.proofs.Words.{left_true, right_true, differ}
 use Rattle.code_bounds.specs.inside.Rooms.{room_of, before}
+use Rattle.code_bounds.proofs.Lists.{same_some}
+use Rattle.code_bounds.proofs.Numbers.{some_inside}
 use Rattle.code_bounds.proofs.Operands.{scalar_if}
 
 -- ---- the widest full expression has no more nodes than the statement
@@ -114,64 +117,73 @@ first_scalar (number t ∷ ps) (o ∷ objects) (suc n) h lt =
     first_scalar ps objects n (right_true (nat_eq (length o.lengths) 0) (parameters_are_first ps objects) (right_true (same_type t o.element) (nat_eq (length o.lengths) 0 && parameters_are_first ps objects) h))
     (lower n (number_parameters (map kind_of ps)) lt)
 
+-- ---- objects
+
+first_object : (s r : ℕ) → s ≤ (s + 3) / 4 * 4 + r
+first_object s r = omega arith
+
+behind_object : (s t r : ℕ) → s ≤ r → s ≤ (t + 3) / 4 * 4 + r
+behind_object s t r h = omega (arith, h)
+
+pub in_objects : (ts : List ObjectType) (n : ℕ) (o : ObjectType) → slice_get ts n ≡ Some o → size_of_object o ≤ bytes_of_objects ts
+in_objects [] n o e = absurd (let no_such : ⊥ = cc in no_such)
+in_objects (t ∷ ts) zero o e =
+    subst (λ x. size_of_object x ≤ bytes_of_objects (t ∷ ts)) (same_some t o e) (first_object (size_of_object t) (bytes_of_objects ts))
+in_objects (t ∷ ts) (suc n) o e = behind_object (size_of_object o) (size_of_object t) (bytes_of_objects ts) (in_objects ts n o e)
+
+pub objects_small : (r o n w : ℕ) → w ≡ (64 + (r + o) + 16 * n + 15) / 16 * 16 → w ≤ 1048576 → o ≤ 1048576
+objects_small r o n w e h = omega (arith, e, h)
+
+some_bytes : (t : IntType) → 1 ≤ bytes_of t
+some_bytes ty.Bool = omega arith
+some_bytes ty.Char = omega arith
+some_bytes ty.SChar = omega arith
+some_bytes ty.UChar = omega arith
+some_bytes ty.Short = omega arith
+some_bytes ty.UShort = omega arith
+some_bytes ty.Int = omega arith
+some_bytes ty.UInt = omega arith
+some_bytes ty.Long = omega arith
+some_bytes ty.ULong = omega arith
+
+no_more_elements : (b e c : ℕ) → 1 ≤ b → b * e ≤ c → c ≤ 1048576 → e < 2 ^ 32
+no_more_elements zero e c s h g = absurd (let none : ⊥ = omega (arith, s) in none)
+no_more_elements (suc b) e c s h g = let sum : suc b * e ≡ e + b * e = grind arith in omega (arith, h, g, sum)
+
+-- an object has elements, and no more than its function has bytes
+pub object_filled : (o : ObjectType) (bytes : ℕ) → 0 < size_of_object o → size_of_object o ≤ bytes → bytes ≤ 1048576
+    → (0 < elements_in o.lengths) × (elements_in o.lengths < 2 ^ 32)
+object_filled o bytes some h g =
+    let b = bytes_of o.element in
+    (some_inside b (elements_in o.lengths) some, no_more_elements b (elements_in o.lengths) bytes (some_bytes o.element) h g)
+
 -- ---- the stack
 
 rounded : (a b : ℕ) → a ≤ b → a / 16 * 16 ≤ b / 16 * 16
 rounded a b h = omega (arith, h)
 
-pub stack_fits : (t k a r o w n : ℕ) → t ≤ w + 1 → k ≤ w + 1 → 4 * a ≡ r → w ≤ n
+-- the first 8 temporaries take none
+past_registers : (t w : ℕ) → t ≤ max 8 (w + 1) → t - 8 ≤ w + 1
+past_registers t w h = omega (arith, h)
+
+pub stack_fits : (t k a r o w n : ℕ) → t ≤ max 8 (w + 1) → k ≤ w + 1 → 4 * a ≡ r → w ≤ n
     → (4 * (t - 8) + (8 + (4 * k + (4 * a + o))) + 15) / 16 * 16 ≤ (64 + (r + o) + 16 * n + 15) / 16 * 16
 stack_fits t k a r o w n ht hk e h =
-    rounded (4 * (t - 8) + (8 + (4 * k + (4 * a + o))) + 15) (64 + (r + o) + 16 * n + 15) (omega (arith, ht, hk, e, h))
+    let few = past_registers t w ht in
+    rounded (4 * (t - 8) + (8 + (4 * k + (4 * a + o))) + 15) (64 + (r + o) + 16 * n + 15) (omega (arith, few, hk, e, h))
 
 -- ---- the code
-
-row : (x : Instruction) → code_bytes x ≤ room_of x
-row instruction.Nothing = omega arith
-row (instruction.Move d x) = omega arith
-row (instruction.Compute o r d x y) = omega arith
-row (instruction.Convert t d x) = omega arith
-row (instruction.Load t d l) = omega arith
-row (instruction.Store t x l) = omega arith
-row (instruction.Address d l) = omega arith
-row (instruction.Part d x y size) = omega arith
-row (instruction.Forget n k) = omega arith
-row (instruction.Jump to) = omega arith
-row (instruction.Branch c r x y to) = omega arith
-row (instruction.Call f) = omega arith
-row instruction.PutByte = omega arith
-row instruction.GetByte = omega arith
-row instruction.Exit = omega arith
-row instruction.Return = omega arith
 
 more_bytes : (s t x r b : ℕ) → s ≡ x + t → t ≤ b → x ≤ r → s ≤ b + r
 more_bytes s t x r b e h g = omega (arith, e, h, g)
 
 pub bytes_le : (code : List Instruction) → sum_by code_bytes code ≤ before code (length code)
 bytes_le [] = omega arith
-bytes_le (i ∷ code) = more_bytes (sum_by code_bytes (i ∷ code)) (sum_by code_bytes code) (code_bytes i) (room_of i) (before code (length code)) (sum_by-cons code_bytes i code) (bytes_le code) (row i)
-
-four : (x : Instruction) → 4 ≤ room_of x
-four instruction.Nothing = omega arith
-four (instruction.Move d x) = omega arith
-four (instruction.Compute o r d x y) = omega arith
-four (instruction.Convert t d x) = omega arith
-four (instruction.Load t d l) = omega arith
-four (instruction.Store t x l) = omega arith
-four (instruction.Address d l) = omega arith
-four (instruction.Part d x y size) = omega arith
-four (instruction.Forget n k) = omega arith
-four (instruction.Jump to) = omega arith
-four (instruction.Branch c r x y to) = omega arith
-four (instruction.Call f) = omega arith
-four instruction.PutByte = omega arith
-four instruction.GetByte = omega arith
-four instruction.Exit = omega arith
-four instruction.Return = omega arith
+bytes_le (i ∷ code) = more_bytes (sum_by code_bytes (i ∷ code)) (sum_by code_bytes code) (code_bytes i) (room_of i) (before code (length code)) (sum_by-cons code_bytes i code) (bytes_le code) (le-max_right 4 (code_bytes i))
 
 longer : (n b r : ℕ) → 4 * n ≤ b → 4 ≤ r → 4 * suc n ≤ b + r
 longer n b r h g = omega (arith, h, g)
 
 pub length_le : (code : List Instruction) → 4 * length code ≤ before code (length code)
 length_le [] = omega arith
-length_le (i ∷ code) = longer (length code) (before code (length code)) (room_of i) (length_le code) (four i)
+length_le (i ∷ code) = longer (length code) (before code (length code)) (room_of i) (length_le code) (le-max_left 4 (code_bytes i))

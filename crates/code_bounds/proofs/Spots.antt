@@ -154,6 +154,7 @@ module _ (z : Ground) where
   spot_fine (place.Literal n) t k f s = s
   spot_fine (place.Static n) t k f s = s
   spot_fine (place.Array n) t k f s = s
+  spot_fine (place.Element n i u) t k f s = s
   spot_fine (place.At o) t k f s = operand_fine z o t k f s
 
   pub found_fine : (a : Place) (c : Bool) (t k : ℕ) → Free z t k → NamedFine a → SpotFine z (found a c t k)
@@ -167,10 +168,12 @@ module _ (z : Ground) where
   more_temporaries_at (place.Literal n) t = no_more t
   more_temporaries_at (place.Static n) t = no_more t
   more_temporaries_at (place.Array n) t = no_more t
+  more_temporaries_at (place.Element n i u) t = no_more t
   more_temporaries_at (place.At o) t = more_temporaries z o t
 
   pub more_kept_at : (a : Spot) (k : ℕ) → free_kept_at a k ≤ k + 1
   more_kept_at (place.Literal n) k = no_more k
   more_kept_at (place.Static n) k = no_more k
   more_kept_at (place.Array n) k = no_more k
+  more_kept_at (place.Element n i u) k = no_more k
   more_kept_at (place.At o) k = more_kept z o k

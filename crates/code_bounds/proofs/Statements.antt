@@ -15,11 +15,12 @@ use Rattle.lowering.specs.Values.{waits_in, Nowhere, If, mode_of}
 use Rattle.lowering.specs.Code.{One}
 use Rattle.lowering.specs.Bodies.{is_within, Leaves, Stands, StandAll, StandAt}
 use Rattle.lowering.proofs.Words.{left_true, right_true}
-use Rattle.code_bounds.proofs.Grounds.{Ground, sizes}
+use Rattle.code_bounds.proofs.Grounds.{Ground}
 use Rattle.code_bounds.proofs.Stretches.{Within, one, none, join, settle, aimed}
 use Rattle.code_bounds.proofs.Operands.{operand_fine, mode_lands, mode_aims, waits, rests_fine}
 use Rattle.code_bounds.proofs.Expressions.{free}
-use Rattle.code_bounds.proofs.Parts.{on, next_le, same_le, le_holds, lt_holds, one_object, left_wide, right_wide, evaluate_room, define_room, block_room, branch_room, branches_room, switch_room, while_room, do_room, for_room, return_room, less_room, labels_room, length_both, Leads, Inside, inside_labels, whole, effect_within, gives_within, nothing, defined_within, effects_within, repeats_within, tests_within}
+use Rattle.code_bounds.proofs.Parts.{on, next_le, same_le, le_holds, lt_holds, one_object, left_wide, right_wide, evaluate_room, define_room, block_room, branch_room, branches_room, switch_room, while_room, do_room, for_room, return_room, less_room, labels_room, length_both, Leads, Inside, inside_labels, whole, effect_within, gives_within, nothing, effects_within, repeats_within, tests_within}
+use Rattle.code_bounds.proofs.Initialisers.{defined_within}
 
 module _ (z : Ground) where
   abbrev V : Value → Bool
@@ -67,8 +68,9 @@ module _ (z : Ground) where
 
   mutual
     pub stands_within : (x : Statement) (out again back lo hi pc pc2 : ℕ) → statement_is_typed z.source z.function lo hi x ≡ true
-        → in_statement z.source x ≡ true → hi ≤ length z.function.objects → widest x + 1 ≤ z.bound
-        → Stands z.code (sizes z) x out again back pc pc2 → Within z (Leads z out again back pc2) (statement_nodes x) (32 * length (labels_at x)) pc pc2
+        → in_statement z.source x ≡ true → hi ≤ length z.function.objects → widest x + 1 ≤ z.slots
+        → Stands z.code z.source z.function x out again back pc pc2
+        → Within z (Leads z out again back pc2) (statement_nodes x) (32 * length (labels_at x)) pc pc2
     stands_within typed.empty out again back lo hi pc pc2 h d le w i = settle z 1 0 (omega arith) (nothing z pc pc2 i)
     stands_within (typed.evaluate e) out again back lo hi pc pc2 h d le w i =
         settle z (value_nodes e + 1) 0 (evaluate_room (value_nodes e))
@@ -87,34 +89,34 @@ module _ (z : Ground) where
         (forget a k pc i.0 i.1 inside) (all_within all out again back a (a + k) i.0 pc2 (block_typed lo hi a k (All a (a + k) all) h) d inside w i.2))
     stands_within (typed.branch e a) out again back lo hi pc pc2 h d le w i =
         let body = unlabelled (stands_within a out again back lo hi i.1 pc2 (right_true (V e && N e) (T lo hi a) h) (right_true (E e) (S a) d) le
-        (right_wide (value_nodes e) (widest a) z.bound w) i.4) in
+        (right_wide (value_nodes e) (widest a) z.slots w) i.4) in
         settle z (value_nodes e + statement_nodes a + 1) 0 (branch_room (value_nodes e) (statement_nodes a)) (join z (nothing z pc i.0 i.2)
         (join z (aimed z (λ c. (on i.1 pc2 z.limit body.forward c.0, c.0))
         (effect_within z e (If false pc2) i.0 i.1 (left_true (V e) (N e) (left_true (V e && N e) (T lo hi a) h)) (left_true (E e) (S a) d)
-        (left_wide (value_nodes e) (widest a) z.bound w) tt i.3)) body))
+        (left_wide (value_nodes e) (widest a) z.slots w) tt i.3)) body))
     stands_within (typed.branches e a b) out again back lo hi pc pc2 h d le w i =
         let h2 = right_true (V e && N e) (T lo hi a && T lo hi b) h in
-        let w2 = right_wide (value_nodes e) (max (widest a) (widest b)) z.bound w in
+        let w2 = right_wide (value_nodes e) (max (widest a) (widest b)) z.slots w in
         let d2 = right_true (E e) (S a && S b) d in
         let last = unlabelled (stands_within b out again back lo hi i.3 pc2 (right_true (T lo hi a) (T lo hi b) h2) (right_true (S a) (S b) d2) le
-        (right_wide (widest a) (widest b) z.bound w2) i.8) in
+        (right_wide (widest a) (widest b) z.slots w2) i.8) in
         let body = unlabelled (stands_within a out again back lo hi i.1 i.2 (left_true (T lo hi a) (T lo hi b) h2) (left_true (S a) (S b) d2) le
-        (left_wide (widest a) (widest b) z.bound w2) i.6) in
+        (left_wide (widest a) (widest b) z.slots w2) i.6) in
         let there = on i.2 i.3 pc2 (next_le i.2 i.3 i.7.next) last.forward in
         settle z (value_nodes e + statement_nodes a + statement_nodes b + 1) 0 (branches_room (value_nodes e) (statement_nodes a) (statement_nodes b)) (join z (nothing z pc i.0 i.4)
         (join z (aimed z (λ c. (on i.1 pc2 z.limit (on i.1 i.2 pc2 body.forward there) c.0, on i.3 pc2 z.limit last.forward c.0))
         (effect_within z e (If false i.3) i.0 i.1 (left_true (V e) (N e) (left_true (V e && N e) (T lo hi a && T lo hi b) h)) (left_true (E e) (S a && S b) d)
-        (left_wide (value_nodes e) (max (widest a) (widest b)) z.bound w) tt i.5))
+        (left_wide (value_nodes e) (max (widest a) (widest b)) z.slots w) tt i.5))
         (join z (aimed z (λ c. (on i.2 pc2 z.limit there c.0, c.1, c.2, c.3)) body) (join z (jump pc2 i.2 i.3 i.7 (λ c. c.0)) last))))
     stands_within (typed.switch u e a k all) out again back lo hi pc pc2 h d le w i =
         let o = waits_in e (is_within a k) false 0 0 in
         let he = left_true (V e) (N e) (left_true (V e && N e) (nat_le lo a && (nat_le (a + k) hi && All a (a + k) all)) h) in
         let h2 = right_true (V e && N e) (nat_le lo a && (nat_le (a + k) hi && All a (a + k) all)) h in
         let inside = block_inside lo hi a k (All a (a + k) all) h2 le in
-        let we = left_wide (value_nodes e) (widest_of all) z.bound w in
+        let we = left_wide (value_nodes e) (widest_of all) z.slots w in
         let s = waits z e (is_within a k) false 0 0 (rests_fine z e he) in
         let body = at_within all i.4 pc2 again back a (a + k) i.3 pc2 (block_typed lo hi a k (All a (a + k) all) h2) (right_true (E e) (B all) d) inside
-        (right_wide (value_nodes e) (widest_of all) z.bound w) i.9 in
+        (right_wide (value_nodes e) (widest_of all) z.slots w) i.9 in
         let tests = tests_within z o (labels_of all) i.4 pc2 i.2 i.3 (operand_fine z o 0 0 (free z e 0 0 (whole z e we)) s) i.8 in
         let first : i.1 ≤ pc2 = on i.1 i.2 pc2 (next_le i.1 i.2 i.7.next) (on i.2 i.3 pc2 tests.forward body.0.forward) in
         settle z (value_nodes e + statements_nodes all + 2) 0 (switch_room (value_nodes e) (statements_nodes all) (length (labels_of all))) (join z (nothing z pc i.0 i.5)
@@ -127,8 +129,8 @@ module _ (z : Ground) where
     stands_within (typed.while e a) out again back lo hi pc pc2 h d le w i =
         let he = left_true (V e) (N e) (left_true (V e && N e) (T lo hi a) h) in
         let body = unlabelled (stands_within a pc2 i.1 back lo hi i.0 i.1 (right_true (V e && N e) (T lo hi a) h) (right_true (E e) (S a) d) le
-        (right_wide (value_nodes e) (widest a) z.bound w) i.3) in
-        let last = effect_within z e (If true i.0) i.1 pc2 he (left_true (E e) (S a) d) (left_wide (value_nodes e) (widest a) z.bound w) tt i.4 in
+        (right_wide (value_nodes e) (widest a) z.slots w) i.3) in
+        let last = effect_within z e (If true i.0) i.1 pc2 he (left_true (E e) (S a) d) (left_wide (value_nodes e) (widest a) z.slots w) tt i.4 in
         settle z (value_nodes e + statement_nodes a + 1) 0 (while_room (value_nodes e) (statement_nodes a)) (join z
         (jump i.1 pc i.0 i.2 (λ c. on i.1 pc2 z.limit last.forward c.0))
         (join z (aimed z (λ c. (on i.1 pc2 z.limit last.forward c.0, c.0, on i.1 pc2 z.limit last.forward c.0, c.3)) body)
@@ -136,8 +138,8 @@ module _ (z : Ground) where
     stands_within (typed.do_while a e) out again back lo hi pc pc2 h d le w i =
         let he = left_true (V e) (N e) (right_true (T lo hi a) (V e && N e) h) in
         let body = unlabelled (stands_within a pc2 i.1 back lo hi i.0 i.1 (left_true (T lo hi a) (V e && N e) h) (left_true (S a) (E e) d) le
-        (right_wide (value_nodes e) (widest a) z.bound w) i.3) in
-        let last = effect_within z e (If true i.0) i.1 pc2 he (right_true (S a) (E e) d) (left_wide (value_nodes e) (widest a) z.bound w) tt i.4 in
+        (right_wide (value_nodes e) (widest a) z.slots w) i.3) in
+        let last = effect_within z e (If true i.0) i.1 pc2 he (right_true (S a) (E e) d) (left_wide (value_nodes e) (widest a) z.slots w) tt i.4 in
         settle z (statement_nodes a + value_nodes e + 1) 0 (do_room (value_nodes e) (statement_nodes a)) (join z (nothing z pc i.0 i.2)
         (join z (aimed z (λ c. (on i.1 pc2 z.limit last.forward c.0, c.0, on i.1 pc2 z.limit last.forward c.0, c.3)) body)
         (aimed z (λ c. (c.0, on i.0 pc2 z.limit (on i.0 i.1 pc2 body.forward last.forward) c.0)) last)))
@@ -160,20 +162,20 @@ module _ (z : Ground) where
         let d2 = right_true (B declared) (is && (it && (iu && S a))) d in
         let d3 = right_true is (it && (iu && S a)) d2 in
         let d4 = right_true it (iu && S a) d3 in
-        let w2 = right_wide (widest_of declared) (max (option_nodes start) (max (option_nodes test) (max (option_nodes step) (widest a)))) z.bound w in
-        let w3 = right_wide (option_nodes start) (max (option_nodes test) (max (option_nodes step) (widest a))) z.bound w2 in
-        let w4 = right_wide (option_nodes test) (max (option_nodes step) (widest a)) z.bound w3 in
+        let w2 = right_wide (widest_of declared) (max (option_nodes start) (max (option_nodes test) (max (option_nodes step) (widest a)))) z.slots w in
+        let w3 = right_wide (option_nodes start) (max (option_nodes test) (max (option_nodes step) (widest a))) z.slots w2 in
+        let w4 = right_wide (option_nodes test) (max (option_nodes step) (widest a)) z.slots w3 in
         let last = repeats_within z test top at pc2 (left_true ot (os && T lo hi a) h3) (left_true it (iu && S a) d3)
-        (left_wide (option_nodes test) (max (option_nodes step) (widest a)) z.bound w3) i.12 in
+        (left_wide (option_nodes test) (max (option_nodes step) (widest a)) z.slots w3) i.12 in
         let steps = effects_within z step next at (left_true os (T lo hi a) h4) (left_true iu (S a) d4)
-        (left_wide (option_nodes step) (widest a) z.bound w4) i.11 in
+        (left_wide (option_nodes step) (widest a) z.slots w4) i.11 in
         let body = unlabelled (stands_within a pc2 next back lo hi top next (right_true os (T lo hi a) h4) (right_true iu (S a) d4) le
-        (right_wide (option_nodes step) (widest a) z.bound w4) i.10) in
+        (right_wide (option_nodes step) (widest a) z.slots w4) i.10) in
         let starts = effects_within z start p2 p3 (left_true od (ot && (os && T lo hi a)) h2) (left_true is (it && (iu && S a)) d2)
-        (left_wide (option_nodes start) (max (option_nodes test) (max (option_nodes step) (widest a))) z.bound w2) i.8 in
+        (left_wide (option_nodes start) (max (option_nodes test) (max (option_nodes step) (widest a))) z.slots w2) i.8 in
         let first = all_within declared pc2 pc2 back lo hi p1 p2 (left_true (All lo hi declared) (od && (ot && (os && T lo hi a))) h)
         (left_true (B declared) (is && (it && (iu && S a))) d) le
-        (left_wide (widest_of declared) (max (option_nodes start) (max (option_nodes test) (max (option_nodes step) (widest a)))) z.bound w) i.7 in
+        (left_wide (widest_of declared) (max (option_nodes start) (max (option_nodes test) (max (option_nodes step) (widest a)))) z.slots w) i.7 in
         let from_next : next ≤ pc2 = on next at pc2 steps.forward last.forward in
         let from_top : top ≤ pc2 = on top next pc2 body.forward from_next in
         let from_three : p3 ≤ pc2 = on p3 top pc2 (next_le p3 top i.9.next) from_top in
@@ -198,28 +200,28 @@ module _ (z : Ground) where
         (aimed z (λ c. c.3) last)))
 
     pub all_within : (all : Statements) (out again back lo hi pc pc2 : ℕ) → statements_are_typed z.source z.function lo hi all ≡ true
-        → in_statements z.source all ≡ true → hi ≤ length z.function.objects → widest_of all + 1 ≤ z.bound
-        → StandAll z.code (sizes z) all out again back pc pc2 → Within z (Leads z out again back pc2) (statements_nodes all) 0 pc pc2
+        → in_statements z.source all ≡ true → hi ≤ length z.function.objects → widest_of all + 1 ≤ z.slots
+        → StandAll z.code z.source z.function all out again back pc pc2 → Within z (Leads z out again back pc2) (statements_nodes all) 0 pc pc2
     all_within typed.no_statements out again back lo hi pc pc2 h d le w i = none z pc pc2 i
     all_within (typed.and_statement x more) out again back lo hi pc pc2 h d le w i =
         let rest = all_within more out again back lo hi i.0 pc2 (right_true (T lo hi x) (All lo hi more) h) (right_true (S x) (B more) d) le
-        (right_wide (widest x) (widest_of more) z.bound w) i.2 in
+        (right_wide (widest x) (widest_of more) z.slots w) i.2 in
         let this = unlabelled (stands_within x out again back lo hi pc i.0 (left_true (T lo hi x) (All lo hi more) h) (left_true (S x) (B more) d) le
-        (left_wide (widest x) (widest_of more) z.bound w) i.1) in
+        (left_wide (widest x) (widest_of more) z.slots w) i.1) in
         settle z (statement_nodes x + statements_nodes more) 0 (less_room (statement_nodes x + statements_nodes more) (0 + 0))
         (join z (aimed z (λ c. (on i.0 pc2 z.limit rest.forward c.0, c.1, c.2, c.3)) this) rest)
 
     -- and its labels do not stand beyond its end
     pub at_within : (all : Statements) (places : List ℕ) (out again back lo hi pc pc2 : ℕ) → statements_are_typed z.source z.function lo hi all ≡ true
         → in_statements z.source all ≡ true → hi ≤ length z.function.objects
-        → widest_of all + 1 ≤ z.bound → StandAt z.code (sizes z) all places out again back pc pc2
+        → widest_of all + 1 ≤ z.slots → StandAt z.code z.source z.function all places out again back pc pc2
         → Within z (Leads z out again back pc2) (statements_nodes all) (32 * length (labels_of all)) pc pc2 × (pc2 ≤ z.limit → Inside z places)
     at_within typed.no_statements places out again back lo hi pc pc2 h d le w i = (none z pc pc2 i.1, λ l. subst (Inside z) (sym i.0) tt)
     at_within (typed.and_statement x more) places out again back lo hi pc pc2 h d le w i =
         let rest = at_within more i.1 out again back lo hi i.0 pc2 (right_true (T lo hi x) (All lo hi more) h) (right_true (S x) (B more) d) le
-        (right_wide (widest x) (widest_of more) z.bound w) i.4 in
+        (right_wide (widest x) (widest_of more) z.slots w) i.4 in
         let this = stands_within x out again back lo hi pc i.0 (left_true (T lo hi x) (All lo hi more) h) (left_true (S x) (B more) d) le
-        (left_wide (widest x) (widest_of more) z.bound w) i.3 in (
+        (left_wide (widest x) (widest_of more) z.slots w) i.3 in (
           settle z (statement_nodes x + statements_nodes more) (32 * length (labels_at x ++ labels_of more))
               (labels_room (statement_nodes x) (statements_nodes more) (length (labels_at x)) (length (labels_of more)) (length (labels_at x ++ labels_of more)) (length_both (labels_at x) (labels_of more)))
               (join z (aimed z (λ c. (on i.0 pc2 z.limit rest.0.forward c.0, c.1, c.2, c.3)) this) rest.0),

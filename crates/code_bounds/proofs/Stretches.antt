@@ -4,8 +4,9 @@ use Rattle.std.proofs.lemmas.Bool.{cases_lt}
 use Rattle.std.specs.Prelude.{slice_get}
 use Rattle.tac.specs.declared.code.Instruction.{Instruction}
 use Rattle.lowering.specs.Code.{One}
-use Rattle.code_bounds.specs.inside.Rooms.{room_of, before}
+use Rattle.code_bounds.specs.inside.Rooms.{room_of, coarse_of, before}
 use Rattle.code_bounds.proofs.Lists.{same_some, before_next}
+use Rattle.code_bounds.proofs.Bytes.{within_coarse}
 use Rattle.code_bounds.proofs.Grounds.{Ground, Fine}
 
 no_less : (p q : ℕ) → p + 1 ≡ q → p ≤ q
@@ -16,6 +17,9 @@ only p q j e lo hi = omega (arith, e, lo, hi)
 
 one_room : (a b r d u : ℕ) → b ≡ a + r → r + d ≤ 128 * u → b + d ≤ a + 128 * u
 one_room a b r d u e h = omega (arith, e, h)
+
+less_room : (r c d u : ℕ) → r ≤ c → c + d ≤ 128 * u → r + d ≤ 128 * u
+less_room r c d u h g = omega (arith, h, g)
 
 same_room : (a b : ℕ) → a ≡ b → b + 0 ≤ a + 128 * 0
 same_room a b e = omega (arith, e)
@@ -42,15 +46,22 @@ module _ (z : Ground) where
     pub room : before z.code pc2 + d ≤ before z.code pc + 128 * u
     pub each : A → (j : ℕ) (x : Instruction) → pc ≤ j → j < pc2 → slice_get z.code j ≡ Some x → Fine z x
 
-  -- one instruction, with the room of u nodes
-  pub one_in : {A : Type 0} (u : ℕ) (i : Instruction) (d pc pc2 : ℕ) → One z.code i pc pc2 → room_of i + d ≤ 128 * u → (A → Fine z i) → Within A u d pc pc2
-  one_in u i d pc pc2 o small fine = record {
+  stretched : {A : Type 0} (i : Instruction) (d pc pc2 u : ℕ) → One z.code i pc pc2 → room_of i + d ≤ 128 * u → (A → Fine z i) → Within A u d pc pc2
+  stretched i d pc pc2 u o small fine = record {
     forward = no_less pc pc2 o.next;
     room = one_room (before z.code pc) (before z.code pc2) (room_of i) d u (before_next z.code pc pc2 i o.at o.next) small;
     each = λ a j x lo hi at. subst (Fine z) (same_some i x (sym o.at ∙ (ap (slice_get z.code) (only pc pc2 j o.next lo hi) ∙ at))) (fine a);
   }
 
-  pub one : {A : Type 0} (i : Instruction) (d pc pc2 : ℕ) → One z.code i pc pc2 → room_of i + d ≤ 128 → (A → Fine z i) → Within A 1 d pc pc2
+  -- one instruction whose operands are known
+  pub one_fine : {A : Type 0} (i : Instruction) (d pc pc2 : ℕ) → One z.code i pc pc2 → room_of i + d ≤ 128 → (A → Fine z i) → Within A 1 d pc pc2
+  one_fine i d pc pc2 o small fine = stretched i d pc pc2 1 o small fine
+
+  -- one instruction, with the room of u nodes
+  pub one_in : {A : Type 0} (u : ℕ) (i : Instruction) (d pc pc2 : ℕ) → One z.code i pc pc2 → coarse_of i + d ≤ 128 * u → (A → Fine z i) → Within A u d pc pc2
+  one_in u i d pc pc2 o small fine = stretched i d pc pc2 u o (less_room (room_of i) (coarse_of i) d u (within_coarse i) small) fine
+
+  pub one : {A : Type 0} (i : Instruction) (d pc pc2 : ℕ) → One z.code i pc pc2 → coarse_of i + d ≤ 128 → (A → Fine z i) → Within A 1 d pc pc2
   one = one_in 1
 
   pub none : {A : Type 0} (pc pc2 : ℕ) → pc ≡ pc2 → Within A 0 0 pc pc2

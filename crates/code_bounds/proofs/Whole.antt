@@ -1,6 +1,7 @@
 -- Plain code is sound and within its bounds: the whole program.
-use Rattle.std.proofs.Common.{◌≡◌, ℕ, zero, suc, ◌+◌, ◌*◌, ◌-◌, ◌/◌, ◌<◌, ◌≤◌, ◌^◌, List, [], ◌∷◌, length, map, Some, true, ◌&&◌, refl, sym, ap, ◌∙◌, subst, arith}
+use Rattle.std.proofs.Common.{◌≡◌, ℕ, zero, suc, ◌+◌, ◌*◌, ◌-◌, ◌/◌, ◌<◌, ◌≤◌, ◌^◌, max, List, [], ◌∷◌, length, map, Some, true, ◌&&◌, refl, sym, ap, ◌∙◌, subst, arith}
 use Rattle.std.specs.Prelude.{nat_eq, nat_le, nat_lt, slice_get, sum_by}
+use Rattle.std.proofs.Math.Nat.{le-max_left, le-max_right}
 use Rattle.std.proofs.lemmas.Option.{slice_get_within}
 use Rattle.std.proofs.lemmas.List.Sums.{sum_by-cons}
 use Rattle.std.proofs.lemmas.Bool.Decides.{nat_tests}
@@ -28,7 +29,7 @@ use Rattle.code_bounds.proofs.Grounds.{Ground, Fine}
 use Rattle.code_bounds.proofs.Stretches.{Within}
 use Rattle.code_bounds.proofs.Rows.{parts_are_small}
 use Rattle.code_bounds.proofs.Functions.{most_le, in_most, all_within, temporaries_le, slots_le, fits}
-use Rattle.code_bounds.proofs.Sizes.{widest_le, references, first_scalar, stack_fits, bytes_le, length_le}
+use Rattle.code_bounds.proofs.Sizes.{widest_le, references, first_scalar, in_objects, objects_small, object_filled, stack_fits, bytes_le, length_le}
 
 -- ---- numbers
 
@@ -40,12 +41,6 @@ nothing_below n = omega arith
 
 le_trans : (a b c : ℕ) → a ≤ b → b ≤ c → a ≤ c
 le_trans a b c x y = omega (arith, x, y)
-
-positive : (n : ℕ) → 0 < n + 1
-positive n = omega arith
-
-at_least_one : (n : ℕ) → 1 ≤ n + 1
-at_least_one n = omega arith
 
 le_holds : (a b : ℕ) → nat_le a b ≡ true → a ≤ b
 le_holds a b h = grind (arith, nat_tests)
@@ -115,18 +110,6 @@ module _ (p : typed.Program) (q : Program) (checked : IsChecked p) (code : IsCod
     abbrev made : IsFunctionFor p q (nat_eq k p.main) f g
     made = code.each k f g ef eg
 
-    abbrev ground : Ground
-    ground = record {
-      source = p;
-      function = f;
-      made = q;
-      code = g.code;
-      limit = made.back;
-      bound = widest f.body + 1;
-      callees = callees;
-      sized = λ at array index h. parts_are_small p k f ef h at array index;
-    }
-
     typed_parts : (typed_nodes f ≤ f.nodes) × (f.weight ≤ 1048576) × (parameters_are_first f.type.parameters f.objects ≡ true)
         × (statement_is_typed p f (numbers_in f.type.parameters) (length f.objects) f.body ≡ true)
     typed_parts =
@@ -139,17 +122,37 @@ module _ (p : typed.Program) (q : Program) (checked : IsChecked p) (code : IsCod
         let h3 = right_true b (c && d) h2 in
         (le_holds (typed_nodes f) f.nodes (left_true a (b && (c && d)) h), le_holds f.weight 1048576 (left_true b (c && d) h2), left_true c d h3, right_true c d h3)
 
+    abbrev ground : Ground
+    ground = record {
+      source = p;
+      function = f;
+      made = q;
+      code = g.code;
+      limit = made.back;
+      bound = max 8 (widest f.body + 1);
+      slots = widest f.body + 1;
+      fewer = le-max_right 8 (widest f.body + 1);
+      registers = le-max_left 8 (widest f.body + 1);
+      callees = callees;
+      sized = λ at array index h. parts_are_small p k f ef h at array index;
+      filled = λ n o e. object_filled o (bytes_of_objects f.objects) ((checked.each k f ef).sized n o e) (in_objects f.objects n o e)
+          (objects_small (bytes_of_references f.type.parameters) (bytes_of_objects f.objects) f.nodes f.weight (checked.each k f ef).weight typed_parts.1);
+    }
+
+    some_registers : 1 ≤ max 8 (widest f.body + 1)
+    some_registers = le_trans 1 8 (max 8 (widest f.body + 1)) (let e : 1 ≤ 8 = omega arith in e) (le-max_left 8 (widest f.body + 1))
+
     whole : Within ground (Unit {0}) (suc (length f.type.parameters) + (statement_nodes f.body + (1 + 2))) (124 * suc (length f.type.parameters) + (0 + (104 + 84))) 0 (length g.code)
     whole = all_within ground (suc (length f.type.parameters)) made.start made.end made.back (length g.code) (numbers_in f.type.parameters) (nat_eq k p.main)
         (same_le made.back) typed_parts.3 (checked.each k f ef).defined (same_le (widest f.body + 1))
-        (positive (widest f.body)) made.idles made.body made.closes made.leaves
+        some_registers made.idles made.body made.closes made.leaves
 
     each_fine : (j : ℕ) (x : Instruction) → slice_get g.code j ≡ Some x → Fine ground x
     each_fine j x e = whole.each tt j x (nothing_below j) (slice_get_within g.code j x e) e
 
-    temporaries_few : g.temporaries ≤ widest f.body + 1
-    temporaries_few = subst (λ n. n ≤ widest f.body + 1) (sym made.temporaries)
-        (most_le (temporaries_of q) g.code (widest f.body + 1) (λ j x e. temporaries_le ground x (at_least_one (widest f.body)) (each_fine j x e)))
+    temporaries_few : g.temporaries ≤ max 8 (widest f.body + 1)
+    temporaries_few = subst (λ n. n ≤ max 8 (widest f.body + 1)) (sym made.temporaries)
+        (most_le (temporaries_of q) g.code (max 8 (widest f.body + 1)) (λ j x e. temporaries_le ground x some_registers (each_fine j x e)))
 
     slots_few : g.kept ≤ widest f.body + 1
     slots_few = subst (λ n. n ≤ widest f.body + 1) (sym made.kept) (most_le slots_of g.code (widest f.body + 1) (λ j x e. slots_le ground x (each_fine j x e)))
