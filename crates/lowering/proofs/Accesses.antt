@@ -50,7 +50,7 @@ scalar_refers W r u (Some (complete t)) h g =
 held_same : (u : IntType) (v : ℤ) → word_for v ≡ word_for (converted u v) → held_by u (word_for v) ≡ Some (converted u v)
 held_same u v e = ap (held_by u) e ∙ held_word u (converted u v) (converted_fits u v)
 
-held_cut : (u : IntType) (v : ℤ) → not (is_truth u) ≡ true → Ranged v → held_by u (word_for v) ≡ Some (converted u v)
+pub held_cut : (u : IntType) (v : ℤ) → not (is_truth u) ≡ true → Ranged v → held_by u (word_for v) ≡ Some (converted u v)
 held_cut ty.Bool v h r = absurd (differ h)
 held_cut ty.Char v h r = ap Some (converts_again ty.Char v r)
 held_cut ty.SChar v h r = ap Some (converts_again ty.SChar v r)
@@ -161,6 +161,7 @@ module _ (p : typed.Program) (tf : Function) (call : Calling) (q : Program) (dee
     pub now2 : Scratch
     pub reaches : Reaches q z steps cost (running (here f pc now2 ws (with_element r (converted u v) s)))
     pub small : cost ≤ 15
+    pub some : 1 ≤ steps
     pub keeps : (b : Bool) (i k : ℕ) (old : Scratch) → i ≤ t2 → Keeps b i k old now → Keeps b i k old now2
     pub ends : Ends (function_at q f).code m operand pc pc2
     pub holds : HoldsFor m operand (word_for (converted u v)) now2 (with_element r (converted u v) s)
@@ -184,6 +185,7 @@ module _ (p : typed.Program) (tf : Function) (call : Calling) (q : Program) (dee
     now2 = now;
     reaches = does_store p q f u o a r (word_for v) (converted u v) pc i.0 now ws s i.1 h ha hr fine hl (held_if u m v (can refl));
     small = omega arith;
+    some = omega arith;
     keeps = λ b i k old le n. n;
     ends = i.2;
     holds = stored_for u m o v now (with_element r (converted u v) s) (can refl) (holds_store o (word_for v) r u (converted u v) now ws s fine hr h);
@@ -205,6 +207,7 @@ module _ (p : typed.Program) (tf : Function) (call : Calling) (q : Program) (dee
             (does_store p q f u (operand.Temporary t2) a r w cv i.0 i.1 now2 ws s i.3 there (ha2 w) hr fine hl
             (ap (held_by u) same ∙ held_word u cv (converted_fits u v)));
         small = omega arith;
+        some = omega arith;
         keeps = λ b i k old le n. keeps_put (target.Temporary t2) w b i k old now le n;
         ends = i.4;
         holds = holds_for m (operand.Temporary t2) (word_for cv) now2 (with_element r cv s)

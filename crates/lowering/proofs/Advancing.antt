@@ -59,16 +59,17 @@ module _ (p : typed.Program) (tf : Function) (call : Calling) (q : Program) (dee
   -- what is known behind the change
   step_known : (moment : Moment) (n : ℕ) (s : machine.State) (now now2 now5 : Scratch) (x : ℤ) (r : Reference) (w : ℤ) (ws : List Call) (s2 : machine.State)
       → IsValueOf u x → Keeps (place_calls a) t k now now2 → (Keeps (place_calls a) t k now now2 → Keeps (place_calls a) t k now now5)
-      → Fine (world p q f ws) s2 → Refers (world p q f ws) r u [] → After (first_automatic q) (place_writes a) (record s { clock = n }) s2
+      → Fine (world p q f ws) s2 → Refers (world p q f ws) r u [] → nat_lt r.object (length q.literals) ≡ false
+      → After (first_automatic q) (place_writes a) (record s { clock = n }) s2
       → Known (world p q f ws) (node moment) t k s now x (with_element p tf call q deep f is r (converted u w) s2) now5
-  step_known typed.before n s now now2 now5 x r w ws s2 hv k1 more fine refers a1 =
+  step_known typed.before n s now now2 now5 x r w ws s2 hv k1 more fine refers hl a1 =
       known_written p tf call q deep f is (node typed.before) false writes_none a t k t k n s now now2 now2 now5 x r u w ws s2 s2 (λ h. h) (λ h. refl)
       (λ y h. or_left (place_writes a y) (is_object (object_of a) y) h) (λ y h. refl) apart refl hv (omega arith) (omega arith) k1 (keeps_all false t k now2)
-      more fine refers a1 (after_none writes_none s2)
-  step_known typed.after n s now now2 now5 x r w ws s2 hv k1 more fine refers a1 =
+      more fine refers hl a1 (after_none writes_none s2)
+  step_known typed.after n s now now2 now5 x r w ws s2 hv k1 more fine refers hl a1 =
       known_written p tf call q deep f is (node typed.after) false writes_none a t k t k n s now now2 now2 now5 x r u w ws s2 s2 (λ h. h) (λ h. refl)
       (λ y h. or_left (place_writes a y) (is_object (object_of a) y) h) (λ y h. refl) refl refl hv (omega arith) (omega arith) k1 (keeps_all false t k now2)
-      more fine refers a1 (after_none writes_none s2)
+      more fine refers hl a1 (after_none writes_none s2)
 
   -- the new value is stored beside the old one, which is the value
   aside_ok : (m : Mode) (n pc pc2 : ℕ) (r : Reference) (ov w : ℤ) (s : machine.State) (now now2 now4 : Scratch) (ws : List Call) (s2 : machine.State)
@@ -105,7 +106,7 @@ module _ (p : typed.Program) (tf : Function) (call : Calling) (q : Program) (dee
       λ d y z old lo n. st.keeps d y z old lo (keeps_put g (word_for w) d y z old l1.now2 lo (l1.keeps d y z old lo n)) in
       let there = (whole_keeps false (j + 1) 0 now4 (omega arith) (keeps_all false (j + 1) 0 now4)).temporaries refl j (omega arith) ∙ h1 in
       let known = step_known typed.after n s now now2 st.now2 ov r w ws s2 hov k1
-      (λ x. whole_keeps (place_calls a) t k now (omega (arith, tj)) (ks (place_calls a) t k now tj x)) fine hr a1 in
+      (λ x. whole_keeps (place_calls a) t k now (omega (arith, tj)) (ks (place_calls a) t k now tj x)) fine hr hl a1 in
       let l = ends p q f e m t k (operand.Temporary j) i.1 pc2 (60 * s2.clock + 22) s now st.now2 ws ov s4 fr su i.4 there (omega arith) known in
       goes q 14 (Result2 ov) (60 * s2.clock + 80) s2.clock (l1.j + (st.steps + l.j)) (l1.c + (st.cost + l.c)) (here f pc now4 ws s2) l.u s4
       (reaches_on q (here f pc now4 ws s2) (here f i.0 now5 ws s2) l1.j l1.c (st.steps + l.j) (st.cost + l.c) (running l.u) l1.reaches
@@ -127,8 +128,8 @@ module _ (p : typed.Program) (tf : Function) (call : Calling) (q : Program) (dee
       let tj : t ≤ j = (free_more_at p tf call q deep f is spot t k).0 in
       alters_ok p tf call q deep f is (node typed.before) m t k at (step_operation so) u of (operand.Constant 1) a false j pc pc2 r ov (pos 1) w (λ y. y) s now
       now4 ws s2 fr su hof i h1 refl ha (omega arith) hr fine (ranged u ov hov) one_fits (λ y. same_final m y) eo
-      (λ now5 more. step_known typed.before n s now now2 now5 (converted u w) r w ws s2 (converted_fits u w) k1
-      (λ x. more (place_calls a) t k now tj (ks (place_calls a) t k now tj x)) fine hr a1)
+      (λ now5 hl more. step_known typed.before n s now now2 now5 (converted u w) r w ws s2 (converted_fits u w) k1
+      (λ x. more (place_calls a) t k now tj (ks (place_calls a) t k now tj x)) fine hr hl a1)
     where
       same_final : (m : Mode) (y : ℤ) → IsFinal m y y
       same_final Nowhere y = tt
@@ -138,8 +139,8 @@ module _ (p : typed.Program) (tf : Function) (call : Calling) (q : Program) (dee
       let tj : t ≤ j = (free_more_at p tf call q deep f is spot t k).0 in
       alters_ok p tf call q deep f is (node typed.after) Nowhere t k at (step_operation so) u of (operand.Constant 1) a false j pc pc2 r ov (pos 1) w (λ y. ov) s
       now now4 ws s2 fr su hof i h1 refl ha (omega arith) hr fine (ranged u ov hov) one_fits (λ y. tt) eo
-      (λ now5 more. step_known typed.after n s now now2 now5 ov r w ws s2 hov k1
-      (λ x. more (place_calls a) t k now tj (ks (place_calls a) t k now tj x)) fine hr a1)
+      (λ now5 hl more. step_known typed.after n s now now2 now5 ov r w ws s2 hov k1
+      (λ x. more (place_calls a) t k now tj (ks (place_calls a) t k now tj x)) fine hr hl a1)
   step_by typed.after (To g) n pc pc2 r ov w s now now2 now4 ws s2 fr su i h1 ha hr fine hov eo k1 ks a1 =
       aside_ok (To g) n pc pc2 r ov w s now now2 now4 ws s2 fr su i h1 ha hr fine hov eo k1 ks a1
   step_by typed.after (If sense to) n pc pc2 r ov w s now now2 now4 ws s2 fr su i h1 ha hr fine hov eo k1 ks a1 =

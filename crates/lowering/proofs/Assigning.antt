@@ -49,15 +49,15 @@ module _ (p : typed.Program) (tf : Function) (call : Calling) (q : Program) (dee
       → (calls node ≡ false → place_calls a ≡ false) → (calls node ≡ false → c2 ≡ false) → ((y : ℕ) → writes node y ≡ false → place_writes a y ≡ false)
       → ((y : ℕ) → writes node y ≡ false → w2 y ≡ false) → rests_in node ≡ None → constant_of node ≡ None → IsValueOf (extent node) x → t ≤ t2 → k ≤ k2
       → Keeps (place_calls a) t k now now2 → Keeps c2 t2 k2 now2 now3 → (Keeps (calls node) t k now now3 → Keeps (calls node) t k now now4)
-      → Fine (world p q f ws) s3 → Refers (world p q f ws) r u [] → After (first_automatic q) (place_writes a) (record s { clock = n }) s2
-      → After (first_automatic q) w2 s2 s3
+      → Fine (world p q f ws) s3 → Refers (world p q f ws) r u [] → nat_lt r.object (length q.literals) ≡ false
+      → After (first_automatic q) (place_writes a) (record s { clock = n }) s2 → After (first_automatic q) w2 s2 s3
       → Known (world p q f ws) node t k s now x (with_element p tf call q deep f is r (converted u v) s3) now4
-  known_written node c2 w2 a t k t2 k2 n s now now2 now3 now4 x r u v ws s2 s3 hc1 hc2 hw1 hw2 hr hk hv l1 l2 k1 kk more fine refers a1 a2 =
+  known_written node c2 w2 a t k t2 k2 n s now now2 now3 now4 x r u v ws s2 s3 hc1 hc2 hw1 hw2 hr hk hv l1 l2 k1 kk more fine refers hl a1 a2 =
       let s4 = with_element p tf call q deep f is r (converted u v) s3 in
       record {
         keeps = more (keeps_on (calls node) (place_calls a) c2 t k t k t2 k2 now now2 now3 hc1 hc2 (omega arith) l1 (omega arith) l2 k1 kk);
         fine = fine_changed (world p q f ws) r refers.object [] (Element (Some (converted u v))) s3 refers.at refers.leads
-            (subst (λ y. IsValueOf y (converted u v)) (sym refers.element) (converted_fits u v)) fine;
+            (subst (λ y. IsValueOf y (converted u v)) (sym refers.element) (converted_fits u v)) hl fine;
         value = hv;
         after = after_on (writes node) (writes node) writes_none s s3 s4 (λ y h. h) (λ y h. refl)
             (after_on (writes node) (place_writes a) w2 s s2 s3 hw1 hw2 (after_since (place_writes a) s s2 n a1) a2)
@@ -106,7 +106,7 @@ module _ (p : typed.Program) (tf : Function) (call : Calling) (q : Program) (dee
         (known_written assigned (calls e) (writes e) a t k t2 k2 n s now now2 now3 st.now2 cv r u v ws s2 s3 (or_left (place_calls a) (calls e))
         (or_right (place_calls a) (calls e)) (λ y g. or_left (place_writes a y) (is_object (object_of a) y || writes e y) g)
         (λ y g. or_right (is_object (object_of a) y) (writes e y) (or_right (place_writes a y) (is_object (object_of a) y || writes e y) g)) apart refl
-        (converted_fits u v) more.0 more.1 k1 ke.keeps (λ g. st.keeps (place_calls a || calls e) t k now more.0 g) ke.fine refers a1 ke.after) in
+        (converted_fits u v) more.0 more.1 k1 ke.keeps (λ g. st.keeps (place_calls a || calls e) t k now more.0 g) ke.fine refers hl a1 ke.after) in
         goes q 14 (Result2 cv) (60 * s3.clock + 114) s3.clock (st.steps + l.j) (st.cost + l.c) (here f p3 now3 ws s3) l.u s4
         (reaches_on q (here f p3 now3 ws s3) (here f st.pc st.now2 ws s4) st.steps st.cost l.j l.c (running l.u) st.reaches l.reaches)
         (let x = st.small in let y = l.within in omega (arith, x, y)) (omega arith) l.good))
@@ -146,7 +146,7 @@ module _ (p : typed.Program) (tf : Function) (call : Calling) (q : Program) (dee
       → now.temporaries j ≡ Some (word (word_for ov)) → Holds q f b (word_for v) now s → IsAt p q f (found a c t k) r now s
       → free_temporary_at (found a c t k) t ≤ j → Refers (world p q f ws) r u [] → Fine (world p q f ws) s → Ranged ov → Ranged v
       → ((y : ℤ) → IsFinal m (finish y) y) → operated o of ov v ≡ Ok w
-      → ((now5 : Scratch) → ((d : Bool) (i l : ℕ) (old : Scratch) → i ≤ j → Keeps d i l old now → Keeps d i l old now5)
+      → ((now5 : Scratch) → nat_lt r.object (length q.literals) ≡ false → ((d : Bool) (i l : ℕ) (old : Scratch) → i ≤ j → Keeps d i l old now → Keeps d i l old now5)
       → Known (world p q f ws) node t k before old (finish (converted u w)) (with_element p tf call q deep f is r (converted u w) s) now5)
       → Sim q 14 (60 * s.clock + 80) s.clock (here f pc now ws s) (Good p q f node m t k pc2 before old ws)
       (then_do (write p at r (converted u w) s) (λ y s. Goes (finish y) s))
@@ -171,7 +171,7 @@ module _ (p : typed.Program) (tf : Function) (call : Calling) (q : Program) (dee
       (λ n. found_beside p tf call q deep f is a c t k j n r now5 s le ha5) hr fine hl rw_ in
       let l = store_ends p tf call q deep f is node u m t k st.pc pc2 (60 * s.clock + 22) st.operand (finish cw) cw before old st.now2 ws s4 fr su st.ends st.holds
       (fin cw) (omega arith)
-      (known st.now2 (λ d y z old2 lo n. st.keeps d y z old2 lo (keeps_put g (word_for w) d y z old2 l1.now2 lo (l1.keeps d y z old2 lo n)))) in
+      (known st.now2 hl (λ d y z old2 lo n. st.keeps d y z old2 lo (keeps_put g (word_for w) d y z old2 l1.now2 lo (l1.keeps d y z old2 lo n)))) in
       goes q 14 (Result2 (finish cw)) (60 * s.clock + 80) s.clock (l1.j + (st.steps + l.j)) (l1.c + (st.cost + l.c)) (here f pc now ws s) l.u s4
       (reaches_on q (here f pc now ws s) (here f i.0 now5 ws s) l1.j l1.c (st.steps + l.j) (st.cost + l.c) (running l.u) l1.reaches
       (reaches_on q (here f i.0 now5 ws s) (here f st.pc st.now2 ws s4) st.steps st.cost l.j l.c (running l.u) st.reaches l.reaches))
@@ -239,13 +239,13 @@ module _ (p : typed.Program) (tf : Function) (call : Calling) (q : Program) (dee
             (beside_word (constant_of e) (rests_in e) tt2 kk2 (word_for v) (word_for ov) now3 s3 h)
             (found_beside p tf call q deep f is a (calls e) t k j (word_for ov) r now3 s3 more2.0 ha) more2.0 refers ke.fine (ranged u ov hov)
             (ranged (extent e) v ke.value) (λ y. final_same m y) er
-            (λ now5 ks.
+            (λ now5 hl ks.
             known_written compound (calls e) (writes e) a t k tt2 kk2 n s now now2 now3 now5 (converted u w) r u w ws s2 s3 (or_left (place_calls a) (calls e))
             (or_right (place_calls a) (calls e)) (λ y g. or_left (place_writes a y) (is_object (object_of a) y || writes e y) g)
             (λ y g. or_right (is_object (object_of a) y) (writes e y) (or_right (place_writes a y) (is_object (object_of a) y || writes e y) g)) apart refl
             (converted_fits u w) more.0 more.1 k1 ke.keeps
             (λ g. ks (place_calls a || calls e) t k now tj (keeps_put (target.Temporary j) (word_for ov) (place_calls a || calls e) t k now now3 tj g))
-            ke.fine refers a1 ke.after)))
+            ke.fine refers hl a1 ke.after)))
 
     pub compound_memory : (pc p1 p2 p3 p4 pc2 : ℕ) → FindsDo p tf call q deep f is a (calls e) t k p1 p2 → DoesAt p call q deep f e tt2 kk2
         → One (function_at q f).code instruction.Nothing pc p1 → Into (function_at q f).code (sizes p f) e (mode_of b) tt2 kk2 p2 p3

@@ -66,19 +66,27 @@ globals_fit (text ∷ literals) statics h g zero o e =
     subst (λ y. ObjectFits y (Some (literal_object text))) same (characters_have text (h 0 text refl))
 globals_fit (text ∷ literals) statics h g (suc n) o e = globals_fit literals statics (λ k t d. h (suc k) t d) g n o e
 
+texts_there : (literals : List (List ℕ)) (n : ℕ) (text : List ℕ) (more : List Tree) → slice_get literals n ≡ Some text
+    → slice_get (map literal_object literals ++ more) n ≡ Some (literal_object text)
+texts_there [] n text more e = absurd (let z : ⊥ = cc in z)
+texts_there (x ∷ literals) zero text more e = let same : x ≡ text = cc in ap (λ y. Some (literal_object y)) same
+texts_there (x ∷ literals) (suc n) text more e = texts_there literals n text more e
+
 -- before the first call
 abbrev pub first_world : Program → World
-first_world q = record { first = first_automatic q; outer = []; own = types_below q []; rows = [] }
+first_world q = record { texts = q.literals; first = first_automatic q; outer = []; own = types_below q []; rows = [] }
 
 pub lives_first : (p : typed.Program) (q : Program) (n : ℕ) (input : List ℕ) → q.literals ≡ p.literals → q.statics ≡ p.statics
     → ((k : ℕ) (text : List ℕ) → slice_get p.literals k ≡ Some text → AreBytes text) → statics_are_typed p.statics ≡ true → AreBytes input
     → Lives (first_world q) (start n p input)
 lives_first p q n input el es texts statics bytes = record {
+  few = omega arith;
   low = let e = counted in omega (arith, e);
   size = stored ∙ (ap (λ l. length l + length p.statics) (sym el) ∙ (ap (λ l. length q.literals + length l) (sym es) ∙ sym counted));
   fits = λ k o e. globals_fit p.literals p.statics texts statics k o
       (ap (λ l. slice_get (map literal_type l ++ map (λ x. x.type) p.statics) k) (sym el)
       ∙ (ap (λ l. slice_get (map literal_type q.literals ++ map (λ x. x.type) l) k) (sym es) ∙ e));
+  literals = λ k text e. texts_there p.literals k text (map static_object p.statics) (ap (λ l. slice_get l k) (sym el) ∙ e);
   input = bytes;
 }
   where

@@ -9,7 +9,7 @@ use Rattle.typed.specs.Types.{ObjectType, ParameterType, number, elements, same_
 use Rattle.typed.specs.Program as typed
 use Rattle.typed.specs.Program.{Function}
 use Rattle.typed.specs.WellTyped.{parameters_are_first, function_is_typed, functions_are_typed}
-use Rattle.meaning.specs.Store.{Tree, Element, Store, Reference, indeterminate}
+use Rattle.meaning.specs.Store.{Tree, Element, Store, Reference, indeterminate, literal_object}
 use Rattle.meaning.specs.Machine as machine
 use Rattle.meaning.specs.Expressions.{Passed, Number, Referred}
 use Rattle.meaning.specs.Meaning.{numbers_of, arrays_of, objects_of, enter, leave}
@@ -160,7 +160,7 @@ objects_count W (elements u ∷ ps) objects (Number v ∷ passed) t m hf h = abs
 -- ---- what was referred to still is
 
 abbrev pub entered_world : World → List ObjectType → List ObjectType → World
-entered_world W objects rows = record { first = W.first; outer = all_types W; own = objects; rows = rows }
+entered_world W objects rows = record { texts = W.texts; first = W.first; outer = all_types W; own = objects; rows = rows }
 
 refers_on : (W : World) (objects rows : List ObjectType) (r : Reference) (t : IntType) (l : List ℕ) → Refers W r t l
     → Refers (entered_world W objects rows) r t l
@@ -196,26 +196,39 @@ length_joined (x ∷ xs) ys = let e = length_joined xs ys in omega (arith, e)
 
 -- what is there before it
 pub record Lives (W : World) (s : machine.State) : Type 0 where
+  pub few : length W.texts ≤ W.first
   pub low : W.first ≤ length (all_types W)
   pub size : length s.store ≡ length (all_types W)
   pub fits : (n : ℕ) (o : ObjectType) → slice_get (all_types W) n ≡ Some o → ObjectFits o (slice_get s.store n)
+  pub literals : (n : ℕ) (text : List ℕ) → slice_get W.texts n ≡ Some text → slice_get s.store n ≡ Some (literal_object text)
   pub input : AreBytes s.input
 
 pub fine_lives : (W : World) (s : machine.State) → Fine W s → Lives W s
 fine_lives W s h =
     let e = length_joined W.outer W.own in
-    record { low = let low = h.low in omega (arith, low, e); size = h.size ∙ sym e; fits = h.fits; input = h.input }
+    record {
+      few = h.few;
+      low = let low = h.low in omega (arith, low, e);
+      size = h.size ∙ sym e;
+      fits = h.fits;
+      literals = h.literals;
+      input = h.input;
+    }
 
 pub fine_entered : (W : World) (g : ℕ) (f : Function) (passed : List Passed) (t : ℕ) (m : Values) (s : machine.State)
     → parameters_are_first f.type.parameters f.objects ≡ true → Fitting W f.type.parameters passed t m → Lives W s
     → Fine (entered_world W f.objects (rows_of f.type.parameters)) (enter g f passed s)
 fine_entered W g f passed t m s hf h was = record {
+  few = was.few;
   low = was.low;
   base = was.size;
   size = length_joined s.store (objects_of f.objects passed)
       ∙ (ap (λ k. k + length (objects_of f.objects passed)) was.size
       ∙ ap (λ k. length (all_types W) + k) (objects_count W f.type.parameters f.objects passed t m hf h));
   fits = fits;
+  literals = λ n text e.
+      let few = was.few in let low = was.low in let size = was.size in let lt = below_length W.texts n text e in
+      before_it s.store (objects_of f.objects passed) n (omega (arith, few, low, size, lt)) ∙ was.literals n text e;
   arrays = arrays_refer W f.objects (rows_of f.type.parameters) f.type.parameters passed t m h;
   input = was.input;
 }
@@ -249,10 +262,14 @@ length_taken (x ∷ xs) (suc n) le = ap suc (length_taken xs n (omega (arith, le
 
 pub fine_left : (W : World) (objects rows : List ObjectType) (s s2 : machine.State) → Fine W s → Fine (entered_world W objects rows) s2 → Fine W (leave s s2)
 fine_left W objects rows s s2 fine inner = record {
+  few = fine.few;
   low = fine.low;
   base = fine.base;
   size = length_taken s2.store (length s.store) (omega (arith, whole, size)) ∙ fine.size;
   fits = fits;
+  literals = λ n text e.
+      let few = fine.few in let low = (fine_lives W s fine).low in let lt = below_length W.texts n text e in
+      slice_take s2.store (length s.store) n (omega (arith, few, low, size, lt)) ∙ inner.literals n text e;
   arrays = fine.arrays;
   input = inner.input;
 }

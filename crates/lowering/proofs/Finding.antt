@@ -126,7 +126,7 @@ module _ (p : typed.Program) (tf : Function) (call : Calling) (q : Program) (dee
       let there = globals_below q ws i o e in
       before_it (types_below q ws) (function_at q f).objects i (below_length (types_below q ws) i o there) ∙ there
 
-  literal_refers : (ws : List Call) (n : ℕ) (o : Option (List ℕ)) → slice_get p.literals n ≡ o → HasType (text_type o)
+  pub literal_refers : (ws : List Call) (n : ℕ) (o : Option (List ℕ)) → slice_get p.literals n ≡ o → HasType (text_type o)
       → RefersAs (world p q f ws) (whole n) (text_type o)
   literal_refers ws n None e h = absurd h
   literal_refers ws n (Some text) e h =

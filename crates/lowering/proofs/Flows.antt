@@ -23,7 +23,7 @@ use Rattle.lowering.proofs.Words.{differ}
 use Rattle.lowering.proofs.Steps.{stays, GoesTo, goes, from, Sim, sim_then, sim_map, sim_move, tick_in, tick_ends}
 use Rattle.lowering.proofs.Standing.{Scratch, here, does_nothing, does_jump, world, first_automatic}
 use Rattle.lowering.proofs.Shapes.{filled_has}
-use Rattle.lowering.proofs.Stores.{World, all_types, ObjectFits, Fine, After, after_on, after_none, after_put, put_here, put_elsewhere, put_length, behind, nat_cases, tree_is, fine_later, after_later, after_since}
+use Rattle.lowering.proofs.Stores.{World, all_types, ObjectFits, Fine, After, after_on, after_none, after_put, put_here, put_elsewhere, put_length, behind, nat_cases, tree_is, is_apart, own_apart, fine_later, after_later, after_since}
 use Rattle.lowering.proofs.Goods.{Good}
 use Rattle.lowering.proofs.Leaves.{IntoDoes, Converted, ConvertsDoes}
 
@@ -34,10 +34,12 @@ writes_all x = true
 
 fine_renewed : (W : World) (x : ℕ) (s : machine.State) → Fine W s → Fine W (renewed W.own x s)
 fine_renewed W x s h = record {
+  few = h.few;
   low = h.low;
   base = h.base;
   size = put_length s.store (s.base + x) [] new ∙ h.size;
   fits = fits;
+  literals = λ n text e. put_elsewhere s.store (s.base + x) n [] new (is_apart W.texts n text (s.base + x) e (own_apart W s x h)) ∙ h.literals n text e;
   arrays = h.arrays;
   input = h.input;
 }
@@ -146,7 +148,7 @@ module _ (p : typed.Program) (call : Calling) (q : Program) (deep f : ℕ) (resu
       }
 
   -- a value's own account of what it leaves is enough
-  all_after : (w : ℕ → Bool) (a b : machine.State) → After (first_automatic q) w a b → After (first_automatic q) writes_all a b
+  pub all_after : (w : ℕ → Bool) (a b : machine.State) → After (first_automatic q) w a b → After (first_automatic q) writes_all a b
   all_after w a b h = record { base = h.base; arrays = h.arrays; below = h.below; still = λ x e. absurd (differ (sym e)) }
 
   -- no step

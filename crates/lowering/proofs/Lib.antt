@@ -34,6 +34,11 @@ pub mod Flows
 pub mod Blocks
 pub mod Loops
 pub mod Switches
+pub mod Copying
+pub mod Stretches
+pub mod Texts
+pub mod Setting
+pub mod Initialising
 pub mod Statements
 pub mod Entering
 pub mod Beginning

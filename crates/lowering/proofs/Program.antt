@@ -27,20 +27,21 @@ use Rattle.tac.specs.Run as tac
 use Rattle.tac.specs.Run.{Values, Call, State, running, ended, word, word_in, word_for, unset, result_alone, entered, returned, numbers_in, arrays_in, begun, ◌>>=◌}
 use Rattle.tac.specs.Sound.{AreBytes}
 use Rattle.tac.specs.Lowered.{kind_of}
-use Rattle.checked.specs.Asked.{bodies_are_asked, types_are_sized, is_asked, statement_is_asked}
+use Rattle.checked.specs.Asked.{bodies_are_asked, is_sized, parameter_is_sized, function_is_sized, types_are_sized, is_asked, statement_is_asked}
 use Rattle.lowering.specs.Values.{or_int, writes_none}
-use Rattle.lowering.specs.Places.{size_of_type, size_of_place}
 use Rattle.lowering.specs.Code.{One}
 use Rattle.lowering.specs.Bodies.{Idles, Closes, Stands, IsFunctionFor, IsCodeFor}
 use Rattle.lowering.specs.Laws.{CodeBehaves}
 use Rattle.lowering.proofs.Words.{differ, low8, left_true, right_true}
 use Rattle.lowering.proofs.Steps.{stays, from, GoesTo, EndsAt, PausesAt, Sim, goes, sim_after, sim_then, sim_more, sim_map, sim_move, tick_in}
-use Rattle.lowering.proofs.Standing.{Scratch, here, put_scratch, set_same, does_one, does_nothing, does_move, world, first_automatic, types_below, rows_of, parameters_of, type_at, sizes, IsCode}
+use Rattle.lowering.proofs.Standing.{Scratch, here, put_scratch, set_same, does_one, does_nothing, does_move, world, first_automatic, types_below, rows_of, parameters_of, IsCode}
 use Rattle.lowering.proofs.Stores.{below_length, length_mapped, all_types, Fine, After, fine_later, after_later}
 use Rattle.lowering.proofs.Passing.{Fitting, Gave, CallGood, CallsDo}
 use Rattle.lowering.proofs.Flows.{writes_all, StandsAt, FlowGood, flow_since}
 use Rattle.lowering.proofs.Expressions.{zero_fits}
+use Rattle.std.specs.List.{list_all}
 use Rattle.std.proofs.lemmas.Bool.Decides.{nat_tests}
+use Rattle.lowering.proofs.Initialising.{AreSized}
 use Rattle.lowering.proofs.Statements.{statement_runs}
 use Rattle.lowering.proofs.Entering.{item_is, function_is, item_below, arrays_are, numbers_are, fine_lives, fine_entered, fine_left, after_left}
 use Rattle.lowering.proofs.Beginning.{first_world, lives_first}
@@ -149,16 +150,20 @@ module _ (p : typed.Program) (q : Program) (typed_well : is_typed p ≡ true) (a
     is_code : IsCode p f q g
     is_code = record { function = e; objects = objects_same; literals = code.literals; statics = code.statics }
 
-    sized : (P : (typed.Place → ℕ) → Type 0) → P (size_of_place p f) → P (sizes p g)
-    sized P h = subst (λ o. P (λ a. size_of_type (type_at p o a))) (sym e) h
+    sized : function_is_sized f ≡ true
+    sized = item_is function_is_sized p.functions g f
+        (left_true (list_all function_is_sized p.functions) (list_all (λ o. is_sized o.type) p.statics) (right_true (bodies_are_asked p) (types_are_sized p) asked)) e
+
+    room : AreSized f
+    room n o at = item_is is_sized f.objects n o (right_true (list_all parameter_is_sized f.type.parameters) (list_all is_sized f.objects) sized) at
 
     -- the call's objects and parameters are those of its code
-    in_world : (first : ℕ) (outer : List ObjectType) (s : machine.State)
-        → Fine (record { first = first; outer = outer; own = f.objects; rows = rows_of f.type.parameters }) s
-        → Fine (record { first = first; outer = outer; own = (function_at q g).objects; rows = rows_of (parameters_of (slice_get p.functions g)) }) s
-    in_world first outer s h =
-        subst (λ x. Fine (record { first = first; outer = outer; own = (function_at q g).objects; rows = rows_of (parameters_of x) }) s) (sym e)
-        (subst (λ l. Fine (record { first = first; outer = outer; own = l; rows = rows_of f.type.parameters }) s) (sym objects_same) h)
+    in_world : (texts : List (List ℕ)) (first : ℕ) (outer : List ObjectType) (s : machine.State)
+        → Fine (record { texts = texts; first = first; outer = outer; own = f.objects; rows = rows_of f.type.parameters }) s
+        → Fine (record { texts = texts; first = first; outer = outer; own = (function_at q g).objects; rows = rows_of (parameters_of (slice_get p.functions g)) }) s
+    in_world texts first outer s h =
+        subst (λ x. Fine (record { texts = texts; first = first; outer = outer; own = (function_at q g).objects; rows = rows_of (parameters_of x) }) s) (sym e)
+        (subst (λ l. Fine (record { texts = texts; first = first; outer = outer; own = l; rows = rows_of f.type.parameters }) s) (sym objects_same) h)
 
     is_main : nat_eq g p.main ≡ true → f.type.result ≡ Some ty.Int
     is_main h = main_gives f (ap (slice_get p.functions) (let z : p.main ≡ g = grind (arith, nat_tests) in z) ∙ e)
@@ -246,8 +251,7 @@ module _ (p : typed.Program) (q : Program) (typed_well : is_typed p ≡ true) (a
           subst (λ l. Closes l (nat_eq g p.main) c.is.end c.is.back) code_same c.is.closes in
           let leaves : One (function_at q g).code instruction.Return c.is.back (length c.h.code) =
           subst (λ l. One l instruction.Return c.is.back (length c.h.code)) code_same c.is.leaves in
-          let stands = sized (λ sizes. Stands (function_at q g).code sizes f.body c.is.end c.is.end c.is.back c.is.start c.is.end)
-          (subst (λ l. Stands l (size_of_place p f) f.body c.is.end c.is.end c.is.back c.is.start c.is.end) code_same c.is.body) in
+          let stands = subst (λ l. Stands l p f f.body c.is.end c.is.end c.is.back c.is.start c.is.end) code_same c.is.body in
           let Good2 : Flow → machine.State → State → Type 0 = λ flow. AtReturn s ws (value_left (nat_eq g p.main) flow) in
           sim_then q (60 * suc n + 16) 84 (λ u. Idle q g c.is.start fresh ws s) Good2 (60 * s.clock + 16) (60 * suc n + 16) (60 * s.clock + 16) s.clock
           (here g 0 fresh ws s) (ticks (suc n) s) (λ u s. execute p call f.objects f.body s) (omega arith) (omega arith)
@@ -261,7 +265,7 @@ module _ (p : typed.Program) (q : Program) (typed_well : is_typed p ≡ true) (a
           (subst (λ l. Sim q 84 (60 * i.k + (60 * suc n + 16)) i.k (here g c.is.start fresh ws s) Good2 (execute p call l f.body s3)) objects_same
           (sim_more q 14 84 (FlowGood p call q deep g f.type.result c.is.end c.is.end c.is.end s3 ws) Good2 (60 * i.k) 90 (60 * i.k + (60 * suc n + 16)) i.k
           (here g c.is.start fresh ws s) (execute p call (function_at q g).objects f.body s3) (omega arith) (omega arith)
-          (statement_runs p f call q deep g is_code ok c.is.back (length c.h.code) leaves f.body
+          (statement_runs p f call q deep g is_code ok room c.is.back (length c.h.code) leaves f.body
           (units.numbers_in f.type.parameters) (length f.objects) c.is.end c.is.end c.is.start c.is.end body_typed asked_body stands s3 fresh ws (omega (arith, le, lt, ck)) (fine_later (world p q g ws) s i.k fine))
           (λ flow s4 z4 lt4 good. to_return c.is.end c.is.back (length c.h.code) s ws closes leaves flow s4 z4
           (flow_since p call q deep g f.type.result c.is.end c.is.end c.is.end s s3 ws (after_later writes_all s i.k) flow s4 z4 good))))))
@@ -345,7 +349,7 @@ module _ (p : typed.Program) (q : Program) (typed_well : is_typed p ≡ true) (a
       let n = length fn.type.parameters in
       let size : length (function_at q g).parameters ≡ n = ap length (parameters_same g fn e) ∙ length_mapped kind_of fn.type.parameters in
       let fine1 : Fine (world p q g (w ∷ ws)) s1 =
-      in_world g fn e (first_automatic q) (all_types (world p q f ws)) s1
+      in_world g fn e q.literals (first_automatic q) (all_types (world p q f ws)) s1
       (fine_entered (world p q f ws) g fn passed 0 now.temporaries s (parameters_first g fn e) fits (fine_lives (world p q f ws) s fine)) in
       let Good2 = CallGood p (calling p (suc d)) q (suc d) f pc2 now.kept ws s fn.type.result in
       sim_after q 22 Good2 (60 * s.clock + (60 + 6 * n)) s.clock (60 * s.clock + 16) s.clock 1 (cost q (instruction.Call g)) (here f pc now ws s)
@@ -451,7 +455,7 @@ module _ (p : typed.Program) (q : Program) (typed_well : is_typed p ≡ true) (a
           let z = here p.main 0 (record { temporaries = unset; kept = unset }) [] s1 in
           let fits : Fitting (first_world q) fn.type.parameters [] 0 unset = subst (λ l. Fitting (first_world q) l [] 0 unset) (sym nothing) tt in
           let fine1 : Fine (world p q p.main []) s1 =
-          in_world p.main fn e (first_automatic q) (types_below q []) s1
+          in_world p.main fn e q.literals (first_automatic q) (types_below q []) s1
           (fine_entered (first_world q) p.main fn [] 0 unset s0 (parameters_first p.main fn e) fits
           (lives_first p q n input code.literals code.statics texts statics_typed bytes)) in
           let le : n ≤ suc n = omega arith in

@@ -104,6 +104,7 @@ pub record IsCode (p : typed.Program) (tf : Function) (q : Program) (f : ℕ) : 
 
 abbrev pub world : typed.Program → Program → ℕ → List Call → World
 world p q f ws = record {
+  texts = q.literals;
   first = first_automatic q;
   outer = types_below q ws;
   own = (function_at q f).objects;

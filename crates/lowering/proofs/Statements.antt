@@ -1,12 +1,12 @@
 -- The code follows each statement.
 use Rattle.std.proofs.Common.{◌≡◌, ℕ, zero, suc, ◌+◌, ◌*◌, ◌≤◌, List, [], Option, Some, None, Bool, true, false, ◌&&◌, refl, sym, subst, arith}
-use Rattle.std.specs.Prelude.{nat_eq, nat_le, nat_lt, ◌-◌, length, slice_get}
+use Rattle.std.specs.Prelude.{nat_le, nat_lt, ◌-◌, length, slice_get}
 use Rattle.std.specs.List.{list_all}
-use Rattle.typed.specs.Types.{ObjectType, same_type, same_result}
+use Rattle.typed.specs.Types.{ObjectType, same_result}
 use Rattle.typed.specs.Program as typed
 use Rattle.typed.specs.Program.{Function, Initialiser, Statement, Statements, Value as Expression}
 use Rattle.typed.specs.Nodes.{type_of_value}
-use Rattle.typed.specs.WellTyped.{some_number, value_is_typed, number_is_typed, option_is_typed, test_is_typed, initialiser_is_typed, definition_is_typed, statement_is_typed, statements_are_typed}
+use Rattle.typed.specs.WellTyped.{some_number, value_is_typed, number_is_typed, option_is_typed, test_is_typed, definition_is_typed, statement_is_typed, statements_are_typed}
 use Rattle.meaning.specs.Store.{whole}
 use Rattle.meaning.specs.Machine as machine
 use Rattle.meaning.specs.Machine.{Run, Goes, Stops, then_do, choose, tick, tick_of}
@@ -16,21 +16,22 @@ use Rattle.tac.specs.declared.code.Target.TheVariants as target
 use Rattle.tac.specs.declared.code.Instruction.TheVariants as instruction
 use Rattle.tac.specs.Code.{Program, function_at}
 use Rattle.tac.specs.Run.{Call, State}
-use Rattle.checked.specs.Asked.{is_wide, gives, value_is_asked, number_is_asked, option_is_asked, test_is_asked, initialiser_is_asked, all_declare, declares, label_fits, statement_is_asked, statements_are_asked}
-use Rattle.lowering.specs.Values.{extent, rests_in, constant_of, keeps, waits_in, Nowhere, If, mode_of}
-use Rattle.lowering.specs.Code.{One, Into}
+use Rattle.checked.specs.Asked.{is_wide, value_is_asked, number_is_asked, option_is_asked, test_is_asked, all_declare, declares, label_fits, statement_is_asked, statements_are_asked}
+use Rattle.lowering.specs.Values.{extent, rests_in, constant_of, keeps, waits_in, operand_of, Nowhere, If, mode_of}
+use Rattle.lowering.specs.Places.{size_of_place}
+use Rattle.lowering.specs.Code.{One, Converts, Into}
 use Rattle.lowering.specs.Bodies.{is_within, Initialises, Effects, Repeats, Stands, StandAll, StandAt}
 use Rattle.lowering.proofs.Words.{left_true, right_true, differ}
 use Rattle.lowering.proofs.Steps.{Sim}
-use Rattle.lowering.proofs.Standing.{here, sizes, IsCode}
+use Rattle.lowering.proofs.Standing.{here, IsCode}
 use Rattle.lowering.proofs.Goods.{mode_free, mode_suits}
-use Rattle.lowering.proofs.Leaves.{IsNumber, scalar_is, IntoDoes, converts_does}
-use Rattle.lowering.proofs.Operators.{DoesAt}
+use Rattle.lowering.proofs.Leaves.{IntoDoes, converts_does}
 use Rattle.lowering.proofs.Passing.{CallsDo}
-use Rattle.lowering.proofs.Typing.{no_length, same_type_is, same_result_is}
-use Rattle.lowering.proofs.Expressions.{wanted_any, into_does}
+use Rattle.lowering.proofs.Typing.{same_result_is}
+use Rattle.lowering.proofs.Expressions.{into_does}
 use Rattle.lowering.proofs.Flows.{StandsAt, FlowGood, Runs, nothing_runs, break_runs, continue_runs, return_nothing_runs, return_value_runs, evaluate_runs, both_run, no_list, Lists}
-use Rattle.lowering.proofs.Blocks.{BeginsAt, block_runs, declare_runs, value_begins, braces_begin, define_runs, branch_runs, branches_runs}
+use Rattle.lowering.proofs.Blocks.{block_runs, declare_runs, branch_runs, branches_runs}
+use Rattle.lowering.proofs.Initialising.{AreSized, sized, does_at, define_at}
 use Rattle.lowering.proofs.Loops.{TestDoes, EffectDoes, test_does, no_test, effect_does, no_effect, while_runs, do_runs, for_runs}
 use Rattle.lowering.proofs.Switches.{IsPlace, place_first, place_later, switch_runs}
 
@@ -92,65 +93,27 @@ module _ (p : typed.Program) (call : Calling) (objects : List ObjectType) where
       (λ s2. all_normal more s2 (right_true (declares x) (all_declare more) h))
 
 module _ (p : typed.Program) (tf : Function) (call : Calling) (q : Program) (deep f : ℕ) (same : IsCode p tf q f)
-    (ok : CallsDo p call q deep f) (back last : ℕ)
+    (ok : CallsDo p call q deep f) (room : AreSized tf) (back last : ℕ)
     (leaves : One (function_at q f).code instruction.Return back last) where
-  does_at : (e : Expression) (t k : ℕ) → value_is_typed p tf e ≡ true → (value_is_asked e && gives e) ≡ true → DoesAt p call q deep f e t k
-  does_at e t k ht ha m a z fr su i =
-      into_does p tf call q deep f same ok e m t k a z ht (left_true (value_is_asked e) (gives e) ha)
-      (wanted_any p tf call q deep f same ok m (gives e) (right_true (value_is_asked e) (gives e) ha)) fr su i
-
   jumps_at : (e : Expression) (sense : Bool) (to pc pc2 : ℕ) → number_is_typed p tf e ≡ true → number_is_asked e ≡ true
-      → Into (function_at q f).code (sizes p f) e (If sense to) 0 0 pc pc2 → IntoDoes p call q deep f e (If sense to) 0 0 pc pc2
-  jumps_at e sense to pc pc2 ht ha i = does_at e 0 0 (left_true (value_is_typed p tf e) (some_number (type_of_value e)) ht) ha (If sense to) pc pc2 tt tt i
+      → Into (function_at q f).code (size_of_place p tf) e (If sense to) 0 0 pc pc2 → IntoDoes p call q deep f e (If sense to) 0 0 pc pc2
+  jumps_at e sense to pc pc2 ht ha i = does_at p tf call q deep f same ok e 0 0 (left_true (value_is_typed p tf e) (some_number (type_of_value e)) ht) ha (If sense to) pc pc2 tt tt
+      (sized p tf call q deep f same ok (λ size. Into (function_at q f).code size e (If sense to) 0 0 pc pc2) i)
 
-  nowhere_at : (e : Expression) (pc pc2 : ℕ) → value_is_typed p tf e ≡ true → value_is_asked e ≡ true → Into (function_at q f).code (sizes p f) e Nowhere 0 0 pc pc2
+  nowhere_at : (e : Expression) (pc pc2 : ℕ) → value_is_typed p tf e ≡ true → value_is_asked e ≡ true → Into (function_at q f).code (size_of_place p tf) e Nowhere 0 0 pc pc2
       → IntoDoes p call q deep f e Nowhere 0 0 pc pc2
-  nowhere_at e pc pc2 ht ha i = into_does p tf call q deep f same ok e Nowhere 0 0 pc pc2 ht ha tt tt tt i
-
-  -- ---- first values
-
-  init_begins : (i : Initialiser) (t : ObjectType) (x b pc pc2 : ℕ) → slice_get (function_at q f).objects x ≡ Some t
-      → initialiser_is_typed p tf t.element t.lengths i ≡ true → initialiser_is_asked i ≡ true
-      → Initialises (function_at q f).code (sizes p f) i x pc pc2
-      → BeginsAt p call q deep f tf.type.result (initialise p call i t.element t.lengths (whole (b + x))) b pc pc2
-  init_begins (typed.one_value u e) t x b pc pc2 at ht ha h =
-      let h1 = right_true (same_type t.element u) (nat_eq (length t.lengths) 0 && number_is_typed p tf e) ht in
-      let num : IsNumber (function_at q f).objects x u =
-      record {
-        type = t;
-        at = at;
-        element = same_type_is t.element u
-            (left_true (same_type t.element u) (nat_eq (length t.lengths) 0 && number_is_typed p tf e) ht);
-        lengths = no_length t.lengths (left_true (nat_eq (length t.lengths) 0) (number_is_typed p tf e) h1);
-      } in
-      value_begins p call q deep f tf.type.result u e x b pc h.0 pc2 num
-      (converts_does p call q deep f (keeps u e) e u (target.Object x) 0 0 pc h.0 refl (scalar_is (function_at q f).objects x u num) tt
-      (does_at e 0 0 (left_true (value_is_typed p tf e) (some_number (type_of_value e)) (right_true (nat_eq (length t.lengths) 0) (number_is_typed p tf e) h1))
-      ha) h.1) h.2
-  init_begins (typed.text n) t x b pc pc2 at ht ha h = absurd h
-  init_begins (typed.in_braces i) t x b pc pc2 at ht ha h =
-      braces_begin p call q deep f tf.type.result (initialise p call i t.element t.lengths (whole (b + x))) b pc h.0 pc2 h.1
-      (init_begins i t x b h.0 pc2 at ht ha h.2)
-  init_begins (typed.list all) t x b pc pc2 at ht ha h = absurd h
-
-  define_at : (o : Option ObjectType) (n : ℕ) (i : Initialiser) (out again pc p1 pc2 : ℕ) → slice_get (function_at q f).objects n ≡ o
-      → definition_is_typed p tf o i ≡ true → initialiser_is_asked i ≡ true
-      → One (function_at q f).code (instruction.Forget n 1) pc p1 → Initialises (function_at q f).code (sizes p f) i n p1 pc2
-      → Runs p call q deep f tf.type.result (λ s. tick s (λ s. define_object p call (function_at q f).objects o n i (renewed (function_at q f).objects n s))) pc
-      pc2 out again
-  define_at None n i out again pc p1 pc2 at ht ha i1 i2 = absurd (differ ht)
-  define_at (Some t) n i out again pc p1 pc2 at ht ha i1 i2 =
-      define_runs p call q deep f tf.type.result (λ b. initialise p call i t.element t.lengths (whole (b + n))) n pc p1 pc2 out again i1
-      (λ b. init_begins i t n b p1 pc2 at ht ha i2)
+  nowhere_at e pc pc2 ht ha i =
+      into_does p tf call q deep f same ok e Nowhere 0 0 pc pc2 ht ha tt tt tt
+      (sized p tf call q deep f same ok (λ size. Into (function_at q f).code size e Nowhere 0 0 pc pc2) i)
 
   -- ---- parts of loops
 
-  effect_at : (e : Option Expression) (pc pc2 : ℕ) → option_is_typed p tf e ≡ true → option_is_asked e ≡ true → Effects (function_at q f).code (sizes p f) e pc pc2
+  effect_at : (e : Option Expression) (pc pc2 : ℕ) → option_is_typed p tf e ≡ true → option_is_asked e ≡ true → Effects (function_at q f).code p tf e pc pc2
       → EffectDoes p call q deep f tf.type.result (evaluate_or p call e) pc pc2
   effect_at None pc pc2 ht ha i = no_effect p call q deep f tf.type.result pc pc2 i
   effect_at (Some e) pc pc2 ht ha i = effect_does p call q deep f tf.type.result e pc pc2 (nowhere_at e pc pc2 ht ha i)
 
-  test_at : (e : Option Expression) (top pc pc2 : ℕ) → test_is_typed p tf e ≡ true → test_is_asked e ≡ true → Repeats (function_at q f).code (sizes p f) e top pc pc2
+  test_at : (e : Option Expression) (top pc pc2 : ℕ) → test_is_typed p tf e ≡ true → test_is_asked e ≡ true → Repeats (function_at q f).code p tf e top pc pc2
       → TestDoes p call q deep f tf.type.result (evaluate_or p call e) pc top pc2
   test_at None top pc pc2 ht ha i = no_test p call q deep f tf.type.result pc top pc2 i
   test_at (Some e) top pc pc2 ht ha i = test_does p call q deep f tf.type.result e pc top pc2 (jumps_at e true top pc pc2 ht ha i)
@@ -180,17 +143,18 @@ module _ (p : typed.Program) (tf : Function) (call : Calling) (q : Program) (dee
 
   mutual
     pub statement_runs : (a : Statement) (lo hi out again pc pc2 : ℕ) → statement_is_typed p tf lo hi a ≡ true → statement_is_asked a ≡ true
-        → Stands (function_at q f).code (sizes p f) a out again back pc pc2
+        → Stands (function_at q f).code p tf a out again back pc pc2
         → Runs p call q deep f tf.type.result (execute p call (function_at q f).objects a) pc pc2 out again
     statement_runs typed.empty lo hi out again pc pc2 ht ha h = nothing_runs p call q deep f tf.type.result pc pc2 out again h
     statement_runs (typed.evaluate e) lo hi out again pc pc2 ht ha h =
         evaluate_runs p call q deep f tf.type.result e pc h.0 pc2 out again h.1 (nowhere_at e h.0 pc2 ht ha h.2)
     statement_runs (typed.declare n) lo hi out again pc pc2 ht ha h = declare_runs p call q deep f tf.type.result n pc pc2 out again h
     statement_runs (typed.define n i) lo hi out again pc pc2 ht ha h =
-        define_at (slice_get (function_at q f).objects n) n i out again pc h.0 pc2 refl
+        define_at p tf call q deep f same ok room (slice_get (function_at q f).objects n) n i out again pc h.0 pc2 refl
         (subst (λ l. definition_is_typed p tf (slice_get l n) i ≡ true) (sym same.objects)
         (right_true (nat_lt n hi) (definition_is_typed p tf (slice_get tf.objects n) i)
-        (right_true (nat_le lo n) (nat_lt n hi && definition_is_typed p tf (slice_get tf.objects n) i) ht))) ha h.1 h.2
+        (right_true (nat_le lo n) (nat_lt n hi && definition_is_typed p tf (slice_get tf.objects n) i) ht))) ha h.1 
+        (subst (λ l. Initialises (function_at q f).code p tf (slice_get l n) i n h.0 pc2) (sym same.objects) h.2)
     statement_runs (typed.block first count all) lo hi out again pc pc2 ht ha h =
         block_runs p call q deep f tf.type.result (execute_all p call (function_at q f).objects all) first count pc h.0 pc2 out again h.1
         (all_run all first (first + count) out again h.0 pc2
@@ -223,14 +187,16 @@ module _ (p : typed.Program) (tf : Function) (call : Calling) (q : Program) (dee
         (left_true (is_wide u) (list_all (label_fits u) (labels_of all) && (number_is_asked e && statements_are_asked all)) ha)
         (left_true (list_all (label_fits u) (labels_of all)) (number_is_asked e && statements_are_asked all)
         (right_true (is_wide u) (list_all (label_fits u) (labels_of all) && (number_is_asked e && statements_are_asked all)) ha)) h.5
-        (does_at e 0 0 (left_true (value_is_typed p tf e) (some_number (type_of_value e))
+        (does_at p tf call q deep f same ok e 0 0 (left_true (value_is_typed p tf e) (some_number (type_of_value e))
         (left_true (number_is_typed p tf e) (nat_le lo first && (nat_le (first + count) hi && statements_are_typed p tf first (first + count) all)) ht))
         (left_true (number_is_asked e) (statements_are_asked all)
         (right_true (list_all (label_fits u) (labels_of all)) (number_is_asked e && statements_are_asked all)
         (right_true (is_wide u) (list_all (label_fits u) (labels_of all) && (number_is_asked e && statements_are_asked all)) ha)))
         (mode_of (waits_in e (is_within first count) false 0 0)) h.0 h.1
         (mode_free p q f (constant_of e) (rests_in e) (is_within first count) false 0 0)
-        (mode_suits p q f (constant_of e) (rests_in e) (is_within first count) false 0 0 (extent e)) h.6) h.7 h.8
+        (mode_suits p q f (constant_of e) (rests_in e) (is_within first count) false 0 0 (extent e))
+        (sized p tf call q deep f same ok
+        (λ size. Into (function_at q f).code size e (mode_of (waits_in e (is_within first count) false 0 0)) 0 0 h.0 h.1) h.6)) h.7 h.8
         (λ label to place. from_runs all first (first + count) h.4 label pc2 again h.3 to pc2
         (right_true (nat_le (first + count) hi) (statements_are_typed p tf first (first + count) all)
         (right_true (nat_le lo first) (nat_le (first + count) hi && statements_are_typed p tf first (first + count) all)
@@ -324,11 +290,13 @@ module _ (p : typed.Program) (tf : Function) (call : Calling) (q : Program) (dee
         return_value_runs p call q deep f tf.type.result u e back last pc h.0 h.1 pc2 out again
         (same_result_is tf.type.result (Some u) (left_true (same_result tf.type.result (Some u)) (number_is_typed p tf e) ht)) leaves h.2
         (converts_does p call q deep f (keeps u e) e u (target.Temporary 0) 0 0 h.0 h.1 refl tt (let l : 0 ≤ 0 = omega arith in l)
-        (does_at e 0 0 (left_true (value_is_typed p tf e) (some_number (type_of_value e))
-        (right_true (same_result tf.type.result (Some u)) (number_is_typed p tf e) ht)) ha) h.3) h.4
+        (does_at p tf call q deep f same ok e 0 0 (left_true (value_is_typed p tf e) (some_number (type_of_value e))
+        (right_true (same_result tf.type.result (Some u)) (number_is_typed p tf e) ht)) ha)
+        (sized p tf call q deep f same ok (λ size. Converts (function_at q f).code (keeps u e) (λ m a z. Into (function_at q f).code size e m 0 0 a z) u
+        (operand_of e 0 0) (target.Temporary 0) h.0 h.1) h.3)) h.4
 
     pub all_run : (all : Statements) (lo hi out again pc pc2 : ℕ) → statements_are_typed p tf lo hi all ≡ true → statements_are_asked all ≡ true
-        → StandAll (function_at q f).code (sizes p f) all out again back pc pc2
+        → StandAll (function_at q f).code p tf all out again back pc pc2
         → Lists p call q deep f tf.type.result (execute_all p call (function_at q f).objects all) pc pc2 out again
     all_run typed.no_statements lo hi out again pc pc2 ht ha h = no_list p call q deep f tf.type.result pc pc2 out again h
     all_run (typed.and_statement a more) lo hi out again pc pc2 ht ha h =
@@ -340,7 +308,7 @@ module _ (p : typed.Program) (tf : Function) (call : Calling) (q : Program) (dee
         (right_true (statement_is_asked a) (statements_are_asked more) ha) h.2)
 
     at_runs : (all : Statements) (lo hi : ℕ) (places : List ℕ) (out again pc pc2 : ℕ) → statements_are_typed p tf lo hi all ≡ true
-        → statements_are_asked all ≡ true → StandAt (function_at q f).code (sizes p f) all places out again back pc pc2
+        → statements_are_asked all ≡ true → StandAt (function_at q f).code p tf all places out again back pc pc2
         → Lists p call q deep f tf.type.result (execute_all p call (function_at q f).objects all) pc pc2 out again
     at_runs typed.no_statements lo hi places out again pc pc2 ht ha h = no_list p call q deep f tf.type.result pc pc2 out again h.1
     at_runs (typed.and_statement a more) lo hi places out again pc pc2 ht ha h =
@@ -354,7 +322,7 @@ module _ (p : typed.Program) (tf : Function) (call : Calling) (q : Program) (dee
     -- from a label on
     from_runs : (all : Statements) (lo hi : ℕ) (places : List ℕ) (label : Option ℕ) (out again pc to pc2 : ℕ) → statements_are_typed p tf lo hi all ≡ true
         → statements_are_asked all ≡ true
-        → StandAt (function_at q f).code (sizes p f) all places out again back pc pc2 → IsPlace places pc2 label to
+        → StandAt (function_at q f).code p tf all places out again back pc pc2 → IsPlace places pc2 label to
         → Lists p call q deep f tf.type.result (execute_from p call (function_at q f).objects label all) to pc2 out again
     from_runs typed.no_statements lo hi places None out again pc to pc2 ht ha h place = no_list p call q deep f tf.type.result to pc2 out again place
     from_runs typed.no_statements lo hi places (Some n) out again pc to pc2 ht ha h place = absurd (let z : ⊥ = nothing_there places n to h.0 place in z)

@@ -1,10 +1,11 @@
 -- The objects that live: each has its shape and values of its type, and what is not written to stays.
 use Rattle.std.proofs.Common.{◌≡◌, ◌⊎◌, inl, inr, ℕ, zero, suc, ◌+◌, ◌<◌, ◌≤◌, List, [], ◌∷◌, ◌++◌, length, map, Option, Some, None, Bool, true, false, ℤ, refl, sym, ap, ◌∙◌, subst, arith}
-use Rattle.std.specs.Prelude.{slice_get}
+use Rattle.std.specs.Prelude.{slice_get, nat_lt}
+use Rattle.std.proofs.lemmas.Bool.Decides.{nat_tests}
 use Rattle.ctypes.specs.declared.types.IntType.{IntType}
 use Rattle.ctypes.specs.Types.{IsValueOf}
 use Rattle.typed.specs.Types.{ObjectType}
-use Rattle.meaning.specs.Store.{Tree, Element, Store, Reference, whole, value_of, value_at, put_at, put_in, put}
+use Rattle.meaning.specs.Store.{Tree, Element, Store, Reference, whole, value_of, value_at, put_at, put_in, put, literal_object}
 use Rattle.meaning.specs.Machine as machine
 use Rattle.tac.specs.Run.{is_element}
 use Rattle.tac.specs.Sound.{AreBytes}
@@ -62,9 +63,10 @@ cases_lt (suc m) (suc n) a b = cases_lt m n (λ lt. a (let z : suc m < suc n = o
 
 -- ---- what lives while a call runs
 
--- the types of the objects that were there before the call, of which `first` are string literals and static objects, and those of its own, each in
--- their order; and the elements of the arrays that its array parameters refer to
+-- the texts of the string literals; the types of the objects that were there before the call, of which `first` are string literals and static
+-- objects, and those of its own, each in their order; and the elements of the arrays that its array parameters refer to
 pub record World : Type 0 where
+  pub texts : List (List ℕ)
   pub first : ℕ
   pub outer : List ObjectType
   pub own : List ObjectType
@@ -90,12 +92,14 @@ abbrev pub RefersToRows : World → ObjectType → Option Reference → Type 0
 RefersToRows W o None = ⊥
 RefersToRows W o (Some r) = (n : ℕ) × Refers W r o.element (n ∷ o.lengths)
 
--- each object has its shape and values of its type; the input is bytes
+-- each object has its shape and values of its type, string literals their characters; the input is bytes
 pub record Fine (W : World) (s : machine.State) : Type 0 where
+  pub few : length W.texts ≤ W.first
   pub low : W.first ≤ length W.outer
   pub base : s.base ≡ length W.outer
   pub size : length s.store ≡ length W.outer + length W.own
   pub fits : (n : ℕ) (o : ObjectType) → slice_get (all_types W) n ≡ Some o → ObjectFits o (slice_get s.store n)
+  pub literals : (n : ℕ) (text : List ℕ) → slice_get W.texts n ≡ Some text → slice_get s.store n ≡ Some (literal_object text)
   pub arrays : (n : ℕ) (o : ObjectType) → slice_get W.rows n ≡ Some o → RefersToRows W o (slice_get s.arrays n)
   pub input : AreBytes s.input
 
@@ -134,10 +138,12 @@ after_alike w a b z e1 e2 e3 l = record {
 
 pub fine_alike : (W : World) (a b : machine.State) → b.base ≡ a.base → b.arrays ≡ a.arrays → b.store ≡ a.store → AreBytes b.input → Fine W a → Fine W b
 fine_alike W a b e1 e2 e3 bytes h = record {
+  few = h.few;
   low = h.low;
   base = e1 ∙ h.base;
   size = ap length e3 ∙ h.size;
   fits = λ n o e. subst (λ t. ObjectFits o t) (sym (ap (λ store. slice_get store n) e3)) (h.fits n o e);
+  literals = λ n text e. ap (λ store. slice_get store n) e3 ∙ h.literals n text e;
   arrays = λ n o e. subst (λ t. RefersToRows W o t) (sym (ap (λ l. slice_get l n) e2)) (h.arrays n o e);
   input = bytes;
 }
@@ -158,13 +164,30 @@ pub own_fits : (W : World) (s : machine.State) (x : ℕ) (t : ObjectType) → Fi
     → ObjectFits t (slice_get s.store (s.base + x))
 own_fits W s x t fine e = fine.fits (s.base + x) t (own_at W s x t fine e)
 
+-- a literal is not the object with this number
+pub is_apart : (texts : List (List ℕ)) (n : ℕ) (text : List ℕ) (x : ℕ) → slice_get texts n ≡ Some text → nat_lt x (length texts) ≡ false → n ≡ x → ⊥
+is_apart texts n text x e h m = by_size (below_length texts n text e)
+  where
+    by_size : n < length texts → ⊥
+    by_size lt = grind (arith, nat_tests)
+
+-- nor are those of the call
+pub own_apart : (W : World) (s : machine.State) (x : ℕ) → Fine W s → nat_lt (s.base + x) (length W.texts) ≡ false
+own_apart W s x fine = by_size (s.base + x) (length W.texts) (let few = fine.few in let low = fine.low in let base = fine.base in omega (arith, few, low, base))
+  where
+    by_size : (a b : ℕ) → b ≤ a → nat_lt a b ≡ false
+    by_size a b h = grind (arith, nat_tests)
+
 pub fine_changed : (W : World) (r : Reference) (t : ObjectType) (rest : List ℕ) (new : Tree) (s : machine.State) → slice_get (all_types W) r.object ≡ Some t
-    → Leads r.path t.lengths rest → HasShape t.element rest new → Fine W s → Fine W (record s { store = put s.store r new })
-fine_changed W r t rest new s at lead shape fine = record {
+    → Leads r.path t.lengths rest → HasShape t.element rest new → nat_lt r.object (length W.texts) ≡ false → Fine W s
+    → Fine W (record s { store = put s.store r new })
+fine_changed W r t rest new s at lead shape apart fine = record {
+  few = fine.few;
   low = fine.low;
   base = fine.base;
   size = put_length s.store r.object r.path new ∙ fine.size;
   fits = fits;
+  literals = λ n text e. put_elsewhere s.store r.object n r.path new (is_apart W.texts n text r.object e apart) ∙ fine.literals n text e;
   arrays = fine.arrays;
   input = fine.input;
 }
@@ -191,7 +214,7 @@ pub fine_put : (W : World) (x : ℕ) (t : ObjectType) (v : ℤ) (s : machine.Sta
     → Fine W s → Fine W (with_tree x (Element (Some v)) s)
 fine_put W x t v s e el h fine =
     fine_changed W (whole (s.base + x)) t t.lengths (Element (Some v)) s (own_at W s x t fine e) refl
-    (subst (λ l. HasShape t.element l (Element (Some v))) (sym el) h) fine
+    (subst (λ l. HasShape t.element l (Element (Some v))) (sym el) h) (own_apart W s x fine) fine
 
 -- what is read of it
 pub read_back : (W : World) (x : ℕ) (t : ObjectType) (v : ℤ) (s : machine.State) → slice_get W.own x ≡ Some t → Fine W s
@@ -221,7 +244,8 @@ read_fits W x t v s e fine g = value_fits t (slice_get s.store (s.base + x)) v (
 -- ---- a tick later
 
 pub fine_later : (W : World) (s : machine.State) (k : ℕ) → Fine W s → Fine W (record s { clock = k })
-fine_later W s k h = record { low = h.low; base = h.base; size = h.size; fits = h.fits; arrays = h.arrays; input = h.input }
+fine_later W s k h =
+    record { few = h.few; low = h.low; base = h.base; size = h.size; fits = h.fits; literals = h.literals; arrays = h.arrays; input = h.input }
 
 pub after_later : {first : ℕ} (w : ℕ → Bool) (s : machine.State) (k : ℕ) → After first w s (record s { clock = k })
 after_later w s k = record { base = refl; arrays = refl; below = λ i lo lt h. refl; still = λ x h e. refl }

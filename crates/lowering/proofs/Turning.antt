@@ -1,5 +1,5 @@
 -- One turn of a loop that clears elements of an array (ISO/IEC 9899:2011 6.7.9p21).
-use Rattle.std.proofs.Common.{◌≡◌, ℕ, suc, ◌+◌, ◌<◌, List, [], length, Some, false, ℤ, pos, inr, refl, ap, ◌∙◌, subst}
+use Rattle.std.proofs.Common.{◌≡◌, ℕ, suc, ◌+◌, ◌<◌, List, [], length, Some, false, ℤ, pos, inr, refl, sym, ap, ◌∙◌, subst}
 use Rattle.std.specs.Prelude.{slice_get, nat_lt, if◌then◌else◌}
 use Rattle.ctypes.specs.declared.types.IntType.{IntType}
 use Rattle.ctypes.specs.Types.{IsValueOf}
@@ -20,15 +20,12 @@ use Rattle.lowering.specs.Initialisers.{ClearsTo}
 use Rattle.lowering.proofs.Steps.{Reaches, reaches_on}
 use Rattle.lowering.proofs.Shapes.{HasShape, Leads}
 use Rattle.lowering.proofs.Elements.{path_there}
-use Rattle.lowering.proofs.Written.{written}
+use Rattle.lowering.proofs.Written.{set_no, written}
 use Rattle.lowering.proofs.Zeros.{number, first_is}
 use Rattle.lowering.proofs.Filling.{with_object, got_object, put_element}
 use Rattle.lowering.proofs.Stores.{all_types, Refers, Fine}
 use Rattle.lowering.proofs.Standing.{Scratch, here, put_scratch, set_same, Holds, does_compute, does_branch, world}
 use Rattle.lowering.proofs.Memory.{IsAt, put_reference, held_word, does_element, does_store}
-
-abbrev pub zeros_only : ℕ → ℤ
-zeros_only j = pos 0
 
 -- an array of the call that is initialised from element `first` on: where it is, its type, and the tree that it was
 pub record Array (p : typed.Program) (q : Program) (f : ℕ) (ws : List Call) (s : machine.State) (t : IntType) (first : ℕ) : Type 0 where
@@ -44,15 +41,17 @@ pub record Array (p : typed.Program) (q : Program) (f : ℕ) (ws : List Call) (s
   pub leads : Leads path type.lengths []
   pub number : number type.lengths path ≡ first
 
-module _ (p : typed.Program) (q : Program) (f : ℕ) (ws : List Call) (s : machine.State) (t : IntType) (first : ℕ) (a : Array p q f ws s t first) where
-  -- the state where j elements are zero
-  abbrev pub cleared : ℕ → machine.State
-  cleared j = record s { store = with_object s.store a.object (written a.tree first j zeros_only) }
+-- `give` has the value of each element from the first one on
+module _ (p : typed.Program) (q : Program) (f : ℕ) (ws : List Call) (s : machine.State) (t : IntType) (first : ℕ) (a : Array p q f ws s t first)
+    (give : ℕ → ℤ) where
+  -- the state where j elements are written
+  abbrev pub reached : ℕ → machine.State
+  reached j = record s { store = with_object s.store a.object (written a.tree first j give) }
 
   abbrev pub first_one : Reference
   first_one = record { object = a.object; path = a.path }
 
-  refers : (path : List ℕ) → Leads path a.type.lengths [] → Refers (world p q f ws) (record { object = a.object; path = path }) t []
+  pub refers : (path : List ℕ) → Leads path a.type.lengths [] → Refers (world p q f ws) (record { object = a.object; path = path }) t []
   refers path h = record { object = a.type; at = a.at; element = a.element; leads = h; memory = inr a.is_array }
 
   -- temporary 0 counts, temporary 1 has the reference of the first element
@@ -62,17 +61,18 @@ module _ (p : typed.Program) (q : Program) (f : ℕ) (ws : List Call) (s : machi
 
   pub record Turned (j c top pc2 : ℕ) (now : Scratch) (z : State) : Type 0 where
     pub now2 : Scratch
-    pub reaches : Reaches q z 4 39 (running (here f (if nat_lt (suc j) c then top else pc2) now2 ws (cleared (suc j))))
-    pub counts : Counts (suc j) now2 (cleared (suc j))
+    pub reaches : Reaches q z 4 39 (running (here f (if nat_lt (suc j) c then top else pc2) now2 ws (reached (suc j))))
+    pub counts : Counts (suc j) now2 (reached (suc j))
     pub kept : now2.kept ≡ now.kept
 
-  pub turn : (j c top pc2 : ℕ) (now : Scratch) → ClearsTo (function_at q f).code t c top pc2 → Counts j now (cleared j)
-      → HasShape t a.type.lengths (written a.tree first j zeros_only) → first + j < elements_in a.type.lengths → IsValueOf t (pos 0)
-      → Fine (world p q f ws) (cleared j) → operate operation.Add reading.Unsigned j 1 ≡ Some (suc j)
-      → holds comparison.Less reading.Unsigned (suc j) c ≡ nat_lt (suc j) c → Turned j c top pc2 now (here f top now ws (cleared j))
-  turn j c top pc2 now i has shape lt hv fine adds less =
-      let tree = written a.tree first j zeros_only in
-      let s1 = cleared j in
+  pub turn : (j c top pc2 : ℕ) (now : Scratch) → ClearsTo (function_at q f).code t c top pc2 → Counts j now (reached j)
+      → HasShape t a.type.lengths (written a.tree first j give) → first + j < elements_in a.type.lengths → IsValueOf t (pos 0)
+      → Fine (world p q f ws) (reached j) → operate operation.Add reading.Unsigned j 1 ≡ Some (suc j)
+      → holds comparison.Less reading.Unsigned (suc j) c ≡ nat_lt (suc j) c → give j ≡ pos 0
+      → Turned j c top pc2 now (here f top now ws (reached j))
+  turn j c top pc2 now i has shape lt hv fine adds less zero =
+      let tree = written a.tree first j give in
+      let s1 = reached j in
       let there : slice_get s1.store a.object ≡ Some tree = got_object s.store a.object a.tree tree a.there in
       let way = path_there t a.type.lengths tree (first + j) shape lt in
       let r : Reference = record { object = a.object; path = way.path } in
@@ -83,12 +83,13 @@ module _ (p : typed.Program) (q : Program) (f : ℕ) (ws : List Call) (s : machi
       let at2 : IsAt p q f (place.At (operand.Temporary 2)) r now1 s1 = reference_set r now s1 in
       let s2 : machine.State = record s1 { store = put s1.store r (Element (Some (pos 0))) } in
       let two = does_store p q f t zero_word (place.At (operand.Temporary 2)) r 0 (pos 0) i.0 i.1 now1 ws s1 i.3 refl at2 (refers way.path way.leads) fine a.no_literal (held_word t (pos 0) hv) in
-      let same : put s1.store r (Element (Some (pos 0))) ≡ with_object s.store a.object (written a.tree first (suc j) zeros_only) =
-      put_element s.store a.object a.tree tree (first + j) way.path (pos 0) a.there way.is in
-      let two2 : Reaches q (here f i.0 now1 ws s1) 1 7 (running (here f i.1 now1 ws (cleared (suc j)))) =
+      let same : put s1.store r (Element (Some (pos 0))) ≡ with_object s.store a.object (written a.tree first (suc j) give) =
+      put_element s.store a.object a.tree tree (first + j) way.path (pos 0) a.there way.is
+      ∙ ap (λ v. with_object s.store a.object (set_no tree (first + j) v)) (sym zero) in
+      let two2 : Reaches q (here f i.0 now1 ws s1) 1 7 (running (here f i.1 now1 ws (reached (suc j)))) =
       subst (λ store. Reaches q (here f i.0 now1 ws s1) 1 7 (running (here f i.1 now1 ws (record s { store = store })))) same two in
       let now2 = put_scratch (target.Temporary 0) (suc j) now1 in
-      let s3 = cleared (suc j) in
+      let s3 = reached (suc j) in
       let three = does_compute q f operation.Add reading.Unsigned (target.Temporary 0) (operand.Temporary 0) (operand.Constant 1) j 1 (suc j) i.1 i.4.0 now1 ws s3 i.4.1
       (count_stays j r now s1 s3 has.count) refl adds tt in
       let four = does_branch q f comparison.Less reading.Unsigned (operand.Temporary 0) (operand.Constant c) top (suc j) c (nat_lt (suc j) c) i.4.0 pc2 now2 ws s3 i.4.2

@@ -55,6 +55,11 @@ module _ (code : List Instruction) where
       (p1 top : ℕ) × One code (instruction.Move (target.Temporary 0) zero_word) pc p1
       × One code (instruction.Address (target.Temporary 1) (place.Element n i t)) p1 top × ClearsTo t (suc (suc c)) top pc2
 
+  -- the first c elements become characters of the literal
+  abbrev pub CopiesFirst : IntType → (c : ℕ) → ℕ → ℕ → Type 0
+  CopiesFirst t zero pc pc2 = pc ≡ pc2
+  CopiesFirst t (suc c) pc pc2 = CopiesTo t (suc c) pc pc2
+
   -- those past the characters become zero (6.7.9p21)
   abbrev pub ClearsRest : Bool → IntType → (count : ℕ) → ℕ → ℕ → Type 0
   ClearsRest true t count pc pc2 = ClearsTo t count pc pc2
@@ -66,7 +71,7 @@ module _ (code : List Instruction) where
       (p1 p2 p3 top rest : ℕ) × One code instruction.Nothing pc p1 × One code (instruction.Move (target.Temporary 0) zero_word) p1 p2
       × One code (instruction.Address (target.Temporary 1) (place.Element n i t)) p2 p3
       × One code (instruction.Address (target.Temporary 2) (place.Literal m)) p3 top
-      × CopiesTo t (min count characters) top rest × ClearsRest (nat_lt characters count) t count rest pc2
+      × CopiesFirst t (min count characters) top rest × ClearsRest (nat_lt characters count) t count rest pc2
 
   -- ---- initialisers. `texts` are the program's literals, `size` has the bytes of each element and row
   module _ (texts : List (List ℕ)) (size : Place → ℕ) where
