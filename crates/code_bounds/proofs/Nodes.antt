@@ -14,7 +14,7 @@ use Rattle.tac.specs.declared.code.Operand.TheVariants as operand
 use Rattle.tac.specs.declared.code.Target.TheVariants as target
 use Rattle.tac.specs.declared.code.Reading.{Reading}
 use Rattle.tac.specs.declared.code.Instruction.TheVariants as instruction
-use Rattle.lowering.specs.Plain.{object_of}
+use Rattle.lowering.specs.Values.{object_of}
 use Rattle.checked.specs.Asked.{is_wide}
 use Rattle.lowering.specs.Values.{calls, writes, writes_none, rests_in, keeps, reading_of, operand_of, waits_in, free_temporary, free_kept, Mode, Nowhere, If, mode_of, target_of}
 use Rattle.lowering.specs.Places.{found, free_temporary_at, free_kept_at, cuts}

@@ -1,4 +1,4 @@
--- Operands and targets of plain code are fine.
+-- Operands and targets are fine.
 use Rattle.std.proofs.Common.{◌≡◌, ℕ, ◌+◌, ◌<◌, ◌≤◌, List, [], ◌∷◌, length, Option, Some, None, Bool, true, false, ◌&&◌, ℤ, refl, arith}
 use Rattle.std.specs.Prelude.{nat_eq, slice_get}
 use Rattle.std.proofs.lemmas.Bool.Decides.{nat_tests}
@@ -13,7 +13,7 @@ use Rattle.tac.specs.declared.code.Operand.TheVariants as operand
 use Rattle.tac.specs.declared.code.Target.{Target}
 use Rattle.tac.specs.declared.code.Target.TheVariants as target
 use Rattle.tac.specs.Code.{scalar_type, type_if_scalar}
-use Rattle.lowering.specs.Plain.{object_of}
+use Rattle.lowering.specs.Values.{object_of}
 use Rattle.lowering.specs.Values.{rests_in, pending, unless_written, at_rest, constant_of, constant_or, waits_in, free_temporary, free_kept, Mode, Nowhere, To, If, mode_of, target_of}
 use Rattle.lowering.proofs.Words.{word_small, left_true, right_true, differ}
 use Rattle.code_bounds.proofs.Grounds.{Ground, IsNumber, OperandFine, TargetFine, Stays, Lands, ModeLands, ModeAims}

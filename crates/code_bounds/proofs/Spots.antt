@@ -15,7 +15,7 @@ use Rattle.tac.specs.Lowered.{kind_of}
 use Rattle.tac.specs.declared.code.Place.{Place as Spot}
 use Rattle.tac.specs.declared.code.Place.TheVariants as place
 use Rattle.tac.specs.Code.{scalar_type, type_if_scalar}
-use Rattle.lowering.specs.Plain.{object_of}
+use Rattle.lowering.specs.Values.{object_of}
 use Rattle.lowering.specs.Places.{target_for, named_spot, found, free_temporary_at, free_kept_at}
 use Rattle.lowering.proofs.Words.{differ}
 use Rattle.code_bounds.proofs.Grounds.{Ground, SpotFine, Lands, StaysAt}

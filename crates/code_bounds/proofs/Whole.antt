@@ -1,4 +1,4 @@
--- Plain code is sound and within its bounds: the whole program.
+-- The code of a program is sound and within its bounds: all of it.
 use Rattle.std.proofs.Common.{◌≡◌, ℕ, zero, suc, ◌+◌, ◌*◌, ◌-◌, ◌/◌, ◌<◌, ◌≤◌, ◌^◌, max, List, [], ◌∷◌, length, map, Some, true, ◌&&◌, refl, sym, ap, ◌∙◌, subst, arith}
 use Rattle.std.specs.Prelude.{nat_eq, nat_le, nat_lt, slice_get, sum_by}
 use Rattle.std.proofs.Math.Nat.{le-max_left, le-max_right}
@@ -23,7 +23,7 @@ use Rattle.lowering.specs.Bodies.{temporaries_of, slots_of, IsFunctionFor, IsCod
 use Rattle.lowering.proofs.Words.{left_true, right_true}
 use Rattle.lowering.proofs.Program.{code_behaves}
 use Rattle.code_bounds.specs.inside.Rooms.{before}
-use Rattle.code_bounds.specs.Laws.{PlainCodeIsSound, PlainCodeIsBounded, PlainCodeIsLowered}
+use Rattle.code_bounds.specs.Laws.{CodeIsSound, CodeIsBounded, CodeIsLowered}
 use Rattle.code_bounds.proofs.Lists.{same_some, got_below, length_map}
 use Rattle.code_bounds.proofs.Grounds.{Ground, Fine}
 use Rattle.code_bounds.proofs.Stretches.{Within}
@@ -228,16 +228,16 @@ module _ (p : typed.Program) (q : Program) (checked : IsChecked p) (code : IsCod
         (sum_le (λ f. length f.code + (length f.parameters + 1)) q.functions (λ k g e. let f = got_below p.functions k (source_of k g e) in short k f.element g f.is e));
   }
 
-pub plain_code_is_sound : PlainCodeIsSound
-plain_code_is_sound p q checked sized code = sound p q checked code sized
+pub code_is_sound : CodeIsSound
+code_is_sound p q checked sized code = sound p q checked code sized
 
-pub plain_code_is_bounded : PlainCodeIsBounded
-plain_code_is_bounded = bounded
+pub code_is_bounded : CodeIsBounded
+code_is_bounded = bounded
 
-pub plain_code_is_lowered : PlainCodeIsLowered
-plain_code_is_lowered p q checked asked plain code = record {
+pub code_is_lowered : CodeIsLowered
+code_is_lowered p q checked asked code = record {
   sound = sound p q checked code (right_true (bodies_are_asked p) (types_are_sized p) asked);
-  behaves = λ input bytes. code_behaves p q input checked asked plain code bytes;
+  behaves = λ input bytes. code_behaves p q input checked asked code bytes;
   literals = code.literals;
   statics = code.statics;
   main = code.main;

@@ -1,19 +1,19 @@
-//! Plain three-address code is sound and within its bounds: laws.
+//! The three-address code of a program is sound and within its bounds: laws.
 #![tactic(auto)]
 
-ghost use Rattle.code_bounds.specs.Laws.{PlainCodeIsSound, PlainCodeIsBounded, PlainCodeIsLowered};
+ghost use Rattle.code_bounds.specs.Laws.{CodeIsSound, CodeIsBounded, CodeIsLowered};
 
-/// Plain code names what there is, and has its place.
-pub fn plain_code_is_sound()
-    ensures { PlainCodeIsSound }
+/// The code names what there is, and has its place.
+pub fn code_is_sound()
+    ensures { CodeIsSound }
 {}
 
 /// Each function of it keeps within its stack, and its code within 128 bytes a node and 1024.
-pub fn plain_code_is_bounded()
-    ensures { PlainCodeIsBounded }
+pub fn code_is_bounded()
+    ensures { CodeIsBounded }
 {}
 
-/// Plain code is all that lowering is to give.
-pub fn plain_code_is_lowered()
-    ensures { PlainCodeIsLowered }
+/// The code is all that lowering is to give.
+pub fn code_is_lowered()
+    ensures { CodeIsLowered }
 {}

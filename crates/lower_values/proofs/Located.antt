@@ -13,7 +13,7 @@ use Rattle.tac.specs.declared.code.Place.{Place as Spot}
 use Rattle.tac.specs.declared.code.Instruction.{Instruction}
 use Rattle.tac.specs.declared.code.Instruction.TheVariants as instruction
 use Rattle.meaning.specs.Expressions.{step_operation}
-use Rattle.lowering.specs.Plain.{object_of}
+use Rattle.lowering.specs.Values.{object_of}
 use Rattle.lowering.specs.Asked.{is_wide}
 use Rattle.lowering.specs.Values.{calls, arguments_call, keeps, operand_of, free_temporary, Mode, mode_of}
 use Rattle.lowering.specs.Places.{found, target_for, free_temporary_at, free_kept_at, cuts}

@@ -22,7 +22,7 @@ use Rattle.tac.specs.declared.code.Target.TheVariants as target
 use Rattle.tac.specs.declared.code.Place.{Place as Spot}
 use Rattle.tac.specs.Code.{Program, function_at}
 use Rattle.tac.specs.Run.{word, Call, State, running, word_for, number_of, held_by}
-use Rattle.lowering.specs.Plain.{object_of}
+use Rattle.lowering.specs.Values.{object_of}
 use Rattle.lowering.specs.Values.{place_calls, place_writes, writes_none, extent, Mode, Nowhere, To, If, target_of}
 use Rattle.lowering.specs.Places.{is_truth, cuts, found, free_temporary_at, free_kept_at}
 use Rattle.lowering.specs.Code.{Ends, Gets, Puts}

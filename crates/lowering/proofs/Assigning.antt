@@ -24,7 +24,7 @@ use Rattle.tac.specs.declared.code.Instruction.TheVariants as instruction
 use Rattle.tac.specs.Code.{Program, function_at}
 use Rattle.tac.specs.Run.{word, Call, running, word_for}
 use Rattle.checked.specs.Asked.{is_wide}
-use Rattle.lowering.specs.Plain.{object_of}
+use Rattle.lowering.specs.Values.{object_of}
 use Rattle.lowering.specs.Values.{calls, place_calls, writes, place_writes, writes_none, is_object, pending, at_rest, constant_or, rests_in, constant_of, extent, keeps, operand_of, free_temporary, Mode, mode_of}
 use Rattle.lowering.specs.Places.{cuts, found, free_temporary_at, free_kept_at}
 use Rattle.lowering.specs.Code.{One, Puts, Alters, Into}

@@ -479,7 +479,7 @@ module _ (p : typed.Program) (q : Program) (typed_well : is_typed p ≡ true) (a
   follows_at (Some fn) e n input bytes nothing lt = follows_main fn e n input bytes (nothing fn refl)
 
 pub code_behaves : CodeBehaves
-code_behaves p q input checked asked plain code bytes =
+code_behaves p q input checked asked code bytes =
     let lt : p.main < length p.functions = less (left_part checked.well_typed) in
     let all : (n : ℕ) → Sim q 14 (60 * n + 18) n (tac.start q input) (Never p q checked.well_typed asked checked.literals code checked.main_gives_int) (cstep n p input) =
     λ n. follows_at p q checked.well_typed asked checked.literals code checked.main_gives_int (slice_get p.functions p.main) refl n input bytes checked.main_takes_nothing

@@ -26,7 +26,7 @@ use Rattle.tac.specs.declared.code.Comparison.TheVariants as comparison
 use Rattle.tac.specs.declared.code.Instruction.{Instruction}
 use Rattle.tac.specs.declared.code.Instruction.TheVariants as instruction
 use Rattle.tac.specs.Run.{word_for}
-use Rattle.lowering.specs.Plain.{object_of}
+use Rattle.lowering.specs.Values.{object_of}
 use Rattle.checked.specs.Asked.{is_wide}
 use Rattle.lowering.specs.Values.{calls, arguments_call, writes, arguments_write, keeps, reading_of, waits_in, operand_of, free_temporary, free_kept, Mode, Nowhere, To, If, mode_of, target_of}
 use Rattle.lowering.specs.Places.{found, target_for, free_temporary_at, free_kept_at, cuts}

@@ -1,4 +1,3 @@
-pub mod Plain
 pub use Rattle.checked.specs.Asked
 pub mod Values
 pub mod Places

@@ -16,8 +16,15 @@ use Rattle.tac.specs.declared.code.Target.TheVariants as target
 use Rattle.tac.specs.declared.code.Reading.{Reading}
 use Rattle.tac.specs.declared.code.Reading.TheVariants as reading
 use Rattle.tac.specs.Run.{word_for}
-use Rattle.lowering.specs.Plain.{object_of}
 use Rattle.checked.specs.Asked.{is_wide}
+
+-- the automatic object that a place is, by its name
+abbrev pub object_of : Place → Option ℕ
+object_of (typed.named at (typed.automatic n)) = Some n
+object_of (typed.named at (typed.literal n)) = None
+object_of (typed.named at (typed.static n)) = None
+object_of (typed.named at (typed.parameter n)) = None
+object_of (typed.element at array index) = None
 
 -- ---- what an expression does
 

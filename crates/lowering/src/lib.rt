@@ -5,7 +5,7 @@
 
 ghost use Rattle.lowering.specs.Laws.{CodeBehaves};
 
-/// Plain code of a checked program does what the program does, in at most 60 instructions of RV32IM a tick and 60, wherever nothing
+/// The code of a checked program does what the program does, in at most 60 instructions of RV32IM a tick and 60, wherever nothing
 /// undefined is met; where the clock runs out, in no fewer steps than ticks.
 pub fn code_behaves()
     ensures { CodeBehaves }

@@ -1,4 +1,4 @@
--- How much room the instructions of plain code take: bytes of code, no less than 4 an instruction, so that room bounds their number too.
+-- How much room the instructions of a program's code take: bytes of code, no less than 4 an instruction, so that room bounds their number too.
 use Rattle.std.specs.Prelude.{ℕ, zero, suc, ◌+◌, max, List, [], ◌∷◌}
 use Rattle.tac.specs.declared.code.Instruction.{Instruction}
 use Rattle.tac.specs.declared.code.Instruction.TheVariants as instruction

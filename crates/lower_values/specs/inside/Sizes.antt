@@ -6,7 +6,7 @@ use Rattle.typed.specs.Program as typed
 use Rattle.typed.specs.Program.{Place, Value, Arguments}
 use Rattle.meaning.specs.Expressions.{step_operation}
 use Rattle.lowering.specs.Asked.{is_wide}
-use Rattle.lowering.specs.Plain.{object_of}
+use Rattle.lowering.specs.Values.{object_of}
 use Rattle.lowering.specs.Values.{calls, arguments_call, writes, arguments_write, keeps, waits_in, operand_of, mode_of}
 use Rattle.lowering.specs.Places.{found}
 use Rattle.lower_forms.specs.declared.modes.Shape.{Shape}

@@ -1,5 +1,5 @@
 use Rattle.std.proofs.Common.{ap, sym, ◌∙◌}
-use Rattle.lowering.specs.Plain.{object_of}
+use Rattle.lowering.specs.Values.{object_of}
 use Rattle.lower_forms.proofs.Held.{sees_named}
 use Rattle.lower_forms.proofs.objects.object_of.Goals as goal
 
