@@ -1,4 +1,4 @@
-//! What plain three-address code of a typed program is, and that it does what the program does: definitions and a law.
+//! What three-address code of a typed program is, and that it does what the program does: definitions and a law.
 //!
 //! There is nothing to run. The law is the contract of a function without code, so that it is surely proved.
 #![tactic(auto)]
