@@ -189,6 +189,11 @@ pub fn parts_size(spot: Spot) -> usize
         Spot::Literal(_) => plus(1, 1),
         Spot::Static(_) => plus(1, 1),
         Spot::Array(_) => plus(1, 1),
+        Spot::Element {
+            array: _,
+            number: _,
+            element: _,
+        } => plus(1, 1),
         Spot::At(_) => 1,
     }
 }
@@ -251,6 +256,11 @@ pub fn hands_over_size(spot: Spot) -> usize
         Spot::Literal(_) => 1,
         Spot::Static(_) => 1,
         Spot::Array(_) => 1,
+        Spot::Element {
+            array: _,
+            number: _,
+            element: _,
+        } => 1,
         Spot::At(operand) => loads_size(true, operand),
     }
 }

@@ -116,6 +116,14 @@ pub fn put_part(
             put_part_named(code, spot, target, index, size, temporary)?;
             Ok(())
         }
+        Spot::Element {
+            array: _,
+            number: _,
+            element: _,
+        } => {
+            put_part_named(code, spot, target, index, size, temporary)?;
+            Ok(())
+        }
         Spot::At(array) => {
             put_part_at(code, array, target, index, size)?;
             Ok(())
@@ -324,6 +332,14 @@ pub fn put_handed(code: &mut Code, spot: Spot, temporary: usize) -> Result<(), A
             Ok(())
         }
         Spot::Array(_) => {
+            put(code, address_of(way, spot))?;
+            Ok(())
+        }
+        Spot::Element {
+            array: _,
+            number: _,
+            element: _,
+        } => {
             put(code, address_of(way, spot))?;
             Ok(())
         }

@@ -2,7 +2,7 @@
 
 ghost use Rattle.std.specs.Prelude.{◌≡◌};
 ghost use Rattle.program.specs.View.{storage_of, place_of};
-ghost use Rattle.lowering.specs.Plain as definition;
+ghost use Rattle.lowering.specs.Values as definition;
 ghost use Rattle.srcset.specs.declared.refusal.Pos.{Pos};
 ghost use Rattle.typed.specs.Program as typed;
 

@@ -19,7 +19,8 @@ pub struct Scope<'p> {
     pub function: &'p Function,
 }
 
-fn times(count: usize, length: u32) -> Result<usize, AllocError>
+/// The product, if a word counts it.
+pub fn times(count: usize, length: u32) -> Result<usize, AllocError>
     ensures { IfOk result (λ n. n ≡ length * count) }
 {
     match count.checked_mul(length as usize) {
@@ -29,7 +30,7 @@ fn times(count: usize, length: u32) -> Result<usize, AllocError>
 }
 
 /// How many elements an array of these lengths has.
-fn elements(lengths: &[u32]) -> Result<usize, AllocError>
+pub fn elements(lengths: &[u32]) -> Result<usize, AllocError>
     ensures { IfOk result (λ n. n ≡ elements_in lengths.now) }
 {
     match lengths.split_first() {

@@ -54,6 +54,11 @@ pub fn free_temporary_at(spot: Spot, temporary: usize) -> Result<usize, AllocErr
         Spot::Literal(_) => Ok(temporary),
         Spot::Static(_) => Ok(temporary),
         Spot::Array(_) => Ok(temporary),
+        Spot::Element {
+            array: _,
+            number: _,
+            element: _,
+        } => Ok(temporary),
         Spot::At(operand) => free_temporary(operand, temporary),
     }
 }
@@ -65,6 +70,11 @@ pub fn free_slot_at(spot: Spot, slot: usize) -> Result<usize, AllocError>
         Spot::Literal(_) => Ok(slot),
         Spot::Static(_) => Ok(slot),
         Spot::Array(_) => Ok(slot),
+        Spot::Element {
+            array: _,
+            number: _,
+            element: _,
+        } => Ok(slot),
         Spot::At(operand) => free_slot(operand, slot),
     }
 }

@@ -39,7 +39,7 @@ fn extent(e: &Value) -> IntType
 }
 
 /// Whether conversion to a type leaves the word of an expression's value as it is (6.3.1.3).
-pub(crate) fn keeps(ty: IntType, e: &Value) -> bool
+pub fn keeps(ty: IntType, e: &Value) -> bool
     ensures { result ≡ values.keeps ty (value_of e.now) }
 {
     either(is_wide(ty), holds_all(ty, extent(e)))
@@ -153,7 +153,7 @@ pub fn waits_for_objects(e: &Value, first: usize, count: usize) -> Operand
 }
 
 /// Where nothing is evaluated behind it.
-pub(crate) fn operand_of(e: &Value, temporary: usize, slot: usize) -> Operand
+pub fn operand_of(e: &Value, temporary: usize, slot: usize) -> Operand
     ensures { result ≡ values.operand_of (value_of e.now) temporary slot }
 {
     waits(e, false, false, temporary, slot)

@@ -7,7 +7,7 @@ ghost use Rattle.srcset.specs.declared.refusal.Pos.{Pos};
 ghost use Rattle.ctypes.specs.declared.types.IntType.{IntType};
 ghost use Rattle.tree.specs.declared.expression.StepOp.{StepOp};
 ghost use Rattle.typed.specs.Program as typed;
-ghost use Rattle.lowering.specs.Plain as definition;
+ghost use Rattle.lowering.specs.Values as definition;
 ghost use Rattle.lower_values.specs.inside.Given.{given_calls, given_writes};
 
 use lower_forms::bools::either;

@@ -33,7 +33,7 @@ use tac::{Instruction, Operand, Target};
 
 /// A value into the operand that it is in where nothing is evaluated behind it.
 #[cycle(value_code)]
-pub(crate) fn put_rested(
+pub fn put_rested(
     scope: &Scope<'_>,
     code: &mut Code,
     e: &Value,

@@ -95,6 +95,7 @@ parts_size (place.At o) = 1
 parts_size (place.Literal n) = plus 1 1
 parts_size (place.Static n) = plus 1 1
 parts_size (place.Array n) = plus 1 1
+parts_size (place.Element n i t) = plus 1 1
 
 abbrev pub gets_size : Shape → ℕ
 gets_size s = plus 1 (follows_size s)
@@ -130,6 +131,7 @@ hands_over_size (place.At o) = loads_size true o
 hands_over_size (place.Literal n) = 1
 hands_over_size (place.Static n) = 1
 hands_over_size (place.Array n) = 1
+hands_over_size (place.Element n i t) = 1
 
 -- ---- calls
 

@@ -8,3 +8,6 @@ returns-in_ok-put_part_named-in-Static c = rw c.in-Static.is (rw c.in-Static.is 
 
 pub returns-in_ok-put_part_named-in-Array : goal.returns-in_ok-put_part_named-in-Array
 returns-in_ok-put_part_named-in-Array c = rw c.in-Array.is (rw c.in-Array.is at c.in_ok-put_part_named-in-Array.ensures)
+
+pub returns-in_ok-put_part_named-in-Element : goal.returns-in_ok-put_part_named-in-Element
+returns-in_ok-put_part_named-in-Element c = rw c.in-Element.is (rw c.in-Element.is at c.in_ok-put_part_named-in-Element.ensures)
