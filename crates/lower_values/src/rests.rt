@@ -7,7 +7,6 @@ ghost use Rattle.srcset.specs.declared.refusal.Pos.{Pos};
 ghost use Rattle.ctypes.specs.declared.types.IntType.{IntType};
 ghost use Rattle.tree.specs.declared.expression.StepOp.{StepOp};
 ghost use Rattle.typed.specs.Program as typed;
-ghost use Rattle.lowering.specs.Values as definition;
 ghost use Rattle.lower_values.specs.inside.Given.{given_calls, given_writes};
 
 use lower_forms::bools::either;
@@ -67,7 +66,7 @@ pub(crate) fn has_calls(e: &Value) -> bool
 }
 
 fn is_object(place: &Place, object: usize) -> bool
-    ensures { result ≡ values.is_object (definition.object_of (place_of place.now)) object }
+    ensures { result ≡ values.is_object (values.object_of (place_of place.now)) object }
 {
     match object_of(place) {
         None => false,
