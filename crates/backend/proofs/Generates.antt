@@ -15,6 +15,7 @@ use Rattle.typed.specs.Program as typed
 use Rattle.tac.specs.Code as tac
 use Rattle.tac.specs.Sound.{data_bytes}
 use Rattle.tac.specs.Spans.{span}
+use Rattle.tac.specs.Lowered.{IsLowered}
 use Rattle.frames.specs.Code as flat
 use Rattle.frames.specs.Code.{frame_bytes}
 use Rattle.frames.specs.declared.code.FlatProgram.{FlatProgram}
@@ -33,7 +34,6 @@ use Rattle.simulation.specs.Runs.{slack}
 use Rattle.flat_images.specs.Images.{IsImageOf}
 use Rattle.tac_images.proofs.Runs.{flattened_of, none_within}
 use Rattle.tac_images.proofs.Programs.{flattened_goes_on, flattened_ends}
-use Rattle.backend.specs.inside.Lowered.{IsLoweredTo}
 use Rattle.backend.proofs.Renumbering.{renumbered_is_flattened}
 use Rattle.backend.specs.Generated.{IsReady, IsFlatCodeOf, RunsAs, FramesFit, most_text, IsFileOf, AreItemsOf}
 
@@ -58,16 +58,15 @@ functions_short k first (f ∷ fs) =
 start_short : (main : ℕ) → longest (start_items main) ≡ 24
 start_short main = refl
 
-pub code_of : (p : typed.Program) (q : tac.Program) (f : flat.Program) → IsLoweredTo p q → IsRenumbered (flat_program q) f → IsFlatCodeOf p f
+pub code_of : (p : typed.Program) (q : tac.Program) (f : flat.Program) → IsLowered p q → IsRenumbered (flat_program q) f → IsFlatCodeOf p f
 code_of p q f made renumbered = record {
-  plain = made.plain;
   code = q;
-  lowered = made.lowered;
+  lowered = made;
   renumbered = renumbered;
-  sound = stays_sound (flat_program q) f renumbered (flattened_of q (flat_program q) made.lowered.sound refl).sound;
+  sound = stays_sound (flat_program q) f renumbered (flattened_of q (flat_program q) made.sound refl).sound;
 }
 
-pub code_in : {E : Type 0} (p : typed.Program) (q : tac.Program) → IsLoweredTo p q → (r : Result FlatProgram E) → IfOk r (λ f. IsRenumbered (flat_program q) (flat.program_of f)) → IfOk r (λ f. IsFlatCodeOf p (flat.program_of f))
+pub code_in : {E : Type 0} (p : typed.Program) (q : tac.Program) → IsLowered p q → (r : Result FlatProgram E) → IfOk r (λ f. IsRenumbered (flat_program q) (flat.program_of f)) → IfOk r (λ f. IsFlatCodeOf p (flat.program_of f))
 code_in p q made (Ok f) renumbered = code_of p q (flat.program_of f) made renumbered
 code_in p q made (Err e) renumbered = tt
 
@@ -140,7 +139,6 @@ module _ (p : typed.Program) (f : flat.Program) (ready : IsReady p) (made : IsFl
   pub is_file : (parts : Parts) (file frames : List ℕ) → IsImageOf f parts → length parts.text ≤ longest (program_items f) → frames ≡ map frame_bytes f.functions
       → file ≡ file_of parts → file_image file ≡ Ok (program_image parts) → IsFileOf p file frames
   is_file parts file frames image short sizes written loads = record {
-    plain = made.plain;
     runs = subst (λ xs. RunsAs stack_size p xs file) (sym sizes) (runs parts file image loads);
     code = f;
     code_is = made;

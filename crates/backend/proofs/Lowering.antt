@@ -1,13 +1,13 @@
 -- What lowering gives is three-address code that does what the program does.
-use Rattle.std.proofs.Common.{◌≡◌, true, false, refl}
-use Rattle.std.specs.Prelude.{Result, Ok, Err, IfErr}
+use Rattle.std.specs.Prelude.{Result, Ok, Err, IfOk}
 use Rattle.typed.specs.Program.{Program}
-use Rattle.tac.specs.Code as tac
-use Rattle.lowering.specs.Plain.{is_plain}
+use Rattle.tac.specs.declared.code.TacProgram.{TacProgram}
+use Rattle.tac.specs.Code.{program_of}
+use Rattle.tac.specs.Lowered.{IsLowered}
 use Rattle.lowering.specs.Bodies.{IsCodeFor}
-use Rattle.code_bounds.proofs.Whole.{plain_code_is_lowered}
+use Rattle.code_bounds.proofs.Whole.{code_is_lowered}
 use Rattle.backend.specs.Generated.{IsReady}
-use Rattle.backend.specs.inside.Lowered.{IsLoweredTo}
 
-pub lowered_to : (p : Program) (q : tac.Program) → IsReady p → is_plain p ≡ true → IsCodeFor p q → IsLoweredTo p q
-lowered_to p q ready plain code = record { plain = plain; lowered = plain_code_is_lowered p q ready.checked ready.asked plain code }
+pub lowered_in : {E : Type 0} (p : Program) → IsReady p → (r : Result TacProgram E) → IfOk r (λ q. IsCodeFor p (program_of q)) → IfOk r (λ q. IsLowered p (program_of q))
+lowered_in p ready (Ok q) code = code_is_lowered p (program_of q) ready.checked ready.asked code
+lowered_in p ready (Err e) code = tt

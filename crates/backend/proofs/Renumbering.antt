@@ -1,34 +1,72 @@
 -- Flat code that does what three-address code does, does so too with its words under other numbers.
-use Rattle.std.proofs.Common.{◌≡◌, ◌≤◌, ℕ, zero, suc, ◌+◌, List, [], ◌∷◌, map, Some, refl, sym, ap, ◌∙◌, subst, arith}
+use Rattle.std.proofs.Common.{◌≡◌, ◌≤◌, ℕ, zero, suc, ◌+◌, max, List, [], ◌∷◌, map, Some, refl, sym, ap, ◌∙◌, subst, arith}
 use Rattle.std.specs.Prelude.{slice_get, sum_by}
 use Rattle.tac.specs.Code as tac
 use Rattle.tac.specs.Run as tac_run
+use Rattle.frames.specs.declared.code.Operand.{Operand}
+use Rattle.frames.specs.declared.code.Operand.TheVariants as operand
+use Rattle.frames.specs.declared.code.Target.{Target}
+use Rattle.frames.specs.declared.code.Target.TheVariants as target
+use Rattle.frames.specs.declared.code.Location.{Location}
+use Rattle.frames.specs.declared.code.Location.TheVariants as location
 use Rattle.frames.specs.declared.code.Instruction.{Instruction}
 use Rattle.frames.specs.declared.code.Instruction.TheVariants as instruction
 use Rattle.frames.specs.Code as flat
 use Rattle.frames.specs.Code.{frame_bytes}
 use Rattle.frames.specs.Run as flat_run
-use Rattle.flattening.specs.Costs.{code_bytes, function_bytes}
+use Rattle.flattening.specs.Costs.{fetch_bytes, keep_bytes, move_bytes, reach_bytes, reference_bytes, scale_bytes, code_bytes, function_bytes}
 use Rattle.flattening.specs.Flattened.{IsFlattened, InStep, IsCodeOf, HasItsCalls, CostsNoMore, behind, before}
 use Rattle.flattening.proofs.Elements.{sum_by_map, same_some}
-use Rattle.residents.specs.Renumbered.{renumbered, IsRenumberedFunction, AreRenumbered, IsRenumbered}
+use Rattle.residents.specs.Renumbered.{renumbered_operand, renumbered_target, renumbered_location, renumbered, IsRenumberedFunction, AreRenumbered, IsRenumbered}
 use Rattle.residents.specs.Laws.{words_of, moved_frame, moved, moved_progress}
 use Rattle.residents.proofs.Whole.{runs_alike, costs_alike}
 use Rattle.residents.proofs.Soundness.{same_count, stays_sound}
 
 -- ---- bytes of code
 
+fetch_same : (to : ℕ → ℕ) (x : Operand) → fetch_bytes (renumbered_operand to x) ≡ fetch_bytes x
+fetch_same to (operand.Temporary k) = refl
+fetch_same to (operand.Cell c) = refl
+fetch_same to (operand.Constant v) = refl
+fetch_same to (operand.Argument k) = refl
+
+keep_same : (to : ℕ → ℕ) (d : Target) → keep_bytes (renumbered_target to d) ≡ keep_bytes d
+keep_same to (target.Temporary k) = refl
+keep_same to (target.Cell c) = refl
+
+-- what comes of two equal numbers, and of three
+two_same : (f : ℕ → ℕ → ℕ) (a b x y : ℕ) → a ≡ b → x ≡ y → f a x ≡ f b y
+two_same f a b x y e g = ap (λ n. f n x) e ∙ ap (f b) g
+
+three_same : (f : ℕ → ℕ → ℕ → ℕ) (a b x y m n : ℕ) → a ≡ b → x ≡ y → m ≡ n → f a x m ≡ f b y n
+three_same f a b x y m n e g h = ap (λ k. f k x m) e ∙ two_same (f b) x y m n g h
+
+move_same : (to : ℕ → ℕ) (d : Target) (x : Operand) → move_bytes (renumbered_target to d) (renumbered_operand to x) ≡ move_bytes d x
+move_same to d x = two_same (λ a b. max 4 (a + b)) _ _ _ _ (fetch_same to x) (keep_same to d)
+
+reach_same : (to : ℕ → ℕ) (l : Location) → reach_bytes (renumbered_location to l) ≡ reach_bytes l
+reach_same to (location.Statics o) = refl
+reach_same to (location.Frame o) = refl
+reach_same to (location.At x) = fetch_same to x
+
+reference_same : (to : ℕ → ℕ) (d : Target) (l : Location) → reference_bytes (renumbered_target to d) (renumbered_location to l) ≡ reference_bytes d l
+reference_same to d (location.Statics o) = ap (λ n. 8 + n) (keep_same to d)
+reference_same to d (location.Frame o) = ap (λ n. 12 + n) (keep_same to d)
+reference_same to d (location.At x) = move_same to d x
+
 bytes_same : (to : ℕ → ℕ) (x : Instruction) → code_bytes (renumbered to x) ≡ code_bytes x
 bytes_same to instruction.Nothing = refl
-bytes_same to (instruction.Move d x) = refl
-bytes_same to (instruction.Compute o d x y) = refl
-bytes_same to (instruction.Convert c d x) = refl
-bytes_same to (instruction.Load w d l) = refl
-bytes_same to (instruction.Store w x l) = refl
-bytes_same to (instruction.Address d l) = refl
-bytes_same to (instruction.Element d x y size) = refl
+bytes_same to (instruction.Move d x) = move_same to d x
+bytes_same to (instruction.Compute o d x y) =
+    three_same (λ a b c. a + (b + (8 + c))) _ _ _ _ _ _ (fetch_same to x) (fetch_same to y) (keep_same to d)
+bytes_same to (instruction.Convert c d x) = two_same (λ a b. a + (8 + b)) _ _ _ _ (fetch_same to x) (keep_same to d)
+bytes_same to (instruction.Load w d l) = two_same (λ a b. a + (4 + b)) _ _ _ _ (reach_same to l) (keep_same to d)
+bytes_same to (instruction.Store w x l) = two_same (λ a b. a + (b + 4)) _ _ _ _ (fetch_same to x) (reach_same to l)
+bytes_same to (instruction.Address d l) = reference_same to d l
+bytes_same to (instruction.Element d x y size) =
+    three_same (λ a b c. a + (b + (scale_bytes size + c))) _ _ _ _ _ _ (fetch_same to x) (fetch_same to y) (keep_same to d)
 bytes_same to (instruction.Jump k) = refl
-bytes_same to (instruction.Branch t x y k) = refl
+bytes_same to (instruction.Branch t x y k) = two_same (λ a b. a + (b + 8)) _ _ _ _ (fetch_same to x) (fetch_same to y)
 bytes_same to (instruction.Call f) = refl
 bytes_same to instruction.PutByte = refl
 bytes_same to instruction.GetByte = refl

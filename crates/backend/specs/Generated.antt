@@ -1,5 +1,5 @@
 -- What the back end promises of the file of a typed program: how it runs.
-use Rattle.std.specs.Prelude.{◌≡◌, ◌≤◌, ◌<◌, ℕ, ◌+◌, ◌*◌, true, false, List, length, map, sum_by, slice_get, Some, Ok}
+use Rattle.std.specs.Prelude.{◌≡◌, ◌≤◌, ◌<◌, ℕ, ◌+◌, ◌*◌, true, List, length, map, sum_by, slice_get, Some, Ok}
 use Rattle.loader.specs.File.{Image, file_image}
 use Rattle.loader.specs.MemoryMap.{stack_size, text_start}
 use Rattle.elf_out.specs.Layout.{Parts}
@@ -24,10 +24,7 @@ use Rattle.residents.specs.Renumbered.{IsRenumbered}
 use Rattle.select.specs.Program.{program_items}
 use Rattle.flat_images.specs.Images.{IsImageOf}
 use Rattle.checked.specs.Asked.{is_asked}
-use Rattle.lowering.specs.Plain.{is_plain}
 use Rattle.tac_images.specs.Programs.{HasFrames}
-use Rattle.backend.specs.declared.flat_code.NotGenerated.{NotGenerated}
-use Rattle.backend.specs.declared.flat_code.NotGenerated.TheVariants.{NotBuiltYet, Memory}
 
 -- what the constraints give
 pub record IsReady (p : Program) : Type 0 where
@@ -67,7 +64,6 @@ pub record RunsAs (stack : ℕ) (p : Program) (frames file : List ℕ) : Type 0 
 
 -- Flat code of the program: what its three-address code is flattened to, the words of its frames under numbers by their use.
 pub record IsFlatCodeOf (p : Program) (f : flat.Program) : Type 0 where
-  pub plain : is_plain p ≡ true
   pub code : tac.Program
   pub lowered : IsLowered p code
   pub renumbered : IsRenumbered (flat_program code) f
@@ -83,10 +79,9 @@ FramesFit p frames =
 abbrev pub most_text : Program → ℕ
 most_text p = 1024 + sum_by (λ f. 128 * f.nodes + 1024) p.functions
 
--- The executable file of a program whose code is built today, and the bytes of the frame of each function. It is the image of flat code of the
--- program, and has its frames; so all that is known of such an image is known of the file. Its data are 16 bytes, string literals and statics.
+-- The executable file of a program, and the bytes of the frame of each function. It is the image of flat code of the program, and has its frames;
+-- so all that is known of such an image is known of the file. Its data are 16 bytes, string literals and statics.
 pub record IsFileOf (p : Program) (file frames : List ℕ) : Type 0 where
-  pub plain : is_plain p ≡ true
   pub runs : RunsAs stack_size p frames file
   pub code : flat.Program
   pub code_is : IsFlatCodeOf p code
@@ -105,8 +100,3 @@ pub record AreItemsOf (p : Program) (items : List Item) : Type 0 where
   pub items_are : items ≡ program_items code
   pub low : IsLow text_start items
   pub reach : AllReach text_start items
-
--- why there is no file: the program uses what has no code yet, or memory runs out
-abbrev pub IsRefused : Program → NotGenerated → Type 0
-IsRefused p NotBuiltYet = is_plain p ≡ false
-IsRefused p Memory = Unit {0}

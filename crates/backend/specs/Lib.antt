@@ -1,6 +1,4 @@
 pub mod Generated
 pub use Rattle.tac_images.specs.Programs
-pub use Rattle.lowering.specs.Plain
 pub use Rattle.checked.specs.Asked
 pub use Rattle.residents.specs.Renumbered
-pub mod inside

@@ -1,17 +1,17 @@
 //! From a typed program to the executable file, and to its listing.
 
-ghost use Rattle.std.specs.Prelude.{◌≡◌, IfOk, IfErr};
+ghost use Rattle.std.specs.Prelude.{IfOk};
 ghost use Rattle.program.specs.View.{program_of};
 ghost use Rattle.frames.specs.Code as flat;
-ghost use Rattle.backend.specs.Generated.{IsReady, IsFileOf, AreItemsOf, IsRefused};
+ghost use Rattle.backend.specs.Generated.{IsReady, IsFileOf, AreItemsOf};
 
-use crate::flat_code::{NotGenerated, flat_code, want_of_memory};
+use crate::flat_code::{flat_code, want_of_memory};
 use crate::image::{code_image, low_items};
 use crate::sizes::frame_sizes;
 use asm::Items;
 use elf_out::write_elf;
 use program::Program;
-use std::alloc::Global;
+use std::alloc::{AllocError, Global};
 
 /// An executable file.
 #[derive(Drop)]
@@ -22,16 +22,13 @@ pub struct Generated {
     pub frames: Vec<u32>,
 }
 
-/// The executable file of a program that breaks no constraint.
-pub fn generate(alloc: Global, program: &Program) -> Result<Generated, NotGenerated>
+/// The executable file of a program that breaks no constraint; an error also where what it takes is more than the machine's memory.
+pub fn generate(alloc: Global, program: &Program) -> Result<Generated, AllocError>
     requires ready { IsReady (program_of program.now) }
     ensures file { IfOk result (λ g. IsFileOf (program_of program.now) g.elf.items g.frames.items) }
-    ensures refused { IfErr result (IsRefused (program_of program.now)) }
 {
     let code = flat_code(alloc, program)?;
-    let Ok(frames) = frame_sizes(alloc, &code) else {
-        return Err(NotGenerated::Memory);
-    };
+    let frames = frame_sizes(alloc, &code)?;
     let image = code_image(alloc, code)?;
     match write_elf(alloc, &image) {
         Ok(elf) => Ok(Generated { elf, frames }),
@@ -40,10 +37,9 @@ pub fn generate(alloc: Global, program: &Program) -> Result<Generated, NotGenera
 }
 
 /// The items of the code of a program that breaks no constraint.
-pub fn items(alloc: Global, program: &Program) -> Result<Items, NotGenerated>
+pub fn items(alloc: Global, program: &Program) -> Result<Items, AllocError>
     requires ready { IsReady (program_of program.now) }
     ensures items { IfOk result (λ items. AreItemsOf (program_of program.now) items) }
-    ensures refused { IfErr result (IsRefused (program_of program.now)) }
 {
     let code = flat_code(alloc, program)?;
     low_items(alloc, &code)

@@ -1,30 +1,28 @@
 //! The items of flat code, and their image.
 
-ghost use Rattle.std.specs.Prelude.{◌≡◌, ◌≤◌, length, IfOk, IfErr};
+ghost use Rattle.std.specs.Prelude.{◌≡◌, ◌≤◌, length, IfOk};
 ghost use Rattle.loader.specs.MemoryMap.{text_start};
 ghost use Rattle.asm.specs.Placed.{Assembles};
 ghost use Rattle.frames.specs.Code as flat;
-ghost use Rattle.backend.specs.declared.flat_code.NotGenerated.TheVariants.{Memory};
 ghost use Rattle.frames.specs.Sound.{IsSoundProgram};
 ghost use Rattle.flat_images.specs.Images.{IsImageOf};
 ghost use Rattle.select.specs.Program.{program_items};
 ghost use Rattle.asm.specs.Layout.{IsLow, AllReach, longest};
 
 use crate::bytes::are_bytes;
-use crate::flat_code::{NotGenerated, want_of_memory};
+use crate::flat_code::want_of_memory;
 use asm::{Items, assemble};
 use elf_out::Image;
 use frames::FlatProgram;
 use loader::memory_map::TEXT_START;
 use select::select;
-use std::alloc::Global;
+use std::alloc::{AllocError, Global};
 
 /// The items of flat code, which end where the assembler takes them.
-pub fn low_items(alloc: Global, program: &FlatProgram) -> Result<Items, NotGenerated>
+pub fn low_items(alloc: Global, program: &FlatProgram) -> Result<Items, AllocError>
     requires { IsSoundProgram (flat.program_of program.now) }
     ensures items { IfOk result (λ items. items ≡ program_items (flat.program_of program.now)) }
     ensures low { IfOk result (λ items. IsLow text_start items) }
-    ensures memory { IfErr result (λ e. e ≡ Memory) }
 {
     let items = match select(alloc, program) {
         Ok(items) => items,
@@ -33,17 +31,16 @@ pub fn low_items(alloc: Global, program: &FlatProgram) -> Result<Items, NotGener
     if items.is_low(TEXT_START) {
         Ok(items)
     } else {
-        Err(NotGenerated::Memory)
+        Err(AllocError)
     }
 }
 
 /// The image of flat code.
-pub fn code_image(alloc: Global, program: FlatProgram) -> Result<Image, NotGenerated>
+pub fn code_image(alloc: Global, program: FlatProgram) -> Result<Image, AllocError>
     requires sound { IsSoundProgram (flat.program_of program) }
     requires reaches { AllReach text_start (program_items (flat.program_of program)) }
     ensures image { IfOk result (IsImageOf (flat.program_of program)) }
     ensures size { IfOk result (λ image. length image.text ≤ longest (program_items (flat.program_of program))) }
-    ensures memory { IfErr result (λ e. e ≡ Memory) }
 {
     let items = low_items(alloc, &program)?;
     let text = match assemble(alloc, &items, TEXT_START) {
@@ -54,6 +51,6 @@ pub fn code_image(alloc: Global, program: FlatProgram) -> Result<Image, NotGener
     are_bytes(program.statics.as_slice());
     match Image::new(text, program.statics) {
         Some(image) => Ok(image),
-        None => Err(NotGenerated::Memory),
+        None => Err(AllocError),
     }
 }

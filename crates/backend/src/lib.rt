@@ -7,5 +7,4 @@ mod generating;
 mod image;
 mod sizes;
 
-pub use flat_code::NotGenerated;
 pub use generating::{Generated, generate, items};

@@ -1,12 +1,11 @@
 -- Why a main file is refused.
-use Rattle.std.proofs.Common.{◌≡◌, ℕ, List, Option, Some, None, inl, inr, ⊎_elim, refl, sym, subst}
+use Rattle.std.proofs.Common.{◌≡◌, ℕ, List, Option, Some, None, inl, inr, refl, sym, subst}
 use Rattle.std.specs.Prelude.{Result, Ok, Err, ◌⊎◌, IfOk, IfErr, MatchResult, slice_get}
 use Rattle.std.specs.Result.{IsErrAnd}
 use Rattle.std.proofs.lemmas.Result.{err_from_is_err_and}
 use Rattle.srcset.specs.Files.{Files}
 use Rattle.srcset.specs.declared.fault.Fault.{Fault}
-use Rattle.srcset.specs.declared.code.Code.TheVariants.{NotBuiltYet}
-use Rattle.srcset.specs.Fault.{IsFaultOrMemory, IsMemoryFault}
+use Rattle.srcset.specs.Fault.{IsMemoryFault}
 use Rattle.srcset.specs.NameTable.{Texts, KeepsNumbers, NumbersOnce}
 use Rattle.srcset.specs.declared.refusal.Refusal.{Refusal}
 use Rattle.phases.specs.Token.{Token as PpToken}
@@ -15,14 +14,10 @@ use Rattle.lexer.specs.Numbering.{AreAll, IsTokenFault}
 use Rattle.lexer.specs.declared.token.Token.{Token}
 use Rattle.tree.specs.Tree.{ExternalTree}
 use Rattle.parser.specs.Units.{IsTreeWithin, IsOnly, IsFaultOfUnit}
-use Rattle.typed.specs.Program.{Program}
-use Rattle.backend.specs.Generated.{IsRefused}
-use Rattle.backend.specs.declared.flat_code.NotGenerated.{NotGenerated}
-use Rattle.backend.specs.declared.flat_code.NotGenerated.TheVariants as not_generated
 use Rattle.cc.specs.declared.stopping.Stop.{Stop}
 use Rattle.cc.specs.declared.stopping.Stop.TheVariants.{Memory, At, Told}
-use Rattle.cc.specs.Compiled.{HasList, FailsPreprocessing, HasTokens, HasTree, HasProgram, BreaksConstraint, HasNoProgram}
-use Rattle.cc.specs.inside.Stops.{IsToldAs, IsTold, IsMemory, Stops, StopsBefore, StopsProgram, generated_stop}
+use Rattle.cc.specs.Compiled.{HasList, FailsPreprocessing, HasTokens, HasTree, BreaksConstraint, IsRefused}
+use Rattle.cc.specs.inside.Stops.{IsTold, IsMemory, Stops}
 
 -- what is said of an error that `?` hands on
 pub handed_on : {A B : Type 0} (r : Result A B) (f : B) (P : B → Type 0) → IsErrAnd r (λ e. e ≡ f) → P f → IfErr r P
@@ -41,28 +36,28 @@ error_means (Ok x) P Q means h = h
 error_means (Err f) P Q means h = means f h
 
 module _ (set : Files) (name : List ℕ) where
-  wants : (fault : Fault) → IsMemoryFault fault → HasNoProgram set name fault
+  wants : (fault : Fault) → IsMemoryFault fault → IsRefused set name fault
   wants fault m = inr (inr (inr (inr m)))
 
-  told_stops : (stop : Stop) (P : Fault → Type 0) → ((f : Fault) → P f → HasNoProgram set name f) → IsTold P stop → StopsBefore set name stop
+  told_stops : (stop : Stop) (P : Fault → Type 0) → ((f : Fault) → P f → IsRefused set name f) → IsTold P stop → Stops set name stop
   told_stops Memory P each h = absurd h
   told_stops (At code line) P each h = absurd h
-  told_stops (Told told) P each h = λ fault is. subst (HasNoProgram set name) (sym is) (each told h)
+  told_stops (Told told) P each h = λ fault is. subst (IsRefused set name) (sym is) (each told h)
 
-  no_list : (fault : Fault) → FailsPreprocessing set name fault ⊎ IsMemoryFault fault → HasNoProgram set name fault
+  no_list : (fault : Fault) → FailsPreprocessing set name fault ⊎ IsMemoryFault fault → IsRefused set name fault
   no_list fault (inl f) = inl f
   no_list fault (inr m) = wants fault m
 
-  pub list_stops : (stop : Stop) → IsTold (λ fault. FailsPreprocessing set name fault ⊎ IsMemoryFault fault) stop → StopsBefore set name stop
+  pub list_stops : (stop : Stop) → IsTold (λ fault. FailsPreprocessing set name fault ⊎ IsMemoryFault fault) stop → Stops set name stop
   list_stops stop told = told_stops stop (λ fault. FailsPreprocessing set name fault ⊎ IsMemoryFault fault) no_list told
 
   module _ (texts : Texts) (list : List PpToken) (has : HasList set name texts list) where
-    token_refused : (fault : Fault) (r : Option Refusal) → (ctokens list).fault ≡ r → IsTokenFault fault texts r → HasNoProgram set name fault
+    token_refused : (fault : Fault) (r : Option Refusal) → (ctokens list).fault ≡ r → IsTokenFault fault texts r → IsRefused set name fault
     token_refused fault None e h = wants fault h
     token_refused fault (Some refusal) e h =
         inr (inl (record { texts = texts; list = list; has_list = has; refusal = refusal; first = e; fault_is = h }))
 
-    pub tokens_stop : (stop : Stop) → IsTold (λ fault. IsTokenFault fault texts (ctokens list).fault) stop → StopsBefore set name stop
+    pub tokens_stop : (stop : Stop) → IsTold (λ fault. IsTokenFault fault texts (ctokens list).fault) stop → Stops set name stop
     tokens_stop stop told =
         told_stops stop (λ fault. IsTokenFault fault texts (ctokens list).fault) (λ f h. token_refused f (ctokens list).fault refl h) told
 
@@ -86,30 +81,15 @@ module _ (set : Files) (name : List ℕ) where
   pub has_number : (old texts : Texts) (items : List PpToken) → ((t : Texts) → KeepsNumbers old t → NumbersOnce t → HasList set name t items) → KeepsNumbers old texts → NumbersOnce texts → (n : ℕ) × (slice_get texts n ≡ Some name)
   has_number old texts items each keeps once = let numbers = (each texts keeps once).numbers in (numbers.file, numbers.named)
 
-  pub tree_stops : (texts : Texts) (tokens : List Token) (stop : Stop) → HasTokens set name texts tokens → IsTold (λ fault. IsFaultOfUnit fault texts tokens) stop → StopsBefore set name stop
+  pub tree_stops : (texts : Texts) (tokens : List Token) (stop : Stop) → HasTokens set name texts tokens → IsTold (λ fault. IsFaultOfUnit fault texts tokens) stop → Stops set name stop
   tree_stops texts tokens stop has told =
       told_stops stop (λ fault. IsFaultOfUnit fault texts tokens) (λ f h. inr (inr (inl (record { texts = texts; tokens = tokens; has_tokens = has; fault_is = h })))) told
 
-  pub check_stops : (texts : Texts) (unit : List ExternalTree) (stop : Stop) → HasTree set name texts unit → IsTold (BreaksConstraint name texts unit) stop → StopsBefore set name stop
+  pub check_stops : (texts : Texts) (unit : List ExternalTree) (stop : Stop) → HasTree set name texts unit → IsTold (BreaksConstraint name texts unit) stop → Stops set name stop
   check_stops texts unit stop has told =
       told_stops stop (BreaksConstraint name texts unit) (λ f h. inr (inr (inr (inl (record { texts = texts; unit = unit; has_tree = has; breaks = h }))))) told
 
-  -- a file without a program is refused
-  pub before_stops : (stop : Stop) → StopsBefore set name stop → Stops set name stop
-  before_stops stop h = λ fault told. inl (h fault told)
-
-  memory_stops : (stop : Stop) → IsMemory stop → Stops set name stop
-  memory_stops Memory h = λ fault is. inl (wants fault is)
+  pub memory_stops : (stop : Stop) → IsMemory stop → Stops set name stop
+  memory_stops Memory h = λ fault is. wants fault is
   memory_stops (At code line) h = absurd h
-  memory_stops (Told told) h = λ fault is. inl (subst (HasNoProgram set name) (sym is) (wants told h))
-
-  pub program_stops : (texts : Texts) (unit : List ExternalTree) (program : Program) (stop : Stop) → HasProgram set name texts unit program → StopsProgram program stop → Stops set name stop
-  program_stops texts unit program stop has (inr m) = memory_stops stop m
-  program_stops texts unit program stop has (inl h) = λ fault told.
-      let t : IsFaultOrMemory fault NotBuiltYet name 1 = subst (λ s. IsToldAs name s fault) h.1 told in
-      ⊎_elim (λ f. inr (record { texts = texts; unit = unit; program = program; has_program = has; another = h.0; fault_is = f })) (λ m. inl (wants fault m)) t
-
--- why a program has no file
-pub generated_stops : (program : Program) (reason : NotGenerated) (stop : Stop) → stop ≡ generated_stop reason → IsRefused program reason → StopsProgram program stop
-generated_stops program not_generated.NotBuiltYet stop is h = inl (h, is)
-generated_stops program not_generated.Memory stop is h = inr (subst IsMemory (sym is) tt)
+  memory_stops (Told told) h = λ fault is. subst (IsRefused set name) (sym is) (wants told h)

@@ -1,11 +1,10 @@
 -- What the compiler promises of a file that it answers, and of a fault.
-use Rattle.std.specs.Prelude.{◌≡◌, ℕ, List, [], ◌∷◌, String, false, Some, map, ◌⊎◌, slice_get}
+use Rattle.std.specs.Prelude.{◌≡◌, ℕ, List, [], ◌∷◌, String, Some, map, ◌⊎◌, slice_get}
 use Rattle.std.specs.String.{string_bytes}
 use Rattle.std.specs.Global.{Global}
 use Rattle.srcset.specs.Files.{Files}
 use Rattle.srcset.specs.declared.fault.Fault.{Fault}
-use Rattle.srcset.specs.declared.code.Code.TheVariants.{NotBuiltYet}
-use Rattle.srcset.specs.Fault.{IsFault, IsMemoryFault}
+use Rattle.srcset.specs.Fault.{IsMemoryFault}
 use Rattle.srcset.specs.NameTable.{Texts, KeepsNumbers, NumbersOnce, shown_text}
 use Rattle.srcset.specs.Refusal.{IsFaultOfRefusal}
 use Rattle.srcset.specs.declared.refusal.Refusal.{Refusal}
@@ -20,7 +19,6 @@ use Rattle.typed.specs.Program.{Function, Program}
 use Rattle.typed.specs.Verdict.{Verdict, fine}
 use Rattle.typed.specs.Units.{unit_typed}
 use Rattle.checker.specs.Told.{IsFaultOfVerdict}
-use Rattle.lowering.specs.Plain.{is_plain}
 use Rattle.backend.specs.Generated.{IsFileOf}
 use Rattle.cc.specs.declared.compiling.Built.{Built}
 
@@ -138,24 +136,11 @@ pub record FailsCheck (set : Files) (name : List ℕ) (fault : Fault) : Type 0 w
   pub has_tree : HasTree set name texts unit
   pub breaks : BreaksConstraint name texts unit fault
 
--- 699: the program is right, and an automatic array of it has an initialiser, for which no code is made yet
-pub record IsNotPlain (set : Files) (name : List ℕ) (fault : Fault) : Type 0 where
-  pub texts : Texts
-  pub unit : List ExternalTree
-  pub program : Program
-  pub has_program : HasProgram set name texts unit program
-  pub another : is_plain program ≡ false
-  pub fault_is : IsFault fault NotBuiltYet name 1
-
 -- why there is no program: the fault of the first phase that fails; or out of memory, which may hide any of them
-abbrev pub HasNoProgram : Files → List ℕ → Fault → Type 0
-HasNoProgram set name fault =
+abbrev pub IsRefused : Files → List ℕ → Fault → Type 0
+IsRefused set name fault =
     FailsPreprocessing set name fault
     ⊎ FailsTokens set name fault
     ⊎ FailsTree set name fault
     ⊎ FailsCheck set name fault
     ⊎ IsMemoryFault fault
-
--- there is no program, or none that can be built today; or out of memory
-abbrev pub IsRefused : Files → List ℕ → Fault → Type 0
-IsRefused set name fault = HasNoProgram set name fault ⊎ IsNotPlain set name fault

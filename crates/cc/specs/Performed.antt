@@ -32,7 +32,7 @@ use Rattle.typed.specs.Program.{Program}
 use Rattle.interpreter.specs.declared.outcome.Run.{Run as Interpreted}
 use Rattle.interpreter.specs.declared.outcome.Run.TheVariants as interpreted
 use Rattle.interpreter.specs.Interpreting as interpreting
-use Rattle.cc.specs.Compiled.{HasList, HasProgram, HasNoProgram, FailsPreprocessing, Compiles, IsRefused}
+use Rattle.cc.specs.Compiled.{HasList, HasProgram, FailsPreprocessing, Compiles, IsRefused}
 use Rattle.cc.specs.Reported.{Said, Says, SaysOutcome, SaysRun, fault_text}
 use Rattle.cc.specs.Transfer.{PutsAll, PutsSome}
 
@@ -199,7 +199,7 @@ pub record InterpretsSet (set : Files) (name : List ℕ) (max : ℕ) (refuses : 
 abbrev pub Interprets : Files → List ℕ → ℕ → (PortFault → Type 0) → PortView → PortView → Said → ℕ → Type 0
 Interprets set name max refuses old new said status =
     InterpretsSet set name max refuses old new said status
-    ⊎ ((status ≡ 1) × (new ≡ old) × ((fault : Fault) × HasNoProgram set name fault × Says said (fault_text fault)))
+    ⊎ ((status ≡ 1) × (new ≡ old) × ((fault : Fault) × IsRefused set name fault × Says said (fault_text fault)))
 
 -- By the main file's name. Only what is printed or listed goes to `out`, and that does not touch the port.
 abbrev pub Performs : Cmd → Files → List ℕ → List ℕ → (PortFault → Type 0) → PortView → PortView → Said → Said → ℕ → Type 0

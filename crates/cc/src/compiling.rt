@@ -4,13 +4,13 @@ ghost use Rattle.std.specs.Prelude.{◌≡◌, map, IfOk, IfErr, OnOk, ◌++◌}
 ghost use Rattle.program.specs.View.{program_of, function_of};
 ghost use Rattle.backend.specs.Generated.{IsReady};
 ghost use Rattle.cc.specs.Compiled.{Compiles, BuildsProgram, IsRefused, shown_entry, entry_of, entries};
-ghost use Rattle.cc.specs.inside.Stops.{Stops, StopsProgram, generated_stop};
+ghost use Rattle.cc.specs.inside.Stops.{Stops, IsMemory};
 
 use crate::front::checked_unit;
 use crate::stopping::Stop;
-use backend::{NotGenerated, generate};
+use backend::generate;
 use program::{Function, Program};
-use srcset::{Code, Fault, FileSet, Names};
+use srcset::{Fault, FileSet, Names};
 use std::alloc::{AllocError, Global};
 
 /// An executable file, and what each function may take of the stack.
@@ -27,7 +27,7 @@ pub struct Built {
 ///
 /// Refuses with the fault of its preprocessing tokens (103; 111 to 113, 703; 201 to 235, 704 to 708), of its C tokens (301 to 303,
 /// 601 to 609), of its tree (401, 709 to 711), or of a constraint that this breaks (501 to 553, 620 to 623, 712 to 715), in this
-/// order; with 699 where an automatic array has an initialiser; and with 801 where there is no memory.
+/// order; and with 801 where there is no memory.
 pub fn compile(alloc: Global, set: &FileSet, main: &str) -> Result<Built, Fault>
     ensures built { IfOk result (λ built. Compiles set.now main.now built) }
     ensures refused { IfErr result (λ fault. IsRefused set.now main.now fault) }
@@ -52,11 +52,11 @@ fn by_phases(alloc: Global, set: &FileSet, main: &str) -> Result<Built, Stop>
 fn build(alloc: Global, program: &Program, names: &Names) -> Result<Built, Stop>
     requires { IsReady (program_of program.now) }
     ensures built { IfOk result (λ built. BuildsProgram names.now (program_of program.now) built) }
-    ensures stops { IfErr result (λ stop. StopsProgram (program_of program.now) stop) }
+    ensures stops { IfErr result IsMemory }
 {
     let generated = match generate(alloc, program) {
         Ok(generated) => generated,
-        Err(reason) => return Err(stop_of(reason)),
+        Err(_) => return Err(Stop::Memory),
     };
     let mut frames = Vec::new(alloc);
     match put_entries(
@@ -71,16 +71,6 @@ fn build(alloc: Global, program: &Program, names: &Names) -> Result<Built, Stop>
             frames,
         }),
         Err(_) => Err(Stop::Memory),
-    }
-}
-
-/// Why a program has no file.
-pub fn stop_of(reason: NotGenerated) -> Stop
-    ensures { result ≡ generated_stop reason }
-{
-    match reason {
-        NotGenerated::NotBuiltYet => Stop::At(Code::NotBuiltYet, 1),
-        NotGenerated::Memory => Stop::Memory,
     }
 }
 

@@ -12,7 +12,7 @@ ghost use Rattle.tac.specs.Sound.{AreBytes};
 ghost use Rattle.checked.specs.Laws.{AreTexts};
 ghost use Rattle.backend.specs.Generated.{IsReady};
 ghost use Rattle.cc.specs.Compiled.{HasList, HasProgram, IsProgramOf, BreaksConstraint, FailsPreprocessing};
-ghost use Rattle.cc.specs.inside.Stops.{IsTold, StopsBefore};
+ghost use Rattle.cc.specs.inside.Stops.{IsTold, Stops};
 
 use crate::stopping::Stop;
 use checker::check;
@@ -43,7 +43,7 @@ pub fn checked_unit(
     requires new { names.old ≡ [] }
     ensures program { IfOk result (λ c. HasProgram set.now main.now names.new (unit_of c.unit) (program_of c.program)) }
     ensures ready { IfOk result (λ c. IsReady (program_of c.program)) }
-    ensures stops { IfErr result (λ stop. StopsBefore set.now main.now stop) }
+    ensures stops { IfErr result (λ stop. Stops set.now main.now stop) }
 {
     let list = preprocessed(alloc, set, main, names)?;
     let tokens = c_tokens(alloc, list.as_slice(), names)?;

@@ -5,7 +5,7 @@ ghost use Rattle.cc.specs.Performed.{Performs, Runs, Interprets, interpreted_sta
 ghost use Rattle.cc.specs.inside.Stops.{Stops, HasItems, put_stop, load_stop};
 ghost use Rattle.cc.specs.Reported.{SaysOutcome, SaysRun};
 
-use crate::compiling::{compile, stop_of};
+use crate::compiling::compile;
 use crate::front::{checked_unit, preprocessed};
 use crate::reporting::{say_budget, say_fault, say_memory, say_port, say_trap, say_undefined};
 use crate::stopping::Stop;
@@ -178,7 +178,7 @@ fn items_of(alloc: Global, set: &FileSet, main: &str, names: &mut Names) -> Resu
     let checked = checked_unit(alloc, set, main, names)?;
     match items(alloc, &checked.program) {
         Ok(items) => Ok(items),
-        Err(reason) => Err(stop_of(reason)),
+        Err(_) => Err(Stop::Memory),
     }
 }
 

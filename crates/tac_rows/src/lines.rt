@@ -72,8 +72,15 @@ fn next_target(words: &mut Words<'_>) -> Result<Target> {
     target(words.part().as_bytes())
 }
 
-fn next_place(words: &mut Words<'_>) -> Result<Place> {
-    place(words.part().as_bytes())
+/// A place, whose elements have this type where it is one of them.
+fn next_place(words: &mut Words<'_>, kind: &str) -> Result<Place> {
+    place(words.part(), kind)
+}
+
+/// A place, with its type behind it where it is an element.
+fn next_typed_place(words: &mut Words<'_>) -> Result<Place> {
+    let name = words.part();
+    place(name, words.part())
 }
 
 pub fn instruction(name: &str, words: &mut Words<'_>) -> Result<Instruction> {
@@ -103,19 +110,25 @@ pub fn instruction(name: &str, words: &mut Words<'_>) -> Result<Instruction> {
 
 fn access(name: &str, words: &mut Words<'_>) -> Result<Instruction> {
     match name {
-        "load" => Ok(Instruction::Load {
-            element: element(words.part())?,
-            target: next_target(words)?,
-            from: next_place(words)?,
-        }),
-        "store" => Ok(Instruction::Store {
-            element: element(words.part())?,
-            source: next_operand(words)?,
-            to: next_place(words)?,
-        }),
+        "load" => {
+            let kind = words.part();
+            Ok(Instruction::Load {
+                element: element(kind)?,
+                target: next_target(words)?,
+                from: next_place(words, kind)?,
+            })
+        }
+        "store" => {
+            let kind = words.part();
+            Ok(Instruction::Store {
+                element: element(kind)?,
+                source: next_operand(words)?,
+                to: next_place(words, kind)?,
+            })
+        }
         "address" => Ok(Instruction::Address {
             target: next_target(words)?,
-            of: next_place(words)?,
+            of: next_typed_place(words)?,
         }),
         "element" => Ok(Instruction::Element {
             element: element(words.part())?,

@@ -29,13 +29,28 @@ pub fn target(text: &[u8]) -> Result<Target> {
     }
 }
 
-/// `lN`, `sN` or `aN` for a string literal, a static object or an array of the call, or `@` with an operand.
-pub fn place(text: &[u8]) -> Result<Place> {
-    match text {
+/// `lN`, `sN` or `aN` for a string literal, a static object or an array of the call, `eN.I` for its element I, which has the type that is
+/// told, or `@` with an operand.
+pub fn place(text: &str, kind: &str) -> Result<Place> {
+    if let Some((array, index)) = text.split_once('.') {
+        return element_place(array.as_bytes(), index.as_bytes(), kind);
+    }
+    match text.as_bytes() {
         [b'l', rest @ ..] => Ok(Place::Literal(number(rest)?)),
         [b's', rest @ ..] => Ok(Place::Static(number(rest)?)),
         [b'a', rest @ ..] => Ok(Place::Array(number(rest)?)),
         [b'@', rest @ ..] => Ok(Place::At(operand(rest)?)),
+        _ => None.context("no place"),
+    }
+}
+
+fn element_place(array: &[u8], index: &[u8], kind: &str) -> Result<Place> {
+    match array {
+        [b'e', rest @ ..] => Ok(Place::Element {
+            array: number(rest)?,
+            number: number(index)?,
+            element: element(kind)?,
+        }),
         _ => None.context("no place"),
     }
 }

@@ -5,17 +5,17 @@ use Rattle.std.proofs.lemmas.Bool.{cases_lt, ltb-true, lt-ltb}
 use Rattle.std.proofs.lemmas.List.{length-map}
 use Rattle.std.proofs.lemmas.Option.{none-some}
 use Rattle.ctypes.specs.declared.types.IntType.{IntType}
-use Rattle.typed.specs.Types.{ObjectType}
+use Rattle.typed.specs.Types.{ObjectType, elements_in}
 use Rattle.typed.specs.Program.{Static}
 use Rattle.tac.specs.declared.code.Function.{Function as HeldFunction}
 use Rattle.tac.specs.declared.code.Instruction.{Instruction}
 use Rattle.tac.specs.declared.code.TacProgram.{TacProgram}
 use Rattle.tac.specs.Code.{Function, Program, function_of, program_of, function_at, scalar_type, type_if_scalar}
-use Rattle.tac.specs.Sound.{IsScalar, IsDefined, InstructionFits, AreBytes, IsSoundProgram, data_bytes}
+use Rattle.tac.specs.Sound.{IsScalar, HasElement, IsDefined, InstructionFits, AreBytes, IsSoundProgram, data_bytes}
 use Rattle.flattening.specs.Sizes.{literal_bytes, statics_bytes}
 use Rattle.flattening.proofs.Whole.{data_bytes_are}
 use Rattle.tac_soundness.proofs.Lists.{false-true, got_in, one_more_here}
-use Rattle.tac_soundness.specs.inside.Parts.{element_in, defined_in, AreScalars, CodeFits, BytesFit, LiteralsFit, ValuesFit, FunctionsFit, places_of}
+use Rattle.tac_soundness.specs.inside.Parts.{element_in, IsElement, defined_in, AreScalars, CodeFits, BytesFit, LiteralsFit, ValuesFit, FunctionsFit, places_of}
 
 -- ---- what is named
 
@@ -36,6 +36,14 @@ defined_there (Some x) e = (x, refl, e)
 
 pub defined : (b : Bool) (p : Program) (n : ℕ) → b ≡ defined_in (slice_get p.statics n) → IsTrue b ↔ IsDefined p n
 defined b p n e = (λ t. defined_there (slice_get p.statics n) (sym e ∙ t), λ d. e ∙ ap defined_in d.1 ∙ d.2)
+
+element_there : (o : Option ObjectType) (i : ℕ) (t : IntType) → IsElement o i t
+    → (x : ObjectType) × (o ≡ Some x) × (scalar_type (Some x) ≡ None) × (i < elements_in x.lengths) × (t ≡ x.element)
+element_there None i t e = absurd e
+element_there (Some x) i t e = (x, refl, e.0, e.1, e.2)
+
+pub element : (b : Bool) (f : Function) (n i : ℕ) (t : IntType) → (IsTrue b ↔ IsElement (slice_get f.objects n) i t) → IsTrue b ↔ HasElement f n i t
+element b f n i t h = (λ yes. element_there (slice_get f.objects n) i t (h.0 yes), λ e. h.1 (subst (λ o. IsElement o i t) (sym e.1) (e.2, e.3, e.4)))
 
 pub one_more_scalar : (f : Function) (n : ℕ) → AreScalars f n → IsScalar f n → AreScalars f (n + 1)
 one_more_scalar f n before here = record { each = step }

@@ -3,9 +3,11 @@
 ghost use Rattle.std.specs.Prelude.{◌≡◌, ◌↔◌, ◌≤◌, ◌<◌, ◌+◌, length, slice_get, IsTrue};
 ghost use Rattle.tac.specs.Code.{function_of, program_of};
 ghost use Rattle.tac.specs.Costs.{array_parameters};
-ghost use Rattle.tac.specs.Sound.{IsScalar, IsArray, IsDefined, OperandFits, TargetFits, PlaceFits, CallFits, InstructionFits};
-ghost use Rattle.tac_soundness.specs.inside.Parts.{IsOneElement, defined_in};
+ghost use Rattle.tac.specs.Sound.{IsScalar, IsArray, HasElement, IsDefined, OperandFits, TargetFits, PlaceFits, CallFits, InstructionFits};
+ghost use Rattle.tac_soundness.specs.inside.Parts.{IsOneElement, IsElement, defined_in};
 
+use crate::objects::has_element_in;
+use ctypes::IntType;
 use tac::{Function, Instruction, Operand, Parameter, Place, TacProgram, Target};
 
 /// Whether an object is there, and is its only element.
@@ -32,6 +34,26 @@ fn is_array(function: &Function, number: usize) -> bool
         Some(object) => !object.lengths.is_empty(),
         None => false,
     }
+}
+
+/// Whether an object is there, an array of this type, and has an element of this number.
+fn is_element(function: &Function, array: usize, number: usize, element: IntType) -> bool
+    ensures { IsTrue result ↔ IsElement (slice_get (function_of function.now).objects array) number element }
+{
+    match function.objects.get(array) {
+        Some(object) => {
+            !object.lengths.is_empty()
+                && has_element_in(&object.lengths, number)
+                && element == object.element
+        }
+        None => false,
+    }
+}
+
+fn has_element(function: &Function, array: usize, number: usize, element: IntType) -> bool
+    ensures { IsTrue result ↔ HasElement (function_of function.now) array number element }
+{
+    is_element(function, array, number, element)
 }
 
 /// Whether an object with static storage is there, and has bytes.
@@ -100,6 +122,11 @@ fn has_place(program: &TacProgram, function: &Function, place: Place) -> bool
         Place::Literal(number) => has_literal(program, number),
         Place::Static(number) => is_defined(program, number),
         Place::Array(number) => is_array(function, number),
+        Place::Element {
+            array,
+            number,
+            element,
+        } => has_element(function, array, number, element),
         Place::At(operand) => has_operand(function, operand),
     }
 }
@@ -165,6 +192,14 @@ pub fn has_all(program: &TacProgram, function: &Function, instruction: Instructi
             && has_operand(function, array)
             && has_operand(function, index)
             && size < 0x1_0000_0000,
+        Instruction::Element {
+            target,
+            from,
+            count,
+            ..
+        } => has_target(function, target)
+            && has_operand(function, from)
+            && has_operand(function, count),
         Instruction::Forget { first, count } => has_objects(function, first, count),
         Instruction::Jump(to) => has_instruction(function, to),
         Instruction::Branch {

@@ -48,6 +48,20 @@ fn elements(lengths: &[u32]) -> usize
     count
 }
 
+/// Whether an array of these lengths has an element of this number: what is divided away has no bound.
+pub fn has_element_in(lengths: &[u32], number: usize) -> bool
+    ensures { IsTrue result ↔ (number < elements_in lengths.now) }
+{
+    let mut rest = number;
+    for length in lengths {
+        if *length == 0 {
+            return false;
+        }
+        rest /= *length as usize;
+    }
+    rest == 0
+}
+
 /// The bytes of an object.
 pub fn object_size(object: &ObjectType) -> usize
     ensures { result ≡ min (size_of_object (object_type_of object.now)) 16777217 }

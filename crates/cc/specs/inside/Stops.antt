@@ -1,8 +1,8 @@
 -- Why a command stops, before it is told.
-use Rattle.std.specs.Prelude.{◌≡◌, ◌⊎◌, List, ℕ, false}
+use Rattle.std.specs.Prelude.{◌≡◌, List, ℕ}
 use Rattle.srcset.specs.Files.{Files}
 use Rattle.srcset.specs.declared.fault.Fault.{Fault}
-use Rattle.srcset.specs.declared.code.Code.TheVariants.{NotBuiltYet, CannotWrite}
+use Rattle.srcset.specs.declared.code.Code.TheVariants.{CannotWrite}
 use Rattle.srcset.specs.Fault.{IsFaultOrMemory, IsMemoryFault}
 use Rattle.loader.specs.declared.fault.LoadFault.{LoadFault}
 use Rattle.loader.specs.declared.fault.LoadFault.TheVariants as load_fault
@@ -12,14 +12,11 @@ use Rattle.sim.specs.declared.port.PortFault.TheVariants as port_fault
 use Rattle.cc.specs.declared.stopping.Stop.{Stop}
 use Rattle.cc.specs.declared.stopping.Stop.TheVariants.{Memory, At, Told}
 use Rattle.typed.specs.Program.{Program}
-use Rattle.lowering.specs.Plain.{is_plain}
 use Rattle.srcset.specs.NameTable.{Texts}
 use Rattle.tree.specs.Tree.{ExternalTree}
 use Rattle.asm.specs.declared.item.Item.{Item}
 use Rattle.backend.specs.Generated.{AreItemsOf}
-use Rattle.backend.specs.declared.flat_code.NotGenerated.{NotGenerated}
-use Rattle.backend.specs.declared.flat_code.NotGenerated.TheVariants as not_generated
-use Rattle.cc.specs.Compiled.{HasProgram, HasNoProgram, IsRefused}
+use Rattle.cc.specs.Compiled.{HasProgram, IsRefused}
 
 -- the fault that tells it, where the command names this file; only the copy of the name may run out of memory
 abbrev pub IsToldAs : List ℕ → Stop → Fault → Type 0
@@ -39,18 +36,9 @@ IsMemory Memory = Unit {0}
 IsMemory (At code line) = ⊥
 IsMemory (Told told) = IsMemoryFault told
 
--- each fault that tells it is one for which this main file has no program
-abbrev pub StopsBefore : Files → List ℕ → Stop → Type 0
-StopsBefore set name stop = (fault : Fault) → IsToldAs name stop fault → HasNoProgram set name fault
-
 -- each fault that tells it is one for which this main file is refused
 abbrev pub Stops : Files → List ℕ → Stop → Type 0
 Stops set name stop = (fault : Fault) → IsToldAs name stop fault → IsRefused set name fault
-
--- what comes of a program that has no file: 699, or want of memory
-abbrev pub generated_stop : NotGenerated → Stop
-generated_stop not_generated.NotBuiltYet = At NotBuiltYet 1
-generated_stop not_generated.Memory = Memory
 
 -- why a file was not put whole, by what the port refused
 abbrev pub put_stop : PortFault → Stop
@@ -62,10 +50,6 @@ put_stop port_fault.Write = At CannotWrite 0
 abbrev pub load_stop : LoadFault → Stop
 load_stop load_fault.Memory = Memory
 load_stop fault = At (code_of fault) 0
-
--- the program is not one of those for which code is made today, or memory ran out
-abbrev pub StopsProgram : Program → Stop → Type 0
-StopsProgram program stop = ((is_plain program ≡ false) × (stop ≡ At NotBuiltYet 1)) ⊎ IsMemory stop
 
 -- the set has a program whose code is these items
 pub record HasItems (set : Files) (name : List ℕ) (items : List Item) : Type 0 where

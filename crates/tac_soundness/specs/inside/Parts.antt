@@ -2,7 +2,7 @@
 use Rattle.std.specs.Prelude.{◌≡◌, ◌<◌, ℕ, ◌+◌, ◌^◌, Bool, true, false, List, length, slice_get, sum_by, Option, None, Some}
 use Rattle.ctypes.specs.declared.types.IntType.{IntType}
 use Rattle.ctypes.specs.declared.types.IntType.TheVariants as ty
-use Rattle.typed.specs.Types.{ObjectType, size_of_object}
+use Rattle.typed.specs.Types.{ObjectType, elements_in, size_of_object}
 use Rattle.typed.specs.Program.{Static}
 use Rattle.typed.specs.WellTyped.{values_fit}
 use Rattle.tac.specs.declared.code.Instruction.{Instruction}
@@ -36,6 +36,10 @@ element_in (Some o) = o.element
 
 abbrev pub IsOneElement : Option ObjectType → Type 0
 IsOneElement o = scalar_type o ≡ Some (element_in o)
+
+abbrev pub IsElement : Option ObjectType → ℕ → IntType → Type 0
+IsElement None i t = ⊥
+IsElement (Some o) i t = (scalar_type (Some o) ≡ None) × (i < elements_in o.lengths) × (t ≡ o.element)
 
 abbrev pub defined_in : Option Static → Bool
 defined_in None = false

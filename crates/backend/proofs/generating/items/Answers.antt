@@ -1,11 +1,7 @@
 use Rattle.program.specs.View.{program_of}
 use Rattle.frames.specs.Code as flat
-use Rattle.backend.proofs.Refusals.{want_refuses}
 use Rattle.backend.proofs.Generates.{items_in}
 use Rattle.backend.proofs.generating.items.Goals as goal
 
-pub returns-clause-items : goal.returns-clause-items
-returns-clause-items c = items_in (program_of c.args.program.now) (flat.program_of c.in_ok-code.code) c.requires.ready c.in_ok-code.ensures.code c.low_items.result c.low_items.ensures.items c.low_items.ensures.low
-
-pub returns-clause-refused : goal.returns-clause-refused
-returns-clause-refused c = want_refuses (program_of c.args.program.now) c.low_items.result c.low_items.ensures.memory
+pub returns : goal.returns
+returns c = items_in (program_of c.args.program.now) (flat.program_of c.in_ok-code.code) c.requires.ready c.in_ok-code.ensures c.low_items.result c.low_items.ensures.items c.low_items.ensures.low

@@ -1,14 +1,14 @@
 use Rattle.tree.specs.View.{unit_of}
 use Rattle.program.specs.View.{program_of}
 use Rattle.cc.specs.Compiled.{BuildsProgram, Compiles}
-use Rattle.cc.specs.inside.Stops.{Stops, StopsProgram}
-use Rattle.cc.proofs.Refusals.{handed_on, ok_means, error_means, before_stops, program_stops}
+use Rattle.cc.specs.inside.Stops.{Stops, IsMemory}
+use Rattle.cc.proofs.Refusals.{handed_on, ok_means, error_means, memory_stops}
 use Rattle.cc.proofs.compiling.by_phases.Goals as goal
 
 pub returns-in_err-checked-clause-stops : goal.returns-in_err-checked-clause-stops
 returns-in_err-checked-clause-stops c =
     let stop = c.in_err-checked.field-0.0 in
-    handed_on c.from_residual.result stop _ c.from_residual.ensures.1 (before_stops c.args.set.now c.args.main.now stop c.in_err-checked.ensures.stops)
+    handed_on c.from_residual.result stop _ c.from_residual.ensures.1 c.in_err-checked.ensures.stops
 
 pub build-requires : goal.build-requires
 build-requires c = c.in_ok-checked.ensures.ready
@@ -23,8 +23,4 @@ returns-clause-built c =
 
 pub returns-clause-stops : goal.returns-clause-stops
 returns-clause-stops c =
-    let texts = c.checked_unit.new.names in
-    let unit = unit_of c.in_ok-checked.checked.unit in
-    let program = program_of c.in_ok-checked.checked.program in
-    error_means c.build.result (λ stop. StopsProgram program stop) (λ stop. Stops c.args.set.now c.args.main.now stop)
-    (λ stop h. program_stops c.args.set.now c.args.main.now texts unit program stop c.in_ok-checked.ensures.program h) c.build.ensures.stops
+    error_means c.build.result IsMemory (λ stop. Stops c.args.set.now c.args.main.now stop) (memory_stops c.args.set.now c.args.main.now) c.build.ensures.stops
