@@ -55,9 +55,12 @@ class Maker:
             if number >= self.function.parameters.count('n'):
                 self.code.append('convert %s o%d %s' % (kind, number, self.constant()))
         for number, (kind, lengths) in self.arrays.items():
+            by_number = self.chance.random() < 0.5
             for k in range(elements(lengths)):
-                self.reach('a%d' % number, kind, lengths, k, 't0')
-                self.code.append('store %s %d @t0' % (kind, converted(kind, self.chance.randrange(FULL))))
+                if not by_number:
+                    self.reach('a%d' % number, kind, lengths, k, 't0')
+                place = 'e%d.%d' % (number, k) if by_number else '@t0'
+                self.code.append('store %s %d %s' % (kind, converted(kind, self.chance.randrange(FULL)), place))
 
     def reach(self, place, kind, lengths, k, into):
         """Has `into` refer to element k of the array at a place, by row after row."""
@@ -122,7 +125,7 @@ class Maker:
 
     def block(self, count, depth):
         for _ in range(count):
-            kind = self.chance.choice(['compute'] * 6 + ['convert'] * 2 + ['move', 'nothing', 'put', 'get', 'renew', 'keep'] + ['load', 'store'] * 3 + ['branch', 'loop', 'call', 'call', 'call'] * (depth > 0))
+            kind = self.chance.choice(['compute'] * 6 + ['convert'] * 2 + ['move', 'nothing', 'put', 'get', 'renew', 'keep', 'fill'] + ['load', 'store'] * 3 + ['branch', 'loop', 'call', 'call', 'call'] * (depth > 0))
             getattr(self, kind)(*([depth] if kind in ('branch', 'loop', 'call') else []))
 
     def compute(self):
@@ -183,13 +186,17 @@ class Maker:
             self.code.append('convert %s o%d %s' % (self.scalars[number], number, self.constant()))
 
     def element(self):
-        """A reference to an element of some array, in temporary 2: by constants, or by an index that is computed."""
+        """A reference to an element of some array, in temporary 2: by constants, or by an index that is computed; or one that is named."""
         place, kind, lengths, written = self.chance.choice(self.arrays_there() or [(None,) * 4])
         if not place:
             return None
         if not lengths:
             return place, kind, written
-        if len(lengths) == 1 and self.chance.random() < 0.5:
+        if place[0] == 'a' and self.chance.random() < 0.3:
+            return 'e%s.%d' % (place[1:], self.chance.randrange(elements(lengths))), kind, written
+        if self.chance.random() < 0.3:
+            self.count(place, kind, lengths)
+        elif len(lengths) == 1 and self.chance.random() < 0.5:
             self.code.append('remainder unsigned t1 %s %d' % (self.operand(), lengths[0]))
             self.code.append('address t2 %s' % place)
             self.code.append('part t2 t2 t1 %d' % SIZES[kind])
@@ -198,6 +205,32 @@ class Maker:
         self.forget('t1')
         self.forget('t2')
         return '@t2', kind, written
+
+    def count(self, place, kind, lengths):
+        """Has temporary 2 refer to an element of an array or row, counted from its first one, or from another one."""
+        most, first = elements(lengths), 0
+        if place[0] == 'a' and self.chance.random() < 0.3:
+            first = self.chance.randrange(most)
+            place = 'e%s.%d %s' % (place[1:], first, kind)
+        self.code.append('remainder unsigned t1 %s %d' % (self.operand(), most - first))
+        self.code.append('address t2 %s' % place)
+        self.code.append('element %s t2 t2 %s' % (kind, self.chance.choice(['t1', str(self.chance.randrange(most - first))])))
+
+    def fill(self):
+        """A loop that writes elements of an array or row, from one on to the end."""
+        fits = [found for found in self.arrays_there() if found[2] and found[3]]
+        if fits:
+            place, kind, lengths, written = self.chance.choice(fits)
+            most = elements(lengths)
+            self.code.append('move t0 %d' % self.chance.randrange(most))
+            self.code.append('address t1 %s' % place)
+            top = len(self.code)
+            self.code.append('element %s t2 t1 t0' % kind)
+            self.code.append('store %s %d @t2' % (kind, converted(kind, self.chance.randrange(FULL))))
+            self.code.append('add unsigned t0 t0 1')
+            self.code.append('branch less unsigned t0 %d %d' % (most, top))
+            for name in ('t0', 't1', 't2'):
+                self.forget(name)
 
     def load(self):
         found = self.element()

@@ -12,7 +12,7 @@ SIZES = {'bool': 1, 'char': 1, 'schar': 1, 'uchar': 1, 'short': 2, 'ushort': 2, 
 SIGNED = {'schar', 'short', 'int', 'long'}
 OPERATIONS = ['multiply', 'divide', 'remainder', 'add', 'subtract', 'shift_left', 'shift_right', 'and', 'exclusive_or', 'or', 'less', 'equal', 'not_equal']
 COMPARISONS = ['equal', 'not_equal', 'less', 'greater_equal']
-COSTS = {'nothing': 0, 'move': 6, 'convert': 8, 'load': 7, 'store': 7, 'address': 6, 'part': 13, 'forget': 0, 'jump': 1, 'branch': 8, 'put': 8, 'get': 10, 'exit': 2, 'return': 43}
+COSTS = {'nothing': 0, 'move': 6, 'convert': 8, 'load': 7, 'store': 7, 'address': 6, 'part': 13, 'element': 13, 'forget': 0, 'jump': 1, 'branch': 8, 'put': 8, 'get': 10, 'exit': 2, 'return': 43}
 STACK = 2 ** 20
 
 
@@ -119,6 +119,24 @@ def elements_of(tree):
     return 1 if isinstance(tree, list) else sum(elements_of(part) for part in tree)
 
 
+def first_of(tree, path):
+    """The number of the first element of a part: elements are counted in the order in which they lie (6.5.2.1p3)."""
+    if not path:
+        return 0
+    return sum(elements_of(part) for part in tree[:path[0]]) + first_of(tree[path[0]], path[1:])
+
+
+def path_of(tree, number):
+    """The subscripts of an element."""
+    if isinstance(tree, list):
+        return () if number == 0 else None
+    for index, part in enumerate(tree):
+        if number < elements_of(part):
+            return (index,) + path_of(part, number)
+        number -= elements_of(part)
+    return None
+
+
 class Call:
     def __init__(self, function, base, arrays):
         self.function, self.base, self.arrays, self.at, self.kept = function, base, arrays, 0, {}
@@ -209,7 +227,19 @@ class Run:
             if not call.function.objects[int(rest)][1]:
                 raise Stuck
             return call.base + int(rest), ()
+        if kind == 'e':
+            call, (array, index) = self.calls[-1], rest.split('.')
+            if not call.function.objects[int(array)][1]:
+                raise Stuck
+            return self.numbered(call.base + int(array), int(index))
         return self.reference(rest)
+
+    def numbered(self, number, index):
+        """A reference to the element of an object with this number."""
+        path = path_of(self.store[number][1], index)
+        if path is None:
+            raise Stuck
+        return number, path
 
     def element(self, kind, text):
         reference = self.place(text)
@@ -277,13 +307,22 @@ class Run:
                 raise Stuck
             element[0] = converted(words[0], word)
         elif name == 'address':
-            self.give(words[0], self.place(words[1]))
+            reference = self.place(words[1])
+            if words[1][0] == 'e' and self.store[reference[0]][0] != words[2]:
+                raise Stuck
+            self.give(words[0], reference)
         elif name == 'part':
             number, path = self.reference(words[1])
             part = number, path + (self.word(words[2]),)
             if number >= len(self.store) or SIZES[self.store[number][0]] * elements_of(self.tree(part)) != int(words[3]):
                 raise Stuck
             self.give(words[0], part)
+        elif name == 'element':
+            number, path = self.reference(words[2])
+            if number >= len(self.store) or self.store[number][0] != words[0]:
+                raise Stuck
+            first = first_of(self.store[number][1], path)
+            self.give(words[1], self.numbered(number, first + self.word(words[3])))
         else:
             self.give(words[1], computed(name, words[0], self.word(words[2]), self.word(words[3])))
         return None
