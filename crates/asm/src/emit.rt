@@ -42,6 +42,7 @@ fn put_word(code: &mut Vec<u8>, word: u32) -> Result<(), AllocError>
     ])
 }
 
+#[inline(always)]
 fn put(code: &mut Vec<u8>, instr: Instr) -> Result<(), Refusal>
     ensures ok { OnOk result (Writes code.old.items code.new.items (instr ∷ [])) }
     ensures err { IfErr result (λ e. e ≡ Refusal.Memory) }
