@@ -1,14 +1,14 @@
 -- One round over the branches.
-use Rattle.std.proofs.Common.{◌≢◌, length, set, ◌≡◌, inl, inr, ℕ, zero, suc, ◌+◌, ◌<◌, ◌≤◌, List, Bool, true, false, refl, sym, ◌∙◌, subst, arith, get_or-set_same, get_or-set_other}
+use Rattle.std.proofs.Common.{◌≢◌, length, set, ◌≡◌, inl, inr, ℕ, zero, suc, ◌+◌, ◌<◌, ◌≤◌, List, Bool, true, false, refl, sym, ap, ◌∙◌, subst, arith, get_or-set_same, get_or-set_other}
 use Rattle.std.specs.Prelude.{slice_index, if◌then◌else◌, ◌↔◌, replicate}
-use Rattle.std.specs.Bool.{OnTrue}
+use Rattle.std.proofs.lemmas.List.{length-replicate}
 use Rattle.std.proofs.lemmas.List.Sums.{sum_by-set}
 use Rattle.std.proofs.lemmas.Bool.{cases_lt, cases_eq}
 use Rattle.asm.specs.declared.item.Item.{Item}
 use Rattle.asm.specs.declared.item.Item.TheVariants.{Mark, Plain, Branch, Jump, Call, Constant, LabelAddress, DataAddress}
 use Rattle.rv32.specs.declared.instr.Test.{Test}
-use Rattle.asm.specs.Layout.{item_at, place, Within, Near, Fits, FitsAt, IsBelowAll}
-use Rattle.asm.specs.inside.Choice.{longs, shorts, IsTable, IsMeasured, IsClose, Widens, Counted}
+use Rattle.asm.specs.Layout.{item_at, size, place, all_short, Within, Near, Fits, FitsAt, IsBelowAll}
+use Rattle.asm.specs.inside.Choice.{longs, shorts, IsTable, IsMeasured, MeasuredTo, IsClose, AllClose, Widens, IsChosen, Counted}
 use Rattle.asm.proofs.Tables.{home_of, mark_there, near_mark}
 use Rattle.asm.proofs.Grow.{near_back, near_few}
 
@@ -108,12 +108,23 @@ close_fits homes L base xs k (Constant rd v) s c = tt
 close_fits homes L base xs k (LabelAddress rd l) s c = tt
 close_fits homes L base xs k (DataAddress rd o) s c = tt
 
-all_close : (homes : List ℕ) (L : ℕ → Bool) (base : ℕ) (xs : List Item) → IsTable homes xs → ((k : ℕ) → k < length xs → IsClose homes k (item_at xs k)) → Fits L base xs
-all_close homes L base xs s c = record { all = λ k lt. close_fits homes L base xs k (item_at xs k) s (c k lt) }
+pub close_none : (homes : List ℕ) (xs : List Item) → AllClose homes xs 0
+close_none homes xs = record { all = λ k lt. absurd (omega (arith, lt)) }
 
-pub if_close : (homes : List ℕ) (L : ℕ → Bool) (base : ℕ) (xs : List Item) (close : Bool) → IsTable homes xs → (close ≡ true → (k : ℕ) → k < length xs → IsClose homes k (item_at xs k)) → OnTrue close (Fits L base xs)
-if_close homes L base xs true s c = all_close homes L base xs s (c refl)
-if_close homes L base xs false s c = tt
+-- item n is x, which is close
+pub close_more : (homes : List ℕ) (xs : List Item) (n : ℕ) (x : Item) → AllClose homes xs n → item_at xs n ≡ x → IsClose homes n x → AllClose homes xs (n + 1)
+close_more homes xs n x before is c = record {
+  all = λ k lt. elim (cases_lt k n) [
+    | inl below ↦ before.all k below
+    | inr above ↦ (
+        let same : n ≡ k = omega arith in
+        let P : Item → Type 0 = λ y. IsClose homes n y in
+        subst (λ (j : ℕ). IsClose homes j (item_at xs j)) same (subst P (sym is) c))
+  ];
+}
+
+pub fits_close : (homes : List ℕ) (L : ℕ → Bool) (base : ℕ) (xs : List Item) → IsTable homes xs → AllClose homes xs (length xs) → Fits L base xs
+fits_close homes L base xs s c = record { all = λ k lt. close_fits homes L base xs k (item_at xs k) s (c.all k lt) }
 
 -- near by the measured addresses
 pub near_measured : (places homes : List ℕ) (base : ℕ) (xs : List Item) (L : ℕ → Bool) (i to : ℕ) → IsMeasured places L base xs → i ≤ length xs → slice_index homes to ≤ length xs → Near (place L base xs i) (place L base xs (slice_index homes to)) ↔ Near (slice_index places i) (slice_index places (slice_index homes to))
@@ -140,6 +151,57 @@ least_none base xs n = record { below = λ M f. record { all = λ k e. absurd (n
     none_long zero k e = cc
     none_long (suc n) zero e = cc
     none_long (suc n) (suc k) e = none_long n k e
+
+pub measured_none : (places : List ℕ) (base : ℕ) (xs : List Item) → MeasuredTo places base xs 0
+measured_none places base xs = record { at = λ k lt. absurd (omega (arith, lt)) }
+
+-- the address of item n is put
+pub measured_more : (places : List ℕ) (base : ℕ) (xs : List Item) (n a : ℕ) → MeasuredTo places base xs n → n < length places → a ≡ place all_short base xs n → MeasuredTo (set places n a) base xs (n + 1)
+measured_more places base xs n a before room is = record {
+  at = λ k lt. elim (cases_lt k n) [
+    | inl below ↦ (
+        let other : k ≢ n = λ same. omega (arith, same, below) in
+        let kept : slice_index (set places n a) k ≡ slice_index places k = rw get_or-set_other in
+        kept ∙ before.at k below)
+    | inr above ↦ (
+        let same : k ≡ n = omega arith in
+        let here : slice_index (set places n a) n ≡ a = rw get_or-set_same in
+        rw same (here ∙ is))
+  ];
+}
+
+-- the end's is put too
+pub measured_all : (places : List ℕ) (base : ℕ) (xs : List Item) → MeasuredTo places base xs (length xs + 1) → IsMeasured places all_short base xs
+measured_all places base xs m = record { at = λ k le. m.at k (omega arith) }
+
+-- what is measured with all branches short is measured with none long
+pub short_measured : (places : List ℕ) (base : ℕ) (xs : List Item) (n : ℕ) → IsMeasured places all_short base xs → IsMeasured places (longs (replicate n false)) base xs
+short_measured places base xs n m = record { at = λ k le. m.at k le ∙ same k }
+  where
+    short : (n k : ℕ) → longs (replicate n false) k ≡ false
+    short zero k = refl
+    short (suc n) zero = refl
+    short (suc n) (suc k) = short n k
+
+    same : (k : ℕ) → place all_short base xs k ≡ place (longs (replicate n false)) base xs k
+    same zero = refl
+    same (suc k) =
+        let here : size (longs (replicate n false) k) (item_at xs k) ≡ size false (item_at xs k) = ap (λ (b : Bool). size b (item_at xs k)) (short n k) in
+        let before : place all_short base xs k ≡ place (longs (replicate n false)) base xs k = same k in
+        omega (arith, here, before)
+
+pub least_short : (base : ℕ) (xs : List Item) (long : List Bool) (n : ℕ) → long ≡ replicate n false → IsBelowAll (longs long) base xs
+least_short base xs long n short = subst (λ (l : List Bool). IsBelowAll (longs l) base xs) (sym short) (least_none base xs n)
+
+-- where all branches are close none is long
+pub chosen_close : (homes places : List ℕ) (base : ℕ) (xs : List Item) (long : List Bool) → IsTable homes xs → long ≡ replicate (length xs) false → length places ≡ length xs + 1 → IsMeasured places all_short base xs → AllClose homes xs (length xs) → IsChosen base xs long places
+chosen_close homes places base xs long table short room measured close = record {
+  longs_len = ap length short ∙ length-replicate (length xs) false;
+  places_len = room;
+  measured = subst (λ (l : List Bool). IsMeasured places (longs l) base xs) (sym short) (short_measured places base xs (length xs) measured);
+  fits = fits_close homes (longs long) base xs table close;
+  least = least_short base xs long (length xs) short;
+}
 
 pub least_widens : (base : ℕ) (xs : List Item) (L M : ℕ → Bool) → Widens base xs L M → IsBelowAll L base xs → IsBelowAll M base xs
 least_widens base xs L M w b = record { below = λ N f. w.below N f (b.below N f) }

@@ -42,6 +42,7 @@ fn put_word(code: &mut Vec<u8>, word: u32) -> Result<(), AllocError>
     ])
 }
 
+#[inline(always)]
 fn put(code: &mut Vec<u8>, instr: Instr) -> Result<(), Refusal>
     ensures ok { OnOk result (Writes code.old.items code.new.items (instr ∷ [])) }
     ensures err { IfErr result (λ e. e ≡ Refusal.Memory) }
@@ -177,8 +178,9 @@ fn address_of(homes: &[usize], places: &[u32], label: Label) -> u32
     places[homes[label.number()]]
 }
 
-/// Writes the words of one item.
-fn put_item(
+/// Writes the words of one item. Stands apart, so that marks and instructions jump through no table.
+#[inline(never)]
+fn put_other(
     code: &mut Vec<u8>,
     item: Item,
     long: bool,
@@ -217,6 +219,33 @@ fn put_item(
         Item::Constant { rd, value } => put_load(code, rd, value),
         Item::LabelAddress { rd, of } => put_load(code, rd, address_of(homes, places, of)),
         Item::DataAddress { rd, offset } => put_load(code, rd, data_start + offset),
+    }
+}
+
+/// Writes the words of one item. Most items are marks and instructions, which are told by two tests.
+fn put_item(
+    code: &mut Vec<u8>,
+    item: Item,
+    long: bool,
+    at: u32,
+    homes: &[usize],
+    places: &[u32],
+    data_start: u32,
+) -> Result<(), Refusal>
+    requires good { IsGood homes.now places.now }
+    requires refers { Refers (length homes.now) item }
+    requires small { (at < 0x70000000) × (at % 4 ≡ 0) × (data_start < 0x70001000) }
+    requires near { NearIfShort long at (address homes.now places.now) item }
+    ensures ok { OnOk result (Writes code.old.items code.new.items (item_code (address homes.now places.now) data_start long at item)) }
+    ensures err { IfErr result (IfFar (Misses long at (address homes.now places.now) item)) }
+    ensures far { Misses long at (address homes.now places.now) item → result ≡ Err Refusal.Far }
+{
+    if let Item::Plain(instr) = item {
+        put(code, instr)
+    } else if let Item::Mark(_) = item {
+        Ok(())
+    } else {
+        put_other(code, item, long, at, homes, places, data_start)
     }
 }
 

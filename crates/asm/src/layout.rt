@@ -1,10 +1,10 @@
 //! Where the items stand, and which branches are long.
 
-ghost use Rattle.std.specs.Prelude.{◌≡◌, ◌≤◌, ◌<◌, ◌+◌, ◌*◌, ◌-◌, ◌/◌, ◌%◌, ◌^◌, ℕ, true, false, Bool, length, not, slice_index, slice_index_or, sum_by, slice_set, vec_len, IfOk};
+ghost use Rattle.std.specs.Prelude.{◌≡◌, ◌≤◌, ◌<◌, ◌+◌, ◌*◌, ◌-◌, ◌/◌, ◌%◌, ◌^◌, ℕ, true, false, Bool, length, not, replicate, slice_index, slice_index_or, sum_by, slice_set, vec_len, IfOk};
 ghost use Rattle.std.specs.Bool.{OnTrue, OnFalse};
 ghost use Rattle.asm.specs.Layout as spec;
-ghost use Rattle.asm.specs.Layout.{place, Refers, Fits, Near, IsBelowAll, IsLow};
-ghost use Rattle.asm.specs.inside.Choice.{longs, shorts, IsTable, IsMeasured, IsClose, Widens, IsChosen, Counted};
+ghost use Rattle.asm.specs.Layout.{place, all_short, Refers, Fits, Near, IsBelowAll, IsLow};
+ghost use Rattle.asm.specs.inside.Choice.{longs, shorts, IsTable, IsMeasured, MeasuredTo, IsClose, AllClose, Widens, IsChosen, Counted};
 
 use crate::item::Item;
 use std::alloc::{AllocError, Global};
@@ -86,30 +86,71 @@ fn is_close(homes: &[usize], number: usize, item: Item) -> bool
     }
 }
 
-/// Puts the addresses as `measure` does; says whether all branches are close to their labels, which most code has.
-fn measure_close(
+/// Puts at each number from `low` up to `high` the address of that item where all branches are short, from that of `low` on; gives that
+/// of `high`. It does nothing else, so that it jumps nowhere but round.
+fn measure_block(
     items: &[Item],
-    homes: &[usize],
-    long: &[bool],
     base: u32,
+    low: usize,
+    high: usize,
+    start: u32,
     places: &mut [u32],
-) -> bool
+) -> u32
+    requires part { (low ≤ high) × (high ≤ length items.now) }
+    requires room { length places.old ≡ length items.now + 1 }
+    requires low { IsLow base items.now }
+    requires start { start ≡ place all_short base items.now low }
+    requires before { MeasuredTo places.old base items.now low }
+    ensures end { result ≡ place all_short base items.now high }
+    ensures measured { MeasuredTo places.new base items.now high }
+{
+    let mut at = start;
+    for i in low..high {
+        places[i] = at;
+        at += least(items[i]);
+    }
+    at
+}
+
+/// Whether the branches from `low` up to `high` are close to their labels.
+fn are_close(items: &[Item], homes: &[usize], low: usize, high: usize) -> bool
+    requires part { (low ≤ high) × (high ≤ length items.now) }
+    requires table { IsTable homes.now items.now }
+    requires before { AllClose homes.now items.now low }
+    ensures { OnTrue result (AllClose homes.now items.now high) }
+{
+    for i in low..high {
+        if !is_close(homes, i, items[i]) {
+            return false;
+        }
+    }
+    true
+}
+
+/// How many items are looked at twice, one time after the other, while they are near in memory.
+const BLOCK: usize = 512;
+
+/// Puts the addresses as `measure` does where all branches are short; says whether all are close to their labels, which most code has.
+/// Where they are not, the addresses are not all there.
+fn measure_close(items: &[Item], homes: &[usize], base: u32, places: &mut [u32]) -> bool
     requires table { IsTable homes.now items.now }
     requires room { length places.old ≡ length items.now + 1 }
-    requires longs { length long.now ≡ length items.now }
     requires low { IsLow base items.now }
-    ensures measured { IsMeasured places.new (longs long.now) base items.now }
-    ensures fits { OnTrue result (Fits (longs long.now) base items.now) }
+    ensures measured { OnTrue result (IsMeasured places.new all_short base items.now) }
+    ensures close { OnTrue result (AllClose homes.now items.now (length items.now)) }
 {
     let mut at = base;
-    let mut close = true;
-    for (i, item) in items.iter().enumerate() {
-        places[i] = at;
-        at += size(long[i], *item);
-        close &= is_close(homes, i, *item);
+    let mut low = 0;
+    while low < items.len() {
+        let high = low.saturating_add(BLOCK).min(items.len());
+        at = measure_block(items, base, low, high, at, places);
+        if !are_close(items, homes, low, high) {
+            return false;
+        }
+        low = high;
     }
     places[items.len()] = at;
-    close
+    true
 }
 
 /// Makes long each short branch that is too far from its label; says whether there was one.
@@ -278,13 +319,14 @@ fn relax(items: &[Item], homes: &[usize], base: u32, places: &mut [u32], long: &
     requires table { IsTable homes.now items.now }
     requires room { length places.old ≡ length items.now + 1 }
     requires longs { length long.old ≡ length items.now }
-    requires least { IsBelowAll (longs long.old) base items.now }
+    requires none { long.old ≡ replicate (length items.now) false }
     requires low { IsLow base items.now }
     ensures { IsChosen base items.now long.new places.new }
 {
-    if measure_close(items, homes, long, base, places) {
+    if measure_close(items, homes, base, places) {
         return;
     }
+    measure(items, long, base, places);
     if settle(items, homes, base, places, long) {
         return;
     }

@@ -221,11 +221,21 @@ fn put_functions(items: &mut Vec<Item>, functions: &[Function]) -> Result<usize,
     Ok(label)
 }
 
+/// About how many items the functions have. Where it is too little there is more room made as they are put, which copies them.
+fn room_for(functions: &[Function]) -> usize {
+    let mut room: usize = 64;
+    for function in functions {
+        let items = function.code.len().saturating_mul(4);
+        room = room.saturating_add(items.saturating_add(32));
+    }
+    room
+}
+
 fn program_code(alloc: Global, program: &FlatProgram) -> Result<Items, AllocError>
     requires { IsSoundProgram (program_of program.now) }
     ensures { IfOk result (λ items. items ≡ program_items (program_of program.now)) }
 {
-    let mut list = Vec::new(alloc);
+    let mut list = Vec::with_capacity(alloc, room_for(&program.functions))?;
     put_start(&mut list, program.main)?;
     let labels = put_functions(&mut list, &program.functions)?;
     let Some(items) = Items::new(alloc, list, labels)? else {

@@ -2,7 +2,7 @@
 use Rattle.std.specs.Prelude.{◌≡◌, ◌≤◌, ◌<◌, ℕ, ◌+◌, ◌^◌, Bool, false, if◌then◌else◌, List, slice_index_or, slice_index, slice_set, length, sum_by}
 use Rattle.asm.specs.declared.item.Item.{Item}
 use Rattle.asm.specs.declared.item.Item.TheVariants.{Mark, Plain, Branch, Jump, Call, Constant, LabelAddress, DataAddress}
-use Rattle.asm.specs.Layout.{item_at, place, Fits, Within, IsBelowAll, Refers}
+use Rattle.asm.specs.Layout.{item_at, place, all_short, Fits, Within, IsBelowAll, Refers}
 
 abbrev pub IsMark : Item → ℕ → Type 0
 IsMark (Mark k) l = k ≡ l
@@ -72,6 +72,10 @@ shorts bs = sum_by (λ b. if b then 0 else 1) bs
 pub record IsMeasured (places : List ℕ) (L : ℕ → Bool) (base : ℕ) (xs : List Item) : Type 0 where
   pub at : (k : ℕ) → k ≤ length xs → slice_index places k ≡ place L base xs k
 
+-- the addresses of the first n items where all branches are short
+pub record MeasuredTo (places : List ℕ) (base : ℕ) (xs : List Item) (n : ℕ) : Type 0 where
+  pub at : (k : ℕ) → k < n → slice_index places k ≡ place all_short base xs k
+
 -- item k, if a branch, is at most 500 items from the table's item of its label
 abbrev pub IsClose : List ℕ → ℕ → Item → Type 0
 IsClose homes k (Branch t l r to) = (slice_index homes to ≤ k + 500) × (k ≤ slice_index homes to + 500)
@@ -82,6 +86,10 @@ IsClose homes k (Call to) = Unit {0}
 IsClose homes k (Constant rd v) = Unit {0}
 IsClose homes k (LabelAddress rd l) = Unit {0}
 IsClose homes k (DataAddress rd o) = Unit {0}
+
+-- the first n items are close to their labels
+pub record AllClose (homes : List ℕ) (xs : List Item) (n : ℕ) : Type 0 where
+  pub all : (k : ℕ) → k < n → IsClose homes k (item_at xs k)
 
 -- L became M: more branches are long, and only those that must be
 pub record Widens (base : ℕ) (xs : List Item) (L M : ℕ → Bool) : Type 0 where

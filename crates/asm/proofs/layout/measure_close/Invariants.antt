@@ -1,11 +1,15 @@
-use Rattle.std.proofs.Common.{◌≡◌, ℕ, ◌<◌, get_or, true}
-use Rattle.asm.specs.Layout.{place, item_at}
-use Rattle.asm.specs.inside.Choice.{longs, IsClose}
+use Rattle.std.proofs.Common.{◌≡◌, ◌≤◌, ◌-◌, length}
+use Rattle.asm.specs.Layout.{place, all_short}
+use Rattle.asm.specs.inside.Choice.{MeasuredTo, AllClose}
 use Rattle.asm.proofs.layout.measure_close.Given as goal
 
-abbrev pub invariant-loop-i : goal.invariant-loop-i
-invariant-loop-i l = record {
-  at_is : l.at ≡ place (longs l.long) l.base l.items l.i;
-  before : (k : ℕ) → k < l.i → get_or l.places k 0 ≡ place (longs l.long) l.base l.items k;
-  closes : l.close ≡ true → (k : ℕ) → k < l.i → IsClose l.homes k (item_at l.items k);
+abbrev pub invariant-loop-low : goal.invariant-loop-low
+invariant-loop-low l = record {
+  inside : l.low ≤ length l.items;
+  at_is : l.at ≡ place all_short l.base l.items l.low;
+  before : MeasuredTo l.places l.base l.items l.low;
+  closes : AllClose l.homes l.items l.low;
 }
+
+abbrev pub decreases-loop-low : goal.decreases-loop-low
+decreases-loop-low l = length l.items - l.low
