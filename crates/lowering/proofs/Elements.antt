@@ -105,7 +105,6 @@ pub none_first : (tree : Tree) → first_of tree [] ≡ 0
 none_first (Element v) = refl
 none_first (Array row) = refl
 
-
 mutual
   -- a part's elements are within the whole
   pub first_within : (t : IntType) (path l rest : List ℕ) (tree : Tree) → HasShape t l tree → Leads path l rest → first_of tree path + elements_in rest ≤ elements_in l

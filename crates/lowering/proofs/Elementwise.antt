@@ -60,13 +60,13 @@ mutual
       let size2 = elements_are u l b g.0 in
       let sum = more_rows n (elements_in l) in
       let first : a ≡ b = same_trees t u l a b h.0 g.0 (λ i lt.
-          sym (in_first a row i (omega (arith, lt, size))) ∙ (each i (omega (arith, lt, sum)) ∙ in_first b row2 i (omega (arith, lt, size2)))) in
+      sym (in_first a row i (omega (arith, lt, size))) ∙ (each i (omega (arith, lt, sum)) ∙ in_first b row2 i (omega (arith, lt, size2)))) in
       let others : row ≡ row2 = same_rows t u n l row row2 h.1 g.1 (λ i lt.
-          let here : value_no_in (and_part a row) (elements_in l + i) ≡ value_no_in row i =
-          past_first a row (elements_in l + i) (omega (arith, size)) ∙ ap (value_no_in row) (let z : elements_in l + i - elements_of a ≡ i = omega (arith, size) in z) in
-          let there : value_no_in (and_part b row2) (elements_in l + i) ≡ value_no_in row2 i =
-          past_first b row2 (elements_in l + i) (omega (arith, size2)) ∙ ap (value_no_in row2) (let z : elements_in l + i - elements_of b ≡ i = omega (arith, size2) in z) in
-          sym here ∙ (each (elements_in l + i) (omega (arith, lt, sum)) ∙ there)) in
+      let here : value_no_in (and_part a row) (elements_in l + i) ≡ value_no_in row i =
+      past_first a row (elements_in l + i) (omega (arith, size)) ∙ ap (value_no_in row) (let z : elements_in l + i - elements_of a ≡ i = omega (arith, size) in z) in
+      let there : value_no_in (and_part b row2) (elements_in l + i) ≡ value_no_in row2 i =
+      past_first b row2 (elements_in l + i) (omega (arith, size2)) ∙ ap (value_no_in row2) (let z : elements_in l + i - elements_of b ≡ i = omega (arith, size2) in z) in
+      sym here ∙ (each (elements_in l + i) (omega (arith, lt, sum)) ∙ there)) in
       ap (λ x. and_part x row) first ∙ ap (λ r. and_part b r) others
 
 -- ---- another part

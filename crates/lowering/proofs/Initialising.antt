@@ -41,7 +41,6 @@ use Rattle.lowering.proofs.Typing.{no_length, same_type_is}
 use Rattle.lowering.proofs.Expressions.{wanted_any, into_does}
 use Rattle.lowering.proofs.Flows.{writes_all, StandsAt, Runs}
 use Rattle.lowering.proofs.Blocks.{BeginsAt, value_begins, braces_begin, define_runs}
-
 use Rattle.lowering.proofs.Stretches.{done, times_less, IsArray, clears_do}
 use Rattle.lowering.proofs.Texts.{copies_do}
 use Rattle.lowering.proofs.Setting.{sets_do}

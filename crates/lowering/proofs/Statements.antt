@@ -153,7 +153,7 @@ module _ (p : typed.Program) (tf : Function) (call : Calling) (q : Program) (dee
         define_at p tf call q deep f same ok room (slice_get (function_at q f).objects n) n i out again pc h.0 pc2 refl
         (subst (λ l. definition_is_typed p tf (slice_get l n) i ≡ true) (sym same.objects)
         (right_true (nat_lt n hi) (definition_is_typed p tf (slice_get tf.objects n) i)
-        (right_true (nat_le lo n) (nat_lt n hi && definition_is_typed p tf (slice_get tf.objects n) i) ht))) ha h.1 
+        (right_true (nat_le lo n) (nat_lt n hi && definition_is_typed p tf (slice_get tf.objects n) i) ht))) ha h.1
         (subst (λ l. Initialises (function_at q f).code p tf (slice_get l n) i n h.0 pc2) (sym same.objects) h.2)
     statement_runs (typed.block first count all) lo hi out again pc pc2 ht ha h =
         block_runs p call q deep f tf.type.result (execute_all p call (function_at q f).objects all) first count pc h.0 pc2 out again h.1
