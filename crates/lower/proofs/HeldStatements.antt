@@ -7,7 +7,7 @@ use Rattle.program.specs.declared.initialisers.Initialiser.{Initialiser, the_lem
 use Rattle.program.specs.declared.initialisers.Initialiser as I
 use Rattle.program.specs.declared.statements.Statement.{Statement, the_lemmas}
 use Rattle.program.specs.declared.statements.Statement as S
-use Rattle.program.specs.View.{value_of, option_value, initialiser_of, statement_of, statements_of}
+use Rattle.program.specs.View.{value_of, option_value, initialiser_of, initialisers_of, statement_of, statements_of}
 use Rattle.typed.specs.Program as typed
 
 empty_is : statement_of S.Empty ≡ typed.empty
@@ -125,3 +125,15 @@ inbraces_is i = search (rules, initialiser_lemmas)
 
 pub sees_inbraces : (x : Initialiser) (i : Box Initialiser Global) → x ≡ I.InBraces i → initialiser_of x ≡ typed.in_braces (initialiser_of i.value)
 sees_inbraces x i h = ap initialiser_of h ∙ inbraces_is i
+
+text_is : (m : ℕ) → initialiser_of (I.Text m) ≡ typed.text m
+text_is m = search (rules, initialiser_lemmas)
+
+pub sees_text : (x : Initialiser) (m : ℕ) → x ≡ I.Text m → initialiser_of x ≡ typed.text m
+sees_text x m h = ap initialiser_of h ∙ text_is m
+
+list_is : (all : Vec Initialiser Global) → initialiser_of (I.List all) ≡ typed.list (initialisers_of (map initialiser_of all.items))
+list_is all = search (rules, initialiser_lemmas)
+
+pub sees_list : (x : Initialiser) (all : Vec Initialiser Global) → x ≡ I.List all → initialiser_of x ≡ typed.list (initialisers_of (map initialiser_of all.items))
+sees_list x all h = ap initialiser_of h ∙ list_is all

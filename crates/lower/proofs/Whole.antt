@@ -7,7 +7,6 @@ use Rattle.tac.specs.declared.code.Instruction.{Instruction}
 use Rattle.tac.specs.declared.code.Instruction.TheVariants as instruction
 use Rattle.tac.specs.Code.{Function, Program, function_at, or_no_function}
 use Rattle.tac.specs.Lowered.{kind_of}
-use Rattle.lowering.specs.Places.{size_of_place}
 use Rattle.lowering.specs.Code.{One}
 use Rattle.lowering.specs.Bodies.{Idles, Closes, most, temporaries_of, IsCodeFor}
 use Rattle.lower_forms.specs.inside.Parts.{plus, Wrote}
@@ -57,13 +56,13 @@ idles_all n m e {c0} {c1} x = subst (λ k. Wrote (λ w p q. Idles w (suc k) p q)
 -- ---- one function
 
 pub body_written : (p : typed.Program) (m : Bool) (f : typed.Function) (end back : ℕ) {c0 c1 c2 c3 c4 : List Instruction} → c0 ≡ []
-    → end ≡ plus (length c1) (statement_size f.body) → back ≡ plus end (closing_size m)
-    → Wrote (λ w p q. Idles w (suc (length f.type.parameters)) p q) (suc (length f.type.parameters)) c0 c1 → WroteStatement (size_of_place p f) f.body end end back c1 c2
-    → Wrote (λ w p q. Closes w m p q) (closing_size m) c2 c3 → Wrote (λ w p q. One w instruction.Return p q) 1 c3 c4 → IsBodyOf p m f c4
+    → end ≡ plus (length c1) (statement_size p f f.body) → back ≡ plus end (closing_size m)
+    → Wrote (λ w pc pc2. Idles w (suc (length f.type.parameters)) pc pc2) (suc (length f.type.parameters)) c0 c1 → WroteStatement p f f.body end end back c1 c2
+    → Wrote (λ w pc pc2. Closes w m pc pc2) (closing_size m) c2 c3 → Wrote (λ w pc pc2. One w instruction.Return pc pc2) 1 c3 c4 → IsBodyOf p m f c4
 body_written p m f end back {c0} {c1} {c2} {c3} {c4} none h1 h2 x0 x1 x2 x3 =
-    let at_end : end ≡ length c2 = reach_one end (length c1) (statement_size f.body) (length c2) h1 x1.grows x1.short in
+    let at_end : end ≡ length c2 = reach_one end (length c1) (statement_size p f f.body) (length c2) h1 x1.grows x1.short in
     let at_back : back ≡ length c3 = reach_one back (length c2) (closing_size m) (length c3) (h2 ∙ ap (λ k. plus k (closing_size m)) at_end) x2.grows x2.short in
-    let y1 = subst (λ k. WroteStatement (size_of_place p f) f.body (length c2) (length c2) k c1 c2) at_back (subst (λ k. WroteStatement (size_of_place p f) f.body k k back c1 c2) at_end x1) in
+    let y1 = subst (λ k. WroteStatement p f f.body (length c2) (length c2) k c1 c2) at_back (subst (λ k. WroteStatement p f f.body k k back c1 c2) at_end x1) in
     let b3 = begins_on x3.begins (begins_all c4) in
     let b2 = begins_on x2.begins b3 in
     let b1 = begins_on y1.begins b2 in
@@ -133,6 +132,7 @@ same_temporaries q count h (instruction.Load t g l) = refl
 same_temporaries q count h (instruction.Store t x l) = refl
 same_temporaries q count h (instruction.Address g l) = refl
 same_temporaries q count h (instruction.Part g x y s) = refl
+same_temporaries q count h (instruction.Element t g x y) = refl
 same_temporaries q count h (instruction.Forget n k) = refl
 same_temporaries q count h (instruction.Jump to) = refl
 same_temporaries q count h (instruction.Branch c r x y to) = refl

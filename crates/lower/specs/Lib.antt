@@ -1,3 +1,2 @@
 pub mod inside
-pub use Rattle.lowering.specs.Plain
 pub use Rattle.lowering.specs.Bodies

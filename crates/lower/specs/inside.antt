@@ -1,5 +1,7 @@
 -- What only proofs and private clauses need.
-pub mod Given
+pub mod Scopes
+pub mod FirstSizes
+pub mod Starts
 pub mod Sizes
 pub mod Places
 pub mod Written

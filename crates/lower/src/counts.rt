@@ -80,6 +80,7 @@ fn temporary_at(spot: Place) -> Result<usize, AllocError>
         Place::Literal(_) => Ok(0),
         Place::Static(_) => Ok(0),
         Place::Array(_) => Ok(0),
+        Place::Element { .. } => Ok(0),
         Place::At(operand) => temporary_in(operand),
     }
 }
@@ -144,6 +145,12 @@ fn temporaries_of(functions: &[Function], instruction: Instruction) -> Result<us
             index,
             size: _,
         } => temporaries_among(target, array, index),
+        Instruction::Element {
+            element: _,
+            target,
+            from,
+            count,
+        } => temporaries_among(target, from, count),
         Instruction::Forget { first: _, count: _ } => Ok(0),
         Instruction::Jump(_) => Ok(0),
         Instruction::Branch {
@@ -230,6 +237,7 @@ fn kept_at(spot: Place) -> Result<usize, AllocError>
         Place::Literal(_) => Ok(0),
         Place::Static(_) => Ok(0),
         Place::Array(_) => Ok(0),
+        Place::Element { .. } => Ok(0),
         Place::At(operand) => kept_in(operand),
     }
 }
@@ -285,6 +293,12 @@ fn slots_of(instruction: Instruction) -> Result<usize, AllocError>
             index,
             size: _,
         } => slots_among(target, array, index),
+        Instruction::Element {
+            element: _,
+            target,
+            from,
+            count,
+        } => slots_among(target, from, count),
         Instruction::Forget { first: _, count: _ } => Ok(0),
         Instruction::Jump(_) => Ok(0),
         Instruction::Branch {

@@ -57,7 +57,7 @@ fn put_body(scope: &Scope<'_>, code: &mut Code, is_main: bool) -> Result<(), All
     ensures { OnOk result (IsBodyOf (program_of scope.now.program.now) is_main (function_of scope.now.function.now) code.new.list.items) }
 {
     put_idles(code, &scope.function.function_type.parameters)?;
-    let end = ahead(code, statement_size(&scope.function.body));
+    let end = ahead(code, statement_size(scope, &scope.function.body));
     let back = plus(end, closing_size(is_main));
     put_statement(scope, code, &scope.function.body, end, end, back)?;
     put_closing(code, is_main)?;

@@ -1,60 +1,23 @@
 //! The code of statements that hold no other, and of a loop's expressions.
 
-ghost use Rattle.std.specs.Prelude.{◌≡◌, ℕ, OnOk};
+ghost use Rattle.std.specs.Prelude.{ℕ, OnOk};
 ghost use Rattle.typed.specs.Program as typed;
-ghost use Rattle.typed.specs.Program.{Place};
 ghost use Rattle.program.specs.View.{value_of, option_value, initialiser_of};
 ghost use Rattle.lowering.specs.Bodies as relation;
 ghost use Rattle.lower_forms.specs.inside.Parts.{Wrote};
-ghost use Rattle.lower_forms.specs.inside.Rows as rows;
+ghost use Rattle.lower.specs.inside.Scopes.{program_in, function_in};
 ghost use Rattle.lower.specs.inside.Sizes as size;
 ghost use Rattle.lower.specs.inside.Written.{WroteStatement};
 
+use crate::initialisers::{all_free, put_first};
 use ctypes::IntType;
 use lower_forms::modes::Mode;
 use lower_forms::row_sizes::Scope;
 use lower_forms::writing::{Code, put};
-use lower_values::places::Free;
 use lower_values::values::{put_converted, put_value};
 use program::{Initialiser, Value};
 use std::alloc::AllocError;
 use tac::{Instruction, Target};
-
-/// Each full expression has all temporaries and slots.
-pub(crate) fn all_free() -> Free
-    ensures temporary { result.temporary ≡ 0 }
-    ensures slot { result.slot ≡ 0 }
-{
-    Free {
-        temporary: 0,
-        slot: 0,
-    }
-}
-
-/// An object gets its first value, which costs a tick behind its expression.
-pub(crate) fn put_first(
-    scope: &Scope<'_>,
-    code: &mut Code,
-    initialiser: &Initialiser,
-    object: usize,
-) -> Result<(), AllocError>
-    ensures { OnOk result (Wrote (λ w p q. relation.Initialises w (rows.sizes_in scope.now) (initialiser_of initialiser.now) object p q) (size.initialises_size (initialiser_of initialiser.now)) code.old.list.items code.new.list.items) }
-{
-    match initialiser {
-        Initialiser::One(ty, e) => {
-            put_converted(scope, code, *ty, e, Target::Object(object), all_free())?;
-            put(code, Instruction::Nothing)?;
-            Ok(())
-        }
-        Initialiser::Text(_) => Err(AllocError),
-        Initialiser::InBraces(inner) => {
-            put(code, Instruction::Nothing)?;
-            put_first(scope, code, inner, object)?;
-            Ok(())
-        }
-        Initialiser::List(_) => Err(AllocError),
-    }
-}
 
 /// What may be left out: nothing is evaluated.
 pub(crate) fn put_effects(
@@ -62,7 +25,7 @@ pub(crate) fn put_effects(
     code: &mut Code,
     e: &Option<Value>,
 ) -> Result<(), AllocError>
-    ensures { OnOk result (Wrote (λ w p q. relation.Effects w (rows.sizes_in scope.now) (option_value e.now) p q) (size.effects_size (option_value e.now)) code.old.list.items code.new.list.items) }
+    ensures { OnOk result (Wrote (λ w p q. relation.Effects w (program_in scope.now) (function_in scope.now) (option_value e.now) p q) (size.effects_size (option_value e.now)) code.old.list.items code.new.list.items) }
 {
     match e {
         None => Ok(()),
@@ -80,7 +43,7 @@ pub(crate) fn put_repeats(
     e: &Option<Value>,
     top: usize,
 ) -> Result<(), AllocError>
-    ensures { OnOk result (Wrote (λ w p q. relation.Repeats w (rows.sizes_in scope.now) (option_value e.now) top p q) (size.repeats_size (option_value e.now)) code.old.list.items code.new.list.items) }
+    ensures { OnOk result (Wrote (λ w p q. relation.Repeats w (program_in scope.now) (function_in scope.now) (option_value e.now) top p q) (size.repeats_size (option_value e.now)) code.old.list.items code.new.list.items) }
 {
     match e {
         None => {
@@ -95,7 +58,7 @@ pub(crate) fn put_repeats(
 }
 
 pub(crate) fn put_evaluated(scope: &Scope<'_>, code: &mut Code, e: &Value) -> Result<(), AllocError>
-    ensures { OnOk result ((out again back : ℕ) → WroteStatement (rows.sizes_in scope.now) (typed.evaluate (value_of e.now)) out again back code.old.list.items code.new.list.items) }
+    ensures { OnOk result ((out again back : ℕ) → WroteStatement (program_in scope.now) (function_in scope.now) (typed.evaluate (value_of e.now)) out again back code.old.list.items code.new.list.items) }
 {
     put(code, Instruction::Nothing)?;
     put_value(scope, code, e, Mode::Nowhere, all_free())?;
@@ -108,7 +71,7 @@ pub(crate) fn put_defined(
     object: usize,
     initialiser: &Initialiser,
 ) -> Result<(), AllocError>
-    ensures { OnOk result ((out again back : ℕ) → WroteStatement (rows.sizes_in scope.now) (typed.define object (initialiser_of initialiser.now)) out again back code.old.list.items code.new.list.items) }
+    ensures { OnOk result ((out again back : ℕ) → WroteStatement (program_in scope.now) (function_in scope.now) (typed.define object (initialiser_of initialiser.now)) out again back code.old.list.items code.new.list.items) }
 {
     put(
         code,
@@ -128,7 +91,7 @@ pub(crate) fn put_returned(
     e: &Value,
     back: usize,
 ) -> Result<(), AllocError>
-    ensures { OnOk result ((out again : ℕ) → WroteStatement (rows.sizes_in scope.now) (typed.return_value ty (value_of e.now)) out again back code.old.list.items code.new.list.items) }
+    ensures { OnOk result ((out again : ℕ) → WroteStatement (program_in scope.now) (function_in scope.now) (typed.return_value ty (value_of e.now)) out again back code.old.list.items code.new.list.items) }
 {
     put(code, Instruction::Nothing)?;
     put_converted(scope, code, ty, e, Target::Temporary(0), all_free())?;
@@ -136,8 +99,8 @@ pub(crate) fn put_returned(
     Ok(())
 }
 
-pub(crate) fn put_return(code: &mut Code, back: usize) -> Result<(), AllocError>
-    ensures { OnOk result ((size : Place → ℕ) → (out again : ℕ) → WroteStatement size typed.return_nothing out again back code.old.list.items code.new.list.items) }
+pub(crate) fn put_return(scope: &Scope<'_>, code: &mut Code, back: usize) -> Result<(), AllocError>
+    ensures { OnOk result ((out again : ℕ) → WroteStatement (program_in scope.now) (function_in scope.now) typed.return_nothing out again back code.old.list.items code.new.list.items) }
 {
     put(code, Instruction::Nothing)?;
     put(code, Instruction::Jump(back))?;

@@ -1,15 +1,16 @@
-//! From typed programs that use automatic objects alone to three-address code (ISO/IEC 9899:2011 6.5, 6.8).
+//! From typed programs to three-address code (ISO/IEC 9899:2011 6.5, 6.7.9, 6.8).
 #![tactic(auto)]
 
 mod block_sizes;
 mod copies;
 mod counts;
+mod elements;
+mod first_sizes;
 mod functions;
+mod initialisers;
 mod leaves;
-mod plain;
 mod programs;
 mod statements;
 mod switches;
 
-pub use plain::is_plain;
-pub use programs::{NotLowered, lower};
+pub use programs::lower;

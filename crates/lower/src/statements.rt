@@ -5,13 +5,14 @@ ghost use Rattle.ctypes.specs.declared.types.IntType.{IntType};
 ghost use Rattle.typed.specs.Program as typed;
 ghost use Rattle.program.specs.View.{value_of, option_value, statement_of, statements_of};
 ghost use Rattle.lower_forms.specs.inside.Parts as parts;
-ghost use Rattle.lower_forms.specs.inside.Rows as rows;
+ghost use Rattle.lower.specs.inside.Scopes.{program_in, function_in};
 ghost use Rattle.lower.specs.inside.Sizes as size;
 ghost use Rattle.lower.specs.inside.Written.{WroteStatement, WrotePlaced};
 
 use crate::block_sizes::{effects_size, repeats_size, statement_size, statements_size, tests_size};
+use crate::initialisers::all_free;
 use crate::leaves::{
-    all_free, put_defined, put_effects, put_evaluated, put_repeats, put_return, put_returned,
+    put_defined, put_effects, put_evaluated, put_repeats, put_return, put_returned,
 };
 use crate::switches::put_tests;
 use lower_forms::form_sizes::plus;
@@ -36,7 +37,7 @@ fn put_block(
     again: usize,
     back: usize,
 ) -> Result<(), AllocError>
-    ensures { OnOk result (WroteStatement (rows.sizes_in scope.now) (typed.block first count (statements_of (map statement_of all.now))) out again back code.old.list.items code.new.list.items) }
+    ensures { OnOk result (WroteStatement (program_in scope.now) (function_in scope.now) (typed.block first count (statements_of (map statement_of all.now))) out again back code.old.list.items code.new.list.items) }
 {
     put(code, Instruction::Forget { first, count })?;
     put_statements(scope, code, all, out, again, back)?;
@@ -53,10 +54,10 @@ fn put_if(
     again: usize,
     back: usize,
 ) -> Result<(), AllocError>
-    ensures { OnOk result (WroteStatement (rows.sizes_in scope.now) (typed.branch (value_of e.now) (statement_of a.now)) out again back code.old.list.items code.new.list.items) }
+    ensures { OnOk result (WroteStatement (program_in scope.now) (function_in scope.now) (typed.branch (value_of e.now) (statement_of a.now)) out again back code.old.list.items code.new.list.items) }
 {
     let test = value_size(e, Shape::Jump);
-    let end = ahead(code, plus(1, plus(test, statement_size(a))));
+    let end = ahead(code, plus(1, plus(test, statement_size(scope, a))));
     put(code, Instruction::Nothing)?;
     put_value(scope, code, e, Mode::If(false, end), all_free())?;
     put_statement(scope, code, a, out, again, back)?;
@@ -74,11 +75,11 @@ fn put_if_else(
     again: usize,
     back: usize,
 ) -> Result<(), AllocError>
-    ensures { OnOk result (WroteStatement (rows.sizes_in scope.now) (typed.branches (value_of e.now) (statement_of a.now) (statement_of b.now)) out again back code.old.list.items code.new.list.items) }
+    ensures { OnOk result (WroteStatement (program_in scope.now) (function_in scope.now) (typed.branches (value_of e.now) (statement_of a.now) (statement_of b.now)) out again back code.old.list.items code.new.list.items) }
 {
     let test = value_size(e, Shape::Jump);
-    let first = statement_size(a);
-    let second = statement_size(b);
+    let first = statement_size(scope, a);
+    let second = statement_size(scope, b);
     let other = ahead(code, plus(1, plus(test, plus(first, 1))));
     let end = ahead(code, plus(1, plus(test, plus(first, plus(1, second)))));
     put(code, Instruction::Nothing)?;
@@ -97,9 +98,9 @@ fn put_while(
     a: &Statement,
     back: usize,
 ) -> Result<(), AllocError>
-    ensures { OnOk result ((out again : ℕ) → WroteStatement (rows.sizes_in scope.now) (typed.while (value_of e.now) (statement_of a.now)) out again back code.old.list.items code.new.list.items) }
+    ensures { OnOk result ((out again : ℕ) → WroteStatement (program_in scope.now) (function_in scope.now) (typed.while (value_of e.now) (statement_of a.now)) out again back code.old.list.items code.new.list.items) }
 {
-    let body = statement_size(a);
+    let body = statement_size(scope, a);
     let test = value_size(e, Shape::Jump);
     let top = ahead(code, 1);
     let at = ahead(code, plus(1, body));
@@ -118,9 +119,9 @@ fn put_do_while(
     e: &Value,
     back: usize,
 ) -> Result<(), AllocError>
-    ensures { OnOk result ((out again : ℕ) → WroteStatement (rows.sizes_in scope.now) (typed.do_while (statement_of a.now) (value_of e.now)) out again back code.old.list.items code.new.list.items) }
+    ensures { OnOk result ((out again : ℕ) → WroteStatement (program_in scope.now) (function_in scope.now) (typed.do_while (statement_of a.now) (value_of e.now)) out again back code.old.list.items code.new.list.items) }
 {
-    let body = statement_size(a);
+    let body = statement_size(scope, a);
     let test = value_size(e, Shape::Jump);
     let top = ahead(code, 1);
     let at = ahead(code, plus(1, body));
@@ -143,16 +144,16 @@ fn put_for(
     a: &Statement,
     back: usize,
 ) -> Result<(), AllocError>
-    ensures { OnOk result ((out again : ℕ) → WroteStatement (rows.sizes_in scope.now) (typed.for (statements_of (map statement_of declared.now)) (option_value start.now) (option_value test.now) (option_value step.now) (statement_of a.now)) out again back code.old.list.items code.new.list.items) }
+    ensures { OnOk result ((out again : ℕ) → WroteStatement (program_in scope.now) (function_in scope.now) (typed.for (statements_of (map statement_of declared.now)) (option_value start.now) (option_value test.now) (option_value step.now) (statement_of a.now)) out again back code.old.list.items code.new.list.items) }
 {
-    let top = ahead(code, before_body(declared, start, 1));
-    let body = plus(1, statement_size(a));
-    let next = ahead(code, before_body(declared, start, body));
-    let behind = plus(1, plus(statement_size(a), effects_size(step)));
-    let at = ahead(code, before_body(declared, start, behind));
+    let top = ahead(code, before_body(scope, declared, start, 1));
+    let body = plus(1, statement_size(scope, a));
+    let next = ahead(code, before_body(scope, declared, start, body));
+    let behind = plus(1, plus(statement_size(scope, a), effects_size(step)));
+    let at = ahead(code, before_body(scope, declared, start, behind));
     let rest = plus(effects_size(step), repeats_size(test));
-    let all = plus(1, plus(statement_size(a), rest));
-    let end = ahead(code, before_body(declared, start, all));
+    let all = plus(1, plus(statement_size(scope, a), rest));
+    let end = ahead(code, before_body(scope, declared, start, all));
     put(code, Instruction::Nothing)?;
     put_statements(scope, code, declared, end, end, back)?;
     put_effects(scope, code, start)?;
@@ -164,12 +165,20 @@ fn put_for(
 }
 
 /// The instructions of a `for` as far as its body's jump, and so many more.
-fn before_body(declared: &[Statement], start: &Option<Value>, more: usize) -> usize
-    ensures { result ≡ parts.plus 1 (parts.plus (size.statements_size (statements_of (map statement_of declared.now))) (parts.plus (size.effects_size (option_value start.now)) more)) }
+fn before_body(
+    scope: &Scope<'_>,
+    declared: &[Statement],
+    start: &Option<Value>,
+    more: usize,
+) -> usize
+    ensures { result ≡ parts.plus 1 (parts.plus (size.statements_size (program_in scope.now) (function_in scope.now) (statements_of (map statement_of declared.now))) (parts.plus (size.effects_size (option_value start.now)) more)) }
 {
     plus(
         1,
-        plus(statements_size(declared), plus(effects_size(start), more)),
+        plus(
+            statements_size(scope, declared),
+            plus(effects_size(start), more),
+        ),
     )
 }
 
@@ -185,18 +194,18 @@ fn put_switch(
     again: usize,
     back: usize,
 ) -> Result<(), AllocError>
-    ensures { OnOk result ((u : IntType) → (out : ℕ) → WroteStatement (rows.sizes_in scope.now) (typed.switch u (value_of e.now) first count (statements_of (map statement_of all.now))) out again back code.old.list.items code.new.list.items) }
+    ensures { OnOk result ((u : IntType) → (out : ℕ) → WroteStatement (program_in scope.now) (function_in scope.now) (typed.switch u (value_of e.now) first count (statements_of (map statement_of all.now))) out again back code.old.list.items code.new.list.items) }
 {
     let operand = waits_for_objects(e, first, count);
     let value = value_size(e, shape_for(operand));
     let tests = tests_size(all);
     let body = ahead(code, plus(1, plus(value, plus(1, tests))));
-    let behind = plus(1, plus(tests, statements_size(all)));
+    let behind = plus(1, plus(tests, statements_size(scope, all)));
     let end = ahead(code, plus(1, plus(value, behind)));
     put(code, Instruction::Nothing)?;
     put_value(scope, code, e, mode_of(operand), all_free())?;
     put(code, Instruction::Forget { first, count })?;
-    put_tests(code, operand, all, body, end)?;
+    put_tests(scope, code, operand, all, body, end)?;
     put_statements(scope, code, all, end, again, back)?;
     Ok(())
 }
@@ -211,7 +220,7 @@ fn put_statements(
     again: usize,
     back: usize,
 ) -> Result<(), AllocError>
-    ensures { OnOk result (WrotePlaced (rows.sizes_in scope.now) (statements_of (map statement_of all.now)) out again back code.old.list.items code.new.list.items) }
+    ensures { OnOk result (WrotePlaced (program_in scope.now) (function_in scope.now) (statements_of (map statement_of all.now)) out again back code.old.list.items code.new.list.items) }
 {
     match all.split_first() {
         None => Ok(()),
@@ -233,7 +242,7 @@ pub(crate) fn put_statement(
     again: usize,
     back: usize,
 ) -> Result<(), AllocError>
-    ensures { OnOk result (WroteStatement (rows.sizes_in scope.now) (statement_of statement.now) out again back code.old.list.items code.new.list.items) }
+    ensures { OnOk result (WroteStatement (program_in scope.now) (function_in scope.now) (statement_of statement.now) out again back code.old.list.items code.new.list.items) }
 {
     match statement {
         Statement::Empty => {
@@ -303,7 +312,7 @@ pub(crate) fn put_statement(
             Ok(())
         }
         Statement::ReturnNothing => {
-            put_return(code, back)?;
+            put_return(scope, code, back)?;
             Ok(())
         }
         Statement::ReturnValue(ty, e) => {

@@ -3,12 +3,14 @@
 ghost use Rattle.std.specs.Prelude.{◌≡◌, map, OnOk};
 ghost use Rattle.meaning.specs.Statements.{labels_at};
 ghost use Rattle.program.specs.View.{statement_of, statements_of};
+ghost use Rattle.lower.specs.inside.Scopes.{program_in, function_in};
 ghost use Rattle.lower.specs.inside.Places.{one_label};
 ghost use Rattle.lower.specs.inside.Written.{WroteTests};
 
 use crate::block_sizes::statement_size;
 use lower_forms::form_sizes::plus;
 use lower_forms::instructions::branch;
+use lower_forms::row_sizes::Scope;
 use lower_forms::words::word_of;
 use lower_forms::writing::{Code, put};
 use program::Statement;
@@ -28,13 +30,14 @@ fn label_at(statement: &Statement) -> Option<Option<i64>>
 
 /// The tests of the labels among statements, the first of which is to stand at `at`; where none is met, the code goes to `other`.
 pub(crate) fn put_tests(
+    scope: &Scope<'_>,
     code: &mut Code,
     operand: Operand,
     all: &[Statement],
     at: usize,
     other: usize,
 ) -> Result<(), AllocError>
-    ensures { OnOk result (WroteTests operand (statements_of (map statement_of all.now)) at other code.old.list.items code.new.list.items) }
+    ensures { OnOk result (WroteTests (program_in scope.now) (function_in scope.now) operand (statements_of (map statement_of all.now)) at other code.old.list.items code.new.list.items) }
 {
     match all.split_first() {
         None => {
@@ -42,14 +45,14 @@ pub(crate) fn put_tests(
             Ok(())
         }
         Some((statement, more)) => {
-            let next = plus(at, statement_size(statement));
+            let next = plus(at, statement_size(scope, statement));
             match label_at(statement) {
                 None => {
-                    put_tests(code, operand, more, next, other)?;
+                    put_tests(scope, code, operand, more, next, other)?;
                     Ok(())
                 }
                 Some(None) => {
-                    put_tests(code, operand, more, next, at)?;
+                    put_tests(scope, code, operand, more, next, at)?;
                     Ok(())
                 }
                 Some(Some(value)) => {
@@ -58,7 +61,7 @@ pub(crate) fn put_tests(
                         code,
                         branch(Comparison::Equal, Reading::Signed, operand, case, at),
                     )?;
-                    put_tests(code, operand, more, next, other)?;
+                    put_tests(scope, code, operand, more, next, other)?;
                     Ok(())
                 }
             }

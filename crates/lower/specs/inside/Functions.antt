@@ -5,7 +5,6 @@ use Rattle.tac.specs.declared.code.Instruction.{Instruction}
 use Rattle.tac.specs.declared.code.Instruction.TheVariants as instruction
 use Rattle.tac.specs.Code.{Function}
 use Rattle.tac.specs.Lowered.{kind_of}
-use Rattle.lowering.specs.Places.{size_of_place}
 use Rattle.lowering.specs.Code.{One}
 use Rattle.lowering.specs.Bodies.{Stands, Idles, Closes, temporary_in, temporary_to, temporary_at, most, slots_of}
 
@@ -26,6 +25,7 @@ temporaries_with count (instruction.Load t g a) = max (temporary_to g) (temporar
 temporaries_with count (instruction.Store t x a) = max (temporary_in x) (temporary_at a)
 temporaries_with count (instruction.Address g a) = max (temporary_to g) (temporary_at a)
 temporaries_with count (instruction.Part g x y size) = max (temporary_to g) (max (temporary_in x) (temporary_in y))
+temporaries_with count (instruction.Element t g x y) = max (temporary_to g) (max (temporary_in x) (temporary_in y))
 temporaries_with count (instruction.Branch c r x y to) = max (temporary_in x) (temporary_in y)
 temporaries_with count (instruction.Call f) = max 1 (count f)
 temporaries_with count instruction.PutByte = 1
@@ -40,7 +40,7 @@ pub record IsBodyOf (p : typed.Program) (is_main : Bool) (f : typed.Function) (c
   pub end : ℕ
   pub back : ℕ
   pub idles : Idles code (suc (length f.type.parameters)) 0 start
-  pub body : Stands code (size_of_place p f) f.body end end back start end
+  pub body : Stands code p f f.body end end back start end
   pub closes : Closes code is_main end back
   pub leaves : One code instruction.Return back (length code)
 

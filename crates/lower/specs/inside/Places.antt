@@ -11,7 +11,8 @@ abbrev pub one_label : Option (Option ℤ) → List (Option ℤ)
 one_label None = []
 one_label (Some l) = l ∷ []
 
--- the positions of the labels among statements, the first of which stands at pc
-abbrev pub places_of : Statements → ℕ → List ℕ
-places_of typed.no_statements pc = []
-places_of (typed.and_statement x more) pc = label_places x pc ++ places_of more (plus pc (statement_size x))
+-- the positions of the labels among statements of a function of a program, the first of which stands at pc
+module _ (p : typed.Program) (f : typed.Function) where
+  abbrev pub places_of : Statements → ℕ → List ℕ
+  places_of typed.no_statements pc = []
+  places_of (typed.and_statement x more) pc = label_places x pc ++ places_of more (plus pc (statement_size p f x))

@@ -5,8 +5,8 @@ use Rattle.meaning.specs.Statements.{labels_of}
 use Rattle.lowering.specs.Values.{waits_in, mode_of}
 use Rattle.lowering.specs.Bodies.{is_within}
 use Rattle.lower_forms.specs.inside.Parts.{plus, shape_of}
-use Rattle.lower_forms.specs.inside.Rows.{sizes_in}
 use Rattle.lower_values.specs.inside.Sizes.{value_size}
+use Rattle.lower.specs.inside.Scopes.{program_in, function_in}
 use Rattle.lower.specs.inside.Sizes.{statement_size, statements_size, tests_size, effects_size, repeats_size}
 use Rattle.lower.proofs.HeldStatements.{sees_empty, sees_evaluate, sees_declare, sees_define, sees_block, sees_if, sees_ifelse, sees_switch, sees_case, sees_default, sees_while, sees_dowhile, sees_for, sees_break, sees_continue, sees_returnnothing, sees_returnvalue}
 use Rattle.lower_forms.proofs.Parts.{two}
@@ -16,51 +16,51 @@ use Rattle.lower.proofs.statements.+statement_code.Goals as goal
 
 pub put_block-returns : goal.put_block-returns
 put_block-returns t c =
-    two c.in_ok-put.ensures (placed_all (sizes_in c.args.scope.now) (statements_of (map statement_of c.args.all.now)) c.args.out c.args.again c.args.back c.in_ok-put_statements.ensures)
+    two c.in_ok-put.ensures (placed_all (program_in c.args.scope.now) (function_in c.args.scope.now) (statements_of (map statement_of c.args.all.now)) c.args.out c.args.again c.args.back c.in_ok-put_statements.ensures)
 
 pub put_if-returns : goal.put_if-returns
 put_if-returns t c =
     let l = length c.args.code.now.list.items in
     let ne = value_size (value_of c.args.e.now) shape.Jump in
-    let h : c.ahead-end.result ≡ plus l (plus 1 (plus ne (statement_size (statement_of c.args.a.now)))) = c.ahead-end.ensures ∙ ap (λ n. plus l n) (c.plus-2.ensures ∙ ap (λ n. plus 1 n) (c.plus.ensures ∙ ap (λ n. plus n c.statement_size.result) c.value_size-test.ensures ∙ ap (λ n. plus ne n) c.statement_size.ensures)) in
-    branch_wrote (sizes_in c.args.scope.now) (value_of c.args.e.now) (statement_of c.args.a.now) c.args.out c.args.again c.args.back c.ahead-end.result h c.in_ok-put.ensures (rw (c.all_free.ensures.temporary, c.all_free.ensures.slot) at c.in_ok-put_value.ensures) c.in_ok-put_statement.ensures
+    let h : c.ahead-end.result ≡ plus l (plus 1 (plus ne (statement_size (program_in c.args.scope.now) (function_in c.args.scope.now) (statement_of c.args.a.now)))) = c.ahead-end.ensures ∙ ap (λ n. plus l n) (c.plus-2.ensures ∙ ap (λ n. plus 1 n) (c.plus.ensures ∙ ap (λ n. plus n c.statement_size.result) c.value_size-test.ensures ∙ ap (λ n. plus ne n) c.statement_size.ensures)) in
+    branch_wrote (program_in c.args.scope.now) (function_in c.args.scope.now) (value_of c.args.e.now) (statement_of c.args.a.now) c.args.out c.args.again c.args.back c.ahead-end.result h c.in_ok-put.ensures (rw (c.all_free.ensures.temporary, c.all_free.ensures.slot) at c.in_ok-put_value.ensures) c.in_ok-put_statement.ensures
 
 pub put_if_else-returns : goal.put_if_else-returns
 put_if_else-returns t c =
     let l = length c.args.code.now.list.items in
     let nc = value_size (value_of c.args.e.now) shape.Jump in
-    let na = statement_size (statement_of c.args.a.now) in
-    let nb = statement_size (statement_of c.args.b.now) in
+    let na = statement_size (program_in c.args.scope.now) (function_in c.args.scope.now) (statement_of c.args.a.now) in
+    let nb = statement_size (program_in c.args.scope.now) (function_in c.args.scope.now) (statement_of c.args.b.now) in
     let eo : c.ahead-other.result ≡ plus l (plus 1 (plus nc (plus na 1))) = c.ahead-other.ensures ∙ ap (λ n. plus l n) (c.plus-3.ensures ∙ ap (λ n. plus 1 n) (c.plus-2.ensures ∙ ap (λ n. plus n c.plus.result) c.value_size-test.ensures
     ∙ ap (λ n. plus nc n) (c.plus.ensures ∙ ap (λ n. plus n 1) c.statement_size-first.ensures))) in
     let ee : c.ahead-end.result ≡ plus l (plus 1 (plus nc (plus na (plus 1 nb)))) = c.ahead-end.ensures ∙ ap (λ n. plus l n) (c.plus-7.ensures ∙ ap (λ n. plus 1 n) (c.plus-6.ensures ∙ ap (λ n. plus n c.plus-5.result) c.value_size-test.ensures
     ∙ ap (λ n. plus nc n) (c.plus-5.ensures ∙ ap (λ n. plus n c.plus-4.result) c.statement_size-first.ensures ∙ ap (λ n. plus na n) (c.plus-4.ensures ∙ ap (λ n. plus 1 n) c.statement_size-second.ensures)))) in
-    branches_wrote (sizes_in c.args.scope.now) (value_of c.args.e.now) (statement_of c.args.a.now) (statement_of c.args.b.now) c.args.out c.args.again c.args.back c.ahead-other.result c.ahead-end.result eo ee c.in_ok-put.ensures (rw (c.all_free.ensures.temporary, c.all_free.ensures.slot) at c.in_ok-put_value.ensures) c.in_ok-put_statement.ensures c.in_ok-put-2.ensures c.in_ok-put_statement-2.ensures
+    branches_wrote (program_in c.args.scope.now) (function_in c.args.scope.now) (value_of c.args.e.now) (statement_of c.args.a.now) (statement_of c.args.b.now) c.args.out c.args.again c.args.back c.ahead-other.result c.ahead-end.result eo ee c.in_ok-put.ensures (rw (c.all_free.ensures.temporary, c.all_free.ensures.slot) at c.in_ok-put_value.ensures) c.in_ok-put_statement.ensures c.in_ok-put-2.ensures c.in_ok-put_statement-2.ensures
 
 pub put_while-returns : goal.put_while-returns
 put_while-returns t c =
     let l = length c.args.code.now.list.items in
-    let na = statement_size (statement_of c.args.a.now) in
+    let na = statement_size (program_in c.args.scope.now) (function_in c.args.scope.now) (statement_of c.args.a.now) in
     let ha : c.ahead-at.result ≡ plus l (plus 1 na) = c.ahead-at.ensures ∙ ap (λ n. plus l n) (c.plus.ensures ∙ ap (λ n. plus 1 n) c.statement_size-body.ensures) in
     let he : c.ahead-end.result ≡ plus l (plus 1 (plus na (value_size (value_of c.args.e.now) shape.Jump))) = c.ahead-end.ensures ∙ ap (λ n. plus l n) (c.plus-3.ensures ∙ ap (λ n. plus 1 n) (c.plus-2.ensures ∙ ap (λ n. plus n c.value_size-test.result) c.statement_size-body.ensures
     ∙ ap (λ n. plus na n) c.value_size-test.ensures)) in
-    λ out again. while_wrote (sizes_in c.args.scope.now) (value_of c.args.e.now) (statement_of c.args.a.now) out again c.args.back c.ahead-top.result c.ahead-at.result c.ahead-end.result c.ahead-top.ensures ha he c.in_ok-put.ensures c.in_ok-put_statement.ensures (rw (c.all_free.ensures.temporary, c.all_free.ensures.slot) at c.in_ok-put_value.ensures)
+    λ out again. while_wrote (program_in c.args.scope.now) (function_in c.args.scope.now) (value_of c.args.e.now) (statement_of c.args.a.now) out again c.args.back c.ahead-top.result c.ahead-at.result c.ahead-end.result c.ahead-top.ensures ha he c.in_ok-put.ensures c.in_ok-put_statement.ensures (rw (c.all_free.ensures.temporary, c.all_free.ensures.slot) at c.in_ok-put_value.ensures)
 
 pub put_do_while-returns : goal.put_do_while-returns
 put_do_while-returns t c =
     let l = length c.args.code.now.list.items in
-    let na = statement_size (statement_of c.args.a.now) in
+    let na = statement_size (program_in c.args.scope.now) (function_in c.args.scope.now) (statement_of c.args.a.now) in
     let ha : c.ahead-at.result ≡ plus l (plus 1 na) = c.ahead-at.ensures ∙ ap (λ n. plus l n) (c.plus.ensures ∙ ap (λ n. plus 1 n) c.statement_size-body.ensures) in
     let he : c.ahead-end.result ≡ plus l (plus 1 (plus na (value_size (value_of c.args.e.now) shape.Jump))) = c.ahead-end.ensures ∙ ap (λ n. plus l n) (c.plus-3.ensures ∙ ap (λ n. plus 1 n) (c.plus-2.ensures ∙ ap (λ n. plus n c.value_size-test.result) c.statement_size-body.ensures
     ∙ ap (λ n. plus na n) c.value_size-test.ensures)) in
-    λ out again. do_while_wrote (sizes_in c.args.scope.now) (statement_of c.args.a.now) (value_of c.args.e.now) out again c.args.back c.ahead-top.result c.ahead-at.result c.ahead-end.result c.ahead-top.ensures ha he c.in_ok-put.ensures c.in_ok-put_statement.ensures (rw (c.all_free.ensures.temporary, c.all_free.ensures.slot) at c.in_ok-put_value.ensures)
+    λ out again. do_while_wrote (program_in c.args.scope.now) (function_in c.args.scope.now) (statement_of c.args.a.now) (value_of c.args.e.now) out again c.args.back c.ahead-top.result c.ahead-at.result c.ahead-end.result c.ahead-top.ensures ha he c.in_ok-put.ensures c.in_ok-put_statement.ensures (rw (c.all_free.ensures.temporary, c.all_free.ensures.slot) at c.in_ok-put_value.ensures)
 
 pub put_for-returns : goal.put_for-returns
 put_for-returns t c =
     let l = length c.args.code.now.list.items in
-    let nd = statements_size (statements_of (map statement_of c.args.declared.now)) in
+    let nd = statements_size (program_in c.args.scope.now) (function_in c.args.scope.now) (statements_of (map statement_of c.args.declared.now)) in
     let ns = effects_size (option_value c.args.start.now) in
-    let na = statement_size (statement_of c.args.a.now) in
+    let na = statement_size (program_in c.args.scope.now) (function_in c.args.scope.now) (statement_of c.args.a.now) in
     let nt = effects_size (option_value c.args.step.now) in
     let nr = repeats_size (option_value c.args.test.now) in
     let h1 : c.ahead-top.result ≡ plus l (plus 1 (plus nd (plus ns 1))) = c.ahead-top.ensures ∙ ap (λ n. plus l n) c.before_body.ensures in
@@ -70,9 +70,9 @@ put_for-returns t c =
     let h4 : c.ahead-end.result ≡ plus l (plus 1 (plus nd (plus ns (plus 1 (plus na (plus nt nr)))))) = c.ahead-end.ensures ∙ ap (λ n. plus l n) (c.before_body-4.ensures ∙ ap (λ n. plus 1 (plus nd (plus ns n))) (c.plus-all.ensures
     ∙ ap (λ n. plus 1 n) (c.plus-2.ensures ∙ ap (λ n. plus n c.plus-rest.result) c.statement_size-3.ensures
     ∙ ap (λ n. plus na n) (c.plus-rest.ensures ∙ ap (λ n. plus n c.repeats_size.result) c.effects_size-2.ensures ∙ ap (λ n. plus nt n) c.repeats_size.ensures)))) in
-    λ out again. for_wrote (sizes_in c.args.scope.now) (statements_of (map statement_of c.args.declared.now)) (option_value c.args.start.now) (option_value c.args.test.now) (option_value c.args.step.now) (statement_of c.args.a.now) out again c.args.back
+    λ out again. for_wrote (program_in c.args.scope.now) (function_in c.args.scope.now) (statements_of (map statement_of c.args.declared.now)) (option_value c.args.start.now) (option_value c.args.test.now) (option_value c.args.step.now) (statement_of c.args.a.now) out again c.args.back
     c.ahead-top.result c.ahead-next.result c.ahead-at.result c.ahead-end.result h1 h2 h3 h4
-    c.in_ok-put.ensures (placed_all (sizes_in c.args.scope.now) (statements_of (map statement_of c.args.declared.now)) c.ahead-end.result c.ahead-end.result c.args.back c.in_ok-put_statements.ensures) c.in_ok-put_effects.ensures c.in_ok-put-2.ensures c.in_ok-put_statement.ensures c.in_ok-put_effects-2.ensures c.in_ok-put_repeats.ensures
+    c.in_ok-put.ensures (placed_all (program_in c.args.scope.now) (function_in c.args.scope.now) (statements_of (map statement_of c.args.declared.now)) c.ahead-end.result c.ahead-end.result c.args.back c.in_ok-put_statements.ensures) c.in_ok-put_effects.ensures c.in_ok-put-2.ensures c.in_ok-put_statement.ensures c.in_ok-put_effects-2.ensures c.in_ok-put_repeats.ensures
 
 pub put_statement-returns-in_ok-put-in-Empty : goal.put_statement-returns-in_ok-put-in-Empty
 put_statement-returns-in_ok-put-in-Empty t c =
@@ -147,7 +147,7 @@ put_statement-returns-in_ok-put-in-Continue t c =
 pub put_statement-returns-in_ok-put_return-in-ReturnNothing : goal.put_statement-returns-in_ok-put_return-in-ReturnNothing
 put_statement-returns-in_ok-put_return-in-ReturnNothing t c =
     let s = c.in-ReturnNothing in
-    rw (sees_returnnothing c.args.statement.now s.is) (c.in_ok-put_return-in-ReturnNothing.ensures (sizes_in c.args.scope.now) c.args.out c.args.again)
+    rw (sees_returnnothing c.args.statement.now s.is) (c.in_ok-put_return-in-ReturnNothing.ensures c.args.out c.args.again)
 
 pub put_statement-returns-in_ok-put_returned-in-ReturnValue : goal.put_statement-returns-in_ok-put_returned-in-ReturnValue
 put_statement-returns-in_ok-put_returned-in-ReturnValue t c =
@@ -157,7 +157,7 @@ put_statement-returns-in_ok-put_returned-in-ReturnValue t c =
 pub put_statements-returns-in_ok-put_statements-in-Some : goal.put_statements-returns-in_ok-put_statements-in-Some
 put_statements-returns-in_ok-put_statements-in-Some t c =
     let s = c.in-Some.ensures.cases in
-    rw s.0 (and_placed (sizes_in c.args.scope.now) (statement_of c.in-Some.statement.now) (statements_of (map statement_of c.in-Some.more.now)) c.args.out c.args.again c.args.back c.in_ok-put_statement-in-Some.ensures c.in_ok-put_statements-in-Some.ensures)
+    rw s.0 (and_placed (program_in c.args.scope.now) (function_in c.args.scope.now) (statement_of c.in-Some.statement.now) (statements_of (map statement_of c.in-Some.more.now)) c.args.out c.args.again c.args.back c.in_ok-put_statement-in-Some.ensures c.in_ok-put_statements-in-Some.ensures)
 
 pub put_switch-returns : goal.put_switch-returns
 put_switch-returns t c =
@@ -167,13 +167,13 @@ put_switch-returns t c =
     let o = waits_in e (is_within c.args.first c.args.count) false 0 0 in
     let nv = value_size e (shape_of (mode_of o)) in
     let nt = tests_size (labels_of all) in
-    let ns = statements_size all in
+    let ns = statements_size (program_in c.args.scope.now) (function_in c.args.scope.now) all in
     let ev : c.value_size-value.result ≡ nv = c.value_size-value.ensures ∙ ap (λ s. value_size e s) (c.shape_for.ensures ∙ ap (λ k. shape_of (mode_of k)) c.waits_for_objects-operand.ensures) in
     let eb : c.ahead-body.result ≡ plus l (plus 1 (plus nv (plus 1 nt))) = c.ahead-body.ensures ∙ ap (λ n. plus l n) (c.plus-3.ensures ∙ ap (λ n. plus 1 n) (c.plus-2.ensures ∙ ap (λ n. plus n c.plus.result) ev
     ∙ ap (λ n. plus nv n) (c.plus.ensures ∙ ap (λ n. plus 1 n) c.tests_size-tests.ensures))) in
     let ee : c.ahead-end.result ≡ plus l (plus 1 (plus nv (plus 1 (plus nt ns)))) = c.ahead-end.ensures ∙ ap (λ n. plus l n) (c.plus-6.ensures ∙ ap (λ n. plus 1 n) (c.plus-5.ensures ∙ ap (λ n. plus n c.plus-behind.result) ev
     ∙ ap (λ n. plus nv n) (c.plus-behind.ensures ∙ ap (λ n. plus 1 n) (c.plus-4.ensures ∙ ap (λ n. plus n c.statements_size.result) c.tests_size-tests.ensures ∙ ap (λ n. plus nt n) c.statements_size.ensures)))) in
-    λ u out. switch_wrote (sizes_in c.args.scope.now) u e c.args.first c.args.count all out c.args.again c.args.back c.ahead-body.result c.ahead-end.result eb ee
+    λ u out. switch_wrote (program_in c.args.scope.now) (function_in c.args.scope.now) u e c.args.first c.args.count all out c.args.again c.args.back c.ahead-body.result c.ahead-end.result eb ee
     c.in_ok-put.ensures
     (rw (c.all_free.ensures.temporary, c.all_free.ensures.slot, c.mode_of.ensures, c.waits_for_objects-operand.ensures) at c.in_ok-put_value.ensures)
     c.in_ok-put-2.ensures (rw c.waits_for_objects-operand.ensures at c.in_ok-put_tests.ensures) c.in_ok-put_statements.ensures
