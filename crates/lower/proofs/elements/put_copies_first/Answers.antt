@@ -2,8 +2,8 @@ use Rattle.std.proofs.Common.{arith}
 use Rattle.lower.proofs.Stretches.{none_copied, some_copied}
 use Rattle.lower.proofs.elements.put_copies_first.Goals as goal
 
-pub returns-if-limit-eq0 : goal.returns-if-limit-eq0
-returns-if-limit-eq0 c = none_copied c.args.element c.args.limit c.args.code.now.list.items c.if-limit-eq0.true c.args.code.now.short
+pub returns-then-limit-eq0 : goal.returns-then-limit-eq0
+returns-then-limit-eq0 c = none_copied c.args.element c.args.limit c.args.code.now.list.items c.if-limit-eq0.true c.args.code.now.short
 
-pub returns-in_ok-put_copies_to : goal.returns-in_ok-put_copies_to
-returns-in_ok-put_copies_to c = some_copied c.args.element c.args.limit (omega (arith, c.if-limit-eq0.false)) c.in_ok-put_copies_to.ensures
+pub returns : goal.returns
+returns c = some_copied c.args.element c.args.limit (omega (arith, c.if-limit-eq0.false)) c.in_ok-put_copies_to.ensures
