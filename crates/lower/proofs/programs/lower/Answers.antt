@@ -6,5 +6,7 @@ use Rattle.lower.proofs.programs.lower.Goals as goal
 pub returns : goal.returns
 returns c =
     let p = c.args.program.now in
-    program_written (view.program_of p) _ (length p.functions.items) c.in_ok-functions.ensures (sym (length_map view.function_of p.functions.items))
-    (c.in_ok-literals.ensures ∙ ap (map (λ text. text.items)) c.deref.ensures.value) (c.in_ok-statics.ensures ∙ ap (map view.static_of) c.deref-2.ensures.value) refl
+    record {
+      code = program_written (view.program_of p) _ (length p.functions.items) c.in_ok-functions.ensures (sym (length_map view.function_of p.functions.items))
+          (c.in_ok-literals.ensures ∙ ap (map (λ text. text.items)) c.deref.ensures.value) (c.in_ok-statics.ensures ∙ ap (map view.static_of) c.deref-2.ensures.value) refl;
+    }
