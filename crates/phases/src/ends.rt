@@ -1,5 +1,6 @@
 //! Where the token lines of a file end.
 ghost use Rattle.std.specs.Prelude.{◌≡◌, ◌≤◌, ◌++◌, List, ℕ, IfOk, OnOk, length, take};
+ghost use Rattle.srcset.specs.Files.{max_file_bytes};
 ghost use Rattle.phases.specs.declared.token.Place.TheVariants.{Start};
 ghost use Rattle.phases.specs.Text.{logical};
 ghost use Rattle.phases.specs.Lines.{place_after};
@@ -70,7 +71,7 @@ fn add_end(ends: &mut Vec<u32>, piece: Piece, line: u32) -> Result<(), AllocErro
 /// such a line the numbering of `#line` begins (ISO/IEC 9899:2011 6.10.4). It reads any bytes, also those for which `scan` has
 /// a fault: a last line with no end has no number then. Fails only where memory runs out.
 pub fn end_lines(alloc: Global, bytes: &[u8]) -> Result<Vec<u32>, AllocError>
-    requires { length bytes.now ≤ 1048576 }
+    requires { length bytes.now ≤ max_file_bytes }
     ensures { IfOk result (λ ends. ends.items ≡ line_ends 0 Start (logical 1 bytes.now)) }
 {
     let mut ends = Vec::new(alloc);

@@ -1,6 +1,7 @@
 //! The token lines of a file.
 ghost use Rattle.std.specs.Prelude.{ℕ, List, ◌≡◌, ◌≤◌, ◌-◌, ◌+◌, ◌<◌, ◌^◌, Ok, Err, IfOk, IfErr, false, ◌⊎◌, length};
 ghost use Rattle.srcset.specs.declared.refusal.Refusal.TheVariants.{Memory};
+ghost use Rattle.srcset.specs.Files.{max_file_bytes};
 ghost use Rattle.phases.specs.declared.token.Place.TheVariants.{Start};
 ghost use Rattle.phases.specs.Text.{phase1, line_after, last_line, ends_open, ends_spliced};
 ghost use Rattle.phases.specs.Lines.{found, lines_or_fault, scanned, AreComments};
@@ -97,7 +98,7 @@ fn token_lines<'a>(alloc: Global, start: Cursor<'a>, file: usize) -> Result<Line
 
 /// The token lines of a file, as `scan` gives them; a refusal names no file, and takes no memory.
 pub fn try_scan<'a>(alloc: Global, bytes: &'a [u8], file: usize) -> Result<Lines<'a>, Refusal>
-    requires { length bytes.now ≤ 1048576 }
+    requires { length bytes.now ≤ max_file_bytes }
     ensures ok { IfOk result (λ lines. scanned file bytes.now ≡ Ok lines) }
     ensures err { IfErr result (λ e. (e ≡ Memory) ⊎ (scanned file bytes.now ≡ Err e)) }
 {
@@ -150,7 +151,7 @@ pub fn scan<'a>(
     file: usize,
     names: &Names,
 ) -> Result<Lines<'a>, Fault>
-    requires { length bytes.now ≤ 1048576 }
+    requires { length bytes.now ≤ max_file_bytes }
     ensures ok { IfOk result (λ lines. scanned file bytes.now ≡ Ok lines) }
     ensures err { IfErr result (λ fault. IsScanFault fault names.now (scanned file bytes.now)) }
     ensures longest { (place : Place) (text : List ℕ) → IsLongest place text }

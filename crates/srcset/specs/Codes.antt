@@ -17,9 +17,11 @@ number_of code.PasteAtAnEnd = 204
 number_of code.ReservedMacroName = 205
 number_of code.PasteMakesNoToken = 206
 number_of code.HashMakesNoString = 207
+number_of code.VariableArgumentsOutside = 208
 number_of code.OpenMacroArguments = 211
 number_of code.MacroArgumentCount = 212
 number_of code.MacroNameEndsRun = 213
+number_of code.NoVariableArgument = 214
 number_of code.NotConstantCondition = 221
 number_of code.ConditionOutOfRange = 222
 number_of code.DefinedMadeByMacro = 223
@@ -84,7 +86,6 @@ number_of code.LeftOutArrayValue = 620
 number_of code.LeftOutReversedSubscript = 621
 number_of code.LeftOutBraceElision = 622
 number_of code.LeftOutLabel = 623
-number_of code.NotBuiltYet = 699
 number_of code.FileSizeLimit = 701
 number_of code.FileLimit = 702
 number_of code.TokenLengthLimit = 703
@@ -127,9 +128,11 @@ text_of code.PasteAtAnEnd = codes "## at an end of a replacement"
 text_of code.ReservedMacroName = codes "reserved macro name"
 text_of code.PasteMakesNoToken = codes "## makes no token"
 text_of code.HashMakesNoString = codes "# makes no string literal"
+text_of code.VariableArgumentsOutside = codes "__VA_ARGS__ outside its macro"
 text_of code.OpenMacroArguments = codes "macro arguments not closed"
 text_of code.MacroArgumentCount = codes "wrong number of macro arguments"
 text_of code.MacroNameEndsRun = codes "function-like macro name ends its run"
+text_of code.NoVariableArgument = codes "no variable argument"
 text_of code.NotConstantCondition = codes "not a constant expression in #if"
 text_of code.ConditionOutOfRange = codes "#if arithmetic out of range"
 text_of code.DefinedMadeByMacro = codes "defined made by a macro"
@@ -194,7 +197,6 @@ text_of code.LeftOutArrayValue = codes "left out: array or function as a value"
 text_of code.LeftOutReversedSubscript = codes "left out: reversed subscript"
 text_of code.LeftOutBraceElision = codes "left out: brace elision"
 text_of code.LeftOutLabel = codes "left out: label not directly in its switch"
-text_of code.NotBuiltYet = codes "not built yet"
 text_of code.FileSizeLimit = codes "limit: file size"
 text_of code.FileLimit = codes "limit: files"
 text_of code.TokenLengthLimit = codes "limit: token length"
@@ -243,9 +245,11 @@ macro_code n =
     if nat_eq n 205 then Some code.ReservedMacroName else
     if nat_eq n 206 then Some code.PasteMakesNoToken else
     if nat_eq n 207 then Some code.HashMakesNoString else
+    if nat_eq n 208 then Some code.VariableArgumentsOutside else
     if nat_eq n 211 then Some code.OpenMacroArguments else
     if nat_eq n 212 then Some code.MacroArgumentCount else
     if nat_eq n 213 then Some code.MacroNameEndsRun else
+    if nat_eq n 214 then Some code.NoVariableArgument else
     if nat_eq n 221 then Some code.NotConstantCondition else
     if nat_eq n 222 then Some code.ConditionOutOfRange else
     if nat_eq n 223 then Some code.DefinedMadeByMacro else
@@ -330,7 +334,6 @@ profile_code n =
     if nat_eq n 621 then Some code.LeftOutReversedSubscript else
     if nat_eq n 622 then Some code.LeftOutBraceElision else
     if nat_eq n 623 then Some code.LeftOutLabel else
-    if nat_eq n 699 then Some code.NotBuiltYet else
     None
 
 -- limits of the compiler (ISO/IEC 9899:2011 5.2.4.1)

@@ -32,12 +32,16 @@ pub enum Code {
     PasteMakesNoToken,
     /// 207: # makes no string literal.
     HashMakesNoString,
+    /// 208: __VA_ARGS__ outside its macro.
+    VariableArgumentsOutside,
     /// 211: macro arguments not closed.
     OpenMacroArguments,
     /// 212: wrong number of macro arguments.
     MacroArgumentCount,
     /// 213: function-like macro name ends its run.
     MacroNameEndsRun,
+    /// 214: no variable argument.
+    NoVariableArgument,
     /// 221: not a constant expression in #if.
     NotConstantCondition,
     /// 222: #if arithmetic out of range.
@@ -166,8 +170,6 @@ pub enum Code {
     LeftOutBraceElision,
     /// 623: left out: label not directly in its switch.
     LeftOutLabel,
-    /// 699: not built yet.
-    NotBuiltYet,
     /// 701: limit: file size.
     FileSizeLimit,
     /// 702: limit: files.
@@ -242,9 +244,11 @@ impl Code {
             Code::ReservedMacroName => 205,
             Code::PasteMakesNoToken => 206,
             Code::HashMakesNoString => 207,
+            Code::VariableArgumentsOutside => 208,
             Code::OpenMacroArguments => 211,
             Code::MacroArgumentCount => 212,
             Code::MacroNameEndsRun => 213,
+            Code::NoVariableArgument => 214,
             Code::NotConstantCondition => 221,
             Code::ConditionOutOfRange => 222,
             Code::DefinedMadeByMacro => 223,
@@ -309,7 +313,6 @@ impl Code {
             Code::LeftOutReversedSubscript => 621,
             Code::LeftOutBraceElision => 622,
             Code::LeftOutLabel => 623,
-            Code::NotBuiltYet => 699,
             Code::FileSizeLimit => 701,
             Code::FileLimit => 702,
             Code::TokenLengthLimit => 703,
@@ -357,9 +360,11 @@ impl Code {
             Code::ReservedMacroName => "reserved macro name",
             Code::PasteMakesNoToken => "## makes no token",
             Code::HashMakesNoString => "# makes no string literal",
+            Code::VariableArgumentsOutside => "__VA_ARGS__ outside its macro",
             Code::OpenMacroArguments => "macro arguments not closed",
             Code::MacroArgumentCount => "wrong number of macro arguments",
             Code::MacroNameEndsRun => "function-like macro name ends its run",
+            Code::NoVariableArgument => "no variable argument",
             Code::NotConstantCondition => "not a constant expression in #if",
             Code::ConditionOutOfRange => "#if arithmetic out of range",
             Code::DefinedMadeByMacro => "defined made by a macro",
@@ -425,7 +430,6 @@ impl Code {
             Code::LeftOutReversedSubscript => "left out: reversed subscript",
             Code::LeftOutBraceElision => "left out: brace elision",
             Code::LeftOutLabel => "left out: label not directly in its switch",
-            Code::NotBuiltYet => "not built yet",
             Code::FileSizeLimit => "limit: file size",
             Code::FileLimit => "limit: files",
             Code::TokenLengthLimit => "limit: token length",
@@ -504,9 +508,11 @@ fn macro_code(number: u16) -> Option<Code>
         205 => Some(Code::ReservedMacroName),
         206 => Some(Code::PasteMakesNoToken),
         207 => Some(Code::HashMakesNoString),
+        208 => Some(Code::VariableArgumentsOutside),
         211 => Some(Code::OpenMacroArguments),
         212 => Some(Code::MacroArgumentCount),
         213 => Some(Code::MacroNameEndsRun),
+        214 => Some(Code::NoVariableArgument),
         221 => Some(Code::NotConstantCondition),
         222 => Some(Code::ConditionOutOfRange),
         223 => Some(Code::DefinedMadeByMacro),
@@ -611,7 +617,6 @@ fn profile_code(number: u16) -> Option<Code>
         621 => Some(Code::LeftOutReversedSubscript),
         622 => Some(Code::LeftOutBraceElision),
         623 => Some(Code::LeftOutLabel),
-        699 => Some(Code::NotBuiltYet),
         _ => None,
     }
 }

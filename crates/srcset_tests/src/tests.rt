@@ -19,9 +19,11 @@ const TEXTS: &str = "101 file name given twice\n\
 205 reserved macro name\n\
 206 ## makes no token\n\
 207 # makes no string literal\n\
+208 __VA_ARGS__ outside its macro\n\
 211 macro arguments not closed\n\
 212 wrong number of macro arguments\n\
 213 function-like macro name ends its run\n\
+214 no variable argument\n\
 221 not a constant expression in #if\n\
 222 #if arithmetic out of range\n\
 223 defined made by a macro\n\
@@ -86,7 +88,6 @@ const TEXTS: &str = "101 file name given twice\n\
 621 left out: reversed subscript\n\
 622 left out: brace elision\n\
 623 left out: label not directly in its switch\n\
-699 not built yet\n\
 701 limit: file size\n\
 702 limit: files\n\
 703 limit: token length\n\
