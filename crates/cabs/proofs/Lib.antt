@@ -1,6 +1,7 @@
-pub mod Trees
-pub mod Resumes
-pub mod Adequate
-pub mod Scenes
-pub mod Taken
-pub mod Held
+pub mod Laid
+pub mod Calm
+pub mod Following
+pub mod Telling
+pub mod Acts
+pub mod Ticking
+pub mod AtOnce

@@ -1,2 +1,13 @@
-pub mod View
+pub use Rattle.meaning_events.specs.Events
+pub use Rattle.typing_rules.specs.Types
+pub use Rattle.typing_rules.specs.Program
+pub use Rattle.typing_program.specs.View
+pub use Rattle.meaning.specs.Store
+pub use Rattle.meaning.specs.History
+pub use Rattle.meaning.specs.Machine
+pub use Rattle.meaning.specs.Expressions
+pub use Rattle.meaning.specs.Statements
+pub use Rattle.meaning.specs.Meaning
+pub use Rattle.sim.specs.Port
+pub mod Interpreting
 pub mod inside

@@ -1,20 +1,12 @@
-//! The abstract machine in memory: runs a typed program without translating it (ISO/IEC 9899:2011 5.1.2.3).
+//! Interprets a typed program over a port: the abstract machine of ISO/IEC 9899:2011 5.1.2.3, tick by tick.
 #![tactic(auto)]
 
-mod element_tree;
-pub mod expressions;
-pub mod frames;
-pub mod laws;
-pub mod machine;
-pub mod operands;
-pub mod operators;
-mod path;
-mod reference;
-pub mod scene;
-pub mod stop;
-mod store;
+mod acting;
+mod first_objects;
+mod outcome;
+mod quick_parts;
+mod running;
+mod state;
 
-pub use element_tree::Tree;
-pub use path::Path;
-pub use reference::Reference;
-pub use store::Store;
+pub use outcome::{Interpreted, Run};
+pub use running::interpret;

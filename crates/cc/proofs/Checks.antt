@@ -3,10 +3,10 @@ use Rattle.std.proofs.Common.{◌≡◌, ℕ, List}
 use Rattle.srcset.specs.NameTable.{Texts}
 use Rattle.srcset.specs.declared.fault.Fault.{Fault}
 use Rattle.tree.specs.Tree.{ExternalTree}
-use Rattle.typed.specs.Program.{Program}
-use Rattle.typed.specs.Verdict.{Verdict}
-use Rattle.typed.specs.Units.{unit_typed}
-use Rattle.checker.specs.Told.{IsFaultOfVerdict}
+use Rattle.typing_rules.specs.Program.{Program}
+use Rattle.typing_rules.specs.Verdict.{Verdict}
+use Rattle.typing_rules.specs.Units.{unit_typed}
+use Rattle.typing.specs.Told.{IsFaultOfVerdict}
 use Rattle.cc.specs.Compiled.{typed_at}
 
 pub verdict_at : (texts : Texts) (file : ℕ) (unit : List ExternalTree) (v : Verdict Program) → unit_typed texts (record { file = file; line = 1 }) unit ≡ v → typed_at texts file unit ≡ v

@@ -7,10 +7,10 @@ use Rattle.loader.specs.MemoryMap.{text_start}
 use Rattle.asm.specs.declared.item.Item.{Item}
 use Rattle.asm.specs.Listing.{Lists}
 use Rattle.asm.specs.Refusals.{IsListRefused}
-use Rattle.typed.specs.Program.{Program}
+use Rattle.typing_rules.specs.Program.{Program}
 use Rattle.srcset.specs.NameTable.{Texts}
 use Rattle.tree.specs.Tree.{ExternalTree}
-use Rattle.backend.specs.Generated as backend
+use Rattle.cc_backend.specs.Generated as backend
 use Rattle.cc.specs.Compiled.{HasProgram}
 use Rattle.cc.specs.Reported.{Said}
 use Rattle.cc.specs.Performed.{ListsAll, ListsSome, FailsList}

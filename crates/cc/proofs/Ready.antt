@@ -3,16 +3,16 @@ use Rattle.std.proofs.Common.{◌≡◌, ℕ, zero, suc, List, [], ◌∷◌, So
 use Rattle.std.specs.Prelude.{slice_get}
 use Rattle.srcset.specs.NameTable.{Texts}
 use Rattle.tree.specs.Tree.{FunctionTree, ExternalTree, definition}
-use Rattle.typed.specs.Program.{Program}
-use Rattle.typed.specs.Verdict.{fine}
-use Rattle.typed.specs.Units.{unit_typed}
+use Rattle.typing_rules.specs.Program.{Program}
+use Rattle.typing_rules.specs.Verdict.{fine}
+use Rattle.typing_rules.specs.Units.{unit_typed}
 use Rattle.parser.specs.Units.{IsTreeWithin, of_function, IsSmall, AreSmall}
 use Rattle.lexer.specs.declared.token.Token.{Token}
-use Rattle.checked.specs.Laws.{AreTexts, IsWithinNodes}
-use Rattle.checked.proofs.Ground.{same_some}
-use Rattle.checked.proofs.AskedStatements.{program_is_asked}
-use Rattle.checked_units.proofs.Whole.{program_is_checked}
-use Rattle.backend.specs.Generated.{IsReady}
+use Rattle.tac_checked.specs.Laws.{AreTexts, IsWithinNodes}
+use Rattle.tac_checked.proofs.Ground.{same_some}
+use Rattle.tac_checked.proofs.AskedStatements.{program_is_asked}
+use Rattle.tac_units.proofs.Whole.{program_is_checked}
+use Rattle.cc_backend.specs.Generated.{IsReady}
 use Rattle.cc.specs.Compiled.{typed_at, IsProgramOf}
 
 within_nodes : (unit : List ExternalTree) → AreSmall unit → IsWithinNodes unit

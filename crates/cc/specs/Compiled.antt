@@ -15,11 +15,11 @@ use Rattle.lexer.specs.Numbering.{AreAll}
 use Rattle.lexer.specs.declared.token.Token.{Token}
 use Rattle.tree.specs.Tree.{ExternalTree}
 use Rattle.parser.specs.Units.{IsTreeWithin, IsOnly, IsFaultOfUnit}
-use Rattle.typed.specs.Program.{Function, Program}
-use Rattle.typed.specs.Verdict.{Verdict, fine}
-use Rattle.typed.specs.Units.{unit_typed}
-use Rattle.checker.specs.Told.{IsFaultOfVerdict}
-use Rattle.backend.specs.Generated.{IsFileOf}
+use Rattle.typing_rules.specs.Program.{Function, Program}
+use Rattle.typing_rules.specs.Verdict.{Verdict, fine}
+use Rattle.typing_rules.specs.Units.{unit_typed}
+use Rattle.typing.specs.Told.{IsFaultOfVerdict}
+use Rattle.cc_backend.specs.Generated.{IsFileOf}
 use Rattle.cc.specs.declared.compiling.Built.{Built}
 
 -- ---- what a set of files holds from its main file on, phase by phase (ISO/IEC 9899:2011 5.1.1.2)

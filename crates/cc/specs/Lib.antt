@@ -13,19 +13,19 @@ pub use Rattle.lexer.specs.Numbering
 pub use Rattle.tree.specs.Tree
 pub use Rattle.tree.specs.Counts
 pub use Rattle.parser.specs.Units
-pub use Rattle.typed.specs.Program
-pub use Rattle.typed.specs.Verdict
-pub use Rattle.typed.specs.Units as TypedUnits
-pub use Rattle.checker.specs.Told
+pub use Rattle.typing_rules.specs.Program
+pub use Rattle.typing_rules.specs.Verdict
+pub use Rattle.typing_rules.specs.Units as TypedUnits
+pub use Rattle.typing.specs.Told
 pub use Rattle.meaning.specs.Meaning
-pub use Rattle.interpreter.specs.Interpreting
+pub use Rattle.cabs.specs.Interpreting
 pub use Rattle.rv32.specs.Step
 pub use Rattle.loader.specs.File
 pub use Rattle.loader.specs.MemoryMap
 pub use Rattle.sim.specs.Port
 pub use Rattle.sim.specs.Runs
 pub use Rattle.sim.specs.Meets
-pub use Rattle.backend.specs.Generated
+pub use Rattle.cc_backend.specs.Generated
 pub mod Compiled
 pub mod Transfer
 pub mod Reported

@@ -24,14 +24,14 @@ use Rattle.asm.specs.declared.item.Item.{Item}
 use Rattle.asm.specs.Listing.{Lists}
 use Rattle.asm.specs.Refusals.{WritesBeginning}
 use Rattle.loader.specs.MemoryMap.{text_start}
-use Rattle.backend.specs.Generated.{AreItemsOf}
+use Rattle.cc_backend.specs.Generated.{AreItemsOf}
 use Rattle.loader.specs.declared.fault.LoadFault.{LoadFault}
 use Rattle.loader.specs.Fault.{code_of}
 use Rattle.tree.specs.Tree.{ExternalTree}
-use Rattle.typed.specs.Program.{Program}
-use Rattle.interpreter.specs.declared.outcome.Run.{Run as Interpreted}
-use Rattle.interpreter.specs.declared.outcome.Run.TheVariants as interpreted
-use Rattle.interpreter.specs.Interpreting as interpreting
+use Rattle.typing_rules.specs.Program.{Program}
+use Rattle.cabs.specs.declared.outcome.Run.{Run as Interpreted}
+use Rattle.cabs.specs.declared.outcome.Run.TheVariants as interpreted
+use Rattle.cabs.specs.Interpreting as interpreting
 use Rattle.cc.specs.Compiled.{HasList, HasProgram, FailsPreprocessing, Compiles, IsRefused}
 use Rattle.cc.specs.Reported.{Said, Says, SaysOutcome, SaysRun, fault_text}
 use Rattle.cc.specs.Transfer.{PutsAll, PutsSome}

@@ -14,8 +14,8 @@ use Rattle.sim.specs.Port.{code_of}
 use Rattle.sim.specs.declared.port.PortFault.{PortFault}
 use Rattle.sim.specs.declared.machine.Outcome.{Outcome}
 use Rattle.sim.specs.declared.machine.Outcome.TheVariants as outcome
-use Rattle.interpreter.specs.declared.outcome.Run.{Run}
-use Rattle.interpreter.specs.declared.outcome.Run.TheVariants as run
+use Rattle.cabs.specs.declared.outcome.Run.{Run}
+use Rattle.cabs.specs.declared.outcome.Run.TheVariants as run
 
 -- ---- the lines
 

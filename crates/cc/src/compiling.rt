@@ -1,17 +1,17 @@
 //! From source files to an executable file.
 
 ghost use Rattle.std.specs.Prelude.{◌≡◌, map, IfOk, IfErr, OnOk, ◌++◌};
-ghost use Rattle.program.specs.View.{program_of, function_of};
-ghost use Rattle.backend.specs.Generated.{IsReady};
+ghost use Rattle.typing_program.specs.View.{program_of, function_of};
+ghost use Rattle.cc_backend.specs.Generated.{IsReady};
 ghost use Rattle.cc.specs.Compiled.{Compiles, BuildsProgram, IsRefused, shown_entry, entry_of, entries};
 ghost use Rattle.cc.specs.inside.Stops.{Stops, IsMemory};
 
 use crate::front::checked_unit;
 use crate::stopping::Stop;
-use backend::generate;
-use program::{Function, Program};
+use cc_backend::generate;
 use srcset::{Fault, FileSet, Names};
 use std::alloc::{AllocError, Global};
+use typing_program::{Function, Program};
 
 /// An executable file, and what each function may take of the stack.
 #[derive(Drop)]

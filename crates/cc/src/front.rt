@@ -7,23 +7,23 @@ ghost use Rattle.lexer.specs.CTokens.{ctokens};
 ghost use Rattle.lexer.specs.Numbering.{AreAll, IsTokenFault};
 ghost use Rattle.parser.specs.Units.{IsTreeWithin, IsOnly, IsFaultOfUnit};
 ghost use Rattle.tree.specs.View.{unit_of};
-ghost use Rattle.program.specs.View.{program_of};
-ghost use Rattle.tac.specs.Sound.{AreBytes};
-ghost use Rattle.checked.specs.Laws.{AreTexts};
-ghost use Rattle.backend.specs.Generated.{IsReady};
+ghost use Rattle.typing_program.specs.View.{program_of};
+ghost use Rattle.tac_code.specs.Sound.{AreBytes};
+ghost use Rattle.tac_checked.specs.Laws.{AreTexts};
+ghost use Rattle.cc_backend.specs.Generated.{IsReady};
 ghost use Rattle.cc.specs.Compiled.{HasList, HasProgram, IsProgramOf, BreaksConstraint, FailsPreprocessing};
 ghost use Rattle.cc.specs.inside.Stops.{IsTold, Stops};
 
 use crate::stopping::Stop;
-use checker::check;
 use lexer::{Token, tokens};
 use parser::parse;
 use phases::PpToken;
 use pp::preprocess;
-use program::Program;
 use srcset::{FileSet, Names, Pos};
 use std::alloc::Global;
 use tree::Unit;
+use typing::check;
+use typing_program::Program;
 
 /// A translation unit that breaks no constraint: its tree, and its typed program.
 #[derive(Drop)]

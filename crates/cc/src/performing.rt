@@ -11,8 +11,8 @@ use crate::reporting::{say_budget, say_fault, say_memory, say_port, say_trap, sa
 use crate::stopping::Stop;
 use crate::transfer::put_all;
 use asm::{Items, list};
-use backend::items;
-use interpreter::{Run, interpret};
+use cabs::{Run, interpret};
+use cc_backend::items;
 use loader::memory_map::TEXT_START;
 use loader::{LoadFault, load};
 use pp::print;

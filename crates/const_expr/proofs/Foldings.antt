@@ -7,14 +7,14 @@ use Rattle.ctypes.specs.declared.types.IntType.{IntType}
 use Rattle.ctypes.specs.declared.operators.BinOp.{BinOp}
 use Rattle.ctypes.specs.Types.{truth}
 use Rattle.tree.specs.declared.expression.PrefixOp.{PrefixOp}
-use Rattle.program.specs.declared.expressions.Value.{Value, the_lemmas}
-use Rattle.program.specs.declared.expressions.Value as V
-use Rattle.program.specs.View.{value_of}
-use Rattle.typed.specs.Verdict.{Verdict, fine}
-use Rattle.typed.specs.Program as typed
-use Rattle.typed.specs.Constants.{folded, by_truth, truth_of, to_arm}
-use Rattle.expression_rules.specs.Refused.{IsOf}
-use Rattle.expression_rules.proofs.Verdicts.{then_left, then_right}
+use Rattle.typing_program.specs.declared.expressions.Value.{Value, the_lemmas}
+use Rattle.typing_program.specs.declared.expressions.Value as V
+use Rattle.typing_program.specs.View.{value_of}
+use Rattle.typing_rules.specs.Verdict.{Verdict, fine}
+use Rattle.typing_rules.specs.Program as typed
+use Rattle.typing_rules.specs.Constants.{folded, by_truth, truth_of, to_arm}
+use Rattle.typing_expressions.specs.Refused.{IsOf}
+use Rattle.typing_expressions.proofs.Verdicts.{then_left, then_right}
 
 right_of_binary : (r : Refusal) (at : Pos) (op : BinOp) (t : IntType) (a b : typed.Value) (v : ℤ) → folded a ≡ fine v → IsOf r (folded b) → IsOf r (folded (typed.binary at op t a b))
 right_of_binary r at op t a b v e h = then_right r (folded a) v _ e (then_left r (folded b) _ h)

@@ -4,10 +4,10 @@ use Rattle.srcset.specs.declared.code.Code.TheVariants as code
 use Rattle.srcset.specs.declared.refusal.Pos.{Pos}
 use Rattle.srcset.specs.declared.refusal.Refusal.{Refusal}
 use Rattle.tree.specs.Capped.{capped}
-use Rattle.typed.specs.Types.{ObjectType, size_of_object}
-use Rattle.typed.specs.Verdict.{Verdict, fine, refuse_if, provided}
-use Rattle.typed.specs.Expressions.{too_large}
-use Rattle.expression_rules.specs.Refused.{Tells, refused}
+use Rattle.typing_rules.specs.Types.{ObjectType, size_of_object}
+use Rattle.typing_rules.specs.Verdict.{Verdict, fine, refuse_if, provided}
+use Rattle.typing_rules.specs.Expressions.{too_large}
+use Rattle.typing_expressions.specs.Refused.{Tells, refused}
 use Rattle.const_expr.proofs.Sizes.{limit_of_capped}
 
 is_over : (c x : ℕ) → c ≡ capped x → 1048576 < c → nat_lt 1048576 x ≡ true

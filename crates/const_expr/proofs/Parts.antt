@@ -7,14 +7,14 @@ use Rattle.srcset.specs.declared.refusal.Pos.{Pos}
 use Rattle.srcset.specs.declared.refusal.Refusal.{Refusal}
 use Rattle.srcset.specs.declared.refusal.Refusal.TheVariants.{Memory, At, Told}
 use Rattle.tree.specs.Tree.{Tree, Trees, TypeTree, cast, conditional}
-use Rattle.typed.specs.Types.{ObjectType, ParameterType}
-use Rattle.typed.specs.Verdict.{Verdict, fine, broken, then_check, both}
-use Rattle.typed.specs.Scope.{Scope, strings, strings_of_type, past, past_type}
-use Rattle.typed.specs.Expressions as typed
-use Rattle.typed.specs.Expressions.{Checked, Arms, arms}
-use Rattle.expression_rules.specs.Refused.{Tells}
-use Rattle.expression_rules.specs.Numbered.{numbered, typing_at, operands_at, arguments_at, named_at, lengths_at}
-use Rattle.expression_rules.proofs.Verdicts.{tells_left, tells_right}
+use Rattle.typing_rules.specs.Types.{ObjectType, ParameterType}
+use Rattle.typing_rules.specs.Verdict.{Verdict, fine, broken, then_check, both}
+use Rattle.typing_rules.specs.Scope.{Scope, strings, strings_of_type, past, past_type}
+use Rattle.typing_rules.specs.Expressions as typed
+use Rattle.typing_rules.specs.Expressions.{Checked, Arms, arms}
+use Rattle.typing_expressions.specs.Refused.{Tells}
+use Rattle.typing_expressions.specs.Numbered.{numbered, typing_at, operands_at, arguments_at, named_at, lengths_at}
+use Rattle.typing_expressions.proofs.Verdicts.{tells_left, tells_right}
 use Rattle.const_expr.proofs.Numbered.{both_same, more, typing_same, arguments_same, lengths_same}
 
 counted : (n m : ℕ) (k : List ℕ) → m ≡ n + length k → length {A = ℕ} (replicate m 0) ≡ length {A = ℕ} (replicate n 0 ++ k)

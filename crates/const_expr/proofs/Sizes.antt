@@ -4,9 +4,9 @@ use Rattle.std.proofs.lemmas.Nat.{mul-le}
 use Rattle.std.proofs.Common.{List, [], ◌∷◌, length, ℤ, pos, FitsSigned, to_z, of_z, w64}
 use Rattle.std.proofs.lemmas.Int.{ints, to_z-of_z}
 use Rattle.tree.specs.Capped.{capped}
-use Rattle.typed.specs.Types.{elements_in}
-use Rattle.typed.specs.Verdict.{fine}
-use Rattle.typed.specs.Expressions.{positive}
+use Rattle.typing_rules.specs.Types.{elements_in}
+use Rattle.typing_rules.specs.Verdict.{fine}
+use Rattle.typing_rules.specs.Expressions.{positive}
 use Rattle.srcset.specs.declared.refusal.Pos.{Pos}
 
 -- of a limit M below which a number is itself

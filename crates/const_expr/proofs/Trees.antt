@@ -11,21 +11,21 @@ use Rattle.tree.specs.declared.expression.BinaryOp.{BinaryOp}
 use Rattle.tree.specs.declared.expression.AssignOp.{AssignOp}
 use Rattle.tree.specs.Tree.{string, subscript, binary, assign, type_name}
 use Rattle.tree.specs.View.{tree_of, trees_of, type_of}
-use Rattle.program.specs.declared.types.ParameterType.{ParameterType}
-use Rattle.program.specs.declared.expressions.Argument.{Argument}
-use Rattle.program.specs.View.{parameter_type_of, arguments_of, argument_of, and_given}
-use Rattle.typed.specs.Verdict.{Verdict, fine, then_check, both}
-use Rattle.typed.specs.Operators.{assigning}
-use Rattle.typed.specs.Program.{Arguments}
-use Rattle.typed.specs.Scope.{Scope, strings, strings_in, past}
-use Rattle.typed.specs.Specifiers.{base_type}
-use Rattle.typed.specs.Expressions as typed
-use Rattle.typed.specs.Expressions.{Checked, Arms, arms}
-use Rattle.expression_rules.specs.declared.forms.Checked as held
-use Rattle.expression_rules.specs.Refused.{IsOf, Tells}
-use Rattle.expression_rules.specs.Forms.{checked_of}
-use Rattle.expression_rules.specs.Numbered.{numbered, typing_at, operands_at, arguments_at, named_at, size_at, lengths_at}
-use Rattle.expression_rules.proofs.Verdicts.{tells_left, tells_right, tells_of}
+use Rattle.typing_program.specs.declared.types.ParameterType.{ParameterType}
+use Rattle.typing_program.specs.declared.expressions.Argument.{Argument}
+use Rattle.typing_program.specs.View.{parameter_type_of, arguments_of, argument_of, and_given}
+use Rattle.typing_rules.specs.Verdict.{Verdict, fine, then_check, both}
+use Rattle.typing_rules.specs.Operators.{assigning}
+use Rattle.typing_rules.specs.Program.{Arguments}
+use Rattle.typing_rules.specs.Scope.{Scope, strings, strings_in, past}
+use Rattle.typing_rules.specs.Specifiers.{base_type}
+use Rattle.typing_rules.specs.Expressions as typed
+use Rattle.typing_rules.specs.Expressions.{Checked, Arms, arms}
+use Rattle.typing_expressions.specs.declared.forms.Checked as held
+use Rattle.typing_expressions.specs.Refused.{IsOf, Tells}
+use Rattle.typing_expressions.specs.Forms.{checked_of}
+use Rattle.typing_expressions.specs.Numbered.{numbered, typing_at, operands_at, arguments_at, named_at, size_at, lengths_at}
+use Rattle.typing_expressions.proofs.Verdicts.{tells_left, tells_right, tells_of}
 use Rattle.const_expr.proofs.Numbered.{base_same}
 use Rattle.const_expr.proofs.Parts.{joined, lengths_past, arguments_past}
 

@@ -7,15 +7,15 @@ use Rattle.srcset.specs.Refusal.{IsFaultOfRefusal}
 use Rattle.srcset.specs.declared.fault.Fault.{Fault}
 use Rattle.srcset.specs.declared.refusal.Refusal.{Refusal}
 use Rattle.tree.specs.Tree.{Tree}
-use Rattle.typed.specs.Verdict.{Verdict, fine, then_check}
-use Rattle.typed.specs.Scope.{Scope}
-use Rattle.typed.specs.Constants.{constant_form}
-use Rattle.typed.specs.Expressions.{Checked, Constant, typing, integer, constant_in, constant_value}
-use Rattle.expression_rules.specs.Refused.{IsOf, Tells}
-use Rattle.scopes.specs.Scopes.{with_texts}
+use Rattle.typing_rules.specs.Verdict.{Verdict, fine, then_check}
+use Rattle.typing_rules.specs.Scope.{Scope}
+use Rattle.typing_rules.specs.Constants.{constant_form}
+use Rattle.typing_rules.specs.Expressions.{Checked, Constant, typing, integer, constant_in, constant_value}
+use Rattle.typing_expressions.specs.Refused.{IsOf, Tells}
+use Rattle.typing_scopes.specs.Scopes.{with_texts}
 use Rattle.const_expr.specs.Told.{IsFaultOfVerdict}
-use Rattle.expression_rules.specs.Numbered.{typing_at}
-use Rattle.expression_rules.proofs.Verdicts.{tells_then, tells_of}
+use Rattle.typing_expressions.specs.Numbered.{typing_at}
+use Rattle.typing_expressions.proofs.Verdicts.{tells_then, tells_of}
 use Rattle.const_expr.proofs.Numbered.{typing_same, form_same}
 
 typing_whole : (t : List (List ℕ)) (n : ℕ) (s : Scope) (e : Tree) → n ≡ length s.literals → typing_at t n s e ≡ typing (with_texts t s) e

@@ -3,9 +3,9 @@ use Rattle.srcset.specs.NameTable.{Texts}
 use Rattle.srcset.specs.Refusal.{IsFaultOfRefusal}
 use Rattle.srcset.specs.declared.fault.Fault.{Fault}
 use Rattle.srcset.specs.declared.refusal.Refusal.{Refusal}
-use Rattle.typed.specs.Expressions.{Constant}
-use Rattle.typed.specs.Verdict.{Verdict}
-use Rattle.expression_rules.specs.Refused.{Tells}
+use Rattle.typing_rules.specs.Expressions.{Constant}
+use Rattle.typing_rules.specs.Verdict.{Verdict}
+use Rattle.typing_expressions.specs.Refused.{Tells}
 
 -- a constraint that is broken, at its place under the names of these texts; or out of memory
 pub record IsFaultOfVerdict (fault : Fault) (texts : Texts) (v : Verdict Constant) : Type 0 where

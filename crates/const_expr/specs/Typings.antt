@@ -4,9 +4,9 @@ use Rattle.const_expr.specs.declared.specifiers.BaseType.{BaseType}
 use Rattle.const_expr.specs.declared.specifiers.WordSet.{WordSet}
 use Rattle.const_expr.specs.declared.type_names.NamedType.{NamedType}
 use Rattle.const_expr.specs.declared.constants.Constant.{Constant}
-use Rattle.typed.specs.Types as type
-use Rattle.typed.specs.Expressions as expressions
-use Rattle.typed.specs.Specifiers as typed
+use Rattle.typing_rules.specs.Types as type
+use Rattle.typing_rules.specs.Expressions as expressions
+use Rattle.typing_rules.specs.Specifiers as typed
 
 abbrev pub base_type_of : BaseType → typed.BaseType
 base_type_of b = record { type = b.named; constant = b.constant }

@@ -1,22 +1,22 @@
 //! Casts (6.5.4): to `void`, or to a type of numbers.
-#![tactic(auto, using(expression_rules::proofs::Verdicts::tells_then))]
+#![tactic(auto, using(typing_expressions::proofs::Verdicts::tells_then))]
 
 ghost use Rattle.std.specs.Prelude.{◌≡◌, IfErr, IfOk, None};
-ghost use Rattle.typed.specs.Verdict.{fine};
-ghost use Rattle.typed.specs.Expressions as typed;
-ghost use Rattle.typed.specs.Program as program_typed;
+ghost use Rattle.typing_rules.specs.Verdict.{fine};
+ghost use Rattle.typing_rules.specs.Expressions as typed;
+ghost use Rattle.typing_rules.specs.Program as program_typed;
 ghost use Rattle.srcset.specs.declared.refusal.Refusal.TheVariants.{Memory};
-ghost use Rattle.program.specs.View.{value_of};
-ghost use Rattle.expression_rules.specs.Refused.{Tells};
-ghost use Rattle.expression_rules.specs.Forms.{checked_of, worth_of};
+ghost use Rattle.typing_program.specs.View.{value_of};
+ghost use Rattle.typing_expressions.specs.Refused.{Tells};
+ghost use Rattle.typing_expressions.specs.Forms.{checked_of, worth_of};
 ghost use Rattle.const_expr.specs.Typings.{named_of, option_named};
 
 use crate::type_names::NamedType;
 use ctypes::IntType;
-use expression_rules::{Checked, Worth, boxed, broken, effect, valued};
-use program::Value;
 use srcset::{Code, Pos, Refusal};
 use std::alloc::Global;
+use typing_expressions::{Checked, Worth, boxed, broken, effect, valued};
+use typing_program::Value;
 
 /// A value as one of another type.
 fn converted(alloc: Global, ty: IntType, x: Worth) -> Result<Value, Refusal>

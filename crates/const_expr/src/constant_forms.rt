@@ -1,16 +1,16 @@
 //! What may stand in a constant expression (6.6p3, p6).
-#![tactic(auto, using(expression_rules::proofs::Verdicts::each_left, expression_rules::proofs::Verdicts::each_right, expression_rules::proofs::Verdicts::each_fine))]
+#![tactic(auto, using(typing_expressions::proofs::Verdicts::each_left, typing_expressions::proofs::Verdicts::each_right, typing_expressions::proofs::Verdicts::each_fine))]
 
 ghost use Rattle.std.specs.Prelude.{◌≡◌, IfErr, OnOk};
-ghost use Rattle.typed.specs.Verdict.{fine};
-ghost use Rattle.typed.specs.Constants as typed;
+ghost use Rattle.typing_rules.specs.Verdict.{fine};
+ghost use Rattle.typing_rules.specs.Constants as typed;
 ghost use Rattle.tree.specs.View.{tree_of};
-ghost use Rattle.expression_rules.specs.Refused.{IsOf};
-ghost use Rattle.scopes.specs.Scopes.{option_binding};
+ghost use Rattle.typing_expressions.specs.Refused.{IsOf};
+ghost use Rattle.typing_scopes.specs.Scopes.{option_binding};
 
-use scopes::{Binding, Meaning, Scope};
 use srcset::{Code, Pos, Refusal};
 use tree::{BinaryOp, Expr};
+use typing_scopes::{Binding, Meaning, Scope};
 
 fn not_constant(pos: Pos) -> Result<(), Refusal>
     ensures ok { OnOk result (typed.unfit_at pos ≡ fine tt) }

@@ -1,22 +1,22 @@
 //! Constants: those of the source (6.4.4), and the values of constant expressions (6.6).
-#![tactic(auto, using(expression_rules::proofs::Verdicts::tells_then, expression_rules::proofs::Verdicts::tells_of))]
+#![tactic(auto, using(typing_expressions::proofs::Verdicts::tells_then, typing_expressions::proofs::Verdicts::tells_of))]
 
 ghost use Rattle.std.specs.Prelude.{◌≡◌, IfErr, IfOk};
 ghost use Rattle.ctypes.specs.Types.{converted};
-ghost use Rattle.typed.specs.Verdict.{fine, then_check};
-ghost use Rattle.typed.specs.Expressions as typed;
-ghost use Rattle.typed.specs.Program as program_typed;
-ghost use Rattle.expression_rules.specs.Refused.{Tells};
-ghost use Rattle.expression_rules.specs.Forms.{checked_of, worth_of};
+ghost use Rattle.typing_rules.specs.Verdict.{fine, then_check};
+ghost use Rattle.typing_rules.specs.Expressions as typed;
+ghost use Rattle.typing_rules.specs.Program as program_typed;
+ghost use Rattle.typing_expressions.specs.Refused.{Tells};
+ghost use Rattle.typing_expressions.specs.Forms.{checked_of, worth_of};
 ghost use Rattle.const_expr.specs.Typings.{constant_of, natural};
 
 use crate::folding::folded;
 use crate::type_names::positive;
 use ctypes::{IntType, convert};
-use expression_rules::{Checked, Worth, valued};
-use program::Value;
 use srcset::{Code, Pos, Refusal};
 use std::alloc::Global;
+use typing_expressions::{Checked, Worth, valued};
+use typing_program::Value;
 
 /// The type and the value of a constant expression.
 #[derive(Clone, Copy)]

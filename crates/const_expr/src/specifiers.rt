@@ -1,18 +1,18 @@
 //! The types that specifiers name (6.7.2, 6.7.3).
-#![tactic(auto, using(expression_rules::proofs::Verdicts::each_left, expression_rules::proofs::Verdicts::each_right, expression_rules::proofs::Verdicts::each_fine))]
+#![tactic(auto, using(typing_expressions::proofs::Verdicts::each_left, typing_expressions::proofs::Verdicts::each_right, typing_expressions::proofs::Verdicts::each_fine))]
 
 ghost use Rattle.std.specs.Prelude.{◌≡◌, ◌≤◌, length, IfErr, OnOk, IfOk, nat_eq, not, map};
-ghost use Rattle.typed.specs.Specifiers as typed;
-ghost use Rattle.typed.specs.Verdict.{fine, refuse_if};
-ghost use Rattle.typed.specs.Scope.{tag_in};
+ghost use Rattle.typing_rules.specs.Specifiers as typed;
+ghost use Rattle.typing_rules.specs.Verdict.{fine, refuse_if};
+ghost use Rattle.typing_rules.specs.Scope.{tag_in};
 ghost use Rattle.srcset.specs.declared.code.Code.TheVariants as code;
-ghost use Rattle.expression_rules.specs.Refused.{IsOf};
+ghost use Rattle.typing_expressions.specs.Refused.{IsOf};
 ghost use Rattle.const_expr.specs.Typings.{base_type_of, word_set_of, is_empty};
 
 use ctypes::IntType;
-use scopes::Scope;
 use srcset::{Code, Pos, Refusal};
 use tree::{TypeSpecifier, TypeSpecifiers, Word};
+use typing_scopes::Scope;
 
 /// The type that specifiers name, none for `void`, and whether `const` is among them.
 #[derive(Clone, Copy)]

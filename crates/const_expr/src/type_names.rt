@@ -2,18 +2,18 @@
 #![tactic(auto, using(crate::proofs::Sizes::capped_product, crate::proofs::Sizes::capped_one, crate::proofs::Sizes::limit_of_capped))]
 
 ghost use Rattle.std.specs.Prelude.{◌≡◌, Bool, IfErr, IfOk, OnOk, Some, None};
-ghost use Rattle.typed.specs.Types as type;
-ghost use Rattle.typed.specs.Verdict.{fine};
-ghost use Rattle.typed.specs.Expressions as typed;
+ghost use Rattle.typing_rules.specs.Types as type;
+ghost use Rattle.typing_rules.specs.Verdict.{fine};
+ghost use Rattle.typing_rules.specs.Expressions as typed;
 ghost use Rattle.tree.specs.Capped.{capped};
-ghost use Rattle.expression_rules.specs.Refused.{Tells};
+ghost use Rattle.typing_expressions.specs.Refused.{Tells};
 ghost use Rattle.const_expr.specs.Typings.{named_of, option_named};
 ghost use Rattle.const_expr.specs.Typings.{base_type_of};
 
 use crate::specifiers::BaseType;
 use ctypes::{IntType, size_of};
-use expression_rules::broken;
 use srcset::{Code, Pos, Refusal};
+use typing_expressions::broken;
 
 /// A type of objects that is named.
 #[derive(Drop)]

@@ -1,17 +1,17 @@
 //! The types of expressions (6.5), by the rules of their forms, and of the names of types (6.7.7).
-#![tactic(auto, using(expression_rules::proofs::Verdicts::tells_then, crate::proofs::Parts::joined, crate::proofs::Parts::joined_tells))]
+#![tactic(auto, using(typing_expressions::proofs::Verdicts::tells_then, crate::proofs::Parts::joined, crate::proofs::Parts::joined_tells))]
 
 ghost use Rattle.std.specs.Prelude.{◌≡◌, ◌+◌, ◌++◌, ℕ, List, length, map, reverse, IfErr, IfOk, OnOk};
-ghost use Rattle.program.specs.declared.expressions.Argument.{Argument};
-ghost use Rattle.program.specs.View.{parameter_type_of, arguments_of, argument_of};
+ghost use Rattle.typing_program.specs.declared.expressions.Argument.{Argument};
+ghost use Rattle.typing_program.specs.View.{parameter_type_of, arguments_of, argument_of};
 ghost use Rattle.tree.specs.Tree.{call, cast, conditional};
 ghost use Rattle.tree.specs.View.{tree_of, trees_of, type_of};
-ghost use Rattle.typed.specs.Verdict.{fine};
-ghost use Rattle.typed.specs.Scope.{strings, strings_in, strings_of_type};
-ghost use Rattle.expression_rules.specs.Refused.{Tells};
-ghost use Rattle.expression_rules.specs.Forms.{checked_of};
+ghost use Rattle.typing_rules.specs.Verdict.{fine};
+ghost use Rattle.typing_rules.specs.Scope.{strings, strings_in, strings_of_type};
+ghost use Rattle.typing_expressions.specs.Refused.{Tells};
+ghost use Rattle.typing_expressions.specs.Forms.{checked_of};
 ghost use Rattle.const_expr.specs.Typings.{option_named};
-ghost use Rattle.expression_rules.specs.Numbered.{typing_at, operands_at, arguments_at, named_at, size_at, lengths_at};
+ghost use Rattle.typing_expressions.specs.Numbered.{typing_at, operands_at, arguments_at, named_at, size_at, lengths_at};
 ghost use Rattle.const_expr.specs.Operands.{operands_of};
 
 use crate::casts::cast_to;
@@ -20,15 +20,15 @@ use crate::constants::{size_in, source_constant};
 use crate::measures::{measured, type_measured};
 use crate::specifiers::base_type;
 use crate::type_names::{NamedType, type_of};
-use expression_rules::{
-    Checked, argument, assigned, broken, called_value, chosen, function_named, named, next_literal,
-    operated, push_argument, signed, stepped, subscripted, valued,
-};
-use program::{Argument, Moment, ParameterType};
-use scopes::Scope;
 use srcset::{Code, Names, Pos, Refusal};
 use std::alloc::Global;
 use tree::{Expr, TypeName};
+use typing_expressions::{
+    Checked, argument, assigned, broken, called_value, chosen, function_named, named, next_literal,
+    operated, push_argument, signed, stepped, subscripted, valued,
+};
+use typing_program::{Argument, Moment, ParameterType};
+use typing_scopes::Scope;
 
 /// Two operands.
 #[derive(Drop)]

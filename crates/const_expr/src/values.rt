@@ -3,10 +3,10 @@
 
 ghost use Rattle.std.specs.Prelude.{◌≡◌, IfErr, IfOk};
 ghost use Rattle.tree.specs.View.{tree_of};
-ghost use Rattle.typed.specs.Verdict.{fine};
-ghost use Rattle.typed.specs.Expressions as typed;
-ghost use Rattle.expression_rules.specs.Refused.{Tells};
-ghost use Rattle.scopes.specs.Scopes.{with_texts};
+ghost use Rattle.typing_rules.specs.Verdict.{fine};
+ghost use Rattle.typing_rules.specs.Expressions as typed;
+ghost use Rattle.typing_expressions.specs.Refused.{Tells};
+ghost use Rattle.typing_scopes.specs.Scopes.{with_texts};
 ghost use Rattle.const_expr.specs.Typings.{constant_of};
 ghost use Rattle.const_expr.specs.Told.{IsFaultOfVerdict};
 
@@ -14,10 +14,10 @@ use crate::constant_forms::constant_form;
 use crate::constants::{Constant, constant_worth};
 use crate::typing::expression;
 use ctypes::IntType;
-use scopes::Scope;
 use srcset::{Fault, Names, Refusal};
 use std::alloc::Global;
 use tree::Expr;
+use typing_scopes::Scope;
 
 /// The type and the value of a constant expression.
 pub fn constant_value(

@@ -1,4 +1,8 @@
-pub mod Code
-pub mod Run
-pub mod Sound
+pub mod Data
+pub mod Sizes
+pub mod Layout
+pub mod Translated
+pub mod Laws
 pub mod Costs
+pub mod Flattened
+pub mod inside

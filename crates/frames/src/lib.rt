@@ -1,8 +1,15 @@
-//! Flat code: functions over frames of words and bytes. Today its types, and what it does as a definition.
+//! From three-address code to flat code: frames of words and bytes in place of objects and slots.
 #![tactic(auto)]
 
-mod code;
+mod functions;
+mod instructions;
+mod laws;
+mod layout;
+mod operations;
+mod sizes;
+mod starts;
+mod statics;
 
-pub use code::{
-    Conversion, FlatProgram, Function, Instruction, Location, Operand, Operation, Target, Width,
-};
+pub use functions::flatten;
+pub use laws::{arrays_are_apart, starts_are_apart, words_agree, words_are_apart};
+pub use statics::data;

@@ -6,11 +6,11 @@ use Rattle.ctypes.specs.declared.types.IntType.{IntType}
 use Rattle.ctypes.specs.declared.operators.Undef.{Undef}
 use Rattle.ctypes.specs.declared.operators.Undef.TheVariants.{U5}
 use Rattle.ctypes.specs.Types.{truth, of_truth, modulo, converted}
-use Rattle.events.specs.Events.{Got, GotEnd, Put}
-use Rattle.typed.specs.Types.{ObjectType, elements_in}
-use Rattle.typed.specs.Operators.{operated, sign_of}
-use Rattle.typed.specs.Program as typed
-use Rattle.typed.specs.Program.{Storage, Callee, Place, Value, Arguments, Initialiser, Initialisers, Statement, Statements, Function, Program}
+use Rattle.meaning_events.specs.Events.{Got, GotEnd, Put}
+use Rattle.typing_rules.specs.Types.{ObjectType, elements_in}
+use Rattle.typing_rules.specs.Operators.{operated, sign_of}
+use Rattle.typing_rules.specs.Program as typed
+use Rattle.typing_rules.specs.Program.{Storage, Callee, Place, Value, Arguments, Initialiser, Initialisers, Statement, Statements, Function, Program}
 use Rattle.meaning.specs.Store.{Reference, into, length_of, tree_at, value_at}
 use Rattle.meaning.specs.History.{Entry, Did, Entered, Left}
 use Rattle.meaning.specs.Machine.{State, Run, Goes, Stops, Ended, Undefined, TicksUsed, then_do, choose, tick_of, tick, ticks, undefined, computed_at, designated, subscripted, value_or_undefined, read, stored, write}

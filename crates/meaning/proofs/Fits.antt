@@ -10,9 +10,9 @@ use Rattle.ctypes.specs.declared.operators.BinOp.TheVariants.{Sub, BitXor}
 use Rattle.ctypes.specs.Types.{least, greatest, IsValueOf, is_value_of, truth, of_truth, converted}
 use Rattle.ctypes.proofs.Uses.{converted_fits, computed_fits}
 use Rattle.tree.specs.declared.expression.PrefixOp.TheVariants as prefix
-use Rattle.typed.specs.Types.{elements_in}
-use Rattle.typed.specs.Operators.{right_operand}
-use Rattle.typed.specs.WellTyped.{values_fit}
+use Rattle.typing_rules.specs.Types.{elements_in}
+use Rattle.typing_rules.specs.Operators.{right_operand}
+use Rattle.typing_rules.specs.WellTyped.{values_fit}
 use Rattle.meaning.specs.Store.{Tree, Element, Array, Row, no_parts, and_part, Store, part_of, part_in, at_path, value_of, change_part, change_in, put_at, put_in, repeated, filled, row_of, laid_out}
 use Rattle.meaning.specs.Laws.{OperationFits, SignFits, TreeFits, RowFits, FitsWhere, ValueFits, ReadFits, WriteFits, NewFits, StaticFits}
 

@@ -8,10 +8,10 @@ use Rattle.ctypes.specs.declared.operators.BinOp.TheVariants as op
 use Rattle.ctypes.specs.declared.operators.Undef.TheVariants as act
 use Rattle.tree.specs.declared.expression.PrefixOp.TheVariants as prefix
 use Rattle.tree.specs.declared.expression.StepOp.TheVariants as step
-use Rattle.typed.specs.Types.{ObjectType, elements}
-use Rattle.typed.specs.Program as typed
-use Rattle.typed.specs.Program.{Program}
-use Rattle.typed.specs.WellTyped.{is_typed}
+use Rattle.typing_rules.specs.Types.{ObjectType, elements}
+use Rattle.typing_rules.specs.Program as typed
+use Rattle.typing_rules.specs.Program.{Program}
+use Rattle.typing_rules.specs.WellTyped.{is_typed}
 use Rattle.meaning.specs.Machine.{Ending, Ended, Undefined}
 use Rattle.meaning.specs.Meaning.{Answer, answer_of, cstep, last_of}
 

@@ -9,10 +9,10 @@ use Rattle.ctypes.specs.declared.operators.Undef.TheVariants.{U8}
 use Rattle.ctypes.specs.Types.{truth, of_truth, modulo, converted}
 use Rattle.tree.specs.declared.expression.StepOp.{StepOp}
 use Rattle.tree.specs.declared.expression.StepOp.TheVariants.{Increment, Decrement}
-use Rattle.events.specs.Events.{Got, GotEnd, Put}
-use Rattle.typed.specs.Operators.{operated, sign_of}
-use Rattle.typed.specs.Program as typed
-use Rattle.typed.specs.Program.{Callee, Moment, Place, Value, Arguments, Program}
+use Rattle.meaning_events.specs.Events.{Got, GotEnd, Put}
+use Rattle.typing_rules.specs.Operators.{operated, sign_of}
+use Rattle.typing_rules.specs.Program as typed
+use Rattle.typing_rules.specs.Program.{Callee, Moment, Place, Value, Arguments, Program}
 use Rattle.meaning.specs.Store.{Reference}
 use Rattle.meaning.specs.History.{Did}
 use Rattle.meaning.specs.Machine.{State, Ended, Run, Goes, Stops, then_do, choose, tick, undefined, computed_at, designated, subscripted, read, write}

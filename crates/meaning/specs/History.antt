@@ -1,7 +1,7 @@
 -- What a run did: bytes got and put, calls entered and left. A history has the newest first.
 use Rattle.std.specs.Prelude.{ℕ, ◌+◌, List, [], ◌∷◌, max, Option, Some, None, slice_get}
-use Rattle.events.specs.Events.{Event}
-use Rattle.typed.specs.Program.{Function, Program}
+use Rattle.meaning_events.specs.Events.{Event}
+use Rattle.typing_rules.specs.Program.{Function, Program}
 
 -- something done to the outside, or a call of the function with this number began, or the innermost call ended
 pub data Entry : Type 0 where

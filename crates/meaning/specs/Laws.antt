@@ -5,10 +5,10 @@ use Rattle.ctypes.specs.declared.operators.BinOp.{BinOp}
 use Rattle.ctypes.specs.Types.{IsValueOf}
 use Rattle.ctypes.specs.Arithmetic.{result_type}
 use Rattle.tree.specs.declared.expression.PrefixOp.{PrefixOp}
-use Rattle.typed.specs.Types.{ObjectType}
-use Rattle.typed.specs.Operators.{operated, sign_of, signed_type}
-use Rattle.typed.specs.WellTyped.{values_fit}
-use Rattle.typed.specs.Program.{Static, Program}
+use Rattle.typing_rules.specs.Types.{ObjectType}
+use Rattle.typing_rules.specs.Operators.{operated, sign_of, signed_type}
+use Rattle.typing_rules.specs.WellTyped.{values_fit}
+use Rattle.typing_rules.specs.Program.{Static, Program}
 use Rattle.meaning.specs.Store.{Tree, Element, Array, Row, no_parts, and_part, Store, Reference, tree_at, value_at, put, indeterminate, static_object}
 use Rattle.meaning.specs.History.{Entry}
 use Rattle.meaning.specs.Machine.{State, Ending, Ended, Undefined, TicksUsed, Stops}

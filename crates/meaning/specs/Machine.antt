@@ -3,8 +3,8 @@ use Rattle.std.specs.Prelude.{ℕ, zero, suc, ◌+◌, List, length, Option, Som
 use Rattle.srcset.specs.declared.refusal.Pos.{Pos}
 use Rattle.ctypes.specs.declared.operators.Undef.{Undef}
 use Rattle.ctypes.specs.declared.operators.Undef.TheVariants.{U5, U6, U7}
-use Rattle.typed.specs.Program as typed
-use Rattle.typed.specs.Program.{Storage, Program}
+use Rattle.typing_rules.specs.Program as typed
+use Rattle.typing_rules.specs.Program.{Storage, Program}
 use Rattle.meaning.specs.Store.{Store, Reference, whole, into, Element, tree_at, length_of, value_at, put}
 use Rattle.meaning.specs.History.{Entry}
 

@@ -1,9 +1,9 @@
 -- What a program does (ISO/IEC 9899:2011 5.1.2.3, 6.5.2.2, 6.9.1), with a clock of n ticks.
 use Rattle.std.specs.Prelude.{ℕ, zero, suc, List, [], ◌∷◌, ◌++◌, map, take, drop, reverse, length, Option, Some, None, Bool, true, false, ℤ, pos, nat_eq, slice_get}
 use Rattle.ctypes.specs.Types.{modulo}
-use Rattle.events.specs.Events.{Event, written}
-use Rattle.typed.specs.Types.{ObjectType}
-use Rattle.typed.specs.Program.{Function, Program}
+use Rattle.meaning_events.specs.Events.{Event, written}
+use Rattle.typing_rules.specs.Types.{ObjectType}
+use Rattle.typing_rules.specs.Program.{Function, Program}
 use Rattle.meaning.specs.Store.{Tree, Element, Reference, indeterminate, first_store}
 use Rattle.meaning.specs.History.{Entered, Left, trace_of, weight_in, greatest_sum}
 use Rattle.meaning.specs.Machine.{State, Ending, Ended, TicksUsed, Run, Goes, Stops, then_do, ticks}

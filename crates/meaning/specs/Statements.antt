@@ -3,9 +3,9 @@
 use Rattle.std.specs.Prelude.{ℕ, zero, suc, ◌+◌, ◌-◌, ◌*◌, List, [], ◌∷◌, ◌++◌, length, Option, Some, None, Bool, ◌&&◌, ℤ, pos, int_le, nat_lt, slice_get}
 use Rattle.ctypes.specs.declared.types.IntType.{IntType}
 use Rattle.ctypes.specs.Types.{truth, converted}
-use Rattle.typed.specs.Types.{ObjectType, elements_in}
-use Rattle.typed.specs.Program as typed
-use Rattle.typed.specs.Program.{Value, Initialiser, Initialisers, Statement, Statements, Program}
+use Rattle.typing_rules.specs.Types.{ObjectType, elements_in}
+use Rattle.typing_rules.specs.Program as typed
+use Rattle.typing_rules.specs.Program.{Value, Initialiser, Initialisers, Statement, Statements, Program}
 use Rattle.meaning.specs.Store.{Tree, Element, Reference, whole, into, put, filled, indeterminate}
 use Rattle.meaning.specs.Machine.{State, TicksUsed, Run, Goes, Stops, then_do, choose, tick, ticks, stored}
 use Rattle.meaning.specs.Expressions.{Calling, evaluate, evaluate_or}

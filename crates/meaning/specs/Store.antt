@@ -1,7 +1,7 @@
 -- The store (ISO/IEC 9899:2011 6.2.4, 6.5.2.1): objects by number, each a tree of elements, and references into it.
 use Rattle.std.specs.Prelude.{ℕ, zero, suc, List, [], ◌∷◌, ◌++◌, map, drop, Option, Some, None, ℤ, pos, slice_get}
-use Rattle.typed.specs.Types.{ObjectType, elements_in}
-use Rattle.typed.specs.Program.{Static, Program}
+use Rattle.typing_rules.specs.Types.{ObjectType, elements_in}
+use Rattle.typing_rules.specs.Program.{Static, Program}
 
 -- an element has a value or is indeterminate (3.19.2); an array is a row of such trees
 mutual

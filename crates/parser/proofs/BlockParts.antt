@@ -9,21 +9,21 @@ use Rattle.lexer.specs.declared.token.Punctuator.TheVariants as sign
 use Rattle.tree.specs.Tree.{StmtTree, stmt_hole, DeclarationTree, PieceTree, declaration_item, statement_item, Pieces, no_pieces, and_piece}
 use Rattle.tree.specs.Counts.{stmt_depth, piece_depth, pieces_depth, declaration_depth}
 use Rattle.tree.specs.View.{pieces_of}
-use Rattle.grammar.specs.declared.refusal.Refusal.{Refusal}
-use Rattle.grammar.specs.declared.refusal.Refusal.TheVariants.{Syntax, Depth, Memory}
-use Rattle.grammar.specs.declared.scope.Scope.TheVariants.{Block}
-use Rattle.grammar.specs.Tokens.{Own, Sign, NotFront, Reaches}
-use Rattle.grammar.specs.Declarations.{SpellsDeclaration}
-use Rattle.grammar.specs.Statements.{SpellsStmt, SpellsPiece, SpellsPieces}
-use Rattle.grammar.specs.inside.Answer.{Excuses, ReadsOf, FailsOf, StandsOf, Anywhere}
+use Rattle.parser_grammar.specs.declared.refusal.Refusal.{Refusal}
+use Rattle.parser_grammar.specs.declared.refusal.Refusal.TheVariants.{Syntax, Depth, Memory}
+use Rattle.parser_grammar.specs.declared.scope.Scope.TheVariants.{Block}
+use Rattle.parser_grammar.specs.Tokens.{Own, Sign, NotFront, Reaches}
+use Rattle.parser_grammar.specs.Declarations.{SpellsDeclaration}
+use Rattle.parser_grammar.specs.Statements.{SpellsStmt, SpellsPiece, SpellsPieces}
+use Rattle.parser_grammar.specs.inside.Answer.{Excuses, ReadsOf, FailsOf, StandsOf, Anywhere}
 use Rattle.parser.specs.inside.StatementAnswers.{EndsStmt, SpellsBody}
-use Rattle.declaration_parser.specs.DeclarationAnswers.{BeginsDeclaration}
+use Rattle.parser_declarations.specs.DeclarationAnswers.{BeginsDeclaration}
 use Rattle.parser.specs.inside.StmtParts.{EndsPiece}
-use Rattle.grammar.proofs.Exits.{excuses_grow}
-use Rattle.grammar.proofs.Tokens.{own_once, own_kinds, mark_own, reaches_on, reaches_self}
+use Rattle.parser_grammar.proofs.Exits.{excuses_grow}
+use Rattle.parser_grammar.proofs.Tokens.{own_once, own_kinds, mark_own, reaches_on, reaches_self}
 use Rattle.parser.proofs.StmtLeading.{tag, own_tag, declaration_tagged, stmt_tag, stmt_tagged, piece_no_else, no_stmt_declares}
-use Rattle.declaration_parser.proofs.DeclarationFacts.{declaration_begins}
-use Rattle.grammar.proofs.UnitBegun.{piece_is_begun, piece_reaches}
+use Rattle.parser_declarations.proofs.DeclarationFacts.{declaration_begins}
+use Rattle.parser_grammar.proofs.UnitBegun.{piece_is_begun, piece_reaches}
 
 -- ---- one of them
 

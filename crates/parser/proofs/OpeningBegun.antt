@@ -2,11 +2,11 @@
 use Rattle.std.specs.Prelude.{None, Some}
 use Rattle.std.proofs.Common.{List}
 use Rattle.lexer.specs.declared.token.Token.{Token}
-use Rattle.grammar.specs.declared.scope.Scope.TheVariants.{File}
-use Rattle.declaration_parser.specs.DeclarationAnswers.{OpeningTree, SpellsOpening}
-use Rattle.grammar.specs.Tokens.{Reaches}
-use Rattle.grammar.proofs.Tokens.{mark_begun, reaches_on, own_reaches, mark_reaches}
-use Rattle.grammar.proofs.DeclarationBegun.{declaration_specifiers_reach, parameters_are_begun, parameters_reach, specifiers_are_begun}
+use Rattle.parser_grammar.specs.declared.scope.Scope.TheVariants.{File}
+use Rattle.parser_declarations.specs.DeclarationAnswers.{OpeningTree, SpellsOpening}
+use Rattle.parser_grammar.specs.Tokens.{Reaches}
+use Rattle.parser_grammar.proofs.Tokens.{mark_begun, reaches_on, own_reaches, mark_reaches}
+use Rattle.parser_grammar.proofs.DeclarationBegun.{declaration_specifiers_reach, parameters_are_begun, parameters_reach, specifiers_are_begun}
 
 -- ---- units
 

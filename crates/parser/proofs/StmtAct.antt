@@ -13,20 +13,20 @@ use Rattle.tree.specs.declared.expression.PrefixOp.TheVariants as prefix_op
 use Rattle.tree.specs.declared.expression.StepOp.TheVariants as step_op
 use Rattle.tree.specs.Tree.{Tree, hole, identifier, constant, string, paren, before, prefix, size_of, StmtTree, stmt_hole, block_stmt, empty_stmt, expression_stmt, if_stmt, if_else_stmt, switch_stmt, case_stmt, default_stmt, while_stmt, do_while_stmt, for_stmt, break_stmt, continue_stmt, return_stmt}
 use Rattle.tree.specs.Counts.{depth, stmt_depth}
-use Rattle.grammar.specs.declared.refusal.Refusal.{Refusal}
-use Rattle.grammar.specs.declared.refusal.Refusal.TheVariants.{Syntax, Depth, Memory}
+use Rattle.parser_grammar.specs.declared.refusal.Refusal.{Refusal}
+use Rattle.parser_grammar.specs.declared.refusal.Refusal.TheVariants.{Syntax, Depth, Memory}
 use Rattle.parser.specs.declared.statement_parts.Form.{Form}
 use Rattle.parser.specs.declared.statement_parts.Form.TheVariants as form
-use Rattle.grammar.specs.Tokens.{Own, StartsAt, NotFront}
-use Rattle.grammar.specs.Expressions.{Spells}
-use Rattle.grammar.specs.Statements.{SpellsStmt}
-use Rattle.grammar.specs.inside.Answer.{ReadsOf, FailsOf, StandsOf}
-use Rattle.expression_parser.specs.ExpressionLeads.{KeywordBeginsExpression, SignBeginsExpression, KindBeginsExpression, BeginsExpression}
+use Rattle.parser_grammar.specs.Tokens.{Own, StartsAt, NotFront}
+use Rattle.parser_grammar.specs.Expressions.{Spells}
+use Rattle.parser_grammar.specs.Statements.{SpellsStmt}
+use Rattle.parser_grammar.specs.inside.Answer.{ReadsOf, FailsOf, StandsOf}
+use Rattle.parser_expressions.specs.ExpressionLeads.{KeywordBeginsExpression, SignBeginsExpression, KindBeginsExpression, BeginsExpression}
 use Rattle.parser.specs.inside.StatementAnswers.{EndsStmt}
 use Rattle.parser.specs.inside.StmtParts.{form_kind, SpellsClosed}
-use Rattle.grammar.proofs.Exits.{excuses_grow}
-use Rattle.grammar.proofs.Tokens.{own_last, same_token}
-use Rattle.expression_parser.proofs.Leads.{whole_begins}
+use Rattle.parser_grammar.proofs.Exits.{excuses_grow}
+use Rattle.parser_grammar.proofs.Tokens.{own_last, same_token}
+use Rattle.parser_expressions.proofs.Leads.{whole_begins}
 
 -- where no other form begins
 pub record Acts (ts r : List Token) (z : StmtTree) : Type 0 where

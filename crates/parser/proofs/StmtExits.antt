@@ -16,13 +16,13 @@ use Rattle.tree.specs.declared.statement.Stmt.TheVariants as W
 use Rattle.tree.specs.Tree.{Tree, hole, expression_start, StmtTree, stmt_hole, no_pieces}
 use Rattle.tree.specs.Counts.{depth, option_depth, stmt_depth, pieces_depth}
 use Rattle.tree.specs.View.{tree_of, option_tree, start_of, pieces_of, stmt_of, piece_of}
-use Rattle.grammar.specs.declared.refusal.Refusal.{Refusal}
-use Rattle.grammar.specs.declared.refusal.Refusal.TheVariants.{Depth}
+use Rattle.parser_grammar.specs.declared.refusal.Refusal.{Refusal}
+use Rattle.parser_grammar.specs.declared.refusal.Refusal.TheVariants.{Depth}
 use Rattle.parser.specs.declared.statement_parts.Form.{Form}
-use Rattle.grammar.specs.Tokens.{Own, StartsAt, NotFront}
-use Rattle.grammar.specs.Statements.{SpellsTest, SpellsStmt}
-use Rattle.grammar.specs.inside.Answer.{ReadsOf, FailsOf, StandsOf, Anywhere}
-use Rattle.expression_parser.specs.ExpressionAnswers.{Reads, Fails, Stands}
+use Rattle.parser_grammar.specs.Tokens.{Own, StartsAt, NotFront}
+use Rattle.parser_grammar.specs.Statements.{SpellsTest, SpellsStmt}
+use Rattle.parser_grammar.specs.inside.Answer.{ReadsOf, FailsOf, StandsOf, Anywhere}
+use Rattle.parser_expressions.specs.ExpressionAnswers.{Reads, Fails, Stands}
 use Rattle.parser.specs.inside.StatementAnswers.{EndsStmt, SpellsBody}
 use Rattle.parser.specs.inside.StmtParts.{form_kind, SpellsClosed, SpellsEnded, SpellsDoEnd, ForHeadTree, SpellsForHead, for_head_depth, SpellsLabelled, TestedTree, SpellsTested, EndsTested, tested_depth}
 use Rattle.parser.proofs.StmtSequence.{pair_reads, pair_first_fails, pair_second_fails, pair_first_stands, pair_second_stands, head_reads, head_fails, head_stands, head_full}

@@ -8,18 +8,18 @@ use Rattle.lexer.specs.declared.token.Keyword.TheVariants as keyword
 use Rattle.lexer.specs.declared.token.Punctuator.TheVariants as sign
 use Rattle.tree.specs.Tree.{Tree, hole, StmtTree, stmt_hole, block_stmt, empty_stmt, switch_stmt, case_stmt, default_stmt, while_stmt, do_while_stmt, for_stmt, break_stmt, continue_stmt, return_stmt, Pieces, no_pieces}
 use Rattle.tree.specs.Counts.{stmt_depth, pieces_depth}
-use Rattle.grammar.specs.Tokens.{Own, Mark, Sign, NotFront}
-use Rattle.grammar.specs.Expressions.{Spells}
-use Rattle.grammar.specs.Statements.{SpellsTest, SpellsOption, SpellsStmt, SpellsPieces}
-use Rattle.grammar.specs.inside.Answer.{ReadsOf}
-use Rattle.expression_parser.specs.ExpressionAnswers.{Stops}
+use Rattle.parser_grammar.specs.Tokens.{Own, Mark, Sign, NotFront}
+use Rattle.parser_grammar.specs.Expressions.{Spells}
+use Rattle.parser_grammar.specs.Statements.{SpellsTest, SpellsOption, SpellsStmt, SpellsPieces}
+use Rattle.parser_grammar.specs.inside.Answer.{ReadsOf}
+use Rattle.parser_expressions.specs.ExpressionAnswers.{Stops}
 use Rattle.parser.specs.inside.StatementAnswers.{EndsStmt, SpellsBody}
 use Rattle.parser.specs.inside.StmtParts.{ForHeadTree, SpellsLabelled, TestedTree, SpellsTested, EndsTested, tested_depth}
-use Rattle.grammar.proofs.Tokens.{own_once, own_kinds, mark_own}
+use Rattle.parser_grammar.proofs.Tokens.{own_once, own_kinds, mark_own}
 use Rattle.parser.proofs.StmtSequence.{Sort, Whole, Pairs, Two, Both, both_sort, both_pairs, Splits, Heads}
 use Rattle.parser.proofs.StmtLeading.{tag, same_form}
 use Rattle.parser.proofs.StmtSorts.{expr_sort, mark_sort, test_sort, do_end_sort, ended_sort, for_head_sort, hole_test}
-use Rattle.grammar.proofs.UnitBegun.{stmt_is_begun, stmt_reaches}
+use Rattle.parser_grammar.proofs.UnitBegun.{stmt_is_begun, stmt_reaches}
 
 -- ---- whole statements as begun ones, and as fronts
 

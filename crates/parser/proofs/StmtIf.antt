@@ -7,19 +7,19 @@ use Rattle.lexer.specs.declared.token.Kind.TheVariants as kind
 use Rattle.lexer.specs.declared.token.Keyword.TheVariants as keyword
 use Rattle.tree.specs.Tree.{hole, StmtTree, stmt_hole, if_stmt, if_else_stmt}
 use Rattle.tree.specs.Counts.{stmt_depth}
-use Rattle.grammar.specs.declared.refusal.Refusal.{Refusal}
-use Rattle.grammar.specs.declared.refusal.Refusal.TheVariants.{Syntax, Depth, Memory}
-use Rattle.grammar.specs.Tokens.{Own, NotFront}
-use Rattle.grammar.specs.Statements.{is_open, SpellsTest, SpellsStmt}
-use Rattle.grammar.specs.inside.Answer.{Excuses, ReadsOf, FailsOf, StandsOf}
+use Rattle.parser_grammar.specs.declared.refusal.Refusal.{Refusal}
+use Rattle.parser_grammar.specs.declared.refusal.Refusal.TheVariants.{Syntax, Depth, Memory}
+use Rattle.parser_grammar.specs.Tokens.{Own, NotFront}
+use Rattle.parser_grammar.specs.Statements.{is_open, SpellsTest, SpellsStmt}
+use Rattle.parser_grammar.specs.inside.Answer.{Excuses, ReadsOf, FailsOf, StandsOf}
 use Rattle.parser.specs.inside.StatementAnswers.{EndsStmt}
 use Rattle.parser.specs.inside.StmtParts.{TestedTree, SpellsTested, EndsTested, tested_depth}
-use Rattle.grammar.proofs.Exits.{excuses_grow}
-use Rattle.grammar.proofs.Tokens.{own_last, own_reaches, reaches_on, own_once}
+use Rattle.parser_grammar.proofs.Exits.{excuses_grow}
+use Rattle.parser_grammar.proofs.Tokens.{own_last, own_reaches, reaches_on, own_once}
 use Rattle.parser.proofs.StmtLeading.{same_form}
 use Rattle.parser.proofs.StmtSorts.{hole_test, test_whole}
 use Rattle.parser.proofs.StmtForms.{tested}
-use Rattle.grammar.proofs.UnitBegun.{stmt_is_begun, stmt_reaches}
+use Rattle.parser_grammar.proofs.UnitBegun.{stmt_is_begun, stmt_reaches}
 
 differ : false ≡ true → ⊥
 differ e = cc

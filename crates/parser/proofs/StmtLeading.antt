@@ -10,14 +10,14 @@ use Rattle.lexer.specs.declared.token.Keyword.TheVariants as keyword
 use Rattle.lexer.specs.declared.token.Punctuator.{Punctuator}
 use Rattle.lexer.specs.declared.token.Punctuator.TheVariants as sign
 use Rattle.tree.specs.Tree.{Tree, StmtTree, stmt_hole, block_stmt, empty_stmt, expression_stmt, if_stmt, if_else_stmt, switch_stmt, case_stmt, default_stmt, while_stmt, do_while_stmt, for_stmt, break_stmt, continue_stmt, return_stmt, PieceTree, declaration_item, statement_item}
-use Rattle.grammar.specs.declared.scope.Scope.TheVariants.{Block}
-use Rattle.grammar.specs.Tokens.{Own, NotFront}
-use Rattle.grammar.specs.Expressions.{Spells}
-use Rattle.grammar.specs.Statements.{SpellsStmt, SpellsPiece}
-use Rattle.expression_parser.specs.ExpressionLeads.{SignBeginsExpression, KeywordBeginsExpression, KindBeginsExpression, BeginsExpression}
-use Rattle.declaration_parser.specs.DeclarationAnswers.{KeywordBeginsDeclaration, BeginsDeclaration}
-use Rattle.expression_parser.proofs.Leads.{whole_begins}
-use Rattle.declaration_parser.proofs.DeclarationFacts.{declaration_begins}
+use Rattle.parser_grammar.specs.declared.scope.Scope.TheVariants.{Block}
+use Rattle.parser_grammar.specs.Tokens.{Own, NotFront}
+use Rattle.parser_grammar.specs.Expressions.{Spells}
+use Rattle.parser_grammar.specs.Statements.{SpellsStmt, SpellsPiece}
+use Rattle.parser_expressions.specs.ExpressionLeads.{SignBeginsExpression, KeywordBeginsExpression, KindBeginsExpression, BeginsExpression}
+use Rattle.parser_declarations.specs.DeclarationAnswers.{KeywordBeginsDeclaration, BeginsDeclaration}
+use Rattle.parser_expressions.proofs.Leads.{whole_begins}
+use Rattle.parser_declarations.proofs.DeclarationFacts.{declaration_begins}
 
 abbrev pub sign_tag : Punctuator → ℕ
 sign_tag sign.BraceOpen = 1

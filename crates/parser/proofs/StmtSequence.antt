@@ -6,14 +6,14 @@ use Rattle.lexer.specs.declared.token.Token.{Token}
 use Rattle.lexer.specs.declared.token.Kind.{Kind}
 use Rattle.tree.specs.Tree.{StmtTree, stmt_hole}
 use Rattle.tree.specs.Counts.{stmt_depth}
-use Rattle.grammar.specs.declared.refusal.Refusal.{Refusal}
-use Rattle.grammar.specs.declared.refusal.Refusal.TheVariants.{Syntax, Depth, Memory}
-use Rattle.grammar.specs.Tokens.{Own, Reaches}
-use Rattle.grammar.specs.Statements.{SpellsStmt}
-use Rattle.grammar.specs.inside.Answer.{ReadsOf, FailsOf, StandsOf}
+use Rattle.parser_grammar.specs.declared.refusal.Refusal.{Refusal}
+use Rattle.parser_grammar.specs.declared.refusal.Refusal.TheVariants.{Syntax, Depth, Memory}
+use Rattle.parser_grammar.specs.Tokens.{Own, Reaches}
+use Rattle.parser_grammar.specs.Statements.{SpellsStmt}
+use Rattle.parser_grammar.specs.inside.Answer.{ReadsOf, FailsOf, StandsOf}
 use Rattle.parser.specs.inside.StatementAnswers.{EndsStmt}
-use Rattle.grammar.proofs.Tokens.{reaches_on, own_reaches, own_last}
-use Rattle.grammar.proofs.Exits.{excuses_grow}
+use Rattle.parser_grammar.proofs.Tokens.{reaches_on, own_reaches, own_last}
+use Rattle.parser_grammar.proofs.Exits.{excuses_grow}
 
 -- trees of one sort: what they spell, where they end, how deep they are
 pub record Sort (A : Type 0) : Type 1 where

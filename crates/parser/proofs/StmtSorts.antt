@@ -10,23 +10,23 @@ use Rattle.lexer.specs.declared.token.Punctuator.{Punctuator}
 use Rattle.lexer.specs.declared.token.Punctuator.TheVariants as sign
 use Rattle.tree.specs.Tree.{Tree, hole, StartTree, expression_start, declaration_start, DeclarationTree}
 use Rattle.tree.specs.Counts.{depth, option_depth, start_depth, declaration_depth}
-use Rattle.grammar.specs.declared.refusal.Refusal.{Refusal}
-use Rattle.grammar.specs.declared.refusal.Refusal.TheVariants.{Syntax, Depth, Memory}
-use Rattle.grammar.specs.declared.scope.Scope.TheVariants.{Block}
-use Rattle.grammar.specs.Expressions.{layer, Spells}
-use Rattle.grammar.specs.Tokens.{Own, Mark, Sign, NotFront}
-use Rattle.grammar.specs.Declarations.{SpellsDeclaration}
-use Rattle.grammar.specs.Statements.{SpellsTest, SpellsStart}
-use Rattle.grammar.specs.inside.Answer.{Excuses, ReadsOf, FailsOf, StandsOf, Anywhere}
-use Rattle.expression_parser.specs.ExpressionAnswers.{sign_power, power, Stops, Reads, Fails, Stands}
-use Rattle.declaration_parser.specs.DeclarationAnswers.{BeginsDeclaration}
+use Rattle.parser_grammar.specs.declared.refusal.Refusal.{Refusal}
+use Rattle.parser_grammar.specs.declared.refusal.Refusal.TheVariants.{Syntax, Depth, Memory}
+use Rattle.parser_grammar.specs.declared.scope.Scope.TheVariants.{Block}
+use Rattle.parser_grammar.specs.Expressions.{layer, Spells}
+use Rattle.parser_grammar.specs.Tokens.{Own, Mark, Sign, NotFront}
+use Rattle.parser_grammar.specs.Declarations.{SpellsDeclaration}
+use Rattle.parser_grammar.specs.Statements.{SpellsTest, SpellsStart}
+use Rattle.parser_grammar.specs.inside.Answer.{Excuses, ReadsOf, FailsOf, StandsOf, Anywhere}
+use Rattle.parser_expressions.specs.ExpressionAnswers.{sign_power, power, Stops, Reads, Fails, Stands}
+use Rattle.parser_declarations.specs.DeclarationAnswers.{BeginsDeclaration}
 use Rattle.parser.specs.inside.StmtParts.{EndsExpression, SpellsClosed, SpellsEnded, SpellsDoEnd, ForHeadTree, SpellsForHeadParts, SpellsForHead, for_head_depth}
-use Rattle.grammar.proofs.Tokens.{own_once, mark_own, mark_begun, mark_reaches, reaches_on}
-use Rattle.grammar.proofs.ExpressionBegun.{whole_is_begun, whole_reaches}
+use Rattle.parser_grammar.proofs.Tokens.{own_once, mark_own, mark_begun, mark_reaches, reaches_on}
+use Rattle.parser_grammar.proofs.ExpressionBegun.{whole_is_begun, whole_reaches}
 use Rattle.parser.proofs.StmtSequence.{Sort, Whole, Pairs, pair_reads, pair_first_fails, pair_second_fails, pair_first_stands, pair_second_stands}
-use Rattle.declaration_parser.proofs.DeclarationFacts.{declaration_begins}
+use Rattle.parser_declarations.proofs.DeclarationFacts.{declaration_begins}
 use Rattle.parser.proofs.StmtLeading.{own_tag, whole_tagged, declaration_tagged, no_expression_declares}
-use Rattle.grammar.proofs.UnitBegun.{option_is_begun, option_reaches, start_is_begun, start_reaches}
+use Rattle.parser_grammar.proofs.UnitBegun.{option_is_begun, option_reaches, start_is_begun, start_reaches}
 
 -- ---- expressions of a layer
 

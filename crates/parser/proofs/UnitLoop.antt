@@ -10,14 +10,14 @@ use Rattle.tree.specs.declared.unit.External.{External}
 use Rattle.tree.specs.View.{external_of}
 use Rattle.tree.specs.Tree.{ExternalTree, definition, declaration, declared, assertion}
 use Rattle.tree.specs.Counts.{external_depth, unit_depth, external_nodes, unit_nodes}
-use Rattle.grammar.specs.declared.refusal.Refusal.{Refusal}
-use Rattle.grammar.specs.declared.refusal.Refusal.TheVariants.{Syntax, Depth, Memory}
-use Rattle.grammar.specs.Statements.{SpellsExternal, SpellsUnit}
-use Rattle.grammar.specs.Tokens.{Reaches}
+use Rattle.parser_grammar.specs.declared.refusal.Refusal.{Refusal}
+use Rattle.parser_grammar.specs.declared.refusal.Refusal.TheVariants.{Syntax, Depth, Memory}
+use Rattle.parser_grammar.specs.Statements.{SpellsExternal, SpellsUnit}
+use Rattle.parser_grammar.specs.Tokens.{Reaches}
 use Rattle.parser.specs.Units.{Limit, of_depth, of_function, of_program, IsSmall, AreSmall, Keeps, IsTreeWithin, IsOnly, HasNoTree, Exceeds, IsRefused}
 use Rattle.parser.specs.inside.UnitAnswers.{ReadsExternal, FailsExternal, StandsExternal, IsLocated, Counts, CountsTooMany}
-use Rattle.grammar.proofs.Tokens.{reaches_on}
-use Rattle.grammar.proofs.UnitBegun.{external_is_begun, external_reaches, unit_is_begun, unit_reaches}
+use Rattle.parser_grammar.proofs.Tokens.{reaches_on}
+use Rattle.parser_grammar.proofs.UnitBegun.{external_is_begun, external_reaches, unit_is_begun, unit_reaches}
 
 -- ---- lists of external declarations
 

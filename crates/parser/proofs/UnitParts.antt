@@ -9,15 +9,15 @@ use Rattle.lexer.specs.declared.token.Kind.TheVariants as kind
 use Rattle.lexer.specs.declared.token.Punctuator.TheVariants as sign
 use Rattle.tree.specs.Tree.{Pieces, DeclarationTree, FunctionTree, ExternalTree, definition, declaration}
 use Rattle.tree.specs.Counts.{pieces_depth, function_depth, external_depth}
-use Rattle.grammar.specs.declared.refusal.Refusal.{Refusal}
-use Rattle.grammar.specs.declared.refusal.Refusal.TheVariants.{Syntax, Depth, Memory}
-use Rattle.grammar.specs.Tokens.{Own, Reaches}
-use Rattle.grammar.specs.Statements.{SpellsFunction, SpellsExternal}
+use Rattle.parser_grammar.specs.declared.refusal.Refusal.{Refusal}
+use Rattle.parser_grammar.specs.declared.refusal.Refusal.TheVariants.{Syntax, Depth, Memory}
+use Rattle.parser_grammar.specs.Tokens.{Own, Reaches}
+use Rattle.parser_grammar.specs.Statements.{SpellsFunction, SpellsExternal}
 use Rattle.parser.specs.inside.StatementAnswers.{SpellsBody}
-use Rattle.grammar.specs.inside.Answer.{Anywhere, Excuses, ReadsOf, FailsOf}
-use Rattle.declaration_parser.specs.DeclarationAnswers.{HeadTree, whole, opening, OpeningTree, SpellsOpening, SpellsHead, EndsHead, head_depth}
+use Rattle.parser_grammar.specs.inside.Answer.{Anywhere, Excuses, ReadsOf, FailsOf}
+use Rattle.parser_declarations.specs.DeclarationAnswers.{HeadTree, whole, opening, OpeningTree, SpellsOpening, SpellsHead, EndsHead, head_depth}
 use Rattle.parser.specs.inside.UnitAnswers.{ReadsBody, FailsBody, ReadsExternal, FailsExternal, StandsExternal}
-use Rattle.grammar.proofs.Tokens.{own_once, own_reaches, reaches_on}
+use Rattle.parser_grammar.proofs.Tokens.{own_once, own_reaches, reaches_on}
 use Rattle.parser.proofs.OpeningBegun.{opening_is_begun, opening_reaches}
 
 -- the token before the last ones

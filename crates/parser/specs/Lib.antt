@@ -1,9 +1,9 @@
 pub mod Units
 pub mod inside
-pub use Rattle.grammar.specs.Tokens
-pub use Rattle.grammar.specs.Expressions
-pub use Rattle.grammar.specs.Declarations
-pub use Rattle.grammar.specs.Statements
+pub use Rattle.parser_grammar.specs.Tokens
+pub use Rattle.parser_grammar.specs.Expressions
+pub use Rattle.parser_grammar.specs.Declarations
+pub use Rattle.parser_grammar.specs.Statements
 pub use Rattle.tree.specs.Tree
 pub use Rattle.tree.specs.Counts
 pub use Rattle.tree.specs.View

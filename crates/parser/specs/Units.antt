@@ -13,8 +13,8 @@ use Rattle.lexer.specs.declared.token.Token.{Token}
 use Rattle.lexer.specs.declared.token.Kind.{Kind}
 use Rattle.tree.specs.Tree.{ExternalTree, definition, declaration}
 use Rattle.tree.specs.Counts.{function_nodes, unit_nodes, unit_depth}
-use Rattle.grammar.specs.Statements.{SpellsUnit}
-use Rattle.grammar.specs.Tokens.{Reaches}
+use Rattle.parser_grammar.specs.Statements.{SpellsUnit}
+use Rattle.parser_grammar.specs.Tokens.{Reaches}
 
 -- the whole list is this unit
 abbrev pub IsUnitOf : List Token → List ExternalTree → Type 0

@@ -1,17 +1,17 @@
 //! The parts of statements that have no statement in them (ISO/IEC 9899:2011 6.8).
 
 ghost use Rattle.std.specs.Prelude.{◌≡◌, ◌<◌, ◌≤◌, length, IfOk, IfErr, MatchOption};
-ghost use Rattle.grammar.specs.Tokens.{Own, StartsAt, NotFront};
-ghost use Rattle.expression_parser.specs.ExpressionLeads.{BeginsExpression};
+ghost use Rattle.parser_grammar.specs.Tokens.{Own, StartsAt, NotFront};
+ghost use Rattle.parser_expressions.specs.ExpressionLeads.{BeginsExpression};
 ghost use Rattle.parser.specs.inside.StmtParts.{EndsExpression, form_kind, AnswersClosed, StandsClosed, AnswersTest, StandsTest, AnswersDoEnd, StandsDoEnd, AnswersEnded, StandsEnded, AnswersStart, StandsStart, AnswersForHead, StandsForHead};
 ghost use Rattle.lexer.specs.declared.token.Kind.TheVariants as kind;
 ghost use Rattle.parser.specs.declared.statement_parts.Form.{Form};
 
-use declaration_parser::declarations::{begins_declaration, declaration};
-use expression_parser::expressions::{Part, begins_expression, expression};
-use expression_parser::fronts::{expect_keyword, expect_sign, sign_front};
-use grammar::Refusal;
 use lexer::{Keyword, Kind, Punctuator, Token};
+use parser_declarations::declarations::{begins_declaration, declaration};
+use parser_expressions::expressions::{Part, begins_expression, expression};
+use parser_expressions::fronts::{expect_keyword, expect_sign, sign_front};
+use parser_grammar::Refusal;
 use srcset::Pos;
 use std::alloc::Global;
 use tree::{Expr, ForStart};

@@ -4,7 +4,7 @@ ghost use Rattle.std.specs.Prelude.{◌≡◌, ◌<◌, ◌≤◌, ◌∷◌, le
 ghost use Rattle.lexer.specs.declared.token.Token.{Token};
 ghost use Rattle.parser.specs.declared.statement_parts.Form.{Form};
 ghost use Rattle.parser.specs.declared.statement_parts.Form.TheVariants as form;
-ghost use Rattle.grammar.specs.Tokens.{NotFront};
+ghost use Rattle.parser_grammar.specs.Tokens.{NotFront};
 ghost use Rattle.parser.specs.inside.StatementAnswers.{AnswersStmt, StandsStmt, AnswersBody, StandsBody};
 ghost use Rattle.parser.specs.inside.StmtParts.{form_kind, AnswersLabelled, StandsLabelled, AnswersTested, StandsTested, AnswersPiece, StandsPiece};
 
@@ -12,11 +12,11 @@ use crate::statement_parts::{
     Form, closed_expression, do_end, expression_place, for_head, form_front, optional_expression,
     test_expression,
 };
-use declaration_parser::declarations::{begins_declaration, declaration};
-use expression_parser::expressions::conditional;
-use expression_parser::fronts::{down, expect_sign, keyword_front, sign_front};
-use grammar::Refusal;
 use lexer::{Keyword, Punctuator, Token};
+use parser_declarations::declarations::{begins_declaration, declaration};
+use parser_expressions::expressions::conditional;
+use parser_expressions::fronts::{down, expect_sign, keyword_front, sign_front};
+use parser_grammar::Refusal;
 use srcset::Pos;
 use std::alloc::Global;
 use tree::{BlockItem, Expr, Stmt};

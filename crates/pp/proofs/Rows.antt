@@ -12,7 +12,7 @@ use Rattle.phases.specs.Grammar.{longest_within, punctuators}
 use Rattle.phases.specs.Lines.{found}
 use Rattle.lexer.specs.Numbers.{suffix_of}
 use Rattle.lexer.specs.Literals.{simple, elements}
-use Rattle.substitution.specs.Substitution.{strings_made, is_expanded, arguments_put, all_joined, substituted}
+use Rattle.macros_substitution.specs.Substitution.{strings_made, is_expanded, arguments_put, all_joined, substituted}
 use Rattle.pp_expand.specs.Expansion.{text_of, arguments_in, turn, arguments_expanded, replace, walk, expanded_by, expanded}
 use Rattle.pp_cond.specs.Values.{value_of}
 use Rattle.pp_cond.specs.Condition.{read, holds}

@@ -4,10 +4,10 @@ use Rattle.std.proofs.lemmas.List.{map-append}
 use Rattle.srcset.specs.declared.refusal.Pos.{Pos}
 use Rattle.srcset.specs.declared.refusal.Refusal.{Refusal}
 use Rattle.srcset.specs.declared.refusal.Refusal.TheVariants.{Memory, At, Told}
-use Rattle.substitution.specs.Substitution.{Hidden}
-use Rattle.substitution.specs.HideSets.{Sets}
-use Rattle.substitution.specs.declared.piece.HiddenToken.{HiddenToken}
-use Rattle.substitution.specs.Meaning.{hidden_of, hidden_all}
+use Rattle.macros_substitution.specs.Substitution.{Hidden}
+use Rattle.macros_substitution.specs.HideSets.{Sets}
+use Rattle.macros_substitution.specs.declared.piece.HiddenToken.{HiddenToken}
+use Rattle.macros_substitution.specs.Meaning.{hidden_of, hidden_all}
 use Rattle.pp_expand.specs.declared.level.Level.{Level}
 use Rattle.pp_expand.specs.declared.task.Step.{Step}
 use Rattle.pp_expand.specs.declared.task.Step.TheVariants.{Predefined, Replaced}

@@ -14,7 +14,7 @@ use Rattle.phases.specs.Grammar.{plain_kind}
 use Rattle.phases.specs.Token.{Token}
 use Rattle.macros.specs.Macro.{Parameters, Macro, Macros, is_spelled, is_joint}
 use Rattle.macros.specs.Operators.{is_string_kind, string_text, string_of, stringized, joined_as, pasted}
-use Rattle.substitution.specs.Substitution.{◌>>=◌, Hidden, hiding, marked, Piece, one, parameter, joint, placemarker, Call, list_at, token_or_parameter, parameter_of, piece_of, operand_of, string_piece, in_front, string_or_piece, strings_made, sides, is_expanded, ones, plain, plain_or_full, argument_put, arguments_put, joined, join, all_joined, joints_done, tokens_of, substituted}
+use Rattle.macros_substitution.specs.Substitution.{◌>>=◌, Hidden, hiding, marked, Piece, one, parameter, joint, placemarker, Call, list_at, token_or_parameter, parameter_of, piece_of, operand_of, string_piece, in_front, string_or_piece, strings_made, sides, is_expanded, ones, plain, plain_or_full, argument_put, arguments_put, joined, join, all_joined, joints_done, tokens_of, substituted}
 use Rattle.pp_expand.specs.Expansion.{Ending, of_run, of_directive, of_argument, Known, text_or_empty, text_of, quoted, is_live_predefined, macro_at, Further, Taken, with_token, behind_comma, all_arguments, Mark, opens, closes, separates, other, mark_of, taken_with, arguments_in, arguments_for, Replacement, Turn, stands, refused, predefined, replaced, counted_turn, taken_turn, last_turn, function_turn, turn_by, turn_of, turn, Fault, Answer, Next, at_place, argument_by, arguments_expanded, front_of, replace, predefined_by, predefined_front, predefined_one, replace_one, taken, walk, expanded_by, unhidden, shown_answer, expanded}
 use Rattle.pp_expand.specs.Expands.{HaveFiles}
 

@@ -6,10 +6,10 @@ use Rattle.std.specs.Borrow.{Bor}
 use Rattle.srcset.specs.NameTable.{Texts, NumbersOnce}
 use Rattle.macros.specs.Macro.{Macro, Macros, macro_named, is_identifier, is_predefined}
 use Rattle.macros.specs.Table.{NumberedMacro, Table, numbered, IsMacro, IsTable, AreSame}
-use Rattle.substitution.specs.Substitution.{Hidden, is_hidden}
-use Rattle.substitution.specs.HideSets.{Sets, members, Extends, NamesBelow, spelled}
-use Rattle.substitution.specs.declared.piece.HiddenToken.{HiddenToken}
-use Rattle.substitution.specs.Meaning.{hidden_of}
+use Rattle.macros_substitution.specs.Substitution.{Hidden, is_hidden}
+use Rattle.macros_substitution.specs.HideSets.{Sets, members, Extends, NamesBelow, spelled}
+use Rattle.macros_substitution.specs.declared.piece.HiddenToken.{HiddenToken}
+use Rattle.macros_substitution.specs.Meaning.{hidden_of}
 use Rattle.pp_expand.specs.Expansion.{Ending, Known, is_live, stands, predefined, turn_by, turn_of, turn}
 use Rattle.pp_expand.specs.inside.Turns.{has_number}
 use Rattle.pp_expand.proofs.Sets.{members_below, hidden_number, hidden_unknown}

@@ -4,10 +4,10 @@ use Rattle.std.proofs.Common.{◌≡◌, ℕ, suc, ◌≤◌, List, [], ◌∷�
 use Rattle.std.proofs.lemmas.List.{map-append}
 use Rattle.std.specs.declared.alloc.Global.{Global}
 use Rattle.srcset.specs.NameTable.{Texts}
-use Rattle.substitution.specs.Substitution.{Hidden}
-use Rattle.substitution.specs.HideSets.{Sets}
-use Rattle.substitution.specs.declared.piece.HiddenToken.{HiddenToken}
-use Rattle.substitution.specs.Meaning.{hidden_of, hidden_all, hidden_lists, AreIn, ListsIn}
+use Rattle.macros_substitution.specs.Substitution.{Hidden}
+use Rattle.macros_substitution.specs.HideSets.{Sets}
+use Rattle.macros_substitution.specs.declared.piece.HiddenToken.{HiddenToken}
+use Rattle.macros_substitution.specs.Meaning.{hidden_of, hidden_all, hidden_lists, AreIn, ListsIn}
 use Rattle.pp_expand.specs.Expansion.{Taken, Mark, opens, closes, separates, other, mark_of, with_token, behind_comma, taken_with, arguments_in}
 use Rattle.pp_expand.specs.inside.Turns.{gathered}
 use Rattle.pp_expand.proofs.Sets.{are_in_append, lists_in_append}

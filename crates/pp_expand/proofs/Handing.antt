@@ -8,9 +8,9 @@ use Rattle.srcset.specs.NameTable.{Texts}
 use Rattle.srcset.specs.declared.refusal.Refusal.{Refusal}
 use Rattle.srcset.specs.declared.refusal.Refusal.TheVariants.{Memory, At, Told}
 use Rattle.phases.specs.Token.{Token}
-use Rattle.substitution.specs.HideSets.{Sets}
-use Rattle.substitution.specs.declared.piece.HiddenToken.{HiddenToken}
-use Rattle.substitution.specs.Meaning.{hidden_all}
+use Rattle.macros_substitution.specs.HideSets.{Sets}
+use Rattle.macros_substitution.specs.declared.piece.HiddenToken.{HiddenToken}
+use Rattle.macros_substitution.specs.Meaning.{hidden_all}
 use Rattle.pp_expand.specs.declared.level.Level.{Level}
 use Rattle.pp_expand.specs.declared.waiting.Waiting.{Waiting}
 use Rattle.pp_expand.specs.Expansion.{Known, Answer, Fault}

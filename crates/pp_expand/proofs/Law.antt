@@ -1,6 +1,6 @@
 -- The expansion of a list is a fixed point: one token at a time, with no bound on the recursion in sight.
 use Rattle.std.proofs.Common.{◌≡◌, ℕ, zero, suc, ◌+◌, ◌-◌, ◌<◌, ◌≤◌, List, [], ◌∷◌, Bool, true, false, Result, Ok, Err, refl, sym, ap, ◌∙◌, subst, arith}
-use Rattle.substitution.specs.Substitution.{◌>>=◌, Hidden, Piece, is_expanded, strings_made, sides, substituted}
+use Rattle.macros_substitution.specs.Substitution.{◌>>=◌, Hidden, Piece, is_expanded, strings_made, sides, substituted}
 use Rattle.pp_expand.specs.Expansion.{Ending, of_argument, Known, Answer, Next, Fault, Replacement, Turn, stands, refused, predefined, replaced, turn, argument_by, arguments_expanded, at_place, front_of, replace, predefined_front, behind, taken, walk, expanded_by}
 use Rattle.pp_expand.specs.inside.Meaning.{expanding}
 

@@ -3,7 +3,7 @@ use Rattle.std.proofs.Common.{◌≡◌, ℕ, List, Bool, ap, ◌∙◌}
 use Rattle.srcset.specs.declared.refusal.Pos.{Pos}
 use Rattle.phases.specs.declared.token.Kind.{Kind}
 use Rattle.phases.specs.Token.{Token}
-use Rattle.substitution.specs.Substitution.{Hidden}
+use Rattle.macros_substitution.specs.Substitution.{Hidden}
 use Rattle.pp_expand.specs.Expansion.{Known, predefined_token, predefined_front}
 
 pub token_is : (known : Known) (x : Hidden) (token : Token) (k : Kind) (s name : List ℕ) (b : Bool) (pos : Pos) → token ≡ record { kind = k; spelling = s; space_before = b; pos = pos } → (k, s) ≡ predefined_token known name pos → name ≡ x.token.spelling → b ≡ x.token.space_before → pos ≡ x.token.pos → record { token = token; hides = x.hides } ≡ predefined_front known x

@@ -10,12 +10,12 @@ use Rattle.srcset.specs.declared.code.Code.{Code}
 use Rattle.srcset.specs.declared.refusal.Pos.{Pos}
 use Rattle.srcset.specs.declared.refusal.Refusal.{Refusal}
 use Rattle.srcset.specs.declared.refusal.Refusal.TheVariants.{Memory, At, Told}
-use Rattle.substitution.specs.Substitution.{◌>>=◌, Hidden, is_expanded, list_at, substituted}
-use Rattle.substitution.specs.HideSets.{Sets, members, spelled}
-use Rattle.substitution.specs.declared.piece.HiddenToken.{HiddenToken}
-use Rattle.substitution.specs.declared.piece.Use.{Use}
-use Rattle.substitution.specs.declared.piece.Piece.{Piece as HeldPiece}
-use Rattle.substitution.specs.Meaning.{hidden_all, hidden_lists, pieces_as, pieces_of, use_of, is_beside, AreIn, ListsIn, PiecesIn, GivesTokens, GivesPieces}
+use Rattle.macros_substitution.specs.Substitution.{◌>>=◌, Hidden, is_expanded, list_at, substituted}
+use Rattle.macros_substitution.specs.HideSets.{Sets, members, spelled}
+use Rattle.macros_substitution.specs.declared.piece.HiddenToken.{HiddenToken}
+use Rattle.macros_substitution.specs.declared.piece.Use.{Use}
+use Rattle.macros_substitution.specs.declared.piece.Piece.{Piece as HeldPiece}
+use Rattle.macros_substitution.specs.Meaning.{hidden_all, hidden_lists, pieces_as, pieces_of, use_of, is_beside, AreIn, ListsIn, PiecesIn, GivesTokens, GivesPieces}
 use Rattle.pp_expand.specs.declared.level.Level.{Level}
 use Rattle.pp_expand.specs.declared.task.Task.{Task}
 use Rattle.pp_expand.specs.declared.waiting.Waiting.{Waiting}

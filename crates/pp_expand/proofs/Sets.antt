@@ -7,12 +7,12 @@ use Rattle.std.specs.Str.{bytes_eq}
 use Rattle.std.specs.declared.alloc.Global.{Global}
 use Rattle.srcset.specs.NameTable.{Texts, NumbersOnce}
 use Rattle.srcset.proofs.NameLemmas.{equals_itself, same_text}
-use Rattle.substitution.specs.declared.piece.HiddenToken.{HiddenToken}
-use Rattle.substitution.specs.declared.piece.Piece.{Piece}
-use Rattle.substitution.specs.declared.piece.Piece.TheVariants.{One, Parameter, Joint, Placemarker}
-use Rattle.substitution.specs.HideSets.{Sets, list_or_none, members, Extends, AreBelow, NamesBelow, name_of, spelled}
-use Rattle.substitution.specs.Substitution.{is_hidden, common}
-use Rattle.substitution.specs.Meaning.{AreIn, ListsIn, PieceIn, PiecesIn}
+use Rattle.macros_substitution.specs.declared.piece.HiddenToken.{HiddenToken}
+use Rattle.macros_substitution.specs.declared.piece.Piece.{Piece}
+use Rattle.macros_substitution.specs.declared.piece.Piece.TheVariants.{One, Parameter, Joint, Placemarker}
+use Rattle.macros_substitution.specs.HideSets.{Sets, list_or_none, members, Extends, AreBelow, NamesBelow, name_of, spelled}
+use Rattle.macros_substitution.specs.Substitution.{is_hidden, common}
+use Rattle.macros_substitution.specs.Meaning.{AreIn, ListsIn, PieceIn, PiecesIn}
 use Rattle.pp_expand.specs.declared.level.Level.{Level}
 use Rattle.pp_expand.specs.declared.waiting.Waiting.{Waiting}
 use Rattle.pp_expand.specs.inside.Meaning.{LevelIn}

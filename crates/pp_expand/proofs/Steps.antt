@@ -4,12 +4,12 @@ use Rattle.std.proofs.lemmas.List.{drop_all}
 use Rattle.std.proofs.lemmas.Bool.{eq-eqb}
 use Rattle.std.specs.List.{flat_map}
 use Rattle.srcset.specs.declared.code.Code.{Code}
-use Rattle.substitution.specs.Substitution.{◌>>=◌, Hidden, Piece, one, parameter, joint, placemarker, Call, is_expanded, list_at, argument_put, arguments_put, plain_or_full, joints_done, tokens_of, substituted, sides, strings_made}
-use Rattle.substitution.specs.Meaning.{stands_beside, is_beside, pieces_of}
+use Rattle.macros_substitution.specs.Substitution.{◌>>=◌, Hidden, Piece, one, parameter, joint, placemarker, Call, is_expanded, list_at, argument_put, arguments_put, plain_or_full, joints_done, tokens_of, substituted, sides, strings_made}
+use Rattle.macros_substitution.specs.Meaning.{stands_beside, is_beside, pieces_of}
 use Rattle.pp_expand.specs.Expansion.{Ending, of_argument, Known, Answer, Fault, Replacement, argument_by, arguments_expanded, at_place, front_of, replace}
 use Rattle.pp_expand.specs.declared.waiting.Waiting.{Waiting}
 use Rattle.pp_expand.specs.inside.Meaning.{expanding, with_list}
-use Rattle.substitution.specs.HideSets.{Sets}
+use Rattle.macros_substitution.specs.HideSets.{Sets}
 use Rattle.pp_expand.specs.inside.Waits.{Job, call_of, front_by, after_arguments, going, taken_up, resume_one, resume, weight, weights}
 
 pub with_list_none : (answer : Answer) → with_list [] answer ≡ answer

@@ -12,10 +12,10 @@ use Rattle.srcset.specs.declared.refusal.Refusal.TheVariants.{Memory, At, Told}
 use Rattle.phases.specs.Token.{Token}
 use Rattle.macros.specs.Macro.{Parameters, Macro, is_spelled}
 use Rattle.macros.specs.Table.{NumberedParameters, IsMacro, AreNumbered, AreParameters}
-use Rattle.substitution.specs.Substitution.{Hidden, common}
-use Rattle.substitution.specs.HideSets.{Sets, members, Extends, NamesBelow, name_of, spelled}
-use Rattle.substitution.specs.declared.piece.HiddenToken.{HiddenToken}
-use Rattle.substitution.specs.Meaning.{hidden_of, hidden_all, hidden_lists}
+use Rattle.macros_substitution.specs.Substitution.{Hidden, common}
+use Rattle.macros_substitution.specs.HideSets.{Sets, members, Extends, NamesBelow, name_of, spelled}
+use Rattle.macros_substitution.specs.declared.piece.HiddenToken.{HiddenToken}
+use Rattle.macros_substitution.specs.Meaning.{hidden_of, hidden_all, hidden_lists}
 use Rattle.pp_expand.specs.declared.task.Task.{Task}
 use Rattle.pp_expand.specs.declared.task.Step.TheVariants.{Replaced}
 use Rattle.pp_expand.specs.declared.task.Turned.TheVariants.{Takes}

@@ -8,10 +8,10 @@ use Rattle.srcset.specs.declared.refusal.Refusal.{Refusal}
 use Rattle.srcset.specs.declared.refusal.Refusal.TheVariants.{Memory, At, Told}
 use Rattle.phases.specs.Token.{Token}
 use Rattle.macros.specs.Macro.{Macros}
-use Rattle.substitution.specs.Substitution.{Hidden}
-use Rattle.substitution.specs.HideSets.{Sets}
-use Rattle.substitution.specs.declared.piece.HiddenToken.{HiddenToken}
-use Rattle.substitution.specs.Meaning.{hidden_all, AreIn}
+use Rattle.macros_substitution.specs.Substitution.{Hidden}
+use Rattle.macros_substitution.specs.HideSets.{Sets}
+use Rattle.macros_substitution.specs.declared.piece.HiddenToken.{HiddenToken}
+use Rattle.macros_substitution.specs.Meaning.{hidden_all, AreIn}
 use Rattle.pp_expand.specs.Expansion.{Ending, Fault, unhidden, shown_answer, expanded}
 use Rattle.pp_expand.specs.Expands.{HaveFiles, IsExpansion, IsExpansionBehind}
 use Rattle.pp_expand.specs.inside.Meaning.{expanding, Refuses}

@@ -11,7 +11,7 @@ use Rattle.phases.specs.declared.token.Kind.TheVariants as kind
 use Rattle.phases.specs.Token.{Token}
 use Rattle.macros.specs.Macro.{Parameters, Macro, Macros, macro_named, is_predefined, is_identifier, is_spelled}
 use Rattle.macros.specs.Definition.{max_parameters}
-use Rattle.substitution.specs.Substitution.{◌>>=◌, Hidden, is_hidden, common, hiding, marked, Piece, Call, strings_made, sides, is_expanded, substituted}
+use Rattle.macros_substitution.specs.Substitution.{◌>>=◌, Hidden, is_hidden, common, hiding, marked, Piece, Call, strings_made, sides, is_expanded, substituted}
 
 -- where a list of tokens ends: with its run, with its directive, or with its argument
 pub data Ending : Type 0 where

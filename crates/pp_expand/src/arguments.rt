@@ -2,16 +2,16 @@
 ghost use Rattle.std.specs.Prelude.{◌≡◌, ℕ, ◌≤◌, List, [], length, IfOk, IfErr};
 ghost use Rattle.srcset.specs.NameTable.{Texts};
 ghost use Rattle.srcset.specs.declared.refusal.Refusal.TheVariants.{Memory};
-ghost use Rattle.substitution.specs.HideSets.{Sets};
-ghost use Rattle.substitution.specs.Meaning.{hidden_all, hidden_lists, AreIn, ListsIn};
+ghost use Rattle.macros_substitution.specs.HideSets.{Sets};
+ghost use Rattle.macros_substitution.specs.Meaning.{hidden_all, hidden_lists, AreIn, ListsIn};
 ghost use Rattle.pp_expand.specs.Expansion.{arguments_in, arguments_for};
 ghost use Rattle.pp_expand.specs.inside.Turns.{gathered, GathersAs, GatheredIn};
 
 use crate::mark::{Mark, mark_of};
+use macros_substitution::HiddenToken;
 use srcset::Refusal;
 use std::alloc::Global;
 use std::collections::VecDeque;
-use substitution::HiddenToken;
 
 // The arguments of a call, behind its opening parenthesis, and its closing one; none where it is not closed.
 fn gather_arguments<'a>(

@@ -4,8 +4,8 @@ ghost use Rattle.srcset.specs.NameTable.{NumbersOnce};
 ghost use Rattle.srcset.specs.declared.refusal.Refusal.TheVariants.{Memory};
 ghost use Rattle.macros.specs.Macro.{Macros};
 ghost use Rattle.macros.specs.Table.{IsTable};
-ghost use Rattle.substitution.specs.HideSets.{Sets, Extends, NamesBelow};
-ghost use Rattle.substitution.specs.Meaning.{hidden_all, AreIn};
+ghost use Rattle.macros_substitution.specs.HideSets.{Sets, Extends, NamesBelow};
+ghost use Rattle.macros_substitution.specs.Meaning.{hidden_all, AreIn};
 ghost use Rattle.pp_expand.specs.Expansion.{Known};
 ghost use Rattle.pp_expand.specs.Expands.{ending_of};
 ghost use Rattle.pp_expand.specs.inside.Meaning.{expanding, level_meaning, shown_behind, GivesBehind, LevelIn};
@@ -19,12 +19,12 @@ use crate::tokens::predefined;
 use crate::turns::advance;
 use crate::waiting::{Waiting, begin, join};
 use macros::MacroTable;
+use macros_substitution::{HiddenToken, HideSets};
 use phases::PpToken;
 use srcset::{Code, Names, Pos, Refusal};
 use std::alloc::Global;
 use std::collections::VecDeque;
 use std::mem;
-use substitution::{HiddenToken, HideSets};
 
 // The place of the name that is replaced.
 fn place(step: &Step<'_, '_>) -> Pos

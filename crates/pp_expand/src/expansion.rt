@@ -11,10 +11,10 @@ use crate::engine::run;
 use crate::run_end::RunEnd;
 use crate::unexpanded::Unexpanded;
 use macros::MacroTable;
+use macros_substitution::HideSets;
 use phases::PpToken;
 use srcset::{Fault, Names, Refusal};
 use std::alloc::Global;
-use substitution::HideSets;
 
 // No text has two numbers, which each look-up tells.
 fn numbers_once(names: &Names)

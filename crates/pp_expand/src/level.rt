@@ -1,7 +1,7 @@
 //! Lists that are being expanded.
 use crate::run_end::RunEnd;
+use macros_substitution::HiddenToken;
 use std::collections::VecDeque;
-use substitution::HiddenToken;
 
 /// A list that is being expanded: what is left of it, and its expansion so far.
 #[derive(Drop)]

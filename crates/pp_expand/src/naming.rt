@@ -4,14 +4,14 @@ ghost use Rattle.std.specs.List.{list_any};
 ghost use Rattle.srcset.specs.NameTable.{Texts, NumbersOnce};
 ghost use Rattle.macros.specs.Macro.{Macros};
 ghost use Rattle.macros.specs.Table.{IsTable};
-ghost use Rattle.substitution.specs.HideSets.{Sets, Extends, NamesBelow, members};
-ghost use Rattle.substitution.specs.Meaning.{hidden_of};
+ghost use Rattle.macros_substitution.specs.HideSets.{Sets, Extends, NamesBelow, members};
+ghost use Rattle.macros_substitution.specs.Meaning.{hidden_of};
 ghost use Rattle.pp_expand.specs.inside.Turns.{IsNamed, IsNamedBelow, has_number};
 
 use crate::task::Named;
 use macros::{MacroTable, is_identifier, is_predefined};
+use macros_substitution::{HiddenToken, HideSet, HideSets};
 use srcset::Names;
-use substitution::{HiddenToken, HideSet, HideSets};
 
 // Whether a set has the name with this number.
 fn has_name(sets: &HideSets, set: HideSet, number: Option<usize>) -> bool

@@ -1,7 +1,7 @@
 //! What the first token of a list does.
 use macros::Macro;
+use macros_substitution::{HiddenToken, HideSet};
 use srcset::Pos;
-use substitution::{HiddenToken, HideSet};
 
 /// What a token names where its list is scanned.
 pub(crate) enum Named<'a, 't> {

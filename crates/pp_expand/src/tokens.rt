@@ -3,16 +3,16 @@ ghost use Rattle.std.specs.Prelude.{◌≡◌, ℕ, List, IfOk, IfErr};
 ghost use Rattle.std.specs.Cow.{cow_slice_items};
 ghost use Rattle.srcset.specs.declared.refusal.Refusal.TheVariants.{Memory};
 ghost use Rattle.macros.specs.Macro.{Macros};
-ghost use Rattle.substitution.specs.HideSets.{Sets};
-ghost use Rattle.substitution.specs.Meaning.{hidden_of};
+ghost use Rattle.macros_substitution.specs.HideSets.{Sets};
+ghost use Rattle.macros_substitution.specs.Meaning.{hidden_of};
 ghost use Rattle.pp_expand.specs.Expansion.{text_of, quoted, predefined_token, predefined_front};
 
 use itoa::Buffer;
+use macros_substitution::HiddenToken;
 use phases::{Kind, PpToken};
 use srcset::{Names, Pos, Refusal};
 use std::alloc::{AllocError, Global};
 use std::borrow::CowSlice;
-use substitution::HiddenToken;
 
 // The name of a file, or nothing where no text has its number.
 fn file_text(names: &Names, file: usize) -> &[u8]

@@ -3,10 +3,10 @@ ghost use Rattle.std.specs.Prelude.{◌≡◌, ℕ, ◌≤◌, ◌<◌, List, []
 ghost use Rattle.srcset.specs.NameTable.{Texts, NumbersOnce};
 ghost use Rattle.macros.specs.Macro.{Macro as MacroSeen, Macros, is_spelled};
 ghost use Rattle.macros.specs.Table.{IsTable, IsMacro};
-ghost use Rattle.substitution.specs.HideSets.{Sets, Extends, NamesBelow};
-ghost use Rattle.substitution.specs.Meaning.{hidden_of, hidden_all, AreIn};
+ghost use Rattle.macros_substitution.specs.HideSets.{Sets, Extends, NamesBelow};
+ghost use Rattle.macros_substitution.specs.Meaning.{hidden_of, hidden_all, AreIn};
 ghost use Rattle.pp_expand.specs.Expansion.{object_turn, taken_turn, last_turn, arguments_in, turn_by, turn};
-ghost use Rattle.substitution.specs.declared.piece.HiddenToken.{HiddenToken};
+ghost use Rattle.macros_substitution.specs.declared.piece.HiddenToken.{HiddenToken};
 ghost use Rattle.pp_expand.specs.Expands.{ending_of};
 ghost use Rattle.pp_expand.specs.inside.Meaning.{LevelIn};
 ghost use Rattle.pp_expand.specs.inside.Turns.{TaskIn, TaskTurn, TurnIs, TurnedIn, KeepsRest, LastIs, AdvanceIs, AdvancedIn};
@@ -18,10 +18,10 @@ use crate::naming::named;
 use crate::run_end::RunEnd;
 use crate::task::{Named, Step, Task, Turned};
 use macros::{Macro, MacroTable};
+use macros_substitution::{HiddenToken, HideSets};
 use srcset::{Code, Names, Refusal};
 use std::alloc::Global;
 use std::collections::VecDeque;
-use substitution::{HiddenToken, HideSets};
 
 /// The most arguments that a call may have.
 const MAX_ARGUMENTS: usize = 127;

@@ -3,12 +3,12 @@ ghost use Rattle.std.specs.Prelude.{◌≡◌, [], ◌∷◌, ◌++◌, IfOk, If
 ghost use Rattle.srcset.specs.declared.refusal.Refusal.TheVariants.{Memory};
 ghost use Rattle.pp_expand.specs.inside.Unhidden.{IsUnhidden};
 
+use macros_substitution::{HiddenToken, HideSet};
 use phases::PpToken;
 use srcset::Refusal;
 use std::alloc::Global;
 use std::collections::VecDeque;
 use std::marker::Model;
-use substitution::{HiddenToken, HideSet};
 
 /// Tokens whose macros are still to be replaced. None of them hides a name; each has room for its hide set, so that the
 /// expansion begins with the tokens as they were gathered, and copies none.

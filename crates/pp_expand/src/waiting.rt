@@ -2,8 +2,8 @@
 ghost use Rattle.std.specs.Prelude.{◌≡◌, ℕ, suc, ◌≤◌, ◌<◌, ◌+◌, List, [], ◌∷◌, ◌++◌, length, drop, Some, slice_get, get_or, IfOk, IfErr};
 ghost use Rattle.srcset.specs.NameTable.{Texts, NumbersOnce};
 ghost use Rattle.srcset.specs.declared.refusal.Refusal.TheVariants.{Memory};
-ghost use Rattle.substitution.specs.HideSets.{Sets, Extends, NamesBelow};
-ghost use Rattle.substitution.specs.Meaning.{hidden_all, AreIn};
+ghost use Rattle.macros_substitution.specs.HideSets.{Sets, Extends, NamesBelow};
+ghost use Rattle.macros_substitution.specs.Meaning.{hidden_all, AreIn};
 ghost use Rattle.pp_expand.specs.Expansion.{Known, Replacement};
 ghost use Rattle.pp_expand.specs.inside.Meaning.{LevelIn};
 ghost use Rattle.pp_expand.specs.inside.Turns.{IsTask, TaskIn};
@@ -12,13 +12,13 @@ ghost use Rattle.pp_expand.specs.inside.Waits.{WaitingIn, WaitingsIn, ProceedIs,
 use crate::level::Level;
 use crate::run_end::RunEnd;
 use crate::task::Task;
+use macros_substitution::{
+    HiddenToken, HideSet, HideSets, Piece, Use, pieces, put_in_front, substitute, uses,
+};
 use srcset::{Pos, Refusal};
 use std::alloc::Global;
 use std::collections::VecDeque;
 use std::mem;
-use substitution::{
-    HiddenToken, HideSet, HideSets, Piece, Use, pieces, put_in_front, substitute, uses,
-};
 
 /// A replacement whose arguments are being expanded, and the list that it stands in.
 #[derive(Drop)]

@@ -8,15 +8,15 @@ use Rattle.rv32.specs.declared.instr.RegisterOp.TheVariants as register_op
 use Rattle.asm.specs.declared.item.Item.{Item}
 use Rattle.asm.specs.declared.item.Item.TheVariants as item
 use Rattle.asm.specs.Layout.{size, longest}
-use Rattle.frames.specs.declared.code.Location.{Location}
-use Rattle.frames.specs.declared.code.Location.TheVariants as location
-use Rattle.frames.specs.declared.code.Operation.{Operation}
-use Rattle.frames.specs.declared.code.Operation.TheVariants as operation
-use Rattle.frames.specs.declared.code.Conversion.{Conversion}
-use Rattle.frames.specs.declared.code.Conversion.TheVariants as conversion
-use Rattle.frames.specs.declared.code.Instruction.{Instruction}
-use Rattle.frames.specs.declared.code.Instruction.TheVariants as instruction
-use Rattle.frames.specs.Code.{Function, cell_home, area_home, frame_bytes}
+use Rattle.frames_code.specs.declared.code.Location.{Location}
+use Rattle.frames_code.specs.declared.code.Location.TheVariants as location
+use Rattle.frames_code.specs.declared.code.Operation.{Operation}
+use Rattle.frames_code.specs.declared.code.Operation.TheVariants as operation
+use Rattle.frames_code.specs.declared.code.Conversion.{Conversion}
+use Rattle.frames_code.specs.declared.code.Conversion.TheVariants as conversion
+use Rattle.frames_code.specs.declared.code.Instruction.{Instruction}
+use Rattle.frames_code.specs.declared.code.Instruction.TheVariants as instruction
+use Rattle.frames_code.specs.Code.{Function, cell_home, area_home, frame_bytes}
 use Rattle.select.specs.declared.places.Source.{Source}
 use Rattle.select.specs.declared.places.Source.TheVariants as source
 use Rattle.select.specs.declared.places.Home.{Home}

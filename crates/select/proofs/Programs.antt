@@ -4,10 +4,10 @@ use Rattle.std.specs.Prelude.{slice_get}
 use Rattle.std.proofs.lemmas.List.{length-map}
 use Rattle.asm.specs.declared.item.Item.{Item}
 use Rattle.asm.specs.Layout.{IsSound}
-use Rattle.frames.specs.declared.code.Function.{Function as Held}
-use Rattle.frames.specs.declared.code.FlatProgram.{FlatProgram}
-use Rattle.frames.specs.Code.{Function, function_of, program_of}
-use Rattle.frames.specs.Sound.{FunctionFits, IsSoundProgram, places_of}
+use Rattle.frames_code.specs.declared.code.Function.{Function as Held}
+use Rattle.frames_code.specs.declared.code.FlatProgram.{FlatProgram}
+use Rattle.frames_code.specs.Code.{Function, function_of, program_of}
+use Rattle.frames_code.specs.Sound.{FunctionFits, IsSoundProgram, places_of}
 use Rattle.select.specs.Program.{functions_items, start_items}
 use Rattle.select.proofs.Sound.{is_sound}
 

@@ -9,21 +9,21 @@ use Rattle.rv32.specs.declared.instr.RegisterOp.TheVariants as op
 use Rattle.rv32.specs.declared.instr.ShiftOp.TheVariants as shift_op
 use Rattle.rv32.specs.declared.instr.StoreKind.TheVariants as store_kind
 use Rattle.rv32.specs.declared.instr.Test.TheVariants as test
-use Rattle.events.specs.Events.{Event, Got, GotEnd, Put}
+use Rattle.meaning_events.specs.Events.{Event, Got, GotEnd, Put}
 use Rattle.asm.specs.declared.item.Item.{Item}
 use Rattle.asm.specs.declared.item.Item.TheVariants as item
-use Rattle.frames.specs.declared.code.Operand.TheVariants.{Temporary as temporary, Cell as cell, Constant as constant, Argument as argument}
-use Rattle.frames.specs.declared.code.Target.TheVariants.{Temporary as to_temporary, Cell as to_cell}
-use Rattle.frames.specs.declared.code.Width.TheVariants.{Byte as byte, SignedByte as signed_byte, Half as half, SignedHalf as signed_half, Word as word}
-use Rattle.frames.specs.declared.code.Location.TheVariants.{Statics as in_statics, Frame as in_frame, At as at}
-use Rattle.frames.specs.declared.code.Operation.TheVariants.{Machine as machine, Equal as equal, NotEqual as not_equal}
-use Rattle.frames.specs.declared.code.Conversion.TheVariants.{ToByte as to_byte, ToSignedByte as to_signed_byte, ToHalf as to_half, ToSignedHalf as to_signed_half, ToTruth as to_truth}
-use Rattle.frames.specs.declared.code.Instruction.TheVariants.{Nothing as nothing, Move as move, Compute as compute, Convert as convert, Load as load, Store as store, Address as address, Element as element, Jump as jump, Branch as branch, Call as call, PutByte as put_byte, GetByte as get_byte, Exit as exit, Return as return}
-use Rattle.frames.specs.declared.code.Operand.{Operand}
-use Rattle.frames.specs.declared.code.Target.{Target}
-use Rattle.frames.specs.declared.code.Instruction.{Instruction}
-use Rattle.frames.specs.Code.{Function, Program}
-use Rattle.running.specs.Light.{Fixed, Light, Go, Done, light_run, sum32}
+use Rattle.frames_code.specs.declared.code.Operand.TheVariants.{Temporary as temporary, Cell as cell, Constant as constant, Argument as argument}
+use Rattle.frames_code.specs.declared.code.Target.TheVariants.{Temporary as to_temporary, Cell as to_cell}
+use Rattle.frames_code.specs.declared.code.Width.TheVariants.{Byte as byte, SignedByte as signed_byte, Half as half, SignedHalf as signed_half, Word as word}
+use Rattle.frames_code.specs.declared.code.Location.TheVariants.{Statics as in_statics, Frame as in_frame, At as at}
+use Rattle.frames_code.specs.declared.code.Operation.TheVariants.{Machine as machine, Equal as equal, NotEqual as not_equal}
+use Rattle.frames_code.specs.declared.code.Conversion.TheVariants.{ToByte as to_byte, ToSignedByte as to_signed_byte, ToHalf as to_half, ToSignedHalf as to_signed_half, ToTruth as to_truth}
+use Rattle.frames_code.specs.declared.code.Instruction.TheVariants.{Nothing as nothing, Move as move, Compute as compute, Convert as convert, Load as load, Store as store, Address as address, Element as element, Jump as jump, Branch as branch, Call as call, PutByte as put_byte, GetByte as get_byte, Exit as exit, Return as return}
+use Rattle.frames_code.specs.declared.code.Operand.{Operand}
+use Rattle.frames_code.specs.declared.code.Target.{Target}
+use Rattle.frames_code.specs.declared.code.Instruction.{Instruction}
+use Rattle.frames_code.specs.Code.{Function, Program}
+use Rattle.select_running.specs.Light.{Fixed, Light, Go, Done, light_run, sum32}
 use Rattle.select.specs.Selected.{entry, items_of}
 use Rattle.select.specs.Program.{code_items, program_items}
 

@@ -1,10 +1,10 @@
 -- An instruction that is shortened is itself or Nothing.
 use Rattle.std.proofs.Common.{◌≡◌, ◌⊎◌, inl, inr, ⊎_elim, ℕ, ◌+◌, ◌≤◌, Bool, true, false, refl, sym, subst, ap, arith}
 use Rattle.std.specs.Prelude.{if◌then◌else◌, ◌==◌}
-use Rattle.frames.specs.declared.code.Instruction.{Instruction}
-use Rattle.frames.specs.declared.code.Instruction.TheVariants as instruction
-use Rattle.frames.specs.Code.{Function}
-use Rattle.frames.specs.Sound.{InstructionFits}
+use Rattle.frames_code.specs.declared.code.Instruction.{Instruction}
+use Rattle.frames_code.specs.declared.code.Instruction.TheVariants as instruction
+use Rattle.frames_code.specs.Code.{Function}
+use Rattle.frames_code.specs.Sound.{InstructionFits}
 use Rattle.select.specs.Selected.{is_same, shortened}
 use Rattle.select.specs.Bytes.{instruction_bytes}
 

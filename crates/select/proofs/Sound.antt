@@ -8,18 +8,18 @@ use Rattle.rv32.specs.declared.instr.Instr.{Instr}
 use Rattle.asm.specs.declared.item.Item.{Item}
 use Rattle.asm.specs.declared.item.Item.TheVariants.{Mark, Plain, Branch, Jump, Call, Constant, LabelAddress, DataAddress}
 use Rattle.asm.specs.Layout.{item_at, Refers, IsSound}
-use Rattle.frames.specs.declared.code.Operand.{Operand}
-use Rattle.frames.specs.declared.code.Operand.TheVariants as operand
-use Rattle.frames.specs.declared.code.Location.{Location}
-use Rattle.frames.specs.declared.code.Location.TheVariants as location
-use Rattle.frames.specs.declared.code.Operation.{Operation}
-use Rattle.frames.specs.declared.code.Operation.TheVariants as operation
-use Rattle.frames.specs.declared.code.Conversion.{Conversion}
-use Rattle.frames.specs.declared.code.Conversion.TheVariants as conversion
-use Rattle.frames.specs.declared.code.Instruction.{Instruction}
-use Rattle.frames.specs.declared.code.Instruction.TheVariants as instruction
-use Rattle.frames.specs.Code.{Function, Program, cell_home, area_home, frame_bytes}
-use Rattle.frames.specs.Sound.{OperandFits, TargetFits, LocationFits, InstructionFits, FunctionFits, IsSoundProgram, places_of, most_bytes}
+use Rattle.frames_code.specs.declared.code.Operand.{Operand}
+use Rattle.frames_code.specs.declared.code.Operand.TheVariants as operand
+use Rattle.frames_code.specs.declared.code.Location.{Location}
+use Rattle.frames_code.specs.declared.code.Location.TheVariants as location
+use Rattle.frames_code.specs.declared.code.Operation.{Operation}
+use Rattle.frames_code.specs.declared.code.Operation.TheVariants as operation
+use Rattle.frames_code.specs.declared.code.Conversion.{Conversion}
+use Rattle.frames_code.specs.declared.code.Conversion.TheVariants as conversion
+use Rattle.frames_code.specs.declared.code.Instruction.{Instruction}
+use Rattle.frames_code.specs.declared.code.Instruction.TheVariants as instruction
+use Rattle.frames_code.specs.Code.{Function, Program, cell_home, area_home, frame_bytes}
+use Rattle.frames_code.specs.Sound.{OperandFits, TargetFits, LocationFits, InstructionFits, FunctionFits, IsSoundProgram, places_of, most_bytes}
 use Rattle.select.specs.declared.places.Source.{Source}
 use Rattle.select.specs.declared.places.Source.TheVariants as source
 use Rattle.select.specs.declared.places.Home.{Home}

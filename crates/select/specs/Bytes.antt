@@ -1,11 +1,11 @@
 -- The most bytes of code, with all branches long, that each flat instruction comes to.
 use Rattle.std.specs.Prelude.{ℕ, zero, suc, ◌≤◌, ◌+◌, ◌==◌, nat_lt, if◌then◌else◌, sum_by}
 use Rattle.asm.specs.Layout.{longest}
-use Rattle.frames.specs.declared.code.Location.{Location}
-use Rattle.frames.specs.declared.code.Location.TheVariants as location
-use Rattle.frames.specs.declared.code.Instruction.{Instruction}
-use Rattle.frames.specs.declared.code.Instruction.TheVariants as instruction
-use Rattle.frames.specs.Code.{Function, cell_home}
+use Rattle.frames_code.specs.declared.code.Location.{Location}
+use Rattle.frames_code.specs.declared.code.Location.TheVariants as location
+use Rattle.frames_code.specs.declared.code.Instruction.{Instruction}
+use Rattle.frames_code.specs.declared.code.Instruction.TheVariants as instruction
+use Rattle.frames_code.specs.Code.{Function, cell_home}
 use Rattle.select.specs.declared.places.Source.{Source}
 use Rattle.select.specs.declared.places.Source.TheVariants as source
 use Rattle.select.specs.declared.places.Home.{Home}

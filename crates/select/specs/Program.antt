@@ -3,10 +3,10 @@ use Rattle.std.specs.Prelude.{ℕ, ◌+◌, List, [], ◌∷◌, ◌++◌, lengt
 use Rattle.loader.specs.MemoryMap.{stack_end}
 use Rattle.asm.specs.declared.item.Item.{Item}
 use Rattle.asm.specs.declared.item.Item.TheVariants as item
-use Rattle.frames.specs.declared.code.Instruction.{Instruction}
-use Rattle.frames.specs.Code as flat
-use Rattle.frames.specs.Code.{Function}
-use Rattle.frames.specs.Sound.{places_of}
+use Rattle.frames_code.specs.declared.code.Instruction.{Instruction}
+use Rattle.frames_code.specs.Code as flat
+use Rattle.frames_code.specs.Code.{Function}
+use Rattle.frames_code.specs.Sound.{places_of}
 use Rattle.select.specs.Selected.{entry, exit, items_of, shortened}
 
 -- the items of a function's instructions from number k on, each behind its mark; the function's end has a mark too

@@ -1,9 +1,9 @@
 //! Where functions begin and end, and environment calls.
 
 ghost use Rattle.std.specs.Prelude.{◌≡◌, ◌≤◌, ◌<◌, ◌-◌, ◌^◌, ◌++◌, OnOk};
-ghost use Rattle.frames.specs.Code as flat;
-ghost use Rattle.frames.specs.Code.{function_of};
-ghost use Rattle.frames.specs.Sound.{most_bytes};
+ghost use Rattle.frames_code.specs.Code as flat;
+ghost use Rattle.frames_code.specs.Code.{function_of};
+ghost use Rattle.frames_code.specs.Sound.{most_bytes};
 ghost use Rattle.select.specs.Selected as selected;
 
 use crate::places::kept;
@@ -11,7 +11,7 @@ use crate::words::{
     add_to, address_of, load_word, operate_on, put, stack_pointer, store_word, zero,
 };
 use asm::Item;
-use frames::{Function, Instruction};
+use frames_code::{Function, Instruction};
 use rv32::{Five, Instr, LoadKind, RegisterOp, Short, StoreKind};
 use std::alloc::AllocError;
 

@@ -7,7 +7,7 @@ ghost use Rattle.select.specs.inside.Ranges.{SourceIsNear};
 use crate::places::Source;
 use crate::words::{load_word, operate_on, put_one, set_to, zero};
 use asm::Item;
-use frames::Operation;
+use frames_code::Operation;
 use rv32::{Five, ImmediateOp, Instr, RegisterOp, ShiftOp, Short};
 use std::alloc::AllocError;
 

@@ -1,9 +1,9 @@
 //! Elements of arrays: loads, stores, references.
 
 ghost use Rattle.std.specs.Prelude.{◌≡◌, ◌≤◌, ◌<◌, ◌^◌, ◌++◌, OnOk};
-ghost use Rattle.frames.specs.Code as flat;
-ghost use Rattle.frames.specs.Code.{function_of};
-ghost use Rattle.frames.specs.Sound.{LocationFits, most_bytes};
+ghost use Rattle.frames_code.specs.Code as flat;
+ghost use Rattle.frames_code.specs.Code.{function_of};
+ghost use Rattle.frames_code.specs.Sound.{LocationFits, most_bytes};
 ghost use Rattle.select.specs.Selected as selected;
 ghost use Rattle.select.specs.inside.Ranges.{SourceIsNear, HomeIsNear};
 
@@ -14,7 +14,7 @@ use crate::words::{
     register_of, shifted,
 };
 use asm::Item;
-use frames::{Function, Location, Width};
+use frames_code::{Function, Location, Width};
 use rv32::{Five, Instr, LoadKind, RegisterOp, ShiftOp, Short, StoreKind};
 use std::alloc::AllocError;
 

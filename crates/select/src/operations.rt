@@ -11,7 +11,7 @@ use crate::words::{
     zero,
 };
 use asm::Item;
-use frames::{Conversion, Operation};
+use frames_code::{Conversion, Operation};
 use rv32::{Five, ImmediateOp, Instr, RegisterOp, ShiftOp, Short};
 use std::alloc::AllocError;
 

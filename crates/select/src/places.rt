@@ -1,13 +1,13 @@
 //! Where operands and results are: in registers, in the frame.
 
 ghost use Rattle.std.specs.Prelude.{◌≡◌, ◌≤◌, ◌<◌};
-ghost use Rattle.frames.specs.Code as flat;
-ghost use Rattle.frames.specs.Code.{function_of};
-ghost use Rattle.frames.specs.Sound.{OperandFits, TargetFits, most_bytes};
+ghost use Rattle.frames_code.specs.Code as flat;
+ghost use Rattle.frames_code.specs.Code.{function_of};
+ghost use Rattle.frames_code.specs.Sound.{OperandFits, TargetFits, most_bytes};
 ghost use Rattle.select.specs.Selected as selected;
 ghost use Rattle.select.specs.inside.Ranges.{SourceIsNear, HomeIsNear};
 
-use frames::{Function, Operand, Target};
+use frames_code::{Function, Operand, Target};
 use rv32::Five;
 
 /// Where an operand's value is.

@@ -2,9 +2,9 @@
 
 ghost use Rattle.std.specs.Prelude.{ℕ, ◌≡◌, ◌≤◌, ◌<◌, ◌+◌, ◌^◌, ◌++◌, ◌∷◌, [], map, length, slice_get, Some, OnOk, IfOk, IfErr};
 ghost use Rattle.srcset.specs.Fault.{IsMemoryFault};
-ghost use Rattle.frames.specs.Code.{function_of, program_of};
-ghost use Rattle.frames.specs.Code as flat;
-ghost use Rattle.frames.specs.Sound.{OperandFits, InstructionFits, FunctionFits, IsSoundProgram, places_of, most_bytes};
+ghost use Rattle.frames_code.specs.Code.{function_of, program_of};
+ghost use Rattle.frames_code.specs.Code as flat;
+ghost use Rattle.frames_code.specs.Sound.{OperandFits, InstructionFits, FunctionFits, IsSoundProgram, places_of, most_bytes};
 ghost use Rattle.select.specs.Selected as selected;
 ghost use Rattle.select.specs.Program.{code_items, function_items, functions_items, start_items, program_items, labels_of};
 
@@ -15,7 +15,7 @@ use crate::places::{home_of, source_of};
 use crate::shortening::shortened;
 use crate::words::{fetch, put, put_one, register_of, stack_pointer};
 use asm::{Item, Items, Label};
-use frames::{FlatProgram, Function, Instruction, Operand};
+use frames_code::{FlatProgram, Function, Instruction, Operand};
 use loader::memory_map::STACK_END;
 use rv32::{Five, Test};
 use srcset::Fault;

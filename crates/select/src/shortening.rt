@@ -3,7 +3,7 @@
 ghost use Rattle.std.specs.Prelude.{◌≡◌, ◌<◌, ◌^◌};
 ghost use Rattle.select.specs.Selected as selected;
 
-use frames::{Instruction, Operand, Target};
+use frames_code::{Instruction, Operand, Target};
 
 /// A register into itself.
 fn is_same(target: Target, source: Operand) -> bool

@@ -1,4 +1,9 @@
-pub mod Growing
-pub mod Weights
-pub mod Rows
-pub mod FortyTwo
+pub mod Nodes
+pub mod HeldStatements
+pub mod Blocks
+pub mod Placed
+pub mod Whole
+pub mod Stretches
+pub mod Filled
+pub mod Counted
+pub mod Firsts

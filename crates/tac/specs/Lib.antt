@@ -1,8 +1,2 @@
-pub mod Code
-pub mod Run
-pub mod Costs
-pub mod Laws
-pub mod Sound
-pub mod Spans
-pub mod Designated
-pub mod Lowered
+pub mod inside
+pub use Rattle.tac_lowering.specs.Bodies

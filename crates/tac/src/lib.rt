@@ -1,12 +1,16 @@
-//! Three-address code: functions over numbered temporaries and over the objects of the abstract machine. Today its types, what it
-//! does as a definition, what it is for it to do what a program does, and laws of its runs.
+//! From typed programs to three-address code (ISO/IEC 9899:2011 6.5, 6.7.9, 6.8).
 #![tactic(auto)]
 
-mod code;
-mod laws;
+mod block_sizes;
+mod copies;
+mod counts;
+mod elements;
+mod first_sizes;
+mod functions;
+mod initialisers;
+mod leaves;
+mod programs;
+mod statements;
+mod switches;
 
-pub use code::{
-    Comparison, Function, Instruction, Operand, Operation, Parameter, Place, Reading, TacProgram,
-    Target,
-};
-pub use laws::{calls_are_active, run_grows, weights_are_seen};
+pub use programs::lower;

@@ -11,11 +11,11 @@ use Rattle.sim.specs.declared.port.PortFault.{PortFault}
 use Rattle.sim.specs.declared.port.PortFault.TheVariants as port_fault
 use Rattle.cc.specs.declared.stopping.Stop.{Stop}
 use Rattle.cc.specs.declared.stopping.Stop.TheVariants.{Memory, At, Told}
-use Rattle.typed.specs.Program.{Program}
+use Rattle.typing_rules.specs.Program.{Program}
 use Rattle.srcset.specs.NameTable.{Texts}
 use Rattle.tree.specs.Tree.{ExternalTree}
 use Rattle.asm.specs.declared.item.Item.{Item}
-use Rattle.backend.specs.Generated.{AreItemsOf}
+use Rattle.cc_backend.specs.Generated.{AreItemsOf}
 use Rattle.cc.specs.Compiled.{HasProgram, IsRefused}
 
 -- the fault that tells it, where the command names this file; only the copy of the name may run out of memory

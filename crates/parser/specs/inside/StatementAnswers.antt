@@ -7,12 +7,12 @@ use Rattle.lexer.specs.declared.token.Punctuator.TheVariants as sign
 use Rattle.tree.specs.Tree.{StmtTree, Pieces}
 use Rattle.tree.specs.Counts.{stmt_depth, pieces_depth}
 use Rattle.tree.specs.View.{stmt_of, piece_of, pieces_of}
-use Rattle.grammar.specs.declared.refusal.Refusal.{Refusal}
+use Rattle.parser_grammar.specs.declared.refusal.Refusal.{Refusal}
 use Rattle.parser.specs.declared.statements.StmtPart.{StmtPart}
 use Rattle.parser.specs.declared.statements.BlockPart.{BlockPart}
-use Rattle.grammar.specs.Tokens.{Sign, NotFront}
-use Rattle.grammar.specs.Statements.{is_open, SpellsStmt, SpellsPieces}
-use Rattle.grammar.specs.inside.Answer.{ReadsOf, FailsOf, StandsOf, Anywhere}
+use Rattle.parser_grammar.specs.Tokens.{Sign, NotFront}
+use Rattle.parser_grammar.specs.Statements.{is_open, SpellsStmt, SpellsPieces}
+use Rattle.parser_grammar.specs.inside.Answer.{ReadsOf, FailsOf, StandsOf, Anywhere}
 
 -- a statement that an else could go on with does not end before one
 abbrev pub EndsStmt : StmtTree → List Token → Type 0

@@ -9,8 +9,8 @@ use Rattle.lexer.specs.declared.token.Punctuator.TheVariants as sign
 use Rattle.tree.specs.Tree.{Tree, StartTree, StmtTree, PieceTree, declaration_item, statement_item}
 use Rattle.tree.specs.Counts.{depth, option_depth, start_depth, stmt_depth, piece_depth}
 use Rattle.tree.specs.View.{tree_of, option_tree, start_of, stmt_of, piece_of}
-use Rattle.grammar.specs.declared.refusal.Refusal.{Refusal}
-use Rattle.expression_parser.specs.declared.expressions.Part.{Part}
+use Rattle.parser_grammar.specs.declared.refusal.Refusal.{Refusal}
+use Rattle.parser_expressions.specs.declared.expressions.Part.{Part}
 use Rattle.parser.specs.declared.statement_parts.OptionPart.{OptionPart}
 use Rattle.parser.specs.declared.statement_parts.StartPart.{StartPart}
 use Rattle.parser.specs.declared.statement_parts.ForHeadPart.{ForHeadPart}
@@ -19,10 +19,10 @@ use Rattle.parser.specs.declared.statement_parts.Form.TheVariants as form
 use Rattle.parser.specs.declared.statements.StmtPart.{StmtPart}
 use Rattle.parser.specs.declared.statements.TestedPart.{TestedPart}
 use Rattle.parser.specs.declared.statements.BlockItemPart.{BlockItemPart}
-use Rattle.grammar.specs.Tokens.{Mark, Sign}
-use Rattle.grammar.specs.Expressions.{Spells}
-use Rattle.grammar.specs.Statements.{SpellsTest, SpellsOption, SpellsStart, SpellsStmt, SpellsPiece}
-use Rattle.grammar.specs.inside.Answer.{ReadsOf, FailsOf, StandsOf, Anywhere}
+use Rattle.parser_grammar.specs.Tokens.{Mark, Sign}
+use Rattle.parser_grammar.specs.Expressions.{Spells}
+use Rattle.parser_grammar.specs.Statements.{SpellsTest, SpellsOption, SpellsStart, SpellsStmt, SpellsPiece}
+use Rattle.parser_grammar.specs.inside.Answer.{ReadsOf, FailsOf, StandsOf, Anywhere}
 use Rattle.parser.specs.inside.StatementAnswers.{EndsStmt}
 
 -- the token with which a statement of this form begins

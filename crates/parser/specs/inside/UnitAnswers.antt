@@ -10,14 +10,14 @@ use Rattle.lexer.specs.declared.token.Punctuator.TheVariants as sign
 use Rattle.tree.specs.Tree.{Pieces, ExternalTree}
 use Rattle.tree.specs.Counts.{pieces_depth, external_depth, external_nodes}
 use Rattle.tree.specs.View.{piece_of, pieces_of, external_of}
-use Rattle.grammar.specs.declared.refusal.Refusal.{Refusal}
-use Rattle.grammar.specs.declared.refusal.Refusal.TheVariants.{Syntax, Depth, Memory}
+use Rattle.parser_grammar.specs.declared.refusal.Refusal.{Refusal}
+use Rattle.parser_grammar.specs.declared.refusal.Refusal.TheVariants.{Syntax, Depth, Memory}
 use Rattle.parser.specs.declared.unit.BodyPart.{BodyPart}
 use Rattle.parser.specs.declared.unit.ExternalPart.{ExternalPart}
-use Rattle.grammar.specs.Tokens.{Own}
-use Rattle.grammar.specs.Statements.{SpellsExternal}
+use Rattle.parser_grammar.specs.Tokens.{Own}
+use Rattle.parser_grammar.specs.Statements.{SpellsExternal}
 use Rattle.parser.specs.inside.StatementAnswers.{SpellsBody}
-use Rattle.grammar.specs.inside.Answer.{Anywhere, ReadsOf, FailsOf, StandsOf}
+use Rattle.parser_grammar.specs.inside.Answer.{Anywhere, ReadsOf, FailsOf, StandsOf}
 use Rattle.parser.specs.Units.{IsSmall, HasTokenAt}
 
 -- ---- the body of a function definition, two nodes down

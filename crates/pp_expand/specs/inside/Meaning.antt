@@ -3,9 +3,9 @@ use Rattle.std.specs.Prelude.{◌≡◌, ℕ, List, ◌++◌, Result, Ok, Err}
 use Rattle.srcset.specs.declared.refusal.Refusal.{Refusal}
 use Rattle.srcset.specs.declared.refusal.Refusal.TheVariants.{Memory, At, Told}
 use Rattle.phases.specs.Token.{Token}
-use Rattle.substitution.specs.Substitution.{◌>>=◌, Hidden}
-use Rattle.substitution.specs.HideSets.{Sets}
-use Rattle.substitution.specs.Meaning.{hidden_all, AreIn}
+use Rattle.macros_substitution.specs.Substitution.{◌>>=◌, Hidden}
+use Rattle.macros_substitution.specs.HideSets.{Sets}
+use Rattle.macros_substitution.specs.Meaning.{hidden_all, AreIn}
 use Rattle.pp_expand.specs.declared.level.Level.{Level}
 use Rattle.pp_expand.specs.Expansion.{Known, Answer, Fault, Next, expanded_by, shown_answer}
 use Rattle.pp_expand.specs.Expands.{ending_of}

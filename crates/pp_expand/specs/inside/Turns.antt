@@ -8,10 +8,10 @@ use Rattle.srcset.specs.declared.refusal.Refusal.{Refusal}
 use Rattle.srcset.specs.declared.refusal.Refusal.TheVariants.{Memory, At, Told}
 use Rattle.macros.specs.Macro.{Macro}
 use Rattle.macros.specs.Table.{IsMacro}
-use Rattle.substitution.specs.Substitution.{Hidden}
-use Rattle.substitution.specs.HideSets.{Sets, members, spelled}
-use Rattle.substitution.specs.Meaning.{hidden_of, hidden_all, hidden_lists, ListsIn}
-use Rattle.substitution.specs.declared.piece.HiddenToken.{HiddenToken}
+use Rattle.macros_substitution.specs.Substitution.{Hidden}
+use Rattle.macros_substitution.specs.HideSets.{Sets, members, spelled}
+use Rattle.macros_substitution.specs.Meaning.{hidden_of, hidden_all, hidden_lists, ListsIn}
+use Rattle.macros_substitution.specs.declared.piece.HiddenToken.{HiddenToken}
 use Rattle.pp_expand.specs.declared.mark.Mark.{Mark as Found}
 use Rattle.pp_expand.specs.declared.mark.Mark.TheVariants as found
 use Rattle.pp_expand.specs.declared.level.Level.{Level}

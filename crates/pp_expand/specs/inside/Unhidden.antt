@@ -1,7 +1,7 @@
 -- Tokens that hide no name.
 use Rattle.std.specs.Prelude.{◌≡◌, List, map}
 use Rattle.phases.specs.Token.{Token}
-use Rattle.substitution.specs.declared.piece.HiddenToken.{HiddenToken}
+use Rattle.macros_substitution.specs.declared.piece.HiddenToken.{HiddenToken}
 
 -- these tokens, and no token hides a name
 abbrev pub IsUnhidden : List Token → List HiddenToken → Type 0

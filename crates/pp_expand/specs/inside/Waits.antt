@@ -5,10 +5,10 @@ use Rattle.srcset.specs.NameTable.{Texts}
 use Rattle.srcset.specs.declared.refusal.Pos.{Pos}
 use Rattle.srcset.specs.declared.refusal.Refusal.{Refusal}
 use Rattle.srcset.specs.declared.refusal.Refusal.TheVariants.{Memory, At, Told}
-use Rattle.substitution.specs.Substitution.{◌>>=◌, Hidden, Piece, Call, marked, hiding, substituted}
-use Rattle.substitution.specs.HideSets.{Sets, members, spelled}
-use Rattle.substitution.specs.Meaning.{hidden_all, hidden_lists, pieces_as, use_of, ListsIn, PiecesIn}
-use Rattle.substitution.specs.declared.piece.HiddenToken.{HiddenToken}
+use Rattle.macros_substitution.specs.Substitution.{◌>>=◌, Hidden, Piece, Call, marked, hiding, substituted}
+use Rattle.macros_substitution.specs.HideSets.{Sets, members, spelled}
+use Rattle.macros_substitution.specs.Meaning.{hidden_all, hidden_lists, pieces_as, use_of, ListsIn, PiecesIn}
+use Rattle.macros_substitution.specs.declared.piece.HiddenToken.{HiddenToken}
 use Rattle.pp_expand.specs.declared.level.Level.{Level}
 use Rattle.pp_expand.specs.declared.waiting.Waiting.{Waiting}
 use Rattle.pp_expand.specs.Expansion.{Ending, Known, Answer, Fault, Replacement, arguments_expanded, at_place, replace}

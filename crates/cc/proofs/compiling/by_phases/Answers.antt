@@ -1,5 +1,5 @@
 use Rattle.tree.specs.View.{unit_of}
-use Rattle.program.specs.View.{program_of}
+use Rattle.typing_program.specs.View.{program_of}
 use Rattle.cc.specs.Compiled.{BuildsProgram, Compiles}
 use Rattle.cc.specs.inside.Stops.{Stops, IsMemory}
 use Rattle.cc.proofs.Refusals.{handed_on, ok_means, error_means, memory_stops}

@@ -1,7 +1,7 @@
 use Rattle.tree.specs.View.{unit_of}
 use Rattle.cc.specs.Compiled.{HasList, HasTokens, HasTree}
 use Rattle.cc.proofs.Refusals.{handed_on, list_stops, tokens_stop, has_list, has_tokens, has_tree, has_number, tree_stops, check_stops}
-use Rattle.program.specs.View.{program_of}
+use Rattle.typing_program.specs.View.{program_of}
 use Rattle.cc.proofs.Ready.{is_ready}
 use Rattle.cc.proofs.front.checked_unit.Goals as goal
 

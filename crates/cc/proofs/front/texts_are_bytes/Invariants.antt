@@ -1,5 +1,5 @@
 use Rattle.std.proofs.Common.{◌≡◌, ◌<◌, ℕ, List, Some, slice_get}
-use Rattle.tac.specs.Sound.{AreBytes}
+use Rattle.tac_code.specs.Sound.{AreBytes}
 use Rattle.cc.proofs.front.texts_are_bytes.Given as goal
 
 abbrev pub invariant-loop-number : goal.invariant-loop-number

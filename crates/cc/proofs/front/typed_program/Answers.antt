@@ -1,7 +1,7 @@
 use Rattle.std.proofs.Common.{sym, ap, ◌∙◌, Some}
 use Rattle.tree.specs.View.{unit_of}
-use Rattle.typed.specs.Verdict.{fine}
-use Rattle.program.specs.View.{program_of}
+use Rattle.typing_rules.specs.Verdict.{fine}
+use Rattle.typing_program.specs.View.{program_of}
 use Rattle.cc.proofs.Checks.{verdict_at, fault_at}
 use Rattle.cc.proofs.front.typed_program.Goals as goal
 

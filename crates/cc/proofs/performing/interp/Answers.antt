@@ -1,6 +1,6 @@
 use Rattle.std.proofs.Common.{inl, inr, refl}
 use Rattle.tree.specs.View.{unit_of}
-use Rattle.program.specs.View.{program_of}
+use Rattle.typing_program.specs.View.{program_of}
 use Rattle.cc.proofs.performing.interp.Goals as goal
 
 pub returns-in-Ok : goal.returns-in-Ok

@@ -1,5 +1,5 @@
 use Rattle.tree.specs.View.{unit_of}
-use Rattle.program.specs.View.{program_of}
+use Rattle.typing_program.specs.View.{program_of}
 use Rattle.cc.specs.declared.stopping.Stop.TheVariants.{Memory}
 use Rattle.cc.proofs.Refusals.{handed_on, memory_stops}
 use Rattle.cc.proofs.Listings.{has_items}

@@ -1,8 +1,8 @@
 use Rattle.std.proofs.Common.{sym, subst, map, ◌∙◌}
 use Rattle.tree.specs.View.{tree_of, type_of}
-use Rattle.program.specs.View.{arguments_of, argument_of}
-use Rattle.expression_rules.specs.Refused.{Tells}
-use Rattle.expression_rules.specs.Forms.{checked_of, worth_of}
+use Rattle.typing_program.specs.View.{arguments_of, argument_of}
+use Rattle.typing_expressions.specs.Refused.{Tells}
+use Rattle.typing_expressions.specs.Forms.{checked_of, worth_of}
 use Rattle.const_expr.specs.Typings.{option_named}
 use Rattle.const_expr.specs.Operands.{operands_of}
 use Rattle.const_expr.proofs.Parts.{operands_fine, operands_right, cast_rule, cast_right, conditional_rule, conditional_test, conditional_arms}

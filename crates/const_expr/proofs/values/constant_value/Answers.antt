@@ -1,8 +1,8 @@
 use Rattle.std.proofs.Common.{◌≡◌, sym, subst, IfOk, IfErr}
 use Rattle.tree.specs.View.{tree_of}
-use Rattle.typed.specs.Verdict.{fine}
-use Rattle.expression_rules.specs.Refused.{Tells}
-use Rattle.expression_rules.specs.Forms.{checked_of}
+use Rattle.typing_rules.specs.Verdict.{fine}
+use Rattle.typing_expressions.specs.Refused.{Tells}
+use Rattle.typing_expressions.specs.Forms.{checked_of}
 use Rattle.const_expr.specs.Typings.{constant_of}
 use Rattle.const_expr.proofs.Wholes.{value_rule, value_form, value_typing}
 use Rattle.const_expr.proofs.values.constant_value.Goals as goal

@@ -1,5 +1,5 @@
 use Rattle.parser.specs.inside.StmtParts.{AnswersDoEnd, StandsDoEnd}
-use Rattle.grammar.proofs.Exits.{passed_on, err_passed_on}
+use Rattle.parser_grammar.proofs.Exits.{passed_on, err_passed_on}
 use Rattle.parser.proofs.StmtSorts.{do_end_test_fails, do_end_test_stands, do_end_no_sign, do_end_reads}
 use Rattle.parser.proofs.statement_parts.do_end.Goals as goal
 

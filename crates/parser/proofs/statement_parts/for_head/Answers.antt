@@ -1,6 +1,6 @@
 use Rattle.std.proofs.Common.{arith}
 use Rattle.parser.specs.inside.StmtParts.{AnswersForHead, StandsForHead}
-use Rattle.grammar.proofs.Exits.{passed_on, err_passed_on}
+use Rattle.parser_grammar.proofs.Exits.{passed_on, err_passed_on}
 use Rattle.parser.proofs.StmtSorts.{head_start_stands, head_test_fails, head_test_stands, head_step_fails, head_step_stands, head_reads_all}
 use Rattle.parser.proofs.statement_parts.for_head.Goals as goal
 

@@ -1,6 +1,6 @@
 use Rattle.std.proofs.Common.{refl}
 use Rattle.parser.specs.inside.StmtParts.{AnswersStart, StandsStart}
-use Rattle.grammar.proofs.Exits.{passed_on, err_passed_on}
+use Rattle.parser_grammar.proofs.Exits.{passed_on, err_passed_on}
 use Rattle.parser.proofs.StmtSorts.{not_true, start_local_reads, start_local_fails, start_local_stands, start_with_reads, start_with_fails, start_with_stands}
 use Rattle.parser.proofs.statement_parts.for_start.Goals as goal
 

@@ -1,5 +1,5 @@
 use Rattle.parser.specs.inside.StmtParts.{AnswersEnded, StandsEnded}
-use Rattle.grammar.proofs.Exits.{passed_on, err_passed_on}
+use Rattle.parser_grammar.proofs.Exits.{passed_on, err_passed_on}
 use Rattle.parser.proofs.StmtSorts.{ended_none, ended_some, ended_fails, ended_stands}
 use Rattle.parser.proofs.statement_parts.optional_expression.Goals as goal
 

@@ -1,5 +1,5 @@
 use Rattle.parser.specs.inside.StmtParts.{AnswersTest, StandsTest}
-use Rattle.grammar.proofs.Exits.{passed_on, err_passed_on}
+use Rattle.parser_grammar.proofs.Exits.{passed_on, err_passed_on}
 use Rattle.parser.proofs.StmtSorts.{test_fails, test_stands, test_reads}
 use Rattle.parser.proofs.statement_parts.test_expression.Goals as goal
 

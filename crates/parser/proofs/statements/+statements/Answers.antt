@@ -3,7 +3,7 @@ use Rattle.std.proofs.lemmas.List.{map-append}
 use Rattle.tree.specs.View.{piece_of}
 use Rattle.parser.specs.inside.StatementAnswers.{AnswersStmt, StandsStmt, AnswersBody, StandsBody}
 use Rattle.parser.specs.inside.StmtParts.{AnswersLabelled, StandsLabelled, AnswersTested, StandsTested, AnswersPiece, StandsPiece}
-use Rattle.grammar.proofs.Exits.{passed_on, err_passed_on}
+use Rattle.parser_grammar.proofs.Exits.{passed_on, err_passed_on}
 use Rattle.parser.proofs.StmtSequence.{full_stmt}
 use Rattle.parser.proofs.StmtSorts.{not_true}
 use Rattle.parser.proofs.StmtIf.{if_full, if_first_fails, if_first_stands, if_second_fails, if_second_stands}

@@ -1,5 +1,5 @@
 use Rattle.parser.specs.inside.StatementAnswers.{AnswersStmt, StandsStmt}
-use Rattle.grammar.proofs.Exits.{passed_on, err_passed_on}
+use Rattle.parser_grammar.proofs.Exits.{passed_on, err_passed_on}
 use Rattle.parser.proofs.StmtSequence.{full_stmt}
 use Rattle.parser.proofs.StmtExits.{empty_full, empty_reads}
 use Rattle.parser.proofs.statements.empty_statement.Goals as goal

@@ -1,5 +1,5 @@
 use Rattle.parser.specs.inside.StatementAnswers.{AnswersStmt, StandsStmt}
-use Rattle.grammar.proofs.Exits.{passed_on, err_passed_on}
+use Rattle.parser_grammar.proofs.Exits.{passed_on, err_passed_on}
 use Rattle.parser.proofs.StmtSequence.{full_stmt}
 use Rattle.parser.proofs.StmtAct.{act_full, act_never, act_fails, act_stands}
 use Rattle.parser.proofs.StmtExits.{expression_reads}

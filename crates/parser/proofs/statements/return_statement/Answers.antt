@@ -1,5 +1,5 @@
 use Rattle.parser.specs.inside.StatementAnswers.{AnswersStmt, StandsStmt}
-use Rattle.grammar.proofs.Exits.{passed_on, err_passed_on}
+use Rattle.parser_grammar.proofs.Exits.{passed_on, err_passed_on}
 use Rattle.parser.proofs.StmtSequence.{full_stmt}
 use Rattle.parser.proofs.StmtExits.{return_full, return_fails, return_stands, return_reads}
 use Rattle.parser.proofs.statements.return_statement.Goals as goal

@@ -1,7 +1,7 @@
 use Rattle.std.proofs.Common.{ap}
-use Rattle.declaration_parser.specs.DeclarationAnswers.{head_of}
+use Rattle.parser_declarations.specs.DeclarationAnswers.{head_of}
 use Rattle.parser.specs.inside.UnitAnswers.{AnswersExternal, StandsExternal}
-use Rattle.grammar.proofs.Exits.{passed_on, err_passed_on}
+use Rattle.parser_grammar.proofs.Exits.{passed_on, err_passed_on}
 use Rattle.parser.proofs.UnitParts.{head_fails, declaration_part, function_part, body_fails_part, body_stands_part}
 use Rattle.parser.proofs.unit.external.Goals as goal
 

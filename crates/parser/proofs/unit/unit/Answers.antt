@@ -1,7 +1,7 @@
 use Rattle.std.proofs.Common.{arith, refl}
 use Rattle.parser.specs.Units.{IsRefused}
 use Rattle.parser.proofs.UnitCounts.{some_left, none_left}
-use Rattle.grammar.proofs.Exits.{err_passed_on}
+use Rattle.parser_grammar.proofs.Exits.{err_passed_on}
 use Rattle.parser.proofs.UnitLoop.{going_longer, going_fails, going_full, going_alone, going_pushed, going_reaches}
 use Rattle.parser.proofs.unit.unit.Goals as goal
 

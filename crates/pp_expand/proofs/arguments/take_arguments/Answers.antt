@@ -1,6 +1,6 @@
 use Rattle.std.proofs.Common.{ℕ, List, IfOk, sym, subst}
-use Rattle.substitution.specs.declared.piece.HiddenToken.{HiddenToken}
-use Rattle.substitution.specs.Meaning.{AreIn}
+use Rattle.macros_substitution.specs.declared.piece.HiddenToken.{HiddenToken}
+use Rattle.macros_substitution.specs.Meaning.{AreIn}
 use Rattle.pp_expand.specs.inside.Turns.{GatheredIn}
 use Rattle.pp_expand.proofs.arguments.take_arguments.Goals as goal
 

@@ -2,7 +2,7 @@ use Rattle.std.proofs.Common.{ℕ, ◌-◌, List, length, Result, Ok, Err, Some,
 use Rattle.std.proofs.lemmas.Result.{err_from_is_err_and}
 use Rattle.srcset.specs.declared.code.Code.TheVariants as code
 use Rattle.srcset.specs.declared.refusal.Pos.{Pos}
-use Rattle.substitution.specs.Meaning.{hidden_all}
+use Rattle.macros_substitution.specs.Meaning.{hidden_all}
 use Rattle.phases.specs.Token.{Token}
 use Rattle.pp_expand.specs.Expansion.{Fault}
 use Rattle.pp_expand.specs.Expands.{ending_of}

@@ -2,8 +2,8 @@ use Rattle.std.proofs.Common.{◌≡◌, ◌+◌, ◌*◌, length}
 use Rattle.srcset.specs.NameTable.{NumbersOnce}
 use Rattle.macros.specs.Macro.{Macros}
 use Rattle.macros.specs.Table.{IsTable}
-use Rattle.substitution.specs.HideSets.{Sets, Extends, NamesBelow}
-use Rattle.substitution.specs.Meaning.{hidden_all}
+use Rattle.macros_substitution.specs.HideSets.{Sets, Extends, NamesBelow}
+use Rattle.macros_substitution.specs.Meaning.{hidden_all}
 use Rattle.pp_expand.specs.Expands.{ending_of}
 use Rattle.pp_expand.specs.inside.Meaning.{expanding, level_meaning, shown_behind, LevelIn}
 use Rattle.pp_expand.specs.inside.Waits.{resume, weights, WaitingsIn}

@@ -1,6 +1,6 @@
 use Rattle.std.proofs.Common.{◌≡◌, Ok, Err, length, subst, sym, ap, ◌∙◌}
-use Rattle.substitution.specs.HideSets.{NamesBelow}
-use Rattle.substitution.specs.Meaning.{hidden_all}
+use Rattle.macros_substitution.specs.HideSets.{NamesBelow}
+use Rattle.macros_substitution.specs.Meaning.{hidden_all}
 use Rattle.pp_expand.specs.Expansion.{shown_answer}
 use Rattle.pp_expand.specs.Expands.{ending_of}
 use Rattle.pp_expand.specs.inside.Meaning.{expanding, shown_behind, GivesBehind}

@@ -1,7 +1,7 @@
 use Rattle.std.proofs.Common.{not, sym, ap, ◌∙◌}
 use Rattle.std.specs.Option.{option_copied}
 use Rattle.std.proofs.lemmas.Option.{slice_get_within}
-use Rattle.substitution.specs.Meaning.{hidden_of}
+use Rattle.macros_substitution.specs.Meaning.{hidden_of}
 use Rattle.pp_expand.proofs.FirstTokens.{dead, no_identifier, named_predefined, named_none, named_some, live_by, unknown_name, not_defined, defined_as, finds_as, predefined_as}
 use Rattle.pp_expand.proofs.naming.named.Goals as goal
 

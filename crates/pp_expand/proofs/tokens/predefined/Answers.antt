@@ -1,5 +1,5 @@
 use Rattle.std.proofs.Common.{refl}
-use Rattle.substitution.specs.Meaning.{hidden_of}
+use Rattle.macros_substitution.specs.Meaning.{hidden_of}
 use Rattle.pp_expand.proofs.Predefined.{token_is}
 use Rattle.pp_expand.proofs.tokens.predefined.Goals as goal
 

@@ -1,5 +1,5 @@
 use Rattle.std.proofs.Common.{[], ◌∷◌, length, ap, ◌∙◌, subst, arith}
-use Rattle.substitution.specs.Meaning.{hidden_of, hidden_all}
+use Rattle.macros_substitution.specs.Meaning.{hidden_of, hidden_all}
 use Rattle.pp_expand.specs.Expansion.{arguments_in}
 use Rattle.pp_expand.specs.inside.Turns.{gathered, GathersAs, GatheredIn}
 use Rattle.pp_expand.proofs.Sets.{extends_both, are_in_more, lists_in_more}

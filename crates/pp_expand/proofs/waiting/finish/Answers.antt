@@ -1,6 +1,6 @@
 use Rattle.std.proofs.Common.{[], refl}
 use Rattle.std.proofs.lemmas.Result.{err_from_is_err_and}
-use Rattle.substitution.specs.Meaning.{hidden_all, hidden_lists}
+use Rattle.macros_substitution.specs.Meaning.{hidden_all, hidden_lists}
 use Rattle.pp_expand.specs.inside.Waits.{call_of}
 use Rattle.pp_expand.proofs.Sets.{extends_both, are_in_more}
 use Rattle.pp_expand.proofs.Proceeds.{finish_ok, finish_fails}

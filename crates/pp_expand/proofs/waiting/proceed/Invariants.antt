@@ -1,5 +1,5 @@
 use Rattle.std.proofs.Common.{◌≡◌, ℕ, ◌-◌, ◌≤◌, length}
-use Rattle.substitution.specs.HideSets.{Sets}
+use Rattle.macros_substitution.specs.HideSets.{Sets}
 use Rattle.pp_expand.specs.Expansion.{Known}
 use Rattle.pp_expand.specs.inside.Waits.{WaitingIn, waiting_going}
 use Rattle.pp_expand.proofs.waiting.proceed.Given as goal

@@ -1,6 +1,6 @@
 use Rattle.std.specs.Prelude.{Vec}
 use Rattle.std.specs.declared.alloc.Global.{Global}
-use Rattle.substitution.specs.declared.piece.HiddenToken.{HiddenToken}
+use Rattle.macros_substitution.specs.declared.piece.HiddenToken.{HiddenToken}
 use Rattle.std.proofs.Common.{ap, ◌∙◌}
 use Rattle.pp_expand.proofs.Proceeds.{kept_argument, let_argument}
 use Rattle.pp_expand.proofs.waiting.take_argument.Goals as goal

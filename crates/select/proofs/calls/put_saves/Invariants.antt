@@ -1,5 +1,5 @@
 use Rattle.std.proofs.Common.{◌≡◌, ◌++◌}
-use Rattle.frames.specs.Code.{function_of}
+use Rattle.frames_code.specs.Code.{function_of}
 use Rattle.select.specs.Selected.{saves}
 use Rattle.select.proofs.calls.put_saves.Given as goal
 

@@ -1,5 +1,5 @@
 use Rattle.std.proofs.Common.{◌++◌, ◌∙◌, ap, map, length}
-use Rattle.frames.specs.Code.{function_of}
+use Rattle.frames_code.specs.Code.{function_of}
 use Rattle.select.specs.Program.{start_items, functions_items}
 use Rattle.select.proofs.Programs.{each_fits, can_be_assembled}
 use Rattle.select.proofs.program.program_code.Goals as goal

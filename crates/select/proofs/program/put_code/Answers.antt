@@ -1,7 +1,7 @@
 use Rattle.std.proofs.Common.{◌∙◌, sym, ap, subst}
 use Rattle.std.specs.Prelude.{slice_get}
-use Rattle.frames.specs.Code.{function_of}
-use Rattle.frames.specs.Sound.{InstructionFits}
+use Rattle.frames_code.specs.Code.{function_of}
+use Rattle.frames_code.specs.Sound.{InstructionFits}
 use Rattle.select.proofs.Lists.{got_or}
 use Rattle.select.proofs.Shortened.{shortened_fits}
 use Rattle.select.proofs.program.put_code.Goals as goal

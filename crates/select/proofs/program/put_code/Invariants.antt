@@ -1,5 +1,5 @@
 use Rattle.std.proofs.Common.{◌≡◌, ◌+◌, ◌++◌, ℕ, drop}
-use Rattle.frames.specs.Code.{function_of}
+use Rattle.frames_code.specs.Code.{function_of}
 use Rattle.select.specs.Program.{code_items}
 use Rattle.select.proofs.program.put_code.Given as goal
 

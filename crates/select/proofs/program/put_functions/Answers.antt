@@ -1,5 +1,5 @@
 use Rattle.std.proofs.Common.{length}
-use Rattle.frames.specs.Code.{function_of}
+use Rattle.frames_code.specs.Code.{function_of}
 use Rattle.select.proofs.Lists.{got_in_map}
 use Rattle.select.proofs.program.put_functions.Goals as goal
 

@@ -1,6 +1,6 @@
 use Rattle.std.proofs.Common.{◌≡◌, ◌+◌, ◌++◌, ℕ, drop, length, map}
-use Rattle.frames.specs.Code.{function_of}
-use Rattle.frames.specs.Sound.{places_of}
+use Rattle.frames_code.specs.Code.{function_of}
+use Rattle.frames_code.specs.Sound.{places_of}
 use Rattle.select.specs.Program.{functions_items}
 use Rattle.select.proofs.program.put_functions.Given as goal
 

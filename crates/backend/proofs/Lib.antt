@@ -1,4 +1,0 @@
-pub mod Images
-pub mod Lowering
-pub mod Renumbering
-pub mod Generates

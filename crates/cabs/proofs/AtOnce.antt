@@ -1,0 +1,133 @@
+-- Parts that are done as a whole.
+use Rattle.std.proofs.Common.{◌≡◌, ◌≤◌, ◌<◌, inl, ℕ, ◌+◌, ◌-◌, List, ◌++◌, Option, Some, None, refl, sym, ap, ◌∙◌, subst, arith, Bor}
+use Rattle.std.specs.Prelude.{Result, Ok, Err, Bool, true}
+use Rattle.std.specs.Bool.{OnTrue}
+use Rattle.typing_rules.specs.Program as typed
+use Rattle.typing_program.specs.declared.units.Program as unit
+use Rattle.typing_program.specs.View.{program_of}
+use Rattle.meaning.specs.Machine as machine
+use Rattle.meaning.specs.Machine.{State, Ending, Goes, Stops, then_do}
+use Rattle.cabs_store.specs.declared.scene.Scene.{Scene}
+use Rattle.cabs_store.specs.declared.frames.Found.{Found}
+use Rattle.cabs_store.specs.declared.frames.Step.{Step}
+use Rattle.cabs_store.specs.inside.Frames as on
+use Rattle.cabs_store.specs.inside.Frames.{enters, leaves}
+use Rattle.cabs_store.specs.inside.Presents.{resume, presented, call_in}
+use Rattle.cabs_store.specs.inside.Views.{found_of}
+use Rattle.cabs_store.specs.inside.Agrees.{frames_of}
+use Rattle.cabs_transitions.specs.declared.tally.Tally.{Tally}
+use Rattle.sim.specs.declared.port.PortFault.{PortFault}
+use Rattle.sim.specs.Port.{PortView}
+use Rattle.cabs_evaluator.specs.declared.clock.Clock.{Clock}
+use Rattle.cabs_evaluator.specs.declared.clock.Why.{Why}
+use Rattle.cabs_evaluator.specs.declared.clock.Why.TheVariants as why
+use Rattle.cabs_evaluator.specs.inside.Comes as part
+use Rattle.cabs_evaluator.specs.inside.Comes.{Course, state_at, Leads, Comes, DoesIn}
+use Rattle.cabs.specs.declared.state.Interpreter.{Interpreter}
+use Rattle.cabs.specs.declared.outcome.Run.{Run}
+use Rattle.cabs.specs.declared.outcome.Run.TheVariants as run
+use Rattle.cabs.specs.inside.Standing.{Whole, left_of, waiting, Stands, Runs, EndsAs, RunStops, IsCalm, CountsUntil, BlamesUntil, stopped_for}
+use Rattle.cabs.proofs.Following.{resume_stops}
+use Rattle.cabs.proofs.Telling.{output_as, none_waits, tells_as}
+use Rattle.cabs.proofs.Ticking.{bytes_now}
+
+-- what the frames do with what is found
+abbrev pub goes_to : typed.Program → List on.Frame → on.Found → State → machine.Run on.Found
+goes_to p fs x s = resume p (call_in p) fs (Goes x s)
+
+then_resumed : (p : typed.Program) (fs : List on.Frame) (r : machine.Run on.Found) → then_do r (goes_to p fs) ≡ resume p (call_in p) fs r
+then_resumed p fs (Goes x s) = refl
+then_resumed p fs (Stops e s) = sym (resume_stops p (call_in p) fs e s)
+
+module _ (p : typed.Program) (all : Whole) (o : Option (List ℕ)) (limit k : ℕ) (now : List ℕ) (mid : Interpreter) (x : on.Node) (port : PortView)
+    (s : Stands p (λ n. all (n + k)) o now mid (enters x) port) (none : mid.kept ≡ None) where
+  abbrev pub course : Course
+  course = record { whole = all; input = s.input; history = s.history }
+
+  pub leads_here : Leads course k mid.machine.scene (λ s. presented p (call_in p) x s) (goes_to p (frames_of mid.machine))
+  unfolding left_of
+  leads_here = record { is_left = λ n. then_resumed p (frames_of mid.machine) (presented p (call_in p) x (state_at course mid.machine.scene n)) ∙ s.follows n }
+
+  pub came_here : (r : Option Found) (new : Clock) (later : Scene) →
+      DoesIn found_of limit (program_of mid.machine.program.now) (λ p s. presented p (call_in p) x s) (record { spent = k; why = why.Memory }) mid.machine.scene r new later →
+      Comes found_of course (goes_to p (frames_of mid.machine)) limit r new later
+  came_here r new later does =
+      let P : typed.Program → Type 0 = λ q. DoesIn found_of limit q (λ p s. presented p (call_in p) x s) (record { spent = k; why = why.Memory }) mid.machine.scene r new later in
+      let here : P p = subst P s.program_is does in
+      here course (goes_to p (frames_of mid.machine)) leads_here
+
+  pub came_as : (r t : Option Found) (new : Clock) (later : Scene) → r ≡ t →
+      DoesIn found_of limit (program_of mid.machine.program.now) (λ p s. presented p (call_in p) x s) (record { spent = k; why = why.Memory }) mid.machine.scene r new later →
+      Comes found_of course (goes_to p (frames_of mid.machine)) limit t new later
+  came_as r t new later e does =
+      let P : Option Found → Type 0 = λ r. Comes found_of course (goes_to p (frames_of mid.machine)) limit r new later in
+      subst P e (came_here r new later does)
+
+  -- the run goes on
+  pub once_goes : (new : Interpreter) (clock : Clock) (y : Found) → frames_of new.machine ≡ frames_of mid.machine → new.machine.program ≡ mid.machine.program → new.tally ≡ mid.tally → new.kept ≡ mid.kept →
+      k < clock.spent → Comes found_of course (goes_to p (frames_of mid.machine)) limit (Some y) clock new.machine.scene → Runs p all o clock.spent new (leaves (found_of y)) port
+  unfolding left_of
+  once_goes new clock y frames program t kept more came = record {
+    sent = now;
+    clock = k;
+    clock_is = omega (arith, more);
+    sent_is = bytes_now p all o k now mid x port s none;
+    stands = record {
+      input = s.input;
+      history = s.history;
+      program_is = ap (λ (b : Bor unit.Program). program_of b.now) program ∙ s.program_is;
+      follows = λ n. ap (λ fs. goes_to p fs (found_of y) (state_at course new.machine.scene n)) frames ∙ came n;
+      input_is = s.input_is;
+      output_is = s.output_is;
+      bytes_are = s.bytes_are ∙ ap (λ k. now ++ waiting k) (sym kept);
+      tells = tells_as p s.history s.history mid.tally new.tally refl t s.tells;
+    };
+  }
+
+  ends_so : (tally : Tally) (e : Ending) (scene : Scene) (n : ℕ) → tally ≡ mid.tally → all limit ≡ Stops e (state_at course scene n) → EndsAs p (all limit) o e tally port
+  ends_so tally e scene n t is = record {
+    input = s.input;
+    history = s.history;
+    stops = record { state = state_at course scene n; is = is; input_is = refl; history_is = refl };
+    input_is = s.input_is;
+    output_is = output_as o port.output _ _ (none_waits s.history now mid.kept none s.bytes_are) s.output_is;
+    tells = tells_as p s.history s.history mid.tally tally refl t s.tells;
+  }
+
+  -- or it is given up
+  pub once_given_up : (tally : Tally) → k < limit → RunStops p all o limit run.Memory tally port
+  once_given_up tally room = (k, (omega (arith, room), output_as o port.output _ _ (bytes_now p all o k now mid x port s none) s.output_is))
+
+  -- or it stops
+  pub once_stops : (tally : Tally) (scene : Scene) (spent : ℕ) (w : Why) → tally ≡ mid.tally → k < limit → spent ≤ limit → part.StopsBy course limit w spent scene → RunStops p all o limit (stopped_for w) tally port
+  once_stops tally scene spent why.Ticks t room le h = inl (ends_so tally machine.TicksUsed scene 0 t (ap all (sym h.0) ∙ h.1))
+  once_stops tally scene spent (why.Undefined act at) t room le h =
+      let same : (limit - spent) + spent ≡ limit = omega (arith, le) in
+      ends_so tally (machine.Undefined act at) scene (limit - spent) t (ap all (sym same) ∙ h (limit - spent))
+  once_stops tally scene spent why.Memory t room le h = once_given_up tally room
+
+-- ---- no port was asked
+
+pub calm_stop : (w : Why) → IsCalm (Err (stopped_for w))
+calm_stop why.Ticks = tt
+calm_stop (why.Undefined act at) = tt
+calm_stop why.Memory = tt
+
+pub calm_counts : (r : Result Step Run) (old new : ℕ) → new ≡ old → IsCalm r → CountsUntil r old new
+calm_counts (Ok x) old new e c = e
+calm_counts (Err (run.Ended status)) old new e c = e
+calm_counts (Err (run.Undefined act at)) old new e c = e
+calm_counts (Err run.TicksUsed) old new e c = e
+calm_counts (Err (run.Port fault)) old new e c = absurd c
+calm_counts (Err run.Memory) old new e c = e
+
+pub calm_blames : (P : PortFault → Type 0) (r : Result Step Run) → IsCalm r → BlamesUntil P r
+calm_blames P (Ok x) c = tt
+calm_blames P (Err (run.Ended status)) c = tt
+calm_blames P (Err (run.Undefined act at)) c = tt
+calm_blames P (Err run.TicksUsed) c = tt
+calm_blames P (Err (run.Port fault)) c = absurd c
+calm_blames P (Err run.Memory) c = tt
+
+pub on_true : (P : Type 0) (b : Bool) → b ≡ true → OnTrue b P → P
+on_true P b e h = let Q : Bool → Type 0 = λ b. OnTrue b P in subst Q e h

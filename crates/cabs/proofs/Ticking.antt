@@ -1,0 +1,397 @@
+-- Ticks, and the whole run.
+use Rattle.std.proofs.Common.{◌≡◌, ◌≤◌, ◌<◌, inl, inr, ℕ, suc, ◌+◌, ◌-◌, ℤ, List, [], ◌++◌, Option, Some, None, refl, sym, ap, ◌∙◌, subst, arith, Bor}
+use Rattle.std.specs.Prelude.{Result, Ok, Err, false, slice_get}
+use Rattle.std.specs.Io.KnownBytes.{Keeps, Appends}
+use Rattle.typing_rules.specs.Program as typed
+use Rattle.typing_program.specs.declared.units.Program as unit
+use Rattle.typing_program.specs.View.{program_of}
+use Rattle.meaning.specs.History.{Entry, weight_in, greatest_sum}
+use Rattle.meaning.specs.Machine as machine
+use Rattle.meaning.specs.Machine.{State, Ending, Goes, Stops, then_do}
+use Rattle.meaning.specs.Statements.{Returned}
+use Rattle.meaning.specs.Store.{first_store}
+use Rattle.meaning.specs.Meaning.{start, end_with, calling, call_defined, cstep, last_of, ending_of, answer}
+use Rattle.cabs_store.specs.declared.stop.Stop.{Stop}
+use Rattle.cabs_store.specs.declared.stop.Stop.TheVariants as stop
+use Rattle.cabs_store.specs.declared.machine.Machine.{Machine}
+use Rattle.cabs_store.specs.declared.scene.Scene.{Scene}
+use Rattle.cabs_store.specs.declared.frames.Node.{Node}
+use Rattle.cabs_store.specs.declared.frames.Step.{Step}
+use Rattle.cabs_store.specs.declared.frames.Step.TheVariants as step
+use Rattle.cabs_store.specs.inside.Frames as on
+use Rattle.cabs_store.specs.inside.Frames.{moves, halts, enters, to_end, a_flow}
+use Rattle.cabs_store.specs.inside.Presents.{given, resumed, call_in}
+use Rattle.cabs_store.specs.inside.Steps.{entered, entered_call}
+use Rattle.cabs_store.specs.inside.Views.{step_of, node_of}
+use Rattle.cabs_store.specs.inside.Agrees.{Outside, state_in, onto, Agrees, Takes, frames_of}
+use Rattle.cabs_store.proofs.Resumes.{run_begins}
+use Rattle.cabs_store.proofs.Adequate.{real}
+use Rattle.cabs_transitions.specs.declared.tally.Tally.{Tally}
+use Rattle.cabs_transitions.specs.Tallied.{Tells}
+use Rattle.cabs_transitions.specs.Acts.{Acts, outside_behind}
+use Rattle.sim.specs.Port.{PortView}
+use Rattle.cabs.specs.declared.state.Interpreter.{Interpreter}
+use Rattle.cabs.specs.declared.outcome.Run.{Run}
+use Rattle.cabs.specs.declared.outcome.Run.TheVariants as run
+use Rattle.cabs.specs.Interpreting.{IsAnswer, IsGivenUp, RunMeets}
+use Rattle.cabs.specs.inside.Standing.{Whole, left_of, waiting, bytes_of, entered_where, history_called, Stands, StopsAs, Stopping, StoppingBy, Stopped, StoppedBy, SettleMeets, Runs, StopsBy, EndsAs, RunStops, Fresh, NearsFrom, distance}
+use Rattle.cabs.proofs.Calm.{calm_outside, entered_calm}
+use Rattle.cabs.proofs.Following.{outside, goes_on, stops_so, node_follows, node_stops, node_waits}
+use Rattle.cabs.proofs.Telling.{input_kept, output_grown, output_as, append_none, none_waits, nothing_sent, tells_as}
+
+-- ---- a node is reached
+
+pub node_reached : (p : typed.Program) (whole : Whole) (o : Option (List ℕ)) (sent : List ℕ) (old new : Interpreter) (x : on.Step) (port port2 : PortView) → Stands p whole o sent old x port →
+    Keeps port.input port2.input → Appends port.output port2.output (waiting old.kept) → new.machine ≡ old.machine → new.tally ≡ old.tally → new.kept ≡ None →
+    (now : List ℕ) × (Stands p whole o now new x port2 × (new.kept ≡ None))
+node_reached p whole o sent old new x port port2 s i a m t k = (
+  sent ++ waiting old.kept,
+  (
+    record {
+      input = s.input;
+      history = s.history;
+      program_is = ap (λ (m : Machine). program_of m.program.now) m ∙ s.program_is;
+      follows = λ n. ap (λ (m : Machine). left_of p (frames_of m) m.scene x s.input s.history n) m ∙ s.follows n;
+      input_is = input_kept port.input port2.input s.input i s.input_is;
+      output_is = output_grown o port.output port2.output sent (waiting old.kept) a s.output_is;
+      bytes_are = s.bytes_are ∙ append_none (sent ++ waiting old.kept) ∙ ap (λ k. (sent ++ waiting old.kept) ++ waiting k) (sym k);
+      tells = tells_as p s.history s.history old.tally new.tally refl t s.tells;
+    },
+    k,
+  ),
+)
+
+pub stands_as : (p : typed.Program) (whole : Whole) (o : Option (List ℕ)) (sent : List ℕ) (m : Interpreter) (x y : on.Step) (port : PortView) → x ≡ y → Stands p whole o sent m x port → Stands p whole o sent m y port
+stands_as p whole o sent m x y port e s = let P : on.Step → Type 0 = λ x. Stands p whole o sent m x port in subst P e s
+
+module _ (p : typed.Program) (all : Whole) (o : Option (List ℕ)) where
+  -- ---- how a run stops that has so many ticks
+
+  pub stops_by : (k clock : ℕ) (sent : List ℕ) (r : Run) (tally : Tally) (port : PortView) → clock ≤ k → sent ≡ bytes_of (last_of (all clock)).history →
+      StoppedBy p (λ n. all (n + k)) o sent r tally port → StopsBy p all o k r tally port
+  stops_by k clock sent (run.Ended status) tally port le e s = s
+  stops_by k clock sent (run.Undefined act at) tally port le e s = s
+  stops_by k clock sent run.TicksUsed tally port le e s = s
+  stops_by k clock sent (run.Port fault) tally port le e s = (clock, (le, output_as o port.output _ _ e s))
+  stops_by k clock sent run.Memory tally port le e s = (clock, (le, output_as o port.output _ _ e s))
+
+  next_clock : (n k : ℕ) → suc n + k ≡ n + (k + 1)
+  next_clock n k = omega arith
+
+  stopped_later : (k : ℕ) (e : Ending) (tally : Tally) (port : PortView) → Stopped p (λ n. all (n + k)) o e tally port → Stopped p (λ n. all (n + (k + 1))) o e tally port
+  stopped_later k e tally port s = record {
+    input = s.input;
+    history = s.history;
+    stops = λ n.
+        let P : ℕ → Type 0 = λ k. StopsAs (all k) e s.input s.history in
+        subst P (next_clock n k) (s.stops (suc n));
+    input_is = s.input_is;
+    output_is = s.output_is;
+    tells = s.tells;
+  }
+
+  pub stops_later : (k : ℕ) (r : Run) (tally : Tally) (port : PortView) → StopsBy p all o k r tally port → StopsBy p all o (k + 1) r tally port
+  stops_later k (run.Ended status) tally port s = stopped_later k (machine.Ended status) tally port s
+  stops_later k (run.Undefined act at) tally port s = stopped_later k (machine.Undefined act at) tally port s
+  stops_later k run.TicksUsed tally port s = λ n.
+      let P : ℕ → Type 0 = λ k. (x : on.Found) × ((s : State) × (all k ≡ Goes x s)) in
+      subst P (next_clock n k) (s (suc n))
+  stops_later k (run.Port fault) tally port s = (s.0, (omega (arith, s.1.0), s.1.1))
+  stops_later k run.Memory tally port s = (s.0, (omega (arith, s.1.0), s.1.1))
+
+  ends_at : (k ticks : ℕ) (e : Ending) (tally : Tally) (port : PortView) → k ≤ ticks → Stopped p (λ n. all (n + k)) o e tally port → EndsAs p (all ticks) o e tally port
+  ends_at k ticks e tally port le s =
+      let same : (ticks - k) + k ≡ ticks = omega arith in
+      let P : ℕ → Type 0 = λ k. StopsAs (all k) e s.input s.history in
+      record {
+        input = s.input;
+        history = s.history;
+        stops = subst P same (s.stops (ticks - k));
+        input_is = s.input_is;
+        output_is = s.output_is;
+        tells = s.tells;
+      }
+
+  pub run_stops : (k ticks : ℕ) (r : Run) (tally : Tally) (port : PortView) → k ≤ ticks → StopsBy p all o k r tally port → RunStops p all o ticks r tally port
+  run_stops k ticks (run.Ended status) tally port le s = ends_at k ticks (machine.Ended status) tally port le s
+  run_stops k ticks (run.Undefined act at) tally port le s = ends_at k ticks (machine.Undefined act at) tally port le s
+  run_stops k ticks run.TicksUsed tally port le s =
+      let same : (ticks - k) + k ≡ ticks = omega arith in
+      let P : ℕ → Type 0 = λ k. (x : on.Found) × ((s : State) × (all k ≡ Goes x s)) in
+      inr (subst P same (s (ticks - k)))
+  run_stops k ticks (run.Port fault) tally port le s = (s.0, (omega (arith, s.1.0), s.1.1))
+  run_stops k ticks run.Memory tally port le s = (s.0, (omega (arith, s.1.0), s.1.1))
+
+  -- ---- a tick
+
+  module _ (k : ℕ) (now : List ℕ) (mid : Interpreter) (x : on.Node) (port : PortView) (s : Stands p (λ n. all (n + k)) o now mid (enters x) port) (none : mid.kept ≡ None) where
+    -- without a tick more the run stops before the node
+    waits_here : StopsAs (all (0 + k)) machine.TicksUsed s.input s.history
+    waits_here = node_waits p (frames_of mid.machine) (frames_of mid.machine) x mid.machine.scene mid.machine.scene s.input s.history (λ n. all (n + k)) s.follows
+
+    pub bytes_now : now ≡ bytes_of (last_of (all k)).history
+    bytes_now =
+        let w = waits_here in
+        let same : 0 + k ≡ k = omega arith in
+        none_waits s.history now mid.kept none s.bytes_are ∙ ap bytes_of (sym w.history_is) ∙ sym (ap (λ r. bytes_of (last_of r).history) w.is)
+        ∙ ap (λ k. bytes_of (last_of (all k)).history) same
+
+    takes_now : (r : Result Step Stop) (new : Machine) → Takes (λ p s. entered p x s) mid.machine r new → Takes (λ q s. entered p x s) mid.machine r new
+    takes_now r new h =
+        let P : typed.Program → Type 0 = λ q. (o : Outside) → Agrees (onto (frames_of mid.machine) (entered q x (state_in mid.machine.scene o))) r (frames_of new) (state_in new.scene o) in
+        subst P s.program_is h
+
+    pub tick_goes : (new : Interpreter) (y : Step) → new.tally ≡ mid.tally → new.kept ≡ mid.kept → new.machine.program ≡ mid.machine.program → Takes (λ p s. entered p x s) mid.machine (Ok y) new.machine →
+        Runs p all o (k + 1) new (step_of y) port
+    tick_goes new y t kept program takes = record {
+      sent = now;
+      clock = k;
+      clock_is = omega arith;
+      sent_is = bytes_now;
+      stands = record {
+        input = s.input;
+        history = s.history;
+        program_is = ap (λ (b : Bor unit.Program). program_of b.now) program ∙ s.program_is;
+        follows = λ n. node_follows p (frames_of mid.machine) (frames_of new.machine) x mid.machine.scene new.machine.scene s.input s.history (λ n. all (n + k)) s.follows (step_of y) (takes_now (Ok y) new.machine takes) n
+            ∙ ap all (next_clock n k);
+        input_is = s.input_is;
+        output_is = s.output_is;
+        bytes_are = s.bytes_are ∙ ap (λ k. now ++ waiting k) (sym kept);
+        tells = tells_as p s.history s.history mid.tally new.tally refl t s.tells;
+      };
+    }
+
+    tick_ends : (new : Interpreter) (e : Ending) → new.tally ≡ mid.tally → new.kept ≡ mid.kept → ((o : Outside) → onto (frames_of mid.machine) (entered p x (state_in mid.machine.scene o)) ≡ halts e (state_in new.machine.scene o)) →
+        Stopping p (λ n. all (n + (k + 1))) o now e new port
+    tick_ends new e t kept takes = record {
+      input = s.input;
+      history = s.history;
+      stops = λ n.
+          let P : ℕ → Type 0 = λ k. StopsAs (all k) e s.input s.history in
+          subst P (next_clock n k) (node_stops p (frames_of mid.machine) (frames_of new.machine) x mid.machine.scene new.machine.scene s.input s.history (λ n. all (n + k)) s.follows e takes n);
+      input_is = s.input_is;
+      output_is = s.output_is;
+      bytes_are = s.bytes_are ∙ ap (λ k. now ++ waiting k) (sym kept);
+      tells = tells_as p s.history s.history mid.tally new.tally refl t s.tells;
+    }
+
+    pub tick_stopping : (new : Interpreter) (e : Stop) → new.tally ≡ mid.tally → new.kept ≡ mid.kept → Takes (λ p s. entered p x s) mid.machine (Err e) new.machine →
+        StoppingBy p (λ n. all (n + (k + 1))) o now e new port
+    tick_stopping new (stop.Ended n) t kept takes = tick_ends new (machine.Ended n) t kept (takes_now (Err (stop.Ended n)) new.machine takes)
+    tick_stopping new (stop.Undefined act at) t kept takes = tick_ends new (machine.Undefined act at) t kept (takes_now (Err (stop.Undefined act at)) new.machine takes)
+    tick_stopping new stop.Memory t kept takes = s.output_is
+
+    pub tick_stops : (r : Run) (tally : Tally) (port2 : PortView) → StoppedBy p (λ n. all (n + (k + 1))) o now r tally port2 → StopsBy p all o (k + 1) r tally port2
+    tick_stops r tally port2 h = stops_by (k + 1) k now r tally port2 (omega arith) bytes_now h
+
+    pub ticks_used : RunStops p all o k run.TicksUsed mid.tally port
+    ticks_used =
+        let same : 0 + k ≡ k = omega arith in
+        let P : ℕ → Type 0 = λ k. StopsAs (all k) machine.TicksUsed s.input s.history in
+        inl (record {
+          input = s.input;
+          history = s.history;
+          stops = subst P same waits_here;
+          input_is = s.input_is;
+          output_is = output_as o port.output _ _ (none_waits s.history now mid.kept none s.bytes_are) s.output_is;
+          tells = s.tells;
+        })
+
+-- ---- the definition's run
+
+given_stops : {A : Type 0} (f : A → on.Found) (r : machine.Run A) (e : Ending) (s : State) → given f r ≡ Stops e s → r ≡ Stops e s
+given_stops f (Goes a t) e s h = absurd (cc h)
+given_stops f (Stops d t) e s h =
+    let a : d ≡ e = cc h in
+    let b : t ≡ s = cc h in
+    ap (λ e. Stops e t) a ∙ ap (Stops e) b
+
+given_last : {A : Type 0} (f : A → on.Found) (r : machine.Run A) → last_of (given f r) ≡ last_of r
+given_last f (Goes a s) = refl
+given_last f (Stops e s) = refl
+
+never_goes : (f : Option ℤ → on.Found) (r : machine.Run (Option ℤ)) (x : on.Found) (s : State) → given f (then_do r end_with) ≡ Goes x s → ⊥
+never_goes f (Goes v t) x s h = cc h
+never_goes f (Stops e t) x s h = cc h
+
+abbrev pub as_found : Option ℤ → on.Found
+as_found v = a_flow (Returned v)
+
+-- the run of a program, as a function of its clock
+unfoldable pub run_of : typed.Program → List ℕ → Whole
+run_of p input n = given as_found (cstep n p input)
+
+first_bytes : (p : typed.Program) (g : Option typed.Function) (input : List ℕ) → bytes_of (last_of (then_do (call_defined p (calling p 0) g p.main [] (start 0 p input)) end_with)).history ≡ []
+first_bytes p None input = refl
+first_bytes p (Some g) input = refl
+
+pub nothing_put : (p : typed.Program) (input : List ℕ) → [] ≡ (answer 0 p input).output
+nothing_put p input = sym (first_bytes p (slice_get p.functions p.main) input)
+
+bytes_are_output : (p : typed.Program) (input : List ℕ) (n : ℕ) → bytes_of (last_of (run_of p input n)).history ≡ (answer n p input).output
+unfolding run_of
+bytes_are_output p input n = ap (λ (s : State). bytes_of s.history) (given_last as_found (cstep n p input))
+
+-- ---- what a run came to is what the definition answers
+
+module _ (p : typed.Program) (input : List ℕ) (ticks : ℕ) (tally : Tally) (old new : PortView) where
+  is_answer : (e : Ending) → EndsAs p (run_of p input ticks) old.output e tally new → IsAnswer (answer ticks p input) e tally.greatest old new
+  unfolding run_of
+  is_answer e h =
+      let is : cstep ticks p input ≡ Stops e h.stops.state = given_stops as_found (cstep ticks p input) e h.stops.state h.stops.is in
+      record {
+        ending_is = ap ending_of is;
+        input_is = h.input_is ∙ ap Some (sym h.stops.input_is ∙ sym (ap (λ r. (last_of r).input) is));
+        output_is = output_as old.output new.output _ _ (ap bytes_of (sym h.stops.history_is) ∙ sym (ap (λ r. bytes_of (last_of r).history) is)) h.output_is;
+        greatest_is = h.tells.2 ∙ ap (greatest_sum (weight_in p)) (sym h.stops.history_is) ∙ sym (ap (λ r. greatest_sum (weight_in p) (last_of r).history) is);
+      }
+
+  is_given_up : (clock : ℕ) → clock ≤ ticks → Appends old.output new.output (bytes_of (last_of (run_of p input clock)).history) → IsGivenUp p input ticks old new
+  is_given_up clock le h = (clock, (le, output_as old.output new.output _ _ (bytes_are_output p input clock) h))
+
+  never_rests : (x : on.Found) (s : State) → run_of p input ticks ≡ Goes x s → ⊥
+  unfolding run_of
+  never_rests x s h = never_goes as_found (calling p (suc ticks) p.main [] (start ticks p input)) x s h
+
+  pub answered : (r : Run) → RunStops p (run_of p input) old.output ticks r tally new → RunMeets p input ticks r tally.greatest old new
+  answered (run.Ended status) h = is_answer (machine.Ended status) h
+  answered (run.Undefined act at) h = is_answer (machine.Undefined act at) h
+  answered run.TicksUsed (inl h) = is_answer machine.TicksUsed h
+  answered run.TicksUsed (inr h) = absurd (never_rests h.0 h.1.0 h.1.1)
+  answered (run.Port fault) h = is_given_up h.0 h.1.0 h.1.1
+  answered run.Memory h = is_given_up h.0 h.1.0 h.1.1
+
+-- ---- main is called
+
+abbrev pub called_main : typed.Program → ℕ → Scene → Outside → on.Moved
+called_main p f scene o = entered_call p to_end (slice_get p.functions f) f [] (state_in scene o)
+
+abbrev pub main_at : typed.Program → Scene → Outside → on.Moved
+main_at p scene o = called_main p p.main scene o
+
+module _ (p : typed.Program) (input : List ℕ) (gs : List on.Frame) (old new : Scene)
+    (fresh : (n : ℕ) → state_in old (outside n input []) ≡ start n p input) where
+  abbrev pub first_history : List Entry
+  first_history = entered_where (slice_get p.functions p.main) p.main []
+
+  main_out : (n : ℕ) → outside_behind (main_at p old (outside n input [])) ≡ outside n input first_history
+  main_out n = calm_outside false _ _ (entered_calm p to_end (slice_get p.functions p.main) p.main [] (state_in old (outside n input [])))
+
+  main_is : (n : ℕ) → resumed p (call_in p) (main_at p old (outside n input [])) ≡ run_of p input (n + 0)
+  unfolding run_of
+  main_is n =
+      let same : n ≡ n + 0 = omega arith in
+      ap (λ s. resumed p (call_in p) (entered_call p to_end (slice_get p.functions p.main) p.main [] s)) (fresh n) ∙ sym (run_begins p (real p) n input) ∙ ap (λ n. given as_found (cstep n p input)) same
+
+  main_follows : (y : on.Step) → ((o : Outside) → onto [] (main_at p old o) ≡ moves gs y (state_in new (outside_behind (main_at p old o)))) →
+      (n : ℕ) → left_of p gs new y input first_history n ≡ run_of p input (n + 0)
+  unfolding left_of
+  main_follows y step n = goes_on p [] gs new (main_at p old (outside n input [])) y (outside n input first_history) (step (outside n input [])) (main_out n) ∙ main_is n
+
+  main_stops : (e : Ending) → ((o : Outside) → onto [] (main_at p old o) ≡ halts e (state_in new (outside_behind (main_at p old o)))) → (n : ℕ) → StopsAs (run_of p input (n + 0)) e input first_history
+  main_stops e step n = stops_so p [] gs new (main_at p old (outside n input [])) e (run_of p input (n + 0)) n input first_history (step (outside n input [])) (main_out n) (main_is n)
+
+bytes_entered : (g : Option typed.Function) (f : ℕ) → bytes_of (entered_where g f []) ≡ []
+bytes_entered None f = refl
+bytes_entered (Some g) f = refl
+
+pub given_up_first : (p : typed.Program) (input : List ℕ) (ticks : ℕ) (port : PortView) → IsGivenUp p input ticks port port
+given_up_first p input ticks port = (0, (omega arith, output_as port.output port.output _ _ (nothing_put p input) (nothing_sent port.output)))
+
+module _ (p : typed.Program) (input : List ℕ) (old new : Interpreter) (mid : Machine) (f : ℕ) (port : PortView) (fresh : Fresh old) (same : mid ≡ old.machine)
+    (prog : program_of mid.program.now ≡ p) (is_main : f ≡ p.main) (told : port.input ≡ Some input) (tells : (h : List Entry) → Tells p h old.tally → Tells p (history_called p (typed.function p.main) h) new.tally) (kept : new.kept ≡ old.kept) where
+  none : frames_of mid ≡ []
+  none = ap frames_of same ∙ fresh.frames_are
+
+  starts : (n : ℕ) → state_in mid.scene (outside n input []) ≡ start n p input
+  starts n =
+      let o = outside n input [] in
+      ap (λ (m : Machine). state_in m.scene o) same ∙ fresh.state_is o
+      ∙ ap (λ (p : typed.Program). start n p input) (sym (ap (λ (m : Machine). program_of m.program.now) same) ∙ prog)
+
+  no_byte : bytes_of (first_history p input (frames_of new.machine) mid.scene new.machine.scene starts) ≡ [] ++ waiting new.kept
+  no_byte = bytes_entered (slice_get p.functions p.main) p.main ∙ ap waiting (sym (kept ∙ fresh.none_kept))
+
+  pub main_runs : (y : Step) → ((o : Outside) → onto (frames_of mid) (called_main (program_of mid.program.now) f mid.scene o) ≡ moves (frames_of new.machine) (step_of y) (state_in new.machine.scene (outside_behind (called_main (program_of mid.program.now) f mid.scene o)))) →
+      new.machine.program ≡ mid.program → Runs p (run_of p input) port.output 0 new (step_of y) port
+  main_runs y acts program =
+      let P : typed.Program → ℕ → List on.Frame → Type 0 = λ p f fs. (o : Outside) → onto fs (called_main p f mid.scene o) ≡ moves (frames_of new.machine) (step_of y) (state_in new.machine.scene (outside_behind (called_main p f mid.scene o))) in
+      let begun : P p p.main [] = subst (λ (fs : List on.Frame). P p p.main fs) none (subst (λ (f : ℕ). P p f (frames_of mid)) is_main (subst (λ (p : typed.Program). P p f (frames_of mid)) prog acts)) in
+      record {
+        sent = [];
+        clock = 0;
+        clock_is = omega arith;
+        sent_is = nothing_put p input ∙ sym (bytes_are_output p input 0);
+        stands = record {
+          input = input;
+          history = first_history p input (frames_of new.machine) mid.scene new.machine.scene starts;
+          program_is = ap (λ (b : Bor unit.Program). program_of b.now) program ∙ prog;
+          follows = main_follows p input (frames_of new.machine) mid.scene new.machine.scene starts (step_of y) begun;
+          input_is = told;
+          output_is = nothing_sent port.output;
+          bytes_are = no_byte;
+          tells = tells [] (fresh.none_told p);
+        };
+      }
+
+  main_ends : (e : Ending) → ((o : Outside) → onto (frames_of mid) (called_main (program_of mid.program.now) f mid.scene o) ≡ halts e (state_in new.machine.scene (outside_behind (called_main (program_of mid.program.now) f mid.scene o)))) →
+      Stopping p (λ n. run_of p input (n + 0)) port.output [] e new port
+  main_ends e acts =
+      let P : typed.Program → ℕ → List on.Frame → Type 0 = λ p f fs. (o : Outside) → onto fs (called_main p f mid.scene o) ≡ halts e (state_in new.machine.scene (outside_behind (called_main p f mid.scene o))) in
+      let begun : P p p.main [] = subst (λ (fs : List on.Frame). P p p.main fs) none (subst (λ (f : ℕ). P p f (frames_of mid)) is_main (subst (λ (p : typed.Program). P p f (frames_of mid)) prog acts)) in
+      record {
+        input = input;
+        history = first_history p input (frames_of new.machine) mid.scene new.machine.scene starts;
+        stops = main_stops p input (frames_of new.machine) mid.scene new.machine.scene starts e begun;
+        input_is = told;
+        output_is = nothing_sent port.output;
+        bytes_are = no_byte;
+        tells = tells [] (fresh.none_told p);
+      }
+
+  pub main_stopping : (e : Stop) → Acts (λ p s. entered_call p to_end (slice_get p.functions f) f [] s) mid (Err e) new.machine →
+      StoppingBy p (λ n. run_of p input (n + 0)) port.output [] e new port
+  main_stopping (stop.Ended n) acts = main_ends (machine.Ended n) acts
+  main_stopping (stop.Undefined act at) acts = main_ends (machine.Undefined act at) acts
+  main_stopping stop.Memory acts = nothing_sent port.output
+
+  pub main_stopped : (ticks : ℕ) (r : Run) (tally : Tally) (now : PortView) → StoppedBy p (λ n. run_of p input (n + 0)) port.output [] r tally now → RunMeets p input ticks r tally.greatest port now
+  main_stopped ticks r tally now h =
+      answered p input ticks tally port now r (run_stops p (run_of p input) port.output 0 ticks r tally now (omega arith)
+      (stops_by p (run_of p input) port.output 0 0 [] r tally now (omega arith) (nothing_put p input ∙ sym (bytes_are_output p input 0)) h))
+
+-- ---- nearer to the next node
+
+pub falls : (fs : List on.Frame) (s y : Step) (gs : List on.Frame) → ((n : Node) → s ≡ step.Enters n → ⊥) → NearsFrom fs (step_of s) (Ok y) gs → distance gs (step_of y) < distance fs (step_of s)
+falls fs (step.Enters n) y gs h near = absurd (h n refl)
+falls fs (step.Leaves x) y gs h near = near
+falls fs (step.Calls at callee used passed) y gs h near = near
+
+-- ---- a new interpreter
+
+pub fresh_new : (m : Interpreter) (b : Bor unit.Program) → m.machine.program ≡ b → frames_of m.machine ≡ [] →
+    ((o : Outside) → state_in m.machine.scene o ≡ record { clock = o.clock; store = first_store (program_of b.now); base = 0; arrays = []; input = o.input; history = o.history }) →
+    m.kept ≡ None → ((p : typed.Program) → Tells p [] m.tally) → Fresh m
+fresh_new m b e frames state kept tells =
+    let P : Bor unit.Program → Type 0 = λ b. (o : Outside) → state_in m.machine.scene o ≡ record { clock = o.clock; store = first_store (program_of b.now); base = 0; arrays = []; input = o.input; history = o.history } in
+    record { frames_are = frames; state_is = subst P (sym e) state; none_kept = kept; none_told = tells }
+
+pub meets_new : (a b : Bor unit.Program) (input : List ℕ) (ticks : ℕ) (r : Run) (greatest : ℕ) (old new : PortView) → a ≡ b → RunMeets (program_of a.now) input ticks r greatest old new →
+    RunMeets (program_of b.now) input ticks r greatest old new
+meets_new a b input ticks r greatest old new e h = let P : Bor unit.Program → Type 0 = λ b. RunMeets (program_of b.now) input ticks r greatest old new in subst P e h
+
+-- ---- behind the last tick
+
+pub used_up : (p : typed.Program) (all : Whole) (o : Option (List ℕ)) (k ticks : ℕ) (sent : List ℕ) (m : Interpreter) (n : Node) (r : Run) (port : PortView) → k ≡ ticks → r ≡ run.TicksUsed →
+    SettleMeets p (λ n. all (n + k)) o sent (Ok n) m port → RunStops p all o ticks r m.tally port
+used_up p all o k ticks sent m n r port e f met =
+    let P : ℕ → Type 0 = λ k. RunStops p all o k run.TicksUsed m.tally port in
+    let Q : Run → Type 0 = λ r. RunStops p all o ticks r m.tally port in
+    subst Q (sym f) (subst P e (ticks_used p all o k met.0 m (node_of n) port met.1.0 met.1.1))
+
+pub settle_ends : (p : typed.Program) (all : Whole) (o : Option (List ℕ)) (k ticks : ℕ) (old new : Interpreter) (y : on.Step) (x r : Run) (port port2 : PortView) → k ≡ ticks → r ≡ x → (runs : Runs p all o k old y port) →
+    StoppedBy p (λ n. all (n + k)) o runs.sent x new.tally port2 → RunStops p all o ticks r new.tally port2
+settle_ends p all o k ticks old new y x r port port2 e f runs h =
+    let Q : Run → Type 0 = λ r. RunStops p all o ticks r new.tally port2 in
+    let le : k ≤ ticks = omega arith in
+    subst Q (sym f) (run_stops p all o k ticks x new.tally port2 le (stops_by p all o k runs.clock runs.sent x new.tally port2 runs.clock_is runs.sent_is h))

@@ -1,0 +1,58 @@
+use Rattle.std.proofs.Common.{◌≡◌, ◌<◌, ◌∙◌, ap, sym, refl, subst, map, []}
+use Rattle.typing_program.specs.View.{program_of, callee_of}
+use Rattle.typing_rules.specs.Program as typed
+use Rattle.cabs_store.specs.declared.machine.Machine.{Machine}
+use Rattle.cabs_store.specs.inside.Frames as on
+use Rattle.cabs_store.specs.inside.Views.{passed_of, step_of}
+use Rattle.cabs_store.specs.inside.Agrees.{frames_of}
+use Rattle.cabs.specs.inside.Standing.{distance}
+use Rattle.cabs.proofs.Following.{outside, call_nears}
+use Rattle.cabs.proofs.Acts.{called_as, tells_at, still_stands, call_stands, call_stopping}
+use Rattle.cabs.proofs.acting.act_call.Goals as goal
+
+pub returns-in-Ok-Step-clause-meets : goal.returns-in-Ok-Step-clause-meets
+returns-in-Ok-Step-clause-meets g c p whole o sent s =
+    let mid = c.count_call.new.self.machine in
+    let callee = callee_of c.args.callee in
+    let passed = map passed_of c.args.passed.now in
+    let a = called_as mid c.call.new.machine c.args.at callee c.args.used passed _ _ c.in-Ok-Step.field-0-is c.in-Ok-Step.ensures.acts in
+    call_stands p whole o sent c.args.interpreter.now _ mid c.args.at callee c.args.used passed _ c.in-Ok.ensures.machine
+    (tells_at p whole o sent (program_of c.args.interpreter.now.machine.program.now) callee c.args.interpreter.now.tally c.count_call.new.self.tally s.program_is c.in-Ok.ensures.tells) c.in-Ok.ensures.kept s c.in-Ok-Step.step a.0 a.1 c.in-Ok-Step.ensures.program
+
+pub returns-in-Ok-Step-clause-nears : goal.returns-in-Ok-Step-clause-nears
+returns-in-Ok-Step-clause-nears g c =
+    let mid = c.count_call.new.self.machine in
+    let new = c.call.new.machine in
+    let callee = callee_of c.args.callee in
+    let passed = map passed_of c.args.passed.now in
+    let a = called_as mid new c.args.at callee c.args.used passed _ _ c.in-Ok-Step.field-0-is c.in-Ok-Step.ensures.acts in
+    let P : Machine → Type 0 = λ m. distance (frames_of new) (step_of c.in-Ok-Step.step) < distance (frames_of m) (on.calls c.args.at callee c.args.used passed) in
+    subst P c.in-Ok.ensures.machine (call_nears (program_of mid.program.now) (frames_of mid) (frames_of new) c.args.at callee c.args.used passed (step_of c.in-Ok-Step.step) mid.scene new.scene (outside 0 [] []) a.0 (a.1 (outside 0 [] [])))
+
+pub returns-in-Ok-Gets-clause-meets : goal.returns-in-Ok-Gets-clause-meets
+returns-in-Ok-Gets-clause-meets g c p whole o sent s =
+    let mid = c.count_call.new.self.machine in
+    let callee = callee_of c.args.callee in
+    let passed = map passed_of c.args.passed.now in
+    let a = called_as mid c.call.new.machine c.args.at callee c.args.used passed _ _ c.in-Ok-Gets.field-0-is c.in-Ok-Gets.ensures.acts in
+    c.get.ensures.meets p whole o sent c.args.at c.args.used passed
+    (still_stands p whole o sent c.args.interpreter.now _ c.args.at callee typed.get_byte c.args.used passed _ a.0 (a.1 ∙ c.in-Ok.ensures.machine)
+    (tells_at p whole o sent (program_of c.args.interpreter.now.machine.program.now) callee c.args.interpreter.now.tally c.count_call.new.self.tally s.program_is c.in-Ok.ensures.tells) (λ h. refl) c.in-Ok.ensures.kept s)
+
+pub returns-in-Ok-Puts-clause-meets : goal.returns-in-Ok-Puts-clause-meets
+returns-in-Ok-Puts-clause-meets g c p whole o sent s =
+    let mid = c.count_call.new.self.machine in
+    let callee = callee_of c.args.callee in
+    let passed = map passed_of c.args.passed.now in
+    let a = called_as mid c.call.new.machine c.args.at callee c.args.used passed _ _ c.in-Ok-Puts.field-0-is c.in-Ok-Puts.ensures.acts in
+    c.put.ensures.meets p whole o sent c.args.at c.args.used passed _ a.1
+    (still_stands p whole o sent c.args.interpreter.now _ c.args.at callee typed.put_byte c.args.used passed _ a.0 (a.2 ∙ c.in-Ok.ensures.machine)
+    (tells_at p whole o sent (program_of c.args.interpreter.now.machine.program.now) callee c.args.interpreter.now.tally c.count_call.new.self.tally s.program_is c.in-Ok.ensures.tells) (λ h. refl) c.in-Ok.ensures.kept s)
+
+pub returns-in-Err-call-clause-meets : goal.returns-in-Err-call-clause-meets
+returns-in-Err-call-clause-meets g c p whole o sent s =
+    let mid = c.count_call.new.self.machine in
+    let callee = callee_of c.args.callee in
+    let passed = map passed_of c.args.passed.now in
+    c.finish.ensures.meets p whole o sent (call_stopping p whole o sent c.args.interpreter.now _ mid c.args.at callee c.args.used passed _ c.in-Ok.ensures.machine
+    (tells_at p whole o sent (program_of c.args.interpreter.now.machine.program.now) callee c.args.interpreter.now.tally c.count_call.new.self.tally s.program_is c.in-Ok.ensures.tells) c.in-Ok.ensures.kept s c.in-Err-call.stop c.in-Err-call.ensures.acts.0 c.in-Err-call.ensures.acts.1)

@@ -1,0 +1,14 @@
+use Rattle.std.proofs.Common.{◌+◌, ◌≡◌, arith}
+use Rattle.cabs.proofs.Ticking.{used_up, settle_ends}
+use Rattle.cabs.proofs.running.run_on.Goals.{in-Ok-settle, in-Err-settle}
+use Rattle.cabs.proofs.running.run_on.Goals as goal
+
+pub returns-clause-meets : goal.returns-clause-meets
+returns-clause-meets g c p all o r =
+    let runs = c.loop-spent.invariant.runs p all o r in
+    let end : c.loop-spent.spent ≡ c.args.ticks = omega (arith, c.loop-spent.invariant.allowed, c.loop-spent-test.false) in
+    elim c.match-settle.branch [
+      | in-Ok-settle w ↦ used_up p all o c.loop-spent.spent c.args.ticks runs.sent c.settle.new.interpreter _ c.match-settle.result _ end w.result-is (w.in-Ok-settle.ensures.meets p (λ n. all (n + c.loop-spent.spent)) o runs.sent runs.stands)
+      | in-Err-settle w ↦ settle_ends p all o c.loop-spent.spent c.args.ticks c.loop-spent.interpreter c.settle.new.interpreter _ _ c.match-settle.result _ _ end w.result-is runs
+          (w.in-Err-settle.ensures.meets p (λ n. all (n + c.loop-spent.spent)) o runs.sent runs.stands)
+    ]

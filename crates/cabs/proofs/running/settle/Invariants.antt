@@ -1,0 +1,16 @@
+use Rattle.std.proofs.Common.{◌≡◌, ℕ, List, Option}
+use Rattle.typing_rules.specs.Program as typed
+use Rattle.cabs_store.specs.inside.Agrees.{frames_of}
+use Rattle.cabs_store.specs.inside.Views.{step_of}
+use Rattle.cabs.specs.inside.Standing.{Stands, Whole, distance}
+use Rattle.cabs.proofs.running.settle.Given as goal
+
+abbrev pub invariant-loop-next : goal.invariant-loop-next
+invariant-loop-next g l = record {
+  quiet : (g.P.Port.seen l.port).failures ≡ (g.P.Port.seen l.initial.port).failures;
+  stands : (p : typed.Program) (whole : Whole) (o : Option (List ℕ)) (sent : List ℕ) → Stands p whole o sent l.initial.interpreter (step_of l.initial.next) (g.P.Port.seen l.initial.port) →
+      Stands p whole o sent l.interpreter (step_of l.next) (g.P.Port.seen l.port);
+}
+
+abbrev pub decreases-loop-next : goal.decreases-loop-next
+decreases-loop-next g l = distance (frames_of l.interpreter.machine) (step_of l.next)

@@ -1,5 +1,0 @@
-use Rattle.cabs.proofs.Scenes.{renews}
-use Rattle.cabs.proofs.scene.Scene.renew.Goals as goal
-
-pub returns-clause-ok : goal.returns-clause-ok
-returns-clause-ok c = λ o. renews _ _ _ _ _ _ c.put.ensures (c.in-Ok.ensures.ok o) c.in-Ok-new_object.ensures.ok

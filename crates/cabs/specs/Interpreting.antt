@@ -1,0 +1,45 @@
+-- What interpreting a program comes to, over a port that tells its input, and perhaps its output.
+use Rattle.std.specs.Prelude.{◌≡◌, ◌≤◌, ℕ, List, Some, ⊤}
+use Rattle.std.specs.Io.KnownBytes.{Appends}
+use Rattle.typing_rules.specs.Program.{Program}
+use Rattle.meaning.specs.Machine.{Ending, Ended, Undefined, TicksUsed}
+use Rattle.meaning.specs.Meaning.{Answer, answer}
+use Rattle.sim.specs.declared.port.PortFault.{PortFault}
+use Rattle.sim.specs.Port.{PortView, Rises}
+use Rattle.cabs.specs.declared.outcome.Run.{Run}
+use Rattle.cabs.specs.declared.outcome.Run.TheVariants as run
+
+-- the answer ends so; the input left, the bytes that were put, and the greatest sum are the answer's
+pub record IsAnswer (a : Answer) (e : Ending) (greatest : ℕ) (old new : PortView) : Type 0 where
+  pub ending_is : a.ending ≡ e
+  pub input_is : new.input ≡ Some a.input_left
+  pub output_is : Appends old.output new.output a.output
+  pub greatest_is : greatest ≡ a.greatest
+
+-- the bytes that were put are those of the answer of a clock no greater
+abbrev pub IsGivenUp : Program → List ℕ → ℕ → PortView → PortView → Type 0
+IsGivenUp p input ticks old new = (clock : ℕ) × ((clock ≤ ticks) × Appends old.output new.output (answer clock p input).output)
+
+-- what the run of p on this input with so many ticks came to: it is the definition's, or it was given up
+abbrev pub RunMeets : Program → List ℕ → ℕ → Run → ℕ → PortView → PortView → Type 0
+RunMeets p input ticks (run.Ended status) greatest old new = IsAnswer (answer ticks p input) (Ended status) greatest old new
+RunMeets p input ticks (run.Undefined act at) greatest old new = IsAnswer (answer ticks p input) (Undefined act at) greatest old new
+RunMeets p input ticks run.TicksUsed greatest old new = IsAnswer (answer ticks p input) TicksUsed greatest old new
+RunMeets p input ticks (run.Port fault) greatest old new = IsGivenUp p input ticks old new
+RunMeets p input ticks run.Memory greatest old new = IsGivenUp p input ticks old new
+
+-- the port's count of failures rose where its fault is answered, and nowhere else
+abbrev pub Counts : Run → ℕ → ℕ → Type 0
+Counts (run.Ended status) old new = new ≡ old
+Counts (run.Undefined act at) old new = new ≡ old
+Counts run.TicksUsed old new = new ≡ old
+Counts (run.Port fault) old new = Rises old new
+Counts run.Memory old new = new ≡ old
+
+-- what the port says of its fault holds of the fault that is answered
+abbrev pub Blames : (PortFault → Type 0) → Run → Type 0
+Blames P (run.Ended status) = ⊤
+Blames P (run.Undefined act at) = ⊤
+Blames P run.TicksUsed = ⊤
+Blames P (run.Port fault) = P fault
+Blames P run.Memory = ⊤

@@ -1,0 +1,258 @@
+-- Where a run stands between two steps, and how it stops, over a port that tells its input.
+use Rattle.std.specs.Prelude.{◌≡◌, ◌≤◌, ◌<◌, ◌⊎◌, ℕ, ◌+◌, ◌*◌, List, [], ◌∷◌, ◌++◌, length, Bool, true, false, Option, Some, None, Result, Ok, Err, ⊤, slice_get}
+use Rattle.std.specs.Io.KnownBytes.{Appends}
+use Rattle.meaning_events.specs.Events.{written}
+use Rattle.typing_rules.specs.Program as typed
+use Rattle.typing_program.specs.View.{program_of}
+use Rattle.meaning.specs.History.{Entry, Entered, Left, trace_of}
+use Rattle.meaning.specs.Machine as machine
+use Rattle.meaning.specs.Machine.{Ending, State, Stops, Goes}
+use Rattle.meaning.specs.Store.{first_store}
+use Rattle.meaning.specs.Meaning.{last_of}
+use Rattle.cabs_store.specs.declared.stop.Stop.{Stop}
+use Rattle.cabs_store.specs.declared.stop.Stop.TheVariants as stop
+use Rattle.cabs_store.specs.declared.scene.Scene.{Scene}
+use Rattle.cabs_store.specs.declared.frames.Node.{Node}
+use Rattle.cabs_store.specs.declared.frames.Step.{Step}
+use Rattle.cabs_store.specs.declared.frames.Step.TheVariants as step
+use Rattle.cabs_store.specs.inside.Frames as on
+use Rattle.cabs_store.specs.inside.Presents.{present, resume, call_in}
+use Rattle.cabs_store.specs.inside.Views.{step_of, node_of}
+use Rattle.cabs_store.specs.inside.Agrees.{Outside, state_in, frames_of}
+use Rattle.cabs_transitions.specs.declared.tally.Tally.{Tally}
+use Rattle.cabs_transitions.specs.Tallied.{Tells}
+use Rattle.sim.specs.declared.port.PortFault.{PortFault}
+use Rattle.sim.specs.Port.{PortView}
+use Rattle.cabs_evaluator.specs.declared.clock.Why.{Why}
+use Rattle.cabs_evaluator.specs.declared.clock.Why.TheVariants as why
+use Rattle.cabs.specs.declared.outcome.Run.{Run}
+use Rattle.cabs.specs.declared.outcome.Run.TheVariants as run
+use Rattle.cabs.specs.declared.state.Interpreter.{Interpreter}
+use Rattle.cabs.specs.Interpreting.{Counts, Blames}
+
+-- ---- what steps do to the history
+
+abbrev pub is_return : on.Frame → Bool
+is_return (on.returns back is_main count base arrays) = true
+is_return _ = false
+
+abbrev pub is_flow : on.Found → Bool
+is_flow (on.a_value v) = false
+is_flow (on.a_place r) = false
+is_flow (on.a_flow flow) = true
+is_flow on.initialised = false
+
+abbrev pub left_where : Bool → Bool → List Entry → List Entry
+left_where false ends h = h
+left_where true false h = h
+left_where true true h = Left ∷ h
+
+-- a call ends where its frame gets the flow that it waited for
+abbrev pub history_left : on.Frame → on.Found → List Entry → List Entry
+history_left f x h = left_where (is_flow x) (is_return f) h
+
+abbrev pub entered_where : Option typed.Function → ℕ → List Entry → List Entry
+entered_where None f h = h
+entered_where (Some g) f h = Entered f ∷ h
+
+-- a call begins where its function has a definition
+abbrev pub history_called : typed.Program → typed.Callee → List Entry → List Entry
+history_called p (typed.function f) h = entered_where (slice_get p.functions f) f h
+history_called p typed.get_byte h = h
+history_called p typed.put_byte h = h
+history_called p typed.exit h = h
+history_called p (typed.missing name) h = h
+
+-- ---- how far it is to the next node
+
+abbrev pub distance : List on.Frame → on.Step → ℕ
+distance fs (on.enters n) = 0
+distance fs (on.leaves x) = 2 * length fs + 1
+distance fs (on.calls at callee used passed) = 2 * length fs + 2
+
+-- ---- where a run stands
+
+-- a run, as a function of the ticks that its clock has
+abbrev pub Whole : Type 0
+Whole = ℕ → machine.Run on.Found
+
+-- what is left of the run, by the ticks that are left
+unfoldable pub left_of : typed.Program → List on.Frame → Scene → on.Step → List ℕ → List Entry → ℕ → machine.Run on.Found
+left_of p fs scene x input h n = resume p (call_in p) fs (present p (call_in p) x (state_in scene (record { clock = n; input = input; history = h })))
+
+-- the byte that waits for the next tick, if there is one
+abbrev pub waiting : Option ℕ → List ℕ
+waiting None = []
+waiting (Some b) = b ∷ []
+
+-- the bytes that a history has put
+abbrev pub bytes_of : List Entry → List ℕ
+bytes_of h = written (trace_of h)
+
+-- the run `whole`, a function of the ticks that are left, is at this machine and this step; the output was o, and these bytes
+-- were sent since
+pub record Stands (p : typed.Program) (whole : Whole) (o : Option (List ℕ)) (sent : List ℕ) (m : Interpreter) (x : on.Step) (port : PortView) : Type 0 where
+  pub input : List ℕ
+  pub history : List Entry
+  pub program_is : program_of m.machine.program.now ≡ p
+  pub follows : (n : ℕ) → left_of p (frames_of m.machine) m.machine.scene x input history n ≡ whole n
+  pub input_is : port.input ≡ Some input
+  pub output_is : Appends o port.output sent
+  pub bytes_are : bytes_of history ≡ sent ++ waiting m.kept
+  pub tells : Tells p history m.tally
+
+-- it stops with this input left and this history
+pub record StopsAs (whole : machine.Run on.Found) (e : Ending) (input : List ℕ) (h : List Entry) : Type 0 where
+  pub state : State
+  pub is : whole ≡ Stops e state
+  pub input_is : state.input ≡ input
+  pub history_is : state.history ≡ h
+
+-- however many ticks are left
+abbrev pub StopsAt : Whole → Ending → List ℕ → List Entry → Type 0
+StopsAt whole e input h = (n : ℕ) → StopsAs (whole n) e input h
+
+-- before a byte that waits is sent
+pub record Stopping (p : typed.Program) (whole : Whole) (o : Option (List ℕ)) (sent : List ℕ) (e : Ending) (m : Interpreter) (port : PortView) : Type 0 where
+  pub input : List ℕ
+  pub history : List Entry
+  pub stops : StopsAt whole e input history
+  pub input_is : port.input ≡ Some input
+  pub output_is : Appends o port.output sent
+  pub bytes_are : bytes_of history ≡ sent ++ waiting m.kept
+  pub tells : Tells p history m.tally
+
+abbrev pub StoppingBy : typed.Program → Whole → Option (List ℕ) → List ℕ → Stop → Interpreter → PortView → Type 0
+StoppingBy p whole o sent (stop.Ended status) m port = Stopping p whole o sent (machine.Ended status) m port
+StoppingBy p whole o sent (stop.Undefined act at) m port = Stopping p whole o sent (machine.Undefined act at) m port
+StoppingBy p whole o sent stop.Memory m port = Appends o port.output sent
+
+-- and behind it
+pub record Stopped (p : typed.Program) (whole : Whole) (o : Option (List ℕ)) (e : Ending) (tally : Tally) (port : PortView) : Type 0 where
+  pub input : List ℕ
+  pub history : List Entry
+  pub stops : StopsAt whole e input history
+  pub input_is : port.input ≡ Some input
+  pub output_is : Appends o port.output (bytes_of history)
+  pub tells : Tells p history tally
+
+-- a run that no definition gives: nothing waits, and something is found
+abbrev pub Rests : Whole → Type 0
+Rests whole = (n : ℕ) → (x : on.Found) × ((s : State) × (whole n ≡ Goes x s))
+
+-- how a run stops between two ticks, where these bytes were sent before
+abbrev pub StoppedBy : typed.Program → Whole → Option (List ℕ) → List ℕ → Run → Tally → PortView → Type 0
+StoppedBy p whole o sent (run.Ended status) tally port = Stopped p whole o (machine.Ended status) tally port
+StoppedBy p whole o sent (run.Undefined act at) tally port = Stopped p whole o (machine.Undefined act at) tally port
+StoppedBy p whole o sent run.TicksUsed tally port = Rests whole
+StoppedBy p whole o sent (run.Port fault) tally port = Appends o port.output sent
+StoppedBy p whole o sent run.Memory tally port = Appends o port.output sent
+
+abbrev pub IsLeft : Step → Type 0
+IsLeft (step.Enters n) = ⊥
+IsLeft (step.Leaves x) = ⊤
+IsLeft (step.Calls at callee used passed) = ⊥
+
+-- a step that takes no tick comes to one that is nearer to the next node
+abbrev pub Nears : List on.Frame → on.Step → Result Step Run → List on.Frame → Type 0
+Nears fs x (Ok y) gs = distance gs (step_of y) < distance fs x
+Nears fs x (Err r) gs = ⊤
+
+abbrev pub NearsFrom : List on.Frame → on.Step → Result Step Run → List on.Frame → Type 0
+NearsFrom fs (on.enters n) r gs = ⊤
+NearsFrom fs (on.leaves x) r gs = Nears fs (on.leaves x) r gs
+NearsFrom fs (on.calls at callee used passed) r gs = Nears fs (on.calls at callee used passed) r gs
+
+-- what one step came to
+abbrev pub ActMeets : typed.Program → Whole → Option (List ℕ) → List ℕ → Result Step Run → Interpreter → PortView → Type 0
+ActMeets p whole o sent (Ok x) m port = Stands p whole o sent m (step_of x) port
+ActMeets p whole o sent (Err r) m port = StoppedBy p whole o sent r m.tally port
+
+-- ---- the count of failures, and the fault
+
+abbrev pub CountsUntil : {A : Type 0} → Result A Run → ℕ → ℕ → Type 0
+CountsUntil (Ok x) old new = new ≡ old
+CountsUntil (Err r) old new = Counts r old new
+
+abbrev pub BlamesUntil : {A : Type 0} → (PortFault → Type 0) → Result A Run → Type 0
+BlamesUntil P (Ok x) = ⊤
+BlamesUntil P (Err r) = Blames P r
+
+-- ---- nodes and ticks
+
+-- a node takes the next tick, and no byte waits
+abbrev pub SettleMeets : typed.Program → Whole → Option (List ℕ) → List ℕ → Result Node Run → Interpreter → PortView → Type 0
+SettleMeets p whole o sent (Ok n) m port = (now : List ℕ) × (Stands p whole o now m (on.enters (node_of n)) port × (m.kept ≡ None))
+SettleMeets p whole o sent (Err r) m port = StoppedBy p whole o sent r m.tally port
+
+-- the run `all`, a function of its clock, of which so many ticks are spent; what was sent are the bytes of a clock no greater
+pub record Runs (p : typed.Program) (all : Whole) (o : Option (List ℕ)) (spent : ℕ) (m : Interpreter) (x : on.Step) (port : PortView) : Type 0 where
+  pub sent : List ℕ
+  pub clock : ℕ
+  pub clock_is : clock ≤ spent
+  pub sent_is : sent ≡ bytes_of (last_of (all clock)).history
+  pub stands : Stands p (λ n. all (n + spent)) o sent m x port
+
+-- what was sent are the bytes of a clock no greater
+abbrev pub IsEarlier : Whole → Option (List ℕ) → ℕ → PortView → Type 0
+IsEarlier all o spent port = (clock : ℕ) × ((clock ≤ spent) × Appends o port.output (bytes_of (last_of (all clock)).history))
+
+-- how a run stops that has so many ticks or more
+abbrev pub StopsBy : typed.Program → Whole → Option (List ℕ) → ℕ → Run → Tally → PortView → Type 0
+StopsBy p all o spent (run.Ended status) tally port = Stopped p (λ n. all (n + spent)) o (machine.Ended status) tally port
+StopsBy p all o spent (run.Undefined act at) tally port = Stopped p (λ n. all (n + spent)) o (machine.Undefined act at) tally port
+StopsBy p all o spent run.TicksUsed tally port = Rests (λ n. all (n + spent))
+StopsBy p all o spent (run.Port fault) tally port = IsEarlier all o spent port
+StopsBy p all o spent run.Memory tally port = IsEarlier all o spent port
+
+-- ---- the whole run
+
+-- before main is called
+pub record Fresh (m : Interpreter) : Type 0 where
+  pub frames_are : frames_of m.machine ≡ []
+  pub state_is : (o : Outside) → state_in m.machine.scene o ≡
+      record { clock = o.clock; store = first_store (program_of m.machine.program.now); base = 0; arrays = []; input = o.input; history = o.history }
+  pub none_kept : m.kept ≡ None
+  pub none_told : (p : typed.Program) → Tells p [] m.tally
+
+-- the run stops so, with this input left and this history
+pub record EndsAs (p : typed.Program) (whole : machine.Run on.Found) (o : Option (List ℕ)) (e : Ending) (tally : Tally) (port : PortView) : Type 0 where
+  pub input : List ℕ
+  pub history : List Entry
+  pub stops : StopsAs whole e input history
+  pub input_is : port.input ≡ Some input
+  pub output_is : Appends o port.output (bytes_of history)
+  pub tells : Tells p history tally
+
+-- how a run of so many ticks stops
+abbrev pub RunStops : typed.Program → Whole → Option (List ℕ) → ℕ → Run → Tally → PortView → Type 0
+RunStops p all o ticks (run.Ended status) tally port = EndsAs p (all ticks) o (machine.Ended status) tally port
+RunStops p all o ticks (run.Undefined act at) tally port = EndsAs p (all ticks) o (machine.Undefined act at) tally port
+RunStops p all o ticks run.TicksUsed tally port = EndsAs p (all ticks) o machine.TicksUsed tally port ⊎ ((x : on.Found) × ((s : State) × (all ticks ≡ Goes x s)))
+RunStops p all o ticks (run.Port fault) tally port = IsEarlier all o ticks port
+RunStops p all o ticks run.Memory tally port = IsEarlier all o ticks port
+
+-- ---- parts that are done as a whole
+
+abbrev pub stopped_for : Why → Run
+stopped_for why.Ticks = run.TicksUsed
+stopped_for (why.Undefined act at) = run.Undefined act at
+stopped_for why.Memory = run.Memory
+
+-- the run goes on with so many ticks spent, or it stops where so many are allowed
+abbrev pub MeetsAt : typed.Program → Whole → Option (List ℕ) → ℕ → Result Step Run → ℕ → Interpreter → PortView → Type 0
+MeetsAt p all o limit (Ok x) spent m port = Runs p all o spent m (step_of x) port
+MeetsAt p all o limit (Err r) spent m port = RunStops p all o limit r m.tally port
+
+abbrev pub Spends : Result Step Run → ℕ → ℕ → ℕ → Type 0
+Spends (Ok x) old new limit = (old < new) × (new ≤ limit)
+Spends (Err r) old new limit = ⊤
+
+-- no port was asked
+abbrev pub IsCalm : Result Step Run → Type 0
+IsCalm (Ok x) = ⊤
+IsCalm (Err (run.Ended status)) = ⊤
+IsCalm (Err (run.Undefined act at)) = ⊤
+IsCalm (Err run.TicksUsed) = ⊤
+IsCalm (Err (run.Port fault)) = ⊥
+IsCalm (Err run.Memory) = ⊤

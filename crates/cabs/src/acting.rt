@@ -1,0 +1,162 @@
+//! Steps that take no tick, at the port and between calls.
+
+ghost use Rattle.std.specs.Prelude.{◌≡◌, ℕ, Bool, List, IfErr, IfOk, Option, map};
+ghost use Rattle.srcset.specs.declared.refusal.Pos.{Pos};
+ghost use Rattle.ctypes.specs.Types.{modulo};
+ghost use Rattle.typing_program.specs.View.{callee_of};
+ghost use Rattle.meaning.specs.Expressions as meaning;
+ghost use Rattle.sim.specs.Port.{PortView};
+ghost use Rattle.typing_rules.specs.Program as typed;
+ghost use Rattle.cabs_store.specs.inside.Frames as on;
+ghost use Rattle.cabs_store.specs.inside.Agrees.{frames_of};
+ghost use Rattle.cabs_store.specs.inside.Views.{found_of, passed_of, step_of};
+ghost use Rattle.cabs.specs.Interpreting.{Blames, Counts};
+ghost use Rattle.cabs.specs.inside.Standing.{ActMeets, BlamesUntil, CountsUntil, IsLeft, Nears, NearsFrom, Stands, StoppedBy, StoppingBy, Whole};
+
+use crate::outcome::Run;
+use crate::state::Interpreter;
+use cabs_store::frames::{Found, Passed, Step};
+use cabs_store::stop::Stop;
+use cabs_transitions::calling::{Called, call};
+use cabs_transitions::leaving::leave;
+use sim::Port;
+use srcset::Pos;
+use typing_program::Callee;
+
+/// The run stops: the byte that waits is put first.
+pub fn finish<P: Port>(interpreter: &mut Interpreter<'_>, port: &mut P, stop: Stop) -> Run
+    ensures meets { (p : typed.Program) (whole : Whole) (o : Option (List ℕ)) (sent : List ℕ) →
+        StoppingBy p whole o sent stop interpreter.old (P.seen port.old) → StoppedBy p whole o sent result interpreter.new.tally (P.seen port.new) }
+    ensures counts { Counts result (P.seen port.old).failures (P.seen port.new).failures }
+    ensures fault { Blames (P.refused_with port.new) result }
+{
+    match stop {
+        Stop::Memory => Run::Memory,
+        Stop::Ended(status) => match interpreter.send(port) {
+            Ok(()) => Run::Ended(status),
+            Err(fault) => Run::Port(fault),
+        },
+        Stop::Undefined(act, at) => match interpreter.send(port) {
+            Ok(()) => Run::Undefined(act, at),
+            Err(fault) => Run::Port(fault),
+        },
+    }
+}
+
+/// What is found goes to the innermost frame.
+///
+/// Errors: how the run stops. Where nothing waits its ticks go by: the run of a program never comes there.
+fn act_found<'p, P: Port>(
+    interpreter: &mut Interpreter<'p>,
+    port: &mut P,
+    found: Found,
+) -> Result<Step<'p>, Run>
+    ensures meets { (p : typed.Program) (whole : Whole) (o : Option (List ℕ)) (sent : List ℕ) →
+        Stands p whole o sent interpreter.old (on.leaves (found_of found)) (P.seen port.old) → ActMeets p whole o sent result interpreter.new (P.seen port.new) }
+    ensures nears { Nears (frames_of interpreter.old.machine) (on.leaves (found_of found)) result (frames_of interpreter.new.machine) }
+    ensures counts { CountsUntil result (P.seen port.old).failures (P.seen port.new).failures }
+    ensures fault { BlamesUntil (P.refused_with port.new) result }
+{
+    let Some(frame) = interpreter.machine.stack.pop() else {
+        return Err(Run::TicksUsed);
+    };
+    interpreter.count_end(&frame, &found);
+    match leave(&mut interpreter.machine, frame, found) {
+        Ok(step) => Ok(step),
+        Err(stop) => Err(finish(interpreter, port, stop)),
+    }
+}
+
+/// The next byte of the input, or -1 at its end.
+///
+/// Errors: the port refused; no byte may wait.
+fn get<'p, P: Port>(interpreter: &mut Interpreter<'p>, port: &mut P) -> Result<Step<'p>, Run>
+    ensures meets { (p : typed.Program) (whole : Whole) (o : Option (List ℕ)) (sent : List ℕ) (at : Pos) (used : Bool) (passed : List meaning.Passed) →
+        Stands p whole o sent interpreter.old (on.calls at typed.get_byte used passed) (P.seen port.old) → ActMeets p whole o sent result interpreter.new (P.seen port.new) }
+    ensures found { IfOk result (λ x. IsLeft x) }
+    ensures machine { interpreter.new.machine ≡ interpreter.old.machine }
+    ensures counts { CountsUntil result (P.seen port.old).failures (P.seen port.new).failures }
+    ensures fault { BlamesUntil (P.refused_with port.new) result }
+{
+    if interpreter.kept.is_some() {
+        return Err(Run::Memory);
+    }
+    match port.get() {
+        Ok(Some(byte)) => Ok(Step::Leaves(Found::Value(i64::from(byte)))),
+        Ok(None) => Ok(Step::Leaves(Found::Value(-1))),
+        Err(fault) => Err(Run::Port(fault)),
+    }
+}
+
+/// A byte is to be put.
+///
+/// Errors: no other byte may wait.
+fn put<'p>(interpreter: &mut Interpreter<'p>, byte: u8) -> Result<Step<'p>, Run>
+    ensures meets { (p : typed.Program) (whole : Whole) (o : Option (List ℕ)) (sent : List ℕ) (at : Pos) (used : Bool) (passed : List meaning.Passed) (port : PortView) →
+        byte ≡ modulo 8 (meaning.first_number passed) →
+        Stands p whole o sent interpreter.old (on.calls at typed.put_byte used passed) port → ActMeets p whole o sent result interpreter.new port }
+    ensures found { IfOk result (λ x. IsLeft x) }
+    ensures machine { interpreter.new.machine ≡ interpreter.old.machine }
+    ensures memory { IfErr result (λ run. run ≡ Run.Memory) }
+{
+    match interpreter.kept {
+        Some(_) => Err(Run::Memory),
+        None => {
+            interpreter.kept = Some(byte);
+            Ok(Step::Leaves(Found::Value(0)))
+        }
+    }
+}
+
+/// A call whose arguments are done.
+///
+/// Errors: how the run stops.
+fn act_call<'p, P: Port>(
+    interpreter: &mut Interpreter<'p>,
+    port: &mut P,
+    at: Pos,
+    callee: Callee,
+    used: bool,
+    passed: &[Passed],
+) -> Result<Step<'p>, Run>
+    ensures meets { (p : typed.Program) (whole : Whole) (o : Option (List ℕ)) (sent : List ℕ) →
+        Stands p whole o sent interpreter.old (on.calls at (callee_of callee) used (map passed_of passed.now)) (P.seen port.old) →
+        ActMeets p whole o sent result interpreter.new (P.seen port.new) }
+    ensures nears { Nears (frames_of interpreter.old.machine) (on.calls at (callee_of callee) used (map passed_of passed.now)) result (frames_of interpreter.new.machine) }
+    ensures counts { CountsUntil result (P.seen port.old).failures (P.seen port.new).failures }
+    ensures fault { BlamesUntil (P.refused_with port.new) result }
+{
+    match interpreter.count_call(callee) {
+        Ok(()) => {}
+        Err(_) => return Err(Run::Memory),
+    }
+    match call(&mut interpreter.machine, at, callee, used, passed) {
+        Ok(Called::Step(step)) => Ok(step),
+        Ok(Called::Gets) => get(interpreter, port),
+        Ok(Called::Puts(byte)) => put(interpreter, byte),
+        Err(stop) => Err(finish(interpreter, port, stop)),
+    }
+}
+
+/// One step, which takes no tick: a node stays.
+///
+/// Errors: how the run stops.
+pub fn act<'p, P: Port>(
+    interpreter: &mut Interpreter<'p>,
+    port: &mut P,
+    next: Step<'p>,
+) -> Result<Step<'p>, Run>
+    ensures meets { (p : typed.Program) (whole : Whole) (o : Option (List ℕ)) (sent : List ℕ) →
+        Stands p whole o sent interpreter.old (step_of next.entry) (P.seen port.old) → ActMeets p whole o sent result interpreter.new (P.seen port.new) }
+    ensures nears { NearsFrom (frames_of interpreter.old.machine) (step_of next.entry) result (frames_of interpreter.new.machine) }
+    ensures counts { CountsUntil result (P.seen port.old).failures (P.seen port.new).failures }
+    ensures fault { BlamesUntil (P.refused_with port.new) result }
+{
+    match next {
+        Step::Enters(node) => Ok(Step::Enters(node)),
+        Step::Leaves(found) => act_found(interpreter, port, found),
+        Step::Calls(at, callee, used, passed) => {
+            act_call(interpreter, port, at, callee, used, passed.as_slice())
+        }
+    }
+}

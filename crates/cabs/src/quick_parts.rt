@@ -1,0 +1,73 @@
+//! Parts of the program that call nothing, each done as a whole.
+
+ghost use Rattle.std.specs.Prelude.{◌≡◌, ◌<◌, ◌≤◌, ◌+◌, ℕ, List, Option, None};
+ghost use Rattle.std.specs.Bool.{OnTrue};
+ghost use Rattle.typing_rules.specs.Program as typed;
+ghost use Rattle.cabs_store.specs.inside.Frames as on;
+ghost use Rattle.cabs_store.specs.inside.Views.{node_of};
+ghost use Rattle.sim.specs.Port.{PortView};
+ghost use Rattle.cabs.specs.inside.Standing.{IsCalm, MeetsAt, Spends, Stands, Whole, stopped_for};
+
+use crate::outcome::Run;
+use crate::state::Interpreter;
+use cabs_evaluator::clock::{Clock, Why};
+use cabs_evaluator::parts::done;
+use cabs_store::frames::{Node, Step};
+
+/// How the run stops in a part.
+fn stopped(why: Why) -> Run
+    ensures { result ≡ stopped_for why }
+{
+    match why {
+        Why::Ticks => Run::TicksUsed,
+        Why::Undefined(act, at) => Run::Undefined(act, at),
+        Why::Memory => Run::Memory,
+    }
+}
+
+/// Whether ticks were spent, and no more than are allowed.
+#[inline(always)]
+fn is_within(old: u64, new: u64, limit: u64) -> bool
+    ensures { OnTrue result ((old < new) × (new ≤ limit)) }
+{
+    old < new && new <= limit
+}
+
+/// A node that calls nothing, with all its ticks.
+///
+/// Errors: how the run stops in it.
+pub fn at_once<'p>(
+    interpreter: &mut Interpreter<'p>,
+    node: &Node<'p>,
+    spent: &mut u64,
+    limit: u64,
+) -> Result<Step<'p>, Run>
+    ensures meets { (p : typed.Program) (all : Whole) (o : Option (List ℕ)) (sent : List ℕ) (port : PortView) → spent.old < limit →
+        Stands p (λ n. all (n + spent.old)) o sent interpreter.old (on.enters (node_of node.now)) port → interpreter.old.kept ≡ None →
+        MeetsAt p all o limit result spent.new interpreter.new port }
+    ensures spends { Spends result spent.old spent.new limit }
+    ensures calm { IsCalm result }
+{
+    let alloc = interpreter.machine.alloc;
+    let program = interpreter.machine.program;
+    let mut clock = Clock {
+        spent: *spent,
+        why: Why::Memory,
+    };
+    let found = done(
+        alloc,
+        program,
+        limit,
+        &mut interpreter.machine.scene,
+        &mut clock,
+        node,
+    );
+    if !is_within(*spent, clock.spent, limit) {
+        return Err(Run::Memory);
+    }
+    *spent = clock.spent;
+    match found {
+        Some(found) => Ok(Step::Leaves(found)),
+        None => Err(stopped(clock.why)),
+    }
+}

@@ -1,0 +1,169 @@
+//! Ticks, and the run.
+
+ghost use Rattle.std.specs.Prelude.{◌≡◌, ◌<◌, [], ℕ, List, Option, Some};
+ghost use Rattle.typing_rules.specs.Program as typed;
+ghost use Rattle.typing_program.specs.View.{program_of};
+ghost use Rattle.cabs_store.specs.inside.Frames as on;
+ghost use Rattle.cabs_store.specs.inside.Views.{node_of, step_of};
+ghost use Rattle.cabs.specs.Interpreting.{Blames, Counts, RunMeets};
+ghost use Rattle.cabs.specs.inside.Standing.{BlamesUntil, CountsUntil, Fresh, MeetsAt, RunStops, Runs, SettleMeets, Spends, Stands, Whole};
+
+use crate::acting::{act, finish};
+use crate::outcome::{Interpreted, Run};
+use crate::quick_parts::at_once;
+use crate::state::Interpreter;
+use cabs_evaluator::quick::is_quick_node;
+use cabs_steps::nodes::enter;
+use cabs_store::frames::{Back, Node, Step};
+use cabs_transitions::calls::call_function;
+use sim::Port;
+use std::alloc::Global;
+use typing_program::{Callee, Program};
+
+/// A node is reached: the byte that waits is put before its tick.
+///
+/// Errors: the port refused.
+#[inline(always)]
+fn reach<'p, P: Port>(
+    interpreter: &mut Interpreter<'p>,
+    port: &mut P,
+    node: Node<'p>,
+) -> Result<Node<'p>, Run>
+    ensures meets { (p : typed.Program) (whole : Whole) (o : Option (List ℕ)) (sent : List ℕ) →
+        Stands p whole o sent interpreter.old (on.enters (node_of node.entry)) (P.seen port.old) → SettleMeets p whole o sent result interpreter.new (P.seen port.new) }
+    ensures counts { CountsUntil result (P.seen port.old).failures (P.seen port.new).failures }
+    ensures fault { BlamesUntil (P.refused_with port.new) result }
+{
+    match interpreter.send(port) {
+        Ok(()) => Ok(node),
+        Err(fault) => Err(Run::Port(fault)),
+    }
+}
+
+/// The node that takes the next tick, behind steps that take none.
+///
+/// Errors: how the run stops before.
+fn settle<'p, P: Port>(
+    interpreter: &mut Interpreter<'p>,
+    port: &mut P,
+    first: Step<'p>,
+) -> Result<Node<'p>, Run>
+    ensures meets { (p : typed.Program) (whole : Whole) (o : Option (List ℕ)) (sent : List ℕ) →
+        Stands p whole o sent interpreter.old (step_of first.entry) (P.seen port.old) → SettleMeets p whole o sent result interpreter.new (P.seen port.new) }
+    ensures counts { CountsUntil result (P.seen port.old).failures (P.seen port.new).failures }
+    ensures fault { BlamesUntil (P.refused_with port.new) result }
+{
+    let mut next = first;
+    loop {
+        if let Step::Enters(node) = next {
+            return reach(interpreter, port, node);
+        }
+        match act(interpreter, port, next) {
+            Ok(then) => next = then,
+            Err(run) => return Err(run),
+        }
+    }
+}
+
+/// What takes the next tick: as a whole where it calls nothing, else one tick and the step behind it.
+///
+/// Errors: how the run stops.
+fn tick<'p, P: Port>(
+    interpreter: &mut Interpreter<'p>,
+    port: &mut P,
+    next: Step<'p>,
+    spent: &mut u64,
+    limit: u64,
+) -> Result<Step<'p>, Run>
+    requires room { spent.old < limit }
+    ensures meets { (p : typed.Program) (all : Whole) (o : Option (List ℕ)) →
+        Runs p all o spent.old interpreter.old (step_of next.entry) (P.seen port.old) → MeetsAt p all o limit result spent.new interpreter.new (P.seen port.new) }
+    ensures spends { Spends result spent.old spent.new limit }
+    ensures counts { CountsUntil result (P.seen port.old).failures (P.seen port.new).failures }
+    ensures fault { BlamesUntil (P.refused_with port.new) result }
+{
+    let node = match settle(interpreter, port, next) {
+        Ok(node) => node,
+        Err(run) => return Err(run),
+    };
+    if is_quick_node(&node) {
+        return at_once(interpreter, &node, spent, limit);
+    }
+    *spent += 1;
+    match enter(&mut interpreter.machine, node) {
+        Ok(then) => Ok(then),
+        Err(stop) => Err(finish(interpreter, port, stop)),
+    }
+}
+
+/// At most so many ticks.
+fn run_on<'p, P: Port>(
+    interpreter: &mut Interpreter<'p>,
+    port: &mut P,
+    first: Step<'p>,
+    ticks: u64,
+) -> Run
+    ensures meets { (p : typed.Program) (all : Whole) (o : Option (List ℕ)) →
+        Runs p all o 0 interpreter.old (step_of first.entry) (P.seen port.old) → RunStops p all o ticks result interpreter.new.tally (P.seen port.new) }
+    ensures counts { Counts result (P.seen port.old).failures (P.seen port.new).failures }
+    ensures fault { Blames (P.refused_with port.new) result }
+{
+    let mut next = first;
+    let mut spent = 0;
+    while spent < ticks {
+        match tick(interpreter, port, next, &mut spent, ticks) {
+            Ok(then) => next = then,
+            Err(run) => return run,
+        }
+    }
+    match settle(interpreter, port, next) {
+        Ok(_) => Run::TicksUsed,
+        Err(run) => run,
+    }
+}
+
+/// The run from the call of `main` on (5.1.2.2.1).
+fn start<P: Port>(interpreter: &mut Interpreter<'_>, port: &mut P, ticks: u64) -> Run
+    ensures meets { (input : List ℕ) → (P.seen port.old).input ≡ Some input →
+        Fresh interpreter.old → RunMeets (program_of interpreter.old.machine.program.now) input ticks result interpreter.new.tally.greatest (P.seen port.old) (P.seen port.new) }
+    ensures counts { Counts result (P.seen port.old).failures (P.seen port.new).failures }
+    ensures fault { Blames (P.refused_with port.new) result }
+{
+    let main = interpreter.machine.program.main;
+    match interpreter.count_call(Callee::Function(main)) {
+        Ok(()) => {}
+        Err(_) => return Run::Memory,
+    }
+    match call_function(&mut interpreter.machine, Back::ToEnd, main, &[]) {
+        Ok(first) => run_on(interpreter, port, first, ticks),
+        Err(stop) => finish(interpreter, port, stop),
+    }
+}
+
+/// What `program` does on the port's input, with so many ticks (ISO/IEC 9899:2011 5.1.2.3). A tick is spent on each node that is
+/// entered, each case that is tested, and each element that an initialiser gives a value.
+///
+/// Nested calls take memory of the allocator, and not the host's stack. `Run::Port` is answered only where the port's count of
+/// failures rose. Behind that answer, and behind `Run::Memory`, the bytes that were put are those of the run with a smaller
+/// number of ticks.
+pub fn interpret<P: Port>(alloc: Global, program: &Program, port: &mut P, ticks: u64) -> Interpreted
+    ensures meets { (input : List ℕ) → (P.seen port.old).input ≡ Some input →
+        RunMeets (program_of program.now) input ticks result.run result.greatest (P.seen port.old) (P.seen port.new) }
+    ensures counts { Counts result.run (P.seen port.old).failures (P.seen port.new).failures }
+    ensures fault { Blames (P.refused_with port.new) result.run }
+{
+    let mut interpreter = match Interpreter::new(alloc, program) {
+        Ok(interpreter) => interpreter,
+        Err(_) => {
+            return Interpreted {
+                run: Run::Memory,
+                greatest: 0,
+            };
+        }
+    };
+    let run = start(&mut interpreter, port, ticks);
+    Interpreted {
+        run,
+        greatest: interpreter.tally.greatest,
+    }
+}

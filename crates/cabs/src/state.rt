@@ -1,0 +1,178 @@
+//! The machine with what it has told the outside so far.
+
+ghost use Rattle.std.specs.Prelude.{◌≡◌, ◌∷◌, [], Some, None, Ok, List, ℕ, IfErr, IfOk, MatchResult, OnOk};
+ghost use Rattle.std.specs.Io.KnownBytes.{Appends, Keeps};
+ghost use Rattle.typing_rules.specs.Program as typed;
+ghost use Rattle.typing_program.specs.View.{callee_of, program_of};
+ghost use Rattle.meaning.specs.History.{Entry};
+ghost use Rattle.meaning.specs.Store.{first_store};
+ghost use Rattle.cabs_store.specs.declared.stop.Stop.TheVariants.{Memory};
+ghost use Rattle.cabs_store.specs.inside.Agrees.{Outside, frames_of, state_in};
+ghost use Rattle.cabs_store.specs.inside.Views.{flow_frame, found_of, frame_of};
+ghost use Rattle.cabs_transitions.specs.Tallied.{Tells};
+ghost use Rattle.sim.specs.Port.{Rises};
+ghost use Rattle.cabs.specs.inside.Standing.{history_called, history_left, is_flow, is_return, waiting};
+
+use crate::first_objects::first_store;
+use cabs_store::frames::{FlowFrame, Found, Frame};
+use cabs_store::machine::Machine;
+use cabs_store::scene::Scene;
+use cabs_store::stop::Stop;
+use cabs_transitions::tally::Tally;
+use sim::{Port, PortFault};
+use std::alloc::Global;
+use typing_program::{Callee, Program};
+
+/// A run between two steps: the machine, the weights of the calls that are active, and a byte that waits to be put.
+///
+/// A byte goes to the port with the next tick and not before, so that after each refusal the output is that of a whole number
+/// of ticks.
+#[derive(Drop)]
+pub struct Interpreter<'p> {
+    pub machine: Machine<'p>,
+    pub tally: Tally,
+    pub kept: Option<u8>,
+}
+
+impl<'p> Interpreter<'p> {
+    /// Before `main` is called (5.1.2p1).
+    ///
+    /// Errors: memory ran out.
+    pub fn new(alloc: Global, program: &'p Program) -> Result<Interpreter<'p>, Stop>
+        ensures frames { IfOk result (λ i. frames_of i.machine ≡ []) }
+        ensures state { (o : Outside) → IfOk result (λ i. state_in i.machine.scene o ≡
+            record { clock = o.clock; store = first_store (program_of program.now); base = 0; arrays = []; input = o.input; history = o.history }) }
+        ensures program { IfOk result (λ i. i.machine.program ≡ program.entry) }
+        ensures kept { IfOk result (λ i. i.kept ≡ None) }
+        ensures tally { (p : typed.Program) → IfOk result (λ i. Tells p [] i.tally) }
+        ensures err { IfErr result (λ e. e ≡ Memory) }
+    {
+        let store = match first_store(alloc, program) {
+            Ok(store) => store,
+            Err(stop) => return Err(stop),
+        };
+        Ok(Interpreter {
+            machine: Machine {
+                alloc,
+                program,
+                stack: Vec::new(alloc),
+                scene: Scene {
+                    store,
+                    base: 0,
+                    arrays: Vec::new(alloc),
+                },
+            },
+            tally: Tally::new(alloc),
+            kept: None,
+        })
+    }
+
+    /// The byte that waits goes to the port.
+    #[inline(always)]
+    pub fn send<P: Port>(&mut self, port: &mut P) -> Result<(), PortFault>
+        ensures input { Keeps (P.seen port.old).input (P.seen port.new).input }
+        ensures output { MatchResult result (λ _. Appends (P.seen port.old).output (P.seen port.new).output (waiting self.old.kept)) (λ _. Keeps (P.seen port.old).output (P.seen port.new).output) }
+        ensures kept { OnOk result (self.new.kept ≡ None) }
+        ensures machine { self.new.machine ≡ self.old.machine }
+        ensures tally { self.new.tally ≡ self.old.tally }
+        ensures counts { MatchResult result (λ _. (P.seen port.new).failures ≡ (P.seen port.old).failures) (λ _. Rises (P.seen port.old).failures (P.seen port.new).failures) }
+        ensures fault { IfErr result (P.refused_with port.new) }
+    {
+        match self.kept {
+            None => Ok(()),
+            Some(byte) => match port.put(byte) {
+                Ok(()) => {
+                    self.kept = None;
+                    Ok(())
+                }
+                Err(fault) => Err(fault),
+            },
+        }
+    }
+
+    /// A call ends, where this frame is one that gets what it waited for.
+    #[inline(always)]
+    pub fn count_end(&mut self, frame: &Frame<'p>, found: &Found)
+        ensures tells { (p : typed.Program) (h : List Entry) → Tells p h self.old.tally → Tells p (history_left (frame_of frame.now) (found_of found.now) h) self.new.tally }
+        ensures machine { self.new.machine ≡ self.old.machine }
+        ensures kept { self.new.kept ≡ self.old.kept }
+    {
+        if is_flow(found) && is_return(frame) {
+            self.tally.end();
+        }
+    }
+
+    /// A call of a function that has a definition begins.
+    ///
+    /// Errors: memory ran out.
+    pub fn count_call(&mut self, callee: Callee) -> Result<(), Stop>
+        ensures tells { (h : List Entry) → let p = program_of self.old.machine.program.now in
+            Tells p h self.old.tally → OnOk result (Tells p (history_called p (callee_of callee) h) self.new.tally) }
+        ensures machine { self.new.machine ≡ self.old.machine }
+        ensures kept { self.new.kept ≡ self.old.kept }
+    {
+        match callee {
+            Callee::Function(f) => self.count_function(f),
+            Callee::GetByte => Ok(()),
+            Callee::PutByte => Ok(()),
+            Callee::Exit => Ok(()),
+            Callee::Missing(_) => Ok(()),
+        }
+    }
+
+    /// A call of function `f` begins, where it has a definition.
+    ///
+    /// Errors: memory ran out.
+    fn count_function(&mut self, f: usize) -> Result<(), Stop>
+        ensures tells { (h : List Entry) → let p = program_of self.old.machine.program.now in
+            Tells p h self.old.tally → OnOk result (Tells p (history_called p (typed.function f) h) self.new.tally) }
+        ensures machine { self.new.machine ≡ self.old.machine }
+        ensures kept { self.new.kept ≡ self.old.kept }
+    {
+        let program = self.machine.program;
+        match program.functions.get(f) {
+            None => Ok(()),
+            Some(g) => self.tally.begin(g.weight),
+        }
+    }
+}
+
+/// Whether a frame waits for a call's body.
+#[inline(always)]
+fn is_return(frame: &Frame<'_>) -> bool
+    ensures { result ≡ is_return (frame_of frame.now) }
+{
+    match frame {
+        Frame::Place(_) => false,
+        Frame::Operand(_) => false,
+        Frame::Control(_) => false,
+        Frame::Flow(f) => is_return_flow(f),
+        Frame::Initialiser(_) => false,
+    }
+}
+
+#[inline(always)]
+fn is_return_flow(frame: &FlowFrame<'_>) -> bool
+    ensures { result ≡ is_return (flow_frame frame.now) }
+{
+    match frame {
+        FlowFrame::Returns(_) => true,
+        FlowFrame::Rest(_, _) => false,
+        FlowFrame::InSwitch => false,
+        FlowFrame::Turn(_) => false,
+        FlowFrame::ForStarts(_, _) => false,
+    }
+}
+
+/// Whether a statement was left.
+#[inline(always)]
+fn is_flow(found: &Found) -> bool
+    ensures { result ≡ is_flow (found_of found.now) }
+{
+    match found {
+        Found::Value(_) => false,
+        Found::Place(_) => false,
+        Found::Flow(_) => true,
+        Found::Initialised => false,
+    }
+}

@@ -1,0 +1,97 @@
+//! Definitions of automatic objects with one value (6.7.9p11).
+
+ghost use Rattle.std.specs.Prelude.{◌≡◌, None, slice_get};
+ghost use Rattle.typing_rules.specs.Program as typed;
+ghost use Rattle.typing_program.specs.View.{initialiser_of, value_of};
+ghost use Rattle.meaning.specs.Machine.{Goes, then_do, tick, stored};
+ghost use Rattle.meaning.specs.Statements as meaning;
+ghost use Rattle.ctypes.specs.Types.{converted};
+ghost use Rattle.cabs_store.specs.View.{reference_of};
+ghost use Rattle.cabs_store.specs.inside.Presents.{call_in};
+ghost use Rattle.cabs_store.specs.inside.Views.{flow_of};
+ghost use Rattle.cabs_evaluator.specs.declared.clock.Why.TheVariants as why;
+ghost use Rattle.cabs_evaluator.specs.inside.Comes.{Does, executed, objects_in, valued};
+
+use crate::clock::{Clock, Scope, Why};
+use crate::expressions::value;
+use cabs_steps::objects::type_of;
+use cabs_store::Reference;
+use cabs_store::frames::Flow;
+use cabs_store::scene::Scene;
+use ctypes::{IntType, convert};
+use typing_program::{Initialiser, Value};
+
+/// A part that is not evaluated here.
+pub fn left_out(clock: &mut Clock) -> Option<Flow>
+    ensures none { result ≡ None }
+    ensures why { clock.new.why ≡ why.Memory }
+{
+    clock.why = Why::Memory;
+    None
+}
+
+/// The element at `r` gets its first value.
+fn first_value(
+    scope: &Scope<'_>,
+    scene: &mut Scene,
+    clock: &mut Clock,
+    r: &Reference,
+    ty: IntType,
+    e: &Value,
+) -> Option<Flow>
+    ensures { Does flow_of scope.now (λ p s. then_do (valued (value_of e.now) p s) (λ v s. tick s (λ s. Goes meaning.Normal (stored (reference_of r.now) (converted ty v) s))))
+        clock.old scene.old result clock.new scene.new }
+{
+    let Some(v) = value(scope, scene, clock, e) else {
+        return None;
+    };
+    if !clock.tick(scope.limit) {
+        return None;
+    }
+    scene.set(r, convert(ty, v));
+    Some(Flow::Normal)
+}
+
+/// An automatic object that has just begun gets its first value (6.7.9).
+fn initialised(
+    scope: &Scope<'_>,
+    scene: &mut Scene,
+    clock: &mut Clock,
+    n: usize,
+    i: &Initialiser,
+) -> Option<Flow>
+    ensures { Does flow_of scope.now (λ p s. meaning.define_object p (call_in p) (objects_in scope.now) (slice_get (objects_in scope.now) n) n (initialiser_of i.now) s)
+        clock.old scene.old result clock.new scene.new }
+{
+    let Some(_) = type_of(scope.objects, n) else {
+        return Some(Flow::Normal);
+    };
+    let Ok(r) = scene.own(n) else {
+        return left_out(clock);
+    };
+    match i {
+        Initialiser::One(ty, e) => first_value(scope, scene, clock, &r, *ty, e),
+        Initialiser::Text(_) => left_out(clock),
+        Initialiser::InBraces(_) => left_out(clock),
+        Initialiser::List(_) => left_out(clock),
+    }
+}
+
+/// A declarator with an initialiser (6.2.4p6, 6.7.9).
+pub fn definition(
+    scope: &Scope<'_>,
+    scene: &mut Scene,
+    clock: &mut Clock,
+    n: usize,
+    i: &Initialiser,
+) -> Option<Flow>
+    ensures { Does flow_of scope.now (executed (objects_in scope.now) (typed.define n (initialiser_of i.now))) clock.old scene.old result clock.new scene.new }
+{
+    if !clock.tick(scope.limit) {
+        return None;
+    }
+    match scene.renew(scope.alloc, scope.objects, n) {
+        Ok(()) => initialised(scope, scene, clock, n, i),
+        Err(_) => left_out(clock),
+    }
+}

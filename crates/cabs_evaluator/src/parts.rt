@@ -1,0 +1,90 @@
+//! What takes the next tick, done as a whole where it calls nothing.
+
+ghost use Rattle.std.specs.Prelude.{◌≡◌, None};
+ghost use Rattle.typing_program.specs.View.{program_of, statement_of, value_of};
+ghost use Rattle.cabs_store.specs.inside.Frames as on;
+ghost use Rattle.cabs_store.specs.inside.Presents.{call_in, given, presented};
+ghost use Rattle.cabs_store.specs.inside.Views.{found_of, node_of};
+ghost use Rattle.cabs_evaluator.specs.declared.clock.Why.TheVariants as why;
+ghost use Rattle.cabs_evaluator.specs.inside.Comes.{Does, DoesIn, executed, objects_in, valued};
+
+use crate::clock::{Clock, Scope, Why};
+use crate::expressions::value;
+use crate::statements::statement;
+use cabs_store::frames::{Found, Node};
+use cabs_store::scene::Scene;
+use std::alloc::Global;
+use typing_program::{Program, Statement, Value};
+
+/// An expression, with what is found.
+fn value_found(scope: &Scope<'_>, scene: &mut Scene, clock: &mut Clock, e: &Value) -> Option<Found>
+    ensures { Does found_of scope.now (λ p s. given on.a_value (valued (value_of e.now) p s)) clock.old scene.old result clock.new scene.new }
+{
+    match value(scope, scene, clock, e) {
+        None => None,
+        Some(v) => Some(Found::Value(v)),
+    }
+}
+
+/// A statement, with how it is left.
+fn statement_found(
+    scope: &Scope<'_>,
+    scene: &mut Scene,
+    clock: &mut Clock,
+    a: &Statement,
+) -> Option<Found>
+    ensures { Does found_of scope.now (λ p s. given on.a_flow (executed (objects_in scope.now) (statement_of a.now) p s)) clock.old scene.old result clock.new scene.new }
+{
+    match statement(scope, scene, clock, a) {
+        None => None,
+        Some(flow) => Some(Found::Flow(flow)),
+    }
+}
+
+/// A node that is not done here.
+fn left_out(clock: &mut Clock) -> Option<Found>
+    ensures none { result ≡ None }
+    ensures why { clock.new.why ≡ why.Memory }
+{
+    clock.why = Why::Memory;
+    None
+}
+
+/// What takes the next tick, from its tick on.
+pub fn done(
+    alloc: Global,
+    program: &Program,
+    limit: u64,
+    scene: &mut Scene,
+    clock: &mut Clock,
+    node: &Node<'_>,
+) -> Option<Found>
+    ensures { DoesIn found_of limit (program_of program.now) (λ p s. presented p (call_in p) (node_of node.now) s) clock.old scene.old result clock.new scene.new }
+{
+    match node {
+        Node::Value(e) => {
+            let scope = Scope {
+                alloc,
+                program,
+                objects: &[],
+                limit,
+            };
+            value_found(&scope, scene, clock, e)
+        }
+        Node::Place(_) => left_out(clock),
+        Node::Statement(objects, a) => {
+            let scope = Scope {
+                alloc,
+                program,
+                objects,
+                limit,
+            };
+            statement_found(&scope, scene, clock, a)
+        }
+        Node::Initialiser(_, _, _, _) => left_out(clock),
+        Node::Element(_, _) => left_out(clock),
+        Node::Ticking(_, _) => left_out(clock),
+        Node::SwitchBlock(_, _) => left_out(clock),
+        Node::CaseTest(_) => left_out(clock),
+    }
+}

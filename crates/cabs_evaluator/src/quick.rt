@@ -1,0 +1,107 @@
+//! Which parts are evaluated here: those that call nothing.
+
+use cabs_store::frames::Node;
+use typing_program::{Initialiser, Place, Statement, Value};
+
+/// Whether a place calls nothing.
+#[cycle(quick)]
+pub fn is_quick_place(a: &Place) -> bool {
+    match a {
+        Place::Named(_, _) => true,
+        Place::Element(_, array, index) => is_quick_place(array) && is_quick(index),
+    }
+}
+
+/// Whether an expression calls nothing.
+#[cycle(quick)]
+pub fn is_quick(e: &Value) -> bool {
+    match e {
+        Value::Constant(_, _) => true,
+        Value::Read(_, a) => is_quick_place(a),
+        Value::Assigned(_, _, a, e) => is_quick_place(a) && is_quick(e),
+        Value::Compound(_, _, _, _, a, e) => is_quick_place(a) && is_quick(e),
+        Value::Stepped(_, _, _, _, _, a) => is_quick_place(a),
+        Value::Unary(_, _, _, e) => is_quick(e),
+        Value::Binary(_, _, _, a, b) => is_quick(a) && is_quick(b),
+        Value::BothTrue(a, b) => is_quick(a) && is_quick(b),
+        Value::OneTrue(a, b) => is_quick(a) && is_quick(b),
+        Value::Chosen(_, c, a, b) => is_quick(c) && is_quick(a) && is_quick(b),
+        Value::Sequence(a, b) => is_quick(a) && is_quick(b),
+        Value::Cast(_, e) => is_quick(e),
+        Value::Discarded(e) => is_quick(e),
+        Value::Call(_, _, _, _, _) => false,
+    }
+}
+
+/// Whether an expression that may be left out calls nothing.
+fn is_quick_or(e: Option<&Value>) -> bool {
+    match e {
+        None => true,
+        Some(e) => is_quick(e),
+    }
+}
+
+/// Whether an initialiser is a single value, and calls nothing.
+fn is_quick_initialiser(i: &Initialiser) -> bool {
+    match i {
+        Initialiser::One(_, e) => is_quick(e),
+        Initialiser::Text(_) => false,
+        Initialiser::InBraces(_) => false,
+        Initialiser::List(_) => false,
+    }
+}
+
+/// Whether all statements are done here.
+#[cycle(quick_statements)]
+fn are_quick(all: &[Statement]) -> bool {
+    for a in all {
+        if !is_quick_statement(a) {
+            return false;
+        }
+    }
+    true
+}
+
+/// Whether a statement is done here: it calls nothing, and it has no `switch` and no initialiser but single values.
+#[cycle(quick_statements)]
+pub fn is_quick_statement(a: &Statement) -> bool {
+    match a {
+        Statement::Empty => true,
+        Statement::Evaluate(e) => is_quick(e),
+        Statement::Declare(_) => true,
+        Statement::Define(_, i) => is_quick_initialiser(i),
+        Statement::Block(_, _, all) => are_quick(all),
+        Statement::If(e, a) => is_quick(e) && is_quick_statement(a),
+        Statement::IfElse(e, a, b) => is_quick(e) && is_quick_statement(a) && is_quick_statement(b),
+        Statement::Switch(_, _, _, _, _) => false,
+        Statement::Case(_) => true,
+        Statement::Default => true,
+        Statement::While(e, a) => is_quick(e) && is_quick_statement(a),
+        Statement::DoWhile(a, e) => is_quick(e) && is_quick_statement(a),
+        Statement::For(declared, start, test, step, a) => {
+            is_quick_or(start.as_ref())
+                && is_quick_or(test.as_ref())
+                && is_quick_or(step.as_ref())
+                && are_quick(declared)
+                && is_quick_statement(a)
+        }
+        Statement::Break => true,
+        Statement::Continue => true,
+        Statement::ReturnNothing => true,
+        Statement::ReturnValue(_, e) => is_quick(e),
+    }
+}
+
+/// Whether what takes the next tick is done here.
+pub fn is_quick_node(node: &Node<'_>) -> bool {
+    match node {
+        Node::Value(e) => is_quick(e),
+        Node::Place(_) => false,
+        Node::Statement(_, a) => is_quick_statement(a),
+        Node::Initialiser(_, _, _, _) => false,
+        Node::Element(_, _) => false,
+        Node::Ticking(_, _) => false,
+        Node::SwitchBlock(_, _) => false,
+        Node::CaseTest(_) => false,
+    }
+}

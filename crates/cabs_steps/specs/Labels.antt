@@ -1,0 +1,31 @@
+-- What the code finds of the labels of a switch (6.8.4.2).
+use Rattle.std.specs.Prelude.{ℤ, List, [], ◌∷◌, map, Option, Some, None}
+use Rattle.std.specs.Borrow.{Bor}
+use Rattle.typing_rules.specs.Types as type
+use Rattle.typing_rules.specs.Program as typed
+use Rattle.typing_program.specs.declared.statements.Statement.{Statement}
+use Rattle.typing_program.specs.View.{statement_of, statements_of}
+use Rattle.meaning.specs.Machine.{State}
+use Rattle.meaning.specs.Statements.{Normal, labels_of}
+use Rattle.cabs_store.specs.inside.Frames as on
+use Rattle.cabs_store.specs.inside.Frames.{Moved, moves, enters, a_flow}
+use Rattle.cabs_store.specs.inside.Steps.{goes, waits, jumps}
+use Rattle.cabs_steps.specs.declared.labels.Label.{Label}
+use Rattle.cabs_steps.specs.declared.labels.Label.TheVariants as label
+use Rattle.cabs_steps.specs.declared.labels.Sought.{Sought}
+use Rattle.cabs_steps.specs.declared.labels.Sought.TheVariants as sought
+
+abbrev pub label_kind : Label → List (Option ℤ)
+label_kind (label.Case v) = Some v ∷ []
+label_kind label.Default = None ∷ []
+label_kind label.None = []
+
+-- from a statement on
+abbrev pub begins_at : List type.ObjectType → Option (Bor Statement × Bor (List Statement)) → State → Moved
+begins_at objects None s = goes (a_flow Normal) s
+begins_at objects (Some found) s = waits (on.rest objects (statements_of (map statement_of found.1.now))) (on.statement objects (statement_of found.0.now)) s
+
+abbrev pub comes_to : List type.ObjectType → ℤ → typed.Statements → Sought → State → Moved
+comes_to objects v all (sought.Test c more n default) s =
+    moves [] (enters (on.case_test objects v c (labels_of (statements_of (map statement_of more.now))) n default all)) s
+comes_to objects v all (sought.Jump label) s = jumps objects label all s

@@ -1,0 +1,6 @@
+pub mod Trees
+pub mod Resumes
+pub mod Adequate
+pub mod Scenes
+pub mod Taken
+pub mod Held

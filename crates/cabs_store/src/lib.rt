@@ -1,0 +1,20 @@
+//! The abstract machine in memory: runs a typed program without translating it (ISO/IEC 9899:2011 5.1.2.3).
+#![tactic(auto)]
+
+mod element_tree;
+pub mod expressions;
+pub mod frames;
+pub mod laws;
+pub mod machine;
+pub mod operands;
+pub mod operators;
+mod path;
+mod reference;
+pub mod scene;
+pub mod stop;
+mod store;
+
+pub use element_tree::Tree;
+pub use path::Path;
+pub use reference::Reference;
+pub use store::Store;

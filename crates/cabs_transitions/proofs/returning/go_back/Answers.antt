@@ -1,0 +1,11 @@
+use Rattle.std.proofs.Common.{subst, sym}
+use Rattle.cabs_store.specs.declared.frames.Back.{Back}
+use Rattle.cabs_store.specs.inside.Agrees.{Agrees, onto}
+use Rattle.cabs_store.specs.inside.Steps.{went_back}
+use Rattle.cabs_store.specs.inside.Views.{back_of}
+use Rattle.cabs_transitions.proofs.returning.go_back.Goals as goal
+
+pub returns-in-ToCaller : goal.returns-in-ToCaller
+returns-in-ToCaller c = λ p s fs.
+    let P : Back → Type 0 = λ b. Agrees (onto fs (went_back p (back_of b) c.args.value s)) c.call_value.result fs s in
+    subst P (sym c.in-ToCaller.is) (c.call_value.ensures p s fs)

@@ -1,0 +1,165 @@
+-- The file of a program whose flat code is made.
+use Rattle.std.proofs.Common.{◌≡◌, ◌≤◌, ◌<◌, ℕ, suc, ◌+◌, ◌*◌, List, [], ◌∷◌, length, map, Option, Some, None, Ok, refl, sym, ap, ◌∙◌, subst, arith, true}
+use Rattle.std.specs.Prelude.{slice_get, sum_by, option_map, IfOk, Result, Err}
+use Rattle.std.proofs.lemmas.Option.{slice_get-map, slice_get_within}
+use Rattle.std.proofs.lemmas.List.{length-map}
+use Rattle.std.proofs.lemmas.List.Sums.{sum_by-append, sum_by-cons}
+use Rattle.loader.specs.MemoryMap.{text_start, stack_size}
+use Rattle.loader.specs.File.{file_image}
+use Rattle.elf_out.specs.Layout.{Parts}
+use Rattle.elf_out.specs.Program.{program_image}
+use Rattle.elf_out.specs.Written.{file_of}
+use Rattle.asm.specs.declared.item.Item.{Item}
+use Rattle.asm.specs.Layout.{AllReach, IsLow, size, longest}
+use Rattle.typing_rules.specs.Program as typed
+use Rattle.tac_code.specs.Code as tac
+use Rattle.tac_code.specs.Sound.{data_bytes}
+use Rattle.tac_code.specs.Spans.{span}
+use Rattle.tac_code.specs.Lowered.{IsLowered}
+use Rattle.frames_code.specs.Code as flat
+use Rattle.frames_code.specs.Code.{frame_bytes}
+use Rattle.frames_code.specs.declared.code.FlatProgram.{FlatProgram}
+use Rattle.frames.specs.Translated.{flat_program}
+use Rattle.frames.specs.Flattened.{IsFlattened}
+use Rattle.frames.specs.Data.{data_of}
+use Rattle.frames.proofs.Whole.{length_data, data_bytes_are}
+use Rattle.frames_registers.specs.Renumbered.{IsRenumbered}
+use Rattle.frames_registers.proofs.Soundness.{stays_sound}
+use Rattle.select.specs.Program.{program_items, start_items, functions_items, function_items}
+use Rattle.select.proofs.Lengths.{code_is_short}
+use Rattle.select_simulation.specs.Reaching.{rows_of}
+use Rattle.select_simulation.proofs.Reaching.{jumps_reach}
+use Rattle.cc_backend.proofs.ShortPrograms.{code_fits, program_is_short}
+use Rattle.select_simulation.specs.Runs.{slack}
+use Rattle.cc_backend.specs.Images.{IsImageOf}
+use Rattle.cc_backend.proofs.Runs.{flattened_of, none_within}
+use Rattle.cc_backend.proofs.Programs.{flattened_goes_on, flattened_ends}
+use Rattle.cc_backend.proofs.Renumbering.{renumbered_is_flattened}
+use Rattle.cc_backend.specs.Generated.{IsReady, IsFlatCodeOf, RunsAs, FramesFit, most_text, IsFileOf, AreItemsOf}
+
+-- sums of what is less at each place
+pub sums_within : {A B : Type 0} (g : A → ℕ) (h : B → ℕ) (xs : List A) (ys : List B) → length xs ≡ length ys
+    → ((k : ℕ) (x : A) (y : B) → slice_get xs k ≡ Some x → slice_get ys k ≡ Some y → g x ≤ h y) → sum_by g xs ≤ sum_by h ys
+sums_within g h [] ys same each = omega arith
+sums_within g h (x ∷ xs) [] same each = absurd (omega (arith, same))
+sums_within g h (x ∷ xs) (y ∷ ys) same each =
+    let more = sums_within g h xs ys (omega (arith, same)) (λ k. each (suc k)) in
+    omega (arith, sum_by-cons g x xs, sum_by-cons h y ys, each 0 x y refl refl, more)
+
+-- the items of functions take no more than their rows
+functions_short : (k first : ℕ) (fs : List flat.Function) → longest (functions_items k first fs) ≤ sum_by rows_of fs
+functions_short k first [] = omega arith
+functions_short k first (f ∷ fs) =
+    let one = code_is_short f k first in
+    let more = functions_short (k + 1) (first + (length f.code + 1)) fs in
+    let both = sum_by-append (size true) (function_items k first f) (functions_items (k + 1) (first + (length f.code + 1)) fs) in
+    omega (arith, one, more, both, sum_by-cons rows_of f fs)
+
+start_short : (main : ℕ) → longest (start_items main) ≡ 24
+start_short main = refl
+
+pub code_of : (p : typed.Program) (q : tac.Program) (f : flat.Program) → IsLowered p q → IsRenumbered (flat_program q) f → IsFlatCodeOf p f
+code_of p q f made renumbered = record {
+  code = q;
+  lowered = made;
+  renumbered = renumbered;
+  sound = stays_sound (flat_program q) f renumbered (flattened_of q (flat_program q) made.sound refl).sound;
+}
+
+pub code_in : {E : Type 0} (p : typed.Program) (q : tac.Program) → IsLowered p q → (r : Result FlatProgram E) → IfOk r (λ f. IsRenumbered (flat_program q) (flat.program_of f)) → IfOk r (λ f. IsFlatCodeOf p (flat.program_of f))
+code_in p q made (Ok f) renumbered = code_of p q (flat.program_of f) made renumbered
+code_in p q made (Err e) renumbered = tt
+
+module _ (p : typed.Program) (f : flat.Program) (ready : IsReady p) (made : IsFlatCodeOf p f) where
+  flattened : IsFlattened made.code f
+  flattened =
+      let first = flattened_of made.code (flat_program made.code) made.lowered.sound refl in
+      renumbered_is_flattened made.code (flat_program made.code) f first made.renumbered
+
+  pub reach : (base : ℕ) → AllReach base (program_items f)
+  reach base = jumps_reach f base made.sound (program_is_short p made.code f ready.checked made.lowered flattened)
+
+  same_count : length f.functions ≡ length p.functions
+  same_count = flattened.count ∙ made.lowered.count
+
+  -- ---- frames
+
+  frame_fits : (k : ℕ) (g : typed.Function) (b : Option tac.Function) (c : Option flat.Function) (bytes : ℕ) → slice_get p.functions k ≡ Some g → slice_get made.code.functions k ≡ b → slice_get f.functions k ≡ c
+      → option_map frame_bytes c ≡ Some bytes → (bytes ≤ g.weight) × (bytes ≤ span g)
+  frame_fits k g b None bytes eg eb ec e = absurd (let z : ⊥ = cc in z)
+  frame_fits k g None (Some h) bytes eg eb ec e = absurd (none_within made.code.functions k eb (subst (λ n. k < n) flattened.count (slice_get_within f.functions k h ec)))
+  frame_fits k g (Some y) (Some h) bytes eg eb ec e =
+      let one = (flattened.each k y h eb ec).frame in
+      let two = (made.lowered.each k g y eg eb).within_weight in
+      let three = (made.lowered.each k g y eg eb).within_span in
+      let same : frame_bytes h ≡ bytes = cc in
+      (omega (arith, one, two, same), omega (arith, one, three, same))
+
+  pub frames_fit : FramesFit p (map frame_bytes f.functions)
+  frames_fit = (
+    length-map f.functions frame_bytes ∙ same_count,
+    λ k g bytes eg e. frame_fits k g (slice_get made.code.functions k) (slice_get f.functions k) bytes eg refl refl (sym (slice_get-map frame_bytes f.functions k) ∙ e),
+  )
+
+  -- ---- the text
+
+  pub text_fits : longest (program_items f) ≤ most_text p
+  text_fits =
+      let rows = functions_short 0 (length f.functions) f.functions in
+      let nodes = sums_within rows_of (λ g. 128 * g.nodes + 1024) f.functions p.functions same_count
+      (λ k h g eh eg. code_fits p made.code f made.lowered flattened k g h eg eh) in
+      let both = sum_by-append (size true) (start_items f.main) (functions_items 0 (length f.functions) f.functions) in
+      omega (arith, rows, nodes, both, start_short f.main)
+
+  -- ---- the data
+
+  data_fits : (parts : Parts) → IsImageOf f parts → length parts.statics ≤ 16 + data_bytes p.literals p.statics
+  data_fits parts image =
+      let q = made.code in
+      let whole : length parts.statics ≡ length (data_of q) = ap length (image.statics ∙ flattened.statics) in
+      let same : data_bytes q.literals q.statics ≡ data_bytes p.literals p.statics =
+      ap (λ l. data_bytes l q.statics) made.lowered.literals ∙ ap (λ o. data_bytes p.literals o) made.lowered.statics in
+      omega (arith, whole, length_data q, data_bytes_are q.literals q.statics, same)
+
+  -- ---- the run
+
+  pub runs : (parts : Parts) (file : List ℕ) → IsImageOf f parts → file_image file ≡ Ok (program_image parts) → RunsAs stack_size p (map frame_bytes f.functions) file
+  runs parts file image loads = record {
+    image = program_image parts;
+    loads = loads;
+    ends = λ input bytes n status s over small.
+        let w = flattened_ends p made.code f parts input made.lowered flattened image bytes n status s over small in
+        (w.0, w.1, w.2, (w.3, (w.4, w.5)));
+    slack = slack f;
+    goes_on = λ input bytes n s over small.
+        let w = flattened_goes_on p made.code f parts input made.lowered flattened image bytes n s over small in
+        (w.0, w.1, w.3, (w.2, (w.4, (w.5, w.6), w.7)));
+  }
+
+  pub is_file : (parts : Parts) (file frames : List ℕ) → IsImageOf f parts → length parts.text ≤ longest (program_items f) → frames ≡ map frame_bytes f.functions
+      → file ≡ file_of parts → file_image file ≡ Ok (program_image parts) → IsFileOf p file frames
+  is_file parts file frames image short sizes written loads = record {
+    runs = subst (λ xs. RunsAs stack_size p xs file) (sym sizes) (runs parts file image loads);
+    code = f;
+    code_is = made;
+    frames_are = sizes;
+    frames_fit = subst (FramesFit p) (sym sizes) frames_fit;
+    parts = parts;
+    file_is = written;
+    image_is = image;
+    text_fits = omega (arith, short, text_fits);
+    data_fits = data_fits parts image;
+  }
+
+  pub items_of : (items : List Item) → items ≡ program_items f → IsLow text_start items → AreItemsOf p items
+  items_of items are low = record {
+    code = f;
+    code_is = made;
+    items_are = are;
+    low = low;
+    reach = subst (AllReach text_start) (sym are) (reach text_start);
+  }
+
+  pub items_in : {E : Type 0} (r : Result (List Item) E) → IfOk r (λ items. items ≡ program_items f) → IfOk r (λ items. IsLow text_start items) → IfOk r (AreItemsOf p)
+  items_in (Ok items) are low = items_of items are low
+  items_in (Err e) are low = tt

@@ -1,0 +1,10 @@
+pub mod Images
+pub mod Lowering
+pub mod Renumbering
+pub mod Generates
+pub mod FlatImages
+pub mod Runs
+pub mod Known
+pub mod Programs
+pub mod Rows
+pub mod ShortPrograms

@@ -1,0 +1,7 @@
+use Rattle.typing_program.specs.View.{program_of}
+use Rattle.tac_code.specs.Code as three_address
+use Rattle.cc_backend.proofs.Generates.{code_in}
+use Rattle.cc_backend.proofs.flat_code.flat_code.Goals as goal
+
+pub returns : goal.returns
+returns c = code_in (program_of c.args.program.now) (three_address.program_of c.in_ok-code.code) c.in_ok-code.ensures c.resident_code.result c.resident_code.ensures

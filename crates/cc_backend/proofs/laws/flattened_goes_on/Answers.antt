@@ -1,0 +1,5 @@
+use Rattle.cc_backend.proofs.Programs as laws
+use Rattle.cc_backend.proofs.laws.flattened_goes_on.Goals as goal
+
+pub returns : goal.returns
+returns c = laws.flattened_goes_on

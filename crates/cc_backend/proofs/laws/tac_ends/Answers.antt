@@ -1,0 +1,5 @@
+use Rattle.cc_backend.proofs.Runs as laws
+use Rattle.cc_backend.proofs.laws.tac_ends.Goals as goal
+
+pub returns : goal.returns
+returns c = laws.tac_ends

@@ -1,0 +1,46 @@
+//! From a typed program to the executable file, and to its listing.
+
+ghost use Rattle.std.specs.Prelude.{IfOk};
+ghost use Rattle.typing_program.specs.View.{program_of};
+ghost use Rattle.frames_code.specs.Code as flat;
+ghost use Rattle.cc_backend.specs.Generated.{IsReady, IsFileOf, AreItemsOf};
+
+use crate::flat_code::{flat_code, want_of_memory};
+use crate::image::{code_image, low_items};
+use crate::sizes::frame_sizes;
+use asm::Items;
+use elf_out::write_elf;
+use std::alloc::{AllocError, Global};
+use typing_program::Program;
+
+/// An executable file.
+#[derive(Drop)]
+pub struct Generated {
+    /// The ELF32 file.
+    pub elf: Vec<u8>,
+    /// The bytes of the frame of each function, in the order of their definitions.
+    pub frames: Vec<u32>,
+}
+
+/// The executable file of a program that breaks no constraint; an error also where what it takes is more than the machine's memory.
+pub fn generate(alloc: Global, program: &Program) -> Result<Generated, AllocError>
+    requires ready { IsReady (program_of program.now) }
+    ensures file { IfOk result (λ g. IsFileOf (program_of program.now) g.elf.items g.frames.items) }
+{
+    let code = flat_code(alloc, program)?;
+    let frames = frame_sizes(alloc, &code)?;
+    let image = code_image(alloc, code)?;
+    match write_elf(alloc, &image) {
+        Ok(elf) => Ok(Generated { elf, frames }),
+        Err(fault) => Err(want_of_memory(fault)),
+    }
+}
+
+/// The items of the code of a program that breaks no constraint.
+pub fn items(alloc: Global, program: &Program) -> Result<Items, AllocError>
+    requires ready { IsReady (program_of program.now) }
+    ensures items { IfOk result (λ items. AreItemsOf (program_of program.now) items) }
+{
+    let code = flat_code(alloc, program)?;
+    low_items(alloc, &code)
+}

@@ -1,0 +1,56 @@
+//! The items of flat code, and their image.
+
+ghost use Rattle.std.specs.Prelude.{◌≡◌, ◌≤◌, length, IfOk};
+ghost use Rattle.loader.specs.MemoryMap.{text_start};
+ghost use Rattle.asm.specs.Placed.{Assembles};
+ghost use Rattle.frames_code.specs.Code as flat;
+ghost use Rattle.frames_code.specs.Sound.{IsSoundProgram};
+ghost use Rattle.cc_backend.specs.Images.{IsImageOf};
+ghost use Rattle.select.specs.Program.{program_items};
+ghost use Rattle.asm.specs.Layout.{IsLow, AllReach, longest};
+
+use crate::bytes::are_bytes;
+use crate::flat_code::want_of_memory;
+use asm::{Items, assemble};
+use elf_out::Image;
+use frames_code::FlatProgram;
+use loader::memory_map::TEXT_START;
+use select::select;
+use std::alloc::{AllocError, Global};
+
+/// The items of flat code, which end where the assembler takes them.
+pub fn low_items(alloc: Global, program: &FlatProgram) -> Result<Items, AllocError>
+    requires { IsSoundProgram (flat.program_of program.now) }
+    ensures items { IfOk result (λ items. items ≡ program_items (flat.program_of program.now)) }
+    ensures low { IfOk result (λ items. IsLow text_start items) }
+{
+    let items = match select(alloc, program) {
+        Ok(items) => items,
+        Err(fault) => return Err(want_of_memory(fault)),
+    };
+    if items.is_low(TEXT_START) {
+        Ok(items)
+    } else {
+        Err(AllocError)
+    }
+}
+
+/// The image of flat code.
+pub fn code_image(alloc: Global, program: FlatProgram) -> Result<Image, AllocError>
+    requires sound { IsSoundProgram (flat.program_of program) }
+    requires reaches { AllReach text_start (program_items (flat.program_of program)) }
+    ensures image { IfOk result (IsImageOf (flat.program_of program)) }
+    ensures size { IfOk result (λ image. length image.text ≤ longest (program_items (flat.program_of program))) }
+{
+    let items = low_items(alloc, &program)?;
+    let text = match assemble(alloc, &items, TEXT_START) {
+        Ok(text) => text,
+        Err(fault) => return Err(want_of_memory(fault)),
+    };
+    are_bytes(text.as_slice());
+    are_bytes(program.statics.as_slice());
+    match Image::new(text, program.statics) {
+        Some(image) => Ok(image),
+        None => Err(AllocError),
+    }
+}

@@ -1,0 +1,69 @@
+//! The image of a program runs as the program does: laws of flat code, of three-address code and of the typed program that they come from; and the
+//! code of a function is as short as the tables of bytes say.
+ghost use Rattle.cc_backend.specs.Images.{ImageGoesOn, ImageEnds, ImageCallsKeep};
+ghost use Rattle.cc_backend.specs.Runs.{TacGoesOn, TacEnds};
+ghost use Rattle.cc_backend.specs.Programs.{FlattenedGoesOn, FlattenedEnds, ProgramGoesOn, ProgramEnds};
+ghost use Rattle.cc_backend.specs.Sizes.{RowsFit, CodeFits, ProgramIsShort};
+
+/// Where a flat program goes on, its image does too, having done the same, and with the same input left.
+pub fn image_goes_on()
+    ensures { ImageGoesOn }
+{}
+
+/// Where a flat program ends, its image ends with the same status, having done the same, and with the same input left.
+pub fn image_ends()
+    ensures { ImageEnds }
+{}
+
+/// At each call that a flat program comes to the machine stands with it; behind its return it has the same stack pointer and s0 to s11, and the
+/// result in a0.
+pub fn image_calls_keep()
+    ensures { ImageCallsKeep }
+{}
+
+/// Where three-address code goes on, its image does too, having done the same, and with the same input left.
+pub fn tac_goes_on()
+    ensures { TacGoesOn }
+{}
+
+/// Where three-address code ends, its image ends with the same status, having done the same, and with the same input left.
+pub fn tac_ends()
+    ensures { TacEnds }
+{}
+
+/// Where the abstract machine goes on, the image of any flat code that does what the three-address code does goes on too, having done the same, within
+/// 60 n + 64 instructions for n ticks.
+pub fn flattened_goes_on()
+    ensures { FlattenedGoesOn }
+{}
+
+/// Where the abstract machine ends, the image of any flat code that does what the three-address code does ends with the same status, having done the
+/// same, within 60 n + 66 instructions for n ticks.
+pub fn flattened_ends()
+    ensures { FlattenedEnds }
+{}
+
+/// Where the abstract machine goes on, the image does too, having done the same, within 60 n + 64 instructions for n ticks.
+pub fn program_goes_on()
+    ensures { ProgramGoesOn }
+{}
+
+/// Where the abstract machine ends, the image ends with the same status, having done the same, within 60 n + 66 instructions for n ticks.
+pub fn program_ends()
+    ensures { ProgramEnds }
+{}
+
+/// The rows of a function of flat code, by what `select` emits, sum to no more than its bytes by flattening's table.
+pub fn rows_fit()
+    ensures { RowsFit }
+{}
+
+/// The code of a function takes at most 128 bytes for each of its nodes, and 1024.
+pub fn code_fits()
+    ensures { CodeFits }
+{}
+
+/// So each jump reaches in the code of a program that was checked, lowered and flattened.
+pub fn program_is_short()
+    ensures { ProgramIsShort }
+{}

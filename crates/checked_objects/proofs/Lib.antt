@@ -1,3 +1,0 @@
-pub mod Present
-pub mod Sized
-pub mod Joined

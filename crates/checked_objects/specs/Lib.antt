@@ -1,3 +1,0 @@
-pub mod Laws
-pub use Rattle.checked.specs.Settled
-pub use Rattle.tac.specs.Designated

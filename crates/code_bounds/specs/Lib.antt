@@ -1,3 +1,0 @@
-pub mod Laws
-pub use Rattle.tac.specs.Lowered
-pub mod inside

@@ -1,5 +1,0 @@
-use Rattle.declaration_parser.proofs.DeclarationFacts.{no_keyword}
-use Rattle.declaration_parser.proofs.declarations.begins_declaration.Goals as goal
-
-pub returns-in-None : goal.returns-in-None
-returns-in-None c = (λ h. cc, λ h. absurd (no_keyword c.args.tokens.now c.in-None.ensures h))

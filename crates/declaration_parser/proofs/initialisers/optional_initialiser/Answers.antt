@@ -1,9 +1,0 @@
-use Rattle.std.proofs.Common.{IfErr}
-use Rattle.declaration_parser.specs.inside.InitAnswers.{StandsInitialiser}
-use Rattle.grammar.proofs.Exits.{passed_on}
-use Rattle.declaration_parser.proofs.InitFacts.{initialiser_stands}
-use Rattle.declaration_parser.proofs.initialisers.optional_initialiser.Goals as goal
-
-pub returns-in_err-part-clause-stands : goal.returns-in_err-part-clause-stands
-returns-in_err-part-clause-stands c = passed_on (λ r. IfErr r (λ f. StandsInitialiser c.args.depth c.args.tokens.now f)) _ c.in_err-part.field-0.0
-    c.from_residual.ensures.1 (initialiser_stands _ _ _ _ _ c.in-Some.ensures c.in_err-part.ensures.stands)

@@ -1,5 +1,0 @@
-use Rattle.std.proofs.Common.{◌≡◌, ◌∷◌, take}
-use Rattle.declarations.proofs.finished_objects.widened.Given as goal
-
-abbrev pub invariant-loop-inner : goal.invariant-loop-inner
-invariant-loop-inner l = l.wide.items ≡ l.length ∷ take l.inner-index l.lengths

@@ -1,0 +1,11 @@
+use Rattle.std.proofs.Common.{◌≡◌, map, drop}
+use Rattle.tree.specs.View.{item_of}
+use Rattle.typing_rules.specs.Declarations as typed
+use Rattle.const_expr.specs.Typings.{base_type_of}
+use Rattle.typing_scopes.specs.Scopes.{with_texts}
+use Rattle.decls_linkage.specs.Views.{class_of}
+use Rattle.decls.proofs.declared_items.items_declared.Given as goal
+
+abbrev pub invariant-loop-item : goal.invariant-loop-item
+invariant-loop-item l =
+    typed.items_declared (with_texts l.names l.scope) (class_of l.class) (base_type_of l.base) (map item_of (drop l.item-index l.items)) ≡ typed.items_declared (with_texts l.names l.initial.scope) (class_of l.class) (base_type_of l.base) (map item_of l.items)

@@ -1,0 +1,6 @@
+use Rattle.std.proofs.Common.{drop}
+use Rattle.decls_declarators.proofs.Parameters.{Left}
+use Rattle.decls_declarators.proofs.parameter_lists.parameters_from.Given as goal
+
+abbrev pub invariant-loop-parameter : goal.invariant-loop-parameter
+invariant-loop-parameter l = Left l.names l.initial.scope l.parameters l.types.items l.references l.scope (drop l.parameter-index l.parameters)

@@ -1,0 +1,4 @@
+pub mod Views
+pub mod Numbered
+pub mod inside
+pub use Rattle.typing_rules.specs.Initialisers

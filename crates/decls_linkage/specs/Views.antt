@@ -1,0 +1,55 @@
+-- What the code's types of linkage stand for.
+use Rattle.std.specs.Prelude.{Bool, false, [], ◌∷◌, Option, Some, None}
+use Rattle.ctypes.specs.declared.types.IntType.TheVariants as ty
+use Rattle.typing_program.specs.declared.types.ObjectType.{ObjectType}
+use Rattle.typing_program.specs.declared.types.DeclaredType.{DeclaredType}
+use Rattle.typing_program.specs.View.{object_type_of, declared_type_of}
+use Rattle.typing_scopes.specs.declared.bindings.Meaning.{Meaning}
+use Rattle.typing_scopes.specs.Scopes.{meaning_of, linkage_of, state_of}
+use Rattle.decls_linkage.specs.declared.rules.StorageClass.{StorageClass}
+use Rattle.decls_linkage.specs.declared.rules.StorageClass.TheVariants as class
+use Rattle.decls_linkage.specs.declared.built_ins.BuiltIn.{BuiltIn}
+use Rattle.decls_linkage.specs.declared.built_ins.BuiltIn.TheVariants as built_in
+use Rattle.decls_linkage.specs.declared.redeclarations.Agreed.{Agreed}
+use Rattle.typing_rules.specs.Types as type
+use Rattle.typing_rules.specs.Program as program
+use Rattle.typing_rules.specs.Scope as scope
+use Rattle.typing_rules.specs.Linkage as typed
+
+abbrev pub class_of : StorageClass → typed.StorageClass
+class_of class.None = typed.no_class
+class_of class.Extern = typed.by_extern
+class_of class.Static = typed.by_static
+
+abbrev pub option_object : Option ObjectType → Option type.ObjectType
+option_object None = None
+option_object (Some t) = Some (object_type_of t)
+
+abbrev pub option_declared : Option DeclaredType → Option type.DeclaredType
+option_declared None = None
+option_declared (Some t) = Some (declared_type_of t)
+
+abbrev pub option_meaning : Option Meaning → Option scope.Meaning
+option_meaning None = None
+option_meaning (Some m) = Some (meaning_of m)
+
+-- whether an array has such elements
+abbrev pub are_elements : Option type.ObjectType → type.ObjectType → Bool
+are_elements None element = false
+are_elements (Some t) element = type.same_object t element
+
+abbrev pub has_elements : type.ObjectType → type.ObjectType → Bool
+has_elements array element = are_elements (type.element_type array) element
+
+abbrev pub agreed_of : Agreed → typed.Agreed
+agreed_of a = record { meaning = meaning_of a.meaning; linkage = linkage_of a.linkage; state = state_of a.state }
+
+-- int rv_getbyte(void), void rv_putbyte(int c), void rv_exit(int status)
+abbrev pub built_in_of : BuiltIn → scope.BuiltIn
+built_in_of built_in.GetByte = record { callee = program.get_byte; type = record { result = Some ty.Int; constant = false; parameters = [] } }
+built_in_of built_in.PutByte = record { callee = program.put_byte; type = record { result = None; constant = false; parameters = type.number ty.Int ∷ [] } }
+built_in_of built_in.Exit = record { callee = program.exit; type = record { result = None; constant = false; parameters = type.number ty.Int ∷ [] } }
+
+abbrev pub option_built_in : Option BuiltIn → Option scope.BuiltIn
+option_built_in None = None
+option_built_in (Some b) = Some (built_in_of b)

@@ -1,7 +1,0 @@
--- What the code's calls stand for.
-use Rattle.program.specs.View as view
-use Rattle.expression_rules.specs.declared.callees.Called.{Called}
-use Rattle.typed.specs.Expressions as typed
-
-abbrev pub called_of : Called → typed.Called
-called_of c = record { callee = view.callee_of c.callee; type = view.function_type_of c.function.now }

@@ -1,5 +1,0 @@
-use Rattle.flat_images.proofs.Images as laws
-use Rattle.flat_images.proofs.image_goes_on.Goals as goal
-
-pub returns : goal.returns
-returns c = laws.image_goes_on

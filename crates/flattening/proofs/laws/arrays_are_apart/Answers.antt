@@ -1,5 +1,0 @@
-use Rattle.flattening.proofs.Apart as apart
-use Rattle.flattening.proofs.laws.arrays_are_apart.Goals as goal
-
-pub returns : goal.returns
-returns c = record { apart = apart.arrays_are_apart; inside = apart.arrays_are_inside }

@@ -1,6 +1,0 @@
-use Rattle.flattening.proofs.WordsOf.{operations_agree, comparison_is}
-use Rattle.flattening.proofs.Narrow.{conversions_agree}
-use Rattle.flattening.proofs.laws.words_agree.Goals as goal
-
-pub returns : goal.returns
-returns c = record { operations = operations_agree; comparisons = comparison_is; conversions = conversions_agree }

@@ -1,6 +1,0 @@
-use Rattle.std.proofs.Common.{◌≡◌, ◌-◌, ◌++◌}
-use Rattle.flattening.specs.Data.{low_bytes}
-use Rattle.flattening.proofs.statics.put_low_bytes.Given as goal
-
-abbrev pub invariant-loop : goal.invariant-loop
-invariant-loop l = l.bytes.items ++ low_bytes (l.count - l.counter) l.rest ≡ l.initial.bytes.items ++ low_bytes l.count l.word

@@ -1,0 +1,55 @@
+-- What it is for flat code to do what three-address code does: the contract of flattening.
+use Rattle.std.specs.Prelude.{◌≡◌, ◌≤◌, ℕ, List, length, slice_get, Some}
+use Rattle.meaning.specs.History.{Entry, trace_of}
+use Rattle.frames_code.specs.Code as flat
+use Rattle.frames_code.specs.Run as flat_run
+use Rattle.frames_code.specs.Sound as flat_sound
+use Rattle.tac_code.specs.Code as tac
+use Rattle.tac_code.specs.Run as tac_run
+use Rattle.tac_code.specs.Costs as tac_costs
+use Rattle.tac_code.specs.Sound.{AreBytes}
+use Rattle.frames.specs.Data.{data_of}
+use Rattle.frames.specs.Costs as flat_costs
+
+-- the two runs, after n and m steps
+abbrev pub before : tac.Program → List ℕ → ℕ → tac_run.Progress
+before q input n = tac_run.run q n (tac_run.start q input)
+
+abbrev pub behind : flat.Program → List ℕ → ℕ → flat_run.Progress
+behind f input m = flat_run.run f m (flat_run.start f input)
+
+-- the second has done what the first has done, and has its calls
+abbrev pub IsAt : flat_run.State → tac_run.State → Type 0
+IsAt s t = (s.trace ≡ trace_of t.history) × (s.input ≡ t.input) × (flat_run.active s ≡ tac_run.open_calls t)
+
+-- no more is spent
+abbrev pub CostsNoMore : tac.Program → flat.Program → List ℕ → (n m : ℕ) → Type 0
+CostsNoMore q f input n m =
+    flat_costs.spent_in_all f m (flat_run.start f input) ≤ tac_costs.spent_in_all q n (tac_run.start q input)
+
+-- at each of m steps the calls are those of the first run at one of its n
+abbrev pub HasItsCalls : tac.Program → flat.Program → List ℕ → (n m : ℕ) → Type 0
+HasItsCalls q f input n m = (j : ℕ) (s : flat_run.State) → j ≤ m → behind f input j ≡ flat_run.running s →
+    (i : ℕ) × (i ≤ n) × ((t : tac_run.State) × (before q input i ≡ tac_run.running t) × (flat_run.active s ≡ tac_run.open_calls t))
+
+-- for each n where three-address code is not stuck; one step is at least one
+pub record InStep (q : tac.Program) (f : flat.Program) (input : List ℕ) : Type 0 where
+  pub goes_on : (n : ℕ) (t : tac_run.State) → before q input n ≡ tac_run.running t →
+      (m : ℕ) × (n ≤ m) × ((s : flat_run.State) × (behind f input m ≡ flat_run.running s) × IsAt s t) ×
+      CostsNoMore q f input n m × HasItsCalls q f input n m
+  pub ends : (n status : ℕ) (left : List ℕ) (history : List Entry) → before q input n ≡ tac_run.ended status left history →
+      (m : ℕ) × (behind f input m ≡ flat_run.ended status left (trace_of history)) × CostsNoMore q f input n m × HasItsCalls q f input n m
+
+-- function h is g's code: its frame takes no more of the stack, and its code no more bytes
+pub record IsCodeOf (g : tac.Function) (h : flat.Function) : Type 0 where
+  pub frame : flat.frame_bytes h ≤ tac_costs.call_bytes g
+  pub code : flat_costs.function_bytes h ≤ tac_costs.function_bytes g
+
+-- what flattening gives
+pub record IsFlattened (q : tac.Program) (f : flat.Program) : Type 0 where
+  pub sound : flat_sound.IsSoundProgram f
+  pub in_step : (input : List ℕ) → AreBytes input → InStep q f input
+  pub statics : f.statics ≡ data_of q
+  pub main : f.main ≡ q.main
+  pub count : length f.functions ≡ length q.functions
+  pub each : (k : ℕ) (g : tac.Function) (h : flat.Function) → slice_get q.functions k ≡ Some g → slice_get f.functions k ≡ Some h → IsCodeOf g h

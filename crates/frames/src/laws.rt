@@ -1,0 +1,30 @@
+//! Laws of where things lie and of what is computed, each the contract of a function without code.
+
+ghost use Rattle.frames.specs.Laws.{WordsAreApart, WordsComeFirst, ReferencesComeNext, SlotsComeLast, ArraysAreApart, ArraysAreInside, StartsAreApart, OperationsAgree, ComparisonsAgree, ConversionsAgree};
+
+/// Objects that are no arrays, references and slots have words of their own, within those of the frame.
+pub fn words_are_apart()
+    ensures objects { WordsAreApart }
+    ensures first { WordsComeFirst }
+    ensures references { ReferencesComeNext }
+    ensures slots { SlotsComeLast }
+{}
+
+/// Arrays of a call do not overlap, and lie within the bytes of the frame's arrays.
+pub fn arrays_are_apart()
+    ensures apart { ArraysAreApart }
+    ensures inside { ArraysAreInside }
+{}
+
+/// String literals do not overlap, nor do objects with static storage.
+pub fn starts_are_apart()
+    ensures { StartsAreApart }
+{}
+
+/// On words, flat code's operations give what those of three-address code give where these are defined, and its tests hold just
+/// where the comparisons do. Its conversions leave the words of the numbers that conversions give.
+pub fn words_agree()
+    ensures operations { OperationsAgree }
+    ensures comparisons { ComparisonsAgree }
+    ensures conversions { ConversionsAgree }
+{}

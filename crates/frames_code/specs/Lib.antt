@@ -1,0 +1,4 @@
+pub mod Code
+pub mod Run
+pub mod Sound
+pub mod Costs

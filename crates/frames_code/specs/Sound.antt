@@ -1,0 +1,67 @@
+-- Which flat programs are sound: each instruction names what its function has. What `select` takes.
+use Rattle.std.specs.Prelude.{◌≡◌, ◌≤◌, ◌<◌, ℕ, ◌+◌, ◌*◌, ◌-◌, ◌^◌, List, length, slice_get, sum_by, Some}
+use Rattle.frames_code.specs.declared.code.Operand.{Operand}
+use Rattle.frames_code.specs.declared.code.Operand.TheVariants as operand
+use Rattle.frames_code.specs.declared.code.Target.{Target}
+use Rattle.frames_code.specs.declared.code.Target.TheVariants as target
+use Rattle.frames_code.specs.declared.code.Location.{Location}
+use Rattle.frames_code.specs.declared.code.Location.TheVariants as location
+use Rattle.frames_code.specs.declared.code.Instruction.{Instruction}
+use Rattle.frames_code.specs.declared.code.Instruction.TheVariants as instruction
+use Rattle.frames_code.specs.Code.{Function, Program, frame_bytes}
+
+-- the most bytes of a frame, and of arguments from the ninth on
+abbrev pub most_bytes : ℕ
+most_bytes = 2 ^ 20
+
+abbrev pub OperandFits : Function → Operand → Type 0
+OperandFits f (operand.Temporary k) = k < 8 + f.outgoing
+OperandFits f (operand.Cell c) = c < f.cells
+OperandFits f (operand.Constant v) = v < 2 ^ 32
+OperandFits f (operand.Argument k) = (8 ≤ k) × (4 * (k - 8) < most_bytes)
+
+abbrev pub TargetFits : Function → Target → Type 0
+TargetFits f (target.Temporary k) = k < 8 + f.outgoing
+TargetFits f (target.Cell c) = c < f.cells
+
+-- an offset in the statics is one that an item may name
+abbrev pub LocationFits : Function → Location → Type 0
+LocationFits f (location.Statics o) = o < 0x10000000
+LocationFits f (location.Frame o) = o < f.area
+LocationFits f (location.At x) = OperandFits f x
+
+-- in function f of a program of so many functions
+abbrev pub InstructionFits : ℕ → Function → Instruction → Type 0
+InstructionFits n f instruction.Nothing = Unit {0}
+InstructionFits n f (instruction.Move d x) = TargetFits f d × OperandFits f x
+InstructionFits n f (instruction.Compute o d x y) = TargetFits f d × OperandFits f x × OperandFits f y
+InstructionFits n f (instruction.Convert c d x) = TargetFits f d × OperandFits f x
+InstructionFits n f (instruction.Load w d l) = TargetFits f d × LocationFits f l
+InstructionFits n f (instruction.Store w x l) = OperandFits f x × LocationFits f l
+InstructionFits n f (instruction.Address d l) = TargetFits f d × LocationFits f l
+InstructionFits n f (instruction.Element d x y size) = TargetFits f d × OperandFits f x × OperandFits f y × (size < 2 ^ 32)
+InstructionFits n f (instruction.Jump to) = to < length f.code
+InstructionFits n f (instruction.Branch t x y to) = OperandFits f x × OperandFits f y × (to < length f.code)
+InstructionFits n f (instruction.Call g) = g < n
+InstructionFits n f instruction.PutByte = Unit {0}
+InstructionFits n f instruction.GetByte = Unit {0}
+InstructionFits n f instruction.Exit = Unit {0}
+InstructionFits n f instruction.Return = Unit {0}
+
+-- in a program of n functions
+pub record FunctionFits (n : ℕ) (f : Function) : Type 0 where
+  pub small : frame_bytes f ≤ most_bytes
+  pub few : f.resident ≤ 12
+  pub all : f.resident ≤ f.cells
+  pub each : (k : ℕ) (x : Instruction) → slice_get f.code k ≡ Some x → InstructionFits n f x
+
+-- one for each instruction and one for each function's end
+abbrev pub places_of : List Function → ℕ
+places_of fs = sum_by (λ f. length f.code + 1) fs
+
+-- main is one of its functions, each of them is sound, and there are fewer than 2^32 functions and instructions
+pub record IsSoundProgram (p : Program) : Type 0 where
+  pub has_main : p.main < length p.functions
+  pub each : (k : ℕ) (f : Function) → slice_get p.functions k ≡ Some f → FunctionFits (length p.functions) f
+  pub statics : length p.statics ≤ 0x10000000
+  pub countable : length p.functions + places_of p.functions < 2 ^ 32

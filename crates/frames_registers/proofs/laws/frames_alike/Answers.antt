@@ -1,0 +1,5 @@
+use Rattle.frames_registers.proofs.Whole as laws
+use Rattle.frames_registers.proofs.laws.frames_alike.Goals as goal
+
+pub returns : goal.returns
+returns c = laws.frames_alike

@@ -1,6 +1,0 @@
-use Rattle.std.proofs.Common.{◌≡◌, drop}
-use Rattle.initialisers.proofs.ConstantParts.{left_of}
-use Rattle.initialisers.proofs.constancy.+constancy.Given as goal
-
-abbrev pub invariant-all_constant-loop-part : goal.invariant-all_constant-loop-part
-invariant-all_constant-loop-part l = left_of l.scope (drop l.part-index l.parts) ≡ left_of l.scope l.parts

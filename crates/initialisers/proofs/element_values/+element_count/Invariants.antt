@@ -1,5 +1,0 @@
-use Rattle.std.proofs.Common.{length}
-use Rattle.initialisers.proofs.element_values.+element_count.Given as goal
-
-abbrev pub decreases-element_count : goal.decreases-element_count
-decreases-element_count l = length l.lengths.now

@@ -1,6 +1,0 @@
-use Rattle.std.proofs.Common.{◌≡◌, ◌++◌, drop}
-use Rattle.typed.specs.Initialisers.{characters}
-use Rattle.initialisers.proofs.element_values.push_characters.Given as goal
-
-abbrev pub invariant-loop-byte : goal.invariant-loop-byte
-invariant-loop-byte l = l.all.items ++ characters l.element (drop l.byte-index l.text) ≡ l.initial.all.items ++ characters l.element l.text

@@ -1,6 +1,0 @@
-use Rattle.std.proofs.Common.{drop}
-use Rattle.initialisers.proofs.Readings.{Reading}
-use Rattle.initialisers.proofs.typing.+typing.Given as goal
-
-abbrev pub invariant-typed_parts-loop-part : goal.invariant-typed_parts-loop-part
-invariant-typed_parts-loop-part l = Reading l.names l.scope l.pos l.element l.lengths l.initial.literals l.literals l.parts (drop l.part-index l.parts) l.all.items

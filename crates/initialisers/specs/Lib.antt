@@ -1,4 +1,0 @@
-pub mod Views
-pub mod Numbered
-pub mod inside
-pub use Rattle.typed.specs.Initialisers

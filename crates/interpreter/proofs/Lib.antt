@@ -1,7 +1,0 @@
-pub mod Laid
-pub mod Calm
-pub mod Following
-pub mod Telling
-pub mod Acts
-pub mod Ticking
-pub mod AtOnce

@@ -1,3 +1,0 @@
-pub mod Reaching
-pub use Rattle.select.specs.Program
-pub use Rattle.select.specs.Bytes

@@ -1,9 +1,0 @@
-pub mod Nodes
-pub mod HeldStatements
-pub mod Blocks
-pub mod Placed
-pub mod Whole
-pub mod Stretches
-pub mod Filled
-pub mod Counted
-pub mod Firsts

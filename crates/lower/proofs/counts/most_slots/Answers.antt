@@ -1,6 +1,0 @@
-use Rattle.lowering.specs.Bodies.{slots_of}
-use Rattle.lower.proofs.Whole.{most_next}
-use Rattle.lower.proofs.counts.most_slots.Goals as goal
-
-pub loop-instruction-preserved : goal.loop-instruction-preserved
-loop-instruction-preserved c = most_next slots_of c.args.code.now c.loop-instruction.instruction-index _ c.loop-instruction-test.true _ _ _ c.loop-instruction.invariant c.in_ok-slots_of.ensures c.greater-most.ensures

@@ -1,8 +1,0 @@
-use Rattle.std.proofs.Common.{◌≡◌, map, take}
-use Rattle.program.specs.View.{function_of}
-use Rattle.lowering.specs.Bodies as relation
-use Rattle.lower.specs.inside.Functions.{parameters_at, temporaries_with}
-use Rattle.lower.proofs.counts.most_temporaries.Given as goal
-
-abbrev pub invariant-loop-instruction : goal.invariant-loop-instruction
-invariant-loop-instruction l = l.most ≡ relation.most (temporaries_with (parameters_at (map function_of l.functions))) (take l.instruction-index l.code)

@@ -1,7 +1,0 @@
-use Rattle.std.proofs.Common.{suc}
-use Rattle.lowering.specs.Bodies.{Idles}
-use Rattle.lower_forms.specs.inside.Parts.{Wrote}
-use Rattle.lower.proofs.functions.put_idles.Given as goal
-
-abbrev pub invariant-loop : goal.invariant-loop
-invariant-loop l = Wrote (λ w p q. Idles w (suc l.index) p q) (suc l.index) l.fn.code.list.items l.code.list.items

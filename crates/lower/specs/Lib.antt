@@ -1,2 +1,0 @@
-pub mod inside
-pub use Rattle.lowering.specs.Bodies

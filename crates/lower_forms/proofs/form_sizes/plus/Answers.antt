@@ -1,7 +1,0 @@
-use Rattle.std.proofs.Common.{arith}
-use Rattle.lower_forms.specs.inside.Parts.{plus}
-use Rattle.lower_forms.proofs.form_sizes.plus.Goals as goal
-
-pub returns : goal.returns
-unfolding plus
-returns c = grind arith

@@ -1,9 +1,0 @@
-use Rattle.std.proofs.Common.{map, ap, sym, ◌∙◌}
-use Rattle.typed.specs.Nodes.{reference_in}
-use Rattle.program.specs.View.{parameter_type_of}
-use Rattle.lower_forms.specs.inside.Rows.{deep_size}
-use Rattle.lower_forms.proofs.Rows.{deep_none, no_items}
-use Rattle.lower_forms.proofs.row_sizes.+parameter_size.Goals as goal
-
-pub returns-in-None : goal.returns-in-None
-returns-in-None t c = sym (ap (λ ps. deep_size c.args.depth (reference_in (map parameter_type_of ps) c.args.number)) (no_items c.args.parameters.now c.in-None.ensures.cases) ∙ deep_none c.args.depth)

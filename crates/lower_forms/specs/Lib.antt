@@ -1,3 +1,0 @@
-pub mod inside
-pub use Rattle.lowering.specs.Values
-pub use Rattle.lowering.specs.Code

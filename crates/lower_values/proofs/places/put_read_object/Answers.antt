@@ -1,6 +1,0 @@
-use Rattle.lower_values.proofs.Located.{read_object}
-use Rattle.lower_forms.proofs.Parts.{two}
-use Rattle.lower_values.proofs.places.put_read_object.Goals as goal
-
-pub returns : goal.returns
-returns c = two c.in_ok-put.ensures c.in_ok-put_end.ensures

@@ -1,0 +1,13 @@
+use Rattle.std.proofs.Common.{◌<◌, length, map}
+use Rattle.tree.specs.View.{parameter_of}
+use Rattle.parser_declarations.proofs.ParameterLists.{ParametersLoop}
+use Rattle.parser_declarations.proofs.parameters.parameters.Given as goal
+
+abbrev pub invariant-loop-after : goal.invariant-loop-after
+invariant-loop-after l = record {
+  shorter : length l.rest < length l.tokens;
+  read : ParametersLoop l.depth l.tokens (map parameter_of l.list.items) l.deepest l.rest;
+}
+
+abbrev pub decreases-loop-after : goal.decreases-loop-after
+decreases-loop-after l = length l.rest

@@ -1,0 +1,495 @@
+//! Expressions (ISO/IEC 9899:2011 6.5) and type names (6.7.7).
+
+ghost use Rattle.std.specs.Prelude.{max, List, ◌≡◌, ℕ, ◌<◌, ◌≤◌, ◌+◌, length, IfOk, IfErr, MatchOption, ◌∷◌, ◌↔◌, IsTrue};
+ghost use Rattle.lexer.specs.declared.token.Kind.TheVariants as kind;
+ghost use Rattle.lexer.specs.declared.token.Keyword.TheVariants as keyword;
+ghost use Rattle.lexer.specs.declared.token.Punctuator.TheVariants as sign;
+ghost use Rattle.lexer.specs.declared.token.Token.{Token};
+ghost use Rattle.srcset.specs.declared.refusal.Pos.{Pos};
+ghost use Rattle.tree.specs.Tree.{binary, subscript, after};
+ghost use Rattle.tree.specs.View.{tree_of};
+ghost use Rattle.tree.specs.declared.expression.BinaryOp.{BinaryOp};
+ghost use Rattle.parser_grammar.specs.Tokens.{Own, NotFront};
+ghost use Rattle.parser_grammar.specs.Expressions.{layer_of, binary_sign};
+ghost use Rattle.parser_expressions.specs.ExpressionAnswers.{BeginsType, Answers, Stands};
+ghost use Rattle.parser_expressions.specs.ExpressionLeads.{KindBeginsExpression, BeginsExpression};
+ghost use Rattle.parser_expressions.specs.inside.PartAnswers.{AnswersArguments, StandsArguments, AnswersType, StandsType};
+ghost use Rattle.parser_grammar.specs.declared.refusal.Refusal.TheVariants.{Memory};
+
+use crate::fronts::{
+    above, constant_front, down, expect_sign, identifier_front, keyword_front, sign_front,
+    string_front,
+};
+use crate::operators::{
+    assign_front, binary_front, is_unary, layer_number, prefix_front, step_front,
+};
+use crate::type_specifiers::{begins_type, type_specifiers};
+use lexer::{Keyword, Kind, Punctuator, Token};
+use parser_grammar::Refusal;
+use srcset::Pos;
+use std::alloc::Global;
+use tree::{BinaryOp, Expr, StepOp, TypeName};
+
+/// An expression at the front of a list, its depth, and the rest of the list.
+#[derive(Drop)]
+pub struct Part<'t> {
+    pub expr: Expr,
+    pub depth: u32,
+    pub rest: &'t [Token],
+}
+
+/// The arguments of a call, their depth, and the rest of the list after the closing parenthesis.
+#[derive(Drop)]
+pub(crate) struct ArgumentsPart<'t> {
+    pub list: Vec<Expr>,
+    pub depth: u32,
+    pub rest: &'t [Token],
+}
+
+/// The name of a type, its depth, and the rest of the list after the closing parenthesis.
+#[derive(Drop)]
+pub(crate) struct TypePart<'t> {
+    pub name: TypeName,
+    pub depth: u32,
+    pub rest: &'t [Token],
+}
+
+fn kind_begins_expression(kind: Kind) -> bool
+    ensures { IsTrue result ↔ KindBeginsExpression kind }
+{
+    match kind {
+        Kind::Identifier(_) | Kind::Constant(_, _) | Kind::StringLiteral(_) => true,
+        Kind::Keyword(keyword) => match keyword {
+            Keyword::Sizeof => true,
+            _ => false,
+        },
+        Kind::Punctuator(sign) => match sign {
+            Punctuator::ParenOpen
+            | Punctuator::PlusPlus
+            | Punctuator::MinusMinus
+            | Punctuator::Plus
+            | Punctuator::Minus
+            | Punctuator::Tilde
+            | Punctuator::Bang => true,
+            _ => false,
+        },
+    }
+}
+
+/// Whether an expression may begin with the token at the front.
+pub fn begins_expression(tokens: &[Token]) -> bool
+    ensures { IsTrue result ↔ BeginsExpression tokens.now }
+{
+    match tokens {
+        [first, ..] => kind_begins_expression(first.kind),
+        [] => false,
+    }
+}
+
+// The parenthesis before a type name, and what follows it.
+fn cast_front<'t>(tokens: &'t [Token]) -> Option<(Pos, &'t [Token])>
+    ensures { MatchOption result ((at : Pos) (rest : List Token) → Own (kind.Punctuator sign.ParenOpen) at tokens.now rest → BeginsType rest → ⊥)
+        (λ p. Own (kind.Punctuator sign.ParenOpen) p.0 tokens.now p.1.now × BeginsType p.1.now) }
+{
+    let (pos, rest) = sign_front(tokens, Punctuator::ParenOpen)?;
+    if begins_type(rest) {
+        return Some((pos, rest));
+    }
+    None
+}
+
+// `l op r`.
+fn join<'t>(
+    alloc: Global,
+    pos: Pos,
+    op: BinaryOp,
+    left: Part<'t>,
+    right: Part<'t>,
+) -> Result<Part<'t>, Refusal>
+    requires left { left.depth ≤ 256 }
+    requires right { right.depth ≤ 256 }
+    ensures ok { IfOk result (λ p. tree_of p.expr ≡ binary pos op (tree_of left.entry.expr) (tree_of right.entry.expr)) }
+    ensures depth { IfOk result (λ p. p.depth ≡ max left.entry.depth right.entry.depth + 1) }
+    ensures rest { IfOk result (λ p. p.rest.now ≡ right.entry.rest.now) }
+    ensures err { IfErr result (λ f. f ≡ Memory) }
+{
+    let depth = left.depth.max(right.depth) + 1;
+    Ok(Part {
+        expr: Expr::Binary(
+            pos,
+            op,
+            Box::new(alloc, left.expr)?,
+            Box::new(alloc, right.expr)?,
+        ),
+        depth,
+        rest: right.rest,
+    })
+}
+
+// `l[i]`.
+fn join_index<'t>(
+    alloc: Global,
+    pos: Pos,
+    left: Part<'t>,
+    index: Part<'t>,
+    rest: &'t [Token],
+) -> Result<Part<'t>, Refusal>
+    requires left { left.depth ≤ 256 }
+    requires index { index.depth ≤ 256 }
+    ensures ok { IfOk result (λ p. tree_of p.expr ≡ subscript pos (tree_of left.entry.expr) (tree_of index.entry.expr)) }
+    ensures depth { IfOk result (λ p. p.depth ≡ max left.entry.depth index.entry.depth + 1) }
+    ensures rest { IfOk result (λ p. p.rest.now ≡ rest.now) }
+    ensures err { IfErr result (λ f. f ≡ Memory) }
+{
+    let depth = left.depth.max(index.depth) + 1;
+    Ok(Part {
+        expr: Expr::Subscript(
+            pos,
+            Box::new(alloc, left.expr)?,
+            Box::new(alloc, index.expr)?,
+        ),
+        depth,
+        rest,
+    })
+}
+
+// `l++`.
+fn join_step<'t>(
+    alloc: Global,
+    pos: Pos,
+    op: StepOp,
+    left: Part<'t>,
+    rest: &'t [Token],
+) -> Result<Part<'t>, Refusal>
+    requires left { left.depth ≤ 256 }
+    ensures ok { IfOk result (λ p. tree_of p.expr ≡ after pos op (tree_of left.entry.expr)) }
+    ensures depth { IfOk result (λ p. p.depth ≡ left.entry.depth + 1) }
+    ensures rest { IfOk result (λ p. p.rest.now ≡ rest.now) }
+    ensures err { IfErr result (λ f. f ≡ Memory) }
+{
+    Ok(Part {
+        expr: Expr::After(pos, op, Box::new(alloc, left.expr)?),
+        depth: left.depth + 1,
+        rest,
+    })
+}
+
+/// An expression (6.5.17), below so many nodes.
+#[cycle(expressions)]
+pub fn expression<'t>(alloc: Global, tokens: &'t [Token], depth: u32) -> Result<Part<'t>, Refusal>
+    requires { depth ≤ 256 }
+    ensures answer { Answers 0 depth tokens.now result }
+    ensures stands { IfErr result (λ f. Stands 0 depth tokens.now f) }
+    ensures shorter { IfOk result (λ p. length p.rest.now < length tokens.now) }
+{
+    let mut left = assignment(alloc, tokens, depth)?;
+    while let Some((pos, rest)) = sign_front(left.rest, Punctuator::Comma) {
+        let below = above(depth, left.depth, pos)?;
+        let right = assignment(alloc, rest, below)?;
+        left = join(alloc, pos, BinaryOp::Comma, left, right)?;
+    }
+    Ok(left)
+}
+
+/// An assignment expression (6.5.16), below so many nodes.
+#[cycle(expressions)]
+pub fn assignment<'t>(alloc: Global, tokens: &'t [Token], depth: u32) -> Result<Part<'t>, Refusal>
+    requires { depth ≤ 256 }
+    ensures answer { Answers 1 depth tokens.now result }
+    ensures stands { IfErr result (λ f. Stands 1 depth tokens.now f) }
+    ensures shorter { IfOk result (λ p. length p.rest.now < length tokens.now) }
+{
+    let left = conditional(alloc, tokens, depth)?;
+    let Some((pos, op, rest)) = assign_front(left.rest) else {
+        return Ok(left);
+    };
+    if !is_unary(&left.expr) {
+        return Err(Refusal::Syntax(left.rest.len()));
+    }
+    let below = above(depth, left.depth, pos)?;
+    let right = assignment(alloc, rest, below)?;
+    let depth = left.depth.max(right.depth) + 1;
+    Ok(Part {
+        expr: Expr::Assign(
+            pos,
+            op,
+            Box::new(alloc, left.expr)?,
+            Box::new(alloc, right.expr)?,
+        ),
+        depth,
+        rest: right.rest,
+    })
+}
+
+/// A conditional expression (6.5.15), below so many nodes.
+#[cycle(expressions)]
+pub fn conditional<'t>(alloc: Global, tokens: &'t [Token], depth: u32) -> Result<Part<'t>, Refusal>
+    requires { depth ≤ 256 }
+    ensures answer { Answers 2 depth tokens.now result }
+    ensures stands { IfErr result (λ f. Stands 2 depth tokens.now f) }
+    ensures shorter { IfOk result (λ p. length p.rest.now < length tokens.now) }
+{
+    let test = binary(alloc, tokens, 3, depth)?;
+    let Some((pos, rest)) = sign_front(test.rest, Punctuator::Question) else {
+        return Ok(test);
+    };
+    let below = above(depth, test.depth, pos)?;
+    let yes = expression(alloc, rest, below)?;
+    let rest = expect_sign(yes.rest, Punctuator::Colon)?;
+    let no = conditional(alloc, rest, below)?;
+    let depth = test.depth.max(yes.depth.max(no.depth)) + 1;
+    Ok(Part {
+        expr: Expr::Conditional(
+            pos,
+            Box::new(alloc, test.expr)?,
+            Box::new(alloc, yes.expr)?,
+            Box::new(alloc, no.expr)?,
+        ),
+        depth,
+        rest: no.rest,
+    })
+}
+
+// An expression of operators whose layer is at least `min` (6.5.5 to 6.5.14), by precedence climbing.
+#[cycle(expressions)]
+fn binary<'t>(alloc: Global, tokens: &'t [Token], min: u32, depth: u32) -> Result<Part<'t>, Refusal>
+    requires room { depth ≤ 256 }
+    requires from { 3 ≤ min }
+    requires upto { min ≤ 13 }
+    ensures answer { Answers min depth tokens.now result }
+    ensures stands { IfErr result (λ f. Stands min depth tokens.now f) }
+    ensures ends { IfOk result (λ p. (op : BinaryOp) → min ≤ layer_of op → NotFront (kind.Punctuator (binary_sign op)) p.rest.now) }
+    ensures shorter { IfOk result (λ p. length p.rest.now < length tokens.now) }
+{
+    let mut left = cast(alloc, tokens, depth)?;
+    while let Some((pos, op, rest)) = binary_front(left.rest, min) {
+        let below = above(depth, left.depth, pos)?;
+        let right = binary(alloc, rest, layer_number(op) + 1, below)?;
+        left = join(alloc, pos, op, left, right)?;
+    }
+    Ok(left)
+}
+
+// A cast expression (6.5.4).
+#[cycle(expressions)]
+fn cast<'t>(alloc: Global, tokens: &'t [Token], depth: u32) -> Result<Part<'t>, Refusal>
+    requires { depth ≤ 256 }
+    ensures answer { Answers 13 depth tokens.now result }
+    ensures stands { IfErr result (λ f. Stands 13 depth tokens.now f) }
+    ensures shorter { IfOk result (λ p. length p.rest.now < length tokens.now) }
+{
+    if let Some((pos, rest)) = cast_front(tokens) {
+        let below = down(depth, pos)?;
+        let named = type_name(alloc, rest, below)?;
+        let operand = cast(alloc, named.rest, below)?;
+        let depth = named.depth.max(operand.depth) + 1;
+        return Ok(Part {
+            expr: Expr::Cast(pos, named.name, Box::new(alloc, operand.expr)?),
+            depth,
+            rest: operand.rest,
+        });
+    }
+    unary(alloc, tokens, depth)
+}
+
+// A type name (6.7.7), after its opening parenthesis and up to the closing one, which is taken too.
+#[cycle(expressions)]
+fn type_name<'t>(alloc: Global, tokens: &'t [Token], depth: u32) -> Result<TypePart<'t>, Refusal>
+    requires { depth ≤ 256 }
+    ensures answer { AnswersType depth tokens.now result }
+    ensures stands { IfErr result (λ f. StandsType depth tokens.now f) }
+    ensures shorter { IfOk result (λ p. length p.rest.now < length tokens.now) }
+{
+    let first = type_specifiers(alloc, tokens)?;
+    let mut sizes = Vec::new(alloc);
+    let mut deepest = 0u32;
+    let mut rest = first.rest;
+    while let Some((_, inner)) = sign_front(rest, Punctuator::BracketOpen) {
+        let size = conditional(alloc, inner, depth)?;
+        rest = expect_sign(size.rest, Punctuator::BracketClose)?;
+        deepest = deepest.max(size.depth);
+        sizes.push(size.expr)?;
+    }
+    let rest = expect_sign(rest, Punctuator::ParenClose)?;
+    Ok(TypePart {
+        name: TypeName {
+            specifiers: first.specifiers,
+            sizes,
+        },
+        depth: deepest,
+        rest,
+    })
+}
+
+// A unary expression (6.5.3).
+#[cycle(expressions)]
+fn unary<'t>(alloc: Global, tokens: &'t [Token], depth: u32) -> Result<Part<'t>, Refusal>
+    requires { depth ≤ 256 }
+    ensures answer { Answers 14 depth tokens.now result }
+    ensures stands { IfErr result (λ f. Stands 14 depth tokens.now f) }
+    ensures shorter { IfOk result (λ p. length p.rest.now < length tokens.now) }
+{
+    if let Some((pos, op, rest)) = step_front(tokens) {
+        let below = down(depth, pos)?;
+        let operand = unary(alloc, rest, below)?;
+        return Ok(Part {
+            expr: Expr::Before(pos, op, Box::new(alloc, operand.expr)?),
+            depth: operand.depth + 1,
+            rest: operand.rest,
+        });
+    }
+    if let Some((pos, op, rest)) = prefix_front(tokens) {
+        let below = down(depth, pos)?;
+        let operand = cast(alloc, rest, below)?;
+        return Ok(Part {
+            expr: Expr::Prefix(pos, op, Box::new(alloc, operand.expr)?),
+            depth: operand.depth + 1,
+            rest: operand.rest,
+        });
+    }
+    if let Some((pos, rest)) = keyword_front(tokens, Keyword::Sizeof) {
+        return sizeof(alloc, pos, rest, depth);
+    }
+    postfix(alloc, tokens, depth)
+}
+
+// What is measured (6.5.3.4), after `sizeof`.
+#[cycle(expressions)]
+fn sizeof<'t>(alloc: Global, pos: Pos, tokens: &'t [Token], depth: u32) -> Result<Part<'t>, Refusal>
+    requires { depth ≤ 256 }
+    ensures answer { Answers 14 depth (record { kind = kind.Keyword keyword.Sizeof; pos = pos } ∷ tokens.now) result }
+    ensures stands { IfErr result (λ f. Stands 14 depth (record { kind = kind.Keyword keyword.Sizeof; pos = pos } ∷ tokens.now) f) }
+    ensures shorter { IfOk result (λ p. length p.rest.now < length tokens.now + 1) }
+{
+    let below = down(depth, pos)?;
+    if let Some((_, rest)) = cast_front(tokens) {
+        let named = type_name(alloc, rest, below)?;
+        return Ok(Part {
+            expr: Expr::SizeofType(pos, named.name),
+            depth: named.depth + 1,
+            rest: named.rest,
+        });
+    }
+    let operand = unary(alloc, tokens, below)?;
+    Ok(Part {
+        expr: Expr::SizeofExpr(pos, Box::new(alloc, operand.expr)?),
+        depth: operand.depth + 1,
+        rest: operand.rest,
+    })
+}
+
+// A postfix expression (6.5.2).
+#[cycle(expressions)]
+fn postfix<'t>(alloc: Global, tokens: &'t [Token], depth: u32) -> Result<Part<'t>, Refusal>
+    requires { depth ≤ 256 }
+    ensures answer { Answers 15 depth tokens.now result }
+    ensures stands { IfErr result (λ f. Stands 15 depth tokens.now f) }
+    ensures shorter { IfOk result (λ p. length p.rest.now < length tokens.now) }
+{
+    let mut left = primary(alloc, tokens, depth)?;
+    loop {
+        if let Some((pos, op, rest)) = step_front(left.rest) {
+            above(depth, left.depth, pos)?;
+            left = join_step(alloc, pos, op, left, rest)?;
+            continue;
+        }
+        let Some((pos, rest)) = sign_front(left.rest, Punctuator::BracketOpen) else {
+            return Ok(left);
+        };
+        let below = above(depth, left.depth, pos)?;
+        let index = expression(alloc, rest, below)?;
+        let rest = expect_sign(index.rest, Punctuator::BracketClose)?;
+        left = join_index(alloc, pos, left, index, rest)?;
+    }
+}
+
+// A primary expression (6.5.1), or the call of a function that is named (6.5.2.2).
+#[cycle(expressions)]
+fn primary<'t>(alloc: Global, tokens: &'t [Token], depth: u32) -> Result<Part<'t>, Refusal>
+    requires { depth ≤ 256 }
+    ensures answer { Answers 16 depth tokens.now result }
+    ensures stands { IfErr result (λ f. Stands 16 depth tokens.now f) }
+    ensures shorter { IfOk result (λ p. length p.rest.now < length tokens.now) }
+{
+    if let Some((pos, name, rest)) = identifier_front(tokens) {
+        let below = down(depth, pos)?;
+        if let Some((_, rest)) = sign_front(rest, Punctuator::ParenOpen) {
+            let arguments = read_arguments(alloc, rest, below)?;
+            return Ok(Part {
+                expr: Expr::Call(pos, name, arguments.list),
+                depth: arguments.depth + 1,
+                rest: arguments.rest,
+            });
+        }
+        return Ok(Part {
+            expr: Expr::Name(pos, name),
+            depth: 1,
+            rest,
+        });
+    }
+    if let Some((pos, ty, value, rest)) = constant_front(tokens) {
+        down(depth, pos)?;
+        return Ok(Part {
+            expr: Expr::Constant(pos, ty, value),
+            depth: 1,
+            rest,
+        });
+    }
+    if let Some((pos, text, rest)) = string_front(tokens) {
+        down(depth, pos)?;
+        return Ok(Part {
+            expr: Expr::StringLiteral(pos, text),
+            depth: 1,
+            rest,
+        });
+    }
+    let Some((pos, rest)) = sign_front(tokens, Punctuator::ParenOpen) else {
+        return Err(Refusal::Syntax(tokens.len()));
+    };
+    let below = down(depth, pos)?;
+    let inner = expression(alloc, rest, below)?;
+    let rest = expect_sign(inner.rest, Punctuator::ParenClose)?;
+    Ok(Part {
+        expr: Expr::Paren(Box::new(alloc, inner.expr)?),
+        depth: inner.depth + 1,
+        rest,
+    })
+}
+
+// The arguments of a call (6.5.2.2), after its opening parenthesis and up to the closing one, which is taken too.
+#[cycle(expressions)]
+fn read_arguments<'t>(
+    alloc: Global,
+    tokens: &'t [Token],
+    depth: u32,
+) -> Result<ArgumentsPart<'t>, Refusal>
+    requires { depth ≤ 256 }
+    ensures answer { AnswersArguments depth tokens.now result }
+    ensures stands { IfErr result (λ f. StandsArguments depth tokens.now f) }
+    ensures shorter { IfOk result (λ p. length p.rest.now < length tokens.now) }
+{
+    let mut list = Vec::new(alloc);
+    if let Some((_, rest)) = sign_front(tokens, Punctuator::ParenClose) {
+        return Ok(ArgumentsPart {
+            list,
+            depth: 0,
+            rest,
+        });
+    }
+    let first = assignment(alloc, tokens, depth)?;
+    let mut deepest = first.depth;
+    let mut rest = first.rest;
+    list.push(first.expr)?;
+    while let Some((_, after)) = sign_front(rest, Punctuator::Comma) {
+        let next = assignment(alloc, after, depth)?;
+        deepest = deepest.max(next.depth);
+        rest = next.rest;
+        list.push(next.expr)?;
+    }
+    let rest = expect_sign(rest, Punctuator::ParenClose)?;
+    Ok(ArgumentsPart {
+        list,
+        depth: deepest,
+        rest,
+    })
+}

@@ -1,0 +1,58 @@
+-- The table's machine follows flat code: from a program's entry on.
+use Rattle.std.proofs.Common.{◌≡◌, ℕ, List, [], refl, sym, ◌∙◌, subst, arith}
+use Rattle.loader.specs.MemoryMap.{stack_end}
+use Rattle.meaning_events.specs.Events.{Event}
+use Rattle.sim.specs.Runs as machine
+use Rattle.frames_code.specs.Run.{State, running, start}
+use Rattle.select_running.specs.Light.{Light, Go, Done, Fell, light_run}
+use Rattle.select_running.specs.Whole.{Permits, fixed}
+use Rattle.select_running.specs.Worlds.{world, Follows}
+use Rattle.select_running.proofs.Worlds.{real_follows}
+use Rattle.select_running.proofs.Placing.{after_items}
+use Rattle.select.specs.Program.{program_items}
+use Rattle.select_simulation.specs.Matches.{Ground, Ready, Matches}
+use Rattle.select_simulation.specs.Costs.{least_spent}
+use Rattle.select_simulation.specs.Runs.{slack, ground_at, StandsWith, MachineGoesOn, MachineEnds}
+use Rattle.select_simulation.proofs.Progress.{progresses, times_more}
+use Rattle.select_simulation.proofs.Inputs.{Reads, whole, whole_once, flat_reads, machine_reads, Has, Kept}
+use Rattle.select_simulation.proofs.Laying.{is_ready}
+use Rattle.select_simulation.proofs.Standing.{stands_with}
+use Rattle.select_simulation.proofs.Whole.{comes_to, ends}
+
+-- the world of a run that goes on
+record Shown (G : Ground) (s : State) (x : machine.Progress) : Type 0 where
+  pub world : machine.World
+  pub is : x ≡ machine.Running world
+  pub stands : StandsWith G.program G.env s world
+
+shown : (P : Permits) (G : Ground) (s : State) (m : Light) (x : machine.Progress) → Ready G → G.sp ≡ stack_end → Matches G (running s) m → Follows P m x → Shown G s x
+shown P G s (Go r at b i h) x ready top q f = record { world = world P f.list at b i h; is = f.is; stands = stands_with P G s f.list r at b i h ready top q.0 q.1 q.2 f.shows }
+shown P G s (Done status h) x ready top q f = absurd q
+shown P G s (Fell h) x ready top q f = absurd q
+
+last : (P : Permits) (status : ℕ) (trace : List Event) (m : Light) (x : machine.Progress) → m ≡ Done status trace → Follows P m x → (w : machine.World) × (x ≡ machine.Ended status w) × (w.trace ≡ trace)
+last P status trace m x e f = subst (λ y. Follows P y x) e f
+
+pub goes_on : MachineGoesOn
+goes_on P low apart p env data_at base e r b list input q shows bytes n s over rooms =
+    let F = fixed P b in
+    let G = ground_at p F env data_at base r b in
+    let one = after_items F.text env data_at (program_items p) base e q.aligned q.stands in
+    let c = comes_to p F env data_at base e r b input q bytes n rooms in
+    let real = real_follows P low apart list r base b input [] shows (omega (arith, one.on, q.low)) c.j in
+    let x = machine.rvrun c.j (world P list base b input []) in
+    let w = shown P G s (light_run F c.j (Go r base b input [])) x (is_ready p F env data_at base e r b q) refl (subst (λ y. Matches G y (light_run F c.j (Go r base b input []))) over c.good) real in
+    (c.j, w.world, times_more (slack p) (least_spent p n (start p input)) c.j n (progresses p n (start p input) s over) (omega (arith, c.some)), c.within, w.is, w.stands)
+
+pub ends_so : MachineEnds
+ends_so P low apart p env data_at base e r b list input q shows bytes n status left trace over rooms =
+    let F = fixed P b in
+    let one = after_items F.text env data_at (program_items p) base e q.aligned q.stands in
+    let c = ends p F env data_at base e r b input q bytes n status left trace over rooms in
+    let real = real_follows P low apart list r base b input [] shows (omega (arith, one.on, q.low)) c.j in
+    let begin = world P list base b input [] in
+    let w = last P status trace (light_run F c.j (Go r base b input [])) (machine.rvrun c.j begin) c.good real in
+    let there : Reads input w.0.input w.0.trace = subst (Has input) w.1 (machine_reads input c.j begin refl) in
+    let here : whole trace w.0.input ≡ input = subst (λ h. whole h w.0.input ≡ input) w.2 there in
+    let flat : whole trace left ≡ input = subst (Kept (Reads input)) over (flat_reads p n (start p input) input refl) in
+    (c.j, w.0, c.within, w.1, w.2, whole_once trace w.0.input left (here ∙ sym flat))

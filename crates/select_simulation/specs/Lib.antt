@@ -1,0 +1,11 @@
+pub mod Matches
+pub mod Costs
+pub mod Laws
+pub mod Runs
+pub use Rattle.select.specs.Selected
+pub use Rattle.select.specs.Program
+pub use Rattle.frames_code.specs.Run
+pub use Rattle.frames_code.specs.Sound
+pub use Rattle.select_running.specs.Light
+pub mod Reaching
+pub use Rattle.select.specs.Bytes

@@ -1,5 +1,0 @@
-use Rattle.simulation.proofs.Forms as laws
-use Rattle.simulation.proofs.branches_follow.Goals as goal
-
-pub returns : goal.returns
-returns c = laws.branch_follows

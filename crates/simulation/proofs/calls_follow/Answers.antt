@@ -1,5 +1,0 @@
-use Rattle.simulation.proofs.Calls as laws
-use Rattle.simulation.proofs.calls_follow.Goals as goal
-
-pub returns : goal.returns
-returns c = laws.call_follows

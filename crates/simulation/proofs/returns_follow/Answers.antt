@@ -1,5 +1,0 @@
-use Rattle.simulation.proofs.Calls as laws
-use Rattle.simulation.proofs.returns_follow.Goals as goal
-
-pub returns : goal.returns
-returns c = laws.return_follows

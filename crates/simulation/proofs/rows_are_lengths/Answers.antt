@@ -1,5 +1,0 @@
-use Rattle.simulation.proofs.Lengths as laws
-use Rattle.simulation.proofs.rows_are_lengths.Goals as goal
-
-pub returns : goal.returns
-returns c = laws.rows_are_lengths

@@ -1,6 +1,0 @@
-use Rattle.frames.specs.Code.{function_of}
-use Rattle.soundness.specs.inside.Parts.{CodeFits}
-use Rattle.soundness.proofs.functions.has_sound_code.Given as goal
-
-abbrev pub invariant-loop-number : goal.invariant-loop-number
-invariant-loop-number l = CodeFits l.count (function_of l.function) l.number

@@ -1,3 +1,0 @@
-pub use Rattle.frames.specs.Code
-pub use Rattle.frames.specs.Sound
-pub mod inside

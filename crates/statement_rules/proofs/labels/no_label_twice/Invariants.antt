@@ -1,7 +1,0 @@
-use Rattle.std.proofs.Common.{map, drop}
-use Rattle.statement_rules.specs.Views.{label_of}
-use Rattle.statement_rules.proofs.LabelLists.{Read}
-use Rattle.statement_rules.proofs.labels.no_label_twice.Given as goal
-
-abbrev pub invariant-loop-label : goal.invariant-loop-label
-invariant-loop-label l = Read (map label_of l.labels) (map label_of (drop l.label-index l.labels)) l.values.keys

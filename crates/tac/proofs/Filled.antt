@@ -1,0 +1,143 @@
+-- Parts of lists of initialisers.
+use Rattle.std.proofs.Common.{◌≡◌, ℕ, zero, suc, ◌+◌, ◌*◌, ◌-◌, ◌<◌, ◌≤◌, Bool, ◌||◌, List, [], ◌∷◌, map, length, get_or, drop, refl, ap, sym, ◌∙◌, subst, arith}
+use Rattle.std.proofs.lemmas.List.{drop_more, drop_all}
+use Rattle.ctypes.specs.declared.types.IntType.{IntType}
+use Rattle.typing_rules.specs.Types.{elements_in}
+use Rattle.typing_rules.specs.Program as typed
+use Rattle.typing_rules.specs.Program.{Value, Initialiser, Initialisers}
+use Rattle.tac_code.specs.declared.code.Operand.{Operand}
+use Rattle.tac_code.specs.declared.code.Place.{Place as Spot}
+use Rattle.tac_code.specs.declared.code.Place.TheVariants as place
+use Rattle.tac_code.specs.declared.code.Instruction.{Instruction}
+use Rattle.tac_lowering.specs.Values.{keeps, operand_of, mode_of, Nowhere}
+use Rattle.tac_lowering.specs.Places.{size_of_place, cuts}
+use Rattle.tac_lowering.specs.Code.{Puts}
+use Rattle.tac_lowering.specs.Initialisers.{Sets, FillAll}
+use Rattle.tac_forms.specs.declared.modes.Shape.TheVariants as shape
+use Rattle.tac_forms.specs.inside.FormSizes.{puts_size}
+use Rattle.tac_forms.proofs.Stored.{stored_by}
+use Rattle.tac_values.specs.inside.Written.{WroteValue}
+use Rattle.tac_forms.specs.inside.Parts.{plus, Begins, Wrote}
+use Rattle.tac_forms.proofs.Parts.{plus_is, begins_all, begins_on, two}
+use Rattle.tac.specs.declared.elements.Start.{Start}
+use Rattle.tac.specs.inside.FirstSizes.{begins_size, clears_to_size, clears_size, sets_size, fills_size, fill_all_size}
+use Rattle.tac.specs.inside.Starts.{WroteClears}
+use Rattle.tac.specs.inside.Written.{WroteFills, WroteFillAll}
+
+-- ---- sums and products as far as a word counts
+
+plus_none : (m n : ℕ) → plus 0 (plus m n) ≡ plus m n
+unfolding plus
+plus_none m n = omega arith
+
+pub plus_assoc : (k m n : ℕ) → plus (plus k m) n ≡ plus k (plus m n)
+unfolding plus
+plus_assoc k m n = omega arith
+
+nothing_more : plus 0 0 ≡ 0
+unfolding plus
+nothing_more = refl
+
+one_more : plus 0 1 ≡ 1
+unfolding plus
+one_more = refl
+
+counted : (n : ℕ) → plus 0 (clears_size n) ≡ clears_size n
+counted zero = nothing_more
+counted (suc zero) = one_more
+counted (suc (suc n)) = plus_none begins_size clears_to_size
+
+pub all_counts : (texts : List (List ℕ)) (all : Initialisers) (k : ℕ) (lengths : List ℕ) → plus 0 (fill_all_size texts all k lengths) ≡ fill_all_size texts all k lengths
+all_counts texts typed.no_initialisers k lengths = counted (k * elements_in lengths)
+all_counts texts (typed.and_initialiser x more) k lengths = plus_none (fills_size texts x lengths) (fill_all_size texts more (k - 1) lengths)
+
+-- ---- one value
+
+pub sets_wrote : (p : typed.Program) (f : typed.Function) (u : IntType) (e : Value) (n i : ℕ) (o : Operand) (a : Spot) (kept : Bool) {c0 c1 c2 : List Instruction}
+    → o ≡ operand_of e 0 0 → a ≡ place.Element n i u → kept ≡ cuts u Nowhere || keeps u e
+    → WroteValue (size_of_place p f) e (mode_of (operand_of e 0 0)) 0 0 c0 c1
+    → Wrote (λ w pc pc2. Puts w kept u o a Nowhere 0 pc pc2) (puts_size kept shape.Nowhere) c1 c2
+    → Wrote (λ w pc pc2. Sets w p.literals (size_of_place p f) u e n i pc pc2) (sets_size u e) c0 c2
+sets_wrote p f u e n i o a kept {c0} {c1} {c2} eo ea ek x0 x1 =
+    let y1 = subst (λ b. Wrote (λ w pc pc2. Puts w kept u (operand_of e 0 0) b Nowhere 0 pc pc2) (puts_size kept shape.Nowhere) c1 c2) ea
+    (subst (λ b. Wrote (λ w pc pc2. Puts w kept u b a Nowhere 0 pc pc2) (puts_size kept shape.Nowhere) c1 c2) eo x1) in
+    two x0 (stored_by u (operand_of e 0 0) (place.Element n i u) Nowhere 0 (keeps u e) kept ek y1)
+
+start_as : (P : Start → Type 0) (s : Start) (t : IntType) (n i : ℕ) → s.element ≡ t → s.array ≡ n → s.number ≡ i → P (record { element = t; array = n; number = i }) → P s
+start_as P s t n i e1 e2 e3 x =
+    subst (λ k. P (record { element = s.element; array = s.array; number = k })) (sym e3)
+    (subst (λ k. P (record { element = s.element; array = k; number = i })) (sym e2) (subst (λ u. P (record { element = u; array = n; number = i })) (sym e1) x))
+
+-- ---- a list, of whose initialisers some are left
+
+-- what was written so far, for all of them, where `rest` is left for k more from number i on
+pub record Filling (p : typed.Program) (f : typed.Function) (all : Initialisers) (count : ℕ) (lengths : List ℕ) (a : Start)
+    (rest : Initialisers) (k : ℕ) (b : Start) (old new : List Instruction) : Type 0 where
+  pub begins : Begins old new
+  pub short : length new < 4611686018427387904
+  pub done : ℕ
+  pub grows : length new ≡ length old + done
+  pub size : fill_all_size p.literals all count lengths ≡ plus done (fill_all_size p.literals rest k lengths)
+  pub stands : (w : List Instruction) (q : ℕ) → Begins new w → FillAll w p.literals (size_of_place p f) rest b.element k lengths b.array b.number (length new) q
+      → FillAll w p.literals (size_of_place p f) all a.element count lengths a.array a.number (length old) q
+
+pub none_filled : (p : typed.Program) (f : typed.Function) (all : Initialisers) (count : ℕ) (lengths : List ℕ) (a : Start) (c : List Instruction) → length c < 4611686018427387904
+    → Filling p f all count lengths a all count a c c
+none_filled p f all count lengths a c l = record {
+  begins = begins_all c;
+  short = l;
+  done = 0;
+  grows = omega arith;
+  size = sym (all_counts p.literals all count lengths);
+  stands = λ w q h x. x;
+}
+
+module _ (p : typed.Program) (f : typed.Function) (all : Initialisers) (count : ℕ) (lengths : List ℕ) (a : Start) where
+  one_filled : (x : Initialiser) (more : Initialisers) (k : ℕ) (b : Start) {c0 c1 c2 : List Instruction} → Filling p f all count lengths a (typed.and_initialiser x more) k b c0 c1
+      → WroteFills p f x lengths b c1 c2
+      → Filling p f all count lengths a more (k - 1) (record { element = b.element; array = b.array; number = b.number + elements_in lengths }) c0 c2
+  one_filled x more k b {c0} {c1} {c2} y z =
+      let n = fills_size p.literals x lengths in
+      let sum : plus y.done n ≡ y.done + n = plus_is y.done n (length c2) (omega (arith, y.grows, z.grows)) z.short in
+      record {
+        begins = begins_on y.begins z.begins;
+        short = z.short;
+        done = y.done + n;
+        grows = omega (arith, y.grows, z.grows);
+        size = y.size ∙ sym (plus_assoc y.done n (fill_all_size p.literals more (k - 1) lengths)) ∙ ap (λ m. plus m (fill_all_size p.literals more (k - 1) lengths)) sum;
+        stands = λ w q h r. y.stands w q (begins_on z.begins h) (length c2, z.stands w h, r);
+      }
+
+  pub next_filled : {X : Type 0} (g : X → Initialiser) (of : List Initialiser → Initialisers)
+      → ((i : Initialiser) (is : List Initialiser) → of (i ∷ is) ≡ typed.and_initialiser i (of is))
+      → (xs : List X) (i : ℕ) (x : X) → i < length xs → x ≡ get_or xs i x → (k k2 row : ℕ) (b b2 : Start) {c0 c1 c2 : List Instruction}
+      → Filling p f all count lengths a (of (map g (drop i xs))) k b c0 c1 → WroteFills p f (g x) lengths b c1 c2 → row ≡ elements_in lengths
+      → k2 ≡ k - 1 → b2.element ≡ b.element → b2.array ≡ b.array → b2.number ≡ b.number + row
+      → Filling p f all count lengths a (of (map g (drop (i + 1) xs))) k2 b2 c0 c2
+  next_filled g of step xs i x lt e k k2 row b b2 {c0} {c1} {c2} y z er ek e1 e2 e3 =
+      let here : of (map g (drop i xs)) ≡ typed.and_initialiser (g x) (of (map g (drop (i + 1) xs))) =
+      ap (λ zs. of (map g zs)) (drop_more xs i x lt) ∙ step (g (get_or xs i x)) (map g (drop (i + 1) xs)) ∙ ap (λ v. typed.and_initialiser (g v) (of (map g (drop (i + 1) xs)))) (sym e) in
+      start_as (λ s. Filling p f all count lengths a (of (map g (drop (i + 1) xs))) k2 s c0 c2) b2 b.element b.array (b.number + elements_in lengths) e1 e2 (e3 ∙ ap (λ n. b.number + n) er)
+      (subst (λ n. Filling p f all count lengths a (of (map g (drop (i + 1) xs))) n (record { element = b.element; array = b.array; number = b.number + elements_in lengths }) c0 c2) (sym ek)
+      (one_filled (g x) (of (map g (drop (i + 1) xs))) k b (subst (λ r. Filling p f all count lengths a r k b c0 c1) here y) z))
+
+  rest_filled : (k rest : ℕ) (b : Start) {c0 c1 c2 : List Instruction} → Filling p f all count lengths a typed.no_initialisers k b c0 c1
+      → rest ≡ k * elements_in lengths → WroteClears rest b c1 c2 → WroteFillAll p f all count lengths a c0 c2
+  rest_filled k rest b {c0} {c1} {c2} y e x =
+      let z = subst (λ n. WroteClears n b c1 c2) e x in
+      let n = clears_size (k * elements_in lengths) in
+      let sum : plus y.done n ≡ y.done + n = plus_is y.done n (length c2) (omega (arith, y.grows, z.grows)) z.short in
+      let size : fill_all_size p.literals all count lengths ≡ y.done + n = y.size ∙ sum in
+      record {
+        begins = begins_on y.begins z.begins;
+        grows = omega (arith, y.grows, z.grows, size);
+        short = z.short;
+        stands = λ w h. y.stands w (length c2) (begins_on z.begins h) (z.stands w h);
+      }
+
+  pub all_filled : {X : Type 0} (g : X → Initialiser) (of : List Initialiser → Initialisers) → of [] ≡ typed.no_initialisers
+      → (xs : List X) (i : ℕ) → length xs ≤ i → (k rest : ℕ) (b : Start) {c0 c1 c2 : List Instruction} → Filling p f all count lengths a (of (map g (drop i xs))) k b c0 c1
+      → rest ≡ k * elements_in lengths → WroteClears rest b c1 c2 → WroteFillAll p f all count lengths a c0 c2
+  all_filled g of none xs i le k rest b {c0} {c1} {c2} y e x =
+      let here : of (map g (drop i xs)) ≡ typed.no_initialisers = ap (λ zs. of (map g zs)) (drop_all i xs le) ∙ none in
+      rest_filled k rest b (subst (λ r. Filling p f all count lengths a r k b c0 c1) here y) e x

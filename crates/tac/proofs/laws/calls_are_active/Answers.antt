@@ -1,6 +1,0 @@
-use Rattle.tac.proofs.Growing.{calls_are_active}
-use Rattle.tac.proofs.laws.calls_are_active.Goals as goal
-
--- src/laws.rt
-pub returns : goal.returns
-returns c = calls_are_active

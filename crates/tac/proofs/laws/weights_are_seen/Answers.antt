@@ -1,6 +1,0 @@
-use Rattle.tac.proofs.Weights.{weights_are_seen}
-use Rattle.tac.proofs.laws.weights_are_seen.Goals as goal
-
--- src/laws.rt
-pub returns : goal.returns
-returns c = weights_are_seen

@@ -1,0 +1,10 @@
+-- The program and the function that code is written for.
+use Rattle.typing_rules.specs.Program as typed
+use Rattle.typing_program.specs.View.{program_of, function_of}
+use Rattle.tac_forms.specs.declared.row_sizes.Scope.{Scope}
+
+abbrev pub program_in : Scope → typed.Program
+program_in s = program_of s.program.now
+
+abbrev pub function_in : Scope → typed.Function
+function_in s = function_of s.function.now

@@ -1,0 +1,142 @@
+//! How many instructions the code of a statement has.
+
+ghost use Rattle.std.specs.Prelude.{◌≡◌, map};
+ghost use Rattle.meaning.specs.Statements.{labels_of};
+ghost use Rattle.typing_program.specs.View.{value_of, option_value, statement_of, statements_of};
+ghost use Rattle.typing_rules.specs.Program as typed;
+ghost use Rattle.ctypes.specs.declared.types.IntType.{IntType};
+ghost use Rattle.tac.specs.inside.Scopes.{program_in, function_in};
+ghost use Rattle.tac.specs.inside.Sizes as size;
+
+use crate::first_sizes::initialises_size;
+use tac_forms::form_sizes::plus;
+use tac_forms::modes::{Shape, shape_for};
+use tac_forms::row_sizes::Scope;
+use tac_values::operands::waits_for_objects;
+use tac_values::sizes::{converted_size, value_size};
+use typing_program::{Statement, Value};
+
+pub(crate) fn effects_size(e: &Option<Value>) -> usize
+    ensures { result ≡ size.effects_size (option_value e.now) }
+{
+    match e {
+        None => 0,
+        Some(e) => value_size(e, Shape::Nowhere),
+    }
+}
+
+pub(crate) fn repeats_size(e: &Option<Value>) -> usize
+    ensures { result ≡ size.repeats_size (option_value e.now) }
+{
+    match e {
+        None => 1,
+        Some(e) => value_size(e, Shape::Jump),
+    }
+}
+
+/// The tests of the labels of a `switch`.
+pub(crate) fn tests_size(all: &[Statement]) -> usize
+    ensures { result ≡ size.tests_size (labels_of (statements_of (map statement_of all.now))) }
+{
+    match all.split_first() {
+        None => 1,
+        Some((Statement::Case(_), more)) => plus(1, tests_size(more)),
+        Some((_, more)) => tests_size(more),
+    }
+}
+
+#[cycle(statement_sizes)]
+fn switch_size(scope: &Scope<'_>, e: &Value, first: usize, count: usize, all: &[Statement]) -> usize
+    ensures { (u : IntType) → result ≡ size.statement_size (program_in scope.now) (function_in scope.now) (typed.switch u (value_of e.now) first count (statements_of (map statement_of all.now))) }
+{
+    let tests = tests_size(all);
+    plus(
+        1,
+        plus(
+            value_size(e, shape_for(waits_for_objects(e, first, count))),
+            plus(1, plus(tests, statements_size(scope, all))),
+        ),
+    )
+}
+
+#[cycle(statement_sizes)]
+fn for_size(
+    scope: &Scope<'_>,
+    declared: &[Statement],
+    start: &Option<Value>,
+    test: &Option<Value>,
+    step: &Option<Value>,
+    a: &Statement,
+) -> usize
+    ensures { result ≡ size.statement_size (program_in scope.now) (function_in scope.now) (typed.for (statements_of (map statement_of declared.now)) (option_value start.now) (option_value test.now) (option_value step.now) (statement_of a.now)) }
+{
+    let around = plus(
+        statement_size(scope, a),
+        plus(effects_size(step), repeats_size(test)),
+    );
+    plus(
+        1,
+        plus(
+            statements_size(scope, declared),
+            plus(effects_size(start), plus(1, around)),
+        ),
+    )
+}
+
+#[cycle(statement_sizes)]
+pub(crate) fn statements_size(scope: &Scope<'_>, all: &[Statement]) -> usize
+    ensures { result ≡ size.statements_size (program_in scope.now) (function_in scope.now) (statements_of (map statement_of all.now)) }
+{
+    match all.split_first() {
+        None => 0,
+        Some((statement, more)) => plus(
+            statement_size(scope, statement),
+            statements_size(scope, more),
+        ),
+    }
+}
+
+/// The instructions of a statement.
+#[cycle(statement_sizes)]
+pub(crate) fn statement_size(scope: &Scope<'_>, statement: &Statement) -> usize
+    ensures { result ≡ size.statement_size (program_in scope.now) (function_in scope.now) (statement_of statement.now) }
+{
+    match statement {
+        Statement::Empty => 1,
+        Statement::Evaluate(e) => plus(1, value_size(e, Shape::Nowhere)),
+        Statement::Declare(_) => 1,
+        Statement::Define(object, initialiser) => {
+            plus(1, initialises_size(scope, *object, initialiser))
+        }
+        Statement::Block(_, _, all) => plus(1, statements_size(scope, all)),
+        Statement::If(e, a) => plus(
+            1,
+            plus(value_size(e, Shape::Jump), statement_size(scope, a)),
+        ),
+        Statement::IfElse(e, a, b) => plus(
+            1,
+            plus(
+                value_size(e, Shape::Jump),
+                plus(statement_size(scope, a), plus(1, statement_size(scope, b))),
+            ),
+        ),
+        Statement::Switch(_, e, first, count, all) => switch_size(scope, e, *first, *count, all),
+        Statement::Case(_) => 1,
+        Statement::Default => 1,
+        Statement::While(e, a) => plus(
+            1,
+            plus(statement_size(scope, a), value_size(e, Shape::Jump)),
+        ),
+        Statement::DoWhile(a, e) => plus(
+            1,
+            plus(statement_size(scope, a), value_size(e, Shape::Jump)),
+        ),
+        Statement::For(declared, start, test, step, a) => {
+            for_size(scope, declared, start, test, step, a)
+        }
+        Statement::Break => 1,
+        Statement::Continue => 1,
+        Statement::ReturnNothing => plus(1, 1),
+        Statement::ReturnValue(ty, e) => plus(1, plus(converted_size(*ty, e, Shape::Local), 1)),
+    }
+}

@@ -1,0 +1,122 @@
+//! The code of functions.
+
+ghost use Rattle.std.specs.Prelude.{suc, ◌≡◌, [], map, length, OnOk, IfOk};
+ghost use Rattle.typing_program.specs.View.{parameter_type_of, function_of, program_of};
+ghost use Rattle.tac_code.specs.Lowered.{kind_of};
+ghost use Rattle.tac_code.specs.Code as three_address;
+ghost use Rattle.tac_lowering.specs.Bodies as relation;
+ghost use Rattle.tac_forms.specs.inside.Parts.{Wrote};
+ghost use Rattle.tac.specs.inside.Functions.{closing_size, IsBodyOf, IsFunctionWith};
+
+use crate::block_sizes::statement_size;
+use crate::copies::copied_objects;
+use crate::counts::{most_slots, most_temporaries};
+use crate::statements::put_statement;
+use std::alloc::{AllocError, Global};
+use tac_code::{Instruction, Operand, Parameter, Target};
+use tac_forms::form_sizes::plus;
+use tac_forms::row_sizes::Scope;
+use tac_forms::writing::{Code, ahead, put};
+use typing_program::{Function, ParameterType, Program};
+
+/// The definition and each parameter take a tick.
+fn put_idles(code: &mut Code, parameters: &[ParameterType]) -> Result<(), AllocError>
+    ensures { OnOk result (Wrote (λ w p q. relation.Idles w (suc (length parameters.now)) p q) (suc (length parameters.now)) code.old.list.items code.new.list.items) }
+{
+    put(code, Instruction::Nothing)?;
+    for _ in parameters {
+        put(code, Instruction::Nothing)?;
+    }
+    Ok(())
+}
+
+fn closing_size(is_main: bool) -> usize
+    ensures { result ≡ closing_size is_main }
+{
+    if is_main { 1 } else { 0 }
+}
+
+/// The end of the body of `main` returns 0 (5.1.2.2.3p1).
+fn put_closing(code: &mut Code, is_main: bool) -> Result<(), AllocError>
+    ensures { OnOk result (Wrote (λ w p q. relation.Closes w is_main p q) (closing_size is_main) code.old.list.items code.new.list.items) }
+{
+    if is_main {
+        put(
+            code,
+            Instruction::Move {
+                target: Target::Temporary(0),
+                source: Operand::Constant(0),
+            },
+        )?;
+    }
+    Ok(())
+}
+
+fn put_body(scope: &Scope<'_>, code: &mut Code, is_main: bool) -> Result<(), AllocError>
+    requires { code.old.list.items ≡ [] }
+    ensures { OnOk result (IsBodyOf (program_of scope.now.program.now) is_main (function_of scope.now.function.now) code.new.list.items) }
+{
+    put_idles(code, &scope.function.function_type.parameters)?;
+    let end = ahead(code, statement_size(scope, &scope.function.body));
+    let back = plus(end, closing_size(is_main));
+    put_statement(scope, code, &scope.function.body, end, end, back)?;
+    put_closing(code, is_main)?;
+    put(code, Instruction::Return)?;
+    Ok(())
+}
+
+fn body_of(
+    alloc: Global,
+    program: &Program,
+    function: &Function,
+    is_main: bool,
+) -> Result<Vec<Instruction>, AllocError>
+    ensures { IfOk result (λ code. IsBodyOf (program_of program.now) is_main (function_of function.now) code.items) }
+{
+    let mut code = Code {
+        list: Vec::new(alloc),
+    };
+    let scope = Scope { program, function };
+    put_body(&scope, &mut code, is_main)?;
+    Ok(code.list)
+}
+
+fn kind(parameter: &ParameterType) -> Parameter
+    ensures { result ≡ kind_of (parameter_type_of parameter.now) }
+{
+    match parameter {
+        ParameterType::Number(_) => Parameter::Number,
+        ParameterType::Elements(_) => Parameter::Array,
+    }
+}
+
+fn kinds(alloc: Global, parameters: &[ParameterType]) -> Result<Vec<Parameter>, AllocError>
+    ensures { IfOk result (λ kinds. kinds.items ≡ map kind_of (map parameter_type_of parameters.now)) }
+{
+    let mut list = Vec::new(alloc);
+    for parameter in parameters {
+        list.push(kind(parameter))?;
+    }
+    Ok(list)
+}
+
+/// A function of a program.
+pub(crate) fn lowered_function(
+    alloc: Global,
+    program: &Program,
+    function: &Function,
+    is_main: bool,
+) -> Result<tac_code::Function, AllocError>
+    ensures { IfOk result (λ g. IsFunctionWith (program_of program.now) is_main (function_of function.now) (three_address.function_of g)) }
+{
+    let code = body_of(alloc, program, function, is_main)?;
+    let temporaries = most_temporaries(&program.functions, &code)?;
+    let kept = most_slots(&code)?;
+    Ok(tac_code::Function {
+        code,
+        parameters: kinds(alloc, &function.function_type.parameters)?,
+        objects: copied_objects(alloc, &function.objects)?,
+        temporaries,
+        kept,
+    })
+}

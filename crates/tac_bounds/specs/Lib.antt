@@ -1,0 +1,3 @@
+pub mod Laws
+pub use Rattle.tac_code.specs.Lowered
+pub mod inside

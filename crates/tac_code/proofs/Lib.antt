@@ -1,0 +1,4 @@
+pub mod Growing
+pub mod Weights
+pub mod Rows
+pub mod FortyTwo

@@ -1,0 +1,81 @@
+//! Where a value is while others are evaluated, and what is free beside it.
+
+ghost use Rattle.std.specs.Prelude.{◌≡◌, ◌+◌, ℕ, Bool, IfOk};
+ghost use Rattle.tac_lowering.specs.Values as values;
+ghost use Rattle.tac_forms.specs.inside.Parts.{is_written};
+
+use crate::words::word_of;
+use std::alloc::AllocError;
+use tac_code::Operand;
+
+/// Over a call in a slot, else in a temporary.
+pub fn pending(has_calls: bool, temporary: usize, slot: usize) -> Operand
+    ensures { result ≡ values.pending has_calls temporary slot }
+{
+    if has_calls {
+        Operand::Kept(slot)
+    } else {
+        Operand::Temporary(temporary)
+    }
+}
+
+pub fn unless_written(written: bool, object: usize, operand: Operand) -> Operand
+    ensures { result ≡ values.unless_written written object operand }
+{
+    if written {
+        operand
+    } else {
+        Operand::Object(object)
+    }
+}
+
+pub fn at_rest(object: Option<usize>, written: bool, operand: Operand) -> Operand
+    ensures { (w : ℕ → Bool) → written ≡ is_written object w → result ≡ values.at_rest object w operand }
+{
+    match object {
+        None => operand,
+        Some(number) => unless_written(written, number, operand),
+    }
+}
+
+pub fn constant_or(constant: Option<i64>, operand: Operand) -> Operand
+    ensures { result ≡ values.constant_or constant operand }
+{
+    match constant {
+        None => operand,
+        Some(value) => Operand::Constant(word_of(value)),
+    }
+}
+
+pub fn next(number: usize) -> Result<usize, AllocError>
+    ensures { IfOk result (λ n. n ≡ number + 1) }
+{
+    match number.checked_add(1) {
+        Some(next) => Ok(next),
+        None => Err(AllocError),
+    }
+}
+
+pub fn free_temporary(operand: Operand, temporary: usize) -> Result<usize, AllocError>
+    ensures { IfOk result (λ n. n ≡ values.free_temporary operand temporary) }
+{
+    match operand {
+        Operand::Temporary(_) => next(temporary),
+        Operand::Kept(_) => Ok(temporary),
+        Operand::Object(_) => Ok(temporary),
+        Operand::Parameter(_) => Ok(temporary),
+        Operand::Constant(_) => Ok(temporary),
+    }
+}
+
+pub fn free_slot(operand: Operand, slot: usize) -> Result<usize, AllocError>
+    ensures { IfOk result (λ n. n ≡ values.free_kept operand slot) }
+{
+    match operand {
+        Operand::Kept(_) => next(slot),
+        Operand::Temporary(_) => Ok(slot),
+        Operand::Object(_) => Ok(slot),
+        Operand::Parameter(_) => Ok(slot),
+        Operand::Constant(_) => Ok(slot),
+    }
+}

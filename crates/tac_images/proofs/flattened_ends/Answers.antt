@@ -1,5 +1,0 @@
-use Rattle.tac_images.proofs.Programs as laws
-use Rattle.tac_images.proofs.flattened_ends.Goals as goal
-
-pub returns : goal.returns
-returns c = laws.flattened_ends

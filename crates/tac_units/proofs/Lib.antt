@@ -1,0 +1,16 @@
+pub mod Files
+pub mod FileSteps
+pub mod FileBindings
+pub mod FileStorage
+pub mod FileObjects
+pub mod FileNames
+pub mod FileFunctionNames
+pub mod FileDeclarations
+pub mod FilePassed
+pub mod FileFunctions
+pub mod FileExternals
+pub mod FileEnd
+pub mod Whole
+pub mod Present
+pub mod Sized
+pub mod Joined

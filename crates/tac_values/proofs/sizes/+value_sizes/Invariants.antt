@@ -1,0 +1,58 @@
+use Rattle.std.proofs.Common.{◌+◌, ◌*◌, map}
+use Rattle.typing_program.specs.View.{value_of, place_of, arguments_of, argument_of}
+use Rattle.tac_values.proofs.Nodes.{nodes, place_nodes, argument_nodes}
+use Rattle.tac_values.proofs.sizes.+value_sizes.Given as goal
+
+abbrev pub decreases-value_size : goal.decreases-value_size
+decreases-value_size l = 4 * nodes (value_of l.e.now)
+
+abbrev pub decreases-passes_size : goal.decreases-passes_size
+decreases-passes_size l = 4 * argument_nodes (arguments_of (map argument_of l.arguments.now))
+
+abbrev pub decreases-number_size : goal.decreases-number_size
+decreases-number_size l = 4 * (nodes (value_of l.e.now) + argument_nodes (arguments_of (map argument_of l.more.now))) + 1
+
+abbrev pub decreases-converted_size : goal.decreases-converted_size
+decreases-converted_size l = 4 * nodes (value_of l.e.now) + 1
+
+abbrev pub decreases-cast_size : goal.decreases-cast_size
+decreases-cast_size l = 4 * nodes (value_of l.e.now) + 1
+
+abbrev pub decreases-computed_size : goal.decreases-computed_size
+decreases-computed_size l = 4 * nodes (value_of l.e.now) + 1
+
+abbrev pub decreases-not_size : goal.decreases-not_size
+decreases-not_size l = 4 * nodes (value_of l.e.now) + 2
+
+abbrev pub decreases-unary_size : goal.decreases-unary_size
+decreases-unary_size l = 4 * nodes (value_of l.e.now) + 3
+
+abbrev pub decreases-binary_size : goal.decreases-binary_size
+decreases-binary_size l = 4 * (nodes (value_of l.a.now) + nodes (value_of l.b.now)) + 1
+
+abbrev pub decreases-truth_size : goal.decreases-truth_size
+decreases-truth_size l = 4 * (nodes (value_of l.a.now) + nodes (value_of l.b.now)) + 1
+
+abbrev pub decreases-both_size : goal.decreases-both_size
+decreases-both_size l = 4 * (nodes (value_of l.a.now) + nodes (value_of l.b.now)) + 2
+
+abbrev pub decreases-place_size : goal.decreases-place_size
+decreases-place_size l = 4 * place_nodes (place_of l.place.now)
+
+abbrev pub decreases-element_size : goal.decreases-element_size
+decreases-element_size l = 4 * (place_nodes (place_of l.array.now) + nodes (value_of l.index.now)) + 1
+
+abbrev pub decreases-read_size : goal.decreases-read_size
+decreases-read_size l = 4 * place_nodes (place_of l.place.now) + 1
+
+abbrev pub decreases-assigned_size : goal.decreases-assigned_size
+decreases-assigned_size l = 4 * (place_nodes (place_of l.place.now) + nodes (value_of l.e.now)) + 2
+
+abbrev pub decreases-compound_size : goal.decreases-compound_size
+decreases-compound_size l = 4 * (place_nodes (place_of l.place.now) + nodes (value_of l.e.now)) + 2
+
+abbrev pub decreases-stepped_size : goal.decreases-stepped_size
+decreases-stepped_size l = 4 * place_nodes (place_of l.place.now) + 1
+
+abbrev pub decreases-array_size : goal.decreases-array_size
+decreases-array_size l = 4 * (place_nodes (place_of l.array.now) + argument_nodes (arguments_of (map argument_of l.more.now))) + 1

@@ -1,0 +1,305 @@
+//! The code of expressions.
+
+ghost use Rattle.std.specs.Prelude.{◌≡◌, map, ℕ, Bool, Option, OnOk, IfOk};
+ghost use Rattle.srcset.specs.declared.refusal.Pos.{Pos};
+ghost use Rattle.ctypes.specs.declared.types.IntType.{IntType};
+ghost use Rattle.typing_rules.specs.Program as typed;
+ghost use Rattle.typing_program.specs.View.{value_of, place_of, argument_of, arguments_of, callee_of};
+ghost use Rattle.tac_lowering.specs.Code as relation;
+ghost use Rattle.tac_lowering.specs.Values as lowered;
+ghost use Rattle.tac_forms.specs.inside.Rows as rows;
+ghost use Rattle.tac_forms.specs.inside.FormSizes as form;
+ghost use Rattle.tac_forms.specs.inside.Parts.{meant, shape_of, Wrote};
+ghost use Rattle.tac_values.specs.inside.Sizes as size;
+ghost use Rattle.tac_values.specs.inside.Written.{WroteValue, WrotePasses};
+
+use crate::operands::{keeps, operand_of, waits_for_arguments};
+use crate::operators::{put_binary, put_both, put_chosen, put_one, put_unary};
+use crate::places::{Free, put_assigned, put_compound, put_found, put_read, put_step};
+use crate::rests::arguments_call;
+use ctypes::IntType;
+use std::alloc::AllocError;
+use tac_code::{Instruction, Operand, Target};
+use tac_forms::changes::{put_call, put_load};
+use tac_forms::instructions::convert_to;
+use tac_forms::memory::put_handed;
+use tac_forms::modes::{Mode, mode_of, target_of};
+use tac_forms::operations::{put_constant, put_end, put_follow};
+use tac_forms::row_sizes::Scope;
+use tac_forms::spots::{found, free_slot_at};
+use tac_forms::waiting::{free_slot, next};
+use tac_forms::writing::{Code, put};
+use typing_program::{Argument, Callee, Place, Value};
+
+/// A value into the operand that it is in where nothing is evaluated behind it.
+#[cycle(value_code)]
+pub fn put_rested(
+    scope: &Scope<'_>,
+    code: &mut Code,
+    e: &Value,
+    free: Free,
+) -> Result<Operand, AllocError>
+    ensures { IfOk result (λ o. (o ≡ lowered.operand_of (value_of e.now) free.temporary free.slot)
+        × Wrote (λ w p q. relation.Into w (rows.sizes_in scope.now) (value_of e.now) (lowered.mode_of (lowered.operand_of (value_of e.now) free.temporary free.slot)) free.temporary free.slot p q) (size.value_size (value_of e.now) (size.rest_shape (value_of e.now))) code.old.list.items code.new.list.items) }
+{
+    let operand = operand_of(e, free.temporary, free.slot);
+    put_value(scope, code, e, mode_of(operand), free)?;
+    Ok(operand)
+}
+
+/// A value into a target, converted if need be.
+#[cycle(value_code)]
+pub fn put_converted(
+    scope: &Scope<'_>,
+    code: &mut Code,
+    ty: IntType,
+    e: &Value,
+    target: Target,
+    free: Free,
+) -> Result<(), AllocError>
+    ensures { OnOk result (Wrote (λ w p q. relation.Converts w (lowered.keeps ty (value_of e.now)) (λ n a b. relation.Into w (rows.sizes_in scope.now) (value_of e.now) n free.temporary free.slot a b) ty (lowered.operand_of (value_of e.now) free.temporary free.slot) target p q)
+        (form.converts_size (lowered.keeps ty (value_of e.now)) (size.value_size (value_of e.now)) (size.rest_shape (value_of e.now)) (shape_of (lowered.To target))) code.old.list.items code.new.list.items) }
+{
+    if keeps(ty, e) {
+        put_value(scope, code, e, Mode::To(target), free)?;
+        Ok(())
+    } else {
+        let operand = put_rested(scope, code, e, free)?;
+        put(code, convert_to(ty, target, operand))?;
+        Ok(())
+    }
+}
+
+#[cycle(value_code)]
+fn put_cast(
+    scope: &Scope<'_>,
+    code: &mut Code,
+    ty: IntType,
+    e: &Value,
+    mode: Mode,
+    free: Free,
+) -> Result<(), AllocError>
+    ensures { OnOk result (Wrote (λ w p q. relation.Casts w (lowered.keeps ty (value_of e.now)) (λ n a b. relation.Into w (rows.sizes_in scope.now) (value_of e.now) n free.temporary free.slot a b) ty (lowered.operand_of (value_of e.now) free.temporary free.slot) (meant mode) free.temporary p q)
+        (form.casts_size (lowered.keeps ty (value_of e.now)) (size.value_size (value_of e.now)) (size.rest_shape (value_of e.now)) (shape_of (meant mode))) code.old.list.items code.new.list.items) }
+{
+    if keeps(ty, e) {
+        put_value(scope, code, e, mode, free)?;
+        Ok(())
+    } else {
+        let operand = put_rested(scope, code, e, free)?;
+        put(
+            code,
+            convert_to(ty, target_of(mode, free.temporary), operand),
+        )?;
+        put_follow(code, mode, free.temporary)?;
+        Ok(())
+    }
+}
+
+#[cycle(value_code)]
+fn put_sequence(
+    scope: &Scope<'_>,
+    code: &mut Code,
+    a: &Value,
+    b: &Value,
+    mode: Mode,
+    free: Free,
+) -> Result<(), AllocError>
+    ensures { OnOk result (WroteValue (rows.sizes_in scope.now) (typed.sequence (value_of a.now) (value_of b.now)) (meant mode) free.temporary free.slot code.old.list.items code.new.list.items) }
+{
+    put(code, Instruction::Nothing)?;
+    put_value(scope, code, a, Mode::Nowhere, free)?;
+    put_value(scope, code, b, mode, free)?;
+    Ok(())
+}
+
+#[cycle(value_code)]
+fn put_discarded(
+    scope: &Scope<'_>,
+    code: &mut Code,
+    e: &Value,
+    mode: Mode,
+    free: Free,
+) -> Result<(), AllocError>
+    ensures { OnOk result (WroteValue (rows.sizes_in scope.now) (typed.discarded (value_of e.now)) (meant mode) free.temporary free.slot code.old.list.items code.new.list.items) }
+{
+    put(code, Instruction::Nothing)?;
+    put_value(scope, code, e, Mode::Nowhere, free)?;
+    put_end(code, mode, Operand::Constant(0))?;
+    Ok(())
+}
+
+#[cycle(value_code)]
+fn put_cast_node(
+    scope: &Scope<'_>,
+    code: &mut Code,
+    ty: IntType,
+    e: &Value,
+    mode: Mode,
+    free: Free,
+) -> Result<(), AllocError>
+    ensures { OnOk result (WroteValue (rows.sizes_in scope.now) (typed.cast ty (value_of e.now)) (meant mode) free.temporary free.slot code.old.list.items code.new.list.items) }
+{
+    put(code, Instruction::Nothing)?;
+    put_cast(scope, code, ty, e, mode, free)?;
+    Ok(())
+}
+
+/// An argument, those behind it, and its move into its temporary.
+#[cycle(value_code)]
+fn put_number(
+    scope: &Scope<'_>,
+    code: &mut Code,
+    ty: IntType,
+    e: &Value,
+    more: &[Argument],
+    free: Free,
+) -> Result<(), AllocError>
+    ensures { OnOk result (WrotePasses (rows.sizes_in scope.now) (typed.and_number ty (value_of e.now) (arguments_of (map argument_of more.now))) free.temporary free.slot code.old.list.items code.new.list.items) }
+{
+    let operand = waits_for_arguments(e, more, free.temporary, free.slot);
+    put_value(scope, code, e, mode_of(operand), free)?;
+    let temporary = next(free.temporary)?;
+    let slot = free_slot(operand, free.slot)?;
+    let less = Free { temporary, slot };
+    put_passes(scope, code, more, less)?;
+    put_load(code, keeps(ty, e), ty, operand, free.temporary)?;
+    Ok(())
+}
+
+/// An array, the arguments behind it, and its reference into its temporary.
+#[cycle(value_code)]
+fn put_array(
+    scope: &Scope<'_>,
+    code: &mut Code,
+    array: &Place,
+    more: &[Argument],
+    free: Free,
+) -> Result<(), AllocError>
+    ensures { OnOk result (WrotePasses (rows.sizes_in scope.now) (typed.and_array (place_of array.now) (arguments_of (map argument_of more.now))) free.temporary free.slot code.old.list.items code.new.list.items) }
+{
+    let calls = arguments_call(more);
+    let spot = found(array, calls, free.temporary, free.slot);
+    put_found(scope, code, array, calls, free)?;
+    let temporary = next(free.temporary)?;
+    let slot = free_slot_at(spot, free.slot)?;
+    let less = Free { temporary, slot };
+    put_passes(scope, code, more, less)?;
+    put_handed(code, spot, free.temporary)?;
+    Ok(())
+}
+
+/// The arguments of a call.
+#[cycle(value_code)]
+fn put_passes(
+    scope: &Scope<'_>,
+    code: &mut Code,
+    arguments: &[Argument],
+    free: Free,
+) -> Result<(), AllocError>
+    ensures { OnOk result (WrotePasses (rows.sizes_in scope.now) (arguments_of (map argument_of arguments.now)) free.temporary free.slot code.old.list.items code.new.list.items) }
+{
+    match arguments.split_first() {
+        None => Ok(()),
+        Some((Argument::Number(ty, e), more)) => {
+            put_number(scope, code, *ty, e, more, free)?;
+            Ok(())
+        }
+        Some((Argument::Array(array), more)) => {
+            put_array(scope, code, array, more, free)?;
+            Ok(())
+        }
+    }
+}
+
+#[cycle(value_code)]
+fn put_call_node(
+    scope: &Scope<'_>,
+    code: &mut Code,
+    callee: Callee,
+    arguments: &[Argument],
+    mode: Mode,
+    free: Free,
+) -> Result<(), AllocError>
+    ensures { OnOk result ((at : Pos) → (u : Option IntType) → (used : Bool) → WroteValue (rows.sizes_in scope.now) (typed.call at (callee_of callee) u used (arguments_of (map argument_of arguments.now))) (meant mode) free.temporary free.slot code.old.list.items code.new.list.items) }
+{
+    let first = Free {
+        temporary: 0,
+        slot: free.slot,
+    };
+    put(code, Instruction::Nothing)?;
+    put_passes(scope, code, arguments, first)?;
+    put_call(code, callee, mode)?;
+    Ok(())
+}
+
+/// The code of an expression. The recursion is as deep as the tree.
+#[cycle(value_code)]
+pub fn put_value(
+    scope: &Scope<'_>,
+    code: &mut Code,
+    e: &Value,
+    mode: Mode,
+    free: Free,
+) -> Result<(), AllocError>
+    ensures { OnOk result (WroteValue (rows.sizes_in scope.now) (value_of e.now) (meant mode) free.temporary free.slot code.old.list.items code.new.list.items) }
+{
+    match e {
+        Value::Constant(_, value) => {
+            put_constant(code, mode, *value)?;
+            Ok(())
+        }
+        Value::Read(ty, place) => {
+            put_read(scope, code, *ty, place, mode, free)?;
+            Ok(())
+        }
+        Value::Assigned(_, ty, place, e) => {
+            put_assigned(scope, code, *ty, place, e, mode, free)?;
+            Ok(())
+        }
+        Value::Compound(_, op, ty, of, place, e) => {
+            put_compound(scope, code, *op, *ty, *of, place, e, mode, free)?;
+            Ok(())
+        }
+        Value::Stepped(_, moment, op, ty, of, place) => {
+            put_step(scope, code, *moment, *op, *ty, *of, place, mode, free)?;
+            Ok(())
+        }
+        Value::Unary(_, op, ty, e) => {
+            put_unary(scope, code, *op, *ty, e, mode, free)?;
+            Ok(())
+        }
+        Value::Binary(_, op, ty, a, b) => {
+            put_binary(scope, code, *op, *ty, a, b, mode, free)?;
+            Ok(())
+        }
+        Value::BothTrue(a, b) => {
+            put_both(scope, code, a, b, mode, free)?;
+            Ok(())
+        }
+        Value::OneTrue(a, b) => {
+            put_one(scope, code, a, b, mode, free)?;
+            Ok(())
+        }
+        Value::Chosen(_, c, a, b) => {
+            put_chosen(scope, code, c, a, b, mode, free)?;
+            Ok(())
+        }
+        Value::Sequence(a, b) => {
+            put_sequence(scope, code, a, b, mode, free)?;
+            Ok(())
+        }
+        Value::Cast(ty, e) => {
+            put_cast_node(scope, code, *ty, e, mode, free)?;
+            Ok(())
+        }
+        Value::Discarded(e) => {
+            put_discarded(scope, code, e, mode, free)?;
+            Ok(())
+        }
+        Value::Call(_, callee, _, _, arguments) => {
+            put_call_node(scope, code, *callee, arguments, mode, free)?;
+            Ok(())
+        }
+    }
+}

@@ -1,0 +1,14 @@
+-- The fault of a constraint that stands.
+use Rattle.srcset.specs.NameTable.{Texts}
+use Rattle.srcset.specs.Refusal.{IsFaultOfRefusal}
+use Rattle.srcset.specs.declared.fault.Fault.{Fault}
+use Rattle.srcset.specs.declared.refusal.Refusal.{Refusal}
+use Rattle.typing_rules.specs.Program.{Program}
+use Rattle.typing_rules.specs.Verdict.{Verdict}
+use Rattle.typing_expressions.specs.Refused.{Tells}
+
+-- a constraint that is broken, at its place under the names of these texts; or out of memory
+pub record IsFaultOfVerdict (fault : Fault) (texts : Texts) (v : Verdict Program) : Type 0 where
+  pub refusal : Refusal
+  pub refused : Tells refusal v
+  pub shown : IsFaultOfRefusal fault texts refusal

@@ -1,0 +1,16 @@
+-- What the code's declarations stand for.
+use Rattle.std.specs.Prelude.{List, map}
+use Rattle.typing_program.specs.declared.statements.Statement.{Statement}
+use Rattle.typing_program.specs.View.{statement_of}
+use Rattle.typing_units.specs.declared.first_values.Initial.{Initial}
+use Rattle.typing_units.specs.Views.{initial_of}
+use Rattle.typing_rules.specs.Scope.{Scope}
+use Rattle.typing_rules.specs.Declarations as typed
+
+-- statements, and the first values of objects with static storage
+abbrev pub effects_of : List Statement → List Initial → typed.Effects
+effects_of xs js = record { statements = map statement_of xs; initial = map initial_of js }
+
+-- what a declaration leaves: the scope behind it, and what it does
+abbrev pub declared_of : Scope → List Statement → List Initial → typed.Declared
+declared_of s xs js = record { scope = s; effects = effects_of xs js }

@@ -1,0 +1,119 @@
+//! What the declarators of objects do, as far as that is known before the scope behind them (6.7.9).
+#![tactic(auto)]
+
+ghost use Rattle.std.specs.Prelude.{◌≡◌, IfErr, IfOk};
+ghost use Rattle.tree.specs.View.{init_of, option_init};
+ghost use Rattle.typing_program.specs.View.{declared_type_of, storage_of};
+ghost use Rattle.typing_rules.specs.Verdict.{fine};
+ghost use Rattle.typing_rules.specs.Program as program;
+ghost use Rattle.typing_rules.specs.Initialisers.{past_init};
+ghost use Rattle.typing_rules.specs.Declarations as typed;
+ghost use Rattle.typing_expressions.specs.Refused.{Tells};
+ghost use Rattle.typing_scopes.specs.Scopes.{with_texts};
+ghost use Rattle.typing_declarations.specs.inside.Effects.{begun_at, behind, effect_in};
+
+use crate::object_initialisers::object_initialiser;
+use decls_initialisers::constant_parts;
+use srcset::{Names, Pos, Refusal};
+use std::alloc::Global;
+use tree::Initialiser as Init;
+use typing_program::{DeclaredType, Initialiser, Storage};
+use typing_scopes::Scope;
+
+/// What a declarator does. The values of an initialiser for static storage are not looked at yet: they want its literals.
+#[derive(Drop)]
+pub(crate) enum ObjectEffect {
+    Nothing,
+    /// The object begins, by its number.
+    Declared(usize),
+    Defined(usize, Initialiser),
+    /// The object with static storage has first values.
+    First(usize, Initialiser),
+}
+
+/// An initialiser for static storage.
+fn first_effect(
+    alloc: Global,
+    names: &Names,
+    scope: &Scope,
+    pos: Pos,
+    number: usize,
+    declared: &DeclaredType,
+    init: &Init,
+) -> Result<ObjectEffect, Refusal>
+    ensures ok { IfOk result (λ e. typed.static_values (begun_at (with_texts names.now scope.now) pos (declared_type_of declared.now)) number (init_of init.now) ≡ effect_in (past_init (with_texts names.now scope.now) (init_of init.now)) (declared_type_of declared.now) e) }
+    ensures err { IfErr result (λ r. Tells r (typed.static_values (begun_at (with_texts names.now scope.now) pos (declared_type_of declared.now)) number (init_of init.now))) }
+{
+    match constant_parts(scope, init) {
+        Ok(()) => {}
+        Err(refusal) => return Err(refusal),
+    }
+    match object_initialiser(alloc, names, scope, pos, declared, init) {
+        Ok(initialiser) => Ok(ObjectEffect::First(number, initialiser)),
+        Err(refusal) => Err(refusal),
+    }
+}
+
+/// An object with static storage.
+fn static_effect(
+    alloc: Global,
+    names: &Names,
+    scope: &Scope,
+    pos: Pos,
+    number: usize,
+    declared: &DeclaredType,
+    initialiser: &Option<Init>,
+) -> Result<ObjectEffect, Refusal>
+    ensures ok { IfOk result (λ e. typed.initialised_as (begun_at (with_texts names.now scope.now) pos (declared_type_of declared.now)) (program.static number) (option_init initialiser.now) ≡ effect_in (behind (with_texts names.now scope.now) (option_init initialiser.now)) (declared_type_of declared.now) e) }
+    ensures err { IfErr result (λ r. Tells r (typed.initialised_as (begun_at (with_texts names.now scope.now) pos (declared_type_of declared.now)) (program.static number) (option_init initialiser.now))) }
+{
+    match initialiser {
+        None => Ok(ObjectEffect::Nothing),
+        Some(init) => first_effect(alloc, names, scope, pos, number, declared, init),
+    }
+}
+
+/// An object of the present function.
+fn automatic_effect(
+    alloc: Global,
+    names: &Names,
+    scope: &Scope,
+    pos: Pos,
+    number: usize,
+    declared: &DeclaredType,
+    initialiser: &Option<Init>,
+) -> Result<ObjectEffect, Refusal>
+    ensures ok { IfOk result (λ e. typed.initialised_as (begun_at (with_texts names.now scope.now) pos (declared_type_of declared.now)) (program.automatic number) (option_init initialiser.now) ≡ effect_in (behind (with_texts names.now scope.now) (option_init initialiser.now)) (declared_type_of declared.now) e) }
+    ensures err { IfErr result (λ r. Tells r (typed.initialised_as (begun_at (with_texts names.now scope.now) pos (declared_type_of declared.now)) (program.automatic number) (option_init initialiser.now))) }
+{
+    match initialiser {
+        None => Ok(ObjectEffect::Declared(number)),
+        Some(init) => match object_initialiser(alloc, names, scope, pos, declared, init) {
+            Ok(initialiser) => Ok(ObjectEffect::Defined(number, initialiser)),
+            Err(refusal) => Err(refusal),
+        },
+    }
+}
+
+/// An object with this storage.
+pub(crate) fn object_effect(
+    alloc: Global,
+    names: &Names,
+    scope: &Scope,
+    pos: Pos,
+    what: Storage,
+    declared: &DeclaredType,
+    initialiser: &Option<Init>,
+) -> Result<ObjectEffect, Refusal>
+    ensures ok { IfOk result (λ e. typed.initialised_as (begun_at (with_texts names.now scope.now) pos (declared_type_of declared.now)) (storage_of what) (option_init initialiser.now) ≡ effect_in (behind (with_texts names.now scope.now) (option_init initialiser.now)) (declared_type_of declared.now) e) }
+    ensures err { IfErr result (λ r. Tells r (typed.initialised_as (begun_at (with_texts names.now scope.now) pos (declared_type_of declared.now)) (storage_of what) (option_init initialiser.now))) }
+{
+    match what {
+        Storage::Literal(_) => Ok(ObjectEffect::Nothing),
+        Storage::Static(n) => static_effect(alloc, names, scope, pos, n, declared, initialiser),
+        Storage::Automatic(n) => {
+            automatic_effect(alloc, names, scope, pos, n, declared, initialiser)
+        }
+        Storage::Parameter(_) => Ok(ObjectEffect::Nothing),
+    }
+}

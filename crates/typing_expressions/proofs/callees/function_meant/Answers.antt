@@ -1,0 +1,13 @@
+use Rattle.std.proofs.Common.{ap, sym}
+use Rattle.typing_program.specs.View.{function_type_of}
+use Rattle.typing_rules.specs.Types.{FunctionType}
+use Rattle.typing_rules.specs.Verdict.{Verdict, fine}
+use Rattle.typing_rules.specs.Expressions.{Called}
+use Rattle.typing_rules.specs.Program.{Callee}
+use Rattle.typing_expressions.proofs.callees.function_meant.Goals as goal
+
+abbrev found : FunctionType → Callee → Verdict Called
+found t k = fine (record { callee = k; type = t })
+
+pub returns-in-Function-clause-ok : goal.returns-in-Function-clause-ok
+returns-in-Function-clause-ok c = λ n. rw c.in-Function.is (ap (found (function_type_of c.in-Function.function)) (sym (c.callee.ensures n)))

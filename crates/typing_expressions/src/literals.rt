@@ -1,0 +1,93 @@
+//! String literals (6.4.5), each an object of its own.
+#![tactic(auto)]
+
+ghost use Rattle.std.specs.Prelude.{◌≡◌, ◌+◌, ◌-◌, ◌<◌, length, slice_get, IfErr, IfOk, OnOk, [], false};
+ghost use Rattle.srcset.specs.declared.refusal.Refusal.TheVariants.{Memory};
+ghost use Rattle.tree.specs.Tree.{string};
+ghost use Rattle.typing_rules.specs.Verdict.{fine};
+ghost use Rattle.typing_rules.specs.Scope.{Scope, or_empty};
+ghost use Rattle.typing_rules.specs.Types.{complete, array_of};
+ghost use Rattle.typing_rules.specs.Expressions as typed;
+ghost use Rattle.typing_rules.specs.Program as program_typed;
+ghost use Rattle.ctypes.specs.declared.types.IntType.TheVariants as ty;
+ghost use Rattle.typing_expressions.specs.Refused.{Tells};
+ghost use Rattle.typing_expressions.specs.Forms.{checked_of};
+ghost use Rattle.typing_expressions.specs.Numbered.{typing_at};
+
+use crate::forms::{Checked, Elements, broken};
+use ctypes::IntType;
+use srcset::{Code, Names, Pos, Refusal};
+use typing_program::{Place, Storage};
+
+/// The bytes that an object may have.
+const OBJECT_LIMIT: usize = 1_048_576;
+
+/// How many characters a literal has; its text has a zero behind them.
+fn characters(names: &Names, name: usize) -> usize
+    ensures { result ≡ length (or_empty (slice_get names.now name)) - 1 }
+{
+    match names.text(name) {
+        Some(text) => text.len().saturating_sub(1),
+        None => 0,
+    }
+}
+
+/// An array of `char`, of so many characters and a zero.
+fn array<'s>(pos: Pos, number: usize, length: u32) -> Checked<'s>
+    ensures { checked_of result ≡ typed.array pos (complete (array_of length (record { element = ty.Char; constant = false; lengths = [] }))) (program_typed.named pos (program_typed.literal number)) }
+{
+    let elements = Elements {
+        element: IntType::Char,
+        constant: false,
+        lengths: &[],
+    };
+    Checked::Array(
+        pos,
+        length,
+        elements,
+        Place::Named(pos, Storage::Literal(number)),
+    )
+}
+
+/// The literal with this number, within the limit of objects.
+fn literal<'s>(names: &Names, number: usize, pos: Pos, name: usize) -> Result<Checked<'s>, Refusal>
+    ensures ok { (s : Scope) → IfOk result (λ c. typing_at names.now number s (string pos name) ≡ fine (checked_of c)) }
+    ensures err { (s : Scope) → IfErr result (λ r. Tells r (typing_at names.now number s (string pos name))) }
+{
+    let characters = characters(names, name);
+    if characters >= OBJECT_LIMIT {
+        return Err(broken(Code::ObjectSizeLimit, pos));
+    }
+    Ok(array(pos, number, characters as u32 + 1))
+}
+
+/// The number of the next literal.
+fn next_number(literals: &mut usize) -> Result<usize, Refusal>
+    ensures ok { IfOk result (λ n. n ≡ literals.old) }
+    ensures count { OnOk result (literals.new ≡ literals.old + 1) }
+    ensures err { IfErr result (λ r. r ≡ Memory) }
+{
+    let number = *literals;
+    let Some(next) = number.checked_add(1) else {
+        return Err(Refusal::Memory);
+    };
+    *literals = next;
+    Ok(number)
+}
+
+/// A string literal (6.4.5p6) behind so many. It is 801 where they are as many as a `usize` can tell.
+pub fn next_literal<'s>(
+    names: &Names,
+    literals: &mut usize,
+    pos: Pos,
+    name: usize,
+) -> Result<Checked<'s>, Refusal>
+    ensures ok { (s : Scope) → IfOk result (λ c. typing_at names.now literals.old s (string pos name) ≡ fine (checked_of c)) }
+    ensures err { (s : Scope) → IfErr result (λ r. Tells r (typing_at names.now literals.old s (string pos name))) }
+    ensures count { OnOk result (literals.new ≡ literals.old + 1) }
+{
+    let Ok(number) = next_number(literals) else {
+        return Err(Refusal::Memory);
+    };
+    literal(names, number, pos, name)
+}

@@ -1,0 +1,5 @@
+use Rattle.std.proofs.Common.{◌≡◌, drop}
+use Rattle.typing_scopes.proofs.scopes.Scope.leave_tags.Given as goal
+
+abbrev pub invariant-loop : goal.invariant-loop
+invariant-loop l = l.self ≡ record l.initial.self { tags = drop l.counter l.initial.self.tags }

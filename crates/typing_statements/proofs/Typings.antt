@@ -1,0 +1,22 @@
+-- What is typed behind the string literals of a scope.
+use Rattle.std.proofs.Common.{◌≡◌, ℕ, List, length, sym, ap, ◌∙◌, subst}
+use Rattle.std.specs.Prelude.{replicate}
+use Rattle.std.proofs.lemmas.List.{length-replicate}
+use Rattle.srcset.specs.declared.refusal.Refusal.{Refusal}
+use Rattle.tree.specs.Tree.{Tree}
+use Rattle.typing_rules.specs.Verdict.{Verdict, fine}
+use Rattle.typing_rules.specs.Scope.{Scope}
+use Rattle.typing_rules.specs.Expressions.{Checked, typing}
+use Rattle.typing_expressions.specs.Refused.{Tells}
+use Rattle.typing_expressions.specs.Numbered.{typing_at}
+use Rattle.typing_scopes.specs.Scopes.{with_texts}
+use Rattle.const_expr.proofs.Numbered.{typing_same}
+
+whole : (t : List (List ℕ)) (n : ℕ) (s : Scope) (e : Tree) → n ≡ length s.literals → typing_at t n s e ≡ typing (with_texts t s) e
+whole t n s e h = typing_same t (replicate n 0) s.literals s (length-replicate {A = ℕ} n 0 ∙ h) e
+
+pub typed_fine : (t : List (List ℕ)) (n : ℕ) (s : Scope) (e : Tree) (x : Checked) → n ≡ length s.literals → typing_at t n s e ≡ fine x → typing (with_texts t s) e ≡ fine x
+typed_fine t n s e x h f = sym (whole t n s e h) ∙ f
+
+pub typed_tells : (t : List (List ℕ)) (n : ℕ) (s : Scope) (e : Tree) (r : Refusal) → n ≡ length s.literals → Tells r (typing_at t n s e) → Tells r (typing (with_texts t s) e)
+typed_tells t n s e r h f = subst (λ v. Tells r v) (whole t n s e h) f

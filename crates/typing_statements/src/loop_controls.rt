@@ -1,0 +1,83 @@
+//! What controls a `for` (6.8.5.3).
+#![tactic(auto, using(decls_declarators::proofs::Verdicts::told))]
+
+ghost use Rattle.std.specs.Prelude.{◌≡◌, ◌++◌, List, IfErr, IfOk};
+ghost use Rattle.typing_program.specs.declared.statements.Statement.{Statement};
+ghost use Rattle.tree.specs.View as tree_view;
+ghost use Rattle.tree.specs.View.{option_tree};
+ghost use Rattle.typing_rules.specs.Verdict.{fine, both};
+ghost use Rattle.typing_rules.specs.Statements as typed;
+ghost use Rattle.typing_expressions.specs.Refused.{Tells};
+ghost use Rattle.typing_scopes.specs.Scopes.{with_texts};
+ghost use Rattle.typing_units.specs.declared.first_values.Initial.{Initial};
+ghost use Rattle.typing_statements.specs.Views.{start_of};
+ghost use Rattle.typing_statements.specs.inside.Controls.{control_of};
+
+use crate::controls::{effect_in, test_in};
+use crate::loop_declarations::fit_for_loop;
+use srcset::{Names, Pos, Refusal};
+use std::alloc::Global;
+use tree::{Expr, ForStart};
+use typing_declarations::declaration_typed;
+use typing_program::{Statement, Value};
+use typing_scopes::Scope;
+use typing_units::Initial;
+
+/// The test and the step of a `for`.
+#[derive(Drop)]
+pub(crate) struct Control {
+    pub(crate) test: Option<Value>,
+    pub(crate) step: Option<Value>,
+}
+
+/// The test and the step, behind which their literals stand.
+pub(crate) fn controlled(
+    alloc: Global,
+    names: &Names,
+    scope: &mut Scope,
+    pos: Pos,
+    test: &Option<Expr>,
+    step: &Option<Expr>,
+) -> Result<Control, Refusal>
+    ensures ok { IfOk result (λ c. (both (typed.test_in (with_texts names.now scope.old) pos (option_tree test.now)) (typed.effect_in (typed.past_option (with_texts names.now scope.old) (option_tree test.now)) (option_tree step.now)) typed.control ≡ fine (control_of c)) × (scope.new ≡ typed.past_option (typed.past_option scope.old (option_tree test.now)) (option_tree step.now))) }
+    ensures err { IfErr result (λ r. Tells r (both (typed.test_in (with_texts names.now scope.old) pos (option_tree test.now)) (typed.effect_in (typed.past_option (with_texts names.now scope.old) (option_tree test.now)) (option_tree step.now)) typed.control)) }
+{
+    let test = match test_in(alloc, names, scope, pos, test) {
+        Ok(test) => test,
+        Err(refusal) => return Err(refusal),
+    };
+    match effect_in(alloc, names, scope, step) {
+        Ok(step) => Ok(Control { test, step }),
+        Err(refusal) => Err(refusal),
+    }
+}
+
+/// The first part: what it declares goes behind other statements and first values; what it evaluates is given.
+pub(crate) fn started(
+    alloc: Global,
+    names: &Names,
+    scope: &mut Scope,
+    declared: &mut Vec<Statement>,
+    initial: &mut Vec<Initial>,
+    start: &ForStart,
+) -> Result<Option<Value>, Refusal>
+    ensures ok { IfOk result (λ v. (xs : List Statement) × (js : List Initial) × (declared.new.items ≡ declared.old.items ++ xs) × (initial.new.items ≡ initial.old.items ++ js) × (typed.started (with_texts names.now scope.old) (tree_view.start_of start.now) ≡ fine (start_of (with_texts names.now scope.new) xs js v))) }
+    ensures err { IfErr result (λ r. Tells r (typed.started (with_texts names.now scope.old) (tree_view.start_of start.now))) }
+{
+    match start {
+        ForStart::Expression(e) => match effect_in(alloc, names, scope, e) {
+            Ok(value) => Ok(value),
+            Err(refusal) => Err(refusal),
+        },
+        ForStart::Declaration(declaration) => {
+            match fit_for_loop(declaration) {
+                Ok(()) => {}
+                Err(refusal) => return Err(refusal),
+            }
+            match declaration_typed(alloc, names, scope, declared, initial, declaration) {
+                Ok(()) => Ok(None),
+                Err(refusal) => Err(refusal),
+            }
+        }
+    }
+}

@@ -1,0 +1,8 @@
+use Rattle.std.proofs.Common.{◌≡◌, map, take}
+use Rattle.tree.specs.Capped.{capped32}
+use Rattle.typing_program.specs.View.{object_type_of}
+use Rattle.typing_rules.specs.Units.{bytes_of_objects}
+use Rattle.typing_units.proofs.sizes.bytes_of_objects.Given as goal
+
+abbrev pub invariant-loop-object : goal.invariant-loop-object
+invariant-loop-object l = l.total ≡ capped32 (bytes_of_objects (map object_type_of (take l.object-index l.objects)))

@@ -1,0 +1,21 @@
+-- What the code's parts of a unit stand for.
+use Rattle.std.specs.Prelude.{ℕ, List, map}
+use Rattle.typing_program.specs.declared.units.Function.{Function}
+use Rattle.typing_program.specs.View.{function_of}
+use Rattle.typing_scopes.specs.declared.bindings.StaticObject.{StaticObject}
+use Rattle.typing_scopes.specs.Scopes.{static_of}
+use Rattle.typing_units.specs.declared.first_values.Initial.{Initial}
+use Rattle.typing_rules.specs.Scope.{Scope}
+use Rattle.typing_rules.specs.Declarations as declarations
+use Rattle.typing_rules.specs.Units as typed
+
+abbrev pub initial_of : Initial → declarations.Initial
+initial_of i = record { static = i.static_number; values = i.values.items }
+
+-- the scope of a unit with these texts, string literals and objects with static storage
+abbrev pub unit_scope : List (List ℕ) → List ℕ → List StaticObject → Scope → Scope
+unit_scope texts literals statics s = record s { texts = texts; literals = literals; statics = map static_of statics }
+
+-- what has been looked at
+abbrev pub built_of : Scope → List Function → List Initial → typed.Built
+built_of s functions initial = record { scope = s; functions = map function_of functions; initial = map initial_of initial }

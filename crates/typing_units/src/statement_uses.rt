@@ -1,0 +1,76 @@
+//! The first use of what has no definition in a statement (6.9p3, p5).
+#![tactic(auto)]
+
+ghost use Rattle.std.specs.Prelude.{◌≡◌, ◌++◌, map};
+ghost use Rattle.typing_program.specs.View.{option_value, statement_of, statements_of};
+ghost use Rattle.typing_scopes.specs.Scopes.{static_of};
+ghost use Rattle.typing_rules.specs.Uses as typed;
+ghost use Rattle.typing_units.specs.inside.Undefined.{undefined_in};
+
+use crate::value_uses::{earlier, in_initialiser, in_option, in_value};
+use srcset::Pos;
+use typing_program::{Statement, Value};
+use typing_scopes::StaticObject;
+
+#[cycle(uses_of_statements)]
+fn in_statements(statics: &[StaticObject], statements: &[Statement]) -> Option<Pos>
+    ensures { result ≡ undefined_in (map static_of statics.now) (typed.uses_in_statements (statements_of (map statement_of statements.now))) }
+{
+    let mut found = None;
+    for statement in statements {
+        found = earlier(found, in_statement(statics, statement));
+    }
+    found
+}
+
+/// What stands before the body of a `for`.
+#[cycle(uses_of_statements)]
+fn in_head(
+    statics: &[StaticObject],
+    declared: &[Statement],
+    start: &Option<Value>,
+    test: &Option<Value>,
+    step: &Option<Value>,
+) -> Option<Pos>
+    ensures { result ≡ undefined_in (map static_of statics.now) (typed.uses_in_statements (statements_of (map statement_of declared.now)) ++ typed.uses_in_option (option_value start.now) ++ typed.uses_in_option (option_value test.now) ++ typed.uses_in_option (option_value step.now)) }
+{
+    let first = earlier(in_statements(statics, declared), in_option(statics, start));
+    earlier(
+        earlier(first, in_option(statics, test)),
+        in_option(statics, step),
+    )
+}
+
+/// The recursion is as deep as the tree.
+#[cycle(uses_of_statements)]
+pub(crate) fn in_statement(statics: &[StaticObject], statement: &Statement) -> Option<Pos>
+    ensures { result ≡ undefined_in (map static_of statics.now) (typed.uses_in_statement (statement_of statement.now)) }
+{
+    match statement {
+        Statement::Empty => None,
+        Statement::Evaluate(e) => in_value(statics, e),
+        Statement::Declare(_) => None,
+        Statement::Define(_, initialiser) => in_initialiser(statics, initialiser),
+        Statement::Block(_, _, all) => in_statements(statics, all),
+        Statement::If(e, a) => earlier(in_value(statics, e), in_statement(statics, a)),
+        Statement::IfElse(e, a, b) => earlier(
+            earlier(in_value(statics, e), in_statement(statics, a)),
+            in_statement(statics, b),
+        ),
+        Statement::Switch(_, e, _, _, all) => {
+            earlier(in_value(statics, e), in_statements(statics, all))
+        }
+        Statement::Case(_) => None,
+        Statement::Default => None,
+        Statement::While(e, a) => earlier(in_value(statics, e), in_statement(statics, a)),
+        Statement::DoWhile(a, e) => earlier(in_statement(statics, a), in_value(statics, e)),
+        Statement::For(declared, start, test, step, a) => earlier(
+            in_head(statics, declared, start, test, step),
+            in_statement(statics, a),
+        ),
+        Statement::Break => None,
+        Statement::Continue => None,
+        Statement::ReturnNothing => None,
+        Statement::ReturnValue(_, e) => in_value(statics, e),
+    }
+}

@@ -1,6 +1,0 @@
-use Rattle.std.proofs.Common.{refl}
-use Rattle.scopes.specs.Scopes.{binding_of}
-use Rattle.unit_rules.proofs.entries.is_external.Goals as goal
-
-pub returns-in-Some : goal.returns-in-Some
-returns-in-Some c = rw c.in-Some.is (c.has_external.ensures (binding_of c.in-Some.binding.now) refl)

@@ -1,7 +1,0 @@
-use Rattle.std.proofs.Common.{drop, map}
-use Rattle.tree.specs.View.{parameter_of}
-use Rattle.unit_rules.proofs.Readings.{Naming}
-use Rattle.unit_rules.proofs.functions.all_named.Given as goal
-
-abbrev pub invariant-loop-parameter : goal.invariant-loop-parameter
-invariant-loop-parameter l = Naming (map parameter_of l.parameters) (map parameter_of (drop l.parameter-index l.parameters))

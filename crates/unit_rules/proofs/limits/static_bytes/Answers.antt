@@ -1,5 +1,0 @@
-use Rattle.unit_rules.specs.Views.{unit_scope}
-use Rattle.unit_rules.proofs.limits.static_bytes.Goals as goal
-
-pub returns : goal.returns
-returns c = λ s. c.sum.ensures _ _ c.bytes_of_statics.ensures (c.bytes_of_literals.ensures (unit_scope c.args.names.now c.args.literals.now c.args.statics.now s))

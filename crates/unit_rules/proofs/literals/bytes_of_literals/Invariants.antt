@@ -1,9 +1,0 @@
-use Rattle.std.proofs.Common.{◌≡◌, take}
-use Rattle.tree.specs.Capped.{capped32}
-use Rattle.scopes.specs.Scopes.{with_texts}
-use Rattle.typed.specs.Scope.{Scope}
-use Rattle.typed.specs.Units.{bytes_of_literals, literals_of}
-use Rattle.unit_rules.proofs.literals.bytes_of_literals.Given as goal
-
-abbrev pub invariant-loop-name : goal.invariant-loop-name
-invariant-loop-name l = (s : Scope) → l.total ≡ capped32 (bytes_of_literals (literals_of (with_texts l.names s) (take l.name-index l.literals)))

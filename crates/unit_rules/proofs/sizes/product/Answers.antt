@@ -1,5 +1,0 @@
-use Rattle.unit_rules.proofs.Bytes.{capped32_product}
-use Rattle.unit_rules.proofs.sizes.product.Goals as goal
-
-pub returns : goal.returns
-returns c = λ x y e f. capped32_product _ _ _ x y c.saturating_mul.ensures e f

@@ -1,5 +1,0 @@
-use Rattle.tree.proofs.Sums.{capped32_sum}
-use Rattle.unit_rules.proofs.sizes.sum.Goals as goal
-
-pub returns : goal.returns
-returns c = λ x y e f. capped32_sum _ _ _ x y c.saturating_add.ensures e f

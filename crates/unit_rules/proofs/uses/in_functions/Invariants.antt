@@ -1,9 +1,0 @@
-use Rattle.std.proofs.Common.{◌≡◌, map, take}
-use Rattle.program.specs.View.{function_of}
-use Rattle.scopes.specs.Scopes.{static_of}
-use Rattle.typed.specs.Uses.{uses_in_functions}
-use Rattle.unit_rules.specs.inside.Undefined.{undefined_in}
-use Rattle.unit_rules.proofs.uses.in_functions.Given as goal
-
-abbrev pub invariant-loop-function : goal.invariant-loop-function
-invariant-loop-function l = l.found ≡ undefined_in (map static_of l.statics) (uses_in_functions (map function_of (take l.function-index l.functions)))
