@@ -21,7 +21,7 @@ pub use Rattle.meaning.specs.Meaning
 pub use Rattle.cabs.specs.Interpreting
 pub use Rattle.rv32.specs.Step
 pub use Rattle.loader.specs.File
-pub use Rattle.loader.specs.MemoryMap
+pub use Rattle.memory_map.specs.MemoryMap
 pub use Rattle.sim.specs.Port
 pub use Rattle.sim.specs.Runs
 pub use Rattle.sim.specs.Meets

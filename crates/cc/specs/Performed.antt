@@ -23,7 +23,7 @@ use Rattle.srcset.specs.Fault.{IsFault, IsFaultOrMemory, IsMemoryFault}
 use Rattle.asm.specs.declared.item.Item.{Item}
 use Rattle.asm.specs.Listing.{Lists}
 use Rattle.asm.specs.Refusals.{WritesBeginning}
-use Rattle.loader.specs.MemoryMap.{text_start}
+use Rattle.memory_map.specs.MemoryMap.{text_start}
 use Rattle.cc_backend.specs.Generated.{AreItemsOf}
 use Rattle.loader.specs.declared.fault.LoadFault.{LoadFault}
 use Rattle.loader.specs.Fault.{code_of}

@@ -13,7 +13,7 @@ use crate::transfer::put_all;
 use asm::{Items, list};
 use cabs::{Run, interpret};
 use cc_backend::items;
-use loader::memory_map::TEXT_START;
+use memory_map::TEXT_START;
 use loader::{LoadFault, load};
 use pp::print;
 use sim::{Machine, Outcome, Port, PortFault};

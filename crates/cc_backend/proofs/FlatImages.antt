@@ -5,7 +5,7 @@ use Rattle.std.proofs.lemmas.Bool.Decides.{nat_tests}
 use Rattle.std.proofs.lemmas.List.{get_or-replicate}
 use Rattle.std.proofs.lemmas.Option.{get_or_from_slice_get, slice_get_within}
 use Rattle.rv32.specs.Space.{Space}
-use Rattle.loader.specs.MemoryMap.{data_start, text_start, stack_start, stack_size}
+use Rattle.memory_map.specs.MemoryMap.{data_start, text_start, stack_start, stack_size}
 use Rattle.elf_out.specs.Layout.{Parts}
 use Rattle.elf_out.specs.Program.{program_space, is_within, is_text, is_data, is_stack}
 use Rattle.asm.specs.Placed as placed

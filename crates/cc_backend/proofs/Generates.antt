@@ -4,7 +4,7 @@ use Rattle.std.specs.Prelude.{slice_get, sum_by, option_map, IfOk, Result, Err}
 use Rattle.std.proofs.lemmas.Option.{slice_get-map, slice_get_within}
 use Rattle.std.proofs.lemmas.List.{length-map}
 use Rattle.std.proofs.lemmas.List.Sums.{sum_by-append, sum_by-cons}
-use Rattle.loader.specs.MemoryMap.{text_start, stack_size}
+use Rattle.memory_map.specs.MemoryMap.{text_start, stack_size}
 use Rattle.loader.specs.File.{file_image}
 use Rattle.elf_out.specs.Layout.{Parts}
 use Rattle.elf_out.specs.Program.{program_image}

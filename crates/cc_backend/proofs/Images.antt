@@ -1,6 +1,6 @@
 -- The image of flat code.
 use Rattle.std.proofs.Common.{◌≡◌, ◌≤◌, ℕ, ◌+◌, List, length, subst, arith}
-use Rattle.loader.specs.MemoryMap.{text_start}
+use Rattle.memory_map.specs.MemoryMap.{text_start}
 use Rattle.elf_out.specs.Layout.{Parts}
 use Rattle.asm.specs.declared.item.Item.{Item}
 use Rattle.asm.specs.Placed.{Assembles}

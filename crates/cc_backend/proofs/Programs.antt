@@ -3,7 +3,7 @@ use Rattle.std.proofs.Common.{◌≡◌, ℕ, ◌+◌, ◌-◌, ◌<◌, ◌≤�
 use Rattle.std.specs.Prelude.{slice_get, option_map}
 use Rattle.std.proofs.lemmas.Option.{slice_get-map}
 use Rattle.rv32.specs.Step.{register}
-use Rattle.loader.specs.MemoryMap.{stack_size, stack_end}
+use Rattle.memory_map.specs.MemoryMap.{stack_size, stack_end}
 use Rattle.sim.specs.Runs.{World}
 use Rattle.typing_rules.specs.Program as typed
 use Rattle.meaning.specs.History.{Entry, trace_of, active, weight_in, sum_of, greatest_sum}

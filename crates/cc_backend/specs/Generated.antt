@@ -1,7 +1,7 @@
 -- What the back end promises of the file of a typed program: how it runs.
 use Rattle.std.specs.Prelude.{◌≡◌, ◌≤◌, ◌<◌, ℕ, ◌+◌, ◌*◌, true, List, length, map, sum_by, slice_get, Some, Ok}
 use Rattle.loader.specs.File.{Image, file_image}
-use Rattle.loader.specs.MemoryMap.{stack_size, text_start}
+use Rattle.memory_map.specs.MemoryMap.{stack_size, text_start}
 use Rattle.elf_out.specs.Layout.{Parts}
 use Rattle.elf_out.specs.Written as written
 use Rattle.asm.specs.declared.item.Item.{Item}

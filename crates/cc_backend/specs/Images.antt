@@ -1,6 +1,6 @@
 -- What it is for an image to be that of a flat program, and how it then runs.
 use Rattle.std.specs.Prelude.{◌≡◌, ◌≤◌, ◌<◌, ℕ, ◌+◌, ◌*◌, List, ◌∷◌, length, Some}
-use Rattle.loader.specs.MemoryMap.{text_start, stack_size}
+use Rattle.memory_map.specs.MemoryMap.{text_start, stack_size}
 use Rattle.elf_out.specs.Layout.{Parts}
 use Rattle.elf_out.specs.Program.{program_image}
 use Rattle.asm.specs.Placed.{Assembles}

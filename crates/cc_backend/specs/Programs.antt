@@ -1,7 +1,7 @@
 -- How the image of a typed program runs, once it is lowered, flattened, and its items are assembled.
 use Rattle.std.specs.Prelude.{◌≡◌, ◌≤◌, ◌<◌, ℕ, ◌+◌, ◌*◌, ◌%◌, List, map, Option, None, Some, slice_get}
 use Rattle.rv32.specs.Step.{register}
-use Rattle.loader.specs.MemoryMap.{stack_size, stack_end}
+use Rattle.memory_map.specs.MemoryMap.{stack_size, stack_end}
 use Rattle.elf_out.specs.Layout.{Parts}
 use Rattle.elf_out.specs.Program.{program_image}
 use Rattle.sim.specs.Runs as sim

@@ -1,6 +1,6 @@
 -- How the image of three-address code runs, once that is flattened and its items are assembled.
 use Rattle.std.specs.Prelude.{◌≡◌, ◌≤◌, ◌<◌, ℕ, ◌+◌, ◌*◌, List, sum_by}
-use Rattle.loader.specs.MemoryMap.{stack_size}
+use Rattle.memory_map.specs.MemoryMap.{stack_size}
 use Rattle.elf_out.specs.Layout.{Parts}
 use Rattle.elf_out.specs.Program.{program_image}
 use Rattle.sim.specs.Runs.{World, Running, Ended, rvrun, start_world}

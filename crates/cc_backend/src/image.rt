@@ -1,7 +1,7 @@
 //! The items of flat code, and their image.
 
 ghost use Rattle.std.specs.Prelude.{◌≡◌, ◌≤◌, length, IfOk};
-ghost use Rattle.loader.specs.MemoryMap.{text_start};
+ghost use Rattle.memory_map.specs.MemoryMap.{text_start};
 ghost use Rattle.asm.specs.Placed.{Assembles};
 ghost use Rattle.frames_code.specs.Code as flat;
 ghost use Rattle.frames_code.specs.Sound.{IsSoundProgram};
@@ -14,7 +14,7 @@ use crate::flat_code::want_of_memory;
 use asm::{Items, assemble};
 use elf_out::Image;
 use frames_code::FlatProgram;
-use loader::memory_map::TEXT_START;
+use memory_map::TEXT_START;
 use select::select;
 use std::alloc::{AllocError, Global};
 

@@ -6,7 +6,7 @@ use Rattle.std.proofs.lemmas.List.{get_or_append_left, get_or-append-add, length
 use Rattle.loader.specs.declared.header.LoadHeader.{LoadHeader}
 use Rattle.loader.specs.declared.fault.LoadFault.{LoadFault}
 use Rattle.loader.specs.File.{Image, loads, file_image, fault_of, answer_of, e_entry, image_space, byte_of, said}
-use Rattle.loader.specs.MemoryMap.{data_start, data_offset}
+use Rattle.memory_map.specs.MemoryMap.{data_start, data_offset}
 use Rattle.elf_out.specs.Layout.{Parts}
 use Rattle.elf_out.specs.Written.{headers_of, file_of, zeros}
 use Rattle.elf_out.specs.Program.{is_within, is_text, is_data, is_stack, program_space, program_image}

@@ -2,7 +2,7 @@
 use Rattle.std.proofs.Common.{ℕ, ◌≡◌, ◌≤◌, ◌+◌, ◌-◌, List, ◌++◌, length, take, refl, ap, ◌∙◌, append_assoc, arith, length-append}
 use Rattle.std.specs.Prelude.{replicate}
 use Rattle.std.proofs.lemmas.List.{take_all}
-use Rattle.loader.specs.MemoryMap.{data_start, data_offset}
+use Rattle.memory_map.specs.MemoryMap.{data_start, data_offset}
 use Rattle.elf_out.specs.Layout.{Parts}
 use Rattle.elf_out.specs.Written.{headers_of, file_of, zeros}
 

@@ -5,7 +5,7 @@ use Rattle.std.specs.List.{sum_by}
 use Rattle.std.proofs.lemmas.Bool.Decides.{nat_tests}
 use Rattle.loader.specs.declared.header.LoadHeader.{LoadHeader}
 use Rattle.loader.specs.File.{e_type, e_machine, e_flags, e_entry, is_elf32, is_table, loads, header_fault, loads_fault, fault_of, first_of, is_sound, all_sound, apart, are_apart}
-use Rattle.loader.specs.MemoryMap.{data_start, data_offset}
+use Rattle.memory_map.specs.MemoryMap.{data_start, data_offset}
 use Rattle.elf_out.specs.Written.{headers_of}
 
 -- ---- the headers, read again

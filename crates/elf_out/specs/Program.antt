@@ -2,7 +2,7 @@
 use Rattle.std.specs.Prelude.{ℕ, ◌+◌, ◌-◌, ◌&&◌, ◌||◌, Bool, if◌then◌else◌, length, nat_le, nat_lt, slice_index}
 use Rattle.rv32.specs.Space.{Space}
 use Rattle.loader.specs.File.{Image}
-use Rattle.loader.specs.MemoryMap.{text_start, data_start, stack_start, stack_size}
+use Rattle.memory_map.specs.MemoryMap.{text_start, data_start, stack_start, stack_size}
 use Rattle.elf_out.specs.Layout.{Parts}
 
 -- a is one of the n addresses from start on

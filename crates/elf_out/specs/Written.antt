@@ -2,7 +2,7 @@
 use Rattle.std.specs.Prelude.{ℕ, ◌+◌, ◌-◌, List, [], ◌∷◌, ◌++◌, length, replicate}
 use Rattle.std.specs.List.{flat_map}
 use Rattle.byteorder.specs.Endian.{little_bytes}
-use Rattle.loader.specs.MemoryMap.{text_start, data_start, text_offset, data_offset, stack_start, stack_size}
+use Rattle.memory_map.specs.MemoryMap.{text_start, data_start, text_offset, data_offset, stack_start, stack_size}
 use Rattle.elf_out.specs.Layout.{Parts}
 
 -- numbers of two and of four bytes each

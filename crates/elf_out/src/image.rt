@@ -1,9 +1,9 @@
 //! A program's text and data.
 
 ghost use Rattle.std.specs.Prelude.{◌≡◌, ◌≤◌, ◌+◌, ◌↔◌, IsSome, IfSome, vec_len, length};
-ghost use Rattle.loader.specs.MemoryMap.{max_image};
+ghost use Rattle.memory_map.specs.MemoryMap.{max_image};
 
-use loader::memory_map::MAX_IMAGE;
+use memory_map::MAX_IMAGE;
 use std::marker::Model;
 
 /// The text and the data of a program, both segments whole, together at most 117,440,512 bytes.
@@ -15,7 +15,7 @@ pub struct Image {
 
 impl Model for Image {
     ghost use Rattle.std.specs.Prelude.{◌≤◌, ◌+◌, vec_len};
-    ghost use Rattle.loader.specs.MemoryMap.{max_image};
+    ghost use Rattle.memory_map.specs.MemoryMap.{max_image};
     ghost use Rattle.elf_out.specs.Layout.{Parts};
 
     ghost Value = { Parts };

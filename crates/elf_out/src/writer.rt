@@ -6,14 +6,14 @@ ghost use Rattle.std.specs.Prelude.{◌≡◌, ◌≢◌, ◌≤◌, ◌+◌, �
 ghost use Rattle.srcset.specs.Fault.{IsMemoryFault};
 ghost use Rattle.loader.specs.declared.fault.LoadFault.{LoadFault};
 ghost use Rattle.loader.specs.File.{file_image};
-ghost use Rattle.loader.specs.MemoryMap.{max_image};
+ghost use Rattle.memory_map.specs.MemoryMap.{max_image};
 ghost use Rattle.elf_out.specs.Written as written;
 ghost use Rattle.elf_out.specs.Written.{file_of, headers_of};
 ghost use Rattle.elf_out.specs.Program.{program_image};
 
 use crate::image::Image;
 use byteorder::{ByteOrder, LittleEndian};
-use loader::memory_map::{
+use memory_map::{
     OFFSET_TO_ADDRESS, PAGE, STACK_SIZE, STACK_START, TEXT_OFFSET, TEXT_START, data_start,
 };
 use srcset::Fault;

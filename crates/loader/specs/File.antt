@@ -3,7 +3,7 @@ use Rattle.std.specs.Prelude.{ℕ, zero, suc, ◌+◌, ◌*◌, ◌-◌, ◌/◌
 use Rattle.std.specs.List.{sum_by, list_all}
 use Rattle.rv32.specs.Space.{Space, half_at, word_at}
 use Rattle.loader.specs.declared.header.LoadHeader.{LoadHeader}
-use Rattle.loader.specs.MemoryMap.{max_memory}
+use Rattle.memory_map.specs.MemoryMap.{max_memory}
 use Rattle.loader.specs.declared.fault.LoadFault.{LoadFault}
 use Rattle.loader.specs.declared.fault.LoadFault.TheVariants.{TooShort, NotElf32, NotExecutable, NotRiscV, BadProgramHeader, Overlap, TooMuch}
 

@@ -2,7 +2,7 @@ pub use Rattle.srcset.specs.Codes
 pub use Rattle.rv32.specs.Space
 pub mod Fault
 pub mod File
-pub mod MemoryMap
+pub use Rattle.memory_map.specs.MemoryMap
 pub mod Decoded
 pub mod Listing
 pub mod Loading

@@ -9,7 +9,7 @@ ghost use Rattle.loader.specs.File as file;
 
 use crate::fault::LoadFault;
 use crate::header::{Headers, LoadHeader, half, loads_from, word};
-use crate::memory_map::MAX_MEMORY;
+use memory_map::MAX_MEMORY;
 
 /// The file's headers of type `PT_LOAD`, or the first fault that stands. Takes no memory.
 #[tactic(auto, unfolding(crate::specs::File::loads))]

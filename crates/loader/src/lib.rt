@@ -6,7 +6,6 @@ mod entries;
 mod fault;
 mod header;
 mod loading;
-pub mod memory_map;
 mod program;
 mod segments;
 mod text_list;

@@ -15,6 +15,7 @@ use Rattle.tree.specs.Tree.{ExternalTree, definition, declaration}
 use Rattle.tree.specs.Counts.{function_nodes, unit_nodes, unit_depth}
 use Rattle.parser_grammar.specs.Statements.{SpellsUnit}
 use Rattle.parser_grammar.specs.Tokens.{Reaches}
+use Rattle.tree.specs.Limits.{depth_limit, function_node_limit, program_node_limit}
 
 -- the whole list is this unit
 abbrev pub IsUnitOf : List Token → List ExternalTree → Type 0
@@ -33,7 +34,7 @@ code_of of_function = FunctionNodeLimit
 code_of of_program = ProgramNodeLimit
 
 abbrev pub IsSmall : ExternalTree → Type 0
-IsSmall (definition f) = function_nodes f ≤ 8000
+IsSmall (definition f) = function_nodes f ≤ function_node_limit
 IsSmall (declaration d) = Unit {0}
 
 abbrev pub AreSmall : List ExternalTree → Type 0
@@ -42,9 +43,9 @@ AreSmall (e ∷ es) = IsSmall e × AreSmall es
 
 -- the unit, whole or begun, keeps the limit
 abbrev pub Keeps : Limit → List ExternalTree → Type 0
-Keeps of_depth es = unit_depth es ≤ 256
+Keeps of_depth es = unit_depth es ≤ depth_limit
 Keeps of_function es = AreSmall es
-Keeps of_program es = unit_nodes es ≤ 262144
+Keeps of_program es = unit_nodes es ≤ program_node_limit
 
 -- ---- answers
 

@@ -19,6 +19,7 @@ use Rattle.parser_expressions.specs.declared.type_specifiers.SpecifiersPart.{Spe
 use Rattle.parser_grammar.specs.Expressions.{layer, SpellsSpecifiers, Spells}
 use Rattle.parser_grammar.specs.Tokens.{StartsAt, Reaches}
 use Rattle.parser_grammar.specs.inside.Answer.{Excuses}
+use Rattle.tree.specs.Limits.{depth_limit}
 
 -- one more than the tightest layer that goes on at this punctuator, or 0
 abbrev pub sign_power : Punctuator → ℕ
@@ -79,7 +80,7 @@ pub record Reads (n d : ℕ) (ts : List Token) (e : Tree) (k : ℕ) (rest : List
   pub tight : n ≤ layer e
   pub spells : Spells None e ts rest
   pub height : k ≡ depth e
-  pub fits : d + k ≤ 256
+  pub fits : d + k ≤ depth_limit
   pub only : (t : Tree) (r : List Token) → Front n t ts r → (t ≡ e) × (r ≡ rest)
 
 -- each tree at the front of the list has this against it
@@ -98,7 +99,7 @@ pub record Passes (n d : ℕ) (ts : List Token) (at : Pos) : Type 0 where
   pub tight : n ≤ layer tree
   pub spells : Spells (Some cut) tree ts cut
   pub ends : Reaches ts (record { kind = last; pos = at } ∷ cut)
-  pub deep : 256 < d + depth tree
+  pub deep : depth_limit < d + depth tree
 
 -- the refusal stands: of a depth, some begun tree passes it
 abbrev pub Stands : ℕ → ℕ → List Token → Refusal → Type 0

@@ -10,7 +10,7 @@ use asm::assemble;
 use elf_out::{Image, write_elf};
 use frames_code::FlatProgram;
 use loader::load;
-use loader::memory_map::TEXT_START;
+use memory_map::TEXT_START;
 use rows_frames_soundness::is_sound;
 use select::select;
 use sim::{Machine, Outcome, Port, PortFault};

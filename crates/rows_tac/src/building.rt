@@ -10,7 +10,7 @@ use frames::flatten;
 use frames_code::FlatProgram;
 use frames_registers::renumber;
 use loader::load;
-use loader::memory_map::TEXT_START;
+use memory_map::TEXT_START;
 use rows_tac_soundness::is_sound;
 use select::select;
 use sim::{Machine, Outcome, Port, PortFault};

@@ -1,6 +1,6 @@
 -- The items of a whole flat program.
 use Rattle.std.specs.Prelude.{ℕ, ◌+◌, List, [], ◌∷◌, ◌++◌, length}
-use Rattle.loader.specs.MemoryMap.{stack_end}
+use Rattle.memory_map.specs.MemoryMap.{stack_end}
 use Rattle.asm.specs.declared.item.Item.{Item}
 use Rattle.asm.specs.declared.item.Item.TheVariants as item
 use Rattle.frames_code.specs.declared.code.Instruction.{Instruction}

@@ -16,7 +16,7 @@ use crate::shortening::shortened;
 use crate::words::{fetch, put, put_one, register_of, stack_pointer};
 use asm::{Item, Items, Label};
 use frames_code::{FlatProgram, Function, Instruction, Operand};
-use loader::memory_map::STACK_END;
+use memory_map::STACK_END;
 use rv32::{Five, Test};
 use srcset::Fault;
 use std::alloc::{AllocError, Global};

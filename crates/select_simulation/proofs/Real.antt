@@ -1,6 +1,6 @@
 -- The table's machine follows flat code: from a program's entry on.
 use Rattle.std.proofs.Common.{◌≡◌, ℕ, List, [], refl, sym, ◌∙◌, subst, arith}
-use Rattle.loader.specs.MemoryMap.{stack_end}
+use Rattle.memory_map.specs.MemoryMap.{stack_end}
 use Rattle.meaning_events.specs.Events.{Event}
 use Rattle.sim.specs.Runs as machine
 use Rattle.frames_code.specs.Run.{State, running, start}

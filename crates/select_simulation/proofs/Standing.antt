@@ -2,7 +2,7 @@
 use Rattle.std.proofs.Common.{◌≡◌, ℕ, ◌+◌, ◌*◌, ◌-◌, ◌%◌, ◌<◌, ◌≤◌, List, ◌∷◌, sym, ap, ◌∙◌, arith}
 use Rattle.std.specs.Prelude.{if◌then◌else◌}
 use Rattle.std.proofs.lemmas.Bool.{lt-ltb, le-ltb}
-use Rattle.loader.specs.MemoryMap.{stack_end}
+use Rattle.memory_map.specs.MemoryMap.{stack_end}
 use Rattle.rv32.specs.Space.{word_at}
 use Rattle.rv32.specs.Step.{register}
 use Rattle.meaning_events.specs.Events.{Event}

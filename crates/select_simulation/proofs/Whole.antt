@@ -1,7 +1,7 @@
 -- The machine follows flat code: from a program's entry to its end.
 use Rattle.std.proofs.Common.{◌≡◌, ℕ, ◌+◌, ◌*◌, ◌-◌, ◌^◌, ◌<◌, ◌≤◌, List, [], length, suc, refl, sym, ap, ◌∙◌, subst, arith}
 use Rattle.std.specs.Prelude.{slice_get}
-use Rattle.loader.specs.MemoryMap.{stack_end}
+use Rattle.memory_map.specs.MemoryMap.{stack_end}
 use Rattle.rv32.specs.declared.instr.ImmediateOp.TheVariants as immediate_op
 use Rattle.rv32.specs.Space.{word_at}
 use Rattle.asm.specs.Placed.{Stands}

@@ -1,6 +1,6 @@
 -- What simulation is of whole runs: a step, so many steps, a program's entry and its end.
 use Rattle.std.specs.Prelude.{◌≡◌, ◌≤◌, ◌<◌, ℕ, ◌+◌, ◌-◌, ◌*◌, ◌%◌, ◌^◌, true, false, List, [], ◌∷◌, length, slice_get, Some}
-use Rattle.loader.specs.MemoryMap.{stack_end}
+use Rattle.memory_map.specs.MemoryMap.{stack_end, stack_start}
 use Rattle.rv32.specs.Space.{word_at}
 use Rattle.rv32.specs.Step.{register}
 use Rattle.asm.specs.Placed.{Stands}
@@ -137,12 +137,12 @@ pub record Laid (p : Program) (F : Fixed) (env : ℕ → ℕ) (data_at base e : 
   pub stands : Stands F.text env data_at (program_items p) base e
   pub aligned : base % 4 ≡ 0
   pub low : e < 2 ^ 31
-  pub stack_read : (a : ℕ) → 0x7FF00000 ≤ a → a < 2 ^ 31 → F.can_read a ≡ true
-  pub stack_written : (a : ℕ) → 0x7FF00000 ≤ a → a < 2 ^ 31 → F.can_write a ≡ true
+  pub stack_read : (a : ℕ) → stack_start ≤ a → a < 2 ^ 31 → F.can_read a ≡ true
+  pub stack_written : (a : ℕ) → stack_start ≤ a → a < 2 ^ 31 → F.can_write a ≡ true
   pub data_read : (a : ℕ) → data_at ≤ a → a < data_at + length p.statics → F.can_read a ≡ true
   pub data_written : (a : ℕ) → data_at ≤ a → a < data_at + length p.statics → F.can_write a ≡ true
   pub data_aligned : data_at % 4 ≡ 0
-  pub data_below : data_at + length p.statics ≤ 0x7FF00000
+  pub data_below : data_at + length p.statics ≤ stack_start
   pub small : Small (file_of r)
   pub bytes : (k : ℕ) → b k < 2 ^ 8
   pub statics : Holds (slice_get p.statics) data_at 0 (length p.statics) b

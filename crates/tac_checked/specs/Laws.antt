@@ -7,9 +7,10 @@ use Rattle.tree.specs.Counts.{function_nodes, weight_of}
 use Rattle.typing_rules.specs.Program.{Function, Program}
 use Rattle.typing_rules.specs.Nodes.{typed_nodes}
 use Rattle.typing_rules.specs.Verdict.{fine}
-use Rattle.typing_rules.specs.Units.{unit_typed}
+use Rattle.typing_rules.specs.Units.{unit_typed, weight_limit, function_limit, static_limit}
 use Rattle.tac_code.specs.Sound.{AreBytes, data_bytes}
 use Rattle.tac_code.specs.Spans.{own_bytes}
+use Rattle.tree.specs.Limits.{function_node_limit}
 
 -- ---- what is known of a unit
 
@@ -19,16 +20,16 @@ AreTexts texts = (k : ℕ) (text : List ℕ) → slice_get texts k ≡ Some text
 
 -- no function has more nodes than a tree may have (5.2.4.1)
 abbrev pub IsWithinNodes : List ExternalTree → Type 0
-IsWithinNodes unit = (k : ℕ) (f : FunctionTree) → slice_get unit k ≡ Some (definition f) → function_nodes f ≤ 8000
+IsWithinNodes unit = (k : ℕ) (f : FunctionTree) → slice_get unit k ≡ Some (definition f) → function_nodes f ≤ function_node_limit
 
 -- ---- what is counted of its program
 
 -- the weight is that of the tree's nodes and of the objects, the typed nodes are no more than the tree's
 pub record FunctionIsMeasured (f : Function) : Type 0 where
   pub weight : f.weight ≡ weight_of f.nodes (own_bytes f)
-  pub light : f.weight ≤ 1048576
+  pub light : f.weight ≤ weight_limit
   pub counted : typed_nodes f ≤ f.nodes
-  pub nodes : f.nodes ≤ 8000
+  pub nodes : f.nodes ≤ function_node_limit
 
 pub record IsMeasured (p : Program) : Type 0 where
   pub main_is_there : p.main < length p.functions
@@ -36,8 +37,8 @@ pub record IsMeasured (p : Program) : Type 0 where
   pub main_gives_int : (f : Function) → slice_get p.functions p.main ≡ Some f → f.type.result ≡ Some ty.Int
   pub each : (k : ℕ) (f : Function) → slice_get p.functions k ≡ Some f → FunctionIsMeasured f
   pub literals : (n : ℕ) (text : List ℕ) → slice_get p.literals n ≡ Some text → AreBytes text
-  pub few : length p.functions ≤ 16384
-  pub small : data_bytes p.literals p.statics ≤ 16777216
+  pub few : length p.functions ≤ function_limit
+  pub small : data_bytes p.literals p.statics ≤ static_limit
 
 abbrev pub ProgramIsMeasured : Type 0
 ProgramIsMeasured = (texts : List (List ℕ)) (whole : Pos) (unit : List ExternalTree) (p : Program) → AreTexts texts → IsWithinNodes unit

@@ -16,6 +16,7 @@ use Rattle.typing_rules.specs.Uses.{Used, Use, uses_in_statement, uses_in_statem
 use Rattle.typing_rules.specs.WellTyped.{is_array, rows_of, callee_type, parameters_are_first, statement_is_typed, statements_are_typed}
 use Rattle.typing_rules.specs.Units.{Built, function_typed, numbers_in}
 use Rattle.tac_code.specs.Designated.{in_statement, in_statements}
+use Rattle.typing_rules.specs.Expressions.{object_limit}
 
 -- a program, a function of it, and what its names and definitions are
 pub record Setting : Type 0 where
@@ -48,7 +49,7 @@ Fits (complete t) T = FitsBy t.element t.constant t.lengths T
 Fits (unknown_size u) T = RowsAre u T
 
 abbrev pub Sized : ObjectType → Type 0
-Sized t = (0 < elements_in t.lengths) × (size_of_object t ≤ 1048576)
+Sized t = (0 < elements_in t.lengths) × (size_of_object t ≤ object_limit)
 
 abbrev pub SizedType : DeclaredType → Type 0
 SizedType (complete t) = Sized t

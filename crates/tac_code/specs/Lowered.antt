@@ -16,6 +16,8 @@ use Rattle.tac_code.specs.declared.code.Parameter.TheVariants as parameter
 use Rattle.tac_code.specs.Sound.{IsSoundProgram, AreBytes, data_bytes}
 use Rattle.tac_code.specs.Spans.{span, own_bytes}
 use Rattle.tac_code.specs.Designated.{in_function}
+use Rattle.typing_rules.specs.Units.{function_limit}
+use Rattle.tree.specs.Limits.{function_node_limit}
 
 -- the run of q on this input, after m steps
 abbrev pub run_of : Program → List ℕ → ℕ → Progress
@@ -67,7 +69,7 @@ pub record IsLowered (p : typed.Program) (q : Program) : Type 0 where
 -- its weight is that of its nodes and objects, its nodes are within their limit, no object is without bytes, and what it designates is defined
 pub record FunctionIsChecked (p : typed.Program) (f : typed.Function) : Type 0 where
   pub weight : f.weight ≡ weight_of f.nodes (own_bytes f)
-  pub nodes : f.nodes ≤ 8000
+  pub nodes : f.nodes ≤ function_node_limit
   pub sized : (n : ℕ) (o : ObjectType) → slice_get f.objects n ≡ Some o → 0 < size_of_object o
   pub defined : in_function p f ≡ true
 
@@ -78,5 +80,5 @@ pub record IsChecked (p : typed.Program) : Type 0 where
   pub main_gives_int : (f : typed.Function) → slice_get p.functions p.main ≡ Some f → f.type.result ≡ Some ty.Int
   pub each : (k : ℕ) (f : typed.Function) → slice_get p.functions k ≡ Some f → FunctionIsChecked p f
   pub literals : (n : ℕ) (text : List ℕ) → slice_get p.literals n ≡ Some text → AreBytes text
-  pub few : length p.functions ≤ 16384
+  pub few : length p.functions ≤ function_limit
   pub small : data_bytes p.literals p.statics ≤ 2 ^ 24

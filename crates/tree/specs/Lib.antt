@@ -1,5 +1,6 @@
 pub mod Tree
 pub mod Capped
 pub mod Counts
+pub mod Limits
 pub mod View
 pub mod Rows

@@ -9,7 +9,7 @@ use Rattle.typing_rules.specs.Program as typed
 use Rattle.typing_rules.specs.Program.{Place, Value, Arguments, Initialiser, Initialisers, Statement, Statements, Function, Static, Program}
 use Rattle.typing_rules.specs.Nodes.{type_of_value, type_of_place, typed_nodes}
 use Rattle.typing_rules.specs.Initialisers.{is_character}
-use Rattle.typing_rules.specs.Units.{numbers_in}
+use Rattle.typing_rules.specs.Units.{numbers_in, weight_limit}
 
 abbrev pub some_number : Option IntType → Bool
 some_number None = false
@@ -154,7 +154,7 @@ parameters_are_first (number t ∷ ps) (o ∷ objects) = same_type t o.element &
 
 -- a body's objects are those behind its parameters; its nodes are no more than its tree's
 abbrev pub function_is_typed : Program → Function → Bool
-function_is_typed p f = nat_le (typed_nodes f) f.nodes && (nat_le f.weight 1048576 && (parameters_are_first f.type.parameters f.objects
+function_is_typed p f = nat_le (typed_nodes f) f.nodes && (nat_le f.weight weight_limit && (parameters_are_first f.type.parameters f.objects
     && statement_is_typed p f (numbers_in f.type.parameters) (length f.objects) f.body))
 
 abbrev pub functions_are_typed : Program → List Function → Bool

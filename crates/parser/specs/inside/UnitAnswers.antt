@@ -19,6 +19,7 @@ use Rattle.parser_grammar.specs.Statements.{SpellsExternal}
 use Rattle.parser.specs.inside.StatementAnswers.{SpellsBody}
 use Rattle.parser_grammar.specs.inside.Answer.{Anywhere, ReadsOf, FailsOf, StandsOf}
 use Rattle.parser.specs.Units.{IsSmall, HasTokenAt}
+use Rattle.tree.specs.Limits.{program_node_limit}
 
 -- ---- the body of a function definition, two nodes down
 
@@ -64,9 +65,9 @@ IsLocated ts Memory f = f ≡ fault.Memory
 pub record Counts (before : ℕ) (e : ExternalTree) (after : ℕ) : Type 0 where
   pub small : IsSmall e
   pub total : after ≡ before + external_nodes e
-  pub few : after ≤ 262144
+  pub few : after ≤ program_node_limit
 
 -- it is not, and that is said at this place
 abbrev pub CountsTooMany : ℕ → ExternalTree → Pos → Fault → Type 0
 CountsTooMany before e at f = ((f ≡ fault.At FunctionNodeLimit at) × (IsSmall e → ⊥)) ⊎ ((f ≡ fault.At ProgramNodeLimit at)
-    × (262144 < before + external_nodes e))
+    × (program_node_limit < before + external_nodes e))

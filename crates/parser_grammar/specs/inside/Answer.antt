@@ -6,11 +6,12 @@ use Rattle.lexer.specs.declared.token.Kind.{Kind}
 use Rattle.parser_grammar.specs.declared.refusal.Refusal.{Refusal}
 use Rattle.parser_grammar.specs.declared.refusal.Refusal.TheVariants.{Syntax, Depth, Memory}
 use Rattle.parser_grammar.specs.Tokens.{Reaches}
+use Rattle.tree.specs.Limits.{depth_limit}
 
 -- what stands against a tree of depth k that lies below d nodes
 abbrev pub Excuses : Refusal → ℕ → ℕ → Type 0
 Excuses (Syntax left) d k = ⊥
-Excuses (Depth at) d k = 256 < d + k
+Excuses (Depth at) d k = depth_limit < d + k
 Excuses Memory d k = Unit {0}
 
 -- Below, `spells` says which trees of a category spell which fronts of a list, `ends` where one can end, before
@@ -21,7 +22,7 @@ pub record ReadsOf {A : Type 0} (spells : A → List Token → List Token → Ty
     (x : A) (k : ℕ) (rest : List Token) : Type 0 where
   pub spelled : spells x ts rest
   pub tall : k ≡ height x
-  pub fits : d + k ≤ 256
+  pub fits : d + k ≤ depth_limit
   pub only : (y : A) (r : List Token) → spells y ts r → ends y r → (y ≡ x) × (r ≡ rest)
 
 -- each tree at the front of the list has this against it
@@ -37,7 +38,7 @@ pub record PassesOf {A : Type 0} (begun : Option (List Token) → A → List Tok
   pub last : Kind
   pub spelled : begun (Some cut) tree ts cut
   pub reaches : Reaches ts (record { kind = last; pos = at } ∷ cut)
-  pub deep : 256 < d + height tree
+  pub deep : depth_limit < d + height tree
 
 -- the refusal stands: of a depth, some begun tree passes it
 abbrev pub StandsOf : {A : Type 0} (begun : Option (List Token) → A → List Token → List Token → Type 0) (height : A → ℕ) → ℕ → List Token → Refusal → Type 0

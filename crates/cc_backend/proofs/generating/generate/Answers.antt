@@ -1,5 +1,5 @@
 use Rattle.typing_program.specs.View.{program_of}
-use Rattle.loader.specs.MemoryMap.{text_start}
+use Rattle.memory_map.specs.MemoryMap.{text_start}
 use Rattle.frames_code.specs.Code as flat
 use Rattle.cc_backend.proofs.Generates.{reach, is_file}
 use Rattle.cc_backend.proofs.generating.generate.Goals as goal

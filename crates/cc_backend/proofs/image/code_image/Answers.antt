@@ -1,5 +1,5 @@
 use Rattle.std.proofs.Common.{◌≡◌, ◌≤◌, ◌+◌, refl, List, length, subst, sym, ap, arith}
-use Rattle.loader.specs.MemoryMap.{text_start}
+use Rattle.memory_map.specs.MemoryMap.{text_start}
 use Rattle.elf_out.specs.Layout.{Parts}
 use Rattle.asm.specs.declared.item.Item.{Item}
 use Rattle.asm.specs.Layout.{IsSized, longest}

@@ -1,7 +1,8 @@
 //! Where the parts of a program lie in memory and in its file: what `elf_out` writes, `cc` builds and `load` admits.
+#![tactic(auto)]
 
 ghost use Rattle.std.specs.Prelude.{◌≡◌, ◌≤◌};
-ghost use Rattle.loader.specs.MemoryMap as map;
+ghost use Rattle.memory_map.specs.MemoryMap as map;
 
 /// The address of the text, whose first instruction is the program's first.
 pub const TEXT_START: u32 = 0x1_1000;
