@@ -27,7 +27,7 @@ use Rattle.cabs_transitions.specs.Tallied.{Tells}
 use Rattle.cabs_transitions.specs.Acts.{Acts, outside_behind}
 use Rattle.cabs_transitions.specs.Calls.{IsInside, CallActs}
 use Rattle.cabs_transitions.specs.declared.calling.Called.{Called}
-use Rattle.sim.specs.Port.{PortView, Gets}
+use Rattle.meaning_ports.specs.Port.{PortView, Gets}
 use Rattle.cabs.specs.declared.state.Interpreter.{Interpreter}
 use Rattle.cabs.specs.inside.Standing.{Whole, left_of, history_left, history_called, waiting, Stands, Stopping, StoppingBy, Stopped, Rests, is_flow, is_return, left_where, entered_where, bytes_of}
 use Rattle.cabs.proofs.Following.{left_at, called_at, frame_follows, frame_stops, call_follows, call_stops, rests}

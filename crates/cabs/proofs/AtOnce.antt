@@ -16,8 +16,8 @@ use Rattle.cabs_store.specs.inside.Presents.{resume, presented, call_in}
 use Rattle.cabs_store.specs.inside.Views.{found_of}
 use Rattle.cabs_store.specs.inside.Agrees.{frames_of}
 use Rattle.cabs_transitions.specs.declared.tally.Tally.{Tally}
-use Rattle.sim.specs.declared.port.PortFault.{PortFault}
-use Rattle.sim.specs.Port.{PortView}
+use Rattle.meaning_ports.specs.declared.port.PortFault.{PortFault}
+use Rattle.meaning_ports.specs.Port.{PortView}
 use Rattle.cabs_evaluator.specs.declared.clock.Clock.{Clock}
 use Rattle.cabs_evaluator.specs.declared.clock.Why.{Why}
 use Rattle.cabs_evaluator.specs.declared.clock.Why.TheVariants as why

@@ -7,7 +7,7 @@ use Rattle.typing_rules.specs.Program as typed
 use Rattle.meaning.specs.History.{Entry, Did, active, weight_in, sum_of, greatest_sum, trace_of}
 use Rattle.cabs_transitions.specs.declared.tally.Tally.{Tally}
 use Rattle.cabs_transitions.specs.Tallied.{Tells}
-use Rattle.sim.specs.Port.{GivesByte}
+use Rattle.meaning_ports.specs.Port.{GivesByte}
 use Rattle.cabs.specs.inside.Standing.{bytes_of, waiting}
 
 -- ---- what a port tells

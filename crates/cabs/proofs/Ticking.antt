@@ -29,7 +29,7 @@ use Rattle.cabs_store.proofs.Adequate.{real}
 use Rattle.cabs_transitions.specs.declared.tally.Tally.{Tally}
 use Rattle.cabs_transitions.specs.Tallied.{Tells}
 use Rattle.cabs_transitions.specs.Acts.{Acts, outside_behind}
-use Rattle.sim.specs.Port.{PortView}
+use Rattle.meaning_ports.specs.Port.{PortView}
 use Rattle.cabs.specs.declared.state.Interpreter.{Interpreter}
 use Rattle.cabs.specs.declared.outcome.Run.{Run}
 use Rattle.cabs.specs.declared.outcome.Run.TheVariants as run

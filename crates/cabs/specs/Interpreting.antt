@@ -4,8 +4,8 @@ use Rattle.std.specs.Io.KnownBytes.{Appends}
 use Rattle.typing_rules.specs.Program.{Program}
 use Rattle.meaning.specs.Machine.{Ending, Ended, Undefined, TicksUsed}
 use Rattle.meaning.specs.Meaning.{Answer, answer}
-use Rattle.sim.specs.declared.port.PortFault.{PortFault}
-use Rattle.sim.specs.Port.{PortView, Rises}
+use Rattle.meaning_ports.specs.declared.port.PortFault.{PortFault}
+use Rattle.meaning_ports.specs.Port.{PortView, Rises}
 use Rattle.cabs.specs.declared.outcome.Run.{Run}
 use Rattle.cabs.specs.declared.outcome.Run.TheVariants as run
 

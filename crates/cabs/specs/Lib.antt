@@ -8,6 +8,6 @@ pub use Rattle.meaning.specs.Machine
 pub use Rattle.meaning.specs.Expressions
 pub use Rattle.meaning.specs.Statements
 pub use Rattle.meaning.specs.Meaning
-pub use Rattle.sim.specs.Port
+pub use Rattle.meaning_ports.specs.Port
 pub mod Interpreting
 pub mod inside

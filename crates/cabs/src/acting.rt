@@ -5,7 +5,7 @@ ghost use Rattle.srcset.specs.declared.refusal.Pos.{Pos};
 ghost use Rattle.ctypes.specs.Types.{modulo};
 ghost use Rattle.typing_program.specs.View.{callee_of};
 ghost use Rattle.meaning.specs.Expressions as meaning;
-ghost use Rattle.sim.specs.Port.{PortView};
+ghost use Rattle.meaning_ports.specs.Port.{PortView};
 ghost use Rattle.typing_rules.specs.Program as typed;
 ghost use Rattle.cabs_store.specs.inside.Frames as on;
 ghost use Rattle.cabs_store.specs.inside.Agrees.{frames_of};
@@ -19,7 +19,7 @@ use cabs_store::frames::{Found, Passed, Step};
 use cabs_store::stop::Stop;
 use cabs_transitions::calling::{Called, call};
 use cabs_transitions::leaving::leave;
-use sim::Port;
+use meaning_ports::Port;
 use srcset::Pos;
 use typing_program::Callee;
 

@@ -5,7 +5,7 @@ ghost use Rattle.std.specs.Bool.{OnTrue};
 ghost use Rattle.typing_rules.specs.Program as typed;
 ghost use Rattle.cabs_store.specs.inside.Frames as on;
 ghost use Rattle.cabs_store.specs.inside.Views.{node_of};
-ghost use Rattle.sim.specs.Port.{PortView};
+ghost use Rattle.meaning_ports.specs.Port.{PortView};
 ghost use Rattle.cabs.specs.inside.Standing.{IsCalm, MeetsAt, Spends, Stands, Whole, stopped_for};
 
 use crate::outcome::Run;

@@ -16,7 +16,7 @@ use cabs_evaluator::quick::is_quick_node;
 use cabs_steps::nodes::enter;
 use cabs_store::frames::{Back, Node, Step};
 use cabs_transitions::calls::call_function;
-use sim::Port;
+use meaning_ports::Port;
 use std::alloc::Global;
 use typing_program::{Callee, Program};
 

@@ -10,7 +10,7 @@ ghost use Rattle.cabs_store.specs.declared.stop.Stop.TheVariants.{Memory};
 ghost use Rattle.cabs_store.specs.inside.Agrees.{Outside, frames_of, state_in};
 ghost use Rattle.cabs_store.specs.inside.Views.{flow_frame, found_of, frame_of};
 ghost use Rattle.cabs_transitions.specs.Tallied.{Tells};
-ghost use Rattle.sim.specs.Port.{Rises};
+ghost use Rattle.meaning_ports.specs.Port.{Rises};
 ghost use Rattle.cabs.specs.inside.Standing.{history_called, history_left, is_flow, is_return, waiting};
 
 use crate::first_objects::first_store;
@@ -19,7 +19,7 @@ use cabs_store::machine::Machine;
 use cabs_store::scene::Scene;
 use cabs_store::stop::Stop;
 use cabs_transitions::tally::Tally;
-use sim::{Port, PortFault};
+use meaning_ports::{Port, PortFault};
 use std::alloc::Global;
 use typing_program::{Callee, Program};
 

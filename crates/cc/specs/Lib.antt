@@ -22,7 +22,7 @@ pub use Rattle.cabs.specs.Interpreting
 pub use Rattle.rv32.specs.Step
 pub use Rattle.loader.specs.File
 pub use Rattle.memory_map.specs.MemoryMap
-pub use Rattle.sim.specs.Port
+pub use Rattle.meaning_ports.specs.Port
 pub use Rattle.sim.specs.Runs
 pub use Rattle.sim.specs.Meets
 pub use Rattle.cc_backend.specs.Generated

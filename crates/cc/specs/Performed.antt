@@ -7,9 +7,9 @@ use Rattle.phases.specs.Token.{Token}
 use Rattle.pp.specs.Printed.{printed, IsPrintRefused}
 use Rattle.rv32.specs.Step.{Machine}
 use Rattle.loader.specs.File.{Image, file_image}
-use Rattle.sim.specs.Port.{PortView}
-use Rattle.sim.specs.declared.port.PortFault.{PortFault}
-use Rattle.sim.specs.declared.port.PortFault.TheVariants as port_fault
+use Rattle.meaning_ports.specs.Port.{PortView}
+use Rattle.meaning_ports.specs.declared.port.PortFault.{PortFault}
+use Rattle.meaning_ports.specs.declared.port.PortFault.TheVariants as port_fault
 use Rattle.sim.specs.Meets.{RunMeets, Counts, Blames}
 use Rattle.sim.specs.declared.machine.Outcome.{Outcome}
 use Rattle.sim.specs.declared.machine.Outcome.TheVariants as outcome

@@ -10,8 +10,8 @@ use Rattle.ctypes.specs.declared.operators.Undef.{Undef}
 use Rattle.ctypes.specs.Arithmetic as arithmetic
 use Rattle.rv32.specs.declared.state.Cause.{Cause}
 use Rattle.rv32.specs.declared.state.Cause.TheVariants as cause
-use Rattle.sim.specs.Port.{code_of}
-use Rattle.sim.specs.declared.port.PortFault.{PortFault}
+use Rattle.meaning_ports.specs.Port.{code_of}
+use Rattle.meaning_ports.specs.declared.port.PortFault.{PortFault}
 use Rattle.sim.specs.declared.machine.Outcome.{Outcome}
 use Rattle.sim.specs.declared.machine.Outcome.TheVariants as outcome
 use Rattle.cabs.specs.declared.outcome.Run.{Run}

@@ -1,7 +1,7 @@
 -- What a call that puts many bytes leaves of its port.
 use Rattle.std.specs.Prelude.{◌≡◌, ℕ, ◌<◌, List, take, length}
 use Rattle.std.specs.Io.KnownBytes.{Keeps, Appends}
-use Rattle.sim.specs.Port.{PortView, Rises}
+use Rattle.meaning_ports.specs.Port.{PortView, Rises}
 
 -- all bytes were put
 pub record PutsAll (old new : PortView) (bytes : List ℕ) : Type 0 where

@@ -7,8 +7,8 @@ ghost use Rattle.cc.specs.Reported.{Says, fault_text, memory_text, budget_text, 
 ghost use Rattle.srcset.specs.Writing.{TakesBeginning};
 
 use ctypes::Undef;
+use meaning_ports::PortFault;
 use rv32::Cause;
-use sim::PortFault;
 use srcset::{Fault, Names, Pos, write_text};
 use std::alloc::{AllocError, Global};
 use std::io::Write;

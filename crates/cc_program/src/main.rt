@@ -8,7 +8,7 @@ use anyhow::Result;
 use cc::{Cmd, perform};
 use clap::ArgMatches;
 use late_file::LateFile;
-use sim::{IoPort, PortFault};
+use meaning_ports::{IoPort, PortFault};
 use srcset::{Code, Fault, FileSet, MAX_FILE_BYTES};
 use std::alloc::Global;
 use std::env::Args;

@@ -13,7 +13,7 @@ ghost use Rattle.const_expr.specs.Typings.{base_type_of};
 use crate::specifiers::BaseType;
 use ctypes::{IntType, size_of};
 use srcset::{Code, Pos, Refusal};
-use typing_expressions::broken;
+use typing_expressions::{OBJECT_LIMIT, broken};
 
 /// A type of objects that is named.
 #[derive(Drop)]
@@ -57,9 +57,6 @@ pub(crate) fn elements_within(lengths: &[u32]) -> u64
         }
     }
 }
-
-/// The bytes that an object may have.
-const OBJECT_LIMIT: u64 = 1_048_576;
 
 /// The size of an array is greater than zero (6.7.6.2p1).
 pub fn positive(pos: Pos, size: i64) -> Result<u64, Refusal>

@@ -26,12 +26,9 @@ use decls_linkage::{StorageClass, array_of, completed, composite, copied};
 use srcset::{Code, Names, Pos, Refusal};
 use std::alloc::Global;
 use tree::{Initialiser, ObjectDeclarator};
-use typing_expressions::broken;
+use typing_expressions::{OBJECT_LIMIT, broken};
 use typing_program::{DeclaredType, ObjectType, Storage};
 use typing_scopes::{Linkage, Meaning, Scope, State, StaticObject};
-
-/// The bytes that an object may have.
-const OBJECT_LIMIT: u64 = 1_048_576;
 
 /// The lengths of an array of so many elements of these lengths.
 fn widened(alloc: Global, length: usize, lengths: &[u32]) -> Result<Vec<u64>, Refusal>

@@ -21,12 +21,9 @@ use ctypes::IntType;
 use srcset::{Code, Names, Pos, Refusal};
 use std::alloc::Global;
 use tree::Expr;
-use typing_expressions::broken;
+use typing_expressions::{OBJECT_LIMIT, broken};
 use typing_program::{DeclaredType, ObjectType};
 use typing_scopes::Scope;
-
-/// The bytes that an object may have.
-const OBJECT_LIMIT: u64 = 1_048_576;
 
 /// The lengths of an object within the limit.
 fn narrowed(alloc: Global, lengths: &[u64]) -> Result<Vec<u32>, Refusal>

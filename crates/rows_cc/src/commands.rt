@@ -4,7 +4,7 @@ use crate::row::{bytes_of, field, number_of, write_field, write_number};
 use anyhow::Result;
 use cc::{Cmd, perform};
 use elf_out::{Image, write_elf};
-use sim::MemPort;
+use meaning_ports::MemPort;
 use srcset::FileSet;
 use std::alloc::Global;
 use std::io;

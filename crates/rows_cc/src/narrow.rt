@@ -4,7 +4,7 @@ use crate::commands::build;
 use crate::row::{field, number_of, write_field, write_number};
 use anyhow::Result;
 use cc::{Cmd, perform};
-use sim::IoPort;
+use meaning_ports::IoPort;
 use srcset::FileSet;
 use std::alloc::Global;
 use std::io;

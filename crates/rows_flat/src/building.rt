@@ -10,10 +10,11 @@ use asm::assemble;
 use elf_out::{Image, write_elf};
 use frames_code::FlatProgram;
 use loader::load;
+use meaning_ports::{Port, PortFault};
 use memory_map::TEXT_START;
 use rows_frames_soundness::is_sound;
 use select::select;
-use sim::{Machine, Outcome, Port, PortFault};
+use sim::{Machine, Outcome};
 use std::alloc::Global;
 
 /// A file, and the bytes of its text.

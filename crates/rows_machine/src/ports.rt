@@ -6,7 +6,7 @@ use crate::programs::Programs;
 use crate::row::{given, number};
 use crate::runs::{TEXT_START, outcome_text, small};
 use anyhow::{Context, Result};
-use sim::{IoPort, Port, PortFault};
+use meaning_ports::{IoPort, Port, PortFault};
 use std::alloc::Global;
 use std::io;
 use std::io::{ErrorKind, Read, Write};

@@ -5,7 +5,8 @@ use crate::row::{bytes, given, halves, hexadecimal, number};
 use crate::script::cause_text;
 use anyhow::{Context, Result};
 use loader::load;
-use sim::{Machine, MemPort, Outcome, Port};
+use meaning_ports::{MemPort, Port};
+use sim::{Machine, Outcome};
 use std::alloc::Global;
 
 /// Where the text of a small program begins.

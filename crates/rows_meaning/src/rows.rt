@@ -6,7 +6,7 @@ use crate::word::Word;
 use anyhow::{Context, Result};
 use cabs::{Interpreted, Run, interpret};
 use ctypes::Undef;
-use sim::{MemPort, Port};
+use meaning_ports::{MemPort, Port};
 use std::alloc::Global;
 use typing_program::Program;
 

@@ -10,10 +10,11 @@ use frames::flatten;
 use frames_code::FlatProgram;
 use frames_registers::renumber;
 use loader::load;
+use meaning_ports::{Port, PortFault};
 use memory_map::TEXT_START;
 use rows_tac_soundness::is_sound;
 use select::select;
-use sim::{Machine, Outcome, Port, PortFault};
+use sim::{Machine, Outcome};
 use std::alloc::Global;
 use tac_code::TacProgram;
 

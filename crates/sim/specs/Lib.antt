@@ -1,10 +1,8 @@
-pub use Rattle.srcset.specs.Codes
 pub use Rattle.meaning_events.specs.Events
+pub use Rattle.meaning_ports.specs.Port
 pub use Rattle.rv32.specs.Step
 pub use Rattle.loader.specs.File
 pub use Rattle.loader.specs.Loading
-pub mod Port
-pub mod Memory
 pub mod Runs
 pub mod Meets
 pub mod Machines

@@ -1,5 +1,4 @@
 -- What only proofs and private functions need: nothing here has to be believed.
-pub mod Answers
 pub mod Ticks
 pub mod Keeping
 pub mod Moves

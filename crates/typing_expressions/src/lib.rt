@@ -13,6 +13,6 @@ pub use arguments::argument;
 pub use assignments::{assigned, stepped};
 pub use callees::{Called, called_value, function_named, push_argument};
 pub use forms::{Checked, Elements, Worth, boxed, broken, effect, valued};
-pub use literals::next_literal;
+pub use literals::{OBJECT_LIMIT, next_literal};
 pub use operations::{chosen, operated};
 pub use rules::{named, signed, subscripted};

@@ -19,8 +19,8 @@ use ctypes::IntType;
 use srcset::{Code, Names, Pos, Refusal};
 use typing_program::{Place, Storage};
 
-/// The bytes that an object may have.
-const OBJECT_LIMIT: usize = 1_048_576;
+/// The most bytes of an object, of an element of an array, and of an array in a type name (5.2.4.1).
+pub const OBJECT_LIMIT: u64 = 1_048_576;
 
 /// How many characters a literal has; its text has a zero behind them.
 fn characters(names: &Names, name: usize) -> usize
@@ -55,7 +55,7 @@ fn literal<'s>(names: &Names, number: usize, pos: Pos, name: usize) -> Result<Ch
     ensures err { (s : Scope) → IfErr result (λ r. Tells r (typing_at names.now number s (string pos name))) }
 {
     let characters = characters(names, name);
-    if characters >= OBJECT_LIMIT {
+    if characters as u64 >= OBJECT_LIMIT {
         return Err(broken(Code::ObjectSizeLimit, pos));
     }
     Ok(array(pos, number, characters as u32 + 1))

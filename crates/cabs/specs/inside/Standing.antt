@@ -21,8 +21,8 @@ use Rattle.cabs_store.specs.inside.Views.{step_of, node_of}
 use Rattle.cabs_store.specs.inside.Agrees.{Outside, state_in, frames_of}
 use Rattle.cabs_transitions.specs.declared.tally.Tally.{Tally}
 use Rattle.cabs_transitions.specs.Tallied.{Tells}
-use Rattle.sim.specs.declared.port.PortFault.{PortFault}
-use Rattle.sim.specs.Port.{PortView}
+use Rattle.meaning_ports.specs.declared.port.PortFault.{PortFault}
+use Rattle.meaning_ports.specs.Port.{PortView}
 use Rattle.cabs_evaluator.specs.declared.clock.Why.{Why}
 use Rattle.cabs_evaluator.specs.declared.clock.Why.TheVariants as why
 use Rattle.cabs.specs.declared.outcome.Run.{Run}

@@ -1,8 +1,8 @@
 //! A port over memory.
 
 ghost use Rattle.std.specs.Prelude.{◌≡◌, ◌<◌, [], MatchResult, IsOk, IfErr};
-ghost use Rattle.sim.specs.Port.{Gets, Puts, IsRefused};
-ghost use Rattle.sim.specs.Memory.{port_of};
+ghost use Rattle.meaning_ports.specs.Port.{Gets, Puts, IsRefused};
+ghost use Rattle.meaning_ports.specs.Memory.{port_of};
 
 use crate::port::{Port, PortFault};
 use std::alloc::Global;
@@ -19,7 +19,7 @@ pub struct MemPort {
 
 impl Model for MemPort {
     ghost use Rattle.std.specs.Prelude.{◌-◌, drop, vec_len, vec_capacity};
-    ghost use Rattle.sim.specs.Memory.{MemoryView};
+    ghost use Rattle.meaning_ports.specs.Memory.{MemoryView};
 
     ghost Value = { MemoryView };
 
@@ -61,9 +61,9 @@ impl MemPort {
 
 impl Port for MemPort {
     ghost use Rattle.std.specs.Prelude.{◌≡◌};
-    ghost use Rattle.sim.specs.Port.{Gets, Puts, IsRefused};
-    ghost use Rattle.sim.specs.Memory.{port_of};
-    ghost use Rattle.sim.specs.declared.port.PortFault.TheVariants as port_fault;
+    ghost use Rattle.meaning_ports.specs.Port.{Gets, Puts, IsRefused};
+    ghost use Rattle.meaning_ports.specs.Memory.{port_of};
+    ghost use Rattle.meaning_ports.specs.declared.port.PortFault.TheVariants as port_fault;
 
     ghost seen = { port_of };
 

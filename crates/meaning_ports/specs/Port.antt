@@ -3,8 +3,8 @@ use Rattle.std.specs.Prelude.{◌≡◌, ℕ, ◌+◌, ◌-◌, ◌^◌, List, [
 use Rattle.std.specs.Io.KnownBytes.{Keeps, Appends, Consumes, IsAtEnd}
 use Rattle.srcset.specs.declared.code.Code.{Code}
 use Rattle.srcset.specs.declared.code.Code.TheVariants as code
-use Rattle.sim.specs.declared.port.PortFault.{PortFault}
-use Rattle.sim.specs.declared.port.PortFault.TheVariants.{Memory, Read, Write}
+use Rattle.meaning_ports.specs.declared.port.PortFault.{PortFault}
+use Rattle.meaning_ports.specs.declared.port.PortFault.TheVariants.{Memory, Read, Write}
 
 -- what a contract sees of a port. The input left and the output so far are told or not; the count always is.
 pub record PortView : Type 0 where

@@ -2,8 +2,8 @@
 
 ghost use Rattle.std.specs.Prelude.{◌≡◌, Some, MatchResult, IfErr};
 ghost use Rattle.srcset.specs.Codes.{text_of};
-ghost use Rattle.sim.specs.Port.{PortView, Gets, Puts, IsRefused, code_of};
-ghost use Rattle.sim.specs.declared.port.PortFault.{PortFault};
+ghost use Rattle.meaning_ports.specs.Port.{PortView, Gets, Puts, IsRefused, code_of};
+ghost use Rattle.meaning_ports.specs.declared.port.PortFault.{PortFault};
 
 use srcset::Code;
 use std::fmt;

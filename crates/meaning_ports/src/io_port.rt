@@ -4,8 +4,8 @@ ghost use Rattle.std.specs.Prelude.{◌≡◌, ◌≤◌, ◌↔◌, ◌∷◌, 
 ghost use Rattle.std.specs.Io.KnownBytes.{Keeps, Appends, ReadConsumes, WriteAppends};
 ghost use Rattle.std.specs.Io.{ReadsAtMost, WritesAtMost};
 ghost use Rattle.std.specs.IoError.{error_kind};
-ghost use Rattle.sim.specs.Port.{PortView, GivesByte, Flushes, IsRefused};
-ghost use Rattle.sim.specs.inside.Answers as answers;
+ghost use Rattle.meaning_ports.specs.Port.{PortView, GivesByte, Flushes, IsRefused};
+ghost use Rattle.meaning_ports.specs.inside.Answers as answers;
 
 use crate::port::{Port, PortFault};
 use srcset::TRIES;
@@ -21,7 +21,7 @@ pub struct IoPort<R: Read + Drop, W: Write + Drop> {
 }
 
 impl<R: Read + Drop, W: Write + Drop> Model for IoPort<R, W> {
-    ghost use Rattle.sim.specs.Port.{PortView};
+    ghost use Rattle.meaning_ports.specs.Port.{PortView};
 
     ghost Value = { PortView };
 
@@ -171,8 +171,8 @@ fn write_byte<W: Write>(writer: &mut W, byte: u8) -> Result<(), PortFault>
 
 impl<R: Read + Drop, W: Write + Drop> Port for IoPort<R, W> {
     ghost use Rattle.std.specs.Prelude.{◌≡◌, ◌⊎◌, MatchResult, IfErr};
-    ghost use Rattle.sim.specs.Port.{Gets, Puts, IsRefused};
-    ghost use Rattle.sim.specs.declared.port.PortFault.TheVariants as port_fault;
+    ghost use Rattle.meaning_ports.specs.Port.{Gets, Puts, IsRefused};
+    ghost use Rattle.meaning_ports.specs.declared.port.PortFault.TheVariants as port_fault;
 
     ghost seen = { λ p. p };
 

@@ -1,7 +1,7 @@
 -- What the answer of a reader means where one byte was asked for, and how often it is asked.
 use Rattle.std.specs.Prelude.{ℕ, ◌==◌, if◌then◌else◌, Option, Some, None, Result, Ok, Err}
-use Rattle.sim.specs.declared.port.PortFault.{PortFault}
-use Rattle.sim.specs.declared.port.PortFault.TheVariants.{Read}
+use Rattle.meaning_ports.specs.declared.port.PortFault.{PortFault}
+use Rattle.meaning_ports.specs.declared.port.PortFault.TheVariants.{Read}
 
 -- how often a call that a signal interrupted is tried, in all
 abbrev pub tries : ℕ

@@ -1,6 +1,6 @@
 -- What a contract sees of a port over memory.
 use Rattle.std.specs.Prelude.{ℕ, List, Some}
-use Rattle.sim.specs.Port.{PortView}
+use Rattle.meaning_ports.specs.Port.{PortView}
 
 -- the input left, the output so far, how many bytes more it can take before memory is asked for, and the failures
 pub record MemoryView : Type 0 where

@@ -1,0 +1,4 @@
+pub use Rattle.srcset.specs.Codes
+pub mod Port
+pub mod Memory
+pub mod inside
