@@ -129,6 +129,7 @@ pub(crate) fn expression_place(tokens: &[Token]) -> Option<Pos>
 }
 
 /// An expression and the sign after it, below so many nodes.
+#[inline(never)]
 pub(crate) fn closed_expression<'t>(
     alloc: Global,
     tokens: &'t [Token],
@@ -151,6 +152,7 @@ pub(crate) fn closed_expression<'t>(
 }
 
 /// An expression or nothing, and the sign after it, below so many nodes.
+#[inline(never)]
 pub(crate) fn optional_expression<'t>(
     alloc: Global,
     tokens: &'t [Token],
@@ -179,6 +181,7 @@ pub(crate) fn optional_expression<'t>(
 }
 
 /// The expression in parentheses of a statement (6.8.4, 6.8.5), below so many nodes.
+#[inline(never)]
 pub(crate) fn test_expression<'t>(
     alloc: Global,
     tokens: &'t [Token],
@@ -195,6 +198,7 @@ pub(crate) fn test_expression<'t>(
 }
 
 /// What ends a `do` statement (6.8.5.2), below so many nodes.
+#[inline(never)]
 pub(crate) fn do_end<'t>(
     alloc: Global,
     tokens: &'t [Token],
@@ -216,6 +220,7 @@ pub(crate) fn do_end<'t>(
 }
 
 /// The first part of a `for` (6.8.5.3), with its semicolon; below so many nodes.
+#[inline(never)]
 fn for_start<'t>(alloc: Global, tokens: &'t [Token], depth: u32) -> Result<StartPart<'t>, Refusal>
     requires { depth ≤ 256 }
     ensures answer { AnswersStart depth tokens.now result }
@@ -239,6 +244,7 @@ fn for_start<'t>(alloc: Global, tokens: &'t [Token], depth: u32) -> Result<Start
 }
 
 /// What stands in the parentheses of a `for` (6.8.5.3), below so many nodes.
+#[inline(never)]
 pub(crate) fn for_head<'t>(
     alloc: Global,
     tokens: &'t [Token],

@@ -56,6 +56,7 @@ pub(crate) struct BlockPart<'t> {
 
 /// A statement (6.8), below so many nodes.
 #[cycle(statements)]
+#[inline(never)]
 pub(crate) fn statement<'t>(
     alloc: Global,
     tokens: &'t [Token],
@@ -88,6 +89,7 @@ pub(crate) fn statement<'t>(
 /// What a block consists of (6.8.2), after its opening brace and up to the closing one, which is taken too;
 /// below so many nodes, the block among them.
 #[cycle(statements)]
+#[inline(never)]
 pub(crate) fn block_items<'t>(
     alloc: Global,
     tokens: &'t [Token],
@@ -118,6 +120,7 @@ pub(crate) fn block_items<'t>(
 
 /// A declaration or a statement (6.8.2), below so many nodes.
 #[cycle(statements)]
+#[inline(never)]
 fn block_item<'t>(
     alloc: Global,
     tokens: &'t [Token],
@@ -146,6 +149,7 @@ fn block_item<'t>(
 
 /// An expression in parentheses and a statement (6.8.4, 6.8.5.1), below so many nodes.
 #[cycle(statements)]
+#[inline(never)]
 fn tested_statement<'t>(
     alloc: Global,
     tokens: &'t [Token],
@@ -169,6 +173,7 @@ fn tested_statement<'t>(
 
 /// A colon and a statement (6.8.1), below so many nodes. No declaration may stand there.
 #[cycle(statements)]
+#[inline(never)]
 fn labelled_statement<'t>(
     alloc: Global,
     tokens: &'t [Token],
@@ -186,6 +191,7 @@ fn labelled_statement<'t>(
 
 /// A block (6.8.2), after its opening brace.
 #[cycle(statements)]
+#[inline(never)]
 fn block<'t>(
     alloc: Global,
     pos: Pos,
@@ -208,6 +214,7 @@ fn block<'t>(
 
 /// `if` with or without `else` (6.8.4.1), after that word.
 #[cycle(statements)]
+#[inline(never)]
 fn if_statement<'t>(
     alloc: Global,
     pos: Pos,
@@ -244,6 +251,7 @@ fn if_statement<'t>(
 
 /// `switch` (6.8.4.2), after that word.
 #[cycle(statements)]
+#[inline(never)]
 fn switch_statement<'t>(
     alloc: Global,
     pos: Pos,
@@ -266,6 +274,7 @@ fn switch_statement<'t>(
 
 /// `while` (6.8.5.1), after that word.
 #[cycle(statements)]
+#[inline(never)]
 fn while_statement<'t>(
     alloc: Global,
     pos: Pos,
@@ -288,6 +297,7 @@ fn while_statement<'t>(
 
 /// `case` (6.8.1), after that word.
 #[cycle(statements)]
+#[inline(never)]
 fn case_statement<'t>(
     alloc: Global,
     pos: Pos,
@@ -312,6 +322,7 @@ fn case_statement<'t>(
 
 /// `default` (6.8.1), after that word.
 #[cycle(statements)]
+#[inline(never)]
 fn default_statement<'t>(
     alloc: Global,
     pos: Pos,
@@ -334,6 +345,7 @@ fn default_statement<'t>(
 
 /// `do` (6.8.5.2), after that word.
 #[cycle(statements)]
+#[inline(never)]
 fn do_statement<'t>(
     alloc: Global,
     pos: Pos,
@@ -358,6 +370,7 @@ fn do_statement<'t>(
 
 /// `for` (6.8.5.3), after that word.
 #[cycle(statements)]
+#[inline(never)]
 fn for_statement<'t>(
     alloc: Global,
     pos: Pos,
@@ -387,6 +400,7 @@ fn for_statement<'t>(
 }
 
 /// `;` (6.8.3).
+#[inline(never)]
 fn empty_statement<'t>(pos: Pos, tokens: &'t [Token], depth: u32) -> Result<StmtPart<'t>, Refusal>
     requires { depth ≤ 256 }
     ensures answer { AnswersStmt depth (record { kind = form_kind form.Empty; pos = pos } ∷ tokens.now) result }
@@ -402,6 +416,7 @@ fn empty_statement<'t>(pos: Pos, tokens: &'t [Token], depth: u32) -> Result<Stmt
 }
 
 /// `break` (6.8.6.3), after that word.
+#[inline(never)]
 fn break_statement<'t>(pos: Pos, tokens: &'t [Token], depth: u32) -> Result<StmtPart<'t>, Refusal>
     requires { depth ≤ 256 }
     ensures answer { AnswersStmt depth (record { kind = form_kind form.Break; pos = pos } ∷ tokens.now) result }
@@ -418,6 +433,7 @@ fn break_statement<'t>(pos: Pos, tokens: &'t [Token], depth: u32) -> Result<Stmt
 }
 
 /// `continue` (6.8.6.2), after that word.
+#[inline(never)]
 fn continue_statement<'t>(
     pos: Pos,
     tokens: &'t [Token],
@@ -438,6 +454,7 @@ fn continue_statement<'t>(
 }
 
 /// `return` with or without an expression (6.8.6.4), after that word.
+#[inline(never)]
 fn return_statement<'t>(
     alloc: Global,
     pos: Pos,
@@ -459,6 +476,7 @@ fn return_statement<'t>(
 }
 
 /// An expression statement (6.8.3), where no other form begins.
+#[inline(never)]
 fn expression_statement<'t>(
     alloc: Global,
     tokens: &'t [Token],

@@ -126,6 +126,7 @@ fn assertion<'t>(
 }
 
 /// A declaration in a block (6.7), below so many nodes.
+#[inline(never)]
 pub fn declaration<'t>(
     alloc: Global,
     tokens: &'t [Token],
@@ -170,6 +171,7 @@ fn defined<'t>(first: ItemPart<'t>, brace: Pos) -> Result<TailPart<'t>, Refusal>
 }
 
 /// What follows the specifiers at file scope (6.7, 6.9.1), below so many nodes.
+#[inline(never)]
 fn tail_front<'t>(alloc: Global, tokens: &'t [Token], depth: u32) -> Result<TailPart<'t>, Refusal>
     requires { depth ≤ 256 }
     ensures answer { AnswersTail depth tokens.now result }
@@ -196,6 +198,7 @@ fn tail_front<'t>(alloc: Global, tokens: &'t [Token], depth: u32) -> Result<Tail
 }
 
 /// The whole front, from its specifiers and what follows them. Those of a function definition lie below its node.
+#[inline(never)]
 fn external<'t>(
     specifiers: DeclarationSpecifiersPart<'t>,
     part: TailPart<'t>,
@@ -238,6 +241,7 @@ fn external<'t>(
 }
 
 /// The front of a translation unit (6.9), below so many nodes.
+#[inline(never)]
 pub fn external_head<'t>(
     alloc: Global,
     tokens: &'t [Token],

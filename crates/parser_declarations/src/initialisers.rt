@@ -60,6 +60,7 @@ fn list_end<'t>(tokens: &'t [Token]) -> Result<&'t [Token], Refusal>
 
 /// An initialiser: an assignment expression or a braced list; below so many nodes.
 #[cycle(initialisers)]
+#[inline(never)]
 pub(crate) fn initialiser<'t>(
     alloc: Global,
     tokens: &'t [Token],
@@ -89,6 +90,7 @@ pub(crate) fn initialiser<'t>(
 
 /// At least one initialiser, with a comma between any two, up to the closing brace, which is taken too.
 #[cycle(initialisers)]
+#[inline(never)]
 fn initialiser_list<'t>(
     alloc: Global,
     tokens: &'t [Token],

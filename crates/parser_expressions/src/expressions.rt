@@ -87,6 +87,7 @@ pub fn begins_expression(tokens: &[Token]) -> bool
 }
 
 // The parenthesis before a type name, and what follows it.
+#[inline(never)]
 fn cast_front<'t>(tokens: &'t [Token]) -> Option<(Pos, &'t [Token])>
     ensures { MatchOption result ((at : Pos) (rest : List Token) → Own (kind.Punctuator sign.ParenOpen) at tokens.now rest → BeginsType rest → ⊥)
         (λ p. Own (kind.Punctuator sign.ParenOpen) p.0 tokens.now p.1.now × BeginsType p.1.now) }
@@ -99,6 +100,7 @@ fn cast_front<'t>(tokens: &'t [Token]) -> Option<(Pos, &'t [Token])>
 }
 
 // `l op r`.
+#[inline(never)]
 fn join<'t>(
     alloc: Global,
     pos: Pos,
@@ -127,6 +129,7 @@ fn join<'t>(
 }
 
 // `l[i]`.
+#[inline(never)]
 fn join_index<'t>(
     alloc: Global,
     pos: Pos,
@@ -154,6 +157,7 @@ fn join_index<'t>(
 }
 
 // `l++`.
+#[inline(never)]
 fn join_step<'t>(
     alloc: Global,
     pos: Pos,
@@ -176,6 +180,7 @@ fn join_step<'t>(
 
 /// An expression (6.5.17), below so many nodes.
 #[cycle(expressions)]
+#[inline(never)]
 pub fn expression<'t>(alloc: Global, tokens: &'t [Token], depth: u32) -> Result<Part<'t>, Refusal>
     requires { depth ≤ 256 }
     ensures answer { Answers 0 depth tokens.now result }
@@ -193,6 +198,7 @@ pub fn expression<'t>(alloc: Global, tokens: &'t [Token], depth: u32) -> Result<
 
 /// An assignment expression (6.5.16), below so many nodes.
 #[cycle(expressions)]
+#[inline(never)]
 pub fn assignment<'t>(alloc: Global, tokens: &'t [Token], depth: u32) -> Result<Part<'t>, Refusal>
     requires { depth ≤ 256 }
     ensures answer { Answers 1 depth tokens.now result }
@@ -223,6 +229,7 @@ pub fn assignment<'t>(alloc: Global, tokens: &'t [Token], depth: u32) -> Result<
 
 /// A conditional expression (6.5.15), below so many nodes.
 #[cycle(expressions)]
+#[inline(never)]
 pub fn conditional<'t>(alloc: Global, tokens: &'t [Token], depth: u32) -> Result<Part<'t>, Refusal>
     requires { depth ≤ 256 }
     ensures answer { Answers 2 depth tokens.now result }
@@ -252,6 +259,7 @@ pub fn conditional<'t>(alloc: Global, tokens: &'t [Token], depth: u32) -> Result
 
 // An expression of operators whose layer is at least `min` (6.5.5 to 6.5.14), by precedence climbing.
 #[cycle(expressions)]
+#[inline(never)]
 fn binary<'t>(alloc: Global, tokens: &'t [Token], min: u32, depth: u32) -> Result<Part<'t>, Refusal>
     requires room { depth ≤ 256 }
     requires from { 3 ≤ min }
@@ -272,6 +280,7 @@ fn binary<'t>(alloc: Global, tokens: &'t [Token], min: u32, depth: u32) -> Resul
 
 // A cast expression (6.5.4).
 #[cycle(expressions)]
+#[inline(never)]
 fn cast<'t>(alloc: Global, tokens: &'t [Token], depth: u32) -> Result<Part<'t>, Refusal>
     requires { depth ≤ 256 }
     ensures answer { Answers 13 depth tokens.now result }
@@ -294,6 +303,7 @@ fn cast<'t>(alloc: Global, tokens: &'t [Token], depth: u32) -> Result<Part<'t>, 
 
 // A type name (6.7.7), after its opening parenthesis and up to the closing one, which is taken too.
 #[cycle(expressions)]
+#[inline(never)]
 fn type_name<'t>(alloc: Global, tokens: &'t [Token], depth: u32) -> Result<TypePart<'t>, Refusal>
     requires { depth ≤ 256 }
     ensures answer { AnswersType depth tokens.now result }
@@ -323,6 +333,7 @@ fn type_name<'t>(alloc: Global, tokens: &'t [Token], depth: u32) -> Result<TypeP
 
 // A unary expression (6.5.3).
 #[cycle(expressions)]
+#[inline(never)]
 fn unary<'t>(alloc: Global, tokens: &'t [Token], depth: u32) -> Result<Part<'t>, Refusal>
     requires { depth ≤ 256 }
     ensures answer { Answers 14 depth tokens.now result }
@@ -355,6 +366,7 @@ fn unary<'t>(alloc: Global, tokens: &'t [Token], depth: u32) -> Result<Part<'t>,
 
 // What is measured (6.5.3.4), after `sizeof`.
 #[cycle(expressions)]
+#[inline(never)]
 fn sizeof<'t>(alloc: Global, pos: Pos, tokens: &'t [Token], depth: u32) -> Result<Part<'t>, Refusal>
     requires { depth ≤ 256 }
     ensures answer { Answers 14 depth (record { kind = kind.Keyword keyword.Sizeof; pos = pos } ∷ tokens.now) result }
@@ -380,6 +392,7 @@ fn sizeof<'t>(alloc: Global, pos: Pos, tokens: &'t [Token], depth: u32) -> Resul
 
 // A postfix expression (6.5.2).
 #[cycle(expressions)]
+#[inline(never)]
 fn postfix<'t>(alloc: Global, tokens: &'t [Token], depth: u32) -> Result<Part<'t>, Refusal>
     requires { depth ≤ 256 }
     ensures answer { Answers 15 depth tokens.now result }
@@ -405,6 +418,7 @@ fn postfix<'t>(alloc: Global, tokens: &'t [Token], depth: u32) -> Result<Part<'t
 
 // A primary expression (6.5.1), or the call of a function that is named (6.5.2.2).
 #[cycle(expressions)]
+#[inline(never)]
 fn primary<'t>(alloc: Global, tokens: &'t [Token], depth: u32) -> Result<Part<'t>, Refusal>
     requires { depth ≤ 256 }
     ensures answer { Answers 16 depth tokens.now result }
@@ -458,6 +472,7 @@ fn primary<'t>(alloc: Global, tokens: &'t [Token], depth: u32) -> Result<Part<'t
 
 // The arguments of a call (6.5.2.2), after its opening parenthesis and up to the closing one, which is taken too.
 #[cycle(expressions)]
+#[inline(never)]
 fn read_arguments<'t>(
     alloc: Global,
     tokens: &'t [Token],

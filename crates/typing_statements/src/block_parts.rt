@@ -40,6 +40,7 @@ pub(crate) fn boxed(alloc: Global, statement: Statement) -> Result<Box<Statement
 }
 
 /// A declaration among the items of a block.
+#[inline(never)]
 pub(crate) fn declaration_item(
     alloc: Global,
     names: &Names,

@@ -23,6 +23,7 @@ use typing_program::Value;
 use typing_scopes::Scope;
 
 /// What an expression is, in the scope as it is.
+#[inline(never)]
 fn typed_in<'s>(
     alloc: Global,
     names: &Names,
@@ -40,6 +41,7 @@ fn typed_in<'s>(
 }
 
 /// The value of an expression; of one of type `void` this code stands at this place.
+#[inline(never)]
 fn worth_in(
     alloc: Global,
     names: &Names,
@@ -58,6 +60,7 @@ fn worth_in(
 }
 
 /// The value of an expression, behind which its literals stand.
+#[inline(never)]
 pub(crate) fn worth_past(
     alloc: Global,
     names: &Names,
@@ -80,6 +83,7 @@ pub(crate) fn worth_past(
 }
 
 /// An expression for its side effects (6.8.3p2).
+#[inline(never)]
 fn effect_of(alloc: Global, names: &Names, scope: &Scope, e: &Expr) -> Result<Value, Refusal>
     ensures ok { IfOk result (λ v. then_check (expressions.typing (with_texts names.now scope.now) (tree_of e.now)) expressions.effect ≡ fine (value_of v)) }
     ensures err { IfErr result (λ r. Tells r (then_check (expressions.typing (with_texts names.now scope.now) (tree_of e.now)) expressions.effect)) }
@@ -91,6 +95,7 @@ fn effect_of(alloc: Global, names: &Names, scope: &Scope, e: &Expr) -> Result<Va
 }
 
 /// An expression for its side effects, behind which its literals stand.
+#[inline(never)]
 pub(crate) fn effect_past(
     alloc: Global,
     names: &Names,
@@ -111,6 +116,7 @@ pub(crate) fn effect_past(
 }
 
 /// The first part or the step of a `for`, behind which its literals stand (6.8.5.3).
+#[inline(never)]
 pub(crate) fn effect_in(
     alloc: Global,
     names: &Names,
@@ -130,6 +136,7 @@ pub(crate) fn effect_in(
 }
 
 /// The test of a `for`, behind which its literals stand.
+#[inline(never)]
 pub(crate) fn test_in(
     alloc: Global,
     names: &Names,

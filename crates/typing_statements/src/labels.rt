@@ -33,6 +33,7 @@ pub struct Label {
 }
 
 /// No two cases have one value, and no two labels are `default` (6.8.4.2p3). Else 540 stands at the second of two.
+#[inline(never)]
 pub(crate) fn no_label_twice(alloc: Global, labels: &[Label]) -> Result<(), Refusal>
     ensures ok { OnOk result (typed.no_label_twice [] (map label_of labels.now) ≡ fine tt) }
     ensures err { IfErr result (λ r. Tells r (typed.no_label_twice [] (map label_of labels.now))) }
@@ -49,6 +50,7 @@ pub(crate) fn no_label_twice(alloc: Global, labels: &[Label]) -> Result<(), Refu
 }
 
 /// The value of a case, converted to the promoted type of its switch (6.8.4.2p5).
+#[inline(never)]
 pub(crate) fn case_value(
     alloc: Global,
     names: &Names,
@@ -86,6 +88,7 @@ fn label_statement(label: &Label) -> Statement
 }
 
 /// Behind the labels of a block those of one of its statements; behind the statements these labels and the statement.
+#[inline(never)]
 pub(crate) fn push_labelled(
     labels: &mut Vec<Label>,
     all: &mut Vec<Statement>,
@@ -110,6 +113,7 @@ pub(crate) fn push_labelled(
 }
 
 /// The value of a case, behind which its literals stand.
+#[inline(never)]
 pub(crate) fn case_past(
     alloc: Global,
     names: &Names,

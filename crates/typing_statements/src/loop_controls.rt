@@ -31,6 +31,7 @@ pub(crate) struct Control {
 }
 
 /// The test and the step, behind which their literals stand.
+#[inline(never)]
 pub(crate) fn controlled(
     alloc: Global,
     names: &Names,
@@ -53,6 +54,7 @@ pub(crate) fn controlled(
 }
 
 /// The first part: what it declares goes behind other statements and first values; what it evaluates is given.
+#[inline(never)]
 pub(crate) fn started(
     alloc: Global,
     names: &Names,

@@ -23,6 +23,7 @@ use typing_program::Statement;
 use typing_scopes::Scope;
 
 /// An expression statement (6.8.3).
+#[inline(never)]
 pub(crate) fn expression_typed(
     alloc: Global,
     names: &Names,
@@ -39,6 +40,7 @@ pub(crate) fn expression_typed(
 }
 
 /// `break` stands in a loop or in a switch (6.8.6.3p1). Else 542 stands at it.
+#[inline(never)]
 pub(crate) fn break_typed(around: Around, pos: Pos) -> Result<Statement, Refusal>
     ensures ok { (d : Option IntType) (s : scope_typed.Scope) → IfOk result (λ x. typed.statement (around_of around) d s (tree.break_stmt pos) ≡ fine (done_of s [] [] x)) }
     ensures err { (d : Option IntType) (s : scope_typed.Scope) → IfErr result (λ r. Tells r (typed.statement (around_of around) d s (tree.break_stmt pos))) }
@@ -50,6 +52,7 @@ pub(crate) fn break_typed(around: Around, pos: Pos) -> Result<Statement, Refusal
 }
 
 /// `continue` stands in a loop (6.8.6.2p1). Else 542 stands at it.
+#[inline(never)]
 pub(crate) fn continue_typed(around: Around, pos: Pos) -> Result<Statement, Refusal>
     ensures ok { (d : Option IntType) (s : scope_typed.Scope) → IfOk result (λ x. typed.statement (around_of around) d s (tree.continue_stmt pos) ≡ fine (done_of s [] [] x)) }
     ensures err { (d : Option IntType) (s : scope_typed.Scope) → IfErr result (λ r. Tells r (typed.statement (around_of around) d s (tree.continue_stmt pos))) }
@@ -61,6 +64,7 @@ pub(crate) fn continue_typed(around: Around, pos: Pos) -> Result<Statement, Refu
 }
 
 /// `return` has a value where the function has one, and there alone (6.8.6.4p1). Else 543 stands at it.
+#[inline(never)]
 pub(crate) fn return_typed(
     alloc: Global,
     names: &Names,

@@ -37,6 +37,7 @@ use typing_units::Initial;
 
 /// A statement that stands not in the block of a switch itself.
 #[cycle(statements)]
+#[inline(never)]
 fn inner_statement(
     alloc: Global,
     names: &Names,
@@ -61,6 +62,7 @@ fn inner_statement(
 
 /// `if` (6.8.4.1).
 #[cycle(statements)]
+#[inline(never)]
 fn if_typed(
     alloc: Global,
     names: &Names,
@@ -93,6 +95,7 @@ pub(crate) struct Head {
 
 /// `if` as far as its `else` (6.8.4.1).
 #[cycle(statements)]
+#[inline(never)]
 fn if_head(
     alloc: Global,
     names: &Names,
@@ -118,6 +121,7 @@ fn if_head(
 
 /// `while` (6.8.5.1).
 #[cycle(statements)]
+#[inline(never)]
 fn while_typed(
     alloc: Global,
     names: &Names,
@@ -143,6 +147,7 @@ fn while_typed(
 
 /// `do` (6.8.5.2).
 #[cycle(statements)]
+#[inline(never)]
 fn do_while_typed(
     alloc: Global,
     names: &Names,
@@ -168,6 +173,7 @@ fn do_while_typed(
 
 /// `for` (6.8.5.3).
 #[cycle(statements)]
+#[inline(never)]
 fn for_typed(
     alloc: Global,
     names: &Names,
@@ -208,6 +214,7 @@ fn for_typed(
 
 /// The items of a block, whose names and tags go at its end.
 #[cycle(statements)]
+#[inline(never)]
 fn scoped_items(
     alloc: Global,
     names: &Names,
@@ -237,6 +244,7 @@ fn scoped_items(
 
 /// A block (6.8.2).
 #[cycle(statements)]
+#[inline(never)]
 fn block_typed(
     alloc: Global,
     names: &Names,
@@ -270,6 +278,7 @@ fn block_typed(
 
 /// The block of a switch with this controlling expression.
 #[cycle(statements)]
+#[inline(never)]
 fn switch_block(
     alloc: Global,
     names: &Names,
@@ -307,6 +316,7 @@ fn switch_block(
 
 /// `switch` (6.8.4.2): in this profile its body is a block.
 #[cycle(statements)]
+#[inline(never)]
 fn switch_typed(
     alloc: Global,
     names: &Names,
@@ -345,6 +355,7 @@ fn switch_typed(
 
 /// `case` (6.8.1).
 #[cycle(statements)]
+#[inline(never)]
 fn case_typed(
     alloc: Global,
     names: &Names,
@@ -378,6 +389,7 @@ fn case_typed(
 
 /// `default` (6.8.1).
 #[cycle(statements)]
+#[inline(never)]
 fn default_typed(
     alloc: Global,
     names: &Names,
@@ -404,6 +416,7 @@ fn default_typed(
 /// A statement, whose labels and first values go behind those before. `direct` is the promoted type of the switch in whose block it
 /// stands itself.
 #[cycle(statements)]
+#[inline(never)]
 fn statement(
     alloc: Global,
     names: &Names,
@@ -460,6 +473,7 @@ fn statement(
 
 /// A statement among the items of a block: its labels stand before it.
 #[cycle(statements)]
+#[inline(never)]
 fn statement_item(
     alloc: Global,
     names: &Names,
@@ -487,6 +501,7 @@ fn statement_item(
 
 /// An item of a block.
 #[cycle(statements)]
+#[inline(never)]
 fn piece(
     alloc: Global,
     names: &Names,
@@ -521,6 +536,7 @@ fn piece(
 ///
 /// Its recursion is as deep as the tree is. After a refusal nothing is said of the scope and of the vectors.
 #[cycle(statements)]
+#[inline(never)]
 pub fn pieces(
     alloc: Global,
     names: &Names,
