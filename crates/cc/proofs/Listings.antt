@@ -10,7 +10,7 @@ use Rattle.asm.specs.Refusals.{IsListRefused}
 use Rattle.typing_rules.specs.Program.{Program}
 use Rattle.srcset.specs.NameTable.{Texts}
 use Rattle.tree.specs.Tree.{ExternalTree}
-use Rattle.cc_backend.specs.Generated as backend
+use Rattle.cc_backend.specs.Made as backend
 use Rattle.cc.specs.Compiled.{HasProgram}
 use Rattle.cc.specs.Reported.{Said}
 use Rattle.cc.specs.Performed.{ListsAll, ListsSome, FailsList}

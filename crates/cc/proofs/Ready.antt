@@ -12,7 +12,7 @@ use Rattle.tac_checked.specs.Laws.{AreTexts, IsWithinNodes}
 use Rattle.tac_checked.proofs.Ground.{same_some}
 use Rattle.tac_checked.proofs.AskedStatements.{program_is_asked}
 use Rattle.tac_units.proofs.Whole.{program_is_checked}
-use Rattle.cc_backend.specs.Generated.{IsReady}
+use Rattle.cc_backend.specs.Made.{IsReady}
 use Rattle.cc.specs.Compiled.{typed_at, IsProgramOf}
 
 within_nodes : (unit : List ExternalTree) → AreSmall unit → IsWithinNodes unit

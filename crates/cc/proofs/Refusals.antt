@@ -16,7 +16,8 @@ use Rattle.tree.specs.Tree.{ExternalTree}
 use Rattle.parser.specs.Units.{IsTreeWithin, IsOnly, IsFaultOfUnit}
 use Rattle.cc.specs.declared.stopping.Stop.{Stop}
 use Rattle.cc.specs.declared.stopping.Stop.TheVariants.{Memory, At, Told}
-use Rattle.cc.specs.Compiled.{HasList, FailsPreprocessing, HasTokens, HasTree, BreaksConstraint, IsRefused}
+use Rattle.cc.specs.Compiled.{HasList, HasTokens, HasTree}
+use Rattle.cc.specs.Refused.{FailsPreprocessing, BreaksConstraint, IsRefused}
 use Rattle.cc.specs.inside.Stops.{IsTold, IsMemory, Stops}
 
 -- what is said of an error that `?` hands on

@@ -1,25 +1,21 @@
--- What the compiler promises of a file that it answers, and of a fault.
-use Rattle.std.specs.Prelude.{◌≡◌, ℕ, List, [], ◌∷◌, String, Some, map, ◌⊎◌, slice_get}
+-- What the compiler promises of a file that it answers: the sources are a program, and the file runs as that program does.
+use Rattle.std.specs.Prelude.{◌≡◌, ℕ, List, [], ◌∷◌, String, Some, map, slice_get}
 use Rattle.std.specs.String.{string_bytes}
 use Rattle.std.specs.Global.{Global}
 use Rattle.srcset.specs.Files.{Files}
-use Rattle.srcset.specs.declared.fault.Fault.{Fault}
-use Rattle.srcset.specs.Fault.{IsMemoryFault}
 use Rattle.srcset.specs.NameTable.{Texts, KeepsNumbers, NumbersOnce, shown_text}
-use Rattle.srcset.specs.Refusal.{IsFaultOfRefusal}
-use Rattle.srcset.specs.declared.refusal.Refusal.{Refusal}
 use Rattle.phases.specs.Token.{Token as PpToken}
-use Rattle.pp.specs.Preprocessed.{IsDone, IsPreprocessFault}
+use Rattle.pp.specs.Preprocessed.{IsDone}
 use Rattle.lexer.specs.CTokens.{ctokens}
 use Rattle.lexer.specs.Numbering.{AreAll}
 use Rattle.lexer.specs.declared.token.Token.{Token}
 use Rattle.tree.specs.Tree.{ExternalTree}
-use Rattle.parser.specs.Units.{IsTreeWithin, IsOnly, IsFaultOfUnit}
+use Rattle.parser.specs.Units.{IsTreeWithin, IsOnly}
 use Rattle.typing_rules.specs.Program.{Function, Program}
 use Rattle.typing_rules.specs.Verdict.{Verdict, fine}
 use Rattle.typing_rules.specs.Units.{unit_typed}
-use Rattle.typing.specs.Told.{IsFaultOfVerdict}
-use Rattle.cc_backend.specs.Generated.{IsFileOf}
+use Rattle.memory_map.specs.MemoryMap.{stack_size}
+use Rattle.cc_backend.specs.Runs.{RunsAs}
 use Rattle.cc.specs.declared.compiling.Built.{Built}
 
 -- ---- what a set of files holds from its main file on, phase by phase (ISO/IEC 9899:2011 5.1.1.2)
@@ -86,10 +82,10 @@ entries texts [] frames = []
 entries texts (f ∷ fs) [] = []
 entries texts (f ∷ fs) (n ∷ ns) = entry_of texts f n ∷ entries texts fs ns
 
--- the file of a typed program, which runs as the program does, and an entry for each of its functions
+-- a file that runs as a typed program does, and an entry for each of its functions
 pub record BuildsProgram (texts : Texts) (program : Program) (built : Built) : Type 0 where
   pub frames : List ℕ
-  pub file : IsFileOf program built.elf.items frames
+  pub runs : RunsAs stack_size program frames built.elf.items
   pub entries_are : frames_of built ≡ entries texts program.functions frames
 
 -- the set has a main file of this name, which has a tree that breaks no constraint, and the answer is the file of its program
@@ -99,48 +95,3 @@ pub record Compiles (set : Files) (name : List ℕ) (built : Built) : Type 0 whe
   pub program : Program
   pub has_program : HasProgram set name texts unit program
   pub builds : BuildsProgram texts program built
-
--- ---- what is refused
-
--- the fault of phases 1 to 4: 103; 111 to 113, 703; 201 to 213, 704 to 706, 708; 221 to 223, 231 to 235, 707
-pub record FailsPreprocessing (set : Files) (name : List ℕ) (fault : Fault) : Type 0 where
-  pub texts : Texts
-  pub numbers : Numbers texts name
-  pub fault_is : IsPreprocessFault fault set texts name
-
--- 301 to 303, 601 to 609: the fault of the first token that has one
-pub record FailsTokens (set : Files) (name : List ℕ) (fault : Fault) : Type 0 where
-  pub texts : Texts
-  pub list : List PpToken
-  pub has_list : HasList set name texts list
-  pub refusal : Refusal
-  pub first : (ctokens list).fault ≡ Some refusal
-  pub fault_is : IsFaultOfRefusal fault texts refusal
-
--- 401, 709 to 711: why the tokens have no tree within the limits
-pub record FailsTree (set : Files) (name : List ℕ) (fault : Fault) : Type 0 where
-  pub texts : Texts
-  pub tokens : List Token
-  pub has_tokens : HasTokens set name texts tokens
-  pub fault_is : IsFaultOfUnit fault texts tokens
-
--- 501 to 553, 620 to 623, 712 to 715: a constraint that the tree breaks, at its place
-pub record BreaksConstraint (name : List ℕ) (texts : Texts) (unit : List ExternalTree) (fault : Fault) : Type 0 where
-  pub file : ℕ
-  pub named : slice_get texts file ≡ Some name
-  pub fault_is : IsFaultOfVerdict fault texts (typed_at texts file unit)
-
-pub record FailsCheck (set : Files) (name : List ℕ) (fault : Fault) : Type 0 where
-  pub texts : Texts
-  pub unit : List ExternalTree
-  pub has_tree : HasTree set name texts unit
-  pub breaks : BreaksConstraint name texts unit fault
-
--- why there is no program: the fault of the first phase that fails; or out of memory, which may hide any of them
-abbrev pub IsRefused : Files → List ℕ → Fault → Type 0
-IsRefused set name fault =
-    FailsPreprocessing set name fault
-    ⊎ FailsTokens set name fault
-    ⊎ FailsTree set name fault
-    ⊎ FailsCheck set name fault
-    ⊎ IsMemoryFault fault

@@ -25,8 +25,11 @@ pub use Rattle.memory_map.specs.MemoryMap
 pub use Rattle.meaning_ports.specs.Port
 pub use Rattle.sim.specs.Runs
 pub use Rattle.sim.specs.Meets
-pub use Rattle.cc_backend.specs.Generated
+pub use Rattle.cc_backend.specs.Runs as RunsOfFiles
+pub use Rattle.cc_backend.specs.Made as MadeFiles
 pub mod Compiled
+pub mod Refused
+pub mod Made
 pub mod Transfer
 pub mod Reported
 pub mod Performed

@@ -24,7 +24,7 @@ use Rattle.asm.specs.declared.item.Item.{Item}
 use Rattle.asm.specs.Listing.{Lists}
 use Rattle.asm.specs.Refusals.{WritesBeginning}
 use Rattle.memory_map.specs.MemoryMap.{text_start}
-use Rattle.cc_backend.specs.Generated.{AreItemsOf}
+use Rattle.cc_backend.specs.Made.{AreItemsOf}
 use Rattle.loader.specs.declared.fault.LoadFault.{LoadFault}
 use Rattle.loader.specs.Fault.{code_of}
 use Rattle.tree.specs.Tree.{ExternalTree}
@@ -32,7 +32,8 @@ use Rattle.typing_rules.specs.Program.{Program}
 use Rattle.cabs.specs.declared.outcome.Run.{Run as Interpreted}
 use Rattle.cabs.specs.declared.outcome.Run.TheVariants as interpreted
 use Rattle.cabs.specs.Interpreting as interpreting
-use Rattle.cc.specs.Compiled.{HasList, HasProgram, FailsPreprocessing, Compiles, IsRefused}
+use Rattle.cc.specs.Compiled.{HasList, HasProgram, Compiles}
+use Rattle.cc.specs.Refused.{FailsPreprocessing, IsRefused}
 use Rattle.cc.specs.Reported.{Said, Says, SaysOutcome, SaysRun, fault_text}
 use Rattle.cc.specs.Transfer.{PutsAll, PutsSome}
 

@@ -2,8 +2,10 @@
 
 ghost use Rattle.std.specs.Prelude.{◌≡◌, map, IfOk, IfErr, OnOk, ◌++◌};
 ghost use Rattle.typing_program.specs.View.{program_of, function_of};
-ghost use Rattle.cc_backend.specs.Generated.{IsReady};
-ghost use Rattle.cc.specs.Compiled.{Compiles, BuildsProgram, IsRefused, shown_entry, entry_of, entries};
+ghost use Rattle.cc_backend.specs.Made.{IsReady};
+ghost use Rattle.cc.specs.Compiled.{Compiles, BuildsProgram, shown_entry, entry_of, entries};
+ghost use Rattle.cc.specs.Refused.{IsRefused};
+ghost use Rattle.cc.specs.Made.{IsMade, MakesProgram};
 ghost use Rattle.cc.specs.inside.Stops.{Stops, IsMemory};
 
 use crate::front::checked_unit;
@@ -30,6 +32,7 @@ pub struct Built {
 /// order; and with 801 where there is no memory.
 pub fn compile(alloc: Global, set: &FileSet, main: &str) -> Result<Built, Fault>
     ensures built { IfOk result (λ built. Compiles set.now main.now built) }
+    ensures made { IfOk result (λ built. IsMade set.now main.now built) }
     ensures refused { IfErr result (λ fault. IsRefused set.now main.now fault) }
 {
     match by_phases(alloc, set, main) {
@@ -41,6 +44,7 @@ pub fn compile(alloc: Global, set: &FileSet, main: &str) -> Result<Built, Fault>
 /// The phases in their order (ISO/IEC 9899:2011 5.1.1.2).
 fn by_phases(alloc: Global, set: &FileSet, main: &str) -> Result<Built, Stop>
     ensures built { IfOk result (λ built. Compiles set.now main.now built) }
+    ensures made { IfOk result (λ built. IsMade set.now main.now built) }
     ensures stops { IfErr result (λ stop. Stops set.now main.now stop) }
 {
     let mut names = Names::new(alloc);
@@ -52,6 +56,7 @@ fn by_phases(alloc: Global, set: &FileSet, main: &str) -> Result<Built, Stop>
 fn build(alloc: Global, program: &Program, names: &Names) -> Result<Built, Stop>
     requires { IsReady (program_of program.now) }
     ensures built { IfOk result (λ built. BuildsProgram names.now (program_of program.now) built) }
+    ensures made { IfOk result (λ built. MakesProgram names.now (program_of program.now) built) }
     ensures stops { IfErr result IsMemory }
 {
     let generated = match generate(alloc, program) {

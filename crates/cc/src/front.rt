@@ -10,8 +10,9 @@ ghost use Rattle.tree.specs.View.{unit_of};
 ghost use Rattle.typing_program.specs.View.{program_of};
 ghost use Rattle.tac_code.specs.Sound.{AreBytes};
 ghost use Rattle.tac_checked.specs.Laws.{AreTexts};
-ghost use Rattle.cc_backend.specs.Generated.{IsReady};
-ghost use Rattle.cc.specs.Compiled.{HasList, HasProgram, IsProgramOf, BreaksConstraint, FailsPreprocessing};
+ghost use Rattle.cc_backend.specs.Made.{IsReady};
+ghost use Rattle.cc.specs.Compiled.{HasList, HasProgram, IsProgramOf};
+ghost use Rattle.cc.specs.Refused.{BreaksConstraint, FailsPreprocessing};
 ghost use Rattle.cc.specs.inside.Stops.{IsTold, Stops};
 
 use crate::stopping::Stop;

@@ -24,7 +24,7 @@ use Rattle.select_simulation.specs.Laws.{AreBytes}
 use Rattle.select_simulation.specs.Runs.{Laid, ground_at}
 use Rattle.select_simulation.proofs.Real.{goes_on, ends_so}
 use Rattle.select_simulation.proofs.Keeping.{calls_keep}
-use Rattle.cc_backend.specs.Images.{IsImageOf, FitStack, ImageGoesOn, ImageEnds, ImageCallsKeep}
+use Rattle.cc_backend.specs.FlatImages.{IsImageOf, FitStack, ImageGoesOn, ImageEnds, ImageCallsKeep}
 
 within_low : (start n a : ℕ) → is_within start n a ≡ true → (start ≤ a) × (a < start + n)
 within_low start n a e =

@@ -9,8 +9,10 @@ use Rattle.loader.specs.File.{file_image}
 use Rattle.elf_out.specs.Layout.{Parts}
 use Rattle.elf_out.specs.Program.{program_image}
 use Rattle.elf_out.specs.Written.{file_of}
+use Rattle.elf_out.proofs.Memory.{written_image}
 use Rattle.asm.specs.declared.item.Item.{Item}
 use Rattle.asm.specs.Layout.{AllReach, IsLow, size, longest}
+use Rattle.asm.specs.Placed.{IsFewest}
 use Rattle.typing_rules.specs.Program as typed
 use Rattle.tac_code.specs.Code as tac
 use Rattle.tac_code.specs.Sound.{data_bytes}
@@ -31,11 +33,12 @@ use Rattle.select_simulation.specs.Reaching.{rows_of}
 use Rattle.select_simulation.proofs.Reaching.{jumps_reach}
 use Rattle.cc_backend.proofs.ShortPrograms.{code_fits, program_is_short}
 use Rattle.select_simulation.specs.Runs.{slack}
-use Rattle.cc_backend.specs.Images.{IsImageOf}
-use Rattle.cc_backend.proofs.Runs.{flattened_of, none_within}
-use Rattle.cc_backend.proofs.Programs.{flattened_goes_on, flattened_ends}
+use Rattle.cc_backend.specs.FlatImages.{IsImageOf}
+use Rattle.cc_backend.proofs.TacImages.{flattened_of, none_within}
+use Rattle.cc_backend.proofs.ProgramImages.{flattened_goes_on, flattened_ends}
 use Rattle.cc_backend.proofs.Renumbering.{renumbered_is_flattened}
-use Rattle.cc_backend.specs.Generated.{IsReady, IsFlatCodeOf, RunsAs, FramesFit, most_text, IsFileOf, AreItemsOf}
+use Rattle.cc_backend.specs.Runs.{RunsAs}
+use Rattle.cc_backend.specs.Made.{IsReady, IsFlatCodeOf, FramesFit, most_text, IsFileOf, AreItemsOf}
 
 -- sums of what is less at each place
 pub sums_within : {A B : Type 0} (g : A → ℕ) (h : B → ℕ) (xs : List A) (ys : List B) → length xs ≡ length ys
@@ -136,10 +139,9 @@ module _ (p : typed.Program) (f : flat.Program) (ready : IsReady p) (made : IsFl
         (w.0, w.1, w.3, (w.2, (w.4, (w.5, w.6), w.7)));
   }
 
-  pub is_file : (parts : Parts) (file frames : List ℕ) → IsImageOf f parts → length parts.text ≤ longest (program_items f) → frames ≡ map frame_bytes f.functions
-      → file ≡ file_of parts → file_image file ≡ Ok (program_image parts) → IsFileOf p file frames
-  is_file parts file frames image short sizes written loads = record {
-    runs = subst (λ xs. RunsAs stack_size p xs file) (sym sizes) (runs parts file image loads);
+  pub is_file : (parts : Parts) (file frames : List ℕ) → IsImageOf f parts → IsFewest (program_items f) text_start parts.text → length parts.text ≤ longest (program_items f)
+      → frames ≡ map frame_bytes f.functions → file ≡ file_of parts → IsFileOf p file frames
+  is_file parts file frames image fewest short sizes written = record {
     code = f;
     code_is = made;
     frames_are = sizes;
@@ -147,19 +149,24 @@ module _ (p : typed.Program) (f : flat.Program) (ready : IsReady p) (made : IsFl
     parts = parts;
     file_is = written;
     image_is = image;
+    fewest = fewest;
     text_fits = omega (arith, short, text_fits);
     data_fits = data_fits parts image;
   }
 
-  pub items_of : (items : List Item) → items ≡ program_items f → IsLow text_start items → AreItemsOf p items
-  items_of items are low = record {
-    code = f;
-    code_is = made;
+  pub runs_with : (parts : Parts) (file frames : List ℕ) → IsImageOf f parts → frames ≡ map frame_bytes f.functions → file_image file ≡ Ok (program_image parts)
+      → RunsAs stack_size p frames file
+  runs_with parts file frames image sizes loads = subst (λ xs. RunsAs stack_size p xs file) (sym sizes) (runs parts file image loads)
+
+  -- the items of the file that the image is written to
+  pub items_of : (parts : Parts) (items : List Item) → IsImageOf f parts → IsFewest (program_items f) text_start parts.text → length parts.text ≤ longest (program_items f)
+      → items ≡ program_items f → IsLow text_start items → AreItemsOf p items
+  items_of parts items image fewest short are low = record {
+    file = file_of parts;
+    frames = map frame_bytes f.functions;
+    runs = runs parts (file_of parts) image (written_image parts image.size);
+    is_file = is_file parts (file_of parts) (map frame_bytes f.functions) image fewest short refl refl;
     items_are = are;
     low = low;
     reach = subst (AllReach text_start) (sym are) (reach text_start);
   }
-
-  pub items_in : {E : Type 0} (r : Result (List Item) E) → IfOk r (λ items. items ≡ program_items f) → IfOk r (λ items. IsLow text_start items) → IfOk r (AreItemsOf p)
-  items_in (Ok items) are low = items_of items are low
-  items_in (Err e) are low = tt

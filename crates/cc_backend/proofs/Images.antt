@@ -9,7 +9,7 @@ use Rattle.asm.proofs.Ends.{ends}
 use Rattle.frames_code.specs.Code.{Program}
 use Rattle.frames_code.specs.Sound.{IsSoundProgram}
 use Rattle.select.specs.Program.{program_items}
-use Rattle.cc_backend.specs.Images.{IsImageOf}
+use Rattle.cc_backend.specs.FlatImages.{IsImageOf}
 use Rattle.tac_code.specs.Sound.{AreBytes}
 
 pub image_of : (f : Program) (items : List Item) (text statics : List ℕ) → IsSoundProgram f → items ≡ program_items f → Assembles items text_start text → statics ≡ f.statics → AreBytes text → AreBytes statics

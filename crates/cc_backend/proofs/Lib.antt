@@ -3,8 +3,8 @@ pub mod Lowering
 pub mod Renumbering
 pub mod Generates
 pub mod FlatImages
-pub mod Runs
+pub mod TacImages
 pub mod Known
-pub mod Programs
+pub mod ProgramImages
 pub mod Rows
 pub mod ShortPrograms

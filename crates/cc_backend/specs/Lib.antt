@@ -1,13 +1,14 @@
-pub mod Generated
 pub use Rattle.tac_checked.specs.Asked
+pub use Rattle.tac_code.specs.Lowered
 pub use Rattle.frames_registers.specs.Renumbered
-pub mod Images
-pub use Rattle.select_simulation.specs.Runs
-pub use Rattle.elf_out.specs.Program
-pub mod Runs
-pub mod Programs
 pub use Rattle.frames.specs.Translated
 pub use Rattle.frames.specs.Flattened
-pub mod Sizes
-pub use Rattle.tac_code.specs.Lowered
+pub use Rattle.elf_out.specs.Program
+pub use Rattle.select_simulation.specs.Runs as Simulated
 pub use Rattle.select_simulation.specs.Reaching
+pub mod Runs
+pub mod Made
+pub mod Sizes
+pub mod FlatImages
+pub mod TacImages
+pub mod ProgramImages

@@ -1,36 +1,52 @@
--- How the image of three-address code runs, once that is flattened and its items are assembled.
-use Rattle.std.specs.Prelude.{◌≡◌, ◌≤◌, ◌<◌, ℕ, ◌+◌, ◌*◌, List, sum_by}
-use Rattle.memory_map.specs.MemoryMap.{stack_size}
-use Rattle.elf_out.specs.Layout.{Parts}
-use Rattle.elf_out.specs.Program.{program_image}
-use Rattle.sim.specs.Runs.{World, Running, Ended, rvrun, start_world}
-use Rattle.meaning.specs.History.{Entry, trace_of}
-use Rattle.tac_code.specs.Code.{Program, function_at}
-use Rattle.tac_code.specs.Run.{State, Progress, running, ended, stuck, open_calls, run, start}
-use Rattle.tac_code.specs.Costs.{call_bytes, spent_in_all}
-use Rattle.tac_code.specs.Sound.{IsSoundProgram, AreBytes}
-use Rattle.frames_code.specs.Code as flat
-use Rattle.frames.specs.Translated.{flat_program}
-use Rattle.select_simulation.specs.Runs.{slack}
-use Rattle.cc_backend.specs.Images.{IsImageOf}
+-- How a program's file runs: the headline's own words (ISO/IEC 9899:2011 5.1.2.3), apart from how the file is made.
+use Rattle.std.specs.Prelude.{◌≡◌, ◌≤◌, ◌<◌, ℕ, ◌+◌, ◌*◌, ◌%◌, ◌^◌, List, Option, Some, None, slice_get, Ok}
+use Rattle.rv32.specs.Step.{register}
+use Rattle.memory_map.specs.MemoryMap.{stack_end}
+use Rattle.loader.specs.File.{Image, file_image}
+use Rattle.sim.specs.Runs as sim
+use Rattle.sim.specs.Runs.{World, rvrun, start_world}
+use Rattle.typing_rules.specs.Program.{Program}
+use Rattle.meaning.specs.History.{Entry, trace_of, active, weight_in, sum_of, greatest_sum}
+use Rattle.meaning.specs.Machine.{State, Stops, Ended, TicksUsed}
+use Rattle.meaning.specs.Meaning.{cstep}
 
--- the calls that are open fit the stack
-abbrev pub CallsFit : Program → Progress → Type 0
-CallsFit q (running t) = sum_by (λ g. call_bytes (function_at q g)) (open_calls t) ≤ stack_size
-CallsFit q (ended status input history) = Unit {0}
-CallsFit q stuck = Unit {0}
+-- an input is a list of bytes
+abbrev pub IsInput : List ℕ → Type 0
+IsInput input = (k c : ℕ) → slice_get input k ≡ Some c → c < 2 ^ 8
 
--- So many steps of sound three-address code, where the image is its flat program's, the calls on the way fit the stack and the input is bytes: no more
--- instructions than they cost, and 4 before main; and at least one for each so many steps.
-abbrev pub TacGoesOn : Type 0
-TacGoesOn =
-    (q : Program) (f : flat.Program) (parts : Parts) (input : List ℕ) → IsSoundProgram q → f ≡ flat_program q → IsImageOf f parts → AreBytes input
-    → (n : ℕ) (t : State) → run q n (start q input) ≡ running t → ((k : ℕ) → k ≤ n → CallsFit q (run q k (start q input)))
-    → (k : ℕ) × (w : World) × (n < slack f * k) × (k ≤ spent_in_all q n (start q input) + 4) × (rvrun k (start_world (program_image parts) input) ≡ Running w) × (w.trace ≡ trace_of t.history) × (w.input ≡ t.input)
+-- the bytes of the frame of a function, by its number
+abbrev pub bytes_or_none : Option ℕ → ℕ
+bytes_or_none None = 0
+bytes_or_none (Some n) = n
 
--- and where it ends, 2 more behind main
-abbrev pub TacEnds : Type 0
-TacEnds =
-    (q : Program) (f : flat.Program) (parts : Parts) (input : List ℕ) → IsSoundProgram q → f ≡ flat_program q → IsImageOf f parts → AreBytes input
-    → (n status : ℕ) (left : List ℕ) (history : List Entry) → run q n (start q input) ≡ ended status left history → ((k : ℕ) → k ≤ n → CallsFit q (run q k (start q input)))
-    → (k : ℕ) × (w : World) × (k ≤ spent_in_all q n (start q input) + 6) × (rvrun k (start_world (program_image parts) input) ≡ Ended status w) × (w.trace ≡ trace_of history) × (w.input ≡ left)
+-- the stack pointer is a multiple of 16, and lies below the stack's end by just the frames of the calls that are active
+abbrev pub HasFrames : (frames : List ℕ) → List Entry → World → Type 0
+HasFrames frames history w =
+    (register w.machine 2 % 16 ≡ 0) × (register w.machine 2 + sum_of (λ g. bytes_or_none (slice_get frames g)) (active history) ≡ stack_end)
+
+-- the machine of the table, from the image on this input, stands at such an instruction after at most so many
+abbrev pub Reaches : Image → List ℕ → (most : ℕ) → (ℕ → World → Type 0) → Type 0
+Reaches image input most There = (k : ℕ) × (w : World) × (k ≤ most) × There k w
+
+-- it has done what the abstract machine has done, and has its input left
+abbrev pub HasDone : State → World → Type 0
+HasDone s w = (w.trace ≡ trace_of s.history) × (w.input ≡ s.input)
+
+abbrev pub EndsWith : Image → List ℕ → (status : ℕ) → State → ℕ → World → Type 0
+EndsWith image input status s k w = (rvrun k (start_world image input) ≡ sim.Ended status w) × HasDone s w
+
+abbrev pub GoesOnWith : Image → List ℕ → (frames : List ℕ) → State → ℕ → World → Type 0
+GoesOnWith image input frames s k w = (rvrun k (start_world image input) ≡ sim.Running w) × HasDone s w × HasFrames frames s.history w
+
+-- The file has an image. For every input of bytes and every n: where the abstract machine ends within n ticks, and the weights of the calls active at
+-- one time never summed to more than this stack, the machine ends with the same status, having done the same; where n ticks are used, it goes
+-- on, having done the same, its stack pointer below the stack's end by just the frames of the calls that are active. For n ticks it takes at most
+-- 60 n + 66 instructions, and at least one for each so many ticks, so that an unending run has all that the abstract machine does.
+pub record RunsAs (stack : ℕ) (p : Program) (frames file : List ℕ) : Type 0 where
+  pub image : Image
+  pub loads : file_image file ≡ Ok image
+  pub ends : (input : List ℕ) → IsInput input → (n status : ℕ) (s : State) → cstep n p input ≡ Stops (Ended status) s → greatest_sum (weight_in p) s.history ≤ stack
+      → Reaches image input (60 * n + 66) (EndsWith image input status s)
+  pub slack : ℕ
+  pub goes_on : (input : List ℕ) → IsInput input → (n : ℕ) (s : State) → cstep n p input ≡ Stops TicksUsed s → greatest_sum (weight_in p) s.history ≤ stack
+      → Reaches image input (60 * n + 64) (λ k w. (n < slack * k) × GoesOnWith image input frames s k w)

@@ -9,7 +9,7 @@ ghost use Rattle.tac_code.specs.Sound as tac_sound;
 ghost use Rattle.frames_code.specs.Code as flat;
 ghost use Rattle.frames.specs.Translated.{flat_program};
 ghost use Rattle.frames_registers.specs.Renumbered.{IsRenumbered};
-ghost use Rattle.cc_backend.specs.Generated.{IsReady, IsFlatCodeOf};
+ghost use Rattle.cc_backend.specs.Made.{IsReady, IsFlatCodeOf};
 
 use frames::flatten;
 use frames_code::FlatProgram;

@@ -3,10 +3,12 @@
 ghost use Rattle.std.specs.Prelude.{IfOk};
 ghost use Rattle.typing_program.specs.View.{program_of};
 ghost use Rattle.frames_code.specs.Code as flat;
-ghost use Rattle.cc_backend.specs.Generated.{IsReady, IsFileOf, AreItemsOf};
+ghost use Rattle.memory_map.specs.MemoryMap.{stack_size};
+ghost use Rattle.cc_backend.specs.Runs.{RunsAs};
+ghost use Rattle.cc_backend.specs.Made.{IsReady, IsFileOf, AreItemsOf};
 
 use crate::flat_code::{flat_code, want_of_memory};
-use crate::image::{code_image, low_items};
+use crate::image::{Assembled, assembled};
 use crate::sizes::frame_sizes;
 use asm::Items;
 use elf_out::write_elf;
@@ -25,22 +27,27 @@ pub struct Generated {
 /// The executable file of a program that breaks no constraint; an error also where what it takes is more than the machine's memory.
 pub fn generate(alloc: Global, program: &Program) -> Result<Generated, AllocError>
     requires ready { IsReady (program_of program.now) }
+    ensures runs { IfOk result (λ g. RunsAs stack_size (program_of program.now) g.frames.items g.elf.items) }
     ensures file { IfOk result (λ g. IsFileOf (program_of program.now) g.elf.items g.frames.items) }
 {
     let code = flat_code(alloc, program)?;
     let frames = frame_sizes(alloc, &code)?;
-    let image = code_image(alloc, code)?;
+    let Assembled { image, items } = assembled(alloc, code)?;
+    drop(items);
     match write_elf(alloc, &image) {
         Ok(elf) => Ok(Generated { elf, frames }),
         Err(fault) => Err(want_of_memory(fault)),
     }
 }
 
-/// The items of the code of a program that breaks no constraint.
+/// The items of the file of a program that breaks no constraint.
 pub fn items(alloc: Global, program: &Program) -> Result<Items, AllocError>
     requires ready { IsReady (program_of program.now) }
     ensures items { IfOk result (λ items. AreItemsOf (program_of program.now) items) }
 {
     let code = flat_code(alloc, program)?;
-    low_items(alloc, &code)
+    match assembled(alloc, code) {
+        Ok(assembled) => Ok(assembled.items),
+        Err(error) => Err(error),
+    }
 }

@@ -2,10 +2,10 @@
 
 ghost use Rattle.std.specs.Prelude.{◌≡◌, ◌≤◌, length, IfOk};
 ghost use Rattle.memory_map.specs.MemoryMap.{text_start};
-ghost use Rattle.asm.specs.Placed.{Assembles};
+ghost use Rattle.asm.specs.Placed.{IsFewest};
 ghost use Rattle.frames_code.specs.Code as flat;
 ghost use Rattle.frames_code.specs.Sound.{IsSoundProgram};
-ghost use Rattle.cc_backend.specs.Images.{IsImageOf};
+ghost use Rattle.cc_backend.specs.FlatImages.{IsImageOf};
 ghost use Rattle.select.specs.Program.{program_items};
 ghost use Rattle.asm.specs.Layout.{IsLow, AllReach, longest};
 
@@ -19,7 +19,7 @@ use select::select;
 use std::alloc::{AllocError, Global};
 
 /// The items of flat code, which end where the assembler takes them.
-pub fn low_items(alloc: Global, program: &FlatProgram) -> Result<Items, AllocError>
+fn low_items(alloc: Global, program: &FlatProgram) -> Result<Items, AllocError>
     requires { IsSoundProgram (flat.program_of program.now) }
     ensures items { IfOk result (λ items. items ≡ program_items (flat.program_of program.now)) }
     ensures low { IfOk result (λ items. IsLow text_start items) }
@@ -35,15 +35,39 @@ pub fn low_items(alloc: Global, program: &FlatProgram) -> Result<Items, AllocErr
     }
 }
 
-/// The image of flat code.
-pub fn code_image(alloc: Global, program: FlatProgram) -> Result<Image, AllocError>
+/// The image of flat code, and the items that its text is assembled from.
+#[derive(Drop)]
+pub struct Assembled {
+    pub image: Image,
+    pub items: Items,
+}
+
+/// The image of flat code, with its items.
+pub fn assembled(alloc: Global, program: FlatProgram) -> Result<Assembled, AllocError>
     requires sound { IsSoundProgram (flat.program_of program) }
     requires reaches { AllReach text_start (program_items (flat.program_of program)) }
-    ensures image { IfOk result (IsImageOf (flat.program_of program)) }
-    ensures size { IfOk result (λ image. length image.text ≤ longest (program_items (flat.program_of program))) }
+    ensures image { IfOk result (λ a. IsImageOf (flat.program_of program) a.image) }
+    ensures fewest { IfOk result (λ a. IsFewest (program_items (flat.program_of program)) text_start a.image.text) }
+    ensures size { IfOk result (λ a. length a.image.text ≤ longest (program_items (flat.program_of program))) }
+    ensures items { IfOk result (λ a. a.items ≡ program_items (flat.program_of program)) }
+    ensures low { IfOk result (λ a. IsLow text_start a.items) }
 {
     let items = low_items(alloc, &program)?;
-    let text = match assemble(alloc, &items, TEXT_START) {
+    let image = image_of(alloc, &items, program)?;
+    Ok(Assembled { image, items })
+}
+
+/// The image of flat code with these items.
+fn image_of(alloc: Global, items: &Items, program: FlatProgram) -> Result<Image, AllocError>
+    requires sound { IsSoundProgram (flat.program_of program) }
+    requires items { items.now ≡ program_items (flat.program_of program) }
+    requires low { IsLow text_start items.now }
+    requires reaches { AllReach text_start (program_items (flat.program_of program)) }
+    ensures image { IfOk result (IsImageOf (flat.program_of program)) }
+    ensures fewest { IfOk result (λ image. IsFewest (program_items (flat.program_of program)) text_start image.text) }
+    ensures size { IfOk result (λ image. length image.text ≤ longest (program_items (flat.program_of program))) }
+{
+    let text = match assemble(alloc, items, TEXT_START) {
         Ok(text) => text,
         Err(fault) => return Err(want_of_memory(fault)),
     };

@@ -1,8 +1,8 @@
 //! The image of a program runs as the program does: laws of flat code, of three-address code and of the typed program that they come from; and the
 //! code of a function is as short as the tables of bytes say.
-ghost use Rattle.cc_backend.specs.Images.{ImageGoesOn, ImageEnds, ImageCallsKeep};
-ghost use Rattle.cc_backend.specs.Runs.{TacGoesOn, TacEnds};
-ghost use Rattle.cc_backend.specs.Programs.{FlattenedGoesOn, FlattenedEnds, ProgramGoesOn, ProgramEnds};
+ghost use Rattle.cc_backend.specs.FlatImages.{ImageGoesOn, ImageEnds, ImageCallsKeep};
+ghost use Rattle.cc_backend.specs.TacImages.{TacGoesOn, TacEnds};
+ghost use Rattle.cc_backend.specs.ProgramImages.{FlattenedGoesOn, FlattenedEnds, ProgramGoesOn, ProgramEnds};
 ghost use Rattle.cc_backend.specs.Sizes.{RowsFit, CodeFits, ProgramIsShort};
 
 /// Where a flat program goes on, its image does too, having done the same, and with the same input left.

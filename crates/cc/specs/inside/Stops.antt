@@ -15,8 +15,9 @@ use Rattle.typing_rules.specs.Program.{Program}
 use Rattle.srcset.specs.NameTable.{Texts}
 use Rattle.tree.specs.Tree.{ExternalTree}
 use Rattle.asm.specs.declared.item.Item.{Item}
-use Rattle.cc_backend.specs.Generated.{AreItemsOf}
-use Rattle.cc.specs.Compiled.{HasProgram, IsRefused}
+use Rattle.cc_backend.specs.Made.{AreItemsOf}
+use Rattle.cc.specs.Compiled.{HasProgram}
+use Rattle.cc.specs.Refused.{IsRefused}
 
 -- the fault that tells it, where the command names this file; only the copy of the name may run out of memory
 abbrev pub IsToldAs : List ℕ → Stop → Fault → Type 0

@@ -1,6 +1,7 @@
 use Rattle.tree.specs.View.{unit_of}
 use Rattle.typing_program.specs.View.{program_of}
 use Rattle.cc.specs.Compiled.{BuildsProgram, Compiles}
+use Rattle.cc.specs.Made.{MakesProgram, IsMade}
 use Rattle.cc.specs.inside.Stops.{Stops, IsMemory}
 use Rattle.cc.proofs.Refusals.{handed_on, ok_means, error_means, memory_stops}
 use Rattle.cc.proofs.compiling.by_phases.Goals as goal
@@ -20,6 +21,14 @@ returns-clause-built c =
     let program = program_of c.in_ok-checked.checked.program in
     ok_means c.build.result (λ built. BuildsProgram texts program built) (λ built. Compiles c.args.set.now c.args.main.now built)
     (λ built h. record { texts = texts; unit = unit; program = program; has_program = c.in_ok-checked.ensures.program; builds = h }) c.build.ensures.built
+
+pub returns-clause-made : goal.returns-clause-made
+returns-clause-made c =
+    let texts = c.checked_unit.new.names in
+    let unit = unit_of c.in_ok-checked.checked.unit in
+    let program = program_of c.in_ok-checked.checked.program in
+    ok_means c.build.result (λ built. MakesProgram texts program built) (λ built. IsMade c.args.set.now c.args.main.now built)
+    (λ built h. record { compiles = record { texts = texts; unit = unit; program = program; has_program = c.in_ok-checked.ensures.program; builds = h.builds }; file = h.file }) c.build.ensures.made
 
 pub returns-clause-stops : goal.returns-clause-stops
 returns-clause-stops c =

@@ -1,4 +1,4 @@
-use Rattle.cc_backend.proofs.Programs as laws
+use Rattle.cc_backend.proofs.ProgramImages as laws
 use Rattle.cc_backend.proofs.laws.flattened_goes_on.Goals as goal
 
 pub returns : goal.returns

@@ -1,4 +1,4 @@
-use Rattle.cc_backend.proofs.Runs as laws
+use Rattle.cc_backend.proofs.TacImages as laws
 use Rattle.cc_backend.proofs.laws.tac_ends.Goals as goal
 
 pub returns : goal.returns

@@ -5,7 +5,7 @@ use Rattle.asm.specs.declared.item.Item.{Item}
 use Rattle.asm.specs.Layout.{IsSized, longest}
 use Rattle.frames_code.specs.Code as flat
 use Rattle.select.specs.Program.{program_items}
-use Rattle.cc_backend.specs.Images.{IsImageOf}
+use Rattle.cc_backend.specs.FlatImages.{IsImageOf}
 use Rattle.tac_code.specs.Sound.{AreBytes}
 use Rattle.cc_backend.proofs.Images.{image_of, longest_text}
 use Rattle.cc_backend.proofs.image.code_image.Goals as goal

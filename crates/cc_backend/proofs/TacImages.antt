@@ -14,10 +14,10 @@ use Rattle.frames.specs.Translated.{flat_program}
 use Rattle.frames.specs.Flattened.{IsFlattened, HasItsCalls, behind, before}
 use Rattle.frames_steps.proofs.Whole.{flat_is_flattened}
 use Rattle.select_simulation.specs.Runs.{slack}
-use Rattle.cc_backend.specs.Images.{FitStack}
+use Rattle.cc_backend.specs.FlatImages.{FitStack}
 use Rattle.select_simulation.proofs.Table.{spent_is_more}
 use Rattle.cc_backend.proofs.FlatImages.{image_goes_on, image_ends}
-use Rattle.cc_backend.specs.Runs.{CallsFit, TacGoesOn, TacEnds}
+use Rattle.cc_backend.specs.TacImages.{CallsFit, TacGoesOn, TacEnds}
 
 pub none_within : {X : Type 0} (xs : List X) (k : ℕ) → slice_get xs k ≡ None → k < length xs → ⊥
 none_within [] k e lt = omega (arith, lt)

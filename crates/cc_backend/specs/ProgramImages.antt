@@ -1,13 +1,12 @@
 -- How the image of a typed program runs, once it is lowered, flattened, and its items are assembled.
-use Rattle.std.specs.Prelude.{◌≡◌, ◌≤◌, ◌<◌, ℕ, ◌+◌, ◌*◌, ◌%◌, List, map, Option, None, Some, slice_get}
-use Rattle.rv32.specs.Step.{register}
-use Rattle.memory_map.specs.MemoryMap.{stack_size, stack_end}
+use Rattle.std.specs.Prelude.{◌≡◌, ◌≤◌, ◌<◌, ℕ, ◌+◌, ◌*◌, List, map}
+use Rattle.memory_map.specs.MemoryMap.{stack_size}
 use Rattle.elf_out.specs.Layout.{Parts}
 use Rattle.elf_out.specs.Program.{program_image}
 use Rattle.sim.specs.Runs as sim
 use Rattle.sim.specs.Runs.{World, rvrun, start_world}
 use Rattle.typing_rules.specs.Program.{Program}
-use Rattle.meaning.specs.History.{Entry, trace_of, active, weight_in, sum_of, greatest_sum}
+use Rattle.meaning.specs.History.{trace_of, weight_in, greatest_sum}
 use Rattle.meaning.specs.Machine.{State, Stops, Ended, TicksUsed}
 use Rattle.meaning.specs.Meaning.{cstep}
 use Rattle.tac_code.specs.Code as tac
@@ -18,17 +17,8 @@ use Rattle.frames_code.specs.Code.{frame_bytes}
 use Rattle.frames.specs.Translated.{flat_program}
 use Rattle.frames.specs.Flattened.{IsFlattened}
 use Rattle.select_simulation.specs.Runs.{slack}
-use Rattle.cc_backend.specs.Images.{IsImageOf}
-
--- the bytes of the frame of a function, by its number
-abbrev pub bytes_or_none : Option ℕ → ℕ
-bytes_or_none None = 0
-bytes_or_none (Some n) = n
-
--- the stack pointer is a multiple of 16, and lies below the stack's end by just the frames of the calls that are active
-abbrev pub HasFrames : (frames : List ℕ) → List Entry → World → Type 0
-HasFrames frames history w =
-    (register w.machine 2 % 16 ≡ 0) × (register w.machine 2 + sum_of (λ g. bytes_or_none (slice_get frames g)) (active history) ≡ stack_end)
+use Rattle.cc_backend.specs.FlatImages.{IsImageOf}
+use Rattle.cc_backend.specs.Runs.{HasFrames}
 
 -- Where the abstract machine has used n ticks, and its calls never weighed more than the stack: the machine goes on from the image of flat code f too,
 -- has done the same and has the same input left, after at most 60 n + 64 instructions, and at least one for each so many ticks.

@@ -18,11 +18,11 @@ use Rattle.frames_code.specs.Run as flat_run
 use Rattle.frames_code.specs.Sound.{IsSoundProgram}
 use Rattle.frames.specs.Flattened.{IsFlattened, HasItsCalls, behind, before}
 use Rattle.select_simulation.specs.Runs.{StandsWith, slack}
-use Rattle.cc_backend.specs.Images.{FitStack}
+use Rattle.cc_backend.specs.FlatImages.{FitStack}
 use Rattle.select_simulation.proofs.Table.{spent_is_more}
 use Rattle.cc_backend.proofs.FlatImages.{image_goes_on, image_ends}
-use Rattle.cc_backend.specs.Programs.{bytes_or_none, HasFrames, FlattenedGoesOn, FlattenedEnds, ProgramGoesOn, ProgramEnds}
-use Rattle.cc_backend.proofs.Runs.{none_within, further, flattened_of}
+use Rattle.cc_backend.specs.ProgramImages.{bytes_or_none, HasFrames, FlattenedGoesOn, FlattenedEnds, ProgramGoesOn, ProgramEnds}
+use Rattle.cc_backend.proofs.TacImages.{none_within, further, flattened_of}
 use Rattle.cc_backend.proofs.Known.{AreKnown, Known, run_known}
 
 module _ (p : typed.Program) (q : tac.Program) (f : flat.Program) (lowered : IsLowered p q) (flattened : IsFlattened q f) (sound : IsSoundProgram f) where

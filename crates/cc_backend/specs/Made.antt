@@ -1,0 +1,70 @@
+-- How the back end makes the file of a typed program, and its listing.
+use Rattle.std.specs.Prelude.{◌≡◌, ◌≤◌, ℕ, ◌+◌, ◌*◌, true, List, length, map, sum_by, slice_get, Some}
+use Rattle.memory_map.specs.MemoryMap.{stack_size, text_start}
+use Rattle.elf_out.specs.Layout.{Parts}
+use Rattle.elf_out.specs.Written as written
+use Rattle.asm.specs.declared.item.Item.{Item}
+use Rattle.asm.specs.Layout.{IsLow, AllReach}
+use Rattle.asm.specs.Placed.{IsFewest}
+use Rattle.typing_rules.specs.Program.{Function, Program}
+use Rattle.tac_code.specs.Code as tac
+use Rattle.tac_code.specs.Sound.{data_bytes}
+use Rattle.tac_code.specs.Spans.{span}
+use Rattle.tac_code.specs.Lowered.{IsChecked, IsLowered}
+use Rattle.tac_checked.specs.Asked.{is_asked}
+use Rattle.frames_code.specs.Code as flat
+use Rattle.frames_code.specs.Code.{frame_bytes}
+use Rattle.frames_code.specs.Sound as flat_sound
+use Rattle.frames.specs.Translated.{flat_program}
+use Rattle.frames_registers.specs.Renumbered.{IsRenumbered}
+use Rattle.select.specs.Program.{program_items}
+use Rattle.cc_backend.specs.FlatImages.{IsImageOf}
+use Rattle.cc_backend.specs.Runs.{RunsAs}
+
+-- what the constraints give
+pub record IsReady (p : Program) : Type 0 where
+  pub checked : IsChecked p
+  pub asked : is_asked p ≡ true
+
+-- Flat code of the program: what its three-address code is flattened to, the words of its frames under numbers by their use.
+pub record IsFlatCodeOf (p : Program) (f : flat.Program) : Type 0 where
+  pub code : tac.Program
+  pub lowered : IsLowered p code
+  pub renumbered : IsRenumbered (flat_program code) f
+  pub sound : flat_sound.IsSoundProgram f
+
+-- each function has a frame, which is no larger than its weight, and than its span
+abbrev pub FramesFit : Program → List ℕ → Type 0
+FramesFit p frames =
+    (length frames ≡ length p.functions)
+    × ((k : ℕ) (f : Function) (bytes : ℕ) → slice_get p.functions k ≡ Some f → slice_get frames k ≡ Some bytes → (bytes ≤ f.weight) × (bytes ≤ span f))
+
+-- at most 128 bytes for each node, and 1024 for each function and for what comes before them
+abbrev pub most_text : Program → ℕ
+most_text p = 1024 + sum_by (λ f. 128 * f.nodes + 1024) p.functions
+
+-- How the executable file of a program is made, with the bytes of the frame of each function. It is the image of flat code of the program, with the
+-- fewest long branches, and has its frames; so all that is known of such an image is known of the file. Its data are 16 bytes, string literals and
+-- statics.
+pub record IsFileOf (p : Program) (file frames : List ℕ) : Type 0 where
+  pub code : flat.Program
+  pub code_is : IsFlatCodeOf p code
+  pub frames_are : frames ≡ map frame_bytes code.functions
+  pub frames_fit : FramesFit p frames
+  pub parts : Parts
+  pub file_is : file ≡ written.file_of parts
+  pub image_is : IsImageOf code parts
+  pub fewest : IsFewest (program_items code) text_start parts.text
+  pub text_fits : length parts.text ≤ most_text p
+  pub data_fits : length parts.statics ≤ 16 + data_bytes p.literals p.statics
+
+-- The items of a file of the program, which runs as the program does: they end where the assembler takes them, each jump reaches its label, and the
+-- text of the file is what they assemble to.
+pub record AreItemsOf (p : Program) (items : List Item) : Type 0 where
+  pub file : List ℕ
+  pub frames : List ℕ
+  pub runs : RunsAs stack_size p frames file
+  pub is_file : IsFileOf p file frames
+  pub items_are : items ≡ program_items is_file.code
+  pub low : IsLow text_start items
+  pub reach : AllReach text_start items
