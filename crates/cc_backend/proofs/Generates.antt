@@ -1,5 +1,6 @@
 -- The file of a program whose flat code is made.
-use Rattle.std.proofs.Common.{◌≡◌, ◌≤◌, ◌<◌, ℕ, suc, ◌+◌, ◌*◌, List, [], ◌∷◌, length, map, Option, Some, None, Ok, refl, sym, ap, ◌∙◌, subst, arith, true}
+use Rattle.std.proofs.Common.{◌≡◌, ◌≤◌, ◌<◌, ℕ, suc, ◌+◌, ◌*◌, List, [], ◌∷◌, length, map, Option, Some, None, Ok, refl, sym, ap, ◌∙◌, subst, append_assoc, arith, Bool, true, ◌++◌}
+use Rattle.std.proofs.Math.Nat.{le_trans}
 use Rattle.std.specs.Prelude.{slice_get, sum_by, option_map, IfOk, Result, Err}
 use Rattle.std.proofs.lemmas.Option.{slice_get-map, slice_get_within}
 use Rattle.std.proofs.lemmas.List.{length-map}
@@ -11,7 +12,7 @@ use Rattle.elf_out.specs.Program.{program_image}
 use Rattle.elf_out.specs.Written.{file_of}
 use Rattle.elf_out.proofs.Memory.{written_image}
 use Rattle.asm.specs.declared.item.Item.{Item}
-use Rattle.asm.specs.Layout.{AllReach, IsLow, size, longest}
+use Rattle.asm.specs.Layout.{AllReach, IsLow, size, place, longest}
 use Rattle.asm.specs.Placed.{IsFewest}
 use Rattle.typing_rules.specs.Program as typed
 use Rattle.tac_code.specs.Code as tac
@@ -38,7 +39,8 @@ use Rattle.cc_backend.proofs.TacImages.{flattened_of, none_within}
 use Rattle.cc_backend.proofs.ProgramImages.{flattened_goes_on, flattened_ends}
 use Rattle.cc_backend.proofs.Renumbering.{renumbered_is_flattened}
 use Rattle.cc_backend.specs.Runs.{RunsAs}
-use Rattle.cc_backend.specs.Made.{IsReady, IsFlatCodeOf, FramesFit, most_text, IsFileOf, AreItemsOf}
+use Rattle.cc_backend.specs.Made.{IsReady, IsFlatCodeOf, FramesFit, FunctionsFit, most_text, IsFileOf, AreItemsOf}
+use Rattle.cc_backend.proofs.FunctionSizes.{part_within, function_among}
 
 -- sums of what is less at each place
 pub sums_within : {A B : Type 0} (g : A → ℕ) (h : B → ℕ) (xs : List A) (ys : List B) → length xs ≡ length ys
@@ -114,6 +116,21 @@ module _ (p : typed.Program) (f : flat.Program) (ready : IsReady p) (made : IsFl
       let both = sum_by-append (size true) (start_items f.main) (functions_items 0 (length f.functions) f.functions) in
       omega (arith, rows, nodes, both, start_short f.main)
 
+  -- ---- each function's code
+
+  functions_fit : (long : ℕ → Bool) → FunctionsFit p f long
+  functions_fit long k g h eg eh =
+      let among = function_among 0 (length f.functions) f.functions k h eh in
+      let own = function_items among.2 among.3 h in
+      let before = start_items f.main ++ among.0 in
+      let all : program_items f ≡ before ++ own ++ among.1 =
+      ap (λ xs. start_items f.main ++ xs) among.4 ∙ sym (append_assoc (start_items f.main) among.0 (own ++ among.1)) in
+      let short : longest own ≤ 128 * g.nodes + 1024 = le_trans (code_is_short h among.2 among.3) (code_fits p made.code f made.lowered flattened k g h eg eh) in
+      let part = part_within long text_start before own among.1 in
+      let fits : place long text_start (before ++ own ++ among.1) (length before + length own) ≤ place long text_start (before ++ own ++ among.1) (length before) + (128 * g.nodes + 1024) =
+      omega (arith, part, short) in
+      (before, own, among.1, among.2, among.3, all, refl, subst (λ xs. place long text_start xs (length before + length own) ≤ place long text_start xs (length before) + (128 * g.nodes + 1024)) (sym all) fits)
+
   -- ---- the data
 
   data_fits : (parts : Parts) → IsImageOf f parts → length parts.statics ≤ 16 + data_bytes p.literals p.statics
@@ -150,6 +167,7 @@ module _ (p : typed.Program) (f : flat.Program) (ready : IsReady p) (made : IsFl
     file_is = written;
     image_is = image;
     fewest = fewest;
+    functions_fit = functions_fit fewest.long;
     text_fits = omega (arith, short, text_fits);
     data_fits = data_fits parts image;
   }

@@ -8,3 +8,4 @@ pub mod Known
 pub mod ProgramImages
 pub mod Rows
 pub mod ShortPrograms
+pub mod FunctionSizes

@@ -1,10 +1,10 @@
 -- How the back end makes the file of a typed program, and its listing.
-use Rattle.std.specs.Prelude.{◌≡◌, ◌≤◌, ℕ, ◌+◌, ◌*◌, true, List, length, map, sum_by, slice_get, Some}
+use Rattle.std.specs.Prelude.{◌≡◌, ◌≤◌, ℕ, ◌+◌, ◌*◌, Bool, true, List, ◌++◌, length, map, sum_by, slice_get, Some}
 use Rattle.memory_map.specs.MemoryMap.{stack_size, text_start}
 use Rattle.elf_out.specs.Layout.{Parts}
 use Rattle.elf_out.specs.Written as written
 use Rattle.asm.specs.declared.item.Item.{Item}
-use Rattle.asm.specs.Layout.{IsLow, AllReach}
+use Rattle.asm.specs.Layout.{place, IsLow, AllReach}
 use Rattle.asm.specs.Placed.{IsFewest}
 use Rattle.typing_rules.specs.Program.{Function, Program}
 use Rattle.tac_code.specs.Code as tac
@@ -17,7 +17,7 @@ use Rattle.frames_code.specs.Code.{frame_bytes}
 use Rattle.frames_code.specs.Sound as flat_sound
 use Rattle.frames.specs.Translated.{flat_program}
 use Rattle.frames_registers.specs.Renumbered.{IsRenumbered}
-use Rattle.select.specs.Program.{program_items}
+use Rattle.select.specs.Program.{program_items, function_items}
 use Rattle.cc_backend.specs.FlatImages.{IsImageOf}
 use Rattle.cc_backend.specs.Runs.{RunsAs}
 
@@ -43,6 +43,14 @@ FramesFit p frames =
 abbrev pub most_text : Program → ℕ
 most_text p = 1024 + sum_by (λ f. 128 * f.nodes + 1024) p.functions
 
+-- In the text of the file, whose items stand where these long branches put them, the code of each function is at most 128 bytes for each node of its
+-- definition, and 1024.
+abbrev pub FunctionsFit : Program → flat.Program → (ℕ → Bool) → Type 0
+FunctionsFit p code long =
+    (k : ℕ) (g : Function) (f : flat.Function) → slice_get p.functions k ≡ Some g → slice_get code.functions k ≡ Some f
+    → (before own behind : List Item) × (number at : ℕ) × (program_items code ≡ before ++ own ++ behind) × (own ≡ function_items number at f)
+    × (place long text_start (program_items code) (length before + length own) ≤ place long text_start (program_items code) (length before) + (128 * g.nodes + 1024))
+
 -- How the executable file of a program is made, with the bytes of the frame of each function. It is the image of flat code of the program, with the
 -- fewest long branches, and has its frames; so all that is known of such an image is known of the file. Its data are 16 bytes, string literals and
 -- statics.
@@ -55,6 +63,7 @@ pub record IsFileOf (p : Program) (file frames : List ℕ) : Type 0 where
   pub file_is : file ≡ written.file_of parts
   pub image_is : IsImageOf code parts
   pub fewest : IsFewest (program_items code) text_start parts.text
+  pub functions_fit : FunctionsFit p code fewest.long
   pub text_fits : length parts.text ≤ most_text p
   pub data_fits : length parts.statics ≤ 16 + data_bytes p.literals p.statics
 

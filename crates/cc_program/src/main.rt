@@ -87,6 +87,10 @@ fn build(
     out: &str,
     matches: &ArgMatches<'_>,
 ) -> Result<u8> {
+    if is_source(out, request.main, matches) {
+        let _said = eprintln!(rt; "error: OUT is one of the files that are read");
+        return Ok(2);
+    }
     let mut set = FileSet::new(rt.alloc());
     if let Err(fault) = read_files(rt, request.main, matches, &mut set) {
         return Ok(say(rt, &fault));
@@ -107,6 +111,17 @@ fn build(
         return Ok(say(rt, &Fault::at(rt.alloc(), Code::CannotWrite, out, 0)));
     }
     Ok(status)
+}
+
+/// Whether the executable file would go to the path of a file that is read.
+fn is_source(out: &str, main: &str, matches: &ArgMatches<'_>) -> bool {
+    if out == main {
+        return true;
+    }
+    match further_files(matches) {
+        None => false,
+        Some(files) => files.iter().any(|name| *name == out),
+    }
 }
 
 /// Prints the tokens of the files, or the listing of their code. What was buffered is written before the status is answered.
@@ -181,9 +196,24 @@ fn say_port(rt: &HostRuntime, fault: PortFault) -> u8 {
     126
 }
 
+/// Says a fault in one line: in place of a byte of a file's name that is no printable character stands `?`.
 fn say(rt: &HostRuntime, fault: &Fault) -> u8 {
-    let _said = eprintln!(rt; "{fault}");
+    let said = match fault.to_line(rt.alloc()) {
+        Ok(line) => say_line(rt, line),
+        Err(_) => Ok(eprintln!(rt; "{}", Fault::memory(rt.alloc()))),
+    };
+    drop(said);
     1
+}
+
+fn say_line(rt: &HostRuntime, mut line: Vec<u8>) -> Result<io::Result<()>> {
+    for byte in line.iter_mut() {
+        if *byte < 0x20 || *byte == 0x7f {
+            *byte = b'?';
+        }
+    }
+    line.push(b'\n')?;
+    Ok(rt.stderr().write_all(line.as_slice()))
 }
 
 fn read_files<R: Files + AllocGlobal>(

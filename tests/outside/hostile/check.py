@@ -1,0 +1,148 @@
+#!/usr/bin/env python3
+"""Holds the program to sources that are long or deep: no command ends by a signal.
+
+    python3 tests/outside/hostile/check.py bin/cc [STACK IN KIB]
+
+Each list that a source may have is made as long as the limits allow, by macros or by hand, and each construct as deep; pp, build,
+list, interp and run each have so much stack (8192 KiB by default, that of most systems), 1.5 GB of address space and 60
+seconds. What each source comes to follows from the rules of the language: its status, or the code of its fault.
+The last line is 'N passed, M failed'."""
+import os
+import resource
+import subprocess
+import sys
+import tempfile
+from concurrent.futures import ThreadPoolExecutor
+
+MAIN = 'int main(void) { return 0; }\n'
+
+
+def body(text):
+    return 'int main(void) { ' + text + ' }\n'
+
+
+def doubled(name, first, times, by=8):
+    """Macros NAME0 to NAMEn, each of eight of the one before."""
+    lines = [f'#define {name}0 {first}\n']
+    for i in range(1, times + 1):
+        lines.append(f'#define {name}{i} ' + ' '.join([f'{name}{i - 1}'] * by) + '\n')
+    return ''.join(lines)
+
+
+def many(text, count, between=','):
+    return between.join(text.format(i) for i in range(count))
+
+
+CONST = doubled('c', 'const const const const', 5)
+CALLED = 'int f(' + many('int a{}', 24) + ') { return 0; }\n'
+
+
+def nested_calls(depth):
+    text = '0'
+    for _ in range(depth):
+        text = 'f(' + many('1', 23) + ',' + text + ')'
+    return text
+
+
+# name, source, what a build comes to (None: it builds; else the code of its fault), the status of a run
+ROWS = [
+    ('specifiers of an object', CONST + 'c5 int x;\n' + MAIN, None, 0),
+    ('specifiers of a parameter', CONST + 'int f(c5 int x) { return x; }\n' + body('return f(7);'), None, 7),
+    ('specifiers in a block', CONST + body('c5 int x = 3; return x;'), None, 3),
+    ('specifiers of a cast', CONST + body('return (c5 int)5;'), None, 5),
+    ('type words', doubled('u', 'unsigned', 4) + 'u4 int x;\n' + MAIN, 511, 0),
+    ('sizes of a type name', '_Static_assert(sizeof(char' + '[1]' * 40000 + ') == 1, "m");\n' + MAIN, None, 0),
+    ('parameters and arguments', 'int f(' + many('int a{}', 7000) + ') { return a6999; }\n' + body('return f(' + many('9', 7000) + ');'), None, 9),
+    ('nested calls of 24 arguments', CALLED + body('return ' + nested_calls(245) + ';'), None, 0),
+    ('enumerators', 'enum { ' + many('e{}', 60000) + ' };\n' + body('return e7;'), None, 7),
+    ('declarators', 'int ' + many('n{}', 60000) + ';\n' + MAIN, None, 0),
+    ('declarations', many('int n{};', 60000, '\n') + '\n' + MAIN, None, 0),
+    ('assertions', '_Static_assert(1, "m");' * 45000 + '\n' + MAIN, None, 0),
+    ('functions', many('int f{}(void) {{ return 0; }}', 16000, '\n') + '\n' + MAIN, None, 0),
+    ('functions past the limit', many('int f{}(void) {{ return 0; }}', 16384, '\n') + '\n' + MAIN, 715, 0),
+    ('initialisers', 'int a[200000] = { ' + many('1', 200000) + ' };\n' + body('return a[199999];'), None, 1),
+    ('initialisers in a block', body('int a[7000] = { ' + many('1', 7000) + ' }; return a[6999];'), None, 1),
+    ('adjacent strings', 'char a[] = ' + many('"a"', 200000, ' ') + ';\n' + body('return a[199999] == 97;'), None, 1),
+    ('statements', body(';' * 7900 + 'return 4;'), None, 4),
+    ('objects of a block', body(many('int n{};', 2600, ' ') + 'return 0;'), None, 0),
+    ('labels', body('switch (2599) { ' + many('case {}: ;', 2600, ' ') + ' return 6; } return 0;'), None, 6),
+    ('labels one after another', body('switch (150) { ' + many('case {}:', 200, ' ') + ' return 5; } return 0;'), None, 5),
+    ('parentheses', body('return ' + '(' * 252 + '0' + ')' * 252 + ';'), None, 0),
+    ('parentheses past the limit', body('return ' + '(' * 253 + '0' + ')' * 253 + ';'), 709, 0),
+    ('ten thousand parentheses', body('return ' + '(' * 10000), 709, 0),
+    ('condition of parentheses', '#if ' + '(' * 500000 + '\n', 221, 0),
+    ('sum', body('return ' + '+'.join(['1'] * 253) + ';'), None, 253),
+    ('conjunction', body('return ' + '&&'.join(['1'] * 250) + ';'), None, 1),
+    ('if', body('if (1) ' * 240 + 'return 3; return 0;'), None, 3),
+    ('if past the limit', body('if (1) ' * 300 + ';'), 709, 0),
+    ('blocks', body('{' * 250 + '}' * 250 + 'return 0;'), None, 0),
+    ('loops', body('for (;0;) ' * 240 + '; return 0;'), None, 0),
+    ('switches', body('switch (1) { case 1: ' * 80 + ';' + ' }' * 80 + ' return 0;'), None, 0),
+    ('subscripts', 'int a[1];\n' + body('return ' + 'a[' * 240 + '0' + ']' * 240 + ';'), None, 0),
+    ('signs', body('return ' + '- ' * 240 + '3;'), None, 3),
+    ('choices', body('return ' + '1?' * 240 + '8' + ':0' * 240 + ';'), None, 8),
+    ('casts', body('return ' + '(int)' * 240 + '2;'), None, 2),
+    ('calls', 'int f(int a) { return a; }\n' + body('return ' + 'f(' * 240 + '1' + ')' * 240 + ';'), None, 1),
+    ('assignments', body('int a; a' + ' = a' * 200 + ' = 1; return a;'), None, 1),
+    ('commas', body('return ' + '(1,' * 120 + '9' + ')' * 120 + ';'), None, 9),
+    ('braces', 'int a' + '[1]' * 240 + ' = ' + '{' * 240 + '1' + '}' * 240 + ';\n' + MAIN, None, 0),
+    ('sizeof', body('return (int)(' + 'sizeof ' * 240 + '1);'), None, 4),
+    ('sizes within sizes', body('return (int)sizeof(char' + '[sizeof(char' * 120 + '[1]' + ')]' * 120 + ');'), None, 1),
+    ('declarations in nested blocks', body('{ int a; ' * 120 + '}' * 120 + ' return 0;'), None, 0),
+]
+
+
+def limits(stack):
+    def set_them():
+        resource.setrlimit(resource.RLIMIT_STACK, (stack * 1024, stack * 1024))
+        resource.setrlimit(resource.RLIMIT_AS, (1500 << 20, 1500 << 20))
+        resource.setrlimit(resource.RLIMIT_CORE, (0, 0))
+
+    return set_them
+
+
+def ran(words, stack, folder):
+    """The status of a command and the first line of what it said; 'no end' where it takes too long."""
+    try:
+        done = subprocess.run(words, cwd=folder, stdin=subprocess.DEVNULL, stdout=subprocess.DEVNULL, stderr=subprocess.PIPE, preexec_fn=limits(stack), timeout=60)
+    except subprocess.TimeoutExpired:
+        return 'no end', ''
+    return done.returncode, done.stderr.decode(errors='replace').split('\n')[0]
+
+
+def tried(cc, stack, folder, number, row):
+    """What differs, a line each."""
+    name, source, code, status = row
+    file, out = f'{number}.c', f'{number}.out'
+    with open(f'{folder}/{file}', 'w') as it:
+        it.write(source)
+    wrong = []
+    # (preprocessing alone does not meet what the grammar and the constraints refuse)
+    early = code is not None and code < 400
+    wanted = {'pp': 1 if early else 0, 'build': 1 if code else 0, 'list': 1 if code else 0, 'interp': 1 if code else status}
+    words = {'pp': ['pp', file], 'build': ['build', file, '-o', out], 'list': ['list', file], 'interp': ['interp', file]}
+    if code is None:
+        wanted['run'], words['run'] = status, ['run', out]
+    for command, these in words.items():
+        got, said = ran([cc, *these], stack, folder)
+        if got != wanted[command]:
+            wrong.append(f'{name}: {command} ends with {got} and not {wanted[command]} {said[:100]}')
+        elif code and got == 1 and f' {code} ' not in said:
+            wrong.append(f'{name}: {command} says {said[:100]} and not {code}')
+    return len(words), wrong
+
+
+def main():
+    cc, stack = os.path.abspath(sys.argv[1]), int(sys.argv[2]) if len(sys.argv) > 2 else 8192
+    passed = failed = 0
+    with tempfile.TemporaryDirectory() as folder, ThreadPoolExecutor(os.cpu_count()) as pool:
+        for count, wrong in pool.map(lambda it: tried(cc, stack, folder, *it), enumerate(ROWS)):
+            passed, failed = passed + count - len(wrong), failed + len(wrong)
+            for line in wrong:
+                print('FAIL', line)
+    print(f'{passed} passed, {failed} failed')
+    return 1 if failed or not passed else 0
+
+
+if __name__ == '__main__':
+    sys.exit(main())
