@@ -53,6 +53,10 @@ function_among first start (g ∷ fs) zero f e =
     let same : g ≡ f = cc in
     ([], functions_items (first + 1) (start + (length g.code + 1)) fs, first, start, ap (λ h. function_items first start h ++ functions_items (first + 1) (start + (length g.code + 1)) fs) same)
 function_among first start (g ∷ fs) (suc k) f e =
-    let rest = function_among (first + 1) (start + (length g.code + 1)) fs k f e in
-    (function_items first start g ++ rest.0, rest.1, rest.2, rest.3,
-        ap (λ xs. function_items first start g ++ xs) rest.4 ∙ sym (append_assoc (function_items first start g) rest.0 (function_items rest.2 rest.3 f ++ rest.1)))
+    let rest = function_among (first + 1) (start + (length g.code + 1)) fs k f e in (
+      function_items first start g ++ rest.0,
+      rest.1,
+      rest.2,
+      rest.3,
+      ap (λ xs. function_items first start g ++ xs) rest.4 ∙ sym (append_assoc (function_items first start g) rest.0 (function_items rest.2 rest.3 f ++ rest.1)),
+    )
