@@ -96,7 +96,7 @@ fn build(
         return Ok(say(rt, &fault));
     }
     let writer = BufWriter::new(rt.alloc(), LateFile::new(rt, out))?;
-    let mut port = IoPort::new(io::empty(), writer);
+    let mut port = IoPort::new(no_input(rt.alloc())?, writer);
     let status = perform(
         rt.alloc(),
         request.command,
@@ -137,7 +137,7 @@ fn print_text(rt: &HostRuntime, request: Request<'_>, matches: &ArgMatches<'_>) 
         &set,
         request.main,
         b"",
-        &mut IoPort::new(io::empty(), io::sink()),
+        &mut IoPort::new(no_input(rt.alloc())?, io::sink()),
         &mut out,
         &mut rt.stderr(),
     );
@@ -145,6 +145,11 @@ fn print_text(rt: &HostRuntime, request: Request<'_>, matches: &ArgMatches<'_>) 
         return Ok(say(rt, &Fault::at(rt.alloc(), Code::CannotWrite, "", 0)));
     }
     Ok(status)
+}
+
+/// Input without a byte.
+fn no_input(alloc: Global) -> io::Result<BufReader<io::Empty>> {
+    BufReader::with_capacity(alloc, 0, io::empty())
 }
 
 /// Runs the executable file over standard input and output.

@@ -1,4 +1,5 @@
 pub use Rattle.srcset.specs.Codes
 pub mod Port
 pub mod Memory
+pub mod Streams
 pub mod inside

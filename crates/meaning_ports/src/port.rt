@@ -2,7 +2,7 @@
 
 ghost use Rattle.std.specs.Prelude.{◌≡◌, Some, MatchResult, IfErr};
 ghost use Rattle.srcset.specs.Codes.{text_of};
-ghost use Rattle.meaning_ports.specs.Port.{PortView, Gets, Puts, IsRefused, code_of};
+ghost use Rattle.meaning_ports.specs.Port.{PortView, Gets, Puts, Flushes, IsRefused, code_of};
 ghost use Rattle.meaning_ports.specs.declared.port.PortFault.{PortFault};
 
 use srcset::Code;
@@ -62,4 +62,10 @@ pub trait Port {
     fn put(&mut self, byte: u8) -> Result<(), PortFault>
         ensures puts { MatchResult result (λ _. Puts (seen self.old) (seen self.new) byte) (λ _. IsRefused (seen self.old) (seen self.new)) }
         ensures fault { IfErr result (refused_with self.new) };
+
+    /// Hands on what is kept of the output, so that others see it while the run goes on. A failure is told by the next `put`.
+    /// A port that keeps nothing back does nothing.
+    fn rest(&mut self)
+        ensures { Flushes (seen self.old) (seen self.new) }
+    {}
 }

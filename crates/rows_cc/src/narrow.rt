@@ -8,7 +8,7 @@ use meaning_ports::IoPort;
 use srcset::FileSet;
 use std::alloc::Global;
 use std::io;
-use std::io::{ErrorKind, Write};
+use std::io::{BufReader, ErrorKind, Write};
 
 /// A program that writes two bytes.
 const SOURCE: &[u8] =
@@ -45,7 +45,8 @@ pub fn run(alloc: Global, fields: &[u8]) -> Result<Vec<u8>> {
         b"interp" => (Cmd::Interp(1000), "main.c"),
         _ => (Cmd::Run(1000), "out"),
     };
-    let mut port = IoPort::new(io::empty(), Narrow { room });
+    let input = BufReader::with_capacity(alloc, 0, io::empty())?;
+    let mut port = IoPort::new(input, Narrow { room });
     let mut line = Vec::new(alloc);
     let status = perform(
         alloc,

@@ -9,7 +9,7 @@ use anyhow::{Context, Result};
 use meaning_ports::{IoPort, Port, PortFault};
 use std::alloc::Global;
 use std::io;
-use std::io::{ErrorKind, Read, Write};
+use std::io::{BufReader, ErrorKind, Read, Write};
 
 /// Takes five bytes a time, up to `left`, and is interrupted before each.
 #[derive(Drop)]
@@ -141,7 +141,7 @@ pub fn runs_over(alloc: Global, row: &str, programs: &Programs) -> Result<bool> 
         room: number(given(parts.next())?)? as usize,
         interrupted: false,
     };
-    let mut port = IoPort::new(reader, writer);
+    let mut port = IoPort::new(BufReader::with_capacity(alloc, 0, reader)?, writer);
     let mut machine = small(alloc, programs, TEXT_START, programs.echo.as_slice())?;
     for wanted in given(parts.next())?.split(';') {
         let found = outcome_text(alloc, machine.run(&mut port, 10_000))?;
@@ -163,6 +163,7 @@ fn is_finished(
     let mut port = port;
     let found = finish_text(port.finish());
     let (reader, writer) = port.into_inner();
+    let reader = reader.into_inner();
     let rest = reader
         .bytes
         .get(reader.next..)

@@ -1,0 +1,263 @@
+#!/usr/bin/env python3
+"""Holds `CC run` and `CC interp` against what others see of their output: `check.py CC`. The last line counts what passed and failed.
+
+Partners sit at a pseudo terminal, at two pipes, behind a file, a full device and a closed pipe. What they have to see is written here by
+hand. No check is of speed; each has a time after which it fails.
+"""
+import os
+import pty
+import random
+import select
+import signal
+import subprocess
+import sys
+import tempfile
+import termios
+import time
+
+# So long a check waits for what has to come.
+PATIENCE = float(os.environ.get("PATIENCE", "60"))
+# Steps or ticks that are not used up within that time.
+ENDLESS = str(2 ** 63 - 1)
+COMMANDS = ('run', 'interp')
+
+NAMES = '''int rv_getbyte(void);
+void rv_putbyte(int c);
+static void text(const char s[]) { for (int i = 0; s[i]; i++) rv_putbyte(s[i]); }
+'''
+SOURCES = {
+    # Asks for a name, and greets it.
+    'ask': '''int main(void) {
+    text("name? ");
+    int c = rv_getbyte();
+    text("hello ");
+    for (; c >= 0 && c != 10; c = rv_getbyte()) rv_putbyte(c);
+    rv_putbyte(10);
+    return 7;
+}''',
+    # Answers each line by the same line in brackets, without a newline.
+    'answer': '''int main(void) {
+    for (;;) {
+        int c = rv_getbyte();
+        if (c < 0) return 0;
+        rv_putbyte('[');
+        for (; c >= 0 && c != 10; c = rv_getbyte()) rv_putbyte(c);
+        rv_putbyte(']');
+    }
+}''',
+    # Answers each byte by the same byte.
+    'copy': '''int main(void) {
+    for (int c = rv_getbyte(); c >= 0; c = rv_getbyte()) rv_putbyte(c);
+    return 0;
+}''',
+    # Writes, and goes on for ever.
+    'spin': 'int main(void) { text("before"); for (;;) ; }',
+    # Writes a byte now and then, for ever.
+    'drip': 'int main(void) { for (;;) { rv_putbyte(46); for (int i = 0; i < 1000000; i++) ; } }',
+    # Writes, reads, writes one byte more, and goes on for ever.
+    'late': 'int main(void) { text("name? "); rv_getbyte(); rv_putbyte(33); for (;;) ; }',
+    # Writes, goes on for some time, and ends.
+    'slow': 'int main(void) { text("before"); for (int i = 0; i < 20000000; i++) ; return 9; }',
+    # Writes more than a buffer holds, and goes on for ever.
+    'long': 'int main(void) { for (int i = 0; i < 100000; i++) rv_putbyte(46); for (;;) ; }',
+}
+
+
+class Checks:
+    """What passed and what failed."""
+
+    def __init__(self):
+        self.passed = self.failed = 0
+
+    def holds(self, name, found, wanted):
+        if found == wanted:
+            self.passed += 1
+        else:
+            self.failed += 1
+            print('FAIL %s: %r, not %r' % (name, found, wanted))
+
+
+class Programs:
+    """The words that run a program of SOURCES by one of the commands."""
+
+    def __init__(self, program, folder):
+        self.program, self.folder = program, folder
+        for name, source in SOURCES.items():
+            with open(self.place(name + '.c'), 'w') as file:
+                file.write(NAMES + source + '\n')
+            subprocess.run([program, 'build', name + '.c', '-o', name], cwd=folder, check=True)
+
+    def place(self, name):
+        return os.path.join(self.folder, name)
+
+    def words(self, command, name, most=ENDLESS):
+        return [self.program, command, self.place(name if command == 'run' else name + '.c'), '--max', most]
+
+
+def read_until(descriptor, wanted):
+    """What comes, until so many bytes came, or nothing more does."""
+    found, end = b'', time.monotonic() + PATIENCE
+    while len(found) < wanted:
+        ready, _, _ = select.select([descriptor], [], [], max(0.0, end - time.monotonic()))
+        if not ready:
+            break
+        try:
+            some = os.read(descriptor, wanted - len(found))
+        except OSError:
+            break
+        if not some:
+            break
+        found += some
+    return found
+
+
+def ended(process):
+    """The status of a process that has to end."""
+    try:
+        return process.wait(timeout=PATIENCE)
+    except subprocess.TimeoutExpired:
+        process.kill()
+        process.wait()
+        return 'no end'
+
+
+def finished(words, **streams):
+    """Status, output and errors of a process that has to end."""
+    process = subprocess.Popen(words, **streams)
+    try:
+        output, errors = process.communicate(timeout=PATIENCE)
+    except subprocess.TimeoutExpired:
+        process.kill()
+        process.communicate()
+        return 'no end'
+    return process.returncode, output, errors
+
+
+def at_terminal(checks, programs, command):
+    """A prompt is seen before its answer is typed."""
+    ours, theirs = pty.openpty()
+    settings = termios.tcgetattr(theirs)
+    settings[1] &= ~termios.OPOST
+    settings[3] &= ~termios.ECHO
+    termios.tcsetattr(theirs, termios.TCSANOW, settings)
+    process = subprocess.Popen(programs.words(command, 'ask'), stdin=theirs, stdout=theirs, stderr=subprocess.DEVNULL)
+    os.close(theirs)
+    checks.holds(command + ': the prompt on a terminal', read_until(ours, 6), b'name? ')
+    os.write(ours, b'Ada\n')
+    checks.holds(command + ': the greeting on a terminal', read_until(ours, 10), b'hello Ada\n')
+    checks.holds(command + ': the status on a terminal', ended(process), 7)
+    os.close(ours)
+
+
+def talk(checks, programs, command, name, lines, answer):
+    """Each line is sent after the answer to the one before came."""
+    pipe = subprocess.PIPE
+    process = subprocess.Popen(programs.words(command, name), stdin=pipe, stdout=pipe, stderr=subprocess.DEVNULL, bufsize=0)
+    found = []
+    for line in lines:
+        process.stdin.write(line)
+        found.append(read_until(process.stdout.fileno(), len(answer(line))))
+        if found[-1] != answer(line):
+            break
+    checks.holds('%s %s: answers at two pipes' % (command, name), found, [answer(line) for line in lines])
+    process.stdin.close()
+    checks.holds('%s %s: nothing more at two pipes' % (command, name), read_until(process.stdout.fileno(), 1), b'')
+    checks.holds('%s %s: the status at two pipes' % (command, name), ended(process), 0)
+    process.stdout.close()
+
+
+def with_partners(checks, programs, command):
+    lines = [b'line %d\n' % k for k in range(40)] + [b'\n', b'x' * 5000 + b'\n', b'y' * 9000 + b'\n', b'end\n']
+    talk(checks, programs, command, 'answer', lines, lambda line: b'[' + line[:-1] + b']')
+    parts = [b'a', b'\0', b'bc' * 100, b'\xff' * 8192, b'd' * 8193, b'\n']
+    talk(checks, programs, command, 'copy', parts, lambda part: part)
+
+
+def while_it_goes_on(checks, programs, command):
+    """Output is seen while the run goes on without reading."""
+    for name, wanted in (('spin', b'before'), ('drip', b'....')):
+        process = subprocess.Popen(programs.words(command, name), stdin=subprocess.DEVNULL, stdout=subprocess.PIPE)
+        checks.holds('%s %s: output of a run that goes on' % (command, name), read_until(process.stdout.fileno(), len(wanted)), wanted)
+        process.kill()
+        process.communicate()
+
+
+def interrupted(checks, programs, command):
+    """What was written before an interruption is in the file. The time until it is there is waited for, as the machine may be slow."""
+    place = programs.place('written')
+    for number in (signal.SIGINT, signal.SIGTERM):
+        with open(place, 'wb') as file:
+            process = subprocess.Popen(programs.words(command, 'spin'), stdin=subprocess.DEVNULL, stdout=file)
+        end = time.monotonic() + PATIENCE
+        time.sleep(2)
+        while os.path.getsize(place) < 6 and time.monotonic() < end:
+            time.sleep(0.1)
+        process.send_signal(number)
+        checks.holds('%s: killed by %s' % (command, number.name), ended(process), -number)
+        with open(place, 'rb') as file:
+            checks.holds('%s: output before %s' % (command, number.name), file.read(), b'before')
+
+
+def refused(checks, name, words, output, error, stdin=subprocess.DEVNULL):
+    found = finished(words, stdin=stdin, stdout=output, stderr=subprocess.PIPE)
+    checks.holds(name, found, (126, None, b'cc: port fault %d\n' % error))
+
+
+def over_refusals(checks, programs, command):
+    """Output that is refused is told by the status and one line: at the end, at the next byte, where a buffer is full."""
+    reader, closed = os.pipe()
+    os.close(reader)
+    with open('/dev/full', 'wb') as full, open('/dev/null', 'rb') as null:
+        for place, output in (('a full device', full), ('a closed pipe', closed)):
+            for name in ('ask', 'late', 'slow', 'long'):
+                refused(checks, '%s %s: %s' % (command, name, place), programs.words(command, name), output, 803, null)
+            refused(checks, '%s spin: %s' % (command, place), programs.words(command, 'spin', '50000000'), output, 803, null)
+    os.close(closed)
+
+
+def over_a_folder(checks, programs, command):
+    """Input that cannot be read is told, and what was written before it is seen."""
+    folder = os.open(programs.folder, os.O_RDONLY)
+    found = finished(programs.words(command, 'ask'), stdin=folder, stdout=subprocess.PIPE, stderr=subprocess.PIPE)
+    checks.holds(command + ': a folder as input', found, (126, b'name? ', b'cc: port fault 802\n'))
+    with open('/dev/full', 'wb') as full:
+        refused(checks, command + ': a folder as input, a full device as output', programs.words(command, 'ask'), full, 802, folder)
+    os.close(folder)
+
+
+def copies(checks, programs, command, size):
+    """Bytes of a file are copied as they are, from a file and from a pipe."""
+    data = random.Random(20261126).randbytes(size)
+    place = programs.place('data')
+    with open(place, 'wb') as file:
+        file.write(data)
+    with open(place, 'rb') as file:
+        found = finished(programs.words(command, 'copy'), stdin=file, stdout=subprocess.PIPE, stderr=subprocess.PIPE)
+    checks.holds('%s: a copy of a file' % command, found == (0, data, b''), True)
+    process = subprocess.Popen(programs.words(command, 'copy'), stdin=subprocess.PIPE, stdout=subprocess.PIPE)
+    try:
+        output, _ = process.communicate(data, timeout=PATIENCE)
+    except subprocess.TimeoutExpired:
+        process.kill()
+        output, _ = process.communicate()
+    checks.holds('%s: a copy of what a pipe gave' % command, (process.returncode, output == data), (0, True))
+
+
+def main():
+    checks = Checks()
+    with tempfile.TemporaryDirectory() as folder:
+        programs = Programs(os.path.abspath(sys.argv[1]), folder)
+        for command in COMMANDS:
+            at_terminal(checks, programs, command)
+            with_partners(checks, programs, command)
+            while_it_goes_on(checks, programs, command)
+            interrupted(checks, programs, command)
+            over_refusals(checks, programs, command)
+            over_a_folder(checks, programs, command)
+            copies(checks, programs, command, (16 if command == 'run' else 1) * 2 ** 20)
+    print('%d passed, %d failed' % (checks.passed, checks.failed))
+    return checks.failed
+
+
+if __name__ == '__main__':
+    sys.exit(main() != 0)
