@@ -7,3 +7,4 @@ pub mod Entries
 pub mod Texts
 pub mod Listings
 pub mod Ready
+pub mod Light

@@ -1,12 +1,13 @@
 //! From source files to an executable file.
 
-ghost use Rattle.std.specs.Prelude.{◌≡◌, map, IfOk, IfErr, OnOk, ◌++◌};
+ghost use Rattle.std.specs.Prelude.{◌≡◌, ◌<◌, ◌^◌, map, IfOk, IfErr, OnOk, ◌++◌};
 ghost use Rattle.typing_program.specs.View.{program_of, function_of};
 ghost use Rattle.cc_backend.specs.Made.{IsReady};
 ghost use Rattle.cc.specs.Compiled.{Compiles, BuildsProgram, shown_entry, entry_of, entries};
 ghost use Rattle.cc.specs.Refused.{IsRefused};
 ghost use Rattle.cc.specs.Made.{IsMade, MakesProgram};
 ghost use Rattle.cc.specs.inside.Stops.{Stops, IsMemory};
+ghost use Rattle.cc.specs.inside.Light.{AreLight};
 
 use crate::front::checked_unit;
 use crate::stopping::Stop;
@@ -87,6 +88,7 @@ fn put_entries(
     functions: &[Function],
     frames: &[u32],
 ) -> Result<(), AllocError>
+    requires { AreLight (map function_of functions.now) }
     ensures { OnOk result (map shown_entry list.new.items ≡ map shown_entry list.old.items ++ entries names.now (map function_of functions.now) frames.now) }
 {
     let mut done = 0;
@@ -104,11 +106,9 @@ fn entry(
     function: &Function,
     frame: u32,
 ) -> Result<(String, u32, u32), AllocError>
+    requires { (function_of function.now).weight < 2 ^ 32 }
     ensures { IfOk result (λ e. shown_entry e ≡ entry_of names.now (function_of function.now) frame) }
 {
     let name = String::from_str(alloc, names.shown_text(function.name))?;
-    let Ok(weight) = u32::try_from(function.weight) else {
-        return Err(AllocError);
-    };
-    Ok((name, frame, weight))
+    Ok((name, frame, function.weight as u32))
 }

@@ -1,0 +1,30 @@
+-- The functions of a typed program weigh no more than the profile lets them.
+use Rattle.std.proofs.Common.{◌≡◌, ◌≤◌, ◌<◌, ℕ, zero, suc, List, [], ◌∷◌, Bool, true, Some, arith}
+use Rattle.std.specs.Prelude.{◌&&◌, ◌^◌, nat_le, nat_lt, slice_get, length}
+use Rattle.typing_rules.specs.Program.{Function, Program}
+use Rattle.typing_rules.specs.Nodes.{typed_nodes}
+use Rattle.typing_rules.specs.Units.{weight_limit, numbers_in}
+use Rattle.typing_rules.specs.WellTyped.{function_is_typed, functions_are_typed, statics_are_typed, parameters_are_first, statement_is_typed}
+use Rattle.tac_lowering.proofs.Words.{left_true, right_true}
+use Rattle.tac_bounds.proofs.Parts.{le_holds}
+use Rattle.cc_backend.specs.Made.{IsReady}
+use Rattle.cc.specs.inside.Light.{AreLight}
+
+function_light : (p : Program) (f : Function) → function_is_typed p f ≡ true → f.weight < 2 ^ 32
+function_light p f h =
+    let a = nat_le (typed_nodes f) f.nodes in
+    let b = nat_le f.weight weight_limit in
+    let c = parameters_are_first f.type.parameters f.objects && statement_is_typed p f (numbers_in f.type.parameters) (length f.objects) f.body in
+    let light : f.weight ≤ 1048576 = le_holds f.weight weight_limit (left_true b c (right_true a (b && c) h)) in
+    omega (arith, light)
+
+each_light : (p : Program) (fs : List Function) → functions_are_typed p fs ≡ true → AreLight fs
+each_light p [] h k f e = absurd (let z : ⊥ = cc in z)
+each_light p (g ∷ fs) h zero f e =
+    let same : g ≡ f = cc in
+    function_light p f (rw (← same) (left_true (function_is_typed p g) (functions_are_typed p fs) h))
+each_light p (g ∷ fs) h (suc k) f e = each_light p fs (right_true (function_is_typed p g) (functions_are_typed p fs) h) k f e
+
+pub are_light : (p : Program) → IsReady p → AreLight p.functions
+are_light p ready =
+    each_light p p.functions (left_true (functions_are_typed p p.functions) (statics_are_typed p.statics && nat_lt p.main (length p.functions)) ready.checked.well_typed)
