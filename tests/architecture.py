@@ -1,0 +1,101 @@
+#!/usr/bin/env python3
+"""Writes the part of docs/ARCHITECTURE.md that tells the crates: under each heading of crates.txt, of each crate the first
+paragraph of its README, which says in one to three sentences what it takes, gives and promises.
+
+    python3 tests/architecture.py            writes the page
+    python3 tests/architecture.py --check    only compares; also each README's title, and the paths that documents name
+
+Called from the repository's root. With --check the last line counts the checks."""
+import glob, os, re, sys
+
+PAGE, BEGIN, END = 'docs/ARCHITECTURE.md', '<!-- made by tests/architecture.py -->\n', '<!-- end -->\n'
+counts = [0, 0]
+
+def holds(what, right):
+    counts[not right] += 1
+    if not right:
+        print('FAIL', what)
+
+def read(path):
+    with open(path, encoding='utf-8') as file:
+        return file.read()
+
+def groups():
+    """The headings of crates.txt, each with its text and the crates under it."""
+    found, comment = [], []
+    for line in read('crates.txt').split('\n'):
+        if line.startswith('#'):
+            comment.append(line[1:].strip())
+        elif line.strip():
+            if comment:
+                told = ' '.join(comment).split('  ')[-1].strip()
+                name, _, text = told.partition(': ')
+                found.append((name, text, []))
+                comment = []
+            found[-1][2].append(line.split(':')[0])
+    return found
+
+def crates():
+    return [crate for _, _, names in groups() for crate in names]
+
+def first_paragraph(crate):
+    """The title and the first paragraph of a crate's README, the latter on one line."""
+    parts = read('crates/%s/README.md' % crate).split('\n\n')
+    return parts[0], ' '.join(parts[1].split()) if len(parts) > 1 else ''
+
+def made():
+    lines = []
+    for name, text, names in groups():
+        lines += ['', '## ' + name, '', text[:1].upper() + text[1:] + '.']
+        for crate in names:
+            lines += ['', '**[%s](../crates/%s/README.md)** %s' % (crate, crate, first_paragraph(crate)[1])]
+    return '\n'.join(lines) + '\n\n'
+
+# ------------------------------------------------------------------ --check
+
+def sentences(text):
+    return len(re.findall(r'[.:!?](?: (?=[A-Z`])|$)', text)) - len(re.findall(r': (?=[A-Z`])', text))
+
+def check_readmes():
+    for crate in crates():
+        title, text = first_paragraph(crate)
+        holds('crates/%s/README.md has the title %r' % (crate, title), title == '# ' + crate)
+        holds('crates/%s/README.md begins with %d sentences, %d characters: %s' % (crate, sentences(text), len(text), text[:60]),
+            1 <= sentences(text) <= 3 and len(text) <= 500 and re.match(r'Takes |A program for tests: takes ', text) is not None)
+    there = sorted(os.path.basename(os.path.dirname(path)) for path in glob.glob('crates/*/src'))
+    holds('crates.txt has other crates than crates/', sorted(crates()) == there)
+
+def stands(path, crate):
+    """Whether what a document names is there: a path from the root, of a crate, or of the crate whose document it is."""
+    path = path.rstrip('/')
+    tried = [path, 'crates/' + path, 'crates/%s/%s' % (crate or '*', path)]
+    return any(glob.glob(it + end) for it in tried for end in ('', '.antt', '.rt', '.py', '.sh'))
+
+def check_paths():
+    """The paths in code of each document. Words in capitals stand for any name."""
+    for document in ['README.md'] + sorted(glob.glob('docs/*.md') + glob.glob('bench/*.md') + glob.glob('crates/*/README.md')):
+        crate = document.split('/')[1] if document.startswith('crates/') else None
+        wrong = []
+        for path in re.findall(r'`((?:[a-z_]+/)?(?:crates|specs|proofs|src|tests|bench|docs|must-fail|release|examples)/[^` ]+)`', read(document)):
+            if not re.search(r'\b[A-Z]{3,}\b(?!\.)', path) and '..' not in path and not stands(path, crate):
+                wrong.append(path)
+        holds('%s names what is not there: %s' % (document, ' '.join(wrong)), not wrong)
+        links = [it for it in re.findall(r'\]\(([^)#:]+)(?:#[^)]*)?\)', read(document)) if not os.path.exists(os.path.join(os.path.dirname(document), it))]
+        holds('%s links to what is not there: %s' % (document, ' '.join(links)), not links)
+
+def main():
+    page = read(PAGE)
+    head, begin, rest = page.partition(BEGIN)
+    part, end, tail = rest.partition(END)
+    if not begin or not end:
+        sys.exit('%s has no place for the crates' % PAGE)
+    if sys.argv[1:] == ['--check']:
+        holds('%s is not what tests/architecture.py writes' % PAGE, part == made())
+        check_readmes()
+        check_paths()
+        print('%d passed, %d failed' % tuple(counts))
+        sys.exit(0 if not counts[1] else 1)
+    with open(PAGE, 'w', encoding='utf-8') as file:
+        file.write(head + begin + made() + end + tail)
+
+main()
