@@ -1,8 +1,8 @@
 #!/usr/bin/env python3
 """Writes the list of docs/TRUST.md anew: the definition files that have to be believed, in two tiers. The first has what
-the clauses of cc::compile need: the files from which they have their names, and all that these import in turn; of each it
-says how many lines are definitions that are needed by name. The second has what the other public clauses need besides. Both
-are found by following `ghost use` and `use`.
+the headline needs, the clauses of cc::compile that say what is answered and what is refused: the files from which they
+have their names, and all that these import in turn; of each it says how many lines are definitions that are needed by
+name. The second has what the other public clauses need besides. Both are found by following `ghost use` and `use`.
 
     python3 tests/trust.py            writes the page
     python3 tests/trust.py --check    only says whether it is as it would be written
@@ -11,7 +11,8 @@ Called from the repository's root. It prints the lines of both tiers; with --che
 import os, re, sys
 
 PAGE, MARK = 'docs/TRUST.md', '<!-- made by tests/trust.py -->'
-HEADLINE = ('cc', 'compile')
+# the crate, the function and the clauses that are the headline: `made` says how the file came about
+HEADLINE = ('cc', 'compile', ('built', 'refused'))
 WORD = re.compile(r'[A-Za-z_]\w*')
 
 def read(path):
@@ -85,15 +86,17 @@ def block(text, at):
         end += 1
     return text[begin:end - 1], end
 
-def clauses(text, at):
-    """What a function asks for and ensures, from its `fn` on."""
+def clauses(text, at, wanted=None):
+    """What a function asks for and ensures, from its `fn` on: all clauses, or those of the names that are wanted."""
     found = []
     while True:
         word = re.compile(r'\b(ensures|requires)\b|^ *\{|\{$|\{\}|;', re.M).search(text, at)
         if not word or word.group(1) is None:
             return found
+        name = text[word.end():text.index('{', word.end())].strip()
         inner, at = block(text, word.end())
-        found.append(inner)
+        if wanted is None or name in wanted:
+            found.append(inner)
 
 def exposed(crate):
     """The names that lib.rt gives to other crates, and the files of its public modules."""
@@ -139,18 +142,18 @@ def public_roots(crate):
 
 def headline_roots():
     """What the clauses of the headline cite, and how the types of its arguments are seen."""
-    crate, function = HEADLINE
+    crate, function, wanted = HEADLINE
     for file in rust_files(crate):
         text = read(file)
         at = re.search(r'^pub fn %s\b([^{]*)' % function, text, re.M)
         if at:
-            found = cited(file, clauses(text, at.start()))
+            found = cited(file, clauses(text, at.start(), wanted))
             for path, items in re.findall(r'^use (\w+)::\{?([\w, ]+)', text, re.M):
                 if os.path.isdir('crates/' + path):
                     seen = set(WORD.findall(items)) & set(WORD.findall(at.group(1)))
                     found |= {it for file in rust_files(path) for it in cited(file, seen_as(file, seen))}
             return found
-    sys.exit('no ' + '::'.join(HEADLINE))
+    sys.exit('no %s::%s' % (crate, function))
 
 def seen_as(file, names):
     text = read(file)
