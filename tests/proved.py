@@ -35,7 +35,8 @@ def check_clauses():
             holds('%s::%s has no clause %s' % (crate, function, clause), there is not None and clause in there)
 
 def rows(head):
-    return [line.strip('|').split(' | ') for line in PAGE.split(head)[1].split('\n\n')[0].split('\n')[2:]]
+    lines = PAGE.split(head)[1].split('\n\n')[0].split('\n')[2:]
+    return [line.strip('|').split(' | ') for line in lines if line.startswith('|')]
 
 def check_promises():
     for row in rows('| Promise |'):
