@@ -1,0 +1,68 @@
+#!/usr/bin/env python3
+"""Writes the lists of files in the recipes of docs/HACKING.md: of each recipe the files that name one thing of the kind
+which is there already, by its names in the code, in the definitions and in the tests.
+
+    python3 tests/recipes.py            writes the page
+    python3 tests/recipes.py --check    only says whether it is as it would be written
+
+Called from the repository's root. With --check the last line counts the checks."""
+import os, re, sys
+
+PAGE = 'docs/HACKING.md'
+# of each recipe: the names of what is there already, and the crates that have another thing of that name
+RECIPES = {
+    'statement': (r'DoWhile|do_while|\bDo\b', ()),
+    'operator': (r'\b(?:Rem|Percent)\b', ('rv32', 'asm', 'loader', 'sim', 'rows_machine')),
+    'fault': (r'\bLabelTwice\b|\b540\b', ()),
+    'built-in': (r'[gG]et_?[bB]yte', ()),
+    'instruction': (r'MulHighSignedUnsigned|mulhsu', ()),
+    'limit': (r'function_node_limit|MAX_FUNCTION_NODES|FunctionNodeLimit|\b710\b', ()),
+}
+
+def read(path):
+    with open(path, encoding='utf-8') as file:
+        return file.read()
+
+def files(*roots):
+    for root in roots:
+        for at, folders, names in os.walk(root):
+            folders[:] = sorted(it for it in folders if it not in ('out', 'data', 'must-fail', 'edits'))
+            yield from (os.path.join(at, name) for name in sorted(names) if name.endswith(('.rt', '.antt', '.py', '.sh')))
+
+def flow():
+    return [line.split(':')[0] for line in read('crates.txt').split('\n') if line.strip() and not line.startswith('#')]
+
+def lists(pattern, without):
+    """Of each crate the files in which the names stand, and those of the tests from outside."""
+    found = {}
+    for path in list(files('crates', 'tests/outside')) + ['docs/FAULTS.md']:
+        crate = path.split('/')[1] if path.startswith('crates/') else ''
+        if crate not in without and re.search(pattern, read(path)):
+            found.setdefault(crate, []).append(path)
+    for crate in flow():
+        if crate in found:
+            names = [re.sub(r'\.(rt|antt)$', '', path.split('/', 2)[2]) for path in found[crate]]
+            names.sort(key=lambda it: (('src', 'specs', 'proofs').index(it.split('/')[0]), it))
+            yield '- `%s`: %s' % (crate, ', '.join('`%s`' % name for name in names))
+    if '' in found:
+        yield '- beside the crates: ' + ', '.join('`%s`' % path for path in found[''])
+
+def written(page):
+    for name, (pattern, without) in RECIPES.items():
+        begin, end = '<!-- files: %s -->\n' % name, '<!-- end -->'
+        head, mark, rest = page.partition(begin)
+        if not mark:
+            sys.exit('%s has no place for the files of %s' % (PAGE, name))
+        page = head + begin + '\n'.join(lists(pattern, without)) + '\n' + rest[rest.index(end):]
+    return page
+
+def main():
+    page = read(PAGE)
+    made = written(page)
+    if sys.argv[1:] == ['--check']:
+        print('1 passed, 0 failed' if made == page else 'FAIL %s is not what tests/recipes.py writes\n0 passed, 1 failed' % PAGE)
+        sys.exit(0 if made == page else 1)
+    with open(PAGE, 'w', encoding='utf-8') as file:
+        file.write(made)
+
+main()
