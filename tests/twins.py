@@ -6,7 +6,8 @@
 Called from the repository's root. With --std the lemmas of that library (such as /opt/rattle/rattle/std) count too, for
 statements that stand in the tree once. WORDS restrict the list to paths that hold one of them. `means` says whether the
 names in the statement are the same things in each file: `the same`, or `by its words alone` where some name is another
-file's, often a definition that is a twin itself. The last line counts the statements."""
+file's, often a definition that is a twin itself. `once in` names the crate of them on which the others stand, if there is
+one: there the lemma could stand once. The last line counts the statements."""
 import os, re, sys
 
 WORD = r"[^\s(){}\[\].,:=;λ→×⊎≡≤<≢∷+*/%^&|¬]+"
@@ -68,6 +69,16 @@ def gather(paths):
             found.setdefault(words, []).append((path, name, meant))
     return found
 
+def home(paths):
+    """The crate of these files on which the crates of the others stand, or None."""
+    needs = {}
+    for line in open('crates.txt'):
+        if line.strip() and not line.startswith('#'):
+            name, _, more = line.partition(':')
+            needs[name] = set(more.split())
+    here = {path.split('/')[1] for path in paths}
+    return next((crate for crate in sorted(here) if all(crate == it or crate in needs.get(it, ()) for it in here)), None)
+
 def main():
     words = sys.argv[1:]
     library = {}
@@ -82,7 +93,8 @@ def main():
         if asked and (len(places) > 1 or statement in library):
             shown += 1
             same = len({meant for _, _, meant in at}) == 1
-            print('%d files, means %s: %s' % (len(places), 'the same' if same else 'by its words alone', statement))
+            crate = home(places)
+            print('%d files, means %s%s: %s' % (len(places), 'the same' if same else 'by its words alone', ', once in ' + crate if crate else '', statement))
             for path, name, _ in at + library.get(statement, []):
                 print('    %s  %s' % (path, name))
     print('%d statements stand in more than one file' % shown)
