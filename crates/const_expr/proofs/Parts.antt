@@ -63,6 +63,10 @@ pub operands_fine : (t : List (List ℕ)) (n m : ℕ) (s : Scope) (a b : Tree) (
 operands_fine t n m s a b x y e h f =
     ap (λ v. both v (typed.typing (past (numbered t n s) a) b) arms) e ∙ ap (λ v. then_check v (arms x)) (sym (typing_past t n m s a b h) ∙ f)
 
+pub pair_rule : (t : List (List ℕ)) (n : ℕ) (s : Scope) (a b : Tree) (ab : Arms) (f : Checked → Checked → Verdict Checked) → operands_at t n s a b ≡ fine ab →
+    both (typing_at t n s a) (typed.typing (past (numbered t n s) a) b) f ≡ f ab.first ab.second
+pair_rule t n s a b ab f e = joined (typing_at t n s a) (typed.typing (past (numbered t n s) a) b) ab f e
+
 pub operands_left : (t : List (List ℕ)) (n : ℕ) (s : Scope) (a b : Tree) (r : Refusal) → Tells r (typing_at t n s a) → Tells r (operands_at t n s a b)
 operands_left t n s a b r h = tells_left r (typed.typing (numbered t n s) a) (typed.typing (past (numbered t n s) a) b) arms h
 

@@ -1,7 +1,8 @@
 -- Sizes up to the greatest number of 64 bits.
 use Rattle.std.proofs.Common.{◌≡◌, ℕ, zero, suc, ◌*◌, ◌-◌, ◌^◌, ◌<◌, ◌≤◌, true, false, min, nat_lt, refl, ap, ◌∙◌, arith}
 use Rattle.std.proofs.lemmas.Nat.{mul-le}
-use Rattle.std.proofs.Common.{List, [], ◌∷◌, length, ℤ, pos, FitsSigned, to_z, of_z, w64}
+use Rattle.std.proofs.lemmas.List.{drop_more, drop_all}
+use Rattle.std.proofs.Common.{List, [], ◌∷◌, length, drop, get_or, ◌+◌, sym, mul_comm, mul_assoc, ℤ, pos, FitsSigned, to_z, of_z, w64}
 use Rattle.std.proofs.lemmas.Int.{ints, to_z-of_z}
 use Rattle.tree.specs.Capped.{capped}
 use Rattle.typing_rules.specs.Types.{elements_in}
@@ -60,3 +61,34 @@ told_exactly c x v e h f = to_z-of_z w64 v (told_fits c v e h) ∙ told_size c x
 pub positive_is : (p : Pos) (v : ℤ) (n : ℕ) → v ≡ pos n → 0 < n → positive p v ≡ fine n
 positive_is p v zero e h = absurd (omega (arith, h))
 positive_is p v (suc n) e h = ap (positive p) e
+
+-- ---- elements of arrays, counted from the outermost
+
+turned : (p n e a : ℕ) → p * (n * e) ≡ a → n * p * e ≡ a
+turned p n e a h = ap (λ k. k * e) (mul_comm n p) ∙ mul_assoc p n e ∙ h
+
+-- the elements of so many lengths, before those that are left
+pub record Counted (count : ℕ) (left all : List ℕ) : Type 0 where
+  pub so_far : ℕ
+  pub within : count ≡ capped so_far
+  pub whole : so_far * elements_in left ≡ elements_in all
+
+pub counted_none : (all : List ℕ) → Counted 1 all all
+counted_none all = record { so_far = 1; within = capped_one; whole = omega arith }
+
+next_counted : (count n more : ℕ) (left rest all : List ℕ) → left ≡ n ∷ rest → more ≡ min (n * count) (2 ^ 64 - 1) → Counted count left all → Counted more rest all
+next_counted count n more left rest all e f h = record {
+  so_far = n * h.so_far;
+  within = capped_product n count more h.so_far f h.within;
+  whole = turned h.so_far n (elements_in rest) (elements_in all) (ap (λ k. h.so_far * elements_in k) (sym e) ∙ h.whole);
+}
+
+pub counted_next : (count i more : ℕ) (all : List ℕ) → i < length all → more ≡ min (get_or all i 0 * count) (2 ^ 64 - 1) → Counted count (drop i all) all → Counted more (drop (i + 1) all) all
+counted_next count i more all h f k = next_counted count (get_or all i 0) more (drop i all) (drop (i + 1) all) all (drop_more all i 0 h) f k
+
+none_left : (count : ℕ) (left all : List ℕ) → left ≡ [] → Counted count left all → count ≡ capped (elements_in all)
+none_left count left all e h =
+    let w : h.so_far * 1 ≡ elements_in all = ap (λ k. h.so_far * elements_in k) (sym e) ∙ h.whole in let g : h.so_far ≡ elements_in all = omega (arith, w) in h.within ∙ ap capped g
+
+pub counted_all : (count i : ℕ) (all : List ℕ) → length all ≤ i → Counted count (drop i all) all → count ≡ capped (elements_in all)
+counted_all count i all h k = none_left count (drop i all) all (drop_all i all h) k

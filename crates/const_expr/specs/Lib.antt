@@ -1,3 +1,4 @@
 pub mod Typings
 pub mod Operands
+pub mod Given
 pub mod Told

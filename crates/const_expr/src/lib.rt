@@ -1,6 +1,7 @@
 //! The types of expressions, and constant expressions (ISO/IEC 9899:2011 6.5, 6.6).
 #![tactic(auto)]
 
+mod calls;
 mod casts;
 mod constant_forms;
 mod constants;

@@ -1,13 +1,13 @@
 //! The types that specifiers name (6.7.2, 6.7.3).
 #![tactic(auto, using(typing_expressions::proofs::Verdicts::each_left, typing_expressions::proofs::Verdicts::each_right, typing_expressions::proofs::Verdicts::each_fine))]
 
-ghost use Rattle.std.specs.Prelude.{◌≡◌, ◌≤◌, length, IfErr, OnOk, IfOk, nat_eq, not, map};
+ghost use Rattle.std.specs.Prelude.{◌≡◌, ◌≤◌, ◌∷◌, [], length, IfErr, OnOk, IfOk, nat_eq, not, map};
 ghost use Rattle.typing_rules.specs.Specifiers as typed;
 ghost use Rattle.typing_rules.specs.Verdict.{fine, refuse_if};
 ghost use Rattle.typing_rules.specs.Scope.{tag_in};
 ghost use Rattle.srcset.specs.declared.code.Code.TheVariants as code;
 ghost use Rattle.typing_expressions.specs.Refused.{IsOf};
-ghost use Rattle.const_expr.specs.Typings.{base_type_of, word_set_of, is_empty};
+ghost use Rattle.const_expr.specs.Typings.{base_type_of, word_set_of, is_empty, tag_of};
 
 use ctypes::IntType;
 use srcset::{Code, Pos, Refusal};
@@ -33,12 +33,29 @@ fn times(word: Word, words: &[Word]) -> usize
     ensures count { result ≡ typed.times word words.now }
     ensures most { result ≤ length words.now }
 {
-    match words.split_first() {
-        None => 0,
-        Some((first, rest)) => {
-            let more = times(word, rest);
-            if *first == word { more + 1 } else { more }
+    let mut count = 0;
+    for first in words {
+        if *first == word {
+            count += 1;
         }
+    }
+    count
+}
+
+/// How often a word is a specifier.
+fn times_here(word: Word, specifier: &TypeSpecifier) -> usize
+    ensures count { result ≡ typed.times word (typed.words_of (specifier.now ∷ [])) }
+    ensures most { result ≤ 1 }
+{
+    match specifier {
+        TypeSpecifier::Word(first) => {
+            if *first == word {
+                return 1;
+            }
+            0
+        }
+        TypeSpecifier::Const => 0,
+        TypeSpecifier::Enum(_) => 0,
     }
 }
 
@@ -47,14 +64,22 @@ fn times_among(word: Word, specifiers: &[TypeSpecifier]) -> usize
     ensures count { result ≡ typed.times word (typed.words_of specifiers.now) }
     ensures most { result ≤ length specifiers.now }
 {
-    match specifiers.split_first() {
-        None => 0,
-        Some((TypeSpecifier::Word(first), rest)) => {
-            let more = times_among(word, rest);
-            if *first == word { more + 1 } else { more }
-        }
-        Some((TypeSpecifier::Const, rest)) => times_among(word, rest),
-        Some((TypeSpecifier::Enum(_), rest)) => times_among(word, rest),
+    let mut count = 0;
+    for specifier in specifiers {
+        count += times_here(word, specifier);
+    }
+    count
+}
+
+/// How many enumerated types a specifier is.
+fn tags_here(specifier: &TypeSpecifier) -> usize
+    ensures count { result ≡ typed.count (typed.tags_of (specifier.now ∷ [])) }
+    ensures most { result ≤ 1 }
+{
+    match specifier {
+        TypeSpecifier::Enum(_) => 1,
+        TypeSpecifier::Const => 0,
+        TypeSpecifier::Word(_) => 0,
     }
 }
 
@@ -62,34 +87,53 @@ fn tags_count(specifiers: &[TypeSpecifier]) -> usize
     ensures count { result ≡ typed.count (typed.tags_of specifiers.now) }
     ensures most { result ≤ length specifiers.now }
 {
-    match specifiers.split_first() {
-        None => 0,
-        Some((TypeSpecifier::Enum(_), rest)) => tags_count(rest) + 1,
-        Some((TypeSpecifier::Const, rest)) => tags_count(rest),
-        Some((TypeSpecifier::Word(_), rest)) => tags_count(rest),
+    let mut count = 0;
+    for specifier in specifiers {
+        count += tags_here(specifier);
+    }
+    count
+}
+
+fn is_no_word(specifier: &TypeSpecifier) -> bool
+    ensures { result ≡ is_empty (typed.words_of (specifier.now ∷ [])) }
+{
+    match specifier {
+        TypeSpecifier::Word(_) => false,
+        TypeSpecifier::Const => true,
+        TypeSpecifier::Enum(_) => true,
     }
 }
 
 fn has_no_word(specifiers: &[TypeSpecifier]) -> bool
     ensures { result ≡ is_empty (typed.words_of specifiers.now) }
 {
-    match specifiers.split_first() {
-        None => true,
-        Some((TypeSpecifier::Word(_), _)) => false,
-        Some((TypeSpecifier::Const, rest)) => has_no_word(rest),
-        Some((TypeSpecifier::Enum(_), rest)) => has_no_word(rest),
+    for specifier in specifiers {
+        if !is_no_word(specifier) {
+            return false;
+        }
+    }
+    true
+}
+
+fn names_const(specifier: &TypeSpecifier) -> bool
+    ensures { result ≡ typed.is_const (specifier.now ∷ []) }
+{
+    match specifier {
+        TypeSpecifier::Const => true,
+        TypeSpecifier::Word(_) => false,
+        TypeSpecifier::Enum(_) => false,
     }
 }
 
 fn is_const(specifiers: &[TypeSpecifier]) -> bool
     ensures { result ≡ typed.is_const specifiers.now }
 {
-    match specifiers.split_first() {
-        None => false,
-        Some((TypeSpecifier::Const, _)) => true,
-        Some((TypeSpecifier::Word(_), rest)) => is_const(rest),
-        Some((TypeSpecifier::Enum(_), rest)) => is_const(rest),
+    for specifier in specifiers {
+        if names_const(specifier) {
+            return true;
+        }
     }
+    false
 }
 
 /// `enum tag` may stand only behind the end of the tag's list (6.7.2.3p3).
@@ -106,19 +150,29 @@ fn tag_known(scope: &Scope, pos: Pos, tag: usize) -> Result<(), Refusal>
     }
 }
 
+/// A specifier that is no `enum tag`, or one that may stand.
+fn tag_here(scope: &Scope, pos: Pos, specifier: &TypeSpecifier) -> Result<(), Refusal>
+    ensures ok { OnOk result (tag_of scope.now pos specifier.now ≡ fine tt) }
+    ensures err { IfErr result (λ r. IsOf r (tag_of scope.now pos specifier.now)) }
+{
+    match specifier {
+        TypeSpecifier::Enum(tag) => tag_known(scope, pos, *tag),
+        TypeSpecifier::Const => Ok(()),
+        TypeSpecifier::Word(_) => Ok(()),
+    }
+}
+
 fn tags_known(scope: &Scope, pos: Pos, specifiers: &[TypeSpecifier]) -> Result<(), Refusal>
     ensures ok { OnOk result (typed.tags_known scope.now pos (typed.tags_of specifiers.now) ≡ fine tt) }
     ensures err { IfErr result (λ r. IsOf r (typed.tags_known scope.now pos (typed.tags_of specifiers.now))) }
 {
-    match specifiers.split_first() {
-        None => Ok(()),
-        Some((TypeSpecifier::Const, rest)) => tags_known(scope, pos, rest),
-        Some((TypeSpecifier::Word(_), rest)) => tags_known(scope, pos, rest),
-        Some((TypeSpecifier::Enum(tag), rest)) => match tag_known(scope, pos, *tag) {
-            Ok(()) => tags_known(scope, pos, rest),
-            Err(refusal) => Err(refusal),
-        },
+    for specifier in specifiers {
+        match tag_here(scope, pos, specifier) {
+            Ok(()) => {}
+            Err(refusal) => return Err(refusal),
+        }
     }
+    Ok(())
 }
 
 /// Whether a word stands as often among the one as among the other.
@@ -146,15 +200,12 @@ fn same_words(words: &[Word], specifiers: &[TypeSpecifier]) -> bool
 fn type_among(sets: &[WordSet], specifiers: &[TypeSpecifier]) -> Option<Option<IntType>>
     ensures { result ≡ typed.type_among (map word_set_of sets.now) (typed.words_of specifiers.now) }
 {
-    match sets.split_first() {
-        None => None,
-        Some((set, rest)) => {
-            if same_words(set.words, specifiers) {
-                return Some(set.named);
-            }
-            type_among(rest, specifiers)
+    for set in sets {
+        if same_words(set.words, specifiers) {
+            return Some(set.named);
         }
     }
+    None
 }
 
 /// The sets of words (6.7.2p2).

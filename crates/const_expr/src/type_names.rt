@@ -28,13 +28,11 @@ pub(crate) struct NamedType {
 fn elements_in(lengths: &[u64]) -> u64
     ensures { result ≡ capped (type.elements_in lengths.now) }
 {
-    match lengths.split_first() {
-        None => 1,
-        Some((first, rest)) => {
-            let inner = elements_in(rest);
-            first.saturating_mul(inner)
-        }
+    let mut count = 1;
+    for length in lengths {
+        count = length.saturating_mul(count);
     }
+    count
 }
 
 /// The bytes of such an object, or 2^64 - 1 where that is less.
@@ -49,13 +47,11 @@ pub fn bytes_in(element: IntType, lengths: &[u64]) -> u64
 pub(crate) fn elements_within(lengths: &[u32]) -> u64
     ensures { result ≡ capped (type.elements_in lengths.now) }
 {
-    match lengths.split_first() {
-        None => 1,
-        Some((first, rest)) => {
-            let inner = elements_within(rest);
-            u64::from(*first).saturating_mul(inner)
-        }
+    let mut count = 1;
+    for length in lengths {
+        count = u64::from(*length).saturating_mul(count);
     }
+    count
 }
 
 /// The size of an array is greater than zero (6.7.6.2p1).

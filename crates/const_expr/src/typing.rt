@@ -1,10 +1,9 @@
 //! The types of expressions (6.5), by the rules of their forms, and of the names of types (6.7.7).
 #![tactic(auto, using(typing_expressions::proofs::Verdicts::tells_then, crate::proofs::Parts::joined, crate::proofs::Parts::joined_tells))]
 
-ghost use Rattle.std.specs.Prelude.{◌≡◌, ◌+◌, ◌++◌, ℕ, List, length, map, reverse, IfErr, IfOk, OnOk};
-ghost use Rattle.typing_program.specs.declared.expressions.Argument.{Argument};
-ghost use Rattle.typing_program.specs.View.{parameter_type_of, arguments_of, argument_of};
-ghost use Rattle.tree.specs.Tree.{call, cast, conditional};
+ghost use Rattle.std.specs.Prelude.{◌≡◌, ◌+◌, ◌++◌, length, map, IfErr, IfOk, OnOk};
+ghost use Rattle.typing_program.specs.View.{parameter_type_of};
+ghost use Rattle.tree.specs.Tree.{call, subscript, after, before, prefix, size_of, size_of_type, cast, binary, conditional, assign};
 ghost use Rattle.tree.specs.View.{tree_of, trees_of, type_of};
 ghost use Rattle.typing_rules.specs.Verdict.{fine};
 ghost use Rattle.typing_rules.specs.Scope.{strings, strings_in, strings_of_type};
@@ -13,7 +12,9 @@ ghost use Rattle.typing_expressions.specs.Forms.{checked_of};
 ghost use Rattle.const_expr.specs.Typings.{option_named};
 ghost use Rattle.typing_expressions.specs.Numbered.{typing_at, operands_at, arguments_at, named_at, size_at, lengths_at};
 ghost use Rattle.const_expr.specs.Operands.{operands_of};
+ghost use Rattle.const_expr.specs.Given.{given_for};
 
+use crate::calls::called_with;
 use crate::casts::cast_to;
 use crate::constant_forms::constant_form;
 use crate::constants::{size_in, source_constant};
@@ -22,12 +23,12 @@ use crate::specifiers::base_type;
 use crate::type_names::{NamedType, type_of};
 use srcset::{Code, Names, Pos, Refusal};
 use std::alloc::Global;
-use tree::{Expr, TypeName};
+use tree::{AssignOp, BinaryOp, Expr, PrefixOp, StepOp, TypeName};
 use typing_expressions::{
-    Checked, argument, assigned, broken, called_value, chosen, function_named, named, next_literal,
-    operated, push_argument, signed, stepped, subscripted, valued,
+    Checked, assigned, broken, chosen, function_named, named, next_literal, operated, signed,
+    stepped, subscripted, valued,
 };
-use typing_program::{Argument, Moment, ParameterType};
+use typing_program::{Moment, ParameterType};
 use typing_scopes::Scope;
 
 /// Two operands.
@@ -39,6 +40,7 @@ pub(crate) struct Operands<'s> {
 
 /// Two operands, the first before the second.
 #[cycle(typing)]
+#[inline(never)]
 fn two_operands<'s>(
     alloc: Global,
     names: &Names,
@@ -63,6 +65,7 @@ fn two_operands<'s>(
 
 /// A size in the name of a type: a constant expression (6.7.6.2p1).
 #[cycle(typing)]
+#[inline(never)]
 fn size(
     alloc: Global,
     names: &Names,
@@ -87,6 +90,7 @@ fn size(
 
 /// The sizes in the name of a type.
 #[cycle(typing)]
+#[inline(never)]
 fn sizes(
     alloc: Global,
     names: &Names,
@@ -94,27 +98,27 @@ fn sizes(
     literals: &mut usize,
     pos: Pos,
     es: &[Expr],
-    all: &mut Vec<u64>,
-) -> Result<(), Refusal>
-    ensures ok { OnOk result ((ns : List ℕ) × (all.new.items ≡ all.old.items ++ ns) × (lengths_at names.now literals.old scope.now pos (trees_of (map tree_of es.now)) ≡ fine ns)) }
+) -> Result<Vec<u64>, Refusal>
+    ensures ok { IfOk result (λ all. lengths_at names.now literals.old scope.now pos (trees_of (map tree_of es.now)) ≡ fine all.items) }
     ensures err { IfErr result (λ r. Tells r (lengths_at names.now literals.old scope.now pos (trees_of (map tree_of es.now)))) }
     ensures count { OnOk result (literals.new ≡ literals.old + length (strings_in (trees_of (map tree_of es.now)))) }
 {
-    let Some((e, rest)) = es.split_first() else {
-        return Ok(());
-    };
-    let n = match size(alloc, names, scope, literals, pos, e) {
-        Ok(n) => n,
-        Err(refusal) => return Err(refusal),
-    };
-    let Ok(()) = all.push(n) else {
-        return Err(Refusal::Memory);
-    };
-    sizes(alloc, names, scope, literals, pos, rest, all)
+    let mut all = Vec::new(alloc);
+    for e in es {
+        let n = match size(alloc, names, scope, literals, pos, e) {
+            Ok(n) => n,
+            Err(refusal) => return Err(refusal),
+        };
+        let Ok(()) = all.push(n) else {
+            return Err(Refusal::Memory);
+        };
+    }
+    Ok(all)
 }
 
 /// The type that is named (6.7.7), none for `void`.
 #[cycle(typing)]
+#[inline(never)]
 fn type_named(
     alloc: Global,
     names: &Names,
@@ -131,23 +135,15 @@ fn type_named(
         Ok(base) => base,
         Err(refusal) => return Err(refusal),
     };
-    let mut lengths = Vec::new(alloc);
-    match sizes(
-        alloc,
-        names,
-        scope,
-        literals,
-        pos,
-        &name.sizes,
-        &mut lengths,
-    ) {
-        Ok(()) => type_of(pos, base, lengths),
+    match sizes(alloc, names, scope, literals, pos, &name.sizes) {
+        Ok(lengths) => type_of(pos, base, lengths),
         Err(refusal) => Err(refusal),
     }
 }
 
 /// A cast (6.5.4).
 #[cycle(typing)]
+#[inline(never)]
 fn cast_typed<'s>(
     alloc: Global,
     names: &Names,
@@ -173,6 +169,7 @@ fn cast_typed<'s>(
 
 /// `?:` (6.5.15).
 #[cycle(typing)]
+#[inline(never)]
 fn conditional_typed<'s>(
     alloc: Global,
     names: &Names,
@@ -201,46 +198,41 @@ fn conditional_typed<'s>(
     }
 }
 
-/// As many arguments as parameters (6.5.2.2p2), the last one first.
+/// The arguments of a call, no more than its function has parameters (6.5.2.2p2).
 #[cycle(typing)]
-fn arguments(
+#[inline(never)]
+fn arguments<'s>(
     alloc: Global,
     names: &Names,
-    scope: &Scope,
+    scope: &'s Scope,
     literals: &mut usize,
     pos: Pos,
     parameters: &[ParameterType],
     es: &[Expr],
-    all: &mut Vec<Argument>,
-) -> Result<(), Refusal>
-    ensures ok { OnOk result ((given : List Argument) × (all.new.items ≡ all.old.items ++ reverse given) × (arguments_at names.now literals.old scope.now pos (map parameter_type_of parameters.now) (trees_of (map tree_of es.now)) ≡ fine (arguments_of (map argument_of given)))) }
+) -> Result<Vec<Checked<'s>>, Refusal>
+    ensures ok { IfOk result (λ all. arguments_at names.now literals.old scope.now pos (map parameter_type_of parameters.now) (trees_of (map tree_of es.now)) ≡ given_for pos (map parameter_type_of parameters.now) (map checked_of all.items)) }
     ensures err { IfErr result (λ r. Tells r (arguments_at names.now literals.old scope.now pos (map parameter_type_of parameters.now) (trees_of (map tree_of es.now)))) }
     ensures count { OnOk result (literals.new ≡ literals.old + length (strings_in (trees_of (map tree_of es.now)))) }
 {
-    match (parameters.split_first(), es.split_first()) {
-        (None, None) => Ok(()),
-        (None, Some(_)) => Err(broken(Code::ArgumentCount, pos)),
-        (Some(_), None) => Err(broken(Code::ArgumentCount, pos)),
-        (Some((parameter, parameters)), Some((e, rest))) => {
-            let x = match expression(alloc, names, scope, literals, e) {
-                Ok(x) => x,
-                Err(refusal) => return Err(refusal),
-            };
-            match arguments(alloc, names, scope, literals, pos, parameters, rest, all) {
-                Ok(()) => {}
-                Err(refusal) => return Err(refusal),
-            }
-            let x = match argument(alloc, pos, parameter, x) {
-                Ok(x) => x,
-                Err(refusal) => return Err(refusal),
-            };
-            push_argument(all, x)
+    let mut all = Vec::new(alloc);
+    for e in es {
+        if all.len() == parameters.len() {
+            return Err(broken(Code::ArgumentCount, pos));
         }
+        let x = match expression(alloc, names, scope, literals, e) {
+            Ok(x) => x,
+            Err(refusal) => return Err(refusal),
+        };
+        let Ok(()) = all.push(x) else {
+            return Err(Refusal::Memory);
+        };
     }
+    Ok(all)
 }
 
 /// A call (6.5.2.2).
 #[cycle(typing)]
+#[inline(never)]
 fn call_typed<'s>(
     alloc: Global,
     names: &Names,
@@ -258,18 +250,185 @@ fn call_typed<'s>(
         Ok(called) => called,
         Err(refusal) => return Err(refusal),
     };
-    let mut all = Vec::new(alloc);
-    match arguments(
-        alloc,
-        names,
-        scope,
-        literals,
-        pos,
-        &called.function.parameters,
-        es,
-        &mut all,
-    ) {
-        Ok(()) => Ok(called_value(pos, called, all)),
+    let parameters = called.function.parameters.as_slice();
+    match arguments(alloc, names, scope, literals, pos, parameters, es) {
+        Ok(xs) => called_with(alloc, pos, called, xs),
+        Err(refusal) => Err(refusal),
+    }
+}
+
+/// An element of an array (6.5.2.1).
+#[cycle(typing)]
+#[inline(never)]
+fn subscript_typed<'s>(
+    alloc: Global,
+    names: &Names,
+    scope: &'s Scope,
+    literals: &mut usize,
+    pos: Pos,
+    a: &Expr,
+    b: &Expr,
+) -> Result<Checked<'s>, Refusal>
+    ensures ok { IfOk result (λ c. typing_at names.now literals.old scope.now (subscript pos (tree_of a.now) (tree_of b.now)) ≡ fine (checked_of c)) }
+    ensures err { IfErr result (λ r. Tells r (typing_at names.now literals.old scope.now (subscript pos (tree_of a.now) (tree_of b.now)))) }
+    ensures count { OnOk result (literals.new ≡ literals.old + length (strings (tree_of a.now) ++ strings (tree_of b.now))) }
+{
+    match two_operands(alloc, names, scope, literals, a, b) {
+        Ok(x) => subscripted(alloc, pos, x.first, x.second),
+        Err(refusal) => Err(refusal),
+    }
+}
+
+/// `++` and `--` behind an operand (6.5.2.4).
+#[cycle(typing)]
+#[inline(never)]
+fn after_typed<'s>(
+    alloc: Global,
+    names: &Names,
+    scope: &'s Scope,
+    literals: &mut usize,
+    pos: Pos,
+    op: StepOp,
+    a: &Expr,
+) -> Result<Checked<'s>, Refusal>
+    ensures ok { IfOk result (λ c. typing_at names.now literals.old scope.now (after pos op (tree_of a.now)) ≡ fine (checked_of c)) }
+    ensures err { IfErr result (λ r. Tells r (typing_at names.now literals.old scope.now (after pos op (tree_of a.now)))) }
+    ensures count { OnOk result (literals.new ≡ literals.old + length (strings (tree_of a.now))) }
+{
+    match expression(alloc, names, scope, literals, a) {
+        Ok(a) => stepped(alloc, pos, Moment::After, op, a),
+        Err(refusal) => Err(refusal),
+    }
+}
+
+/// `++` and `--` before an operand (6.5.3.1).
+#[cycle(typing)]
+#[inline(never)]
+fn before_typed<'s>(
+    alloc: Global,
+    names: &Names,
+    scope: &'s Scope,
+    literals: &mut usize,
+    pos: Pos,
+    op: StepOp,
+    a: &Expr,
+) -> Result<Checked<'s>, Refusal>
+    ensures ok { IfOk result (λ c. typing_at names.now literals.old scope.now (before pos op (tree_of a.now)) ≡ fine (checked_of c)) }
+    ensures err { IfErr result (λ r. Tells r (typing_at names.now literals.old scope.now (before pos op (tree_of a.now)))) }
+    ensures count { OnOk result (literals.new ≡ literals.old + length (strings (tree_of a.now))) }
+{
+    match expression(alloc, names, scope, literals, a) {
+        Ok(a) => stepped(alloc, pos, Moment::Before, op, a),
+        Err(refusal) => Err(refusal),
+    }
+}
+
+/// `+`, `-`, `~` and `!` before an operand (6.5.3.3).
+#[cycle(typing)]
+#[inline(never)]
+fn prefix_typed<'s>(
+    alloc: Global,
+    names: &Names,
+    scope: &'s Scope,
+    literals: &mut usize,
+    pos: Pos,
+    op: PrefixOp,
+    a: &Expr,
+) -> Result<Checked<'s>, Refusal>
+    ensures ok { IfOk result (λ c. typing_at names.now literals.old scope.now (prefix pos op (tree_of a.now)) ≡ fine (checked_of c)) }
+    ensures err { IfErr result (λ r. Tells r (typing_at names.now literals.old scope.now (prefix pos op (tree_of a.now)))) }
+    ensures count { OnOk result (literals.new ≡ literals.old + length (strings (tree_of a.now))) }
+{
+    match expression(alloc, names, scope, literals, a) {
+        Ok(a) => signed(alloc, pos, op, a),
+        Err(refusal) => Err(refusal),
+    }
+}
+
+/// `sizeof` of an expression (6.5.3.4).
+#[cycle(typing)]
+#[inline(never)]
+fn sizeof_typed<'s>(
+    alloc: Global,
+    names: &Names,
+    scope: &'s Scope,
+    literals: &mut usize,
+    pos: Pos,
+    a: &Expr,
+) -> Result<Checked<'s>, Refusal>
+    ensures ok { IfOk result (λ c. typing_at names.now literals.old scope.now (size_of pos (tree_of a.now)) ≡ fine (checked_of c)) }
+    ensures err { IfErr result (λ r. Tells r (typing_at names.now literals.old scope.now (size_of pos (tree_of a.now)))) }
+    ensures count { OnOk result (literals.new ≡ literals.old + length (strings (tree_of a.now))) }
+{
+    match expression(alloc, names, scope, literals, a) {
+        Ok(a) => measured(pos, &a),
+        Err(refusal) => Err(refusal),
+    }
+}
+
+/// `sizeof` of a type that is named (6.5.3.4).
+#[cycle(typing)]
+#[inline(never)]
+fn sizeof_type_typed<'s>(
+    alloc: Global,
+    names: &Names,
+    scope: &'s Scope,
+    literals: &mut usize,
+    pos: Pos,
+    name: &TypeName,
+) -> Result<Checked<'s>, Refusal>
+    ensures ok { IfOk result (λ c. typing_at names.now literals.old scope.now (size_of_type pos (type_of name.now)) ≡ fine (checked_of c)) }
+    ensures err { IfErr result (λ r. Tells r (typing_at names.now literals.old scope.now (size_of_type pos (type_of name.now)))) }
+    ensures count { OnOk result (literals.new ≡ literals.old + length (strings_of_type (type_of name.now))) }
+{
+    match type_named(alloc, names, scope, literals, name) {
+        Ok(named) => type_measured(pos, &named),
+        Err(refusal) => Err(refusal),
+    }
+}
+
+/// Two operands of an operator (6.5.5 to 6.5.14, 6.5.17).
+#[cycle(typing)]
+#[inline(never)]
+fn binary_typed<'s>(
+    alloc: Global,
+    names: &Names,
+    scope: &'s Scope,
+    literals: &mut usize,
+    pos: Pos,
+    op: BinaryOp,
+    a: &Expr,
+    b: &Expr,
+) -> Result<Checked<'s>, Refusal>
+    ensures ok { IfOk result (λ c. typing_at names.now literals.old scope.now (binary pos op (tree_of a.now) (tree_of b.now)) ≡ fine (checked_of c)) }
+    ensures err { IfErr result (λ r. Tells r (typing_at names.now literals.old scope.now (binary pos op (tree_of a.now) (tree_of b.now)))) }
+    ensures count { OnOk result (literals.new ≡ literals.old + length (strings (tree_of a.now) ++ strings (tree_of b.now))) }
+{
+    match two_operands(alloc, names, scope, literals, a, b) {
+        Ok(x) => operated(alloc, pos, op, x.first, x.second),
+        Err(refusal) => Err(refusal),
+    }
+}
+
+/// An assignment (6.5.16).
+#[cycle(typing)]
+#[inline(never)]
+fn assign_typed<'s>(
+    alloc: Global,
+    names: &Names,
+    scope: &'s Scope,
+    literals: &mut usize,
+    pos: Pos,
+    op: AssignOp,
+    a: &Expr,
+    b: &Expr,
+) -> Result<Checked<'s>, Refusal>
+    ensures ok { IfOk result (λ c. typing_at names.now literals.old scope.now (assign pos op (tree_of a.now) (tree_of b.now)) ≡ fine (checked_of c)) }
+    ensures err { IfErr result (λ r. Tells r (typing_at names.now literals.old scope.now (assign pos op (tree_of a.now) (tree_of b.now)))) }
+    ensures count { OnOk result (literals.new ≡ literals.old + length (strings (tree_of a.now) ++ strings (tree_of b.now))) }
+{
+    match two_operands(alloc, names, scope, literals, a, b) {
+        Ok(x) => assigned(alloc, pos, op, x.first, x.second),
         Err(refusal) => Err(refusal),
     }
 }
@@ -277,8 +436,9 @@ fn call_typed<'s>(
 /// What an expression is (6.5), behind so many string literals, whose count grows by those in it. Else a constraint stands that it
 /// breaks, or it is 801.
 ///
-/// Its recursion is as deep as the tree is, and as its lists of arguments and of sizes are long.
+/// Its recursion is as deep as the tree is.
 #[cycle(typing)]
+#[inline(never)]
 pub fn expression<'s>(
     alloc: Global,
     names: &Names,
@@ -296,41 +456,23 @@ pub fn expression<'s>(
         Expr::StringLiteral(pos, name) => next_literal(names, literals, *pos, *name),
         Expr::Paren(e) => expression(alloc, names, scope, literals, e),
         Expr::Call(pos, f, es) => call_typed(alloc, names, scope, literals, *pos, *f, es),
-        Expr::Subscript(pos, a, i) => match two_operands(alloc, names, scope, literals, a, i) {
-            Ok(x) => subscripted(alloc, *pos, x.first, x.second),
-            Err(refusal) => Err(refusal),
-        },
-        Expr::After(pos, op, a) => match expression(alloc, names, scope, literals, a) {
-            Ok(a) => stepped(alloc, *pos, Moment::After, *op, a),
-            Err(refusal) => Err(refusal),
-        },
-        Expr::Before(pos, op, a) => match expression(alloc, names, scope, literals, a) {
-            Ok(a) => stepped(alloc, *pos, Moment::Before, *op, a),
-            Err(refusal) => Err(refusal),
-        },
-        Expr::Prefix(pos, op, a) => match expression(alloc, names, scope, literals, a) {
-            Ok(a) => signed(alloc, *pos, *op, a),
-            Err(refusal) => Err(refusal),
-        },
-        Expr::SizeofExpr(pos, a) => match expression(alloc, names, scope, literals, a) {
-            Ok(a) => measured(*pos, &a),
-            Err(refusal) => Err(refusal),
-        },
-        Expr::SizeofType(pos, name) => match type_named(alloc, names, scope, literals, name) {
-            Ok(named) => type_measured(*pos, &named),
-            Err(refusal) => Err(refusal),
-        },
+        Expr::Subscript(pos, a, b) => subscript_typed(alloc, names, scope, literals, *pos, a, b),
+        Expr::After(pos, op, a) => after_typed(alloc, names, scope, literals, *pos, *op, a),
+        Expr::Before(pos, op, a) => before_typed(alloc, names, scope, literals, *pos, *op, a),
+        Expr::Prefix(pos, op, a) => prefix_typed(alloc, names, scope, literals, *pos, *op, a),
+        Expr::SizeofExpr(pos, a) => sizeof_typed(alloc, names, scope, literals, *pos, a),
+        Expr::SizeofType(pos, name) => {
+            sizeof_type_typed(alloc, names, scope, literals, *pos, name)
+        }
         Expr::Cast(pos, name, a) => cast_typed(alloc, names, scope, literals, *pos, name, a),
-        Expr::Binary(pos, op, a, b) => match two_operands(alloc, names, scope, literals, a, b) {
-            Ok(x) => operated(alloc, *pos, *op, x.first, x.second),
-            Err(refusal) => Err(refusal),
-        },
+        Expr::Binary(pos, op, a, b) => {
+            binary_typed(alloc, names, scope, literals, *pos, *op, a, b)
+        }
         Expr::Conditional(pos, test, a, b) => {
             conditional_typed(alloc, names, scope, literals, *pos, test, a, b)
         }
-        Expr::Assign(pos, op, a, b) => match two_operands(alloc, names, scope, literals, a, b) {
-            Ok(x) => assigned(alloc, *pos, *op, x.first, x.second),
-            Err(refusal) => Err(refusal),
-        },
+        Expr::Assign(pos, op, a, b) => {
+            assign_typed(alloc, names, scope, literals, *pos, *op, a, b)
+        }
     }
 }

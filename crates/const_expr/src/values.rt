@@ -48,7 +48,7 @@ pub fn constant_value(
 /// - else with 503 at a division by zero, or 502 at another operation without a value, the first that is evaluated;
 /// - with 801 where memory runs out.
 ///
-/// Its recursion is as deep as the tree is, and as its lists of arguments and of sizes are long.
+/// Its recursion is as deep as the tree is.
 pub fn value(alloc: Global, e: &Expr, scope: &Scope, names: &Names) -> Result<(IntType, i64), Fault>
     ensures ok { IfOk result (λ v. typed.constant_value (with_texts names.now scope.now) (tree_of e.now) ≡ fine (record { type = v.0; v = v.1 })) }
     ensures err { IfErr result (λ fault. IsFaultOfVerdict fault names.now (typed.constant_value (with_texts names.now scope.now) (tree_of e.now))) }
