@@ -29,7 +29,7 @@ use Rattle.cabs_store.proofs.Adequate.{real}
 use Rattle.cabs_transitions.specs.declared.tally.Tally.{Tally}
 use Rattle.cabs_transitions.specs.Tallied.{Tells}
 use Rattle.cabs_transitions.specs.Acts.{Acts, outside_behind}
-use Rattle.meaning_ports.specs.Port.{PortView}
+use Rattle.meaning_ports.specs.Port.{PortView, Flushes}
 use Rattle.cabs.specs.declared.state.Interpreter.{Interpreter}
 use Rattle.cabs.specs.declared.outcome.Run.{Run}
 use Rattle.cabs.specs.declared.outcome.Run.TheVariants as run
@@ -37,7 +37,7 @@ use Rattle.cabs.specs.Interpreting.{IsAnswer, IsGivenUp, RunMeets}
 use Rattle.cabs.specs.inside.Standing.{Whole, left_of, waiting, bytes_of, entered_where, history_called, Stands, StopsAs, Stopping, StoppingBy, Stopped, StoppedBy, SettleMeets, Runs, StopsBy, EndsAs, RunStops, Fresh, NearsFrom, distance}
 use Rattle.cabs.proofs.Calm.{calm_outside, entered_calm}
 use Rattle.cabs.proofs.Following.{outside, goes_on, stops_so, node_follows, node_stops, node_waits}
-use Rattle.cabs.proofs.Telling.{input_kept, output_grown, output_as, append_none, none_waits, nothing_sent, tells_as}
+use Rattle.cabs.proofs.Telling.{input_kept, output_kept, output_grown, output_as, append_none, none_waits, nothing_sent, tells_as}
 
 -- ---- a node is reached
 
@@ -63,6 +63,31 @@ node_reached p whole o sent old new x port port2 s i a m t k = (
 
 pub stands_as : (p : typed.Program) (whole : Whole) (o : Option (List ℕ)) (sent : List ℕ) (m : Interpreter) (x y : on.Step) (port : PortView) → x ≡ y → Stands p whole o sent m x port → Stands p whole o sent m y port
 stands_as p whole o sent m x y port e s = let P : on.Step → Type 0 = λ x. Stands p whole o sent m x port in subst P e s
+
+-- ---- the port rests
+
+pub stands_rested : (p : typed.Program) (whole : Whole) (o : Option (List ℕ)) (sent : List ℕ) (m : Interpreter) (x : on.Step) (old new : PortView) → Stands p whole o sent m x old →
+    Flushes old new → Stands p whole o sent m x new
+stands_rested p whole o sent m x old new s f = record {
+  input = s.input;
+  history = s.history;
+  program_is = s.program_is;
+  follows = s.follows;
+  input_is = input_kept old.input new.input s.input f.input_stays s.input_is;
+  output_is = output_kept o old.output new.output sent f.output_stays s.output_is;
+  bytes_are = s.bytes_are;
+  tells = s.tells;
+}
+
+pub runs_rested : (p : typed.Program) (all : Whole) (o : Option (List ℕ)) (k : ℕ) (m : Interpreter) (x : on.Step) (old new : PortView) → Runs p all o k m x old → Flushes old new →
+    Runs p all o k m x new
+runs_rested p all o k m x old new r f = record {
+  sent = r.sent;
+  clock = r.clock;
+  clock_is = r.clock_is;
+  sent_is = r.sent_is;
+  stands = stands_rested p (λ n. all (n + k)) o r.sent m x old new r.stands f;
+}
 
 module _ (p : typed.Program) (all : Whole) (o : Option (List ℕ)) where
   -- ---- how a run stops that has so many ticks

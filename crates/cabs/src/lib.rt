@@ -5,6 +5,7 @@ mod acting;
 mod first_objects;
 mod outcome;
 mod quick_parts;
+mod resting;
 mod running;
 mod state;
 

@@ -11,6 +11,7 @@ ghost use Rattle.cabs.specs.inside.Standing.{BlamesUntil, CountsUntil, Fresh, Me
 use crate::acting::{act, finish};
 use crate::outcome::{Interpreted, Run};
 use crate::quick_parts::at_once;
+use crate::resting::{PERIOD, rest_at, rest_before};
 use crate::state::Interpreter;
 use cabs_evaluator::quick::is_quick_node;
 use cabs_steps::nodes::enter;
@@ -87,6 +88,7 @@ fn tick<'p, P: Port>(
         Err(run) => return Err(run),
     };
     if is_quick_node(&node) {
+        rest_before(port, &node);
         return at_once(interpreter, &node, spent, limit);
     }
     *spent += 1;
@@ -110,7 +112,9 @@ fn run_on<'p, P: Port>(
 {
     let mut next = first;
     let mut spent = 0;
+    let mut due = PERIOD;
     while spent < ticks {
+        due = rest_at(port, spent, due);
         match tick(interpreter, port, next, &mut spent, ticks) {
             Ok(then) => next = then,
             Err(run) => return run,

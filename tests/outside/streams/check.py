@@ -57,7 +57,7 @@ SOURCES = {
     # Writes, reads, writes one byte more, and goes on for ever.
     'late': 'int main(void) { text("name? "); rv_getbyte(); rv_putbyte(33); for (;;) ; }',
     # Writes, goes on for some time, and ends.
-    'slow': 'int main(void) { text("before"); for (int i = 0; i < 20000000; i++) ; return 9; }',
+    'slow': 'int main(void) { text("before"); for (int i = 0; i < 4000000; i++) ; return 9; }',
     # Writes more than a buffer holds, and goes on for ever.
     'long': 'int main(void) { for (int i = 0; i < 100000; i++) rv_putbyte(46); for (;;) ; }',
 }

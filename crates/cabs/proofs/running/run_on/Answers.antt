@@ -1,5 +1,5 @@
-use Rattle.std.proofs.Common.{◌+◌, ◌≡◌, arith}
-use Rattle.cabs.proofs.Ticking.{used_up, settle_ends}
+use Rattle.std.proofs.Common.{◌+◌, ◌≡◌, ◌∙◌, arith}
+use Rattle.cabs.proofs.Ticking.{runs_rested, used_up, settle_ends}
 use Rattle.cabs.proofs.running.run_on.Goals.{in-Ok-settle, in-Err-settle}
 use Rattle.cabs.proofs.running.run_on.Goals as goal
 
@@ -12,3 +12,12 @@ returns-clause-meets g c p all o r =
       | in-Err-settle w ↦ settle_ends p all o c.loop-spent.spent c.args.ticks c.loop-spent.interpreter c.settle.new.interpreter _ _ c.match-settle.result _ _ end w.result-is runs
           (w.in-Err-settle.ensures.meets p (λ n. all (n + c.loop-spent.spent)) o runs.sent runs.stands)
     ]
+
+pub loop-spent-preserved : goal.loop-spent-preserved
+loop-spent-preserved g c =
+    let v = c.loop-spent.invariant in
+    record {
+      quiet = c.in-Ok.ensures.counts ∙ c.rest_at-due.ensures.not_counted ∙ v.quiet;
+      allowed = c.in-Ok.ensures.spends.1;
+      runs = λ p all o r. c.in-Ok.ensures.meets p all o (runs_rested p all o _ _ _ _ _ (v.runs p all o r) c.rest_at-due.ensures);
+    }

@@ -1,6 +1,6 @@
 use Rattle.std.proofs.Common.{◌+◌, ◌≤◌, refl, arith}
 use Rattle.cabs_store.specs.inside.Views.{node_of}
-use Rattle.cabs.proofs.Ticking.{run_stops, stops_by, tick_goes, tick_stopping, tick_stops}
+use Rattle.cabs.proofs.Ticking.{stands_rested, run_stops, stops_by, tick_goes, tick_stopping, tick_stops}
 use Rattle.cabs.proofs.running.tick.Goals as goal
 
 pub returns-in-Err-clause-meets : goal.returns-in-Err-clause-meets
@@ -13,7 +13,7 @@ pub returns-then-is_quick_node-clause-meets : goal.returns-then-is_quick_node-cl
 returns-then-is_quick_node-clause-meets g c p all o r =
     let k = c.args.spent.now in
     let met = c.in-Ok.ensures.meets p (λ n. all (n + k)) o r.sent r.stands in
-    c.at_once.ensures.meets p all o met.0 _ c.requires.room met.1.0 met.1.1
+    c.at_once.ensures.meets p all o met.0 _ c.requires.room (stands_rested p (λ n. all (n + k)) o met.0 _ _ _ _ met.1.0 c.rest_before.ensures) met.1.1
 
 pub returns-in-Ok-enter-clause-meets : goal.returns-in-Ok-enter-clause-meets
 returns-in-Ok-enter-clause-meets g c p all o r =

@@ -1,0 +1,82 @@
+//! When the port may rest.
+
+ghost use Rattle.meaning_ports.specs.Port.{Flushes};
+
+use cabs_store::frames::Node;
+use meaning_ports::Port;
+use typing_program::Statement;
+
+/// So many ticks after the last time the port may rest.
+pub const PERIOD: u64 = 1 << 22;
+
+/// Lets the port rest where that is due behind so many ticks, and answers when it is due next.
+#[inline(always)]
+pub fn rest_at<P: Port>(port: &mut P, spent: u64, due: u64) -> u64
+    ensures { Flushes (P.seen port.old) (P.seen port.new) }
+{
+    if spent < due {
+        return due;
+    }
+    port.rest();
+    spent.saturating_add(PERIOD)
+}
+
+/// Lets the port rest before a part that calls nothing and may take any number of ticks.
+#[inline(always)]
+pub fn rest_before<P: Port>(port: &mut P, node: &Node<'_>)
+    ensures { Flushes (P.seen port.old) (P.seen port.new) }
+{
+    if is_long(node) {
+        port.rest();
+    }
+}
+
+/// Whether what takes the next tick may take any number of ticks, where it calls nothing.
+#[inline(always)]
+fn is_long(node: &Node<'_>) -> bool {
+    match node {
+        Node::Value(_) => false,
+        Node::Place(_) => false,
+        Node::Statement(_, a) => holds_loop(a),
+        Node::Initialiser(_, _, _, _) => false,
+        Node::Element(_, _) => false,
+        Node::Ticking(_, _) => false,
+        Node::SwitchBlock(_, _) => false,
+        Node::CaseTest(_) => false,
+    }
+}
+
+/// Whether one of these statements holds a loop.
+#[cycle(holding)]
+fn hold_loop(all: &[Statement]) -> bool {
+    for a in all {
+        if holds_loop(a) {
+            return true;
+        }
+    }
+    false
+}
+
+/// Whether a statement holds a loop.
+#[cycle(holding)]
+fn holds_loop(a: &Statement) -> bool {
+    match a {
+        Statement::Empty => false,
+        Statement::Evaluate(_) => false,
+        Statement::Declare(_) => false,
+        Statement::Define(_, _) => false,
+        Statement::Block(_, _, all) => hold_loop(all),
+        Statement::If(_, a) => holds_loop(a),
+        Statement::IfElse(_, a, b) => holds_loop(a) || holds_loop(b),
+        Statement::Switch(_, _, _, _, _) => true,
+        Statement::Case(_) => false,
+        Statement::Default => false,
+        Statement::While(_, _) => true,
+        Statement::DoWhile(_, _) => true,
+        Statement::For(_, _, _, _, _) => true,
+        Statement::Break => false,
+        Statement::Continue => false,
+        Statement::ReturnNothing => false,
+        Statement::ReturnValue(_, _) => false,
+    }
+}
