@@ -21,3 +21,6 @@ loop-spent-preserved g c =
       allowed = c.in-Ok.ensures.spends.1;
       runs = λ p all o r. c.in-Ok.ensures.meets p all o (runs_rested p all o _ _ _ _ _ (v.runs p all o r) c.rest_at-due.ensures);
     }
+
+pub returns-in-Err-clause-meets : goal.returns-in-Err-clause-meets
+returns-in-Err-clause-meets g c p all o r = c.in-Err.ensures.meets p all o (runs_rested p all o _ _ _ _ _ (c.loop-spent.invariant.runs p all o r) c.rest_at-due.ensures)
