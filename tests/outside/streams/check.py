@@ -52,6 +52,8 @@ SOURCES = {
 }''',
     # Writes, and goes on for ever.
     'spin': 'int main(void) { text("before"); for (;;) ; }',
+    # Writes, and calls for ever.
+    'calls': 'static int same(int x) { return x; } int main(void) { text("before"); for (int i = 0; ; ) i = same(i); }',
     # Writes a byte now and then, for ever.
     'drip': 'int main(void) { for (;;) { rv_putbyte(46); for (int i = 0; i < 1000000; i++) ; } }',
     # Writes, reads, writes one byte more, and goes on for ever.
@@ -175,7 +177,7 @@ def with_partners(checks, programs, command):
 
 def while_it_goes_on(checks, programs, command):
     """Output is seen while the run goes on without reading."""
-    for name, wanted in (('spin', b'before'), ('drip', b'....')):
+    for name, wanted in (('spin', b'before'), ('calls', b'before'), ('drip', b'....')):
         process = subprocess.Popen(programs.words(command, name), stdin=subprocess.DEVNULL, stdout=subprocess.PIPE)
         checks.holds('%s %s: output of a run that goes on' % (command, name), read_until(process.stdout.fileno(), len(wanted)), wanted)
         process.kill()
