@@ -36,27 +36,29 @@ ends_within L base (x ∷ xs) =
 
 -- a part of a list ends no further behind its beginning
 pub part_within : (L : ℕ → Bool) (base : ℕ) (before own behind : List Item)
-    → place L base (before ++ own ++ behind) (length before + length own) ≤ place L base (before ++ own ++ behind) (length before) + longest own
+    → place L base (before ++ (own ++ behind)) (length before + length own) ≤ place L base (before ++ (own ++ behind)) (length before) + longest own
 part_within L base before own behind =
-    let outer = places_in_parts L base before (own ++ behind) in
     let start = place L base before (length before) in
     let M : ℕ → Bool = λ j. L (length before + j) in
-    let inner = places_in_parts M start own behind in
-    let ends = ends_within M start own in
-    omega (arith, outer.0 (length before) (omega arith), outer.1 (length own), inner.0 (length own) (omega arith), ends)
+    let rest : place L base (before ++ (own ++ behind)) (length before + length own) ≡ place M start (own ++ behind) (length own) =
+    (places_in_parts L base before (own ++ behind)).1 (length own) in
+    let first : place L base (before ++ (own ++ behind)) (length before) ≡ start = (places_in_parts L base before (own ++ behind)).0 (length before) (omega arith) in
+    let alone : place M start (own ++ behind) (length own) ≡ place M start own (length own) = (places_in_parts M start own behind).0 (length own) (omega arith) in
+    let ends : place M start own (length own) ≤ start + longest own = ends_within M start own in
+    omega (arith, rest, first, alone, ends)
 
 -- the items of function k among those of all
 pub function_among : (first start : ℕ) (fs : List Function) (k : ℕ) (f : Function) → slice_get fs k ≡ Some f
-    → (before behind : List Item) × (number at : ℕ) × (functions_items first start fs ≡ before ++ function_items number at f ++ behind)
+    → (before behind : List Item) × (number at : ℕ) × (functions_items first start fs ≡ before ++ (function_items number at f ++ behind))
 function_among first start [] k f e = absurd (let z : ⊥ = cc in z)
 function_among first start (g ∷ fs) zero f e =
     let same : g ≡ f = cc in
     ([], functions_items (first + 1) (start + (length g.code + 1)) fs, first, start, ap (λ h. function_items first start h ++ functions_items (first + 1) (start + (length g.code + 1)) fs) same)
 function_among first start (g ∷ fs) (suc k) f e =
-    let rest = function_among (first + 1) (start + (length g.code + 1)) fs k f e in (
-      function_items first start g ++ rest.0,
-      rest.1,
-      rest.2,
-      rest.3,
-      ap (λ xs. function_items first start g ++ xs) rest.4 ∙ sym (append_assoc (function_items first start g) rest.0 (function_items rest.2 rest.3 f ++ rest.1)),
-    )
+    let rest = function_among (first + 1) (start + (length g.code + 1)) fs k f e in
+    let front = function_items first start g in
+    let own = function_items rest.2 rest.3 f in
+    let all : functions_items (first + 1) (start + (length g.code + 1)) fs ≡ rest.0 ++ (own ++ rest.1) = rest.4 in
+    let whole : front ++ functions_items (first + 1) (start + (length g.code + 1)) fs ≡ (front ++ rest.0) ++ (own ++ rest.1) =
+    ap (λ xs. front ++ xs) all ∙ sym (append_assoc front rest.0 (own ++ rest.1)) in
+    (front ++ rest.0, rest.1, rest.2, rest.3, whole)

@@ -118,22 +118,22 @@ module _ (p : typed.Program) (f : flat.Program) (ready : IsReady p) (made : IsFl
 
   -- ---- each function's code
 
-  functions_fit : (long : ℕ → Bool) → FunctionsFit p f long
+  pub functions_fit : (long : ℕ → Bool) → FunctionsFit p f long
   functions_fit long k g h eg eh =
       let among = function_among 0 (length f.functions) f.functions k h eh in
       let own = function_items among.2 among.3 h in
       let before = start_items f.main ++ among.0 in
-      let all : program_items f ≡ before ++ own ++ among.1 =
+      let all : program_items f ≡ before ++ (own ++ among.1) =
       ap (λ xs. start_items f.main ++ xs) among.4 ∙ sym (append_assoc (start_items f.main) among.0 (own ++ among.1)) in
       let short : longest own ≤ 128 * g.nodes + 1024 = le_trans (code_is_short h among.2 among.3) (code_fits p made.code f made.lowered flattened k g h eg eh) in
       let part = part_within long text_start before own among.1 in
-      let fits : place long text_start (before ++ own ++ among.1) (length before + length own) ≤ place long text_start (before ++ own ++ among.1) (length before) + (128 * g.nodes + 1024) =
+      let fits : place long text_start (before ++ (own ++ among.1)) (length before + length own) ≤ place long text_start (before ++ (own ++ among.1)) (length before) + (128 * g.nodes + 1024) =
       omega (arith, part, short) in
       (before, own, among.1, among.2, among.3, all, refl, subst (λ xs. place long text_start xs (length before + length own) ≤ place long text_start xs (length before) + (128 * g.nodes + 1024)) (sym all) fits)
 
   -- ---- the data
 
-  data_fits : (parts : Parts) → IsImageOf f parts → length parts.statics ≤ 16 + data_bytes p.literals p.statics
+  pub data_fits : (parts : Parts) → IsImageOf f parts → length parts.statics ≤ 16 + data_bytes p.literals p.statics
   data_fits parts image =
       let q = made.code in
       let whole : length parts.statics ≡ length (data_of q) = ap length (image.statics ∙ flattened.statics) in
@@ -156,7 +156,7 @@ module _ (p : typed.Program) (f : flat.Program) (ready : IsReady p) (made : IsFl
         (w.0, w.1, w.3, (w.2, (w.4, (w.5, w.6), w.7)));
   }
 
-  pub is_file : (parts : Parts) (file frames : List ℕ) → IsImageOf f parts → IsFewest (program_items f) text_start parts.text → length parts.text ≤ longest (program_items f)
+  abbrev pub is_file : (parts : Parts) (file frames : List ℕ) → IsImageOf f parts → IsFewest (program_items f) text_start parts.text → length parts.text ≤ longest (program_items f)
       → frames ≡ map frame_bytes f.functions → file ≡ file_of parts → IsFileOf p file frames
   is_file parts file frames image fewest short sizes written = record {
     code = f;

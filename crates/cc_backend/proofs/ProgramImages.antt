@@ -21,7 +21,8 @@ use Rattle.select_simulation.specs.Runs.{StandsWith, slack}
 use Rattle.cc_backend.specs.FlatImages.{FitStack}
 use Rattle.select_simulation.proofs.Table.{spent_is_more}
 use Rattle.cc_backend.proofs.FlatImages.{image_goes_on, image_ends}
-use Rattle.cc_backend.specs.ProgramImages.{bytes_or_none, HasFrames, FlattenedGoesOn, FlattenedEnds, ProgramGoesOn, ProgramEnds}
+use Rattle.cc_backend.specs.Runs.{bytes_or_none, HasFrames}
+use Rattle.cc_backend.specs.ProgramImages.{FlattenedGoesOn, FlattenedEnds, ProgramGoesOn, ProgramEnds}
 use Rattle.cc_backend.proofs.TacImages.{none_within, further, flattened_of}
 use Rattle.cc_backend.proofs.Known.{AreKnown, Known, run_known}
 

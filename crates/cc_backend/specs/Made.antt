@@ -48,7 +48,7 @@ most_text p = 1024 + sum_by (λ f. 128 * f.nodes + 1024) p.functions
 abbrev pub FunctionsFit : Program → flat.Program → (ℕ → Bool) → Type 0
 FunctionsFit p code long =
     (k : ℕ) (g : Function) (f : flat.Function) → slice_get p.functions k ≡ Some g → slice_get code.functions k ≡ Some f
-    → (before own behind : List Item) × (number at : ℕ) × (program_items code ≡ before ++ own ++ behind) × (own ≡ function_items number at f)
+    → (before own behind : List Item) × (number at : ℕ) × (program_items code ≡ before ++ (own ++ behind)) × (own ≡ function_items number at f)
     × (place long text_start (program_items code) (length before + length own) ≤ place long text_start (program_items code) (length before) + (128 * g.nodes + 1024))
 
 -- How the executable file of a program is made, with the bytes of the frame of each function. It is the image of flat code of the program, with the

@@ -8,7 +8,7 @@ ghost use Rattle.cc_backend.specs.Runs.{RunsAs};
 ghost use Rattle.cc_backend.specs.Made.{IsReady, IsFileOf, AreItemsOf};
 
 use crate::flat_code::{flat_code, want_of_memory};
-use crate::image::{Assembled, assembled};
+use crate::image::code_image;
 use crate::sizes::frame_sizes;
 use asm::Items;
 use elf_out::write_elf;
@@ -32,9 +32,8 @@ pub fn generate(alloc: Global, program: &Program) -> Result<Generated, AllocErro
 {
     let code = flat_code(alloc, program)?;
     let frames = frame_sizes(alloc, &code)?;
-    let Assembled { image, items } = assembled(alloc, code)?;
-    drop(items);
-    match write_elf(alloc, &image) {
+    let made = code_image(alloc, code)?;
+    match write_elf(alloc, &made.image) {
         Ok(elf) => Ok(Generated { elf, frames }),
         Err(fault) => Err(want_of_memory(fault)),
     }
@@ -46,8 +45,8 @@ pub fn items(alloc: Global, program: &Program) -> Result<Items, AllocError>
     ensures items { IfOk result (λ items. AreItemsOf (program_of program.now) items) }
 {
     let code = flat_code(alloc, program)?;
-    match assembled(alloc, code) {
-        Ok(assembled) => Ok(assembled.items),
+    match code_image(alloc, code) {
+        Ok(made) => Ok(made.items),
         Err(error) => Err(error),
     }
 }

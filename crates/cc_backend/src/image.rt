@@ -43,7 +43,7 @@ pub struct Assembled {
 }
 
 /// The image of flat code, with its items.
-pub fn assembled(alloc: Global, program: FlatProgram) -> Result<Assembled, AllocError>
+pub fn code_image(alloc: Global, program: FlatProgram) -> Result<Assembled, AllocError>
     requires sound { IsSoundProgram (flat.program_of program) }
     requires reaches { AllReach text_start (program_items (flat.program_of program)) }
     ensures image { IfOk result (λ a. IsImageOf (flat.program_of program) a.image) }

@@ -4,5 +4,11 @@ use Rattle.frames_code.specs.Code as flat
 use Rattle.cc_backend.proofs.Generates.{reach, items_of}
 use Rattle.cc_backend.proofs.generating.items.Goals as goal
 
-pub assembled-requires-clause-reaches : goal.assembled-requires-clause-reaches
-assembled-requires-clause-reaches c = reach (program_of c.args.program.now) (flat.program_of c.in_ok-code.code) c.requires.ready c.in_ok-code.ensures text_start
+pub code_image-requires-clause-reaches : goal.code_image-requires-clause-reaches
+code_image-requires-clause-reaches c = reach (program_of c.args.program.now) (flat.program_of c.in_ok-code.code) c.requires.ready c.in_ok-code.ensures text_start
+
+pub returns-in-Ok : goal.returns-in-Ok
+returns-in-Ok c = record {
+  items = items_of (program_of c.args.program.now) (flat.program_of c.in_ok-code.code) c.requires.ready c.in_ok-code.ensures c.in-Ok.made.image c.in-Ok.made.items
+      c.in-Ok.ensures.image c.in-Ok.ensures.fewest c.in-Ok.ensures.size c.in-Ok.ensures.items c.in-Ok.ensures.low;
+}

@@ -8,14 +8,14 @@ use Rattle.select.specs.Program.{program_items}
 use Rattle.cc_backend.specs.FlatImages.{IsImageOf}
 use Rattle.tac_code.specs.Sound.{AreBytes}
 use Rattle.cc_backend.proofs.Images.{image_of, longest_text}
-use Rattle.cc_backend.proofs.image.code_image.Goals as goal
+use Rattle.cc_backend.proofs.image.image_of.Goals as goal
 
 pub returns-in-Some-clause-image : goal.returns-in-Some-clause-image
 returns-in-Some-clause-image c =
     let f = flat.program_of c.args.program in
     let text = c.in-Ok.text.items in
     let statics = c.args.program.statics.items in
-    let made = image_of f c.in_ok-items.items text statics c.requires.sound c.in_ok-items.ensures.items c.in-Ok.ensures.placed refl
+    let made = image_of f c.args.items.now text statics c.requires.sound c.requires.items c.in-Ok.ensures.placed refl
     (subst AreBytes c.as_slice.ensures.value c.are_bytes.ensures) (subst AreBytes c.as_slice-2.ensures.value c.are_bytes-2.ensures) (omega (arith, c.in-Some.ensures.some.0 refl, c.in-Ok.text.ok, c.args.program.statics.ok)) in
     subst (IsImageOf f) (sym c.in-Some.ensures.value) made
 
@@ -23,8 +23,8 @@ pub returns-in-Some-clause-size : goal.returns-in-Some-clause-size
 returns-in-Some-clause-size c =
     let f = flat.program_of c.args.program in
     let n = length c.in-Ok.text.items in
-    let xs = c.in_ok-items.items in
+    let xs = c.args.items.now in
     let sized : IsSized text_start xs n = c.in-Ok.ensures.size in
     let all : n ≤ longest xs = longest_text xs n sized in
-    let short : n ≤ longest (program_items f) = subst (λ (ys : List Item). n ≤ longest ys) c.in_ok-items.ensures.items all in
+    let short : n ≤ longest (program_items f) = subst (λ (ys : List Item). n ≤ longest ys) c.requires.items all in
     subst (λ (p : Parts). length p.text ≤ longest (program_items f)) (sym c.in-Some.ensures.value) short

@@ -1,5 +1,5 @@
-use Rattle.declarators.proofs.Lengths.{outer_known}
-use Rattle.declarators.proofs.sizes.outer_size.Goals as goal
+use Rattle.decls_declarators.proofs.Lengths.{outer_known}
+use Rattle.decls_declarators.proofs.sizes.outer_size.Goals as goal
 
 pub returns-in-Some-clause-ok : goal.returns-in-Some-clause-ok
 returns-in-Some-clause-ok c =
