@@ -1,12 +1,12 @@
 -- What is wrong with a definition, by numbers and by names.
-use Rattle.std.proofs.Common.{◌≡◌, ℕ, suc, List, [], ◌∷◌, map, Bool, true, false, not, cond, ◌&&◌, ◌||◌, length, Option, Some, None, is_some, refl, ap, sym, ◌∙◌, slice_get, codes}
+use Rattle.std.proofs.Common.{◌≡◌, ℕ, suc, List, [], ◌∷◌, ◌++◌, map, Bool, true, false, not, cond, ◌&&◌, ◌||◌, length, Option, Some, None, is_some, refl, ap, sym, ◌∙◌, slice_get, codes}
 use Rattle.std.specs.List.{list_any}
 use Rattle.std.specs.Str.{bytes_eq}
 use Rattle.srcset.specs.NameTable.{Texts, NumbersOnce}
 use Rattle.phases.specs.Token.{Token}
 use Rattle.macros.specs.Macro.{Macro, Macros, Parameters, macro_named, is_reserved, is_identifier, is_hash, is_joint, is_spelled}
 use Rattle.macros.specs.Definition as d
-use Rattle.macros.specs.Table.{AreNumbered, AreParameters, AreSame, BodyToken, IsMacro, IsTable, NumberedMacro, NumberedParameters, Table, numbered, numbers_of, with_parameter}
+use Rattle.macros.specs.Table.{AreNumbered, AreParameters, AreSame, BodyToken, IsMacro, IsTable, NumberedMacro, NumberedParameters, Table, numbered, numbers_of, is_variadic, with_parameter}
 use Rattle.macros.specs.inside.Faults as by_number
 use Rattle.macros.proofs.TableLemmas.{alike, same_some}
 
@@ -22,6 +22,10 @@ unequal (x ∷ xs) (y ∷ ys) h = by (by_number.same_token x y) (unequal xs ys (
 
 -- ---- lists of names
 
+length_push : (ns : List (List ℕ)) → length (ns ++ codes "__VA_ARGS__" ∷ []) ≡ suc (length ns)
+length_push [] = refl
+length_push (n ∷ ns) = ap suc (length_push ns)
+
 module _ (texts : Texts) (once : NumbersOnce texts) where
   any_reserved : (ns : List ℕ) (ts : List (List ℕ)) → AreNumbered texts ns ts → list_any (by_number.is_number_reserved texts) ns ≡ list_any is_reserved ts
   any_reserved [] [] are = refl
@@ -35,11 +39,27 @@ module _ (texts : Texts) (once : NumbersOnce texts) where
   same_length (k ∷ ks) [] are = absurd are
   same_length (k ∷ ks) (p ∷ ps) are = ap suc (same_length ks ps are.1)
 
-  are_names : (p : Option NumberedParameters) (q : Option Parameters) → AreParameters texts p q → AreNumbered texts (numbers_of p) (d.names_of q)
+  are_names : (p : Option NumberedParameters) (q : Option Parameters) → AreParameters texts p q → AreNumbered texts (numbers_of p) (d.identifiers_of q)
   are_names None None h = tt
   are_names None (Some q) h = absurd h
   are_names (Some p) None h = absurd h
   are_names (Some p) (Some q) h = h.0
+
+  same_places : (p : Option NumberedParameters) (q : Option Parameters) → AreParameters texts p q → by_number.places_of p ≡ length (d.names_of q)
+  same_places None None h = refl
+  same_places None (Some q) h = absurd h
+  same_places (Some p) None h = absurd h
+  same_places (Some p) (Some q) h = ap (λ v. cond v (suc (length p.names)) (length p.names)) h.1 ∙ by q.variadic (same_length p.names q.names h.0)
+    where
+      by : (v : Bool) → length p.names ≡ length q.names → cond v (suc (length p.names)) (length p.names) ≡ length (d.with_variable v q.names)
+      by true e = ap suc e ∙ sym (length_push q.names)
+      by false e = e
+
+  both_variadic : (p : Option NumberedParameters) (q : Option Parameters) → AreParameters texts p q → is_variadic p ≡ d.is_variadic q
+  both_variadic None None h = refl
+  both_variadic None (Some q) h = absurd h
+  both_variadic (Some p) None h = absurd h
+  both_variadic (Some p) (Some q) h = h.1
 
   both_some : (p : Option NumberedParameters) (q : Option Parameters) → AreParameters texts p q → is_some p ≡ is_some q
   both_some None None h = refl
@@ -173,14 +193,17 @@ module _ (texts : Texts) (once : NumbersOnce texts) where
     pub fault_is : by_number.fault texts table n x ≡ d.fault_of macros name m
     fault_is =
         let names = d.names_of m.parameters in
+        let identifiers = d.identifiers_of m.parameters in
         let are = are_names texts once x.parameters m.parameters h.parameters_are in
         let same = is.known n name at in
         let reserved : by_number.has_reserved texts n x ≡ d.has_reserved name m =
-        rw (ap by_number.is_text_reserved at, any_reserved texts once (numbers_of x.parameters) names are, h.body_is, any_replaced names m.body) refl in
+        rw (ap by_number.is_text_reserved at, any_reserved texts once (numbers_of x.parameters) identifiers are) refl in
+        let variable : by_number.is_variable_outside x ≡ d.is_variable_outside m =
+        rw (both_variadic texts once x.parameters m.parameters h.parameters_are, h.body_is, any_replaced names m.body) refl in
         let hash : by_number.is_hash_lone x ≡ d.is_hash_wrong m =
         rw (both_some texts once x.parameters m.parameters h.parameters_are, h.body_is, lone_hash names m.body) refl in
         let joint : by_number.is_joint_amiss x ≡ d.is_joint_wrong m = rw (h.body_is, begins names m.body, ends names m.body) refl in
-        let many = same_length texts once (numbers_of x.parameters) names are in
+        let many = same_places texts once x.parameters m.parameters h.parameters_are in
         let differ = differs_is (numbered table n) x (macro_named macros name) m same h in
         let known = same_some texts (numbered table n) (macro_named macros name) same in
-        (λ j. by_number.first_fault (reserved j) (hash j) (joint j) (many j) (differ j) (known j) (is.count j))
+        (λ j. by_number.first_fault (reserved j) (variable j) (hash j) (joint j) (many j) (differ j) (known j) (is.count j))

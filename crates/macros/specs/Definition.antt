@@ -10,35 +10,39 @@ use Rattle.macros.specs.Macro.{Parameters, Macro, Macros, macro_named, is_reserv
 
 -- ---- reading
 
--- the names of a parameter list behind its `(`, and what follows its `)`
+-- the names of a parameter list behind its `(`, whether an ellipsis ends it, and what follows its `)`
 pub record Head : Type 0 where
   pub names : List (List ℕ)
+  pub variadic : Bool
   pub rest : List Token
 
 -- one more name in front, which the others may not have (6.10.3p6)
 abbrev pub with_name : List ℕ → Option Head → Option Head
 with_name name None = None
 with_name name (Some head) =
-    if list_any (bytes_eq name) head.names then None else Some (record { names = name ∷ head.names; rest = head.rest })
+    if list_any (bytes_eq name) head.names then None else Some (record head { names = name ∷ head.names })
 
--- a name, then `)`, or `,` and so on
+-- an ellipsis, then `)`; or a name, then `)`, or `,` and so on
 abbrev pub names_from : List Token → Option Head
 names_from [] = None
 names_from (x ∷ []) = None
 names_from (x ∷ y ∷ rest) =
-    if not (is_identifier x) then None
-    else if is_spelled (codes ")") y then Some (record { names = x.spelling ∷ []; rest = rest })
+    if is_spelled (codes "...") x
+    then if is_spelled (codes ")") y then Some (record { names = []; variadic = true; rest = rest }) else None
+    else if not (is_identifier x) then None
+    else if is_spelled (codes ")") y then Some (record { names = x.spelling ∷ []; variadic = false; rest = rest })
     else if is_spelled (codes ",") y then with_name x.spelling (names_from rest)
     else None
 
 abbrev pub head_of : List Token → Option Head
 head_of [] = None
 head_of (x ∷ rest) =
-    if is_spelled (codes ")") x then Some (record { names = []; rest = rest }) else names_from (x ∷ rest)
+    if is_spelled (codes ")") x then Some (record { names = []; variadic = false; rest = rest }) else names_from (x ∷ rest)
 
 abbrev pub function_like : Option Head → Option Macro
 function_like None = None
-function_like (Some head) = Some (record { parameters = Some (record { names = head.names; variadic = false }); body = head.rest })
+function_like (Some head) =
+    Some (record { parameters = Some (record { names = head.names; variadic = head.variadic }); body = head.rest })
 
 -- what follows the name: a `(` directly behind it begins parameters (6.10.3p10); else white space stands before a
 -- replacement list (6.10.3p3)
@@ -51,14 +55,31 @@ macro_of (x ∷ rest) =
 
 -- ---- faults
 
+abbrev pub identifiers_of : Option Parameters → List (List ℕ)
+identifiers_of None = []
+identifiers_of (Some p) = p.names
+
+-- the name or a parameter is reserved (6.10.3p5, 6.10.8p4)
+abbrev pub has_reserved : List ℕ → Macro → Bool
+has_reserved name macro = list_any is_reserved (name ∷ identifiers_of macro.parameters)
+
+abbrev pub is_variadic : Option Parameters → Bool
+is_variadic None = false
+is_variadic (Some p) = p.variadic
+
+-- __VA_ARGS__ stands in the replacement list of a macro without an ellipsis (6.10.3p5)
+abbrev pub is_variable_outside : Macro → Bool
+is_variable_outside macro = not (is_variadic macro.parameters) && list_any (is_spelled (codes "__VA_ARGS__")) macro.body
+
+-- what stands for an argument in the replacement list: the parameters, and __VA_ARGS__ as if it were the last of them
+-- where an ellipsis ends them (6.10.3.1p2)
+abbrev pub with_variable : Bool → List (List ℕ) → List (List ℕ)
+with_variable false names = names
+with_variable true names = names ++ codes "__VA_ARGS__" ∷ []
+
 abbrev pub names_of : Option Parameters → List (List ℕ)
 names_of None = []
-names_of (Some p) = p.names
-
--- the name or a parameter is reserved, or __VA_ARGS__ is replaced (6.10.3p5)
-abbrev pub has_reserved : List ℕ → Macro → Bool
-has_reserved name macro =
-    list_any is_reserved (name ∷ names_of macro.parameters) || list_any (is_spelled (codes "__VA_ARGS__")) macro.body
+names_of (Some p) = with_variable p.variadic p.names
 
 -- the place of a name among names
 abbrev pub next_number : Option ℕ → Option ℕ
@@ -152,6 +173,7 @@ abbrev pub fault_of : Macros → List ℕ → Macro → Option Code
 fault_of macros name macro =
     first_of (
     (has_reserved name macro, code.ReservedMacroName) ∷
+    (is_variable_outside macro, code.VariableArgumentsOutside) ∷
     (is_hash_wrong macro, code.HashWithoutParameter) ∷
     (is_joint_wrong macro, code.PasteAtAnEnd) ∷
     (nat_lt max_parameters (length (names_of macro.parameters)), code.MacroParameterLimit) ∷

@@ -7,7 +7,7 @@ use Rattle.phases.specs.declared.token.Kind.{Kind}
 use Rattle.phases.specs.declared.token.Kind.TheVariants as kind
 use Rattle.phases.specs.Token.{Token}
 
--- the parameters of a function-like macro; `variadic` where an ellipsis ends them
+-- the parameters of a function-like macro; `variadic` where an ellipsis ends them (6.10.3p12)
 pub record Parameters : Type 0 where
   pub names : List (List ℕ)
   pub variadic : Bool

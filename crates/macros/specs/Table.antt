@@ -1,6 +1,6 @@
 -- The macros by the numbers of their names, as a table has them, and which macros these are where texts give the numbers
 -- their meaning.
-use Rattle.std.specs.Prelude.{◌≡◌, ℕ, List, [], ◌∷◌, map, length, slice_get, nat_eq, Bool, true, Option, Some, None, Result, Ok, Err}
+use Rattle.std.specs.Prelude.{◌≡◌, ℕ, suc, List, [], ◌∷◌, cond, map, length, slice_get, nat_eq, Bool, true, false, Option, Some, None, Result, Ok, Err}
 use Rattle.std.specs.Borrow.{Bor}
 use Rattle.std.specs.Map.{lookup}
 use Rattle.srcset.specs.NameTable.{Texts}
@@ -137,3 +137,11 @@ pub record IsUndefineRefusal (name : Token) (at : Pos) (refusal : Refusal) : Typ
 abbrev pub numbers_of : Option NumberedParameters → List ℕ
 numbers_of None = []
 numbers_of (Some p) = p.names
+
+-- how many arguments a call has, an ellipsis taking one
+abbrev pub places : NumberedParameters → ℕ
+places p = cond p.variadic (suc (length p.names)) (length p.names)
+
+abbrev pub is_variadic : Option NumberedParameters → Bool
+is_variadic None = false
+is_variadic (Some p) = p.variadic

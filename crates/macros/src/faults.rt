@@ -3,7 +3,7 @@ ghost use Rattle.std.specs.Prelude.{◌≡◌, ℕ, List, false, codes};
 ghost use Rattle.std.specs.List.{list_any};
 ghost use Rattle.std.specs.Str.{bytes_eq};
 ghost use Rattle.macros.specs.Macro.{is_reserved};
-ghost use Rattle.macros.specs.inside.Faults.{has_reserved, is_number_reserved, is_replaced, lone_hash_after, begins_joint, ends_joint, same_token, same_all, same_list, same_numbered, same_macro, is_hash_lone, is_joint_amiss};
+ghost use Rattle.macros.specs.inside.Faults.{has_reserved, is_variable_outside, is_number_reserved, is_replaced, lone_hash_after, begins_joint, ends_joint, same_token, same_all, same_list, same_numbered, same_macro, is_hash_lone, is_joint_amiss};
 
 use crate::reading::is_spelled;
 use crate::reserved::{is_reserved, is_text};
@@ -32,7 +32,7 @@ fn is_one_reserved(numbers: &[usize], names: &Names) -> bool
     any
 }
 
-// Whether `__VA_ARGS__` is replaced.
+// Whether `__VA_ARGS__` stands there.
 fn has_variable_arguments(body: &[BodyToken]) -> bool
     ensures { result ≡ list_any is_replaced body.now }
 {
@@ -43,13 +43,18 @@ fn has_variable_arguments(body: &[BodyToken]) -> bool
     any
 }
 
-/// Whether the name under the number or a parameter's is reserved, or `__VA_ARGS__` is replaced (6.10.3p5, 6.10.8p4).
+/// Whether the name under the number or a parameter's is reserved (6.10.3p5, 6.10.8p4).
 pub(crate) fn has_reserved(n: usize, found: &Macro, names: &Names) -> bool
     ensures { result ≡ has_reserved names.now n found.now }
 {
-    is_number_reserved(n, names)
-        || is_one_reserved(found.names(), names)
-        || has_variable_arguments(found.body())
+    is_number_reserved(n, names) || is_one_reserved(found.names(), names)
+}
+
+/// Whether `__VA_ARGS__` stands in the replacement list of a macro without an ellipsis (6.10.3p5).
+pub(crate) fn is_variable_outside(found: &Macro) -> bool
+    ensures { result ≡ is_variable_outside found.now }
+{
+    !found.is_variadic() && has_variable_arguments(found.body())
 }
 
 // Whether a `#` stands before no parameter.
@@ -142,7 +147,7 @@ fn same_numbers(a: &[usize], b: &[usize]) -> bool
     a == b
 }
 
-// The same names of parameters, or none in both.
+// The same names of parameters, with an ellipsis behind both or neither; or none in both.
 fn same_parameters(a: &Macro, b: &Macro) -> bool
     ensures { result ≡ same_numbered a.now.parameters b.now.parameters }
 {
@@ -153,7 +158,7 @@ fn same_parameters(a: &Macro, b: &Macro) -> bool
         },
         Some(p) => match &b.parameters {
             None => false,
-            Some(q) => same_numbers(p.as_slice(), q.as_slice()),
+            Some(q) => a.variadic == b.variadic && same_numbers(p.as_slice(), q.as_slice()),
         },
     }
 }

@@ -1,9 +1,10 @@
 //! The tokens behind `# define`: the name, the parameters, the replacement list (ISO/IEC 9899:2011 6.10.3p1, p9 to p11).
-ghost use Rattle.std.specs.Prelude.{◌≡◌, ◌≤◌, drop, ℕ, List, [], Some, None, map, length, option_map, slice_get, IfOk, IfErr, if◌then◌else◌};
+ghost use Rattle.std.specs.Prelude.{◌≡◌, ◌≤◌, ◌&&◌, drop, ℕ, List, [], Some, None, map, length, option_map, slice_get, IfOk, IfErr, true, codes, if◌then◌else◌};
+ghost use Rattle.std.specs.Str.{bytes_eq};
 ghost use Rattle.srcset.specs.NameTable.{KeepsNumbers, NumbersOnce};
 ghost use Rattle.srcset.specs.declared.refusal.Refusal.TheVariants.{Memory};
 ghost use Rattle.macros.specs.Macro.{is_spelled};
-ghost use Rattle.macros.specs.Definition.{number_among, parameter_among, head_of, function_like, macro_of};
+ghost use Rattle.macros.specs.Definition.{number_among, parameter_among, with_variable, head_of, function_like, macro_of};
 ghost use Rattle.macros.specs.Table.{AreNumbered, AreSame, with_parameter};
 ghost use Rattle.macros.specs.inside.Readings.{IsReading, IsWithin};
 ghost use Rattle.macros.specs.inside.Reading.{read_from, KeepsTables, distinct_from, macro_if};
@@ -21,6 +22,8 @@ use std::alloc::{AllocError, Global};
 pub(crate) struct Reading {
     /// The numbers of their names, in order.
     pub(crate) numbers: Vec<usize>,
+    /// Whether an ellipsis ends them.
+    pub(crate) variadic: bool,
     /// How many tokens there are through the `)`.
     pub(crate) len: usize,
 }
@@ -46,6 +49,20 @@ pub(crate) fn number_of(token: &PpToken, names: &mut Names) -> Result<usize, Ref
     }
 }
 
+// The parameters that an ellipsis ends, if the token behind it is the `)`.
+fn ended(numbers: Vec<usize>, next: &PpToken, len: usize) -> Option<Reading>
+    ensures { result ≡ (if is_spelled (codes ")") next.now then Some (record { numbers = numbers; variadic = true; len = len }) else None) }
+{
+    if is_spelled(b")", next) {
+        return Some(Reading {
+            numbers,
+            variadic: true,
+            len,
+        });
+    }
+    None
+}
+
 /// The parameters whose names begin here, behind the `(`. The same name may be there twice.
 pub(crate) fn read_parameters(
     alloc: Global,
@@ -65,6 +82,9 @@ pub(crate) fn read_parameters(
     while at + 1 < tokens.len() {
         let name = &tokens[at];
         let next = &tokens[at + 1];
+        if is_spelled(b"...", name) {
+            return Ok(ended(numbers, next, at + 2));
+        }
         if !is_identifier(name) {
             return Ok(None);
         }
@@ -73,6 +93,7 @@ pub(crate) fn read_parameters(
         if is_spelled(b")", next) {
             return Ok(Some(Reading {
                 numbers,
+                variadic: false,
                 len: at + 2,
             }));
         }
@@ -111,12 +132,42 @@ fn place_of(name: &[u8], parameters: &IndexSet<usize>, names: &Names) -> Option<
     parameters.get_index_of(&n)
 }
 
+// Whether the name stands for the variable arguments.
+fn is_variable(variadic: bool, name: &[u8]) -> bool
+    ensures { result ≡ variadic && bytes_eq name.now (codes "__VA_ARGS__") }
+{
+    variadic && is_text(name, b"__VA_ARGS__")
+}
+
+// The same, where `__VA_ARGS__` is the last parameter of a variadic macro.
+fn place_with_variable(
+    name: &[u8],
+    parameters: &IndexSet<usize>,
+    variadic: bool,
+    names: &Names,
+) -> Option<usize>
+    ensures { (texts : List (List ℕ)) → AreNumbered names.now parameters.now.keys texts → result ≡ number_among name.now (with_variable variadic texts) }
+{
+    if let Some(place) = place_of(name, parameters, names) {
+        return Some(place);
+    }
+    if is_variable(variadic, name) {
+        return Some(parameters.len());
+    }
+    None
+}
+
 // Which of these parameters the token names.
-fn parameter_of(token: &PpToken, parameters: &IndexSet<usize>, names: &Names) -> Option<usize>
-    ensures { (texts : List (List ℕ)) → AreNumbered names.now parameters.now.keys texts → result ≡ parameter_among texts token.now }
+fn parameter_of(
+    token: &PpToken,
+    parameters: &IndexSet<usize>,
+    variadic: bool,
+    names: &Names,
+) -> Option<usize>
+    ensures { (texts : List (List ℕ)) → AreNumbered names.now parameters.now.keys texts → result ≡ parameter_among (with_variable variadic texts) token.now }
 {
     if is_identifier(token) {
-        return place_of(token.spelling(), parameters, names);
+        return place_with_variable(token.spelling(), parameters, variadic, names);
     }
     None
 }
@@ -126,11 +177,12 @@ fn body_token<'a>(
     alloc: Global,
     token: &PpToken<'a>,
     parameters: &IndexSet<usize>,
+    variadic: bool,
     names: &Names,
 ) -> Result<BodyToken<'a>, AllocError>
-    ensures { (texts : List (List ℕ)) → AreNumbered names.now parameters.now.keys texts → IfOk result (λ x. x ≡ with_parameter texts token.now) }
+    ensures { (texts : List (List ℕ)) → AreNumbered names.now parameters.now.keys texts → IfOk result (λ x. x ≡ with_parameter (with_variable variadic texts) token.now) }
 {
-    let parameter = parameter_of(token, parameters, names);
+    let parameter = parameter_of(token, parameters, variadic, names);
     Ok(BodyToken {
         token: token.copy(alloc)?,
         parameter,
@@ -142,13 +194,14 @@ pub(crate) fn body_of<'a>(
     alloc: Global,
     tokens: &[PpToken<'a>],
     parameters: &IndexSet<usize>,
+    variadic: bool,
     names: &Names,
 ) -> Result<Vec<BodyToken<'a>>, AllocError>
-    ensures { (texts : List (List ℕ)) → AreNumbered names.now parameters.now.keys texts → IfOk result (λ body. body.items ≡ map (with_parameter texts) tokens.now) }
+    ensures { (texts : List (List ℕ)) → AreNumbered names.now parameters.now.keys texts → IfOk result (λ body. body.items ≡ map (with_parameter (with_variable variadic texts)) tokens.now) }
 {
     let mut body = Vec::new(alloc);
     for token in tokens {
-        body.push(body_token(alloc, token, parameters, names)?)?;
+        body.push(body_token(alloc, token, parameters, variadic, names)?)?;
     }
     Ok(body)
 }
@@ -157,17 +210,19 @@ pub(crate) fn body_of<'a>(
 fn with_parameters<'a>(
     alloc: Global,
     numbers: Vec<usize>,
+    variadic: bool,
     tokens: &[PpToken<'a>],
     names: &Names,
 ) -> Result<Option<Macro<'a>>, AllocError>
-    ensures { (texts : List (List ℕ)) → AreNumbered names.now numbers.items texts → IfOk result (λ m. AreSame names.now m (macro_if (distinct_from [] numbers.items) texts tokens.now)) }
+    ensures { (texts : List (List ℕ)) → AreNumbered names.now numbers.items texts → IfOk result (λ m. AreSame names.now m (macro_if (distinct_from [] numbers.items) texts variadic tokens.now)) }
 {
     let Some(parameters) = distinct(alloc, numbers.as_slice())? else {
         return Ok(None);
     };
-    let body = body_of(alloc, tokens, &parameters, names)?;
+    let body = body_of(alloc, tokens, &parameters, variadic, names)?;
     Ok(Some(Macro {
         parameters: Some(numbers),
+        variadic,
         body,
     }))
 }
@@ -180,9 +235,10 @@ fn object_like<'a>(
 ) -> Result<Option<Macro<'a>>, AllocError>
     ensures { IfOk result (λ m. AreSame names.now m (Some (record { parameters = None; body = tokens.now }))) }
 {
-    let body = body_of(alloc, tokens, &IndexSet::new(alloc), names)?;
+    let body = body_of(alloc, tokens, &IndexSet::new(alloc), false, names)?;
     Ok(Some(Macro {
         parameters: None,
+        variadic: false,
         body,
     }))
 }
@@ -212,13 +268,14 @@ fn function_like<'a>(
         return Ok(None);
     };
     if is_spelled(b")", first) {
-        return Ok(with_parameters(alloc, Vec::new(alloc), behind(tokens, 1), names)?);
+        let body = behind(tokens, 1);
+        return Ok(with_parameters(alloc, Vec::new(alloc), false, body, names)?);
     }
     let Some(reading) = read_parameters(alloc, tokens, names)? else {
         return Ok(None);
     };
     let body = behind(tokens, reading.len);
-    Ok(with_parameters(alloc, reading.numbers, body, names)?)
+    Ok(with_parameters(alloc, reading.numbers, reading.variadic, body, names)?)
 }
 
 /// The macro of what stands behind the name, or `None` where that is none.

@@ -7,11 +7,11 @@ ghost use Rattle.srcset.specs.declared.code.Code.TheVariants.{BadMacroDefinition
 ghost use Rattle.srcset.specs.declared.refusal.Refusal.TheVariants.{At, Memory};
 ghost use Rattle.macros.specs.Macro.{Macros, macro_named, is_reserved};
 ghost use Rattle.macros.specs.Definition.{without};
-ghost use Rattle.macros.specs.inside.Faults.{differs, fault};
+ghost use Rattle.macros.specs.inside.Faults.{differs, fault, places_of};
 ghost use Rattle.macros.specs.inside.Puts.{Puts};
-ghost use Rattle.macros.specs.Table.{Defines, Undefines, define_code, IsDefineRefusal, IsUndefineRefusal, IsTable, IsFound, numbered, numbers_of, found_macro};
+ghost use Rattle.macros.specs.Table.{Defines, Undefines, define_code, IsDefineRefusal, IsUndefineRefusal, IsTable, IsFound, numbered, numbers_of, places, is_variadic, found_macro};
 
-use crate::faults::{has_reserved, is_hash_lone, is_joint_amiss, same_macro};
+use crate::faults::{has_reserved, is_hash_lone, is_joint_amiss, is_variable_outside, same_macro};
 use crate::reading::{behind, number_of, read_macro};
 use crate::reserved::is_reserved;
 use crate::tests_of_tokens::is_identifier;
@@ -56,6 +56,8 @@ impl<'a> BodyToken<'a> {
 #[derive(Drop)]
 pub struct Macro<'a> {
     pub(crate) parameters: Option<Vec<usize>>,
+    // Whether an ellipsis ends them.
+    pub(crate) variadic: bool,
     pub(crate) body: Vec<BodyToken<'a>>,
 }
 
@@ -65,21 +67,47 @@ impl<'a> Model for Macro<'a> {
 
     ghost Value = { NumberedMacro };
 
-    ghost view = { λ m. record { parameters = numbered_parameters m.parameters; body = m.body.items } };
+    ghost view = { λ m. record { parameters = numbered_parameters m.parameters m.variadic; body = m.body.items } };
 }
 
 impl<'a> Macro<'a> {
-    /// How many parameters it has, 0 to 127, or `None` where it is object-like.
+    /// How many parameters it has, 0 to 127, an ellipsis being one of them; or `None` where it is object-like.
     pub fn parameters(&self) -> Option<usize>
-        ensures { result ≡ option_map (λ p. length p.names) self.now.parameters }
+        ensures { result ≡ option_map places self.now.parameters }
     {
         match &self.parameters {
-            Some(names) => Some(names.len()),
+            Some(names) => {
+                if self.variadic {
+                    Some(names.len() + 1)
+                } else {
+                    Some(names.len())
+                }
+            }
             None => None,
         }
     }
 
-    /// The numbers of its parameters' names, in order; none where it is object-like.
+    /// Whether an ellipsis ends its parameters, so that `__VA_ARGS__` is the last of them (6.10.3p12, 6.10.3.1p2).
+    pub fn is_variadic(&self) -> bool
+        ensures { result ≡ is_variadic self.now.parameters }
+    {
+        match &self.parameters {
+            Some(_) => self.variadic,
+            None => false,
+        }
+    }
+
+    // How many parameters it has, none where it is object-like.
+    fn places(&self) -> usize
+        ensures { result ≡ places_of self.now.parameters }
+    {
+        match self.parameters() {
+            Some(count) => count,
+            None => 0,
+        }
+    }
+
+    /// The numbers of its parameters' names, in order, without an ellipsis; none where it is object-like.
     pub fn names(&self) -> &[usize]
         ensures { result.now ≡ numbers_of self.now.parameters }
     {
@@ -198,13 +226,16 @@ impl<'a> MacroTable<'a> {
         if has_reserved(n, found, names) {
             return Some(Code::ReservedMacroName);
         }
+        if is_variable_outside(found) {
+            return Some(Code::VariableArgumentsOutside);
+        }
         if is_hash_lone(found) {
             return Some(Code::HashWithoutParameter);
         }
         if is_joint_amiss(found) {
             return Some(Code::PasteAtAnEnd);
         }
-        if found.names().len() > MAX_PARAMETERS {
+        if found.places() > MAX_PARAMETERS {
             return Some(Code::MacroParameterLimit);
         }
         if self.differs(n, found) {
@@ -232,9 +263,10 @@ impl<'a> MacroTable<'a> {
     /// Defines a macro by the tokens behind `# define` (6.10.3). `names` numbers its name and its parameters.
     ///
     /// Fails at `at` with the first of these that stands: 202 where the tokens are no definition; 205 where a name is
-    /// reserved; 203 where `#` stands before no parameter; 204 where `##` stands at an end; 705 where there are more than
-    /// 127 parameters; 201 where the name has another macro; 704 where there are 65,536 macros. Fails with 801 where
-    /// memory runs out. The table is then as it was.
+    /// reserved; 208 where `__VA_ARGS__` stands in the replacement list and no ellipsis ends the parameters; 203 where `#`
+    /// stands before no parameter; 204 where `##` stands at an end; 705 where there are more than 127 parameters; 201 where
+    /// the name has another macro; 704 where there are 65,536 macros. Fails with 801 where memory runs out. The table is
+    /// then as it was.
     pub fn try_define(
         &mut self,
         line: &[PpToken<'a>],

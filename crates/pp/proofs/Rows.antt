@@ -555,3 +555,141 @@ unfolding longest_within punctuators found logical trigraph suffix_of simple ele
     include_done line_done directive_done defined_resolved branch_taken skipped branches_skipped group_done branches_done branches_left
     file_done entered phase4 stdbool_h
 unused_argument_counts_none = refl
+
+-- ---- variable arguments (6.10.3p4, p5, p12, 6.10.3.1p2)
+
+variable_arguments_as_a_string : of_files ((codes "main.c", codes "#define s(...) #__VA_ARGS__\ns(a,b , c) s()\n") ∷ [])
+    ≡ Prints (codes "\"a,b , c\" \"\"")
+unfolding longest_within punctuators found logical trigraph suffix_of simple elements strings_made is_expanded arguments_put all_joined substituted
+    arguments_in turn arguments_expanded replace walk expanded_by expanded read value_of holds line_ends lines_of parsed groups run_done
+    include_done line_done directive_done defined_resolved branch_taken skipped branches_skipped group_done branches_done branches_left
+    file_done entered phase4 stdbool_h
+variable_arguments_as_a_string = refl
+
+variable_arguments_passed_on : of_files ((codes "main.c", codes "#define e(f, ...) f(__VA_ARGS__)\ne(g,1,2) e(g,)\n") ∷ [])
+    ≡ Prints (codes "g ( 1 , 2 ) g ( )")
+unfolding longest_within punctuators found logical trigraph suffix_of simple elements strings_made is_expanded arguments_put all_joined substituted
+    arguments_in turn arguments_expanded replace walk expanded_by expanded read value_of holds line_ends lines_of parsed groups run_done
+    include_done line_done directive_done defined_resolved branch_taken skipped branches_skipped group_done branches_done branches_left
+    file_done entered phase4 stdbool_h
+variable_arguments_passed_on = refl
+
+variable_arguments_joined : of_files ((codes "main.c", codes "#define p(x, ...) x ## __VA_ARGS__\np(a,b,c)\n") ∷ [])
+    ≡ Prints (codes "ab , c")
+unfolding longest_within punctuators found logical trigraph suffix_of simple elements strings_made is_expanded arguments_put all_joined substituted
+    arguments_in turn arguments_expanded replace walk expanded_by expanded read value_of holds line_ends lines_of parsed groups run_done
+    include_done line_done directive_done defined_resolved branch_taken skipped branches_skipped group_done branches_done branches_left
+    file_done entered phase4 stdbool_h
+variable_arguments_joined = refl
+
+variable_arguments_to_a_plain_macro : of_files ((codes "main.c", codes "#define f(a, b) [a|b]\n#define g(...) f(__VA_ARGS__)\ng(1,2)\n") ∷ [])
+    ≡ Prints (codes "[ 1 | 2 ]")
+unfolding longest_within punctuators found logical trigraph suffix_of simple elements strings_made is_expanded arguments_put all_joined substituted
+    arguments_in turn arguments_expanded replace walk expanded_by expanded read value_of holds line_ends lines_of parsed groups run_done
+    include_done line_done directive_done defined_resolved branch_taken skipped branches_skipped group_done branches_done branches_left
+    file_done entered phase4 stdbool_h
+variable_arguments_to_a_plain_macro = refl
+
+variable_arguments_are_two_behind : of_files ((codes "main.c", codes "#define q(...) f((__VA_ARGS__), __VA_ARGS__)\n#define f(a, ...) a\nq(x, y)\n") ∷ [])
+    ≡ Prints (codes "( x , y )")
+unfolding longest_within punctuators found logical trigraph suffix_of simple elements strings_made is_expanded arguments_put all_joined substituted
+    arguments_in turn arguments_expanded replace walk expanded_by expanded read value_of holds line_ends lines_of parsed groups run_done
+    include_done line_done directive_done defined_resolved branch_taken skipped branches_skipped group_done branches_done branches_left
+    file_done entered phase4 stdbool_h
+variable_arguments_are_two_behind = refl
+
+no_variable_argument : of_files ((codes "main.c", codes "#define e(f, ...) f(__VA_ARGS__)\ne(g)\n") ∷ [])
+    ≡ Refuses code.NoVariableArgument (codes "main.c") 2 (codes "")
+unfolding longest_within punctuators found logical trigraph suffix_of simple elements strings_made is_expanded arguments_put all_joined substituted
+    arguments_in turn arguments_expanded replace walk expanded_by expanded read value_of holds line_ends lines_of parsed groups run_done
+    include_done line_done directive_done defined_resolved branch_taken skipped branches_skipped group_done branches_done branches_left
+    file_done entered phase4 stdbool_h
+no_variable_argument = refl
+
+no_argument_at_all : of_files ((codes "main.c", codes "#define e(f, ...) f(__VA_ARGS__)\n\ne()\n") ∷ [])
+    ≡ Refuses code.NoVariableArgument (codes "main.c") 3 (codes "")
+unfolding longest_within punctuators found logical trigraph suffix_of simple elements strings_made is_expanded arguments_put all_joined substituted
+    arguments_in turn arguments_expanded replace walk expanded_by expanded read value_of holds line_ends lines_of parsed groups run_done
+    include_done line_done directive_done defined_resolved branch_taken skipped branches_skipped group_done branches_done branches_left
+    file_done entered phase4 stdbool_h
+no_argument_at_all = refl
+
+too_few_named_arguments : of_files ((codes "main.c", codes "#define h(a, b, ...) a\nh(1)\n") ∷ [])
+    ≡ Refuses code.MacroArgumentCount (codes "main.c") 2 (codes "")
+unfolding longest_within punctuators found logical trigraph suffix_of simple elements strings_made is_expanded arguments_put all_joined substituted
+    arguments_in turn arguments_expanded replace walk expanded_by expanded read value_of holds line_ends lines_of parsed groups run_done
+    include_done line_done directive_done defined_resolved branch_taken skipped branches_skipped group_done branches_done branches_left
+    file_done entered phase4 stdbool_h
+too_few_named_arguments = refl
+
+named_arguments_alone : of_files ((codes "main.c", codes "#define h(a, b, ...) a\nh(1,2)\n") ∷ [])
+    ≡ Refuses code.NoVariableArgument (codes "main.c") 2 (codes "")
+unfolding longest_within punctuators found logical trigraph suffix_of simple elements strings_made is_expanded arguments_put all_joined substituted
+    arguments_in turn arguments_expanded replace walk expanded_by expanded read value_of holds line_ends lines_of parsed groups run_done
+    include_done line_done directive_done defined_resolved branch_taken skipped branches_skipped group_done branches_done branches_left
+    file_done entered phase4 stdbool_h
+named_arguments_alone = refl
+
+variable_arguments_outside : of_files ((codes "main.c", codes "#define k(x) __VA_ARGS__\n") ∷ [])
+    ≡ Refuses code.VariableArgumentsOutside (codes "main.c") 1 (codes "")
+unfolding longest_within punctuators found logical trigraph suffix_of simple elements strings_made is_expanded arguments_put all_joined substituted
+    arguments_in turn arguments_expanded replace walk expanded_by expanded read value_of holds line_ends lines_of parsed groups run_done
+    include_done line_done directive_done defined_resolved branch_taken skipped branches_skipped group_done branches_done branches_left
+    file_done entered phase4 stdbool_h
+variable_arguments_outside = refl
+
+variable_arguments_outside_before_a_lone_hash : of_files ((codes "main.c", codes "#define k(x) # __VA_ARGS__ ##\n") ∷ [])
+    ≡ Refuses code.VariableArgumentsOutside (codes "main.c") 1 (codes "")
+unfolding longest_within punctuators found logical trigraph suffix_of simple elements strings_made is_expanded arguments_put all_joined substituted
+    arguments_in turn arguments_expanded replace walk expanded_by expanded read value_of holds line_ends lines_of parsed groups run_done
+    include_done line_done directive_done defined_resolved branch_taken skipped branches_skipped group_done branches_done branches_left
+    file_done entered phase4 stdbool_h
+variable_arguments_outside_before_a_lone_hash = refl
+
+reserved_parameter_before_variable_arguments : of_files ((codes "main.c", codes "#define k(__VA_ARGS__, ...) __VA_ARGS__\n") ∷ [])
+    ≡ Refuses code.ReservedMacroName (codes "main.c") 1 (codes "")
+unfolding longest_within punctuators found logical trigraph suffix_of simple elements strings_made is_expanded arguments_put all_joined substituted
+    arguments_in turn arguments_expanded replace walk expanded_by expanded read value_of holds line_ends lines_of parsed groups run_done
+    include_done line_done directive_done defined_resolved branch_taken skipped branches_skipped group_done branches_done branches_left
+    file_done entered phase4 stdbool_h
+reserved_parameter_before_variable_arguments = refl
+
+ellipsis_alone_behind_a_name : of_files ((codes "main.c", codes "#define k(x ...) x\n") ∷ [])
+    ≡ Refuses code.BadMacroDefinition (codes "main.c") 1 (codes "")
+unfolding longest_within punctuators found logical trigraph suffix_of simple elements strings_made is_expanded arguments_put all_joined substituted
+    arguments_in turn arguments_expanded replace walk expanded_by expanded read value_of holds line_ends lines_of parsed groups run_done
+    include_done line_done directive_done defined_resolved branch_taken skipped branches_skipped group_done branches_done branches_left
+    file_done entered phase4 stdbool_h
+ellipsis_alone_behind_a_name = refl
+
+ellipsis_not_last : of_files ((codes "main.c", codes "#define k(..., x) x\n") ∷ [])
+    ≡ Refuses code.BadMacroDefinition (codes "main.c") 1 (codes "")
+unfolding longest_within punctuators found logical trigraph suffix_of simple elements strings_made is_expanded arguments_put all_joined substituted
+    arguments_in turn arguments_expanded replace walk expanded_by expanded read value_of holds line_ends lines_of parsed groups run_done
+    include_done line_done directive_done defined_resolved branch_taken skipped branches_skipped group_done branches_done branches_left
+    file_done entered phase4 stdbool_h
+ellipsis_not_last = refl
+
+redefined_without_ellipsis : of_files ((codes "main.c", codes "#define k(x, ...) x\n#define k(x) x\n") ∷ [])
+    ≡ Refuses code.MacroRedefined (codes "main.c") 2 (codes "")
+unfolding longest_within punctuators found logical trigraph suffix_of simple elements strings_made is_expanded arguments_put all_joined substituted
+    arguments_in turn arguments_expanded replace walk expanded_by expanded read value_of holds line_ends lines_of parsed groups run_done
+    include_done line_done directive_done defined_resolved branch_taken skipped branches_skipped group_done branches_done branches_left
+    file_done entered phase4 stdbool_h
+redefined_without_ellipsis = refl
+
+redefined_alike_with_ellipsis : of_files ((codes "main.c", codes "#define k(x, ...) x\n#define k(x, ...) x\nk(1,)\n") ∷ [])
+    ≡ Prints (codes "1")
+unfolding longest_within punctuators found logical trigraph suffix_of simple elements strings_made is_expanded arguments_put all_joined substituted
+    arguments_in turn arguments_expanded replace walk expanded_by expanded read value_of holds line_ends lines_of parsed groups run_done
+    include_done line_done directive_done defined_resolved branch_taken skipped branches_skipped group_done branches_done branches_left
+    file_done entered phase4 stdbool_h
+redefined_alike_with_ellipsis = refl
+
+plain_identifier_in_text : of_files ((codes "main.c", codes "__VA_ARGS__\n") ∷ [])
+    ≡ Prints (codes "__VA_ARGS__")
+unfolding longest_within punctuators found logical trigraph suffix_of simple elements strings_made is_expanded arguments_put all_joined substituted
+    arguments_in turn arguments_expanded replace walk expanded_by expanded read value_of holds line_ends lines_of parsed groups run_done
+    include_done line_done directive_done defined_resolved branch_taken skipped branches_skipped group_done branches_done branches_left
+    file_done entered phase4 stdbool_h
+plain_identifier_in_text = refl

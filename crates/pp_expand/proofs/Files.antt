@@ -13,9 +13,10 @@ use Rattle.phases.specs.declared.token.Kind.TheVariants as kind
 use Rattle.phases.specs.Grammar.{plain_kind}
 use Rattle.phases.specs.Token.{Token}
 use Rattle.macros.specs.Macro.{Parameters, Macro, Macros, is_spelled, is_joint}
+use Rattle.macros.specs.Definition.{names_of}
 use Rattle.macros.specs.Operators.{is_string_kind, string_text, string_of, stringized, joined_as, pasted}
 use Rattle.macros_substitution.specs.Substitution.{◌>>=◌, Hidden, hiding, marked, Piece, one, parameter, joint, placemarker, Call, list_at, token_or_parameter, parameter_of, piece_of, operand_of, string_piece, in_front, string_or_piece, strings_made, sides, is_expanded, ones, plain, plain_or_full, argument_put, arguments_put, joined, join, all_joined, joints_done, tokens_of, substituted}
-use Rattle.pp_expand.specs.Expansion.{Ending, of_run, of_directive, of_argument, Known, text_or_empty, text_of, quoted, is_live_predefined, macro_at, Further, Taken, with_token, behind_comma, all_arguments, Mark, opens, closes, separates, other, mark_of, taken_with, arguments_in, arguments_for, Replacement, Turn, stands, refused, predefined, replaced, counted_turn, taken_turn, last_turn, function_turn, turn_by, turn_of, turn, Fault, Answer, Next, at_place, argument_by, arguments_expanded, front_of, replace, predefined_by, predefined_front, predefined_one, replace_one, taken, walk, expanded_by, unhidden, shown_answer, expanded}
+use Rattle.pp_expand.specs.Expansion.{Ending, of_run, of_directive, of_argument, Known, text_or_empty, text_of, quoted, is_live_predefined, macro_at, Further, Taken, with_token, behind_comma, merged, with_merged, separated, Mark, opens, closes, separates, other, mark_of, taken_with, arguments_in, arguments_for, Replacement, Turn, stands, refused, predefined, replaced, counted_turn, taken_turn, last_turn, function_turn, turn_by, turn_of, turn, Fault, Answer, Next, at_place, argument_by, arguments_expanded, front_of, replace, predefined_by, predefined_front, predefined_one, replace_one, taken, walk, expanded_by, unhidden, shown_answer, expanded}
 use Rattle.pp_expand.specs.Expands.{HaveFiles}
 
 -- ---- what holds of a result
@@ -73,7 +74,7 @@ module _ (c : ℕ) where
 
   abbrev Furthers : List Further → Type 0
   Furthers [] = Unit {0}
-  Furthers (m ∷ ms) = All m.argument × Furthers ms
+  Furthers (m ∷ ms) = Has m.comma × All m.argument × Furthers ms
 
   abbrev Takes : Option Taken → Type 0
   Takes None = Unit {0}
@@ -83,15 +84,15 @@ module _ (c : ℕ) where
   takes_token x None h p = tt
   takes_token x (Some t) h p = ((h, p.0), p.1, p.2)
 
-  takes_comma : (x : Hidden) (o : Option Taken) → Takes o → Takes (behind_comma x o)
-  takes_comma x None p = tt
-  takes_comma x (Some t) p = (tt, (p.0, p.1), p.2)
+  takes_comma : (x : Hidden) (o : Option Taken) → Has x → Takes o → Takes (behind_comma x o)
+  takes_comma x None h p = tt
+  takes_comma x (Some t) h p = (tt, (h, p.0, p.1), p.2)
 
   takes_with : (m : Mark) (depth : ℕ) (x : Hidden) (rest : List Hidden) (next : ℕ → Option Taken) → Has x → All rest → ((d : ℕ) → Takes (next d)) → Takes (taken_with m depth x rest next)
   takes_with opens depth x rest next h a each = takes_token x (next (suc depth)) h (each (suc depth))
   takes_with closes zero x rest next h a each = (tt, tt, a)
   takes_with closes (suc depth) x rest next h a each = takes_token x (next depth) h (each depth)
-  takes_with separates zero x rest next h a each = takes_comma x (next zero) (each zero)
+  takes_with separates zero x rest next h a each = takes_comma x (next zero) h (each zero)
   takes_with separates (suc depth) x rest next h a each = takes_token x (next (suc depth)) h (each (suc depth))
   takes_with other depth x rest next h a each = takes_token x (next depth) h (each depth)
 
@@ -102,7 +103,20 @@ module _ (c : ℕ) where
 
   lists_more : (ms : List Further) → Furthers ms → Lists (map (λ m. m.argument) ms)
   lists_more [] p = tt
-  lists_more (m ∷ ms) p = (p.0, lists_more ms p.1)
+  lists_more (m ∷ ms) p = (p.1, lists_more ms p.2)
+
+  all_merged : (xs : List Hidden) (ms : List Further) → All xs → Furthers ms → All (merged xs ms)
+  all_merged xs [] a p = a
+  all_merged xs (m ∷ ms) a p = all_append xs (m.comma ∷ merged m.argument ms) a (p.0, all_merged m.argument ms p.1 p.2)
+
+  lists_merged : (named : ℕ) (xs : List Hidden) (ms : List Further) → All xs → Furthers ms → Lists (with_merged named xs ms)
+  lists_merged zero xs ms a p = (all_merged xs ms a p, tt)
+  lists_merged (suc named) xs [] a p = (a, tt)
+  lists_merged (suc named) xs (m ∷ ms) a p = (a, lists_merged named m.argument ms p.1 p.2)
+
+  lists_separated : (variadic : Bool) (named : ℕ) (xs : List Hidden) (ms : List Further) → All xs → Furthers ms → Lists (separated variadic named xs ms)
+  lists_separated false named xs ms a p = (a, lists_more ms p)
+  lists_separated true named xs ms a p = lists_merged named xs ms a p
 
   lists_for : (names : List (List ℕ)) (xss : List (List Hidden)) → Lists xss → Lists (arguments_for names xss)
   lists_for [] [] p = p
@@ -123,25 +137,27 @@ module _ (c : ℕ) where
   if_turns true s t p q = p
   if_turns false s t p q = q
 
-  counted : (x : Hidden) (m : Macro) (names : List (List ℕ)) (t : Taken) (xss : List (List Hidden)) → Has x → Lists xss → All t.rest → Turns (counted_turn x m names t xss)
-  counted x m names t xss h l a = if_turns (nat_lt 127 (length xss)) _ _ tt (if_turns (nat_eq (length xss) (length names)) _ _ (h, h, l, a) tt)
+  counted : (x : Hidden) (m : Macro) (q : Parameters) (t : Taken) (xss : List (List Hidden)) → Has x → Lists xss → All t.rest → Turns (counted_turn x m q t xss)
+  counted x m q t xss h l a = if_turns (nat_lt 127 (length xss)) _ _ tt (if_turns (nat_eq (length xss) (length (names_of (Some q)))) _ _ (h, h, l, a) tt)
 
-  taken_turns : (x : Hidden) (m : Macro) (names : List (List ℕ)) (o : Option Taken) → Has x → Takes o → Turns (taken_turn x m names o)
-  taken_turns x m names None h p = tt
-  taken_turns x m names (Some t) h p = counted x m names t (arguments_for names (all_arguments t)) h (lists_for names (all_arguments t) (p.0, lists_more t.more p.1)) p.2
+  taken_turns : (x : Hidden) (m : Macro) (q : Parameters) (o : Option Taken) → Has x → Takes o → Turns (taken_turn x m q o)
+  taken_turns x m q None h p = tt
+  taken_turns x m q (Some t) h p =
+      let all = separated q.variadic (length q.names) t.first t.more in
+      counted x m q t (arguments_for (names_of (Some q)) all) h (lists_for (names_of (Some q)) all (lists_separated q.variadic (length q.names) t.first t.more p.0 p.1)) p.2
 
   last_turns : (e : Ending) → Turns (last_turn e)
   last_turns of_run = tt
   last_turns of_directive = tt
   last_turns of_argument = tt
 
-  function_turns : (x : Hidden) (m : Macro) (names : List (List ℕ)) (rest : List Hidden) (e : Ending) → Has x → All rest → Turns (function_turn x m names rest e)
-  function_turns x m names [] e h a = last_turns e
-  function_turns x m names (y ∷ rest) e h a = if_turns (is_spelled (codes "(") y.token) _ _ (taken_turns x m names (arguments_in 0 rest) h (takes 0 rest a.1)) tt
+  function_turns : (x : Hidden) (m : Macro) (q : Parameters) (rest : List Hidden) (e : Ending) → Has x → All rest → Turns (function_turn x m q rest e)
+  function_turns x m q [] e h a = last_turns e
+  function_turns x m q (y ∷ rest) e h a = if_turns (is_spelled (codes "(") y.token) _ _ (taken_turns x m q (arguments_in 0 rest) h (takes 0 rest a.1)) tt
 
   turns_by : (x : Hidden) (m : Macro) (p : Option Parameters) (rest : List Hidden) (e : Ending) → Has x → All rest → Turns (turn_by x m p rest e)
   turns_by x m None rest e h a = (h, h, tt, a)
-  turns_by x m (Some p) rest e h a = function_turns x m p.names rest e h a
+  turns_by x m (Some p) rest e h a = function_turns x m p rest e h a
 
   turns_of : (x : Hidden) (o : Option Macro) (rest : List Hidden) (e : Ending) → Has x → All rest → Turns (turn_of x o rest e)
   turns_of x None rest e h a = tt

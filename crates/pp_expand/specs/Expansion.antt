@@ -10,7 +10,7 @@ use Rattle.phases.specs.declared.token.Kind.{Kind}
 use Rattle.phases.specs.declared.token.Kind.TheVariants as kind
 use Rattle.phases.specs.Token.{Token}
 use Rattle.macros.specs.Macro.{Parameters, Macro, Macros, macro_named, is_predefined, is_identifier, is_spelled}
-use Rattle.macros.specs.Definition.{max_parameters}
+use Rattle.macros.specs.Definition.{max_parameters, names_of}
 use Rattle.macros_substitution.specs.Substitution.{◌>>=◌, Hidden, is_hidden, common, hiding, marked, Piece, Call, strings_made, sides, is_expanded, substituted}
 
 -- where a list of tokens ends: with its run, with its directive, or with its argument
@@ -83,9 +83,6 @@ behind_comma x None = None
 behind_comma x (Some taken) =
     Some (record taken { first = []; more = record { comma = x; argument = taken.first } ∷ taken.more })
 
-abbrev pub all_arguments : Taken → List (List Hidden)
-all_arguments taken = taken.first ∷ map (λ m. m.argument) taken.more
-
 pub data Mark : Type 0 where
   opens : Mark
   closes : Mark
@@ -111,6 +108,21 @@ taken_with other depth x rest next = with_token x (next depth)
 unfoldable pub arguments_in : ℕ → List Hidden → Option Taken
 arguments_in depth [] = None
 arguments_in depth (x ∷ rest) = taken_with (mark_of x.token) depth x rest (λ d. arguments_in d rest)
+
+-- what an ellipsis stands for: an argument and those behind it, with the commas between them (6.10.3p12)
+abbrev pub merged : List Hidden → List Further → List Hidden
+merged first [] = first
+merged first (m ∷ more) = first ++ m.comma ∷ merged m.argument more
+
+-- so many arguments for the named parameters, and behind them the ellipsis's, as far as there are so many
+abbrev pub with_merged : ℕ → List Hidden → List Further → List (List Hidden)
+with_merged zero first more = merged first more ∷ []
+with_merged (suc named) first [] = first ∷ []
+with_merged (suc named) first (m ∷ more) = first ∷ with_merged named m.argument more
+
+abbrev pub separated : Bool → ℕ → List Hidden → List Further → List (List Hidden)
+separated false named first more = first ∷ map (λ m. m.argument) more
+separated true named first more = with_merged named first more
 
 -- where there are no parameters, one empty argument is none (6.10.3p4)
 abbrev pub arguments_for : List (List ℕ) → List (List Hidden) → List (List Hidden)
@@ -138,17 +150,24 @@ abbrev pub object_turn : Hidden → Macro → List Hidden → Turn
 object_turn x macro rest =
     replaced (record { name = x; call = record { macro = macro; at = x.token.pos; arguments = [] }; hides = x.token.spelling ∷ x.hides; rest = rest })
 
--- a function-like one's hides what the name and the `)` both hide, and the name
-abbrev pub counted_turn : Hidden → Macro → List (List ℕ) → Taken → List (List Hidden) → Turn
-counted_turn x macro names taken arguments =
-    if nat_lt max_parameters (length arguments) then refused code.MacroParameterLimit
-    else if nat_eq (length arguments) (length names)
-    then replaced (record { name = x; call = record { macro = macro; at = x.token.pos; arguments = arguments }; hides = x.token.spelling ∷ common x.hides taken.close.hides; rest = taken.rest })
-    else refused code.MacroArgumentCount
+-- arguments for the named parameters alone, or too few or too many (6.10.3p4)
+abbrev pub count_fault : Bool → ℕ → ℕ → Code
+count_fault variadic named count =
+    if variadic && nat_eq count named then code.NoVariableArgument else code.MacroArgumentCount
 
-abbrev pub taken_turn : Hidden → Macro → List (List ℕ) → Option Taken → Turn
-taken_turn x macro names None = refused code.OpenMacroArguments
-taken_turn x macro names (Some taken) = counted_turn x macro names taken (arguments_for names (all_arguments taken))
+-- a function-like one's hides what the name and the `)` both hide, and the name
+abbrev pub counted_turn : Hidden → Macro → Parameters → Taken → List (List Hidden) → Turn
+counted_turn x macro parameters taken arguments =
+    if nat_lt max_parameters (length arguments) then refused code.MacroParameterLimit
+    else if nat_eq (length arguments) (length (names_of (Some parameters)))
+    then replaced (record { name = x; call = record { macro = macro; at = x.token.pos; arguments = arguments }; hides = x.token.spelling ∷ common x.hides taken.close.hides; rest = taken.rest })
+    else refused (count_fault parameters.variadic (length parameters.names) (length arguments))
+
+abbrev pub taken_turn : Hidden → Macro → Parameters → Option Taken → Turn
+taken_turn x macro parameters None = refused code.OpenMacroArguments
+taken_turn x macro parameters (Some taken) =
+    counted_turn x macro parameters taken
+    (arguments_for (names_of (Some parameters)) (separated parameters.variadic (length parameters.names) taken.first taken.more))
 
 -- a function-like name that is last in a run is refused, since what would follow it is another list
 abbrev pub last_turn : Ending → Turn
@@ -156,14 +175,14 @@ last_turn of_run = refused code.MacroNameEndsRun
 last_turn of_directive = stands
 last_turn of_argument = stands
 
-abbrev pub function_turn : Hidden → Macro → List (List ℕ) → List Hidden → Ending → Turn
-function_turn x macro names [] ending = last_turn ending
-function_turn x macro names (y ∷ rest) ending =
-    if is_spelled (codes "(") y.token then taken_turn x macro names (arguments_in 0 rest) else stands
+abbrev pub function_turn : Hidden → Macro → Parameters → List Hidden → Ending → Turn
+function_turn x macro parameters [] ending = last_turn ending
+function_turn x macro parameters (y ∷ rest) ending =
+    if is_spelled (codes "(") y.token then taken_turn x macro parameters (arguments_in 0 rest) else stands
 
 abbrev pub turn_by : Hidden → Macro → Option Parameters → List Hidden → Ending → Turn
 turn_by x macro None rest ending = object_turn x macro rest
-turn_by x macro (Some parameters) rest ending = function_turn x macro parameters.names rest ending
+turn_by x macro (Some parameters) rest ending = function_turn x macro parameters rest ending
 
 abbrev pub turn_of : Hidden → Option Macro → List Hidden → Ending → Turn
 turn_of x None rest ending = stands

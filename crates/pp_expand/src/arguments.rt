@@ -1,5 +1,5 @@
 //! The arguments of a call.
-ghost use Rattle.std.specs.Prelude.{◌≡◌, ℕ, ◌≤◌, List, [], length, IfOk, IfErr};
+ghost use Rattle.std.specs.Prelude.{◌≡◌, ℕ, ◌≤◌, List, [], ◌∷◌, ◌++◌, length, not, ◌&&◌, ◌||◌, nat_eq, nat_lt, IfOk, IfErr, OnOk};
 ghost use Rattle.srcset.specs.NameTable.{Texts};
 ghost use Rattle.srcset.specs.declared.refusal.Refusal.TheVariants.{Memory};
 ghost use Rattle.macros_substitution.specs.HideSets.{Sets};
@@ -13,12 +13,36 @@ use srcset::Refusal;
 use std::alloc::Global;
 use std::collections::VecDeque;
 
+// Whether a comma separates arguments where so many parentheses are open and so many arguments end before it: with an
+// ellipsis it does not behind those of the named parameters (ISO/IEC 9899:2011 6.10.3p11, p12).
+#[inline(always)]
+fn is_separator(depth: u64, variadic: bool, named: usize, before: usize) -> bool
+    ensures { result ≡ nat_eq depth 0 && (not variadic || nat_lt before named) }
+{
+    depth == 0 && (!variadic || before < named)
+}
+
+// A comma that separates no arguments is part of the one that it stands in.
+#[inline(always)]
+fn keep_comma<'a>(
+    argument: &mut Vec<HiddenToken<'a>>,
+    comma: HiddenToken<'a>,
+) -> Result<(), Refusal>
+    ensures ok { OnOk result (argument.new.items ≡ argument.old.items ++ comma.entry ∷ []) }
+    ensures err { IfErr result (λ refusal. refusal ≡ Memory) }
+{
+    argument.push(comma)?;
+    Ok(())
+}
+
 // The arguments of a call, behind its opening parenthesis, and its closing one; none where it is not closed.
 fn gather_arguments<'a>(
     alloc: Global,
+    variadic: bool,
+    named: usize,
     rest: &mut VecDeque<HiddenToken<'a>>,
 ) -> Result<Option<(Vec<Vec<HiddenToken<'a>>>, HiddenToken<'a>)>, Refusal>
-    ensures gathers { IfOk result (λ found. (texts : Texts) (sets : Sets) → GathersAs texts sets found rest.new.items (gathered [] [] (arguments_in 0 (hidden_all texts sets rest.old.items)))) }
+    ensures gathers { IfOk result (λ found. (texts : Texts) (sets : Sets) → GathersAs texts sets found rest.new.items (gathered variadic named [] [] (arguments_in 0 (hidden_all texts sets rest.old.items)))) }
     ensures known { IfOk result (λ found. (count : ℕ) → AreIn count rest.old.items → GatheredIn count found × AreIn count rest.new.items) }
     ensures err { IfErr result (λ refusal. refusal ≡ Memory) }
 {
@@ -40,11 +64,11 @@ fn gather_arguments<'a>(
                 now.push(token)?;
             }
             Mark::Separates => {
-                if depth == 0 {
+                if is_separator(depth, variadic, named, before.len()) {
                     before.push(now)?;
                     now = Vec::new(alloc);
                 } else {
-                    now.push(token)?;
+                    keep_comma(&mut now, token)?;
                 }
             }
             Mark::Other => now.push(token)?,
@@ -62,22 +86,25 @@ fn give_room_back(list: &mut VecDeque<HiddenToken<'_>>)
     }
 }
 
-/// The arguments of a call, behind its opening parenthesis, and its closing one; none where it is not closed. The rest keeps
-/// room for few more tokens than it has, since it may wait for as long as the arguments are expanded.
+/// The arguments of a call of a macro with so many named parameters, behind its opening parenthesis, and its closing one;
+/// none where it is not closed. The rest keeps room for few more tokens than it has, since it may wait for as long as the
+/// arguments are expanded.
 pub(crate) fn take_arguments<'a>(
     alloc: Global,
+    variadic: bool,
+    named: usize,
     rest: &mut VecDeque<HiddenToken<'a>>,
 ) -> Result<Option<(Vec<Vec<HiddenToken<'a>>>, HiddenToken<'a>)>, Refusal>
-    ensures gathers { IfOk result (λ found. (texts : Texts) (sets : Sets) → GathersAs texts sets found rest.new.items (gathered [] [] (arguments_in 0 (hidden_all texts sets rest.old.items)))) }
+    ensures gathers { IfOk result (λ found. (texts : Texts) (sets : Sets) → GathersAs texts sets found rest.new.items (gathered variadic named [] [] (arguments_in 0 (hidden_all texts sets rest.old.items)))) }
     ensures known { IfOk result (λ found. (count : ℕ) → AreIn count rest.old.items → GatheredIn count found × AreIn count rest.new.items) }
     ensures err { IfErr result (λ refusal. refusal ≡ Memory) }
 {
-    let found = gather_arguments(alloc, rest);
+    let found = gather_arguments(alloc, variadic, named, rest);
     give_room_back(rest);
     found
 }
 
-/// The arguments for so many parameters: where there are none, one empty argument is none (ISO/IEC 9899:2011 6.10.3p4).
+/// The arguments for so many parameters, an ellipsis being one: where there are none, one empty argument is none (ISO/IEC 9899:2011 6.10.3p4).
 pub(crate) fn without_empty<'a>(
     alloc: Global,
     parameters: usize,

@@ -1,11 +1,12 @@
 //! What the first token of a list does, and the way to the next replacement.
 ghost use Rattle.std.specs.Prelude.{◌≡◌, ℕ, ◌≤◌, ◌<◌, List, [], ◌∷◌, length, Some, option_map, slice_get, IfOk, IfErr};
 ghost use Rattle.srcset.specs.NameTable.{Texts, NumbersOnce};
-ghost use Rattle.macros.specs.Macro.{Macro as MacroSeen, Macros, is_spelled};
+ghost use Rattle.macros.specs.Macro.{Macro as MacroSeen, Macros, Parameters, is_spelled};
+ghost use Rattle.macros.specs.Definition.{names_of};
 ghost use Rattle.macros.specs.Table.{IsTable, IsMacro};
 ghost use Rattle.macros_substitution.specs.HideSets.{Sets, Extends, NamesBelow};
 ghost use Rattle.macros_substitution.specs.Meaning.{hidden_of, hidden_all, AreIn};
-ghost use Rattle.pp_expand.specs.Expansion.{object_turn, taken_turn, last_turn, arguments_in, turn_by, turn};
+ghost use Rattle.pp_expand.specs.Expansion.{object_turn, count_fault, taken_turn, last_turn, arguments_in, turn_by, turn};
 ghost use Rattle.macros_substitution.specs.declared.piece.HiddenToken.{HiddenToken};
 ghost use Rattle.pp_expand.specs.Expands.{ending_of};
 ghost use Rattle.pp_expand.specs.inside.Meaning.{LevelIn};
@@ -50,7 +51,17 @@ fn object_task<'a, 't>(
     })
 }
 
-// The replacement of a function-like macro of so many parameters, behind its opening parenthesis.
+// What is wrong with so many arguments: they are for the named parameters alone, or too few or too many.
+fn count_fault(variadic: bool, named: usize, count: usize) -> Code
+    ensures { result ≡ count_fault variadic named count }
+{
+    if variadic && count == named {
+        return Code::NoVariableArgument;
+    }
+    Code::MacroArgumentCount
+}
+
+// The replacement of a function-like macro of so many parameters, an ellipsis being one, behind its opening parenthesis.
 fn call_task<'a, 't>(
     alloc: Global,
     number: usize,
@@ -62,13 +73,15 @@ fn call_task<'a, 't>(
 ) -> Result<Task<'a, 't>, Refusal>
     requires name { x.hides ≤ length sets.old }
     requires behind { AreIn (length sets.old) rest.old.items }
-    ensures task { (texts : Texts) (later : Sets) (m : MacroSeen) (names : List (List ℕ)) → length names ≡ parameters → IsMacro texts definition.now m → slice_get texts number ≡ Some x.entry.token.spelling → NumbersOnce texts → NamesBelow (length texts) sets.old → Extends sets.new later → TaskTurn texts later x.entry.token.pos (taken_turn (hidden_of texts later x.entry) m names (arguments_in 0 (hidden_all texts later rest.old.items))) result rest.new.items }
+    ensures task { (texts : Texts) (later : Sets) (m : MacroSeen) (q : Parameters) → m.parameters ≡ Some q → length (names_of (Some q)) ≡ parameters → IsMacro texts definition.now m → slice_get texts number ≡ Some x.entry.token.spelling → NumbersOnce texts → NamesBelow (length texts) sets.old → Extends sets.new later → TaskTurn texts later x.entry.token.pos (taken_turn (hidden_of texts later x.entry) m q (arguments_in 0 (hidden_all texts later rest.old.items))) result rest.new.items }
     ensures known { IfOk result (λ k. TaskIn (length sets.new) k × AreIn (length sets.new) rest.new.items) }
     ensures keeps { Extends sets.old sets.new }
     ensures names { (count : ℕ) → number < count → NamesBelow count sets.old → NamesBelow count sets.new }
 {
     let pos = x.token.pos();
-    let Some((arguments, close)) = take_arguments(alloc, rest)? else {
+    let variadic = definition.is_variadic();
+    let named = definition.names().len();
+    let Some((arguments, close)) = take_arguments(alloc, variadic, named, rest)? else {
         return Err(Refusal::At {
             code: Code::OpenMacroArguments,
             pos,
@@ -83,7 +96,7 @@ fn call_task<'a, 't>(
     }
     if arguments.len() != parameters {
         return Err(Refusal::At {
-            code: Code::MacroArgumentCount,
+            code: count_fault(variadic, named, arguments.len()),
             pos,
         });
     }

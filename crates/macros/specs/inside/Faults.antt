@@ -7,7 +7,7 @@ use Rattle.srcset.specs.declared.code.Code.{Code}
 use Rattle.srcset.specs.declared.code.Code.TheVariants as code
 use Rattle.macros.specs.Macro.{is_reserved, is_spelled, is_hash, is_joint}
 use Rattle.macros.specs.Definition.{both_or_neither, same_mark, first_of, max_parameters, max_macros}
-use Rattle.macros.specs.Table.{BodyToken, NumberedMacro, NumberedParameters, Table, numbered, numbers_of}
+use Rattle.macros.specs.Table.{BodyToken, NumberedMacro, NumberedParameters, Table, numbered, numbers_of, places, is_variadic}
 
 abbrev pub is_text_reserved : Option (List ℕ) → Bool
 is_text_reserved None = false
@@ -66,13 +66,21 @@ differs (Some old) new = not (same_macro old new)
 
 abbrev pub has_reserved : Texts → ℕ → NumberedMacro → Bool
 has_reserved texts n m =
-    (is_number_reserved texts n || list_any (is_number_reserved texts) (numbers_of m.parameters)) || list_any is_replaced m.body
+    is_number_reserved texts n || list_any (is_number_reserved texts) (numbers_of m.parameters)
+
+abbrev pub is_variable_outside : NumberedMacro → Bool
+is_variable_outside m = not (is_variadic m.parameters) && list_any is_replaced m.body
+
+abbrev pub places_of : Option NumberedParameters → ℕ
+places_of None = 0
+places_of (Some p) = places p
 
 -- the first fault, by what the tests say, how many parameters and macros there are, and whether the name has a macro
-abbrev pub first_fault : Bool → Bool → Bool → ℕ → Bool → Bool → ℕ → Option Code
-first_fault reserved hash joint parameters differ known count =
+abbrev pub first_fault : Bool → Bool → Bool → Bool → ℕ → Bool → Bool → ℕ → Option Code
+first_fault reserved variable hash joint parameters differ known count =
     first_of (
     (reserved, code.ReservedMacroName) ∷
+    (variable, code.VariableArgumentsOutside) ∷
     (hash, code.HashWithoutParameter) ∷
     (joint, code.PasteAtAnEnd) ∷
     (nat_lt max_parameters parameters, code.MacroParameterLimit) ∷
@@ -82,5 +90,5 @@ first_fault reserved hash joint parameters differ known count =
 -- what is wrong with a macro under this number
 abbrev pub fault : Texts → Table → ℕ → NumberedMacro → Option Code
 fault texts table n m =
-    first_fault (has_reserved texts n m) (is_hash_lone m) (is_joint_amiss m) (length (numbers_of m.parameters)) (differs (numbered table n) m)
-    (is_some (numbered table n)) (length table)
+    first_fault (has_reserved texts n m) (is_variable_outside m) (is_hash_lone m) (is_joint_amiss m) (places_of m.parameters)
+    (differs (numbered table n) m) (is_some (numbered table n)) (length table)

@@ -6,7 +6,7 @@ use Rattle.macros.specs.inside.Reading.{Read, IsRead}
 
 abbrev pub IsReading : Texts → Option Reading → Option Read → Type 0
 IsReading texts None r = r ≡ None
-IsReading texts (Some reading) r = IsRead texts reading.numbers.items reading.len r
+IsReading texts (Some reading) r = IsRead texts reading.numbers.items reading.variadic reading.len r
 
 abbrev pub IsWithin : Option Reading → ℕ → Type 0
 IsWithin None n = Unit {0}

@@ -1,5 +1,5 @@
 -- What the first token of a list does, as the engine finds it.
-use Rattle.std.specs.Prelude.{◌≡◌, ℕ, ◌<◌, ◌≤◌, List, ◌∷◌, ◌++◌, map, length, nat_eq, Bool, false, Option, Some, None, Result, Ok, Err, Vec, slice_get}
+use Rattle.std.specs.Prelude.{◌≡◌, ℕ, ◌-◌, ◌<◌, ◌≤◌, List, ◌++◌, length, nat_eq, Bool, false, Option, Some, None, Result, Ok, Err, Vec, slice_get}
 use Rattle.std.specs.List.{list_any}
 use Rattle.std.specs.declared.alloc.Global.{Global}
 use Rattle.srcset.specs.NameTable.{Texts}
@@ -22,7 +22,7 @@ use Rattle.pp_expand.specs.declared.task.Turned.{Turned}
 use Rattle.pp_expand.specs.declared.task.Turned.TheVariants.{Stays, Takes}
 use Rattle.pp_expand.specs.declared.task.Named.{Named}
 use Rattle.pp_expand.specs.declared.task.Named.TheVariants.{Nothing, OfCompiler, Defined}
-use Rattle.pp_expand.specs.Expansion.{Ending, Known, Taken, Mark, opens, closes, separates, other, Replacement, Turn, stands, refused, predefined, replaced, turn_by, turn, predefined_one, replace_one}
+use Rattle.pp_expand.specs.Expansion.{Ending, Known, Taken, separated, Mark, opens, closes, separates, other, Replacement, Turn, stands, refused, predefined, replaced, turn_by, turn, predefined_one, replace_one}
 use Rattle.pp_expand.specs.Expands.{ending_of}
 use Rattle.pp_expand.specs.inside.Meaning.{expanding, with_list, level_meaning}
 
@@ -54,11 +54,11 @@ IsNamedBelow count (Defined n definition) = n < count
 
 -- ---- arguments
 
--- the arguments so far, the one in hand so far, and the rest of a call
-abbrev pub gathered : List (List Hidden) → List Hidden → Option Taken → Option (List (List Hidden) × Hidden × List Hidden)
-gathered before now None = None
-gathered before now (Some taken) =
-    Some (before ++ (now ++ taken.first) ∷ map (λ m. m.argument) taken.more, taken.close, taken.rest)
+-- the arguments so far, the one in hand so far, and the rest of a call of a macro with so many named parameters
+abbrev pub gathered : Bool → ℕ → List (List Hidden) → List Hidden → Option Taken → Option (List (List Hidden) × Hidden × List Hidden)
+gathered variadic named before now None = None
+gathered variadic named before now (Some taken) =
+    Some (before ++ separated variadic (named - length before) (now ++ taken.first) taken.more, taken.close, taken.rest)
 
 abbrev pub GathersAs : Texts → Sets → Option (Vec (Vec HiddenToken Global) Global × HiddenToken) → List HiddenToken → Option (List (List Hidden) × Hidden × List Hidden) → Type 0
 GathersAs texts sets None rest answer = answer ≡ None

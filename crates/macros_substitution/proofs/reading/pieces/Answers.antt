@@ -2,7 +2,7 @@ use Rattle.std.proofs.Common.{◌+◌, length, ap, ◌∙◌, sym, refl, subst, 
 use Rattle.std.specs.Option.{is_some}
 use Rattle.std.proofs.lemmas.List.{length-map}
 use Rattle.macros.specs.Definition.{names_of}
-use Rattle.macros.specs.Table.{with_parameter}
+use Rattle.macros.specs.Table.{with_parameter, places}
 use Rattle.macros_substitution.specs.Meaning.{hidden_lists, pieces_as, PiecesIn}
 use Rattle.macros_substitution.specs.Substitution.{Call}
 use Rattle.macros_substitution.proofs.ReadingLaws.{body_found, function_known, read_step, read_end, read_refused, pieces_in_append, rest_whole}
@@ -12,7 +12,7 @@ pub returns-in-Err-clause-value : goal.returns-in-Err-clause-value
 returns-in-Err-clause-value c = λ texts sets m is.
     let call : Call = record { macro = m; at = c.args.at; arguments = hidden_lists texts sets c.args.arguments.now } in
     let body = c.body-body.ensures ∙ is.body_is in
-    let function = c.is_some-is_function_like.ensures ∙ ap is_some c.parameters.ensures ∙ function_known texts (λ p. length p.names) c.args.definition.now.parameters m.parameters is.parameters_are in
+    let function = c.is_some-is_function_like.ensures ∙ ap is_some c.parameters.ensures ∙ function_known texts places c.args.definition.now.parameters m.parameters is.parameters_are in
     let found = body_found (with_parameter (names_of m.parameters)) c.body-body.result.now m.body c.loop-i.i c.index-body-i.result body c.loop-i-test.true c.index-body-i.is in
     read_refused texts sets call (pieces_as texts sets c.loop-i.made.items) c.loop-i.after _ _ _ c.in-Err.refusal (c.loop-i.invariant.same texts sets call function refl refl body) found.here
     (c.in-Err.ensures.value texts sets call found.token found.behind function refl refl found.is (rest_whole c.body-body.result.now (c.loop-i.i + 1) ∙ found.are))
@@ -32,6 +32,6 @@ pub returns-clause-value : goal.returns-clause-value
 returns-clause-value c = λ texts sets m is.
     let call : Call = record { macro = m; at = c.args.at; arguments = hidden_lists texts sets c.args.arguments.now } in
     let body = c.body-body.ensures ∙ is.body_is in
-    let function = c.is_some-is_function_like.ensures ∙ ap is_some c.parameters.ensures ∙ function_known texts (λ p. length p.names) c.args.definition.now.parameters m.parameters is.parameters_are in
+    let function = c.is_some-is_function_like.ensures ∙ ap is_some c.parameters.ensures ∙ function_known texts places c.args.definition.now.parameters m.parameters is.parameters_are in
     read_end texts sets call c.loop-i.made.items c.loop-i.after m.body c.loop-i.i _ (c.loop-i.invariant.same texts sets call function refl refl body)
     (omega (arith, length-map m.body (with_parameter (names_of m.parameters)), ap length body))

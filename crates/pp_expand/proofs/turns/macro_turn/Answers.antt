@@ -22,10 +22,10 @@ pub returns-in-Ok-call_task-clause-turn : goal.returns-in-Ok-call_task-clause-tu
 returns-in-Ok-call_task-clause-turn c = λ texts later m is_macro number once below grown.
     let e = some_parameters texts c.args.definition.now.parameters m.parameters c.in-Some.parameters is_macro.parameters_are (sym c.parameters.ensures ∙ c.in-Some.is) in
     let r = first_rest c.args.rest.now.items c.in-Some-front.next.now (omega (arith, c.in-Some-front.ensures.variant.0 refl)) c.in-Some-front.ensures.lookup ∙ ap (λ l. c.in-Some-front.next.now ∷ l) (sym c.pop_front.ensures.rest) in
-    ok_name texts later c.args.x m c.args.rest.now.items _ _ (opens_call texts later c.args.x m c.args.rest.now.items _ e.0 e.1.0 c.in-Some-front.next.now c.pop_front.new.self.items r (is_open c.in-Some-front.next.now.token (sym c.mark_of.ensures ∙ ap mark_as c.in-Opens.is))) c.in-Ok-call_task.task c.call_task.new.rest.items (c.in-Ok-call_task.ensures.task texts later m e.0.names e.1.1 is_macro number once below grown)
+    ok_name texts later c.args.x m c.args.rest.now.items _ _ (opens_call texts later c.args.x m c.args.rest.now.items _ e.0 e.1.0 c.in-Some-front.next.now c.pop_front.new.self.items r (is_open c.in-Some-front.next.now.token (sym c.mark_of.ensures ∙ ap mark_as c.in-Opens.is))) c.in-Ok-call_task.task c.call_task.new.rest.items (c.in-Ok-call_task.ensures.task texts later m e.0 e.1.0 e.1.1 is_macro number once below grown)
 
 pub returns-in-Err-call_task-clause-turn : goal.returns-in-Err-call_task-clause-turn
 returns-in-Err-call_task-clause-turn c = λ texts later m is_macro number once below grown.
     let e = some_parameters texts c.args.definition.now.parameters m.parameters c.in-Some.parameters is_macro.parameters_are (sym c.parameters.ensures ∙ c.in-Some.is) in
     let r = first_rest c.args.rest.now.items c.in-Some-front.next.now (omega (arith, c.in-Some-front.ensures.variant.0 refl)) c.in-Some-front.ensures.lookup ∙ ap (λ l. c.in-Some-front.next.now ∷ l) (sym c.pop_front.ensures.rest) in
-    err_name texts later c.args.x m c.args.rest.now.items _ _ (opens_call texts later c.args.x m c.args.rest.now.items _ e.0 e.1.0 c.in-Some-front.next.now c.pop_front.new.self.items r (is_open c.in-Some-front.next.now.token (sym c.mark_of.ensures ∙ ap mark_as c.in-Opens.is))) c.in-Err-call_task.refusal c.call_task.new.rest.items (c.in-Err-call_task.ensures.task texts later m e.0.names e.1.1 is_macro number once below grown)
+    err_name texts later c.args.x m c.args.rest.now.items _ _ (opens_call texts later c.args.x m c.args.rest.now.items _ e.0 e.1.0 c.in-Some-front.next.now c.pop_front.new.self.items r (is_open c.in-Some-front.next.now.token (sym c.mark_of.ensures ∙ ap mark_as c.in-Opens.is))) c.in-Err-call_task.refusal c.call_task.new.rest.items (c.in-Err-call_task.ensures.task texts later m e.0 e.1.0 e.1.1 is_macro number once below grown)
