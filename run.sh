@@ -1,13 +1,24 @@
 #!/bin/sh
-# Leaves the program cc at bin/cc, and shows the first program built and run. The program is that of release/, where this
-# tree is what it was proved and built from, which takes seconds and no kit; else, or with --prove, it is proved and built.
+# Leaves the program cc at bin/cc, and shows the first program built and run.
+#
+#   sh run.sh [--prove | CC]
+#
+# The program is that of release/, where this tree is what it was proved and built from, which takes seconds and no kit; else,
+# or with --prove, it is proved and built. With CC it is shown on that program, and bin/cc is left alone.
 set -eu
 cd "$(dirname "$0")"
 
 # What stands at bin/cc is kept where nothing that it was built from is newer.
 is_new() { [ -x bin/cc ] && [ -z "$(find crates crates.txt -name out -prune -o -newer bin/cc -type f -print | head -n 1)" ]; }
 
-if [ "${1:-}" != --prove ] && is_new; then
+cc=bin/cc
+case ${1:-} in
+    '' | --prove) ;;
+    *) cc=$1 ;;
+esac
+if [ "$cc" != bin/cc ]; then
+    :
+elif [ "${1:-}" != --prove ] && is_new; then
     :
 elif [ "${1:-}" != --prove ] && [ -x release/cc ] && [ "$(sh release/digest.sh)" = "$(cat release/SOURCES)" ]; then
     mkdir -p bin
@@ -28,10 +39,15 @@ work=$(mktemp -d)
 trap 'rm -rf "$work"' EXIT
 echo 'examples/hello.c:'
 cat examples/hello.c
-bin/cc build examples/hello.c -o "$work/hello"
+"$cc" build examples/hello.c -o "$work/hello"
 status=0
-bin/cc run "$work/hello" >"$work/written" || status=$?
+"$cc" run "$work/hello" >"$work/written" || status=$?
 written=$(od -An -tu1 "$work/written" | tr -s ' \n' ' ' | sed 's/^ //; s/ $//')
 echo "bytes written: $written"
 echo "status: $status"
-[ "$written" = 72 ] && [ "$status" = 42 ]
+if [ "$written" = 72 ] && [ "$status" = 42 ]; then
+    echo '1 passed, 0 failed'
+else
+    echo '0 passed, 1 failed'
+    exit 1
+fi

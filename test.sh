@@ -1,59 +1,130 @@
 #!/bin/sh
-# The gate: `rt ci` proves every crate and its tests from nothing, tries the must-fail edits, and runs the programs
-# and tests; then the program that this built is compared with release/cc, and it and the documents are checked from
-# outside. The last line counts all.
+# What can be checked without a prover: the program from outside, and the documents. It takes minutes, needs no kit, and
+# tells each check that it leaves out, and why.
+#
+#   sh test.sh [CC]
+#
+# CC is the program; by default that of release/, where this tree is what it was proved and built from, else bin/cc as it
+# was built. The last line counts all checks; the exit status is 0 where none failed and some passed. JOBS=N: so many checks
+# side by side (a processor each, by default).
 cd "$(dirname "$0")" || exit 1
-logs=$(mktemp -d)
-trap 'rm -rf "$logs"' EXIT
+jobs=${JOBS:-$(getconf _NPROCESSORS_ONLN 2>/dev/null || echo 1)}
 
-# verdict FILE: its last line, where that counts, and else a failure.
-verdict() {
-    line=$(tail -n 1 "$1" | grep -E '^[0-9]+ passed, [0-9]+ failed')
-    printf '%s\n' "${line:-0 passed, 1 failed}"
+# A check a line, the longest first: its name | what it needs (tools, files) | its command, whose last line is
+# 'N passed, M failed' or 'N passed, M failed, K skipped'. A further check is a further line here.
+checks() {
+    cat <<'END'
+includes     | python3                                  | python3 tests/outside/pp/includes.py "$cc"
+scalars      | python3                                  | python3 tests/outside/scalars/check.py "$cc"
+constraints  | python3                                  | python3 tests/outside/constraints/check.py "$cc"
+front        | python3                                  | python3 tests/outside/front/check.py "$cc"
+machine      | python3                                  | python3 tests/outside/machine/check.py "$cc"
+outside      |                                          | ALLOW_SKIPPED=1 sh tests/outside/check.sh "$cc"
+conditions   |                                          | sh tests/outside/pp/check.sh "$cc" conditions
+macros       |                                          | sh tests/outside/pp/check.sh "$cc"
+units        | python3                                  | python3 tests/outside/pp/units.py "$cc"
+nested       | python3                                  | python3 tests/outside/pp/nested.py "$cc"
+interp       | python3                                  | python3 tests/outside/interp/check.py "$cc"
+const        | python3                                  | python3 tests/outside/const/check.py "$cc"
+meaning      | python3                                  | python3 tests/outside/meaning/check.py "$cc"
+sets         | python3                                  | python3 tests/outside/pp/sets.py "$cc"
+commands     | python3                                  | python3 tests/outside/cc/check.py "$cc"
+flat         | python3 crates/rows_flat/out/rows_flat   | python3 tests/outside/flat/check.py crates/rows_flat/out/rows_flat
+tac          | python3 crates/rows_tac/out/rows_tac     | python3 tests/outside/tac/check.py crates/rows_tac/out/rows_tac
+rows_calls   | python3                                  | python3 tests/outside/front/calls.py --check
+rows_answers | python3                                  | python3 tests/outside/meaning/answers.py --check
+rows_machine | python3                                  | python3 tests/outside/machine/rows.py --check
+rows_flat    | python3                                  | python3 tests/outside/flat/rows.py --check
+rows_tac     | python3                                  | python3 tests/outside/tac/rows.py --check
+documents    |                                          | sh tests/documents.sh "$cc"
+shown        |                                          | sh run.sh "$cc"
+END
 }
 
-# told NAME STATUS: a check that passed or failed.
-told() {
-    if [ "$2" = 0 ]; then echo '1 passed, 0 failed'; else echo "FAIL $1"; echo '0 passed, 1 failed'; fi
-}
-
-{ rt ci 2>&1; echo $? >"$logs/status"; } | tee "$logs/ci"
-
-# The program that is checked is the one that rt ci proved and built from this tree.
-rm -f bin/cc
-built=crates/cc_program/out/cc_program
-if [ -x $built ]; then
-    mkdir -p bin
-    cp $built bin/cc
+# The program: the one given, that of release/, or the one that was built.
+cc=${1:-}
+if [ -z "$cc" ]; then
+    if [ -x release/cc ] && [ "$(sh release/digest.sh)" = "$(cat release/SOURCES)" ]; then
+        cc=release/cc
+    else
+        cc=bin/cc
+    fi
 fi
-cmp $built release/cc && [ "$(sh release/digest.sh)" = "$(cat release/SOURCES)" ]
-told 'release/cc is not what this tree builds: sh release/take.sh takes over what was built; then commit release/' $? |
-    tee "$logs/release"
-sh run.sh >"$logs/shown" 2>&1
-status=$?
-[ $status = 0 ] || cat "$logs/shown"
-told 'sh run.sh' $status | tee "$logs/run"
-sh tests/documents.sh bin/cc 2>&1 | tee "$logs/documents"
-sh tests/outside/check.sh bin/cc 2>&1 | tee "$logs/outside"
-sh tests/outside/flat/check.sh crates/flat_rows/out/flat_rows 2>&1 | tee "$logs/flat"
-sh tests/outside/tac/check.sh crates/tac_rows/out/tac_rows 2>&1 | tee "$logs/tac"
-python3 tests/outside/constraints/check.py crates/check_rows/out/check_rows 2>&1 | tee "$logs/constraints"
-python3 tests/outside/interp/check.py bin/cc 2>&1 | tee "$logs/interp"
-python3 tests/outside/scalars/check.py bin/cc 2>&1 | tee "$logs/scalars"
-sh tests/outside/pp/check.sh bin/cc 2>&1 | tee "$logs/macros"
-sh tests/outside/pp/check.sh bin/cc conditions 2>&1 | tee "$logs/conditions"
-python3 tests/outside/pp/nested.py bin/cc 2>&1 | tee "$logs/nested"
-python3 tests/outside/pp/includes.py bin/cc 2>&1 | tee "$logs/includes"
-python3 tests/outside/pp/units.py bin/cc 2>&1 | tee "$logs/units"
+case $cc in /*) ;; *) cc=$(pwd)/$cc ;; esac
+if [ ! -x "$cc" ]; then
+    echo "FAIL there is no program $cc: release/cc is of other sources than this tree's, and 'sh run.sh' has not built one"
+    echo '0 passed, 1 failed'
+    exit 1
+fi
+echo "checking $cc, $jobs checks side by side"
 
-for part in ci release run documents outside flat tac constraints interp scalars macros conditions nested includes units; do verdict "$logs/$part"; done >"$logs/verdicts"
-# count WORD: the sum of the numbers before WORD in the verdicts.
-count() { sed -n "s/.*\b\([0-9][0-9]*\) $1.*/\1/p" "$logs/verdicts" | awk '{ n += $1 } END { print n + 0 }'; }
+logs=$(mktemp -d) || exit 1
+trap 'rm -rf "$logs"' EXIT
+trap 'exit 1' HUP INT TERM
+limit=
+command -v timeout >/dev/null 2>&1 && limit='timeout 1500'
+export cc logs limit
+
+# missing NEED..: the first that is not there.
+missing() {
+    for need; do
+        case $need in
+            */*) [ -x "$need" ] || { echo "$need, which sh prove.sh builds"; return; } ;;
+            *) command -v "$need" >/dev/null 2>&1 || { echo "$need"; return; } ;;
+        esac
+    done
+}
+
+# What cannot be tried is told now, and the others are written down, a file each.
+checks | grep -v '^ *$' >"$logs/checks"
+while IFS='|' read -r name needs command; do
+    name=$(echo $name)
+    lacking=$(missing $needs)
+    if [ -n "$lacking" ]; then
+        echo "SKIPPED $name, for want of $lacking"
+        echo '0 passed, 0 failed, 1 skipped' >"$logs/$name.verdict"
+    else
+        printf '%s\n' "$command" >"$logs/$name.command"
+        echo "$name"
+    fi
+done <"$logs/checks" >"$logs/told"
+grep '^SKIPPED ' "$logs/told"
+for tool in gcc clang qemu-riscv32 riscv64-unknown-elf-as riscv64-unknown-elf-readelf; do
+    command -v "$tool" >/dev/null 2>&1 || echo "note: $tool is missing; what needs it is skipped (sh tests/outside/tools.sh installs it, as root on Debian)"
+done
+
+# Each check ends with one line of its own, in the order in which they end; what it says beside is told where it failed or skipped.
+grep -v '^SKIPPED ' "$logs/told" | xargs -n 1 -P "$jobs" sh -c '
+    start=$(date +%s)
+    $limit sh "$logs/$1.command" >"$logs/$1.said" 2>&1
+    status=$?
+    line=$(tail -n 1 "$logs/$1.said" | grep -E "^[0-9]+ passed, [0-9]+ failed(, [0-9]+ skipped)?$")
+    case $line in
+        "" | "0 passed, 0 failed") line="0 passed, 1 failed" ;;
+        *" 0 failed"*) [ $status = 0 ] || line=$(echo "$line" | sed "s/ 0 failed/ 1 failed/") ;;
+    esac
+    echo "$line" >"$logs/$1.verdict"
+    {
+        case $line in
+            *" 0 failed") ;;
+            *" 0 failed"*) grep -i "skip\|missing\|left out" "$logs/$1.said" | head -n 20 ;;
+            *) head -n 200 "$logs/$1.said" ;;
+        esac
+        echo "$1: $line, in $(($(date +%s) - start)) s"
+    } >"$logs/$1.told"
+    cat "$logs/$1.told"
+' check
+
+# count WORD: the sum of the numbers before WORD in the verdicts. A check without a verdict was not made.
+count() { cat "$logs"/*.verdict | sed -n "s/.*\b\([0-9][0-9]*\) $1.*/\1/p" | awk '{ n += $1 } END { print n + 0 }'; }
 passed=$(count passed)
 failed=$(count failed)
 skipped=$(count skipped)
-if [ "$(cat "$logs/status")" != 0 ] && [ "$failed" -eq 0 ]; then
-    failed=1
+made=$(ls "$logs" | grep -c '\.verdict$')
+wanted=$(grep -c . "$logs/checks")
+if [ "$made" -ne "$wanted" ]; then
+    echo "FAIL $made of $wanted checks were made"
+    failed=$((failed + 1))
 fi
 if [ "$skipped" -gt 0 ]; then
     echo "$passed passed, $failed failed, $skipped skipped"

@@ -4,13 +4,13 @@
 #
 #   bash bench/flat.sh [FLAT_ROWS [CC]]
 #
-# Called from the repository's root; crates/flat_rows/out/flat_rows and release/cc by default. A gcc program's instructions are the least
+# Called from the repository's root; crates/rows_flat/out/rows_flat and release/cc by default. A gcc program's instructions are the least
 # budget that is enough for `cc run`, its status is that under qemu-riscv32, and the flat program's has to be the same.
 set -u
 LC_ALL=C
 export LC_ALL
 root=$(pwd)
-rows=$(realpath "${1:-crates/flat_rows/out/flat_rows}")
+rows=$(realpath "${1:-crates/rows_flat/out/rows_flat}")
 cc=$(realpath "${2:-release/cc}")
 work=$(mktemp -d) || exit 1
 trap 'rm -rf "$work"' EXIT
@@ -45,11 +45,12 @@ for kernel in 1 2 3 4 5 6; do
     sed -i "s/^ends @$kernel\$/ends $last/" flat.txt
 done
 "$rows" flat.txt >told || exit 1
-grep -v ' steps, ' told
+grep -v ' instructions of at most ' told >ended
+awk '$1 == "program" { name = $2 } $1 == "ends" { print name ": ends " $2 }' flat.txt | diff - ended
 printf '%-10s %28s %28s\n' '' 'instructions' 'bytes'
 printf '%-10s %9s %9s %9s %9s %8s %8s\n' kernel flat -O0 -Os flat -O0 -Os
 kernel=0
-grep ' steps, ' told | tr -d ',:' | while read -r name _ _ instructions _ _ _ _ _ bytes _; do
+grep ' instructions of at most ' told | tr -d ',:' | while read -r name instructions _ _ _ _ _ bytes _; do
     kernel=$((kernel + 1))
     printf '%-10s %9s %9s %9s %9s %8s %8s\n' "$name" "$instructions" "$(count $kernel-0)" "$(count $kernel-s)" "$bytes" \
         "$(riscv64-unknown-elf-size $kernel-0 | awk 'NR == 2 { print $1 }')" "$(riscv64-unknown-elf-size $kernel-s | awk 'NR == 2 { print $1 }')"
@@ -61,7 +62,7 @@ mix() {
     shift
     awk -v count="$count" 'function chance(n) { seed = (seed * 1103515245 + 12345) % 2147483648; return int(seed / 65536) % n }
         BEGIN { seed = 7 }
-        /^(#|input|statics|ends|main|$)/ { next }
+        /^(#|input|statics|ends|costs|main|$)/ { next }
         $1 == "program" { programs++; next }
         $1 == "function" { functions[programs]++ }
         { sub(/^[0-9]+: /, ""); line[programs, ++lines[programs]] = $0 }
@@ -99,7 +100,7 @@ PY
 }
 
 echo
-for files in "$root/bench/flat.txt" "$root/crates/flat_rows/data/random.txt"; do
+for files in "$root/bench/flat.txt" "$root/crates/rows_flat/data/random.txt"; do
     mix 200000 "$files" >mix.txt
     once=$(least 1)
     often=$(least 31)

@@ -3,29 +3,8 @@
 #
 #   sh tests/edits/run.sh [CRATE..]     every crate with a folder here, by default
 #
-# Crates are tried side by side, one a processor (JOBS=N: so many); the edits of one crate come one after another. The
-# last line is 'N refused, M not'. The gate leaves these edits out for their time: they are tried when a contract of
-# their crate changes.
-set -eu
-cd "$(dirname "$0")/../.."
-
-[ $# -gt 0 ] || set -- $(cd tests/edits && ls -d */ | tr -d /)
-copy=$(mktemp -d)
-trap 'rm -rf "$copy"' EXIT
-# What the crates below were proved to be is taken along, where it is there.
-tar --exclude=incremental -cf - HANDLES crates.txt crates | tar -C "$copy" -xf -
-for crate do
-    rm -rf "$copy/crates/$crate/must-fail"
-    cp -R "tests/edits/$crate" "$copy/crates/$crate/must-fail"
-done
-cd "$copy"
-git init -q .
-mkdir said
-printf '%s\n' "$@" | xargs -P "${JOBS:-$(nproc)}" -I CRATE sh -c '
-    rt must-fail CRATE >said/CRATE 2>&1 || true
-    grep "must-fail CRATE/" said/CRATE || { echo "CRATE: no edit was tried"; tail -n 5 said/CRATE; }'
-
-tried=$(ls crates/*/must-fail/*.edit | grep -cE "^crates/($(printf '%s|' "$@" | sed 's/|$//'))/" || true)
-refused=$(cat said/* | grep -c 'must-fail .*: refused, as it must be' || true)
-echo "$refused refused, $((tried - refused)) not"
-[ "$refused" -eq "$tried" ]
+# Crates are tried side by side, one a processor (JOBS=N: so many); the edits of one crate come one after another. The proved
+# libraries that a crate stands on are taken from LIBRARIES, a folder with NAME.rlib for each, or, where that is not set, from
+# crates/NAME/out/rlib, as rt ci leaves them, and are proved there where they are missing. A crate whose edits were all refused
+# gets its line in tests/edits/TRIED. The last line is 'N refused, M not'.
+exec python3 "$(dirname "$0")/run.py" "$@"

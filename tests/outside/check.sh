@@ -4,11 +4,11 @@
 #   sh tests/outside/check.sh [CC]
 #
 # Called from the repository's root; CC is the program, bin/cc by default.
-# It first says which tools it installs. A check says nothing when it passes
-# and one line when it fails. The last line counts them; the exit status is
-# not 0 where one failed, where another number of checks was made than the
-# one pinned at the end, or where one was skipped: checks whose tool is
-# missing and cannot be installed are, and ALLOW_SKIPPED=1 lets them be.
+# A check says nothing when it passes and one line when it fails. The last line
+# counts them; the exit status is not 0 where one failed, where another number
+# of checks was made than the one pinned at the end, or where one was skipped:
+# checks whose tool is missing are (tools.sh installs what is), and
+# ALLOW_SKIPPED=1 lets them be.
 set -u
 LC_ALL=C
 export LC_ALL
@@ -47,24 +47,7 @@ cd "$work" || exit 1
 
 has() { command -v "$1" >/dev/null 2>&1; }
 
-# install PACKAGE: by Debian's packages, where that is possible and allowed.
-install() {
-    has apt-get && [ "$(id -u)" = 0 ] || return 1
-    DEBIAN_FRONTEND=noninteractive
-    export DEBIAN_FRONTEND
-    apt-get install -y -q "$1" >/dev/null 2>&1 && return 0
-    apt-get update -q >/dev/null 2>&1
-    apt-get install -y -q "$1" >/dev/null 2>&1
-}
-
 tools=riscv64-unknown-elf
-wanted=
-has qemu-riscv32 || wanted="$wanted qemu-user"
-has $tools-readelf || wanted="$wanted binutils-riscv64-unknown-elf"
-[ -z "$wanted" ] || echo "installing by Debian's packages:$wanted"
-for package in $wanted; do
-    install "$package" || echo "cannot install $package"
-done
 
 # first COMMAND..: the first that is there, or nothing.
 first() {
@@ -80,6 +63,9 @@ linker=$(first $tools-ld)
 hostgcc=$(first gcc)
 limit=$(first timeout)
 limit=${limit:+$limit 20}
+for tool in "$qemu:qemu-riscv32" "$readelf:readelf" "$objdump:objdump" "$assembler:$tools-as" "$linker:$tools-ld" "$hostgcc:gcc"; do
+    [ -n "${tool%%:*}" ] || echo "missing: ${tool#*:}; what needs it is skipped"
+done
 
 # -------------------------------------------------------------- helpers
 

@@ -1,22 +1,18 @@
-//! Builds and runs flat programs, and runs them beside it on a plain interpreter: a line for each program that differs, and the count.
+//! Builds flat programs and runs them on the machine: prints what each comes to.
 #![tactic(auto)]
 
 mod building;
-mod costs;
-mod memory;
 mod names;
-mod plain;
 mod reader;
 mod trace;
-mod trying;
 mod words;
 
 use anyhow::{Context, Result};
-use building::build_text;
+use building::{build, build_text, run_file};
 use frames_code::FlatProgram;
 use reader::{Reader, Row};
 use std::{env, fs};
-use trying::{Taken, tried};
+use trace::ends;
 use words::number;
 
 /// The files that are tried where no words are given.
@@ -39,17 +35,18 @@ fn try_files(rt: &HostRuntime) -> Result<()> {
     Ok(())
 }
 
-/// Tries the programs of a file; tells of each what it took, where it is `told`; and writes each to the folder, if there is one.
+/// Runs the programs of a file; tells of each what it took, where it is `told`; and writes each to the folder, if there is one.
 fn try_file(rt: &HostRuntime, name: &str, folder: &str, told: bool) -> Result<()> {
     let text = fs::read_to_string(rt, name)?;
     let mut reader = Reader::new(rt.alloc());
-    let mut count: usize = 0;
     for (index, line) in text.lines().enumerate() {
         match reader.take(line) {
             Ok(None) => {}
             Ok(Some(row)) => {
-                count = count.saturating_add(1);
-                try_row(rt, name, folder, told, &row)?;
+                let program = row.name.as_str();
+                if let Err(error) = try_row(rt, folder, told, &row) {
+                    println!(rt; "{program}: {error}")?;
+                }
             }
             Err(error) => {
                 let number = index.saturating_add(1);
@@ -57,7 +54,6 @@ fn try_file(rt: &HostRuntime, name: &str, folder: &str, told: bool) -> Result<()
             }
         }
     }
-    println!(rt; "{name}: {count} programs")?;
     Ok(())
 }
 
@@ -87,31 +83,27 @@ fn instructions_of(program: &FlatProgram) -> usize {
     count
 }
 
-fn try_row(rt: &HostRuntime, name: &str, folder: &str, told: bool, row: &Row) -> Result<()> {
+/// What the program does on the machine, how many instructions that took, the most by its costs, and the bytes of the text.
+fn try_row(rt: &HostRuntime, folder: &str, told: bool, row: &Row) -> Result<()> {
     let program = row.name.as_str();
-    match tried(rt.alloc(), row) {
-        Ok(done) => {
-            if told {
-                tell(rt, program, &done)?;
-            }
-            if !folder.is_empty() {
-                let path = format!(in rt.alloc(); "{folder}/{program}")?;
-                fs::write(rt, path.as_str(), done.file.as_slice())?;
-            }
-        }
-        Err(error) => println!(rt; "{name}: {program}: {error}")?,
+    let built = build(rt.alloc(), &row.program)?;
+    if !folder.is_empty() {
+        let path = format!(in rt.alloc(); "{folder}/{program}")?;
+        fs::write(rt, path.as_str(), built.file.as_slice())?;
     }
-    Ok(())
-}
-
-/// Tells how many steps the program took, how many instructions the machine, the most by the table, and the bytes of the text.
-fn tell(rt: &HostRuntime, program: &str, done: &Taken) -> Result<()> {
-    let steps = done.steps;
-    let instructions = done.instructions;
-    let most = done.most;
-    let bytes = done.text;
-    println!(rt;
-        "{program}: {steps} steps, {instructions} instructions of at most {most}, {bytes} bytes"
+    let done = run_file(
+        rt.alloc(),
+        built.file.as_slice(),
+        row.input.as_slice(),
+        row.costs,
     )?;
+    let ending = ends(rt.alloc(), done.status, done.trace.as_slice())?;
+    println!(rt; "{program}: {ending}")?;
+    if told {
+        let instructions = done.instructions;
+        let most = row.costs;
+        let bytes = built.text;
+        println!(rt; "{program}: {instructions} instructions of at most {most}, {bytes} bytes")?;
+    }
     Ok(())
 }

@@ -1,21 +1,22 @@
 //! Reads programs, a line each for their parts.
 
 use crate::names::{conversion, location, operand, operation, target, test, width};
-use crate::trace::{Event, push_events};
 use crate::words::{Words, bytes, number};
 use anyhow::{Context, Result};
 use frames_code::{FlatProgram, Function, Instruction, Location, Operand, Target};
 use std::alloc::Global;
 
-/// A program, what it is run on, and what it comes to.
+/// A program, what it is run on, and for how many instructions of the machine at most.
 #[derive(Drop)]
 pub struct Row {
     pub name: String,
     pub program: FlatProgram,
     pub input: Vec<u8>,
-    pub status: u8,
-    pub trace: Vec<Event>,
+    pub costs: u64,
 }
+
+/// More instructions than a program takes whose costs are not told.
+const ENOUGH: u64 = 100_000_000;
 
 impl Row {
     fn new(alloc: Global, name: &str) -> Result<Row> {
@@ -27,8 +28,7 @@ impl Row {
                 main: 0,
             },
             input: Vec::new(alloc),
-            status: 0,
-            trace: Vec::new(alloc),
+            costs: ENOUGH,
         })
     }
 }
@@ -56,7 +56,7 @@ impl Reader {
             }
             "ends" => {
                 let row = self.row.take().context("no program")?;
-                Ok(Some(ended(self.alloc, row, &mut words)?))
+                Ok(Some(row))
             }
             name => {
                 let mut row = self.row.take().context("no program")?;
@@ -68,21 +68,6 @@ impl Reader {
     }
 }
 
-/// `ends STATUS EVENT ..`
-fn ended(alloc: Global, row: Row, words: &mut Words<'_>) -> Result<Row> {
-    let mut row = row;
-    row.status = u8::try_from(words.number()?)?;
-    let mut word = words.part();
-    for _ in 0..usize::MAX {
-        if word.is_empty() {
-            break;
-        }
-        push_events(alloc, &mut row.trace, word)?;
-        word = words.part();
-    }
-    Ok(row)
-}
-
 fn take_part(alloc: Global, row: &mut Row, name: &str, words: &mut Words<'_>) -> Result<()> {
     match name {
         "input" => {
@@ -91,6 +76,10 @@ fn take_part(alloc: Global, row: &mut Row, name: &str, words: &mut Words<'_>) ->
         }
         "main" => {
             row.program.main = words.number()?;
+            Ok(())
+        }
+        "costs" => {
+            row.costs = u64::try_from(words.number()?)?;
             Ok(())
         }
         "statics" => push_statics(alloc, &mut row.program.statics, words),

@@ -2,15 +2,12 @@
 
 use crate::items::{items_of, list_of};
 use crate::ports::NarrowWriter;
-use crate::row::{given, halves, hexadecimal, number};
+use crate::row::{given, hexadecimal, number};
 use anyhow::{Context, Result};
 use asm::{Item, Items, assemble, list};
 use rv32::decode;
 use std::alloc::Global;
 use std::io::Write;
-
-/// The address at which the rows of sizes are.
-const BASE: u32 = 0x1_1000;
 
 /// The bytes of the code, or the code of the fault.
 fn assembled(alloc: Global, items: &Items, base: u32) -> Result<Result<Vec<u8>, u16>> {
@@ -34,122 +31,110 @@ fn listed<W: Write>(alloc: Global, items: &Items, base: u32, writer: &mut W) -> 
     }
 }
 
-/// The bytes of words written as `WORD` or `WORD*COUNT`.
-fn bytes_of(alloc: Global, text: &str) -> Result<Vec<u8>> {
-    let mut bytes = Vec::new(alloc);
-    for word in text.split(' ') {
-        push_words(&mut bytes, word)?;
-    }
-    Ok(bytes)
+/// The base and the items of `BASE|ITEMS`, the base in hexadecimal.
+fn placed(alloc: Global, row: &str) -> Result<(u32, Items)> {
+    let (base, items) = row.split_once('|').context("no items")?;
+    Ok((hexadecimal(base)?, items_of(alloc, items)?))
 }
 
-fn push_words(bytes: &mut Vec<u8>, text: &str) -> Result<()> {
-    let (word, count) = match text.split_once('*') {
-        Some((word, count)) => (number(word)?, number(count)?),
-        None => (number(text)?, 1),
+/// `WORD`: the line of a listing of this word alone at 0, whose word is the one that it is encoded to.
+pub fn word(alloc: Global, row: &str) -> Result<String> {
+    let Some(instr) = decode(hexadecimal(row)?) else {
+        return Ok(String::from_str(alloc, "none")?);
     };
-    for _ in 0..count {
-        bytes.extend_from_slice(&word.to_le_bytes())?;
-    }
-    Ok(())
-}
-
-/// `BASE|ITEMS|WORDS`: the items' code at the base is these words.
-pub fn has_words(alloc: Global, row: &str) -> Result<bool> {
-    let (base, rest) = halves(row)?;
-    let (items, words) = halves(rest)?;
-    let items = items_of(alloc, items)?;
-    match assembled(alloc, &items, number(base)?)? {
-        Ok(bytes) => Ok(bytes.as_slice() == bytes_of(alloc, words)?.as_slice()),
-        Err(_) => Ok(false),
-    }
-}
-
-/// `WORD|TEXT`: a listing of the word alone has the text behind its first 19 bytes.
-pub fn has_text(alloc: Global, row: &str) -> Result<bool> {
-    let (word, text) = halves(row)?;
-    let instr = decode(number(word)?).context("no instruction")?;
     let mut plain = Vec::new(alloc);
     plain.extend_from_slice(&[Item::Plain(instr)])?;
     let items = Items::new(alloc, plain, 0)?.context("the items are not sound")?;
-    let mut line = Vec::new(alloc);
-    let code = listed(alloc, &items, 0, &mut line)?;
-    let wanted = format!(in alloc; "{text}\n")?;
-    Ok(code == 0 && line.len() >= 19 && &line[19..] == wanted.as_bytes())
+    listing_of(alloc, &items, 0)
 }
 
-/// `ITEMS|SIZE`: the items' code has so many bytes.
-pub fn has_size(alloc: Global, row: &str) -> Result<bool> {
-    let (items, size) = halves(row)?;
-    let items = items_of(alloc, items)?;
-    match assembled(alloc, &items, BASE)? {
-        Ok(bytes) => Ok(bytes.len() == number(size)? as usize),
-        Err(_) => Ok(false),
+/// The lines of a listing, with `|` behind each.
+fn listing_of(alloc: Global, items: &Items, base: u32) -> Result<String> {
+    let mut lines = Vec::new(alloc);
+    let code = listed(alloc, items, base, &mut lines)?;
+    if code != 0 {
+        return Ok(format!(in alloc; "{code}")?);
+    }
+    let text = String::from_utf8_lossy(alloc, lines.as_slice())?;
+    Ok(text.replace(alloc, "\n", "|")?)
+}
+
+/// `BASE|ITEMS`: the words of the items' code, `WORD*COUNT` for so many that follow one another.
+pub fn code(alloc: Global, row: &str) -> Result<String> {
+    let (base, items) = placed(alloc, row)?;
+    let bytes = match assembled(alloc, &items, base)? {
+        Ok(bytes) => bytes,
+        Err(code) => return Ok(format!(in alloc; "{code}")?),
+    };
+    let mut line = String::new(alloc);
+    let mut before = 0;
+    let mut count: usize = 0;
+    for four in bytes.as_slice().chunks(4) {
+        let word = match four {
+            [a, b, c, d] => u32::from_le_bytes([*a, *b, *c, *d]),
+            _ => return None.context("no whole word"),
+        };
+        if count > 0 && word != before {
+            line.push_str(format!(in alloc; "{before:x}*{count} ")?.as_str())?;
+            count = 0;
+        }
+        before = word;
+        count = count.saturating_add(1);
+    }
+    line.push_str(format!(in alloc; "{before:x}*{count}")?.as_str())?;
+    Ok(line)
+}
+
+/// `BASE|ITEMS`: how many bytes the items' code has.
+pub fn size(alloc: Global, row: &str) -> Result<String> {
+    let (base, items) = placed(alloc, row)?;
+    match assembled(alloc, &items, base)? {
+        Ok(bytes) => Ok(format!(in alloc; "{}", bytes.len())?),
+        Err(code) => Ok(format!(in alloc; "{code}")?),
     }
 }
 
-/// `ITEMS|reaches` or `ITEMS|716`: the fault of the code and of the listing, of which nothing is then written.
-pub fn jumps(alloc: Global, row: &str) -> Result<bool> {
-    let (items, wanted) = halves(row)?;
-    let wanted = if wanted == "reaches" {
-        0
-    } else {
-        number(wanted)?
-    };
-    let items = items_of(alloc, items)?;
-    let code = match assembled(alloc, &items, 0)? {
+/// `BASE|ITEMS`: the codes of the faults of the code and of the listing, 0 for none, and whether a line is listed.
+pub fn jump(alloc: Global, row: &str) -> Result<String> {
+    let (base, items) = placed(alloc, row)?;
+    let code = match assembled(alloc, &items, base)? {
         Ok(_) => 0,
         Err(code) => code,
     };
     let mut lines = Vec::new(alloc);
-    let refused = listed(alloc, &items, 0, &mut lines)?;
-    Ok(code as u32 == wanted && refused == code && lines.is_empty() == (wanted != 0))
+    let refused = listed(alloc, &items, base, &mut lines)?;
+    let is_listed = !lines.is_empty();
+    Ok(format!(in alloc; "{code} {refused} {is_listed}")?)
 }
 
-/// `BASE|ITEMS|LINE|LINE..`: the listing of the items, whole and to writers that refuse.
-pub fn has_listing(alloc: Global, row: &str) -> Result<bool> {
-    let mut parts = row.split('|');
-    let base = hexadecimal(given(parts.next())?)?;
-    let items = items_of(alloc, given(parts.next())?)?;
+/// `BASE|ITEMS`: the lines of the listing, and to how many writers that refuse from some byte on it is told as 803, with just
+/// the bytes before written.
+pub fn listing(alloc: Global, row: &str) -> Result<String> {
+    let (base, items) = placed(alloc, row)?;
     let mut whole = Vec::new(alloc);
-    for line in parts {
-        whole.extend_from_slice(line.as_bytes())?;
-        whole.push(b'\n')?;
-    }
-    let mut lines = Vec::new(alloc);
-    let code = listed(alloc, &items, base, &mut lines)?;
-    Ok(
-        code == 0
-            && lines.as_slice() == whole.as_slice()
-            && is_listed_narrowly(alloc, &items, base, whole.as_slice())?,
-    )
-}
-
-/// Whether a writer that refuses from some byte on takes what is before it, with 803 where something is left.
-fn is_listed_narrowly(alloc: Global, items: &Items, base: u32, whole: &[u8]) -> Result<bool> {
+    listed(alloc, &items, base, &mut whole)?;
+    let mut refused: usize = 0;
     for room in 0..=whole.len() {
         let mut writer = NarrowWriter::new(alloc, room);
-        let code = listed(alloc, items, base, &mut writer)?;
-        let wanted = if room < whole.len() { 803 } else { 0 };
-        if code != wanted || writer.taken() != &whole[..room] {
-            return Ok(false);
+        let code = listed(alloc, &items, base, &mut writer)?;
+        if code == 803 && Some(writer.taken()) == whole.get(..room) {
+            refused = refused.saturating_add(1);
         }
     }
-    Ok(true)
+    let lines = listing_of(alloc, &items, base)?;
+    Ok(format!(in alloc; "{lines}{refused}")?)
 }
 
-/// `LABELS|ITEMS|sound` or `not sound`.
-pub fn is_sound(alloc: Global, row: &str) -> Result<bool> {
-    let (labels, rest) = halves(row)?;
-    let (items, wanted) = halves(rest)?;
-    let made = Items::new(alloc, list_of(alloc, items)?, number(labels)? as usize)?;
-    Ok(made.is_some() == (wanted == "sound"))
+/// `LABELS|ITEMS`: whether the items are sound.
+pub fn sound(alloc: Global, row: &str) -> Result<String> {
+    let mut parts = row.split('|');
+    let labels = number(given(parts.next())?)? as usize;
+    let made = Items::new(alloc, list_of(alloc, given(parts.next())?)?, labels)?;
+    Ok(format!(in alloc; "{}", made.is_some())?)
 }
 
-/// `BASE|ITEMS|low` or `not low`.
-pub fn is_low(alloc: Global, row: &str) -> Result<bool> {
-    let (base, rest) = halves(row)?;
-    let (items, wanted) = halves(rest)?;
-    let items = items_of(alloc, items)?;
-    Ok(items.is_low(hexadecimal(base)?) == (wanted == "low"))
+/// `BASE|ITEMS`: whether the items lie low.
+pub fn low(alloc: Global, row: &str) -> Result<String> {
+    let (base, items) = placed(alloc, row)?;
+    Ok(format!(in alloc; "{}", items.is_low(base))?)
 }

@@ -2,10 +2,9 @@
 
 ghost use Rattle.std.specs.Prelude.{◌≡◌};
 
-use crate::programs::Programs;
 use crate::row::{given, number};
-use crate::runs::{TEXT_START, outcome_text, small};
-use anyhow::{Context, Result};
+use crate::runs::machine_of;
+use anyhow::Result;
 use meaning_ports::{IoPort, Port, PortFault};
 use std::alloc::Global;
 use std::io;
@@ -117,19 +116,11 @@ impl Write for TestWriter {
     }
 }
 
-/// What `finish` answered, as a row has it.
-fn finish_text(answer: Result<(), PortFault>) -> &'static str {
-    match answer {
-        Ok(()) => "done",
-        Err(PortFault::Memory) => "801",
-        Err(PortFault::Read) => "802",
-        Err(PortFault::Write) => "803",
-    }
-}
-
-/// `INPUT|ends or fails|ROOM|OUTCOME;OUTCOME|OUTPUT|LEFT|FINISH`, for the program that writes its input.
-pub fn runs_over(alloc: Global, row: &str, programs: &Programs) -> Result<bool> {
+/// `FILE|INPUT|ends or fails|ROOM|STEPS STEPS ..`, over a reader and a writer that are interrupted: what each run comes to, what
+/// `finish` answers, the bytes put, and those of the input that are left.
+pub fn run(alloc: Global, row: &str) -> Result<String> {
     let mut parts = row.split('|');
+    let mut machine = machine_of(alloc, given(parts.next())?)?;
     let reader = TestReader {
         bytes: given(parts.next())?.as_bytes().to_vec(alloc)?,
         next: 0,
@@ -142,33 +133,19 @@ pub fn runs_over(alloc: Global, row: &str, programs: &Programs) -> Result<bool> 
         interrupted: false,
     };
     let mut port = IoPort::new(BufReader::with_capacity(alloc, 0, reader)?, writer);
-    let mut machine = small(alloc, programs, TEXT_START, programs.echo.as_slice())?;
-    for wanted in given(parts.next())?.split(';') {
-        let found = outcome_text(alloc, machine.run(&mut port, 10_000))?;
-        if found.as_str() != wanted {
-            return Ok(false);
-        }
+    let mut line = String::new(alloc);
+    for steps in given(parts.next())?.split(' ') {
+        let outcome = machine.run(&mut port, number(steps)? as u64);
+        line.push_str(format!(in alloc; "{outcome:?};")?.as_str())?;
     }
-    let output = given(parts.next())?;
-    let left = given(parts.next())?;
-    is_finished(port, output, left, given(parts.next())?)
-}
-
-fn is_finished(
-    port: IoPort<TestReader, TestWriter>,
-    output: &str,
-    left: &str,
-    wanted: &str,
-) -> Result<bool> {
-    let mut port = port;
-    let found = finish_text(port.finish());
+    let finished = port.finish();
     let (reader, writer) = port.into_inner();
     let reader = reader.into_inner();
-    let rest = reader
-        .bytes
-        .get(reader.next..)
-        .context("read past the end")?;
-    Ok(found == wanted && writer.bytes.as_slice() == output.as_bytes() && rest == left.as_bytes())
+    let rest = reader.bytes.get(reader.next..).unwrap_or(&[]);
+    let output = String::from_utf8_lossy(alloc, writer.bytes.as_slice())?;
+    let rest = String::from_utf8_lossy(alloc, rest)?;
+    line.push_str(format!(in alloc; "{finished:?};{output};{rest}")?.as_str())?;
+    Ok(line)
 }
 
 /// A port that refuses each call, and tells neither its input nor its output.
@@ -193,19 +170,16 @@ impl Port for RefusingPort {
     }
 }
 
-/// `STEPS=OUTCOME FAILURES;..`, for the program that writes its input, over a port that refuses each call.
-pub fn runs_silent(alloc: Global, row: &str, programs: &Programs) -> Result<bool> {
+/// `FILE|STEPS STEPS ..`, over a port that refuses each call: what each run comes to, and how many calls were refused by then.
+pub fn run_silent(alloc: Global, row: &str) -> Result<String> {
+    let mut parts = row.split('|');
+    let mut machine = machine_of(alloc, given(parts.next())?)?;
     let mut port = RefusingPort { failures: 0 };
-    let mut machine = small(alloc, programs, TEXT_START, programs.echo.as_slice())?;
-    for part in row.split(';') {
-        let (steps, wanted) = part.split_once('=').context("no outcome")?;
+    let mut line = String::new(alloc);
+    for steps in given(parts.next())?.split(' ') {
         let outcome = machine.run(&mut port, number(steps)? as u64);
-        let outcome = outcome_text(alloc, outcome)?;
         let failures = port.failures;
-        let found = format!(in alloc; "{outcome} {failures}")?;
-        if found.as_str() != wanted {
-            return Ok(false);
-        }
+        line.push_str(format!(in alloc; "{outcome:?} {failures};")?.as_str())?;
     }
-    Ok(true)
+    Ok(line)
 }

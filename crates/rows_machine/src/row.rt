@@ -5,11 +5,6 @@ ghost use Rattle.std.specs.Prelude.{◌<◌, IfOk};
 use anyhow::{Context, Result};
 use std::alloc::Global;
 
-/// The two texts around the first `|`.
-pub fn halves(row: &str) -> Result<(&str, &str)> {
-    row.split_once('|').context("a part is missing")
-}
-
 /// A part that has to be there.
 pub fn given(part: Option<&str>) -> Result<&str> {
     part.context("a part is missing")
@@ -44,4 +39,21 @@ pub fn bytes(alloc: Global, text: &str) -> Result<Vec<u8>> {
         }
     }
     Ok(bytes)
+}
+
+/// A file of `SIZE PLACE=BYTES PLACE=BYTES ..`: so many bytes, 0 where no others are told.
+pub fn file_of(alloc: Global, text: &str) -> Result<Vec<u8>> {
+    let mut words = text.split(' ');
+    let mut file = vec![in alloc; 0; number(given(words.next())?)? as usize]?;
+    for word in words {
+        let (place, digits) = word.split_once('=').context("no bytes")?;
+        let mut at = number(place)? as usize;
+        for byte in &bytes(alloc, digits)? {
+            if at < file.len() {
+                file[at] = *byte;
+                at += 1;
+            }
+        }
+    }
+    Ok(file)
 }

@@ -133,5 +133,5 @@ pub fn run_file(alloc: Global, file: &[u8], input: &[u8], most: u64) -> Result<D
             _ => return None.context("the machine trapped"),
         }
     }
-    None.context("the machine took more instructions than the table has")
+    None.context("the machine takes more instructions than its costs")
 }

@@ -1,4 +1,4 @@
-//! Flattens, builds and runs three-address programs: a line for each program that does not do what its row says, and the count.
+//! Flattens and builds three-address programs, and runs them on the machine: prints what each comes to.
 #![tactic(auto)]
 
 mod building;
@@ -6,13 +6,13 @@ mod lines;
 mod names;
 mod reader;
 mod trace;
-mod trying;
 mod words;
 
 use anyhow::{Context, Result};
+use building::{build, run_file};
 use reader::{Reader, Row};
 use std::{env, fs};
-use trying::{Taken, tried};
+use trace::ends;
 
 /// The files that are tried where no words are given.
 const FILES: [&str; 2] = ["programs.txt", "random.txt"];
@@ -33,17 +33,18 @@ fn try_files(rt: &HostRuntime) -> Result<()> {
     Ok(())
 }
 
-/// Tries the programs of a file; tells of each what it took, where it is `told`; and writes each to the folder, if there is one.
+/// Runs the programs of a file; tells of each what it took, where it is `told`; and writes each to the folder, if there is one.
 fn try_file(rt: &HostRuntime, name: &str, folder: &str, told: bool) -> Result<()> {
     let text = fs::read_to_string(rt, name)?;
     let mut reader = Reader::new(rt.alloc());
-    let mut count: usize = 0;
     for (index, line) in text.lines().enumerate() {
         match reader.take(line) {
             Ok(None) => {}
             Ok(Some(row)) => {
-                count = count.saturating_add(1);
-                try_row(rt, name, folder, told, &row)?;
+                let program = row.name.as_str();
+                if let Err(error) = try_row(rt, folder, told, &row) {
+                    println!(rt; "{program}: {error}")?;
+                }
             }
             Err(error) => {
                 let number = index.saturating_add(1);
@@ -51,35 +52,37 @@ fn try_file(rt: &HostRuntime, name: &str, folder: &str, told: bool) -> Result<()
             }
         }
     }
-    println!(rt; "{name}: {count} programs")?;
     Ok(())
 }
 
-fn try_row(rt: &HostRuntime, name: &str, folder: &str, told: bool, row: &Row) -> Result<()> {
+/// What the program does on the machine, how many instructions that took, the most by its costs, and the bytes of main's frame
+/// and of the text.
+fn try_row(rt: &HostRuntime, folder: &str, told: bool, row: &Row) -> Result<()> {
     let program = row.name.as_str();
-    match tried(rt.alloc(), row) {
-        Ok(done) => {
-            if told {
-                tell(rt, program, &done)?;
-            }
-            if !folder.is_empty() {
-                let path = format!(in rt.alloc(); "{folder}/{program}")?;
-                fs::write(rt, path.as_str(), done.file.as_slice())?;
-            }
-        }
-        Err(error) => println!(rt; "{name}: {program}: {error}")?,
+    let built = build(rt.alloc(), &row.program)?;
+    if !folder.is_empty() {
+        let path = format!(in rt.alloc(); "{folder}/{program}")?;
+        fs::write(rt, path.as_str(), built.file.as_slice())?;
     }
-    Ok(())
-}
-
-/// Tells how many instructions the machine took, the most by the table, the bytes of main's frame and those of the text.
-fn tell(rt: &HostRuntime, program: &str, done: &Taken) -> Result<()> {
-    let instructions = done.instructions;
-    let most = done.most;
-    let frame = done.frame;
-    let bytes = done.text;
-    println!(rt;
-        "{program}: {instructions} instructions of at most {most}, a frame of {frame}, {bytes} bytes"
+    if built.frame > row.frame {
+        return None.context("the frame of main is larger");
+    }
+    let done = run_file(
+        rt.alloc(),
+        built.file.as_slice(),
+        row.input.as_slice(),
+        row.costs,
     )?;
+    let ending = ends(rt.alloc(), &done)?;
+    println!(rt; "{program}: {ending}")?;
+    if told {
+        let instructions = done.instructions;
+        let most = row.costs;
+        let frame = built.frame;
+        let bytes = built.text;
+        println!(rt;
+            "{program}: {instructions} instructions of at most {most}, a frame of {frame}, {bytes} bytes"
+        )?;
+    }
     Ok(())
 }

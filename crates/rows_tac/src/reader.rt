@@ -1,13 +1,12 @@
 //! Reads programs, a line each for their parts.
 
 use crate::lines::{instruction, objects_type, parameters, static_object};
-use crate::trace::{Event, push_events};
 use crate::words::{Words, bytes, number};
 use anyhow::{Context, Result};
 use std::alloc::Global;
 use tac_code::{Function, TacProgram};
 
-/// A program, what it is run on, and what it comes to.
+/// A program, what it is run on, and within which bounds.
 #[derive(Drop)]
 pub struct Row {
     pub name: String,
@@ -17,10 +16,6 @@ pub struct Row {
     pub costs: u64,
     /// The most bytes of main's frame.
     pub frame: usize,
-    pub status: u8,
-    /// How many bytes of the input are left.
-    pub left: usize,
-    pub trace: Vec<Event>,
 }
 
 impl Row {
@@ -36,9 +31,6 @@ impl Row {
             input: Vec::new(alloc),
             costs: 0,
             frame: usize::MAX,
-            status: 0,
-            left: 0,
-            trace: Vec::new(alloc),
         })
     }
 }
@@ -66,7 +58,7 @@ impl Reader {
             }
             "ends" => {
                 let row = self.row.take().context("no program")?;
-                Ok(Some(ended(self.alloc, row, &mut words)?))
+                Ok(Some(row))
             }
             name => {
                 let mut row = self.row.take().context("no program")?;
@@ -76,22 +68,6 @@ impl Reader {
             }
         }
     }
-}
-
-/// `ends STATUS LEFT EVENT ..`
-fn ended(alloc: Global, row: Row, words: &mut Words<'_>) -> Result<Row> {
-    let mut row = row;
-    row.status = u8::try_from(words.number()?)?;
-    row.left = words.number()?;
-    let mut word = words.part();
-    for _ in 0..usize::MAX {
-        if word.is_empty() {
-            break;
-        }
-        push_events(alloc, &mut row.trace, word)?;
-        word = words.part();
-    }
-    Ok(row)
 }
 
 fn take_part(alloc: Global, row: &mut Row, name: &str, words: &mut Words<'_>) -> Result<()> {

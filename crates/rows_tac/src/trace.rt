@@ -1,30 +1,33 @@
 //! What a program does to its outside.
 
-use crate::words::bytes;
-use anyhow::{Context, Result};
+use crate::building::Done;
+use anyhow::Result;
 use std::alloc::Global;
 
 /// A byte that was got or put, or the end of the input that was met.
-#[derive(Clone, Copy, Debug, PartialEq, Eq)]
+#[derive(Clone, Copy, PartialEq, Eq)]
 pub enum Event {
     Got(u8),
     GotEnd,
     Put(u8),
 }
 
-/// Adds what a word says: `put:` or `got:` with bytes, or `end`.
-pub fn push_events(alloc: Global, events: &mut Vec<Event>, word: &str) -> Result<()> {
-    if word == "end" {
-        events.push(Event::GotEnd)?;
-        return Ok(());
-    }
-    let (kind, text) = word.split_once(':').context("no event")?;
-    for byte in &bytes(alloc, text)? {
-        match kind {
-            "put" => events.push(Event::Put(*byte))?,
-            "got" => events.push(Event::Got(*byte))?,
-            _ => return None.context("no event"),
+/// `ends STATUS LEFT EVENT ..`: how many bytes of the input are left, and `put:` or `got:` with bytes, or `end`.
+pub fn ends(alloc: Global, done: &Done) -> Result<String> {
+    let status = done.status;
+    let left = done.left;
+    let mut line = format!(in alloc; "ends {status} {left}")?;
+    let mut before = Event::GotEnd;
+    for event in &done.trace {
+        match (*event, before) {
+            (Event::GotEnd, _) => line.push_str(" end")?,
+            (Event::Got(byte), Event::Got(_)) | (Event::Put(byte), Event::Put(_)) => {
+                line.push_str(format!(in alloc; "{byte:02x}")?.as_str())?
+            }
+            (Event::Got(byte), _) => line.push_str(format!(in alloc; " got:{byte:02x}")?.as_str())?,
+            (Event::Put(byte), _) => line.push_str(format!(in alloc; " put:{byte:02x}")?.as_str())?,
         }
+        before = *event;
     }
-    Ok(())
+    Ok(line)
 }

@@ -1,4 +1,4 @@
-"""Makes the rows of crates/const_rows: python3 tests/outside/const/make.py, from the repository's root.
+"""Makes rows.txt: python3 tests/outside/const/make.py, from the repository's root.
 
 Needs gcc with -m32, and clang. Random constant expressions come from a fixed seed. Each is asked of gcc, of clang, and of the
 small model below, which was written from ISO/IEC 9899:2011 6.3 to 6.6 alone and knows which operation is the first without a
@@ -14,7 +14,7 @@ import sys
 
 SEED = 20261124
 VALUES, REFUSED = 200, 60
-FOLDER, ROWS = 'tests/outside/const', 'crates/const_rows'
+FOLDER = 'tests/outside/const'
 FLAGS = ['-m32', '-std=c11', '-pedantic-errors', '-funsigned-char', '-S', '-x', 'c', '-o', '-', '-']
 TEXTS = {502: 'constant expression out of range', 503: 'constant division by zero'}
 
@@ -393,11 +393,10 @@ def main():
     for source, expected in by_hand:
         tell_differences(source, expected)
     rows = values + refused + by_hand
-    with open(ROWS + '/stdin', 'w', encoding='ascii') as file:
-        file.write('@\n'.join(source for source, expected in rows))
-    with open(ROWS + '/stdout', 'w', encoding='ascii') as file:
-        file.write(''.join(expected + '\n@\n' for source, expected in rows))
+    with open(FOLDER + '/rows.txt', 'w', encoding='ascii') as file:
+        file.writelines('===\n%s--- %s\n' % row for row in rows)
     note('%d rows with values, %d refused, %d by hand' % (len(values), len(refused), len(by_hand)))
 
 
-main()
+if __name__ == '__main__':
+    main()

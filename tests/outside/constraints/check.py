@@ -1,55 +1,75 @@
 #!/usr/bin/env python3
-"""check.py CHECK_ROWS: the sources of generate.py and of many.py on the program check_rows; what it says must be what the rows and the model say.
-The last line counts both."""
+"""check.py CC: what the program says of every source here: those of `rows`, whose codes and lines were written by hand, the programs of
+`accepted`, the sources of generate.py and, with their texts, those of many.py. The last line counts."""
 import os
-import re
 import subprocess
 import sys
 import tempfile
 
-here = os.path.dirname(os.path.abspath(__file__))
-program = sys.argv[1]
+HERE = os.path.dirname(os.path.abspath(__file__))
+sys.path.insert(0, os.path.dirname(HERE))
+import asking
+
+# so many there are of each
+COUNTS = {'rows': 756, 'accepted': 263, 'generated': 18, 'many': 19218}
 
 
-def said(source):
-    """What the program says of sources parted by `@`, a string each."""
-    told = subprocess.run([program], input=source, capture_output=True, check=True).stdout.decode()
-    return [row.strip() for row in told.split('@\n')]
+def listed(name):
+    """The rows of a list: a name, and `ok` or the code and the line."""
+    with open(os.path.join(HERE, name)) as lines:
+        for line in lines:
+            words = line.split()
+            if words and not line.startswith('#'):
+                yield words
 
 
 def made(script, folder):
-    subprocess.run([sys.executable, os.path.join(here, script), folder], check=True, stdout=subprocess.DEVNULL)
+    subprocess.run([sys.executable, os.path.join(HERE, script), folder], check=True, stdout=subprocess.DEVNULL)
 
 
-def generated(folder):
-    made('generate.py', folder)
-    for line in open(os.path.join(here, 'generated.txt')):
-        words = line.split()
-        if words and not line.startswith('#'):
-            wanted = 'ok' if words[1] == 'ok' else ' '.join(words[1:3])
-            with open(os.path.join(folder, words[0] + '.c'), 'rb') as source:
-                yield words[0], wanted, said(source.read())[0]
+def source(*path):
+    with open(os.path.join(*path), 'rb') as file:
+        text = file.read()
+    return text if text.endswith(b'\n') else text + b'\n'
 
 
-def many(folder):
-    made('many.py', folder)
-    sources = open(os.path.join(folder, 'stdin'), 'rb').read()
-    wanted = open(os.path.join(folder, 'stdout')).read().split('@\n')
-    for source, row, told in zip(sources.split(b'@\n'), wanted, said(sources)):
-        fault = re.match(r'[^:]*:(\d+): (\d+) ', row)
-        # A directive would have to be preprocessed, which check_rows does not.
-        if source.strip() and b'#' not in source:
-            yield source, '%s %s' % (fault.group(2), fault.group(1)) if fault else row.strip(), told
+def rows():
+    for words in listed('rows.txt'):
+        yield words[0], source(HERE, 'rows', words[0] + '.c'), 'ok' if words[1] == 'ok' else ' '.join(words[1:3])
 
 
-passed = failed = 0
-for rows in generated, many:
+def accepted():
+    for words in listed('accepted.txt'):
+        yield words[0], source(HERE, 'accepted', words[0] + '.c'), 'ok'
+
+
+def generated():
     with tempfile.TemporaryDirectory() as folder:
-        for name, wanted, told in rows(folder):
-            if told == wanted:
-                passed += 1
-            else:
-                failed += 1
-                print('FAIL %r: %s, not %s' % (name, told, wanted))
-print('%d passed, %d failed' % (passed, failed))
-sys.exit(failed != 0 or passed == 0)
+        made('generate.py', folder)
+        for words in listed('generated.txt'):
+            yield words[0], source(folder, words[0] + '.c'), 'ok' if words[1] == 'ok' else ' '.join(words[1:3])
+
+
+def many():
+    with tempfile.TemporaryDirectory() as folder:
+        made('many.py', folder)
+        sources = source(folder, 'stdin').split(b'@\n')[:-1]
+        wanted = source(folder, 'stdout').decode().split('@\n')[:-1]
+        assert len(sources) == len(wanted)
+        for text, line in zip(sources, wanted):
+            yield text, text, line.strip()
+
+
+def main():
+    program, counted = asking.program_of_words(), asking.Counted()
+    for kind in (rows, accepted, generated, many):
+        asked = list(kind())
+        told = asking.side_by_side(lambda row: program.checked(row[1]), asked)
+        for (name, _, wanted), found in zip(asked, told):
+            counted.expect(name, found if kind is many else asking.code_and_line(found), wanted)
+        counted.expect(f'sources of {kind.__name__}', len(asked), COUNTS[kind.__name__])
+    return counted.end()
+
+
+if __name__ == '__main__':
+    sys.exit(main())

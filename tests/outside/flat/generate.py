@@ -445,4 +445,5 @@ def main():
     print('%d programs that got stuck or ran on were left out' % stuck, file=sys.stderr)
 
 
-main()
+if __name__ == "__main__":
+    main()

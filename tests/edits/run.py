@@ -1,0 +1,170 @@
+#!/usr/bin/env python3
+"""run.py [CRATE ..]: tries the edits of this folder, as `rt ci` tries those of crates/NAME/must-fail: the prover must refuse each.
+run.sh says how it is called. Crates are tried side by side; of one crate each edit is checked over what the check of the crate
+as it is has proved, and those that were not refused so are checked again from nothing."""
+import concurrent.futures
+import os
+import re
+import shutil
+import subprocess
+import sys
+import tempfile
+import threading
+
+import tried
+
+KIT = '/opt/rattle'
+LIBRARIES = os.environ.get('LIBRARIES', '')
+LOCK = threading.Lock()
+
+
+def say(text):
+    with LOCK:
+        print(text, flush=True)
+
+
+def library(crate):
+    """Where the proved library of a crate lies."""
+    if LIBRARIES:
+        return os.path.join(LIBRARIES, crate + '.rlib')
+    return os.path.join(tried.ROOT, 'crates', crate, 'out/rlib', crate + '.rlib')
+
+
+def words(crate, all_of_them):
+    """What `rattle check` is given of a crate."""
+    own = tried.below(crate, all_of_them)
+    given = ['--crate-name', crate, 'src/lib.rt']
+    for name in ['std'] + [it for it in all_of_them[crate] if it not in all_of_them]:
+        given += ['--extern', f'{name}={KIT}/rlibs/{name}.rlib']
+    given += ['-L', f'dependency={KIT}/rlibs']
+    for name in all_of_them[crate]:
+        if name in all_of_them:
+            given += ['--extern', f'{name}={library(name)}']
+    for place in dict.fromkeys(os.path.dirname(library(name)) for name in own):
+        given += ['-L', f'dependency={place}']
+    return given + ['--antt-project', f'{KIT}/rattle/logic/antt-project.json', '--logic-built', f'{KIT}/logic_built', '--jobs', '1']
+
+
+def build(crate, all_of_them):
+    """Proves a library that is not there, and says why it could not."""
+    to = library(crate)
+    os.makedirs(os.path.dirname(to), exist_ok=True)
+    command = [f'{KIT}/bin/rattle', 'build', *words(crate, all_of_them), '--statements', '-o', to]
+    ran = subprocess.run(command, cwd=os.path.join(tried.ROOT, 'crates', crate), stdin=subprocess.DEVNULL, capture_output=True, text=True, errors='replace')
+    return '' if ran.returncode == 0 else f'{crate} is not proved: {(ran.stdout + ran.stderr)[:600]}'
+
+
+def edited(edit, folder):
+    """The texts of the files that an edit changes, or why it cannot be applied."""
+    path, old, texts = '', None, {}
+    for line in tried.text_of(edit).split('\n'):
+        if line.startswith('file: '):
+            path = line[6:].strip()
+            if os.path.normpath(path) != path or not path.startswith(('src/', 'specs/', 'proofs/')):
+                return None, "a 'file:' line names no file below src/, specs/ or proofs/"
+        elif line.startswith('old: '):
+            old = line[5:]
+        elif line.startswith('new:'):
+            if not path or not old:
+                return None, "a 'new:' line stands before any 'file:' or 'old:' line"
+            if path not in texts:
+                if not os.path.isfile(f'{folder}/{path}'):
+                    return None, f'there is no file {path}'
+                texts[path] = tried.text_of(f'{folder}/{path}')
+            if texts[path].count(old) != 1:
+                return None, f"an 'old:' text is in {path} {texts[path].count(old)} times, and not once"
+            texts[path], old = texts[path].replace(old, line[5:]), None
+    return (texts, '') if texts else (None, "it has no 'old:' and 'new:' pair")
+
+
+def check(crate, all_of_them, texts, kept):
+    """Checks a copy of the crate with these texts in place of its own, over what `kept` holds where it is given."""
+    with tempfile.TemporaryDirectory(prefix='edit-') as room:
+        for part in ('src', 'specs', 'proofs'):
+            if os.path.isdir(f'{tried.ROOT}/crates/{crate}/{part}'):
+                shutil.copytree(f'{tried.ROOT}/crates/{crate}/{part}', f'{room}/{part}')
+        for path, text in texts.items():
+            with open(f'{room}/{path}', 'w', encoding='utf-8') as file:
+                file.write(text)
+        command = [f'{KIT}/bin/rattle', 'check', *words(crate, all_of_them), *(['--incremental', kept] if kept else [])]
+        ran = subprocess.run(command, cwd=room, stdin=subprocess.DEVNULL, stdout=subprocess.PIPE, stderr=subprocess.STDOUT, text=True, errors='replace')
+    return ran.returncode, ran.stdout.rstrip('\n').split('\n')
+
+
+def unread(line, changed):
+    """Whether the prover could not read an edited text, which says nothing of a contract."""
+    at = re.match(r'(?:\./)?(\S+?):\d+:\d+: error: (?:(`[^`]*`): )?(.*)', line)
+    if not at or at[1] not in changed and not at[1].startswith(('src/', 'specs/')):
+        return False
+    said = re.sub(r'`[^`]*`', '', at[3])
+    return not at[2] or bool(re.search(r'is not in scope|has no field|is no name|operand is missing|expected the end|cannot continue', said))
+
+
+def refused(crate, all_of_them, edit, kept):
+    """Whether the prover refuses the crate with this edit, and what to say."""
+    texts, why = edited(edit, f'{tried.ROOT}/crates/{crate}')
+    if why:
+        return False, 'BAD EDIT: ' + why
+    status, lines = check(crate, all_of_them, texts, kept)
+    bad = next((line for line in lines if unread(line, texts)), '')
+    if bad:
+        return False, 'BAD EDIT: the prover cannot read the edited text: ' + bad[:200]
+    if status == 0:
+        return False, 'NOT REFUSED: the crate is still proved with this edit'
+    if status != 1 or not lines[-1].startswith('logic=not-proved'):
+        return False, 'BAD EDIT: it did not reach the prover: ' + ' '.join(lines[:4])[:400]
+    told = [line for line in lines if re.match(r'(note: )?\S+:\d+:\d+:', line)]
+    told = [line for line in told if ': error' in line or line.startswith('note: ')] or told
+    by_name = r'(\./)?proofs/.*(has no field|is not in scope|has no `|was not admitted)'
+    first = next((line for line in told if not re.match(by_name, line)), '')
+    if told and not first:
+        return True, 'refused, only because a proof file names what the edit took away: write it anew: ' + told[0][:160]
+    return True, 'refused: ' + first[:160]
+
+
+def try_crate(crate, all_of_them):
+    """How many edits of a crate there are, and how many were refused."""
+    edits = tried.files(f'{tried.ROOT}/tests/edits/{crate}', '.edit')
+    before = tried.digest(crate, all_of_them)
+    with tempfile.TemporaryDirectory(prefix='edits-') as kept:
+        status, lines = check(crate, all_of_them, {}, kept)
+        if status:
+            say(f'{crate}: NOT PROVED as it is: {" ".join(lines[:4])[:400]}')
+            return len(edits), 0
+        count = 0
+        for edit in edits:
+            is_refused, why = refused(crate, all_of_them, edit, kept)
+            if not is_refused and not why.startswith('BAD EDIT: an'):
+                is_refused, why = refused(crate, all_of_them, edit, None)
+            say(f'{crate}/{os.path.basename(edit)[:-5]}: {why}')
+            count += is_refused
+    if count == len(edits) and before == tried.digest(crate, all_of_them):
+        with LOCK:
+            tried.write({**tried.read(), crate: before})
+    return len(edits), count
+
+
+def main():
+    all_of_them = tried.libraries()
+    crates = sys.argv[1:] or tried.crates_with_edits()
+    lower = []
+    for crate in crates:
+        lower += [name for name in tried.below(crate, all_of_them) if name not in lower]
+    for name in lower:
+        if not os.path.exists(library(name)):
+            say(f'proving {name}, which is not in {os.path.dirname(library(name))}')
+            why = build(name, all_of_them)
+            if why:
+                say(why)
+                return 1
+    jobs = int(os.environ.get('JOBS') or os.cpu_count() or 1)
+    edits = count = 0
+    with concurrent.futures.ThreadPoolExecutor(jobs) as pool:
+        for all_edits, all_refused in pool.map(lambda crate: try_crate(crate, all_of_them), crates):
+            edits, count = edits + all_edits, count + all_refused
+    print(f'{count} refused, {edits - count} not')
+    return count != edits or count == 0
+
+
+if __name__ == '__main__':
+    sys.exit(main())

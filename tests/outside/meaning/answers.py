@@ -1,0 +1,60 @@
+#!/usr/bin/env python3
+"""Writes the programs of crates/rows_answers and what it must print, from programs.txt: `python3 answers.py [--check]`. With --check it compares
+them with what stands there, and the last line counts."""
+import os
+import sys
+
+HERE = os.path.dirname(os.path.abspath(__file__))
+CRATE = os.path.join(HERE, '..', '..', '..', 'crates/rows_answers')
+sys.path.insert(0, os.path.dirname(HERE))
+import asking
+
+ROWS = 121
+
+
+def rows():
+    """The head of each row, and its program."""
+    found = []
+    with open(os.path.join(HERE, 'programs.txt'), encoding='ascii') as file:
+        for line in file:
+            if line.startswith('=== '):
+                found.append([[part.strip() for part in line[4:].split('|')], ''])
+            elif found:
+                found[-1][1] += line
+    return found
+
+
+def numbers(text):
+    return '' if text == '-' else ' ' + text
+
+
+def ending(run):
+    """How the run is printed."""
+    kind, *parts = run.split(':')
+    if kind == 'undefined':
+        return f'Undefined({parts[0]}, Pos {{ file: 0, line: {parts[1]} }})'
+    return f'Ended({parts[0]})' if kind == 'ended' else 'TicksUsed'
+
+
+def main():
+    given, wanted = [], []
+    for (ticks, data, run, output, left, greatest), source in rows():
+        given.append(ticks + numbers(data) + '\n' + source)
+        wanted.append(f'{ending(run)}, greatest {greatest}, put{numbers(output)}, left{numbers(left)}\n')
+    assert len(given) == ROWS
+    files = {'data/programs.txt': '@\n'.join(given), 'stdout': ''.join(wanted)}
+    if sys.argv[1:] == ['--check']:
+        counted = asking.Counted()
+        for name, text in files.items():
+            with open(os.path.join(CRATE, name), encoding='ascii') as file:
+                counted.expect(f'crates/rows_answers/{name} is what the rows make', file.read() == text, True)
+        return counted.end()
+    for name, text in files.items():
+        with open(os.path.join(CRATE, name), 'w', encoding='ascii') as file:
+            file.write(text)
+    print(len(given), 'rows')
+    return 0
+
+
+if __name__ == '__main__':
+    sys.exit(main())
