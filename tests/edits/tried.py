@@ -1,6 +1,7 @@
 #!/usr/bin/env python3
 """tried.py [CRATE ..]: compares tests/edits/TRIED with this tree: for each crate with a folder here, that its edits were all
-refused when it was as it is now. A crate that does not fit is told, with the command that tries it. The last line counts.
+refused when it was as it is now. A crate that does not fit is told, with the command that tries it; one that TRIED does not
+name is skipped, and told too. The last line counts.
 
 TRIED has a line a crate, its name and a digest, which run.sh writes when all edits of the crate were refused. The digest is
 that of the crate's libraries by crates.txt, its src/, specs/ and edits, and of the contracts of each crate below it: the files
@@ -140,12 +141,16 @@ def write(told):
 
 def main():
     all_of_them, told = libraries(), read()
-    passed, again, failed = 0, [], 0
+    passed, again, failed, skipped = 0, [], 0, 0
     for crate in sys.argv[1:] or crates_with_edits():
         if crate not in all_of_them:
             print(f'FAIL tests/edits/{crate}: crates.txt has no such crate')
             failed += 1
-        elif told.get(crate) == digest(crate, all_of_them):
+        elif crate not in told:
+            print(f'SKIPPED the edits of {crate}: TRIED has no line for it')
+            skipped += 1
+            again.append(crate)
+        elif told[crate] == digest(crate, all_of_them):
             passed += 1
         else:
             print(f'FAIL the edits of {crate} were not tried on this tree')
@@ -156,7 +161,7 @@ def main():
         failed += 1
     if again:
         print('sh tests/edits/run.sh ' + ' '.join(again))
-    print(f'{passed} passed, {failed} failed')
+    print(f'{passed} passed, {failed} failed' + (f', {skipped} skipped' if skipped else ''))
     return failed != 0 or passed == 0
 
 

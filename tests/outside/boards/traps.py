@@ -1,4 +1,4 @@
-"""What programs of a few instructions come to: rows of this folder, and those of crates/rows_machine/data that trap."""
+"""What programs of a few instructions come to: rows of this folder, and those of tests/outside/machine that trap."""
 import os
 import re
 import subprocess
@@ -8,7 +8,7 @@ import boards
 
 DATA = bytes(range(0x80, 0x90))
 MEMORY = 22
-MACHINE = os.path.join(boards.ROOT, 'crates', 'rows_machine', 'data')
+MACHINE = os.path.join(boards.ROOT, 'tests', 'outside', 'machine')
 END = 'addi a0, zero, 0; addi a7, zero, 93; ecall'
 MARK = 0xABADC0DE
 
