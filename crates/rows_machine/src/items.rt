@@ -3,7 +3,7 @@
 use crate::row::{given, number};
 use anyhow::{Context, Result};
 use asm::{Item, Items, ItemsBuilder, Label};
-use rv32::{Five, Test, decode};
+use rv32::{Five, ImmediateOp, Instr, Short, Test, decode};
 use std::alloc::Global;
 use std::str::Split;
 
@@ -33,6 +33,16 @@ fn next_test(parts: &mut Split<'_, char>) -> Result<Test> {
         4 => Ok(Test::LessUnsigned),
         _ => Ok(Test::GreaterEqualUnsigned),
     }
+}
+
+fn nop() -> Item {
+    let zero = Five::new(0);
+    Item::Plain(Instr::Immediate {
+        op: ImmediateOp::Add,
+        rd: zero,
+        left: zero,
+        right: Short::new(0),
+    })
 }
 
 fn next_item(kind: &str, parts: &mut Split<'_, char>) -> Result<Item> {
@@ -73,9 +83,8 @@ pub fn list_of(alloc: Global, text: &str) -> Result<Vec<Item>> {
         let mut parts = part.split(' ');
         let kind = given(parts.next())?;
         if kind == "N" {
-            let nothing = decode(0x13).context("no instruction")?; // addi x0, x0, 0
             for _ in 0..next_number(&mut parts)? {
-                items.extend_from_slice(&[Item::Plain(nothing)])?;
+                items.extend_from_slice(&[nop()])?;
             }
         } else {
             let item = next_item(kind, &mut parts)?;
