@@ -14,6 +14,8 @@ jobs=${JOBS:-$(getconf _NPROCESSORS_ONLN 2>/dev/null || echo 1)}
 # 'N passed, M failed' or 'N passed, M failed, K skipped'. A further check is a further line here.
 checks() {
     cat <<'END'
+boards       | python3                                  | sh tests/outside/boards/check.sh "$cc"
+hostile      | python3                                  | python3 tests/outside/hostile/check.py "$cc"
 includes     | python3                                  | python3 tests/outside/pp/includes.py "$cc"
 scalars      | python3                                  | python3 tests/outside/scalars/check.py "$cc"
 constraints  | python3                                  | python3 tests/outside/constraints/check.py "$cc"
@@ -36,6 +38,8 @@ rows_answers | python3                                  | python3 tests/outside/
 rows_machine | python3                                  | python3 tests/outside/machine/rows.py --check
 rows_flat    | python3                                  | python3 tests/outside/flat/rows.py --check
 rows_tac     | python3                                  | python3 tests/outside/tac/rows.py --check
+variadic     | python3 gcc                              | python3 tests/outside/pp/variadic.py "$cc"
+streams      | python3                                  | python3 tests/outside/streams/check.py "$cc"
 documents    |                                          | sh tests/documents.sh "$cc"
 shown        |                                          | sh run.sh "$cc"
 END
