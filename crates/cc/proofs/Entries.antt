@@ -53,3 +53,10 @@ no_more texts fs ns k le = ap (entries texts (map function_of (drop k fs))) (dro
 
 pub all_put : (old : List (String Global × ℕ × ℕ)) (rest all : List (List ℕ × ℕ × ℕ)) → rest ≡ [] → map shown_entry old ++ rest ≡ all → map shown_entry old ≡ all
 all_put old rest all e done = sym (append_nil (map shown_entry old)) ∙ ap (λ z. map shown_entry old ++ z) (sym e) ∙ done
+
+-- the entries that were put into an empty list
+pub entries_made : (texts : Texts) (old new : List (String Global × ℕ × ℕ)) (fs gs : List Function) (ns ms : List ℕ) → old ≡ [] → gs ≡ fs → ms ≡ ns
+    → map shown_entry new ≡ map shown_entry old ++ entries texts (map function_of gs) ms → map shown_entry new ≡ entries texts (map function_of fs) ns
+entries_made texts old new fs gs ns ms none same_functions same_frames put =
+    put ∙ ap (λ xs. map shown_entry xs ++ entries texts (map function_of gs) ms) none ∙ ap (λ xs. entries texts (map function_of xs) ms) same_functions
+    ∙ ap (entries texts (map function_of fs)) same_frames

@@ -1,7 +1,9 @@
 -- The functions of a typed program weigh no more than the profile lets them.
-use Rattle.std.proofs.Common.{◌≡◌, ◌≤◌, ◌<◌, ℕ, zero, suc, List, [], ◌∷◌, Bool, true, Some, arith}
+use Rattle.std.proofs.Common.{◌≡◌, ◌≤◌, ◌<◌, ℕ, zero, suc, List, [], ◌∷◌, Bool, true, Some, map, get_or, refl, sym, subst, arith}
 use Rattle.std.specs.Prelude.{◌&&◌, ◌^◌, nat_le, nat_lt, slice_get, length}
 use Rattle.typing_rules.specs.Program.{Function, Program}
+use Rattle.typing_program.specs.declared.units.Function as unit
+use Rattle.typing_program.specs.View.{function_of}
 use Rattle.typing_rules.specs.Nodes.{typed_nodes}
 use Rattle.typing_rules.specs.Units.{weight_limit, numbers_in}
 use Rattle.typing_rules.specs.WellTyped.{function_is_typed, functions_are_typed, statics_are_typed, parameters_are_first, statement_is_typed}
@@ -28,3 +30,11 @@ each_light p (g ∷ fs) h (suc k) f e = each_light p fs (right_true (function_is
 pub are_light : (p : Program) → IsReady p → AreLight p.functions
 are_light p ready =
     each_light p p.functions (left_true (functions_are_typed p p.functions) (statics_are_typed p.statics && nat_lt p.main (length p.functions)) ready.checked.well_typed)
+
+-- the function at a number
+pub light_at : (fs : List unit.Function) (k : ℕ) (f : unit.Function) → AreLight (map function_of fs) → k < length fs → f ≡ get_or fs k f → (function_of f).weight < 2 ^ 32
+light_at [] k f h lt e = absurd (omega (arith, lt))
+light_at (g ∷ fs) zero f h lt e =
+    let same : f ≡ g = e in
+    subst (λ x. (function_of x).weight < 2 ^ 32) (sym same) (h zero (function_of g) refl)
+light_at (g ∷ fs) (suc k) f h lt e = light_at fs k f (λ j x ex. h (suc j) x ex) (omega (arith, lt)) e
