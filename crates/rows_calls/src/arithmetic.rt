@@ -88,7 +88,7 @@ fn evaluate(
     }
 }
 
-fn operand(row: &[u8], at: usize) -> Operand {
+fn operand_of(row: &[u8], at: usize) -> Operand {
     Operand {
         of: type_named(field(row, at)),
         value: number(field(row, at.saturating_add(1))),
@@ -98,9 +98,9 @@ fn operand(row: &[u8], at: usize) -> Operand {
 /// `LEFT VALUE OPERATOR RIGHT VALUE`: the type and the value, or the undefined act.
 pub fn write_operation(alloc: Global, output: &mut Vec<u8>, row: &[u8]) -> Result<()> {
     let (of, value) = evaluate(
-        operand(row, 1),
+        operand_of(row, 1),
         operator_named(field(row, 3)),
-        operand(row, 4),
+        operand_of(row, 4),
     );
     let text = match value {
         Ok(value) => format!(in alloc; "{of:?} {value}")?,
@@ -112,7 +112,7 @@ pub fn write_operation(alloc: Global, output: &mut Vec<u8>, row: &[u8]) -> Resul
 
 /// A number converted to a type, and whether the type has the number.
 pub fn write_conversion(alloc: Global, output: &mut Vec<u8>, row: &[u8]) -> Result<()> {
-    let Operand { of, value } = operand(row, 1);
+    let Operand { of, value } = operand_of(row, 1);
     let converted = convert(of, value);
     let is_value = of.contains(value);
     let text = format!(in alloc; "{converted} {is_value}")?;
