@@ -1,0 +1,143 @@
+-- What is promised of a built file, in the words of what is seen of it: what it does to its outside, whether it traps, with which status it ends
+-- (ISO/IEC 9899:2011 5.1.2.3p6).
+use Rattle.std.specs.Prelude.{◌≡◌, ◌≤◌, ◌<◌, ℕ, ◌+◌, ◌*◌, ◌%◌, ◌^◌, ◌||◌, List, ◌++◌, length, reverse, true, Option, Some, Ok}
+use Rattle.srcset.specs.declared.refusal.Pos.{Pos}
+use Rattle.tree.specs.Tree.{ExternalTree}
+use Rattle.rv32.specs.declared.instr.Instr.{Instr}
+use Rattle.rv32.specs.declared.instr.Instr.TheVariants.{Load, Store, Ecall}
+use Rattle.rv32.specs.declared.instr.LoadKind.{LoadKind}
+use Rattle.rv32.specs.declared.instr.LoadKind.TheVariants as load_kind
+use Rattle.rv32.specs.declared.instr.StoreKind.{StoreKind}
+use Rattle.rv32.specs.declared.instr.StoreKind.TheVariants as store_kind
+use Rattle.rv32.specs.declared.state.Cause.{Cause}
+use Rattle.rv32.specs.Words.{decode_of}
+use Rattle.rv32.specs.Space.{Space, all_four, both, word_at}
+use Rattle.rv32.specs.Step.{Machine, register}
+use Rattle.loader.specs.File.{Image, file_image}
+use Rattle.elf_out.specs.Layout.{Parts}
+use Rattle.elf_out.specs.Program.{is_text, is_data, is_stack}
+use Rattle.meaning_events.specs.Events.{Event}
+use Rattle.sim.specs.Runs as sim
+use Rattle.sim.specs.Runs.{World, Progress, Running, Trapped, rvrun, start_world}
+use Rattle.typing_rules.specs.Program.{Program}
+use Rattle.typing_rules.specs.Verdict.{fine}
+use Rattle.typing_rules.specs.Units.{unit_typed}
+use Rattle.meaning.specs.Machine.{Ending, Ended, Undefined, TicksUsed}
+use Rattle.meaning.specs.Meaning.{answer}
+use Rattle.cc_backend.specs.Runs.{RunsAs, IsInput}
+use Rattle.cc_backend.specs.Made.{IsFileOf}
+
+-- ---- of whom it is said
+
+-- the run has ended with a status, or has used its ticks: it has met nothing undefined
+abbrev pub IsDefined : Ending → Type 0
+IsDefined (Ended status) = Unit {0}
+IsDefined (Undefined act at) = ⊥
+IsDefined TicksUsed = Unit {0}
+
+-- for every number of ticks, the program meets nothing undefined on this input, and the weights of its active calls never sum to more than the stack
+abbrev pub StaysDefined : (stack : ℕ) → Program → (input : List ℕ) → Type 0
+StaysDefined stack p input = (n : ℕ) → IsDefined (answer n p input).ending × ((answer n p input).greatest ≤ stack)
+
+-- the file has an image, of which this holds
+abbrev pub HasImage : (file : List ℕ) → (Image → Type 0) → Type 0
+HasImage file Promise = (image : Image) × (file_image file ≡ Ok image) × Promise image
+
+-- for every stack size, every program, and every file that runs as it does: from its image, for every input of bytes on which the program stays defined
+abbrev pub OfEachFile : (Program → Image → (input : List ℕ) → Type 0) → Type 0
+OfEachFile Promise =
+    (stack : ℕ) (p : Program) (frames file : List ℕ) → RunsAs stack p frames file
+    → HasImage file (λ image. (input : List ℕ) → IsInput input → StaysDefined stack p input → Promise p image input)
+
+-- the file's run of k instructions on an input
+abbrev pub run_of : Image → (input : List ℕ) → (k : ℕ) → Progress
+run_of image input k = rvrun k (start_world image input)
+
+-- what a run did to its outside, in order
+abbrev pub done_in : Progress → List Event
+done_in (Running w) = reverse w.trace
+done_in (sim.Ended status w) = reverse w.trace
+done_in (Trapped c w) = reverse w.trace
+
+-- ---- what the file does
+
+-- all that the abstract machine does: what it has done within any n ticks, the file has done after some k instructions
+abbrev pub DoesAll : Type 0
+DoesAll = OfEachFile (λ p image input. (n : ℕ) → (k : ℕ) × (done_in (run_of image input k) ≡ (answer n p input).trace))
+
+abbrev pub IsBeginning : (first whole : List Event) → Type 0
+IsBeginning first whole = (more : List Event) × (whole ≡ first ++ more)
+
+-- and nothing else: what the file has done after any k instructions is a beginning of what the abstract machine does within some n ticks
+abbrev pub DoesNoMore : Type 0
+DoesNoMore = OfEachFile (λ p image input. (k : ℕ) → (n : ℕ) × IsBeginning (done_in (run_of image input k)) (answer n p input).trace)
+
+-- ---- where it stays
+
+-- after no k instructions has it trapped
+abbrev pub NeverTraps : Type 0
+NeverTraps = OfEachFile (λ p image input. (k : ℕ) (c : Cause) (w : World) → run_of image input k ≡ Trapped c w → ⊥)
+
+-- each byte that a load at a gets may be read
+abbrev pub MayLoad : Space → LoadKind → (a : ℕ) → Type 0
+MayLoad s load_kind.Byte a = s.can_read a ≡ true
+MayLoad s load_kind.ByteUnsigned a = s.can_read a ≡ true
+MayLoad s load_kind.Half a = both s.can_read a ≡ true
+MayLoad s load_kind.HalfUnsigned a = both s.can_read a ≡ true
+MayLoad s load_kind.Word a = all_four s.can_read a ≡ true
+
+-- each byte that a store at a puts may be written
+abbrev pub MayStore : Space → StoreKind → (a : ℕ) → Type 0
+MayStore s store_kind.Byte a = s.can_write a ≡ true
+MayStore s store_kind.Half a = both s.can_write a ≡ true
+MayStore s store_kind.Word a = all_four s.can_write a ≡ true
+
+-- the instruction at which the machine stands
+abbrev pub instruction_at : Machine → Option Instr
+instruction_at m = decode_of (word_at m.space.byte m.pc)
+
+-- The word at the pc may be executed. What it loads may be read, and what it stores may be written; where it is a call of the environment, the byte at
+-- a1 that 63 stores may be written, and the one that 64 loads may be read.
+pub record IsInside (s : Space) (m : Machine) : Type 0 where
+  pub fetches : all_four s.can_execute m.pc ≡ true
+  pub loads : (kind : LoadKind) (rd base v : ℕ) → instruction_at m ≡ Some (Load kind rd base v) → MayLoad s kind ((register m base + v) % 2 ^ 32)
+  pub stores : (kind : StoreKind) (source base v : ℕ) → instruction_at m ≡ Some (Store kind source base v) → MayStore s kind ((register m base + v) % 2 ^ 32)
+  pub gets : instruction_at m ≡ Some Ecall → register m 17 ≡ 63 → s.can_write (register m 11) ≡ true
+  pub puts : instruction_at m ≡ Some Ecall → register m 17 ≡ 64 → s.can_read (register m 11) ≡ true
+
+-- at each instruction, by the permissions with which the file was loaded
+abbrev pub StaysInside : Type 0
+StaysInside = OfEachFile (λ p image input. (k : ℕ) (w : World) → run_of image input k ≡ Running w → IsInside image.space w.machine)
+
+-- the text may be executed, the data and the stack may be read and written, and nothing else
+pub record IsLaidOut (parts : Parts) (s : Space) : Type 0 where
+  pub executes : (a : ℕ) → s.can_execute a ≡ is_text parts a
+  pub reads : (a : ℕ) → s.can_read a ≡ (is_data parts a || is_stack a)
+  pub writes : (a : ℕ) → s.can_write a ≡ (is_data parts a || is_stack a)
+
+-- those are the permissions of a file that is made of a program
+abbrev pub FilesAreLaidOut : Type 0
+FilesAreLaidOut = (p : Program) (file frames : List ℕ) (made : IsFileOf p file frames) → HasImage file (λ image. IsLaidOut made.parts image.space)
+
+-- ---- how it ends
+
+-- as the abstract machine does: where the file has ended with a status, that ends with it within some n ticks, having done the same
+abbrev pub EndsOnlySo : Type 0
+EndsOnlySo = OfEachFile (λ p image input. (k status : ℕ) (w : World) → run_of image input k ≡ sim.Ended status w
+    → (n : ℕ) × ((answer n p input).ending ≡ Ended status) × ((answer n p input).trace ≡ reverse w.trace))
+
+-- main is one of the program's functions
+abbrev pub HasMain : Program → Type 0
+HasMain p = p.main < length p.functions
+
+-- so it is in the program of every unit that breaks no constraint (5.1.2.2.1)
+abbrev pub UnitsHaveMain : Type 0
+UnitsHaveMain = (texts : List (List ℕ)) (whole : Pos) (unit : List ExternalTree) (p : Program) → unit_typed texts whole unit ≡ fine p → HasMain p
+
+-- and soon: where the abstract machine ends within n ticks, the file ends with the same status after at most 64 n + 64 instructions, having done the same
+abbrev pub EndsInTime : Type 0
+EndsInTime =
+    (stack : ℕ) (p : Program) (frames file : List ℕ) → RunsAs stack p frames file → HasMain p
+    → HasImage file (λ image. (input : List ℕ) → IsInput input
+    → (n status : ℕ) → (answer n p input).ending ≡ Ended status → (answer n p input).greatest ≤ stack
+    → (k : ℕ) × (w : World) × (k ≤ 64 * n + 64) × (run_of image input k ≡ sim.Ended status w) × (reverse w.trace ≡ (answer n p input).trace))

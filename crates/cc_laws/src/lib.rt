@@ -1,0 +1,47 @@
+//! What is promised of a built file, in the words of what is seen of it. There is nothing to run: each law is the contract of a function without code.
+#![tactic(auto)]
+
+ghost use Rattle.cc_laws.specs.Laws.{DoesAll, DoesNoMore, NeverTraps, StaysInside, FilesAreLaidOut, EndsOnlySo, UnitsHaveMain, EndsInTime};
+
+/// What the abstract machine has done within any number of ticks, the file has done after some number of instructions.
+pub fn does_all()
+    ensures { DoesAll }
+{}
+
+/// What the file has done after any number of instructions is a beginning of what the abstract machine does.
+pub fn does_no_more()
+    ensures { DoesNoMore }
+{}
+
+/// The file never traps. So it never fetches outside its text and never stores outside its data and its stack: by the table of instructions a fetch
+/// of a word that may not be executed is a trap, and a store to a byte that may not be written is one, and by the headers of a built file the text
+/// alone may be executed, the data and the stack alone may be written.
+pub fn never_traps()
+    ensures { NeverTraps }
+{}
+
+/// At each instruction the word at the pc may be executed, and each byte that a store or a read of input puts may be written, by the permissions with
+/// which the file was loaded, which no instruction changes.
+pub fn stays_inside()
+    ensures { StaysInside }
+{}
+
+/// Of a file that is made of a program the text alone may be executed, and the data and the stack alone may be read and written.
+pub fn files_are_laid_out()
+    ensures { FilesAreLaidOut }
+{}
+
+/// Where the file has ended with a status, the abstract machine ends with this status, having done the same: the file ends nowhere else.
+pub fn ends_only_so()
+    ensures { EndsOnlySo }
+{}
+
+/// The program of a unit that breaks no constraint has its main among its functions.
+pub fn units_have_main()
+    ensures { UnitsHaveMain }
+{}
+
+/// Where the abstract machine ends within n ticks, the file ends with the same status after at most 64 n + 64 instructions, having done the same.
+pub fn ends_in_time()
+    ensures { EndsInTime }
+{}
