@@ -67,7 +67,7 @@ static int is_word(const char word[])
     skip_spaces();
     while (word[k] != 0 && line[at + k] == word[k])
         k++;
-    if (word[k] != 0 || line[at + k] != ' ' && line[at + k] != 0)
+    if (word[k] != 0 || (line[at + k] != ' ' && line[at + k] != 0))
         return 0;
     at += k;
     return 1;

@@ -18,6 +18,7 @@ machine=
 ended() {
     status=$?
     [ -z "$machine" ] || kill -9 "$machine" 2>/dev/null || :
+    wait 2>/dev/null || :
     rm -rf "$work"
     exit $status
 }

@@ -23,6 +23,7 @@ ended() {
     status=$?
     [ -z "$typing" ] || kill "$typing" 2>/dev/null || :
     [ -z "$machine" ] || kill -9 "$machine" 2>/dev/null || :
+    wait 2>/dev/null || :
     rm -rf "$work"
     exit $status
 }
@@ -46,7 +47,7 @@ elif [ -t 0 ]; then
     exec 4<&0
     {
         cat <&4 &
-        trap 'kill $!' TERM
+        trap 'kill $!; wait $! 2>/dev/null' TERM
         wait
         printf '\004'
     } >"$work/typed" &
