@@ -93,7 +93,7 @@ while IFS='|' read -r name needs command; do
     fi
 done <"$logs/checks" >"$logs/told"
 grep '^SKIPPED ' "$logs/told"
-for tool in gcc clang qemu-riscv32 riscv64-unknown-elf-as riscv64-unknown-elf-readelf; do
+for tool in gcc clang qemu-riscv32 qemu-system-riscv32 riscv64-unknown-elf-as riscv64-unknown-elf-readelf; do
     command -v "$tool" >/dev/null 2>&1 || echo "note: $tool is missing; what needs it is skipped (sh tests/outside/tools.sh installs it, as root on Debian)"
 done
 

@@ -21,6 +21,7 @@ while read -r tool package; do
     has "$tool" || { echo "missing: $tool ($package)"; lacking=1; }
 done <<'END'
 qemu-riscv32 qemu-user
+qemu-system-riscv32 qemu-system-misc
 riscv64-unknown-elf-readelf binutils-riscv64-unknown-elf
 END
 exit $lacking
