@@ -108,7 +108,10 @@ class Source:
             elif kind == 2 and strings:
                 body.append(rng.choice(["#", "# "]) + rng.choice(operands))
             elif kind == 3 and joins:
-                body.append(rng.choice(operands + ["a"]) + rng.choice([" ## ", "##"]) + rng.choice(operands))
+                # gcc takes a comma before ## __VA_ARGS__, which the standard does not
+                left = rng.choice(operands + ["a"])
+                right = rng.choice(parameters + ["a"] if left == "__VA_ARGS__" else operands)
+                body.append(left + rng.choice([" ## ", "##"]) + right)
             elif kind == 4 and self.macros:
                 callee = rng.choice(sorted(self.macros))
                 body.append("%s(%s)" % (callee, rng.choice(operands) if rng.random() < 0.6 else "a, " + rng.choice(operands)))
