@@ -62,7 +62,7 @@ assembler=$(first $tools-as)
 linker=$(first $tools-ld)
 hostgcc=$(first gcc)
 limit=$(first timeout)
-limit=${limit:+$limit 20}
+limit=${limit:+$limit 60}
 for tool in "$qemu:qemu-riscv32" "$readelf:readelf" "$objdump:objdump" "$assembler:$tools-as" "$linker:$tools-ld" "$hostgcc:gcc"; do
     [ -n "${tool%%:*}" ] || echo "missing: ${tool#*:}; what needs it is skipped"
 done
