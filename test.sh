@@ -6,7 +6,7 @@
 #
 # CC is the program; by default that of release/, where this tree is what it was proved and built from, else bin/cc as it
 # was built. The last line counts all checks; the exit status is 0 where none failed and some passed. JOBS=N: so many checks
-# side by side (a processor each, by default).
+# side by side (a processor each, by default). As root on Debian, sh tests/outside/tools.sh installs the tools of others.
 cd "$(dirname "$0")" || exit 1
 jobs=${JOBS:-$(getconf _NPROCESSORS_ONLN 2>/dev/null || echo 1)}
 
@@ -94,8 +94,8 @@ while IFS='|' read -r name needs command; do
     fi
 done <"$logs/checks" >"$logs/told"
 grep '^SKIPPED ' "$logs/told"
-for tool in gcc clang qemu-riscv32 qemu-system-riscv32 riscv64-unknown-elf-as riscv64-unknown-elf-readelf; do
-    command -v "$tool" >/dev/null 2>&1 || echo "note: $tool is missing; what needs it is skipped (sh tests/outside/tools.sh installs it, as root on Debian)"
+for tool in gcc qemu-riscv32 qemu-system-riscv32 riscv64-unknown-elf-as riscv64-unknown-elf-readelf; do
+    command -v "$tool" >/dev/null 2>&1 || echo "note: $tool is missing; what needs it is skipped"
 done
 
 # Each check ends with one line of its own, in the order in which they end; what it says beside is told where it failed or skipped.

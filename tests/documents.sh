@@ -4,7 +4,7 @@
 #
 #   sh tests/documents.sh [CC]
 #
-# The last line counts the checks.
+# The last line counts the checks; those of scripts in Python are skipped where python3 is missing.
 set -u
 LC_ALL=C.UTF-8
 export LC_ALL
@@ -15,12 +15,18 @@ trap 'rm -rf "$work"' EXIT
 
 passed=0
 failed=0
+skipped=0
 pass() { passed=$((passed + 1)); }
 fail() { failed=$((failed + 1)); echo "FAIL $*"; }
 same() { if cmp -s "$2" "$3"; then pass; else fail "$1"; diff "$2" "$3" | head -n 6; fi; }
 
 # script COMMAND..: a script that ends with `N passed, M failed`, whose counts are added.
 script() {
+    if ! command -v "$1" >/dev/null 2>&1; then
+        skipped=$((skipped + 1))
+        echo "skipped: $*: $1 is missing"
+        return
+    fi
     "$@" >"$work/said" 2>&1
     told=$(tail -n 1 "$work/said" | sed -n 's/^\([0-9][0-9]*\) passed, \([0-9][0-9]*\) failed$/\1 \2/p')
     if [ -z "$told" ]; then
@@ -75,5 +81,9 @@ else
     pass
 fi
 
-echo "$passed passed, $failed failed"
+if [ $skipped -gt 0 ]; then
+    echo "$passed passed, $failed failed, $skipped skipped"
+else
+    echo "$passed passed, $failed failed"
+fi
 [ $failed = 0 ]
