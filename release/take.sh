@@ -4,6 +4,6 @@
 set -eu
 cd "$(dirname "$0")/.."
 built=crates/cc_program/out/cc_program
-[ -x "$built" ] || { echo "no program at $built: run rt run in crates/cc_program, or sh test.sh" >&2; exit 1; }
+[ -x "$built" ] || { echo "no program at $built: run rt run in crates/cc_program, or sh prove.sh" >&2; exit 1; }
 cp "$built" release/cc
 sh release/digest.sh >release/SOURCES
