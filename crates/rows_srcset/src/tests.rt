@@ -144,7 +144,7 @@ fn each_code_has_its_text(rt: HostRuntime) -> Result<(), Fail> {
             shown = shown.saturating_add(1);
         }
     }
-    assert_eq!(rt; (listed, shown), (107, 107));
+    assert_eq!(rt; (listed, shown), (108, 108));
     Ok(())
 }
 
