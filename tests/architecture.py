@@ -32,7 +32,7 @@ def groups():
                 name, _, text = told.partition(': ')
                 found.append((name, text, []))
                 comment = []
-            found[-1][2].append(line.split(':')[0])
+            found[-1][2].append(line.split(':')[0].split()[0])
     return found
 
 def crates():

@@ -30,7 +30,7 @@ def files(*roots):
             yield from (os.path.join(at, name) for name in sorted(names) if name.endswith(('.rt', '.antt', '.py', '.sh')))
 
 def flow():
-    return [line.split(':')[0] for line in read('crates.txt').split('\n') if line.strip() and not line.startswith('#')]
+    return [line.split(':')[0].split()[0] for line in read('crates.txt').split('\n') if line.strip() and not line.startswith('#')]
 
 def lists(pattern, without):
     """Of each crate the files in which the names stand, and those of the tests from outside."""

@@ -75,7 +75,7 @@ def home(paths):
     for line in open('crates.txt'):
         if line.strip() and not line.startswith('#'):
             name, _, more = line.partition(':')
-            needs[name] = set(more.split())
+            needs[name.split()[0]] = set(more.split())
     here = {path.split('/')[1] for path in paths}
     return next((crate for crate in sorted(here) if all(crate == it or crate in needs.get(it, ()) for it in here)), None)
 

@@ -1,0 +1,91 @@
+"""Zikorape from Python, by ctypes: `build`, `frames`, `preprocess`, `listing`, `interpret`, `run`, `message`, `version`.
+
+    import zikorape
+    zk = zikorape.Library('libzikorape.so')
+    answer = zk.build({'main.c': b'int main(void) { return 42; }\n'}, 'main.c')      # files by name, or a list of pairs
+    zk.run(answer.output).status                     # 42
+
+A file's text is bytes or str (UTF-8). The library is shared: `gcc -shared -o libzikorape.so -Wl,--whole-archive libzikorape.a`, which
+`sh install.sh` does. Calls release the interpreter's lock, and each thread may make
+them; a thread needs a stack of 2.25 MiB (`threading.stack_size(8 << 20)`), and the main thread has it."""
+import ctypes
+from dataclasses import dataclass
+
+MAX = 1_000_000_000
+
+
+class File(ctypes.Structure):
+    _fields_ = [('name', ctypes.c_uint64), ('bytes', ctypes.c_uint64)]
+
+
+class Sizes(ctypes.Structure):
+    _fields_ = [('output', ctypes.c_uint64), ('message', ctypes.c_uint64)]
+
+
+@dataclass
+class Answer:
+    """`status` as the program zkc has it (256: no files), the output, and the line of a fault or of why a program stopped."""
+    status: int
+    output: bytes
+    message: str
+
+
+def _bytes(text):
+    return text.encode() if isinstance(text, str) else bytes(text)
+
+
+def _slice(data):
+    return (ctypes.c_char_p(data), ctypes.c_size_t(len(data)))
+
+
+class Library:
+    def __init__(self, path='libzikorape.so'):
+        self._c = ctypes.CDLL(path)
+        for name in ('build', 'frames', 'preprocess', 'list', 'interpret', 'run'):
+            getattr(self._c, 'zk_' + name).restype = ctypes.c_uint32
+        for name in ('message', 'version'):
+            getattr(self._c, 'zk_' + name).restype = ctypes.c_uint64
+
+    def build(self, files, main):
+        return self._over(self._c.zk_build, files, main)
+
+    def frames(self, files, main):
+        return self._over(self._c.zk_frames, files, main)
+
+    def preprocess(self, files, main):
+        return self._over(self._c.zk_preprocess, files, main)
+
+    def listing(self, files, main):
+        return self._over(self._c.zk_list, files, main)
+
+    def interpret(self, files, main, input=b'', max=MAX):
+        return self._over(self._c.zk_interpret, files, main, *_slice(_bytes(input)), ctypes.c_uint64(max))
+
+    def run(self, file, input=b'', max=MAX, name='a.out'):
+        return self._call(self._c.zk_run, *_slice(file), *_slice(_bytes(name)), *_slice(_bytes(input)), ctypes.c_uint64(max))
+
+    def message(self, code):
+        return self._text(self._c.zk_message, ctypes.c_uint16(code))
+
+    def version(self):
+        return self._text(self._c.zk_version)
+
+    def _over(self, call, files, main, *more):
+        names = [(_bytes(name), _bytes(text)) for name, text in (files.items() if hasattr(files, 'items') else files)]
+        lengths = (File * max(len(names), 1))(*[File(len(name), len(text)) for name, text in names])
+        texts = b''.join(name + text for name, text in names)
+        return self._call(call, *_slice(texts), lengths, ctypes.c_size_t(len(names)), *_slice(_bytes(main)), *more)
+
+    def _call(self, call, *arguments):
+        room, lines, sizes = 1 << 16, 1 << 12, Sizes()
+        while True:
+            out, message = ctypes.create_string_buffer(room), ctypes.create_string_buffer(lines)
+            status = call(*arguments, out, ctypes.c_size_t(room), message, ctypes.c_size_t(lines), ctypes.byref(sizes))
+            if sizes.output <= room and sizes.message <= lines:
+                return Answer(status, out.raw[:sizes.output], message.raw[:sizes.message].decode('utf-8', 'replace'))
+            room, lines = max(room, sizes.output), max(lines, sizes.message)
+
+    def _text(self, call, *arguments):
+        out = ctypes.create_string_buffer(256)
+        length = call(*arguments, out, ctypes.c_size_t(256))
+        return out.raw[:length].decode()

@@ -1,0 +1,3 @@
+pub mod GivenLemmas
+pub mod HandingOut
+pub mod Performing

@@ -1,0 +1,11 @@
+pub use Rattle.srcset.specs.Files
+pub use Rattle.srcset.specs.Fault
+pub use Rattle.meaning_ports.specs.Port
+pub use Rattle.cc.specs.Compiled
+pub use Rattle.cc.specs.Refused
+pub use Rattle.cc.specs.Performed
+pub use Rattle.cc.specs.Reported
+pub mod Given
+pub mod Got
+pub mod Answered
+pub mod inside

@@ -1,0 +1,84 @@
+/* Zikorape as a library: a C compiler for RISC-V RV32IM, its simulator and its interpreter. Link libzikorape.a; of
+   the C library it calls malloc, realloc, free and the copying of memory, nothing else.
+
+   Each call takes numbers and slices of bytes, keeps nothing between calls, and may be made from several threads at once.
+   A slice is a pointer and a length; a pointer is never null, also where the length is 0, and no two slices that a call
+   writes overlap each other or one that it reads. Nothing else is asked of the caller.
+
+   FILES. A call over source files takes `texts`: the name of each file and its bytes, one after another, with nothing
+   between; and `files`: of each, how long these are. `main` is the name of the main file. A name has 1 to 255 printable
+   ASCII bytes without " \ < >, a file at most 1,048,576 bytes, a set at most 256 files.
+
+   ANSWERS. A call fills `out` and `message` as far as there is room, leaves what is behind, and tells in `sizes` how long
+   the output and the message are: a buffer of fewer bytes was too small, and one of so many is large enough. A message is
+   one line with a newline, or empty; neither has a zero at its end.
+   After status 1 or 256 of zk_build, zk_frames, zk_preprocess and zk_list the output is empty, and `out` is as it was.
+
+   STATUS, as of the program zkc:
+     0    done; zk_interpret and zk_run: the program's own status, 0 to 255
+     1    a fault, which the message tells: FILE:LINE: CODE TEXT (docs/FAULTS.md), or cc: 801 out of memory
+     123  zk_interpret: an undefined act; the message tells which, and where
+     124  zk_interpret, zk_run: the program goes on after so many ticks or instructions
+     125  zk_run: a trap; the message tells which, and where
+     126  zk_interpret, zk_run: memory ran out for the output
+     256  the lengths of `files` do not add up to that of `texts`
+   A program can end with any status from 0 to 255; where it ended by itself, the message is empty.
+
+   STACK. A call takes up to 2.25 MiB of its thread's stack, for a source of depth 256. A thread of glibc has 8 MiB by default; those
+   of musl have 128 KiB, and of macOS, but for the first, 512 KiB, which is too small. */
+#ifndef ZIKORAPE_H
+#define ZIKORAPE_H
+#include <stddef.h>
+#include <stdint.h>
+#ifdef __cplusplus
+extern "C" {
+#endif
+
+/* How long a file's name is and how long its text, in bytes. */
+struct zk_file { uint64_t name, bytes; };
+
+/* How many bytes the output and the message of a call have. */
+struct zk_sizes { uint64_t output, message; };
+
+/* The executable file (ELF32) of the program: `out`. */
+uint32_t zk_build(const uint8_t *texts, size_t texts_length, const struct zk_file *files, size_t files_length,
+                  const uint8_t *main, size_t main_length,
+                  uint8_t *out, size_t out_length, uint8_t *message, size_t message_length, struct zk_sizes *sizes);
+
+/* A line for each function, in order: its name, the bytes of its frame on the stack, and its weight, a bound on these that the
+   source alone gives; one space between. */
+uint32_t zk_frames(const uint8_t *texts, size_t texts_length, const struct zk_file *files, size_t files_length,
+                   const uint8_t *main, size_t main_length,
+                   uint8_t *out, size_t out_length, uint8_t *message, size_t message_length, struct zk_sizes *sizes);
+
+/* The tokens after preprocessing, one space between, and a newline. */
+uint32_t zk_preprocess(const uint8_t *texts, size_t texts_length, const struct zk_file *files, size_t files_length,
+                       const uint8_t *main, size_t main_length,
+                       uint8_t *out, size_t out_length, uint8_t *message, size_t message_length, struct zk_sizes *sizes);
+
+/* A line for each word of the program's code: its address, the word, the instruction. */
+uint32_t zk_list(const uint8_t *texts, size_t texts_length, const struct zk_file *files, size_t files_length,
+                 const uint8_t *main, size_t main_length,
+                 uint8_t *out, size_t out_length, uint8_t *message, size_t message_length, struct zk_sizes *sizes);
+
+/* What the program means, over this input, for at most `max` ticks of the abstract machine; the output is what it has put. */
+uint32_t zk_interpret(const uint8_t *texts, size_t texts_length, const struct zk_file *files, size_t files_length,
+                      const uint8_t *main, size_t main_length, const uint8_t *input, size_t input_length, uint64_t max,
+                      uint8_t *out, size_t out_length, uint8_t *message, size_t message_length, struct zk_sizes *sizes);
+
+/* Runs an executable file, which a message calls by this name, over this input, for at most `max` instructions; the output is
+   what it has put. */
+uint32_t zk_run(const uint8_t *file, size_t file_length, const uint8_t *name, size_t name_length,
+                const uint8_t *input, size_t input_length, uint64_t max,
+                uint8_t *out, size_t out_length, uint8_t *message, size_t message_length, struct zk_sizes *sizes);
+
+/* The text of the fault with this code, which is empty where there is none; answers how long it is. */
+uint64_t zk_message(uint16_t code, uint8_t *out, size_t out_length);
+
+/* The version; answers how long its text is. */
+uint64_t zk_version(uint8_t *out, size_t out_length);
+
+#ifdef __cplusplus
+}
+#endif
+#endif

@@ -1,0 +1,26 @@
+#!/bin/sh
+# sh install.sh [PREFIX]: puts the program as PREFIX/bin/zkc (the name cc on a PATH would hide the system's), and the library, its header and
+# the Python module, where the library was built (sh bindings/build.sh bindings/out). PREFIX is /usr/local by default; DESTDIR stands before it.
+set -eu
+cd "$(dirname "$0")"
+to=${DESTDIR:-}${1:-/usr/local}
+program=bin/cc
+[ -x "$program" ] || program=release/cc
+[ -x "$program" ] || { echo 'no program: run sh run.sh' >&2; exit 1; }
+mkdir -p "$to/bin"
+cp "$program" "$to/bin/zkc"
+chmod 755 "$to/bin/zkc"
+echo "$to/bin/zkc"
+for out in bindings/out release; do
+    if [ -e "$out/libzikorape.a" ]; then
+        mkdir -p "$to/lib" "$to/include" "$to/share/zikorape"
+        cp "$out/libzikorape.a" "$to/lib/"
+        ${CC:-gcc} -shared -o "$to/lib/libzikorape.so" -Wl,--whole-archive "$out/libzikorape.a" -Wl,--no-whole-archive
+        cp include/zikorape.h "$to/include/"
+        cp bindings/python/zikorape.py "$to/share/zikorape/"
+        chmod 644 "$to/lib/libzikorape.a" "$to/include/zikorape.h" "$to/share/zikorape/zikorape.py"
+        printf '%s\n' "$to/lib/libzikorape.a" "$to/lib/libzikorape.so" "$to/include/zikorape.h" "$to/share/zikorape/zikorape.py"
+        exit 0
+    fi
+done
+echo 'the library was not built, and is not put: sh bindings/build.sh bindings/out' >&2
