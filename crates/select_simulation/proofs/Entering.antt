@@ -184,7 +184,7 @@ module _ (F : Fixed) (env : ℕ → ℕ) (seg : ℕ) (i : List ℕ) (h : List Ev
         comes_by F Anything k (return_cost f + k) (Go r here b i h) Q (omega arith) (onward F env seg i h Q {a0 = 1} k here e r b nothing (next r (only_none 1 r) (sym is))))
 
     -- the entry of a function
-    pub enters : (base here e : ℕ) (r b : ℕ → ℕ) → f.resident ≤ f.cells → sp + frame_bytes f ≡ base → base ≤ 2 ^ 31 → frame_bytes f ≤ 2 ^ 20 → r 2 ≡ base → Small (file_of r) → r 1 < 2 ^ 32 → ((k : ℕ) → b k < 2 ^ 8) → Stands F.text env seg (entry f) here e
+    pub enters : (base here e : ℕ) (r b : ℕ → ℕ) → f.resident ≤ f.cells → sp + frame_bytes f ≡ base → base ≤ 2 ^ 31 → frame_bytes f ≤ 2 ^ 24 → r 2 ≡ base → Small (file_of r) → r 1 < 2 ^ 32 → ((k : ℕ) → b k < 2 ^ 8) → Stands F.text env seg (entry f) here e
         → ((r2 b2 : ℕ → ℕ) → Opened f sp r b r2 b2 → Comes F Anything 0 0 (Go r2 e b2 i h) Q) → Comes F Anything 1 (opening_cost f) (Go r here b i h) Q
     enters base here e r b all up top short e2 small ra bytes st next =
         let by = 2 ^ 32 - frame_bytes f in
