@@ -26,10 +26,8 @@ abbrev pub stack_end : ℕ
 stack_end = 0x80000000
 
 -- how many bytes a stack may have: whole pages, of 4096 bytes to 16 MiB
-pub record IsStackSize (n : ℕ) : Type 0 where
-  pub whole : n % page ≡ 0
-  pub least : page ≤ n
-  pub most : n ≤ 16777216
+abbrev pub IsStackSize : ℕ → Type 0
+IsStackSize n = (n % page ≡ 0) × (page ≤ n) × (n ≤ 16777216)
 
 -- the address of a stack of n bytes
 abbrev pub stack_start : ℕ → ℕ

@@ -11,7 +11,7 @@ use crate::objects::{are_sized, objects_size};
 use tac_code::{Function, Parameter, TacProgram};
 
 /// The most bytes of the stack that a call takes.
-const MOST_STACK: usize = 0x10_0000;
+const MOST_STACK: usize = 0x100_0000;
 
 /// Whether a call takes at most the bytes of the stack that it may take.
 fn is_small(function: &Function) -> bool
