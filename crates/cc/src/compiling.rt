@@ -70,12 +70,7 @@ fn by_phases(alloc: Global, set: &FileSet, main: &str, stack: StackSize) -> Resu
 }
 
 /// The executable file of a program.
-fn build(
-    alloc: Global,
-    program: &Program,
-    names: &Names,
-    stack: StackSize,
-) -> Result<Built, Stop>
+fn build(alloc: Global, program: &Program, names: &Names, stack: StackSize) -> Result<Built, Stop>
     requires { IsReady (program_of program.now) }
     ensures built { IfOk result (λ built. BuildsProgram stack names.now (program_of program.now) built) }
     ensures made { IfOk result (λ built. MakesProgram stack names.now (program_of program.now) built) }

@@ -24,11 +24,7 @@ pub struct Generated {
 }
 
 /// The executable file of a program that breaks no constraint, with a stack of this size; an error also where what it takes is more than the machine's memory.
-pub fn generate(
-    alloc: Global,
-    program: &Program,
-    stack: StackSize,
-) -> Result<Generated, AllocError>
+pub fn generate(alloc: Global, program: &Program, stack: StackSize) -> Result<Generated, AllocError>
     requires ready { IsReady (program_of program.now) }
     ensures runs { IfOk result (λ g. RunsAs stack (program_of program.now) g.frames.items g.elf.items) }
     ensures file { IfOk result (λ g. IsFileOf stack (program_of program.now) g.elf.items g.frames.items) }
@@ -43,11 +39,7 @@ pub fn generate(
 }
 
 /// The items of the file of a program that breaks no constraint, with a stack of this size.
-pub fn items(
-    alloc: Global,
-    program: &Program,
-    stack: StackSize,
-) -> Result<Items, AllocError>
+pub fn items(alloc: Global, program: &Program, stack: StackSize) -> Result<Items, AllocError>
     requires ready { IsReady (program_of program.now) }
     ensures items { IfOk result (λ items. AreItemsOf stack (program_of program.now) items) }
 {

@@ -13,9 +13,7 @@ ghost use Rattle.elf_out.specs.Program.{program_image};
 
 use crate::image::Image;
 use byteorder::{ByteOrder, LittleEndian};
-use memory_map::{
-    OFFSET_TO_ADDRESS, PAGE, STACK_END, TEXT_OFFSET, TEXT_START, data_start,
-};
+use memory_map::{OFFSET_TO_ADDRESS, PAGE, STACK_END, TEXT_OFFSET, TEXT_START, data_start};
 use srcset::Fault;
 use std::alloc::{AllocError, Global};
 

@@ -66,7 +66,13 @@ fn unit_typed(
 /// - with 801 where memory runs out.
 ///
 /// The fault is of a constraint that stands, at its place. The recursion is as deep as the tree is.
-pub fn check(alloc: Global, unit: &Unit, names: &Names, whole: Pos, stack: u32) -> Result<Program, Fault>
+pub fn check(
+    alloc: Global,
+    unit: &Unit,
+    names: &Names,
+    whole: Pos,
+    stack: u32,
+) -> Result<Program, Fault>
     ensures ok { IfOk result (λ p. typed.unit_typed stack names.now whole (unit_of unit.now) ≡ fine (view.program_of p)) }
     ensures err { IfErr result (λ fault. IsFaultOfVerdict fault names.now (typed.unit_typed stack names.now whole (unit_of unit.now))) }
 {

@@ -85,7 +85,16 @@ fn with_type(
         Ok(()) => {}
         Err(refusal) => return Err(refusal),
     }
-    match function_body(alloc, names, scope, initial, function, function_type, own, stack) {
+    match function_body(
+        alloc,
+        names,
+        scope,
+        initial,
+        function,
+        function_type,
+        own,
+        stack,
+    ) {
         Ok(done) => Ok(done),
         Err(refusal) => Err(refusal),
     }

@@ -28,7 +28,7 @@ returns c =
       (
         c.perform-status.new.port,
         performed P _ _ _ _ _ _ c.new-port.ensures c.new.ensures.items c.new-text.ensures.items c.new-line.ensures.items
-        (subst (λ n. Performs n c.args.command c.args.set.now c.args.main.now [] for_memory _ _ _ _ status) c.usual-stack.ensures c.perform-status.ensures),
+            (subst (λ n. Performs n c.args.command c.args.set.now c.args.main.now [] for_memory _ _ _ _ status) c.usual-stack.ensures c.perform-status.ensures),
         refl,
       ),
     )
