@@ -42,6 +42,7 @@ rows_flat    | python3                                  | python3 tests/outside/
 rows_tac     | python3                                  | python3 tests/outside/tac/rows.py --check
 variadic     | python3 gcc                              | python3 tests/outside/pp/variadic.py "$cc"
 streams      | python3                                  | python3 tests/outside/streams/check.py "$cc"
+stack        | python3                                  | python3 tests/outside/stack/check.py "$cc"
 documents    |                                          | sh tests/documents.sh "$cc"
 shown        |                                          | sh run.sh "$cc"
 END

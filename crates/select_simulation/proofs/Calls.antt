@@ -41,7 +41,7 @@ calls_there (x ∷ code) (suc k) g e = or_true (is_call x) (calls code) (calls_t
 
 module _ (G : Ground) (ready : Ready G) where
   -- a frame has opened over the calls that wait
-  pub opened_matched : (g sp : ℕ) (temporaries arguments : Values) (waiting : List Frame) (statics : Bytes) (input : List ℕ) (trace : List Event) (r b r2 b2 : ℕ → ℕ) → Within (function_at G.program g) sp → Small (file_of r)
+  pub opened_matched : (g sp : ℕ) (temporaries arguments : Values) (waiting : List Frame) (statics : Bytes) (input : List ℕ) (trace : List Event) (r b r2 b2 : ℕ → ℕ) → Within G.floor (function_at G.program g) sp → Small (file_of r)
       → ((k : ℕ) (v : Value) → temporaries k ≡ Some v → (k < 8) × (shown G v < 2 ^ 32) × (r (10 + k) ≡ shown G v)) → ArgumentsShow G (function_at G.program g) arguments b sp → Holds statics G.data_at 0 (length G.program.statics) b
       → Waits G waiting b (file_of r) (sp + frame_bytes (function_at G.program g)) (r 1) → Opened (function_at G.program g) sp r b r2 b2
       → Matched G (record { frame = record { function = g; at = 0; cells = unset; area = unset }; temporaries = temporaries; arguments = arguments; waiting = waiting; statics = statics; input = input; trace = trace }) r2 (address G g 0) b2
@@ -97,7 +97,7 @@ module _ (G : Ground) (s : State) (r b : ℕ → ℕ) (ready : Ready G) (m : Mat
       let tall = frame_tall f in
       let sp = m.sp - frame_bytes f in
       let up : sp + frame_bytes f ≡ m.sp = omega (arith, room, sum) in
-      let win : Within f sp = record { low = omega (arith, room, sum); top = omega (arith, up, mine.top); aligned = omega (arith, up, mine.aligned, tall) } in
+      let win : Within G.floor f sp = record { low = omega (arith, room, sum); top = omega (arith, up, mine.top); aligned = omega (arith, up, mine.aligned, tall) } in
       let ra = st.0 in
       let here = ready.aligned s.frame.function s.frame.at (instruction.Call g) e in
       let small : ra < 2 ^ 32 = omega (arith, here.1, q.next_is) in
