@@ -133,7 +133,7 @@ module _ (G : Ground) (s : State) (r b : ℕ → ℕ) (ready : Ready G) (m : Mat
       (old.1, omega (arith, there, lies.top), ap (word_at b) there ∙ held)) in
       comes_by G.machine Anything (suc (suc (opening_cost f))) (2 + opening_cost f) (Go r start b s.input s.trace) Q (omega arith)
       (on_call G.machine Anything Q (opening_cost f) r start b s.input s.trace tt (G.env g) ra (ready.entry_aligned g known) q tt
-      (enters G.machine G.env G.data_at s.input s.trace Q f sp win (open_stack G s r b ready m) m.sp (G.env g) (address G g 0) r1 b fit.all up (omega (arith, mine.top)) fit.small m.sp_is words small m.bytes (ready.entries g known) (λ r2 b2 o.
+      (enters G.machine G.env G.data_at s.input s.trace Q f sp win (record { reads = λ a lo hi. ready.stack_read a (omega (arith, lo, win.low)) hi; writes = λ a lo hi. ready.stack_written a (omega (arith, lo, win.low)) hi }) m.sp (G.env g) (address G g 0) r1 b fit.all up (omega (arith, mine.top)) fit.small m.sp_is words small m.bytes (ready.entries g known) (λ r2 b2 o.
       comes_now G.machine Anything 0 _ Q tt
       (opened_matched G ready g sp (below_eight s.temporaries) (from_eight s.temporaries) (w ∷ s.waiting) s.statics s.input s.trace r1 b r2 b2 win words ts xs m.statics waits1 o, refl, refl))))
 
