@@ -16,6 +16,7 @@ checks() {
     cat <<'END'
 boards       | python3                                  | sh tests/outside/boards/check.sh "$cc"
 hostile      | python3                                  | python3 tests/outside/hostile/check.py "$cc"
+widths       | python3                                  | python3 tests/outside/widths/check.py "$cc"
 mutated      | python3                                  | python3 tests/outside/hostile/mutate.py "$cc" 600 1500
 includes     | python3                                  | python3 tests/outside/pp/includes.py "$cc"
 scalars      | python3                                  | python3 tests/outside/scalars/check.py "$cc"
