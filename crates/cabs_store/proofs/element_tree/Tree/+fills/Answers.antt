@@ -1,11 +1,15 @@
-use Rattle.std.proofs.Common.{◌∙◌, ap, List, map}
+use Rattle.std.proofs.Common.{◌∙◌, ap, List, map, arith}
 use Rattle.cabs_store.specs.declared.element_tree.Tree.{Tree}
 use Rattle.cabs_store.specs.View.{tree_of, parts_of}
 use Rattle.cabs_store.proofs.Trees.{one_part_more, filled_whole}
-use Rattle.cabs_store.proofs.element_tree.Tree.+filled.Goals as goal
+use Rattle.cabs_store.proofs.Nesting.{filled_within}
+use Rattle.cabs_store.proofs.element_tree.Tree.+fills.Goals as goal
 
-pub loop-preserved : goal.loop-preserved
-loop-preserved t c = ap (λ (ts : List Tree). parts_of (map tree_of ts)) c.in_ok-push-in-Some.ensures.items ∙ one_part_more c.loop.parts.items c.in_ok-part-in-Some.part c.loop.counter _ c.in_ok-part-in-Some.ensures c.loop.invariant
+pub rows_filled-loop-preserved : goal.rows_filled-loop-preserved
+rows_filled-loop-preserved t c = ap (λ (ts : List Tree). parts_of (map tree_of ts)) c.in_ok-push-in-Some.ensures.items ∙ one_part_more c.loop.parts.items c.in_ok-part-in-Some.part c.loop.counter _ c.in_ok-part-in-Some.ensures c.loop.invariant
 
-pub returns-in-None : goal.returns-in-None
-returns-in-None t c = filled_whole c.args.value c.args.lengths.now c.in-None.ensures.cases
+pub rows_filled-returns-in-None : goal.rows_filled-returns-in-None
+rows_filled-returns-in-None t c = filled_whole c.args.value c.args.lengths.now c.in-None.ensures.cases
+
+pub filled-returns : goal.filled-returns
+filled-returns t c = filled_within c.args.value c.args.lengths.now c.past_ones-inner.result.now _ _ _ c.past_ones-inner.ensures.ones (omega arith) c.in_ok-tree.ensures c.in_ok-whole.ensures
