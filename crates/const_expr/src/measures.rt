@@ -62,6 +62,7 @@ fn size_of_number<'s>(pos: Pos, ty: IntType) -> Checked<'s>
 }
 
 /// `sizeof` of an expression (6.5.3.4): no function, nothing incomplete.
+#[inline(never)]
 pub(crate) fn measured<'s>(pos: Pos, x: &Checked) -> Result<Checked<'s>, Refusal>
     ensures ok { IfOk result (λ c. typed.measured pos (checked_of x.now) ≡ fine (checked_of c)) }
     ensures err { IfErr result (λ r. Tells r (typed.measured pos (checked_of x.now))) }
@@ -85,6 +86,7 @@ pub(crate) fn measured<'s>(pos: Pos, x: &Checked) -> Result<Checked<'s>, Refusal
 }
 
 /// `sizeof` of a named type (6.5.3.4), which is not `void`.
+#[inline(never)]
 pub(crate) fn type_measured<'s>(pos: Pos, named: &Option<NamedType>) -> Result<Checked<'s>, Refusal>
     ensures ok { IfOk result (λ c. typed.type_measured pos (option_named named.now) ≡ fine (checked_of c)) }
     ensures err { IfErr result (λ r. Tells r (typed.type_measured pos (option_named named.now))) }
