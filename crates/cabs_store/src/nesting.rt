@@ -10,7 +10,7 @@ use std::alloc::{AllocError, Global};
 
 /// The lengths behind the ones at the front.
 pub fn past_ones(lengths: &[u32]) -> &[u32]
-    ensures ones { lengths.now ≡ ones (length lengths.now - length result.now) result.now }
+    ensures passed { lengths.now ≡ ones (length lengths.now - length result.now) result.now }
     ensures shorter { length result.now ≤ length lengths.now }
 {
     let mut rest = lengths;

@@ -25,4 +25,4 @@ rows_laid_out-returns-after-loop-clause-ok t c =
 
 pub laid_out-returns-in-Ok-wrapped-clause-ok : goal.laid_out-returns-in-Ok-wrapped-clause-ok
 laid_out-returns-in-Ok-wrapped-clause-ok t c =
-    laid_within c.args.lengths.now c.past_ones-inner.result.now c.args.values.now _ _ _ c.past_ones-inner.ensures.ones (omega arith) c.in-Ok.ensures.ok c.in-Ok-wrapped.ensures
+    laid_within c.args.lengths.now c.past_ones-inner.result.now c.args.values.now _ _ _ c.past_ones-inner.ensures.passed (omega arith) c.in-Ok.ensures.ok c.in-Ok-wrapped.ensures

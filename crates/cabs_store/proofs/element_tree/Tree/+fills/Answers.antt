@@ -12,4 +12,4 @@ pub rows_filled-returns-in-None : goal.rows_filled-returns-in-None
 rows_filled-returns-in-None t c = filled_whole c.args.value c.args.lengths.now c.in-None.ensures.cases
 
 pub filled-returns : goal.filled-returns
-filled-returns t c = filled_within c.args.value c.args.lengths.now c.past_ones-inner.result.now _ _ _ c.past_ones-inner.ensures.ones (omega arith) c.in_ok-tree.ensures c.in_ok-whole.ensures
+filled-returns t c = filled_within c.args.value c.args.lengths.now c.past_ones-inner.result.now _ _ _ c.past_ones-inner.ensures.passed (omega arith) c.in_ok-tree.ensures c.in_ok-whole.ensures
