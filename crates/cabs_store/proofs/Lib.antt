@@ -1,5 +1,5 @@
 pub mod Trees
-pub mod Nesting
+pub mod Wraps
 pub mod Resumes
 pub mod Adequate
 pub mod Scenes

@@ -1,5 +1,5 @@
 use Rattle.std.proofs.Common.{arith, rules}
-use Rattle.cabs_store.proofs.Nesting.{ones_pass, none_passed}
+use Rattle.cabs_store.proofs.Wraps.{ones_pass, none_passed}
 use Rattle.cabs_store.proofs.nesting.past_ones.Goals as goal
 
 pub loop-n-init : goal.loop-n-init

@@ -1,5 +1,5 @@
 use Rattle.std.proofs.Common.{◌∙◌, ap, [], ◌∷◌, ◌++◌}
-use Rattle.cabs_store.proofs.Nesting.{wrapped_once}
+use Rattle.cabs_store.proofs.Wraps.{wrapped_once}
 use Rattle.cabs_store.proofs.nesting.wrapped.Goals as goal
 
 pub loop-preserved : goal.loop-preserved

@@ -2,7 +2,7 @@ use Rattle.std.proofs.Common.{◌∙◌, ap, List, map, arith}
 use Rattle.cabs_store.specs.declared.element_tree.Tree.{Tree}
 use Rattle.cabs_store.specs.View.{tree_of, parts_of}
 use Rattle.cabs_store.proofs.Trees.{one_part_more, filled_whole}
-use Rattle.cabs_store.proofs.Nesting.{filled_within}
+use Rattle.cabs_store.proofs.Wraps.{filled_within}
 use Rattle.cabs_store.proofs.element_tree.Tree.+fills.Goals as goal
 
 pub rows_filled-loop-preserved : goal.rows_filled-loop-preserved
