@@ -1,4 +1,4 @@
-use Rattle.std.proofs.Common.{◌∙◌, ◌+◌, ◌-◌, ◌∷◌, ap, List, map, rules, arith, ◌≡◌}
+use Rattle.std.proofs.Common.{◌∙◌, ◌+◌, ◌-◌, ◌∷◌, length, refl, ap, List, map, rules, arith, ◌≡◌}
 use Rattle.typing_rules.specs.Types.{elements_in}
 use Rattle.cabs_store.specs.declared.element_tree.Tree.{Tree}
 use Rattle.cabs_store.specs.View.{tree_of}
@@ -25,4 +25,5 @@ rows_laid_out-returns-after-loop-clause-ok t c =
 
 pub laid_out-returns-in-Ok-wrapped-clause-ok : goal.laid_out-returns-in-Ok-wrapped-clause-ok
 laid_out-returns-in-Ok-wrapped-clause-ok t c =
-    laid_within c.args.lengths.now c.past_ones-inner.result.now c.args.values.now _ _ _ c.past_ones-inner.ensures.passed (omega arith) c.in-Ok.ensures.ok c.in-Ok-wrapped.ensures
+    laid_within c.args.lengths.now c.past_ones-inner.result.now c.args.values.now (length c.args.lengths.now - length c.past_ones-inner.result.now) _ _ c.past_ones-inner.ensures.passed refl
+    c.in-Ok.ensures.ok c.in-Ok-wrapped.ensures

@@ -1,4 +1,4 @@
-use Rattle.std.proofs.Common.{◌∙◌, ap, List, map, arith}
+use Rattle.std.proofs.Common.{◌∙◌, ◌-◌, length, refl, ap, List, map}
 use Rattle.cabs_store.specs.declared.element_tree.Tree.{Tree}
 use Rattle.cabs_store.specs.View.{tree_of, parts_of}
 use Rattle.cabs_store.proofs.Trees.{one_part_more, filled_whole}
@@ -12,4 +12,6 @@ pub rows_filled-returns-in-None : goal.rows_filled-returns-in-None
 rows_filled-returns-in-None t c = filled_whole c.args.value c.args.lengths.now c.in-None.ensures.cases
 
 pub filled-returns : goal.filled-returns
-filled-returns t c = filled_within c.args.value c.args.lengths.now c.past_ones-inner.result.now _ _ _ c.past_ones-inner.ensures.passed (omega arith) c.in_ok-tree.ensures c.in_ok-whole.ensures
+filled-returns t c =
+    filled_within c.args.value c.args.lengths.now c.past_ones-inner.result.now (length c.args.lengths.now - length c.past_ones-inner.result.now) _ _ c.past_ones-inner.ensures.passed refl
+    c.in_ok-tree.ensures c.in_ok-whole.ensures
