@@ -84,7 +84,7 @@ block-returns-in_err-body-clause-stands t c = err_passed_on (StandsStmt c.args.d
     (block_stand _ _ _ _ _ c.in_ok-below.ensures.ok.1 c.in_err-body.ensures.stands)
 
 pub block-returns-clause-answer : goal.block-returns-clause-answer
-block-returns-clause-answer t c = rw c.in_ok-block_node.ensures.ok (block_reads _ _ _ _ _ _ _ c.in_ok-below.ensures.ok.1 c.in_ok-body.ensures.answer)
+block-returns-clause-answer t c = rw c.in_ok-block_node.ensures.ok (block_reads _ _ _ _ c.in_ok-body.body.items _ _ c.in_ok-below.ensures.ok.1 c.in_ok-body.ensures.answer)
 
 pub if_statement-returns-in_err-first-clause-answer : goal.if_statement-returns-in_err-first-clause-answer
 if_statement-returns-in_err-first-clause-answer t c = passed_on (AnswersStmt c.args.depth _) _ c.in_err-first.field-0.0 c.from_residual-in_err-first.ensures.1
@@ -96,7 +96,7 @@ if_statement-returns-in_err-first-clause-stands t c = err_passed_on (StandsStmt 
 
 pub if_statement-returns-in_default-clause-answer : goal.if_statement-returns-in_default-clause-answer
 if_statement-returns-in_default-clause-answer t c = rw c.in_ok-if_node.ensures.ok
-    (branch_reads _ _ _ _ _ _ _ _ c.in_ok-below.ensures.ok.1 c.in_ok-first.ensures.answer c.in_default.ensures)
+    (branch_reads _ _ _ _ c.in_ok-first.first.test c.in_ok-first.first.body.value _ _ c.in_ok-below.ensures.ok.1 c.in_ok-first.ensures.answer c.in_default.ensures)
 
 pub if_statement-returns-in_err-second-clause-answer : goal.if_statement-returns-in_err-second-clause-answer
 if_statement-returns-in_err-second-clause-answer t c = passed_on (AnswersStmt c.args.depth _) _ c.in_err-second.field-0.0
@@ -109,7 +109,7 @@ if_statement-returns-in_err-second-clause-stands t c = err_passed_on (StandsStmt
     c.in_ok-first.ensures.answer.1 c.in-Some.ensures c.in_err-second.ensures.stands)
 
 pub if_statement-returns-clause-answer : goal.if_statement-returns-clause-answer
-if_statement-returns-clause-answer t c = rw c.in_ok-if_else_node.ensures.ok (branches_read _ _ _ _ _ _ _ _ _ _ _ _ _ _ c.in_ok-below.ensures.ok.1
+if_statement-returns-clause-answer t c = rw c.in_ok-if_else_node.ensures.ok (branches_read _ _ _ _ _ c.in_ok-first.first.test c.in_ok-first.first.body.value c.in_ok-second.second.stmt.value _ _ _ _ _ _ c.in_ok-below.ensures.ok.1
     c.in_ok-first.ensures.answer c.in-Some.ensures c.in_ok-second.ensures.answer (ap (λ x. x + 1) c.max-depth.ensures))
 
 pub switch_statement-returns-in_err-part-clause-answer : goal.switch_statement-returns-in_err-part-clause-answer
@@ -121,7 +121,7 @@ switch_statement-returns-in_err-part-clause-stands t c = err_passed_on (StandsSt
     c.from_residual-in_err-part.ensures.1 (switch_stands _ _ _ _ _ c.in_ok-below.ensures.ok.1 c.in_err-part.ensures.stands)
 
 pub switch_statement-returns-clause-answer : goal.switch_statement-returns-clause-answer
-switch_statement-returns-clause-answer t c = rw c.in_ok-switch_node.ensures.ok (switch_reads _ _ _ _ _ _ _ _ c.in_ok-below.ensures.ok.1 c.in_ok-part.ensures.answer)
+switch_statement-returns-clause-answer t c = rw c.in_ok-switch_node.ensures.ok (switch_reads _ _ _ _ c.in_ok-part.part.test c.in_ok-part.part.body.value _ _ c.in_ok-below.ensures.ok.1 c.in_ok-part.ensures.answer)
 
 pub while_statement-returns-in_err-part-clause-answer : goal.while_statement-returns-in_err-part-clause-answer
 while_statement-returns-in_err-part-clause-answer t c = passed_on (AnswersStmt c.args.depth _) _ c.in_err-part.field-0.0 c.from_residual-in_err-part.ensures.1
@@ -132,7 +132,7 @@ while_statement-returns-in_err-part-clause-stands t c = err_passed_on (StandsStm
     c.from_residual-in_err-part.ensures.1 (while_stands _ _ _ _ _ c.in_ok-below.ensures.ok.1 c.in_err-part.ensures.stands)
 
 pub while_statement-returns-clause-answer : goal.while_statement-returns-clause-answer
-while_statement-returns-clause-answer t c = rw c.in_ok-while_node.ensures.ok (while_reads _ _ _ _ _ _ _ _ c.in_ok-below.ensures.ok.1 c.in_ok-part.ensures.answer)
+while_statement-returns-clause-answer t c = rw c.in_ok-while_node.ensures.ok (while_reads _ _ _ _ c.in_ok-part.part.test c.in_ok-part.part.body.value _ _ c.in_ok-below.ensures.ok.1 c.in_ok-part.ensures.answer)
 
 pub case_statement-returns-in_err-value-clause-answer : goal.case_statement-returns-in_err-value-clause-answer
 case_statement-returns-in_err-value-clause-answer t c = passed_on (AnswersStmt c.args.depth _) _ c.in_err-value.field-0.0 c.from_residual-in_err-value.ensures.1
@@ -151,7 +151,7 @@ case_statement-returns-in_err-body-clause-stands t c = err_passed_on (StandsStmt
     (case_body_stands _ _ _ _ _ _ _ _ c.in_ok-below.ensures.ok.1 c.in_ok-value.ensures.answer c.in_err-body.ensures.stands)
 
 pub case_statement-returns-clause-answer : goal.case_statement-returns-clause-answer
-case_statement-returns-clause-answer t c = rw c.in_ok-case_node.ensures.ok (case_reads _ _ _ _ _ _ _ _ _ _ _ c.in_ok-below.ensures.ok.1
+case_statement-returns-clause-answer t c = rw c.in_ok-case_node.ensures.ok (case_reads _ _ _ _ c.in_ok-value.value.expr _ _ c.in_ok-body.body.stmt.value _ _ _ c.in_ok-below.ensures.ok.1
     c.in_ok-value.ensures.answer c.in_ok-body.ensures.answer (ap (λ x. x + 1) c.max-depth.ensures))
 
 pub default_statement-returns-in_err-body-clause-answer : goal.default_statement-returns-in_err-body-clause-answer
@@ -163,7 +163,7 @@ default_statement-returns-in_err-body-clause-stands t c = err_passed_on (StandsS
     c.from_residual-in_err-body.ensures.1 (default_stands _ _ _ _ _ c.in_ok-below.ensures.ok.1 c.in_err-body.ensures.stands)
 
 pub default_statement-returns-clause-answer : goal.default_statement-returns-clause-answer
-default_statement-returns-clause-answer t c = rw c.in_ok-default_node.ensures.ok (default_reads _ _ _ _ _ _ _ c.in_ok-below.ensures.ok.1 c.in_ok-body.ensures.answer)
+default_statement-returns-clause-answer t c = rw c.in_ok-default_node.ensures.ok (default_reads _ _ _ _ c.in_ok-body.body.stmt.value _ _ c.in_ok-below.ensures.ok.1 c.in_ok-body.ensures.answer)
 
 pub do_statement-returns-in_err-body-clause-answer : goal.do_statement-returns-in_err-body-clause-answer
 do_statement-returns-in_err-body-clause-answer t c = passed_on (AnswersStmt c.args.depth _) _ c.in_err-body.field-0.0 c.from_residual-in_err-body.ensures.1
@@ -182,7 +182,7 @@ do_statement-returns-in_err-test-clause-stands t c = err_passed_on (StandsStmt c
     (do_test_stands _ _ _ _ _ _ _ _ c.in_ok-below.ensures.ok.1 c.in_ok-body.ensures.answer c.in_err-test.ensures.stands)
 
 pub do_statement-returns-clause-answer : goal.do_statement-returns-clause-answer
-do_statement-returns-clause-answer t c = rw c.in_ok-do_while_node.ensures.ok (do_reads _ _ _ _ _ _ _ _ _ _ _ c.in_ok-below.ensures.ok.1
+do_statement-returns-clause-answer t c = rw c.in_ok-do_while_node.ensures.ok (do_reads _ _ _ _ c.in_ok-body.body.stmt.value _ _ c.in_ok-test.test.expr _ _ _ c.in_ok-below.ensures.ok.1
     c.in_ok-body.ensures.answer c.in_ok-test.ensures.answer (ap (λ x. x + 1) c.max-depth.ensures))
 
 pub for_statement-returns-in_err-head-clause-answer : goal.for_statement-returns-in_err-head-clause-answer
@@ -202,7 +202,7 @@ for_statement-returns-in_err-body-clause-stands t c = err_passed_on (StandsStmt 
     (for_body_stands _ _ _ _ _ _ _ _ c.in_ok-below.ensures.ok.1 c.in_ok-head.ensures.answer c.in_err-body.ensures.stands)
 
 pub for_statement-returns-clause-answer : goal.for_statement-returns-clause-answer
-for_statement-returns-clause-answer t c = rw c.in_ok-for_node.ensures.ok (for_reads _ _ _ _ _ _ _ _ _ _ _ _ _ c.in_ok-below.ensures.ok.1
+for_statement-returns-clause-answer t c = rw c.in_ok-for_node.ensures.ok (for_reads _ _ _ _ c.in_ok-head.head.start c.in_ok-head.head.test c.in_ok-head.head.step _ _ c.in_ok-body.body.stmt.value _ _ _ c.in_ok-below.ensures.ok.1
     c.in_ok-head.ensures.answer c.in_ok-body.ensures.answer (ap (λ x. x + 1) c.max-depth.ensures))
 
 pub labelled_statement-returns-in_err-part-clause-answer : goal.labelled_statement-returns-in_err-part-clause-answer
