@@ -1,5 +1,4 @@
 pub mod Trees
-pub mod Wraps
 pub mod Resumes
 pub mod Adequate
 pub mod Scenes

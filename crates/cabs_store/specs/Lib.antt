@@ -1,3 +1,2 @@
-pub mod Nesting
 pub mod View
 pub mod inside
