@@ -51,6 +51,9 @@ class Sized(four.Program):
         return self.ask('list')
 
     def file(self):
+        """The built file, or nothing where there is none."""
+        if not os.path.exists(os.path.join(self.folder, 'program')):
+            return b''
         with open(os.path.join(self.folder, 'program'), 'rb') as file:
             return file.read()
 
