@@ -17,6 +17,7 @@ checks() {
 boards       | python3                                  | sh tests/outside/boards/check.sh "$cc"
 hostile      | python3                                  | python3 tests/outside/hostile/check.py "$cc"
 widths       | python3                                  | python3 tests/outside/widths/check.py "$cc"
+limits       | python3                                  | python3 tests/outside/limits/check.py "$cc"
 mutated      | python3                                  | python3 tests/outside/hostile/mutate.py "$cc" 600 1500
 includes     | python3                                  | python3 tests/outside/pp/includes.py "$cc"
 scalars      | python3                                  | python3 tests/outside/scalars/check.py "$cc"
@@ -40,6 +41,7 @@ rows_answers | python3                                  | python3 tests/outside/
 rows_machine | python3                                  | python3 tests/outside/machine/rows.py --check
 rows_flat    | python3                                  | python3 tests/outside/flat/rows.py --check
 rows_tac     | python3                                  | python3 tests/outside/tac/rows.py --check
+bytes        | python3 gcc                              | python3 tests/outside/refused/bytes.py "$cc"
 variadic     | python3 gcc                              | python3 tests/outside/pp/variadic.py "$cc"
 streams      | python3                                  | python3 tests/outside/streams/check.py "$cc"
 stack        | python3                                  | python3 tests/outside/stack/check.py "$cc"
