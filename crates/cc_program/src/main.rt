@@ -70,6 +70,7 @@ fn show(rt: &HostRuntime, error: &clap::Error) -> u8 {
 
 fn answer(rt: &HostRuntime, matches: &ArgMatches<'_>) -> Result<u8> {
     let Some(request) = read_request(matches) else {
+        let _said = eprintln!(rt; "error: the bytes of the stack are no multiple of 4096");
         return Ok(2);
     };
     match request.command {
@@ -106,6 +107,7 @@ fn build(
         &mut port,
         &mut io::sink(),
         &mut rt.stderr(),
+        request.stack,
     );
     if status == 0 && port.finish().is_err() {
         return Ok(say(rt, &Fault::at(rt.alloc(), Code::CannotWrite, out, 0)));
@@ -140,6 +142,7 @@ fn print_text(rt: &HostRuntime, request: Request<'_>, matches: &ArgMatches<'_>) 
         &mut IoPort::new(no_input(rt.alloc())?, io::sink()),
         &mut out,
         &mut rt.stderr(),
+        request.stack,
     );
     if out.flush().is_err() && status == 0 {
         return Ok(say(rt, &Fault::at(rt.alloc(), Code::CannotWrite, "", 0)));
@@ -185,6 +188,7 @@ fn over_streams(rt: &HostRuntime, request: Request<'_>, set: &FileSet, file: &[u
         &mut port,
         &mut io::sink(),
         &mut line,
+        request.stack,
     );
     match port.finish() {
         Err(fault) if status != 126 || line.is_empty() => Ok(say_port(rt, fault)),
