@@ -122,6 +122,7 @@ async function share() {
 
 function take(index) {
   const { files, input: given } = examples[index];
+  $('examples').value = index;
   sources.setFiles(files);
   $('input').value = given;
   $('break-at').value = '';
@@ -130,6 +131,7 @@ function take(index) {
 
 function typed() {
   sources.showFault('');
+  $('examples').value = '';
   stale();
   typing = setTimeout(build, 400);
 }
@@ -157,17 +159,17 @@ function listen() {
     add: addFile, remove: () => { sources.remove(); build(); }, 'to-fault': sources.toFault,
   };
   for (const [id, done] of Object.entries(clicks)) $(id).onclick = done;
-  const changes = { examples: () => take($('examples').value), file: () => sources.choose(Number($('file').value)), input: build, count: () => go(Number($('count').value) || 0), from: showMemory };
+  const changes = { examples: () => { if ($('examples').value !== '') take(Number($('examples').value)); }, file: () => sources.choose(Number($('file').value)), input: build, count: () => go(Number($('count').value) || 0), from: showMemory };
   for (const [id, done] of Object.entries(changes)) $(id).onchange = done;
   $('source').oninput = typed;
   $('source').onscroll = sources.scroll;
   $('new-name').onkeydown = event => { if (event.key === 'Enter') addFile(); };
   addEventListener('keydown', keys);
-  addEventListener('hashchange', () => { if (sources.fromFragment()) build(); });
+  addEventListener('hashchange', () => { if (sources.fromFragment()) { $('examples').value = ''; build(); } });
 }
 
 async function begin() {
-  $('examples').replaceChildren(...examples.map(({ name }, k) => new Option(name, k)));
+  $('examples').replaceChildren(new Option('choose one', ''), ...examples.map(({ name }, k) => new Option(name, k)));
   listen();
   tabs.begin(shown);
   listing.begin({ runTo: goTo, breakAt, lookAt });

@@ -16,14 +16,14 @@ function check(name, holds, seen = '') {
 
 const shot = async name => { if (shots) await page.shot(path.join(shots, name + '.png')); };
 const isOpen = id => page.run(`!document.getElementById('${id}').hidden`);
-const example = async name => page.set('examples', await page.run(`[...document.getElementById('examples').options].findIndex(o => o.text === '${name}')`));
+const example = async name => page.set('examples', await page.run(`[...document.getElementById('examples').options].find(o => o.text === '${name}').value`));
 const built = () => page.until(`!document.getElementById('run').disabled && /After 0 instructions/.test(document.getElementById('status').textContent)`);
 
 async function load() {
   check('the page becomes ready', await page.visit(url), await page.told('status'));
   check('the first example is built', await built(), await page.told('status'));
   check('its tokens are shown', /^int rv_getbyte \( void \) ;/.test(await page.told('token-text')), await page.told('token-text'));
-  check('there are the ten examples and two', await page.run(`document.getElementById('examples').options.length`) === 12);
+  check('there are the ten examples and two', await page.run(`document.getElementById('examples').options.length`) === 13);
   await shot('loaded');
 }
 
