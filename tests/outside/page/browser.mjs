@@ -128,6 +128,16 @@ async function endless() {
   check('and the page lives on', await built(), await page.told('status'));
 }
 
+async function deep() {
+  const source = n => `int main(void) { return ${'('.repeat(n)}7${')'.repeat(n)}; }\n`;
+  for (const n of [240, 241, 242, 243, 244, 245]) {
+    await page.type(source(n));
+    check(`a source of ${n} parentheses is built`, await built(), await page.told('status'));
+  }
+  await page.type(source(300));
+  check('one of 300 is refused', await page.tells('status', '/: 709 /'), await page.told('status'));
+}
+
 async function several() {
   await example('backwards');
   check('an example of two files is built', await page.run(`document.getElementById('file').options.length`) === 2 && await built(), await page.told('status'));
@@ -182,7 +192,7 @@ async function names() {
   check('nothing is thrown', page.thrown.length === 0, page.thrown.join('; '));
 }
 
-for (const part of [load, faults, running, listing, traces, keyboard, endless, several, sharing, looks, names]) {
+for (const part of [load, faults, running, listing, traces, keyboard, endless, deep, several, sharing, looks, names]) {
   try { await part(); } catch (error) { check(part.name, false, String(error)); }
 }
 console.log(`${passed} passed, ${failed} failed`);
