@@ -163,6 +163,18 @@ async function sharing() {
   check('and the name', (await page.run(`document.getElementById('file').selectedOptions[0].text`)) === 'words.c');
 }
 
+// A worker that has no stack for anything.
+const SHALLOW = `globalThis.Worker = class {
+  terminate() {}
+  postMessage({ id }) { if (id) setTimeout(() => this.onmessage({ data: { id, failed: 'RangeError: Maximum call stack size exceeded' } })); }
+}`;
+
+async function withoutWorker() {
+  check('where the worker has no stack the page itself builds', await page.visit(url, SHALLOW) && await page.tells('status', '/on the page, since the worker had no stack for it/'), await page.told('status'));
+  await page.click('run');
+  check('and runs', await page.tells('status', '/ended with status 0/'), await page.told('status'));
+}
+
 async function looks() {
   for (const tab of ['tokens', 'listing', 'machine', 'frames', 'both']) {
     await page.click('tab-' + tab);
@@ -192,7 +204,7 @@ async function names() {
   check('nothing is thrown', page.thrown.length === 0, page.thrown.join('; '));
 }
 
-for (const part of [load, faults, running, listing, traces, keyboard, endless, deep, several, sharing, looks, names]) {
+for (const part of [load, faults, running, listing, traces, keyboard, endless, deep, several, sharing, withoutWorker, looks, names]) {
   try { await part(); } catch (error) { check(part.name, false, String(error)); }
 }
 console.log(`${passed} passed, ${failed} failed`);

@@ -44,12 +44,13 @@ class Tab {
     });
   }
 
-  // Opens an address in a new tab; whether the page became ready.
-  async visit(address) {
+  // Opens an address in a new tab, where `first` runs before the page's scripts; whether the page became ready.
+  async visit(address, first = '') {
     this.#session = undefined;
     const { targetId } = await this.send('Target.createTarget', { url: 'about:blank' });
     ({ sessionId: this.#session } = await this.send('Target.attachToTarget', { targetId, flatten: true }));
     for (const part of ['Page', 'Runtime', 'Network', 'Accessibility']) await this.send(part + '.enable');
+    await this.send('Page.addScriptToEvaluateOnNewDocument', { source: first });
     await this.send('Page.navigate', { url: address });
     return this.until(`document.documentElement.dataset.ready === 'true'`);
   }
