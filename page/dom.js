@@ -4,6 +4,10 @@ export const say = line => { $('status').textContent = line; };
 export const hex = (n, digits = 8) => (n >>> 0).toString(16).toUpperCase().padStart(digits, '0');
 export const text = bytes => new TextDecoder().decode(bytes);
 
+const SHOWN = 65536;      // bytes of an output
+
+export const beginning = bytes => bytes.length <= SHOWN ? text(bytes) : `${text(bytes.slice(0, SHOWN))}\n… and ${bytes.length - SHOWN} more bytes`;
+
 export function element(tag, words, more = {}) {
   const made = document.createElement(tag);
   made.textContent = words;

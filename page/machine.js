@@ -1,5 +1,5 @@
 // The machine: registers, memory, the stack in use.
-import { $, element, hex, row, text } from './dom.js';
+import { $, beginning, element, hex, row } from './dom.js';
 import { ask } from './asking.js';
 import { NEVER, input, session } from './session.js';
 import { showNext } from './listing.js';
@@ -23,7 +23,7 @@ export function windowFrom() {
 
 export function showMachine() {
   const { seen, previous } = session;
-  $('output').textContent = text(seen.output);
+  $('output').textContent = beginning(seen.output);
   $('where').textContent = `after ${seen.steps} instructions: ${state(seen)}, pc ${hex(seen.pc)}`;
   $('registers').replaceChildren(...NAMES.map((name, k) => {
     const changed = previous && previous.registers[k] !== seen.registers[k];

@@ -1,5 +1,5 @@
 // The page: what its reader does, and what is shown of it.
-import { $, hex, say, text } from './dom.js';
+import { $, beginning, hex, say, text } from './dom.js';
 import { ask, load, stop } from './asking.js';
 import { examples } from './examples.js';
 import * as sources from './sources.js';
@@ -44,7 +44,7 @@ async function build() {
   const tokens = await ask('preprocess', ...program()), built = await ask('build', ...program());
   if (turn !== session.turn || built.stopped || tokens.stopped) return;
   forget();
-  if (tokens.answer) $('token-text').textContent = text(tokens.answer.output);
+  if (tokens.answer) $('token-text').textContent = beginning(tokens.answer.output);
   if (built.failed) return tooDeep(built.failed);
   sources.showFault(built.answer.message);
   if (built.answer.status !== 0) return say(built.answer.message.trim());

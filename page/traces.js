@@ -1,5 +1,5 @@
 // What the source means beside what the machine does: where each ends, and at which tick and which instruction each byte is put.
-import { $, element, row, text } from './dom.js';
+import { $, beginning, element, row } from './dom.js';
 import { ask } from './asking.js';
 import { NEVER, input, program, session } from './session.js';
 import { state } from './machine.js';
@@ -37,7 +37,7 @@ function verdict(left, right) {
   const count = right.output.length, ended = left.message === '' && right.outcome === 1;
   if (left.status === 123 && left.message) return `The meaning ends at ${meaning(left)}: what the file does from there on is promised to nobody.`;
   if (!ended) return `Neither is at its end after ${MOST.toLocaleString('en')} ticks or instructions.`;
-  const same = left.status === right.detail && text(left.output) === text(right.output);
+  const same = left.status === right.detail && left.output.length === count && left.output.every((byte, k) => byte === right.output[k]);
   return same ? `Both end with status ${right.detail}, having written the same ${count} bytes.` : 'They differ, which contradicts the theorem: please tell us.';
 }
 
@@ -89,14 +89,29 @@ function set(ticks, instructions) {
 
 // ---- the two sliders
 
-export async function showBoth() {
+let showing, again = false;
+
+// Shows both sides at the counts of the sliders; those that a reader passes over meanwhile are left out.
+export function showBoth() {
+  again = true;
+  showing ??= (async () => {
+    while (again) {
+      again = false;
+      await showCounts();
+    }
+    showing = undefined;
+  })();
+  return showing;
+}
+
+async function showCounts() {
   const ticks = Number($('ticks').value), count = Number($('instructions').value);
   const left = (await meaningAt(ticks)).answer, right = (await machineAt(count)).answer;
   if (!left || !right) return;
   $('tick-state').textContent = `after ${ticks} ticks: ${meaning(left)}`;
-  $('tick-output').textContent = text(left.output);
+  $('tick-output').textContent = beginning(left.output);
   $('instruction-state').textContent = `after ${count} instructions: ${state(right)}`;
-  $('instruction-output').textContent = text(right.output);
+  $('instruction-output').textContent = beginning(right.output);
 }
 
 function nudge(slider, by) {
@@ -106,7 +121,7 @@ function nudge(slider, by) {
 
 export function begin() {
   for (const slider of ['ticks', 'instructions']) {
-    $(slider).onchange = showBoth;
+    $(slider).oninput = showBoth;
     $(slider + '-less').onclick = () => nudge(slider, -1);
     $(slider + '-more').onclick = () => nudge(slider, 1);
   }
