@@ -14,6 +14,8 @@ jobs=${JOBS:-$(getconf _NPROCESSORS_ONLN 2>/dev/null || echo 1)}
 # 'N passed, M failed' or 'N passed, M failed, K skipped'. A further check is a further line here.
 checks() {
     cat <<'END'
+library      | python3                                  | python3 tests/outside/library/check.py "$cc"
+page         | python3                                  | sh tests/outside/page/check.sh "$cc"
 boards       | python3                                  | sh tests/outside/boards/check.sh "$cc"
 hostile      | python3                                  | python3 tests/outside/hostile/check.py "$cc"
 widths       | python3                                  | python3 tests/outside/widths/check.py "$cc"

@@ -12,7 +12,8 @@
    ANSWERS. A call fills `out` and `message` as far as there is room, leaves what is behind, and tells in `sizes` how long
    the output and the message are: a buffer of fewer bytes was too small, and one of so many is large enough. A message is
    one line with a newline, or empty; neither has a zero at its end.
-   After status 1 or 256 of zk_build, zk_frames, zk_preprocess and zk_list the output is empty, and `out` is as it was.
+   After status 1 or 256 of zk_build, zk_frames, zk_preprocess and zk_list the output is empty, and `out` is as it was. The output of
+   zk_interpret and zk_run is what the program has put, whatever the status: nothing, where it did not begin.
 
    STATUS, as of the program zkc:
      0    done; zk_interpret and zk_run: the program's own status, 0 to 255
@@ -71,6 +72,21 @@ uint32_t zk_interpret(const uint8_t *texts, size_t texts_length, const struct zk
 uint32_t zk_run(const uint8_t *file, size_t file_length, const uint8_t *name, size_t name_length,
                 const uint8_t *input, size_t input_length, uint64_t max,
                 uint8_t *out, size_t out_length, uint8_t *message, size_t message_length, struct zk_sizes *sizes);
+
+/* A machine after some instructions. `detail`: the status with which it ended; why it trapped (1 illegal word, 2 fetch fault, 3 target
+   of a jump, 4 misaligned address, 5 load fault, 6 store fault, 7 break, 8 unknown call); the code for which the file is not loaded
+   (801, 901 to 907); else 0. `pc`: the address of the instruction that is next, or at which it stopped. `steps`: how many instructions
+   it took, with that at which it ended or trapped. `output`: how many bytes it has put; `out` was too small where it has fewer. */
+struct zk_machine { uint32_t detail, pc, registers[32]; uint64_t steps, output; };
+
+/* Runs an executable file from its start for `count` instructions, or to where it stops before, or, once it has done `after`, to where
+   the instruction at the address `halt` is next (none stands at an odd one); and shows the machine there: `window` gets the bytes
+   of its memory from the address `from` on, 0 for each that can't be read. Answers 0 where it goes on, 1 where it ended, 2 where it
+   trapped, 3 where memory ran out for the output, 4 where the file is not loaded: then `detail` and `output` alone are set, the
+   window and `out` are as they were, and nothing was put. */
+uint32_t zk_step(const uint8_t *file, size_t file_length, const uint8_t *input, size_t input_length,
+                 uint64_t count, uint64_t after, uint32_t halt, uint32_t from, uint8_t *window, size_t window_length,
+                 uint8_t *out, size_t out_length, struct zk_machine *machine);
 
 /* The text of the fault with this code, which is empty where there is none; answers how long it is. */
 uint64_t zk_message(uint16_t code, uint8_t *out, size_t out_length);

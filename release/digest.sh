@@ -1,16 +1,16 @@
 #!/bin/sh
-# Prints one digest of all that cc is built from: the sources, definitions and proofs of the crates that cc_program stands
-# on, and what says which these are. Called from anywhere; it needs no kit.
+# digest.sh [CRATE]: prints one digest of all that cc, or the crate, is built from: the sources, definitions and proofs of the crates that
+# cc_program, or the crate, stands on, and what says which these are. Called from anywhere; it needs no kit.
 set -eu
 cd "$(dirname "$0")/.."
 LC_ALL=C
 export LC_ALL
 
-# The crates below cc_program, and itself, by crates.txt.
-crates=$(awk -F: '
-    !/^#/ && NF > 1 { needs[$1] = $2 }
+# The crates below it, and itself, by crates.txt.
+crates=$(awk -F: -v top="${1:-cc_program}" '
+    !/^#/ && NF > 1 { split($1, words, " "); needs[words[1]] = $2 }
     END {
-        list = "cc_program"; grew = 1
+        list = top; grew = 1
         while (grew) {
             grew = 0
             n = split(list, names, " ")
@@ -24,7 +24,7 @@ crates=$(awk -F: '
     }' crates.txt)
 {
     for crate in $crates; do
-        grep "^$crate:" crates.txt
+        grep -E "^$crate( staticlib)?:" crates.txt
     done | sort
     for crate in $crates; do
         find "crates/$crate/src" "crates/$crate/specs" "crates/$crate/proofs" -type f 2>/dev/null || true

@@ -1,4 +1,5 @@
-"""Zikorape from Python, by ctypes: `build`, `frames`, `preprocess`, `listing`, `interpret`, `run`, `message`, `version`.
+"""Zikorape from Python, by ctypes: `build`, `frames`, `preprocess`, `listing`, `interpret`, `run`, `step`, `message`,
+`version`.
 
     import zikorape
     zk = zikorape.Library('libzikorape.so')
@@ -22,12 +23,29 @@ class Sizes(ctypes.Structure):
     _fields_ = [('output', ctypes.c_uint64), ('message', ctypes.c_uint64)]
 
 
+class Seen(ctypes.Structure):
+    _fields_ = [('detail', ctypes.c_uint32), ('pc', ctypes.c_uint32), ('registers', ctypes.c_uint32 * 32), ('steps', ctypes.c_uint64), ('output', ctypes.c_uint64)]
+
+
 @dataclass
 class Answer:
     """`status` as the program zkc has it (256: no files), the output, and the line of a fault or of why a program stopped."""
     status: int
     output: bytes
     message: str
+
+
+@dataclass
+class Machine:
+    """A machine after `steps` instructions. `outcome`: 0 it goes on, 1 it ended, 2 it trapped, 3 memory ran out, 4 the file is not loaded;
+    `detail`: the status, the number of the cause, or the code of the fault (zikorape.h)."""
+    outcome: int
+    detail: int
+    steps: int
+    pc: int
+    registers: list
+    window: bytes
+    output: bytes
 
 
 def _bytes(text):
@@ -41,7 +59,7 @@ def _slice(data):
 class Library:
     def __init__(self, path='libzikorape.so'):
         self._c = ctypes.CDLL(path)
-        for name in ('build', 'frames', 'preprocess', 'list', 'interpret', 'run'):
+        for name in ('build', 'frames', 'preprocess', 'list', 'interpret', 'run', 'step'):
             getattr(self._c, 'zk_' + name).restype = ctypes.c_uint32
         for name in ('message', 'version'):
             getattr(self._c, 'zk_' + name).restype = ctypes.c_uint64
@@ -63,6 +81,18 @@ class Library:
 
     def run(self, file, input=b'', max=MAX, name='a.out'):
         return self._call(self._c.zk_run, *_slice(file), *_slice(_bytes(name)), *_slice(_bytes(input)), ctypes.c_uint64(max))
+
+    def step(self, file, count, input=b'', after=0, halt=1, start=0, length=0):
+        """The machine after `count` instructions, or, once it has done `after`, where the one at the address `halt` is next; with `length`
+        bytes of its memory from the address `start` on."""
+        room, window = 1 << 16, ctypes.create_string_buffer(max(length, 1))
+        while True:
+            out, seen = ctypes.create_string_buffer(room), Seen()
+            outcome = self._c.zk_step(*_slice(file), *_slice(_bytes(input)), ctypes.c_uint64(count), ctypes.c_uint64(after), ctypes.c_uint32(halt),
+                                      ctypes.c_uint32(start), window, ctypes.c_size_t(length), out, ctypes.c_size_t(room), ctypes.byref(seen))
+            if seen.output <= room:
+                return Machine(outcome, seen.detail, seen.steps, seen.pc, list(seen.registers), window.raw[:length], out.raw[:seen.output])
+            room = seen.output
 
     def message(self, code):
         return self._text(self._c.zk_message, ctypes.c_uint16(code))

@@ -21,6 +21,16 @@ struct Sizes {
     message: u64,
 }
 
+#[repr(C)]
+#[derive(Default)]
+struct Seen {
+    detail: u32,
+    pc: u32,
+    registers: [u32; 32],
+    steps: u64,
+    output: u64,
+}
+
 type Out = *mut u8;
 type In = *const u8;
 type Over = unsafe extern "C" fn(In, usize, *const File, usize, In, usize, Out, usize, Out, usize, *mut Sizes) -> u32;
@@ -37,6 +47,9 @@ extern "C" {
         out: Out, o: usize, message: Out, l: usize, sizes: *mut Sizes,
     ) -> u32;
     fn zk_run(file: In, n: usize, name: In, m: usize, input: In, i: usize, max: u64, out: Out, o: usize, message: Out, l: usize, sizes: *mut Sizes) -> u32;
+    fn zk_step(
+        file: In, n: usize, input: In, i: usize, count: u64, after: u64, halt: u32, from: u32, window: Out, w: usize, out: Out, o: usize, seen: *mut Seen,
+    ) -> u32;
     fn zk_message(code: u16, out: Out, o: usize) -> u64;
     fn zk_version(out: Out, o: usize) -> u64;
 }
@@ -114,6 +127,68 @@ pub fn run(file: &[u8], name: &str, input: &[u8], max: u64) -> Answer {
         zk_run(file.as_ptr(), file.len(), name.as_ptr(), name.len(), input.as_ptr(), input.len(), max,
             out.as_mut_ptr(), out.len(), message.as_mut_ptr(), message.len(), sizes)
     })
+}
+
+/// How a machine stands.
+#[derive(Clone, Copy, Debug, PartialEq, Eq)]
+pub enum Outcome {
+    GoesOn,
+    /// It ended with this status.
+    Ended(u32),
+    /// It trapped for the cause with this number (`zikorape.h`).
+    Trapped(u32),
+    /// Memory ran out for the output.
+    OutOfMemory,
+    /// The file is not loaded, for the fault with this code.
+    NotLoaded(u32),
+}
+
+/// A machine after some instructions.
+#[derive(Clone, Debug, PartialEq, Eq)]
+pub struct Machine {
+    pub outcome: Outcome,
+    pub pc: u32,
+    pub registers: [u32; 32],
+    /// How many instructions it took, with that at which it stopped.
+    pub steps: u64,
+    /// The bytes of its memory, 0 for each that can't be read.
+    pub window: Vec<u8>,
+    pub output: Vec<u8>,
+}
+
+/// Where a run is to halt: before the instruction at an address, once it has done so many.
+#[derive(Clone, Copy, Debug, PartialEq, Eq)]
+pub struct Halt {
+    pub after: u64,
+    pub at: u32,
+}
+
+/// No instruction stands at an odd address.
+pub const NEVER: Halt = Halt { after: 0, at: 1 };
+
+/// The machine after `count` instructions, or where it is to halt; with `length` bytes of its memory from the address `from` on.
+pub fn step(file: &[u8], input: &[u8], count: u64, halt: Halt, from: u32, length: usize) -> Machine {
+    let (mut window, mut out, mut seen) = (vec![0; length], vec![0; 1 << 16], Seen::default());
+    loop {
+        let number = unsafe {
+            zk_step(file.as_ptr(), file.len(), input.as_ptr(), input.len(), count, halt.after, halt.at, from,
+                window.as_mut_ptr(), window.len(), out.as_mut_ptr(), out.len(), &mut seen)
+        };
+        let outs = seen.output as usize;
+        if outs > out.len() {
+            out.resize(outs, 0);
+            continue;
+        }
+        out.truncate(outs);
+        let outcome = match number {
+            0 => Outcome::GoesOn,
+            1 => Outcome::Ended(seen.detail),
+            2 => Outcome::Trapped(seen.detail),
+            3 => Outcome::OutOfMemory,
+            _ => Outcome::NotLoaded(seen.detail),
+        };
+        return Machine { outcome, pc: seen.pc, registers: seen.registers, steps: seen.steps, window, output: out };
+    }
 }
 
 fn text(call: impl Fn(&mut [u8]) -> u64) -> String {

@@ -1,3 +1,4 @@
 pub mod GivenLemmas
 pub mod HandingOut
 pub mod Performing
+pub mod Runs

@@ -1,6 +1,7 @@
 pub use Rattle.srcset.specs.Files
 pub use Rattle.srcset.specs.Fault
 pub use Rattle.meaning_ports.specs.Port
+pub use Rattle.sim.specs.Runs
 pub use Rattle.cc.specs.Compiled
 pub use Rattle.cc.specs.Refused
 pub use Rattle.cc.specs.Performed
@@ -8,4 +9,5 @@ pub use Rattle.cc.specs.Reported
 pub mod Given
 pub mod Got
 pub mod Answered
+pub mod Stepped
 pub mod inside

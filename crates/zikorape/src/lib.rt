@@ -9,19 +9,24 @@ mod commands;
 mod files;
 mod giving;
 mod refusing;
+mod standing;
+mod stepping;
 
-ghost use Rattle.std.specs.Prelude.{[]};
+ghost use Rattle.std.specs.Prelude.{◌⊎◌, []};
 ghost use Rattle.srcset.specs.Codes.{message_of};
 ghost use Rattle.zikorape.specs.Got.{Buffer, Got, HandsOut};
 ghost use Rattle.zikorape.specs.Given.{text_or_empty};
 ghost use Rattle.zikorape.specs.Answered.{OverFiles, Compiled, Writes, Puts, file_text, frames_text, version};
+ghost use Rattle.zikorape.specs.Stepped.{Window, Stands, FailsToStand};
 
 use cc::Cmd;
 use files::{FileLengths, text_or_empty};
 use giving::{Sizes, give};
 use refusing::{given, refuse};
 use srcset::{FileSet, message};
+use standing::{Standing, stand};
 use std::alloc::Global;
+use stepping::Halt;
 
 /// The version of the library.
 const VERSION: &[u8] = b"zikorape 1.0";
@@ -186,6 +191,38 @@ pub extern "C" fn zk_run(
         out,
         message,
         sizes,
+    )
+}
+
+/// Runs the executable file over this input for `count` instructions, or to where it stops before, or, once it has done
+/// `after`, to where the instruction at `halt` is next; and shows the machine: 0 where it goes on, 1 where it ended, 2 where it
+/// trapped, 3 where memory ran out for the output, 4 where the file is not loaded.
+#[unsafe(no_mangle)]
+pub extern "C" fn zk_step(
+    alloc: Global,
+    file: &[u8],
+    input: &[u8],
+    count: u64,
+    after: u64,
+    halt: u32,
+    from: u32,
+    window: &mut [u8],
+    out: &mut [u8],
+    standing: &mut Standing,
+) -> u32
+    ensures { Stands file.now input.now count (record { after = after; at = halt }) result standing.new (record { from = from; before = window.old; after = window.new }) (record { before = out.old; after = out.new; told = standing.new.output })
+        ⊎ FailsToStand file.now result standing.old standing.new (record { from = from; before = window.old; after = window.new }) (record { before = out.old; after = out.new; told = standing.new.output }) }
+{
+    stand(
+        alloc,
+        file,
+        input,
+        count,
+        Halt { after, at: halt },
+        from,
+        window,
+        out,
+        standing,
     )
 }
 

@@ -183,6 +183,58 @@ def frames(counted, zk):
         counted.holds('frames of ' + source[:40], (found.status, found.output, found.message) == (0, wanted.encode(), ''), found)
 
 
+# ---- the machine at an instruction
+
+# By hand, of docs/TOUR.md and the unprivileged ISA manual: the entry sets x2 (LUI, ADDI) and calls main (AUIPC, JALR), which opens its frame at
+# 0x11018, and makes 70 and 72.
+TOUR = b'void rv_putbyte(int c);\n\nint main(void) {\n    rv_putbyte(70 + 2);\n    return 44 - 2;\n}\n'
+STANDS = [(0, 0x11000, {}), (1, 0x11004, {2: 0x80000000}), (2, 0x11008, {2: 0x80000000}), (3, 0x1100C, {1: 0x11008, 2: 0x80000000}),
+          (4, 0x11018, {1: 0x11010, 2: 0x80000000}), (5, 0x1101C, {1: 0x11010, 2: 0x7FFFFFF0}), (6, 0x11020, {1: 0x11010, 2: 0x7FFFFFF0, 5: 70}),
+          (7, 0x11024, {1: 0x11010, 2: 0x7FFFFFF0, 5: 70, 10: 72})]
+
+
+def machine(counted, zk):
+    file = zk.build([('main.c', TOUR)], 'main.c').output
+    for count, pc, registers in STANDS:
+        seen = zk.step(file, count, start=0x1101C, length=4)
+        counted.holds('the machine at %d' % count, (seen.outcome, seen.detail, seen.steps, seen.pc, seen.output, seen.window.hex()) == (0, 0, count, pc, b'', '93026004')
+                      and seen.registers == [registers.get(k, 0) for k in range(32)], seen)
+    seen = zk.step(file, 10 ** 6)
+    before = zk.step(file, seen.steps - 1)
+    counted.holds('the machine at its end', (seen.outcome, seen.detail, seen.pc, seen.output) == (1, 42, 0x11014, b'H'), seen)
+    counted.holds('and one instruction before it', (before.outcome, before.steps, before.pc) == (0, seen.steps - 1, 0x11014), before)
+    for after, halt, wanted in [(0, 0x1101C, (0, 5, 0x1101C)), (6, 0x1101C, (1, seen.steps, 0x11014)), (5, 0x1101C, (0, 5, 0x1101C)), (0, 0x11000, (0, 0, 0x11000))]:
+        found = zk.step(file, 10 ** 6, after=after, halt=halt)
+        counted.holds('halting at %x, after %d' % (halt, after), (found.outcome, found.steps, found.pc) == wanted, found)
+    counted.holds('no more than the count', zk.step(file, 3, halt=0x1101C).steps == 3)
+    for start, length in [(0xFFFFFFFE, 4), (0, 8), (0x7FFFFFFC, 8)]:
+        counted.holds('no memory at %x' % start, zk.step(file, 1, start=start, length=length).window == bytes(length))
+    not_loaded(counted, zk, file)
+
+
+def stepped(counted, zk, program, work):
+    """The same by the Rust example."""
+    path, file = os.path.join(work, 'hello'), zk.build([('main.c', TOUR)], 'main.c').output
+    with open(path, 'wb') as made:
+        made.write(file)
+    for count in (0, 3, 7, 1000):
+        seen = zk.step(file, count)
+        done = subprocess.run([program, 'step', path, str(count)], capture_output=True, timeout=60)
+        wanted = '%d %08x %s\n' % (seen.steps, seen.pc, 'GoesOn' if seen.outcome == 0 else 'Ended(42)')
+        counted.holds('Rust: the machine at %d' % count, done.stdout.decode() == wanted, done)
+
+
+def not_loaded(counted, zk, file):
+    """What the buffers hold where a file is not loaded."""
+    for what, bad, code in [('empty', b'', 901), ('cut', file[:51], 901), ('of another kind', b'\x7fELX' + file[4:], 902), ('of text cut off', file[:0x1000], 905)]:
+        window, out = (ctypes.c_uint8 * 8)(*[0xa5] * 8), (ctypes.c_uint8 * 8)(*[0xa5] * 8)
+        seen = zikorape.Seen(1, 2, (ctypes.c_uint32 * 32)(*range(32)), 3, 4)
+        outcome = zk._c.zk_step(ctypes.c_char_p(bad), ctypes.c_size_t(len(bad)), ctypes.c_char_p(b''), ctypes.c_size_t(0), ctypes.c_uint64(9), ctypes.c_uint64(0),
+                                ctypes.c_uint32(1), ctypes.c_uint32(0), window, ctypes.c_size_t(8), out, ctypes.c_size_t(8), ctypes.byref(seen))
+        counted.holds('a file that is ' + what, (outcome, seen.detail, seen.pc, list(seen.registers), seen.steps, seen.output, bytes(window), bytes(out))
+                      == (4, code, 2, list(range(32)), 3, 0, b'\xa5' * 8, b'\xa5' * 8), (outcome, seen.detail, seen.output))
+
+
 # ---- threads, stack, memory
 
 def threads(counted, zk, wanted):
@@ -242,6 +294,7 @@ def check(counted, cc, out):
     no_calls(counted, zk)
     texts(counted, zk)
     frames(counted, zk)
+    machine(counted, zk)
     threads(counted, zk, wanted)
     fewer = [one for one in wanted if one[0].startswith(OTHERS)]
     with tempfile.TemporaryDirectory() as work:
@@ -260,6 +313,7 @@ def check(counted, cc, out):
         counted.holds('bindings/rust is compiled', program, said)
         if program:
             same(counted, 'Rust', fewer, lambda files, input: by_program(program, files, input))
+            stepped(counted, zk, program, work)
 
 
 if __name__ == '__main__':

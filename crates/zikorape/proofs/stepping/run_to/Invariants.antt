@@ -1,0 +1,19 @@
+use Rattle.std.proofs.Common.{◌≡◌, ◌<◌, ◌≤◌, ◌-◌, ℕ, List, Option, None}
+use Rattle.sim.specs.Runs.{World, Running, rvrun}
+use Rattle.sim.specs.Machines.{machine_now, stopped_with}
+use Rattle.sim.specs.Meets.{At}
+use Rattle.zikorape.specs.Stepped.{Passes}
+use Rattle.zikorape.proofs.stepping.run_to.Given as goal
+
+abbrev pub invariant-loop-steps : goal.invariant-loop-steps
+invariant-loop-steps g l = record {
+  bounded : l.steps ≤ l.count;
+  going : stopped_with l.machine ≡ None;
+  came : (o : Option (List ℕ)) (w : World) → At o w (machine_now l.initial.machine) (g.P.Port.seen l.initial.port) →
+      (v : World) × (rvrun l.steps w ≡ Running v) × At o v (machine_now l.machine) (g.P.Port.seen l.port);
+  passed : (o : Option (List ℕ)) (w : World) → At o w (machine_now l.initial.machine) (g.P.Port.seen l.initial.port) →
+      (k : ℕ) → k < l.steps → Passes l.halt k (rvrun k w);
+}
+
+abbrev pub decreases-loop-steps : goal.decreases-loop-steps
+decreases-loop-steps g l = l.count - l.steps

@@ -1,0 +1,88 @@
+//! A machine from its start to an instruction, and what it then shows.
+
+ghost use Rattle.std.specs.Prelude.{◌≡◌, ◌⊎◌, ◌<◌, ◌≤◌, ◌+◌, ◌↔◌, ℕ, List, Option, None, IsTrue, length, slice_index};
+ghost use Rattle.rv32.specs.Space.{space_of};
+ghost use Rattle.sim.specs.Runs.{World, rvrun};
+ghost use Rattle.sim.specs.Machines.{machine_now, stopped_with};
+ghost use Rattle.sim.specs.Meets.{At, RunMeets};
+ghost use Rattle.zikorape.specs.Stepped.{Passes, shown_byte};
+
+use meaning_ports::Port;
+use rv32::memory::Memory;
+use sim::{Machine, Outcome};
+
+/// How far a run came.
+#[derive(Clone, Copy)]
+pub struct Reached {
+    pub outcome: Outcome,
+    /// How many instructions it took, with that at which it stopped, if it did.
+    pub steps: u64,
+}
+
+/// Where a run is to halt: before the instruction at an address, once it has taken so many.
+#[derive(Clone, Copy)]
+pub struct Halt {
+    pub after: u64,
+    pub at: u32,
+}
+
+/// Takes `count` instructions, or those up to where the run stops or is to halt, if that is earlier.
+pub fn run_to<P: Port>(machine: &mut Machine, port: &mut P, count: u64, halt: Halt) -> Reached
+    requires { stopped_with machine.old ≡ None }
+    ensures meets { (o : Option (List ℕ)) (w : World) → At o w (machine_now machine.old) (P.seen port.old) →
+        RunMeets o w result.steps result.outcome (machine_now machine.new) (P.seen port.new) }
+    ensures passes { (o : Option (List ℕ)) (w : World) → At o w (machine_now machine.old) (P.seen port.old) →
+        (k : ℕ) → k < result.steps → Passes halt k (rvrun k w) }
+    ensures most { result.steps ≤ count }
+    ensures halts { result.outcome ≡ Outcome.Budget → (result.steps ≡ count) ⊎ ((halt.after ≤ result.steps) × ((machine_now machine.new).pc ≡ halt.at)) }
+{
+    let mut steps = 0;
+    while steps < count {
+        if is_halted(machine, halt, steps) {
+            return Reached {
+                outcome: Outcome::Budget,
+                steps,
+            };
+        }
+        match machine.run(port, 1) {
+            Outcome::Budget => steps += 1,
+            outcome => return Reached {
+                outcome,
+                steps: steps + 1,
+            },
+        }
+    }
+    Reached {
+        outcome: Outcome::Budget,
+        steps,
+    }
+}
+
+/// Whether the run is to halt here, after so many instructions.
+fn is_halted(machine: &Machine, halt: Halt, steps: u64) -> bool
+    ensures { IsTrue result ↔ ((halt.after ≤ steps) × ((machine_now machine.now).pc ≡ halt.at)) }
+{
+    halt.after <= steps && machine.pc() == halt.at
+}
+
+/// Copies what the memory holds from an address on; 0 where nothing may be read.
+pub fn show(memory: &Memory, from: u32, window: &mut [u8])
+    ensures same { length window.new ≡ length window.old }
+    ensures shows { (i : ℕ) → i < length window.old → slice_index window.new i ≡ shown_byte (space_of memory.now.segments.items) (from + i) }
+{
+    for i in 0..window.len() {
+        window[i] = byte_at(memory, u64::from(from) + i as u64);
+    }
+}
+
+fn byte_at(memory: &Memory, address: u64) -> u8
+    ensures { result ≡ shown_byte (space_of memory.now.segments.items) address }
+{
+    match u32::try_from(address) {
+        Ok(address) => match memory.load_byte(address) {
+            Some(byte) => byte,
+            None => 0,
+        },
+        Err(_) => 0,
+    }
+}

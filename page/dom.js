@@ -1,0 +1,22 @@
+// What each part of the page uses.
+export const $ = id => document.getElementById(id);
+export const say = line => { $('status').textContent = line; };
+export const hex = (n, digits = 8) => (n >>> 0).toString(16).toUpperCase().padStart(digits, '0');
+export const text = bytes => new TextDecoder().decode(bytes);
+
+const SHOWN = 65536;      // bytes of an output
+
+export const beginning = bytes => bytes.length <= SHOWN ? text(bytes) : `${text(bytes.slice(0, SHOWN))}\n… and ${bytes.length - SHOWN} more bytes`;
+
+export function element(tag, words, more = {}) {
+  const made = document.createElement(tag);
+  made.textContent = words;
+  return Object.assign(made, more);
+}
+
+// A row of a table: each cell a text or an element.
+export function row(cells) {
+  const made = document.createElement('tr');
+  made.append(...cells.map(cell => { const td = document.createElement('td'); td.append(cell); return td; }));
+  return made;
+}

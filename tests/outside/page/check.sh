@@ -1,0 +1,87 @@
+#!/bin/sh
+# sh tests/outside/page/check.sh CC [SHOTS]: the page's module against the program CC on every kept source, its heap, and the page in a browser,
+# whose screenshots go to the folder SHOTS, by default bin/page. What needs a tool that is not installed is left out with a word, and
+# counted as skipped. The last line counts. It takes two to three minutes.
+set -u
+root=$(cd "$(dirname "$0")/../../.." && pwd)
+here=$root/tests/outside/page
+cc=$(cd "$(dirname "$1")" && pwd)/$(basename "$1")
+shots=${2:-$root/bin/page}
+browser=${CHROMIUM:-chromium}
+work=$(mktemp -d)
+server=
+trap 'rm -rf "$work"; [ -z "$server" ] || kill "$server" 2>/dev/null' EXIT
+passed=0
+failed=0
+skipped=0
+
+leave_out() { echo "left out: $*"; skipped=$((skipped + 1)); }
+has() { command -v "$1" >/dev/null 2>&1; }
+# holds WHAT COMMAND..
+holds() {
+    what=$1
+    shift
+    if "$@"; then passed=$((passed + 1)); else failed=$((failed + 1)); echo "FAIL $what"; fi
+}
+# add FILE: what a check said, and the counts of its last line; without such a line it failed.
+add() {
+    grep -v ' passed, ' "$1"
+    set -- $(tail -n 1 "$1" | sed -n 's/^\([0-9]*\) passed, \([0-9]*\) failed.*/\1 \2/p')
+    passed=$((passed + ${1:-0}))
+    failed=$((failed + ${2:-1}))
+}
+is_young() { [ "$(sh "$root/page/digest.sh")" = "$(cat "$root/page/SOURCES")" ]; }
+is_small() { [ "$(wc -c <"$root/page/zikorape.wasm")" -lt 1100000 ]; }
+
+heap() {
+    # On the host addresses are larger than those of 32 bits.
+    sed -e '/^extern unsigned char __heap_base;/d' -e 's/want > MOST/0/; s/n > MOST || //' "$root/page/heap.c" >"$work/heap_host.c"
+    gcc -O1 -I "$work" "$here/heap_test.c" -o "$work/heap" && "$work/heap"
+}
+
+# The same module with a memory of at most 32 MiB.
+small_module() {
+    wasm-dis "$root/page/zikorape.wasm" 2>/dev/null | sed -E 's/^( \(memory \$[^ ]+ [0-9]+)( [0-9]+)?\)/\1 512)/' >"$work/small.wat"
+    wasm-opt --all-features "$work/small.wat" -o "$work/small.wasm" 2>/dev/null
+}
+
+module() {
+    holds 'page/zikorape.wasm is of these sources (sh page/build.sh makes it anew)' is_young
+    holds 'page/zikorape.wasm has less than 1.1 MB' is_small
+    if has wasm-opt && has wasm-dis && small_module; then export SMALL="$work/small.wasm"; else leave_out 'want of memory: no wasm-opt'; fi
+    python3 "$here/sources.py" "$cc" >"$work/rows" 2>"$work/said" || cat "$work/said"
+    node "$here/thread.mjs" "$here/compare.mjs" "$root/page/zikorape.wasm" "$work/rows" >"$work/compared" 2>&1
+    add "$work/compared"
+}
+
+in_browser() {
+    mkdir -p "$shots"
+    node "$here/serve.mjs" "$root/page" >"$work/port" &
+    server=$!
+    for turn in 1 2 3 4 5 6 7 8 9 10; do [ -s "$work/port" ] && break; sleep 1; done
+    CHROMIUM=$browser node --experimental-websocket "$here/browser.mjs" "http://127.0.0.1:$(cat "$work/port")/index.html" "$shots" >"$work/browser" 2>&1
+    add "$work/browser"
+}
+
+holds 'page/examples.js is of docs/LANGUAGE.md (python3 page/examples.py makes it anew)' python3 "$root/page/examples.py" --check
+if has gcc; then holds 'the heap' heap; else leave_out 'the heap: no gcc'; fi
+if [ ! -e "$root/page/zikorape.wasm" ]; then
+    leave_out 'the module and the page: no page/zikorape.wasm (sh page/build.sh)'
+elif ! has node; then
+    leave_out 'the module and the page: no node'
+else
+    module
+    if ! has "$browser"; then
+        leave_out "the page in a browser: no $browser"
+    elif ! node --experimental-websocket -e 'process.exit(typeof WebSocket === "function" ? 0 : 1)' >/dev/null 2>&1; then
+        leave_out 'the page in a browser: this node has no WebSocket'
+    else
+        in_browser
+    fi
+fi
+if [ "$skipped" -gt 0 ]; then
+    echo "$passed passed, $failed failed, $skipped skipped"
+else
+    echo "$passed passed, $failed failed"
+fi
+[ "$failed" -eq 0 ]
