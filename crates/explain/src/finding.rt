@@ -1,0 +1,57 @@
+//! What is found out about a fault.
+
+use srcset::Fault;
+
+/// Where a fault stands in the sources.
+#[derive(Clone, Copy)]
+pub struct Place {
+    /// The number of its file.
+    pub file: usize,
+    /// How many bytes of the file stand before its token.
+    pub start: usize,
+    /// How many bytes there are up to the token's end.
+    pub end: usize,
+    /// The line of the token, counted from 1.
+    pub line: u32,
+    /// Its column, in bytes, counted from 1.
+    pub column: usize,
+}
+
+/// What a note is about.
+#[derive(Clone, Copy, Debug, PartialEq, Eq)]
+pub enum Topic {
+    /// An `#include` that leads to the fault.
+    Included,
+    /// The macro that made the token.
+    Macro,
+    /// A name that may have been meant.
+    Suggestion,
+    /// What to write instead, or what the command takes.
+    Hint,
+}
+
+/// A note beside a fault. Its place is empty where it has none.
+#[derive(Drop)]
+pub struct Note {
+    pub topic: Topic,
+    pub file: String,
+    /// The line, counted from 1; 0 where there is no place.
+    pub line: u32,
+    /// The column, in bytes, counted from 1; 0 where there is none.
+    pub column: usize,
+    pub text: String,
+}
+
+/// A fault as it is explained.
+#[derive(Drop)]
+pub struct Finding {
+    /// What the compiler answers.
+    pub fault: Fault,
+    /// Where its token stands, where that is known.
+    pub place: Option<Place>,
+    /// The token, as it is written; empty where it is not known.
+    pub token: Vec<u8>,
+    /// The source line; empty where the place is not known.
+    pub source: Vec<u8>,
+    pub notes: Vec<Note>,
+}
