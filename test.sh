@@ -16,6 +16,7 @@ checks() {
     cat <<'END'
 boards       | python3                                  | sh tests/outside/boards/check.sh "$cc"
 hostile      | python3                                  | python3 tests/outside/hostile/check.py "$cc"
+widths       | python3                                  | python3 tests/outside/widths/check.py "$cc"
 mutated      | python3                                  | python3 tests/outside/hostile/mutate.py "$cc" 600 1500
 includes     | python3                                  | python3 tests/outside/pp/includes.py "$cc"
 scalars      | python3                                  | python3 tests/outside/scalars/check.py "$cc"
@@ -41,6 +42,7 @@ rows_flat    | python3                                  | python3 tests/outside/
 rows_tac     | python3                                  | python3 tests/outside/tac/rows.py --check
 variadic     | python3 gcc                              | python3 tests/outside/pp/variadic.py "$cc"
 streams      | python3                                  | python3 tests/outside/streams/check.py "$cc"
+stack        | python3                                  | python3 tests/outside/stack/check.py "$cc"
 documents    |                                          | sh tests/documents.sh "$cc"
 shown        |                                          | sh run.sh "$cc"
 END

@@ -1,6 +1,6 @@
 //! Parts of the program that call nothing, each done as a whole.
 
-ghost use Rattle.std.specs.Prelude.{◌≡◌, ◌<◌, ◌≤◌, ◌+◌, ℕ, List, Option, None};
+ghost use Rattle.std.specs.Prelude.{◌≡◌, ◌<◌, ◌≤◌, ◌+◌, ℕ, List, Option, None, true};
 ghost use Rattle.std.specs.Bool.{OnTrue};
 ghost use Rattle.typing_rules.specs.Program as typed;
 ghost use Rattle.cabs_store.specs.inside.Frames as on;
@@ -28,7 +28,8 @@ fn stopped(why: Why) -> Run
 /// Whether ticks were spent, and no more than are allowed.
 #[inline(always)]
 fn is_within(old: u64, new: u64, limit: u64) -> bool
-    ensures { OnTrue result ((old < new) × (new ≤ limit)) }
+    ensures within { OnTrue result ((old < new) × (new ≤ limit)) }
+    ensures past { (old < new) → (new ≤ limit) → result ≡ true }
 {
     old < new && new <= limit
 }

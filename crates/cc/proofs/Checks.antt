@@ -9,10 +9,10 @@ use Rattle.typing_rules.specs.Units.{unit_typed}
 use Rattle.typing.specs.Told.{IsFaultOfVerdict}
 use Rattle.cc.specs.Compiled.{typed_at}
 
-pub verdict_at : (texts : Texts) (file : ℕ) (unit : List ExternalTree) (v : Verdict Program) → unit_typed texts (record { file = file; line = 1 }) unit ≡ v → typed_at texts file unit ≡ v
+pub verdict_at : (stack : ℕ) (texts : Texts) (file : ℕ) (unit : List ExternalTree) (v : Verdict Program) → unit_typed stack texts (record { file = file; line = 1 }) unit ≡ v → typed_at stack texts file unit ≡ v
 unfolding typed_at
-verdict_at texts file unit v e = e
+verdict_at stack texts file unit v e = e
 
-pub fault_at : (texts : Texts) (file : ℕ) (unit : List ExternalTree) (fault : Fault) → IsFaultOfVerdict fault texts (unit_typed texts (record { file = file; line = 1 }) unit) → IsFaultOfVerdict fault texts (typed_at texts file unit)
+pub fault_at : (stack : ℕ) (texts : Texts) (file : ℕ) (unit : List ExternalTree) (fault : Fault) → IsFaultOfVerdict fault texts (unit_typed stack texts (record { file = file; line = 1 }) unit) → IsFaultOfVerdict fault texts (typed_at stack texts file unit)
 unfolding typed_at
-fault_at texts file unit fault h = h
+fault_at stack texts file unit fault h = h

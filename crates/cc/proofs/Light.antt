@@ -17,7 +17,7 @@ function_light p f h =
     let a = nat_le (typed_nodes f) f.nodes in
     let b = nat_le f.weight weight_limit in
     let c = parameters_are_first f.type.parameters f.objects && statement_is_typed p f (numbers_in f.type.parameters) (length f.objects) f.body in
-    let light : f.weight ≤ 1048576 = le_holds f.weight weight_limit (left_true b c (right_true a (b && c) h)) in
+    let light : f.weight ≤ 16777216 = le_holds f.weight weight_limit (left_true b c (right_true a (b && c) h)) in
     omega (arith, light)
 
 each_light : (p : Program) (fs : List Function) → functions_are_typed p fs ≡ true → AreLight fs

@@ -16,17 +16,17 @@ use Rattle.cc.specs.Reported.{Said}
 use Rattle.cc.specs.Performed.{ListsAll, ListsSome, FailsList}
 use Rattle.cc.specs.inside.Stops.{HasItems}
 
-module _ (set : Files) (name : List ℕ) (items : List Item) (out : Said) (has : HasItems set name items) where
+module _ (stack : ℕ) (set : Files) (name : List ℕ) (items : List Item) (out : Said) (has : HasItems stack set name items) where
   -- each jump reaches, so that only memory or the writer refuses
-  fails : (fault : Fault) → IsListRefused text_start items out.before out.after fault → FailsList set name out fault
+  fails : (fault : Fault) → IsListRefused text_start items out.before out.after fault → FailsList stack set name out fault
   fails fault (inl (inl misses, same)) = absurd (has.items_are.reach misses.1)
   fails fault (inl (inr m, same)) = inr (record { texts = has.texts; unit = has.unit; program = has.program; has_program = has.has_program; items = items; items_are = has.items_are; refused = inl (m, same) })
   fails fault (inr w) = inr (record { texts = has.texts; unit = has.unit; program = has.program; has_program = has.has_program; items = items; items_are = has.items_are; refused = inr w })
 
   pub list_means : {U : Type 0} (r : Result U Fault) → OnOk r (Lists text_start items out.before out.after) → IfErr r (IsListRefused text_start items out.before out.after)
-      → MatchResult r (λ _. ListsAll set name out) (FailsList set name out)
+      → MatchResult r (λ _. ListsAll stack set name out) (FailsList stack set name out)
   list_means (Ok u) done refused = record { texts = has.texts; unit = has.unit; program = has.program; has_program = has.has_program; items = items; items_are = has.items_are; lists = done }
   list_means (Err fault) done refused = fails fault refused
 
-pub has_items : (set : Files) (name : List ℕ) (texts : Texts) (unit : List ExternalTree) (program : Program) (items : List Item) → HasProgram set name texts unit program → backend.AreItemsOf program items → HasItems set name items
-has_items set name texts unit program items has are = record { texts = texts; unit = unit; program = program; has_program = has; items_are = are }
+pub has_items : (stack : ℕ) (set : Files) (name : List ℕ) (texts : Texts) (unit : List ExternalTree) (program : Program) (items : List Item) → HasProgram stack set name texts unit program → backend.AreItemsOf stack program items → HasItems stack set name items
+has_items stack set name texts unit program items has are = record { texts = texts; unit = unit; program = program; has_program = has; items_are = are }

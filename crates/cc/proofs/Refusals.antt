@@ -36,29 +36,29 @@ pub error_means : {A B : Type 0} (r : Result A B) (P Q : B → Type 0) → ((f :
 error_means (Ok x) P Q means h = h
 error_means (Err f) P Q means h = means f h
 
-module _ (set : Files) (name : List ℕ) where
-  wants : (fault : Fault) → IsMemoryFault fault → IsRefused set name fault
+module _ (stack : ℕ) (set : Files) (name : List ℕ) where
+  wants : (fault : Fault) → IsMemoryFault fault → IsRefused stack set name fault
   wants fault m = inr (inr (inr (inr m)))
 
-  told_stops : (stop : Stop) (P : Fault → Type 0) → ((f : Fault) → P f → IsRefused set name f) → IsTold P stop → Stops set name stop
+  told_stops : (stop : Stop) (P : Fault → Type 0) → ((f : Fault) → P f → IsRefused stack set name f) → IsTold P stop → Stops stack set name stop
   told_stops Memory P each h = absurd h
   told_stops (At code line) P each h = absurd h
-  told_stops (Told told) P each h = λ fault is. subst (IsRefused set name) (sym is) (each told h)
+  told_stops (Told told) P each h = λ fault is. subst (IsRefused stack set name) (sym is) (each told h)
 
-  no_list : (fault : Fault) → FailsPreprocessing set name fault ⊎ IsMemoryFault fault → IsRefused set name fault
+  no_list : (fault : Fault) → FailsPreprocessing set name fault ⊎ IsMemoryFault fault → IsRefused stack set name fault
   no_list fault (inl f) = inl f
   no_list fault (inr m) = wants fault m
 
-  pub list_stops : (stop : Stop) → IsTold (λ fault. FailsPreprocessing set name fault ⊎ IsMemoryFault fault) stop → Stops set name stop
+  pub list_stops : (stop : Stop) → IsTold (λ fault. FailsPreprocessing set name fault ⊎ IsMemoryFault fault) stop → Stops stack set name stop
   list_stops stop told = told_stops stop (λ fault. FailsPreprocessing set name fault ⊎ IsMemoryFault fault) no_list told
 
   module _ (texts : Texts) (list : List PpToken) (has : HasList set name texts list) where
-    token_refused : (fault : Fault) (r : Option Refusal) → (ctokens list).fault ≡ r → IsTokenFault fault texts r → IsRefused set name fault
+    token_refused : (fault : Fault) (r : Option Refusal) → (ctokens list).fault ≡ r → IsTokenFault fault texts r → IsRefused stack set name fault
     token_refused fault None e h = wants fault h
     token_refused fault (Some refusal) e h =
         inr (inl (record { texts = texts; list = list; has_list = has; refusal = refusal; first = e; fault_is = h }))
 
-    pub tokens_stop : (stop : Stop) → IsTold (λ fault. IsTokenFault fault texts (ctokens list).fault) stop → Stops set name stop
+    pub tokens_stop : (stop : Stop) → IsTold (λ fault. IsTokenFault fault texts (ctokens list).fault) stop → Stops stack set name stop
     tokens_stop stop told =
         told_stops stop (λ fault. IsTokenFault fault texts (ctokens list).fault) (λ f h. token_refused f (ctokens list).fault refl h) told
 
@@ -82,15 +82,15 @@ module _ (set : Files) (name : List ℕ) where
   pub has_number : (old texts : Texts) (items : List PpToken) → ((t : Texts) → KeepsNumbers old t → NumbersOnce t → HasList set name t items) → KeepsNumbers old texts → NumbersOnce texts → (n : ℕ) × (slice_get texts n ≡ Some name)
   has_number old texts items each keeps once = let numbers = (each texts keeps once).numbers in (numbers.file, numbers.named)
 
-  pub tree_stops : (texts : Texts) (tokens : List Token) (stop : Stop) → HasTokens set name texts tokens → IsTold (λ fault. IsFaultOfUnit fault texts tokens) stop → Stops set name stop
+  pub tree_stops : (texts : Texts) (tokens : List Token) (stop : Stop) → HasTokens set name texts tokens → IsTold (λ fault. IsFaultOfUnit fault texts tokens) stop → Stops stack set name stop
   tree_stops texts tokens stop has told =
       told_stops stop (λ fault. IsFaultOfUnit fault texts tokens) (λ f h. inr (inr (inl (record { texts = texts; tokens = tokens; has_tokens = has; fault_is = h })))) told
 
-  pub check_stops : (texts : Texts) (unit : List ExternalTree) (stop : Stop) → HasTree set name texts unit → IsTold (BreaksConstraint name texts unit) stop → Stops set name stop
+  pub check_stops : (texts : Texts) (unit : List ExternalTree) (stop : Stop) → HasTree set name texts unit → IsTold (BreaksConstraint stack name texts unit) stop → Stops stack set name stop
   check_stops texts unit stop has told =
-      told_stops stop (BreaksConstraint name texts unit) (λ f h. inr (inr (inr (inl (record { texts = texts; unit = unit; has_tree = has; breaks = h }))))) told
+      told_stops stop (BreaksConstraint stack name texts unit) (λ f h. inr (inr (inr (inl (record { texts = texts; unit = unit; has_tree = has; breaks = h }))))) told
 
-  pub memory_stops : (stop : Stop) → IsMemory stop → Stops set name stop
+  pub memory_stops : (stop : Stop) → IsMemory stop → Stops stack set name stop
   memory_stops Memory h = λ fault is. wants fault is
   memory_stops (At code line) h = absurd h
-  memory_stops (Told told) h = λ fault is. subst (IsRefused set name) (sym is) (wants told h)
+  memory_stops (Told told) h = λ fault is. subst (IsRefused stack set name) (sym is) (wants told h)

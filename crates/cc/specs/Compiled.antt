@@ -14,7 +14,6 @@ use Rattle.parser.specs.Units.{IsTreeWithin, IsOnly}
 use Rattle.typing_rules.specs.Program.{Function, Program}
 use Rattle.typing_rules.specs.Verdict.{Verdict, fine}
 use Rattle.typing_rules.specs.Units.{unit_typed}
-use Rattle.memory_map.specs.MemoryMap.{stack_size}
 use Rattle.cc_backend.specs.Runs.{RunsAs}
 use Rattle.cc.specs.declared.compiling.Built.{Built}
 
@@ -48,21 +47,21 @@ pub record HasTree (set : Files) (name : List ℕ) (texts : Texts) (unit : List 
   pub tree : IsTreeWithin tokens unit
   pub only : IsOnly tokens unit
 
--- the typed program of a unit, or the constraints that it breaks. What concerns the unit as a whole stands at line 1 of the
+-- the typed program of a unit, for a stack of so many bytes, or the constraints that it breaks. What concerns the unit as a whole stands at line 1 of the
 -- main file, whose name has this number
-unfoldable pub typed_at : Texts → ℕ → List ExternalTree → Verdict Program
-typed_at texts file unit = unit_typed texts (record { file = file; line = 1 }) unit
+unfoldable pub typed_at : (stack : ℕ) → Texts → ℕ → List ExternalTree → Verdict Program
+typed_at stack texts file unit = unit_typed stack texts (record { file = file; line = 1 }) unit
 
 -- the typed program of a unit that breaks no constraint
-pub record IsProgramOf (name : List ℕ) (texts : Texts) (unit : List ExternalTree) (program : Program) : Type 0 where
+pub record IsProgramOf (stack : ℕ) (name : List ℕ) (texts : Texts) (unit : List ExternalTree) (program : Program) : Type 0 where
   pub file : ℕ
   pub named : slice_get texts file ≡ Some name
-  pub typed : typed_at texts file unit ≡ fine program
+  pub typed : typed_at stack texts file unit ≡ fine program
 
 -- its only tree breaks no constraint, and this is its typed program
-pub record HasProgram (set : Files) (name : List ℕ) (texts : Texts) (unit : List ExternalTree) (program : Program) : Type 0 where
+pub record HasProgram (stack : ℕ) (set : Files) (name : List ℕ) (texts : Texts) (unit : List ExternalTree) (program : Program) : Type 0 where
   pub has_tree : HasTree set name texts unit
-  pub is_program : IsProgramOf name texts unit program
+  pub is_program : IsProgramOf stack name texts unit program
 
 -- ---- what is answered
 
@@ -82,16 +81,17 @@ entries texts [] frames = []
 entries texts (f ∷ fs) [] = []
 entries texts (f ∷ fs) (n ∷ ns) = entry_of texts f n ∷ entries texts fs ns
 
--- a file that runs as a typed program does, and an entry for each of its functions
-pub record BuildsProgram (texts : Texts) (program : Program) (built : Built) : Type 0 where
+-- a file that runs as a typed program does on a stack of so many bytes, and an entry for each of its functions
+pub record BuildsProgram (stack : ℕ) (texts : Texts) (program : Program) (built : Built) : Type 0 where
   pub frames : List ℕ
-  pub runs : RunsAs stack_size program frames built.elf.items
+  pub runs : RunsAs stack program frames built.elf.items
   pub entries_are : frames_of built ≡ entries texts program.functions frames
 
--- the set has a main file of this name, which has a tree that breaks no constraint, and the answer is the file of its program
-pub record Compiles (set : Files) (name : List ℕ) (built : Built) : Type 0 where
+-- the set has a main file of this name, which has a tree that breaks no constraint for a stack of so many bytes, and the answer is the file of its
+-- program, with this stack
+pub record Compiles (stack : ℕ) (set : Files) (name : List ℕ) (built : Built) : Type 0 where
   pub texts : Texts
   pub unit : List ExternalTree
   pub program : Program
-  pub has_program : HasProgram set name texts unit program
-  pub builds : BuildsProgram texts program built
+  pub has_program : HasProgram stack set name texts unit program
+  pub builds : BuildsProgram stack texts program built

@@ -8,11 +8,11 @@ use Rattle.cc.specs.declared.compiling.Built.{Built}
 use Rattle.cc.specs.Compiled.{BuildsProgram, Compiles}
 
 -- the file of a typed program, with the frames of its entries
-pub record MakesProgram (texts : Texts) (program : Program) (built : Built) : Type 0 where
-  pub builds : BuildsProgram texts program built
-  pub file : IsFileOf program built.elf.items builds.frames
+pub record MakesProgram (stack : ℕ) (texts : Texts) (program : Program) (built : Built) : Type 0 where
+  pub builds : BuildsProgram stack texts program built
+  pub file : IsFileOf stack program built.elf.items builds.frames
 
 -- the file of the program that the set holds from this name on
-pub record IsMade (set : Files) (name : List ℕ) (built : Built) : Type 0 where
-  pub compiles : Compiles set name built
-  pub file : IsFileOf compiles.program built.elf.items compiles.builds.frames
+pub record IsMade (stack : ℕ) (set : Files) (name : List ℕ) (built : Built) : Type 0 where
+  pub compiles : Compiles stack set name built
+  pub file : IsFileOf stack compiles.program built.elf.items compiles.builds.frames

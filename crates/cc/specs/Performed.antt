@@ -40,9 +40,9 @@ use Rattle.cc.specs.Transfer.{PutsAll, PutsSome}
 -- ---- building
 
 -- the set is a program, and its whole file was put
-pub record BuildsInto (set : Files) (name : List ℕ) (old new : PortView) : Type 0 where
+pub record BuildsInto (stack : ℕ) (set : Files) (name : List ℕ) (old new : PortView) : Type 0 where
   pub built : Built
-  pub compiles : Compiles set name built
+  pub compiles : Compiles stack set name built
   pub puts : PutsAll old new built.elf.items
 
 -- the fault of a file of this name that was not put whole, by what the port refused
@@ -53,9 +53,9 @@ TellsPort port_fault.Write output fault = IsFaultOrMemory fault CannotWrite outp
 
 -- the set is a program, a beginning of its file was put, and the port refused the next byte, which this fault tells.
 -- `refuses` is what the port says of what it refused
-pub record BuildsSome (set : Files) (name output : List ℕ) (refuses : PortFault → Type 0) (old new : PortView) (fault : Fault) : Type 0 where
+pub record BuildsSome (stack : ℕ) (set : Files) (name output : List ℕ) (refuses : PortFault → Type 0) (old new : PortView) (fault : Fault) : Type 0 where
   pub built : Built
-  pub compiles : Compiles set name built
+  pub compiles : Compiles stack set name built
   pub count : ℕ
   pub puts : PutsSome old new built.elf.items count
   pub refusal : PortFault
@@ -63,14 +63,14 @@ pub record BuildsSome (set : Files) (name output : List ℕ) (refuses : PortFaul
   pub told : TellsPort refusal output fault
 
 -- the set is refused with this fault, and nothing was put; or its file was not put whole
-abbrev pub FailsBuild : Files → List ℕ → List ℕ → (PortFault → Type 0) → PortView → PortView → Fault → Type 0
-FailsBuild set name output refuses old new fault = ((new ≡ old) × IsRefused set name fault) ⊎ BuildsSome set name output refuses old new fault
+abbrev pub FailsBuild : (stack : ℕ) → Files → List ℕ → List ℕ → (PortFault → Type 0) → PortView → PortView → Fault → Type 0
+FailsBuild stack set name output refuses old new fault = ((new ≡ old) × IsRefused stack set name fault) ⊎ BuildsSome stack set name output refuses old new fault
 
 -- 0, and the whole file was put and nothing said; or 1 and a fault, which is said
-abbrev pub Builds : Files → List ℕ → List ℕ → (PortFault → Type 0) → PortView → PortView → Said → ℕ → Type 0
-Builds set name output refuses old new said status =
-    ((status ≡ 0) × BuildsInto set name old new × (said.after ≡ said.before))
-    ⊎ ((status ≡ 1) × ((fault : Fault) × FailsBuild set name output refuses old new fault × Says said (fault_text fault)))
+abbrev pub Builds : (stack : ℕ) → Files → List ℕ → List ℕ → (PortFault → Type 0) → PortView → PortView → Said → ℕ → Type 0
+Builds stack set name output refuses old new said status =
+    ((status ≡ 0) × BuildsInto stack set name old new × (said.after ≡ said.before))
+    ⊎ ((status ≡ 1) × ((fault : Fault) × FailsBuild stack set name output refuses old new fault × Says said (fault_text fault)))
 
 -- ---- printing
 
@@ -107,34 +107,34 @@ Prints set name out said status =
 -- ---- listing
 
 -- the set has a program, and the whole listing of its code was written: a line for each word of the text
-pub record ListsAll (set : Files) (name : List ℕ) (out : Said) : Type 0 where
+pub record ListsAll (stack : ℕ) (set : Files) (name : List ℕ) (out : Said) : Type 0 where
   pub texts : Texts
   pub unit : List ExternalTree
   pub program : Program
-  pub has_program : HasProgram set name texts unit program
+  pub has_program : HasProgram stack set name texts unit program
   pub items : List Item
-  pub items_are : AreItemsOf program items
+  pub items_are : AreItemsOf stack program items
   pub lists : Lists text_start items out.before out.after
 
 -- the set has a program, and the listing was not written whole: memory ran out before, or the writer took a beginning of it
-pub record ListsSome (set : Files) (name : List ℕ) (out : Said) (fault : Fault) : Type 0 where
+pub record ListsSome (stack : ℕ) (set : Files) (name : List ℕ) (out : Said) (fault : Fault) : Type 0 where
   pub texts : Texts
   pub unit : List ExternalTree
   pub program : Program
-  pub has_program : HasProgram set name texts unit program
+  pub has_program : HasProgram stack set name texts unit program
   pub items : List Item
-  pub items_are : AreItemsOf program items
+  pub items_are : AreItemsOf stack program items
   pub refused : (IsMemoryFault fault × IsUntouched out) ⊎ (IsFault fault CannotWrite [] 0 × WritesBeginning text_start items out.before out.after)
 
 -- the set is refused, and nothing was written; or the listing was not written whole
-abbrev pub FailsList : Files → List ℕ → Said → Fault → Type 0
-FailsList set name out fault = (IsUntouched out × IsRefused set name fault) ⊎ ListsSome set name out fault
+abbrev pub FailsList : (stack : ℕ) → Files → List ℕ → Said → Fault → Type 0
+FailsList stack set name out fault = (IsUntouched out × IsRefused stack set name fault) ⊎ ListsSome stack set name out fault
 
 -- 0, and the whole listing was written and nothing said; or 1 and a fault, which is said
-abbrev pub ListsCode : Files → List ℕ → Said → Said → ℕ → Type 0
-ListsCode set name out said status =
-    ((status ≡ 0) × ListsAll set name out × IsUntouched said)
-    ⊎ ((status ≡ 1) × ((fault : Fault) × FailsList set name out fault × Says said (fault_text fault)))
+abbrev pub ListsCode : (stack : ℕ) → Files → List ℕ → Said → Said → ℕ → Type 0
+ListsCode stack set name out said status =
+    ((status ≡ 0) × ListsAll stack set name out × IsUntouched said)
+    ⊎ ((status ≡ 1) × ((fault : Fault) × FailsList stack set name out fault × Says said (fault_text fault)))
 
 -- ---- running
 
@@ -189,23 +189,23 @@ pub record InterpretedAs (texts : Texts) (program : Program) (max : ℕ) (refuse
   pub blames : interpreting.Blames refuses run
 
 -- the set has a program, which was interpreted
-pub record InterpretsSet (set : Files) (name : List ℕ) (max : ℕ) (refuses : PortFault → Type 0) (old new : PortView) (said : Said) (status : ℕ) : Type 0 where
+pub record InterpretsSet (stack : ℕ) (set : Files) (name : List ℕ) (max : ℕ) (refuses : PortFault → Type 0) (old new : PortView) (said : Said) (status : ℕ) : Type 0 where
   pub texts : Texts
   pub unit : List ExternalTree
   pub program : Program
-  pub has_program : HasProgram set name texts unit program
+  pub has_program : HasProgram stack set name texts unit program
   pub interpreted_as : InterpretedAs texts program max refuses old new said status
 
 -- the set has a program, which was interpreted; or it has none, which the fault that is said tells
-abbrev pub Interprets : Files → List ℕ → ℕ → (PortFault → Type 0) → PortView → PortView → Said → ℕ → Type 0
-Interprets set name max refuses old new said status =
-    InterpretsSet set name max refuses old new said status
-    ⊎ ((status ≡ 1) × (new ≡ old) × ((fault : Fault) × IsRefused set name fault × Says said (fault_text fault)))
+abbrev pub Interprets : (stack : ℕ) → Files → List ℕ → ℕ → (PortFault → Type 0) → PortView → PortView → Said → ℕ → Type 0
+Interprets stack set name max refuses old new said status =
+    InterpretsSet stack set name max refuses old new said status
+    ⊎ ((status ≡ 1) × (new ≡ old) × ((fault : Fault) × IsRefused stack set name fault × Says said (fault_text fault)))
 
--- By the main file's name. Only what is printed or listed goes to `out`, and that does not touch the port.
-abbrev pub Performs : Cmd → Files → List ℕ → List ℕ → (PortFault → Type 0) → PortView → PortView → Said → Said → ℕ → Type 0
-Performs (command.Build output) set name file refuses old new out said status = IsUntouched out × Builds set name output.now refuses old new said status
-Performs command.Pp set name file refuses old new out said status = (new ≡ old) × Prints set name out said status
-Performs command.List set name file refuses old new out said status = (new ≡ old) × ListsCode set name out said status
-Performs (command.Run max) set name file refuses old new out said status = IsUntouched out × Runs file name max refuses old new said status
-Performs (command.Interp max) set name file refuses old new out said status = IsUntouched out × Interprets set name max refuses old new said status
+-- By the main file's name, for a stack of so many bytes. Only what is printed or listed goes to `out`, and that does not touch the port.
+abbrev pub Performs : (stack : ℕ) → Cmd → Files → List ℕ → List ℕ → (PortFault → Type 0) → PortView → PortView → Said → Said → ℕ → Type 0
+Performs stack (command.Build output) set name file refuses old new out said status = IsUntouched out × Builds stack set name output.now refuses old new said status
+Performs stack command.Pp set name file refuses old new out said status = (new ≡ old) × Prints set name out said status
+Performs stack command.List set name file refuses old new out said status = (new ≡ old) × ListsCode stack set name out said status
+Performs stack (command.Run max) set name file refuses old new out said status = IsUntouched out × Runs file name max refuses old new said status
+Performs stack (command.Interp max) set name file refuses old new out said status = IsUntouched out × Interprets stack set name max refuses old new said status

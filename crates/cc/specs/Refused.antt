@@ -38,22 +38,22 @@ pub record FailsTree (set : Files) (name : List ℕ) (fault : Fault) : Type 0 wh
   pub fault_is : IsFaultOfUnit fault texts tokens
 
 -- 501 to 553, 620 to 623, 712 to 715: a constraint that the tree breaks, at its place
-pub record BreaksConstraint (name : List ℕ) (texts : Texts) (unit : List ExternalTree) (fault : Fault) : Type 0 where
+pub record BreaksConstraint (stack : ℕ) (name : List ℕ) (texts : Texts) (unit : List ExternalTree) (fault : Fault) : Type 0 where
   pub file : ℕ
   pub named : slice_get texts file ≡ Some name
-  pub fault_is : IsFaultOfVerdict fault texts (typed_at texts file unit)
+  pub fault_is : IsFaultOfVerdict fault texts (typed_at stack texts file unit)
 
-pub record FailsCheck (set : Files) (name : List ℕ) (fault : Fault) : Type 0 where
+pub record FailsCheck (stack : ℕ) (set : Files) (name : List ℕ) (fault : Fault) : Type 0 where
   pub texts : Texts
   pub unit : List ExternalTree
   pub has_tree : HasTree set name texts unit
-  pub breaks : BreaksConstraint name texts unit fault
+  pub breaks : BreaksConstraint stack name texts unit fault
 
 -- why there is no program: the fault of the first phase that fails; or out of memory, which may hide any of them
-abbrev pub IsRefused : Files → List ℕ → Fault → Type 0
-IsRefused set name fault =
+abbrev pub IsRefused : (stack : ℕ) → Files → List ℕ → Fault → Type 0
+IsRefused stack set name fault =
     FailsPreprocessing set name fault
     ⊎ FailsTokens set name fault
     ⊎ FailsTree set name fault
-    ⊎ FailsCheck set name fault
+    ⊎ FailsCheck stack set name fault
     ⊎ IsMemoryFault fault

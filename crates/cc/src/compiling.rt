@@ -2,6 +2,7 @@
 
 ghost use Rattle.std.specs.Prelude.{◌≡◌, ◌<◌, ◌^◌, map, IfOk, IfErr, OnOk, ◌++◌};
 ghost use Rattle.typing_program.specs.View.{program_of, function_of};
+ghost use Rattle.memory_map.specs.MemoryMap.{usual_stack};
 ghost use Rattle.cc_backend.specs.Made.{IsReady};
 ghost use Rattle.cc.specs.Compiled.{Compiles, BuildsProgram, shown_entry, entry_of, entries};
 ghost use Rattle.cc.specs.Refused.{IsRefused};
@@ -12,6 +13,7 @@ ghost use Rattle.cc.specs.inside.Light.{AreLight};
 use crate::front::checked_unit;
 use crate::stopping::Stop;
 use cc_backend::generate;
+use elf_out::StackSize;
 use srcset::{Fault, FileSet, Names};
 use std::alloc::{AllocError, Global};
 use typing_program::{Function, Program};
@@ -26,41 +28,55 @@ pub struct Built {
     pub frames: Vec<(String, u32, u32)>,
 }
 
-/// The executable file of the program in the file `main` of the set.
+/// The executable file of the program in the file `main` of the set, with a stack of 1,048,576 bytes. It refuses as `compile_with` does.
+pub fn compile(alloc: Global, set: &FileSet, main: &str) -> Result<Built, Fault>
+    ensures built { IfOk result (λ built. Compiles usual_stack set.now main.now built) }
+    ensures made { IfOk result (λ built. IsMade usual_stack set.now main.now built) }
+    ensures refused { IfErr result (λ fault. IsRefused usual_stack set.now main.now fault) }
+{
+    compile_with(alloc, set, main, StackSize::usual())
+}
+
+/// The executable file of the program in the file `main` of the set, with a stack of this size.
 ///
 /// Refuses with the fault of its preprocessing tokens (103; 111 to 113, 703; 201 to 235, 704 to 708), of its C tokens (301 to 303,
-/// 601 to 609), of its tree (401, 709 to 711), or of a constraint that this breaks (501 to 553, 620 to 623, 712 to 715), in this
-/// order; and with 801 where there is no memory.
-pub fn compile(alloc: Global, set: &FileSet, main: &str) -> Result<Built, Fault>
-    ensures built { IfOk result (λ built. Compiles set.now main.now built) }
-    ensures made { IfOk result (λ built. IsMade set.now main.now built) }
-    ensures refused { IfErr result (λ fault. IsRefused set.now main.now fault) }
+/// 601 to 609), of its tree (401, 709 to 711), or of a constraint that this breaks (501 to 553, 620 to 623, 712 to 715; 714 where a
+/// function weighs more than the stack has bytes), in this order; and with 801 where there is no memory.
+pub fn compile_with(
+    alloc: Global,
+    set: &FileSet,
+    main: &str,
+    stack: StackSize,
+) -> Result<Built, Fault>
+    ensures built { IfOk result (λ built. Compiles stack set.now main.now built) }
+    ensures made { IfOk result (λ built. IsMade stack set.now main.now built) }
+    ensures refused { IfErr result (λ fault. IsRefused stack set.now main.now fault) }
 {
-    match by_phases(alloc, set, main) {
+    match by_phases(alloc, set, main, stack) {
         Ok(built) => Ok(built),
         Err(stop) => Err(stop.to_fault(alloc, main)),
     }
 }
 
 /// The phases in their order (ISO/IEC 9899:2011 5.1.1.2).
-fn by_phases(alloc: Global, set: &FileSet, main: &str) -> Result<Built, Stop>
-    ensures built { IfOk result (λ built. Compiles set.now main.now built) }
-    ensures made { IfOk result (λ built. IsMade set.now main.now built) }
-    ensures stops { IfErr result (λ stop. Stops set.now main.now stop) }
+fn by_phases(alloc: Global, set: &FileSet, main: &str, stack: StackSize) -> Result<Built, Stop>
+    ensures built { IfOk result (λ built. Compiles stack set.now main.now built) }
+    ensures made { IfOk result (λ built. IsMade stack set.now main.now built) }
+    ensures stops { IfErr result (λ stop. Stops stack set.now main.now stop) }
 {
     let mut names = Names::new(alloc);
-    let checked = checked_unit(alloc, set, main, &mut names)?;
-    build(alloc, &checked.program, &names)
+    let checked = checked_unit(alloc, set, main, &mut names, stack)?;
+    build(alloc, &checked.program, &names, stack)
 }
 
 /// The executable file of a program.
-fn build(alloc: Global, program: &Program, names: &Names) -> Result<Built, Stop>
+fn build(alloc: Global, program: &Program, names: &Names, stack: StackSize) -> Result<Built, Stop>
     requires { IsReady (program_of program.now) }
-    ensures built { IfOk result (λ built. BuildsProgram names.now (program_of program.now) built) }
-    ensures made { IfOk result (λ built. MakesProgram names.now (program_of program.now) built) }
+    ensures built { IfOk result (λ built. BuildsProgram stack names.now (program_of program.now) built) }
+    ensures made { IfOk result (λ built. MakesProgram stack names.now (program_of program.now) built) }
     ensures stops { IfErr result IsMemory }
 {
-    let generated = match generate(alloc, program) {
+    let generated = match generate(alloc, program, stack) {
         Ok(generated) => generated,
         Err(_) => return Err(Stop::Memory),
     };

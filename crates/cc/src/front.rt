@@ -1,6 +1,6 @@
 //! From a set of files to the typed program, a function for each step.
 
-ghost use Rattle.std.specs.Prelude.{◌≡◌, ◌⊎◌, ℕ, List, [], Some, slice_get, IfOk, IfErr, OnOk};
+ghost use Rattle.std.specs.Prelude.{◌≡◌, ◌≤◌, ◌⊎◌, ℕ, List, [], Some, slice_get, IfOk, IfErr, OnOk};
 ghost use Rattle.srcset.specs.NameTable.{Texts, KeepsNumbers, NumbersOnce};
 ghost use Rattle.srcset.specs.Fault.{IsMemoryFault};
 ghost use Rattle.lexer.specs.CTokens.{ctokens};
@@ -16,6 +16,7 @@ ghost use Rattle.cc.specs.Refused.{BreaksConstraint, FailsPreprocessing};
 ghost use Rattle.cc.specs.inside.Stops.{IsTold, Stops};
 
 use crate::stopping::Stop;
+use elf_out::StackSize;
 use lexer::{Token, tokens};
 use parser::parse;
 use phases::PpToken;
@@ -33,23 +34,24 @@ pub struct Checked {
     pub program: Program,
 }
 
-/// The program of a set of files, from the one of this name on: the phases in their order (ISO/IEC 9899:2011 5.1.1.2), a
+/// The program of a set of files, from the one of this name on, for a stack of this size: the phases in their order (ISO/IEC 9899:2011 5.1.1.2), a
 /// call each.
 pub fn checked_unit(
     alloc: Global,
     set: &FileSet,
     main: &str,
     names: &mut Names,
+    stack: StackSize,
 ) -> Result<Checked, Stop>
     requires new { names.old ≡ [] }
-    ensures program { IfOk result (λ c. HasProgram set.now main.now names.new (unit_of c.unit) (program_of c.program)) }
+    ensures program { IfOk result (λ c. HasProgram stack set.now main.now names.new (unit_of c.unit) (program_of c.program)) }
     ensures ready { IfOk result (λ c. IsReady (program_of c.program)) }
-    ensures stops { IfErr result (λ stop. Stops set.now main.now stop) }
+    ensures stops { IfErr result (λ stop. Stops stack set.now main.now stop) }
 {
     let list = preprocessed(alloc, set, main, names)?;
     let tokens = c_tokens(alloc, list.as_slice(), names)?;
     let unit = syntax_tree(alloc, tokens.as_slice(), names)?;
-    let program = typed_program(alloc, &unit, names, main)?;
+    let program = typed_program(alloc, &unit, names, main, stack)?;
     texts_are_bytes(names);
     Ok(Checked { unit, program })
 }
@@ -146,16 +148,24 @@ pub fn syntax_tree(alloc: Global, tokens: &[Token], names: &Names) -> Result<Uni
     }
 }
 
-/// The typed program, of a unit that breaks no constraint: translation phase 7.
-pub fn typed_program(alloc: Global, unit: &Unit, names: &Names, main: &str) -> Result<Program, Stop>
+/// The typed program, of a unit that breaks no constraint for a stack of this size: translation phase 7.
+pub fn typed_program(
+    alloc: Global,
+    unit: &Unit,
+    names: &Names,
+    main: &str,
+    stack: StackSize,
+) -> Result<Program, Stop>
     requires { (n : ℕ) × (slice_get names.now n ≡ Some main.now) }
-    ensures ok { IfOk result (λ p. IsProgramOf main.now names.now (unit_of unit.now) (program_of p)) }
-    ensures stops { IfErr result (IsTold (BreaksConstraint main.now names.now (unit_of unit.now))) }
+    ensures ok { IfOk result (λ p. IsProgramOf stack main.now names.now (unit_of unit.now) (program_of p)) }
+    ensures stops { IfErr result (IsTold (BreaksConstraint stack main.now names.now (unit_of unit.now))) }
+    ensures small { stack ≤ 16777216 }
 {
     let Some(file) = names.find(main.as_bytes()) else {
         unreachable!()
     };
-    match check(alloc, unit, names, Pos { file, line: 1 }) {
+    let bytes = stack.get();
+    match check(alloc, unit, names, Pos { file, line: 1 }, bytes) {
         Ok(program) => Ok(program),
         Err(fault) => Err(Stop::Told(fault)),
     }

@@ -8,5 +8,6 @@ mod reporting;
 mod stopping;
 mod transfer;
 
-pub use compiling::{Built, compile};
+pub use compiling::{Built, compile, compile_with};
+pub use elf_out::StackSize;
 pub use performing::{Cmd, perform};

@@ -5,7 +5,7 @@ ghost use Rattle.cc.specs.Performed.{Performs, Runs, Interprets, interpreted_sta
 ghost use Rattle.cc.specs.inside.Stops.{Stops, HasItems, put_stop, load_stop};
 ghost use Rattle.cc.specs.Reported.{SaysOutcome, SaysRun};
 
-use crate::compiling::compile;
+use crate::compiling::compile_with;
 use crate::front::{checked_unit, preprocessed};
 use crate::reporting::{say_budget, say_fault, say_memory, say_port, say_trap, say_undefined};
 use crate::stopping::Stop;
@@ -13,6 +13,7 @@ use crate::transfer::put_all;
 use asm::{Items, list};
 use cabs::{Run, interpret};
 use cc_backend::items;
+use elf_out::StackSize;
 use loader::{LoadFault, load};
 use meaning_ports::{Port, PortFault};
 use memory_map::TEXT_START;
@@ -37,7 +38,8 @@ pub enum Cmd<'c> {
     Interp(u64),
 }
 
-/// Carries a command out, and answers the exit status.
+/// Carries a command out, and answers the exit status. The stack of a program that is built has this size, and no function of a program that is
+/// built, listed or interpreted weighs more.
 ///
 /// `Build` compiles the file `main` of the set, and puts the executable file on the port: 0, or 1 with the
 /// line of the fault on `err`. `Pp` writes the tokens of the file `main`, with those of the files that it includes, to `out`:
@@ -58,15 +60,16 @@ pub fn perform<P: Port, W: Write, E: Write>(
     port: &mut P,
     out: &mut W,
     err: &mut E,
+    stack: StackSize,
 ) -> u8
-    ensures { Performs command.entry set.now main.now file.now (P.refused_with port.new) (P.seen port.old) (P.seen port.new) (record { before = W.contents out.old; after = W.contents out.new }) (record { before = E.contents err.old; after = E.contents err.new }) result }
+    ensures { Performs stack command.entry set.now main.now file.now (P.refused_with port.new) (P.seen port.old) (P.seen port.new) (record { before = W.contents out.old; after = W.contents out.new }) (record { before = E.contents err.old; after = E.contents err.new }) result }
 {
     match command {
-        Cmd::Build(name) => build(alloc, set, main, name, port, err),
+        Cmd::Build(name) => build(alloc, set, main, name, port, err, stack),
         Cmd::Pp => print_tokens(alloc, set, main, out, err),
-        Cmd::List => list_code(alloc, set, main, out, err),
+        Cmd::List => list_code(alloc, set, main, out, err, stack),
         Cmd::Run(max) => run(alloc, main, file, port, max, err),
-        Cmd::Interp(max) => interp(alloc, set, main, port, max, err),
+        Cmd::Interp(max) => interp(alloc, set, main, port, max, err, stack),
     }
 }
 
@@ -77,10 +80,11 @@ fn build<P: Port, E: Write>(
     name: &str,
     port: &mut P,
     err: &mut E,
+    stack: StackSize,
 ) -> u8
-    ensures { Builds set.now main.now name.now (P.refused_with port.new) (P.seen port.old) (P.seen port.new) (record { before = E.contents err.old; after = E.contents err.new }) result }
+    ensures { Builds stack set.now main.now name.now (P.refused_with port.new) (P.seen port.old) (P.seen port.new) (record { before = E.contents err.old; after = E.contents err.new }) result }
 {
-    match build_into(alloc, set, main, name, port) {
+    match build_into(alloc, set, main, name, port, stack) {
         Ok(()) => 0,
         Err(fault) => {
             say_fault(alloc, &fault, err);
@@ -96,12 +100,13 @@ fn build_into<P: Port>(
     main: &str,
     name: &str,
     port: &mut P,
+    stack: StackSize,
 ) -> Result<(), Fault>
     ensures { MatchResult result
-        (λ _. BuildsInto set.now main.now (P.seen port.old) (P.seen port.new))
-        (FailsBuild set.now main.now name.now (P.refused_with port.new) (P.seen port.old) (P.seen port.new)) }
+        (λ _. BuildsInto stack set.now main.now (P.seen port.old) (P.seen port.new))
+        (FailsBuild stack set.now main.now name.now (P.refused_with port.new) (P.seen port.old) (P.seen port.new)) }
 {
-    let built = compile(alloc, set, main)?;
+    let built = compile_with(alloc, set, main, stack)?;
     match put_all(port, built.elf.as_slice()) {
         Ok(()) => Ok(()),
         Err(fault) => Err(put_stop(fault).to_fault(alloc, name)),
@@ -145,10 +150,11 @@ fn list_code<W: Write, E: Write>(
     main: &str,
     out: &mut W,
     err: &mut E,
+    stack: StackSize,
 ) -> u8
-    ensures { ListsCode set.now main.now (record { before = W.contents out.old; after = W.contents out.new }) (record { before = E.contents err.old; after = E.contents err.new }) result }
+    ensures { ListsCode stack set.now main.now (record { before = W.contents out.old; after = W.contents out.new }) (record { before = E.contents err.old; after = E.contents err.new }) result }
 {
-    match list_into(alloc, set, main, out) {
+    match list_into(alloc, set, main, out, stack) {
         Ok(()) => 0,
         Err(fault) => {
             say_fault(alloc, &fault, err);
@@ -158,26 +164,38 @@ fn list_code<W: Write, E: Write>(
 }
 
 /// Writes the listing.
-fn list_into<W: Write>(alloc: Global, set: &FileSet, main: &str, out: &mut W) -> Result<(), Fault>
+fn list_into<W: Write>(
+    alloc: Global,
+    set: &FileSet,
+    main: &str,
+    out: &mut W,
+    stack: StackSize,
+) -> Result<(), Fault>
     ensures { MatchResult result
-        (λ _. ListsAll set.now main.now (record { before = W.contents out.old; after = W.contents out.new }))
-        (FailsList set.now main.now (record { before = W.contents out.old; after = W.contents out.new })) }
+        (λ _. ListsAll stack set.now main.now (record { before = W.contents out.old; after = W.contents out.new }))
+        (FailsList stack set.now main.now (record { before = W.contents out.old; after = W.contents out.new })) }
 {
     let mut names = Names::new(alloc);
-    match items_of(alloc, set, main, &mut names) {
+    match items_of(alloc, set, main, &mut names, stack) {
         Ok(items) => list(alloc, &items, TEXT_START, out),
         Err(stop) => Err(stop.to_fault(alloc, main)),
     }
 }
 
 /// The items of the code of the set's program.
-fn items_of(alloc: Global, set: &FileSet, main: &str, names: &mut Names) -> Result<Items, Stop>
+fn items_of(
+    alloc: Global,
+    set: &FileSet,
+    main: &str,
+    names: &mut Names,
+    stack: StackSize,
+) -> Result<Items, Stop>
     requires new { names.old ≡ [] }
-    ensures items { IfOk result (HasItems set.now main.now) }
-    ensures stops { IfErr result (Stops set.now main.now) }
+    ensures items { IfOk result (HasItems stack set.now main.now) }
+    ensures stops { IfErr result (Stops stack set.now main.now) }
 {
-    let checked = checked_unit(alloc, set, main, names)?;
-    match items(alloc, &checked.program) {
+    let checked = checked_unit(alloc, set, main, names, stack)?;
+    match items(alloc, &checked.program, stack) {
         Ok(items) => Ok(items),
         Err(_) => Err(Stop::Memory),
     }
@@ -256,11 +274,12 @@ fn interp<P: Port, E: Write>(
     port: &mut P,
     max: u64,
     err: &mut E,
+    stack: StackSize,
 ) -> u8
-    ensures { Interprets set.now main.now max (P.refused_with port.new) (P.seen port.old) (P.seen port.new) (record { before = E.contents err.old; after = E.contents err.new }) result }
+    ensures { Interprets stack set.now main.now max (P.refused_with port.new) (P.seen port.old) (P.seen port.new) (record { before = E.contents err.old; after = E.contents err.new }) result }
 {
     let mut names = Names::new(alloc);
-    match checked_unit(alloc, set, main, &mut names) {
+    match checked_unit(alloc, set, main, &mut names, stack) {
         Ok(checked) => {
             let done = interpret(alloc, &checked.program, port, max);
             run_status(alloc, &names, done.run, err)

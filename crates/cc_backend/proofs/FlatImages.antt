@@ -5,7 +5,7 @@ use Rattle.std.proofs.lemmas.Bool.Decides.{nat_tests}
 use Rattle.std.proofs.lemmas.List.{get_or-replicate}
 use Rattle.std.proofs.lemmas.Option.{get_or_from_slice_get, slice_get_within}
 use Rattle.rv32.specs.Space.{Space}
-use Rattle.memory_map.specs.MemoryMap.{data_start, text_start, stack_start, stack_size}
+use Rattle.memory_map.specs.MemoryMap.{data_start, text_start, stack_start}
 use Rattle.elf_out.specs.Layout.{Parts}
 use Rattle.elf_out.specs.Program.{program_space, is_within, is_text, is_data, is_stack}
 use Rattle.asm.specs.Placed as placed
@@ -78,6 +78,9 @@ module _ (p : Program) (parts : Parts) (q : IsImageOf p parts) where
   abbrev past_text : ℕ
   past_text = text_start + length parts.text
 
+  abbrev floor : ℕ
+  floor = stack_start parts.stack
+
   abbrev data_at : ℕ
   data_at = placed.data_start past_text
 
@@ -89,26 +92,26 @@ module _ (p : Program) (parts : Parts) (q : IsImageOf p parts) where
   unfolding program_space
   apart a e =
       let r = within_low text_start (length parts.text) a e in
-      or_none (is_data parts a) (is_stack a) (below_not (data_start (length parts.text)) (length parts.statics) a (omega (arith, r.0, r.1))) (below_not stack_start stack_size a (omega (arith, r.1, q.size)))
+      or_none (is_data parts a) (is_stack parts a) (below_not (data_start (length parts.text)) (length parts.statics) a (omega (arith, r.0, r.1))) (below_not (stack_start parts.stack) parts.stack a (omega (arith, r.1, q.size, q.stack.2)))
 
-  reads_stack : (a : ℕ) → 0x7FF00000 ≤ a → a < 2 ^ 31 → permits.can_read a ≡ true
+  reads_stack : (a : ℕ) → floor ≤ a → a < 2 ^ 31 → permits.can_read a ≡ true
   unfolding program_space
-  reads_stack a le lt = or_right (is_data parts a) (is_stack a) (within_is stack_start stack_size a le (omega (arith, lt)))
+  reads_stack a le lt = or_right (is_data parts a) (is_stack parts a) (within_is (stack_start parts.stack) parts.stack a le (omega (arith, lt, q.stack.2)))
 
-  writes_stack : (a : ℕ) → 0x7FF00000 ≤ a → a < 2 ^ 31 → permits.can_write a ≡ true
+  writes_stack : (a : ℕ) → floor ≤ a → a < 2 ^ 31 → permits.can_write a ≡ true
   unfolding program_space
-  writes_stack a le lt = or_right (is_data parts a) (is_stack a) (within_is stack_start stack_size a le (omega (arith, lt)))
+  writes_stack a le lt = or_right (is_data parts a) (is_stack parts a) (within_is (stack_start parts.stack) parts.stack a le (omega (arith, lt, q.stack.2)))
 
   count : length parts.statics ≡ length p.statics
   count = ap length q.statics
 
   reads_data : (a : ℕ) → data_at ≤ a → a < data_at + length p.statics → permits.can_read a ≡ true
   unfolding program_space
-  reads_data a le lt = or_left (is_data parts a) (is_stack a) (within_is (data_start (length parts.text)) (length parts.statics) a le (omega (arith, lt, count)))
+  reads_data a le lt = or_left (is_data parts a) (is_stack parts a) (within_is (data_start (length parts.text)) (length parts.statics) a le (omega (arith, lt, count)))
 
   writes_data : (a : ℕ) → data_at ≤ a → a < data_at + length p.statics → permits.can_write a ≡ true
   unfolding program_space
-  writes_data a le lt = or_left (is_data parts a) (is_stack a) (within_is (data_start (length parts.text)) (length parts.statics) a le (omega (arith, lt, count)))
+  writes_data a le lt = or_left (is_data parts a) (is_stack parts a) (within_is (data_start (length parts.text)) (length parts.statics) a le (omega (arith, lt, count)))
 
   holds_text : placed.Holds space.byte text_start parts.text
   unfolding program_space
@@ -151,7 +154,7 @@ module _ (p : Program) (parts : Parts) (q : IsImageOf p parts) where
   stands : Stands F.text q.assembled.env data_at (program_items p) text_start past_text
   stands = stands_in (text_of space.byte) F.text q.assembled.env data_at (program_items p) text_start past_text refl agree (q.assembled.placed space.byte holds_text)
 
-  laid : Laid p F q.assembled.env data_at text_start past_text (λ k. 0) space.byte
+  laid : Laid p F q.assembled.env floor data_at text_start past_text (λ k. 0) space.byte
   laid = record {
     sound = q.sound;
     stands = stands;
@@ -162,7 +165,7 @@ module _ (p : Program) (parts : Parts) (q : IsImageOf p parts) where
     data_read = reads_data;
     data_written = writes_data;
     data_aligned = omega arith;
-    data_below = omega (arith, q.size, count);
+    data_below = omega (arith, q.size, count, q.stack.2);
     small = λ j. omega arith;
     bytes = small_bytes;
     statics = holds_data;
@@ -171,22 +174,22 @@ module _ (p : Program) (parts : Parts) (q : IsImageOf p parts) where
   zero_registers : Registers (replicate 32 0) (λ k. 0)
   zero_registers = record { count = refl; each = λ k kl. zero_at k kl }
 
-  room : (x : Progress) → FitStack p x → HasRoom (ground_at p F q.assembled.env data_at text_start (λ k. 0) space.byte) x
-  room (running s) fit = omega (arith, fit)
+  room : (x : Progress) → FitStack parts.stack p x → HasRoom (ground_at p F q.assembled.env floor data_at text_start (λ k. 0) space.byte) x
+  room (running s) fit = omega (arith, fit, q.stack.2)
   room (ended status input trace) fit = tt
   room stuck fit = tt
 
 pub image_goes_on : ImageGoesOn
 image_goes_on p parts input q bytes n s over rooms =
-    goes_on (permits p parts q) (low p parts q) (apart p parts q) p q.assembled.env (data_at p parts q) text_start (past_text p parts q) (λ k. 0) (space p parts q).byte (replicate 32 0) input (laid p parts q) (zero_registers p parts q) bytes n s over
+    goes_on (permits p parts q) (low p parts q) (apart p parts q) p q.assembled.env (floor p parts q) (data_at p parts q) text_start (past_text p parts q) (λ k. 0) (space p parts q).byte (replicate 32 0) input (laid p parts q) (zero_registers p parts q) bytes n s over
     (λ k le. room p parts q (run p k (start p input)) (rooms k le))
 
 pub image_ends : ImageEnds
 image_ends p parts input q bytes n status left trace over rooms =
-    ends_so (permits p parts q) (low p parts q) (apart p parts q) p q.assembled.env (data_at p parts q) text_start (past_text p parts q) (λ k. 0) (space p parts q).byte (replicate 32 0) input (laid p parts q) (zero_registers p parts q) bytes n status left trace over
+    ends_so (permits p parts q) (low p parts q) (apart p parts q) p q.assembled.env (floor p parts q) (data_at p parts q) text_start (past_text p parts q) (λ k. 0) (space p parts q).byte (replicate 32 0) input (laid p parts q) (zero_registers p parts q) bytes n status left trace over
     (λ k le. room p parts q (run p k (start p input)) (rooms k le))
 
 pub image_calls_keep : ImageCallsKeep
 image_calls_keep p parts input q bytes n m f s t over es later et same rooms inner within =
-    calls_keep (permits p parts q) (low p parts q) (apart p parts q) p q.assembled.env (data_at p parts q) text_start (past_text p parts q) (λ k. 0) (space p parts q).byte (replicate 32 0) input (laid p parts q) (zero_registers p parts q) bytes n m f s t over es later et same
+    calls_keep (permits p parts q) (low p parts q) (apart p parts q) p q.assembled.env (floor p parts q) (data_at p parts q) text_start (past_text p parts q) (λ k. 0) (space p parts q).byte (replicate 32 0) input (laid p parts q) (zero_registers p parts q) bytes n m f s t over es later et same
     (λ k le. room p parts q (run p k (start p input)) (rooms k le)) (λ k le. room p parts q (run p k (entered s f)) (inner k le)) within

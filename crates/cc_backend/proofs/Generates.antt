@@ -5,7 +5,7 @@ use Rattle.std.specs.Prelude.{slice_get, sum_by, option_map, IfOk, Result, Err}
 use Rattle.std.proofs.lemmas.Option.{slice_get-map, slice_get_within}
 use Rattle.std.proofs.lemmas.List.{length-map}
 use Rattle.std.proofs.lemmas.List.Sums.{sum_by-append, sum_by-cons}
-use Rattle.memory_map.specs.MemoryMap.{text_start, stack_size}
+use Rattle.memory_map.specs.MemoryMap.{text_start}
 use Rattle.loader.specs.File.{file_image}
 use Rattle.elf_out.specs.Layout.{Parts}
 use Rattle.elf_out.specs.Program.{program_image}
@@ -143,7 +143,7 @@ module _ (p : typed.Program) (f : flat.Program) (ready : IsReady p) (made : IsFl
 
   -- ---- the run
 
-  pub runs : (parts : Parts) (file : List ℕ) → IsImageOf f parts → file_image file ≡ Ok (program_image parts) → RunsAs stack_size p (map frame_bytes f.functions) file
+  pub runs : (parts : Parts) (file : List ℕ) → IsImageOf f parts → file_image file ≡ Ok (program_image parts) → RunsAs parts.stack p (map frame_bytes f.functions) file
   runs parts file image loads = record {
     image = program_image parts;
     loads = loads;
@@ -156,14 +156,15 @@ module _ (p : typed.Program) (f : flat.Program) (ready : IsReady p) (made : IsFl
         (w.0, w.1, w.3, (w.2, (w.4, (w.5, w.6), w.7)));
   }
 
-  abbrev pub is_file : (parts : Parts) (file frames : List ℕ) → IsImageOf f parts → IsFewest (program_items f) text_start parts.text → length parts.text ≤ longest (program_items f)
-      → frames ≡ map frame_bytes f.functions → file ≡ file_of parts → IsFileOf p file frames
-  is_file parts file frames image fewest short sizes written = record {
+  abbrev pub is_file : (stack : ℕ) (parts : Parts) (file frames : List ℕ) → parts.stack ≡ stack → IsImageOf f parts → IsFewest (program_items f) text_start parts.text → length parts.text ≤ longest (program_items f)
+      → frames ≡ map frame_bytes f.functions → file ≡ file_of parts → IsFileOf stack p file frames
+  is_file stack parts file frames at image fewest short sizes written = record {
     code = f;
     code_is = made;
     frames_are = sizes;
     frames_fit = subst (FramesFit p) (sym sizes) frames_fit;
     parts = parts;
+    stack_is = at;
     file_is = written;
     image_is = image;
     fewest = fewest;
@@ -172,18 +173,19 @@ module _ (p : typed.Program) (f : flat.Program) (ready : IsReady p) (made : IsFl
     data_fits = data_fits parts image;
   }
 
-  pub runs_with : (parts : Parts) (file frames : List ℕ) → IsImageOf f parts → frames ≡ map frame_bytes f.functions → file_image file ≡ Ok (program_image parts)
-      → RunsAs stack_size p frames file
-  runs_with parts file frames image sizes loads = subst (λ xs. RunsAs stack_size p xs file) (sym sizes) (runs parts file image loads)
+  pub runs_with : (stack : ℕ) (parts : Parts) (file frames : List ℕ) → parts.stack ≡ stack → IsImageOf f parts → frames ≡ map frame_bytes f.functions → file_image file ≡ Ok (program_image parts)
+      → RunsAs stack p frames file
+  runs_with stack parts file frames at image sizes loads =
+      subst (λ n. RunsAs n p frames file) at (subst (λ xs. RunsAs parts.stack p xs file) (sym sizes) (runs parts file image loads))
 
   -- the items of the file that the image is written to
-  pub items_of : (parts : Parts) (items : List Item) → IsImageOf f parts → IsFewest (program_items f) text_start parts.text → length parts.text ≤ longest (program_items f)
-      → items ≡ program_items f → IsLow text_start items → AreItemsOf p items
-  items_of parts items image fewest short are low = record {
+  pub items_of : (stack : ℕ) (parts : Parts) (items : List Item) → parts.stack ≡ stack → IsImageOf f parts → IsFewest (program_items f) text_start parts.text → length parts.text ≤ longest (program_items f)
+      → items ≡ program_items f → IsLow text_start items → AreItemsOf stack p items
+  items_of stack parts items at image fewest short are low = record {
     file = file_of parts;
     frames = map frame_bytes f.functions;
-    runs = runs parts (file_of parts) image (written_image parts image.size);
-    is_file = is_file parts (file_of parts) (map frame_bytes f.functions) image fewest short refl refl;
+    runs = runs_with stack parts (file_of parts) (map frame_bytes f.functions) at image refl (written_image parts image.size image.stack.2);
+    is_file = is_file stack parts (file_of parts) (map frame_bytes f.functions) at image fewest short refl refl;
     items_are = are;
     low = low;
     reach = subst (AllReach text_start) (sym are) (reach text_start);

@@ -3,7 +3,7 @@ use Rattle.std.proofs.Common.{◌≡◌, ℕ, ◌+◌, ◌-◌, ◌<◌, ◌≤�
 use Rattle.std.specs.Prelude.{slice_get, option_map}
 use Rattle.std.proofs.lemmas.Option.{slice_get-map}
 use Rattle.rv32.specs.Step.{register}
-use Rattle.memory_map.specs.MemoryMap.{stack_size, stack_end}
+use Rattle.memory_map.specs.MemoryMap.{stack_end}
 use Rattle.sim.specs.Runs.{World}
 use Rattle.typing_rules.specs.Program as typed
 use Rattle.meaning.specs.History.{Entry, trace_of, active, weight_in, sum_of, greatest_sum}
@@ -47,9 +47,9 @@ module _ (p : typed.Program) (q : tac.Program) (f : flat.Program) (lowered : IsL
   frames_within (w ∷ ws) k = omega (arith, frames_within ws k.1, frame_within w.function k.0)
 
   -- up to m steps of three-address code, by what its history then tells
-  fits : (x : flat_run.Progress) (input : List ℕ) (m m2 j : ℕ) → HasItsCalls q f input m m2 → j ≤ m2 → behind f input j ≡ x → (most : ℕ)
-      → ((k : ℕ) → IsSeen (weight_in p) k (before q input m) → k ≤ most) → most ≤ stack_size → FitStack f x
-  fits (flat_run.running s) input m m2 j its le e most seen small =
+  fits : (stack : ℕ) (x : flat_run.Progress) (input : List ℕ) (m m2 j : ℕ) → HasItsCalls q f input m m2 → j ≤ m2 → behind f input j ≡ x → (most : ℕ)
+      → ((k : ℕ) → IsSeen (weight_in p) k (before q input m) → k ≤ most) → most ≤ stack → FitStack stack f x
+  fits stack (flat_run.running s) input m m2 j its le e most seen small =
       let c = its j s le e in
       let t = c.2.0 in
       let at : c.0 + (m - c.0) ≡ m = omega (arith, c.1) in
@@ -58,8 +58,8 @@ module _ (p : typed.Program) (q : tac.Program) (f : flat.Program) (lowered : IsL
       let same : sum_of (weight_in p) (flat_run.active s) ≡ sum_of (weight_in p) (tac_run.open_calls t) = ap (sum_of (weight_in p)) c.2.2 in
       let known : Known f sound (flat_run.running s) = subst (Known f sound) e (run_known f sound j (flat_run.start f input) (sound.has_main, tt)) in
       omega (arith, seen (sum_of (weight_in p) (tac_run.open_calls t)) there, small, same, frames_within (s.frame ∷ s.waiting) known)
-  fits (flat_run.ended status left trace) input m m2 j its le e most seen small = tt
-  fits flat_run.stuck input m m2 j its le e most seen small = tt
+  fits stack (flat_run.ended status left trace) input m m2 j its le e most seen small = tt
+  fits stack flat_run.stuck input m m2 j its le e most seen small = tt
 
 -- ---- frames
 
@@ -105,7 +105,7 @@ flattened_goes_on p q f parts input lowered flattened image bytes n s over small
     let at = c.2.2 in
     let seen : (k : ℕ) → IsSeen (weight_in p) k (before q input m) → k ≤ greatest_sum (weight_in p) s.history = λ k h.
     subst (λ x. k ≤ greatest_sum (weight_in p) x) b.2.2 (subst (IsSeen (weight_in p) k) b.2.1 h) in
-    let w = image_goes_on f parts input image bytes c.0 u c.2.1 (λ j le. fits p q f lowered flattened image.sound (behind f input j) input m c.0 j c.4 le refl (greatest_sum (weight_in p) s.history) seen small) in
+    let w = image_goes_on f parts input image bytes c.0 u c.2.1 (λ j le. fits p q f lowered flattened image.sound parts.stack (behind f input j) input m c.0 j c.4 le refl (greatest_sum (weight_in p) s.history) seen small) in
     let table = spent_is_more f image.sound in (
       w.0,
       w.1,
@@ -123,7 +123,7 @@ flattened_ends p q f parts input lowered flattened image bytes n status s over s
     let m = b.0 in
     let c = (flattened.in_step input bytes).ends m status s.input s.history b.1 in
     let seen : (k : ℕ) → IsSeen (weight_in p) k (before q input m) → k ≤ greatest_sum (weight_in p) s.history = λ k h. subst (IsSeen (weight_in p) k) b.1 h in
-    let w = image_ends f parts input image bytes c.0 status s.input (trace_of s.history) c.1 (λ j le. fits p q f lowered flattened image.sound (behind f input j) input m c.0 j c.3 le refl (greatest_sum (weight_in p) s.history) seen small) in
+    let w = image_ends f parts input image bytes c.0 status s.input (trace_of s.history) c.1 (λ j le. fits p q f lowered flattened image.sound parts.stack (behind f input j) input m c.0 j c.3 le refl (greatest_sum (weight_in p) s.history) seen small) in
     let table = spent_is_more f image.sound in
     (w.0, w.1, omega (arith, w.2, table.0, table.1 c.0 (flat_run.start f input), c.2, b.2), w.3, w.4, w.5)
 

@@ -46,15 +46,15 @@ module _ (q : tac.Program) (f : flat.Program) (flattened : IsFlattened q f) wher
   frames_within [] = omega arith
   frames_within (w ∷ ws) = omega (arith, frames_within ws, frame_within w.function, sum_by-cons weight w.function (map (λ x. x.function) ws))
 
-  fits : (x : flat_run.Progress) (input : List ℕ) (n m j : ℕ) → HasItsCalls q f input n m → j ≤ m → behind f input j ≡ x → ((k : ℕ) → k ≤ n → CallsFit q (before q input k)) → FitStack f x
-  fits (flat_run.running s) input n m j its le e fit =
+  fits : (stack : ℕ) (x : flat_run.Progress) (input : List ℕ) (n m j : ℕ) → HasItsCalls q f input n m → j ≤ m → behind f input j ≡ x → ((k : ℕ) → k ≤ n → CallsFit stack q (before q input k)) → FitStack stack f x
+  fits stack (flat_run.running s) input n m j its le e fit =
       let c = its j s le e in
       let t = c.2.0 in
-      let there : CallsFit q (tac_run.running t) = subst (CallsFit q) c.2.1 (fit c.0 c.1) in
+      let there : CallsFit stack q (tac_run.running t) = subst (CallsFit stack q) c.2.1 (fit c.0 c.1) in
       let same : sum_by weight (flat_run.active s) ≡ sum_by weight (tac_run.open_calls t) = ap (sum_by weight) c.2.2 in
       omega (arith, there, same, frames_within (s.frame ∷ s.waiting))
-  fits (flat_run.ended status left trace) input n m j its le e fit = tt
-  fits flat_run.stuck input n m j its le e fit = tt
+  fits stack (flat_run.ended status left trace) input n m j its le e fit = tt
+  fits stack flat_run.stuck input n m j its le e fit = tt
 
 pub further : (a n m x : ℕ) → n ≤ m → m < a * x → n < a * x
 further a n m x le lt = omega (arith, le, lt)
@@ -69,7 +69,7 @@ tac_goes_on q f parts input sound made image bytes n t over fit =
     let m = c.0 in
     let s = c.2.0 in
     let at = c.2.2 in
-    let w = image_goes_on f parts input image bytes m s c.2.1 (λ j le. fits q f flattened (behind f input j) input n m j c.4 le refl fit) in
+    let w = image_goes_on f parts input image bytes m s c.2.1 (λ j le. fits q f flattened parts.stack (behind f input j) input n m j c.4 le refl fit) in
     let table = spent_is_more f image.sound in
     (w.0, w.1, further (slack f) n m w.0 c.1 w.2, omega (arith, w.3, table.0, table.1 m (flat_run.start f input), c.3), w.4, w.5.trace ∙ at.0, w.5.input ∙ at.1)
 
@@ -78,6 +78,6 @@ tac_ends q f parts input sound made image bytes n status left history over fit =
     let flattened = flattened_of q f sound made in
     let c = (flattened.in_step input bytes).ends n status left history over in
     let m = c.0 in
-    let w = image_ends f parts input image bytes m status left (trace_of history) c.1 (λ j le. fits q f flattened (behind f input j) input n m j c.3 le refl fit) in
+    let w = image_ends f parts input image bytes m status left (trace_of history) c.1 (λ j le. fits q f flattened parts.stack (behind f input j) input n m j c.3 le refl fit) in
     let table = spent_is_more f image.sound in
     (w.0, w.1, omega (arith, w.2, table.0, table.1 m (flat_run.start f input), c.2), w.3, w.4, w.5)

@@ -1,6 +1,6 @@
 -- How the back end makes the file of a typed program, and its listing.
 use Rattle.std.specs.Prelude.{◌≡◌, ◌≤◌, ℕ, ◌+◌, ◌*◌, Bool, true, List, ◌++◌, length, map, sum_by, slice_get, Some}
-use Rattle.memory_map.specs.MemoryMap.{stack_size, text_start}
+use Rattle.memory_map.specs.MemoryMap.{text_start}
 use Rattle.elf_out.specs.Layout.{Parts}
 use Rattle.elf_out.specs.Written as written
 use Rattle.asm.specs.declared.item.Item.{Item}
@@ -52,14 +52,15 @@ FunctionsFit p code long =
     × (place long text_start (program_items code) (length before + length own) ≤ place long text_start (program_items code) (length before) + (128 * g.nodes + 1024))
 
 -- How the executable file of a program is made, with the bytes of the frame of each function. It is the image of flat code of the program, with the
--- fewest long branches, and has its frames; so all that is known of such an image is known of the file. Its data are 16 bytes, string literals and
+-- fewest long branches, has its frames, and has a stack of so many bytes; so all that is known of such an image is known of the file. Its data are 16 bytes, string literals and
 -- statics.
-pub record IsFileOf (p : Program) (file frames : List ℕ) : Type 0 where
+pub record IsFileOf (stack : ℕ) (p : Program) (file frames : List ℕ) : Type 0 where
   pub code : flat.Program
   pub code_is : IsFlatCodeOf p code
   pub frames_are : frames ≡ map frame_bytes code.functions
   pub frames_fit : FramesFit p frames
   pub parts : Parts
+  pub stack_is : parts.stack ≡ stack
   pub file_is : file ≡ written.file_of parts
   pub image_is : IsImageOf code parts
   pub fewest : IsFewest (program_items code) text_start parts.text
@@ -67,13 +68,13 @@ pub record IsFileOf (p : Program) (file frames : List ℕ) : Type 0 where
   pub text_fits : length parts.text ≤ most_text p
   pub data_fits : length parts.statics ≤ 16 + data_bytes p.literals p.statics
 
--- The items of a file of the program, which runs as the program does: they end where the assembler takes them, each jump reaches its label, and the
+-- The items of a file of the program with a stack of so many bytes, which runs as the program does: they end where the assembler takes them, each jump reaches its label, and the
 -- text of the file is what they assemble to.
-pub record AreItemsOf (p : Program) (items : List Item) : Type 0 where
+pub record AreItemsOf (stack : ℕ) (p : Program) (items : List Item) : Type 0 where
   pub file : List ℕ
   pub frames : List ℕ
-  pub runs : RunsAs stack_size p frames file
-  pub is_file : IsFileOf p file frames
+  pub runs : RunsAs stack p frames file
+  pub is_file : IsFileOf stack p file frames
   pub items_are : items ≡ program_items is_file.code
   pub low : IsLow text_start items
   pub reach : AllReach text_start items

@@ -1,6 +1,5 @@
 -- How the image of a typed program runs, once it is lowered, flattened, and its items are assembled.
 use Rattle.std.specs.Prelude.{◌≡◌, ◌≤◌, ◌<◌, ℕ, ◌+◌, ◌*◌, List, map}
-use Rattle.memory_map.specs.MemoryMap.{stack_size}
 use Rattle.elf_out.specs.Layout.{Parts}
 use Rattle.elf_out.specs.Program.{program_image}
 use Rattle.sim.specs.Runs as sim
@@ -20,18 +19,18 @@ use Rattle.select_simulation.specs.Runs.{slack}
 use Rattle.cc_backend.specs.FlatImages.{IsImageOf}
 use Rattle.cc_backend.specs.Runs.{HasFrames}
 
--- Where the abstract machine has used n ticks, and its calls never weighed more than the stack: the machine goes on from the image of flat code f too,
+-- Where the abstract machine has used n ticks, and its calls never weighed more than the stack of the image: the machine goes on from the image of flat code f too,
 -- has done the same and has the same input left, after at most 60 n + 64 instructions, and at least one for each so many ticks.
 abbrev pub GoesOnWith : Program → flat.Program → Parts → (input : List ℕ) → Type 0
 GoesOnWith p f parts input =
-    (n : ℕ) (s : State) → cstep n p input ≡ Stops TicksUsed s → greatest_sum (weight_in p) s.history ≤ stack_size
+    (n : ℕ) (s : State) → cstep n p input ≡ Stops TicksUsed s → greatest_sum (weight_in p) s.history ≤ parts.stack
     → (k : ℕ) × (w : World) × (n < slack f * k) × (k ≤ 60 * n + 64) × (rvrun k (start_world (program_image parts) input) ≡ sim.Running w) × (w.trace ≡ trace_of s.history) × (w.input ≡ s.input)
     × HasFrames (map frame_bytes f.functions) s.history w
 
 -- Where it has ended: the machine ends with the same status.
 abbrev pub EndsWith : Program → Parts → (input : List ℕ) → Type 0
 EndsWith p parts input =
-    (n status : ℕ) (s : State) → cstep n p input ≡ Stops (Ended status) s → greatest_sum (weight_in p) s.history ≤ stack_size
+    (n status : ℕ) (s : State) → cstep n p input ≡ Stops (Ended status) s → greatest_sum (weight_in p) s.history ≤ parts.stack
     → (k : ℕ) × (w : World) × (k ≤ 60 * n + 66) × (rvrun k (start_world (program_image parts) input) ≡ sim.Ended status w) × (w.trace ≡ trace_of s.history) × (w.input ≡ s.input)
 
 -- where the image is that of flat code that does what the typed program's three-address code does

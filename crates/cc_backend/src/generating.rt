@@ -3,7 +3,6 @@
 ghost use Rattle.std.specs.Prelude.{IfOk};
 ghost use Rattle.typing_program.specs.View.{program_of};
 ghost use Rattle.frames_code.specs.Code as flat;
-ghost use Rattle.memory_map.specs.MemoryMap.{stack_size};
 ghost use Rattle.cc_backend.specs.Runs.{RunsAs};
 ghost use Rattle.cc_backend.specs.Made.{IsReady, IsFileOf, AreItemsOf};
 
@@ -11,7 +10,7 @@ use crate::flat_code::{flat_code, want_of_memory};
 use crate::image::code_image;
 use crate::sizes::frame_sizes;
 use asm::Items;
-use elf_out::write_elf;
+use elf_out::{StackSize, write_elf};
 use std::alloc::{AllocError, Global};
 use typing_program::Program;
 
@@ -24,28 +23,28 @@ pub struct Generated {
     pub frames: Vec<u32>,
 }
 
-/// The executable file of a program that breaks no constraint; an error also where what it takes is more than the machine's memory.
-pub fn generate(alloc: Global, program: &Program) -> Result<Generated, AllocError>
+/// The executable file of a program that breaks no constraint, with a stack of this size; an error also where what it takes is more than the machine's memory.
+pub fn generate(alloc: Global, program: &Program, stack: StackSize) -> Result<Generated, AllocError>
     requires ready { IsReady (program_of program.now) }
-    ensures runs { IfOk result (λ g. RunsAs stack_size (program_of program.now) g.frames.items g.elf.items) }
-    ensures file { IfOk result (λ g. IsFileOf (program_of program.now) g.elf.items g.frames.items) }
+    ensures runs { IfOk result (λ g. RunsAs stack (program_of program.now) g.frames.items g.elf.items) }
+    ensures file { IfOk result (λ g. IsFileOf stack (program_of program.now) g.elf.items g.frames.items) }
 {
     let code = flat_code(alloc, program)?;
     let frames = frame_sizes(alloc, &code)?;
-    let made = code_image(alloc, code)?;
+    let made = code_image(alloc, code, stack)?;
     match write_elf(alloc, &made.image) {
         Ok(elf) => Ok(Generated { elf, frames }),
         Err(fault) => Err(want_of_memory(fault)),
     }
 }
 
-/// The items of the file of a program that breaks no constraint.
-pub fn items(alloc: Global, program: &Program) -> Result<Items, AllocError>
+/// The items of the file of a program that breaks no constraint, with a stack of this size.
+pub fn items(alloc: Global, program: &Program, stack: StackSize) -> Result<Items, AllocError>
     requires ready { IsReady (program_of program.now) }
-    ensures items { IfOk result (λ items. AreItemsOf (program_of program.now) items) }
+    ensures items { IfOk result (λ items. AreItemsOf stack (program_of program.now) items) }
 {
     let code = flat_code(alloc, program)?;
-    match code_image(alloc, code) {
+    match code_image(alloc, code, stack) {
         Ok(made) => Ok(made.items),
         Err(error) => Err(error),
     }

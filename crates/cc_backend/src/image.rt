@@ -9,10 +9,10 @@ ghost use Rattle.cc_backend.specs.FlatImages.{IsImageOf};
 ghost use Rattle.select.specs.Program.{program_items};
 ghost use Rattle.asm.specs.Layout.{IsLow, AllReach, longest};
 
-use crate::bytes::are_bytes;
+use crate::bytes::{are_bytes, is_stack_size};
 use crate::flat_code::want_of_memory;
 use asm::{Items, assemble};
-use elf_out::Image;
+use elf_out::{Image, StackSize};
 use frames_code::FlatProgram;
 use memory_map::TEXT_START;
 use select::select;
@@ -42,28 +42,39 @@ pub struct Assembled {
     pub items: Items,
 }
 
-/// The image of flat code, with its items.
-pub fn code_image(alloc: Global, program: FlatProgram) -> Result<Assembled, AllocError>
+/// The image of flat code, with its items and a stack of this size.
+pub fn code_image(
+    alloc: Global,
+    program: FlatProgram,
+    stack: StackSize,
+) -> Result<Assembled, AllocError>
     requires sound { IsSoundProgram (flat.program_of program) }
     requires reaches { AllReach text_start (program_items (flat.program_of program)) }
     ensures image { IfOk result (λ a. IsImageOf (flat.program_of program) a.image) }
+    ensures stack { IfOk result (λ a. a.image.stack ≡ stack) }
     ensures fewest { IfOk result (λ a. IsFewest (program_items (flat.program_of program)) text_start a.image.text) }
     ensures size { IfOk result (λ a. length a.image.text ≤ longest (program_items (flat.program_of program))) }
     ensures items { IfOk result (λ a. a.items ≡ program_items (flat.program_of program)) }
     ensures low { IfOk result (λ a. IsLow text_start a.items) }
 {
     let items = low_items(alloc, &program)?;
-    let image = image_of(alloc, &items, program)?;
+    let image = image_of(alloc, &items, program, stack)?;
     Ok(Assembled { image, items })
 }
 
 /// The image of flat code with these items.
-fn image_of(alloc: Global, items: &Items, program: FlatProgram) -> Result<Image, AllocError>
+fn image_of(
+    alloc: Global,
+    items: &Items,
+    program: FlatProgram,
+    stack: StackSize,
+) -> Result<Image, AllocError>
     requires sound { IsSoundProgram (flat.program_of program) }
     requires items { items.now ≡ program_items (flat.program_of program) }
     requires low { IsLow text_start items.now }
     requires reaches { AllReach text_start (program_items (flat.program_of program)) }
     ensures image { IfOk result (IsImageOf (flat.program_of program)) }
+    ensures stack { IfOk result (λ image. image.stack ≡ stack) }
     ensures fewest { IfOk result (λ image. IsFewest (program_items (flat.program_of program)) text_start image.text) }
     ensures size { IfOk result (λ image. length image.text ≤ longest (program_items (flat.program_of program))) }
 {
@@ -73,7 +84,8 @@ fn image_of(alloc: Global, items: &Items, program: FlatProgram) -> Result<Image,
     };
     are_bytes(text.as_slice());
     are_bytes(program.statics.as_slice());
-    match Image::new(text, program.statics) {
+    is_stack_size(stack);
+    match Image::new(text, program.statics, stack) {
         Some(image) => Ok(image),
         None => Err(AllocError),
     }

@@ -11,6 +11,6 @@ unfolding program_space
 laid_out parts = record { executes = λ a. refl; reads = λ a. refl; writes = λ a. refl }
 
 pub files_are_laid_out : FilesAreLaidOut
-files_are_laid_out p file frames made =
+files_are_laid_out stack p file frames made =
     let image = program_image made.parts in
-    (image, subst (λ f. file_image f ≡ Ok image) (sym made.file_is) (written_image made.parts made.image_is.size), laid_out made.parts)
+    (image, subst (λ f. file_image f ≡ Ok image) (sym made.file_is) (written_image made.parts made.image_is.size made.image_is.stack.2), (laid_out made.parts, made.stack_is))

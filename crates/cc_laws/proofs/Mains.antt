@@ -38,7 +38,7 @@ whole_fine whole b =
     (main_fine whole b (main_from b.scope 0 b.functions) (main_within b.scope 0 b.functions))
 
 pub units_have_main : UnitsHaveMain
-units_have_main texts whole unit p e =
-    let first : Built = record { scope = file_scope texts (definitions_in unit); functions = []; initial = [] } in
+units_have_main stack texts whole unit p e =
+    let first : Built = record { stack = stack; scope = file_scope texts (definitions_in unit); functions = []; initial = [] } in
     let each = then_fine HasMain (externals_typed first unit) (whole_program whole) (whole_fine whole) in
     subst (IfFine HasMain) e each

@@ -112,12 +112,12 @@ StaysInside = OfEachFile (λ p image input. (k : ℕ) (w : World) → run_of ima
 -- the text may be executed, the data and the stack may be read and written, and nothing else
 pub record IsLaidOut (parts : Parts) (s : Space) : Type 0 where
   pub executes : (a : ℕ) → s.can_execute a ≡ is_text parts a
-  pub reads : (a : ℕ) → s.can_read a ≡ (is_data parts a || is_stack a)
-  pub writes : (a : ℕ) → s.can_write a ≡ (is_data parts a || is_stack a)
+  pub reads : (a : ℕ) → s.can_read a ≡ (is_data parts a || is_stack parts a)
+  pub writes : (a : ℕ) → s.can_write a ≡ (is_data parts a || is_stack parts a)
 
--- those are the permissions of a file that is made of a program
+-- those are the permissions of a file that is made of a program, whose stack has as many bytes as were asked for
 abbrev pub FilesAreLaidOut : Type 0
-FilesAreLaidOut = (p : Program) (file frames : List ℕ) (made : IsFileOf p file frames) → HasImage file (λ image. IsLaidOut made.parts image.space)
+FilesAreLaidOut = (stack : ℕ) (p : Program) (file frames : List ℕ) (made : IsFileOf stack p file frames) → HasImage file (λ image. IsLaidOut made.parts image.space × (made.parts.stack ≡ stack))
 
 -- ---- how it ends
 
@@ -130,9 +130,9 @@ EndsOnlySo = OfEachFile (λ p image input. (k status : ℕ) (w : World) → run_
 abbrev pub HasMain : Program → Type 0
 HasMain p = p.main < length p.functions
 
--- so it is in the program of every unit that breaks no constraint (5.1.2.2.1)
+-- so it is in the program of every unit that breaks no constraint (5.1.2.2.1), whatever the stack
 abbrev pub UnitsHaveMain : Type 0
-UnitsHaveMain = (texts : List (List ℕ)) (whole : Pos) (unit : List ExternalTree) (p : Program) → unit_typed texts whole unit ≡ fine p → HasMain p
+UnitsHaveMain = (stack : ℕ) (texts : List (List ℕ)) (whole : Pos) (unit : List ExternalTree) (p : Program) → unit_typed stack texts whole unit ≡ fine p → HasMain p
 
 -- and soon: where the abstract machine ends within n ticks, the file ends with the same status after at most 64 n + 64 instructions, having done the same
 abbrev pub EndsInTime : Type 0

@@ -75,6 +75,7 @@ fn answer(rt: &HostRuntime, matches: &ArgMatches<'_>) -> Result<u8> {
         return Ok(status);
     }
     let Some(request) = read_request(matches) else {
+        let _said = eprintln!(rt; "error: the bytes of the stack are no multiple of 4096");
         return Ok(2);
     };
     match request.command {
@@ -111,6 +112,7 @@ fn build(
         &mut port,
         &mut io::sink(),
         &mut rt.stderr(),
+        request.stack,
     );
     if status == 0 && port.finish().is_err() {
         return Ok(say(rt, &Fault::at(rt.alloc(), Code::CannotWrite, out, 0)));
@@ -145,6 +147,7 @@ fn print_text(rt: &HostRuntime, request: Request<'_>, matches: &ArgMatches<'_>) 
         &mut IoPort::new(no_input(rt.alloc())?, io::sink()),
         &mut out,
         &mut rt.stderr(),
+        request.stack,
     );
     if out.flush().is_err() && status == 0 {
         return Ok(say(rt, &Fault::at(rt.alloc(), Code::CannotWrite, "", 0)));
@@ -190,6 +193,7 @@ fn over_streams(rt: &HostRuntime, request: Request<'_>, set: &FileSet, file: &[u
         &mut port,
         &mut io::sink(),
         &mut line,
+        request.stack,
     );
     match port.finish() {
         Err(fault) if status != 126 || line.is_empty() => Ok(say_port(rt, fault)),

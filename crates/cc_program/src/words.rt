@@ -1,7 +1,7 @@
 //! The command line.
 
 use crate::aid_words::with_aids;
-use cc::Cmd;
+use cc::{Cmd, StackSize};
 use clap::{Arg, ArgAction, ArgMatches, Command, value_parser};
 use std::alloc::{AllocError, Global};
 
@@ -11,6 +11,8 @@ pub struct Request<'a> {
     pub command: Cmd<'a>,
     /// The main file, or the executable file.
     pub main: &'a str,
+    /// The stack of the program.
+    pub stack: StackSize,
 }
 
 /// The command line's form.
@@ -49,6 +51,16 @@ fn most<'a>(alloc: Global) -> Arg<'a> {
         .default_value("1000000000")
 }
 
+/// The argument of how many bytes the stack has.
+fn stack<'a>(alloc: Global) -> Arg<'a> {
+    Arg::new(alloc, "stack")
+        .long("stack")
+        .value_name("N")
+        .help("The bytes of the stack, a multiple of 4096")
+        .value_parser(value_parser!(u64).range(4096..=16777216))
+        .default_value("1048576")
+}
+
 fn build<'a>(alloc: Global) -> Result<Command<'a>, AllocError> {
     let out = Arg::new(alloc, "OUT")
         .short('o')
@@ -58,6 +70,7 @@ fn build<'a>(alloc: Global) -> Result<Command<'a>, AllocError> {
         .about("Compiles a program to an executable file")
         .arg(main_file(alloc))?
         .arg(files(alloc))?
+        .arg(stack(alloc))?
         .arg(out)
 }
 
@@ -72,6 +85,7 @@ fn list<'a>(alloc: Global) -> Result<Command<'a>, AllocError> {
     Command::new(alloc, "list")
         .about("Prints a listing of a program's code")
         .arg(main_file(alloc))?
+        .arg(stack(alloc))?
         .arg(files(alloc))
 }
 
@@ -89,33 +103,51 @@ fn interp<'a>(alloc: Global) -> Result<Command<'a>, AllocError> {
     Command::new(alloc, "interp")
         .about("Interprets a program over standard input and output")
         .arg(main_file(alloc))?
+        .arg(stack(alloc))?
         .arg(files(alloc))?
         .arg(most(alloc).help("At most this many ticks"))
 }
 
-/// The request that a parse found.
+/// The stack that a parse found, or the usual one for a command that has no word for it.
+fn read_stack(name: &str, inner: &ArgMatches<'_>) -> Option<StackSize> {
+    match name {
+        "build" | "list" | "interp" => {
+            let bytes = u32::try_from(inner.get_one::<u64>("stack")?).ok()?;
+            StackSize::new(bytes)
+        }
+        _ => Some(StackSize::usual()),
+    }
+}
+
+/// The request that a parse found, or `None` where the bytes of the stack are no multiple of 4096.
 pub fn read_request<'a>(matches: &ArgMatches<'a>) -> Option<Request<'a>> {
     let (name, inner) = matches.subcommand()?;
+    let stack = read_stack(name, inner)?;
     match name {
         "build" => Some(Request {
             command: Cmd::Build(inner.get_str("OUT")?),
             main: inner.get_str("MAIN")?,
+            stack,
         }),
         "pp" => Some(Request {
             command: Cmd::Pp,
             main: inner.get_str("MAIN")?,
+            stack,
         }),
         "list" => Some(Request {
             command: Cmd::List,
             main: inner.get_str("MAIN")?,
+            stack,
         }),
         "run" => Some(Request {
             command: Cmd::Run(inner.get_one::<u64>("max")?),
             main: inner.get_str("FILE")?,
+            stack,
         }),
         "interp" => Some(Request {
             command: Cmd::Interp(inner.get_one::<u64>("max")?),
             main: inner.get_str("MAIN")?,
+            stack,
         }),
         _ => None,
     }

@@ -43,6 +43,7 @@ fn assigned_to(
 }
 
 /// A call with arguments that are typed.
+#[inline(never)]
 pub(crate) fn called_with<'s>(
     alloc: Global,
     pos: Pos,

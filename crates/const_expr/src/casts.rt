@@ -68,6 +68,7 @@ fn cast_to_void<'s>(alloc: Global, pos: Pos, x: Checked) -> Result<Checked<'s>, 
 }
 
 /// A cast to the type that is named (6.5.4).
+#[inline(never)]
 pub(crate) fn cast_to<'s>(
     alloc: Global,
     pos: Pos,

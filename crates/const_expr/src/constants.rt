@@ -26,6 +26,7 @@ pub struct Constant {
 }
 
 /// A constant of the source (6.4.4).
+#[inline(never)]
 pub(crate) fn source_constant<'s>(pos: Pos, ty: IntType, value: u32) -> Checked<'s>
     ensures { typed.value pos ty (program_typed.constant ty (converted ty (natural value))) ≡ checked_of result }
 {
@@ -79,6 +80,7 @@ pub(crate) fn constant_worth(alloc: Global, x: Checked) -> Result<Constant, Refu
 }
 
 /// A size in the name of a type (6.7.6.2p1).
+#[inline(never)]
 pub(crate) fn size_in(alloc: Global, pos: Pos, x: Checked) -> Result<u64, Refusal>
     ensures ok { IfOk result (λ n. typed.size_in pos (checked_of x.entry) ≡ fine n) }
     ensures err { IfErr result (λ r. Tells r (typed.size_in pos (checked_of x.entry))) }

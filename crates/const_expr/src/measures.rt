@@ -1,7 +1,7 @@
 //! Sizes (6.5.3.4).
 #![tactic(auto, using(crate::proofs::Sizes::capped_product, crate::proofs::Sizes::exact_below))]
 
-ghost use Rattle.std.specs.Prelude.{◌≡◌, ◌<◌, ◌^◌, ℕ, IfErr, IfOk};
+ghost use Rattle.std.specs.Prelude.{◌≡◌, ◌<◌, ◌≤◌, ◌^◌, ℕ, IfErr, IfNone, IfOk};
 ghost use Rattle.std.specs.Option.{IfSome};
 ghost use Rattle.ctypes.specs.Types.{bytes_of};
 ghost use Rattle.typing_rules.specs.Verdict.{fine};
@@ -29,7 +29,8 @@ fn bytes_of_array(length: u32, elements: Elements) -> u64
 }
 
 fn told(bytes: u64) -> Option<i64>
-    ensures { IfSome result (λ v. (v ≡ natural bytes) × (bytes < 2 ^ 63)) }
+    ensures some { IfSome result (λ v. (v ≡ natural bytes) × (bytes < 2 ^ 63)) }
+    ensures none { IfNone result (2 ^ 63 ≤ bytes) }
 {
     match i64::try_from(bytes) {
         Ok(size) => Some(size),
@@ -62,6 +63,7 @@ fn size_of_number<'s>(pos: Pos, ty: IntType) -> Checked<'s>
 }
 
 /// `sizeof` of an expression (6.5.3.4): no function, nothing incomplete.
+#[inline(never)]
 pub(crate) fn measured<'s>(pos: Pos, x: &Checked) -> Result<Checked<'s>, Refusal>
     ensures ok { IfOk result (λ c. typed.measured pos (checked_of x.now) ≡ fine (checked_of c)) }
     ensures err { IfErr result (λ r. Tells r (typed.measured pos (checked_of x.now))) }
@@ -85,6 +87,7 @@ pub(crate) fn measured<'s>(pos: Pos, x: &Checked) -> Result<Checked<'s>, Refusal
 }
 
 /// `sizeof` of a named type (6.5.3.4), which is not `void`.
+#[inline(never)]
 pub(crate) fn type_measured<'s>(pos: Pos, named: &Option<NamedType>) -> Result<Checked<'s>, Refusal>
     ensures ok { IfOk result (λ c. typed.type_measured pos (option_named named.now) ≡ fine (checked_of c)) }
     ensures err { IfErr result (λ r. Tells r (typed.type_measured pos (option_named named.now))) }

@@ -320,6 +320,7 @@ fn named_type(specifiers: &[TypeSpecifier]) -> Option<Option<IntType>>
 
 /// The type of specifiers that bring no list of enumerators. Else 525 stands at them where `enum tag` names no complete type, and
 /// 511 where they name no type.
+#[inline(never)]
 pub fn base_type(scope: &Scope, specifiers: &TypeSpecifiers) -> Result<BaseType, Refusal>
     ensures ok { IfOk result (λ b. typed.base_type scope.now specifiers.now.pos specifiers.now.list.items ≡ fine (base_type_of b)) }
     ensures err { IfErr result (λ r. IsOf r (typed.base_type scope.now specifiers.now.pos specifiers.now.list.items)) }

@@ -97,6 +97,7 @@ fn void_type(pos: Pos, lengths: &[u64]) -> Result<(), Refusal>
 }
 
 /// The type that is named (6.7.7), none for `void`.
+#[inline(never)]
 pub(crate) fn type_of(
     pos: Pos,
     base: BaseType,

@@ -6,7 +6,7 @@ use Rattle.std.proofs.lemmas.List.{get_or_append_left, get_or-append-add, length
 use Rattle.loader.specs.declared.header.LoadHeader.{LoadHeader}
 use Rattle.loader.specs.declared.fault.LoadFault.{LoadFault}
 use Rattle.loader.specs.File.{Image, loads, file_image, fault_of, answer_of, e_entry, image_space, byte_of, said}
-use Rattle.memory_map.specs.MemoryMap.{data_start, data_offset}
+use Rattle.memory_map.specs.MemoryMap.{data_start, data_offset, stack_start}
 use Rattle.elf_out.specs.Layout.{Parts}
 use Rattle.elf_out.specs.Written.{headers_of, file_of, zeros}
 use Rattle.elf_out.specs.Program.{is_within, is_text, is_data, is_stack, program_space, program_image}
@@ -16,7 +16,7 @@ use Rattle.elf_out.proofs.Reading.{text_load, data_load, stack_load, loads_again
 -- ---- the parts of the file
 
 before_text : Parts → List ℕ
-before_text p = headers_of (length p.text) (length p.statics) ++ zeros (0x1000 - 148)
+before_text p = headers_of (length p.text) (length p.statics) p.stack ++ zeros (0x1000 - 148)
 
 before_data : Parts → List ℕ
 before_data p = before_text p ++ p.text ++ zeros (data_start (length p.text) - (0x11000 + length p.text))
@@ -28,7 +28,7 @@ file_is p = refl
 length-before_text : (p : Parts) → length (before_text p) ≡ 0x1000
 unfolding before_text
 length-before_text p =
-    length-append (headers_of (length p.text) (length p.statics)) (zeros (0x1000 - 148)) ∙ ap (λ k. k + (0x1000 - 148)) (length-headers_of (length p.text) (length p.statics))
+    length-append (headers_of (length p.text) (length p.statics) p.stack) (zeros (0x1000 - 148)) ∙ ap (λ k. k + (0x1000 - 148)) (length-headers_of (length p.text) (length p.statics) p.stack)
 
 length-before_data : (p : Parts) → length p.text ≤ 117440512 → length (before_data p) ≡ data_offset (length p.text)
 unfolding before_data
@@ -46,11 +46,11 @@ length-file_of p h =
     ap length (file_is p) ∙ length-append (before_data p) p.statics ∙ ap (λ k. k + length p.statics) (length-before_data p h)
 
 -- the headers come first
-file_rest : (p : Parts) → (rest : List ℕ) × (file_of p ≡ headers_of (length p.text) (length p.statics) ++ rest)
+file_rest : (p : Parts) → (rest : List ℕ) × (file_of p ≡ headers_of (length p.text) (length p.statics) p.stack ++ rest)
 unfolding file_of
 file_rest p =
     let n = length p.text in
-    let h = headers_of n (length p.statics) in
+    let h = headers_of n (length p.statics) p.stack in
     let a = zeros (0x1000 - 148) in
     let b = zeros (data_start n - (0x11000 + n)) in (
       a ++ (p.text ++ (b ++ p.statics)),
@@ -110,8 +110,8 @@ may_write false false false f g = refl
 data_not_text : (p : Parts) (a : ℕ) → is_text p a ≡ true → is_data p a ≡ false
 data_not_text p a h = let lt = within_high 0x11000 (length p.text) a h in below (data_start (length p.text)) (length p.statics) a (omega arith)
 
-stack_not_text : (p : Parts) (a : ℕ) → length p.text ≤ 117440512 → is_text p a ≡ true → is_stack a ≡ false
-stack_not_text p a f h = let lt = within_high 0x11000 (length p.text) a h in below 0x7FF00000 0x100000 a (omega arith)
+stack_not_text : (p : Parts) (a : ℕ) → length p.text ≤ 117440512 → p.stack ≤ 16777216 → is_text p a ≡ true → is_stack p a ≡ false
+stack_not_text p a f t h = let lt = within_high 0x11000 (length p.text) a h in below (stack_start p.stack) p.stack a (omega arith)
 
 -- the byte at a, by where a lies
 chosen : (x y z : Bool) (p q r p' q' : ℕ) → (x ≡ true → p ≡ p') → (y ≡ true → q ≡ q') → r ≡ 0 → (if x then p else if y then q else if z then r else 0) ≡ (if x then p' else if y then q' else 0)
@@ -135,50 +135,50 @@ data_at p a f h =
     let lt : a - s < length p.statics = omega arith in
     rw (lt_true (a - s) (length p.statics) lt) (data_byte p (a - s) f)
 
-nothing_at : (p : Parts) (a : ℕ) → byte_of (file_of p) stack_load a ≡ 0
-nothing_at p a = let e : ltb (a - 0x7FF00000) 0 ≡ false = grind (arith, nat_tests) in rw e refl
+nothing_at : (p : Parts) (a : ℕ) → byte_of (file_of p) (stack_load p.stack) a ≡ 0
+nothing_at p a = let e : ltb (a - stack_start p.stack) 0 ≡ false = grind (arith, nat_tests) in rw e refl
 
 three : Parts → List LoadHeader
-three p = text_load (length p.text) ∷ data_load (length p.text) (length p.statics) ∷ stack_load ∷ []
+three p = text_load (length p.text) ∷ data_load (length p.text) (length p.statics) ∷ stack_load p.stack ∷ []
 
-same_loads : (p : Parts) → length p.text + length p.statics ≤ 117440512 → loads (file_of p) ≡ three p
+same_loads : (p : Parts) → length p.text + length p.statics ≤ 117440512 → p.stack ≤ 16777216 → loads (file_of p) ≡ three p
 unfolding three
-same_loads p h =
+same_loads p h t =
     let r = file_rest p in
-    ap loads r.1 ∙ loads_again (length p.text) (length p.statics) r.0 h
+    ap loads r.1 ∙ loads_again (length p.text) (length p.statics) p.stack r.0 h t
 
-written_space : (p : Parts) → length p.text + length p.statics ≤ 117440512 → image_space (file_of p) ≡ program_space p
+written_space : (p : Parts) → length p.text + length p.statics ≤ 117440512 → p.stack ≤ 16777216 → image_space (file_of p) ≡ program_space p
 unfolding program_space three
-written_space p h =
+written_space p h t =
     let f = file_of p in
     let fits : length p.text ≤ 117440512 = omega arith in
-    let e = same_loads p h in
+    let e = same_loads p h t in
     let bytes : (a : ℕ) → said (byte_of f) 0 (loads f) a ≡ (if is_text p a then slice_index p.text (a - 0x11000) else if is_data p a then slice_index p.statics (a - data_start (length p.text)) else 0) =
-    λ a. ap (λ ls. said (byte_of f) 0 ls a) e ∙ chosen (is_text p a) (is_data p a) (is_stack a) _ _ _ _ _ (text_at p a) (data_at p a fits) (nothing_at p a) in
-    let reads : (a : ℕ) → said (λ l a. eqb (l.flags / 4 % 2) 1) false (loads f) a ≡ (is_data p a || is_stack a) =
-    λ a. ap (λ ls. said (λ l a. eqb (l.flags / 4 % 2) 1) false ls a) e ∙ may_write (is_text p a) (is_data p a) (is_stack a) (data_not_text p a) (stack_not_text p a fits) in
-    let writes : (a : ℕ) → said (λ l a. eqb (l.flags / 2 % 2) 1) false (loads f) a ≡ (is_data p a || is_stack a) =
-    λ a. ap (λ ls. said (λ l a. eqb (l.flags / 2 % 2) 1) false ls a) e ∙ may_write (is_text p a) (is_data p a) (is_stack a) (data_not_text p a) (stack_not_text p a fits) in
+    λ a. ap (λ ls. said (byte_of f) 0 ls a) e ∙ chosen (is_text p a) (is_data p a) (is_stack p a) _ _ _ _ _ (text_at p a) (data_at p a fits) (nothing_at p a) in
+    let reads : (a : ℕ) → said (λ l a. eqb (l.flags / 4 % 2) 1) false (loads f) a ≡ (is_data p a || is_stack p a) =
+    λ a. ap (λ ls. said (λ l a. eqb (l.flags / 4 % 2) 1) false ls a) e ∙ may_write (is_text p a) (is_data p a) (is_stack p a) (data_not_text p a) (stack_not_text p a fits t) in
+    let writes : (a : ℕ) → said (λ l a. eqb (l.flags / 2 % 2) 1) false (loads f) a ≡ (is_data p a || is_stack p a) =
+    λ a. ap (λ ls. said (λ l a. eqb (l.flags / 2 % 2) 1) false ls a) e ∙ may_write (is_text p a) (is_data p a) (is_stack p a) (data_not_text p a) (stack_not_text p a fits t) in
     let runs : (a : ℕ) → said (λ l a. eqb (l.flags % 2) 1) false (loads f) a ≡ is_text p a =
-    λ a. ap (λ ls. said (λ l a. eqb (l.flags % 2) 1) false ls a) e ∙ may_execute (is_text p a) (is_data p a) (is_stack a) in
+    λ a. ap (λ ls. said (λ l a. eqb (l.flags % 2) 1) false ls a) e ∙ may_execute (is_text p a) (is_data p a) (is_stack p a) in
     λ j. record { byte = λ b. bytes b j; can_read = λ b. reads b j; can_write = λ b. writes b j; can_execute = λ b. runs b j }
 
 written_entry : (p : Parts) → e_entry (file_of p) ≡ 0x11000
 written_entry p =
     let r = file_rest p in
-    ap (λ f. e_entry f) r.1 ∙ e_entry_again (length p.text) (length p.statics) r.0
+    ap (λ f. e_entry f) r.1 ∙ e_entry_again (length p.text) (length p.statics) p.stack r.0
 
-written_sound : (p : Parts) → length p.text + length p.statics ≤ 117440512 → fault_of (file_of p) ≡ None
-written_sound p h =
+written_sound : (p : Parts) → length p.text + length p.statics ≤ 117440512 → p.stack ≤ 16777216 → fault_of (file_of p) ≡ None
+written_sound p h t =
     let r = file_rest p in
-    let len : length (headers_of (length p.text) (length p.statics) ++ r.0) ≡ data_offset (length p.text) + (length p.statics) = ap length (sym r.1) ∙ length-file_of p (omega arith) in
-    ap (λ f. fault_of f) r.1 ∙ no_fault (length p.text) (length p.statics) r.0 h len
+    let len : length (headers_of (length p.text) (length p.statics) p.stack ++ r.0) ≡ data_offset (length p.text) + (length p.statics) = ap length (sym r.1) ∙ length-file_of p (omega arith) in
+    ap (λ f. fault_of f) r.1 ∙ no_fault (length p.text) (length p.statics) p.stack r.0 h t len
 
-pub written_image : (p : Parts) → length p.text + length p.statics ≤ 117440512 → file_image (file_of p) ≡ Ok (program_image p)
+pub written_image : (p : Parts) → length p.text + length p.statics ≤ 117440512 → p.stack ≤ 16777216 → file_image (file_of p) ≡ Ok (program_image p)
 unfolding file_image
-written_image p h =
-    ap (λ o. answer_of o (record { entry = e_entry (file_of p); space = image_space (file_of p) })) (written_sound p h)
-    ∙ ap (λ s. Ok (record { entry = e_entry (file_of p); space = s })) (written_space p h)
+written_image p h t =
+    ap (λ o. answer_of o (record { entry = e_entry (file_of p); space = image_space (file_of p) })) (written_sound p h t)
+    ∙ ap (λ s. Ok (record { entry = e_entry (file_of p); space = s })) (written_space p h t)
     ∙ ap (λ n. Ok (record { entry = n; space = program_space p })) (written_entry p)
 
 -- a file with an image has no fault

@@ -1,7 +1,8 @@
 -- What a contract sees of an image.
 use Rattle.std.specs.Prelude.{ℕ, List}
 
--- the segments of text and of data, whole
+-- the segments of text and of data, whole, and the bytes of the stack
 pub record Parts : Type 0 where
   pub text : List ℕ
   pub statics : List ℕ
+  pub stack : ℕ

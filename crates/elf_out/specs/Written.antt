@@ -2,7 +2,7 @@
 use Rattle.std.specs.Prelude.{ℕ, ◌+◌, ◌-◌, List, [], ◌∷◌, ◌++◌, length, replicate}
 use Rattle.std.specs.List.{flat_map}
 use Rattle.byteorder.specs.Endian.{little_bytes}
-use Rattle.memory_map.specs.MemoryMap.{text_start, data_start, text_offset, data_offset, stack_start, stack_size}
+use Rattle.memory_map.specs.MemoryMap.{text_start, data_start, text_offset, data_offset, stack_start}
 use Rattle.elf_out.specs.Layout.{Parts}
 
 -- numbers of two and of four bytes each
@@ -33,16 +33,16 @@ abbrev pub program_header : ℕ → ℕ → ℕ → ℕ → ℕ → List ℕ
 program_header offset address file_size memory_size flags =
     words (1 ∷ offset ∷ address ∷ address ∷ file_size ∷ memory_size ∷ flags ∷ 4096 ∷ [])
 
--- of n bytes of text and m of data; flags: 1 to execute, 2 to write, 4 to read
-unfoldable pub headers_of : ℕ → ℕ → List ℕ
-headers_of n m =
+-- of n bytes of text, m of data and s of stack; flags: 1 to execute, 2 to write, 4 to read
+unfoldable pub headers_of : ℕ → ℕ → ℕ → List ℕ
+headers_of n m s =
     elf_header
     ++ program_header text_offset text_start n n 1
     ++ program_header (data_offset n) (data_start n) m m 6
-    ++ program_header 0 stack_start 0 stack_size 6
+    ++ program_header 0 (stack_start s) 0 s 6
 
 -- the headers, 148 bytes; the text; the data, with which the file ends
 unfoldable pub file_of : Parts → List ℕ
 file_of p =
     let n = length p.text in
-    headers_of n (length p.statics) ++ zeros (text_offset - 148) ++ p.text ++ zeros (data_start n - (text_start + n)) ++ p.statics
+    headers_of n (length p.statics) p.stack ++ zeros (text_offset - 148) ++ p.text ++ zeros (data_start n - (text_start + n)) ++ p.statics

@@ -1,16 +1,18 @@
-//! A program's text and data.
+//! A program's text and data, and its stack.
 
 ghost use Rattle.std.specs.Prelude.{◌≡◌, ◌≤◌, ◌+◌, ◌↔◌, IsSome, IfSome, vec_len, length};
 ghost use Rattle.memory_map.specs.MemoryMap.{max_image};
 
+use crate::stack_size::StackSize;
 use memory_map::MAX_IMAGE;
 use std::marker::Model;
 
-/// The text and the data of a program, both segments whole, together at most 117,440,512 bytes.
+/// The text and the data of a program, both segments whole, together at most 117,440,512 bytes; and how many bytes its stack has.
 #[derive(Drop)]
 pub struct Image {
     text: Vec<u8>,
     statics: Vec<u8>,
+    stack: StackSize,
 }
 
 impl Model for Image {
@@ -20,7 +22,7 @@ impl Model for Image {
 
     ghost Value = { Parts };
 
-    ghost view = { λ i. record { text = i.text.items; statics = i.statics.items } };
+    ghost view = { λ i. record { text = i.text.items; statics = i.statics.items; stack = i.stack } };
 
     ghost invariant = { λ i. vec_len i.text + vec_len i.statics ≤ max_image };
 }
@@ -29,13 +31,17 @@ impl Image {
     /// The most bytes that both have together: with the largest stack, of 16,777,216, no more than a program may take.
     pub const MAX_BYTES: usize = MAX_IMAGE;
 
-    /// The image of both, or `None` where they have more than `MAX_BYTES` bytes.
-    pub fn new(text: Vec<u8>, statics: Vec<u8>) -> Option<Image>
+    /// The image of both, with this stack, or `None` where they have more than `MAX_BYTES` bytes.
+    pub fn new(text: Vec<u8>, statics: Vec<u8>, stack: StackSize) -> Option<Image>
         ensures some { IsSome result ↔ (vec_len text + vec_len statics ≤ max_image) }
-        ensures value { IfSome result (λ image. image ≡ record { text = text.items; statics = statics.items }) }
+        ensures value { IfSome result (λ image. image ≡ record { text = text.items; statics = statics.items; stack = stack }) }
     {
         if text.len() + statics.len() <= Image::MAX_BYTES {
-            Some(Image { text, statics })
+            Some(Image {
+                text,
+                statics,
+                stack,
+            })
         } else {
             None
         }
@@ -55,5 +61,12 @@ impl Image {
         ensures fits { length self.now.text + length self.now.statics ≤ max_image }
     {
         self.statics.as_slice()
+    }
+
+    /// The bytes of the stack.
+    pub fn stack(&self) -> StackSize
+        ensures { result ≡ self.now.stack }
+    {
+        self.stack
     }
 }

@@ -2,9 +2,11 @@
 #![tactic(auto)]
 
 mod image;
+mod stack_size;
 mod writer;
 
 pub use image::Image;
+pub use stack_size::StackSize;
 pub use writer::write_elf;
 
 #[cfg(test)]

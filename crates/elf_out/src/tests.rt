@@ -1,6 +1,6 @@
 //! Written files, against bytes written out by hand.
 
-use crate::{Image, write_elf};
+use crate::{Image, StackSize, write_elf};
 use loader::load;
 use std::alloc::Global;
 use std::test::Fail;
@@ -32,7 +32,7 @@ fn written(alloc: Global, text: &[u8], objects: &[u8]) -> Result<Vec<u8>, Fail> 
     let text = Vec::from_slice(alloc, text)?;
     let mut statics = Vec::from_slice(alloc, &[0; 16])?;
     statics.extend_from_slice(objects)?;
-    let image = Image::new(text, statics).ok_or("too large")?;
+    let image = Image::new(text, statics, StackSize::usual()).ok_or("too large")?;
     Ok(write_elf(alloc, &image)?)
 }
 
@@ -92,8 +92,39 @@ fn an_image_shows_its_parts(rt: HostRuntime) -> Result<(), Fail> {
     let alloc = rt.alloc();
     let text = Vec::from_slice(alloc, &TEXT)?;
     let statics = Vec::from_slice(alloc, b"abc")?;
-    let image = Image::new(text, statics).ok_or("too large")?;
+    let image = Image::new(text, statics, StackSize::usual()).ok_or("too large")?;
     assert_eq!(rt; image.text(), TEXT.as_slice());
     assert_eq!(rt; image.statics(), b"abc".as_slice());
+    assert_eq!(rt; image.stack().get(), 1_048_576);
+    Ok(())
+}
+
+#[test]
+fn sizes_of_stacks(rt: HostRuntime) -> Result<(), Fail> {
+    for bytes in [4096, 5 * 4096, 16_777_216] {
+        let size = StackSize::new(bytes).ok_or("a size")?;
+        assert_eq!(rt; size.get(), bytes);
+    }
+    for bytes in [0, 4095, 5000, 16_777_217, 16_781_312] {
+        assert_eq!(rt; StackSize::new(bytes), None);
+    }
+    Ok(())
+}
+
+#[test]
+fn the_header_of_the_least_stack(rt: HostRuntime) -> Result<(), Fail> {
+    let alloc = rt.alloc();
+    let text = Vec::from_slice(alloc, &TEXT)?;
+    let size = StackSize::new(4096).ok_or("a size")?;
+    let image = Image::new(text, Vec::new(alloc), size).ok_or("too large")?;
+    let file = write_elf(alloc, &image)?;
+    let want = [
+        1, 0, 0, 0, 0, 0, 0, 0, 0, 0xF0, 0xFF, 0x7F, 0, 0xF0, 0xFF, 0x7F, //
+        0, 0, 0, 0, 0, 0x10, 0, 0, 6, 0, 0, 0, 0, 0x10, 0, 0,
+    ];
+    assert_eq!(rt; &file[116..148], want.as_slice());
+    let memory = load(alloc, file.as_slice())?.into_memory();
+    assert_eq!(rt; memory.can_write(0x7FFF_F000), true);
+    assert_eq!(rt; memory.can_write(0x7FFF_EFFF), false);
     Ok(())
 }

@@ -13,9 +13,7 @@ ghost use Rattle.elf_out.specs.Program.{program_image};
 
 use crate::image::Image;
 use byteorder::{ByteOrder, LittleEndian};
-use memory_map::{
-    OFFSET_TO_ADDRESS, PAGE, STACK_SIZE, STACK_START, TEXT_OFFSET, TEXT_START, data_start,
-};
+use memory_map::{OFFSET_TO_ADDRESS, PAGE, STACK_END, TEXT_OFFSET, TEXT_START, data_start};
 use srcset::Fault;
 use std::alloc::{AllocError, Global};
 
@@ -54,20 +52,11 @@ struct Segment {
     flags: u32,
 }
 
-/// The stack, of which the file holds nothing.
-const STACK: Segment = Segment {
-    offset: 0,
-    address: STACK_START,
-    file_size: 0,
-    memory_size: STACK_SIZE,
-    flags: READ_AND_WRITE,
-};
-
 /// The ELF32 executable of an image.
 ///
 /// It has three segments: the text from 0x00011000 on, where the program begins, which may only be
 /// executed; the data, from the first multiple of 4096 not below the text's end on, which may be read and
-/// written; and the stack, from 0x7FF00000 to 0x80000000, which may be read and written and of which the
+/// written; and the stack, of as many bytes as the image says, which ends below 0x80000000, may be read and written, and of which the
 /// file holds nothing. The file ends with the last byte of the data. It is refused only for want of
 /// memory, with code 801.
 pub fn write_elf(alloc: Global, image: &Image) -> Result<Vec<u8>, Fault>
@@ -76,20 +65,22 @@ pub fn write_elf(alloc: Global, image: &Image) -> Result<Vec<u8>, Fault>
     ensures loads { IfOk result (λ file. (fault : LoadFault) → file_image file.items ≢ Err fault) }
     ensures memory { IfErr result IsMemoryFault }
 {
-    match file_bytes(alloc, image.text(), image.statics()) {
+    let stack = image.stack().get();
+    match file_bytes(alloc, image.text(), image.statics(), stack) {
         Ok(file) => Ok(file),
         Err(_) => Err(Fault::memory(alloc)),
     }
 }
 
-fn file_bytes(alloc: Global, text: &[u8], statics: &[u8]) -> Result<Vec<u8>, AllocError>
-    requires { length text.now + length statics.now ≤ max_image }
-    ensures { IfOk result (λ file. file.items ≡ file_of (record { text = text.now; statics = statics.now })) }
+fn file_bytes(alloc: Global, text: &[u8], statics: &[u8], stack: u32) -> Result<Vec<u8>, AllocError>
+    requires fits { length text.now + length statics.now ≤ max_image }
+    requires small { stack ≤ 16777216 }
+    ensures { IfOk result (λ file. file.items ≡ file_of (record { text = text.now; statics = statics.now; stack = stack })) }
 {
     let data_offset = (data_start(text.len() as u32) - OFFSET_TO_ADDRESS) as usize;
     let size = data_offset + statics.len();
     let mut file = Vec::with_capacity(alloc, size)?;
-    push_headers(&mut file, text.len() as u32, statics.len() as u32)?;
+    push_headers(&mut file, text.len() as u32, statics.len() as u32, stack)?;
     file.resize(TEXT_OFFSET as usize, 0)?;
     file.extend_from_slice(text)?;
     file.resize(data_offset, 0)?;
@@ -99,9 +90,15 @@ fn file_bytes(alloc: Global, text: &[u8], statics: &[u8]) -> Result<Vec<u8>, All
 
 /// The ELF header and the three program headers.
 #[tactic(auto, unfolding(crate::specs::Written::headers_of))]
-fn push_headers(file: &mut Vec<u8>, text_size: u32, statics_size: u32) -> Result<(), AllocError>
-    requires { text_size + statics_size ≤ max_image }
-    ensures { OnOk result (file.new.items ≡ file.old.items ++ headers_of text_size statics_size) }
+fn push_headers(
+    file: &mut Vec<u8>,
+    text_size: u32,
+    statics_size: u32,
+    stack: u32,
+) -> Result<(), AllocError>
+    requires fits { text_size + statics_size ≤ max_image }
+    requires small { stack ≤ 16777216 }
+    ensures { OnOk result (file.new.items ≡ file.old.items ++ headers_of text_size statics_size stack) }
 {
     let data_address = data_start(text_size);
     push_elf_header(file)?;
@@ -125,7 +122,16 @@ fn push_headers(file: &mut Vec<u8>, text_size: u32, statics_size: u32) -> Result
             flags: READ_AND_WRITE,
         },
     )?;
-    push_segment(file, &STACK)?;
+    push_segment(
+        file,
+        &Segment {
+            offset: 0,
+            address: STACK_END - stack,
+            file_size: 0,
+            memory_size: stack,
+            flags: READ_AND_WRITE,
+        },
+    )?;
     Ok(())
 }
 

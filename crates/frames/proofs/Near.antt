@@ -22,11 +22,11 @@ use Rattle.frames.proofs.Sound as sound
 rounded_up : (n : ℕ) → n ≤ (n + 15) / 16 * 16
 rounded_up n = omega arith
 
-in_call : (t r k b : ℕ) → (4 * t + (8 + (4 * k + (4 * r + b))) + 15) / 16 * 16 ≤ 2 ^ 20 → (4 * k ≤ 2 ^ 20) × (4 * r ≤ 2 ^ 20) × (b ≤ 2 ^ 20)
+in_call : (t r k b : ℕ) → (4 * t + (8 + (4 * k + (4 * r + b))) + 15) / 16 * 16 ≤ 2 ^ 24 → (4 * k ≤ 2 ^ 24) × (4 * r ≤ 2 ^ 24) × (b ≤ 2 ^ 24)
 in_call t r k b h = let all = rounded_up (4 * t + (8 + (4 * k + (4 * r + b)))) in (omega (arith, all, h), omega (arith, all, h), omega (arith, all, h))
 
 module _ (p : Program) (f : Function) (fits : tac_sound.FunctionFits p f) where
-  parts : (4 * f.kept ≤ 2 ^ 20) × (4 * array_parameters f.parameters ≤ 2 ^ 20) × (bytes_of_objects f.objects ≤ 2 ^ 20)
+  parts : (4 * f.kept ≤ 2 ^ 24) × (4 * array_parameters f.parameters ≤ 2 ^ 24) × (bytes_of_objects f.objects ≤ 2 ^ 24)
   parts = in_call (f.temporaries - 8) (array_parameters f.parameters) f.kept (bytes_of_objects f.objects) fits.small
 
   pub few_bytes : words_in f.objects + bytes_in f.objects < 2 ^ 32

@@ -45,7 +45,7 @@ some_bytes n h = omega arith
 rounded_up : (n : ℕ) → n ≤ (n + 15) / 16 * 16
 rounded_up n = omega arith
 
-words_in_call : (t w r k a b c : ℕ) → 4 * w + a ≡ b → (4 * t + (8 + (4 * k + (4 * r + b))) + 15) / 16 * 16 ≡ c → c ≤ 2 ^ 20 → 4 * (w + r) ≤ 2 ^ 20
+words_in_call : (t w r k a b c : ℕ) → 4 * w + a ≡ b → (4 * t + (8 + (4 * k + (4 * r + b))) + 15) / 16 * 16 ≡ c → c ≤ 2 ^ 24 → 4 * (w + r) ≤ 2 ^ 24
 words_in_call t w r k a b c e h l =
     omega (arith, rounded_up (4 * t + (8 + (4 * k + (4 * r + b)))))
 
@@ -80,11 +80,11 @@ scalars_are_words (t ∷ ts) (suc m) each =
     let one : words_of t ≡ 1 = one_word t.lengths t.element first.0 first.1 in
     omega (arith, one, scalars_are_words ts m (λ n lt. each (suc n) (omega (arith, lt))))
 
-pub few_words : (p : Program) (f : Function) → tac_sound.FunctionFits p f → 4 * (words_in f.objects + array_parameters f.parameters) ≤ 2 ^ 20
+pub few_words : (p : Program) (f : Function) → tac_sound.FunctionFits p f → 4 * (words_in f.objects + array_parameters f.parameters) ≤ 2 ^ 24
 few_words p f fits =
     words_in_call (f.temporaries - 8) (words_in f.objects) (array_parameters f.parameters) f.kept (bytes_in f.objects) (bytes_of_objects f.objects) (call_bytes f) (of_objects f.objects) refl fits.small
 
-pub few_parameters : (p : Program) (f : Function) → tac_sound.FunctionFits p f → 4 * length f.parameters ≤ 2 ^ 20
+pub few_parameters : (p : Program) (f : Function) → tac_sound.FunctionFits p f → 4 * length f.parameters ≤ 2 ^ 24
 few_parameters p f fits =
     let words : number_parameters f.parameters ≤ words_in f.objects = scalars_are_words f.objects (number_parameters f.parameters) fits.parameters in
     omega (arith, words, few_words p f fits, both_kinds f.parameters)
@@ -193,7 +193,7 @@ module _ (p : Program) (f : Function) (s : Starts) (fits : tac_sound.FunctionFit
 
   -- ---- the moves of the parameters
 
-  argument_by : (k : ℕ) (b : Bool) → nat_lt k 8 ≡ b → 4 * k ≤ 2 ^ 20 → flat_sound.OperandFits g (if b then source.Temporary k else source.Argument k)
+  argument_by : (k : ℕ) (b : Bool) → nat_lt k 8 ≡ b → 4 * k ≤ 2 ^ 24 → flat_sound.OperandFits g (if b then source.Temporary k else source.Argument k)
   argument_by k true e h = let lt : k < 8 = grind (arith, nat_tests) in omega (arith, lt)
   argument_by k false e h = let le : 8 ≤ k = grind (arith, nat_tests) in (le, omega (arith, le, h))
 
@@ -212,7 +212,7 @@ module _ (p : Program) (f : Function) (s : Starts) (fits : tac_sound.FunctionFit
 
   pub function_fits : flat_sound.FunctionFits (length p.functions) g
   function_fits = record {
-    small = subst (λ n. n ≤ 2 ^ 20) (sym (frame_is_call s f)) fits.small;
+    small = subst (λ n. n ≤ 2 ^ 24) (sym (frame_is_call s f)) fits.small;
     few = omega arith;
     all = omega arith;
     each = each_in_both (flat_sound.InstructionFits (length p.functions) g) (moves_from l 0 0 0 f.parameters) (map (translated s l) f.code)

@@ -10,9 +10,9 @@ use Rattle.frames_code.specs.declared.code.Instruction.{Instruction}
 use Rattle.frames_code.specs.declared.code.Instruction.TheVariants as instruction
 use Rattle.frames_code.specs.Code.{Function, Program, frame_bytes}
 
--- the most bytes of a frame, and of arguments from the ninth on
+-- the most bytes of a frame, and of arguments from the ninth on: what the greatest stack has
 abbrev pub most_bytes : ℕ
-most_bytes = 2 ^ 20
+most_bytes = 2 ^ 24
 
 abbrev pub OperandFits : Function → Operand → Type 0
 OperandFits f (operand.Temporary k) = k < 8 + f.outgoing

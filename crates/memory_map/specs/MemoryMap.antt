@@ -1,5 +1,5 @@
 -- Where the parts of a program lie in memory and in its file. A file offset of text or data is 0x10000 less than the address.
-use Rattle.std.specs.Prelude.{ℕ, ◌+◌, ◌*◌, ◌-◌, ◌/◌}
+use Rattle.std.specs.Prelude.{◌≡◌, ◌≤◌, ℕ, ◌+◌, ◌*◌, ◌-◌, ◌/◌, ◌%◌}
 
 abbrev pub text_start : ℕ
 text_start = 0x11000
@@ -21,14 +21,21 @@ data_offset n = data_start n - 0x10000
 abbrev pub data_guard : ℕ
 data_guard = 16
 
-abbrev pub stack_start : ℕ
-stack_start = 0x7FF00000
-
-abbrev pub stack_size : ℕ
-stack_size = 0x100000
-
+-- the first address past the stack
 abbrev pub stack_end : ℕ
 stack_end = 0x80000000
+
+-- how many bytes a stack may have: whole pages, of 4096 bytes to 16 MiB
+abbrev pub IsStackSize : ℕ → Type 0
+IsStackSize n = (n % page ≡ 0) × (page ≤ n) × (n ≤ 16777216)
+
+-- the address of a stack of n bytes
+abbrev pub stack_start : ℕ → ℕ
+stack_start n = stack_end - n
+
+-- the bytes of the stack that a program has where no other is asked for
+abbrev pub usual_stack : ℕ
+usual_stack = 0x100000
 
 -- the most bytes of memory that the segments of a file take together
 abbrev pub max_memory : ℕ

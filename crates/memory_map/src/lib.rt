@@ -16,14 +16,14 @@ pub const OFFSET_TO_ADDRESS: u32 = 0x1_0000;
 /// How many zero bytes the data segment begins with, so that no object has the segment's address.
 pub const DATA_GUARD: usize = 16;
 
-/// The address of the stack.
-pub const STACK_START: u32 = 0x7FF0_0000;
-
-/// How many bytes the stack has.
-pub const STACK_SIZE: u32 = 0x10_0000;
-
 /// The first address past the stack.
 pub const STACK_END: u32 = 0x8000_0000;
+
+/// How many bytes the stack has where no other number is asked for.
+pub const USUAL_STACK: u32 = 0x10_0000;
+
+/// The most bytes that a stack may have.
+pub const MAX_STACK: u32 = 16_777_216;
 
 /// A page, to which the segments are aligned.
 pub const PAGE: u32 = 4096;

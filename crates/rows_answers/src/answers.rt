@@ -25,11 +25,11 @@ pub fn parsed(alloc: Global, tokens: &[Token], names: &Names) -> Result<Unit, Fa
     parse(alloc, tokens, names)
 }
 
-/// The typed program of a tree. A fault is of a constraint that does not stand.
+/// The typed program of a tree, for a stack of 1,048,576 bytes. A fault is of a constraint that does not stand.
 pub fn checked(alloc: Global, unit: &Unit, names: &Names, whole: Pos) -> Result<Program, Fault>
-    ensures { IfErr result (λ fault. IsFaultOfVerdict fault names.now (typed.unit_typed names.now whole (unit_of unit.now))) }
+    ensures { IfErr result (λ fault. IsFaultOfVerdict fault names.now (typed.unit_typed 1048576 names.now whole (unit_of unit.now))) }
 {
-    check(alloc, unit, names, whole)
+    check(alloc, unit, names, whole, 1_048_576)
 }
 
 /// What a program comes to. It ends so where it does by the definition.

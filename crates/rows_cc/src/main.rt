@@ -2,7 +2,7 @@
 #![tactic(auto)]
 
 use anyhow::Result;
-use cc::{Cmd, compile, perform};
+use cc::{Cmd, StackSize, compile, perform};
 use meaning_ports::MemPort;
 use srcset::FileSet;
 use std::alloc::Global;
@@ -47,6 +47,7 @@ fn missing(alloc: Global) -> Result<String> {
         &mut port,
         &mut io::sink(),
         &mut line,
+        StackSize::usual(),
     );
     let line = String::from_utf8_lossy(alloc, line.as_slice())?;
     Ok(format!(in alloc; "{status} {}", line.trim_end())?)

@@ -7,7 +7,7 @@ ghost use Rattle.frames_code.specs.Sound.{IsSoundProgram};
 use crate::trace::Event;
 use anyhow::{Context, Result};
 use asm::assemble;
-use elf_out::{Image, write_elf};
+use elf_out::{Image, StackSize, write_elf};
 use frames_code::FlatProgram;
 use loader::load;
 use meaning_ports::{Port, PortFault};
@@ -54,7 +54,7 @@ pub fn build(alloc: Global, program: &FlatProgram) -> Result<Built> {
     let text = text_of(alloc, program)?;
     let size = text.len();
     let statics = Vec::from_slice(alloc, program.statics.as_slice())?;
-    let image = Image::new(text, statics).context("too large")?;
+    let image = Image::new(text, statics, StackSize::usual()).context("too large")?;
     let file = write_elf(alloc, &image)?;
     Ok(Built { file, text: size })
 }

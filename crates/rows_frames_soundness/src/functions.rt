@@ -12,7 +12,7 @@ use frames_code::{FlatProgram, Function};
 
 /// Whether its frame has at most the bytes that a frame may have.
 fn has_small_frame(function: &Function) -> bool
-    ensures few { OnTrue result (function.now.outgoing ≤ 1048576) }
+    ensures few { OnTrue result (function.now.outgoing ≤ 16777216) }
     ensures small { IsTrue result ↔ (flat.frame_bytes (function_of function.now) ≤ most_bytes) }
 {
     function.outgoing <= MOST_BYTES
@@ -23,7 +23,7 @@ fn has_small_frame(function: &Function) -> bool
 }
 
 fn has_sound_code(count: usize, function: &Function) -> bool
-    requires { function.now.outgoing ≤ 1048576 }
+    requires { function.now.outgoing ≤ 16777216 }
     ensures { IsTrue result ↔ CodeFits count (function_of function.now) (length function.now.code.items) }
 {
     let code = function.code.as_slice();

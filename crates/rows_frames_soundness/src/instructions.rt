@@ -7,10 +7,10 @@ ghost use Rattle.frames_code.specs.Sound.{OperandFits, TargetFits, LocationFits,
 use frames_code::{Function, Instruction, Location, Operand, Target};
 
 /// The most bytes of a frame, and of arguments from the ninth on.
-pub const MOST_BYTES: usize = 0x10_0000;
+pub const MOST_BYTES: usize = 0x100_0000;
 
 fn has_operand(function: &Function, operand: Operand) -> bool
-    requires { function.now.outgoing ≤ 1048576 }
+    requires { function.now.outgoing ≤ 16777216 }
     ensures { IsTrue result ↔ OperandFits (function_of function.now) operand }
 {
     match operand {
@@ -22,7 +22,7 @@ fn has_operand(function: &Function, operand: Operand) -> bool
 }
 
 fn has_target(function: &Function, target: Target) -> bool
-    requires { function.now.outgoing ≤ 1048576 }
+    requires { function.now.outgoing ≤ 16777216 }
     ensures { IsTrue result ↔ TargetFits (function_of function.now) target }
 {
     match target {
@@ -32,7 +32,7 @@ fn has_target(function: &Function, target: Target) -> bool
 }
 
 fn has_location(function: &Function, location: Location) -> bool
-    requires { function.now.outgoing ≤ 1048576 }
+    requires { function.now.outgoing ≤ 16777216 }
     ensures { IsTrue result ↔ LocationFits (function_of function.now) location }
 {
     match location {
@@ -44,7 +44,7 @@ fn has_location(function: &Function, location: Location) -> bool
 
 /// Whether an instruction of this function, in a program of so many, names what there is.
 pub fn has_all(count: usize, function: &Function, instruction: Instruction) -> bool
-    requires { function.now.outgoing ≤ 1048576 }
+    requires { function.now.outgoing ≤ 16777216 }
     ensures { IsTrue result ↔ InstructionFits count (function_of function.now) instruction }
 {
     match instruction {

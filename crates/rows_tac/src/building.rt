@@ -5,7 +5,7 @@ ghost use Rattle.std.specs.Prelude.{◌≡◌};
 use crate::trace::Event;
 use anyhow::{Context, Result};
 use asm::assemble;
-use elf_out::{Image, write_elf};
+use elf_out::{Image, StackSize, write_elf};
 use frames::flatten;
 use frames_code::FlatProgram;
 use frames_registers::renumber;
@@ -48,7 +48,7 @@ pub fn build(alloc: Global, program: &TacProgram) -> Result<Built> {
     let text = assemble(alloc, &items, TEXT_START)?;
     let size = text.len();
     let frame = main_frame(&flat);
-    let image = Image::new(text, flat.statics).context("too large")?;
+    let image = Image::new(text, flat.statics, StackSize::usual()).context("too large")?;
     let file = write_elf(alloc, &image)?;
     Ok(Built {
         file,

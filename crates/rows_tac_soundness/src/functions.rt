@@ -11,11 +11,11 @@ use crate::objects::{are_sized, objects_size};
 use tac_code::{Function, Parameter, TacProgram};
 
 /// The most bytes of the stack that a call takes.
-const MOST_STACK: usize = 0x10_0000;
+const MOST_STACK: usize = 0x100_0000;
 
 /// Whether a call takes at most the bytes of the stack that it may take.
 fn is_small(function: &Function) -> bool
-    ensures { IsTrue result ↔ (call_bytes (function_of function.now) ≤ 2 ^ 20) }
+    ensures { IsTrue result ↔ (call_bytes (function_of function.now) ≤ 2 ^ 24) }
 {
     let arrays = count_arrays(&function.parameters);
     let size = objects_size(&function.objects);

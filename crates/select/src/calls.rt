@@ -179,7 +179,7 @@ pub fn put_leave(items: &mut Vec<Item>, function: &Function, calls: bool) -> Res
 fn byte_home(function: &Function) -> u32
     requires { flat.frame_bytes (function_of function.now) ≤ most_bytes }
     ensures is { result ≡ selected.byte_home (function_of function.now) }
-    ensures small { result < 2 ^ 20 }
+    ensures small { result < 2 ^ 24 }
 {
     (4 * function.outgoing) as u32
 }

@@ -121,7 +121,7 @@ module _ (G : Ground) (s : State) (r b : ℕ → ℕ) (ready : Ready G) (m : Mat
       let f = fn G s r b ready m in
       let w = shown G (reference v.list v.offset) in
       let hx = operand_holds G ready s r start b m x (reference v.list v.offset) fit (reference_some (value s x) v e) in
-      fetches G.machine G.env G.data_at s.input s.trace Q (open_stack G s r b ready m) r b m.sp m.sp_is n 6 (omega arith) (omega arith) (source_of f x) w here mid r1 off hx.0 st (λ r2 only held.
+      fetches G.machine G.env G.data_at s.input s.trace Q m.sp (open_stack G s r b ready m) r b m.sp_is n 6 (omega arith) (omega arith) (source_of f x) w here mid r1 off hx.0 st (λ r2 only held.
       let sum : sum32 (reg r2 (register_of 6 (source_of f x))) 0 ≡ w = omega (arith, held, hx.1) in
       next_to r2 only sum)
 
@@ -186,7 +186,7 @@ module _ (G : Ground) (s : State) (r b : ℕ → ℕ) (ready : Ready G) (m : Mat
       let put = put_held x.bytes (start_of G v.list) x.first x.past b live.held w v.offset k small lies.low lies.high in
       let elsewhere : (j : ℕ) → (j < start_of G v.list + x.first) ⊎ (start_of G v.list + x.past ≤ j) → b2 j ≡ b j = λ j side.
       put_off w b a k j (⊎_elim (λ lt. inr (omega (arith, lt, lies.low))) (λ ge. inl (omega (arith, ge, lies.high))) side) in
-      fetches G.machine G.env G.data_at s.input s.trace Q (open_stack G s r b ready m) r b m.sp m.sp_is (reach_cost (fn G s r b ready m) l + 1) 5 (omega arith) (omega arith) y k start one.0 r (off_none 5 r) hy one.1 (λ r1 only1 held1.
+      fetches G.machine G.env G.data_at s.input s.trace Q m.sp (open_stack G s r b ready m) r b m.sp_is (reach_cost (fn G s r b ready m) l + 1) 5 (omega arith) (omega arith) y k start one.0 r (off_none 5 r) hy one.1 (λ r1 only1 held1.
       let off1 : Off 5 r r1 = off_only 5 r r1 only1 in
       reaches Q 1 l v fl ev r1 off1 one.0 two.0 two.1 (λ r2 only2 sum.
       let off2 : Off 5 r r2 = off_then 5 6 r r1 r2 (omega arith) (omega arith) off1 only2 in

@@ -46,7 +46,7 @@ module _ (G : Ground) (ready : Ready G) where
     writes = λ a lo hi. ready.data_written a (omega (arith, lo)) hi;
   }
 
-  frame_lives : (f : Function) (area : Bytes) (sp l : ℕ) (b : ℕ → ℕ) → G.sp - suc l ≡ sp → Within f sp → Holds area sp (area_home f) (area_home f + f.area) b → Lives G (suc l) (arrays f area) b
+  frame_lives : (f : Function) (area : Bytes) (sp l : ℕ) (b : ℕ → ℕ) → G.sp - suc l ≡ sp → Within G.floor f sp → Holds area sp (area_home f) (area_home f + f.area) b → Lives G (suc l) (arrays f area) b
   frame_lives f area sp l b e win held = record {
     top = omega (arith, e, win.top, frame_room f);
     aligned = omega (arith, e, win.aligned);
@@ -63,7 +63,7 @@ module _ (G : Ground) (ready : Ready G) where
       (λ t. let is : name_of G.program w ws ≡ l = grind (arith, nat_tests) in omega (arith, is))
       (λ t. let more : memory_among G.program ws l ≡ Some m = rw t at e in omega (arith, memory_low ws l m more))
 
-  waits_live : (ws : List Frame) (b s : ℕ → ℕ) (base ra l : ℕ) (m : Memory) → Waits G ws b s base ra → 0x7FF00000 ≤ base → memory_among G.program ws (suc l) ≡ Some m → Lives G (suc l) m b
+  waits_live : (ws : List Frame) (b s : ℕ → ℕ) (base ra l : ℕ) (m : Memory) → Waits G ws b s base ra → G.floor ≤ base → memory_among G.program ws (suc l) ≡ Some m → Lives G (suc l) m b
   waits_live [] b s base ra l m st low e = cc
   waits_live (w ∷ ws) b s base ra l m st low e =
       let f = function_at G.program w.function in
@@ -74,7 +74,7 @@ module _ (G : Ground) (ready : Ready G) where
       let now : Some (arrays f w.area) ≡ Some m = rw t at e in
       let same : arrays f w.area ≡ m = cc in
       let at : G.sp - suc l ≡ base = omega (arith, sum, is) in
-      let win : Within f base = record { low = low; top = omega (arith, sum, ready.top); aligned = st.1.aligned } in
+      let win : Within G.floor f base = record { low = low; top = omega (arith, sum, ready.top); aligned = st.1.aligned } in
       subst (λ x. Lives G (suc l) x b) same (frame_lives f w.area base l b at win st.1.area))
       (λ t.
       let more : memory_among G.program ws (suc l) ≡ Some m = rw t at e in

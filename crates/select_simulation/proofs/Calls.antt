@@ -41,7 +41,7 @@ calls_there (x ∷ code) (suc k) g e = or_true (is_call x) (calls code) (calls_t
 
 module _ (G : Ground) (ready : Ready G) where
   -- a frame has opened over the calls that wait
-  pub opened_matched : (g sp : ℕ) (temporaries arguments : Values) (waiting : List Frame) (statics : Bytes) (input : List ℕ) (trace : List Event) (r b r2 b2 : ℕ → ℕ) → Within (function_at G.program g) sp → Small (file_of r)
+  pub opened_matched : (g sp : ℕ) (temporaries arguments : Values) (waiting : List Frame) (statics : Bytes) (input : List ℕ) (trace : List Event) (r b r2 b2 : ℕ → ℕ) → Within G.floor (function_at G.program g) sp → Small (file_of r)
       → ((k : ℕ) (v : Value) → temporaries k ≡ Some v → (k < 8) × (shown G v < 2 ^ 32) × (r (10 + k) ≡ shown G v)) → ArgumentsShow G (function_at G.program g) arguments b sp → Holds statics G.data_at 0 (length G.program.statics) b
       → Waits G waiting b (file_of r) (sp + frame_bytes (function_at G.program g)) (r 1) → Opened (function_at G.program g) sp r b r2 b2
       → Matched G (record { frame = record { function = g; at = 0; cells = unset; area = unset }; temporaries = temporaries; arguments = arguments; waiting = waiting; statics = statics; input = input; trace = trace }) r2 (address G g 0) b2
@@ -97,7 +97,7 @@ module _ (G : Ground) (s : State) (r b : ℕ → ℕ) (ready : Ready G) (m : Mat
       let tall = frame_tall f in
       let sp = m.sp - frame_bytes f in
       let up : sp + frame_bytes f ≡ m.sp = omega (arith, room, sum) in
-      let win : Within f sp = record { low = omega (arith, room, sum); top = omega (arith, up, mine.top); aligned = omega (arith, up, mine.aligned, tall) } in
+      let win : Within G.floor f sp = record { low = omega (arith, room, sum); top = omega (arith, up, mine.top); aligned = omega (arith, up, mine.aligned, tall) } in
       let ra = st.0 in
       let here = ready.aligned s.frame.function s.frame.at (instruction.Call g) e in
       let small : ra < 2 ^ 32 = omega (arith, here.1, q.next_is) in
@@ -133,7 +133,7 @@ module _ (G : Ground) (s : State) (r b : ℕ → ℕ) (ready : Ready G) (m : Mat
       (old.1, omega (arith, there, lies.top), ap (word_at b) there ∙ held)) in
       comes_by G.machine Anything (suc (suc (opening_cost f))) (2 + opening_cost f) (Go r start b s.input s.trace) Q (omega arith)
       (on_call G.machine Anything Q (opening_cost f) r start b s.input s.trace tt (G.env g) ra (ready.entry_aligned g known) q tt
-      (enters G.machine G.env G.data_at s.input s.trace Q f sp win (open_stack G s r b ready m) m.sp (G.env g) (address G g 0) r1 b fit.all up (omega (arith, mine.top)) fit.small m.sp_is words small m.bytes (ready.entries g known) (λ r2 b2 o.
+      (enters G.machine G.env G.data_at s.input s.trace Q f sp win (record { reads = λ a lo hi. ready.stack_read a (omega (arith, lo, win.low)) hi; writes = λ a lo hi. ready.stack_written a (omega (arith, lo, win.low)) hi }) m.sp (G.env g) (address G g 0) r1 b fit.all up (omega (arith, mine.top)) fit.small m.sp_is words small m.bytes (ready.entries g known) (λ r2 b2 o.
       comes_now G.machine Anything 0 _ Q tt
       (opened_matched G ready g sp (below_eight s.temporaries) (from_eight s.temporaries) (w ∷ s.waiting) s.statics s.input s.trace r1 b r2 b2 win words ts xs m.statics waits1 o, refl, refl))))
 

@@ -110,13 +110,13 @@ module _ (F : Fixed) (env : ℕ → ℕ) (seg : ℕ) (i : List ℕ) (h : List Ev
   form_runs n register_op.RemUnsigned p x v here form ex e et c = cc
 
 -- r0 are the registers before the first operand was read, r those since
-module _ (F : Fixed) (env : ℕ → ℕ) (seg : ℕ) (i : List ℕ) (h : List Event) (Q : Light → Type 0) (stack : Open F) (r0 b : ℕ → ℕ) (sp : ℕ) (e2 : r0 2 ≡ sp) (rd : ℕ) (pos : 0 < rd) where
+module _ (F : Fixed) (env : ℕ → ℕ) (seg : ℕ) (i : List ℕ) (h : List Event) (Q : Light → Type 0) (sp : ℕ) (stack : Open F sp) (r0 b : ℕ → ℕ) (e2 : r0 2 ≡ sp) (rd : ℕ) (pos : 0 < rd) where
   -- the second operand in a register of its own
   apart : (n : ℕ) (o : Operation) (p x : ℕ) (y : Source) (w here mid : ℕ) (r : ℕ → ℕ) → x < 2 ^ 32 → w < 2 ^ 32 → Off 5 r0 r → reg r p ≡ x → p ≢ 6 → SourceHolds r0 b sp y w → Stands F.text env seg (fetch 6 y ++ operate o rd p (register_of 6 y)) here mid
       → ((r2 : ℕ → ℕ) → Off rd r0 r2 → r2 rd ≡ flat.operate o x w → Comes F Anything 0 n (Go r2 mid b i h) Q) → Comes F Anything 1 (fetch_cost y + suc (ending_cost o + n)) (Go r here b i h) Q
   apart n o p x y w here mid r hx hw off ex ne hy st next =
       let parts = stands_parts F.text env seg (fetch 6 y) (operate o rd p (register_of 6 y)) here mid st in
-      fetches F env seg i h Q stack r0 b sp e2 (suc (ending_cost o + n)) 6 (omega arith) (omega arith) y w here parts.0 r off hy parts.1 (λ r1 only held.
+      fetches F env seg i h Q sp stack r0 b e2 (suc (ending_cost o + n)) 6 (omega arith) (omega arith) y w here parts.0 r off hy parts.1 (λ r1 only held.
       let same : reg r1 p ≡ x = only_reg 6 p r r1 only ne ∙ ex in
       let off1 : Off 5 r0 r1 = off_then 5 6 r0 r r1 (omega arith) (omega arith) off only in
       operates F env seg i h Q r1 b rd pos n o p (register_of 6 y) x w parts.0 mid hx hw same held parts.2 (λ r2 only2 held2. next r2 (off_last rd r0 r1 r2 off1 only2) held2))

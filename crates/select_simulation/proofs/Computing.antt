@@ -52,8 +52,8 @@ module _ (G : Ground) (s : State) (r b : ℕ → ℕ) (ready : Ready G) (m : Mat
       let two = stands_parts G.machine.text G.env G.data_at (combine o rd (register_of 5 x) y) (keep hm) one.0 end one.2 in
       let count = second_cost o rd (register_of 5 x) y + suc (ending_cost o + keep_cost hm) in
       comes_by G.machine Anything (fetch_cost x + count) (compute_cost o hm x y) (Go r start b s.input s.trace) Q (omega arith)
-      (fetches G.machine G.env G.data_at s.input s.trace Q (open_stack G s r b ready m) r b m.sp m.sp_is count 5 (omega arith) (omega arith) x a start one.0 r (off_none 5 r) hx one.1 (λ r2 only2 held2.
-      combines G.machine G.env G.data_at s.input s.trace Q (open_stack G s r b ready m) r b m.sp m.sp_is rd pos (keep_cost hm) o (register_of 5 x) a y c one.0 two.0 r2 ha hc (off_only 5 r r2 only2) held2 (source_stays r b m.sp a x hx).0 hy two.1 (λ r3 off3 held.
+      (fetches G.machine G.env G.data_at s.input s.trace Q m.sp (open_stack G s r b ready m) r b m.sp_is count 5 (omega arith) (omega arith) x a start one.0 r (off_none 5 r) hx one.1 (λ r2 only2 held2.
+      combines G.machine G.env G.data_at s.input s.trace Q m.sp (open_stack G s r b ready m) r b m.sp_is rd pos (keep_cost hm) o (register_of 5 x) a y c one.0 two.0 r2 ha hc (off_only 5 r r2 only2) held2 (source_stays r b m.sp a x hx).0 hy two.1 (λ r3 off3 held.
       finishes G s r b ready m unset none_left d (word w) fit (result_small o a c ha hc) hm eh r3 off3 (reg_is r3 rd pos ∙ held) two.0 two.2)))
 
   does_compute : (o : Operation) (d : Target) (x y : Operand) → slice_get (fn G s r b ready m).code s.frame.at ≡ Some (instruction.Compute o d x y)

@@ -146,7 +146,7 @@ module _ (G : Ground) (s : State) (r b : ℕ → ℕ) (ready : Ready G) (m : Mat
       let two = stands_parts G.machine.text G.env G.data_at (fetch 6 y) (scale q size ++ (add ∷ keep hm)) one.0 end one.2 in
       let three = stands_parts G.machine.text G.env G.data_at (scale q size) (add ∷ keep hm) two.0 end two.2 in
       let last = three.2 in
-      fetches_two G.machine G.env G.data_at s.input s.trace Q (open_stack G s r b ready m) r b m.sp m.sp_is (scale_cost size + (1 + keep_cost hm)) x y a k start one.0 two.0 hx hy one.1 two.1 (λ r2 off e5 e6.
+      fetches_two G.machine G.env G.data_at s.input s.trace Q m.sp (open_stack G s r b ready m) r b m.sp_is (scale_cost size + (1 + keep_cost hm)) x y a k start one.0 two.0 hx hy one.1 two.1 (λ r2 off e5 e6.
       scales G.machine G.env G.data_at s.input s.trace Q r2 b (1 + keep_cost hm) q k size two.0 three.0 (second_free y k hy) sk ss e6 three.1 (λ r3 sc held.
       let stays = source_stays r b m.sp a x hx in
       let left : reg r3 p ≡ a = scaled_reg p r2 r3 sc stays.0 stays.1 ∙ e5 in

@@ -84,7 +84,7 @@ module _ (F : Fixed) (env : ℕ → ℕ) (seg : ℕ) (i : List ℕ) (h : List Ev
       (on_op F Anything Q n r1 two.0 b i h tt register_op.Add 2 2 7 two.2.1.0
       (subst (λ z. Comes F Anything a0 n (Go (with_reg r1 2 z) (two.0 + 4) b i h) Q) (sym is) c))))
 
-  module _ (f : Function) (sp : ℕ) (win : Within f sp) (stack : Open F) where
+  module _ (f : Function) (sp : ℕ) {floor : ℕ} (win : Within floor f sp) (stack : Open F sp) where
     pub saves_run : (r : ℕ → ℕ) → r 2 ≡ sp → Small (file_of r) → (b : ℕ → ℕ) → ((k : ℕ) → b k < 2 ^ 8) → (n : ℕ) → n ≤ f.cells → (k here e : ℕ) → Stands F.text env seg (saves f n) here e
         → ((r2 b2 : ℕ → ℕ) → Only 7 r r2 → Saved f sp r n b b2 → Comes F Anything 0 k (Go r2 e b2 i h) Q) → Comes F Anything 0 (saved_cost f n + k) (Go r here b i h) Q
     saves_run r e2 small b bytes zero le k here e st next =
@@ -184,7 +184,7 @@ module _ (F : Fixed) (env : ℕ → ℕ) (seg : ℕ) (i : List ℕ) (h : List Ev
         comes_by F Anything k (return_cost f + k) (Go r here b i h) Q (omega arith) (onward F env seg i h Q {a0 = 1} k here e r b nothing (next r (only_none 1 r) (sym is))))
 
     -- the entry of a function
-    pub enters : (base here e : ℕ) (r b : ℕ → ℕ) → f.resident ≤ f.cells → sp + frame_bytes f ≡ base → base ≤ 2 ^ 31 → frame_bytes f ≤ 2 ^ 20 → r 2 ≡ base → Small (file_of r) → r 1 < 2 ^ 32 → ((k : ℕ) → b k < 2 ^ 8) → Stands F.text env seg (entry f) here e
+    pub enters : (base here e : ℕ) (r b : ℕ → ℕ) → f.resident ≤ f.cells → sp + frame_bytes f ≡ base → base ≤ 2 ^ 31 → frame_bytes f ≤ 2 ^ 24 → r 2 ≡ base → Small (file_of r) → r 1 < 2 ^ 32 → ((k : ℕ) → b k < 2 ^ 8) → Stands F.text env seg (entry f) here e
         → ((r2 b2 : ℕ → ℕ) → Opened f sp r b r2 b2 → Comes F Anything 0 0 (Go r2 e b2 i h) Q) → Comes F Anything 1 (opening_cost f) (Go r here b i h) Q
     enters base here e r b all up top short e2 small ra bytes st next =
         let by = 2 ^ 32 - frame_bytes f in

@@ -85,7 +85,7 @@ module _ (G : Ground) (s : State) (r b : ℕ → ℕ) (ready : Ready G) (m : Mat
   none_left : (k : ℕ) (v : Value) → unset k ≡ Some v → s.arguments k ≡ Some v
   none_left k v e = cc
 
-  byte_low : (0x7FF00000 ≤ byte_at) × (byte_at < 2 ^ 31)
+  byte_low : (G.floor ≤ byte_at) × (byte_at < 2 ^ 31)
   byte_low =
       let win = within G ready s r start b m in
       let room = frame_room (fn G s r b ready m) in

@@ -16,9 +16,9 @@ some_fits p sound k (Some g) e = rw e (sound.each k g e)
 pub function_fits : (p : Program) → IsSoundProgram p → (k : ℕ) → FunctionFits (length p.functions) (function_at p k)
 function_fits p sound k = some_fits p sound k (slice_get p.functions k) refl
 
--- a frame on the stack
-pub record Within (f : Function) (sp : ℕ) : Type 0 where
-  pub low : 0x7FF00000 ≤ sp
+-- a frame on the stack, which begins at the address floor
+pub record Within (floor : ℕ) (f : Function) (sp : ℕ) : Type 0 where
+  pub low : floor ≤ sp
   pub top : sp + frame_bytes f ≤ 2 ^ 31
   pub aligned : sp % 16 ≡ 0
 
@@ -29,18 +29,18 @@ frame_room f = omega arith
 pub frame_tall : (f : Function) → frame_bytes f % 16 ≡ 0
 frame_tall f = omega arith
 
-module _ (f : Function) (sp : ℕ) (win : Within f sp) where
+module _ {floor : ℕ} (f : Function) (sp : ℕ) (win : Within floor f sp) where
   pub cell_lies : (c : ℕ) → c < f.cells → Lies sp (cell_home f c)
-  cell_lies c lt = record { low = win.low; top = omega (arith, win.top, frame_room f, lt); aligned = omega (arith, win.aligned); even = omega arith }
+  cell_lies c lt = record { top = omega (arith, win.top, frame_room f, lt); aligned = omega (arith, win.aligned); even = omega arith }
 
   pub temporary_lies : (k : ℕ) → 8 ≤ k → k < 8 + f.outgoing → Lies sp (4 * (k - 8))
-  temporary_lies k ge lt = record { low = win.low; top = omega (arith, win.top, frame_room f, ge, lt); aligned = omega (arith, win.aligned); even = omega arith }
+  temporary_lies k ge lt = record { top = omega (arith, win.top, frame_room f, ge, lt); aligned = omega (arith, win.aligned); even = omega arith }
 
   pub return_lies : Lies sp (return_home f)
-  return_lies = record { low = win.low; top = omega (arith, win.top, frame_room f); aligned = omega (arith, win.aligned); even = omega (arith, frame_tall f, frame_room f) }
+  return_lies = record { top = omega (arith, win.top, frame_room f); aligned = omega (arith, win.aligned); even = omega (arith, frame_tall f, frame_room f) }
 
   pub argument_lies : (k : ℕ) → sp + (frame_bytes f + 4 * (k - 8)) + 4 ≤ 2 ^ 31 → Lies sp (frame_bytes f + 4 * (k - 8))
-  argument_lies k top = record { low = win.low; top = top; aligned = omega (arith, win.aligned); even = omega (arith, frame_tall f) }
+  argument_lies k top = record { top = top; aligned = omega (arith, win.aligned); even = omega (arith, frame_tall f) }
 
 -- words at different offsets, which are multiples of 4
 pub words_apart : (sp x y : ℕ) → x % 4 ≡ 0 → y % 4 ≡ 0 → y ≢ x → (sp + x + 4 ≤ sp + y) ⊎ (sp + y + 4 ≤ sp + x)

@@ -83,8 +83,11 @@ module _ (G : Ground) (s : State) (r b : ℕ → ℕ) (ready : Ready G) (m : Mat
   abbrev pub fn : Function
   fn = function_at G.program s.frame.function
 
-  pub open_stack : Open G.machine
-  open_stack = record { reads = ready.stack_read; writes = ready.stack_written }
+  pub open_stack : Open G.machine m.sp
+  open_stack = record {
+    reads = λ a lo hi. ready.stack_read a (omega (arith, lo, m.low)) hi;
+    writes = λ a lo hi. ready.stack_written a (omega (arith, lo, m.low)) hi;
+  }
 
   pub fits : (x : Instruction) → slice_get fn.code s.frame.at ≡ Some x → InstructionFits (length G.program.functions) fn x
   fits x e = (function_fits G.program ready.sound s.frame.function).each s.frame.at x e
@@ -174,7 +177,7 @@ module _ (G : Ground) (s : State) (r b : ℕ → ℕ) (ready : Ready G) (m : Mat
       let Q : Light → Type 0 = Matches G (running (if compare_of t a c then goes_to s to else next s)) in
       let hx = operand_holds G ready s r here b m x (word a) fit.0 (word_some (value s x) a ea) in
       let hy = operand_holds G ready s r here b m y (word c) fit.1 (word_some (value s y) c ec) in
-      fetches_two G.machine G.env G.data_at s.input s.trace Q open_stack r b m.sp m.sp_is 2 xs ys a c here one.0 two.0 hx.0 hy.0 one.1 two.1 (λ r2 off ha hc.
+      fetches_two G.machine G.env G.data_at s.input s.trace Q m.sp open_stack r b m.sp_is 2 xs ys a c here one.0 two.0 hx.0 hy.0 one.1 two.1 (λ r2 off ha hc.
       let is : compare_of t (reg r2 (register_of 5 xs)) (reg r2 (register_of 6 ys)) ≡ compare_of t a c = rw (ha, hc) refl in
       on_either_branch G.machine Anything Q 0 r2 two.0 b s.input s.trace tt t (register_of 5 xs) (register_of 6 ys) (address G s.frame.function to) two.2.0 (compare_of t a c) al2 (there_aligned to fit.2) is two.2.1 tt
       (comes_now G.machine Anything 0 _ Q tt (either_way (compare_of t a c) to two.2.0 r2 off two.2.2)))))
@@ -187,14 +190,14 @@ module _ (G : Ground) (s : State) (r b : ℕ → ℕ) (ready : Ready G) (m : Mat
       let Q : Light → Type 0 = Matches G (running (set d v (then_at arguments))) in
       let above : 8 ≤ q = home_register G ready s r here b m d q eh in
       comes_by G.machine Anything (into_cost o + 0) (into_cost o) (Go r here b s.input s.trace) Q (omega arith)
-      (intos G.machine G.env G.data_at s.input s.trace Q open_stack r b m.sp m.sp_is {a0 = 0} 0 q (omega (arith, above)) (λ x. omega (arith, x, above)) o (shown G v) here last holds small st (λ r2 only held.
+      (intos G.machine G.env G.data_at s.input s.trace Q m.sp open_stack r b m.sp_is {a0 = 0} 0 q (omega (arith, above)) (λ x. omega (arith, x, above)) o (shown G v) here last holds small st (λ r2 only held.
       comes_now G.machine Anything 0 _ Q tt
       (set_register G ready s r here b m (s.frame.at + 1) last arguments sub v small refl r2 d q eh fit (off_only q r r2 only) held, set_input d v (then_at arguments), set_trace d v (then_at arguments))))
   moves_at arguments sub d v o fit small holds (home.Frame p) eh st =
       let Q : Light → Type 0 = Matches G (running (set d v (then_at arguments))) in
       let parts = stands_parts G.machine.text G.env G.data_at (fetch 5 o) (store_word (register_of 5 o) p) here last st in
       comes_by G.machine Anything (fetch_cost o + (word_cost p + 0)) (fetch_cost o + word_cost p) (Go r here b s.input s.trace) Q (omega arith)
-      (fetches G.machine G.env G.data_at s.input s.trace Q open_stack r b m.sp m.sp_is (word_cost p + 0) 5 (omega arith) (omega arith) o (shown G v) here parts.0 r (off_none 5 r) holds parts.1 (λ r2 only held.
+      (fetches G.machine G.env G.data_at s.input s.trace Q m.sp open_stack r b m.sp_is (word_cost p + 0) 5 (omega arith) (omega arith) o (shown G v) here parts.0 r (off_none 5 r) holds parts.1 (λ r2 only held.
       let off : Off 5 r r2 = off_only 5 r r2 only in
       let sp2 : r2 2 ≡ m.sp = off_sp 5 r r2 off (λ x. omega (arith, x)) ∙ m.sp_is in
       stores_word G.machine G.env G.data_at s.input s.trace Q {a0 = 0} 0 (register_of 5 o) p m.sp (shown G v) parts.0 last r2 b open_stack (source_stays r b m.sp (shown G v) o holds).1 sp2 (home_lies G ready s r here b m d p eh fit) held parts.2 (λ r3 only3.
@@ -249,7 +252,7 @@ module _ (G : Ground) (s : State) (r b : ℕ → ℕ) (ready : Ready G) (m : Mat
       let pos : 0 < rd = omega (arith, above) in
       let one = stands_parts G.machine.text G.env G.data_at (fetch 5 o) (narrow c rd (register_of 5 o) ++ keep hm) here last st in
       let two = stands_parts G.machine.text G.env G.data_at (narrow c rd (register_of 5 o)) (keep hm) one.0 last one.2 in
-      fetches G.machine G.env G.data_at s.input s.trace Q open_stack r b m.sp m.sp_is (narrow_cost c + keep_cost hm) 5 (omega arith) (omega arith) o a here one.0 r (off_none 5 r) holds one.1 (λ r2 only held.
+      fetches G.machine G.env G.data_at s.input s.trace Q m.sp open_stack r b m.sp_is (narrow_cost c + keep_cost hm) 5 (omega arith) (omega arith) o a here one.0 r (off_none 5 r) holds one.1 (λ r2 only held.
       narrows G.machine G.env G.data_at s.input s.trace Q r2 b rd pos {a0 = 0} (keep_cost hm) c (register_of 5 o) a one.0 two.0 held two.1 (λ r3 only3 held3.
       finishes unset none_left d (word w) fit (converted_small c a) hm eh r3 (off_last rd r r2 r3 (off_only 5 r r2 only) only3) (reg_is r3 rd pos ∙ held3) two.0 two.2))
 

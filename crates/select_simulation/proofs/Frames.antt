@@ -29,7 +29,7 @@ module _ (G : Ground) (ready : Ready G) (s : State) (r : ℕ → ℕ) (at : ℕ)
   pub sum_is : m.sp + frame_bytes the + bytes_of G.program s.waiting ≡ G.sp
   sum_is = waits_sum G s.waiting b _ (m.sp + frame_bytes the) _ m.waits
 
-  pub within : Within the m.sp
+  pub within : Within G.floor the m.sp
   within = record { low = m.low; top = omega (arith, sum_is, ready.top); aligned = m.frame.aligned }
 
   -- the frame, its instruction, cells and temporaries, and arguments that were there

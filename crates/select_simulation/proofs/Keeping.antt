@@ -68,12 +68,12 @@ record Both (p : Program) (env : ℕ → ℕ) (s t : State) (x y : machine.Progr
   pub stands : StandsWith p env s before
   pub after : Behind t before y back
 
-module _ (P : Permits) (low : (a : ℕ) → P.can_execute a ≡ true → a < 2 ^ 31) (apart : (a : ℕ) → P.can_execute a ≡ true → P.can_write a ≡ false) (p : Program) (env : ℕ → ℕ) (data_at base e : ℕ) (r b : ℕ → ℕ) (list input : List ℕ) (q : Laid p (fixed P b) env data_at base e r b) (shows : Registers list r) where
+module _ (P : Permits) (low : (a : ℕ) → P.can_execute a ≡ true → a < 2 ^ 31) (apart : (a : ℕ) → P.can_execute a ≡ true → P.can_write a ≡ false) (p : Program) (env : ℕ → ℕ) (floor data_at base e : ℕ) (r b : ℕ → ℕ) (list input : List ℕ) (q : Laid p (fixed P b) env floor data_at base e r b) (shows : Registers list r) where
   abbrev F : Fixed
   F = fixed P b
 
   abbrev G : Ground
-  G = ground_at p F env data_at base r b
+  G = ground_at p F env floor data_at base r b
 
   abbrev begin : Light
   begin = Go r base b input []
@@ -92,7 +92,7 @@ module _ (P : Permits) (low : (a : ℕ) → P.can_execute a ≡ true → a < 2 ^
   from_call k f n s t (Go r1 at b1 i h) em w bytes es over et same rooms within =
       let here = address G s.frame.function s.frame.at in
       let back = address G s.frame.function (s.frame.at + 1) in
-      let ready = is_ready p F env data_at base e r b q in
+      let ready = is_ready p F env floor data_at base e r b q in
       let m1 = subst (λ x. Matched G s r1 x b1) w.0.at_is w.0 in
       let c = each_call_keeps G s t f n r1 b1 ready m1 bytes es over et same rooms within in
       let there : Go r1 at b1 i h ≡ Go r1 here b1 s.input s.trace = ap (λ x. Go r1 x b1 i h) w.0.at_is ∙ (ap (λ x. Go r1 here b1 x h) w.1 ∙ ap (Go r1 here b1 s.input) w.2) in
@@ -114,12 +114,12 @@ module _ (P : Permits) (low : (a : ℕ) → P.can_execute a ≡ true → a < 2 ^
   from_call k f n s t (Fell h) em w bytes es over et same rooms within = absurd w
 
 pub calls_keep : MachineCallsKeep
-calls_keep P low apart p env data_at base e r b list input q shows bytes n m f s t over es later et same rooms inner within =
+calls_keep P low apart p env floor data_at base e r b list input q shows bytes n m f s t over es later et same rooms inner within =
     let F = fixed P b in
-    let G = ground_at p F env data_at base r b in
-    let c = comes_to p F env data_at base e r b input q bytes n rooms in
+    let G = ground_at p F env floor data_at base r b in
+    let c = comes_to p F env floor data_at base e r b input q bytes n rooms in
     let m1 = light_run F c.j (Go r base b input []) in
     let left : AreBytes s.input = subst (Kept BytesLeft) over (run_keeps BytesLeft p bytes_last n (start p input) bytes) in
-    let z = from_call P low apart p env data_at base e r b list input q shows c.j f m s t m1 refl (subst (λ x. Matches G x m1) over c.good) left es later et same inner within in
+    let z = from_call P low apart p env floor data_at base e r b list input q shows c.j f m s t m1 refl (subst (λ x. Matches G x m1) over c.good) left es later et same inner within in
     let more = times_more (slack p) (least_spent p n (start p input)) c.j n (progresses p n (start p input) s over) (omega (arith, c.some)) in
     (c.j, z.0, z.3.before, z.3.after.world, more, c.within, z.1, z.2, z.3.before_is, z.3.stands, z.3.after.is, z.3.after.back_from)

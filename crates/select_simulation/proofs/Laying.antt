@@ -139,7 +139,7 @@ module _ (p : Program) (T : ℕ → Option Instr) (env : ℕ → ℕ) (seg base 
   labelled (Some g) k eo m x ex = (stands_at k g eo).each m x ex
 
 pub is_ready : LaidIsReady
-is_ready p F env data_at base e r b q =
+is_ready p F env floor data_at base e r b q =
     let at = labelled p F.text env data_at base e q.aligned q.stands in
     let whole = stands_at p F.text env data_at base e q.aligned q.stands in
     let parts = stands_parts F.text env data_at (start_items p.main) (functions_items 0 (length p.functions) p.functions) base e q.stands in

@@ -26,17 +26,16 @@ use Rattle.select_simulation.specs.Costs.{far_cost, word_cost, set_cost, fetch_c
 use Rattle.select_simulation.specs.Laws.{Anything}
 use Rattle.select_simulation.proofs.Registers.{Only, Off, only_none, only_one, only_then, off_then, off_sp, off_only, off_none, only_reg, off_reg}
 
--- the stack may be read and written
-pub record Open (F : Fixed) : Type 0 where
-  pub reads : (a : ℕ) → 0x7FF00000 ≤ a → a < 2 ^ 31 → F.can_read a ≡ true
-  pub writes : (a : ℕ) → 0x7FF00000 ≤ a → a < 2 ^ 31 → F.can_write a ≡ true
+-- the stack may be read and written from here up
+pub record Open (F : Fixed) (sp : ℕ) : Type 0 where
+  pub reads : (a : ℕ) → sp ≤ a → a < 2 ^ 31 → F.can_read a ≡ true
+  pub writes : (a : ℕ) → sp ≤ a → a < 2 ^ 31 → F.can_write a ≡ true
 
-pub four_open : (p : ℕ → Bool) (a : ℕ) → ((k : ℕ) → 0x7FF00000 ≤ k → k < 2 ^ 31 → p k ≡ true) → 0x7FF00000 ≤ a → a + 4 ≤ 2 ^ 31 → all_four p a ≡ true
-four_open p a all lo hi = rw (all a lo (omega (arith, hi)), all (a + 1) (omega (arith, lo)) (omega (arith, hi)), all (a + 2) (omega (arith, lo)) (omega (arith, hi)), all (a + 3) (omega (arith, lo)) (omega (arith, hi))) refl
+pub four_open : (p : ℕ → Bool) (sp a : ℕ) → ((k : ℕ) → sp ≤ k → k < 2 ^ 31 → p k ≡ true) → sp ≤ a → a + 4 ≤ 2 ^ 31 → all_four p a ≡ true
+four_open p sp a all lo hi = rw (all a lo (omega (arith, hi)), all (a + 1) (omega (arith, lo)) (omega (arith, hi)), all (a + 2) (omega (arith, lo)) (omega (arith, hi)), all (a + 3) (omega (arith, lo)) (omega (arith, hi))) refl
 
 -- a word of the stack, so many bytes above the stack pointer
 pub record Lies (sp o : ℕ) : Type 0 where
-  pub low : 0x7FF00000 ≤ sp
   pub top : sp + o + 4 ≤ 2 ^ 31
   pub aligned : sp % 4 ≡ 0
   pub even : o % 4 ≡ 0
@@ -89,7 +88,7 @@ module _ (F : Fixed) (env : ℕ → ℕ) (seg : ℕ) (i : List ℕ) (h : List Ev
       (subst (λ z. Comes F Anything 1 n (Go (with_reg r1 x z) (here + 4 + 4) b i h) Q) (sym is) c))))
 
   -- a word of the frame into a register
-  pub loads_word : {a0 : ℕ} → (n rd o sp w here mid : ℕ) (r b : ℕ → ℕ) → Open F → 0 < rd → rd ≢ 2 → r 2 ≡ sp → Lies sp o → word_at b (sp + o) ≡ w → Stands F.text env seg (load_word rd o) here mid
+  pub loads_word : {a0 : ℕ} → (n rd o sp w here mid : ℕ) (r b : ℕ → ℕ) → Open F sp → 0 < rd → rd ≢ 2 → r 2 ≡ sp → Lies sp o → word_at b (sp + o) ≡ w → Stands F.text env seg (load_word rd o) here mid
       → ((r2 : ℕ → ℕ) → Only rd r r2 → r2 rd ≡ w → Comes F Anything a0 n (Go r2 mid b i h) Q) → Comes F Anything 1 (word_cost o + n) (Go r here b i h) Q
   loads_word {a0} n rd o sp w here mid r b stack pos ne e2 lies ew st next =
       let parts = stands_parts F.text env seg (far rd o) (item.Plain (instr.Load load_kind.Word rd (base_of rd o) (lower_of o)) ∷ []) here mid st in
@@ -98,12 +97,12 @@ module _ (F : Fixed) (env : ℕ → ℕ) (seg : ℕ) (i : List ℕ) (h : List Ev
       let r2 = with_reg r1 rd w in
       let there : parts.0 + 4 ≡ mid = sym parts.2.1.1 ∙ parts.2.2 in
       let aligned : (sp + o) % 4 ≡ 0 = omega (arith, lies.aligned, lies.even) in
-      let readable : all_four F.can_read (sp + o) ≡ true = four_open F.can_read (sp + o) stack.reads (omega (arith, lies.low)) (omega (arith, lies.top)) in
+      let readable : all_four F.can_read (sp + o) ≡ true = four_open F.can_read sp (sp + o) stack.reads (omega arith) (omega (arith, lies.top)) in
       on_load F Anything Q n r1 parts.0 b i h tt rd (base_of rd o) (lower_of o) (sp + o) w parts.2.1.0 sum aligned readable ew
       (onward {a0 = a0} n (parts.0 + 4) mid r2 b there (next r2 (only_then rd r r1 r2 only (only_one rd w r1)) (with_same r1 rd w pos)))))
 
   -- a register into a word of the frame; x7 is free
-  pub stores_word : {a0 : ℕ} → (n q o sp w here mid : ℕ) (r b : ℕ → ℕ) → Open F → q ≢ 7 → r 2 ≡ sp → Lies sp o → reg r q ≡ w → Stands F.text env seg (store_word q o) here mid
+  pub stores_word : {a0 : ℕ} → (n q o sp w here mid : ℕ) (r b : ℕ → ℕ) → Open F sp → q ≢ 7 → r 2 ≡ sp → Lies sp o → reg r q ≡ w → Stands F.text env seg (store_word q o) here mid
       → ((r2 : ℕ → ℕ) → Only 7 r r2 → Comes F Anything a0 n (Go r2 mid (with_word b (sp + o) w) i h) Q) → Comes F Anything 1 (word_cost o + n) (Go r here b i h) Q
   stores_word {a0} n q o sp w here mid r b stack ne e2 lies ew st next =
       let parts = stands_parts F.text env seg (far 7 o) (item.Plain (instr.Store store_kind.Word q (base_of 7 o) (lower_of o)) ∷ []) here mid st in
@@ -111,7 +110,7 @@ module _ (F : Fixed) (env : ℕ → ℕ) (seg : ℕ) (i : List ℕ) (h : List Ev
       (far_runs (suc n) 7 o sp here parts.0 r b (omega arith) (λ e. omega (arith, e)) e2 (omega (arith, lies.top)) parts.1 (λ r1 only sum.
       let there : parts.0 + 4 ≡ mid = sym parts.2.1.1 ∙ parts.2.2 in
       let aligned : (sp + o) % 4 ≡ 0 = omega (arith, lies.aligned, lies.even) in
-      let writable : all_four F.can_write (sp + o) ≡ true = four_open F.can_write (sp + o) stack.writes (omega (arith, lies.low)) (omega (arith, lies.top)) in
+      let writable : all_four F.can_write (sp + o) ≡ true = four_open F.can_write sp (sp + o) stack.writes (omega arith) (omega (arith, lies.top)) in
       let held : reg r1 q ≡ w = only_reg 7 q r r1 only ne ∙ ew in
       on_store F Anything Q n r1 parts.0 b i h tt q (base_of 7 o) (lower_of o) (sp + o) w parts.2.1.0 sum aligned writable held
       (onward {a0 = a0} n (parts.0 + 4) mid r1 (with_word b (sp + o) w) there (next r1 only))))
@@ -181,7 +180,7 @@ source_stays r b sp w (source.Register q) p = (p.2, p.3)
 source_stays r b sp w (source.Frame o) p = (λ e. omega (arith, e), λ e. omega (arith, e))
 source_stays r b sp w (source.Constant v) p = (λ e. omega (arith, e), λ e. omega (arith, e))
 
-module _ (F : Fixed) (env : ℕ → ℕ) (seg : ℕ) (i : List ℕ) (h : List Event) (Q : Light → Type 0) (stack : Open F) (r b : ℕ → ℕ) (sp : ℕ) (e2 : r 2 ≡ sp) where
+module _ (F : Fixed) (env : ℕ → ℕ) (seg : ℕ) (i : List ℕ) (h : List Event) (Q : Light → Type 0) (sp : ℕ) (stack : Open F sp) (r b : ℕ → ℕ) (e2 : r 2 ≡ sp) where
   -- an operand: r1 are the registers so far
   pub fetches : (n x : ℕ) → 5 ≤ x → x ≤ 6 → (o : Source) (w here mid : ℕ) (r1 : ℕ → ℕ) → Off 5 r r1 → SourceHolds r b sp o w → Stands F.text env seg (fetch x o) here mid
       → ((r2 : ℕ → ℕ) → Only x r1 r2 → reg r2 (register_of x o) ≡ w → Comes F Anything 1 n (Go r2 mid b i h) Q) → Comes F Anything 1 (fetch_cost o + n) (Go r1 here b i h) Q

@@ -34,21 +34,21 @@ last : (P : Permits) (status : ℕ) (trace : List Event) (m : Light) (x : machin
 last P status trace m x e f = subst (λ y. Follows P y x) e f
 
 pub goes_on : MachineGoesOn
-goes_on P low apart p env data_at base e r b list input q shows bytes n s over rooms =
+goes_on P low apart p env floor data_at base e r b list input q shows bytes n s over rooms =
     let F = fixed P b in
-    let G = ground_at p F env data_at base r b in
+    let G = ground_at p F env floor data_at base r b in
     let one = after_items F.text env data_at (program_items p) base e q.aligned q.stands in
-    let c = comes_to p F env data_at base e r b input q bytes n rooms in
+    let c = comes_to p F env floor data_at base e r b input q bytes n rooms in
     let real = real_follows P low apart list r base b input [] shows (omega (arith, one.on, q.low)) c.j in
     let x = machine.rvrun c.j (world P list base b input []) in
-    let w = shown P G s (light_run F c.j (Go r base b input [])) x (is_ready p F env data_at base e r b q) refl (subst (λ y. Matches G y (light_run F c.j (Go r base b input []))) over c.good) real in
+    let w = shown P G s (light_run F c.j (Go r base b input [])) x (is_ready p F env floor data_at base e r b q) refl (subst (λ y. Matches G y (light_run F c.j (Go r base b input []))) over c.good) real in
     (c.j, w.world, times_more (slack p) (least_spent p n (start p input)) c.j n (progresses p n (start p input) s over) (omega (arith, c.some)), c.within, w.is, w.stands)
 
 pub ends_so : MachineEnds
-ends_so P low apart p env data_at base e r b list input q shows bytes n status left trace over rooms =
+ends_so P low apart p env floor data_at base e r b list input q shows bytes n status left trace over rooms =
     let F = fixed P b in
     let one = after_items F.text env data_at (program_items p) base e q.aligned q.stands in
-    let c = ends p F env data_at base e r b input q bytes n status left trace over rooms in
+    let c = ends p F env floor data_at base e r b input q bytes n status left trace over rooms in
     let real = real_follows P low apart list r base b input [] shows (omega (arith, one.on, q.low)) c.j in
     let begin = world P list base b input [] in
     let w = last P status trace (light_run F c.j (Go r base b input [])) (machine.rvrun c.j begin) c.good real in

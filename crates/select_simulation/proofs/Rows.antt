@@ -149,7 +149,7 @@ functions_fit (suc (suc k)) f e = cc
 sound : IsSoundProgram program
 sound = record { has_main = omega arith; each = functions_fit; statics = omega arith; countable = omega arith }
 
-laid : Laid program F env 0x20000 69632 69716 none none
+laid : Laid program F env 0x7FF00000 0x20000 69632 69716 none none
 laid = record {
   sound = sound;
   stands = (69640, record { high = 2147483648; low = 0; first = refl; second = refl; value = refl; next_is = refl }, (69648, record { high = 16; low = 0; first = refl; second = refl; target = refl; next_is = refl }, (69652, (refl, refl), (69656, (refl, refl), (69656, (refl, refl), (69660, (refl, refl), (69664, (refl, refl), (69664, (refl, refl), (69668, (refl, refl), (69668, (refl, refl), (69676, record { high = 20; low = 0; first = refl; second = refl; target = refl; next_is = refl }, (69676, (refl, refl), (69680, (refl, refl), (69684, (refl, refl), (69688, (refl, refl), (69688, (refl, refl), (69688, (refl, refl), (69692, (refl, refl), (69696, (refl, refl), (69696, (refl, refl), (69700, (refl, refl), (69700, (refl, refl), (69704, (refl, refl), (69704, (refl, refl), (69708, (refl, refl), (69712, (refl, refl), (69716, (refl, refl), (69716, (refl, refl), refl))))))))))))))))))))))))))));
@@ -167,9 +167,9 @@ laid = record {
 }
 
 abbrev G : Ground
-G = ground_at program F env 0x20000 69632 none none
+G = ground_at program F env 0x7FF00000 0x20000 69632 none none
 
-rooms : (k : ℕ) → k ≤ 6 → HasRoom (ground_at program F env 0x20000 69632 none none) (run program k (start program []))
+rooms : (k : ℕ) → k ≤ 6 → HasRoom (ground_at program F env 0x7FF00000 0x20000 69632 none none) (run program k (start program []))
 unfolding step
 rooms zero le = omega arith
 rooms (suc zero) le = omega arith
@@ -177,7 +177,7 @@ rooms (suc (suc zero)) le = omega arith
 rooms (suc (suc (suc zero))) le = omega arith
 rooms (suc (suc (suc (suc zero)))) le = omega arith
 rooms (suc (suc (suc (suc (suc zero))))) le = omega arith
-rooms (suc (suc (suc (suc (suc (suc k)))))) le = let z : k ≡ 0 = omega (arith, le) in subst (λ n. HasRoom (ground_at program F env 0x20000 69632 none none) (run program (suc (suc (suc (suc (suc (suc n)))))) (start program []))) (sym z) tt
+rooms (suc (suc (suc (suc (suc (suc k)))))) le = let z : k ≡ 0 = omega (arith, le) in subst (λ n. HasRoom (ground_at program F env 0x7FF00000 0x20000 69632 none none) (run program (suc (suc (suc (suc (suc (suc n)))))) (start program []))) (sym z) tt
 
 over : run program 6 (start program []) ≡ ended 7 [] []
 unfolding step
@@ -186,7 +186,7 @@ over = refl
 -- the laws say that it ends with 7 ..
 by_the_laws : Comes F Anything 1 (6 + (1 + 4 + 1 + 1 + 3 + 3) + 2) (Go none 69632 none [] []) (λ m. m ≡ Done 7 [])
 unfolding step
-by_the_laws = ends program F env 0x20000 69632 69716 none none [] laid (λ k c e. cc) 6 7 [] [] over rooms
+by_the_laws = ends program F env 0x7FF00000 0x20000 69632 69716 none none [] laid (λ k c e. cc) 6 7 [] [] over rooms
 
 -- .. and so it does
 by_running : light_run F 21 (Go none 69632 none [] []) ≡ Done 7 []
@@ -240,4 +240,4 @@ stays_within (suc (suc k)) le = let z : k ≡ 0 = omega (arith, le) in subst (λ
 call_keeps : (r b : ℕ → ℕ) → Matched G at_call r (address G 0 1) b → Comes F Anything 1 (4 + (1 + 1) + 3) (Go r (address G 0 1) b [] []) (IsBack G r at_return (address G 0 2))
 unfolding step
 call_keeps r b m =
-    each_call_keeps G at_call at_return 1 2 r b (is_ready program F env 0x20000 69632 69716 none none laid) m (λ k c e. cc) refl comes_to_return refl refl inner_rooms stays_within
+    each_call_keeps G at_call at_return 1 2 r b (is_ready program F env 0x7FF00000 0x20000 69632 69716 none none laid) m (λ k c e. cc) refl comes_to_return refl refl inner_rooms stays_within

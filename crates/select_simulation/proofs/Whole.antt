@@ -40,7 +40,7 @@ entries G g temporaries arguments statics input trace r at b ready known q room 
     let tall = frame_tall f in
     let sp = G.sp - frame_bytes f in
     let up : sp + frame_bytes f ≡ G.sp = omega (arith, room) in
-    let win : Within f sp = record { low = omega (arith, room); top = omega (arith, up, ready.top); aligned = omega (arith, up, q.aligned, tall) } in
+    let win : Within G.floor f sp = record { low = omega (arith, room); top = omega (arith, up, ready.top); aligned = omega (arith, up, q.aligned, tall) } in
     let small : r 1 < 2 ^ 32 = omega (arith, q.ra_is, ready.return_small) in
     let waits : Waits G [] b (file_of r) (sp + frame_bytes f) (r 1) = (up, q.small, q.file_is, q.ra_is, λ k le. q.bytes_are k (omega (arith, le, up))) in
     let xs : ArgumentsShow G f arguments b sp = λ k v ek.
@@ -48,7 +48,7 @@ entries G g temporaries arguments statics input trace r at b ready known q room 
     let there : argument_at f sp k ≡ G.sp + 4 * (k - 8) = omega (arith, up) in
     (old.0, omega (arith, there, old.1), ap (word_at b) there ∙ old.2) in
     subst (λ x. Comes G.machine Anything 1 (opening_cost f) (Go r x b input trace) Q) (sym q.at_is)
-    (enters G.machine G.env G.data_at input trace Q f sp win (record { reads = ready.stack_read; writes = ready.stack_written }) G.sp (G.env g) (address G g 0) r b fit.all up ready.top fit.small q.sp_is q.small small q.bytes (ready.entries g known) (λ r2 b2 o.
+    (enters G.machine G.env G.data_at input trace Q f sp win (record { reads = λ a lo hi. ready.stack_read a (omega (arith, lo, win.low)) hi; writes = λ a lo hi. ready.stack_written a (omega (arith, lo, win.low)) hi }) G.sp (G.env g) (address G g 0) r b fit.all up ready.top fit.small q.sp_is q.small small q.bytes (ready.entries g known) (λ r2 b2 o.
     comes_now G.machine Anything 0 _ Q tt
     (opened_matched G ready g sp temporaries arguments [] statics input trace r b r2 b2 win q.small q.registers xs q.globals waits o, refl, refl)))
 
@@ -64,9 +64,9 @@ convention G f temporaries arguments statics input trace r at b ready known q by
     record { j = all.j; some = omega (arith, all.some); within = all.within; kept = all.kept; good = all.good }
 
 pub begins : BeginsFollow
-begins p F env data_at base e r b input q room =
-    let G = ground_at p F env data_at base r b in
-    let ready = is_ready p F env data_at base e r b q in
+begins p F env floor data_at base e r b input q room =
+    let G = ground_at p F env floor data_at base r b in
+    let ready = is_ready p F env floor data_at base e r b q in
     let Q : Light → Type 0 = Matches G (running (start p input)) in
     let st = q.stands in
     let c = st.1 in
@@ -108,17 +108,17 @@ exits G status left trace e st (Done x h) q = comes_now G.machine Anything 2 (Do
 exits G status left trace e st (Fell h) q = absurd q
 
 -- after n steps
-pub comes_to : (p : Program) (F : Fixed) (env : ℕ → ℕ) (data_at base e : ℕ) (r b : ℕ → ℕ) (input : List ℕ) → Laid p F env data_at base e r b → AreBytes input → (n : ℕ) → ((k : ℕ) → k ≤ n → HasRoom (ground_at p F env data_at base r b) (run p k (start p input)))
-    → Comes F Anything (1 + least_spent p n (start p input)) (most_start p + most_spent p n (start p input)) (Go r base b input []) (Matches (ground_at p F env data_at base r b) (run p n (start p input)))
-comes_to p F env data_at base e r b input q bytes n rooms =
-    let G = ground_at p F env data_at base r b in
+pub comes_to : (p : Program) (F : Fixed) (env : ℕ → ℕ) (floor data_at base e : ℕ) (r b : ℕ → ℕ) (input : List ℕ) → Laid p F env floor data_at base e r b → AreBytes input → (n : ℕ) → ((k : ℕ) → k ≤ n → HasRoom (ground_at p F env floor data_at base r b) (run p k (start p input)))
+    → Comes F Anything (1 + least_spent p n (start p input)) (most_start p + most_spent p n (start p input)) (Go r base b input []) (Matches (ground_at p F env floor data_at base r b) (run p n (start p input)))
+comes_to p F env floor data_at base e r b input q bytes n rooms =
+    let G = ground_at p F env floor data_at base r b in
     let s = start p input in
-    let one = begins p F env data_at base e r b input q (rooms 0 (omega arith)) in
-    comes_then F Anything (most_start p) (most_spent p n s) (Go r base b input []) (Matches G (running s)) (Matches G (run p n s)) one (λ m k. steps G (is_ready p F env data_at base e r b q) n s m k bytes rooms (λ j lt. unwatched G (omega arith) (omega arith) (run p j s)))
+    let one = begins p F env floor data_at base e r b input q (rooms 0 (omega arith)) in
+    comes_then F Anything (most_start p) (most_spent p n s) (Go r base b input []) (Matches G (running s)) (Matches G (run p n s)) one (λ m k. steps G (is_ready p F env floor data_at base e r b q) n s m k bytes rooms (λ j lt. unwatched G (omega arith) (omega arith) (run p j s)))
 
 pub ends : EndsFollow
-ends p F env data_at base e r b input q bytes n status left trace over rooms =
-    let G = ground_at p F env data_at base r b in
+ends p F env floor data_at base e r b input q bytes n status left trace over rooms =
+    let G = ground_at p F env floor data_at base r b in
     let s = start p input in
     let P : Light → Type 0 = λ x. x ≡ Done status trace in
     let here = Go r base b input [] in
@@ -126,7 +126,7 @@ ends p F env data_at base e r b input q bytes n status left trace over rooms =
     let ra_is : ra ≡ base + 16 = omega (arith, q.stands.1.next_is, q.stands.2.1.next_is) in
     let parts = stands_parts F.text env data_at exit (functions_items 0 (length p.functions) p.functions) ra e q.stands.2.2 in
     let tail : Stands F.text env data_at exit (base + 16) parts.0 = subst (λ x. Stands F.text env data_at exit x parts.0) ra_is parts.1 in
-    let two = comes_to p F env data_at base e r b input q bytes n rooms in
+    let two = comes_to p F env floor data_at base e r b input q bytes n rooms in
     let all : Comes F Anything (1 + least_spent p n s + 0) (most_start p + most_spent p n s + 2) here P =
     comes_then F Anything (most_start p + most_spent p n s) 2 here (Matches G (run p n s)) P two (λ m k. exits G status left trace parts.0 tail m (subst (λ x. Matches G x m) over k)) in
     record { j = all.j; some = omega (arith, all.some); within = all.within; kept = all.kept; good = all.good }

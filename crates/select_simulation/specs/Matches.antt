@@ -8,15 +8,15 @@ use Rattle.frames_code.specs.Sound.{IsSoundProgram, places_of}
 use Rattle.frames_code.specs.Run.{Value, word, reference, Values, Bytes, Frame, State, Progress, running, ended, stuck, function_at, bytes_of}
 use Rattle.select_running.specs.Light.{Fixed, Light, Go, Done, Fell}
 use Rattle.select.specs.Selected.{kept, calls, items_of, entry, return_home, shortened}
-use Rattle.memory_map.specs.MemoryMap.{stack_start}
 
--- A program whose items are placed, and what its outermost call found at its entry: the stack pointer, the address to return to,
--- s0 to s11, and the bytes from the stack pointer up. And a call that waits, of which one may speak: where its frame begins (2^32: none does),
+-- A program whose items are placed, the address from which on the stack may be used, and what its outermost call found at its entry: the stack
+-- pointer, the address to return to, s0 to s11, and the bytes from the stack pointer up. And a call that waits, of which one may speak: where its frame begins (2^32: none does),
 -- where it is returned to, and its s0 to s11.
 pub record Ground : Type 0 where
   pub program : Program
   pub machine : Fixed
   pub env : ℕ → ℕ
+  pub floor : ℕ
   pub data_at : ℕ
   pub sp : ℕ
   pub ra : ℕ
@@ -105,7 +105,7 @@ pub record Matched (G : Ground) (s : State) (r : ℕ → ℕ) (at : ℕ) (b : �
   pub sp : ℕ
   pub at_is : at ≡ address G s.frame.function s.frame.at
   pub sp_is : r 2 ≡ sp
-  pub low : stack_start ≤ sp
+  pub low : G.floor ≤ sp
   pub bytes : (k : ℕ) → b k < 2 ^ 8
   pub frame : FrameHolds G (function_at G.program s.frame.function) s.frame.cells s.frame.area b sp (file_of r)
   pub temporaries : Shows G (8 + (function_at G.program s.frame.function).outgoing) s.temporaries (temporary_at r b sp)
@@ -142,19 +142,19 @@ pub record Ready (G : Ground) : Type 0 where
       → Stands G.machine.text G.env G.data_at (items_of (function_at G.program f) (first_of G.program f) (shortened k x)) (address G f k) (address G f (k + 1))
   pub entries : (f : ℕ) → f < length G.program.functions → Stands G.machine.text G.env G.data_at (entry (function_at G.program f)) (G.env f) (address G f 0)
   pub entry_aligned : (f : ℕ) → f < length G.program.functions → G.env f % 4 ≡ 0
-  pub stack_read : (a : ℕ) → stack_start ≤ a → a < 2 ^ 31 → G.machine.can_read a ≡ true
-  pub stack_written : (a : ℕ) → stack_start ≤ a → a < 2 ^ 31 → G.machine.can_write a ≡ true
+  pub stack_read : (a : ℕ) → G.floor ≤ a → a < 2 ^ 31 → G.machine.can_read a ≡ true
+  pub stack_written : (a : ℕ) → G.floor ≤ a → a < 2 ^ 31 → G.machine.can_write a ≡ true
   pub data_read : (a : ℕ) → G.data_at ≤ a → a < G.data_at + length G.program.statics → G.machine.can_read a ≡ true
   pub data_written : (a : ℕ) → G.data_at ≤ a → a < G.data_at + length G.program.statics → G.machine.can_write a ≡ true
   pub data_aligned : G.data_at % 4 ≡ 0
-  pub data_below : G.data_at + length G.program.statics ≤ stack_start
+  pub data_below : G.data_at + length G.program.statics ≤ G.floor
   pub top : G.sp ≤ 2 ^ 31
   pub return_aligned : G.ra % 4 ≡ 0
   pub return_small : G.ra < 2 ^ 32
 
 -- the frames of the calls that are active fit the stack
 abbrev pub HasRoom : Ground → Progress → Type 0
-HasRoom G (running s) = stack_start + bytes_of G.program (s.frame ∷ s.waiting) ≤ G.sp
+HasRoom G (running s) = G.floor + bytes_of G.program (s.frame ∷ s.waiting) ≤ G.sp
 HasRoom G (ended status input trace) = Unit {0}
 HasRoom G stuck = Unit {0}
 

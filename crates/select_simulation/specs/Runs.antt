@@ -1,6 +1,6 @@
 -- What simulation is of whole runs: a step, so many steps, a program's entry and its end.
 use Rattle.std.specs.Prelude.{◌≡◌, ◌≤◌, ◌<◌, ℕ, ◌+◌, ◌-◌, ◌*◌, ◌%◌, ◌^◌, true, false, List, [], ◌∷◌, length, slice_get, Some}
-use Rattle.memory_map.specs.MemoryMap.{stack_end, stack_start}
+use Rattle.memory_map.specs.MemoryMap.{stack_end}
 use Rattle.rv32.specs.Space.{word_at}
 use Rattle.rv32.specs.Step.{register}
 use Rattle.asm.specs.Placed.{Stands}
@@ -115,11 +115,12 @@ EachCallKeeps =
 -- ---- whole programs
 
 -- main is called with the stack pointer at the stack's end, and returned to behind its call; one speaks of no call
-abbrev pub ground_at : Program → Fixed → (env : ℕ → ℕ) → (data_at base : ℕ) → (r b : ℕ → ℕ) → Ground
-ground_at p F env data_at base r b = record {
+abbrev pub ground_at : Program → Fixed → (env : ℕ → ℕ) → (floor data_at base : ℕ) → (r b : ℕ → ℕ) → Ground
+ground_at p F env floor data_at base r b = record {
   program = p;
   machine = F;
   env = env;
+  floor = floor;
   data_at = data_at;
   sp = stack_end;
   ra = base + 16;
@@ -130,39 +131,39 @@ ground_at p F env data_at base r b = record {
   watch_file = λ j. 0;
 }
 
--- A sound program's items stand from base up to e, below 2^31; the stack and the data may be read and written, and lie apart; the statics
+-- A sound program's items stand from base up to e, below 2^31; the stack, from floor on, and the data may be read and written, and lie apart; the statics
 -- are in memory as they begin.
-pub record Laid (p : Program) (F : Fixed) (env : ℕ → ℕ) (data_at base e : ℕ) (r b : ℕ → ℕ) : Type 0 where
+pub record Laid (p : Program) (F : Fixed) (env : ℕ → ℕ) (floor data_at base e : ℕ) (r b : ℕ → ℕ) : Type 0 where
   pub sound : IsSoundProgram p
   pub stands : Stands F.text env data_at (program_items p) base e
   pub aligned : base % 4 ≡ 0
   pub low : e < 2 ^ 31
-  pub stack_read : (a : ℕ) → stack_start ≤ a → a < 2 ^ 31 → F.can_read a ≡ true
-  pub stack_written : (a : ℕ) → stack_start ≤ a → a < 2 ^ 31 → F.can_write a ≡ true
+  pub stack_read : (a : ℕ) → floor ≤ a → a < 2 ^ 31 → F.can_read a ≡ true
+  pub stack_written : (a : ℕ) → floor ≤ a → a < 2 ^ 31 → F.can_write a ≡ true
   pub data_read : (a : ℕ) → data_at ≤ a → a < data_at + length p.statics → F.can_read a ≡ true
   pub data_written : (a : ℕ) → data_at ≤ a → a < data_at + length p.statics → F.can_write a ≡ true
   pub data_aligned : data_at % 4 ≡ 0
-  pub data_below : data_at + length p.statics ≤ stack_start
+  pub data_below : data_at + length p.statics ≤ floor
   pub small : Small (file_of r)
   pub bytes : (k : ℕ) → b k < 2 ^ 8
   pub statics : Holds (slice_get p.statics) data_at 0 (length p.statics) b
 
 -- each instruction's items and each function's entry stand at their labels
 abbrev pub LaidIsReady : Type 0
-LaidIsReady = (p : Program) (F : Fixed) (env : ℕ → ℕ) (data_at base e : ℕ) (r b : ℕ → ℕ) → Laid p F env data_at base e r b → Ready (ground_at p F env data_at base r b)
+LaidIsReady = (p : Program) (F : Fixed) (env : ℕ → ℕ) (floor data_at base e : ℕ) (r b : ℕ → ℕ) → Laid p F env floor data_at base e r b → Ready (ground_at p F env floor data_at base r b)
 
 -- from its entry the machine comes to match the flat program's beginning
 abbrev pub BeginsFollow : Type 0
 BeginsFollow =
-    (p : Program) (F : Fixed) (env : ℕ → ℕ) (data_at base e : ℕ) (r b : ℕ → ℕ) (input : List ℕ) → Laid p F env data_at base e r b → HasRoom (ground_at p F env data_at base r b) (running (start p input))
-    → Comes F Anything 1 (most_start p) (Go r base b input []) (Matches (ground_at p F env data_at base r b) (running (start p input)))
+    (p : Program) (F : Fixed) (env : ℕ → ℕ) (floor data_at base e : ℕ) (r b : ℕ → ℕ) (input : List ℕ) → Laid p F env floor data_at base e r b → HasRoom (ground_at p F env floor data_at base r b) (running (start p input))
+    → Comes F Anything 1 (most_start p) (Go r base b input []) (Matches (ground_at p F env floor data_at base r b) (running (start p input)))
 
 -- a flat program that ends in n steps: the machine ends with the same status, having done the same
 abbrev pub EndsFollow : Type 0
 EndsFollow =
-    (p : Program) (F : Fixed) (env : ℕ → ℕ) (data_at base e : ℕ) (r b : ℕ → ℕ) (input : List ℕ) → Laid p F env data_at base e r b → AreBytes input
+    (p : Program) (F : Fixed) (env : ℕ → ℕ) (floor data_at base e : ℕ) (r b : ℕ → ℕ) (input : List ℕ) → Laid p F env floor data_at base e r b → AreBytes input
     → (n status : ℕ) (left : List ℕ) (trace : List Event) → run p n (start p input) ≡ ended status left trace
-    → ((k : ℕ) → k ≤ n → HasRoom (ground_at p F env data_at base r b) (run p k (start p input)))
+    → ((k : ℕ) → k ≤ n → HasRoom (ground_at p F env floor data_at base r b) (run p k (start p input)))
     → Comes F Anything 1 (most_start p + most_spent p n (start p input) + 2) (Go r base b input []) (λ m. m ≡ Done status trace)
 
 -- ---- on the machine of the table, where no byte may be both executed and written, and text lies below 2^31
@@ -183,18 +184,18 @@ pub record StandsWith (p : Program) (env : ℕ → ℕ) (s : State) (w : World) 
 abbrev pub MachineGoesOn : Type 0
 MachineGoesOn =
     (P : Permits) → ((a : ℕ) → P.can_execute a ≡ true → a < 2 ^ 31) → ((a : ℕ) → P.can_execute a ≡ true → P.can_write a ≡ false)
-    → (p : Program) (env : ℕ → ℕ) (data_at base e : ℕ) (r b : ℕ → ℕ) (list input : List ℕ) → Laid p (fixed P b) env data_at base e r b → Registers list r → AreBytes input
+    → (p : Program) (env : ℕ → ℕ) (floor data_at base e : ℕ) (r b : ℕ → ℕ) (list input : List ℕ) → Laid p (fixed P b) env floor data_at base e r b → Registers list r → AreBytes input
     → (n : ℕ) (s : State) → run p n (start p input) ≡ running s
-    → ((k : ℕ) → k ≤ n → HasRoom (ground_at p (fixed P b) env data_at base r b) (run p k (start p input)))
+    → ((k : ℕ) → k ≤ n → HasRoom (ground_at p (fixed P b) env floor data_at base r b) (run p k (start p input)))
     → (k : ℕ) × (w : World) × (n < slack p * k) × (k ≤ most_start p + most_spent p n (start p input)) × (rvrun k (world P list base b input []) ≡ Running w) × StandsWith p env s w
 
 -- where it ends
 abbrev pub MachineEnds : Type 0
 MachineEnds =
     (P : Permits) → ((a : ℕ) → P.can_execute a ≡ true → a < 2 ^ 31) → ((a : ℕ) → P.can_execute a ≡ true → P.can_write a ≡ false)
-    → (p : Program) (env : ℕ → ℕ) (data_at base e : ℕ) (r b : ℕ → ℕ) (list input : List ℕ) → Laid p (fixed P b) env data_at base e r b → Registers list r → AreBytes input
+    → (p : Program) (env : ℕ → ℕ) (floor data_at base e : ℕ) (r b : ℕ → ℕ) (list input : List ℕ) → Laid p (fixed P b) env floor data_at base e r b → Registers list r → AreBytes input
     → (n status : ℕ) (left : List ℕ) (trace : List Event) → run p n (start p input) ≡ ended status left trace
-    → ((k : ℕ) → k ≤ n → HasRoom (ground_at p (fixed P b) env data_at base r b) (run p k (start p input)))
+    → ((k : ℕ) → k ≤ n → HasRoom (ground_at p (fixed P b) env floor data_at base r b) (run p k (start p input)))
     → (k : ℕ) × (w : World) × (k ≤ most_start p + most_spent p n (start p input) + 2) × (rvrun k (world P list base b input []) ≡ Ended status w) × (w.trace ≡ trace) × (w.input ≡ left)
 
 -- Behind a call that t ends, which began in v: the machine stands there, the stack pointer and s0 to s11 are the same, the result, where it is a word, is
@@ -211,11 +212,11 @@ pub record BackFrom (t : State) (to : ℕ) (v w : World) : Type 0 where
 abbrev pub MachineCallsKeep : Type 0
 MachineCallsKeep =
     (P : Permits) → ((a : ℕ) → P.can_execute a ≡ true → a < 2 ^ 31) → ((a : ℕ) → P.can_execute a ≡ true → P.can_write a ≡ false)
-    → (p : Program) (env : ℕ → ℕ) (data_at base e : ℕ) (r b : ℕ → ℕ) (list input : List ℕ) → Laid p (fixed P b) env data_at base e r b → Registers list r → AreBytes input
+    → (p : Program) (env : ℕ → ℕ) (floor data_at base e : ℕ) (r b : ℕ → ℕ) (list input : List ℕ) → Laid p (fixed P b) env floor data_at base e r b → Registers list r → AreBytes input
     → (n m f : ℕ) (s t : State) → run p n (start p input) ≡ running s → next_of p s ≡ Some (instruction.Call f) → run p m (entered s f) ≡ running t
     → next_of p t ≡ Some instruction.Return → bytes_of p t.waiting ≡ bytes_of p (s.frame ∷ s.waiting)
-    → ((k : ℕ) → k ≤ n → HasRoom (ground_at p (fixed P b) env data_at base r b) (run p k (start p input)))
-    → ((k : ℕ) → k ≤ m → HasRoom (ground_at p (fixed P b) env data_at base r b) (run p k (entered s f))) → ((k : ℕ) → k ≤ m → IsWithin p s (run p k (entered s f)))
+    → ((k : ℕ) → k ≤ n → HasRoom (ground_at p (fixed P b) env floor data_at base r b) (run p k (start p input)))
+    → ((k : ℕ) → k ≤ m → HasRoom (ground_at p (fixed P b) env floor data_at base r b) (run p k (entered s f))) → ((k : ℕ) → k ≤ m → IsWithin p s (run p k (entered s f)))
     → (k j : ℕ) × (v w : World) × (n < slack p * k) × (k ≤ most_start p + most_spent p n (start p input)) × (0 < j) × (j ≤ step_cost p (function_at p s.frame.function) (instruction.Call f) + most_spent p m (entered s f) + step_cost p (function_at p t.frame.function) instruction.Return)
     × (rvrun k (world P list base b input []) ≡ Running v) × StandsWith p env s v
     × (rvrun (k + j) (world P list base b input []) ≡ Running w) × BackFrom t (env (first_of p s.frame.function + (s.frame.at + 1))) v w

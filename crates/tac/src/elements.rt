@@ -1,6 +1,6 @@
 //! The code of elements of arrays that become zero or characters (6.7.9p14, p21): a turn of a loop for each.
 
-ghost use Rattle.std.specs.Prelude.{◌≡◌, ◌≤◌, IfOk, OnOk};
+ghost use Rattle.std.specs.Prelude.{◌≡◌, ◌≤◌, ◌^◌, IfOk, IfErr, OnOk};
 ghost use Rattle.tac_lowering.specs.Initialisers as relation;
 ghost use Rattle.tac_forms.specs.inside.Parts.{Wrote};
 ghost use Rattle.tac.specs.inside.FirstSizes as size;
@@ -33,6 +33,7 @@ pub(crate) fn element_at(start: Start) -> Place
 /// A count that an instruction names.
 fn limit_of(count: usize) -> Result<u32, AllocError>
     ensures { IfOk result (λ n. n ≡ count) }
+    ensures refuses { IfErr result (λ _. 2 ^ 32 ≤ count) }
 {
     let Ok(limit) = u32::try_from(count) else {
         return Err(AllocError);

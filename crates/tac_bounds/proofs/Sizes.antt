@@ -131,7 +131,7 @@ in_objects (t ∷ ts) zero o e =
     subst (λ x. size_of_object x ≤ bytes_of_objects (t ∷ ts)) (same_some t o e) (first_object (size_of_object t) (bytes_of_objects ts))
 in_objects (t ∷ ts) (suc n) o e = behind_object (size_of_object o) (size_of_object t) (bytes_of_objects ts) (in_objects ts n o e)
 
-pub objects_small : (r o n w : ℕ) → w ≡ (64 + (r + o) + 16 * n + 15) / 16 * 16 → w ≤ 1048576 → o ≤ 1048576
+pub objects_small : (r o n w : ℕ) → w ≡ (64 + (r + o) + 16 * n + 15) / 16 * 16 → w ≤ 16777216 → o ≤ 16777216
 objects_small r o n w e h = omega (arith, e, h)
 
 some_bytes : (t : IntType) → 1 ≤ bytes_of t
@@ -146,12 +146,12 @@ some_bytes ty.UInt = omega arith
 some_bytes ty.Long = omega arith
 some_bytes ty.ULong = omega arith
 
-no_more_elements : (b e c : ℕ) → 1 ≤ b → b * e ≤ c → c ≤ 1048576 → e < 2 ^ 32
+no_more_elements : (b e c : ℕ) → 1 ≤ b → b * e ≤ c → c ≤ 16777216 → e < 2 ^ 32
 no_more_elements zero e c s h g = absurd (let none : ⊥ = omega (arith, s) in none)
 no_more_elements (suc b) e c s h g = let sum : suc b * e ≡ e + b * e = grind arith in omega (arith, h, g, sum)
 
 -- an object has elements, and no more than its function has bytes
-pub object_filled : (o : ObjectType) (bytes : ℕ) → 0 < size_of_object o → size_of_object o ≤ bytes → bytes ≤ 1048576
+pub object_filled : (o : ObjectType) (bytes : ℕ) → 0 < size_of_object o → size_of_object o ≤ bytes → bytes ≤ 16777216
     → (0 < elements_in o.lengths) × (elements_in o.lengths < 2 ^ 32)
 object_filled o bytes some h g =
     let b = bytes_of o.element in

@@ -54,7 +54,7 @@ one_on p q e = omega (arith, e)
 less_nodes : (w s n l : ℕ) → w ≤ s → s + l + 1 ≤ n → w ≤ n
 less_nodes w s n l h g = omega (arith, h, g)
 
-limit_is : (b c : ℕ) → b ≤ c → c ≤ 1048576 → b ≤ 2 ^ 20
+limit_is : (b c : ℕ) → b ≤ c → c ≤ 16777216 → b ≤ 2 ^ 24
 limit_is b c h g = omega (arith, h, g)
 
 bytes_fit : (c b l s n m : ℕ) → c ≤ b → b + (124 * suc l + (0 + (104 + 84))) ≤ 0 + 128 * (suc l + (s + (1 + 2))) → s + l + 1 ≤ n → m ≡ l → 4 * (42 + 6 * m) + c ≤ 128 * n + 1024
@@ -110,17 +110,17 @@ module _ (p : typed.Program) (q : Program) (checked : IsChecked p) (code : IsCod
     abbrev made : IsFunctionFor p q (nat_eq k p.main) f g
     made = code.each k f g ef eg
 
-    typed_parts : (typed_nodes f ≤ f.nodes) × (f.weight ≤ 1048576) × (parameters_are_first f.type.parameters f.objects ≡ true)
+    typed_parts : (typed_nodes f ≤ f.nodes) × (f.weight ≤ 16777216) × (parameters_are_first f.type.parameters f.objects ≡ true)
         × (statement_is_typed p f (numbers_in f.type.parameters) (length f.objects) f.body ≡ true)
     typed_parts =
         let a = nat_le (typed_nodes f) f.nodes in
-        let b = nat_le f.weight 1048576 in
+        let b = nat_le f.weight 16777216 in
         let c = parameters_are_first f.type.parameters f.objects in
         let d = statement_is_typed p f (numbers_in f.type.parameters) (length f.objects) f.body in
         let h = function_typed p p.functions k f parts.0 ef in
         let h2 = right_true a (b && (c && d)) h in
         let h3 = right_true b (c && d) h2 in
-        (le_holds (typed_nodes f) f.nodes (left_true a (b && (c && d)) h), le_holds f.weight 1048576 (left_true b (c && d) h2), left_true c d h3, right_true c d h3)
+        (le_holds (typed_nodes f) f.nodes (left_true a (b && (c && d)) h), le_holds f.weight 16777216 (left_true b (c && d) h2), left_true c d h3, right_true c d h3)
 
     abbrev ground : Ground
     ground = record {

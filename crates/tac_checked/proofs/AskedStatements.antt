@@ -379,8 +379,8 @@ function_asked b f h =
     let t = function_type d.base ps.types in
     then_any BuiltAsked (file_function (behind_parameters d.scope ps.scope) f.at f.name d.class t defined) (body_typed b f d.scope ps t) (λ file.
     then_some (AllAsked None) BuiltAsked (pieces (units.around_of t) None (units.body_scope file ps.scope d.scope) f.body) (with_function b file f t) (pieces_asked (units.around_of t) None (units.body_scope file ps.scope d.scope) f.body) (λ all k.
-    part BuiltAsked (refuse_if (nat_lt units.weight_limit (units.weight f t.parameters all.scope.objects)) code.WeightLimit f.at)
-    (fine (record { scope = record file { literals = all.scope.literals; statics = all.scope.statics; objects = [] }; functions = b.functions ++ function_of f t all ∷ []; initial = b.initial ++ all.initial }))
+    part BuiltAsked (refuse_if (nat_lt b.stack (units.weight f t.parameters all.scope.objects)) code.WeightLimit f.at)
+    (fine (record { stack = b.stack; scope = record file { literals = all.scope.literals; statics = all.scope.statics; objects = [] }; functions = b.functions ++ function_of f t all ∷ []; initial = b.initial ++ all.initial }))
     (one_more b.functions (function_of f t all) h k.0)))))
 
 external_asked : (b : Built) (e : ExternalTree) → BuiltAsked b → IfFine BuiltAsked (external_typed b e)
@@ -401,8 +401,8 @@ whole_asked whole b h =
     (then_any ProgramAsked (units.main_or_fault whole (units.main_from b.scope 0 b.functions)) (λ main. fine (program_of b main)) (λ main. h))
 
 pub program_is_asked : ProgramIsAsked
-program_is_asked texts whole unit p e =
-    let start : Built = record { scope = file_scope texts (units.definitions_in unit); functions = []; initial = [] } in
-    let bodies = of_fine ProgramAsked (unit_typed texts whole unit) p e
+program_is_asked stack texts whole unit p e =
+    let start : Built = record { stack = stack; scope = file_scope texts (units.definitions_in unit); functions = []; initial = [] } in
+    let bodies = of_fine ProgramAsked (unit_typed stack texts whole unit) p e
     (then_some BuiltAsked ProgramAsked (externals_typed start unit) (whole_program whole) (externals_asked start unit refl) (λ c h. whole_asked whole c h)) in
-    and_from (bodies_are_asked p) (types_are_sized p) bodies (types_sized texts whole unit p e)
+    and_from (bodies_are_asked p) (types_are_sized p) bodies (types_sized stack texts whole unit p e)

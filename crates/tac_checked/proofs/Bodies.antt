@@ -128,8 +128,8 @@ module _ (W : Setting) where
       let A = around_of t in
       then_some (λ all. W.function.type.result ≡ t.result → AllGood W B all) (FunctionGood b) (pieces A None B f.body) (with_function b file f t)
       (delayed {H = W.function.type.result ≡ t.result} (λ h all. AllGood W B all) (pieces A None B f.body) (λ h. pieces_good W A (sym h) None B (deep d.scope.level ps.scope.level st.level) f.body)) (λ all make.
-      part (FunctionGood b) (refuse_if (nat_lt units.weight_limit (units.weight f t.parameters all.scope.objects)) code.WeightLimit f.at)
-      (fine (record { scope = record file { literals = all.scope.literals; statics = all.scope.statics; objects = [] }; functions = b.functions ++ function_of f t all ∷ []; initial = b.initial ++ all.initial })) (λ e N T S x.
+      part (FunctionGood b) (refuse_if (nat_lt b.stack (units.weight f t.parameters all.scope.objects)) code.WeightLimit f.at)
+      (fine (record { stack = b.stack; scope = record file { literals = all.scope.literals; statics = all.scope.statics; objects = [] }; functions = b.functions ++ function_of f t all ∷ []; initial = b.initial ++ all.initial })) (λ e N T S x.
       body f d.scope file ps t refl st all make l.0 l.1 (last_is b.functions W.function (function_of f t all) e) N T S x)))))
 
   pub built_is_typed : (b c : Built) (f : FunctionTree) → function_typed b f ≡ fine c → FunctionGood b c

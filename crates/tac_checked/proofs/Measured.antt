@@ -54,32 +54,36 @@ types_within r s (p ∷ ps) =
 
 -- ---- functions
 
-light : (w : ℕ) → nat_lt 1048576 w ≡ false → w ≤ 1048576
-light w h = grind (arith, nat_tests, h)
+at_most : (m n : ℕ) → nat_lt m n ≡ false → n ≤ m
+at_most m n h = grind (arith, nat_tests, h)
+
+light : (stack w : ℕ) → stack ≤ 16777216 → nat_lt stack w ≡ false → w ≤ 16777216
+light stack w l h = omega (arith, l, at_most stack w h)
 
 abbrev BuiltGood : Built → Type 0
-BuiltGood b = FunctionsGood b.functions
+BuiltGood b = FunctionsGood b.functions × (b.stack ≤ 16777216)
 
-function_good : (f : FunctionTree) (t : FunctionType) (all : AllDone) → length t.parameters ≤ parameters_nodes f.parameters → AllWithin (pieces_nodes f.body) all → function_nodes f ≤ 8000 →
-    nat_lt rules.weight_limit (rules.weight f t.parameters all.scope.objects) ≡ false → FunctionIsMeasured (function_of f t all)
-function_good f t all h k n e = record {
+function_good : (stack : ℕ) (f : FunctionTree) (t : FunctionType) (all : AllDone) → stack ≤ 16777216 → length t.parameters ≤ parameters_nodes f.parameters → AllWithin (pieces_nodes f.body) all → function_nodes f ≤ 8000 →
+    nat_lt stack (rules.weight f t.parameters all.scope.objects) ≡ false → FunctionIsMeasured (function_of f t all)
+function_good stack f t all l h k n e = record {
   weight = refl;
-  light = light (rules.weight f t.parameters all.scope.objects) e;
+  light = light stack (rules.weight f t.parameters all.scope.objects) l e;
   counted = omega (arith, h, k);
   nodes = n;
 }
 
 with_function_good : (b : Built) (file : Scope) (f : FunctionTree) (t : FunctionType) (all : AllDone) → BuiltGood b → length t.parameters ≤ parameters_nodes f.parameters → AllWithin (pieces_nodes f.body) all → function_nodes f ≤ 8000 →
     IfFine BuiltGood (with_function b file f t all)
-with_function_good b file f t all g h k n = by (nat_lt rules.weight_limit (rules.weight f t.parameters all.scope.objects)) refl
+with_function_good b file f t all g h k n = by (nat_lt b.stack (rules.weight f t.parameters all.scope.objects)) refl
   where
-    by : (c : Bool) → c ≡ nat_lt rules.weight_limit (rules.weight f t.parameters all.scope.objects) → IfFine BuiltGood (provided (refuse_if c code.WeightLimit f.at) (fine (record {
+    by : (c : Bool) → c ≡ nat_lt b.stack (rules.weight f t.parameters all.scope.objects) → IfFine BuiltGood (provided (refuse_if c code.WeightLimit f.at) (fine (record {
+      stack = b.stack;
       scope = record file { literals = all.scope.literals; statics = all.scope.statics; objects = [] };
       functions = b.functions ++ function_of f t all ∷ [];
       initial = b.initial ++ all.initial;
     })))
     by true e = tt
-    by false e = one_more_function b.functions (function_of f t all) g (function_good f t all h k n (sym e))
+    by false e = (one_more_function b.functions (function_of f t all) g.0 (function_good b.stack f t all g.1 h k n (sym e)), g.1)
 
 function_typed_good : (b : Built) (f : FunctionTree) → BuiltGood b → function_nodes f ≤ 8000 → IfFine BuiltGood (function_typed b f)
 function_typed_good b f g n =
@@ -179,9 +183,6 @@ literals_bytes s h (k ∷ ns) (suc n) text e = literals_bytes s h ns n text e
 
 -- ---- the program
 
-at_most : (m n : ℕ) → nat_lt m n ≡ false → n ≤ m
-at_most m n h = grind (arith, nat_tests, h)
-
 measured_by : (b : Built) → BuiltGood b → AreTexts b.scope.texts → nat_lt rules.static_limit (rules.static_bytes b.scope) ≡ false → nat_lt rules.function_limit (length b.functions) ≡ false → (main : ℕ) → IsMainIn b.scope b.functions 0 main → IsMeasured (program_of b main)
 measured_by b g t s l main m =
     let k = m.0 in
@@ -192,7 +193,7 @@ measured_by b g t s l main m =
       main_is_there = below_length b.functions main m.1 here;
       main_takes_nothing = λ f e. ap (λ x. x.type.parameters) (same f e) ∙ ap (λ x. x.parameters) type;
       main_gives_int = λ f e. ap (λ x. x.type.result) (same f e) ∙ ap (λ x. x.result) type;
-      each = λ j f e. each_function b.functions j f g e;
+      each = λ j f e. each_function b.functions j f g.0 e;
       literals = λ n text e. literals_bytes b.scope t b.scope.literals n text e;
       few = at_most 16384 (length b.functions) l;
       small = subst (λ n. n ≤ 16777216) (data_same (literals_of b.scope b.scope.literals) 0 b.scope.statics b.initial) (at_most 16777216 (rules.static_bytes b.scope) s);
@@ -215,8 +216,8 @@ whole_measured whole b g t = by (nat_lt rules.static_limit (rules.static_bytes b
         (by_main whole b (λ main m. measured_by b g t (sym e) (sym f) main m) (main_from b.scope 0 b.functions) (main_found b.scope 0 b.functions))
 
 pub program_is_measured : ProgramIsMeasured
-program_is_measured texts whole unit p t n e =
-    let start : Built = record { scope = file_scope texts (rules.definitions_in unit); functions = []; initial = [] } in
-    of_fine IsMeasured (unit_typed texts whole unit) p e
+program_is_measured stack texts whole unit p l t n e =
+    let start : Built = record { stack = stack; scope = file_scope texts (rules.definitions_in unit); functions = []; initial = [] } in
+    of_fine IsMeasured (unit_typed stack texts whole unit) p e
     (then_some (λ c. BuiltGood c × (c.scope.texts ≡ texts)) IsMeasured (externals_typed start unit) (whole_program whole)
-    (both_of BuiltGood (λ c. c.scope.texts ≡ texts) (externals_typed start unit) (externals_good start unit tt n) (externals_texts start unit)) (λ c h. whole_measured whole c h.0 (subst AreTexts (sym h.1) t)))
+    (both_of BuiltGood (λ c. c.scope.texts ≡ texts) (externals_typed start unit) (externals_good start unit (tt, l) n) (externals_texts start unit)) (λ c h. whole_measured whole c h.0 (subst AreTexts (sym h.1) t)))

@@ -248,7 +248,8 @@ function_sized b f g =
     (λ file i.
     then_some AllGood BuiltSized (pieces (units.around_of t) None (units.body_scope file ps.scope d.scope) f.body) (with_function b file f t)
     (pieces_good (units.around_of t) None (units.body_scope file ps.scope d.scope) f.body (body_good file ps.scope d.scope i h.0)) (λ all k.
-    part BuiltSized (refuse_if (nat_lt units.weight_limit (units.weight f t.parameters all.scope.objects)) code.WeightLimit f.at) (fine (record {
+    part BuiltSized (refuse_if (nat_lt b.stack (units.weight f t.parameters all.scope.objects)) code.WeightLimit f.at) (fine (record {
+      stack = b.stack;
       scope = record file { literals = all.scope.literals; statics = all.scope.statics; objects = [] };
       functions = b.functions ++ function_of f t all ∷ [];
       initial = b.initial ++ all.initial;
@@ -320,10 +321,10 @@ whole_sized whole b g =
     (then_any ProgramSized (units.main_or_fault whole (units.main_from b.scope 0 b.functions)) (λ main. fine (program_of b main))
     (λ main. built_sized b main g))
 
-pub types_sized : (texts : List (List ℕ)) (whole : Pos) (unit : List ExternalTree) (p : Program) → unit_typed texts whole unit ≡ fine p
+pub types_sized : (stack : ℕ) (texts : List (List ℕ)) (whole : Pos) (unit : List ExternalTree) (p : Program) → unit_typed stack texts whole unit ≡ fine p
     → types_are_sized p ≡ true
-types_sized texts whole unit p e =
-    let start : Built = record { scope = file_scope texts (units.definitions_in unit); functions = []; initial = [] } in
-    of_fine ProgramSized (unit_typed texts whole unit) p e
+types_sized stack texts whole unit p e =
+    let start : Built = record { stack = stack; scope = file_scope texts (units.definitions_in unit); functions = []; initial = [] } in
+    of_fine ProgramSized (unit_typed stack texts whole unit) p e
     (then_some BuiltSized ProgramSized (externals_typed start unit) (whole_program whole) (externals_sized start unit (tt, (tt, tt, tt)))
     (λ c h. whole_sized whole c h))

@@ -124,8 +124,8 @@ BuiltTexts b c = SameTexts b.scope c.scope
 
 with_function_texts : (a b : Built) (file : Scope) (f : FunctionTree) (t : FunctionType) (all : AllDone) → SameTexts a.scope file → IfFine (BuiltTexts a) (with_function b file f t all)
 with_function_texts a b file f t all e =
-    part (BuiltTexts a) (refuse_if (nat_lt units.weight_limit (units.weight f t.parameters all.scope.objects)) code.WeightLimit f.at)
-    (fine (record { scope = record file { literals = all.scope.literals; statics = all.scope.statics; objects = [] }; functions = b.functions ++ units.function_of f t all ∷ []; initial = b.initial ++ all.initial })) e
+    part (BuiltTexts a) (refuse_if (nat_lt b.stack (units.weight f t.parameters all.scope.objects)) code.WeightLimit f.at)
+    (fine (record { stack = b.stack; scope = record file { literals = all.scope.literals; statics = all.scope.statics; objects = [] }; functions = b.functions ++ units.function_of f t all ∷ []; initial = b.initial ++ all.initial })) e
 
 definition_texts : (b : Built) (f : FunctionTree) → IfFine (BuiltTexts b) (function_typed b f)
 definition_texts b f =

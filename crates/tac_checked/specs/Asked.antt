@@ -181,4 +181,4 @@ is_asked p = bodies_are_asked p && types_are_sized p
 
 -- each unit that breaks no constraint gives such a program
 abbrev pub ProgramIsAsked : Type 0
-ProgramIsAsked = (texts : List (List ℕ)) (whole : Pos) (unit : List ExternalTree) (p : Program) → unit_typed texts whole unit ≡ fine p → is_asked p ≡ true
+ProgramIsAsked = (stack : ℕ) (texts : List (List ℕ)) (whole : Pos) (unit : List ExternalTree) (p : Program) → unit_typed stack texts whole unit ≡ fine p → is_asked p ≡ true

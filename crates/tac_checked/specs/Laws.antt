@@ -41,5 +41,5 @@ pub record IsMeasured (p : Program) : Type 0 where
   pub small : data_bytes p.literals p.statics ≤ static_limit
 
 abbrev pub ProgramIsMeasured : Type 0
-ProgramIsMeasured = (texts : List (List ℕ)) (whole : Pos) (unit : List ExternalTree) (p : Program) → AreTexts texts → IsWithinNodes unit
-    → unit_typed texts whole unit ≡ fine p → IsMeasured p
+ProgramIsMeasured = (stack : ℕ) (texts : List (List ℕ)) (whole : Pos) (unit : List ExternalTree) (p : Program) → stack ≤ weight_limit → AreTexts texts → IsWithinNodes unit
+    → unit_typed stack texts whole unit ≡ fine p → IsMeasured p

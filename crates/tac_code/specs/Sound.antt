@@ -81,9 +81,9 @@ number_parameters [] = 0
 number_parameters (parameter.Number ∷ more) = number_parameters more + 1
 number_parameters (parameter.Array ∷ more) = number_parameters more
 
--- no object is without bytes
+-- a call fits the greatest stack, and no object is without bytes
 pub record FunctionFits (p : Program) (f : Function) : Type 0 where
-  pub small : call_bytes f ≤ 2 ^ 20
+  pub small : call_bytes f ≤ 2 ^ 24
   pub parameters : (n : ℕ) → n < number_parameters f.parameters → IsScalar f n
   pub sized : (n : ℕ) (o : ObjectType) → slice_get f.objects n ≡ Some o → 0 < size_of_object o
   pub each : (k : ℕ) (x : Instruction) → slice_get f.code k ≡ Some x → InstructionFits p f x

@@ -121,10 +121,10 @@ module _ (p : typed.Program) (q : Program) (typed_well : is_typed p ≡ true) (a
 
     behind_weight : (parameters_are_first f.type.parameters f.objects && statement_is_typed p f (units.numbers_in f.type.parameters) (length f.objects) f.body)
         ≡ true
-    behind_weight = right_true (nat_le f.weight 1048576)
+    behind_weight = right_true (nat_le f.weight 16777216)
         (parameters_are_first f.type.parameters f.objects && statement_is_typed p f (units.numbers_in f.type.parameters) (length f.objects) f.body)
         (right_true (nat_le (typed_nodes f) f.nodes)
-        (nat_le f.weight 1048576 && (parameters_are_first f.type.parameters f.objects && statement_is_typed p f (units.numbers_in f.type.parameters)
+        (nat_le f.weight 16777216 && (parameters_are_first f.type.parameters f.objects && statement_is_typed p f (units.numbers_in f.type.parameters)
         (length f.objects) f.body)) (typed_function g f e))
 
     parameters_first : parameters_are_first f.type.parameters f.objects ≡ true

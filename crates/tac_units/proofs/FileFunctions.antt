@@ -138,8 +138,8 @@ module _ (p : Program) (texts : List (List ℕ)) (definitions : List ℕ) where
       let J = reaches_on p texts definitions b.scope file u [] [] R K in
       let room = λ (N : Named p texts definitions b.scope) (F : Final p texts definitions u).
       body_room f outer file ps t types stand all make te de (R.2 N (final_earlier p texts definitions file u K.0 F)).0 F in
-      part (Defines b f) (refuse_if (nat_lt units.weight_limit (units.weight f t.parameters all.scope.objects)) code.WeightLimit f.at)
-      (fine (record { scope = u; functions = b.functions ++ function_of f t all ∷ []; initial = b.initial ++ all.initial }))
+      part (Defines b f) (refuse_if (nat_lt b.stack (units.weight f t.parameters all.scope.objects)) code.WeightLimit f.at)
+      (fine (record { stack = b.stack; scope = u; functions = b.functions ++ function_of f t all ∷ []; initial = b.initial ++ all.initial }))
       (function_of f t all, all.initial, refl, refl, refl, (J.0, J.1, λ N F. ((J.2 N F).0, room N F)), there)
 
   abbrev FileGood : Scope → FunctionTree → FunctionType → Scope → Type 0

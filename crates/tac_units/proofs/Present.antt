@@ -116,9 +116,9 @@ whole_present whole b = by (each limits (all_defined b.scope [] us)) refl
         (λ m k f g. each_present b m b.functions k f g (all_present b m us found)))
 
 pub uses_are_present : UsesArePresent
-uses_are_present texts whole unit p e =
-    let start : Built = record { scope = file_scope texts (units.definitions_in unit); functions = []; initial = [] } in
-    of_fine AllPresent (unit_typed texts whole unit) p e (then_any AllPresent (externals_typed start unit) (whole_program whole) (λ c. whole_present whole c))
+uses_are_present stack texts whole unit p e =
+    let start : Built = record { stack = stack; scope = file_scope texts (units.definitions_in unit); functions = []; initial = [] } in
+    of_fine AllPresent (unit_typed stack texts whole unit) p e (then_any AllPresent (externals_typed start unit) (whole_program whole) (λ c. whole_present whole c))
 
 -- ---- what is typed and present is defined
 
@@ -128,14 +128,14 @@ body_typed p [] k f e h = absurd (let z : ⊥ = cc in z)
 body_typed p (g ∷ fs) zero f e h =
     let body : Function → Bool = λ x. statement_is_typed p x (numbers_in x.type.parameters) (length x.objects) x.body in
     let w = (both_true (function_is_typed p g) (functions_are_typed p fs) h).0 in
-    let v = (both_true (nat_le (typed_nodes g) g.nodes) (nat_le g.weight 1048576 && (parameters_are_first g.type.parameters g.objects && body g)) w).1 in
-    let u = (both_true (nat_le g.weight 1048576) (parameters_are_first g.type.parameters g.objects && body g) v).1 in
+    let v = (both_true (nat_le (typed_nodes g) g.nodes) (nat_le g.weight 16777216 && (parameters_are_first g.type.parameters g.objects && body g)) w).1 in
+    let u = (both_true (nat_le g.weight 16777216) (parameters_are_first g.type.parameters g.objects && body g) v).1 in
     subst (λ x. statement_is_typed p x (numbers_in x.type.parameters) (length x.objects) x.body ≡ true) (same_some g f e)
     (both_true (parameters_are_first g.type.parameters g.objects) (body g) u).1
 body_typed p (g ∷ fs) (suc k) f e h = body_typed p fs k f e (both_true (function_is_typed p g) (functions_are_typed p fs) h).1
 
 pub designated_are_defined : DesignatedAreDefined
-designated_are_defined texts whole unit p e t k f g =
+designated_are_defined stack texts whole unit p e t k f g =
     let fs = (both_true (functions_are_typed p p.functions) (statics_are_typed p.statics && nat_lt p.main (length p.functions)) t).0 in
     statement_defined p f (numbers_in f.type.parameters) (length f.objects) f.body (body_typed p p.functions k f g fs)
-    (uses_are_present texts whole unit p e k f g)
+    (uses_are_present stack texts whole unit p e k f g)

@@ -36,9 +36,9 @@ some_bytes ty.Long = omega arith
 some_bytes ty.ULong = omega arith
 
 pub objects_are_sized : ObjectsAreSized
-objects_are_sized texts whole unit p e k f g n o i =
+objects_are_sized stack texts whole unit p e k f g n o i =
     let statics = list_all (λ o. is_sized o.type) p.statics in
-    let functions = (both_true (list_all function_is_sized p.functions) statics (types_sized texts whole unit p e)).0 in
+    let functions = (both_true (list_all function_is_sized p.functions) statics (types_sized stack texts whole unit p e)).0 in
     let of_function = item_is function_is_sized p.functions k f functions g in
     let objects = (both_true (list_all parameter_is_sized f.type.parameters) (list_all is_sized f.objects) of_function).1 in
     let some = nat_lt 0 (elements_in o.lengths) in

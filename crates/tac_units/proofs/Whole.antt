@@ -46,14 +46,14 @@ all_typed p (g ∷ gs) h = and_from (function_is_typed p g) (functions_are_typed
 abbrev AllPresent : Program → Type 0
 AllPresent p = (k : ℕ) (g : Function) → slice_get p.functions k ≡ Some g → Present p (uses_in_statement g.body)
 
-abbrev start : List (List ℕ) → List ℕ → Built
-start texts definitions = record { scope = file_scope texts definitions; functions = []; initial = [] }
+abbrev start : ℕ → List (List ℕ) → List ℕ → Built
+start stack texts definitions = record { stack = stack; scope = file_scope texts definitions; functions = []; initial = [] }
 
-module _ (texts : List (List ℕ)) (definitions : List ℕ) (c : Built) (main : ℕ) where
+module _ (stack : ℕ) (texts : List (List ℕ)) (definitions : List ℕ) (c : Built) (main : ℕ) where
   abbrev P : Program
   P = program_of c main
 
-  ended : Passed P texts definitions (start texts definitions) definitions c → Final P texts definitions c.scope
+  ended : Passed P texts definitions (start stack texts definitions) definitions c → Final P texts definitions c.scope
   ended g =
       final c main texts definitions g.reaches.1 g.reaches.0.texts (ap names_of g.functions ∙ g.named)
       (λ k x e. each_at (StandsIn c.scope) g.added k x (subst (λ l. slice_get l k ≡ Some x) g.functions e) g.stand)
@@ -64,12 +64,12 @@ module _ (texts : List (List ℕ)) (definitions : List ℕ) (c : Built) (main : 
       let counted = m.each k g e in
       let body = h (u k g e) in
       let typed_body = statement_is_typed P g (numbers_in g.type.parameters) (length g.objects) g.body in
-      and_from (nat_le (typed_nodes g) g.nodes) (nat_le g.weight 1048576 && (parameters_are_first g.type.parameters g.objects && typed_body))
+      and_from (nat_le (typed_nodes g) g.nodes) (nat_le g.weight 16777216 && (parameters_are_first g.type.parameters g.objects && typed_body))
       (at_most (typed_nodes g) g.nodes counted.counted)
-      (and_from (nat_le g.weight 1048576) (parameters_are_first g.type.parameters g.objects && typed_body) (at_most g.weight 1048576 counted.light)
+      (and_from (nat_le g.weight 16777216) (parameters_are_first g.type.parameters g.objects && typed_body) (at_most g.weight 16777216 counted.light)
       (and_from (parameters_are_first g.type.parameters g.objects) typed_body body.0 body.1))
 
-  built_typed : Passed P texts definitions (start texts definitions) definitions c → IsMeasured P → AllPresent P → is_typed P ≡ true
+  built_typed : Passed P texts definitions (start stack texts definitions) definitions c → IsMeasured P → AllPresent P → is_typed P ≡ true
   built_typed g m u =
       let F = ended g in
       let N = names_begin P texts definitions in
@@ -94,24 +94,24 @@ whole_built whole b =
     (then_check (units.main_or_fault whole (units.main_from b.scope 0 b.functions)) (λ main. fine (program_of b main)))
     (then_any (Comes_from b) (units.main_or_fault whole (units.main_from b.scope 0 b.functions)) (λ main. fine (program_of b main)) (λ main. (main, refl)))
 
-abbrev Comes : List (List ℕ) → List ExternalTree → Program → Type 0
-Comes texts unit p =
-    let ds = units.definitions_in unit in (c : Built) × (main : ℕ) × (p ≡ program_of c main) × Passed (program_of c main) texts ds (start texts ds) ds c
+abbrev Comes : ℕ → List (List ℕ) → List ExternalTree → Program → Type 0
+Comes stack texts unit p =
+    let ds = units.definitions_in unit in (c : Built) × (main : ℕ) × (p ≡ program_of c main) × Passed (program_of c main) texts ds (start stack texts ds) ds c
 
-comes : (texts : List (List ℕ)) (whole : Pos) (unit : List ExternalTree) → IfFine (Comes texts unit) (unit_typed texts whole unit)
-comes texts whole unit =
+comes : (stack : ℕ) (texts : List (List ℕ)) (whole : Pos) (unit : List ExternalTree) → IfFine (Comes stack texts unit) (unit_typed stack texts whole unit)
+comes stack texts whole unit =
     let ds = units.definitions_in unit in
-    let b = start texts ds in
-    then_some (λ c. (p : Program) → Passed p texts ds b ds c) (Comes texts unit) (externals_typed b unit) (whole_program whole)
+    let b = start stack texts ds in
+    then_some (λ c. (p : Program) → Passed p texts ds b ds c) (Comes stack texts unit) (externals_typed b unit) (whole_program whole)
     (delayed {H = Program} (λ p c. Passed p texts ds b ds c) (externals_typed b unit)
     (λ p. externals_passed p texts ds b (file_begins texts ds) unit)) (λ c h.
-    more_of (Comes_from c) (Comes texts unit) (whole_program whole c) (λ p r. (c, r.0, r.1, h (program_of c r.0))) (whole_built whole c))
+    more_of (Comes_from c) (Comes stack texts unit) (whole_program whole c) (λ p r. (c, r.0, r.1, h (program_of c r.0))) (whole_built whole c))
 
 pub program_is_typed : ProgramIsTyped
-program_is_typed texts whole unit p a n e =
-    let r = of_fine (Comes texts unit) (unit_typed texts whole unit) p e (comes texts whole unit) in
-    subst (λ q. IsMeasured q → AllPresent q → is_typed q ≡ true) (sym r.2) (built_typed texts (units.definitions_in unit) r.0 r.1 r.3)
-    (program_is_measured texts whole unit p a n e) (uses_are_present texts whole unit p e)
+program_is_typed stack texts whole unit p l a n e =
+    let r = of_fine (Comes stack texts unit) (unit_typed stack texts whole unit) p e (comes stack texts whole unit) in
+    subst (λ q. IsMeasured q → AllPresent q → is_typed q ≡ true) (sym r.2) (built_typed stack texts (units.definitions_in unit) r.0 r.1 r.3)
+    (program_is_measured stack texts whole unit p l a n e) (uses_are_present stack texts whole unit p e)
 
 pub program_is_checked : ProgramIsChecked
-program_is_checked texts whole unit p a n e = typed_is_checked texts whole unit p a n e (program_is_typed texts whole unit p a n e)
+program_is_checked stack texts whole unit p l a n e = typed_is_checked stack texts whole unit p l a n e (program_is_typed stack texts whole unit p l a n e)

@@ -20,7 +20,7 @@ use Rattle.typing_rules.specs.Scope.{Scope, StaticObject, Binding, Tag, Meaning,
 use Rattle.typing_rules.specs.Declarators.{Parameters, parameters_in, behind_parameters}
 use Rattle.typing_rules.specs.Linkage.{StorageClass, Agreed, agreed, linkage_of_function, as_built_in, redeclared, agreed_in, with_storage, declared_at_file, file_function}
 use Rattle.typing_rules.specs.Statements.{AllDone, pieces}
-use Rattle.typing_rules.specs.Units.{Built, around_of, body_scope, newer, weight, weight_limit, function_of, with_function}
+use Rattle.typing_rules.specs.Units.{Built, around_of, body_scope, newer, weight, function_of, with_function}
 use Rattle.typing_expressions.specs.Refused.{IsOf, Tells}
 use Rattle.typing_expressions.proofs.Verdicts.{tells_left, tells_then, tells_of}
 use Rattle.decls_declarators.proofs.Verdicts.{then_fine, then_tells, provided_fine, provided_left}
@@ -115,15 +115,16 @@ body_left b t F T ns types own file s1 s2 s3 ms js xs i e p h =
       pieces_kept (around_of T) None (with_texts t s1) F.body (done t s2 ms js xs) p ∙ ap (λ s. s.definitions) e,
     )
 
-abbrev light : FunctionTree → FunctionType → List ObjectType → Verdict (Unit {0})
-light F T os = refuse_if (nat_lt weight_limit (weight F T.parameters os)) code.WeightLimit F.at
+abbrev light : ℕ → FunctionTree → FunctionType → List ObjectType → Verdict (Unit {0})
+light stack F T os = refuse_if (nat_lt stack (weight F T.parameters os)) code.WeightLimit F.at
 
-pub body_fine : (b : Built) (F : FunctionTree) (T : FunctionType) (t : List (List ℕ)) (file s1 E s2 s3 s4 : Scope) (g : held.Function) (ms : List Label) (js : List Initial) (xs : List Statement) (objects : List ObjectType) → s1 ≡ E →
-    pieces (around_of T) None (with_texts t s1) F.body ≡ fine (done t s2 ms js xs) → s3 ≡ outside file s2 → s4 ≡ with_objects [] s3 → objects ≡ s3.objects → s2.definitions ≡ file.definitions → light F T objects ≡ fine tt →
+pub body_fine : (stack : ℕ) (b : Built) (F : FunctionTree) (T : FunctionType) (t : List (List ℕ)) (file s1 E s2 s3 s4 : Scope) (g : held.Function) (ms : List Label) (js : List Initial) (xs : List Statement) (objects : List ObjectType) → b.stack ≡ stack → s1 ≡ E →
+    pieces (around_of T) None (with_texts t s1) F.body ≡ fine (done t s2 ms js xs) → s3 ≡ outside file s2 → s4 ≡ with_objects [] s3 → objects ≡ s3.objects → s2.definitions ≡ file.definitions → light stack F T objects ≡ fine tt →
     view.function_of g ≡ function_of F T (done t s2 ms js xs) → body_read b F T (with_texts t file) (with_texts t E) ≡ fine (one_more b (with_texts t s4) g js)
-body_fine b F T t file s1 E s2 s3 s4 g ms js xs objects e p l m o d w v =
+body_fine stack b F T t file s1 E s2 s3 s4 g ms js xs objects k e p l m o d w v =
     let all = done t s2 ms js xs in
     let behind : Built = record {
+      stack = b.stack;
       scope = record (with_texts t file) { literals = s2.literals; statics = s2.statics; objects = [] };
       functions = b.functions ++ function_of F T all ∷ [];
       initial = b.initial ++ all.initial;
@@ -132,17 +133,17 @@ body_fine b F T t file s1 E s2 s3 s4 g ms js xs objects e p l m o d w v =
     = same_made t file.definitions s2.definitions file.bindings file.bindings file.tags file.tags file.level file.level s2.literals s2.literals s2.statics s2.statics [] [] (sym d) refl refl refl refl refl refl
     ∙ sym (ap (with_texts t) (m ∙ ap (λ x. with_objects [] x) l)) in
     ap (λ s. body_read b F T (with_texts t file) (with_texts t s)) (sym e) ∙ then_fine (pieces (around_of T) None (with_texts t s1) F.body) all (with_function b (with_texts t file) F T) p
-    ∙ provided_fine (light F T s2.objects) (fine behind) behind (ap (light F T) (sym (o ∙ ap (λ x. x.objects) l)) ∙ w) refl
-    ∙ ap (λ s. fine (record { scope = s; functions = b.functions ++ function_of F T all ∷ []; initial = b.initial ++ all.initial })) scope
-    ∙ ap (λ f. fine (record { scope = with_texts t s4; functions = b.functions ++ f ∷ []; initial = b.initial ++ all.initial })) (sym v)
+    ∙ provided_fine (light b.stack F T s2.objects) (fine behind) behind (ap (light b.stack F T) (sym (o ∙ ap (λ x. x.objects) l)) ∙ ap (λ n. light n F T objects) k ∙ w) refl
+    ∙ ap (λ s. fine (record { stack = b.stack; scope = s; functions = b.functions ++ function_of F T all ∷ []; initial = b.initial ++ all.initial })) scope
+    ∙ ap (λ f. fine (record { stack = b.stack; scope = with_texts t s4; functions = b.functions ++ f ∷ []; initial = b.initial ++ all.initial })) (sym v)
 
 pub body_told : (b : Built) (F : FunctionTree) (T : FunctionType) (t : List (List ℕ)) (file s1 E : Scope) (r : Refusal) → s1 ≡ E → Tells r (pieces (around_of T) None (with_texts t s1) F.body) → Tells r (body_read b F T (with_texts t file) (with_texts t E))
 body_told b F T t file s1 E r e h =
     subst (λ s. Tells r (body_read b F T (with_texts t file) (with_texts t s))) e (tells_then r (pieces (around_of T) None (with_texts t s1) F.body) (with_function b (with_texts t file) F T) h)
 
-pub weight_told : (b : Built) (F : FunctionTree) (T : FunctionType) (t : List (List ℕ)) (file s1 E s2 s3 : Scope) (ms : List Label) (js : List Initial) (xs : List Statement) (objects : List ObjectType) (r : Refusal) → s1 ≡ E →
-    pieces (around_of T) None (with_texts t s1) F.body ≡ fine (done t s2 ms js xs) → s3 ≡ outside file s2 → objects ≡ s3.objects → IsOf r (light F T objects) → Tells r (body_read b F T (with_texts t file) (with_texts t E))
-weight_told b F T t file s1 E s2 s3 ms js xs objects r e p l o h =
+pub weight_told : (stack : ℕ) (b : Built) (F : FunctionTree) (T : FunctionType) (t : List (List ℕ)) (file s1 E s2 s3 : Scope) (ms : List Label) (js : List Initial) (xs : List Statement) (objects : List ObjectType) (r : Refusal) → b.stack ≡ stack → s1 ≡ E →
+    pieces (around_of T) None (with_texts t s1) F.body ≡ fine (done t s2 ms js xs) → s3 ≡ outside file s2 → objects ≡ s3.objects → IsOf r (light stack F T objects) → Tells r (body_read b F T (with_texts t file) (with_texts t E))
+weight_told stack b F T t file s1 E s2 s3 ms js xs objects r k e p l o h =
     subst (λ s. Tells r (body_read b F T (with_texts t file) (with_texts t s))) e
     (then_tells r (pieces (around_of T) None (with_texts t s1) F.body) (done t s2 ms js xs) (with_function b (with_texts t file) F T) p
-    (provided_left r (light F T s2.objects) _ (tells_of r (light F T s2.objects) (subst (λ os. IsOf r (light F T os)) (o ∙ ap (λ x. x.objects) l) h))))
+    (provided_left r (light b.stack F T s2.objects) _ (tells_of r (light b.stack F T s2.objects) (subst (λ os. IsOf r (light b.stack F T os)) (o ∙ ap (λ x. x.objects) l) (subst (λ n. IsOf r (light n F T objects)) (sym k) h)))))

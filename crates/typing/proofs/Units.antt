@@ -64,10 +64,10 @@ with_body_told b F d t outer inner s1 file types own r s p o e f h = subst (λ v
 
 -- ---- a function behind those before
 
-pub built_more : (s : Scope) (fs new_fs : List held.Function) (is new_is js : List Initial) (old : Scope) (g : held.Function) → new_fs ≡ fs ++ g ∷ [] → new_is ≡ is ++ js → one_more (built_of old fs is) s g js ≡ built_of s new_fs new_is
-built_more s fs new_fs is new_is js old g e f =
-    ap (λ l. record { scope = s; functions = l; initial = map initial_of is ++ map initial_of js }) (sym (map-append view.function_of fs (g ∷ [])) ∙ ap (map view.function_of) (sym e))
-    ∙ ap (λ l. record { scope = s; functions = map view.function_of new_fs; initial = l }) (sym (map-append initial_of is js) ∙ ap (map initial_of) (sym f))
+pub built_more : (stack : ℕ) (s : Scope) (fs new_fs : List held.Function) (is new_is js : List Initial) (old : Scope) (g : held.Function) → new_fs ≡ fs ++ g ∷ [] → new_is ≡ is ++ js → one_more (built_of stack old fs is) s g js ≡ built_of stack s new_fs new_is
+built_more stack s fs new_fs is new_is js old g e f =
+    ap (λ l. record { stack = stack; scope = s; functions = l; initial = map initial_of is ++ map initial_of js }) (sym (map-append view.function_of fs (g ∷ [])) ∙ ap (map view.function_of) (sym e))
+    ∙ ap (λ l. record { stack = stack; scope = s; functions = map view.function_of new_fs; initial = l }) (sym (map-append initial_of is js) ∙ ap (map initial_of) (sym f))
 
 abbrev named_in : FunctionTree → Scope → Verdict Parameters
 named_in F s = provided (all_named F.parameters) (parameters_in s F.parameters)
@@ -90,14 +90,14 @@ function_told b F d ps r e f g h = subst (λ v. Tells r v) (sym (function_fine b
 
 -- ---- external declarations
 
-pub declaration_fine : (s new : Scope) (x : DeclarationTree) (fs : List held.Function) (is new_is js : List Initial) (xs : List Statement) → new_is ≡ is ++ js → declaration_typed s x ≡ fine (declared_of new xs js) →
-    external_typed (built_of s fs is) (declaration x) ≡ fine (built_of new fs new_is)
-declaration_fine s new x fs is new_is js xs e h =
-    then_fine (declaration_typed s x) (declared_of new xs js) (with_declaration (built_of s fs is)) h
-    ∙ ap (λ l. fine (record { scope = new; functions = map view.function_of fs; initial = l })) (sym (map-append initial_of is js) ∙ ap (map initial_of) (sym e))
+pub declaration_fine : (stack : ℕ) (s new : Scope) (x : DeclarationTree) (fs : List held.Function) (is new_is js : List Initial) (xs : List Statement) → new_is ≡ is ++ js → declaration_typed s x ≡ fine (declared_of new xs js) →
+    external_typed (built_of stack s fs is) (declaration x) ≡ fine (built_of stack new fs new_is)
+declaration_fine stack s new x fs is new_is js xs e h =
+    then_fine (declaration_typed s x) (declared_of new xs js) (with_declaration (built_of stack s fs is)) h
+    ∙ ap (λ l. fine (record { stack = stack; scope = new; functions = map view.function_of fs; initial = l })) (sym (map-append initial_of is js) ∙ ap (map initial_of) (sym e))
 
-pub declaration_told : (s : Scope) (x : DeclarationTree) (fs : List held.Function) (is : List Initial) (r : Refusal) → Tells r (declaration_typed s x) → Tells r (external_typed (built_of s fs is) (declaration x))
-declaration_told s x fs is r h = tells_then r (declaration_typed s x) (with_declaration (built_of s fs is)) h
+pub declaration_told : (stack : ℕ) (s : Scope) (x : DeclarationTree) (fs : List held.Function) (is : List Initial) (r : Refusal) → Tells r (declaration_typed s x) → Tells r (external_typed (built_of stack s fs is) (declaration x))
+declaration_told stack s x fs is r h = tells_then r (declaration_typed s x) (with_declaration (built_of stack s fs is)) h
 
 pub one_external : (b new : Built) (x : ExternalTree) → external_typed b x ≡ fine new → (xs : List ExternalTree) → externals_typed b (x ∷ xs) ≡ externals_typed new xs
 one_external b new x e xs = then_fine (external_typed b x) new (λ c. externals_typed c xs) e
@@ -107,24 +107,24 @@ one_external_told b x r h xs = tells_then r (external_typed b x) (λ c. external
 
 -- ---- units
 
-abbrev begun : List (List ℕ) → List ExternalTree → Built
-begun t es = record { scope = file_scope t (definitions_in es); functions = []; initial = [] }
+abbrev begun : ℕ → List (List ℕ) → List ExternalTree → Built
+begun stack t es = record { stack = stack; scope = file_scope t (definitions_in es); functions = []; initial = [] }
 
-unit_is : (t : List (List ℕ)) (whole : Pos) (es : List ExternalTree) (b end : Built) → b ≡ begun t es → externals_typed b es ≡ fine end → unit_typed t whole es ≡ whole_program whole end
-unit_is t whole es b end e f = then_fine (externals_typed (begun t es) es) end (whole_program whole) (ap (λ k. externals_typed k es) (sym e) ∙ f)
+unit_is : (stack : ℕ) (t : List (List ℕ)) (whole : Pos) (es : List ExternalTree) (b end : Built) → b ≡ begun stack t es → externals_typed b es ≡ fine end → unit_typed stack t whole es ≡ whole_program whole end
+unit_is stack t whole es b end e f = then_fine (externals_typed (begun stack t es) es) end (whole_program whole) (ap (λ k. externals_typed k es) (sym e) ∙ f)
 
-pub externals_told : (t : List (List ℕ)) (whole : Pos) (es : List ExternalTree) (b : Built) (r : Refusal) → b ≡ begun t es → Tells r (externals_typed b es) → Tells r (unit_typed t whole es)
-externals_told t whole es b r e h = tells_then r (externals_typed (begun t es) es) (whole_program whole) (subst (λ k. Tells r (externals_typed k es)) e h)
+pub externals_told : (stack : ℕ) (t : List (List ℕ)) (whole : Pos) (es : List ExternalTree) (b : Built) (r : Refusal) → b ≡ begun stack t es → Tells r (externals_typed b es) → Tells r (unit_typed stack t whole es)
+externals_told stack t whole es b r e h = tells_then r (externals_typed (begun stack t es) es) (whole_program whole) (subst (λ k. Tells r (externals_typed k es)) e h)
 
-pub begun_is : (t : List (List ℕ)) (es : List ExternalTree) (ds : List ℕ) (s : Scope) (fs : List held.Function) (is : List Initial) → ds ≡ definitions_in es → s ≡ file_scope [] ds → fs ≡ [] → is ≡ [] → built_of (with_texts t s) fs is ≡ begun t es
-begun_is t es ds s fs is e f g h =
-    ap (λ k. built_of (with_texts t k) fs is) f ∙ ap (λ k. built_of (file_scope t k) fs is) e ∙ ap (λ k. built_of (file_scope t (definitions_in es)) k is) g ∙ ap (λ k. built_of (file_scope t (definitions_in es)) [] k) h
+pub begun_is : (stack : ℕ) (t : List (List ℕ)) (es : List ExternalTree) (ds : List ℕ) (s : Scope) (fs : List held.Function) (is : List Initial) → ds ≡ definitions_in es → s ≡ file_scope [] ds → fs ≡ [] → is ≡ [] → built_of stack (with_texts t s) fs is ≡ begun stack t es
+begun_is stack t es ds s fs is e f g h =
+    ap (λ k. built_of stack (with_texts t k) fs is) f ∙ ap (λ k. built_of stack (file_scope t k) fs is) e ∙ ap (λ k. built_of stack (file_scope t (definitions_in es)) k is) g ∙ ap (λ k. built_of stack (file_scope t (definitions_in es)) [] k) h
 
-pub whole_fine : (t : List (List ℕ)) (whole : Pos) (es : List ExternalTree) (b end : Built) (p : Program) → b ≡ begun t es → externals_typed b es ≡ fine end → whole_program whole end ≡ fine p → unit_typed t whole es ≡ fine p
-whole_fine t whole es b end p e f g = unit_is t whole es b end e f ∙ g
+pub whole_fine : (stack : ℕ) (t : List (List ℕ)) (whole : Pos) (es : List ExternalTree) (b end : Built) (p : Program) → b ≡ begun stack t es → externals_typed b es ≡ fine end → whole_program whole end ≡ fine p → unit_typed stack t whole es ≡ fine p
+whole_fine stack t whole es b end p e f g = unit_is stack t whole es b end e f ∙ g
 
-pub whole_told : (t : List (List ℕ)) (whole : Pos) (es : List ExternalTree) (b end : Built) (r : Refusal) → b ≡ begun t es → externals_typed b es ≡ fine end → Tells r (whole_program whole end) → Tells r (unit_typed t whole es)
-whole_told t whole es b end r e f h = subst (λ v. Tells r v) (sym (unit_is t whole es b end e f)) h
+pub whole_told : (stack : ℕ) (t : List (List ℕ)) (whole : Pos) (es : List ExternalTree) (b end : Built) (r : Refusal) → b ≡ begun stack t es → externals_typed b es ≡ fine end → Tells r (whole_program whole end) → Tells r (unit_typed stack t whole es)
+whole_told stack t whole es b end r e f h = subst (λ v. Tells r v) (sym (unit_is stack t whole es b end e f)) h
 
 pub fault_told : (fault : Fault) (texts : Texts) (v : Verdict Program) (r : Refusal) → Tells r v → IsFaultOfRefusal fault texts r → IsFaultOfVerdict fault texts v
 fault_told fault texts v r h g = record { refusal = r; refused = h; shown = g }

@@ -93,9 +93,10 @@ pub(crate) fn function_body(
     function: &tree::Function,
     function_type: FunctionType,
     own: Vec<ObjectType>,
+    stack: u32,
 ) -> Result<Function, Refusal>
-    ensures ok { IfOk result (λ g. (js : List Initial) × (initial.new.items ≡ initial.old.items ++ js) × ((b : typed.Built) → body_read b (tree_view.function_of function.now) (function_type_of function_type) (with_texts names.now scope.old) (with_texts names.now (entered (names_of (map parameter_of function.now.declarator.parameters.items)) (map parameter_type_of function_type.parameters.items) (map object_type_of own.items) scope.old)) ≡ fine (one_more b (with_texts names.now scope.new) g js))) }
-    ensures err { IfErr result (λ r. (b : typed.Built) → Tells r (body_read b (tree_view.function_of function.now) (function_type_of function_type) (with_texts names.now scope.old) (with_texts names.now (entered (names_of (map parameter_of function.now.declarator.parameters.items)) (map parameter_type_of function_type.parameters.items) (map object_type_of own.items) scope.old)))) }
+    ensures ok { IfOk result (λ g. (js : List Initial) × (initial.new.items ≡ initial.old.items ++ js) × ((b : typed.Built) → b.stack ≡ stack → body_read b (tree_view.function_of function.now) (function_type_of function_type) (with_texts names.now scope.old) (with_texts names.now (entered (names_of (map parameter_of function.now.declarator.parameters.items)) (map parameter_type_of function_type.parameters.items) (map object_type_of own.items) scope.old)) ≡ fine (one_more b (with_texts names.now scope.new) g js))) }
+    ensures err { IfErr result (λ r. (b : typed.Built) → b.stack ≡ stack → Tells r (body_read b (tree_view.function_of function.now) (function_type_of function_type) (with_texts names.now scope.old) (with_texts names.now (entered (names_of (map parameter_of function.now.declarator.parameters.items)) (map parameter_type_of function_type.parameters.items) (map object_type_of own.items) scope.old)))) }
 {
     let parameters = &function.declarator.parameters;
     let block = match enter_body(alloc, scope, parameters, &function_type.parameters, own) {
@@ -115,7 +116,7 @@ pub(crate) fn function_body(
     };
     scope.outside(block);
     let objects = scope.change_objects(Vec::new(alloc));
-    match function_of(function, function_type, objects, statements) {
+    match function_of(function, function_type, objects, statements, stack) {
         Ok(done) => Ok(done),
         Err(refusal) => Err(refusal),
     }

@@ -23,9 +23,10 @@ fn unit_typed(
     names: &Names,
     whole: Pos,
     externals: &[External],
+    stack: u32,
 ) -> Result<Program, Refusal>
-    ensures ok { IfOk result (λ p. typed.unit_typed names.now whole (map external_of externals.now) ≡ fine (view.program_of p)) }
-    ensures err { IfErr result (λ r. Tells r (typed.unit_typed names.now whole (map external_of externals.now))) }
+    ensures ok { IfOk result (λ p. typed.unit_typed stack names.now whole (map external_of externals.now) ≡ fine (view.program_of p)) }
+    ensures err { IfErr result (λ r. Tells r (typed.unit_typed stack names.now whole (map external_of externals.now))) }
 {
     let definitions = match definitions_in(alloc, externals) {
         Ok(definitions) => definitions,
@@ -41,6 +42,7 @@ fn unit_typed(
         &mut functions,
         &mut initial,
         externals,
+        stack,
     ) {
         Ok(()) => {}
         Err(refusal) => return Err(refusal),
@@ -51,24 +53,30 @@ fn unit_typed(
     }
 }
 
-/// The typed program of a translation unit (6.9), whose names and literals have the texts of `names`. What concerns the whole unit
-/// stands at the place `whole`.
+/// The typed program of a translation unit (6.9), whose names and literals have the texts of `names`, for a stack of so many bytes. What
+/// concerns the whole unit stands at the place `whole`.
 ///
 /// Fails
 /// - with what a declaration breaks, as `typing_declarations::declaration_typed` does;
 /// - with 527 where a parameter of a function definition has no name (6.9.1p5), and with what its specifiers, parameters and name break;
-/// - with what a body breaks, as `typing_statements::pieces` does, and with 714 where a function weighs too much;
+/// - with what a body breaks, as `typing_statements::pieces` does, and with 714 where a function weighs more than the stack has bytes;
 /// - with 713 where static objects and string literals take too many bytes, with 715 where there are too many functions;
 /// - with 552 at the first use of an object or a function that has no definition (6.9p3, p5);
 /// - with 551 where no function is `int main(void)` with external linkage (5.1.2.2.1);
 /// - with 801 where memory runs out.
 ///
 /// The fault is of a constraint that stands, at its place. The recursion is as deep as the tree is.
-pub fn check(alloc: Global, unit: &Unit, names: &Names, whole: Pos) -> Result<Program, Fault>
-    ensures ok { IfOk result (λ p. typed.unit_typed names.now whole (unit_of unit.now) ≡ fine (view.program_of p)) }
-    ensures err { IfErr result (λ fault. IsFaultOfVerdict fault names.now (typed.unit_typed names.now whole (unit_of unit.now))) }
+pub fn check(
+    alloc: Global,
+    unit: &Unit,
+    names: &Names,
+    whole: Pos,
+    stack: u32,
+) -> Result<Program, Fault>
+    ensures ok { IfOk result (λ p. typed.unit_typed stack names.now whole (unit_of unit.now) ≡ fine (view.program_of p)) }
+    ensures err { IfErr result (λ fault. IsFaultOfVerdict fault names.now (typed.unit_typed stack names.now whole (unit_of unit.now))) }
 {
-    match unit_typed(alloc, names, whole, &unit.externals) {
+    match unit_typed(alloc, names, whole, &unit.externals, stack) {
         Ok(program) => Ok(program),
         Err(refusal) => Err(refusal.to_fault(alloc, names)),
     }

@@ -1,7 +1,7 @@
 //! External declarations (6.9).
 #![tactic(auto, using(decls_declarators::proofs::Verdicts::told))]
 
-ghost use Rattle.std.specs.Prelude.{◌≡◌, List, map, IfErr, OnOk};
+ghost use Rattle.std.specs.Prelude.{◌≡◌, ℕ, List, map, IfErr, OnOk};
 ghost use Rattle.typing_program.specs.declared.units.Function.{Function};
 ghost use Rattle.tree.specs.Tree as tree;
 ghost use Rattle.tree.specs.View.{declaration_of, external_of};
@@ -28,8 +28,8 @@ fn external_declaration(
     initial: &mut Vec<Initial>,
     declaration: &Declaration,
 ) -> Result<(), Refusal>
-    ensures ok { (fs : List Function) → OnOk result (typed.external_typed (built_of (with_texts names.now scope.old) fs initial.old.items) (tree.declaration (declaration_of declaration.now)) ≡ fine (built_of (with_texts names.now scope.new) fs initial.new.items)) }
-    ensures err { (fs : List Function) → IfErr result (λ r. Tells r (typed.external_typed (built_of (with_texts names.now scope.old) fs initial.old.items) (tree.declaration (declaration_of declaration.now)))) }
+    ensures ok { (stack : ℕ) (fs : List Function) → OnOk result (typed.external_typed (built_of stack (with_texts names.now scope.old) fs initial.old.items) (tree.declaration (declaration_of declaration.now)) ≡ fine (built_of stack (with_texts names.now scope.new) fs initial.new.items)) }
+    ensures err { (stack : ℕ) (fs : List Function) → IfErr result (λ r. Tells r (typed.external_typed (built_of stack (with_texts names.now scope.old) fs initial.old.items) (tree.declaration (declaration_of declaration.now)))) }
 {
     let mut statements = Vec::new(alloc);
     match declaration_typed(alloc, names, scope, &mut statements, initial, declaration) {
@@ -45,13 +45,14 @@ fn external_typed(
     functions: &mut Vec<Function>,
     initial: &mut Vec<Initial>,
     external: &External,
+    stack: u32,
 ) -> Result<(), Refusal>
-    ensures ok { OnOk result (typed.external_typed (built_of (with_texts names.now scope.old) functions.old.items initial.old.items) (external_of external.now) ≡ fine (built_of (with_texts names.now scope.new) functions.new.items initial.new.items)) }
-    ensures err { IfErr result (λ r. Tells r (typed.external_typed (built_of (with_texts names.now scope.old) functions.old.items initial.old.items) (external_of external.now))) }
+    ensures ok { OnOk result (typed.external_typed (built_of stack (with_texts names.now scope.old) functions.old.items initial.old.items) (external_of external.now) ≡ fine (built_of stack (with_texts names.now scope.new) functions.new.items initial.new.items)) }
+    ensures err { IfErr result (λ r. Tells r (typed.external_typed (built_of stack (with_texts names.now scope.old) functions.old.items initial.old.items) (external_of external.now))) }
 {
     match external {
         External::Function(function) => {
-            function_typed(alloc, names, scope, functions, initial, function)
+            function_typed(alloc, names, scope, functions, initial, function, stack)
         }
         External::Declaration(declaration) => {
             external_declaration(alloc, names, scope, initial, declaration)
@@ -67,12 +68,13 @@ pub(crate) fn externals_typed(
     functions: &mut Vec<Function>,
     initial: &mut Vec<Initial>,
     externals: &[External],
+    stack: u32,
 ) -> Result<(), Refusal>
-    ensures ok { OnOk result (typed.externals_typed (built_of (with_texts names.now scope.old) functions.old.items initial.old.items) (map external_of externals.now) ≡ fine (built_of (with_texts names.now scope.new) functions.new.items initial.new.items)) }
-    ensures err { IfErr result (λ r. Tells r (typed.externals_typed (built_of (with_texts names.now scope.old) functions.old.items initial.old.items) (map external_of externals.now))) }
+    ensures ok { OnOk result (typed.externals_typed (built_of stack (with_texts names.now scope.old) functions.old.items initial.old.items) (map external_of externals.now) ≡ fine (built_of stack (with_texts names.now scope.new) functions.new.items initial.new.items)) }
+    ensures err { IfErr result (λ r. Tells r (typed.externals_typed (built_of stack (with_texts names.now scope.old) functions.old.items initial.old.items) (map external_of externals.now))) }
 {
     for external in externals {
-        match external_typed(alloc, names, scope, functions, initial, external) {
+        match external_typed(alloc, names, scope, functions, initial, external, stack) {
             Ok(()) => {}
             Err(refusal) => return Err(refusal),
         }

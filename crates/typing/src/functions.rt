@@ -70,9 +70,10 @@ fn with_type(
     function: &tree::Function,
     said: SpecifiedBase,
     entered: Entered,
+    stack: u32,
 ) -> Result<Function, Refusal>
-    ensures ok { (outer : scope_typed.Scope) → declarator.parameters_in (with_texts names.now outer) (map parameter_of function.now.declarator.parameters.items) ≡ fine (record { types = map parameter_type_of entered.types.items; scope = with_texts names.now scope.old }) → entered.block ≡ block_of outer → map object_type_of entered.objects.items ≡ outer.objects → IfOk result (λ g. (js : List Initial) × (initial.new.items ≡ initial.old.items ++ js) × ((b : typed.Built) → with_parameters b (tree_view.function_of function.now) (specified_of said (with_texts names.now outer)) (record { types = map parameter_type_of entered.types.items; scope = with_texts names.now scope.old }) ≡ fine (one_more b (with_texts names.now scope.new) g js))) }
-    ensures err { (outer : scope_typed.Scope) → declarator.parameters_in (with_texts names.now outer) (map parameter_of function.now.declarator.parameters.items) ≡ fine (record { types = map parameter_type_of entered.types.items; scope = with_texts names.now scope.old }) → entered.block ≡ block_of outer → map object_type_of entered.objects.items ≡ outer.objects → IfErr result (λ r. (b : typed.Built) → Tells r (with_parameters b (tree_view.function_of function.now) (specified_of said (with_texts names.now outer)) (record { types = map parameter_type_of entered.types.items; scope = with_texts names.now scope.old }))) }
+    ensures ok { (outer : scope_typed.Scope) → declarator.parameters_in (with_texts names.now outer) (map parameter_of function.now.declarator.parameters.items) ≡ fine (record { types = map parameter_type_of entered.types.items; scope = with_texts names.now scope.old }) → entered.block ≡ block_of outer → map object_type_of entered.objects.items ≡ outer.objects → IfOk result (λ g. (js : List Initial) × (initial.new.items ≡ initial.old.items ++ js) × ((b : typed.Built) → b.stack ≡ stack → with_parameters b (tree_view.function_of function.now) (specified_of said (with_texts names.now outer)) (record { types = map parameter_type_of entered.types.items; scope = with_texts names.now scope.old }) ≡ fine (one_more b (with_texts names.now scope.new) g js))) }
+    ensures err { (outer : scope_typed.Scope) → declarator.parameters_in (with_texts names.now outer) (map parameter_of function.now.declarator.parameters.items) ≡ fine (record { types = map parameter_type_of entered.types.items; scope = with_texts names.now scope.old }) → entered.block ≡ block_of outer → map object_type_of entered.objects.items ≡ outer.objects → IfErr result (λ r. (b : typed.Built) → b.stack ≡ stack → Tells r (with_parameters b (tree_view.function_of function.now) (specified_of said (with_texts names.now outer)) (record { types = map parameter_type_of entered.types.items; scope = with_texts names.now scope.old }))) }
 {
     let own = leave_parameters(scope, entered.block, entered.objects);
     let function_type = FunctionType {
@@ -84,7 +85,16 @@ fn with_type(
         Ok(()) => {}
         Err(refusal) => return Err(refusal),
     }
-    match function_body(alloc, names, scope, initial, function, function_type, own) {
+    match function_body(
+        alloc,
+        names,
+        scope,
+        initial,
+        function,
+        function_type,
+        own,
+        stack,
+    ) {
         Ok(done) => Ok(done),
         Err(refusal) => Err(refusal),
     }
@@ -98,9 +108,10 @@ pub(crate) fn function_typed(
     functions: &mut Vec<Function>,
     initial: &mut Vec<Initial>,
     function: &tree::Function,
+    stack: u32,
 ) -> Result<(), Refusal>
-    ensures ok { OnOk result (typed.function_typed (built_of (with_texts names.now scope.old) functions.old.items initial.old.items) (tree_view.function_of function.now) ≡ fine (built_of (with_texts names.now scope.new) functions.new.items initial.new.items)) }
-    ensures err { IfErr result (λ r. Tells r (typed.function_typed (built_of (with_texts names.now scope.old) functions.old.items initial.old.items) (tree_view.function_of function.now))) }
+    ensures ok { OnOk result (typed.function_typed (built_of stack (with_texts names.now scope.old) functions.old.items initial.old.items) (tree_view.function_of function.now) ≡ fine (built_of stack (with_texts names.now scope.new) functions.new.items initial.new.items)) }
+    ensures err { IfErr result (λ r. Tells r (typed.function_typed (built_of stack (with_texts names.now scope.old) functions.old.items initial.old.items) (tree_view.function_of function.now))) }
 {
     let said = match specified(alloc, names, scope, &function.specifiers) {
         Ok(said) => said,
@@ -111,7 +122,7 @@ pub(crate) fn function_typed(
         Ok(entered) => entered,
         Err(refusal) => return Err(refusal),
     };
-    let done = match with_type(alloc, names, scope, initial, function, said, entered) {
+    let done = match with_type(alloc, names, scope, initial, function, said, entered, stack) {
         Ok(done) => done,
         Err(refusal) => return Err(refusal),
     };

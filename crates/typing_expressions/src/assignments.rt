@@ -76,6 +76,7 @@ fn step<'s>(
 }
 
 /// `++` and `--`, behind their operand or before it (6.5.2.4, 6.5.3.1).
+#[inline(never)]
 pub fn stepped<'s>(
     alloc: Global,
     pos: Pos,
@@ -202,6 +203,7 @@ fn assigning(op: AssignOp) -> Option<BinOp>
 }
 
 /// An assignment (6.5.16).
+#[inline(never)]
 pub fn assigned<'s>(
     alloc: Global,
     pos: Pos,

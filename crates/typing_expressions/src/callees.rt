@@ -82,6 +82,7 @@ fn function_meant<'s>(
 }
 
 /// The function with this name.
+#[inline(never)]
 pub fn function_named<'s>(
     names: &Names,
     scope: &Scope,

@@ -100,6 +100,7 @@ pub(crate) fn read(alloc: Global, ty: IntType, place: Place) -> Result<Worth, Re
 
 /// The value of an expression (6.3.2.1p2): of `void` this code stands at this place. An array or a function has none in this
 /// profile.
+#[inline(never)]
 pub fn valued(alloc: Global, code: Code, at: Pos, x: Checked) -> Result<Worth, Refusal>
     ensures ok { IfOk result (λ w. typed.worth code at (checked_of x.entry) ≡ fine (worth_of w)) }
     ensures err { IfErr result (λ r. Tells r (typed.worth code at (checked_of x.entry))) }
@@ -154,6 +155,7 @@ fn unused(alloc: Global, value: Value) -> Result<Value, Refusal>
 }
 
 /// An expression for its side effects (6.8.3p2).
+#[inline(never)]
 pub fn effect(alloc: Global, x: Checked) -> Result<Value, Refusal>
     ensures ok { IfOk result (λ e. typed.effect (checked_of x.entry) ≡ fine (value_of e)) }
     ensures err { IfErr result (λ r. Tells r (typed.effect (checked_of x.entry))) }

@@ -76,6 +76,7 @@ fn next_number(literals: &mut usize) -> Result<usize, Refusal>
 }
 
 /// A string literal (6.4.5p6) behind so many. It is 801 where they are as many as a `usize` can tell.
+#[inline(never)]
 pub fn next_literal<'s>(
     names: &Names,
     literals: &mut usize,

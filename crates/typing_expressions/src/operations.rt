@@ -96,6 +96,7 @@ fn sequence<'s>(alloc: Global, pos: Pos, a: Checked, b: Checked) -> Result<Check
 }
 
 /// A binary operator (6.5.5 to 6.5.14, 6.5.17).
+#[inline(never)]
 pub fn operated<'s>(
     alloc: Global,
     pos: Pos,
@@ -235,6 +236,7 @@ fn choice<'s>(
 }
 
 /// `?:` with its test (6.5.15p2).
+#[inline(never)]
 pub fn chosen<'s>(
     alloc: Global,
     pos: Pos,

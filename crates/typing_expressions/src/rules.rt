@@ -49,6 +49,7 @@ fn meant<'s>(pos: Pos, meaning: &'s Meaning) -> Checked<'s>
 }
 
 /// A name (6.5.1).
+#[inline(never)]
 pub fn named<'s>(pos: Pos, binding: Option<&'s Binding>) -> Result<Checked<'s>, Refusal>
     ensures ok { IfOk result (λ x. typed.named pos (option_binding binding.entry) ≡ fine (checked_of x)) }
     ensures err { IfErr result (λ r. Tells r (typed.named pos (option_binding binding.entry))) }
@@ -109,6 +110,7 @@ fn no_array(pos: Pos, i: Checked) -> Refusal
 }
 
 /// A subscript (6.5.2.1): an array and an index of integer type.
+#[inline(never)]
 pub fn subscripted<'s>(
     alloc: Global,
     pos: Pos,
@@ -158,6 +160,7 @@ pub(crate) fn signed_value<'s>(
 }
 
 /// A sign and its operand (6.5.3.3).
+#[inline(never)]
 pub fn signed<'s>(alloc: Global, pos: Pos, op: PrefixOp, x: Checked) -> Result<Checked<'s>, Refusal>
     ensures ok { IfOk result (λ c. then_check (typed.worth code.VoidOperand pos (checked_of x.entry)) (typed.signed_value pos op) ≡ fine (checked_of c)) }
     ensures err { IfErr result (λ r. Tells r (then_check (typed.worth code.VoidOperand pos (checked_of x.entry)) (typed.signed_value pos op))) }

@@ -17,7 +17,7 @@ at n = record { file = 0; line = n }
 
 -- long unsigned char x;
 -- int main(void) { return 0; }
-bad_words : told (unit_typed (codes "main.c" ∷ codes "x" ∷ codes "main" ∷ []) (at 0) ((declaration (declared (at 1) ((plain_specifier (specifier.Word
+bad_words : told (unit_typed 1048576 (codes "main.c" ∷ codes "x" ∷ codes "main" ∷ []) (at 0) ((declaration (declared (at 1) ((plain_specifier (specifier.Word
     word.Long)) ∷ (plain_specifier (specifier.Word word.Unsigned)) ∷ (plain_specifier (specifier.Word word.Char)) ∷ []) ((object (at 1) 1 [] None) ∷ []))) ∷
     (definition (record {
       start = (at 2);
@@ -33,7 +33,7 @@ bad_words = refl
 
 -- long long x;
 -- int main(void) { return 0; }
-long_long : told (unit_typed (codes "main.c" ∷ codes "x" ∷ codes "main" ∷ []) (at 0) ((declaration (declared (at 1) ((plain_specifier (specifier.Word
+long_long : told (unit_typed 1048576 (codes "main.c" ∷ codes "x" ∷ codes "main" ∷ []) (at 0) ((declaration (declared (at 1) ((plain_specifier (specifier.Word
     word.Long)) ∷ (plain_specifier (specifier.Word word.Long)) ∷ []) ((object (at 1) 1 [] None) ∷ []))) ∷ (definition (record {
       start = (at 2);
       specifiers =
@@ -49,7 +49,7 @@ long_long = refl
 
 -- void int f(void);
 -- int main(void) { return 0; }
-void_and_int : told (unit_typed (codes "main.c" ∷ codes "f" ∷ codes "main" ∷ []) (at 0) ((declaration (declared (at 1) ((plain_specifier (specifier.Word
+void_and_int : told (unit_typed 1048576 (codes "main.c" ∷ codes "f" ∷ codes "main" ∷ []) (at 0) ((declaration (declared (at 1) ((plain_specifier (specifier.Word
     word.Void)) ∷ (plain_specifier (specifier.Word word.Int)) ∷ []) ((function (at 1) 1 []) ∷ []))) ∷ (definition (record {
       start = (at 2);
       specifiers =
@@ -65,7 +65,7 @@ void_and_int = refl
 
 -- signed unsigned x;
 -- int main(void) { return 0; }
-signed_unsigned : told (unit_typed (codes "main.c" ∷ codes "x" ∷ codes "main" ∷ []) (at 0) ((declaration (declared (at 1) ((plain_specifier (specifier.Word
+signed_unsigned : told (unit_typed 1048576 (codes "main.c" ∷ codes "x" ∷ codes "main" ∷ []) (at 0) ((declaration (declared (at 1) ((plain_specifier (specifier.Word
     word.Signed)) ∷ (plain_specifier (specifier.Word word.Unsigned)) ∷ []) ((object (at 1) 1 [] None) ∷ []))) ∷ (definition (record {
       start = (at 2);
       specifiers = ((plain_specifier (specifier.Word word.Int)) ∷ []);
@@ -80,7 +80,7 @@ signed_unsigned = refl
 
 -- char int x;
 -- int main(void) { return 0; }
-char_int : told (unit_typed (codes "main.c" ∷ codes "x" ∷ codes "main" ∷ []) (at 0) ((declaration (declared (at 1) ((plain_specifier (specifier.Word
+char_int : told (unit_typed 1048576 (codes "main.c" ∷ codes "x" ∷ codes "main" ∷ []) (at 0) ((declaration (declared (at 1) ((plain_specifier (specifier.Word
     word.Char)) ∷ (plain_specifier (specifier.Word word.Int)) ∷ []) ((object (at 1) 1 [] None) ∷ []))) ∷ (definition (record {
       start = (at 2);
       specifiers =
@@ -96,7 +96,7 @@ char_int = refl
 
 -- _Bool int x;
 -- int main(void) { return 0; }
-bool_int : told (unit_typed (codes "main.c" ∷ codes "x" ∷ codes "main" ∷ []) (at 0) ((declaration (declared (at 1) ((plain_specifier (specifier.Word
+bool_int : told (unit_typed 1048576 (codes "main.c" ∷ codes "x" ∷ codes "main" ∷ []) (at 0) ((declaration (declared (at 1) ((plain_specifier (specifier.Word
     word.Bool)) ∷ (plain_specifier (specifier.Word word.Int)) ∷ []) ((object (at 1) 1 [] None) ∷ []))) ∷ (definition (record {
       start = (at 2);
       specifiers =
@@ -112,7 +112,7 @@ bool_int = refl
 
 -- int int x;
 -- int main(void) { return 0; }
-int_twice : told (unit_typed (codes "main.c" ∷ codes "x" ∷ codes "main" ∷ []) (at 0) ((declaration (declared (at 1) ((plain_specifier (specifier.Word
+int_twice : told (unit_typed 1048576 (codes "main.c" ∷ codes "x" ∷ codes "main" ∷ []) (at 0) ((declaration (declared (at 1) ((plain_specifier (specifier.Word
     word.Int)) ∷ (plain_specifier (specifier.Word word.Int)) ∷ []) ((object (at 1) 1 [] None) ∷ []))) ∷ (definition (record {
       start = (at 2);
       specifiers =
@@ -128,7 +128,7 @@ int_twice = refl
 
 -- short long x;
 -- int main(void) { return 0; }
-short_long : told (unit_typed (codes "main.c" ∷ codes "x" ∷ codes "main" ∷ []) (at 0) ((declaration (declared (at 1) ((plain_specifier (specifier.Word
+short_long : told (unit_typed 1048576 (codes "main.c" ∷ codes "x" ∷ codes "main" ∷ []) (at 0) ((declaration (declared (at 1) ((plain_specifier (specifier.Word
     word.Short)) ∷ (plain_specifier (specifier.Word word.Long)) ∷ []) ((object (at 1) 1 [] None) ∷ []))) ∷ (definition (record {
       start = (at 2);
       specifiers
@@ -144,7 +144,7 @@ short_long = refl
 
 -- enum e { A }; int enum e x;
 -- int main(void) { return 0; }
-enum_and_int : told (unit_typed (codes "main.c" ∷ codes "e" ∷ codes "A" ∷ codes "x" ∷ codes "main" ∷ []) (at 0) ((declaration (declared (at 1)
+enum_and_int : told (unit_typed 1048576 (codes "main.c" ∷ codes "e" ∷ codes "A" ∷ codes "x" ∷ codes "main" ∷ []) (at 0) ((declaration (declared (at 1)
     ((enumerators_specifier (Some 1) (record { at = (at 1); name = 2; value = None } ∷ [])) ∷ []) [])) ∷ (declaration (declared (at 1) ((plain_specifier
     (specifier.Word word.Int)) ∷ (plain_specifier (specifier.Enum 1)) ∷ []) ((object (at 1) 3 [] None) ∷ []))) ∷ (definition (record {
       start = (at 2);
@@ -159,7 +159,7 @@ enum_and_int : told (unit_typed (codes "main.c" ∷ codes "e" ∷ codes "A" ∷ 
 enum_and_int = refl
 
 -- int main(void) { return (unsigned signed)1; }
-words_in_a_cast : told (unit_typed (codes "main.c" ∷ codes "main" ∷ []) (at 0) ((definition (record {
+words_in_a_cast : told (unit_typed 1048576 (codes "main.c" ∷ codes "main" ∷ []) (at 0) ((definition (record {
   start = (at 1);
   specifiers = ((plain_specifier
       (specifier.Word word.Int)) ∷ []);
@@ -174,7 +174,7 @@ words_in_a_cast = refl
 
 -- int f(long short a);
 -- int main(void) { return 0; }
-words_of_a_parameter : told (unit_typed (codes "main.c" ∷ codes "f" ∷ codes "a" ∷ codes "main" ∷ []) (at 0) ((declaration (declared (at 1) ((plain_specifier
+words_of_a_parameter : told (unit_typed 1048576 (codes "main.c" ∷ codes "f" ∷ codes "a" ∷ codes "main" ∷ []) (at 0) ((declaration (declared (at 1) ((plain_specifier
     (specifier.Word word.Int)) ∷ []) ((function (at 1) 1 (record {
       at = (at 1);
       start = (at 1);
@@ -197,7 +197,7 @@ words_of_a_parameter = refl
 
 -- const x;
 -- int main(void) { return 0; }
-no_type : told (unit_typed (codes "main.c" ∷ codes "x" ∷ codes "main" ∷ []) (at 0) ((declaration (declared (at 1) ((plain_specifier specifier.Const) ∷ [])
+no_type : told (unit_typed 1048576 (codes "main.c" ∷ codes "x" ∷ codes "main" ∷ []) (at 0) ((declaration (declared (at 1) ((plain_specifier specifier.Const) ∷ [])
     ((object (at 1) 1 [] None) ∷ []))) ∷ (definition (record {
       start = (at 2);
       specifiers = ((plain_specifier (specifier.Word word.Int)) ∷ []);
@@ -212,7 +212,7 @@ no_type = refl
 
 -- enum e { A } enum e x;
 -- int main(void) { return 0; }
-two_enums : told (unit_typed (codes "main.c" ∷ codes "e" ∷ codes "A" ∷ codes "x" ∷ codes "main" ∷ []) (at 0) ((declaration (declared (at 1)
+two_enums : told (unit_typed 1048576 (codes "main.c" ∷ codes "e" ∷ codes "A" ∷ codes "x" ∷ codes "main" ∷ []) (at 0) ((declaration (declared (at 1)
     ((enumerators_specifier (Some 1) (record { at = (at 1); name = 2; value = None } ∷ [])) ∷ (plain_specifier (specifier.Enum 1)) ∷ []) ((object (at 1) 3
     [] None) ∷ []))) ∷ (definition (record {
       start = (at 2);
@@ -228,7 +228,7 @@ two_enums = refl
 
 -- int unsigned short x; int signed long const y; char signed z;
 -- int main(void) { return 0; }
-words_in_any_order : told (unit_typed (codes "main.c" ∷ codes "x" ∷ codes "y" ∷ codes "z" ∷ codes "main" ∷ []) (at 0) ((declaration (declared (at 1)
+words_in_any_order : told (unit_typed 1048576 (codes "main.c" ∷ codes "x" ∷ codes "y" ∷ codes "z" ∷ codes "main" ∷ []) (at 0) ((declaration (declared (at 1)
     ((plain_specifier (specifier.Word word.Int)) ∷ (plain_specifier (specifier.Word word.Unsigned)) ∷ (plain_specifier (specifier.Word word.Short)) ∷ [])
     ((object (at 1) 1 [] None) ∷ []))) ∷ (declaration (declared (at 1) ((plain_specifier (specifier.Word word.Int)) ∷ (plain_specifier (specifier.Word
     word.Signed)) ∷ (plain_specifier (specifier.Word word.Long)) ∷ (plain_specifier specifier.Const) ∷ []) ((object (at 1) 2 [] None) ∷ []))) ∷ (declaration
@@ -247,7 +247,7 @@ words_in_any_order = refl
 
 -- static extern int x;
 -- int main(void) { return 0; }
-two_classes : told (unit_typed (codes "main.c" ∷ codes "x" ∷ codes "main" ∷ []) (at 0) ((declaration (declared (at 1) (static_specifier ∷ extern_specifier ∷
+two_classes : told (unit_typed 1048576 (codes "main.c" ∷ codes "x" ∷ codes "main" ∷ []) (at 0) ((declaration (declared (at 1) (static_specifier ∷ extern_specifier ∷
     (plain_specifier (specifier.Word word.Int)) ∷ []) ((object (at 1) 1 [] None) ∷ []))) ∷ (definition (record {
       start = (at 2);
       specifiers =
@@ -263,7 +263,7 @@ two_classes = refl
 
 -- static static int x;
 -- int main(void) { return 0; }
-one_class_twice : told (unit_typed (codes "main.c" ∷ codes "x" ∷ codes "main" ∷ []) (at 0) ((declaration (declared (at 1) (static_specifier ∷
+one_class_twice : told (unit_typed 1048576 (codes "main.c" ∷ codes "x" ∷ codes "main" ∷ []) (at 0) ((declaration (declared (at 1) (static_specifier ∷
     static_specifier ∷ (plain_specifier (specifier.Word word.Int)) ∷ []) ((object (at 1) 1 [] None) ∷ []))) ∷ (definition (record {
       start = (at 2);
       specifiers = ((plain_specifier (specifier.Word word.Int)) ∷ []);
@@ -278,7 +278,7 @@ one_class_twice = refl
 
 -- int;
 -- int main(void) { return 0; }
-nothing : told (unit_typed (codes "main.c" ∷ codes "main" ∷ []) (at 0) ((declaration (declared (at 1) ((plain_specifier (specifier.Word word.Int)) ∷ [])
+nothing : told (unit_typed 1048576 (codes "main.c" ∷ codes "main" ∷ []) (at 0) ((declaration (declared (at 1) ((plain_specifier (specifier.Word word.Int)) ∷ [])
     [])) ∷ (definition (record {
       start = (at 2);
       specifiers = ((plain_specifier (specifier.Word word.Int)) ∷ []);
@@ -293,7 +293,7 @@ nothing = refl
 -- enum e { A };
 -- enum e;
 -- int main(void) { return 0; }
-tag_again : told (unit_typed (codes "main.c" ∷ codes "e" ∷ codes "A" ∷ codes "main" ∷ []) (at 0) ((declaration (declared (at 1) ((enumerators_specifier
+tag_again : told (unit_typed 1048576 (codes "main.c" ∷ codes "e" ∷ codes "A" ∷ codes "main" ∷ []) (at 0) ((declaration (declared (at 1) ((enumerators_specifier
     (Some 1) (record { at = (at 1); name = 2; value = None } ∷ [])) ∷ []) [])) ∷ (declaration (declared (at 2) ((plain_specifier (specifier.Enum 1)) ∷ [])
     [])) ∷ (definition (record {
       start = (at 3);
@@ -308,7 +308,7 @@ tag_again = refl
 
 -- enum e;
 -- int main(void) { return 0; }
-tag_alone : told (unit_typed (codes "main.c" ∷ codes "e" ∷ codes "main" ∷ []) (at 0) ((declaration (declared (at 1) ((plain_specifier (specifier.Enum 1)) ∷
+tag_alone : told (unit_typed 1048576 (codes "main.c" ∷ codes "e" ∷ codes "main" ∷ []) (at 0) ((declaration (declared (at 1) ((plain_specifier (specifier.Enum 1)) ∷
     []) [])) ∷ (definition (record {
       start = (at 2);
       specifiers = ((plain_specifier (specifier.Word word.Int)) ∷ []);
@@ -323,7 +323,7 @@ tag_alone = refl
 
 -- enum { A, B };
 -- int main(void) { return 0; }
-enumerators_alone : told (unit_typed (codes "main.c" ∷ codes "A" ∷ codes "B" ∷ codes "main" ∷ []) (at 0) ((declaration (declared (at 1)
+enumerators_alone : told (unit_typed 1048576 (codes "main.c" ∷ codes "A" ∷ codes "B" ∷ codes "main" ∷ []) (at 0) ((declaration (declared (at 1)
     ((enumerators_specifier None (record { at = (at 1); name = 1; value = None } ∷ record { at = (at 1); name = 2; value = None } ∷ [])) ∷ []) [])) ∷
     (definition (record {
       start = (at 2);
@@ -339,7 +339,7 @@ enumerators_alone = refl
 
 -- int main(void) { int x;
 -- int x; return 0; }
-twice_in_a_block : told (unit_typed (codes "main.c" ∷ codes "main" ∷ codes "x" ∷ []) (at 0) ((definition (record {
+twice_in_a_block : told (unit_typed 1048576 (codes "main.c" ∷ codes "main" ∷ codes "x" ∷ []) (at 0) ((definition (record {
   start = (at 1);
   specifiers =
       ((plain_specifier (specifier.Word word.Int)) ∷ []);
@@ -357,7 +357,7 @@ twice_in_a_block = refl
 -- int f(int a) {
 -- int a; return 0; }
 -- int main(void) { return 0; }
-parameter_and_body : told (unit_typed (codes "main.c" ∷ codes "f" ∷ codes "a" ∷ codes "main" ∷ []) (at 0) ((definition (record {
+parameter_and_body : told (unit_typed 1048576 (codes "main.c" ∷ codes "f" ∷ codes "a" ∷ codes "main" ∷ []) (at 0) ((definition (record {
   start = (at 1);
   specifiers
       = ((plain_specifier (specifier.Word word.Int)) ∷ []);
@@ -389,7 +389,7 @@ parameter_and_body = refl
 
 -- int f(int a) { { int a; } return a; }
 -- int main(void) { return 0; }
-parameter_and_inner_block : told (unit_typed (codes "main.c" ∷ codes "f" ∷ codes "a" ∷ codes "main" ∷ []) (at 0) ((definition (record {
+parameter_and_inner_block : told (unit_typed 1048576 (codes "main.c" ∷ codes "f" ∷ codes "a" ∷ codes "main" ∷ []) (at 0) ((definition (record {
   start = (at 1);
   specifiers = ((plain_specifier (specifier.Word word.Int)) ∷ []);
   at = (at 1);
@@ -421,7 +421,7 @@ parameter_and_inner_block = refl
 
 -- int f(int a, int a);
 -- int main(void) { return 0; }
-two_parameters : told (unit_typed (codes "main.c" ∷ codes "f" ∷ codes "a" ∷ codes "main" ∷ []) (at 0) ((declaration (declared (at 1) ((plain_specifier
+two_parameters : told (unit_typed 1048576 (codes "main.c" ∷ codes "f" ∷ codes "a" ∷ codes "main" ∷ []) (at 0) ((declaration (declared (at 1) ((plain_specifier
     (specifier.Word word.Int)) ∷ []) ((function (at 1) 1 (record {
       at = (at 1);
       start = (at 1);
@@ -445,7 +445,7 @@ two_parameters = refl
 -- int x;
 -- enum { x };
 -- int main(void) { return 0; }
-enumerator_and_object : told (unit_typed (codes "main.c" ∷ codes "x" ∷ codes "main" ∷ []) (at 0) ((declaration (declared (at 1) ((plain_specifier
+enumerator_and_object : told (unit_typed 1048576 (codes "main.c" ∷ codes "x" ∷ codes "main" ∷ []) (at 0) ((declaration (declared (at 1) ((plain_specifier
     (specifier.Word word.Int)) ∷ []) ((object (at 1) 1 [] None) ∷ []))) ∷ (declaration (declared (at 2) ((enumerators_specifier None (record {
       at = (at 2);
       name = 1;
@@ -465,7 +465,7 @@ enumerator_and_object = refl
 -- enum { x };
 -- int x;
 -- int main(void) { return 0; }
-object_and_enumerator : told (unit_typed (codes "main.c" ∷ codes "x" ∷ codes "main" ∷ []) (at 0) ((declaration (declared (at 1) ((enumerators_specifier None
+object_and_enumerator : told (unit_typed 1048576 (codes "main.c" ∷ codes "x" ∷ codes "main" ∷ []) (at 0) ((declaration (declared (at 1) ((enumerators_specifier None
     (record { at = (at 1); name = 1; value = None } ∷ [])) ∷ []) [])) ∷ (declaration (declared (at 2) ((plain_specifier (specifier.Word word.Int)) ∷ [])
     ((object (at 2) 1 [] None) ∷ []))) ∷ (definition (record {
       start = (at 3);
@@ -480,7 +480,7 @@ object_and_enumerator : told (unit_typed (codes "main.c" ∷ codes "x" ∷ codes
 object_and_enumerator = refl
 
 -- int main(void) { for (int i = 0; i < 3; i++) { int i; } return 0; }
-loop_variable_again : told (unit_typed (codes "main.c" ∷ codes "main" ∷ codes "i" ∷ []) (at 0) ((definition (record {
+loop_variable_again : told (unit_typed 1048576 (codes "main.c" ∷ codes "main" ∷ codes "i" ∷ []) (at 0) ((definition (record {
   start = (at 1);
   specifiers =
       ((plain_specifier (specifier.Word word.Int)) ∷ []);
@@ -499,7 +499,7 @@ loop_variable_again = refl
 -- int f(int a);
 -- long f(int a);
 -- int main(void) { return 0; }
-other_result : told (unit_typed (codes "main.c" ∷ codes "f" ∷ codes "a" ∷ codes "main" ∷ []) (at 0) ((declaration (declared (at 1) ((plain_specifier
+other_result : told (unit_typed 1048576 (codes "main.c" ∷ codes "f" ∷ codes "a" ∷ codes "main" ∷ []) (at 0) ((declaration (declared (at 1) ((plain_specifier
     (specifier.Word word.Int)) ∷ []) ((function (at 1) 1 (record {
       at = (at 1);
       start = (at 1);
@@ -530,7 +530,7 @@ other_result = refl
 -- int a[2];
 -- int a[3];
 -- int main(void) { return 0; }
-other_size : told (unit_typed (codes "main.c" ∷ codes "a" ∷ codes "main" ∷ []) (at 0) ((declaration (declared (at 1) ((plain_specifier (specifier.Word
+other_size : told (unit_typed 1048576 (codes "main.c" ∷ codes "a" ∷ codes "main" ∷ []) (at 0) ((declaration (declared (at 1) ((plain_specifier (specifier.Word
     word.Int)) ∷ []) ((object (at 1) 1 ((Some (constant (at 1) ty.Int 2)) ∷ []) None) ∷ []))) ∷ (declaration (declared (at 2) ((plain_specifier
     (specifier.Word word.Int)) ∷ []) ((object (at 2) 1 ((Some (constant (at 2) ty.Int 3)) ∷ []) None) ∷ []))) ∷ (definition (record {
       start = (at 3);
@@ -546,7 +546,7 @@ other_size = refl
 
 -- int a[]; int a[3]; int a[]; int b[sizeof a == 12 ? 1 : -1];
 -- int main(void) { return 0; }
-size_follows : told (unit_typed (codes "main.c" ∷ codes "a" ∷ codes "b" ∷ codes "main" ∷ []) (at 0) ((declaration (declared (at 1) ((plain_specifier
+size_follows : told (unit_typed 1048576 (codes "main.c" ∷ codes "a" ∷ codes "b" ∷ codes "main" ∷ []) (at 0) ((declaration (declared (at 1) ((plain_specifier
     (specifier.Word word.Int)) ∷ []) ((object (at 1) 1 (None ∷ []) None) ∷ []))) ∷ (declaration (declared (at 1) ((plain_specifier (specifier.Word
     word.Int)) ∷ []) ((object (at 1) 1 ((Some (constant (at 1) ty.Int 3)) ∷ []) None) ∷ []))) ∷ (declaration (declared (at 1) ((plain_specifier
     (specifier.Word word.Int)) ∷ []) ((object (at 1) 1 (None ∷ []) None) ∷ []))) ∷ (declaration (declared (at 1) ((plain_specifier (specifier.Word
@@ -566,7 +566,7 @@ size_follows = refl
 
 -- int a[3]; int a[] = {1, 2}; _Static_assert(sizeof a == 12, "m");
 -- int main(void) { return 0; }
-size_before_initialiser : told (unit_typed (codes "main.c" ∷ codes "a" ∷ codes "m" ∷ codes "main" ∷ []) (at 0) ((declaration (declared (at 1)
+size_before_initialiser : told (unit_typed 1048576 (codes "main.c" ∷ codes "a" ∷ codes "m" ∷ codes "main" ∷ []) (at 0) ((declaration (declared (at 1)
     ((plain_specifier (specifier.Word word.Int)) ∷ []) ((object (at 1) 1 ((Some (constant (at 1) ty.Int 3)) ∷ []) None) ∷ []))) ∷ (declaration (declared (at
     1) ((plain_specifier (specifier.Word word.Int)) ∷ []) ((object (at 1) 1 (None ∷ []) (Some (braced_init (at 1) (and_init (one_init (constant (at 1)
     ty.Int 1)) (and_init (one_init (constant (at 1) ty.Int 2)) no_inits))))) ∷ []))) ∷ (declaration (assertion (at 1) (binary (at 1) operator.Equal (size_of
@@ -586,7 +586,7 @@ size_before_initialiser = refl
 -- int a[3];
 -- int a[] = {1, 2, 3, 4};
 -- int main(void) { return 0; }
-size_before_long_initialiser : told (unit_typed (codes "main.c" ∷ codes "a" ∷ codes "main" ∷ []) (at 0) ((declaration (declared (at 1) ((plain_specifier
+size_before_long_initialiser : told (unit_typed 1048576 (codes "main.c" ∷ codes "a" ∷ codes "main" ∷ []) (at 0) ((declaration (declared (at 1) ((plain_specifier
     (specifier.Word word.Int)) ∷ []) ((object (at 1) 1 ((Some (constant (at 1) ty.Int 3)) ∷ []) None) ∷ []))) ∷ (declaration (declared (at 2)
     ((plain_specifier (specifier.Word word.Int)) ∷ []) ((object (at 2) 1 (None ∷ []) (Some (braced_init (at 2) (and_init (one_init (constant (at 2) ty.Int
     1)) (and_init (one_init (constant (at 2) ty.Int 2)) (and_init (one_init (constant (at 2) ty.Int 3)) (and_init (one_init (constant (at 2) ty.Int 4))
@@ -605,7 +605,7 @@ size_before_long_initialiser = refl
 -- int a[] = {1, 2};
 -- int a[3];
 -- int main(void) { return 0; }
-size_after_initialiser : told (unit_typed (codes "main.c" ∷ codes "a" ∷ codes "main" ∷ []) (at 0) ((declaration (declared (at 1) ((plain_specifier
+size_after_initialiser : told (unit_typed 1048576 (codes "main.c" ∷ codes "a" ∷ codes "main" ∷ []) (at 0) ((declaration (declared (at 1) ((plain_specifier
     (specifier.Word word.Int)) ∷ []) ((object (at 1) 1 (None ∷ []) (Some (braced_init (at 1) (and_init (one_init (constant (at 1) ty.Int 1)) (and_init
     (one_init (constant (at 1) ty.Int 2)) no_inits))))) ∷ []))) ∷ (declaration (declared (at 2) ((plain_specifier (specifier.Word word.Int)) ∷ []) ((object
     (at 2) 1 ((Some (constant (at 2) ty.Int 3)) ∷ []) None) ∷ []))) ∷ (definition (record {
@@ -624,7 +624,7 @@ size_after_initialiser = refl
 -- int f;
 -- int f(void);
 -- int main(void) { return 0; }
-object_as_function : told (unit_typed (codes "main.c" ∷ codes "f" ∷ codes "main" ∷ []) (at 0) ((declaration (declared (at 1) ((plain_specifier
+object_as_function : told (unit_typed 1048576 (codes "main.c" ∷ codes "f" ∷ codes "main" ∷ []) (at 0) ((declaration (declared (at 1) ((plain_specifier
     (specifier.Word word.Int)) ∷ []) ((object (at 1) 1 [] None) ∷ []))) ∷ (declaration (declared (at 2) ((plain_specifier (specifier.Word word.Int)) ∷ [])
     ((function (at 2) 1 []) ∷ []))) ∷ (definition (record {
       start = (at 3);
@@ -641,7 +641,7 @@ object_as_function = refl
 -- extern int x;
 -- extern const int x;
 -- int main(void) { return 0; }
-const_object : told (unit_typed (codes "main.c" ∷ codes "x" ∷ codes "main" ∷ []) (at 0) ((declaration (declared (at 1) (extern_specifier ∷ (plain_specifier
+const_object : told (unit_typed 1048576 (codes "main.c" ∷ codes "x" ∷ codes "main" ∷ []) (at 0) ((declaration (declared (at 1) (extern_specifier ∷ (plain_specifier
     (specifier.Word word.Int)) ∷ []) ((object (at 1) 1 [] None) ∷ []))) ∷ (declaration (declared (at 2) (extern_specifier ∷ (plain_specifier
     specifier.Const) ∷ (plain_specifier (specifier.Word word.Int)) ∷ []) ((object (at 2) 1 [] None) ∷ []))) ∷ (definition (record {
       start = (at 3);
@@ -657,7 +657,7 @@ const_object = refl
 
 -- int f(int a); int f(const int b); int g(int p[2]); int g(int p[]);
 -- int main(void) { return 0; }
-const_parameter : told (unit_typed (codes "main.c" ∷ codes "f" ∷ codes "a" ∷ codes "b" ∷ codes "g" ∷ codes "p" ∷ codes "main" ∷ []) (at 0) ((declaration
+const_parameter : told (unit_typed 1048576 (codes "main.c" ∷ codes "f" ∷ codes "a" ∷ codes "b" ∷ codes "g" ∷ codes "p" ∷ codes "main" ∷ []) (at 0) ((declaration
     (declared (at 1) ((plain_specifier (specifier.Word word.Int)) ∷ []) ((function (at 1) 1 (record {
       at = (at 1);
       start = (at 1);
@@ -702,7 +702,7 @@ const_parameter = refl
 -- int f(int p[]);
 -- int f(const int p[]);
 -- int main(void) { return 0; }
-const_elements : told (unit_typed (codes "main.c" ∷ codes "f" ∷ codes "p" ∷ codes "main" ∷ []) (at 0) ((declaration (declared (at 1) ((plain_specifier
+const_elements : told (unit_typed 1048576 (codes "main.c" ∷ codes "f" ∷ codes "p" ∷ codes "main" ∷ []) (at 0) ((declaration (declared (at 1) ((plain_specifier
     (specifier.Word word.Int)) ∷ []) ((function (at 1) 1 (record {
       at = (at 1);
       start = (at 1);
@@ -726,7 +726,7 @@ const_elements = refl
 
 -- int rv_putbyte(int c);
 -- int main(void) { return 0; }
-built_in_type : told (unit_typed (codes "main.c" ∷ codes "rv_putbyte" ∷ codes "c" ∷ codes "main" ∷ []) (at 0) ((declaration (declared (at 1)
+built_in_type : told (unit_typed 1048576 (codes "main.c" ∷ codes "rv_putbyte" ∷ codes "c" ∷ codes "main" ∷ []) (at 0) ((declaration (declared (at 1)
     ((plain_specifier (specifier.Word word.Int)) ∷ []) ((function (at 1) 1 (record {
       at = (at 1);
       start = (at 1);
@@ -749,7 +749,7 @@ built_in_type = refl
 
 -- int rv_exit;
 -- int main(void) { return 0; }
-built_in_object : told (unit_typed (codes "main.c" ∷ codes "rv_exit" ∷ codes "main" ∷ []) (at 0) ((declaration (declared (at 1) ((plain_specifier
+built_in_object : told (unit_typed 1048576 (codes "main.c" ∷ codes "rv_exit" ∷ codes "main" ∷ []) (at 0) ((declaration (declared (at 1) ((plain_specifier
     (specifier.Word word.Int)) ∷ []) ((object (at 1) 1 [] None) ∷ []))) ∷ (definition (record {
       start = (at 2);
       specifiers = ((plain_specifier
@@ -765,7 +765,7 @@ built_in_object = refl
 
 -- enum { rv_exit };
 -- int main(void) { return 0; }
-built_in_enumerator : told (unit_typed (codes "main.c" ∷ codes "rv_exit" ∷ codes "main" ∷ []) (at 0) ((declaration (declared (at 1) ((enumerators_specifier
+built_in_enumerator : told (unit_typed 1048576 (codes "main.c" ∷ codes "rv_exit" ∷ codes "main" ∷ []) (at 0) ((declaration (declared (at 1) ((enumerators_specifier
     None (record { at = (at 1); name = 1; value = None } ∷ [])) ∷ []) [])) ∷ (definition (record {
       start = (at 2);
       specifiers = ((plain_specifier
@@ -780,7 +780,7 @@ built_in_enumerator : told (unit_typed (codes "main.c" ∷ codes "rv_exit" ∷ c
 built_in_enumerator = refl
 
 -- int main(void) { int rv_exit = 1; return rv_exit; }
-built_in_name_inside : told (unit_typed (codes "main.c" ∷ codes "main" ∷ codes "rv_exit" ∷ []) (at 0) ((definition (record {
+built_in_name_inside : told (unit_typed 1048576 (codes "main.c" ∷ codes "main" ∷ codes "rv_exit" ∷ []) (at 0) ((definition (record {
   start = (at 1);
   specifiers =
       ((plain_specifier (specifier.Word word.Int)) ∷ []);
@@ -797,7 +797,7 @@ built_in_name_inside = refl
 -- extern int x;
 -- static int x;
 -- int main(void) { return 0; }
-extern_then_static : told (unit_typed (codes "main.c" ∷ codes "x" ∷ codes "main" ∷ []) (at 0) ((declaration (declared (at 1) (extern_specifier ∷
+extern_then_static : told (unit_typed 1048576 (codes "main.c" ∷ codes "x" ∷ codes "main" ∷ []) (at 0) ((declaration (declared (at 1) (extern_specifier ∷
     (plain_specifier (specifier.Word word.Int)) ∷ []) ((object (at 1) 1 [] None) ∷ []))) ∷ (declaration (declared (at 2) (static_specifier ∷
     (plain_specifier (specifier.Word word.Int)) ∷ []) ((object (at 2) 1 [] None) ∷ []))) ∷ (definition (record {
       start = (at 3);
@@ -814,7 +814,7 @@ extern_then_static = refl
 
 -- static int x; extern int x;
 -- int main(void) { return 0; }
-static_then_extern : told (unit_typed (codes "main.c" ∷ codes "x" ∷ codes "main" ∷ []) (at 0) ((declaration (declared (at 1) (static_specifier ∷
+static_then_extern : told (unit_typed 1048576 (codes "main.c" ∷ codes "x" ∷ codes "main" ∷ []) (at 0) ((declaration (declared (at 1) (static_specifier ∷
     (plain_specifier (specifier.Word word.Int)) ∷ []) ((object (at 1) 1 [] None) ∷ []))) ∷ (declaration (declared (at 1) (extern_specifier ∷
     (plain_specifier (specifier.Word word.Int)) ∷ []) ((object (at 1) 1 [] None) ∷ []))) ∷ (definition (record {
       start = (at 2);
@@ -832,7 +832,7 @@ static_then_extern = refl
 -- static int x;
 -- int x;
 -- int main(void) { return 0; }
-static_then_plain : told (unit_typed (codes "main.c" ∷ codes "x" ∷ codes "main" ∷ []) (at 0) ((declaration (declared (at 1) (static_specifier ∷
+static_then_plain : told (unit_typed 1048576 (codes "main.c" ∷ codes "x" ∷ codes "main" ∷ []) (at 0) ((declaration (declared (at 1) (static_specifier ∷
     (plain_specifier (specifier.Word word.Int)) ∷ []) ((object (at 1) 1 [] None) ∷ []))) ∷ (declaration (declared (at 2) ((plain_specifier (specifier.Word
     word.Int)) ∷ []) ((object (at 2) 1 [] None) ∷ []))) ∷ (definition (record {
       start = (at 3);
@@ -849,7 +849,7 @@ static_then_plain = refl
 
 -- static int f(void); int f(void); int f(void) { return 0; }
 -- int main(void) { return 0; }
-static_function : told (unit_typed (codes "main.c" ∷ codes "f" ∷ codes "main" ∷ []) (at 0) ((declaration (declared (at 1) (static_specifier ∷
+static_function : told (unit_typed 1048576 (codes "main.c" ∷ codes "f" ∷ codes "main" ∷ []) (at 0) ((declaration (declared (at 1) (static_specifier ∷
     (plain_specifier (specifier.Word word.Int)) ∷ []) ((function (at 1) 1 []) ∷ []))) ∷ (declaration (declared (at 1) ((plain_specifier (specifier.Word
     word.Int)) ∷ []) ((function (at 1) 1 []) ∷ []))) ∷ (definition (record {
       start = (at 1);
@@ -875,7 +875,7 @@ static_function = refl
 -- int f(void);
 -- static int f(void);
 -- int main(void) { return 0; }
-function_then_static : told (unit_typed (codes "main.c" ∷ codes "f" ∷ codes "main" ∷ []) (at 0) ((declaration (declared (at 1) ((plain_specifier
+function_then_static : told (unit_typed 1048576 (codes "main.c" ∷ codes "f" ∷ codes "main" ∷ []) (at 0) ((declaration (declared (at 1) ((plain_specifier
     (specifier.Word word.Int)) ∷ []) ((function (at 1) 1 []) ∷ []))) ∷ (declaration (declared (at 2) (static_specifier ∷ (plain_specifier (specifier.Word
     word.Int)) ∷ []) ((function (at 2) 1 []) ∷ []))) ∷ (definition (record {
       start = (at 3);
@@ -892,7 +892,7 @@ function_then_static = refl
 
 -- static int rv_getbyte(void);
 -- int main(void) { return 0; }
-static_built_in : told (unit_typed (codes "main.c" ∷ codes "rv_getbyte" ∷ codes "main" ∷ []) (at 0) ((declaration (declared (at 1) (static_specifier ∷
+static_built_in : told (unit_typed 1048576 (codes "main.c" ∷ codes "rv_getbyte" ∷ codes "main" ∷ []) (at 0) ((declaration (declared (at 1) (static_specifier ∷
     (plain_specifier (specifier.Word word.Int)) ∷ []) ((function (at 1) 1 []) ∷ []))) ∷ (definition (record {
       start = (at 2);
       specifiers = ((plain_specifier
@@ -909,7 +909,7 @@ static_built_in = refl
 -- int x = 1;
 -- int x = 2;
 -- int main(void) { return 0; }
-object_twice : told (unit_typed (codes "main.c" ∷ codes "x" ∷ codes "main" ∷ []) (at 0) ((declaration (declared (at 1) ((plain_specifier (specifier.Word
+object_twice : told (unit_typed 1048576 (codes "main.c" ∷ codes "x" ∷ codes "main" ∷ []) (at 0) ((declaration (declared (at 1) ((plain_specifier (specifier.Word
     word.Int)) ∷ []) ((object (at 1) 1 [] (Some (one_init (constant (at 1) ty.Int 1)))) ∷ []))) ∷ (declaration (declared (at 2) ((plain_specifier
     (specifier.Word word.Int)) ∷ []) ((object (at 2) 1 [] (Some (one_init (constant (at 2) ty.Int 2)))) ∷ []))) ∷ (definition (record {
       start = (at 3);
@@ -926,7 +926,7 @@ object_twice = refl
 -- int f(void) { return 0; }
 -- int f(void) { return 1; }
 -- int main(void) { return 0; }
-function_twice : told (unit_typed (codes "main.c" ∷ codes "f" ∷ codes "main" ∷ []) (at 0) ((definition (record {
+function_twice : told (unit_typed 1048576 (codes "main.c" ∷ codes "f" ∷ codes "main" ∷ []) (at 0) ((definition (record {
   start = (at 1);
   specifiers =
       ((plain_specifier (specifier.Word word.Int)) ∷ []);
@@ -960,7 +960,7 @@ function_twice : told (unit_typed (codes "main.c" ∷ codes "f" ∷ codes "main"
 function_twice = refl
 
 -- int x; int x = 5; int x; int main(void) { return x; }
-tentative : told (unit_typed (codes "main.c" ∷ codes "x" ∷ codes "main" ∷ []) (at 0) ((declaration (declared (at 1) ((plain_specifier (specifier.Word
+tentative : told (unit_typed 1048576 (codes "main.c" ∷ codes "x" ∷ codes "main" ∷ []) (at 0) ((declaration (declared (at 1) ((plain_specifier (specifier.Word
     word.Int)) ∷ []) ((object (at 1) 1 [] None) ∷ []))) ∷ (declaration (declared (at 1) ((plain_specifier (specifier.Word word.Int)) ∷ []) ((object (at 1) 1
     [] (Some (one_init (constant (at 1) ty.Int 5)))) ∷ []))) ∷ (declaration (declared (at 1) ((plain_specifier (specifier.Word word.Int)) ∷ []) ((object (at
     1) 1 [] None) ∷ []))) ∷ (definition (record {
@@ -976,7 +976,7 @@ tentative = refl
 
 -- int a[0];
 -- int main(void) { return 0; }
-no_size : told (unit_typed (codes "main.c" ∷ codes "a" ∷ codes "main" ∷ []) (at 0) ((declaration (declared (at 1) ((plain_specifier (specifier.Word
+no_size : told (unit_typed 1048576 (codes "main.c" ∷ codes "a" ∷ codes "main" ∷ []) (at 0) ((declaration (declared (at 1) ((plain_specifier (specifier.Word
     word.Int)) ∷ []) ((object (at 1) 1 ((Some (constant (at 1) ty.Int 0)) ∷ []) None) ∷ []))) ∷ (definition (record {
       start = (at 2);
       specifiers =
@@ -992,7 +992,7 @@ no_size = refl
 
 -- int a[-1];
 -- int main(void) { return 0; }
-negative_size : told (unit_typed (codes "main.c" ∷ codes "a" ∷ codes "main" ∷ []) (at 0) ((declaration (declared (at 1) ((plain_specifier (specifier.Word
+negative_size : told (unit_typed 1048576 (codes "main.c" ∷ codes "a" ∷ codes "main" ∷ []) (at 0) ((declaration (declared (at 1) ((plain_specifier (specifier.Word
     word.Int)) ∷ []) ((object (at 1) 1 ((Some (prefix (at 1) sign.Minus (constant (at 1) ty.Int 1))) ∷ []) None) ∷ []))) ∷ (definition (record {
       start = (at
           2);
@@ -1008,7 +1008,7 @@ negative_size = refl
 
 -- int a[2][];
 -- int main(void) { return 0; }
-inner_unknown : told (unit_typed (codes "main.c" ∷ codes "a" ∷ codes "main" ∷ []) (at 0) ((declaration (declared (at 1) ((plain_specifier (specifier.Word
+inner_unknown : told (unit_typed 1048576 (codes "main.c" ∷ codes "a" ∷ codes "main" ∷ []) (at 0) ((declaration (declared (at 1) ((plain_specifier (specifier.Word
     word.Int)) ∷ []) ((object (at 1) 1 ((Some (constant (at 1) ty.Int 2)) ∷ None ∷ []) None) ∷ []))) ∷ (definition (record {
       start = (at 2);
       specifiers =
@@ -1024,7 +1024,7 @@ inner_unknown = refl
 
 -- void a[3];
 -- int main(void) { return 0; }
-array_of_void : told (unit_typed (codes "main.c" ∷ codes "a" ∷ codes "main" ∷ []) (at 0) ((declaration (declared (at 1) ((plain_specifier (specifier.Word
+array_of_void : told (unit_typed 1048576 (codes "main.c" ∷ codes "a" ∷ codes "main" ∷ []) (at 0) ((declaration (declared (at 1) ((plain_specifier (specifier.Word
     word.Void)) ∷ []) ((object (at 1) 1 ((Some (constant (at 1) ty.Int 3)) ∷ []) None) ∷ []))) ∷ (definition (record {
       start = (at 2);
       specifiers =
@@ -1040,7 +1040,7 @@ array_of_void = refl
 
 -- int f(int p[0]);
 -- int main(void) { return 0; }
-parameter_size : told (unit_typed (codes "main.c" ∷ codes "f" ∷ codes "p" ∷ codes "main" ∷ []) (at 0) ((declaration (declared (at 1) ((plain_specifier
+parameter_size : told (unit_typed 1048576 (codes "main.c" ∷ codes "f" ∷ codes "p" ∷ codes "main" ∷ []) (at 0) ((declaration (declared (at 1) ((plain_specifier
     (specifier.Word word.Int)) ∷ []) ((function (at 1) 1 (record {
       at = (at 1);
       start = (at 1);
@@ -1063,7 +1063,7 @@ parameter_size = refl
 
 -- int f(void p[]);
 -- int main(void) { return 0; }
-void_elements : told (unit_typed (codes "main.c" ∷ codes "f" ∷ codes "p" ∷ codes "main" ∷ []) (at 0) ((declaration (declared (at 1) ((plain_specifier
+void_elements : told (unit_typed 1048576 (codes "main.c" ∷ codes "f" ∷ codes "p" ∷ codes "main" ∷ []) (at 0) ((declaration (declared (at 1) ((plain_specifier
     (specifier.Word word.Int)) ∷ []) ((function (at 1) 1 (record {
       at = (at 1);
       start = (at 1);
@@ -1084,7 +1084,7 @@ void_elements : told (unit_typed (codes "main.c" ∷ codes "f" ∷ codes "p" ∷
 void_elements = refl
 
 -- int main(void) { return sizeof(int[0]); }
-type_name_size : told (unit_typed (codes "main.c" ∷ codes "main" ∷ []) (at 0) ((definition (record {
+type_name_size : told (unit_typed 1048576 (codes "main.c" ∷ codes "main" ∷ []) (at 0) ((definition (record {
   start = (at 1);
   specifiers = ((plain_specifier
       (specifier.Word word.Int)) ∷ []);
@@ -1100,7 +1100,7 @@ type_name_size = refl
 
 -- void x;
 -- int main(void) { return 0; }
-void_object : told (unit_typed (codes "main.c" ∷ codes "x" ∷ codes "main" ∷ []) (at 0) ((declaration (declared (at 1) ((plain_specifier (specifier.Word
+void_object : told (unit_typed 1048576 (codes "main.c" ∷ codes "x" ∷ codes "main" ∷ []) (at 0) ((declaration (declared (at 1) ((plain_specifier (specifier.Word
     word.Void)) ∷ []) ((object (at 1) 1 [] None) ∷ []))) ∷ (definition (record {
       start = (at 2);
       specifiers = ((plain_specifier (specifier.Word word.Int)) ∷
@@ -1116,7 +1116,7 @@ void_object = refl
 
 -- extern void x;
 -- int main(void) { return 0; }
-extern_void : told (unit_typed (codes "main.c" ∷ codes "x" ∷ codes "main" ∷ []) (at 0) ((declaration (declared (at 1) (extern_specifier ∷ (plain_specifier
+extern_void : told (unit_typed 1048576 (codes "main.c" ∷ codes "x" ∷ codes "main" ∷ []) (at 0) ((declaration (declared (at 1) (extern_specifier ∷ (plain_specifier
     (specifier.Word word.Void)) ∷ []) ((object (at 1) 1 [] None) ∷ []))) ∷ (definition (record {
       start = (at 2);
       specifiers = ((plain_specifier
@@ -1132,7 +1132,7 @@ extern_void = refl
 
 -- static int a[];
 -- int main(void) { return 0; }
-static_unknown : told (unit_typed (codes "main.c" ∷ codes "a" ∷ codes "main" ∷ []) (at 0) ((declaration (declared (at 1) (static_specifier ∷
+static_unknown : told (unit_typed 1048576 (codes "main.c" ∷ codes "a" ∷ codes "main" ∷ []) (at 0) ((declaration (declared (at 1) (static_specifier ∷
     (plain_specifier (specifier.Word word.Int)) ∷ []) ((object (at 1) 1 (None ∷ []) None) ∷ []))) ∷ (definition (record {
       start = (at 2);
       specifiers =
@@ -1147,7 +1147,7 @@ static_unknown : told (unit_typed (codes "main.c" ∷ codes "a" ∷ codes "main"
 static_unknown = refl
 
 -- int main(void) { int a[]; return 0; }
-unknown_in_block : told (unit_typed (codes "main.c" ∷ codes "main" ∷ codes "a" ∷ []) (at 0) ((definition (record {
+unknown_in_block : told (unit_typed 1048576 (codes "main.c" ∷ codes "main" ∷ codes "a" ∷ []) (at 0) ((definition (record {
   start = (at 1);
   specifiers =
       ((plain_specifier (specifier.Word word.Int)) ∷ []);
@@ -1162,7 +1162,7 @@ unknown_in_block : told (unit_typed (codes "main.c" ∷ codes "main" ∷ codes "
 unknown_in_block = refl
 
 -- int a[]; int main(void) { return a[0]; }
-unknown_at_file_scope : told (unit_typed (codes "main.c" ∷ codes "a" ∷ codes "main" ∷ []) (at 0) ((declaration (declared (at 1) ((plain_specifier
+unknown_at_file_scope : told (unit_typed 1048576 (codes "main.c" ∷ codes "a" ∷ codes "main" ∷ []) (at 0) ((declaration (declared (at 1) ((plain_specifier
     (specifier.Word word.Int)) ∷ []) ((object (at 1) 1 (None ∷ []) None) ∷ []))) ∷ (definition (record {
       start = (at 1);
       specifiers = ((plain_specifier
@@ -1177,7 +1177,7 @@ unknown_at_file_scope : told (unit_typed (codes "main.c" ∷ codes "a" ∷ codes
 unknown_at_file_scope = refl
 
 -- int main(void) { char s[3] = "abcd"; return 0; }
-text_too_long : told (unit_typed (codes "main.c" ∷ codes "main" ∷ codes "s" ∷ (codes "abcd" ++ 0 ∷ []) ∷ []) (at 0) ((definition (record {
+text_too_long : told (unit_typed 1048576 (codes "main.c" ∷ codes "main" ∷ codes "s" ∷ (codes "abcd" ++ 0 ∷ []) ∷ []) (at 0) ((definition (record {
   start = (at 1);
   specifiers =
       ((plain_specifier (specifier.Word word.Int)) ∷ []);
@@ -1192,7 +1192,7 @@ text_too_long : told (unit_typed (codes "main.c" ∷ codes "main" ∷ codes "s" 
 text_too_long = refl
 
 -- int main(void) { char s[3] = "abc"; return s[2]; }
-text_without_zero : told (unit_typed (codes "main.c" ∷ codes "main" ∷ codes "s" ∷ (codes "abc" ++ 0 ∷ []) ∷ []) (at 0) ((definition (record {
+text_without_zero : told (unit_typed 1048576 (codes "main.c" ∷ codes "main" ∷ codes "s" ∷ (codes "abc" ++ 0 ∷ []) ∷ []) (at 0) ((definition (record {
   start = (at 1);
   specifiers
       = ((plain_specifier (specifier.Word word.Int)) ∷ []);
@@ -1209,7 +1209,7 @@ text_without_zero = refl
 
 -- int main(void) { int a[2] = {1, 2,
 -- 3}; return 0; }
-list_too_long : told (unit_typed (codes "main.c" ∷ codes "main" ∷ codes "a" ∷ []) (at 0) ((definition (record {
+list_too_long : told (unit_typed 1048576 (codes "main.c" ∷ codes "main" ∷ codes "a" ∷ []) (at 0) ((definition (record {
   start = (at 1);
   specifiers =
       ((plain_specifier (specifier.Word word.Int)) ∷ []);
@@ -1225,7 +1225,7 @@ list_too_long : told (unit_typed (codes "main.c" ∷ codes "main" ∷ codes "a" 
 list_too_long = refl
 
 -- int main(void) { int x = {1, 2}; return 0; }
-number_too_long : told (unit_typed (codes "main.c" ∷ codes "main" ∷ codes "x" ∷ []) (at 0) ((definition (record {
+number_too_long : told (unit_typed 1048576 (codes "main.c" ∷ codes "main" ∷ codes "x" ∷ []) (at 0) ((definition (record {
   start = (at 1);
   specifiers =
       ((plain_specifier (specifier.Word word.Int)) ∷ []);
@@ -1241,7 +1241,7 @@ number_too_long : told (unit_typed (codes "main.c" ∷ codes "main" ∷ codes "x
 number_too_long = refl
 
 -- int main(void) { int x = {1}; return x; }
-number_in_braces : told (unit_typed (codes "main.c" ∷ codes "main" ∷ codes "x" ∷ []) (at 0) ((definition (record {
+number_in_braces : told (unit_typed 1048576 (codes "main.c" ∷ codes "main" ∷ codes "x" ∷ []) (at 0) ((definition (record {
   start = (at 1);
   specifiers =
       ((plain_specifier (specifier.Word word.Int)) ∷ []);
@@ -1256,7 +1256,7 @@ number_in_braces : told (unit_typed (codes "main.c" ∷ codes "main" ∷ codes "
 number_in_braces = refl
 
 -- int main(void) { int x = {{1}}; return x; }
-number_in_two_braces : told (unit_typed (codes "main.c" ∷ codes "main" ∷ codes "x" ∷ []) (at 0) ((definition (record {
+number_in_two_braces : told (unit_typed 1048576 (codes "main.c" ∷ codes "main" ∷ codes "x" ∷ []) (at 0) ((definition (record {
   start = (at 1);
   specifiers =
       ((plain_specifier (specifier.Word word.Int)) ∷ []);
@@ -1272,7 +1272,7 @@ number_in_two_braces : told (unit_typed (codes "main.c" ∷ codes "main" ∷ cod
 number_in_two_braces = refl
 
 -- int main(void) { int a[2] = 5; return 0; }
-array_by_number : told (unit_typed (codes "main.c" ∷ codes "main" ∷ codes "a" ∷ []) (at 0) ((definition (record {
+array_by_number : told (unit_typed 1048576 (codes "main.c" ∷ codes "main" ∷ codes "a" ∷ []) (at 0) ((definition (record {
   start = (at 1);
   specifiers =
       ((plain_specifier (specifier.Word word.Int)) ∷ []);
@@ -1287,7 +1287,7 @@ array_by_number : told (unit_typed (codes "main.c" ∷ codes "main" ∷ codes "a
 array_by_number = refl
 
 -- int main(void) { int a[2]; int b[2] = a; return 0; }
-array_by_array : told (unit_typed (codes "main.c" ∷ codes "main" ∷ codes "a" ∷ codes "b" ∷ []) (at 0) ((definition (record {
+array_by_array : told (unit_typed 1048576 (codes "main.c" ∷ codes "main" ∷ codes "a" ∷ codes "b" ∷ []) (at 0) ((definition (record {
   start = (at 1);
   specifiers =
       ((plain_specifier (specifier.Word word.Int)) ∷ []);
@@ -1304,7 +1304,7 @@ array_by_array : told (unit_typed (codes "main.c" ∷ codes "main" ∷ codes "a"
 array_by_array = refl
 
 -- int main(void) { int a[2] = "a"; return 0; }
-int_array_by_text : told (unit_typed (codes "main.c" ∷ codes "main" ∷ (codes "a" ++ 0 ∷ []) ∷ []) (at 0) ((definition (record {
+int_array_by_text : told (unit_typed 1048576 (codes "main.c" ∷ codes "main" ∷ (codes "a" ++ 0 ∷ []) ∷ []) (at 0) ((definition (record {
   start = (at 1);
   specifiers =
       ((plain_specifier (specifier.Word word.Int)) ∷ []);
@@ -1319,7 +1319,7 @@ int_array_by_text : told (unit_typed (codes "main.c" ∷ codes "main" ∷ (codes
 int_array_by_text = refl
 
 -- int main(void) { char s[] = ("a"); return 0; }
-text_in_parentheses : told (unit_typed (codes "main.c" ∷ codes "main" ∷ codes "s" ∷ (codes "a" ++ 0 ∷ []) ∷ []) (at 0) ((definition (record {
+text_in_parentheses : told (unit_typed 1048576 (codes "main.c" ∷ codes "main" ∷ codes "s" ∷ (codes "a" ++ 0 ∷ []) ∷ []) (at 0) ((definition (record {
   start = (at 1);
   specifiers
       = ((plain_specifier (specifier.Word word.Int)) ∷ []);
@@ -1334,7 +1334,7 @@ text_in_parentheses : told (unit_typed (codes "main.c" ∷ codes "main" ∷ code
 text_in_parentheses = refl
 
 -- int main(void) { char s[] = {"ab"}; unsigned char t[2][3] = {"ab", {"c"}}; return sizeof s == 3; }
-text_in_braces : told (unit_typed (codes "main.c" ∷ codes "main" ∷ codes "s" ∷ (codes "ab" ++ 0 ∷ []) ∷ codes "t" ∷ (codes "c" ++ 0 ∷ []) ∷ []) (at 0) ((definition (record {
+text_in_braces : told (unit_typed 1048576 (codes "main.c" ∷ codes "main" ∷ codes "s" ∷ (codes "ab" ++ 0 ∷ []) ∷ codes "t" ∷ (codes "c" ++ 0 ∷ []) ∷ []) (at 0) ((definition (record {
   start
       = (at 1);
   specifiers = ((plain_specifier (specifier.Word word.Int)) ∷ []);
@@ -1353,7 +1353,7 @@ text_in_braces : told (unit_typed (codes "main.c" ∷ codes "main" ∷ codes "s"
 text_in_braces = refl
 
 -- int main(void) { int m[2][2] = {{1, 2}, 3}; return 0; }
-braces_left_out : told (unit_typed (codes "main.c" ∷ codes "main" ∷ codes "m" ∷ []) (at 0) ((definition (record {
+braces_left_out : told (unit_typed 1048576 (codes "main.c" ∷ codes "main" ∷ codes "m" ∷ []) (at 0) ((definition (record {
   start = (at 1);
   specifiers =
       ((plain_specifier (specifier.Word word.Int)) ∷ []);
@@ -1370,7 +1370,7 @@ braces_left_out : told (unit_typed (codes "main.c" ∷ codes "main" ∷ codes "m
 braces_left_out = refl
 
 -- int main(void) { int m[2][2] = {1, 2, 3, 4}; return 0; }
-all_braces_left_out : told (unit_typed (codes "main.c" ∷ codes "main" ∷ codes "m" ∷ []) (at 0) ((definition (record {
+all_braces_left_out : told (unit_typed 1048576 (codes "main.c" ∷ codes "main" ∷ codes "m" ∷ []) (at 0) ((definition (record {
   start = (at 1);
   specifiers =
       ((plain_specifier (specifier.Word word.Int)) ∷ []);
@@ -1387,7 +1387,7 @@ all_braces_left_out : told (unit_typed (codes "main.c" ∷ codes "main" ∷ code
 all_braces_left_out = refl
 
 -- int main(void) { int m[2][2] = {{1, 2, 3}, {4}}; return 0; }
-list_too_long_inside : told (unit_typed (codes "main.c" ∷ codes "main" ∷ codes "m" ∷ []) (at 0) ((definition (record {
+list_too_long_inside : told (unit_typed 1048576 (codes "main.c" ∷ codes "main" ∷ codes "m" ∷ []) (at 0) ((definition (record {
   start = (at 1);
   specifiers =
       ((plain_specifier (specifier.Word word.Int)) ∷ []);
@@ -1405,7 +1405,7 @@ list_too_long_inside : told (unit_typed (codes "main.c" ∷ codes "main" ∷ cod
 list_too_long_inside = refl
 
 -- int main(void) { int a[2] = {}; return 0; }
-no_parts : told (unit_typed (codes "main.c" ∷ codes "main" ∷ codes "a" ∷ []) (at 0) ((definition (record {
+no_parts : told (unit_typed 1048576 (codes "main.c" ∷ codes "main" ∷ codes "a" ∷ []) (at 0) ((definition (record {
   start = (at 1);
   specifiers = ((plain_specifier
       (specifier.Word word.Int)) ∷ []);
@@ -1421,7 +1421,7 @@ no_parts = refl
 
 -- static char s[] = "ab"; static signed char t[] = {"a"};
 -- int main(void) { return 0; }
-static_text : told (unit_typed (codes "main.c" ∷ codes "s" ∷ (codes "ab" ++ 0 ∷ []) ∷ codes "t" ∷ (codes "a" ++ 0 ∷ []) ∷ codes "main" ∷ []) (at 0) ((declaration (declared (at 1)
+static_text : told (unit_typed 1048576 (codes "main.c" ∷ codes "s" ∷ (codes "ab" ++ 0 ∷ []) ∷ codes "t" ∷ (codes "a" ++ 0 ∷ []) ∷ codes "main" ∷ []) (at 0) ((declaration (declared (at 1)
     (static_specifier ∷ (plain_specifier (specifier.Word word.Char)) ∷ []) ((object (at 1) 1 (None ∷ []) (Some (one_init (string (at 1) 2)))) ∷ []))) ∷
     (declaration (declared (at 1) (static_specifier ∷ (plain_specifier (specifier.Word word.Signed)) ∷ (plain_specifier (specifier.Word word.Char)) ∷ [])
     ((object (at 1) 3 (None ∷ []) (Some (braced_init (at 1) (and_init (one_init (string (at 1) 4)) no_inits)))) ∷ []))) ∷ (definition (record {
@@ -1439,7 +1439,7 @@ static_text = refl
 
 -- static char s[3] = ("a");
 -- int main(void) { return 0; }
-static_text_in_parentheses : told (unit_typed (codes "main.c" ∷ codes "s" ∷ (codes "a" ++ 0 ∷ []) ∷ codes "main" ∷ []) (at 0) ((declaration (declared (at 1)
+static_text_in_parentheses : told (unit_typed 1048576 (codes "main.c" ∷ codes "s" ∷ (codes "a" ++ 0 ∷ []) ∷ codes "main" ∷ []) (at 0) ((declaration (declared (at 1)
     (static_specifier ∷ (plain_specifier (specifier.Word word.Char)) ∷ []) ((object (at 1) 1 ((Some (constant (at 1) ty.Int 3)) ∷ []) (Some (one_init (paren
     (string (at 1) 2))))) ∷ []))) ∷ (definition (record {
       start = (at 2);
@@ -1456,7 +1456,7 @@ static_text_in_parentheses = refl
 
 -- _Static_assert(0, "m");
 -- int main(void) { return 0; }
-assertion_fails : told (unit_typed (codes "main.c" ∷ codes "m" ∷ codes "main" ∷ []) (at 0) ((declaration (assertion (at 1) (constant (at 1) ty.Int 0) 1)) ∷
+assertion_fails : told (unit_typed 1048576 (codes "main.c" ∷ codes "m" ∷ codes "main" ∷ []) (at 0) ((declaration (assertion (at 1) (constant (at 1) ty.Int 0) 1)) ∷
     (definition (record {
       start = (at 2);
       specifiers = ((plain_specifier (specifier.Word word.Int)) ∷ []);
@@ -1471,7 +1471,7 @@ assertion_fails = refl
 
 -- _Static_assert(1 || 1 / 0, "m");
 -- int main(void) { return 0; }
-assertion_of_unevaluated : told (unit_typed (codes "main.c" ∷ codes "m" ∷ codes "main" ∷ []) (at 0) ((declaration (assertion (at 1) (binary (at 1)
+assertion_of_unevaluated : told (unit_typed 1048576 (codes "main.c" ∷ codes "m" ∷ codes "main" ∷ []) (at 0) ((declaration (assertion (at 1) (binary (at 1)
     operator.Or (constant (at 1) ty.Int 1) (binary (at 1) operator.Div (constant (at 1) ty.Int 1) (constant (at 1) ty.Int 0))) 1)) ∷ (definition (record {
       start = (at 2);
       specifiers = ((plain_specifier (specifier.Word word.Int)) ∷ []);
@@ -1486,7 +1486,7 @@ assertion_of_unevaluated = refl
 
 -- _Static_assert(1 / 0, "m");
 -- int main(void) { return 0; }
-assertion_divides : told (unit_typed (codes "main.c" ∷ codes "m" ∷ codes "main" ∷ []) (at 0) ((declaration (assertion (at 1) (binary (at 1) operator.Div
+assertion_divides : told (unit_typed 1048576 (codes "main.c" ∷ codes "m" ∷ codes "main" ∷ []) (at 0) ((declaration (assertion (at 1) (binary (at 1) operator.Div
     (constant (at 1) ty.Int 1) (constant (at 1) ty.Int 0)) 1)) ∷ (definition (record {
       start = (at 2);
       specifiers = ((plain_specifier (specifier.Word
@@ -1502,7 +1502,7 @@ assertion_divides = refl
 
 -- _Static_assert(2147483647 + 1, "m");
 -- int main(void) { return 0; }
-assertion_overflows : told (unit_typed (codes "main.c" ∷ codes "m" ∷ codes "main" ∷ []) (at 0) ((declaration (assertion (at 1) (binary (at 1) operator.Add
+assertion_overflows : told (unit_typed 1048576 (codes "main.c" ∷ codes "m" ∷ codes "main" ∷ []) (at 0) ((declaration (assertion (at 1) (binary (at 1) operator.Add
     (constant (at 1) ty.Int 2147483647) (constant (at 1) ty.Int 1)) 1)) ∷ (definition (record {
       start = (at 2);
       specifiers = ((plain_specifier
@@ -1519,7 +1519,7 @@ assertion_overflows = refl
 -- enum e { A = 2147483647,
 -- B };
 -- int main(void) { return 0; }
-enumerator_follows : told (unit_typed (codes "main.c" ∷ codes "e" ∷ codes "A" ∷ codes "B" ∷ codes "main" ∷ []) (at 0) ((declaration (declared (at 1)
+enumerator_follows : told (unit_typed 1048576 (codes "main.c" ∷ codes "e" ∷ codes "A" ∷ codes "B" ∷ codes "main" ∷ []) (at 0) ((declaration (declared (at 1)
     ((enumerators_specifier (Some 1) (record { at = (at 1); name = 2; value = (Some (constant (at 1) ty.Int 2147483647)) } ∷ record {
       at = (at 2);
       name = 3;
@@ -1538,7 +1538,7 @@ enumerator_follows = refl
 
 -- enum { A = 4294967295u };
 -- int main(void) { return 0; }
-enumerator_too_large : told (unit_typed (codes "main.c" ∷ codes "A" ∷ codes "main" ∷ []) (at 0) ((declaration (declared (at 1) ((enumerators_specifier None
+enumerator_too_large : told (unit_typed 1048576 (codes "main.c" ∷ codes "A" ∷ codes "main" ∷ []) (at 0) ((declaration (declared (at 1) ((enumerators_specifier None
     (record { at = (at 1); name = 1; value = (Some (constant (at 1) ty.UInt 4294967295)) } ∷ [])) ∷ []) [])) ∷ (definition (record {
       start = (at 2);
       specifiers = ((plain_specifier (specifier.Word word.Int)) ∷ []);
@@ -1553,7 +1553,7 @@ enumerator_too_large = refl
 
 -- enum e { A = sizeof(enum e) };
 -- int main(void) { return 0; }
-tag_in_its_list : told (unit_typed (codes "main.c" ∷ codes "e" ∷ codes "A" ∷ codes "main" ∷ []) (at 0) ((declaration (declared (at 1)
+tag_in_its_list : told (unit_typed 1048576 (codes "main.c" ∷ codes "e" ∷ codes "A" ∷ codes "main" ∷ []) (at 0) ((declaration (declared (at 1)
     ((enumerators_specifier (Some 1) (record {
       at = (at 1);
       name = 2;
@@ -1574,7 +1574,7 @@ tag_in_its_list = refl
 -- enum e { A };
 -- enum e { B };
 -- int main(void) { return 0; }
-tag_twice : told (unit_typed (codes "main.c" ∷ codes "e" ∷ codes "A" ∷ codes "B" ∷ codes "main" ∷ []) (at 0) ((declaration (declared (at 1)
+tag_twice : told (unit_typed 1048576 (codes "main.c" ∷ codes "e" ∷ codes "A" ∷ codes "B" ∷ codes "main" ∷ []) (at 0) ((declaration (declared (at 1)
     ((enumerators_specifier (Some 1) (record { at = (at 1); name = 2; value = None } ∷ [])) ∷ []) [])) ∷ (declaration (declared (at 2)
     ((enumerators_specifier (Some 1) (record { at = (at 2); name = 3; value = None } ∷ [])) ∷ []) [])) ∷ (definition (record {
       start = (at 3);
@@ -1591,7 +1591,7 @@ tag_twice = refl
 
 -- enum e x;
 -- int main(void) { return 0; }
-tag_before_list : told (unit_typed (codes "main.c" ∷ codes "e" ∷ codes "x" ∷ codes "main" ∷ []) (at 0) ((declaration (declared (at 1) ((plain_specifier
+tag_before_list : told (unit_typed 1048576 (codes "main.c" ∷ codes "e" ∷ codes "x" ∷ codes "main" ∷ []) (at 0) ((declaration (declared (at 1) ((plain_specifier
     (specifier.Enum 1)) ∷ []) ((object (at 1) 2 [] None) ∷ []))) ∷ (definition (record {
       start = (at 2);
       specifiers = ((plain_specifier (specifier.Word
@@ -1606,7 +1606,7 @@ tag_before_list : told (unit_typed (codes "main.c" ∷ codes "e" ∷ codes "x" �
 tag_before_list = refl
 
 -- enum e { A }; int main(void) { enum e { A = 3 }; enum e x = A; return x; }
-tag_in_inner_block : told (unit_typed (codes "main.c" ∷ codes "e" ∷ codes "A" ∷ codes "main" ∷ codes "x" ∷ []) (at 0) ((declaration (declared (at 1)
+tag_in_inner_block : told (unit_typed 1048576 (codes "main.c" ∷ codes "e" ∷ codes "A" ∷ codes "main" ∷ codes "x" ∷ []) (at 0) ((declaration (declared (at 1)
     ((enumerators_specifier (Some 1) (record { at = (at 1); name = 2; value = None } ∷ [])) ∷ []) [])) ∷ (definition (record {
       start = (at 1);
       specifiers =
@@ -1624,7 +1624,7 @@ tag_in_inner_block = refl
 
 -- enum { A = 4, B = A * 2, C }; _Static_assert(C == 9, "m");
 -- int main(void) { return 0; }
-enumerator_in_next : told (unit_typed (codes "main.c" ∷ codes "A" ∷ codes "B" ∷ codes "C" ∷ codes "m" ∷ codes "main" ∷ []) (at 0) ((declaration (declared
+enumerator_in_next : told (unit_typed 1048576 (codes "main.c" ∷ codes "A" ∷ codes "B" ∷ codes "C" ∷ codes "m" ∷ codes "main" ∷ []) (at 0) ((declaration (declared
     (at 1) ((enumerators_specifier None (record { at = (at 1); name = 1; value = (Some (constant (at 1) ty.Int 4)) } ∷ record {
       at = (at 1);
       name = 2;
@@ -1646,7 +1646,7 @@ enumerator_in_next = refl
 
 -- int f(int a, void);
 -- int main(void) { return 0; }
-void_parameter : told (unit_typed (codes "main.c" ∷ codes "f" ∷ codes "a" ∷ codes "main" ∷ []) (at 0) ((declaration (declared (at 1) ((plain_specifier
+void_parameter : told (unit_typed 1048576 (codes "main.c" ∷ codes "f" ∷ codes "a" ∷ codes "main" ∷ []) (at 0) ((declaration (declared (at 1) ((plain_specifier
     (specifier.Word word.Int)) ∷ []) ((function (at 1) 1 (record {
       at = (at 1);
       start = (at 1);
@@ -1669,7 +1669,7 @@ void_parameter = refl
 
 -- int f(void a);
 -- int main(void) { return 0; }
-named_void_parameter : told (unit_typed (codes "main.c" ∷ codes "f" ∷ codes "a" ∷ codes "main" ∷ []) (at 0) ((declaration (declared (at 1) ((plain_specifier
+named_void_parameter : told (unit_typed 1048576 (codes "main.c" ∷ codes "f" ∷ codes "a" ∷ codes "main" ∷ []) (at 0) ((declaration (declared (at 1) ((plain_specifier
     (specifier.Word word.Int)) ∷ []) ((function (at 1) 1 (record {
       at = (at 1);
       start = (at 1);
@@ -1691,7 +1691,7 @@ named_void_parameter = refl
 
 -- int f(const void);
 -- int main(void) { return 0; }
-const_void_parameter : told (unit_typed (codes "main.c" ∷ codes "f" ∷ codes "main" ∷ []) (at 0) ((declaration (declared (at 1) ((plain_specifier
+const_void_parameter : told (unit_typed 1048576 (codes "main.c" ∷ codes "f" ∷ codes "main" ∷ []) (at 0) ((declaration (declared (at 1) ((plain_specifier
     (specifier.Word word.Int)) ∷ []) ((function (at 1) 1 (record {
       at = (at 1);
       start = (at 1);
@@ -1713,7 +1713,7 @@ const_void_parameter = refl
 
 -- int f(int) { return 0; }
 -- int main(void) { return 0; }
-unnamed_parameter : told (unit_typed (codes "main.c" ∷ codes "f" ∷ codes "main" ∷ []) (at 0) ((definition (record {
+unnamed_parameter : told (unit_typed 1048576 (codes "main.c" ∷ codes "f" ∷ codes "main" ∷ []) (at 0) ((definition (record {
   start = (at 1);
   specifiers =
       ((plain_specifier (specifier.Word word.Int)) ∷ []);
@@ -1744,7 +1744,7 @@ unnamed_parameter = refl
 
 -- int f(int);
 -- int main(void) { return 0; }
-unnamed_in_declaration : told (unit_typed (codes "main.c" ∷ codes "f" ∷ codes "main" ∷ []) (at 0) ((declaration (declared (at 1) ((plain_specifier
+unnamed_in_declaration : told (unit_typed 1048576 (codes "main.c" ∷ codes "f" ∷ codes "main" ∷ []) (at 0) ((declaration (declared (at 1) ((plain_specifier
     (specifier.Word word.Int)) ∷ []) ((function (at 1) 1 (record {
       at = (at 1);
       start = (at 1);
@@ -1764,7 +1764,7 @@ unnamed_in_declaration : told (unit_typed (codes "main.c" ∷ codes "f" ∷ code
 unnamed_in_declaration = refl
 
 -- int main(void) { for (static int i = 0; i < 1; i++) ; return 0; }
-static_in_for : told (unit_typed (codes "main.c" ∷ codes "main" ∷ codes "i" ∷ []) (at 0) ((definition (record {
+static_in_for : told (unit_typed 1048576 (codes "main.c" ∷ codes "main" ∷ codes "i" ∷ []) (at 0) ((definition (record {
   start = (at 1);
   specifiers =
       ((plain_specifier (specifier.Word word.Int)) ∷ []);
@@ -1781,7 +1781,7 @@ static_in_for : told (unit_typed (codes "main.c" ∷ codes "main" ∷ codes "i" 
 static_in_for = refl
 
 -- int main(void) { for (enum { A } x = A; x; ) ; return 0; }
-list_in_for : told (unit_typed (codes "main.c" ∷ codes "main" ∷ codes "A" ∷ codes "x" ∷ []) (at 0) ((definition (record {
+list_in_for : told (unit_typed 1048576 (codes "main.c" ∷ codes "main" ∷ codes "A" ∷ codes "x" ∷ []) (at 0) ((definition (record {
   start = (at 1);
   specifiers =
       ((plain_specifier (specifier.Word word.Int)) ∷ []);
@@ -1797,7 +1797,7 @@ list_in_for : told (unit_typed (codes "main.c" ∷ codes "main" ∷ codes "A" �
 list_in_for = refl
 
 -- int main(void) { for (_Static_assert(1, "m"); ; ) return 0; }
-assertion_in_for : told (unit_typed (codes "main.c" ∷ codes "main" ∷ codes "m" ∷ []) (at 0) ((definition (record {
+assertion_in_for : told (unit_typed 1048576 (codes "main.c" ∷ codes "main" ∷ codes "m" ∷ []) (at 0) ((definition (record {
   start = (at 1);
   specifiers =
       ((plain_specifier (specifier.Word word.Int)) ∷ []);
@@ -1813,7 +1813,7 @@ assertion_in_for = refl
 -- int n = 2;
 -- int a[n];
 -- int main(void) { return 0; }
-size_by_name : told (unit_typed (codes "main.c" ∷ codes "n" ∷ codes "a" ∷ codes "main" ∷ []) (at 0) ((declaration (declared (at 1) ((plain_specifier
+size_by_name : told (unit_typed 1048576 (codes "main.c" ∷ codes "n" ∷ codes "a" ∷ codes "main" ∷ []) (at 0) ((declaration (declared (at 1) ((plain_specifier
     (specifier.Word word.Int)) ∷ []) ((object (at 1) 1 [] (Some (one_init (constant (at 1) ty.Int 2)))) ∷ []))) ∷ (declaration (declared (at 2)
     ((plain_specifier (specifier.Word word.Int)) ∷ []) ((object (at 2) 2 ((Some (identifier (at 2) 1)) ∷ []) None) ∷ []))) ∷ (definition (record {
       start =
@@ -1831,7 +1831,7 @@ size_by_name = refl
 -- int f(void);
 -- int a[0 ? f() : 1];
 -- int main(void) { return 0; }
-size_by_call : told (unit_typed (codes "main.c" ∷ codes "f" ∷ codes "a" ∷ codes "main" ∷ []) (at 0) ((declaration (declared (at 1) ((plain_specifier
+size_by_call : told (unit_typed 1048576 (codes "main.c" ∷ codes "f" ∷ codes "a" ∷ codes "main" ∷ []) (at 0) ((declaration (declared (at 1) ((plain_specifier
     (specifier.Word word.Int)) ∷ []) ((function (at 1) 1 []) ∷ []))) ∷ (declaration (declared (at 2) ((plain_specifier (specifier.Word word.Int)) ∷ [])
     ((object (at 2) 2 ((Some (conditional (at 2) (constant (at 2) ty.Int 0) (call (at 2) 1 no_trees) (constant (at 2) ty.Int 1))) ∷ []) None) ∷ []))) ∷
     (definition (record {
@@ -1849,7 +1849,7 @@ size_by_call = refl
 -- int f(void);
 -- int a[sizeof f()];
 -- int main(void) { return 0; }
-size_by_unmeasured_call : told (unit_typed (codes "main.c" ∷ codes "f" ∷ codes "a" ∷ codes "main" ∷ []) (at 0) ((declaration (declared (at 1)
+size_by_unmeasured_call : told (unit_typed 1048576 (codes "main.c" ∷ codes "f" ∷ codes "a" ∷ codes "main" ∷ []) (at 0) ((declaration (declared (at 1)
     ((plain_specifier (specifier.Word word.Int)) ∷ []) ((function (at 1) 1 []) ∷ []))) ∷ (declaration (declared (at 2) ((plain_specifier (specifier.Word
     word.Int)) ∷ []) ((object (at 2) 2 ((Some (size_of (at 2) (call (at 2) 1 no_trees))) ∷ []) None) ∷ []))) ∷ (definition (record {
       start = (at 3);
@@ -1865,7 +1865,7 @@ size_by_unmeasured_call = refl
 
 -- int a[(void)0];
 -- int main(void) { return 0; }
-size_by_void : told (unit_typed (codes "main.c" ∷ codes "a" ∷ codes "main" ∷ []) (at 0) ((declaration (declared (at 1) ((plain_specifier (specifier.Word
+size_by_void : told (unit_typed 1048576 (codes "main.c" ∷ codes "a" ∷ codes "main" ∷ []) (at 0) ((declaration (declared (at 1) ((plain_specifier (specifier.Word
     word.Int)) ∷ []) ((object (at 1) 1 ((Some (cast (at 1) (type_name (at 1) ((specifier.Word word.Void) ∷ []) no_trees) (constant (at 1) ty.Int 0))) ∷ [])
     None) ∷ []))) ∷ (definition (record {
       start = (at 2);
@@ -1881,7 +1881,7 @@ size_by_void = refl
 
 -- int a[(1, 2)];
 -- int main(void) { return 0; }
-size_by_comma : told (unit_typed (codes "main.c" ∷ codes "a" ∷ codes "main" ∷ []) (at 0) ((declaration (declared (at 1) ((plain_specifier (specifier.Word
+size_by_comma : told (unit_typed 1048576 (codes "main.c" ∷ codes "a" ∷ codes "main" ∷ []) (at 0) ((declaration (declared (at 1) ((plain_specifier (specifier.Word
     word.Int)) ∷ []) ((object (at 1) 1 ((Some (paren (binary (at 1) operator.Comma (constant (at 1) ty.Int 1) (constant (at 1) ty.Int 2)))) ∷ []) None) ∷
     []))) ∷ (definition (record {
       start = (at 2);
@@ -1896,7 +1896,7 @@ size_by_comma = refl
 
 -- int a["ab"[0]];
 -- int main(void) { return 0; }
-size_by_text : told (unit_typed (codes "main.c" ∷ codes "a" ∷ (codes "ab" ++ 0 ∷ []) ∷ codes "main" ∷ []) (at 0) ((declaration (declared (at 1) ((plain_specifier
+size_by_text : told (unit_typed 1048576 (codes "main.c" ∷ codes "a" ∷ (codes "ab" ++ 0 ∷ []) ∷ codes "main" ∷ []) (at 0) ((declaration (declared (at 1) ((plain_specifier
     (specifier.Word word.Int)) ∷ []) ((object (at 1) 1 ((Some (subscript (at 1) (string (at 1) 2) (constant (at 1) ty.Int 0))) ∷ []) None) ∷ []))) ∷
     (definition (record {
       start = (at 2);
@@ -1912,7 +1912,7 @@ size_by_text = refl
 
 -- int x[3]; int a[sizeof x[1] + sizeof "ab"]; _Static_assert(sizeof a == 28, "m");
 -- int main(void) { return 0; }
-size_by_measured_names : told (unit_typed (codes "main.c" ∷ codes "x" ∷ codes "a" ∷ (codes "ab" ++ 0 ∷ []) ∷ codes "m" ∷ codes "main" ∷ []) (at 0) ((declaration
+size_by_measured_names : told (unit_typed 1048576 (codes "main.c" ∷ codes "x" ∷ codes "a" ∷ (codes "ab" ++ 0 ∷ []) ∷ codes "m" ∷ codes "main" ∷ []) (at 0) ((declaration
     (declared (at 1) ((plain_specifier (specifier.Word word.Int)) ∷ []) ((object (at 1) 1 ((Some (constant (at 1) ty.Int 3)) ∷ []) None) ∷ []))) ∷
     (declaration (declared (at 1) ((plain_specifier (specifier.Word word.Int)) ∷ []) ((object (at 1) 2 ((Some (binary (at 1) operator.Add (size_of (at 1)
     (subscript (at 1) (identifier (at 1) 1) (constant (at 1) ty.Int 1))) (size_of (at 1) (string (at 1) 3)))) ∷ []) None) ∷ []))) ∷ (declaration (assertion
@@ -1930,7 +1930,7 @@ size_by_measured_names = refl
 
 -- int x; int y = x;
 -- int main(void) { return 0; }
-static_by_name : told (unit_typed (codes "main.c" ∷ codes "x" ∷ codes "y" ∷ codes "main" ∷ []) (at 0) ((declaration (declared (at 1) ((plain_specifier
+static_by_name : told (unit_typed 1048576 (codes "main.c" ∷ codes "x" ∷ codes "y" ∷ codes "main" ∷ []) (at 0) ((declaration (declared (at 1) ((plain_specifier
     (specifier.Word word.Int)) ∷ []) ((object (at 1) 1 [] None) ∷ []))) ∷ (declaration (declared (at 1) ((plain_specifier (specifier.Word word.Int)) ∷ [])
     ((object (at 1) 2 [] (Some (one_init (identifier (at 1) 1)))) ∷ []))) ∷ (definition (record {
       start = (at 2);
@@ -1947,7 +1947,7 @@ static_by_name = refl
 
 -- int y = f();
 -- int main(void) { return 0; }
-static_by_undeclared_call : told (unit_typed (codes "main.c" ∷ codes "y" ∷ codes "f" ∷ codes "main" ∷ []) (at 0) ((declaration (declared (at 1)
+static_by_undeclared_call : told (unit_typed 1048576 (codes "main.c" ∷ codes "y" ∷ codes "f" ∷ codes "main" ∷ []) (at 0) ((declaration (declared (at 1)
     ((plain_specifier (specifier.Word word.Int)) ∷ []) ((object (at 1) 1 [] (Some (one_init (call (at 1) 2 no_trees)))) ∷ []))) ∷ (definition (record {
       start = (at 2);
       specifiers = ((plain_specifier (specifier.Word word.Int)) ∷ []);
@@ -1962,7 +1962,7 @@ static_by_undeclared_call = refl
 
 -- static unsigned char c = 300; static int x = 4294967295u; static _Bool b = 2;
 -- int main(void) { return 0; }
-wraps_by_conversion : told (unit_typed (codes "main.c" ∷ codes "c" ∷ codes "x" ∷ codes "b" ∷ codes "main" ∷ []) (at 0) ((declaration (declared (at 1)
+wraps_by_conversion : told (unit_typed 1048576 (codes "main.c" ∷ codes "c" ∷ codes "x" ∷ codes "b" ∷ codes "main" ∷ []) (at 0) ((declaration (declared (at 1)
     (static_specifier ∷ (plain_specifier (specifier.Word word.Unsigned)) ∷ (plain_specifier (specifier.Word word.Char)) ∷ []) ((object (at 1) 1 [] (Some
     (one_init (constant (at 1) ty.Int 300)))) ∷ []))) ∷ (declaration (declared (at 1) (static_specifier ∷ (plain_specifier (specifier.Word word.Int)) ∷ [])
     ((object (at 1) 2 [] (Some (one_init (constant (at 1) ty.UInt 4294967295)))) ∷ []))) ∷ (declaration (declared (at 1) (static_specifier ∷
@@ -1979,7 +1979,7 @@ wraps_by_conversion : told (unit_typed (codes "main.c" ∷ codes "c" ∷ codes "
 wraps_by_conversion = refl
 
 -- int main(void) { int x = 1; switch (x) { case x: ; } return 0; }
-case_by_name : told (unit_typed (codes "main.c" ∷ codes "main" ∷ codes "x" ∷ []) (at 0) ((definition (record {
+case_by_name : told (unit_typed 1048576 (codes "main.c" ∷ codes "main" ∷ codes "x" ∷ []) (at 0) ((definition (record {
   start = (at 1);
   specifiers =
       ((plain_specifier (specifier.Word word.Int)) ∷ []);
@@ -1997,7 +1997,7 @@ case_by_name = refl
 
 -- int x = 1 << 32;
 -- int main(void) { return 0; }
-shift_out_of_range : told (unit_typed (codes "main.c" ∷ codes "x" ∷ codes "main" ∷ []) (at 0) ((declaration (declared (at 1) ((plain_specifier
+shift_out_of_range : told (unit_typed 1048576 (codes "main.c" ∷ codes "x" ∷ codes "main" ∷ []) (at 0) ((declaration (declared (at 1) ((plain_specifier
     (specifier.Word word.Int)) ∷ []) ((object (at 1) 1 [] (Some (one_init (binary (at 1) operator.ShiftLeft (constant (at 1) ty.Int 1) (constant (at 1)
     ty.Int 32))))) ∷ []))) ∷ (definition (record {
       start = (at 2);
@@ -2013,7 +2013,7 @@ shift_out_of_range = refl
 
 -- int x = (-2147483647 - 1) / -1;
 -- int main(void) { return 0; }
-least_by_minus_one : told (unit_typed (codes "main.c" ∷ codes "x" ∷ codes "main" ∷ []) (at 0) ((declaration (declared (at 1) ((plain_specifier
+least_by_minus_one : told (unit_typed 1048576 (codes "main.c" ∷ codes "x" ∷ codes "main" ∷ []) (at 0) ((declaration (declared (at 1) ((plain_specifier
     (specifier.Word word.Int)) ∷ []) ((object (at 1) 1 [] (Some (one_init (binary (at 1) operator.Div (paren (binary (at 1) operator.Sub (prefix (at 1)
     sign.Minus (constant (at 1) ty.Int 2147483647)) (constant (at 1) ty.Int 1))) (prefix (at 1) sign.Minus (constant (at 1) ty.Int 1)))))) ∷ []))) ∷
     (definition (record {
@@ -2030,7 +2030,7 @@ least_by_minus_one = refl
 
 -- int x = 1 / 0 + (2147483647 + 1);
 -- int main(void) { return 0; }
-first_of_two : told (unit_typed (codes "main.c" ∷ codes "x" ∷ codes "main" ∷ []) (at 0) ((declaration (declared (at 1) ((plain_specifier (specifier.Word
+first_of_two : told (unit_typed 1048576 (codes "main.c" ∷ codes "x" ∷ codes "main" ∷ []) (at 0) ((declaration (declared (at 1) ((plain_specifier (specifier.Word
     word.Int)) ∷ []) ((object (at 1) 1 [] (Some (one_init (binary (at 1) operator.Add (binary (at 1) operator.Div (constant (at 1) ty.Int 1) (constant (at
     1) ty.Int 0)) (paren (binary (at 1) operator.Add (constant (at 1) ty.Int 2147483647) (constant (at 1) ty.Int 1))))))) ∷ []))) ∷ (definition (record {
       start = (at 2);
@@ -2046,7 +2046,7 @@ first_of_two = refl
 
 -- unsigned x = 0u - 1; _Static_assert(-1 > 0u && 0u - 1 == 4294967295u, "m");
 -- int main(void) { return 0; }
-unsigned_wraps : told (unit_typed (codes "main.c" ∷ codes "x" ∷ codes "m" ∷ codes "main" ∷ []) (at 0) ((declaration (declared (at 1) ((plain_specifier
+unsigned_wraps : told (unit_typed 1048576 (codes "main.c" ∷ codes "x" ∷ codes "m" ∷ codes "main" ∷ []) (at 0) ((declaration (declared (at 1) ((plain_specifier
     (specifier.Word word.Unsigned)) ∷ []) ((object (at 1) 1 [] (Some (one_init (binary (at 1) operator.Sub (constant (at 1) ty.UInt 0) (constant (at 1)
     ty.Int 1))))) ∷ []))) ∷ (declaration (assertion (at 1) (binary (at 1) operator.And (binary (at 1) operator.Greater (prefix (at 1) sign.Minus (constant
     (at 1) ty.Int 1)) (constant (at 1) ty.UInt 0)) (binary (at 1) operator.Equal (binary (at 1) operator.Sub (constant (at 1) ty.UInt 0) (constant (at 1)
@@ -2064,7 +2064,7 @@ unsigned_wraps : told (unit_typed (codes "main.c" ∷ codes "x" ∷ codes "m" �
 unsigned_wraps = refl
 
 -- int main(void) { int a = b, b; return 0; }
-items_in_order : told (unit_typed (codes "main.c" ∷ codes "main" ∷ codes "a" ∷ codes "b" ∷ []) (at 0) ((definition (record {
+items_in_order : told (unit_typed 1048576 (codes "main.c" ∷ codes "main" ∷ codes "a" ∷ codes "b" ∷ []) (at 0) ((definition (record {
   start = (at 1);
   specifiers =
       ((plain_specifier (specifier.Word word.Int)) ∷ []);
@@ -2079,7 +2079,7 @@ items_in_order : told (unit_typed (codes "main.c" ∷ codes "main" ∷ codes "a"
 items_in_order = refl
 
 -- int main(void) { int x = x; return x; }
-own_name_in_scope : told (unit_typed (codes "main.c" ∷ codes "main" ∷ codes "x" ∷ []) (at 0) ((definition (record {
+own_name_in_scope : told (unit_typed 1048576 (codes "main.c" ∷ codes "main" ∷ codes "x" ∷ []) (at 0) ((definition (record {
   start = (at 1);
   specifiers =
       ((plain_specifier (specifier.Word word.Int)) ∷ []);
@@ -2095,7 +2095,7 @@ own_name_in_scope = refl
 
 -- int f(int a, int p[sizeof a]);
 -- int main(void) { return 0; }
-measured_parameter : told (unit_typed (codes "main.c" ∷ codes "f" ∷ codes "a" ∷ codes "p" ∷ codes "main" ∷ []) (at 0) ((declaration (declared (at 1)
+measured_parameter : told (unit_typed 1048576 (codes "main.c" ∷ codes "f" ∷ codes "a" ∷ codes "p" ∷ codes "main" ∷ []) (at 0) ((declaration (declared (at 1)
     ((plain_specifier (specifier.Word word.Int)) ∷ []) ((function (at 1) 1 (record {
       at = (at 1);
       start = (at 1);
@@ -2124,7 +2124,7 @@ measured_parameter : told (unit_typed (codes "main.c" ∷ codes "f" ∷ codes "a
 measured_parameter = refl
 
 -- int x; int main(void) { { char x; } return sizeof x; }
-name_back_again : told (unit_typed (codes "main.c" ∷ codes "x" ∷ codes "main" ∷ []) (at 0) ((declaration (declared (at 1) ((plain_specifier (specifier.Word
+name_back_again : told (unit_typed 1048576 (codes "main.c" ∷ codes "x" ∷ codes "main" ∷ []) (at 0) ((declaration (declared (at 1) ((plain_specifier (specifier.Word
     word.Int)) ∷ []) ((object (at 1) 1 [] None) ∷ []))) ∷ (definition (record {
       start = (at 1);
       specifiers = ((plain_specifier (specifier.Word word.Int)) ∷
@@ -2141,7 +2141,7 @@ name_back_again = refl
 
 -- char a[1048577];
 -- int main(void) { return 0; }
-large_object : told (unit_typed (codes "main.c" ∷ codes "a" ∷ codes "main" ∷ []) (at 0) ((declaration (declared (at 1) ((plain_specifier (specifier.Word
+large_object : told (unit_typed 1048576 (codes "main.c" ∷ codes "a" ∷ codes "main" ∷ []) (at 0) ((declaration (declared (at 1) ((plain_specifier (specifier.Word
     word.Char)) ∷ []) ((object (at 1) 1 ((Some (constant (at 1) ty.Int 1048577)) ∷ []) None) ∷ []))) ∷ (definition (record {
       start = (at 2);
       specifiers =
@@ -2157,7 +2157,7 @@ large_object = refl
 
 -- char a[1048576];
 -- int main(void) { return 0; }
-largest_object : told (unit_typed (codes "main.c" ∷ codes "a" ∷ codes "main" ∷ []) (at 0) ((declaration (declared (at 1) ((plain_specifier (specifier.Word
+largest_object : told (unit_typed 1048576 (codes "main.c" ∷ codes "a" ∷ codes "main" ∷ []) (at 0) ((declaration (declared (at 1) ((plain_specifier (specifier.Word
     word.Char)) ∷ []) ((object (at 1) 1 ((Some (constant (at 1) ty.Int 1048576)) ∷ []) None) ∷ []))) ∷ (definition (record {
       start = (at 2);
       specifiers =
@@ -2173,7 +2173,7 @@ largest_object = refl
 
 -- int f(char p[][1048577]);
 -- int main(void) { return 0; }
-large_element : told (unit_typed (codes "main.c" ∷ codes "f" ∷ codes "p" ∷ codes "main" ∷ []) (at 0) ((declaration (declared (at 1) ((plain_specifier
+large_element : told (unit_typed 1048576 (codes "main.c" ∷ codes "f" ∷ codes "p" ∷ codes "main" ∷ []) (at 0) ((declaration (declared (at 1) ((plain_specifier
     (specifier.Word word.Int)) ∷ []) ((function (at 1) 1 (record {
       at = (at 1);
       start = (at 1);
@@ -2196,7 +2196,7 @@ large_element = refl
 
 -- int f(char p[2000000]);
 -- int main(void) { return 0; }
-large_parameter : told (unit_typed (codes "main.c" ∷ codes "f" ∷ codes "p" ∷ codes "main" ∷ []) (at 0) ((declaration (declared (at 1) ((plain_specifier
+large_parameter : told (unit_typed 1048576 (codes "main.c" ∷ codes "f" ∷ codes "p" ∷ codes "main" ∷ []) (at 0) ((declaration (declared (at 1) ((plain_specifier
     (specifier.Word word.Int)) ∷ []) ((function (at 1) 1 (record {
       at = (at 1);
       start = (at 1);
@@ -2218,7 +2218,7 @@ large_parameter : told (unit_typed (codes "main.c" ∷ codes "f" ∷ codes "p" �
 large_parameter = refl
 
 -- int main(void) { return sizeof(char[1048577]); }
-large_type_name : told (unit_typed (codes "main.c" ∷ codes "main" ∷ []) (at 0) ((definition (record {
+large_type_name : told (unit_typed 1048576 (codes "main.c" ∷ codes "main" ∷ []) (at 0) ((definition (record {
   start = (at 1);
   specifiers = ((plain_specifier
       (specifier.Word word.Int)) ∷ []);

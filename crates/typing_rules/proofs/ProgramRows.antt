@@ -62,7 +62,7 @@ abbrev plain : (lengths : List ℕ) → ObjectType
 plain lengths = record { element = ty.Int; constant = false; lengths = lengths }
 
 -- int main(void) { return -1 < 1u; }
-mixed_comparison : bodies (functions_of (unit_typed (codes "main.c" ∷ codes "main" ∷ []) (at 0) ((definition (record {
+mixed_comparison : bodies (functions_of (unit_typed 1048576 (codes "main.c" ∷ codes "main" ∷ []) (at 0) ((definition (record {
   start = (at 1);
   specifiers =
       ((plain_specifier (specifier.Word word.Int)) ∷ []);
@@ -77,7 +77,7 @@ mixed_comparison : bodies (functions_of (unit_typed (codes "main.c" ∷ codes "m
 mixed_comparison = refl
 
 -- int main(void) { return 1 << 2u; }
-shift_converts_left_alone : bodies (functions_of (unit_typed (codes "main.c" ∷ codes "main" ∷ []) (at 0) ((definition (record {
+shift_converts_left_alone : bodies (functions_of (unit_typed 1048576 (codes "main.c" ∷ codes "main" ∷ []) (at 0) ((definition (record {
   start = (at 1);
   specifiers =
       ((plain_specifier (specifier.Word word.Int)) ∷ []);
@@ -92,7 +92,7 @@ shift_converts_left_alone : bodies (functions_of (unit_typed (codes "main.c" ∷
 shift_converts_left_alone = refl
 
 -- int main(void) { char c = 1; c += 2u; return c++; }
-compound_of_char : bodies (functions_of (unit_typed (codes "main.c" ∷ codes "main" ∷ codes "c" ∷ []) (at 0) ((definition (record {
+compound_of_char : bodies (functions_of (unit_typed 1048576 (codes "main.c" ∷ codes "main" ∷ codes "c" ∷ []) (at 0) ((definition (record {
   start = (at 1);
   specifiers = ((plain_specifier (specifier.Word word.Int)) ∷ []);
   at = (at 1);
@@ -111,7 +111,7 @@ compound_of_char = refl
 
 -- int f(int a, int p[][3], char b) { int c; c = p[b][a]; return c; }
 -- int main(void) { int m[2][3]; return f(1, m, 2); }
-parameters_by_kind : bodies (functions_of (unit_typed (codes "main.c" ∷ codes "f" ∷ codes "a" ∷ codes "p" ∷ codes "b" ∷ codes "c" ∷ codes "main" ∷ codes "m"
+parameters_by_kind : bodies (functions_of (unit_typed 1048576 (codes "main.c" ∷ codes "f" ∷ codes "a" ∷ codes "p" ∷ codes "b" ∷ codes "c" ∷ codes "main" ∷ codes "m"
     ∷ []) (at 0) ((definition (record {
       start = (at 1);
       specifiers = ((plain_specifier (specifier.Word word.Int)) ∷ []);
@@ -159,7 +159,7 @@ parameters_by_kind = refl
 
 -- int f(int a, int p[][3], char b) { int c; c = p[b][a]; return c; }
 -- int main(void) { int m[2][3]; return f(1, m, 2); }
-their_objects : objects (functions_of (unit_typed (codes "main.c" ∷ codes "f" ∷ codes "a" ∷ codes "p" ∷ codes "b" ∷ codes "c" ∷ codes "main" ∷ codes "m" ∷
+their_objects : objects (functions_of (unit_typed 1048576 (codes "main.c" ∷ codes "f" ∷ codes "a" ∷ codes "p" ∷ codes "b" ∷ codes "c" ∷ codes "main" ∷ codes "m" ∷
     []) (at 0) ((definition (record {
       start = (at 1);
       specifiers = ((plain_specifier (specifier.Word word.Int)) ∷ []);
@@ -205,7 +205,7 @@ their_objects = refl
 
 -- int g(void) { return 1; }
 -- int main(void) { g(); (void)g(); g(), g(); return (g(), g()); }
-used_and_unused : bodies (functions_of (unit_typed (codes "main.c" ∷ codes "g" ∷ codes "main" ∷ []) (at 0) ((definition (record {
+used_and_unused : bodies (functions_of (unit_typed 1048576 (codes "main.c" ∷ codes "g" ∷ codes "main" ∷ []) (at 0) ((definition (record {
   start = (at 1);
   specifiers
       = ((plain_specifier (specifier.Word word.Int)) ∷ []);
@@ -237,7 +237,7 @@ used_and_unused : bodies (functions_of (unit_typed (codes "main.c" ∷ codes "g"
 used_and_unused = refl
 
 -- int main(void) { sizeof "xy"; return "a"[0]; }
-literals_in_order : literals_of (unit_typed (codes "main.c" ∷ codes "main" ∷ (codes "xy" ++ 0 ∷ []) ∷ (codes "a" ++ 0 ∷ []) ∷ []) (at 0) ((definition (record {
+literals_in_order : literals_of (unit_typed 1048576 (codes "main.c" ∷ codes "main" ∷ (codes "xy" ++ 0 ∷ []) ∷ (codes "a" ++ 0 ∷ []) ∷ []) (at 0) ((definition (record {
   start = (at 1);
   specifiers = ((plain_specifier (specifier.Word word.Int)) ∷ []);
   at = (at 1);
@@ -251,7 +251,7 @@ literals_in_order : literals_of (unit_typed (codes "main.c" ∷ codes "main" ∷
 literals_in_order = refl
 
 -- int main(void) { sizeof "xy"; return "a"[0]; }
-literal_numbered : bodies (functions_of (unit_typed (codes "main.c" ∷ codes "main" ∷ (codes "xy" ++ 0 ∷ []) ∷ (codes "a" ++ 0 ∷ []) ∷ []) (at 0) ((definition (record {
+literal_numbered : bodies (functions_of (unit_typed 1048576 (codes "main.c" ∷ codes "main" ∷ (codes "xy" ++ 0 ∷ []) ∷ (codes "a" ++ 0 ∷ []) ∷ []) (at 0) ((definition (record {
   start = (at
       1);
   specifiers = ((plain_specifier (specifier.Word word.Int)) ∷ []);
@@ -268,7 +268,7 @@ literal_numbered = refl
 
 -- static int m[2][2] = {{1}, {3, 4}}; char s[] = {"ab"}; unsigned char c = 300; char t[2][3] = {"a", "b"}; int z;
 -- int main(void) { static int k = -1; return 0; }
-static_values : values (statics_of (unit_typed (codes "main.c" ∷ codes "m" ∷ codes "s" ∷ (codes "ab" ++ 0 ∷ []) ∷ codes "c" ∷ codes "t" ∷ (codes "a" ++ 0 ∷ []) ∷ (codes "b" ++ 0 ∷ []) ∷ codes
+static_values : values (statics_of (unit_typed 1048576 (codes "main.c" ∷ codes "m" ∷ codes "s" ∷ (codes "ab" ++ 0 ∷ []) ∷ codes "c" ∷ codes "t" ∷ (codes "a" ++ 0 ∷ []) ∷ (codes "b" ++ 0 ∷ []) ∷ codes
     "z" ∷ codes "main" ∷ codes "k" ∷ []) (at 0) ((declaration (declared (at 1) (static_specifier ∷ (plain_specifier (specifier.Word word.Int)) ∷ [])
     ((object (at 1) 1 ((Some (constant (at 1) ty.Int 2)) ∷ (Some (constant (at 1) ty.Int 2)) ∷ []) (Some (braced_init (at 1) (and_init (braced_init (at 1)
     (and_init (one_init (constant (at 1) ty.Int 1)) no_inits)) (and_init (braced_init (at 1) (and_init (one_init (constant (at 1) ty.Int 3)) (and_init
@@ -294,7 +294,7 @@ static_values : values (statics_of (unit_typed (codes "main.c" ∷ codes "m" ∷
 static_values = refl
 
 -- int main(void) { switch (1u) { int x = 1; case -1: default: return x; } }
-switch_of_unsigned : bodies (functions_of (unit_typed (codes "main.c" ∷ codes "main" ∷ codes "x" ∷ []) (at 0) ((definition (record {
+switch_of_unsigned : bodies (functions_of (unit_typed 1048576 (codes "main.c" ∷ codes "main" ∷ codes "x" ∷ []) (at 0) ((definition (record {
   start = (at 1);
   specifiers = ((plain_specifier (specifier.Word word.Int)) ∷ []);
   at = (at 1);
@@ -312,7 +312,7 @@ switch_of_unsigned : bodies (functions_of (unit_typed (codes "main.c" ∷ codes 
 switch_of_unsigned = refl
 
 -- int main(void) { return (int)(char)300 ? 1 : 2u; }
-cast_is_a_node : bodies (functions_of (unit_typed (codes "main.c" ∷ codes "main" ∷ []) (at 0) ((definition (record {
+cast_is_a_node : bodies (functions_of (unit_typed 1048576 (codes "main.c" ∷ codes "main" ∷ []) (at 0) ((definition (record {
   start = (at 1);
   specifiers =
       ((plain_specifier (specifier.Word word.Int)) ∷ []);
@@ -331,7 +331,7 @@ cast_is_a_node = refl
 -- int a[];
 -- extern int b[];
 -- int main(void) { return a[0]; }
-sizes_left_unknown : statics_of (unit_typed (codes "main.c" ∷ codes "a" ∷ codes "b" ∷ codes "main" ∷ []) (at 0) ((declaration (declared (at 1)
+sizes_left_unknown : statics_of (unit_typed 1048576 (codes "main.c" ∷ codes "a" ∷ codes "b" ∷ codes "main" ∷ []) (at 0) ((declaration (declared (at 1)
     ((plain_specifier (specifier.Word word.Int)) ∷ []) ((object (at 1) 1 (None ∷ []) None) ∷ []))) ∷ (declaration (declared (at 2) (extern_specifier ∷
     (plain_specifier (specifier.Word word.Int)) ∷ []) ((object (at 2) 2 (None ∷ []) None) ∷ []))) ∷ (definition (record {
       start = (at 3);
@@ -352,7 +352,7 @@ sizes_left_unknown = refl
 
 -- int f(int p[3]) { return 0; }
 -- int main(void) { return 42; }
-weight_with_a_reference : weights (functions_of (unit_typed (codes "main.c" ∷ codes "f" ∷ codes "p" ∷ codes "main" ∷ []) (at 0) ((definition (record {
+weight_with_a_reference : weights (functions_of (unit_typed 1048576 (codes "main.c" ∷ codes "f" ∷ codes "p" ∷ codes "main" ∷ []) (at 0) ((definition (record {
   start
       = (at 1);
   specifiers = ((plain_specifier (specifier.Word word.Int)) ∷ []);
@@ -382,7 +382,7 @@ weight_with_a_reference : weights (functions_of (unit_typed (codes "main.c" ∷ 
 weight_with_a_reference = refl
 
 -- int main(void) { return 42; }
-weight_of_the_least : weights (functions_of (unit_typed (codes "main.c" ∷ codes "main" ∷ []) (at 0) ((definition (record {
+weight_of_the_least : weights (functions_of (unit_typed 1048576 (codes "main.c" ∷ codes "main" ∷ []) (at 0) ((definition (record {
   start = (at 1);
   specifiers =
       ((plain_specifier (specifier.Word word.Int)) ∷ []);
@@ -397,7 +397,7 @@ weight_of_the_least = refl
 
 -- int f(int n) { if (n == 0) return 0; return f(n - 1); }
 -- int main(void) { char pad[208]; return f(3447); }
-weight_of_a_recursion : weights (functions_of (unit_typed (codes "main.c" ∷ codes "f" ∷ codes "n" ∷ codes "main" ∷ codes "pad" ∷ []) (at 0) ((definition
+weight_of_a_recursion : weights (functions_of (unit_typed 1048576 (codes "main.c" ∷ codes "f" ∷ codes "n" ∷ codes "main" ∷ codes "pad" ∷ []) (at 0) ((definition
     (record {
       start = (at 1);
       specifiers = ((plain_specifier (specifier.Word word.Int)) ∷ []);
@@ -473,7 +473,7 @@ abbrev some_function : Function
 some_function = record { name = 0; type = record { result = None; constant = false; parameters = [] }; objects = []; body = typed.empty; nodes = 2; weight = 96 }
 
 abbrev built : ℕ → Built
-built n = record { scope = file_scope [] []; functions = repeated n some_function; initial = [] }
+built n = record { stack = 1048576; scope = file_scope [] []; functions = repeated n some_function; initial = [] }
 
 most_functions : told (within_limits (at 0) (built 16384)) ≡ []
 most_functions = refl

@@ -18,7 +18,7 @@ abbrev at : ℕ → Pos
 at n = record { file = 0; line = n }
 
 -- int main(void) { return y; }
-undeclared_name : told (unit_typed (codes "main.c" ∷ codes "main" ∷ codes "y" ∷ []) (at 0) ((definition (record {
+undeclared_name : told (unit_typed 1048576 (codes "main.c" ∷ codes "main" ∷ codes "y" ∷ []) (at 0) ((definition (record {
   start = (at 1);
   specifiers =
       ((plain_specifier (specifier.Word word.Int)) ∷ []);
@@ -32,7 +32,7 @@ undeclared_name : told (unit_typed (codes "main.c" ∷ codes "main" ∷ codes "y
 undeclared_name = refl
 
 -- int main(void) { return f(); }
-undeclared_call : told (unit_typed (codes "main.c" ∷ codes "main" ∷ codes "f" ∷ []) (at 0) ((definition (record {
+undeclared_call : told (unit_typed 1048576 (codes "main.c" ∷ codes "main" ∷ codes "f" ∷ []) (at 0) ((definition (record {
   start = (at 1);
   specifiers =
       ((plain_specifier (specifier.Word word.Int)) ∷ []);
@@ -47,7 +47,7 @@ undeclared_call = refl
 
 -- int main(void) { return y +
 -- z; }
-two_undeclared : told (unit_typed (codes "main.c" ∷ codes "main" ∷ codes "y" ∷ codes "z" ∷ []) (at 0) ((definition (record {
+two_undeclared : told (unit_typed 1048576 (codes "main.c" ∷ codes "main" ∷ codes "y" ∷ codes "z" ∷ []) (at 0) ((definition (record {
   start = (at 1);
   specifiers =
       ((plain_specifier (specifier.Word word.Int)) ∷ []);
@@ -62,7 +62,7 @@ two_undeclared : told (unit_typed (codes "main.c" ∷ codes "main" ∷ codes "y"
 two_undeclared = refl
 
 -- int main(void) { int x = 0; return x[0]; }
-subscript_of_number : told (unit_typed (codes "main.c" ∷ codes "main" ∷ codes "x" ∷ []) (at 0) ((definition (record {
+subscript_of_number : told (unit_typed 1048576 (codes "main.c" ∷ codes "main" ∷ codes "x" ∷ []) (at 0) ((definition (record {
   start = (at 1);
   specifiers =
       ((plain_specifier (specifier.Word word.Int)) ∷ []);
@@ -78,7 +78,7 @@ subscript_of_number : told (unit_typed (codes "main.c" ∷ codes "main" ∷ code
 subscript_of_number = refl
 
 -- int main(void) { int a[2]; int b[2]; return a[b]; }
-index_of_array : told (unit_typed (codes "main.c" ∷ codes "main" ∷ codes "a" ∷ codes "b" ∷ []) (at 0) ((definition (record {
+index_of_array : told (unit_typed 1048576 (codes "main.c" ∷ codes "main" ∷ codes "a" ∷ codes "b" ∷ []) (at 0) ((definition (record {
   start = (at 1);
   specifiers =
       ((plain_specifier (specifier.Word word.Int)) ∷ []);
@@ -95,7 +95,7 @@ index_of_array : told (unit_typed (codes "main.c" ∷ codes "main" ∷ codes "a"
 index_of_array = refl
 
 -- int main(void) { int a[2]; return 1[a]; }
-reversed : told (unit_typed (codes "main.c" ∷ codes "main" ∷ codes "a" ∷ []) (at 0) ((definition (record {
+reversed : told (unit_typed 1048576 (codes "main.c" ∷ codes "main" ∷ codes "a" ∷ []) (at 0) ((definition (record {
   start = (at 1);
   specifiers = ((plain_specifier
       (specifier.Word word.Int)) ∷ []);
@@ -110,7 +110,7 @@ reversed : told (unit_typed (codes "main.c" ∷ codes "main" ∷ codes "a" ∷ [
 reversed = refl
 
 -- int main(void) { int x = 0; return x(); }
-call_of_object : told (unit_typed (codes "main.c" ∷ codes "main" ∷ codes "x" ∷ []) (at 0) ((definition (record {
+call_of_object : told (unit_typed 1048576 (codes "main.c" ∷ codes "main" ∷ codes "x" ∷ []) (at 0) ((definition (record {
   start = (at 1);
   specifiers =
       ((plain_specifier (specifier.Word word.Int)) ∷ []);
@@ -125,7 +125,7 @@ call_of_object : told (unit_typed (codes "main.c" ∷ codes "main" ∷ codes "x"
 call_of_object = refl
 
 -- enum { A }; int main(void) { return A(); }
-call_of_enumerator : told (unit_typed (codes "main.c" ∷ codes "A" ∷ codes "main" ∷ []) (at 0) ((declaration (declared (at 1) ((enumerators_specifier None
+call_of_enumerator : told (unit_typed 1048576 (codes "main.c" ∷ codes "A" ∷ codes "main" ∷ []) (at 0) ((declaration (declared (at 1) ((enumerators_specifier None
     (record { at = (at 1); name = 1; value = None } ∷ [])) ∷ []) [])) ∷ (definition (record {
       start = (at 1);
       specifiers = ((plain_specifier (specifier.Word
@@ -141,7 +141,7 @@ call_of_enumerator = refl
 
 -- int f(int a, int b) { return a + b; }
 -- int main(void) { return f(1); }
-too_few : told (unit_typed (codes "main.c" ∷ codes "f" ∷ codes "a" ∷ codes "b" ∷ codes "main" ∷ []) (at 0) ((definition (record {
+too_few : told (unit_typed 1048576 (codes "main.c" ∷ codes "f" ∷ codes "a" ∷ codes "b" ∷ codes "main" ∷ []) (at 0) ((definition (record {
   start = (at 1);
   specifiers
       = ((plain_specifier (specifier.Word word.Int)) ∷ []);
@@ -179,7 +179,7 @@ too_few = refl
 
 -- int f(void) { return 1; }
 -- int main(void) { return f(1); }
-too_many : told (unit_typed (codes "main.c" ∷ codes "f" ∷ codes "main" ∷ []) (at 0) ((definition (record {
+too_many : told (unit_typed 1048576 (codes "main.c" ∷ codes "f" ∷ codes "main" ∷ []) (at 0) ((definition (record {
   start = (at 1);
   specifiers = ((plain_specifier
       (specifier.Word word.Int)) ∷ []);
@@ -205,7 +205,7 @@ too_many = refl
 -- int rv_getbyte(void); void rv_putbyte(int c); void rv_exit(int status);
 -- int f(int a) { return a; }
 -- int main(void) { return f(rv_putbyte(1)); }
-void_argument : told (unit_typed (codes "main.c" ∷ codes "rv_getbyte" ∷ codes "rv_putbyte" ∷ codes "c" ∷ codes "rv_exit" ∷ codes "status" ∷ codes "f" ∷
+void_argument : told (unit_typed 1048576 (codes "main.c" ∷ codes "rv_getbyte" ∷ codes "rv_putbyte" ∷ codes "c" ∷ codes "rv_exit" ∷ codes "status" ∷ codes "f" ∷
     codes "a" ∷ codes "main" ∷ []) (at 0) ((declaration (declared (at 1) ((plain_specifier (specifier.Word word.Int)) ∷ []) ((function (at 1) 1 []) ∷ [])))
     ∷ (declaration (declared (at 1) ((plain_specifier (specifier.Word word.Void)) ∷ []) ((function (at 1) 2 (record {
       at = (at 1);
@@ -245,7 +245,7 @@ void_argument = refl
 
 -- int f(int p[]) { return p[0]; }
 -- int main(void) { return f(0); }
-number_for_array : told (unit_typed (codes "main.c" ∷ codes "f" ∷ codes "p" ∷ codes "main" ∷ []) (at 0) ((definition (record {
+number_for_array : told (unit_typed 1048576 (codes "main.c" ∷ codes "f" ∷ codes "p" ∷ codes "main" ∷ []) (at 0) ((definition (record {
   start = (at 1);
   specifiers =
       ((plain_specifier (specifier.Word word.Int)) ∷ []);
@@ -277,7 +277,7 @@ number_for_array = refl
 
 -- int f(int a) { return a; }
 -- int main(void) { int b[2]; return f(b); }
-array_for_number : told (unit_typed (codes "main.c" ∷ codes "f" ∷ codes "a" ∷ codes "main" ∷ codes "b" ∷ []) (at 0) ((definition (record {
+array_for_number : told (unit_typed 1048576 (codes "main.c" ∷ codes "f" ∷ codes "a" ∷ codes "main" ∷ codes "b" ∷ []) (at 0) ((definition (record {
   start = (at 1);
   specifiers = ((plain_specifier (specifier.Word word.Int)) ∷ []);
   at = (at 1);
@@ -309,7 +309,7 @@ array_for_number = refl
 
 -- int f(char p[]) { return p[0]; }
 -- int main(void) { int b[2]; return f(b); }
-other_elements : told (unit_typed (codes "main.c" ∷ codes "f" ∷ codes "p" ∷ codes "main" ∷ codes "b" ∷ []) (at 0) ((definition (record {
+other_elements : told (unit_typed 1048576 (codes "main.c" ∷ codes "f" ∷ codes "p" ∷ codes "main" ∷ codes "b" ∷ []) (at 0) ((definition (record {
   start = (at 1);
   specifiers = ((plain_specifier (specifier.Word word.Int)) ∷ []);
   at = (at 1);
@@ -341,7 +341,7 @@ other_elements = refl
 
 -- int f(int p[]) { return p[0]; }
 -- int main(void) { const int b[1] = {0}; return f(b); }
-const_for_plain : told (unit_typed (codes "main.c" ∷ codes "f" ∷ codes "p" ∷ codes "main" ∷ codes "b" ∷ []) (at 0) ((definition (record {
+const_for_plain : told (unit_typed 1048576 (codes "main.c" ∷ codes "f" ∷ codes "p" ∷ codes "main" ∷ codes "b" ∷ []) (at 0) ((definition (record {
   start = (at 1);
   specifiers = ((plain_specifier (specifier.Word word.Int)) ∷ []);
   at = (at 1);
@@ -374,7 +374,7 @@ const_for_plain = refl
 
 -- int f(const int p[]) { return p[0]; }
 -- int main(void) { int a[3] = {0}; return f(a); }
-plain_for_const : told (unit_typed (codes "main.c" ∷ codes "f" ∷ codes "p" ∷ codes "main" ∷ codes "a" ∷ []) (at 0) ((definition (record {
+plain_for_const : told (unit_typed 1048576 (codes "main.c" ∷ codes "f" ∷ codes "p" ∷ codes "main" ∷ codes "a" ∷ []) (at 0) ((definition (record {
   start = (at 1);
   specifiers = ((plain_specifier (specifier.Word word.Int)) ∷ []);
   at = (at 1);
@@ -406,7 +406,7 @@ plain_for_const = refl
 
 -- int f(const int p[][3]) { return p[0][0]; }
 -- int main(void) { int a[2][3] = {{0}}; return f(a); }
-plain_rows_for_const : told (unit_typed (codes "main.c" ∷ codes "f" ∷ codes "p" ∷ codes "main" ∷ codes "a" ∷ []) (at 0) ((definition (record {
+plain_rows_for_const : told (unit_typed 1048576 (codes "main.c" ∷ codes "f" ∷ codes "p" ∷ codes "main" ∷ codes "a" ∷ []) (at 0) ((definition (record {
   start = (at
       1);
   specifiers = ((plain_specifier (specifier.Word word.Int)) ∷ []);
@@ -439,7 +439,7 @@ plain_rows_for_const : told (unit_typed (codes "main.c" ∷ codes "f" ∷ codes 
 plain_rows_for_const = refl
 
 -- int f(int p[]) { return p[0]; } int main(void) { static int m[5][3]; return f(m[1]) + f(m[2]); }
-row_for_array : told (unit_typed (codes "main.c" ∷ codes "f" ∷ codes "p" ∷ codes "main" ∷ codes "m" ∷ []) (at 0) ((definition (record {
+row_for_array : told (unit_typed 1048576 (codes "main.c" ∷ codes "f" ∷ codes "p" ∷ codes "main" ∷ codes "m" ∷ []) (at 0) ((definition (record {
   start = (at 1);
   specifiers = ((plain_specifier (specifier.Word word.Int)) ∷ []);
   at = (at 1);
@@ -472,7 +472,7 @@ row_for_array : told (unit_typed (codes "main.c" ∷ codes "f" ∷ codes "p" ∷
 row_for_array = refl
 
 -- int f(char p[]) { return p[0]; } int main(void) { return f("abc"); }
-text_for_array : told (unit_typed (codes "main.c" ∷ codes "f" ∷ codes "p" ∷ codes "main" ∷ (codes "abc" ++ 0 ∷ []) ∷ []) (at 0) ((definition (record {
+text_for_array : told (unit_typed 1048576 (codes "main.c" ∷ codes "f" ∷ codes "p" ∷ codes "main" ∷ (codes "abc" ++ 0 ∷ []) ∷ []) (at 0) ((definition (record {
   start = (at 1);
   specifiers = ((plain_specifier (specifier.Word word.Int)) ∷ []);
   at = (at 1);
@@ -502,7 +502,7 @@ text_for_array : told (unit_typed (codes "main.c" ∷ codes "f" ∷ codes "p" �
 text_for_array = refl
 
 -- int main(void) { 1 = 2; return 0; }
-assigned_to_number : told (unit_typed (codes "main.c" ∷ codes "main" ∷ []) (at 0) ((definition (record {
+assigned_to_number : told (unit_typed 1048576 (codes "main.c" ∷ codes "main" ∷ []) (at 0) ((definition (record {
   start = (at 1);
   specifiers = ((plain_specifier
       (specifier.Word word.Int)) ∷ []);
@@ -517,7 +517,7 @@ assigned_to_number : told (unit_typed (codes "main.c" ∷ codes "main" ∷ []) (
 assigned_to_number = refl
 
 -- int main(void) { const int x = 1; x = 2; return 0; }
-assigned_to_const : told (unit_typed (codes "main.c" ∷ codes "main" ∷ codes "x" ∷ []) (at 0) ((definition (record {
+assigned_to_const : told (unit_typed 1048576 (codes "main.c" ∷ codes "main" ∷ codes "x" ∷ []) (at 0) ((definition (record {
   start = (at 1);
   specifiers =
       ((plain_specifier (specifier.Word word.Int)) ∷ []);
@@ -534,7 +534,7 @@ assigned_to_const = refl
 
 -- int f(const int p[]) { p[0] = 1; return 0; }
 -- int main(void) { return 0; }
-const_element : told (unit_typed (codes "main.c" ∷ codes "f" ∷ codes "p" ∷ codes "main" ∷ []) (at 0) ((definition (record {
+const_element : told (unit_typed 1048576 (codes "main.c" ∷ codes "f" ∷ codes "p" ∷ codes "main" ∷ []) (at 0) ((definition (record {
   start = (at 1);
   specifiers =
       ((plain_specifier (specifier.Word word.Int)) ∷ []);
@@ -566,7 +566,7 @@ const_element : told (unit_typed (codes "main.c" ∷ codes "f" ∷ codes "p" ∷
 const_element = refl
 
 -- int main(void) { const int x = 1; x++; return 0; }
-const_step : told (unit_typed (codes "main.c" ∷ codes "main" ∷ codes "x" ∷ []) (at 0) ((definition (record {
+const_step : told (unit_typed 1048576 (codes "main.c" ∷ codes "main" ∷ codes "x" ∷ []) (at 0) ((definition (record {
   start = (at 1);
   specifiers = ((plain_specifier
       (specifier.Word word.Int)) ∷ []);
@@ -582,7 +582,7 @@ const_step : told (unit_typed (codes "main.c" ∷ codes "main" ∷ codes "x" ∷
 const_step = refl
 
 -- int main(void) { int x = 1; ++x++; return 0; }
-step_of_value : told (unit_typed (codes "main.c" ∷ codes "main" ∷ codes "x" ∷ []) (at 0) ((definition (record {
+step_of_value : told (unit_typed 1048576 (codes "main.c" ∷ codes "main" ∷ codes "x" ∷ []) (at 0) ((definition (record {
   start = (at 1);
   specifiers =
       ((plain_specifier (specifier.Word word.Int)) ∷ []);
@@ -599,7 +599,7 @@ step_of_value = refl
 
 -- int f(const int a) { a = 1; return 0; }
 -- int main(void) { return 0; }
-const_scalar_parameter : told (unit_typed (codes "main.c" ∷ codes "f" ∷ codes "a" ∷ codes "main" ∷ []) (at 0) ((definition (record {
+const_scalar_parameter : told (unit_typed 1048576 (codes "main.c" ∷ codes "f" ∷ codes "a" ∷ codes "main" ∷ []) (at 0) ((definition (record {
   start = (at 1);
   specifiers = ((plain_specifier (specifier.Word word.Int)) ∷ []);
   at = (at 1);
@@ -630,7 +630,7 @@ const_scalar_parameter : told (unit_typed (codes "main.c" ∷ codes "f" ∷ code
 const_scalar_parameter = refl
 
 -- enum { A }; int main(void) { A = 1; return 0; }
-enumerator_assigned : told (unit_typed (codes "main.c" ∷ codes "A" ∷ codes "main" ∷ []) (at 0) ((declaration (declared (at 1) ((enumerators_specifier None
+enumerator_assigned : told (unit_typed 1048576 (codes "main.c" ∷ codes "A" ∷ codes "main" ∷ []) (at 0) ((declaration (declared (at 1) ((enumerators_specifier None
     (record { at = (at 1); name = 1; value = None } ∷ [])) ∷ []) [])) ∷ (definition (record {
       start = (at 1);
       specifiers = ((plain_specifier (specifier.Word
@@ -647,7 +647,7 @@ enumerator_assigned = refl
 
 -- int rv_getbyte(void); void rv_putbyte(int c); void rv_exit(int status);
 -- int main(void) { int x; x = rv_putbyte(1); return 0; }
-void_assigned : told (unit_typed (codes "main.c" ∷ codes "rv_getbyte" ∷ codes "rv_putbyte" ∷ codes "c" ∷ codes "rv_exit" ∷ codes "status" ∷ codes "main" ∷
+void_assigned : told (unit_typed 1048576 (codes "main.c" ∷ codes "rv_getbyte" ∷ codes "rv_putbyte" ∷ codes "c" ∷ codes "rv_exit" ∷ codes "status" ∷ codes "main" ∷
     codes "x" ∷ []) (at 0) ((declaration (declared (at 1) ((plain_specifier (specifier.Word word.Int)) ∷ []) ((function (at 1) 1 []) ∷ []))) ∷ (declaration
     (declared (at 1) ((plain_specifier (specifier.Word word.Void)) ∷ []) ((function (at 1) 2 (record {
       at = (at 1);
@@ -679,7 +679,7 @@ void_assigned = refl
 
 -- int rv_getbyte(void); void rv_putbyte(int c); void rv_exit(int status);
 -- int main(void) { int x = rv_putbyte(1); return 0; }
-void_initialiser : told (unit_typed (codes "main.c" ∷ codes "rv_getbyte" ∷ codes "rv_putbyte" ∷ codes "c" ∷ codes "rv_exit" ∷ codes "status" ∷ codes "main"
+void_initialiser : told (unit_typed 1048576 (codes "main.c" ∷ codes "rv_getbyte" ∷ codes "rv_putbyte" ∷ codes "c" ∷ codes "rv_exit" ∷ codes "status" ∷ codes "main"
     ∷ codes "x" ∷ []) (at 0) ((declaration (declared (at 1) ((plain_specifier (specifier.Word word.Int)) ∷ []) ((function (at 1) 1 []) ∷ []))) ∷
     (declaration (declared (at 1) ((plain_specifier (specifier.Word word.Void)) ∷ []) ((function (at 1) 2 (record {
       at = (at 1);
@@ -710,7 +710,7 @@ void_initialiser = refl
 
 -- int rv_getbyte(void); void rv_putbyte(int c); void rv_exit(int status);
 -- int main(void) { return rv_putbyte(1); }
-void_returned : told (unit_typed (codes "main.c" ∷ codes "rv_getbyte" ∷ codes "rv_putbyte" ∷ codes "c" ∷ codes "rv_exit" ∷ codes "status" ∷ codes "main" ∷
+void_returned : told (unit_typed 1048576 (codes "main.c" ∷ codes "rv_getbyte" ∷ codes "rv_putbyte" ∷ codes "c" ∷ codes "rv_exit" ∷ codes "status" ∷ codes "main" ∷
     []) (at 0) ((declaration (declared (at 1) ((plain_specifier (specifier.Word word.Int)) ∷ []) ((function (at 1) 1 []) ∷ []))) ∷ (declaration (declared
     (at 1) ((plain_specifier (specifier.Word word.Void)) ∷ []) ((function (at 1) 2 (record {
       at = (at 1);
@@ -736,7 +736,7 @@ void_returned = refl
 
 -- int rv_getbyte(void); void rv_putbyte(int c); void rv_exit(int status);
 -- int main(void) { return 1 + rv_putbyte(1); }
-void_operand : told (unit_typed (codes "main.c" ∷ codes "rv_getbyte" ∷ codes "rv_putbyte" ∷ codes "c" ∷ codes "rv_exit" ∷ codes "status" ∷ codes "main" ∷
+void_operand : told (unit_typed 1048576 (codes "main.c" ∷ codes "rv_getbyte" ∷ codes "rv_putbyte" ∷ codes "c" ∷ codes "rv_exit" ∷ codes "status" ∷ codes "main" ∷
     []) (at 0) ((declaration (declared (at 1) ((plain_specifier (specifier.Word word.Int)) ∷ []) ((function (at 1) 1 []) ∷ []))) ∷ (declaration (declared
     (at 1) ((plain_specifier (specifier.Word word.Void)) ∷ []) ((function (at 1) 2 (record {
       at = (at 1);
@@ -762,7 +762,7 @@ void_operand = refl
 
 -- int rv_getbyte(void); void rv_putbyte(int c); void rv_exit(int status);
 -- int main(void) { return -rv_putbyte(1); }
-void_sign : told (unit_typed (codes "main.c" ∷ codes "rv_getbyte" ∷ codes "rv_putbyte" ∷ codes "c" ∷ codes "rv_exit" ∷ codes "status" ∷ codes "main" ∷ [])
+void_sign : told (unit_typed 1048576 (codes "main.c" ∷ codes "rv_getbyte" ∷ codes "rv_putbyte" ∷ codes "c" ∷ codes "rv_exit" ∷ codes "status" ∷ codes "main" ∷ [])
     (at 0) ((declaration (declared (at 1) ((plain_specifier (specifier.Word word.Int)) ∷ []) ((function (at 1) 1 []) ∷ []))) ∷ (declaration (declared (at 1)
     ((plain_specifier (specifier.Word word.Void)) ∷ []) ((function (at 1) 2 (record {
       at = (at 1);
@@ -788,7 +788,7 @@ void_sign = refl
 
 -- int rv_getbyte(void); void rv_putbyte(int c); void rv_exit(int status);
 -- int main(void) { return (int)rv_putbyte(1); }
-void_cast : told (unit_typed (codes "main.c" ∷ codes "rv_getbyte" ∷ codes "rv_putbyte" ∷ codes "c" ∷ codes "rv_exit" ∷ codes "status" ∷ codes "main" ∷ [])
+void_cast : told (unit_typed 1048576 (codes "main.c" ∷ codes "rv_getbyte" ∷ codes "rv_putbyte" ∷ codes "c" ∷ codes "rv_exit" ∷ codes "status" ∷ codes "main" ∷ [])
     (at 0) ((declaration (declared (at 1) ((plain_specifier (specifier.Word word.Int)) ∷ []) ((function (at 1) 1 []) ∷ []))) ∷ (declaration (declared (at 1)
     ((plain_specifier (specifier.Word word.Void)) ∷ []) ((function (at 1) 2 (record {
       at = (at 1);
@@ -814,7 +814,7 @@ void_cast = refl
 
 -- int rv_getbyte(void); void rv_putbyte(int c); void rv_exit(int status);
 -- int main(void) { return rv_putbyte(1) ? 1 : 2; }
-void_choice : told (unit_typed (codes "main.c" ∷ codes "rv_getbyte" ∷ codes "rv_putbyte" ∷ codes "c" ∷ codes "rv_exit" ∷ codes "status" ∷ codes "main" ∷ [])
+void_choice : told (unit_typed 1048576 (codes "main.c" ∷ codes "rv_getbyte" ∷ codes "rv_putbyte" ∷ codes "c" ∷ codes "rv_exit" ∷ codes "status" ∷ codes "main" ∷ [])
     (at 0) ((declaration (declared (at 1) ((plain_specifier (specifier.Word word.Int)) ∷ []) ((function (at 1) 1 []) ∷ []))) ∷ (declaration (declared (at 1)
     ((plain_specifier (specifier.Word word.Void)) ∷ []) ((function (at 1) 2 (record {
       at = (at 1);
@@ -840,7 +840,7 @@ void_choice = refl
 
 -- int rv_getbyte(void); void rv_putbyte(int c); void rv_exit(int status);
 -- int main(void) { return 1 && rv_putbyte(1); }
-void_and : told (unit_typed (codes "main.c" ∷ codes "rv_getbyte" ∷ codes "rv_putbyte" ∷ codes "c" ∷ codes "rv_exit" ∷ codes "status" ∷ codes "main" ∷ [])
+void_and : told (unit_typed 1048576 (codes "main.c" ∷ codes "rv_getbyte" ∷ codes "rv_putbyte" ∷ codes "c" ∷ codes "rv_exit" ∷ codes "status" ∷ codes "main" ∷ [])
     (at 0) ((declaration (declared (at 1) ((plain_specifier (specifier.Word word.Int)) ∷ []) ((function (at 1) 1 []) ∷ []))) ∷ (declaration (declared (at 1)
     ((plain_specifier (specifier.Word word.Void)) ∷ []) ((function (at 1) 2 (record {
       at = (at 1);
@@ -866,7 +866,7 @@ void_and = refl
 
 -- int rv_getbyte(void); void rv_putbyte(int c); void rv_exit(int status);
 -- int main(void) { int x = 0; x += rv_putbyte(1); return 0; }
-void_compound : told (unit_typed (codes "main.c" ∷ codes "rv_getbyte" ∷ codes "rv_putbyte" ∷ codes "c" ∷ codes "rv_exit" ∷ codes "status" ∷ codes "main" ∷
+void_compound : told (unit_typed 1048576 (codes "main.c" ∷ codes "rv_getbyte" ∷ codes "rv_putbyte" ∷ codes "c" ∷ codes "rv_exit" ∷ codes "status" ∷ codes "main" ∷
     codes "x" ∷ []) (at 0) ((declaration (declared (at 1) ((plain_specifier (specifier.Word word.Int)) ∷ []) ((function (at 1) 1 []) ∷ []))) ∷ (declaration
     (declared (at 1) ((plain_specifier (specifier.Word word.Void)) ∷ []) ((function (at 1) 2 (record {
       at = (at 1);
@@ -898,7 +898,7 @@ void_compound = refl
 
 -- int rv_getbyte(void); void rv_putbyte(int c); void rv_exit(int status);
 -- int main(void) { return sizeof rv_putbyte(1); }
-void_measured : told (unit_typed (codes "main.c" ∷ codes "rv_getbyte" ∷ codes "rv_putbyte" ∷ codes "c" ∷ codes "rv_exit" ∷ codes "status" ∷ codes "main" ∷
+void_measured : told (unit_typed 1048576 (codes "main.c" ∷ codes "rv_getbyte" ∷ codes "rv_putbyte" ∷ codes "c" ∷ codes "rv_exit" ∷ codes "status" ∷ codes "main" ∷
     []) (at 0) ((declaration (declared (at 1) ((plain_specifier (specifier.Word word.Int)) ∷ []) ((function (at 1) 1 []) ∷ []))) ∷ (declaration (declared
     (at 1) ((plain_specifier (specifier.Word word.Void)) ∷ []) ((function (at 1) 2 (record {
       at = (at 1);
@@ -923,7 +923,7 @@ void_measured : told (unit_typed (codes "main.c" ∷ codes "rv_getbyte" ∷ code
 void_measured = refl
 
 -- int main(void) { return sizeof(void); }
-void_type_measured : told (unit_typed (codes "main.c" ∷ codes "main" ∷ []) (at 0) ((definition (record {
+void_type_measured : told (unit_typed 1048576 (codes "main.c" ∷ codes "main" ∷ []) (at 0) ((definition (record {
   start = (at 1);
   specifiers = ((plain_specifier
       (specifier.Word word.Int)) ∷ []);
@@ -937,7 +937,7 @@ void_type_measured : told (unit_typed (codes "main.c" ∷ codes "main" ∷ []) (
 void_type_measured = refl
 
 -- int f(void) { return 0; } int main(void) { return sizeof f; }
-function_measured : told (unit_typed (codes "main.c" ∷ codes "f" ∷ codes "main" ∷ []) (at 0) ((definition (record {
+function_measured : told (unit_typed 1048576 (codes "main.c" ∷ codes "f" ∷ codes "main" ∷ []) (at 0) ((definition (record {
   start = (at 1);
   specifiers =
       ((plain_specifier (specifier.Word word.Int)) ∷ []);
@@ -962,7 +962,7 @@ function_measured = refl
 
 -- extern int a[];
 -- int main(void) { return sizeof a; }
-incomplete_measured : told (unit_typed (codes "main.c" ∷ codes "a" ∷ codes "main" ∷ []) (at 0) ((declaration (declared (at 1) (extern_specifier ∷
+incomplete_measured : told (unit_typed 1048576 (codes "main.c" ∷ codes "a" ∷ codes "main" ∷ []) (at 0) ((declaration (declared (at 1) (extern_specifier ∷
     (plain_specifier (specifier.Word word.Int)) ∷ []) ((object (at 1) 1 (None ∷ []) None) ∷ []))) ∷ (definition (record {
       start = (at 2);
       specifiers =
@@ -977,7 +977,7 @@ incomplete_measured : told (unit_typed (codes "main.c" ∷ codes "a" ∷ codes "
 incomplete_measured = refl
 
 -- int main(void) { return (int[2])0; }
-cast_to_array : told (unit_typed (codes "main.c" ∷ codes "main" ∷ []) (at 0) ((definition (record {
+cast_to_array : told (unit_typed 1048576 (codes "main.c" ∷ codes "main" ∷ []) (at 0) ((definition (record {
   start = (at 1);
   specifiers = ((plain_specifier
       (specifier.Word word.Int)) ∷ []);
@@ -992,7 +992,7 @@ cast_to_array : told (unit_typed (codes "main.c" ∷ codes "main" ∷ []) (at 0)
 cast_to_array = refl
 
 -- int main(void) { int x = 1; (void)x; return 0; }
-cast_to_void : told (unit_typed (codes "main.c" ∷ codes "main" ∷ codes "x" ∷ []) (at 0) ((definition (record {
+cast_to_void : told (unit_typed 1048576 (codes "main.c" ∷ codes "main" ∷ codes "x" ∷ []) (at 0) ((definition (record {
   start = (at 1);
   specifiers =
       ((plain_specifier (specifier.Word word.Int)) ∷ []);
@@ -1009,7 +1009,7 @@ cast_to_void = refl
 
 -- int rv_getbyte(void); void rv_putbyte(int c); void rv_exit(int status);
 -- int main(void) { return 1 ? rv_putbyte(1) : 2; }
-arms_do_not_match : told (unit_typed (codes "main.c" ∷ codes "rv_getbyte" ∷ codes "rv_putbyte" ∷ codes "c" ∷ codes "rv_exit" ∷ codes "status" ∷ codes "main"
+arms_do_not_match : told (unit_typed 1048576 (codes "main.c" ∷ codes "rv_getbyte" ∷ codes "rv_putbyte" ∷ codes "c" ∷ codes "rv_exit" ∷ codes "status" ∷ codes "main"
     ∷ []) (at 0) ((declaration (declared (at 1) ((plain_specifier (specifier.Word word.Int)) ∷ []) ((function (at 1) 1 []) ∷ []))) ∷ (declaration (declared
     (at 1) ((plain_specifier (specifier.Word word.Void)) ∷ []) ((function (at 1) 2 (record {
       at = (at 1);
@@ -1035,7 +1035,7 @@ arms_do_not_match = refl
 
 -- int rv_getbyte(void); void rv_putbyte(int c); void rv_exit(int status);
 -- int main(void) { 1 ? rv_putbyte(65) : rv_putbyte(66); return 0; }
-void_arms : told (unit_typed (codes "main.c" ∷ codes "rv_getbyte" ∷ codes "rv_putbyte" ∷ codes "c" ∷ codes "rv_exit" ∷ codes "status" ∷ codes "main" ∷ [])
+void_arms : told (unit_typed 1048576 (codes "main.c" ∷ codes "rv_getbyte" ∷ codes "rv_putbyte" ∷ codes "c" ∷ codes "rv_exit" ∷ codes "status" ∷ codes "main" ∷ [])
     (at 0) ((declaration (declared (at 1) ((plain_specifier (specifier.Word word.Int)) ∷ []) ((function (at 1) 1 []) ∷ []))) ∷ (declaration (declared (at 1)
     ((plain_specifier (specifier.Word word.Void)) ∷ []) ((function (at 1) 2 (record {
       at = (at 1);
@@ -1061,7 +1061,7 @@ void_arms : told (unit_typed (codes "main.c" ∷ codes "rv_getbyte" ∷ codes "r
 void_arms = refl
 
 -- int main(void) { int a[2]; return a; }
-array_as_value : told (unit_typed (codes "main.c" ∷ codes "main" ∷ codes "a" ∷ []) (at 0) ((definition (record {
+array_as_value : told (unit_typed 1048576 (codes "main.c" ∷ codes "main" ∷ codes "a" ∷ []) (at 0) ((definition (record {
   start = (at 1);
   specifiers =
       ((plain_specifier (specifier.Word word.Int)) ∷ []);
@@ -1076,7 +1076,7 @@ array_as_value : told (unit_typed (codes "main.c" ∷ codes "main" ∷ codes "a"
 array_as_value = refl
 
 -- int main(void) { int a[2][2]; return a[0] + 1; }
-row_as_value : told (unit_typed (codes "main.c" ∷ codes "main" ∷ codes "a" ∷ []) (at 0) ((definition (record {
+row_as_value : told (unit_typed 1048576 (codes "main.c" ∷ codes "main" ∷ codes "a" ∷ []) (at 0) ((definition (record {
   start = (at 1);
   specifiers =
       ((plain_specifier (specifier.Word word.Int)) ∷ []);
@@ -1092,7 +1092,7 @@ row_as_value : told (unit_typed (codes "main.c" ∷ codes "main" ∷ codes "a" �
 row_as_value = refl
 
 -- int f(void) { return 0; } int main(void) { f; return 0; }
-function_as_value : told (unit_typed (codes "main.c" ∷ codes "f" ∷ codes "main" ∷ []) (at 0) ((definition (record {
+function_as_value : told (unit_typed 1048576 (codes "main.c" ∷ codes "f" ∷ codes "main" ∷ []) (at 0) ((definition (record {
   start = (at 1);
   specifiers =
       ((plain_specifier (specifier.Word word.Int)) ∷ []);
@@ -1116,7 +1116,7 @@ function_as_value : told (unit_typed (codes "main.c" ∷ codes "f" ∷ codes "ma
 function_as_value = refl
 
 -- int main(void) { int a[2]; int b[2]; a = b; return 0; }
-array_assigned : told (unit_typed (codes "main.c" ∷ codes "main" ∷ codes "a" ∷ codes "b" ∷ []) (at 0) ((definition (record {
+array_assigned : told (unit_typed 1048576 (codes "main.c" ∷ codes "main" ∷ codes "a" ∷ codes "b" ∷ []) (at 0) ((definition (record {
   start = (at 1);
   specifiers =
       ((plain_specifier (specifier.Word word.Int)) ∷ []);
@@ -1134,7 +1134,7 @@ array_assigned = refl
 
 -- int f(int p[]) { p = p; return 0; }
 -- int main(void) { return 0; }
-parameter_assigned : told (unit_typed (codes "main.c" ∷ codes "f" ∷ codes "p" ∷ codes "main" ∷ []) (at 0) ((definition (record {
+parameter_assigned : told (unit_typed 1048576 (codes "main.c" ∷ codes "f" ∷ codes "p" ∷ codes "main" ∷ []) (at 0) ((definition (record {
   start = (at 1);
   specifiers
       = ((plain_specifier (specifier.Word word.Int)) ∷ []);
@@ -1166,7 +1166,7 @@ parameter_assigned : told (unit_typed (codes "main.c" ∷ codes "f" ∷ codes "p
 parameter_assigned = refl
 
 -- int main(void) { int a[2]; (void)a; return 0; }
-array_cast_to_void : told (unit_typed (codes "main.c" ∷ codes "main" ∷ codes "a" ∷ []) (at 0) ((definition (record {
+array_cast_to_void : told (unit_typed 1048576 (codes "main.c" ∷ codes "main" ∷ codes "a" ∷ []) (at 0) ((definition (record {
   start = (at 1);
   specifiers =
       ((plain_specifier (specifier.Word word.Int)) ∷ []);
@@ -1182,7 +1182,7 @@ array_cast_to_void : told (unit_typed (codes "main.c" ∷ codes "main" ∷ codes
 array_cast_to_void = refl
 
 -- int main(void) { return "a" == 0; }
-text_as_value : told (unit_typed (codes "main.c" ∷ codes "main" ∷ (codes "a" ++ 0 ∷ []) ∷ []) (at 0) ((definition (record {
+text_as_value : told (unit_typed 1048576 (codes "main.c" ∷ codes "main" ∷ (codes "a" ++ 0 ∷ []) ∷ []) (at 0) ((definition (record {
   start = (at 1);
   specifiers =
       ((plain_specifier (specifier.Word word.Int)) ∷ []);
@@ -1196,7 +1196,7 @@ text_as_value : told (unit_typed (codes "main.c" ∷ codes "main" ∷ (codes "a"
 text_as_value = refl
 
 -- int main(void) { return "abc"[1]; }
-text_subscripted : told (unit_typed (codes "main.c" ∷ codes "main" ∷ (codes "abc" ++ 0 ∷ []) ∷ []) (at 0) ((definition (record {
+text_subscripted : told (unit_typed 1048576 (codes "main.c" ∷ codes "main" ∷ (codes "abc" ++ 0 ∷ []) ∷ []) (at 0) ((definition (record {
   start = (at 1);
   specifiers =
       ((plain_specifier (specifier.Word word.Int)) ∷ []);
@@ -1210,7 +1210,7 @@ text_subscripted : told (unit_typed (codes "main.c" ∷ codes "main" ∷ (codes 
 text_subscripted = refl
 
 -- int main(void) { int a[2]; return sizeof a + sizeof a[0] + sizeof "abc"; }
-array_and_number_as_size : told (unit_typed (codes "main.c" ∷ codes "main" ∷ codes "a" ∷ (codes "abc" ++ 0 ∷ []) ∷ []) (at 0) ((definition (record {
+array_and_number_as_size : told (unit_typed 1048576 (codes "main.c" ∷ codes "main" ∷ codes "a" ∷ (codes "abc" ++ 0 ∷ []) ∷ []) (at 0) ((definition (record {
   start = (at 1);
   specifiers = ((plain_specifier (specifier.Word word.Int)) ∷ []);
   at = (at 1);
@@ -1227,7 +1227,7 @@ array_and_number_as_size = refl
 
 -- int rv_getbyte(void); void rv_putbyte(int c); void rv_exit(int status);
 -- int main(void) { if (rv_putbyte(1)) ; return 0; }
-void_control : told (unit_typed (codes "main.c" ∷ codes "rv_getbyte" ∷ codes "rv_putbyte" ∷ codes "c" ∷ codes "rv_exit" ∷ codes "status" ∷ codes "main" ∷
+void_control : told (unit_typed 1048576 (codes "main.c" ∷ codes "rv_getbyte" ∷ codes "rv_putbyte" ∷ codes "c" ∷ codes "rv_exit" ∷ codes "status" ∷ codes "main" ∷
     []) (at 0) ((declaration (declared (at 1) ((plain_specifier (specifier.Word word.Int)) ∷ []) ((function (at 1) 1 []) ∷ []))) ∷ (declaration (declared
     (at 1) ((plain_specifier (specifier.Word word.Void)) ∷ []) ((function (at 1) 2 (record {
       at = (at 1);
@@ -1253,7 +1253,7 @@ void_control = refl
 
 -- int rv_getbyte(void); void rv_putbyte(int c); void rv_exit(int status);
 -- int main(void) { while (rv_putbyte(1)) ; return 0; }
-void_loop_control : told (unit_typed (codes "main.c" ∷ codes "rv_getbyte" ∷ codes "rv_putbyte" ∷ codes "c" ∷ codes "rv_exit" ∷ codes "status" ∷ codes "main"
+void_loop_control : told (unit_typed 1048576 (codes "main.c" ∷ codes "rv_getbyte" ∷ codes "rv_putbyte" ∷ codes "c" ∷ codes "rv_exit" ∷ codes "status" ∷ codes "main"
     ∷ []) (at 0) ((declaration (declared (at 1) ((plain_specifier (specifier.Word word.Int)) ∷ []) ((function (at 1) 1 []) ∷ []))) ∷ (declaration (declared
     (at 1) ((plain_specifier (specifier.Word word.Void)) ∷ []) ((function (at 1) 2 (record {
       at = (at 1);
@@ -1279,7 +1279,7 @@ void_loop_control = refl
 
 -- int rv_getbyte(void); void rv_putbyte(int c); void rv_exit(int status);
 -- int main(void) { for (; rv_putbyte(1); ) ; return 0; }
-void_for_control : told (unit_typed (codes "main.c" ∷ codes "rv_getbyte" ∷ codes "rv_putbyte" ∷ codes "c" ∷ codes "rv_exit" ∷ codes "status" ∷ codes "main"
+void_for_control : told (unit_typed 1048576 (codes "main.c" ∷ codes "rv_getbyte" ∷ codes "rv_putbyte" ∷ codes "c" ∷ codes "rv_exit" ∷ codes "status" ∷ codes "main"
     ∷ []) (at 0) ((declaration (declared (at 1) ((plain_specifier (specifier.Word word.Int)) ∷ []) ((function (at 1) 1 []) ∷ []))) ∷ (declaration (declared
     (at 1) ((plain_specifier (specifier.Word word.Void)) ∷ []) ((function (at 1) 2 (record {
       at = (at 1);
@@ -1305,7 +1305,7 @@ void_for_control = refl
 
 -- int rv_getbyte(void); void rv_putbyte(int c); void rv_exit(int status);
 -- int main(void) { switch (rv_putbyte(1)) { } return 0; }
-void_switch : told (unit_typed (codes "main.c" ∷ codes "rv_getbyte" ∷ codes "rv_putbyte" ∷ codes "c" ∷ codes "rv_exit" ∷ codes "status" ∷ codes "main" ∷ [])
+void_switch : told (unit_typed 1048576 (codes "main.c" ∷ codes "rv_getbyte" ∷ codes "rv_putbyte" ∷ codes "c" ∷ codes "rv_exit" ∷ codes "status" ∷ codes "main" ∷ [])
     (at 0) ((declaration (declared (at 1) ((plain_specifier (specifier.Word word.Int)) ∷ []) ((function (at 1) 1 []) ∷ []))) ∷ (declaration (declared (at 1)
     ((plain_specifier (specifier.Word word.Void)) ∷ []) ((function (at 1) 2 (record {
       at = (at 1);
@@ -1330,7 +1330,7 @@ void_switch : told (unit_typed (codes "main.c" ∷ codes "rv_getbyte" ∷ codes 
 void_switch = refl
 
 -- int main(void) { switch (1) { case 1: case 2 - 1: return 0; } return 1; }
-case_twice : told (unit_typed (codes "main.c" ∷ codes "main" ∷ []) (at 0) ((definition (record {
+case_twice : told (unit_typed 1048576 (codes "main.c" ∷ codes "main" ∷ []) (at 0) ((definition (record {
   start = (at 1);
   specifiers = ((plain_specifier
       (specifier.Word word.Int)) ∷ []);
@@ -1347,7 +1347,7 @@ case_twice = refl
 
 -- int main(void) { switch (1) { default: ;
 -- default: ; } return 1; }
-default_twice : told (unit_typed (codes "main.c" ∷ codes "main" ∷ []) (at 0) ((definition (record {
+default_twice : told (unit_typed 1048576 (codes "main.c" ∷ codes "main" ∷ []) (at 0) ((definition (record {
   start = (at 1);
   specifiers = ((plain_specifier
       (specifier.Word word.Int)) ∷ []);
@@ -1363,7 +1363,7 @@ default_twice = refl
 
 -- int main(void) { switch (1u) { case -1: ;
 -- case 4294967295u: ; } return 1; }
-case_twice_by_conversion : told (unit_typed (codes "main.c" ∷ codes "main" ∷ []) (at 0) ((definition (record {
+case_twice_by_conversion : told (unit_typed 1048576 (codes "main.c" ∷ codes "main" ∷ []) (at 0) ((definition (record {
   start = (at 1);
   specifiers =
       ((plain_specifier (specifier.Word word.Int)) ∷ []);
@@ -1379,7 +1379,7 @@ case_twice_by_conversion : told (unit_typed (codes "main.c" ∷ codes "main" ∷
 case_twice_by_conversion = refl
 
 -- int main(void) { switch (1) { case 1: ; case 2: ; default: ; } return 1; }
-cases_by_type : told (unit_typed (codes "main.c" ∷ codes "main" ∷ []) (at 0) ((definition (record {
+cases_by_type : told (unit_typed 1048576 (codes "main.c" ∷ codes "main" ∷ []) (at 0) ((definition (record {
   start = (at 1);
   specifiers = ((plain_specifier
       (specifier.Word word.Int)) ∷ []);
@@ -1395,7 +1395,7 @@ cases_by_type : told (unit_typed (codes "main.c" ∷ codes "main" ∷ []) (at 0)
 cases_by_type = refl
 
 -- int main(void) { case 1: return 0; }
-case_outside : told (unit_typed (codes "main.c" ∷ codes "main" ∷ []) (at 0) ((definition (record {
+case_outside : told (unit_typed 1048576 (codes "main.c" ∷ codes "main" ∷ []) (at 0) ((definition (record {
   start = (at 1);
   specifiers = ((plain_specifier
       (specifier.Word word.Int)) ∷ []);
@@ -1409,7 +1409,7 @@ case_outside : told (unit_typed (codes "main.c" ∷ codes "main" ∷ []) (at 0) 
 case_outside = refl
 
 -- int main(void) { while (0) default: ; return 0; }
-default_outside : told (unit_typed (codes "main.c" ∷ codes "main" ∷ []) (at 0) ((definition (record {
+default_outside : told (unit_typed 1048576 (codes "main.c" ∷ codes "main" ∷ []) (at 0) ((definition (record {
   start = (at 1);
   specifiers = ((plain_specifier
       (specifier.Word word.Int)) ∷ []);
@@ -1424,7 +1424,7 @@ default_outside : told (unit_typed (codes "main.c" ∷ codes "main" ∷ []) (at 
 default_outside = refl
 
 -- int main(void) { switch (1) { { case 1: ; } } return 0; }
-label_in_inner_block : told (unit_typed (codes "main.c" ∷ codes "main" ∷ []) (at 0) ((definition (record {
+label_in_inner_block : told (unit_typed 1048576 (codes "main.c" ∷ codes "main" ∷ []) (at 0) ((definition (record {
   start = (at 1);
   specifiers = ((plain_specifier
       (specifier.Word word.Int)) ∷ []);
@@ -1440,7 +1440,7 @@ label_in_inner_block : told (unit_typed (codes "main.c" ∷ codes "main" ∷ [])
 label_in_inner_block = refl
 
 -- int main(void) { switch (1) { case 0: while (0) { case 1: ; } } return 0; }
-label_in_inner_loop : told (unit_typed (codes "main.c" ∷ codes "main" ∷ []) (at 0) ((definition (record {
+label_in_inner_loop : told (unit_typed 1048576 (codes "main.c" ∷ codes "main" ∷ []) (at 0) ((definition (record {
   start = (at 1);
   specifiers = ((plain_specifier
       (specifier.Word word.Int)) ∷ []);
@@ -1456,7 +1456,7 @@ label_in_inner_loop : told (unit_typed (codes "main.c" ∷ codes "main" ∷ []) 
 label_in_inner_loop = refl
 
 -- int main(void) { switch (1) case 1: ; return 0; }
-switch_without_block : told (unit_typed (codes "main.c" ∷ codes "main" ∷ []) (at 0) ((definition (record {
+switch_without_block : told (unit_typed 1048576 (codes "main.c" ∷ codes "main" ∷ []) (at 0) ((definition (record {
   start = (at 1);
   specifiers = ((plain_specifier
       (specifier.Word word.Int)) ∷ []);
@@ -1471,7 +1471,7 @@ switch_without_block : told (unit_typed (codes "main.c" ∷ codes "main" ∷ [])
 switch_without_block = refl
 
 -- int main(void) { switch (1) { case 1: case 2: default: return 1; } return 0; }
-labels_one_after_another : told (unit_typed (codes "main.c" ∷ codes "main" ∷ []) (at 0) ((definition (record {
+labels_one_after_another : told (unit_typed 1048576 (codes "main.c" ∷ codes "main" ∷ []) (at 0) ((definition (record {
   start = (at 1);
   specifiers =
       ((plain_specifier (specifier.Word word.Int)) ∷ []);
@@ -1487,7 +1487,7 @@ labels_one_after_another : told (unit_typed (codes "main.c" ∷ codes "main" ∷
 labels_one_after_another = refl
 
 -- int main(void) { break; return 0; }
-break_outside : told (unit_typed (codes "main.c" ∷ codes "main" ∷ []) (at 0) ((definition (record {
+break_outside : told (unit_typed 1048576 (codes "main.c" ∷ codes "main" ∷ []) (at 0) ((definition (record {
   start = (at 1);
   specifiers = ((plain_specifier
       (specifier.Word word.Int)) ∷ []);
@@ -1501,7 +1501,7 @@ break_outside : told (unit_typed (codes "main.c" ∷ codes "main" ∷ []) (at 0)
 break_outside = refl
 
 -- int main(void) { switch (1) { case 1: continue; } return 0; }
-continue_in_switch : told (unit_typed (codes "main.c" ∷ codes "main" ∷ []) (at 0) ((definition (record {
+continue_in_switch : told (unit_typed 1048576 (codes "main.c" ∷ codes "main" ∷ []) (at 0) ((definition (record {
   start = (at 1);
   specifiers = ((plain_specifier
       (specifier.Word word.Int)) ∷ []);
@@ -1516,7 +1516,7 @@ continue_in_switch : told (unit_typed (codes "main.c" ∷ codes "main" ∷ []) (
 continue_in_switch = refl
 
 -- int main(void) { for (;;) { switch (1) { case 1: continue; default: break; } break; } return 0; }
-continue_in_loop : told (unit_typed (codes "main.c" ∷ codes "main" ∷ []) (at 0) ((definition (record {
+continue_in_loop : told (unit_typed 1048576 (codes "main.c" ∷ codes "main" ∷ []) (at 0) ((definition (record {
   start = (at 1);
   specifiers = ((plain_specifier
       (specifier.Word word.Int)) ∷ []);
@@ -1533,7 +1533,7 @@ continue_in_loop : told (unit_typed (codes "main.c" ∷ codes "main" ∷ []) (at
 continue_in_loop = refl
 
 -- int main(void) { return; }
-nothing_returned : told (unit_typed (codes "main.c" ∷ codes "main" ∷ []) (at 0) ((definition (record {
+nothing_returned : told (unit_typed 1048576 (codes "main.c" ∷ codes "main" ∷ []) (at 0) ((definition (record {
   start = (at 1);
   specifiers = ((plain_specifier
       (specifier.Word word.Int)) ∷ []);
@@ -1548,7 +1548,7 @@ nothing_returned = refl
 
 -- void f(void) { return 1; }
 -- int main(void) { return 0; }
-value_from_void : told (unit_typed (codes "main.c" ∷ codes "f" ∷ codes "main" ∷ []) (at 0) ((definition (record {
+value_from_void : told (unit_typed 1048576 (codes "main.c" ∷ codes "f" ∷ codes "main" ∷ []) (at 0) ((definition (record {
   start = (at 1);
   specifiers =
       ((plain_specifier (specifier.Word word.Void)) ∷ []);
@@ -1574,7 +1574,7 @@ value_from_void = refl
 -- int rv_getbyte(void); void rv_putbyte(int c); void rv_exit(int status);
 -- void f(void) { return rv_putbyte(1); }
 -- int main(void) { return 0; }
-void_from_void : told (unit_typed (codes "main.c" ∷ codes "rv_getbyte" ∷ codes "rv_putbyte" ∷ codes "c" ∷ codes "rv_exit" ∷ codes "status" ∷ codes "f" ∷
+void_from_void : told (unit_typed 1048576 (codes "main.c" ∷ codes "rv_getbyte" ∷ codes "rv_putbyte" ∷ codes "c" ∷ codes "rv_exit" ∷ codes "status" ∷ codes "f" ∷
     codes "main" ∷ []) (at 0) ((declaration (declared (at 1) ((plain_specifier (specifier.Word word.Int)) ∷ []) ((function (at 1) 1 []) ∷ []))) ∷
     (declaration (declared (at 1) ((plain_specifier (specifier.Word word.Void)) ∷ []) ((function (at 1) 2 (record {
       at = (at 1);
@@ -1613,7 +1613,7 @@ void_from_void : told (unit_typed (codes "main.c" ∷ codes "rv_getbyte" ∷ cod
 void_from_void = refl
 
 -- int f(void) { } int main(void) { return f(); }
-ends_without_value : told (unit_typed (codes "main.c" ∷ codes "f" ∷ codes "main" ∷ []) (at 0) ((definition (record {
+ends_without_value : told (unit_typed 1048576 (codes "main.c" ∷ codes "f" ∷ codes "main" ∷ []) (at 0) ((definition (record {
   start = (at 1);
   specifiers =
       ((plain_specifier (specifier.Word word.Int)) ∷ []);
@@ -1651,7 +1651,7 @@ ends_without_value = refl
 -- char a14[1048576];
 -- char b[1048573];
 -- int main(void) { char s[2] = "a"; return s[0]; }
-text_of_initialiser_counts : told (unit_typed (codes "main.c" ∷ codes "a0" ∷ codes "a1" ∷ codes "a2" ∷ codes "a3" ∷ codes "a4" ∷ codes "a5" ∷ codes "a6" ∷
+text_of_initialiser_counts : told (unit_typed 1048576 (codes "main.c" ∷ codes "a0" ∷ codes "a1" ∷ codes "a2" ∷ codes "a3" ∷ codes "a4" ∷ codes "a5" ∷ codes "a6" ∷
     codes "a7" ∷ codes "a8" ∷ codes "a9" ∷ codes "a10" ∷ codes "a11" ∷ codes "a12" ∷ codes "a13" ∷ codes "a14" ∷ codes "b" ∷ codes "main" ∷ codes "s" ∷
     (codes "a" ++ 0 ∷ []) ∷ []) (at 0) ((declaration (declared (at 1) ((plain_specifier (specifier.Word word.Char)) ∷ []) ((object (at 1) 1 ((Some (constant (at 1)
     ty.Int 1048576)) ∷ []) None) ∷ []))) ∷ (declaration (declared (at 2) ((plain_specifier (specifier.Word word.Char)) ∷ []) ((object (at 2) 2 ((Some
@@ -1702,7 +1702,7 @@ text_of_initialiser_counts = refl
 -- char a15[1048576];
 -- _Static_assert(1, "m");
 -- int main(void) { return 0; }
-text_of_assertion_counts_not : told (unit_typed (codes "main.c" ∷ codes "a0" ∷ codes "a1" ∷ codes "a2" ∷ codes "a3" ∷ codes "a4" ∷ codes "a5" ∷ codes "a6" ∷
+text_of_assertion_counts_not : told (unit_typed 1048576 (codes "main.c" ∷ codes "a0" ∷ codes "a1" ∷ codes "a2" ∷ codes "a3" ∷ codes "a4" ∷ codes "a5" ∷ codes "a6" ∷
     codes "a7" ∷ codes "a8" ∷ codes "a9" ∷ codes "a10" ∷ codes "a11" ∷ codes "a12" ∷ codes "a13" ∷ codes "a14" ∷ codes "a15" ∷ codes "m" ∷ codes "main" ∷
     []) (at 0) ((declaration (declared (at 1) ((plain_specifier (specifier.Word word.Char)) ∷ []) ((object (at 1) 1 ((Some (constant (at 1) ty.Int 1048576))
     ∷ []) None) ∷ []))) ∷ (declaration (declared (at 2) ((plain_specifier (specifier.Word word.Char)) ∷ []) ((object (at 2) 2 ((Some (constant (at 2) ty.Int
@@ -1733,11 +1733,11 @@ text_of_assertion_counts_not : told (unit_typed (codes "main.c" ∷ codes "a0" �
     })) ∷ [])) ≡ []
 text_of_assertion_counts_not = refl
 
-empty_unit : told (unit_typed (codes "main.c" ∷ []) (at 0) ([])) ≡ fault 551 0 ∷ []
+empty_unit : told (unit_typed 1048576 (codes "main.c" ∷ []) (at 0) ([])) ≡ fault 551 0 ∷ []
 empty_unit = refl
 
 -- static int main(void) { return 0; }
-static_main : told (unit_typed (codes "main.c" ∷ codes "main" ∷ []) (at 0) ((definition (record {
+static_main : told (unit_typed 1048576 (codes "main.c" ∷ codes "main" ∷ []) (at 0) ((definition (record {
   start = (at 1);
   specifiers = (static_specifier ∷
       (plain_specifier (specifier.Word word.Int)) ∷ []);
@@ -1751,7 +1751,7 @@ static_main : told (unit_typed (codes "main.c" ∷ codes "main" ∷ []) (at 0) (
 static_main = refl
 
 -- void main(void) { }
-void_main : told (unit_typed (codes "main.c" ∷ codes "main" ∷ []) (at 0) ((definition (record {
+void_main : told (unit_typed 1048576 (codes "main.c" ∷ codes "main" ∷ []) (at 0) ((definition (record {
   start = (at 1);
   specifiers = ((plain_specifier
       (specifier.Word word.Void)) ∷ []);
@@ -1764,13 +1764,13 @@ void_main : told (unit_typed (codes "main.c" ∷ codes "main" ∷ []) (at 0) ((d
 void_main = refl
 
 -- int main(void);
-main_declared : told (unit_typed (codes "main.c" ∷ codes "main" ∷ []) (at 0) ((declaration (declared (at 1) ((plain_specifier (specifier.Word word.Int)) ∷
+main_declared : told (unit_typed 1048576 (codes "main.c" ∷ codes "main" ∷ []) (at 0) ((declaration (declared (at 1) ((plain_specifier (specifier.Word word.Int)) ∷
     []) ((function (at 1) 1 []) ∷ []))) ∷ [])) ≡ fault 551 0 ∷ []
 main_declared = refl
 
 -- int g(void);
 -- int main(void) { return g(); }
-undefined_function : told (unit_typed (codes "main.c" ∷ codes "g" ∷ codes "main" ∷ []) (at 0) ((declaration (declared (at 1) ((plain_specifier
+undefined_function : told (unit_typed 1048576 (codes "main.c" ∷ codes "g" ∷ codes "main" ∷ []) (at 0) ((declaration (declared (at 1) ((plain_specifier
     (specifier.Word word.Int)) ∷ []) ((function (at 1) 1 []) ∷ []))) ∷ (definition (record {
       start = (at 2);
       specifiers = ((plain_specifier (specifier.Word
@@ -1787,7 +1787,7 @@ undefined_function = refl
 -- int g(void);
 -- int main(void) { g();
 -- return g(); }
-undefined_function_twice : told (unit_typed (codes "main.c" ∷ codes "g" ∷ codes "main" ∷ []) (at 0) ((declaration (declared (at 1) ((plain_specifier
+undefined_function_twice : told (unit_typed 1048576 (codes "main.c" ∷ codes "g" ∷ codes "main" ∷ []) (at 0) ((declaration (declared (at 1) ((plain_specifier
     (specifier.Word word.Int)) ∷ []) ((function (at 1) 1 []) ∷ []))) ∷ (definition (record {
       start = (at 2);
       specifiers = ((plain_specifier (specifier.Word
@@ -1802,7 +1802,7 @@ undefined_function_twice : told (unit_typed (codes "main.c" ∷ codes "g" ∷ co
 undefined_function_twice = refl
 
 -- int g(void); int main(void) { return (int)sizeof(g()); }
-undefined_but_measured : told (unit_typed (codes "main.c" ∷ codes "g" ∷ codes "main" ∷ []) (at 0) ((declaration (declared (at 1) ((plain_specifier
+undefined_but_measured : told (unit_typed 1048576 (codes "main.c" ∷ codes "g" ∷ codes "main" ∷ []) (at 0) ((declaration (declared (at 1) ((plain_specifier
     (specifier.Word word.Int)) ∷ []) ((function (at 1) 1 []) ∷ []))) ∷ (definition (record {
       start = (at 1);
       specifiers = ((plain_specifier (specifier.Word
@@ -1818,7 +1818,7 @@ undefined_but_measured = refl
 
 -- int g(void);
 -- int main(void) { return 0 && g(); }
-undefined_not_reached : told (unit_typed (codes "main.c" ∷ codes "g" ∷ codes "main" ∷ []) (at 0) ((declaration (declared (at 1) ((plain_specifier
+undefined_not_reached : told (unit_typed 1048576 (codes "main.c" ∷ codes "g" ∷ codes "main" ∷ []) (at 0) ((declaration (declared (at 1) ((plain_specifier
     (specifier.Word word.Int)) ∷ []) ((function (at 1) 1 []) ∷ []))) ∷ (definition (record {
       start = (at 2);
       specifiers = ((plain_specifier (specifier.Word
@@ -1834,7 +1834,7 @@ undefined_not_reached = refl
 
 -- extern int x;
 -- int main(void) { return x; }
-undefined_object : told (unit_typed (codes "main.c" ∷ codes "x" ∷ codes "main" ∷ []) (at 0) ((declaration (declared (at 1) (extern_specifier ∷
+undefined_object : told (unit_typed 1048576 (codes "main.c" ∷ codes "x" ∷ codes "main" ∷ []) (at 0) ((declaration (declared (at 1) (extern_specifier ∷
     (plain_specifier (specifier.Word word.Int)) ∷ []) ((object (at 1) 1 [] None) ∷ []))) ∷ (definition (record {
       start = (at 2);
       specifiers =
@@ -1849,7 +1849,7 @@ undefined_object : told (unit_typed (codes "main.c" ∷ codes "x" ∷ codes "mai
 undefined_object = refl
 
 -- extern int x[]; static int f(void); int main(void) { return 0; }
-undefined_unused : told (unit_typed (codes "main.c" ∷ codes "x" ∷ codes "f" ∷ codes "main" ∷ []) (at 0) ((declaration (declared (at 1) (extern_specifier ∷
+undefined_unused : told (unit_typed 1048576 (codes "main.c" ∷ codes "x" ∷ codes "f" ∷ codes "main" ∷ []) (at 0) ((declaration (declared (at 1) (extern_specifier ∷
     (plain_specifier (specifier.Word word.Int)) ∷ []) ((object (at 1) 1 (None ∷ []) None) ∷ []))) ∷ (declaration (declared (at 1) (static_specifier ∷
     (plain_specifier (specifier.Word word.Int)) ∷ []) ((function (at 1) 2 []) ∷ []))) ∷ (definition (record {
       start = (at 1);
@@ -1865,7 +1865,7 @@ undefined_unused : told (unit_typed (codes "main.c" ∷ codes "x" ∷ codes "f" 
 undefined_unused = refl
 
 -- extern int x; int g(void); int main(void) { return g() + x; } int g(void) { return 1; } int x;
-defined_behind : told (unit_typed (codes "main.c" ∷ codes "x" ∷ codes "g" ∷ codes "main" ∷ []) (at 0) ((declaration (declared (at 1) (extern_specifier ∷
+defined_behind : told (unit_typed 1048576 (codes "main.c" ∷ codes "x" ∷ codes "g" ∷ codes "main" ∷ []) (at 0) ((declaration (declared (at 1) (extern_specifier ∷
     (plain_specifier (specifier.Word word.Int)) ∷ []) ((object (at 1) 1 [] None) ∷ []))) ∷ (declaration (declared (at 1) ((plain_specifier (specifier.Word
     word.Int)) ∷ []) ((function (at 1) 2 []) ∷ []))) ∷ (definition (record {
       start = (at 1);
@@ -1893,7 +1893,7 @@ defined_behind = refl
 
 -- void rv_exit(int status) { }
 -- int main(void) { return 0; }
-built_in_defined : told (unit_typed (codes "main.c" ∷ codes "rv_exit" ∷ codes "status" ∷ codes "main" ∷ []) (at 0) ((definition (record {
+built_in_defined : told (unit_typed 1048576 (codes "main.c" ∷ codes "rv_exit" ∷ codes "status" ∷ codes "main" ∷ []) (at 0) ((definition (record {
   start = (at 1);
   specifiers = ((plain_specifier (specifier.Word word.Void)) ∷ []);
   at = (at 1);
@@ -1922,7 +1922,7 @@ built_in_defined = refl
 
 -- int rv_getbyte(void); void rv_putbyte(int c); void rv_exit(int status);
 -- int main(void) { int c; while ((c = rv_getbyte()) != -1) rv_putbyte(c); rv_exit(3); return 0; }
-built_ins : told (unit_typed (codes "main.c" ∷ codes "rv_getbyte" ∷ codes "rv_putbyte" ∷ codes "c" ∷ codes "rv_exit" ∷ codes "status" ∷ codes "main" ∷ [])
+built_ins : told (unit_typed 1048576 (codes "main.c" ∷ codes "rv_getbyte" ∷ codes "rv_putbyte" ∷ codes "c" ∷ codes "rv_exit" ∷ codes "status" ∷ codes "main" ∷ [])
     (at 0) ((declaration (declared (at 1) ((plain_specifier (specifier.Word word.Int)) ∷ []) ((function (at 1) 1 []) ∷ []))) ∷ (declaration (declared (at 1)
     ((plain_specifier (specifier.Word word.Void)) ∷ []) ((function (at 1) 2 (record {
       at = (at 1);
@@ -1950,7 +1950,7 @@ built_ins : told (unit_typed (codes "main.c" ∷ codes "rv_getbyte" ∷ codes "r
 built_ins = refl
 
 -- int main(void) { char a[1048416]; return 0; }
-greatest_weight : told (unit_typed (codes "main.c" ∷ codes "main" ∷ codes "a" ∷ []) (at 0) ((definition (record {
+greatest_weight : told (unit_typed 1048576 (codes "main.c" ∷ codes "main" ∷ codes "a" ∷ []) (at 0) ((definition (record {
   start = (at 1);
   specifiers =
       ((plain_specifier (specifier.Word word.Int)) ∷ []);
@@ -1965,7 +1965,7 @@ greatest_weight : told (unit_typed (codes "main.c" ∷ codes "main" ∷ codes "a
 greatest_weight = refl
 
 -- int main(void) { char a[1048417]; return 0; }
-weight_too_large : told (unit_typed (codes "main.c" ∷ codes "main" ∷ codes "a" ∷ []) (at 0) ((definition (record {
+weight_too_large : told (unit_typed 1048576 (codes "main.c" ∷ codes "main" ∷ codes "a" ∷ []) (at 0) ((definition (record {
   start = (at 1);
   specifiers =
       ((plain_specifier (specifier.Word word.Int)) ∷ []);
@@ -1978,6 +1978,36 @@ weight_too_large : told (unit_typed (codes "main.c" ∷ codes "main" ∷ codes "
       (and_piece (statement_item (return_stmt (at 1) (Some (constant (at 1) ty.Int 0)))) no_pieces));
 })) ∷ [])) ≡ fault 714 1 ∷ []
 weight_too_large = refl
+
+-- int main(void) { char a[3936]; return 0; }, by a stack of 4096 bytes
+greatest_weight_of_4096 : told (unit_typed 4096 (codes "main.c" ∷ codes "main" ∷ codes "a" ∷ []) (at 0) ((definition (record {
+  start = (at 1);
+  specifiers =
+      ((plain_specifier (specifier.Word word.Int)) ∷ []);
+  at = (at 1);
+  name = 1;
+  parameters = [];
+  brace = (at 1);
+  body = (and_piece (declaration_item
+      (declared (at 1) ((plain_specifier (specifier.Word word.Char)) ∷ []) ((object (at 1) 2 ((Some (constant (at 1) ty.Int 3936)) ∷ []) None) ∷ [])))
+      (and_piece (statement_item (return_stmt (at 1) (Some (constant (at 1) ty.Int 0)))) no_pieces));
+})) ∷ [])) ≡ []
+greatest_weight_of_4096 = refl
+
+-- int main(void) { char a[3937]; return 0; }, by a stack of 4096 bytes
+weight_too_large_for_4096 : told (unit_typed 4096 (codes "main.c" ∷ codes "main" ∷ codes "a" ∷ []) (at 0) ((definition (record {
+  start = (at 1);
+  specifiers =
+      ((plain_specifier (specifier.Word word.Int)) ∷ []);
+  at = (at 1);
+  name = 1;
+  parameters = [];
+  brace = (at 1);
+  body = (and_piece (declaration_item
+      (declared (at 1) ((plain_specifier (specifier.Word word.Char)) ∷ []) ((object (at 1) 2 ((Some (constant (at 1) ty.Int 3937)) ∷ []) None) ∷ [])))
+      (and_piece (statement_item (return_stmt (at 1) (Some (constant (at 1) ty.Int 0)))) no_pieces));
+})) ∷ [])) ≡ fault 714 1 ∷ []
+weight_too_large_for_4096 = refl
 
 -- char a0[1048576];
 -- char a1[1048576];
@@ -1997,7 +2027,7 @@ weight_too_large = refl
 -- char a15[1048576];
 -- char b;
 -- int main(void) { return 0; }
-statics_too_large : told (unit_typed (codes "main.c" ∷ codes "a0" ∷ codes "a1" ∷ codes "a2" ∷ codes "a3" ∷ codes "a4" ∷ codes "a5" ∷ codes "a6" ∷ codes "a7"
+statics_too_large : told (unit_typed 1048576 (codes "main.c" ∷ codes "a0" ∷ codes "a1" ∷ codes "a2" ∷ codes "a3" ∷ codes "a4" ∷ codes "a5" ∷ codes "a6" ∷ codes "a7"
     ∷ codes "a8" ∷ codes "a9" ∷ codes "a10" ∷ codes "a11" ∷ codes "a12" ∷ codes "a13" ∷ codes "a14" ∷ codes "a15" ∷ codes "b" ∷ codes "main" ∷ []) (at 0)
     ((declaration (declared (at 1) ((plain_specifier (specifier.Word word.Char)) ∷ []) ((object (at 1) 1 ((Some (constant (at 1) ty.Int 1048576)) ∷ [])
     None) ∷ []))) ∷ (declaration (declared (at 2) ((plain_specifier (specifier.Word word.Char)) ∷ []) ((object (at 2) 2 ((Some (constant (at 2) ty.Int
@@ -2048,7 +2078,7 @@ statics_too_large = refl
 -- char a15[1048576];
 -- extern char b[9];
 -- int main(void) { return 0; }
-greatest_statics : told (unit_typed (codes "main.c" ∷ codes "a0" ∷ codes "a1" ∷ codes "a2" ∷ codes "a3" ∷ codes "a4" ∷ codes "a5" ∷ codes "a6" ∷ codes "a7"
+greatest_statics : told (unit_typed 1048576 (codes "main.c" ∷ codes "a0" ∷ codes "a1" ∷ codes "a2" ∷ codes "a3" ∷ codes "a4" ∷ codes "a5" ∷ codes "a6" ∷ codes "a7"
     ∷ codes "a8" ∷ codes "a9" ∷ codes "a10" ∷ codes "a11" ∷ codes "a12" ∷ codes "a13" ∷ codes "a14" ∷ codes "a15" ∷ codes "b" ∷ codes "main" ∷ []) (at 0)
     ((declaration (declared (at 1) ((plain_specifier (specifier.Word word.Char)) ∷ []) ((object (at 1) 1 ((Some (constant (at 1) ty.Int 1048576)) ∷ [])
     None) ∷ []))) ∷ (declaration (declared (at 2) ((plain_specifier (specifier.Word word.Char)) ∷ []) ((object (at 2) 2 ((Some (constant (at 2) ty.Int
@@ -2097,7 +2127,7 @@ greatest_statics = refl
 -- char a14[1048576];
 -- char a15[1048576];
 -- int main(void) { return sizeof "a"; }
-text_counts : told (unit_typed (codes "main.c" ∷ codes "a0" ∷ codes "a1" ∷ codes "a2" ∷ codes "a3" ∷ codes "a4" ∷ codes "a5" ∷ codes "a6" ∷ codes "a7" ∷
+text_counts : told (unit_typed 1048576 (codes "main.c" ∷ codes "a0" ∷ codes "a1" ∷ codes "a2" ∷ codes "a3" ∷ codes "a4" ∷ codes "a5" ∷ codes "a6" ∷ codes "a7" ∷
     codes "a8" ∷ codes "a9" ∷ codes "a10" ∷ codes "a11" ∷ codes "a12" ∷ codes "a13" ∷ codes "a14" ∷ codes "a15" ∷ codes "main" ∷ (codes "a" ++ 0 ∷ []) ∷ []) (at 0)
     ((declaration (declared (at 1) ((plain_specifier (specifier.Word word.Char)) ∷ []) ((object (at 1) 1 ((Some (constant (at 1) ty.Int 1048576)) ∷ [])
     None) ∷ []))) ∷ (declaration (declared (at 2) ((plain_specifier (specifier.Word word.Char)) ∷ []) ((object (at 2) 2 ((Some (constant (at 2) ty.Int
@@ -2132,7 +2162,7 @@ text_counts = refl
 -- int rv_getbyte(void); void rv_putbyte(int c); void rv_exit(int status);
 -- int p(int c) { rv_putbyte(c); return c; }
 -- int main(void) { return p(65) - p(66) + 2; }
-printer : told (unit_typed (codes "main.c" ∷ codes "rv_getbyte" ∷ codes "rv_putbyte" ∷ codes "c" ∷ codes "rv_exit" ∷ codes "status" ∷ codes "p" ∷ codes
+printer : told (unit_typed 1048576 (codes "main.c" ∷ codes "rv_getbyte" ∷ codes "rv_putbyte" ∷ codes "c" ∷ codes "rv_exit" ∷ codes "status" ∷ codes "p" ∷ codes
     "main" ∷ []) (at 0) ((declaration (declared (at 1) ((plain_specifier (specifier.Word word.Int)) ∷ []) ((function (at 1) 1 []) ∷ []))) ∷ (declaration
     (declared (at 1) ((plain_specifier (specifier.Word word.Void)) ∷ []) ((function (at 1) 2 (record {
       at = (at 1);
@@ -2174,7 +2204,7 @@ printer = refl
 -- int rv_getbyte(void); void rv_putbyte(int c); void rv_exit(int status);
 -- void f(int a, int b, int c, int d, int e, int g, int h, int i, int j, int k) { rv_putbyte(j); rv_putbyte(k); }
 -- int main(void) { f(65, 66, 67, 68, 69, 70, 71, 72, 73, 74); return 0; }
-ten_parameters : told (unit_typed (codes "main.c" ∷ codes "rv_getbyte" ∷ codes "rv_putbyte" ∷ codes "c" ∷ codes "rv_exit" ∷ codes "status" ∷ codes "f" ∷
+ten_parameters : told (unit_typed 1048576 (codes "main.c" ∷ codes "rv_getbyte" ∷ codes "rv_putbyte" ∷ codes "c" ∷ codes "rv_exit" ∷ codes "status" ∷ codes "f" ∷
     codes "a" ∷ codes "b" ∷ codes "d" ∷ codes "e" ∷ codes "g" ∷ codes "h" ∷ codes "i" ∷ codes "j" ∷ codes "k" ∷ codes "main" ∷ []) (at 0) ((declaration
     (declared (at 1) ((plain_specifier (specifier.Word word.Int)) ∷ []) ((function (at 1) 1 []) ∷ []))) ∷ (declaration (declared (at 1) ((plain_specifier
     (specifier.Word word.Void)) ∷ []) ((function (at 1) 2 (record {
@@ -2266,7 +2296,7 @@ ten_parameters : told (unit_typed (codes "main.c" ∷ codes "rv_getbyte" ∷ cod
 ten_parameters = refl
 
 -- int main(void) { char c; signed char d = 200; _Bool b = 256; return (int)sizeof(c + c) + (-1 < 1u) + b + (d < 0) + -7 / 2 + (-8 >> 1); }
-mixed_rows : told (unit_typed (codes "main.c" ∷ codes "main" ∷ codes "c" ∷ codes "d" ∷ codes "b" ∷ []) (at 0) ((definition (record {
+mixed_rows : told (unit_typed 1048576 (codes "main.c" ∷ codes "main" ∷ codes "c" ∷ codes "d" ∷ codes "b" ∷ []) (at 0) ((definition (record {
   start = (at 1);
   specifiers = ((plain_specifier (specifier.Word word.Int)) ∷ []);
   at = (at 1);
@@ -2288,7 +2318,7 @@ mixed_rows : told (unit_typed (codes "main.c" ∷ codes "main" ∷ codes "c" ∷
 mixed_rows = refl
 
 -- int main(void) { switch (1) { int x = 1; case 1: return x; } }
-switch_jumps_past : told (unit_typed (codes "main.c" ∷ codes "main" ∷ codes "x" ∷ []) (at 0) ((definition (record {
+switch_jumps_past : told (unit_typed 1048576 (codes "main.c" ∷ codes "main" ∷ codes "x" ∷ []) (at 0) ((definition (record {
   start = (at 1);
   specifiers =
       ((plain_specifier (specifier.Word word.Int)) ∷ []);
@@ -2305,7 +2335,7 @@ switch_jumps_past = refl
 
 -- int m[2][2] = {{1, 2}, {3, 4}};
 -- int main(void) { return m[1][0] * 10 + (int)(sizeof(m) / sizeof(m[0])); }
-matrix : told (unit_typed (codes "main.c" ∷ codes "m" ∷ codes "main" ∷ []) (at 0) ((declaration (declared (at 1) ((plain_specifier (specifier.Word
+matrix : told (unit_typed 1048576 (codes "main.c" ∷ codes "m" ∷ codes "main" ∷ []) (at 0) ((declaration (declared (at 1) ((plain_specifier (specifier.Word
     word.Int)) ∷ []) ((object (at 1) 1 ((Some (constant (at 1) ty.Int 2)) ∷ (Some (constant (at 1) ty.Int 2)) ∷ []) (Some (braced_init (at 1) (and_init
     (braced_init (at 1) (and_init (one_init (constant (at 1) ty.Int 1)) (and_init (one_init (constant (at 1) ty.Int 2)) no_inits))) (and_init (braced_init
     (at 1) (and_init (one_init (constant (at 1) ty.Int 3)) (and_init (one_init (constant (at 1) ty.Int 4)) no_inits))) no_inits))))) ∷ []))) ∷ (definition
@@ -2325,7 +2355,7 @@ matrix : told (unit_typed (codes "main.c" ∷ codes "m" ∷ codes "main" ∷ [])
 matrix = refl
 
 -- int main(void) { int a = 1, b = 2; a += b -= 3; a <<= 1; a = a ? b & 7 | a ^ 3 : ~b; a--; ++b; return !a && b || (a, b) >= 3 != a % 5; }
-all_operators : told (unit_typed (codes "main.c" ∷ codes "main" ∷ codes "a" ∷ codes "b" ∷ []) (at 0) ((definition (record {
+all_operators : told (unit_typed 1048576 (codes "main.c" ∷ codes "main" ∷ codes "a" ∷ codes "b" ∷ []) (at 0) ((definition (record {
   start = (at 1);
   specifiers =
       ((plain_specifier (specifier.Word word.Int)) ∷ []);
@@ -2349,7 +2379,7 @@ all_operators : told (unit_typed (codes "main.c" ∷ codes "main" ∷ codes "a" 
 all_operators = refl
 
 -- int main(void) { int i; for (i = 0; i < 3; i++) if (i) continue; else ; while (i--) { if (i == 1) break; } do i++; while (i < 4); for (;;) break; return i; }
-all_loops : told (unit_typed (codes "main.c" ∷ codes "main" ∷ codes "i" ∷ []) (at 0) ((definition (record {
+all_loops : told (unit_typed 1048576 (codes "main.c" ∷ codes "main" ∷ codes "i" ∷ []) (at 0) ((definition (record {
   start = (at 1);
   specifiers = ((plain_specifier
       (specifier.Word word.Int)) ∷ []);
@@ -2370,7 +2400,7 @@ all_loops : told (unit_typed (codes "main.c" ∷ codes "main" ∷ codes "i" ∷ 
 all_loops = refl
 
 -- int main(void) { "abc"[0] = 1; return 0; }
-literal_written : told (unit_typed (codes "main.c" ∷ codes "main" ∷ (codes "abc" ++ 0 ∷ []) ∷ []) (at 0) ((definition (record {
+literal_written : told (unit_typed 1048576 (codes "main.c" ∷ codes "main" ∷ (codes "abc" ++ 0 ∷ []) ∷ []) (at 0) ((definition (record {
   start = (at 1);
   specifiers =
       ((plain_specifier (specifier.Word word.Int)) ∷ []);
@@ -2385,7 +2415,7 @@ literal_written : told (unit_typed (codes "main.c" ∷ codes "main" ∷ (codes "
 literal_written = refl
 
 -- int main(void) { static int n = 3, a[] = {1, 2}; return n + a[1] + sizeof a; }
-static_in_block : told (unit_typed (codes "main.c" ∷ codes "main" ∷ codes "n" ∷ codes "a" ∷ []) (at 0) ((definition (record {
+static_in_block : told (unit_typed 1048576 (codes "main.c" ∷ codes "main" ∷ codes "n" ∷ codes "a" ∷ []) (at 0) ((definition (record {
   start = (at 1);
   specifiers =
       ((plain_specifier (specifier.Word word.Int)) ∷ []);
@@ -2406,7 +2436,7 @@ static_in_block = refl
 -- int even(int n) { return n == 0 ? 1 : odd(n - 1); }
 -- int odd(int n) { return n == 0 ? 0 : even(n - 1); }
 -- int main(void) { return even(4); }
-recursion : told (unit_typed (codes "main.c" ∷ codes "odd" ∷ codes "n" ∷ codes "even" ∷ codes "main" ∷ []) (at 0) ((declaration (declared (at 1)
+recursion : told (unit_typed 1048576 (codes "main.c" ∷ codes "odd" ∷ codes "n" ∷ codes "even" ∷ codes "main" ∷ []) (at 0) ((declaration (declared (at 1)
     ((plain_specifier (specifier.Word word.Int)) ∷ []) ((function (at 1) 1 (record {
       at = (at 1);
       start = (at 1);
@@ -2459,7 +2489,7 @@ recursion = refl
 -- enum e { A, B = 3, };
 -- enum e f(enum e x) { return x == B ? A : B; }
 -- int main(void) { enum e y = f(A); return y; }
-enumerated_type : told (unit_typed (codes "main.c" ∷ codes "e" ∷ codes "A" ∷ codes "B" ∷ codes "f" ∷ codes "x" ∷ codes "main" ∷ codes "y" ∷ []) (at 0)
+enumerated_type : told (unit_typed 1048576 (codes "main.c" ∷ codes "e" ∷ codes "A" ∷ codes "B" ∷ codes "f" ∷ codes "x" ∷ codes "main" ∷ codes "y" ∷ []) (at 0)
     ((declaration (declared (at 1) ((enumerators_specifier (Some 1) (record { at = (at 1); name = 2; value = None } ∷ record {
       at = (at 1);
       name = 3;
@@ -2491,7 +2521,7 @@ enumerated_type : told (unit_typed (codes "main.c" ∷ codes "e" ∷ codes "A" �
 enumerated_type = refl
 
 -- int main(void) { switch (1) { case 1: switch (2) { case 1: break; default: ; } break; case 2: ; } return 0; }
-inner_switch : told (unit_typed (codes "main.c" ∷ codes "main" ∷ []) (at 0) ((definition (record {
+inner_switch : told (unit_typed 1048576 (codes "main.c" ∷ codes "main" ∷ []) (at 0) ((definition (record {
   start = (at 1);
   specifiers = ((plain_specifier
       (specifier.Word word.Int)) ∷ []);
@@ -2510,7 +2540,7 @@ inner_switch = refl
 
 -- int f(void) { return 1; }
 -- int main(void) { int f = 2; return f(); }
-local_hides_function : told (unit_typed (codes "main.c" ∷ codes "f" ∷ codes "main" ∷ []) (at 0) ((definition (record {
+local_hides_function : told (unit_typed 1048576 (codes "main.c" ∷ codes "f" ∷ codes "main" ∷ []) (at 0) ((definition (record {
   start = (at 1);
   specifiers =
       ((plain_specifier (specifier.Word word.Int)) ∷ []);
@@ -2535,7 +2565,7 @@ local_hides_function : told (unit_typed (codes "main.c" ∷ codes "f" ∷ codes 
 local_hides_function = refl
 
 -- enum x { A }; int x; int main(void) { enum x y = A; return x + y; }
-tag_and_name_apart : told (unit_typed (codes "main.c" ∷ codes "x" ∷ codes "A" ∷ codes "main" ∷ codes "y" ∷ []) (at 0) ((declaration (declared (at 1)
+tag_and_name_apart : told (unit_typed 1048576 (codes "main.c" ∷ codes "x" ∷ codes "A" ∷ codes "main" ∷ codes "y" ∷ []) (at 0) ((declaration (declared (at 1)
     ((enumerators_specifier (Some 1) (record { at = (at 1); name = 2; value = None } ∷ [])) ∷ []) [])) ∷ (declaration (declared (at 1) ((plain_specifier
     (specifier.Word word.Int)) ∷ []) ((object (at 1) 1 [] None) ∷ []))) ∷ (definition (record {
       start = (at 1);

@@ -28,7 +28,7 @@ typed_well (broken vs) = false
 -- int main(void) { int x[2] = {
 -- 1,
 -- v()}; return 0; }
-void_in_a_list : told (unit_typed (codes "main.c" ∷ codes "v" ∷ codes "main" ∷ codes "x" ∷ []) (at 0) ((definition (record {
+void_in_a_list : told (unit_typed 1048576 (codes "main.c" ∷ codes "v" ∷ codes "main" ∷ codes "x" ∷ []) (at 0) ((definition (record {
   start = (at 1);
   specifiers =
       ((plain_specifier (specifier.Word word.Void)) ∷ []);
@@ -55,7 +55,7 @@ void_in_a_list = refl
 -- int main(void) { int x
 -- =
 -- v(); return x; }
-void_behind_the_sign : told (unit_typed (codes "main.c" ∷ codes "v" ∷ codes "main" ∷ codes "x" ∷ []) (at 0) ((definition (record {
+void_behind_the_sign : told (unit_typed 1048576 (codes "main.c" ∷ codes "v" ∷ codes "main" ∷ codes "x" ∷ []) (at 0) ((definition (record {
   start = (at 1);
   specifiers = ((plain_specifier (specifier.Word word.Void)) ∷ []);
   at = (at 1);
@@ -82,7 +82,7 @@ void_behind_the_sign = refl
 -- {{1, 2}, {3, 4}},
 -- {5, 6, 7, 8}};
 -- int main(void) { return 0; }
-braces_left_out_in_an_inner_list : told (unit_typed (codes "main.c" ∷ codes "m" ∷ codes "main" ∷ []) (at 0) ((declaration (declared (at 1) ((plain_specifier
+braces_left_out_in_an_inner_list : told (unit_typed 1048576 (codes "main.c" ∷ codes "m" ∷ codes "main" ∷ []) (at 0) ((declaration (declared (at 1) ((plain_specifier
     (specifier.Word word.Int)) ∷ []) ((object (at 1) 1 ((Some (constant (at 1) ty.Int 2)) ∷ (Some (constant (at 1) ty.Int 2)) ∷ (Some (constant (at 1)
     ty.Int 2)) ∷ []) (Some (braced_init (at 1) (and_init (braced_init (at 2) (and_init (braced_init (at 2) (and_init (one_init (constant (at 2) ty.Int 1))
     (and_init (one_init (constant (at 2) ty.Int 2)) no_inits))) (and_init (braced_init (at 2) (and_init (one_init (constant (at 2) ty.Int 3)) (and_init
@@ -102,7 +102,7 @@ braces_left_out_in_an_inner_list = refl
 
 -- int a[3]; int a[] = {sizeof a == 12 ? 1 : 2}; _Static_assert(sizeof a == 12, "m");
 -- int main(void) { return 0; }
-own_size_of_the_composite_type : told (unit_typed (codes "main.c" ∷ codes "a" ∷ codes "m" ∷ codes "main" ∷ []) (at 0) ((declaration (declared (at 1)
+own_size_of_the_composite_type : told (unit_typed 1048576 (codes "main.c" ∷ codes "a" ∷ codes "m" ∷ codes "main" ∷ []) (at 0) ((declaration (declared (at 1)
     ((plain_specifier (specifier.Word word.Int)) ∷ []) ((object (at 1) 1 ((Some (constant (at 1) ty.Int 3)) ∷ []) None) ∷ []))) ∷ (declaration (declared (at
     1) ((plain_specifier (specifier.Word word.Int)) ∷ []) ((object (at 1) 1 (None ∷ []) (Some (braced_init (at 1) (and_init (one_init (conditional (at 1)
     (binary (at 1) operator.Equal (size_of (at 1) (identifier (at 1) 1)) (constant (at 1) ty.Int 12)) (constant (at 1) ty.Int 1) (constant (at 1) ty.Int
@@ -121,7 +121,7 @@ own_size_of_the_composite_type = refl
 
 -- int a[]; int a[] = {sizeof a};
 -- int main(void) { return 0; }
-own_size_unknown : told (unit_typed (codes "main.c" ∷ codes "a" ∷ codes "main" ∷ []) (at 0) ((declaration (declared (at 1) ((plain_specifier (specifier.Word
+own_size_unknown : told (unit_typed 1048576 (codes "main.c" ∷ codes "a" ∷ codes "main" ∷ []) (at 0) ((declaration (declared (at 1) ((plain_specifier (specifier.Word
     word.Int)) ∷ []) ((object (at 1) 1 (None ∷ []) None) ∷ []))) ∷ (declaration (declared (at 1) ((plain_specifier (specifier.Word word.Int)) ∷ []) ((object
     (at 1) 1 (None ∷ []) (Some (braced_init (at 1) (and_init (one_init (size_of (at 1) (identifier (at 1) 1))) no_inits)))) ∷ []))) ∷ (definition (record {
       start = (at 2);
@@ -137,7 +137,7 @@ own_size_unknown = refl
 
 -- int unsigned short x; int signed long const y; char signed z;
 -- int main(void) { return 0; }
-words_in_any_order_is_typed : typed_well (unit_typed (codes "main.c" ∷ codes "x" ∷ codes "y" ∷ codes "z" ∷ codes "main" ∷ []) (at 0) ((declaration (declared
+words_in_any_order_is_typed : typed_well (unit_typed 1048576 (codes "main.c" ∷ codes "x" ∷ codes "y" ∷ codes "z" ∷ codes "main" ∷ []) (at 0) ((declaration (declared
     (at 1) ((plain_specifier (specifier.Word word.Int)) ∷ (plain_specifier (specifier.Word word.Unsigned)) ∷ (plain_specifier (specifier.Word word.Short)) ∷
     []) ((object (at 1) 1 [] None) ∷ []))) ∷ (declaration (declared (at 1) ((plain_specifier (specifier.Word word.Int)) ∷ (plain_specifier (specifier.Word
     word.Signed)) ∷ (plain_specifier (specifier.Word word.Long)) ∷ (plain_specifier specifier.Const) ∷ []) ((object (at 1) 2 [] None) ∷ []))) ∷ (declaration
@@ -156,7 +156,7 @@ words_in_any_order_is_typed = refl
 
 -- enum { A, B };
 -- int main(void) { return 0; }
-enumerators_alone_is_typed : typed_well (unit_typed (codes "main.c" ∷ codes "A" ∷ codes "B" ∷ codes "main" ∷ []) (at 0) ((declaration (declared (at 1)
+enumerators_alone_is_typed : typed_well (unit_typed 1048576 (codes "main.c" ∷ codes "A" ∷ codes "B" ∷ codes "main" ∷ []) (at 0) ((declaration (declared (at 1)
     ((enumerators_specifier None (record { at = (at 1); name = 1; value = None } ∷ record { at = (at 1); name = 2; value = None } ∷ [])) ∷ []) [])) ∷
     (definition (record {
       start = (at 2);
@@ -172,7 +172,7 @@ enumerators_alone_is_typed = refl
 
 -- int f(int a) { { int a; } return a; }
 -- int main(void) { return 0; }
-parameter_and_inner_block_is_typed : typed_well (unit_typed (codes "main.c" ∷ codes "f" ∷ codes "a" ∷ codes "main" ∷ []) (at 0) ((definition (record {
+parameter_and_inner_block_is_typed : typed_well (unit_typed 1048576 (codes "main.c" ∷ codes "f" ∷ codes "a" ∷ codes "main" ∷ []) (at 0) ((definition (record {
   start
       = (at 1);
   specifiers = ((plain_specifier (specifier.Word word.Int)) ∷ []);
@@ -203,7 +203,7 @@ parameter_and_inner_block_is_typed : typed_well (unit_typed (codes "main.c" ∷ 
 parameter_and_inner_block_is_typed = refl
 
 -- int main(void) { for (int i = 0; i < 3; i++) { int i; } return 0; }
-loop_variable_again_is_typed : typed_well (unit_typed (codes "main.c" ∷ codes "main" ∷ codes "i" ∷ []) (at 0) ((definition (record {
+loop_variable_again_is_typed : typed_well (unit_typed 1048576 (codes "main.c" ∷ codes "main" ∷ codes "i" ∷ []) (at 0) ((definition (record {
   start = (at 1);
   specifiers = ((plain_specifier (specifier.Word word.Int)) ∷ []);
   at = (at 1);
@@ -220,7 +220,7 @@ loop_variable_again_is_typed = refl
 
 -- int a[]; int a[3]; int a[]; int b[sizeof a == 12 ? 1 : -1];
 -- int main(void) { return 0; }
-size_follows_is_typed : typed_well (unit_typed (codes "main.c" ∷ codes "a" ∷ codes "b" ∷ codes "main" ∷ []) (at 0) ((declaration (declared (at 1)
+size_follows_is_typed : typed_well (unit_typed 1048576 (codes "main.c" ∷ codes "a" ∷ codes "b" ∷ codes "main" ∷ []) (at 0) ((declaration (declared (at 1)
     ((plain_specifier (specifier.Word word.Int)) ∷ []) ((object (at 1) 1 (None ∷ []) None) ∷ []))) ∷ (declaration (declared (at 1) ((plain_specifier
     (specifier.Word word.Int)) ∷ []) ((object (at 1) 1 ((Some (constant (at 1) ty.Int 3)) ∷ []) None) ∷ []))) ∷ (declaration (declared (at 1)
     ((plain_specifier (specifier.Word word.Int)) ∷ []) ((object (at 1) 1 (None ∷ []) None) ∷ []))) ∷ (declaration (declared (at 1) ((plain_specifier
@@ -240,7 +240,7 @@ size_follows_is_typed = refl
 
 -- int a[3]; int a[] = {1, 2}; _Static_assert(sizeof a == 12, "m");
 -- int main(void) { return 0; }
-size_before_initialiser_is_typed : typed_well (unit_typed (codes "main.c" ∷ codes "a" ∷ codes "m" ∷ codes "main" ∷ []) (at 0) ((declaration (declared (at 1)
+size_before_initialiser_is_typed : typed_well (unit_typed 1048576 (codes "main.c" ∷ codes "a" ∷ codes "m" ∷ codes "main" ∷ []) (at 0) ((declaration (declared (at 1)
     ((plain_specifier (specifier.Word word.Int)) ∷ []) ((object (at 1) 1 ((Some (constant (at 1) ty.Int 3)) ∷ []) None) ∷ []))) ∷ (declaration (declared (at
     1) ((plain_specifier (specifier.Word word.Int)) ∷ []) ((object (at 1) 1 (None ∷ []) (Some (braced_init (at 1) (and_init (one_init (constant (at 1)
     ty.Int 1)) (and_init (one_init (constant (at 1) ty.Int 2)) no_inits))))) ∷ []))) ∷ (declaration (assertion (at 1) (binary (at 1) operator.Equal (size_of
@@ -259,7 +259,7 @@ size_before_initialiser_is_typed = refl
 
 -- int f(int a); int f(const int b); int g(int p[2]); int g(int p[]);
 -- int main(void) { return 0; }
-const_parameter_is_typed : typed_well (unit_typed (codes "main.c" ∷ codes "f" ∷ codes "a" ∷ codes "b" ∷ codes "g" ∷ codes "p" ∷ codes "main" ∷ []) (at 0)
+const_parameter_is_typed : typed_well (unit_typed 1048576 (codes "main.c" ∷ codes "f" ∷ codes "a" ∷ codes "b" ∷ codes "g" ∷ codes "p" ∷ codes "main" ∷ []) (at 0)
     ((declaration (declared (at 1) ((plain_specifier (specifier.Word word.Int)) ∷ []) ((function (at 1) 1 (record {
       at = (at 1);
       start = (at 1);
@@ -302,7 +302,7 @@ const_parameter_is_typed : typed_well (unit_typed (codes "main.c" ∷ codes "f" 
 const_parameter_is_typed = refl
 
 -- int main(void) { int rv_exit = 1; return rv_exit; }
-built_in_name_inside_is_typed : typed_well (unit_typed (codes "main.c" ∷ codes "main" ∷ codes "rv_exit" ∷ []) (at 0) ((definition (record {
+built_in_name_inside_is_typed : typed_well (unit_typed 1048576 (codes "main.c" ∷ codes "main" ∷ codes "rv_exit" ∷ []) (at 0) ((definition (record {
   start = (at 1);
   specifiers = ((plain_specifier (specifier.Word word.Int)) ∷ []);
   at = (at 1);
@@ -317,7 +317,7 @@ built_in_name_inside_is_typed = refl
 
 -- static int x; extern int x;
 -- int main(void) { return 0; }
-static_then_extern_is_typed : typed_well (unit_typed (codes "main.c" ∷ codes "x" ∷ codes "main" ∷ []) (at 0) ((declaration (declared (at 1)
+static_then_extern_is_typed : typed_well (unit_typed 1048576 (codes "main.c" ∷ codes "x" ∷ codes "main" ∷ []) (at 0) ((declaration (declared (at 1)
     (static_specifier ∷ (plain_specifier (specifier.Word word.Int)) ∷ []) ((object (at 1) 1 [] None) ∷ []))) ∷ (declaration (declared (at 1)
     (extern_specifier ∷ (plain_specifier (specifier.Word word.Int)) ∷ []) ((object (at 1) 1 [] None) ∷ []))) ∷ (definition (record {
       start = (at 2);
@@ -333,7 +333,7 @@ static_then_extern_is_typed = refl
 
 -- static int f(void); int f(void); int f(void) { return 0; }
 -- int main(void) { return 0; }
-static_function_is_typed : typed_well (unit_typed (codes "main.c" ∷ codes "f" ∷ codes "main" ∷ []) (at 0) ((declaration (declared (at 1) (static_specifier ∷
+static_function_is_typed : typed_well (unit_typed 1048576 (codes "main.c" ∷ codes "f" ∷ codes "main" ∷ []) (at 0) ((declaration (declared (at 1) (static_specifier ∷
     (plain_specifier (specifier.Word word.Int)) ∷ []) ((function (at 1) 1 []) ∷ []))) ∷ (declaration (declared (at 1) ((plain_specifier (specifier.Word
     word.Int)) ∷ []) ((function (at 1) 1 []) ∷ []))) ∷ (definition (record {
       start = (at 1);
@@ -357,7 +357,7 @@ static_function_is_typed : typed_well (unit_typed (codes "main.c" ∷ codes "f" 
 static_function_is_typed = refl
 
 -- int x; int x = 5; int x; int main(void) { return x; }
-tentative_is_typed : typed_well (unit_typed (codes "main.c" ∷ codes "x" ∷ codes "main" ∷ []) (at 0) ((declaration (declared (at 1) ((plain_specifier
+tentative_is_typed : typed_well (unit_typed 1048576 (codes "main.c" ∷ codes "x" ∷ codes "main" ∷ []) (at 0) ((declaration (declared (at 1) ((plain_specifier
     (specifier.Word word.Int)) ∷ []) ((object (at 1) 1 [] None) ∷ []))) ∷ (declaration (declared (at 1) ((plain_specifier (specifier.Word word.Int)) ∷ [])
     ((object (at 1) 1 [] (Some (one_init (constant (at 1) ty.Int 5)))) ∷ []))) ∷ (declaration (declared (at 1) ((plain_specifier (specifier.Word word.Int))
     ∷ []) ((object (at 1) 1 [] None) ∷ []))) ∷ (definition (record {
@@ -374,7 +374,7 @@ tentative_is_typed : typed_well (unit_typed (codes "main.c" ∷ codes "x" ∷ co
 tentative_is_typed = refl
 
 -- int a[]; int main(void) { return a[0]; }
-unknown_at_file_scope_is_typed : typed_well (unit_typed (codes "main.c" ∷ codes "a" ∷ codes "main" ∷ []) (at 0) ((declaration (declared (at 1)
+unknown_at_file_scope_is_typed : typed_well (unit_typed 1048576 (codes "main.c" ∷ codes "a" ∷ codes "main" ∷ []) (at 0) ((declaration (declared (at 1)
     ((plain_specifier (specifier.Word word.Int)) ∷ []) ((object (at 1) 1 (None ∷ []) None) ∷ []))) ∷ (definition (record {
       start = (at 1);
       specifiers =
@@ -389,7 +389,7 @@ unknown_at_file_scope_is_typed : typed_well (unit_typed (codes "main.c" ∷ code
 unknown_at_file_scope_is_typed = refl
 
 -- int main(void) { char s[3] = "abc"; return s[2]; }
-text_without_zero_is_typed : typed_well (unit_typed (codes "main.c" ∷ codes "main" ∷ codes "s" ∷ (codes "abc" ++ 0 ∷ []) ∷ []) (at 0) ((definition (record {
+text_without_zero_is_typed : typed_well (unit_typed 1048576 (codes "main.c" ∷ codes "main" ∷ codes "s" ∷ (codes "abc" ++ 0 ∷ []) ∷ []) (at 0) ((definition (record {
   start = (at
       1);
   specifiers = ((plain_specifier (specifier.Word word.Int)) ∷ []);
@@ -405,7 +405,7 @@ text_without_zero_is_typed : typed_well (unit_typed (codes "main.c" ∷ codes "m
 text_without_zero_is_typed = refl
 
 -- int main(void) { int x = {1}; return x; }
-number_in_braces_is_typed : typed_well (unit_typed (codes "main.c" ∷ codes "main" ∷ codes "x" ∷ []) (at 0) ((definition (record {
+number_in_braces_is_typed : typed_well (unit_typed 1048576 (codes "main.c" ∷ codes "main" ∷ codes "x" ∷ []) (at 0) ((definition (record {
   start = (at 1);
   specifiers
       = ((plain_specifier (specifier.Word word.Int)) ∷ []);
@@ -420,7 +420,7 @@ number_in_braces_is_typed : typed_well (unit_typed (codes "main.c" ∷ codes "ma
 number_in_braces_is_typed = refl
 
 -- int main(void) { char s[] = {"ab"}; unsigned char t[2][3] = {"ab", {"c"}}; return sizeof s == 3; }
-text_in_braces_is_typed : typed_well (unit_typed (codes "main.c" ∷ codes "main" ∷ codes "s" ∷ (codes "ab" ++ 0 ∷ []) ∷ codes "t" ∷ (codes "c" ++ 0 ∷ []) ∷ []) (at 0) ((definition
+text_in_braces_is_typed : typed_well (unit_typed 1048576 (codes "main.c" ∷ codes "main" ∷ codes "s" ∷ (codes "ab" ++ 0 ∷ []) ∷ codes "t" ∷ (codes "c" ++ 0 ∷ []) ∷ []) (at 0) ((definition
     (record {
       start = (at 1);
       specifiers = ((plain_specifier (specifier.Word word.Int)) ∷ []);
@@ -440,7 +440,7 @@ text_in_braces_is_typed = refl
 
 -- static char s[] = "ab"; static signed char t[] = {"a"};
 -- int main(void) { return 0; }
-static_text_is_typed : typed_well (unit_typed (codes "main.c" ∷ codes "s" ∷ (codes "ab" ++ 0 ∷ []) ∷ codes "t" ∷ (codes "a" ++ 0 ∷ []) ∷ codes "main" ∷ []) (at 0) ((declaration
+static_text_is_typed : typed_well (unit_typed 1048576 (codes "main.c" ∷ codes "s" ∷ (codes "ab" ++ 0 ∷ []) ∷ codes "t" ∷ (codes "a" ++ 0 ∷ []) ∷ codes "main" ∷ []) (at 0) ((declaration
     (declared (at 1) (static_specifier ∷ (plain_specifier (specifier.Word word.Char)) ∷ []) ((object (at 1) 1 (None ∷ []) (Some (one_init (string (at 1)
     2)))) ∷ []))) ∷ (declaration (declared (at 1) (static_specifier ∷ (plain_specifier (specifier.Word word.Signed)) ∷ (plain_specifier (specifier.Word
     word.Char)) ∷ []) ((object (at 1) 3 (None ∷ []) (Some (braced_init (at 1) (and_init (one_init (string (at 1) 4)) no_inits)))) ∷ []))) ∷ (definition
@@ -458,7 +458,7 @@ static_text_is_typed = refl
 
 -- _Static_assert(1 || 1 / 0, "m");
 -- int main(void) { return 0; }
-assertion_of_unevaluated_is_typed : typed_well (unit_typed (codes "main.c" ∷ codes "m" ∷ codes "main" ∷ []) (at 0) ((declaration (assertion (at 1) (binary
+assertion_of_unevaluated_is_typed : typed_well (unit_typed 1048576 (codes "main.c" ∷ codes "m" ∷ codes "main" ∷ []) (at 0) ((declaration (assertion (at 1) (binary
     (at 1) operator.Or (constant (at 1) ty.Int 1) (binary (at 1) operator.Div (constant (at 1) ty.Int 1) (constant (at 1) ty.Int 0))) 1)) ∷ (definition
     (record {
       start = (at 2);
@@ -473,7 +473,7 @@ assertion_of_unevaluated_is_typed : typed_well (unit_typed (codes "main.c" ∷ c
 assertion_of_unevaluated_is_typed = refl
 
 -- enum e { A }; int main(void) { enum e { A = 3 }; enum e x = A; return x; }
-tag_in_inner_block_is_typed : typed_well (unit_typed (codes "main.c" ∷ codes "e" ∷ codes "A" ∷ codes "main" ∷ codes "x" ∷ []) (at 0) ((declaration (declared
+tag_in_inner_block_is_typed : typed_well (unit_typed 1048576 (codes "main.c" ∷ codes "e" ∷ codes "A" ∷ codes "main" ∷ codes "x" ∷ []) (at 0) ((declaration (declared
     (at 1) ((enumerators_specifier (Some 1) (record { at = (at 1); name = 2; value = None } ∷ [])) ∷ []) [])) ∷ (definition (record {
       start = (at 1);
       specifiers = ((plain_specifier (specifier.Word word.Int)) ∷ []);
@@ -490,7 +490,7 @@ tag_in_inner_block_is_typed = refl
 
 -- enum { A = 4, B = A * 2, C }; _Static_assert(C == 9, "m");
 -- int main(void) { return 0; }
-enumerator_in_next_is_typed : typed_well (unit_typed (codes "main.c" ∷ codes "A" ∷ codes "B" ∷ codes "C" ∷ codes "m" ∷ codes "main" ∷ []) (at 0)
+enumerator_in_next_is_typed : typed_well (unit_typed 1048576 (codes "main.c" ∷ codes "A" ∷ codes "B" ∷ codes "C" ∷ codes "m" ∷ codes "main" ∷ []) (at 0)
     ((declaration (declared (at 1) ((enumerators_specifier None (record { at = (at 1); name = 1; value = (Some (constant (at 1) ty.Int 4)) } ∷ record {
       at =
           (at 1);
@@ -516,7 +516,7 @@ enumerator_in_next_is_typed = refl
 
 -- int f(int);
 -- int main(void) { return 0; }
-unnamed_in_declaration_is_typed : typed_well (unit_typed (codes "main.c" ∷ codes "f" ∷ codes "main" ∷ []) (at 0) ((declaration (declared (at 1)
+unnamed_in_declaration_is_typed : typed_well (unit_typed 1048576 (codes "main.c" ∷ codes "f" ∷ codes "main" ∷ []) (at 0) ((declaration (declared (at 1)
     ((plain_specifier (specifier.Word word.Int)) ∷ []) ((function (at 1) 1 (record {
       at = (at 1);
       start = (at 1);
@@ -537,7 +537,7 @@ unnamed_in_declaration_is_typed : typed_well (unit_typed (codes "main.c" ∷ cod
 unnamed_in_declaration_is_typed = refl
 
 -- int main(void) { for (_Static_assert(1, "m"); ; ) return 0; }
-assertion_in_for_is_typed : typed_well (unit_typed (codes "main.c" ∷ codes "main" ∷ codes "m" ∷ []) (at 0) ((definition (record {
+assertion_in_for_is_typed : typed_well (unit_typed 1048576 (codes "main.c" ∷ codes "main" ∷ codes "m" ∷ []) (at 0) ((definition (record {
   start = (at 1);
   specifiers
       = ((plain_specifier (specifier.Word word.Int)) ∷ []);
@@ -553,7 +553,7 @@ assertion_in_for_is_typed = refl
 
 -- int x[3]; int a[sizeof x[1] + sizeof "ab"]; _Static_assert(sizeof a == 28, "m");
 -- int main(void) { return 0; }
-size_by_measured_names_is_typed : typed_well (unit_typed (codes "main.c" ∷ codes "x" ∷ codes "a" ∷ (codes "ab" ++ 0 ∷ []) ∷ codes "m" ∷ codes "main" ∷ []) (at 0)
+size_by_measured_names_is_typed : typed_well (unit_typed 1048576 (codes "main.c" ∷ codes "x" ∷ codes "a" ∷ (codes "ab" ++ 0 ∷ []) ∷ codes "m" ∷ codes "main" ∷ []) (at 0)
     ((declaration (declared (at 1) ((plain_specifier (specifier.Word word.Int)) ∷ []) ((object (at 1) 1 ((Some (constant (at 1) ty.Int 3)) ∷ []) None) ∷
     []))) ∷ (declaration (declared (at 1) ((plain_specifier (specifier.Word word.Int)) ∷ []) ((object (at 1) 2 ((Some (binary (at 1) operator.Add (size_of
     (at 1) (subscript (at 1) (identifier (at 1) 1) (constant (at 1) ty.Int 1))) (size_of (at 1) (string (at 1) 3)))) ∷ []) None) ∷ []))) ∷ (declaration
@@ -572,7 +572,7 @@ size_by_measured_names_is_typed = refl
 
 -- static unsigned char c = 300; static int x = 4294967295u; static _Bool b = 2;
 -- int main(void) { return 0; }
-wraps_by_conversion_is_typed : typed_well (unit_typed (codes "main.c" ∷ codes "c" ∷ codes "x" ∷ codes "b" ∷ codes "main" ∷ []) (at 0) ((declaration
+wraps_by_conversion_is_typed : typed_well (unit_typed 1048576 (codes "main.c" ∷ codes "c" ∷ codes "x" ∷ codes "b" ∷ codes "main" ∷ []) (at 0) ((declaration
     (declared (at 1) (static_specifier ∷ (plain_specifier (specifier.Word word.Unsigned)) ∷ (plain_specifier (specifier.Word word.Char)) ∷ []) ((object (at
     1) 1 [] (Some (one_init (constant (at 1) ty.Int 300)))) ∷ []))) ∷ (declaration (declared (at 1) (static_specifier ∷ (plain_specifier (specifier.Word
     word.Int)) ∷ []) ((object (at 1) 2 [] (Some (one_init (constant (at 1) ty.UInt 4294967295)))) ∷ []))) ∷ (declaration (declared (at 1) (static_specifier
@@ -590,7 +590,7 @@ wraps_by_conversion_is_typed = refl
 
 -- unsigned x = 0u - 1; _Static_assert(-1 > 0u && 0u - 1 == 4294967295u, "m");
 -- int main(void) { return 0; }
-unsigned_wraps_is_typed : typed_well (unit_typed (codes "main.c" ∷ codes "x" ∷ codes "m" ∷ codes "main" ∷ []) (at 0) ((declaration (declared (at 1)
+unsigned_wraps_is_typed : typed_well (unit_typed 1048576 (codes "main.c" ∷ codes "x" ∷ codes "m" ∷ codes "main" ∷ []) (at 0) ((declaration (declared (at 1)
     ((plain_specifier (specifier.Word word.Unsigned)) ∷ []) ((object (at 1) 1 [] (Some (one_init (binary (at 1) operator.Sub (constant (at 1) ty.UInt 0)
     (constant (at 1) ty.Int 1))))) ∷ []))) ∷ (declaration (assertion (at 1) (binary (at 1) operator.And (binary (at 1) operator.Greater (prefix (at 1)
     sign.Minus (constant (at 1) ty.Int 1)) (constant (at 1) ty.UInt 0)) (binary (at 1) operator.Equal (binary (at 1) operator.Sub (constant (at 1) ty.UInt
@@ -608,7 +608,7 @@ unsigned_wraps_is_typed : typed_well (unit_typed (codes "main.c" ∷ codes "x" �
 unsigned_wraps_is_typed = refl
 
 -- int main(void) { int x = x; return x; }
-own_name_in_scope_is_typed : typed_well (unit_typed (codes "main.c" ∷ codes "main" ∷ codes "x" ∷ []) (at 0) ((definition (record {
+own_name_in_scope_is_typed : typed_well (unit_typed 1048576 (codes "main.c" ∷ codes "main" ∷ codes "x" ∷ []) (at 0) ((definition (record {
   start = (at 1);
   specifiers = ((plain_specifier (specifier.Word word.Int)) ∷ []);
   at = (at 1);
@@ -623,7 +623,7 @@ own_name_in_scope_is_typed = refl
 
 -- int f(int a, int p[sizeof a]);
 -- int main(void) { return 0; }
-measured_parameter_is_typed : typed_well (unit_typed (codes "main.c" ∷ codes "f" ∷ codes "a" ∷ codes "p" ∷ codes "main" ∷ []) (at 0) ((declaration (declared
+measured_parameter_is_typed : typed_well (unit_typed 1048576 (codes "main.c" ∷ codes "f" ∷ codes "a" ∷ codes "p" ∷ codes "main" ∷ []) (at 0) ((declaration (declared
     (at 1) ((plain_specifier (specifier.Word word.Int)) ∷ []) ((function (at 1) 1 (record {
       at = (at 1);
       start = (at 1);
@@ -651,7 +651,7 @@ measured_parameter_is_typed : typed_well (unit_typed (codes "main.c" ∷ codes "
 measured_parameter_is_typed = refl
 
 -- int x; int main(void) { { char x; } return sizeof x; }
-name_back_again_is_typed : typed_well (unit_typed (codes "main.c" ∷ codes "x" ∷ codes "main" ∷ []) (at 0) ((declaration (declared (at 1) ((plain_specifier
+name_back_again_is_typed : typed_well (unit_typed 1048576 (codes "main.c" ∷ codes "x" ∷ codes "main" ∷ []) (at 0) ((declaration (declared (at 1) ((plain_specifier
     (specifier.Word word.Int)) ∷ []) ((object (at 1) 1 [] None) ∷ []))) ∷ (definition (record {
       start = (at 1);
       specifiers = ((plain_specifier
@@ -668,7 +668,7 @@ name_back_again_is_typed = refl
 
 -- char a[1048576];
 -- int main(void) { return 0; }
-largest_object_is_typed : typed_well (unit_typed (codes "main.c" ∷ codes "a" ∷ codes "main" ∷ []) (at 0) ((declaration (declared (at 1) ((plain_specifier
+largest_object_is_typed : typed_well (unit_typed 1048576 (codes "main.c" ∷ codes "a" ∷ codes "main" ∷ []) (at 0) ((declaration (declared (at 1) ((plain_specifier
     (specifier.Word word.Char)) ∷ []) ((object (at 1) 1 ((Some (constant (at 1) ty.Int 1048576)) ∷ []) None) ∷ []))) ∷ (definition (record {
       start = (at 2);
       specifiers = ((plain_specifier (specifier.Word word.Int)) ∷ []);
@@ -683,7 +683,7 @@ largest_object_is_typed = refl
 
 -- int f(char p[2000000]);
 -- int main(void) { return 0; }
-large_parameter_is_typed : typed_well (unit_typed (codes "main.c" ∷ codes "f" ∷ codes "p" ∷ codes "main" ∷ []) (at 0) ((declaration (declared (at 1)
+large_parameter_is_typed : typed_well (unit_typed 1048576 (codes "main.c" ∷ codes "f" ∷ codes "p" ∷ codes "main" ∷ []) (at 0) ((declaration (declared (at 1)
     ((plain_specifier (specifier.Word word.Int)) ∷ []) ((function (at 1) 1 (record {
       at = (at 1);
       start = (at 1);
@@ -706,7 +706,7 @@ large_parameter_is_typed = refl
 
 -- int f(const int p[]) { return p[0]; }
 -- int main(void) { int a[3] = {0}; return f(a); }
-plain_for_const_is_typed : typed_well (unit_typed (codes "main.c" ∷ codes "f" ∷ codes "p" ∷ codes "main" ∷ codes "a" ∷ []) (at 0) ((definition (record {
+plain_for_const_is_typed : typed_well (unit_typed 1048576 (codes "main.c" ∷ codes "f" ∷ codes "p" ∷ codes "main" ∷ codes "a" ∷ []) (at 0) ((definition (record {
   start = (at 1);
   specifiers = ((plain_specifier (specifier.Word word.Int)) ∷ []);
   at = (at 1);
@@ -737,7 +737,7 @@ plain_for_const_is_typed : typed_well (unit_typed (codes "main.c" ∷ codes "f" 
 plain_for_const_is_typed = refl
 
 -- int f(int p[]) { return p[0]; } int main(void) { static int m[5][3]; return f(m[1]) + f(m[2]); }
-row_for_array_is_typed : typed_well (unit_typed (codes "main.c" ∷ codes "f" ∷ codes "p" ∷ codes "main" ∷ codes "m" ∷ []) (at 0) ((definition (record {
+row_for_array_is_typed : typed_well (unit_typed 1048576 (codes "main.c" ∷ codes "f" ∷ codes "p" ∷ codes "main" ∷ codes "m" ∷ []) (at 0) ((definition (record {
   start
       = (at 1);
   specifiers = ((plain_specifier (specifier.Word word.Int)) ∷ []);
@@ -769,7 +769,7 @@ row_for_array_is_typed : typed_well (unit_typed (codes "main.c" ∷ codes "f" �
 row_for_array_is_typed = refl
 
 -- int f(char p[]) { return p[0]; } int main(void) { return f("abc"); }
-text_for_array_is_typed : typed_well (unit_typed (codes "main.c" ∷ codes "f" ∷ codes "p" ∷ codes "main" ∷ (codes "abc" ++ 0 ∷ []) ∷ []) (at 0) ((definition (record {
+text_for_array_is_typed : typed_well (unit_typed 1048576 (codes "main.c" ∷ codes "f" ∷ codes "p" ∷ codes "main" ∷ (codes "abc" ++ 0 ∷ []) ∷ []) (at 0) ((definition (record {
   start = (at 1);
   specifiers = ((plain_specifier (specifier.Word word.Int)) ∷ []);
   at = (at 1);
@@ -798,7 +798,7 @@ text_for_array_is_typed : typed_well (unit_typed (codes "main.c" ∷ codes "f" �
 text_for_array_is_typed = refl
 
 -- int main(void) { int x = 1; (void)x; return 0; }
-cast_to_void_is_typed : typed_well (unit_typed (codes "main.c" ∷ codes "main" ∷ codes "x" ∷ []) (at 0) ((definition (record {
+cast_to_void_is_typed : typed_well (unit_typed 1048576 (codes "main.c" ∷ codes "main" ∷ codes "x" ∷ []) (at 0) ((definition (record {
   start = (at 1);
   specifiers =
       ((plain_specifier (specifier.Word word.Int)) ∷ []);
@@ -815,7 +815,7 @@ cast_to_void_is_typed = refl
 
 -- int rv_getbyte(void); void rv_putbyte(int c); void rv_exit(int status);
 -- int main(void) { 1 ? rv_putbyte(65) : rv_putbyte(66); return 0; }
-void_arms_is_typed : typed_well (unit_typed (codes "main.c" ∷ codes "rv_getbyte" ∷ codes "rv_putbyte" ∷ codes "c" ∷ codes "rv_exit" ∷ codes "status" ∷ codes
+void_arms_is_typed : typed_well (unit_typed 1048576 (codes "main.c" ∷ codes "rv_getbyte" ∷ codes "rv_putbyte" ∷ codes "c" ∷ codes "rv_exit" ∷ codes "status" ∷ codes
     "main" ∷ []) (at 0) ((declaration (declared (at 1) ((plain_specifier (specifier.Word word.Int)) ∷ []) ((function (at 1) 1 []) ∷ []))) ∷ (declaration
     (declared (at 1) ((plain_specifier (specifier.Word word.Void)) ∷ []) ((function (at 1) 2 (record {
       at = (at 1);
@@ -845,7 +845,7 @@ void_arms_is_typed : typed_well (unit_typed (codes "main.c" ∷ codes "rv_getbyt
 void_arms_is_typed = refl
 
 -- int main(void) { return "abc"[1]; }
-text_subscripted_is_typed : typed_well (unit_typed (codes "main.c" ∷ codes "main" ∷ (codes "abc" ++ 0 ∷ []) ∷ []) (at 0) ((definition (record {
+text_subscripted_is_typed : typed_well (unit_typed 1048576 (codes "main.c" ∷ codes "main" ∷ (codes "abc" ++ 0 ∷ []) ∷ []) (at 0) ((definition (record {
   start = (at 1);
   specifiers = ((plain_specifier (specifier.Word word.Int)) ∷ []);
   at = (at 1);
@@ -858,7 +858,7 @@ text_subscripted_is_typed : typed_well (unit_typed (codes "main.c" ∷ codes "ma
 text_subscripted_is_typed = refl
 
 -- int main(void) { int a[2]; return sizeof a + sizeof a[0] + sizeof "abc"; }
-array_and_number_as_size_is_typed : typed_well (unit_typed (codes "main.c" ∷ codes "main" ∷ codes "a" ∷ (codes "abc" ++ 0 ∷ []) ∷ []) (at 0) ((definition (record {
+array_and_number_as_size_is_typed : typed_well (unit_typed 1048576 (codes "main.c" ∷ codes "main" ∷ codes "a" ∷ (codes "abc" ++ 0 ∷ []) ∷ []) (at 0) ((definition (record {
   start = (at 1);
   specifiers = ((plain_specifier (specifier.Word word.Int)) ∷ []);
   at = (at 1);
@@ -874,7 +874,7 @@ array_and_number_as_size_is_typed : typed_well (unit_typed (codes "main.c" ∷ c
 array_and_number_as_size_is_typed = refl
 
 -- int main(void) { switch (1) { case 1: ; case 2: ; default: ; } return 1; }
-cases_by_type_is_typed : typed_well (unit_typed (codes "main.c" ∷ codes "main" ∷ []) (at 0) ((definition (record {
+cases_by_type_is_typed : typed_well (unit_typed 1048576 (codes "main.c" ∷ codes "main" ∷ []) (at 0) ((definition (record {
   start = (at 1);
   specifiers =
       ((plain_specifier (specifier.Word word.Int)) ∷ []);
@@ -890,7 +890,7 @@ cases_by_type_is_typed : typed_well (unit_typed (codes "main.c" ∷ codes "main"
 cases_by_type_is_typed = refl
 
 -- int main(void) { switch (1) { case 1: case 2: default: return 1; } return 0; }
-labels_one_after_another_is_typed : typed_well (unit_typed (codes "main.c" ∷ codes "main" ∷ []) (at 0) ((definition (record {
+labels_one_after_another_is_typed : typed_well (unit_typed 1048576 (codes "main.c" ∷ codes "main" ∷ []) (at 0) ((definition (record {
   start = (at 1);
   specifiers =
       ((plain_specifier (specifier.Word word.Int)) ∷ []);
@@ -906,7 +906,7 @@ labels_one_after_another_is_typed : typed_well (unit_typed (codes "main.c" ∷ c
 labels_one_after_another_is_typed = refl
 
 -- int main(void) { for (;;) { switch (1) { case 1: continue; default: break; } break; } return 0; }
-continue_in_loop_is_typed : typed_well (unit_typed (codes "main.c" ∷ codes "main" ∷ []) (at 0) ((definition (record {
+continue_in_loop_is_typed : typed_well (unit_typed 1048576 (codes "main.c" ∷ codes "main" ∷ []) (at 0) ((definition (record {
   start = (at 1);
   specifiers =
       ((plain_specifier (specifier.Word word.Int)) ∷ []);
@@ -923,7 +923,7 @@ continue_in_loop_is_typed : typed_well (unit_typed (codes "main.c" ∷ codes "ma
 continue_in_loop_is_typed = refl
 
 -- int f(void) { } int main(void) { return f(); }
-ends_without_value_is_typed : typed_well (unit_typed (codes "main.c" ∷ codes "f" ∷ codes "main" ∷ []) (at 0) ((definition (record {
+ends_without_value_is_typed : typed_well (unit_typed 1048576 (codes "main.c" ∷ codes "f" ∷ codes "main" ∷ []) (at 0) ((definition (record {
   start = (at 1);
   specifiers = ((plain_specifier (specifier.Word word.Int)) ∷ []);
   at = (at 1);
@@ -945,7 +945,7 @@ ends_without_value_is_typed : typed_well (unit_typed (codes "main.c" ∷ codes "
 ends_without_value_is_typed = refl
 
 -- int g(void); int main(void) { return (int)sizeof(g()); }
-undefined_but_measured_is_typed : typed_well (unit_typed (codes "main.c" ∷ codes "g" ∷ codes "main" ∷ []) (at 0) ((declaration (declared (at 1)
+undefined_but_measured_is_typed : typed_well (unit_typed 1048576 (codes "main.c" ∷ codes "g" ∷ codes "main" ∷ []) (at 0) ((declaration (declared (at 1)
     ((plain_specifier (specifier.Word word.Int)) ∷ []) ((function (at 1) 1 []) ∷ []))) ∷ (definition (record {
       start = (at 1);
       specifiers =
@@ -961,7 +961,7 @@ undefined_but_measured_is_typed : typed_well (unit_typed (codes "main.c" ∷ cod
 undefined_but_measured_is_typed = refl
 
 -- extern int x[]; static int f(void); int main(void) { return 0; }
-undefined_unused_is_typed : typed_well (unit_typed (codes "main.c" ∷ codes "x" ∷ codes "f" ∷ codes "main" ∷ []) (at 0) ((declaration (declared (at 1)
+undefined_unused_is_typed : typed_well (unit_typed 1048576 (codes "main.c" ∷ codes "x" ∷ codes "f" ∷ codes "main" ∷ []) (at 0) ((declaration (declared (at 1)
     (extern_specifier ∷ (plain_specifier (specifier.Word word.Int)) ∷ []) ((object (at 1) 1 (None ∷ []) None) ∷ []))) ∷ (declaration (declared (at 1)
     (static_specifier ∷ (plain_specifier (specifier.Word word.Int)) ∷ []) ((function (at 1) 2 []) ∷ []))) ∷ (definition (record {
       start = (at 1);
@@ -977,7 +977,7 @@ undefined_unused_is_typed : typed_well (unit_typed (codes "main.c" ∷ codes "x"
 undefined_unused_is_typed = refl
 
 -- extern int x; int g(void); int main(void) { return g() + x; } int g(void) { return 1; } int x;
-defined_behind_is_typed : typed_well (unit_typed (codes "main.c" ∷ codes "x" ∷ codes "g" ∷ codes "main" ∷ []) (at 0) ((declaration (declared (at 1)
+defined_behind_is_typed : typed_well (unit_typed 1048576 (codes "main.c" ∷ codes "x" ∷ codes "g" ∷ codes "main" ∷ []) (at 0) ((declaration (declared (at 1)
     (extern_specifier ∷ (plain_specifier (specifier.Word word.Int)) ∷ []) ((object (at 1) 1 [] None) ∷ []))) ∷ (declaration (declared (at 1)
     ((plain_specifier (specifier.Word word.Int)) ∷ []) ((function (at 1) 2 []) ∷ []))) ∷ (definition (record {
       start = (at 1);
@@ -1005,7 +1005,7 @@ defined_behind_is_typed = refl
 
 -- int rv_getbyte(void); void rv_putbyte(int c); void rv_exit(int status);
 -- int main(void) { int c; while ((c = rv_getbyte()) != -1) rv_putbyte(c); rv_exit(3); return 0; }
-built_ins_is_typed : typed_well (unit_typed (codes "main.c" ∷ codes "rv_getbyte" ∷ codes "rv_putbyte" ∷ codes "c" ∷ codes "rv_exit" ∷ codes "status" ∷ codes
+built_ins_is_typed : typed_well (unit_typed 1048576 (codes "main.c" ∷ codes "rv_getbyte" ∷ codes "rv_putbyte" ∷ codes "c" ∷ codes "rv_exit" ∷ codes "status" ∷ codes
     "main" ∷ []) (at 0) ((declaration (declared (at 1) ((plain_specifier (specifier.Word word.Int)) ∷ []) ((function (at 1) 1 []) ∷ []))) ∷ (declaration
     (declared (at 1) ((plain_specifier (specifier.Word word.Void)) ∷ []) ((function (at 1) 2 (record {
       at = (at 1);
@@ -1037,7 +1037,7 @@ built_ins_is_typed : typed_well (unit_typed (codes "main.c" ∷ codes "rv_getbyt
 built_ins_is_typed = refl
 
 -- int main(void) { char a[1048416]; return 0; }
-greatest_weight_is_typed : typed_well (unit_typed (codes "main.c" ∷ codes "main" ∷ codes "a" ∷ []) (at 0) ((definition (record {
+greatest_weight_is_typed : typed_well (unit_typed 1048576 (codes "main.c" ∷ codes "main" ∷ codes "a" ∷ []) (at 0) ((definition (record {
   start = (at 1);
   specifiers
       = ((plain_specifier (specifier.Word word.Int)) ∷ []);
@@ -1054,7 +1054,7 @@ greatest_weight_is_typed = refl
 -- int rv_getbyte(void); void rv_putbyte(int c); void rv_exit(int status);
 -- int p(int c) { rv_putbyte(c); return c; }
 -- int main(void) { return p(65) - p(66) + 2; }
-printer_is_typed : typed_well (unit_typed (codes "main.c" ∷ codes "rv_getbyte" ∷ codes "rv_putbyte" ∷ codes "c" ∷ codes "rv_exit" ∷ codes "status" ∷ codes
+printer_is_typed : typed_well (unit_typed 1048576 (codes "main.c" ∷ codes "rv_getbyte" ∷ codes "rv_putbyte" ∷ codes "c" ∷ codes "rv_exit" ∷ codes "status" ∷ codes
     "p" ∷ codes "main" ∷ []) (at 0) ((declaration (declared (at 1) ((plain_specifier (specifier.Word word.Int)) ∷ []) ((function (at 1) 1 []) ∷ []))) ∷
     (declaration (declared (at 1) ((plain_specifier (specifier.Word word.Void)) ∷ []) ((function (at 1) 2 (record {
       at = (at 1);
@@ -1096,7 +1096,7 @@ printer_is_typed = refl
 -- int rv_getbyte(void); void rv_putbyte(int c); void rv_exit(int status);
 -- void f(int a, int b, int c, int d, int e, int g, int h, int i, int j, int k) { rv_putbyte(j); rv_putbyte(k); }
 -- int main(void) { f(65, 66, 67, 68, 69, 70, 71, 72, 73, 74); return 0; }
-ten_parameters_is_typed : typed_well (unit_typed (codes "main.c" ∷ codes "rv_getbyte" ∷ codes "rv_putbyte" ∷ codes "c" ∷ codes "rv_exit" ∷ codes "status" ∷
+ten_parameters_is_typed : typed_well (unit_typed 1048576 (codes "main.c" ∷ codes "rv_getbyte" ∷ codes "rv_putbyte" ∷ codes "c" ∷ codes "rv_exit" ∷ codes "status" ∷
     codes "f" ∷ codes "a" ∷ codes "b" ∷ codes "d" ∷ codes "e" ∷ codes "g" ∷ codes "h" ∷ codes "i" ∷ codes "j" ∷ codes "k" ∷ codes "main" ∷ []) (at 0)
     ((declaration (declared (at 1) ((plain_specifier (specifier.Word word.Int)) ∷ []) ((function (at 1) 1 []) ∷ []))) ∷ (declaration (declared (at 1)
     ((plain_specifier (specifier.Word word.Void)) ∷ []) ((function (at 1) 2 (record {
@@ -1182,7 +1182,7 @@ ten_parameters_is_typed : typed_well (unit_typed (codes "main.c" ∷ codes "rv_g
 ten_parameters_is_typed = refl
 
 -- int main(void) { char c; signed char d = 200; _Bool b = 256; return (int)sizeof(c + c) + (-1 < 1u) + b + (d < 0) + -7 / 2 + (-8 >> 1); }
-mixed_rows_is_typed : typed_well (unit_typed (codes "main.c" ∷ codes "main" ∷ codes "c" ∷ codes "d" ∷ codes "b" ∷ []) (at 0) ((definition (record {
+mixed_rows_is_typed : typed_well (unit_typed 1048576 (codes "main.c" ∷ codes "main" ∷ codes "c" ∷ codes "d" ∷ codes "b" ∷ []) (at 0) ((definition (record {
   start =
       (at 1);
   specifiers = ((plain_specifier (specifier.Word word.Int)) ∷ []);
@@ -1205,7 +1205,7 @@ mixed_rows_is_typed : typed_well (unit_typed (codes "main.c" ∷ codes "main" �
 mixed_rows_is_typed = refl
 
 -- int main(void) { switch (1) { int x = 1; case 1: return x; } }
-switch_jumps_past_is_typed : typed_well (unit_typed (codes "main.c" ∷ codes "main" ∷ codes "x" ∷ []) (at 0) ((definition (record {
+switch_jumps_past_is_typed : typed_well (unit_typed 1048576 (codes "main.c" ∷ codes "main" ∷ codes "x" ∷ []) (at 0) ((definition (record {
   start = (at 1);
   specifiers = ((plain_specifier (specifier.Word word.Int)) ∷ []);
   at = (at 1);
@@ -1221,7 +1221,7 @@ switch_jumps_past_is_typed = refl
 
 -- int m[2][2] = {{1, 2}, {3, 4}};
 -- int main(void) { return m[1][0] * 10 + (int)(sizeof(m) / sizeof(m[0])); }
-matrix_is_typed : typed_well (unit_typed (codes "main.c" ∷ codes "m" ∷ codes "main" ∷ []) (at 0) ((declaration (declared (at 1) ((plain_specifier
+matrix_is_typed : typed_well (unit_typed 1048576 (codes "main.c" ∷ codes "m" ∷ codes "main" ∷ []) (at 0) ((declaration (declared (at 1) ((plain_specifier
     (specifier.Word word.Int)) ∷ []) ((object (at 1) 1 ((Some (constant (at 1) ty.Int 2)) ∷ (Some (constant (at 1) ty.Int 2)) ∷ []) (Some (braced_init (at
     1) (and_init (braced_init (at 1) (and_init (one_init (constant (at 1) ty.Int 1)) (and_init (one_init (constant (at 1) ty.Int 2)) no_inits))) (and_init
     (braced_init (at 1) (and_init (one_init (constant (at 1) ty.Int 3)) (and_init (one_init (constant (at 1) ty.Int 4)) no_inits))) no_inits))))) ∷ []))) ∷
@@ -1241,7 +1241,7 @@ matrix_is_typed : typed_well (unit_typed (codes "main.c" ∷ codes "m" ∷ codes
 matrix_is_typed = refl
 
 -- int main(void) { int a = 1, b = 2; a += b -= 3; a <<= 1; a = a ? b & 7 | a ^ 3 : ~b; a--; ++b; return !a && b || (a, b) >= 3 != a % 5; }
-all_operators_is_typed : typed_well (unit_typed (codes "main.c" ∷ codes "main" ∷ codes "a" ∷ codes "b" ∷ []) (at 0) ((definition (record {
+all_operators_is_typed : typed_well (unit_typed 1048576 (codes "main.c" ∷ codes "main" ∷ codes "a" ∷ codes "b" ∷ []) (at 0) ((definition (record {
   start = (at 1);
   specifiers = ((plain_specifier (specifier.Word word.Int)) ∷ []);
   at = (at 1);
@@ -1264,7 +1264,7 @@ all_operators_is_typed : typed_well (unit_typed (codes "main.c" ∷ codes "main"
 all_operators_is_typed = refl
 
 -- int main(void) { int i; for (i = 0; i < 3; i++) if (i) continue; else ; while (i--) { if (i == 1) break; } do i++; while (i < 4); for (;;) break; return i; }
-all_loops_is_typed : typed_well (unit_typed (codes "main.c" ∷ codes "main" ∷ codes "i" ∷ []) (at 0) ((definition (record {
+all_loops_is_typed : typed_well (unit_typed 1048576 (codes "main.c" ∷ codes "main" ∷ codes "i" ∷ []) (at 0) ((definition (record {
   start = (at 1);
   specifiers =
       ((plain_specifier (specifier.Word word.Int)) ∷ []);
@@ -1285,7 +1285,7 @@ all_loops_is_typed : typed_well (unit_typed (codes "main.c" ∷ codes "main" ∷
 all_loops_is_typed = refl
 
 -- int main(void) { "abc"[0] = 1; return 0; }
-literal_written_is_typed : typed_well (unit_typed (codes "main.c" ∷ codes "main" ∷ (codes "abc" ++ 0 ∷ []) ∷ []) (at 0) ((definition (record {
+literal_written_is_typed : typed_well (unit_typed 1048576 (codes "main.c" ∷ codes "main" ∷ (codes "abc" ++ 0 ∷ []) ∷ []) (at 0) ((definition (record {
   start = (at 1);
   specifiers = ((plain_specifier (specifier.Word word.Int)) ∷ []);
   at = (at 1);
@@ -1299,7 +1299,7 @@ literal_written_is_typed : typed_well (unit_typed (codes "main.c" ∷ codes "mai
 literal_written_is_typed = refl
 
 -- int main(void) { static int n = 3, a[] = {1, 2}; return n + a[1] + sizeof a; }
-static_in_block_is_typed : typed_well (unit_typed (codes "main.c" ∷ codes "main" ∷ codes "n" ∷ codes "a" ∷ []) (at 0) ((definition (record {
+static_in_block_is_typed : typed_well (unit_typed 1048576 (codes "main.c" ∷ codes "main" ∷ codes "n" ∷ codes "a" ∷ []) (at 0) ((definition (record {
   start = (at 1);
   specifiers = ((plain_specifier (specifier.Word word.Int)) ∷ []);
   at = (at 1);
@@ -1319,7 +1319,7 @@ static_in_block_is_typed = refl
 -- int even(int n) { return n == 0 ? 1 : odd(n - 1); }
 -- int odd(int n) { return n == 0 ? 0 : even(n - 1); }
 -- int main(void) { return even(4); }
-recursion_is_typed : typed_well (unit_typed (codes "main.c" ∷ codes "odd" ∷ codes "n" ∷ codes "even" ∷ codes "main" ∷ []) (at 0) ((declaration (declared (at
+recursion_is_typed : typed_well (unit_typed 1048576 (codes "main.c" ∷ codes "odd" ∷ codes "n" ∷ codes "even" ∷ codes "main" ∷ []) (at 0) ((declaration (declared (at
     1) ((plain_specifier (specifier.Word word.Int)) ∷ []) ((function (at 1) 1 (record {
       at = (at 1);
       start = (at 1);
@@ -1372,7 +1372,7 @@ recursion_is_typed = refl
 -- enum e { A, B = 3, };
 -- enum e f(enum e x) { return x == B ? A : B; }
 -- int main(void) { enum e y = f(A); return y; }
-enumerated_type_is_typed : typed_well (unit_typed (codes "main.c" ∷ codes "e" ∷ codes "A" ∷ codes "B" ∷ codes "f" ∷ codes "x" ∷ codes "main" ∷ codes "y" ∷
+enumerated_type_is_typed : typed_well (unit_typed 1048576 (codes "main.c" ∷ codes "e" ∷ codes "A" ∷ codes "B" ∷ codes "f" ∷ codes "x" ∷ codes "main" ∷ codes "y" ∷
     []) (at 0) ((declaration (declared (at 1) ((enumerators_specifier (Some 1) (record { at = (at 1); name = 2; value = None } ∷ record {
       at = (at 1);
       name
@@ -1410,7 +1410,7 @@ enumerated_type_is_typed : typed_well (unit_typed (codes "main.c" ∷ codes "e" 
 enumerated_type_is_typed = refl
 
 -- int main(void) { switch (1) { case 1: switch (2) { case 1: break; default: ; } break; case 2: ; } return 0; }
-inner_switch_is_typed : typed_well (unit_typed (codes "main.c" ∷ codes "main" ∷ []) (at 0) ((definition (record {
+inner_switch_is_typed : typed_well (unit_typed 1048576 (codes "main.c" ∷ codes "main" ∷ []) (at 0) ((definition (record {
   start = (at 1);
   specifiers =
       ((plain_specifier (specifier.Word word.Int)) ∷ []);
@@ -1428,7 +1428,7 @@ inner_switch_is_typed : typed_well (unit_typed (codes "main.c" ∷ codes "main" 
 inner_switch_is_typed = refl
 
 -- enum x { A }; int x; int main(void) { enum x y = A; return x + y; }
-tag_and_name_apart_is_typed : typed_well (unit_typed (codes "main.c" ∷ codes "x" ∷ codes "A" ∷ codes "main" ∷ codes "y" ∷ []) (at 0) ((declaration (declared
+tag_and_name_apart_is_typed : typed_well (unit_typed 1048576 (codes "main.c" ∷ codes "x" ∷ codes "A" ∷ codes "main" ∷ codes "y" ∷ []) (at 0) ((declaration (declared
     (at 1) ((enumerators_specifier (Some 1) (record { at = (at 1); name = 2; value = None } ∷ [])) ∷ []) [])) ∷ (declaration (declared (at 1)
     ((plain_specifier (specifier.Word word.Int)) ∷ []) ((object (at 1) 1 [] None) ∷ []))) ∷ (definition (record {
       start = (at 1);
@@ -1446,7 +1446,7 @@ tag_and_name_apart_is_typed = refl
 
 -- int f(int a, char s[], int b) { int c; { int d; for (int e = 0; e < a; e++) { int g; } int h; } switch (a) { int i; case 1: { int j; } } int k; return s[b]; }
 -- int main(void) { return f(1, "abc", 2) + sizeof "x" + "yz"[1]; }
-objects_of_blocks_is_typed : typed_well (unit_typed (codes "main.c" ∷ codes "f" ∷ codes "a" ∷ codes "s" ∷ codes "b" ∷ codes "c" ∷ codes "d" ∷ codes "e" ∷
+objects_of_blocks_is_typed : typed_well (unit_typed 1048576 (codes "main.c" ∷ codes "f" ∷ codes "a" ∷ codes "s" ∷ codes "b" ∷ codes "c" ∷ codes "d" ∷ codes "e" ∷
     codes "g" ∷ codes "h" ∷ codes "i" ∷ codes "j" ∷ codes "k" ∷ codes "main" ∷ (codes "abc" ++ 0 ∷ []) ∷ (codes "x" ++ 0 ∷ []) ∷ (codes "yz" ++ 0 ∷ []) ∷ []) (at 0) ((definition (record {
       start = (at 1);
       specifiers = ((plain_specifier (specifier.Word word.Int)) ∷ []);
@@ -1504,7 +1504,7 @@ objects_of_blocks_is_typed = refl
 
 -- int t(char s[2][3], int n, int p[]) { static int q[] = {1, 2}, r = sizeof "abc"; char u[] = "xyz", w[2][2] = {"ab", {'b'}}; while (n--) for (int i = 0; i < 3; i++) if (s[1][i]) p[i] += w[0][1] + u[2]; else do q[1]++; while (0); return q[0] + r; }
 -- int main(void) { char c[2][3] = {"ab", "cd"}; int p[3] = {0}; return t(c, 3, p); }
-rows_and_texts_is_typed : typed_well (unit_typed (codes "main.c" ∷ codes "t" ∷ codes "s" ∷ codes "n" ∷ codes "p" ∷ codes "q" ∷ codes "r" ∷ (codes "abc" ++ 0 ∷ []) ∷
+rows_and_texts_is_typed : typed_well (unit_typed 1048576 (codes "main.c" ∷ codes "t" ∷ codes "s" ∷ codes "n" ∷ codes "p" ∷ codes "q" ∷ codes "r" ∷ (codes "abc" ++ 0 ∷ []) ∷
     codes "u" ∷ (codes "xyz" ++ 0 ∷ []) ∷ codes "w" ∷ (codes "ab" ++ 0 ∷ []) ∷ codes "i" ∷ codes "main" ∷ codes "c" ∷ (codes "cd" ++ 0 ∷ []) ∷ []) (at 0) ((definition (record {
       start = (at 1);
       specifiers = ((plain_specifier (specifier.Word word.Int)) ∷ []);

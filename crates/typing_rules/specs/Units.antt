@@ -16,12 +16,13 @@ use Rattle.typing_rules.specs.Declarations.{Specified, specified, Initial, Decla
 use Rattle.typing_rules.specs.Statements.{Around, AllDone, pieces}
 use Rattle.typing_rules.specs.Uses.{uses_in_functions, all_defined}
 
--- the limits of this profile: bytes of the static objects and string literals, the weight of a function, functions
+-- the limits of this profile: bytes of the static objects and string literals, functions, and the weight of a function by the greatest
+-- stack; by a smaller stack it is the stack's bytes
 abbrev pub static_limit : ℕ
 static_limit = 16777216
 
 abbrev pub weight_limit : ℕ
-weight_limit = 1048576
+weight_limit = 16777216
 
 abbrev pub function_limit : ℕ
 function_limit = 16384
@@ -61,8 +62,10 @@ bytes_of_references (elements t ∷ ps) = in_words (size_of_parameter (elements 
 abbrev pub weight : FunctionTree → List ParameterType → List ObjectType → ℕ
 weight f ps objects = weight_of (function_nodes f) (bytes_of_references ps + bytes_of_objects objects)
 
--- what has been looked at so far: the scope, the functions in order, and the first values of static objects
+-- the bytes of the stack, which no function may weigh more than; and what has been looked at so far: the scope, the functions in order, and the
+-- first values of static objects
 pub record Built : Type 0 where
+  pub stack : ℕ
   pub scope : Scope
   pub functions : List Function
   pub initial : List Initial
@@ -84,8 +87,9 @@ function_of f t all = let numbers : ℕ = numbers_in t.parameters in record {
 }
 
 abbrev pub with_function : Built → Scope → FunctionTree → FunctionType → AllDone → Verdict Built
-with_function b file f t all = provided (refuse_if (nat_lt weight_limit (weight f t.parameters all.scope.objects)) code.WeightLimit f.at)
+with_function b file f t all = provided (refuse_if (nat_lt b.stack (weight f t.parameters all.scope.objects)) code.WeightLimit f.at)
     (fine (record {
+      stack = b.stack;
       scope = record file { literals = all.scope.literals; statics = all.scope.statics; objects = [] };
       functions = b.functions ++ function_of f t all ∷ [];
       initial = b.initial ++ all.initial;
@@ -108,7 +112,7 @@ function_typed b f =
 -- ---- translation units (6.9)
 
 abbrev pub with_declaration : Built → Declared → Verdict Built
-with_declaration b d = fine (record { scope = d.scope; functions = b.functions; initial = b.initial ++ d.effects.initial })
+with_declaration b d = fine (record { stack = b.stack; scope = d.scope; functions = b.functions; initial = b.initial ++ d.effects.initial })
 
 abbrev pub external_typed : Built → ExternalTree → Verdict Built
 external_typed b (definition f) = function_typed b f
@@ -187,7 +191,7 @@ whole_program whole b =
     provided (each (within_limits whole b) (all_defined b.scope [] (uses_in_functions b.functions)))
     (then_check (main_or_fault whole (main_from b.scope 0 b.functions)) (λ main. fine (program_of b main)))
 
--- the typed program of a unit whose names and literals have these texts, or the constraints that are broken
-abbrev pub unit_typed : List (List ℕ) → Pos → List ExternalTree → Verdict Program
-unit_typed texts whole es =
-    then_check (externals_typed (record { scope = file_scope texts (definitions_in es); functions = []; initial = [] }) es) (whole_program whole)
+-- the typed program of a unit whose names and literals have these texts, for a stack of so many bytes, or the constraints that are broken
+abbrev pub unit_typed : (stack : ℕ) → List (List ℕ) → Pos → List ExternalTree → Verdict Program
+unit_typed stack texts whole es =
+    then_check (externals_typed (record { stack = stack; scope = file_scope texts (definitions_in es); functions = []; initial = [] }) es) (whole_program whole)

@@ -152,7 +152,7 @@ parameters_are_first (elements t ∷ ps) objects = parameters_are_first ps objec
 parameters_are_first (number t ∷ ps) [] = false
 parameters_are_first (number t ∷ ps) (o ∷ objects) = same_type t o.element && (nat_eq (length o.lengths) 0 && parameters_are_first ps objects)
 
--- a body's objects are those behind its parameters; its nodes are no more than its tree's
+-- a body's objects are those behind its parameters; its nodes are no more than its tree's, and it weighs no more than the greatest stack
 abbrev pub function_is_typed : Program → Function → Bool
 function_is_typed p f = nat_le (typed_nodes f) f.nodes && (nat_le f.weight weight_limit && (parameters_are_first f.type.parameters f.objects
     && statement_is_typed p f (numbers_in f.type.parameters) (length f.objects) f.body))

@@ -29,6 +29,7 @@ pub(crate) fn objects_since(scope: &Scope, first: usize) -> usize
     scope.object_count().saturating_sub(first)
 }
 
+#[inline(never)]
 pub(crate) fn boxed(alloc: Global, statement: Statement) -> Result<Box<Statement>, Refusal>
     ensures ok { IfOk result (λ b. b.value ≡ statement) }
     ensures err { IfErr result (λ r. r ≡ Memory) }

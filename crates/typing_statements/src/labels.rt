@@ -68,6 +68,7 @@ pub(crate) fn case_value(
 }
 
 /// A label that stands not directly in the block of a switch: 623 in a switch, 541 elsewhere (6.8.1p2).
+#[inline(never)]
 pub(crate) fn misplaced(around: Around, pos: Pos) -> Refusal
     ensures { IsOf result (typed.misplaced (around_of around) pos) }
 {

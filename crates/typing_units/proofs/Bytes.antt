@@ -75,7 +75,7 @@ references_step (elements t) ps = refl
 
 -- ---- weights
 
-pub weight_within : (n m b c w : ℕ) → m ≡ capped32 n → c ≡ capped32 b → w ≡ weight_of m c → min w 1048577 ≡ min (weight_of n b) 1048577
+pub weight_within : (n m b c w : ℕ) → m ≡ capped32 n → c ≡ capped32 b → w ≡ weight_of m c → min w (2 ^ 32) ≡ min (weight_of n b) (2 ^ 32)
 unfolding capped32
 weight_within n m b c w e f g = omega (arith, e, f, g)
 
@@ -135,18 +135,18 @@ all_within whole b c n e h f g =
     each_fine (refuse_if (nat_lt 16777216 (static_bytes b.scope)) code.StaticSizeLimit whole) (refuse_if (nat_lt 16384 (length b.functions)) code.FunctionLimit whole)
     (ap (λ k. refuse_if k code.StaticSizeLimit whole) t) (ap (λ k. refuse_if k code.FunctionLimit whole) u)
 
--- ---- weights within the limit
+-- ---- weights within the stack
 
-not_greater : (x : ℕ) (v : Bool) (at : Pos) → v ≡ nat_lt 1048576 x → refuse_if v code.WeightLimit at ≡ fine tt → x ≤ 1048576
-not_greater x true at e h = absurd (cc)
-not_greater x false at e h = grind (arith, e)
+not_greater : (stack x : ℕ) (v : Bool) (at : Pos) → v ≡ nat_lt stack x → refuse_if v code.WeightLimit at ≡ fine tt → x ≤ stack
+not_greater stack x true at e h = absurd (cc)
+not_greater stack x false at e h = grind (arith, e)
 
-pub light : (x : ℕ) (at : Pos) → refuse_if (nat_lt 1048576 x) code.WeightLimit at ≡ fine tt → x ≤ 1048576
-light x at h = not_greater x (nat_lt 1048576 x) at refl h
+pub light : (stack x : ℕ) (at : Pos) → refuse_if (nat_lt stack x) code.WeightLimit at ≡ fine tt → x ≤ stack
+light stack x at h = not_greater stack x (nat_lt stack x) at refl h
 
-pub weight_exact : (w x : ℕ) → w ≡ min x 1048577 → x ≤ 1048576 → w ≡ x
-weight_exact w x e h = omega (arith, e, h)
+pub weight_exact : (stack w x : ℕ) → stack < 2 ^ 32 → w ≡ min x (2 ^ 32) → x ≤ stack → w ≡ x
+weight_exact stack w x lt e h = omega (arith, lt, e, h)
 
-pub nodes_exact : (m n b : ℕ) → m ≡ capped n → weight_of n b ≤ 1048576 → m ≡ n
+pub nodes_exact : (stack m n b : ℕ) → stack < 2 ^ 32 → m ≡ capped n → weight_of n b ≤ stack → m ≡ n
 unfolding capped
-nodes_exact m n b e h = omega (arith, e, h)
+nodes_exact stack m n b lt e h = omega (arith, lt, e, h)

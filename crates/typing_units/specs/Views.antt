@@ -16,6 +16,6 @@ initial_of i = record { static = i.static_number; values = i.values.items }
 abbrev pub unit_scope : List (List ℕ) → List ℕ → List StaticObject → Scope → Scope
 unit_scope texts literals statics s = record s { texts = texts; literals = literals; statics = map static_of statics }
 
--- what has been looked at
-abbrev pub built_of : Scope → List Function → List Initial → typed.Built
-built_of s functions initial = record { scope = s; functions = map function_of functions; initial = map initial_of initial }
+-- what has been looked at, where the stack has so many bytes
+abbrev pub built_of : (stack : ℕ) → Scope → List Function → List Initial → typed.Built
+built_of stack s functions initial = record { stack = stack; scope = s; functions = map function_of functions; initial = map initial_of initial }

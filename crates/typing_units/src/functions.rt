@@ -71,19 +71,21 @@ fn block(first: usize, count: usize, statements: Vec<Statement>) -> Statement
     Statement::Block(first, count, statements)
 }
 
-/// A function of this type, whose definition has these objects and whose body these statements. Else 714 stands at its name.
+/// A function of this type, whose definition has these objects and whose body these statements. Where it weighs more than the bytes of the
+/// stack, 714 stands at its name.
 pub fn function_of(
     function: &tree::Function,
     function_type: FunctionType,
     objects: Vec<ObjectType>,
     statements: Vec<Statement>,
+    stack: u32,
 ) -> Result<Function, Refusal>
     ensures ok { (all : AllDone) → all.scope.objects ≡ map view.object_type_of objects.items → all.statements ≡ view.statements_of (map view.statement_of statements.items) → IfOk result (λ f. view.function_of f ≡ typed.function_of (function_of function.now) (view.function_type_of function_type) all) }
-    ensures within { OnOk result (refuse_if (nat_lt typed.weight_limit (typed.weight (function_of function.now) (view.function_type_of function_type).parameters (map view.object_type_of objects.items))) code.WeightLimit (function_of function.now).at ≡ fine tt) }
-    ensures err { IfErr result (λ r. IsOf r (refuse_if (nat_lt typed.weight_limit (typed.weight (function_of function.now) (view.function_type_of function_type).parameters (map view.object_type_of objects.items))) code.WeightLimit (function_of function.now).at)) }
+    ensures within { OnOk result (refuse_if (nat_lt stack (typed.weight (function_of function.now) (view.function_type_of function_type).parameters (map view.object_type_of objects.items))) code.WeightLimit (function_of function.now).at ≡ fine tt) }
+    ensures err { IfErr result (λ r. IsOf r (refuse_if (nat_lt stack (typed.weight (function_of function.now) (view.function_type_of function_type).parameters (map view.object_type_of objects.items))) code.WeightLimit (function_of function.now).at)) }
 {
     let weight = weight(function, &function_type.parameters, &objects);
-    match within_weight(function.declarator.pos, weight) {
+    match within_weight(function.declarator.pos, weight, stack) {
         Ok(()) => {}
         Err(refusal) => return Err(refusal),
     }

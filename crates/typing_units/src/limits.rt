@@ -1,7 +1,7 @@
 //! The limits of a program: the bytes of its objects with static storage and of its string literals, and its functions.
 #![tactic(auto, using(tree::proofs::Sums::capped32_none))]
 
-ghost use Rattle.std.specs.Prelude.{◌≡◌, List, map, OnOk, IfErr};
+ghost use Rattle.std.specs.Prelude.{◌≡◌, ℕ, List, map, OnOk, IfErr};
 ghost use Rattle.tree.specs.Capped.{capped32};
 ghost use Rattle.typing_scopes.specs.Scopes.{static_of};
 ghost use Rattle.typing_rules.specs.Verdict.{fine};
@@ -65,8 +65,8 @@ pub fn within_limits(
     statics: &[StaticObject],
     functions: &[Function],
 ) -> Result<(), Refusal>
-    ensures ok { (s : Scope) (initial : List Initial) → OnOk result (typed.within_limits whole (built_of (unit_scope names.now literals.now statics.now s) functions.now initial) ≡ fine tt) }
-    ensures err { (s : Scope) (initial : List Initial) → IfErr result (λ r. IsOf r (typed.within_limits whole (built_of (unit_scope names.now literals.now statics.now s) functions.now initial))) }
+    ensures ok { (stack : ℕ) (s : Scope) (initial : List Initial) → OnOk result (typed.within_limits whole (built_of stack (unit_scope names.now literals.now statics.now s) functions.now initial) ≡ fine tt) }
+    ensures err { (stack : ℕ) (s : Scope) (initial : List Initial) → IfErr result (λ r. IsOf r (typed.within_limits whole (built_of stack (unit_scope names.now literals.now statics.now s) functions.now initial))) }
 {
     if static_bytes(names, literals, statics) > STATIC_LIMIT {
         return Err(broken(Code::StaticSizeLimit, whole));

@@ -1,7 +1,7 @@
 //! The typed program of a unit (6.9), once each external declaration has been looked at.
 #![tactic(auto)]
 
-ghost use Rattle.std.specs.Prelude.{◌≡◌, IfOk, IfErr};
+ghost use Rattle.std.specs.Prelude.{◌≡◌, ℕ, IfOk, IfErr};
 ghost use Rattle.srcset.specs.declared.refusal.Refusal.TheVariants.{Memory};
 ghost use Rattle.typing_program.specs.View as view;
 ghost use Rattle.typing_scopes.specs.Scopes.{with_texts};
@@ -32,7 +32,7 @@ pub fn program_of(
     initial: Vec<Initial>,
     main: usize,
 ) -> Result<Program, Refusal>
-    ensures ok { (s : scope_typed.Scope) → IfOk result (λ p. view.program_of p ≡ typed.program_of (built_of (unit_scope names.now literals.now statics.items s) functions.items initial.items) main) }
+    ensures ok { (stack : ℕ) (s : scope_typed.Scope) → IfOk result (λ p. view.program_of p ≡ typed.program_of (built_of stack (unit_scope names.now literals.now statics.items s) functions.items initial.items) main) }
     ensures err { IfErr result (λ r. r ≡ Memory) }
 {
     let literals = match literals_of(alloc, names, literals) {
@@ -69,8 +69,8 @@ pub fn whole_program(
     functions: Vec<Function>,
     initial: Vec<Initial>,
 ) -> Result<Program, Refusal>
-    ensures ok { IfOk result (λ p. typed.whole_program whole (built_of (unit_scope names.now literals.now statics.items scope.now) functions.items initial.items) ≡ fine (view.program_of p)) }
-    ensures err { IfErr result (λ r. Tells r (typed.whole_program whole (built_of (unit_scope names.now literals.now statics.items scope.now) functions.items initial.items))) }
+    ensures ok { (stack : ℕ) → IfOk result (λ p. typed.whole_program whole (built_of stack (unit_scope names.now literals.now statics.items scope.now) functions.items initial.items) ≡ fine (view.program_of p)) }
+    ensures err { (stack : ℕ) → IfErr result (λ r. Tells r (typed.whole_program whole (built_of stack (unit_scope names.now literals.now statics.items scope.now) functions.items initial.items))) }
 {
     match within_limits(names, whole, literals, &statics, &functions) {
         Ok(()) => {}
@@ -95,8 +95,8 @@ pub fn unit_program(
     functions: Vec<Function>,
     initial: Vec<Initial>,
 ) -> Result<Program, Refusal>
-    ensures ok { IfOk result (λ p. typed.whole_program whole (built_of (with_texts names.now scope) functions.items initial.items) ≡ fine (view.program_of p)) }
-    ensures err { IfErr result (λ r. Tells r (typed.whole_program whole (built_of (with_texts names.now scope) functions.items initial.items))) }
+    ensures ok { (stack : ℕ) → IfOk result (λ p. typed.whole_program whole (built_of stack (with_texts names.now scope) functions.items initial.items) ≡ fine (view.program_of p)) }
+    ensures err { (stack : ℕ) → IfErr result (λ r. Tells r (typed.whole_program whole (built_of stack (with_texts names.now scope) functions.items initial.items))) }
 {
     let statics = scope.change_statics(Vec::new(alloc));
     let literals = scope.literals();

@@ -1,7 +1,7 @@
 //! The weight of a function: what a call of it may take of the stack, by its source alone.
 #![tactic(auto)]
 
-ghost use Rattle.std.specs.Prelude.{◌≡◌, ◌+◌, ℕ, min, map, nat_lt, OnOk, IfErr};
+ghost use Rattle.std.specs.Prelude.{◌≡◌, ◌^◌, ℕ, min, map, nat_lt, OnOk, IfErr};
 ghost use Rattle.srcset.specs.declared.code.Code.TheVariants as code;
 ghost use Rattle.tree.specs.View.{function_of};
 ghost use Rattle.typing_program.specs.View.{object_type_of, parameter_type_of};
@@ -15,24 +15,24 @@ use tree::Function;
 use typing_expressions::broken;
 use typing_program::{ObjectType, ParameterType};
 
-/// The weight that a function may have.
-const WEIGHT_LIMIT: u64 = 1_048_576;
+/// More bytes than any stack has.
+const PAST_ALL: u64 = 4_294_967_296;
 
-/// The weight of a function with these parameters and objects, or one more than the limit where it is greater.
+/// The weight of a function with these parameters and objects, or 2^32 where it is greater.
 pub fn weight(function: &Function, parameters: &[ParameterType], objects: &[ObjectType]) -> u64
-    ensures { result ≡ min (typed.weight (function_of function.now) (map parameter_type_of parameters.now) (map object_type_of objects.now)) (typed.weight_limit + 1) }
+    ensures { result ≡ min (typed.weight (function_of function.now) (map parameter_type_of parameters.now) (map object_type_of objects.now)) (2 ^ 32) }
 {
     let bytes = sum(bytes_of_references(parameters), bytes_of_objects(objects));
     let weight = tree::weight(narrowed(function.nodes()), bytes);
-    weight.min(WEIGHT_LIMIT + 1)
+    weight.min(PAST_ALL)
 }
 
-/// A weight is within the limit, else 714 stands there.
-pub fn within_weight(pos: Pos, weight: u64) -> Result<(), Refusal>
-    ensures ok { (x : ℕ) → weight ≡ min x (typed.weight_limit + 1) → OnOk result (refuse_if (nat_lt typed.weight_limit x) code.WeightLimit pos ≡ fine tt) }
-    ensures err { (x : ℕ) → weight ≡ min x (typed.weight_limit + 1) → IfErr result (λ r. IsOf r (refuse_if (nat_lt typed.weight_limit x) code.WeightLimit pos)) }
+/// A weight is no more than the bytes of the stack, else 714 stands there.
+pub fn within_weight(pos: Pos, weight: u64, stack: u32) -> Result<(), Refusal>
+    ensures ok { (x : ℕ) → weight ≡ min x (2 ^ 32) → OnOk result (refuse_if (nat_lt stack x) code.WeightLimit pos ≡ fine tt) }
+    ensures err { (x : ℕ) → weight ≡ min x (2 ^ 32) → IfErr result (λ r. IsOf r (refuse_if (nat_lt stack x) code.WeightLimit pos)) }
 {
-    if weight > WEIGHT_LIMIT {
+    if weight > u64::from(stack) {
         return Err(broken(Code::WeightLimit, pos));
     }
     Ok(())

@@ -7,6 +7,7 @@ use Rattle.meaning_ports.specs.declared.port.PortFault.TheVariants as port_fault
 use Rattle.meaning_ports.specs.Port.{PortView}
 use Rattle.meaning_ports.specs.Memory.{MemoryView, port_of}
 use Rattle.cc.specs.declared.compiling.Built.{Built}
+use Rattle.cc.specs.MemoryMap.{usual_stack}
 use Rattle.cc.specs.Compiled.{Compiles, frames_of}
 use Rattle.cc.specs.Refused.{IsRefused}
 use Rattle.cc.specs.declared.performing.Cmd.{Cmd}
@@ -52,8 +53,8 @@ OverFiles given status Does output line =
 -- 0, and `text` says of the compiled program what the output is; or 1, and the line of a fault for which `compile` may refuse the set
 abbrev pub Compiled : (Built → List ℕ) → List ℕ → ℕ → Files → List ℕ → List ℕ → Type 0
 Compiled text name status set output line =
-    ((status ≡ 0) × (line ≡ []) × ((built : Built) × Compiles set name built × (output ≡ text built)))
-    ⊎ ((status ≡ 1) × (output ≡ []) × ((fault : Fault) × IsRefused set name fault × IsLineOf fault line))
+    ((status ≡ 0) × (line ≡ []) × ((built : Built) × Compiles usual_stack set name built × (output ≡ text built)))
+    ⊎ ((status ≡ 1) × (output ≡ []) × ((fault : Fault) × IsRefused usual_stack set name fault × IsLineOf fault line))
     ⊎ Wants status output line
 
 -- the executable file
@@ -89,12 +90,12 @@ whole status written = if status == 0 then written else []
 -- the command was carried out, and what it wrote is the output
 abbrev pub Writes : Cmd → List ℕ → ℕ → Files → List ℕ → List ℕ → Type 0
 Writes command name status set output line =
-    (written : List ℕ) × ((after : MemoryView) × Performs command set name [] for_memory (fresh []) (port_of after) (said written) (said line) status × (output ≡ whole status written))
+    (written : List ℕ) × ((after : MemoryView) × Performs usual_stack command set name [] for_memory (fresh []) (port_of after) (said written) (said line) status × (output ≡ whole status written))
 
 -- the command was carried out over this input, and what it put is the output; or there was no memory for the input
 abbrev pub Puts : Cmd → List ℕ → List ℕ → List ℕ → ℕ → Files → List ℕ → List ℕ → Type 0
 Puts command name file input status set output line =
-    ((written : List ℕ) × ((after : MemoryView) × Performs command set name file for_memory (fresh input) (port_of after) (said written) (said line) status × (output ≡ after.output)))
+    ((written : List ℕ) × ((after : MemoryView) × Performs usual_stack command set name file for_memory (fresh input) (port_of after) (said written) (said line) status × (output ≡ after.output)))
     ⊎ Wants status output line
 
 -- ---- the version

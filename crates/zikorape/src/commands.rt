@@ -5,7 +5,7 @@ ghost use Rattle.zikorape.specs.Got.{Buffer, HandsOut};
 ghost use Rattle.zikorape.specs.Answered.{Writes, Puts, whole};
 
 use crate::giving::{OUT_OF_MEMORY, Sizes, hand_out};
-use cc::{Cmd, perform};
+use cc::{Cmd, StackSize, perform};
 use meaning_ports::MemPort;
 use srcset::FileSet;
 use std::alloc::Global;
@@ -27,8 +27,9 @@ pub fn write_text(
     let mut text = Vec::new(alloc);
     let mut line = Vec::new(alloc);
     let mut port = MemPort::new(alloc, Vec::new(alloc));
+    let stack = StackSize::usual();
     let status = perform(
-        alloc, command, set, main, b"", &mut port, &mut text, &mut line,
+        alloc, command, set, main, b"", &mut port, &mut text, &mut line, stack,
     );
     let written = whole(status, text.as_slice());
     hand_out(written, line.as_slice(), out, message, sizes);
@@ -65,8 +66,9 @@ pub fn put_through(
     let mut text = Vec::new(alloc);
     let mut line = Vec::new(alloc);
     let mut port = MemPort::new(alloc, input);
+    let stack = StackSize::usual();
     let status = perform(
-        alloc, command, set, name, file, &mut port, &mut text, &mut line,
+        alloc, command, set, name, file, &mut port, &mut text, &mut line, stack,
     );
     hand_out(port.output(), line.as_slice(), out, message, sizes);
     u32::from(status)

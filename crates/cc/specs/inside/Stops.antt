@@ -38,8 +38,8 @@ IsMemory (At code line) = ⊥
 IsMemory (Told told) = IsMemoryFault told
 
 -- each fault that tells it is one for which this main file is refused
-abbrev pub Stops : Files → List ℕ → Stop → Type 0
-Stops set name stop = (fault : Fault) → IsToldAs name stop fault → IsRefused set name fault
+abbrev pub Stops : (stack : ℕ) → Files → List ℕ → Stop → Type 0
+Stops stack set name stop = (fault : Fault) → IsToldAs name stop fault → IsRefused stack set name fault
 
 -- why a file was not put whole, by what the port refused
 abbrev pub put_stop : PortFault → Stop
@@ -53,9 +53,9 @@ load_stop load_fault.Memory = Memory
 load_stop fault = At (code_of fault) 0
 
 -- the set has a program whose code is these items
-pub record HasItems (set : Files) (name : List ℕ) (items : List Item) : Type 0 where
+pub record HasItems (stack : ℕ) (set : Files) (name : List ℕ) (items : List Item) : Type 0 where
   pub texts : Texts
   pub unit : List ExternalTree
   pub program : Program
-  pub has_program : HasProgram set name texts unit program
-  pub items_are : AreItemsOf program items
+  pub has_program : HasProgram stack set name texts unit program
+  pub items_are : AreItemsOf stack program items

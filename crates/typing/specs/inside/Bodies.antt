@@ -24,7 +24,7 @@ body_read b f t file inside = then_check (pieces (around_of t) None inside f.bod
 
 -- what has been looked at, and a function
 abbrev pub one_more : Built → Scope → held.Function → List Initial → Built
-one_more b s f js = record { scope = s; functions = b.functions ++ view.function_of f ∷ []; initial = b.initial ++ map initial_of js }
+one_more b s f js = record { stack = b.stack; scope = s; functions = b.functions ++ view.function_of f ∷ []; initial = b.initial ++ map initial_of js }
 
 -- a function whose specifiers and parameters have been looked at
 abbrev pub with_parameters : Built → FunctionTree → Specified → Parameters → Verdict Built

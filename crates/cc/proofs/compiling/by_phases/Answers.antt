@@ -19,7 +19,7 @@ returns-clause-built c =
     let texts = c.checked_unit.new.names in
     let unit = unit_of c.in_ok-checked.checked.unit in
     let program = program_of c.in_ok-checked.checked.program in
-    ok_means c.build.result (λ built. BuildsProgram texts program built) (λ built. Compiles c.args.set.now c.args.main.now built)
+    ok_means c.build.result (λ built. BuildsProgram c.args.stack texts program built) (λ built. Compiles c.args.stack c.args.set.now c.args.main.now built)
     (λ built h. record { texts = texts; unit = unit; program = program; has_program = c.in_ok-checked.ensures.program; builds = h }) c.build.ensures.built
 
 pub returns-clause-made : goal.returns-clause-made
@@ -27,9 +27,9 @@ returns-clause-made c =
     let texts = c.checked_unit.new.names in
     let unit = unit_of c.in_ok-checked.checked.unit in
     let program = program_of c.in_ok-checked.checked.program in
-    ok_means c.build.result (λ built. MakesProgram texts program built) (λ built. IsMade c.args.set.now c.args.main.now built)
+    ok_means c.build.result (λ built. MakesProgram c.args.stack texts program built) (λ built. IsMade c.args.stack c.args.set.now c.args.main.now built)
     (λ built h. record { compiles = record { texts = texts; unit = unit; program = program; has_program = c.in_ok-checked.ensures.program; builds = h.builds }; file = h.file }) c.build.ensures.made
 
 pub returns-clause-stops : goal.returns-clause-stops
 returns-clause-stops c =
-    error_means c.build.result IsMemory (λ stop. Stops c.args.set.now c.args.main.now stop) (memory_stops c.args.set.now c.args.main.now) c.build.ensures.stops
+    error_means c.build.result IsMemory (λ stop. Stops c.args.stack c.args.set.now c.args.main.now stop) (memory_stops c.args.stack c.args.set.now c.args.main.now) c.build.ensures.stops

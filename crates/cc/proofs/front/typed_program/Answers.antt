@@ -1,6 +1,8 @@
-use Rattle.std.proofs.Common.{sym, ap, ◌∙◌, Some}
+use Rattle.std.proofs.Common.{◌≡◌, sym, subst, ap, ◌∙◌, Some}
 use Rattle.tree.specs.View.{unit_of}
 use Rattle.typing_rules.specs.Verdict.{fine}
+use Rattle.typing_rules.specs.Units.{unit_typed}
+use Rattle.typing.specs.Told.{IsFaultOfVerdict}
 use Rattle.typing_program.specs.View.{program_of}
 use Rattle.cc.proofs.Checks.{verdict_at, fault_at}
 use Rattle.cc.proofs.front.typed_program.Goals as goal
@@ -14,12 +16,14 @@ pub returns-in-Ok-clause-ok : goal.returns-in-Ok-clause-ok
 returns-in-Ok-clause-ok c = record {
   file = c.in-Some.file;
   named = (c.find.ensures.found c.in-Some.file).0 c.in-Some.is ∙ ap Some c.as_bytes.ensures.value;
-  typed = verdict_at c.args.names.now c.in-Some.file (unit_of c.args.unit.now) (fine (program_of c.in-Ok.program)) c.in-Ok.ensures.ok;
+  typed = verdict_at c.args.stack c.args.names.now c.in-Some.file (unit_of c.args.unit.now) (fine (program_of c.in-Ok.program))
+      (subst (λ n. unit_typed n c.args.names.now (record { file = c.in-Some.file; line = 1 }) (unit_of c.args.unit.now) ≡ fine (program_of c.in-Ok.program)) c.get-bytes.ensures.value c.in-Ok.ensures.ok);
 }
 
 pub returns-in-Err-clause-stops : goal.returns-in-Err-clause-stops
 returns-in-Err-clause-stops c = record {
   file = c.in-Some.file;
   named = (c.find.ensures.found c.in-Some.file).0 c.in-Some.is ∙ ap Some c.as_bytes.ensures.value;
-  fault_is = fault_at c.args.names.now c.in-Some.file (unit_of c.args.unit.now) c.in-Err.fault c.in-Err.ensures.err;
+  fault_is = fault_at c.args.stack c.args.names.now c.in-Some.file (unit_of c.args.unit.now) c.in-Err.fault
+      (subst (λ n. IsFaultOfVerdict c.in-Err.fault c.args.names.now (unit_typed n c.args.names.now (record { file = c.in-Some.file; line = 1 }) (unit_of c.args.unit.now))) c.get-bytes.ensures.value c.in-Err.ensures.err);
 }

@@ -12,7 +12,7 @@ returns-in_err-checked-clause-stops c =
 
 pub returns-in-Ok-clause-items : goal.returns-in-Ok-clause-items
 returns-in-Ok-clause-items c =
-    has_items c.args.set.now c.args.main.now c.checked_unit.new.names (unit_of c.in_ok-checked.checked.unit) (program_of c.in_ok-checked.checked.program) c.in-Ok.items c.in_ok-checked.ensures.program c.in-Ok.ensures.items
+    has_items c.args.stack c.args.set.now c.args.main.now c.checked_unit.new.names (unit_of c.in_ok-checked.checked.unit) (program_of c.in_ok-checked.checked.program) c.in-Ok.items c.in_ok-checked.ensures.program c.in-Ok.ensures.items
 
 pub returns-clause-stops : goal.returns-clause-stops
-returns-clause-stops c = memory_stops c.args.set.now c.args.main.now Memory tt
+returns-clause-stops c = memory_stops c.args.stack c.args.set.now c.args.main.now Memory tt

@@ -9,10 +9,10 @@ code_image-requires-clause-reaches c = reach (program_of c.args.program.now) (fl
 
 pub returns-in-Ok-clause-runs : goal.returns-in-Ok-clause-runs
 returns-in-Ok-clause-runs c =
-    runs_with (program_of c.args.program.now) (flat.program_of c.in_ok-code.code) c.requires.ready c.in_ok-code.ensures c.in_ok-made.made.image c.in-Ok.elf.items c.in_ok-frames.frames.items
-    c.in_ok-made.ensures.image c.in_ok-frames.ensures c.in-Ok.ensures.image
+    runs_with (program_of c.args.program.now) (flat.program_of c.in_ok-code.code) c.requires.ready c.in_ok-code.ensures c.args.stack c.in_ok-made.made.image c.in-Ok.elf.items c.in_ok-frames.frames.items
+    c.in_ok-made.ensures.stack c.in_ok-made.ensures.image c.in_ok-frames.ensures c.in-Ok.ensures.image
 
 pub returns-in-Ok-clause-file : goal.returns-in-Ok-clause-file
 returns-in-Ok-clause-file c =
-    is_file (program_of c.args.program.now) (flat.program_of c.in_ok-code.code) c.requires.ready c.in_ok-code.ensures c.in_ok-made.made.image c.in-Ok.elf.items c.in_ok-frames.frames.items
-    c.in_ok-made.ensures.image c.in_ok-made.ensures.fewest c.in_ok-made.ensures.size c.in_ok-frames.ensures c.in-Ok.ensures.bytes
+    is_file (program_of c.args.program.now) (flat.program_of c.in_ok-code.code) c.requires.ready c.in_ok-code.ensures c.args.stack c.in_ok-made.made.image c.in-Ok.elf.items c.in_ok-frames.frames.items
+    c.in_ok-made.ensures.stack c.in_ok-made.ensures.image c.in_ok-made.ensures.fewest c.in_ok-made.ensures.size c.in_ok-frames.ensures c.in-Ok.ensures.bytes

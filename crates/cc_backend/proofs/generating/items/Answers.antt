@@ -9,6 +9,6 @@ code_image-requires-clause-reaches c = reach (program_of c.args.program.now) (fl
 
 pub returns-in-Ok : goal.returns-in-Ok
 returns-in-Ok c = record {
-  items = items_of (program_of c.args.program.now) (flat.program_of c.in_ok-code.code) c.requires.ready c.in_ok-code.ensures c.in-Ok.made.image c.in-Ok.made.items
-      c.in-Ok.ensures.image c.in-Ok.ensures.fewest c.in-Ok.ensures.size c.in-Ok.ensures.items c.in-Ok.ensures.low;
+  items = items_of (program_of c.args.program.now) (flat.program_of c.in_ok-code.code) c.requires.ready c.in_ok-code.ensures c.args.stack c.in-Ok.made.image c.in-Ok.made.items
+      c.in-Ok.ensures.stack c.in-Ok.ensures.image c.in-Ok.ensures.fewest c.in-Ok.ensures.size c.in-Ok.ensures.items c.in-Ok.ensures.low;
 }

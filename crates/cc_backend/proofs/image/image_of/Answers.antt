@@ -15,8 +15,8 @@ returns-in-Some-clause-image c =
     let f = flat.program_of c.args.program in
     let text = c.in-Ok.text.items in
     let statics = c.args.program.statics.items in
-    let made = image_of f c.args.items.now text statics c.requires.sound c.requires.items c.in-Ok.ensures.placed refl
-    (subst AreBytes c.as_slice.ensures.value c.are_bytes.ensures) (subst AreBytes c.as_slice-2.ensures.value c.are_bytes-2.ensures) (omega (arith, c.in-Some.ensures.some.0 refl, c.in-Ok.text.ok, c.args.program.statics.ok)) in
+    let made = image_of f c.args.items.now text statics c.args.stack c.requires.sound c.requires.items c.in-Ok.ensures.placed refl
+    (subst AreBytes c.as_slice.ensures.value c.are_bytes.ensures) (subst AreBytes c.as_slice-2.ensures.value c.are_bytes-2.ensures) (omega (arith, c.in-Some.ensures.some.0 refl, c.in-Ok.text.ok, c.args.program.statics.ok)) c.is_stack_size.ensures in
     subst (IsImageOf f) (sym c.in-Some.ensures.value) made
 
 pub returns-in-Some-clause-size : goal.returns-in-Some-clause-size

@@ -1,6 +1,7 @@
 use Rattle.std.proofs.Common.{rules, ◌≡◌, ℕ, [], ap, refl, subst, ◌∙◌}
 use Rattle.meaning_ports.specs.Port.{PortView}
 use Rattle.meaning_ports.specs.Memory.{port_of}
+use Rattle.cc.specs.MemoryMap.{usual_stack}
 use Rattle.cc.specs.Performed.{Performs}
 use Rattle.cc.specs.Reported.{Said}
 use Rattle.zikorape.specs.Got.{Buffer, Got, HandsOut}
@@ -15,7 +16,7 @@ returns c =
     let out : Buffer = record { before = c.args.out.now; after = c.hand_out.new.out; told = c.hand_out.new.sizes.output } in
     let message : Buffer = record { before = c.args.message.now; after = c.hand_out.new.message; told = c.hand_out.new.sizes.message } in
     let P : PortView → Said → Said → Type 0 = λ port text line.
-    Performs c.args.command c.args.set.now c.args.main.now [] for_memory port (port_of c.perform-status.new.port) text line status in
+    Performs usual_stack c.args.command c.args.set.now c.args.main.now [] for_memory port (port_of c.perform-status.new.port) text line status in
     let Q : ℕ → Type 0 = λ n. HandsOut (Writes c.args.command c.args.main.now n c.args.set.now) out message in
     let same : status ≡ c.from.result = search rules in
     subst Q same (
@@ -26,7 +27,8 @@ returns c =
       c.perform-status.new.out.items,
       (
         c.perform-status.new.port,
-        performed P _ _ _ _ _ _ c.new-port.ensures c.new.ensures.items c.new-text.ensures.items c.new-line.ensures.items c.perform-status.ensures,
+        performed P _ _ _ _ _ _ c.new-port.ensures c.new.ensures.items c.new-text.ensures.items c.new-line.ensures.items
+            (subst (λ n. Performs n c.args.command c.args.set.now c.args.main.now [] for_memory _ _ _ _ status) c.usual-stack.ensures c.perform-status.ensures),
         refl,
       ),
     )
