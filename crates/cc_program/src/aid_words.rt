@@ -1,6 +1,6 @@
 //! The command line of the commands that explain and show.
 
-use clap::{Arg, ArgAction, Command};
+use clap::{Arg, ArgAction, Command, value_parser};
 use std::alloc::{AllocError, Global};
 
 /// What `cc --version` tells behind the name.
@@ -14,6 +14,33 @@ pub fn with_aids<'a>(alloc: Global, command: Command<'a>) -> Result<Command<'a>,
         .subcommand(frames(alloc)?)?
         .subcommand(symbols(alloc)?)?
         .subcommand(image(alloc)?)
+}
+
+/// The options of `run` that show more than a run.
+pub fn with_run_aids<'a>(alloc: Global, command: Command<'a>) -> Result<Command<'a>, AllocError> {
+    let at = Arg::new(alloc, "at")
+        .long("at")
+        .value_name("N")
+        .value_parser(value_parser!(u64).range(0..=9223372036854775807))
+        .help("Shows the machine after so many instructions, on standard error")
+        .conflicts_with_all(&["trace", "trace-file"])?;
+    let map = Arg::new(alloc, "map")
+        .long("map")
+        .value_name("SOURCE")
+        .action(ArgAction::Append)
+        .num_args(1..)
+        .help(
+            "The sources that FILE was built from, the main one first, for the names of functions",
+        );
+    let trace_file = Arg::new(alloc, "trace-file")
+        .long("trace-file")
+        .value_name("OUT")
+        .help("Writes the trace to a file");
+    command
+        .arg(flag(alloc, "trace", "Tells each instruction on standard error"))?
+        .arg(trace_file)?
+        .arg(at)?
+        .arg(map)
 }
 
 /// The argument of the main file.
@@ -40,7 +67,7 @@ fn flag<'a>(alloc: Global, name: &'a str, help: &'a str) -> Arg<'a> {
 fn explain<'a>(alloc: Global) -> Result<Command<'a>, AllocError> {
     let what = Arg::new(alloc, "WHAT")
         .help("Which command's faults")
-        .value_parser(["build", "pp"].as_slice())
+        .value_parser(["build", "interp", "pp"].as_slice())
         .required(true);
     let color = Arg::new(alloc, "color")
         .long("color")
@@ -57,7 +84,18 @@ fn explain<'a>(alloc: Global) -> Result<Command<'a>, AllocError> {
             "sarif",
         )?)?
         .arg(flag(alloc, "sarif", "A SARIF 2.1.0 log, on standard output"))?
-        .arg(color)
+        .arg(color)?
+        .arg(most(alloc))
+}
+
+/// How far a program is interpreted.
+fn most<'a>(alloc: Global) -> Arg<'a> {
+    Arg::new(alloc, "max")
+        .long("max")
+        .value_name("N")
+        .value_parser(value_parser!(u64).range(1..=9223372036854775807))
+        .default_value("1000000000")
+        .help("At most this many ticks of `interp`")
 }
 
 fn frames<'a>(alloc: Global) -> Result<Command<'a>, AllocError> {

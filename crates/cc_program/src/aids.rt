@@ -1,19 +1,23 @@
 //! The commands that explain and show.
 
 use crate::late_file::LateFile;
+use crate::run_aids::{asks_more, run_more};
 use crate::words::further_files;
 use crate::{is_source, read_files, say};
 use anyhow::Result;
 use cc::{Built, compile};
 use clap::ArgMatches;
 use code_map::{CodeMap, code_map, frames_table, symbol_file};
-use explain::{Explained, Stage, explain};
-use explain_shown::{Style, put_json, put_sarif_end, put_sarif_result, put_sarif_start, put_text};
+use explain::{Explained, Stage, explain, interpreted};
+use explain_shown::{
+    Style, put_finding, put_json, put_json_undefined, put_sarif_end, put_sarif_result,
+    put_sarif_start, put_undefined,
+};
 use image_forms::{binary, entry, intel_hex, pieces, verilog_memory};
 use loader::LoadFault;
 use srcset::{Code, Fault, FileSet, write_text};
-use std::alloc::Global;
-use std::io::{BufWriter, Write};
+use std::alloc::{AllocError, Global};
+use std::io::{BufWriter, Read, Write};
 use std::rt::{Env, Files};
 use std::{env, fs};
 
@@ -23,10 +27,11 @@ pub fn answer(rt: &HostRuntime, matches: &ArgMatches<'_>) -> Result<Option<u8>> 
         return Ok(None);
     };
     match name {
-        "explain" => Ok(Some(explain_faults(rt, matches, inner)?)),
+        "explain" => Ok(Some(explain_what(rt, matches, inner)?)),
         "frames" => Ok(Some(show_frames(rt, matches, inner)?)),
         "symbols" => Ok(Some(write_symbols(rt, matches, inner)?)),
         "image" => Ok(Some(show_image(rt, inner)?)),
+        "run" if asks_more(inner) => Ok(Some(run_more(rt, inner)?)),
         _ => Ok(None),
     }
 }
@@ -40,40 +45,111 @@ fn put_out(rt: &HostRuntime, bytes: &[u8], status: u8) -> u8 {
     }
 }
 
-/// Explains why the program is refused: 1 where it is, else 0.
-fn explain_faults(
+/// The program of the words, and the names of its files.
+#[derive(Drop)]
+struct Given<'a> {
+    set: FileSet,
+    names: Vec<&'a str>,
+    main: &'a str,
+}
+
+/// Reads the files of the words.
+fn given<'a>(
     rt: &HostRuntime,
-    matches: &ArgMatches<'_>,
-    inner: &ArgMatches<'_>,
-) -> Result<u8> {
-    let alloc = rt.alloc();
-    let main = inner.get_str("MAIN").unwrap_or_default();
-    let mut set = FileSet::new(alloc);
-    if let Err(fault) = read_files(rt, main, matches, &mut set) {
-        return Ok(say(rt, &fault));
+    matches: &ArgMatches<'a>,
+    main: &'a str,
+) -> Result<Given<'a>, Fault> {
+    let mut set = FileSet::new(rt.alloc());
+    read_files(rt, main, matches, &mut set)?;
+    match names_of(rt.alloc(), matches, main) {
+        Ok(names) => Ok(Given { set, names, main }),
+        Err(_) => Err(Fault::memory(rt.alloc())),
     }
-    let mut names = vec![in alloc; main]?;
+}
+
+fn names_of<'a>(
+    alloc: Global,
+    matches: &ArgMatches<'a>,
+    main: &'a str,
+) -> Result<Vec<&'a str>, AllocError> {
+    let mut names = Vec::new(alloc);
+    names.push(main)?;
     names.extend_from_slice(further_files(matches).unwrap_or_default())?;
-    let stage = if inner.get_str("WHAT") == Some("pp") {
+    Ok(names)
+}
+
+/// Explains what a command comes to: its faults, or the undefined act of a program that is interpreted.
+fn explain_what(rt: &HostRuntime, matches: &ArgMatches<'_>, inner: &ArgMatches<'_>) -> Result<u8> {
+    let main = inner.get_str("MAIN").unwrap_or_default();
+    let given = match given(rt, matches, main) {
+        Ok(given) => given,
+        Err(fault) => return Ok(say(rt, &fault)),
+    };
+    let what = inner.get_str("WHAT").unwrap_or_default();
+    let stage = if what == "pp" {
         Stage::Preprocessing
     } else {
         Stage::Whole
     };
-    let told = explain(alloc, &set, names.as_slice(), main, stage)?;
+    let told = explain(rt.alloc(), &given.set, given.names.as_slice(), main, stage)?;
+    if what == "interp" && told.is_none() && !inner.get_flag("sarif") {
+        return explain_run(rt, inner, &given);
+    }
+    show_faults(rt, inner, told.as_ref())
+}
+
+/// Tells faults: 1 where there are some, else 0.
+fn show_faults(rt: &HostRuntime, inner: &ArgMatches<'_>, told: Option<&Explained>) -> Result<u8> {
+    let alloc = rt.alloc();
     let status = u8::from(told.is_some());
     if inner.get_flag("sarif") {
-        let log = sarif(alloc, told.as_ref())?;
+        let log = sarif(alloc, told)?;
         return Ok(put_out(rt, log.as_bytes(), status));
     }
-    if let Some(told) = &told {
-        if inner.get_flag("json") {
-            let lines = json(alloc, told)?;
-            return Ok(put_out(rt, lines.as_bytes(), status));
-        }
-        let text = text(alloc, style(rt, inner), told)?;
-        let _said = rt.stderr().write_all(text.as_bytes());
+    let Some(told) = told else {
+        return Ok(0);
+    };
+    if inner.get_flag("json") {
+        let lines = json(alloc, told)?;
+        return Ok(put_out(rt, lines.as_bytes(), status));
     }
+    let text = text(alloc, style(rt, inner), told)?;
+    let _said = rt.stderr().write_all(text.as_bytes());
     Ok(status)
+}
+
+/// Interprets the program over standard input, which is read to its end first; writes what it wrote, and explains its undefined
+/// act. The exit status is that of `interp`.
+fn explain_run(rt: &HostRuntime, inner: &ArgMatches<'_>, given: &Given<'_>) -> Result<u8> {
+    let alloc = rt.alloc();
+    let mut input = Vec::new(alloc);
+    if rt.stdin().read_to_end(&mut input).is_err() {
+        return Ok(say(rt, &Fault::at(alloc, Code::CannotRead, "", 0)));
+    }
+    let max = inner.get_one::<u64>("max").unwrap_or(1_000_000_000);
+    let names = given.names.as_slice();
+    let run = interpreted(alloc, &given.set, names, given.main, input.as_slice(), max)?;
+    if inner.get_flag("json") {
+        let mut line = String::new(alloc);
+        if let Some(undefined) = &run.undefined {
+            put_json_undefined(alloc, undefined, &mut line)?;
+        }
+        return Ok(put_out(rt, line.as_bytes(), run.status));
+    }
+    if !write_text(&mut rt.stdout(), run.output.as_slice()) {
+        return Ok(say(rt, &Fault::at(alloc, Code::CannotWrite, "", 0)));
+    }
+    match &run.undefined {
+        Some(undefined) => {
+            let mut text = String::new(alloc);
+            put_undefined(alloc, style(rt, inner), undefined, &mut text)?;
+            let _said = rt.stderr().write_all(text.as_bytes());
+        }
+        None => {
+            let _said = rt.stderr().write_all(run.line.as_slice());
+        }
+    }
+    Ok(run.status)
 }
 
 /// Whether the text on standard error has colours.
@@ -112,9 +188,9 @@ fn is_set<R: Env + AllocGlobal>(rt: &R, name: &str) -> bool {
 
 fn text(alloc: Global, style: Style, told: &Explained) -> Result<String> {
     let mut out = String::new(alloc);
-    put_text(alloc, style, &told.first, &mut out)?;
+    put_finding(alloc, style, &told.first, &mut out)?;
     for finding in &told.further {
-        put_text(alloc, style, finding, &mut out)?;
+        put_finding(alloc, style, finding, &mut out)?;
     }
     Ok(out)
 }

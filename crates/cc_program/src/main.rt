@@ -4,6 +4,7 @@
 mod aid_words;
 mod aids;
 mod late_file;
+mod run_aids;
 mod words;
 
 use anyhow::Result;

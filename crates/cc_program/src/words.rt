@@ -1,6 +1,6 @@
 //! The command line.
 
-use crate::aid_words::with_aids;
+use crate::aid_words::{with_aids, with_run_aids};
 use cc::{Cmd, StackSize};
 use clap::{Arg, ArgAction, ArgMatches, Command, value_parser};
 use std::alloc::{AllocError, Global};
@@ -93,10 +93,11 @@ fn run<'a>(alloc: Global) -> Result<Command<'a>, AllocError> {
     let file = Arg::new(alloc, "FILE")
         .help("The executable file")
         .required(true);
-    Command::new(alloc, "run")
+    let command = Command::new(alloc, "run")
         .about("Runs an executable file over standard input and output")
         .arg(file)?
-        .arg(most(alloc).help("At most this many instructions"))
+        .arg(most(alloc).help("At most this many instructions"))?;
+    with_run_aids(alloc, command)
 }
 
 fn interp<'a>(alloc: Global) -> Result<Command<'a>, AllocError> {

@@ -1,16 +1,17 @@
 //! The faults of a program, explained.
 
 ghost use Rattle.std.specs.Prelude.{◌≡◌, IfOk, IfSome};
+ghost use Rattle.memory_map.specs.MemoryMap.{usual_stack};
 ghost use Rattle.cc.specs.Refused.{IsRefused};
 
 use crate::asking::fault_of;
-use crate::finding::{Finding, Place};
+use crate::finding::{Finding, Place, show_place};
 use crate::includes::Includes;
 use crate::locating::place_of;
 use crate::noting::notes;
 use crate::sources::Sources;
 use cc::compile;
-use explain_places::{Spot, Tokens, blank, bodies, source_line};
+use explain_places::{Spot, Tokens, blank, bodies};
 use srcset::{Code, Fault, FileSet};
 use std::alloc::{AllocError, Global};
 
@@ -44,7 +45,7 @@ pub fn explain(
     main: &str,
     stage: Stage,
 ) -> Result<Option<Explained>, AllocError>
-    ensures { IfOk result (λ told. IfSome told (λ explained. IsRefused set.now main.now explained.first.fault)) }
+    ensures { IfOk result (λ told. IfSome told (λ explained. IsRefused usual_stack set.now main.now explained.first.fault)) }
 {
     let fault = match compile(alloc, set, main) {
         Ok(_) => return Ok(None),
@@ -158,19 +159,6 @@ fn told(
     ensures { IfOk result (λ found. found.fault ≡ fault) }
 {
     let notes = notes(alloc, sources, includes, place, &fault)?;
-    let text = set.get(fault.file.as_str()).unwrap_or_default();
-    let (token, source) = match place {
-        Some(at) => (
-            text.get(at.start..at.end).unwrap_or_default(),
-            source_line(text, at.line),
-        ),
-        None => (b"".as_slice(), source_line(text, fault.line)),
-    };
-    Ok(Finding {
-        token: Vec::from_slice(alloc, token)?,
-        source: Vec::from_slice(alloc, source)?,
-        fault,
-        place,
-        notes,
-    })
+    let shown = show_place(alloc, set, fault.file.as_str(), fault.line, place, notes)?;
+    Ok(Finding { fault, shown })
 }

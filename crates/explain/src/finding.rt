@@ -1,6 +1,8 @@
 //! What is found out about a fault.
 
-use srcset::Fault;
+use explain_places::source_line;
+use srcset::{Fault, FileSet};
+use std::alloc::{AllocError, Global};
 
 /// Where a fault stands in the sources.
 #[derive(Clone, Copy)]
@@ -42,16 +44,47 @@ pub struct Note {
     pub text: String,
 }
 
+/// What is shown of a place beside what is wrong there.
+#[derive(Drop)]
+pub struct Shown {
+    /// Where the token stands, where that is known.
+    pub place: Option<Place>,
+    /// The token, as it is written; empty where it is not known.
+    pub token: Vec<u8>,
+    /// The source line; empty where the file is not known.
+    pub source: Vec<u8>,
+    pub notes: Vec<Note>,
+}
+
 /// A fault as it is explained.
 #[derive(Drop)]
 pub struct Finding {
     /// What the compiler answers.
     pub fault: Fault,
-    /// Where its token stands, where that is known.
-    pub place: Option<Place>,
-    /// The token, as it is written; empty where it is not known.
-    pub token: Vec<u8>,
-    /// The source line; empty where the place is not known.
-    pub source: Vec<u8>,
-    pub notes: Vec<Note>,
+    pub shown: Shown,
+}
+
+/// What is shown of a place in a file of the set, or of its line alone.
+pub fn show_place(
+    alloc: Global,
+    set: &FileSet,
+    file: &str,
+    line: u32,
+    place: Option<Place>,
+    notes: Vec<Note>,
+) -> Result<Shown, AllocError> {
+    let text = set.get(file).unwrap_or_default();
+    let (token, source) = match place {
+        Some(at) => (
+            text.get(at.start..at.end).unwrap_or_default(),
+            source_line(text, at.line),
+        ),
+        None => (b"".as_slice(), source_line(text, line)),
+    };
+    Ok(Shown {
+        place,
+        token: Vec::from_slice(alloc, token)?,
+        source: Vec::from_slice(alloc, source)?,
+        notes,
+    })
 }

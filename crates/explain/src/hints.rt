@@ -48,50 +48,63 @@ fn whole_hint(code: u16) -> &'static str {
 }
 
 fn aggregate_hint(token: &[u8]) -> &'static str {
-    match token {
-        b"typedef" => "`typedef` is left out: write a macro, as `#define word int`",
-        _ =>
-            "structures and unions are left out: write an array for each field, with the record as index",
+    if token == b"typedef".as_slice() {
+        "`typedef` is left out: write a macro, as `#define word int`"
+    } else {
+        "structures and unions are left out: write an array for each field, with the record as index"
     }
 }
+
+/// The tokens that begin a statement or a declaration, or end a block.
+const BEGINNINGS: [&str; 14] = [
+    "}", "return", "if", "while", "for", "do", "switch", "break", "continue", "int", "char",
+    "unsigned", "static", "const",
+];
+
+/// The tokens behind which a statement may begin.
+const ENDS: [&str; 10] = ["", ";", "{", "}", "(", ")", ",", ":", "else", "do"];
+
+/// What helps with a syntax error at a token of these.
+const AT_TOKEN: [(&str, &str); 7] = [
+    (
+        "*",
+        "the profile leaves out pointers: write an array and an index",
+    ),
+    (
+        "&",
+        "the profile leaves out addresses: write an array of one element, or an object at file scope",
+    ),
+    (
+        "...",
+        "functions with `...` are left out: write an array and the number of its elements",
+    ),
+    (
+        "[",
+        "designated initialisers are left out: write all elements in order",
+    ),
+    ("extern", "`extern` stands at file scope alone"),
+    (
+        "{",
+        "a braced list stands in an initialiser alone: compound literals are left out",
+    ),
+    ("", ""),
+];
 
 fn syntax_hint(token: &[u8], before: &[u8]) -> &'static str {
-    match token {
-        b"*" | b"&" => "the profile leaves out pointers and addresses: write an array and an index",
-        b"..." =>
-            "functions with `...` are left out: write an array and the number of its elements",
-        b"[" => "designated initialisers are left out: write all elements in order",
-        b"extern" => "`extern` stands at file scope alone",
-        b")" => closing_hint(before),
-        b"{" => "a braced list stands in an initialiser alone: compound literals are left out",
-        b"}"
-        | b"return"
-        | b"if"
-        | b"while"
-        | b"for"
-        | b"do"
-        | b"switch"
-        | b"break"
-        | b"continue"
-        | b"int"
-        | b"char"
-        | b"unsigned"
-        | b"static"
-        | b"const" => semicolon_hint(before),
-        _ => "",
+    if token == b")".as_slice() && before == b"(".as_slice() {
+        return "write `void` for an empty parameter list";
     }
+    if is_one_of(&BEGINNINGS, token) && !is_one_of(&ENDS, before) {
+        return "a `;` may be missing before it";
+    }
+    for (word, help) in AT_TOKEN {
+        if word.as_bytes() == token {
+            return help;
+        }
+    }
+    ""
 }
 
-fn closing_hint(before: &[u8]) -> &'static str {
-    match before {
-        b"(" => "write `void` for an empty parameter list",
-        _ => "",
-    }
-}
-
-fn semicolon_hint(before: &[u8]) -> &'static str {
-    match before {
-        b"" | b";" | b"{" | b"}" | b"(" | b")" | b"," | b":" | b"else" | b"do" => "",
-        _ => "a `;` may be missing before it",
-    }
+fn is_one_of(words: &[&str], token: &[u8]) -> bool {
+    words.iter().any(|word| word.as_bytes() == token)
 }

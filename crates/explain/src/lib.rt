@@ -12,7 +12,9 @@ mod macros;
 mod near;
 mod noting;
 mod sources;
+mod undefined;
 
 pub use explaining::{Explained, Stage, explain};
-pub use finding::{Finding, Note, Place, Topic};
+pub use finding::{Finding, Note, Place, Shown, Topic};
 pub use sources::{Source, Sources};
+pub use undefined::{Interpretation, Undefined, interpreted};

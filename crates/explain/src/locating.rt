@@ -50,7 +50,7 @@ fn speaks_of_token(code: u16) -> bool {
     !matches!(code, 101..=113 | 551 | 701..=703 | 708 | 711 | 713 | 715 | 716 | 801..=907)
 }
 
-fn place_at(file: usize, text: &[u8], spot: Spot) -> Place {
+pub(crate) fn place_at(file: usize, text: &[u8], spot: Spot) -> Place {
     Place {
         file,
         start: spot.start,
@@ -61,7 +61,7 @@ fn place_at(file: usize, text: &[u8], spot: Spot) -> Place {
 }
 
 /// The token of a line behind so many; those of directives do not count.
-fn nth_on_line(spots: &[Spot], line: u32, count: u32) -> Option<Spot> {
+pub(crate) fn nth_on_line(spots: &[Spot], line: u32, count: u32) -> Option<Spot> {
     spots
         .iter()
         .filter(|spot| spot.line == line && !spot.in_directive)

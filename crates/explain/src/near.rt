@@ -75,6 +75,9 @@ pub fn nearest(
         distance: (name.len() / 3).max(1).saturating_add(1),
     };
     for word in WORDS {
+        if only_words && word == name {
+            return Ok(None);
+        }
         try_name(alloc, name, word, &mut best)?;
     }
     if !only_words {

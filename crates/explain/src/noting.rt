@@ -51,7 +51,7 @@ fn put_place_notes(
     includes.put_notes(alloc, sources, place.file, notes)?;
     let meant = match fault.code {
         528 => nearest(alloc, sources, token, false)?,
-        401 => nearest(alloc, sources, misspelled(&tokens, number), true)?,
+        401 => meant_word(alloc, sources, &tokens, number)?,
         232 => nearest_file(alloc, sources, token)?,
         _ => None,
     };
@@ -72,6 +72,19 @@ fn spelling_before<'t>(tokens: &'t Tokens<'_>, number: usize, count: usize) -> &
     match number.checked_sub(count) {
         Some(before) => tokens.spelling(before),
         None => &[],
+    }
+}
+
+/// The word that may have been meant at a syntax error: for its token, or else for the word before it.
+fn meant_word(
+    alloc: Global,
+    sources: &Sources,
+    tokens: &Tokens<'_>,
+    number: usize,
+) -> Result<Option<String>, AllocError> {
+    match nearest(alloc, sources, tokens.spelling(number), true)? {
+        Some(word) => Ok(Some(word)),
+        None => nearest(alloc, sources, misspelled(tokens, number), true),
     }
 }
 
@@ -106,7 +119,7 @@ fn put_hint(alloc: Global, hint: &str, notes: &mut Vec<Note>) -> Result<(), Allo
 }
 
 /// Puts a note that has no place.
-fn put_text(
+pub(crate) fn put_text(
     alloc: Global,
     topic: Topic,
     text: String,

@@ -1,7 +1,7 @@
 //! An explained fault as JSON (RFC 8259).
 
 use crate::text::column_of;
-use explain::{Finding, Note, Topic};
+use explain::{Finding, Note, Shown, Topic, Undefined};
 use srcset::message;
 use std::alloc::{AllocError, Global};
 
@@ -9,18 +9,54 @@ use std::alloc::{AllocError, Global};
 /// Columns are counted in bytes from 1, `end` is that behind the token; both are null where they are not known.
 pub fn put_json(alloc: Global, finding: &Finding, out: &mut String) -> Result<(), AllocError> {
     let fault = &finding.fault;
-    let (line, code) = (fault.line, fault.code);
+    let code = fault.code;
+    let text = said(alloc, finding)?;
+    put_place(alloc, fault.file.as_str(), fault.line, &finding.shown, out)?;
+    out.push_str(format!(in alloc; ",\"code\":{code}")?.as_str())?;
+    put_rest(alloc, text.as_str(), &finding.shown, out)
+}
+
+/// Puts an undefined act in the same form; its code is a string, U1 to U8.
+pub fn put_json_undefined(
+    alloc: Global,
+    undefined: &Undefined,
+    out: &mut String,
+) -> Result<(), AllocError> {
+    let act = undefined.act;
+    put_place(
+        alloc,
+        undefined.file.as_str(),
+        undefined.line,
+        &undefined.shown,
+        out,
+    )?;
+    out.push_str(format!(in alloc; ",\"code\":\"U{act}\"")?.as_str())?;
+    put_rest(alloc, undefined.title(), &undefined.shown, out)
+}
+
+/// Puts the members that tell a place.
+fn put_place(
+    alloc: Global,
+    file: &str,
+    line: u32,
+    shown: &Shown,
+    out: &mut String,
+) -> Result<(), AllocError> {
     out.push_str("{\"file\":")?;
-    put_string(alloc, fault.file.as_str(), out)?;
+    put_string(alloc, file, out)?;
     out.push_str(format!(in alloc; ",\"line\":{line}")?.as_str())?;
-    put_columns(alloc, finding, out)?;
-    out.push_str(format!(in alloc; ",\"code\":{code},\"text\":")?.as_str())?;
-    put_string(alloc, said(alloc, finding)?.as_str(), out)?;
+    put_columns(alloc, shown, out)
+}
+
+/// Puts the members text, token and notes, and the end of the line.
+fn put_rest(alloc: Global, text: &str, shown: &Shown, out: &mut String) -> Result<(), AllocError> {
+    out.push_str(",\"text\":")?;
+    put_string(alloc, text, out)?;
     out.push_str(",\"token\":")?;
-    let token = String::from_utf8_lossy(alloc, finding.token.as_slice())?;
+    let token = String::from_utf8_lossy(alloc, shown.token.as_slice())?;
     put_string(alloc, token.as_str(), out)?;
     out.push_str(",\"notes\":[")?;
-    put_notes(alloc, finding.notes.as_slice(), out)?;
+    put_notes(alloc, shown.notes.as_slice(), out)?;
     out.push_str("]}\n")
 }
 
@@ -32,12 +68,12 @@ pub(crate) fn said(alloc: Global, finding: &Finding) -> Result<String, AllocErro
 }
 
 /// Puts the members column and end.
-fn put_columns(alloc: Global, finding: &Finding, out: &mut String) -> Result<(), AllocError> {
-    let column = column_of(finding);
+fn put_columns(alloc: Global, shown: &Shown, out: &mut String) -> Result<(), AllocError> {
+    let column = column_of(shown);
     if column == 0 {
         return out.push_str(",\"column\":null,\"end\":null");
     }
-    let end = column.saturating_add(finding.token.len());
+    let end = column.saturating_add(shown.token.len());
     let members = format!(in alloc; ",\"column\":{column},\"end\":{end}")?;
     out.push_str(members.as_str())
 }

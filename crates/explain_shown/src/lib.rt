@@ -5,6 +5,6 @@ mod json;
 mod sarif;
 mod text;
 
-pub use json::put_json;
+pub use json::{put_json, put_json_undefined};
 pub use sarif::{put_sarif_end, put_sarif_result, put_sarif_start};
-pub use text::{Style, put_text};
+pub use text::{Style, put_finding, put_undefined};

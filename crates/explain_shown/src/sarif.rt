@@ -2,7 +2,7 @@
 
 use crate::json::{put_string, said};
 use crate::text::column_of;
-use explain::{Finding, Note, Topic};
+use explain::{Finding, Note};
 use std::alloc::{AllocError, Global};
 
 /// Puts what stands before the results.
@@ -36,7 +36,7 @@ pub fn put_sarif_result(
         put_location(alloc, finding, out)?;
         out.push_str("]")?;
     }
-    put_related(alloc, finding.notes.as_slice(), out)?;
+    put_related(alloc, finding.shown.notes.as_slice(), out)?;
     out.push_str("}")
 }
 
@@ -48,13 +48,13 @@ pub fn put_sarif_end(out: &mut String) -> Result<(), AllocError> {
 /// The text of a fault, its token, and the notes that have no place.
 fn whole_text(alloc: Global, finding: &Finding) -> Result<String, AllocError> {
     let mut text = said(alloc, finding)?;
-    if !finding.token.is_empty() {
-        let token = String::from_utf8_lossy(alloc, finding.token.as_slice())?;
+    if !finding.shown.token.is_empty() {
+        let token = String::from_utf8_lossy(alloc, finding.shown.token.as_slice())?;
         text.push_str(" '")?;
         text.push_str(token.as_str())?;
         text.push_str("'")?;
     }
-    for note in &finding.notes {
+    for note in &finding.shown.notes {
         if note.file.is_empty() {
             text.push_str("; ")?;
             text.push_str(note.text.as_str())?;
@@ -65,12 +65,12 @@ fn whole_text(alloc: Global, finding: &Finding) -> Result<String, AllocError> {
 
 /// Puts the place of a fault. A region has lines of 1 or more (3.30.5), so that a fault of the whole file has none.
 fn put_location(alloc: Global, finding: &Finding, out: &mut String) -> Result<(), AllocError> {
-    let column = column_of(finding);
+    let column = column_of(&finding.shown);
     put_file(finding.fault.file.as_str(), out)?;
     put_line(alloc, finding.fault.line, column, out)?;
     if finding.fault.line != 0 {
         if column != 0 {
-            let end = column.saturating_add(finding.token.len());
+            let end = column.saturating_add(finding.shown.token.len());
             out.push_str(format!(in alloc; ",\"endColumn\":{end}")?.as_str())?;
         }
         out.push_str("}")?;

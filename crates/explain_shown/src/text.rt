@@ -1,6 +1,6 @@
 //! An explained fault as text.
 
-use explain::{Finding, Note, Topic};
+use explain::{Finding, Note, Shown, Topic, Undefined};
 use srcset::message;
 use std::alloc::{AllocError, Global};
 
@@ -48,60 +48,100 @@ impl Style {
 
 /// Puts an explained fault: `FILE:LINE:COLUMN: CODE TEXT 'token'`, the source line with a caret under the token, and a line
 /// for each note.
-pub fn put_text(
-    alloc: Global,
-    style: Style,
-    finding: &Finding,
-    out: &mut String,
-) -> Result<(), AllocError> {
-    put_head(alloc, style, finding, out)?;
-    put_source(alloc, style, finding, out)?;
-    for note in &finding.notes {
-        put_note(alloc, style, note, out)?;
-    }
-    Ok(())
-}
-
-/// Puts the first line of a fault.
-fn put_head(
+pub fn put_finding(
     alloc: Global,
     style: Style,
     finding: &Finding,
     out: &mut String,
 ) -> Result<(), AllocError> {
     let fault = &finding.fault;
-    out.push_str(style.bold())?;
-    if fault.file.is_empty() {
-        out.push_str("cc: ")?;
-    } else {
-        put_place(
-            alloc,
-            fault.file.as_str(),
-            fault.line,
-            column_of(finding),
-            out,
-        )?;
-    }
-    out.push_str(style.end())?;
-    out.push_str(style.red())?;
     let code = fault.code;
-    out.push_str(format!(in alloc; "{code}")?.as_str())?;
-    out.push_str(style.end())?;
-    out.push_str(" ")?;
+    put_start(
+        alloc,
+        style,
+        fault.file.as_str(),
+        fault.line,
+        &finding.shown,
+        out,
+    )?;
+    put_code(style, format!(in alloc; "{code}")?.as_str(), out)?;
     out.push_str(message(fault.code))?;
     out.push_str(fault.text.as_str())?;
-    if !finding.token.is_empty() {
-        let token = String::from_utf8_lossy(alloc, finding.token.as_slice())?;
+    put_rest(alloc, style, fault.line, &finding.shown, out)
+}
+
+/// Puts an undefined act in the same form.
+pub fn put_undefined(
+    alloc: Global,
+    style: Style,
+    undefined: &Undefined,
+    out: &mut String,
+) -> Result<(), AllocError> {
+    let (line, act) = (undefined.line, undefined.act);
+    put_start(
+        alloc,
+        style,
+        undefined.file.as_str(),
+        line,
+        &undefined.shown,
+        out,
+    )?;
+    put_code(style, format!(in alloc; "U{act}")?.as_str(), out)?;
+    out.push_str(undefined.title())?;
+    put_rest(alloc, style, line, &undefined.shown, out)
+}
+
+/// Puts the place with which the first line begins.
+fn put_start(
+    alloc: Global,
+    style: Style,
+    file: &str,
+    line: u32,
+    shown: &Shown,
+    out: &mut String,
+) -> Result<(), AllocError> {
+    out.push_str(style.bold())?;
+    if file.is_empty() {
+        out.push_str("cc: ")?;
+    } else {
+        put_place(alloc, file, line, column_of(shown), out)?;
+    }
+    out.push_str(style.end())
+}
+
+/// Puts a code and a space.
+fn put_code(style: Style, code: &str, out: &mut String) -> Result<(), AllocError> {
+    out.push_str(style.red())?;
+    out.push_str(code)?;
+    out.push_str(style.end())?;
+    out.push_str(" ")
+}
+
+/// Puts the token, the source line and the notes.
+fn put_rest(
+    alloc: Global,
+    style: Style,
+    line: u32,
+    shown: &Shown,
+    out: &mut String,
+) -> Result<(), AllocError> {
+    if !shown.token.is_empty() {
+        let token = String::from_utf8_lossy(alloc, shown.token.as_slice())?;
         out.push_str(" '")?;
         put_shown(token.as_str(), out)?;
         out.push_str("'")?;
     }
-    out.push_str("\n")
+    out.push_str("\n")?;
+    put_source(alloc, style, line, shown, out)?;
+    for note in &shown.notes {
+        put_note(alloc, style, note, out)?;
+    }
+    Ok(())
 }
 
-/// The column of a fault, counted from 1; 0 where it is not known.
-pub(crate) fn column_of(finding: &Finding) -> usize {
-    match finding.place {
+/// The column of a token, counted from 1; 0 where it is not known.
+pub(crate) fn column_of(shown: &Shown) -> usize {
+    match shown.place {
         Some(place) => place.column,
         None => 0,
     }
@@ -139,26 +179,29 @@ fn put_shown(text: &str, out: &mut String) -> Result<(), AllocError> {
 fn put_source(
     alloc: Global,
     style: Style,
-    finding: &Finding,
+    line: u32,
+    shown: &Shown,
     out: &mut String,
 ) -> Result<(), AllocError> {
-    if finding.source.is_empty() {
+    if shown.source.is_empty() {
         return Ok(());
     }
-    let line = finding.fault.line;
-    let source = String::from_utf8_lossy(alloc, finding.source.as_slice())?;
+    let source = String::from_utf8_lossy(alloc, shown.source.as_slice())?;
     out.push_str(format!(in alloc; "{line:5} | ")?.as_str())?;
     put_shown(source.as_str(), out)?;
     out.push_str("\n")?;
-    let column = column_of(finding);
+    let column = column_of(shown);
     if column == 0 {
         return Ok(());
     }
     out.push_str("      | ")?;
-    let before = finding.source.get(..column - 1).unwrap_or_default();
+    let before = shown
+        .source
+        .get(..column.saturating_sub(1))
+        .unwrap_or_default();
     put_blanks(before, out)?;
     out.push_str(style.red())?;
-    put_caret(finding, column, out)?;
+    put_caret(shown, column, out)?;
     out.push_str(style.end())?;
     out.push_str("\n")
 }
@@ -176,10 +219,10 @@ fn put_blanks(before: &[u8], out: &mut String) -> Result<(), AllocError> {
 }
 
 /// Puts a caret, and `~` to the token's end or that of the line.
-fn put_caret(finding: &Finding, column: usize, out: &mut String) -> Result<(), AllocError> {
+fn put_caret(shown: &Shown, column: usize, out: &mut String) -> Result<(), AllocError> {
     out.push('^')?;
-    let room = finding.source.len().saturating_sub(column);
-    let more = finding.token.len().saturating_sub(1).min(room);
+    let room = shown.source.len().saturating_sub(column);
+    let more = shown.token.len().saturating_sub(1).min(room);
     for _ in 0..more {
         out.push('~')?;
     }
