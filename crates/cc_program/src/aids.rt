@@ -9,6 +9,7 @@ use cc::{Built, compile};
 use clap::ArgMatches;
 use code_map::{CodeMap, code_map, frames_table, symbol_file};
 use explain::{Explained, Stage, explain, interpreted};
+use explain_calls::put_active_calls;
 use explain_shown::{
     Style, put_finding, put_json, put_json_undefined, put_sarif_end, put_sarif_result,
     put_sarif_start, put_undefined,
@@ -128,7 +129,17 @@ fn explain_run(rt: &HostRuntime, inner: &ArgMatches<'_>, given: &Given<'_>) -> R
     }
     let max = inner.get_one::<u64>("max").unwrap_or(1_000_000_000);
     let names = given.names.as_slice();
-    let run = interpreted(alloc, &given.set, names, given.main, input.as_slice(), max)?;
+    let mut run = interpreted(alloc, &given.set, names, given.main, input.as_slice(), max)?;
+    if let Some(undefined) = &mut run.undefined {
+        put_active_calls(
+            alloc,
+            &given.set,
+            names,
+            given.main,
+            input.as_slice(),
+            undefined,
+        )?;
+    }
     if inner.get_flag("json") {
         let mut line = String::new(alloc);
         if let Some(undefined) = &run.undefined {

@@ -26,6 +26,8 @@ pub enum Topic {
     Included,
     /// The macro that made the token.
     Macro,
+    /// A call that is active, at the line that it has come to.
+    Called,
     /// A name that may have been meant.
     Suggestion,
     /// What to write instead, or what the command takes.

@@ -96,6 +96,7 @@ fn put_note(alloc: Global, note: &Note, out: &mut String) -> Result<(), AllocErr
     out.push_str(match note.topic {
         Topic::Included => "included",
         Topic::Macro => "macro",
+        Topic::Called => "called",
         Topic::Suggestion => "suggestion",
         Topic::Hint => "hint",
     })?;

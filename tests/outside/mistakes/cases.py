@@ -47,3 +47,23 @@ CASES = [
     ('another in the same line', 528, 'int main(void) { int a = 1; return a + a + «b» + a; }\n', None),
     ('behind a tab', 528, 'int main(void) {\n\treturn «n»;\n}\n', None),
 ]
+
+# Several faults: where the heads of the lines are by hand, file, line, column and code.
+FURTHER = [
+    ('two functions', ['main.c:1:24: 528', 'main.c:2:23: 529'], 'int f(void) { return 1+a; }\nint x; int g(void) { x[0] = 1; return 0; }\nint main(void) { return f() + g(); }\n'),
+    ('one function alone', ['main.c:1:22: 528'], 'int f(void) { return a + b; }\nint main(void) { return f(); }\n'),
+    ('outside of functions', ['main.c:1:5: 518'], 'int a[0];\nint main(void) { return b; }\n'),
+    ('in an included file and behind it', ['util.h:1:22: 528', 'main.c:2:25: 528'], {'main.c': '#include "util.h"\nint main(void) { return c; }\n', 'util.h': 'int f(void) { return b; }\n'}),
+    ('ten at most', ['main.c:%d:%d: 528' % (n + 1, 23) for n in range(10)], ''.join('int f%d(void) { return a; }\n' % n for n in range(10)) + 'int f10(void) { return a; }\nint f11(void) { return a; }\nint main(void) { return 0; }\n'),
+    ('a syntax error goes before', ['main.c:2:25: 401', 'main.c:1:22: 528'], 'int f(void) { return a; }\nint main(void) { return ; return ; }\n'.replace('return ; return ;', 'return )'  + ';')),
+]
+
+# Undefined acts: a name, the act, the source with marks, the input, and what was written before.
+UNDEFINED = [
+    ('sum out of range', 1, 'int main(void) { int i = 2147483647; return i «+» 1; }\n', b'', ''),
+    ('division by zero', 2, 'int main(void) { int z = 0; return 7 «/» z; }\n', b'', ''),
+    ('shift count', 3, 'int main(void) { int n = 40; return 1 «<<» n; }\n', b'', ''),
+    ('shift of a negative number', 4, 'int main(void) { int n = -1; return n «<<» 1; }\n', b'', ''),
+    ('subscript', 5, 'int a[5];\nint main(void) {\n    int i = 5;\n    return a«[»i];\n}\n', b'', ''),
+    ('behind input and output', 2, '#include <rvio.h>\nint main(void) {\n    int n = rv_getbyte() - 48;\n    rv_putbyte(111);\n    return 1 «%» n;\n}\n', b'0', 'o'),
+]
