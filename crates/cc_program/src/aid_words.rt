@@ -76,7 +76,7 @@ fn explain<'a>(alloc: Global) -> Result<Command<'a>, AllocError> {
         .default_value("auto")
         .help("When the text has colours");
     Command::new(alloc, "explain")
-        .about("Explains why a program is refused")
+        .about("Explains why a program is refused, or what is undefined in its run")
         .arg(what)?
         .arg(main_file(alloc))?
         .arg(files(alloc))?

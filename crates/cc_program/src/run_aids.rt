@@ -20,7 +20,7 @@ use traced_run::{TraceEnd, hart, machine_text, place_text, run_for, traced_run};
 pub fn asks_more(inner: &ArgMatches<'_>) -> bool {
     inner.get_flag("trace")
         || inner.get_str("trace-file").is_some()
-        || inner.get_str("at").is_some()
+        || inner.get_one::<u64>("at").is_some()
         || inner.get_strs("map").is_some()
 }
 

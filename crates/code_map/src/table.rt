@@ -64,10 +64,10 @@ fn put_function(
 ) -> Result<(), AllocError> {
     let (frame, weight, size) = (function.frame, function.weight, function.size);
     put_padded(function.name.as_str(), width, out)?;
-    let numbers = format!(in alloc; "{frame:10}{weight:10}{size:10} ")?;
+    let numbers = format!(in alloc; "{frame:10}{weight:10}{size:10}")?;
     out.push_str(numbers.as_str())?;
-    for callee in &function.calls {
-        out.push_str(" ")?;
+    for (place, callee) in function.calls.iter().enumerate() {
+        out.push_str(if place == 0 { "  " } else { " " })?;
         out.push_str(name_of(map, *callee))?;
     }
     out.push_str("\n")

@@ -39,10 +39,12 @@ pub fn traced_run<P: Port, W: Write>(
         if let Some(map) = map {
             start = put_function(alloc, map, state.pc, start, &mut line)?;
         }
-        put_instruction(alloc, state, &mut line)?;
+        let text = instruction_text(alloc, state)?;
+        let touched = touched(state);
         let before = state.registers;
         let stopped = tick(state, port);
-        put_changes(alloc, &before, &state.registers, &mut line)?;
+        let effects = effects(alloc, touched, &before, &state.registers)?;
+        put_columns(text.as_slice(), effects.as_slice(), &mut line)?;
         line.push(b'\n')?;
         if !write_text(out, line.as_slice()) {
             return Ok(TraceEnd::Unwritten);
@@ -73,48 +75,60 @@ fn put_function(
     Ok(now)
 }
 
-/// Puts the instruction at the pc and the address that it is going to touch, up to the column of what it does.
-fn put_instruction(alloc: Global, state: &State, line: &mut Vec<u8>) -> Result<(), AllocError> {
-    let pc = state.pc;
-    let word = if pc < 0xffff_fffc {
-        state.memory.fetch(pc)
+/// The word at the pc, where one can be fetched there.
+fn word_at(state: &State) -> Option<u32> {
+    if state.pc < 0xffff_fffc {
+        state.memory.fetch(state.pc)
     } else {
         None
-    };
-    let Some(word) = word else {
-        return line.extend_from_slice(format!(in alloc; "{pc:08X} ?")?.as_bytes());
-    };
-    let text = instruction_line(alloc, pc, word)?;
-    line.extend_from_slice(text.as_slice())?;
-    for _ in text.len()..WIDTH {
-        line.push(b' ')?;
-    }
-    match touched(state, word) {
-        Some(address) => line.extend_from_slice(format!(in alloc; " [{address:08X}]")?.as_bytes()),
-        None => Ok(()),
     }
 }
 
-/// The address from which an instruction loads or to which it stores.
-fn touched(state: &State, word: u32) -> Option<u32> {
-    match decode(word)? {
+/// The instruction at the pc.
+fn instruction_text(alloc: Global, state: &State) -> Result<Vec<u8>, AllocError> {
+    let pc = state.pc;
+    match word_at(state) {
+        Some(word) => instruction_line(alloc, pc, word),
+        None => Ok(format!(in alloc; "{pc:08X} ?")?.into_bytes()),
+    }
+}
+
+/// The address from which the instruction at the pc loads or to which it stores.
+fn touched(state: &State) -> Option<u32> {
+    match decode(word_at(state)?)? {
         Instr::Load { base, offset, .. } => Some(state.read(base).wrapping_add(offset.get())),
         Instr::Store { base, offset, .. } => Some(state.read(base).wrapping_add(offset.get())),
         _ => None,
     }
 }
 
-/// Puts the registers whose value changed.
-fn put_changes(
+/// The address that was touched, and the registers whose value changed.
+fn effects(
     alloc: Global,
+    touched: Option<u32>,
     before: &[u32; 32],
     now: &[u32; 32],
-    line: &mut Vec<u8>,
-) -> Result<(), AllocError> {
+) -> Result<Vec<u8>, AllocError> {
+    let mut line = Vec::new(alloc);
+    if let Some(address) = touched {
+        line.extend_from_slice(format!(in alloc; " [{address:08X}]")?.as_bytes())?;
+    }
     for (number, (old, value)) in before.iter().zip(now.iter()).enumerate() {
         if old != value && number != 0 {
             line.extend_from_slice(format!(in alloc; " x{number}={value:08X}")?.as_bytes())?;
         }
     }
-    Ok(())
+    Ok(line)
+}
+
+/// Puts a text, and the effects in their column where there are some.
+fn put_columns(text: &[u8], effects: &[u8], line: &mut Vec<u8>) -> Result<(), AllocError> {
+    line.extend_from_slice(text)?;
+    if effects.is_empty() {
+        return Ok(());
+    }
+    for _ in text.len()..WIDTH {
+        line.push(b' ')?;
+    }
+    line.extend_from_slice(effects)
 }
