@@ -86,58 +86,49 @@ fn run_over_streams(
     let output = BufWriter::new(alloc, rt.stdout())?;
     let mut port = IoPort::new(input, output);
     let mut state = hart(program);
-    let max = inner.get_one::<u64>("max").unwrap_or(1_000_000_000);
-    let at = inner.get_one::<u64>("at");
-    let end = match (at, inner.get_str("trace-file")) {
-        (Some(count), _) => {
-            let stopped = run_for(&mut state, &mut port, count.min(max));
-            TraceEnd::Stopped(stopped.unwrap_or(Outcome::Budget))
-        }
-        (None, Some(path)) => {
-            let mut out = BufWriter::new(alloc, LateFile::new(rt, path))?;
-            let end = traced_run(alloc, &mut state, &mut port, max, map, &mut out)?;
-            if out.flush().is_ok() {
-                end
-            } else {
-                TraceEnd::Unwritten
-            }
-        }
-        (None, None) => plain_or_traced(rt, inner, &mut state, &mut port, max, map)?,
-    };
+    let end = run_as_asked(rt, inner, &mut state, &mut port, map)?;
     if let Err(fault) = port.finish() {
         return Ok(say_port(rt, fault));
     }
-    if at.is_some() {
+    let is_shown = inner.get_one::<u64>("at").is_some();
+    if is_shown {
         let text = machine_text(alloc, &state, map)?;
         let _said = rt.stderr().write_all(text.as_bytes());
     }
     match end {
         TraceEnd::Unwritten => Ok(say(rt, &Fault::at(alloc, Code::CannotWrite, "", 0))),
-        TraceEnd::Stopped(Outcome::Budget) if at.is_some() => Ok(0),
+        TraceEnd::Stopped(Outcome::Budget) if is_shown => Ok(0),
         TraceEnd::Stopped(outcome) => tell_end(rt, outcome, map),
     }
 }
 
-/// A run with its trace on standard error, or without one.
-fn plain_or_traced<P: Port>(
+/// A run of so many instructions as the words allow, with its trace where they ask for one.
+fn run_as_asked<P: Port>(
     rt: &HostRuntime,
     inner: &ArgMatches<'_>,
     state: &mut State,
     port: &mut P,
-    max: u64,
     map: Option<&CodeMap>,
 ) -> Result<TraceEnd> {
+    let max = inner.get_one::<u64>("max").unwrap_or(1_000_000_000);
+    if let Some(path) = inner.get_str("trace-file") {
+        let mut out = BufWriter::new(rt.alloc(), LateFile::new(rt, path))?;
+        let end = traced_run(rt.alloc(), state, port, max, map, &mut out)?;
+        return Ok(flushed(out.flush().is_ok(), end));
+    }
     if inner.get_flag("trace") {
         let mut out = BufWriter::new(rt.alloc(), rt.stderr())?;
         let end = traced_run(rt.alloc(), state, port, max, map, &mut out)?;
-        return Ok(if out.flush().is_ok() {
-            end
-        } else {
-            TraceEnd::Unwritten
-        });
+        return Ok(flushed(out.flush().is_ok(), end));
     }
-    let stopped = run_for(state, port, max);
+    let count = inner.get_one::<u64>("at").unwrap_or(max).min(max);
+    let stopped = run_for(state, port, count);
     Ok(TraceEnd::Stopped(stopped.unwrap_or(Outcome::Budget)))
+}
+
+/// How a traced run ended whose last lines were handed on, or not.
+fn flushed(is_whole: bool, end: TraceEnd) -> TraceEnd {
+    if is_whole { end } else { TraceEnd::Unwritten }
 }
 
 /// Says how a run stopped, as `cc run` does, with the function where the map has it; answers the exit status.
