@@ -1,6 +1,6 @@
 //! How many bytes code has at most.
 
-ghost use Rattle.std.specs.Prelude.{◌≡◌, ◌≤◌, OnSome, sum_by};
+ghost use Rattle.std.specs.Prelude.{◌≡◌, ◌≤◌, IfSome, sum_by};
 ghost use Rattle.std.specs.Bool.{OnTrue};
 ghost use Rattle.frames_simplified.specs.Bytes as bytes;
 ghost use Rattle.frames_simplified.specs.Bytes.{code_bytes as bytes_of_code};
@@ -116,7 +116,7 @@ fn code_bytes(instruction: Instruction) -> u64
 
 /// The most bytes of code; `None` where the sum is too large a number.
 fn size_of(code: &[Instruction]) -> Option<u64>
-    ensures { OnSome result (λ n. n ≡ sum_by bytes_of_code code.now) }
+    ensures { IfSome result (λ n. n ≡ sum_by bytes_of_code code.now) }
 {
     let mut total: u64 = 0;
     for instruction in code {

@@ -1,6 +1,6 @@
 //! Where jumps lead.
 
-ghost use Rattle.std.specs.Prelude.{◌≡◌, set, IfOk};
+ghost use Rattle.std.specs.Prelude.{◌≡◌, true, set, IfOk};
 ghost use Rattle.frames_simplified.specs.inside.Passes as passes;
 ghost use Rattle.frames_simplified.specs.inside.Passes.{AreMarked};
 
