@@ -174,14 +174,14 @@ module _ (area : ℕ) (marks : List Bool) where
 unread_take : (n k : ℕ) (xs : List Instruction) → is_unread k (take n xs) ≡ true → is_unread k xs ≡ true
 unread_take zero k xs e = absurd (not_true e)
 unread_take (suc n) k [] e = e
-unread_take (suc n) k (x ∷ xs) e = on (reads k x) (is_written k x) refl refl
+unread_take (suc n) k (x ∷ xs) e = on (unread_take n k xs) (reads k x) (is_written k x) refl refl
   where
-    on : (a b : Bool) → reads k x ≡ a → is_written k x ≡ b → (if reads k x then false else if is_written k x then true else is_unread k xs) ≡ true
-    on true b u v = absurd (not_true (sym (ap (λ t. if t then false else (if is_written k x then true else is_unread k (take n xs))) u) ∙ e))
-    on false true u v = rw (u, v) refl
-    on false false u v =
+    on : (is_unread k (take n xs) ≡ true → is_unread k xs ≡ true) → (a b : Bool) → reads k x ≡ a → is_written k x ≡ b → (if reads k x then false else if is_written k x then true else is_unread k xs) ≡ true
+    on later true b u v = absurd (not_true (sym (ap (λ t. if t then false else (if is_written k x then true else is_unread k (take n xs))) u) ∙ e))
+    on later false true u v = rw (u, v) refl
+    on later false false u v =
         let more : is_unread k (take n xs) ≡ true = ap (λ t. if t then true else is_unread k (take n xs)) (sym v) ∙ (ap (λ t. if t then false else (if is_written k x then true else is_unread k (take n xs))) (sym u) ∙ e) in
-        rw (u, v) (unread_take n k xs more)
+        rw (u, v) (later more)
 
 kept_out : (y : Instruction) (xs : List Instruction) (o : Option ℕ) → written y ≡ o → (kept_by o y (near xs) ≡ y) ⊎ Dropped y (kept_by o y (near xs)) xs
 kept_out y xs None w = inl refl

@@ -1,5 +1,5 @@
 -- A program that was made simpler runs as the program does, at no more cost.
-use Rattle.std.proofs.Common.{◌≡◌, ◌≤◌, ◌⊎◌, inl, inr, ⊎_elim, ℕ, zero, suc, ◌+◌, List, [], ◌∷◌, drop, Option, Some, None, refl, sym, ap, ◌∙◌, subst, arith}
+use Rattle.std.proofs.Common.{◌≡◌, ◌≤◌, ◌⊎◌, inl, inr, ⊎_elim, ℕ, zero, suc, ◌+◌, List, [], ◌∷◌, drop, Option, Some, None, true, refl, sym, ap, ◌∙◌, subst, arith}
 use Rattle.std.specs.Prelude.{slice_get}
 use Rattle.frames_code.specs.declared.code.Instruction.{Instruction}
 use Rattle.frames_code.specs.declared.code.Instruction.TheVariants as instruction
@@ -110,13 +110,13 @@ module _ (p q : Program) (kn : ℕ → ℕ → List Known) (middle : ℕ → Lis
 
   pub run_alike : (n : ℕ) → Goal n
   run_alike zero s u a good agree = (refl, refl, refl)
-  run_alike (suc n) s u a good agree = on (slice_get (function_at p s.frame.function).code s.frame.at) refl
+  run_alike (suc n) s u a good agree = on (run_alike n) (slice_get (function_at p s.frame.function).code s.frame.at) refl
     where
-      on : (o : Option Instruction) → slice_get (function_at p s.frame.function).code s.frame.at ≡ o → DoesTheSame (goes_on (step p s) (run p n)) (goes_on (step q (over u a s)) (run q n))
-      on None e = subst (λ w. DoesTheSame (goes_on w (run p n)) (goes_on (step q (over u a s)) (run q n))) (sym (none_first s u a good agree e)) tt
-      on (Some x) e =
+      on : Goal n → (o : Option Instruction) → slice_get (function_at p s.frame.function).code s.frame.at ≡ o → DoesTheSame (goes_on (step p s) (run p n)) (goes_on (step q (over u a s)) (run q n))
+      on later None e = subst (λ w. DoesTheSame (goes_on w (run p n)) (goes_on (step q (over u a s)) (run q n))) (sym (none_first s u a good agree e)) tt
+      on later (Some x) e =
           let z = (simple.each s.frame.function s.frame.at x e).done in
-          let here = goes_alike n (act p s x) (act q (over u a s) z) (matches s u a good agree x e) (stands s u a good agree x e) (run_alike n) in
+          let here = goes_alike n (act p s x) (act q (over u a s) z) (matches s u a good agree x e) (stands s u a good agree x e) later in
           let second : DoesTheSame (goes_on (act p s x) (run p n)) (goes_on (step q (over u a s)) (run q n)) =
           subst (λ w. DoesTheSame (goes_on (act p s x) (run p n)) (goes_on w (run q n))) (sym (step_second s u a good agree x e)) here in
           subst (λ w. DoesTheSame (goes_on w (run p n)) (goes_on (step q (over u a s)) (run q n))) (sym (step_first s u a good agree x e)) second
@@ -131,17 +131,17 @@ module _ (p q : Program) (kn : ℕ → ℕ → List Known) (middle : ℕ → Lis
 
   pub spent_less : (n : ℕ) → Less n
   spent_less zero s u a good agree defined = omega arith
-  spent_less (suc n) s u a good agree defined = on (slice_get (function_at p s.frame.function).code s.frame.at) refl
+  spent_less (suc n) s u a good agree defined = on (spent_less n) (slice_get (function_at p s.frame.function).code s.frame.at) refl
     where
-      on : (o : Option Instruction) → slice_get (function_at p s.frame.function).code s.frame.at ≡ o
+      on : Less n → (o : Option Instruction) → slice_get (function_at p s.frame.function).code s.frame.at ≡ o
           → cost_if (next_of q (over u a s)) + cost_on (step q (over u a s)) (spent q n) ≤ cost_if (next_of p s) + cost_on (step p s) (spent p n)
-      on None e = absurd (subst (λ w. IsDefined (goes_on w (run p n))) (none_first s u a good agree e) defined)
-      on (Some x) e =
+      on later None e = absurd (subst (λ w. IsDefined (goes_on w (run p n))) (none_first s u a good agree e) defined)
+      on later (Some x) e =
           let z = (simple.each s.frame.function s.frame.at x e).done in
           let first = step_first s u a good agree x e in
           let second = step_second s u a good agree x e in
           let more : cost_on (act q (over u a s) z) (spent q n) ≤ cost_on (act p s x) (spent p n) =
-          goes_less n (act p s x) (act q (over u a s) z) (matches s u a good agree x e) (stands s u a good agree x e) (spent_less n) (subst (λ w. IsDefined (goes_on w (run p n))) first defined) in
+          goes_less n (act p s x) (act q (over u a s) z) (matches s u a good agree x e) (stands s u a good agree x e) later (subst (λ w. IsDefined (goes_on w (run p n))) first defined) in
           let one : cost_on (step p s) (spent p n) ≡ cost_on (act p s x) (spent p n) = ap (λ w. cost_on w (spent p n)) first in
           let two : cost_on (step q (over u a s)) (spent q n) ≡ cost_on (act q (over u a s) z) (spent q n) = ap (λ w. cost_on w (spent q n)) second in
           omega (arith, more, one, two, less s u a good agree x e)

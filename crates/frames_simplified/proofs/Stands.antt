@@ -133,19 +133,19 @@ Stands p kn s = Holds (name_in p s) (home_in p s) (kn s.frame.function s.frame.a
 module _ (p : Program) (kn : ℕ → ℕ → List Known) where
   bytes_changed : (fs : List Frame) (l : ℕ) (b : Bytes) → bytes_of p (changed_among p fs l b) ≡ bytes_of p fs
   bytes_changed [] l b = refl
-  bytes_changed (f ∷ fs) l b = on (name_of p f fs == l)
+  bytes_changed (f ∷ fs) l b = on (bytes_changed fs l b) (name_of p f fs == l)
     where
-      on : (t : Bool) → bytes_of p (if t then record f { area = b } ∷ fs else f ∷ changed_among p fs l b) ≡ bytes_of p (f ∷ fs)
-      on true = refl
-      on false = ap (λ n. frame_bytes (function_at p f.function) + n) (bytes_changed fs l b)
+      on : bytes_of p (changed_among p fs l b) ≡ bytes_of p fs → (t : Bool) → bytes_of p (if t then record f { area = b } ∷ fs else f ∷ changed_among p fs l b) ≡ bytes_of p (f ∷ fs)
+      on later true = refl
+      on later false = ap (λ n. frame_bytes (function_at p f.function) + n) later
 
   waits_changed : (fs : List Frame) (l : ℕ) (b : Bytes) → Waits kn fs → Waits kn (changed_among p fs l b)
   waits_changed [] l b w = tt
-  waits_changed (f ∷ fs) l b w = on (name_of p f fs == l)
+  waits_changed (f ∷ fs) l b w = on (waits_changed fs l b w.1) (name_of p f fs == l)
     where
-      on : (t : Bool) → Waits kn (if t then record f { area = b } ∷ fs else f ∷ changed_among p fs l b)
-      on true = w
-      on false = (w.0, waits_changed fs l b w.1)
+      on : Waits kn (changed_among p fs l b) → (t : Bool) → Waits kn (if t then record f { area = b } ∷ fs else f ∷ changed_among p fs l b)
+      on later true = w
+      on later false = (w.0, later)
 
   memory_stands : (r : State) → Stands p kn r → (l : ℕ) (b : Bytes) → Stands p kn (with_memory p r l b)
   memory_stands r g zero b = g

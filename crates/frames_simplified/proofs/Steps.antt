@@ -85,7 +85,7 @@ module _ (p q : Program) (r : Sized p q) (rest : State → List Instruction) (s 
   -- ---- an instruction that is left out
 
   module _ (j : ℕ) (dead : is_unread j xs ≡ true) where
-    dropped_alike : (y : Instruction) → Before y → written y ≡ Some j → Match rest (act p s y) (running (past t))
+    pub dropped_alike : (y : Instruction) → Before y → written y ≡ Some j → Match rest (act p s y) (running (past t))
     dropped_alike instruction.Nothing agree w = absurd (let x : ⊥ = cc in x)
     dropped_alike (instruction.Move d x) agree w =
         match_left rest (value s x) (λ v. running (set d v (past s))) (running (past t)) (λ v. move_dropped p q r rest s u a (instruction.Move d x) xs agree behind j w dead d v refl)
