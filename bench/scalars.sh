@@ -1,10 +1,10 @@
 #!/bin/bash
-# Measures kernels of automatic scalars, which `cc build` compiles, beside the same by gcc -O0 and -Os and clang -O0: executed
-# instructions and bytes of code.
+# Measures kernels, which `cc build` compiles, beside the same by gcc -O0 and -Os and clang -O0: executed instructions and bytes of code.
 #
-#   bash bench/scalars.sh [CC]
+#   bash bench/scalars.sh [CC [FILE..]]
 #
-# Called from the repository's root; CC is bin/cc by default. The instructions of each program are the least budget that is enough for
+# Called from the repository's root; CC is bin/cc by default, and the files are the six kernels of automatic scalars. The last line has the
+# geometric means over all of them. The instructions of each program are the least budget that is enough for
 # `cc run`; its bytes are those that its text has more than a program of the same compiler whose `main` is empty. All programs of a
 # kernel have to end with one status, under qemu-riscv32 too. What needs a missing tool is left out, and said so.
 set -u
@@ -12,6 +12,12 @@ LC_ALL=C
 export LC_ALL
 root=$(pwd)
 cc=$(realpath "${1:-bin/cc}")
+if [ $# -gt 1 ]; then
+    shift
+    files=("$@")
+else
+    files=(bench/scalars_{crc,gcd,collatz,roots,generator,fibonacci}.c)
+fi
 work=$(mktemp -d) || exit 1
 trap 'rm -rf "$work"' EXIT
 cd "$work" || exit 1
@@ -41,7 +47,7 @@ char stack[65536] __attribute__((aligned(16)));
 __asm__(".text\n.globl _start\n.option push\n.option norelax\n_start: la sp, stack + 65536\n call main\n li a7, 93\n ecall\n.option pop\n");
 C
 echo 'int main(void) { return 0; }' >empty.c
-machine='-march=rv32im -mabi=ilp32 -std=c11 -ffreestanding -fno-builtin -fno-asynchronous-unwind-tables -funsigned-char'
+machine='-march=rv32im -mabi=ilp32 -std=c11 -ffreestanding -fno-builtin -fno-asynchronous-unwind-tables -funsigned-char -w'
 gnu=riscv64-unknown-elf-gcc
 
 # made WAY KERNEL: KERNEL-WAY, by the compiler of that name.
@@ -73,8 +79,10 @@ printf '%-10s' kernel
 # shellcheck disable=SC2086
 { printf ' %9s' $ways; printf '  '; printf ' %8s' $ways; }
 echo
-for kernel in crc gcd collatz roots generator fibonacci; do
-    cp "$root/bench/scalars_$kernel.c" $kernel.c
+for file in "${files[@]}"; do
+    kernel=$(basename "$file" .c)
+    kernel=${kernel#scalars_}
+    cp "$(cd "$root" && realpath "$file")" "$kernel.c"
     counts=
     sizes=
     last=
@@ -100,4 +108,9 @@ for kernel in crc gcd collatz roots generator fibonacci; do
     set -- $counts
     [ $# = 4 ] && awk -v k=$kernel -v a="$1" -v b="$2" -v c="$3" -v d="$4" \
         'BEGIN { printf "%-10s ours to gcc -O0 %.2f, to gcc -Os %.2f, to clang -O0 %.2f\n", "", a / b, a / c, a / d }'
+    # shellcheck disable=SC2086
+    echo "$1 ${2:-0} ${3:-0} ${4:-0}" $sizes >>figures
 done
+awk 'NF == 8 { n++; for (k = 1; k < 4; k++) { i[k] += log($1 / $(k + 1)); b[k] += log($5 / $(k + 5)) } }
+    END { if (n) printf "means: instructions %.2f %.2f %.2f, bytes %.2f %.2f %.2f of gcc -O0, gcc -Os, clang -O0\n",
+        exp(i[1] / n), exp(i[2] / n), exp(i[3] / n), exp(b[1] / n), exp(b[2] / n), exp(b[3] / n) }' figures

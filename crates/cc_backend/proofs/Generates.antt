@@ -37,7 +37,9 @@ use Rattle.select_simulation.specs.Runs.{slack}
 use Rattle.cc_backend.specs.FlatImages.{IsImageOf}
 use Rattle.cc_backend.proofs.TacImages.{flattened_of, none_within}
 use Rattle.cc_backend.proofs.ProgramImages.{flattened_goes_on, flattened_ends}
+use Rattle.frames_simplified.specs.Simplified.{IsSimplified}
 use Rattle.cc_backend.proofs.Renumbering.{renumbered_is_flattened}
+use Rattle.cc_backend.proofs.Simplifying.{simplified_is_flattened}
 use Rattle.cc_backend.specs.Runs.{RunsAs}
 use Rattle.cc_backend.specs.Made.{IsReady, IsFlatCodeOf, FramesFit, FunctionsFit, most_text, IsFileOf, AreItemsOf}
 use Rattle.cc_backend.proofs.FunctionSizes.{part_within, function_among}
@@ -63,23 +65,25 @@ functions_short k first (f ∷ fs) =
 start_short : (main : ℕ) → longest (start_items main) ≡ 24
 start_short main = refl
 
-pub code_of : (p : typed.Program) (q : tac.Program) (f : flat.Program) → IsLowered p q → IsRenumbered (flat_program q) f → IsFlatCodeOf p f
-code_of p q f made renumbered = record {
+pub code_of : (p : typed.Program) (q : tac.Program) (g f : flat.Program) → IsLowered p q → IsSimplified (flat_program q) g → IsRenumbered g f → IsFlatCodeOf p f
+code_of p q g f made simplified renumbered = record {
   code = q;
   lowered = made;
+  simpler = g;
+  simplified = simplified;
   renumbered = renumbered;
-  sound = stays_sound (flat_program q) f renumbered (flattened_of q (flat_program q) made.sound refl).sound;
+  sound = stays_sound g f renumbered (simplified.sound (flattened_of q (flat_program q) made.sound refl).sound);
 }
 
-pub code_in : {E : Type 0} (p : typed.Program) (q : tac.Program) → IsLowered p q → (r : Result FlatProgram E) → IfOk r (λ f. IsRenumbered (flat_program q) (flat.program_of f)) → IfOk r (λ f. IsFlatCodeOf p (flat.program_of f))
-code_in p q made (Ok f) renumbered = code_of p q (flat.program_of f) made renumbered
-code_in p q made (Err e) renumbered = tt
+pub code_in : {E : Type 0} (p : typed.Program) (q : tac.Program) (g : flat.Program) → IsLowered p q → IsSimplified (flat_program q) g → (r : Result FlatProgram E) → IfOk r (λ f. IsRenumbered g (flat.program_of f)) → IfOk r (λ f. IsFlatCodeOf p (flat.program_of f))
+code_in p q g made simplified (Ok f) renumbered = code_of p q g (flat.program_of f) made simplified renumbered
+code_in p q g made simplified (Err e) renumbered = tt
 
 module _ (p : typed.Program) (f : flat.Program) (ready : IsReady p) (made : IsFlatCodeOf p f) where
   flattened : IsFlattened made.code f
   flattened =
       let first = flattened_of made.code (flat_program made.code) made.lowered.sound refl in
-      renumbered_is_flattened made.code (flat_program made.code) f first made.renumbered
+      renumbered_is_flattened made.code made.simpler f (simplified_is_flattened made.code (flat_program made.code) made.simpler first made.simplified) made.renumbered
 
   pub reach : (base : ℕ) → AllReach base (program_items f)
   reach base = jumps_reach f base made.sound (program_is_short p made.code f ready.checked made.lowered flattened)

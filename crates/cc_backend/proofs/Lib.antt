@@ -1,6 +1,7 @@
 pub mod Images
 pub mod Lowering
 pub mod Renumbering
+pub mod Simplifying
 pub mod Generates
 pub mod FlatImages
 pub mod TacImages

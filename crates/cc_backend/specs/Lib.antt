@@ -1,6 +1,7 @@
 pub use Rattle.tac_checked.specs.Asked
 pub use Rattle.tac_code.specs.Lowered
 pub use Rattle.frames_registers.specs.Renumbered
+pub use Rattle.frames_simplified.specs.Simplified
 pub use Rattle.frames.specs.Translated
 pub use Rattle.frames.specs.Flattened
 pub use Rattle.memory_map.specs.MemoryMap

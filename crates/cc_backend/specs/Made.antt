@@ -17,6 +17,7 @@ use Rattle.frames_code.specs.Code.{frame_bytes}
 use Rattle.frames_code.specs.Sound as flat_sound
 use Rattle.frames.specs.Translated.{flat_program}
 use Rattle.frames_registers.specs.Renumbered.{IsRenumbered}
+use Rattle.frames_simplified.specs.Simplified.{IsSimplified}
 use Rattle.select.specs.Program.{program_items, function_items}
 use Rattle.cc_backend.specs.FlatImages.{IsImageOf}
 use Rattle.cc_backend.specs.Runs.{RunsAs}
@@ -26,11 +27,13 @@ pub record IsReady (p : Program) : Type 0 where
   pub checked : IsChecked p
   pub asked : is_asked p ≡ true
 
--- Flat code of the program: what its three-address code is flattened to, the words of its frames under numbers by their use.
+-- Flat code of the program: what its three-address code is flattened to, made simpler, the words of its frames under numbers by their use.
 pub record IsFlatCodeOf (p : Program) (f : flat.Program) : Type 0 where
   pub code : tac.Program
   pub lowered : IsLowered p code
-  pub renumbered : IsRenumbered (flat_program code) f
+  pub simpler : flat.Program
+  pub simplified : IsSimplified (flat_program code) simpler
+  pub renumbered : IsRenumbered simpler f
   pub sound : flat_sound.IsSoundProgram f
 
 -- each function has a frame, which is no larger than its weight, and than its span

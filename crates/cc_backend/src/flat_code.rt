@@ -8,12 +8,13 @@ ghost use Rattle.tac_code.specs.Lowered.{IsLowered};
 ghost use Rattle.tac_code.specs.Sound as tac_sound;
 ghost use Rattle.frames_code.specs.Code as flat;
 ghost use Rattle.frames.specs.Translated.{flat_program};
-ghost use Rattle.frames_registers.specs.Renumbered.{IsRenumbered};
+ghost use Rattle.frames_simplified.specs.Simplified.{IsSimplified};
 ghost use Rattle.cc_backend.specs.Made.{IsReady, IsFlatCodeOf};
 
 use frames::flatten;
 use frames_code::FlatProgram;
 use frames_registers::renumber;
+use frames_simplified::simplify;
 use srcset::Fault;
 use std::alloc::{AllocError, Global};
 use tac::lower;
@@ -36,23 +37,24 @@ fn lowered(alloc: Global, program: &Program) -> Result<TacProgram, AllocError>
     lower(alloc, program)
 }
 
-/// The flat code of three-address code, with the words in front that are used most.
-fn resident_code(alloc: Global, code: &TacProgram) -> Result<FlatProgram, AllocError>
+/// The flat code of three-address code, made simpler.
+fn simple_code(alloc: Global, code: &TacProgram) -> Result<FlatProgram, AllocError>
     requires { tac_sound.IsSoundProgram (three_address.program_of code.now) }
-    ensures { IfOk result (λ f. IsRenumbered (flat_program (three_address.program_of code.now)) (flat.program_of f)) }
+    ensures { IfOk result (λ g. IsSimplified (flat_program (three_address.program_of code.now)) (flat.program_of g)) }
 {
     let flat = match flatten(alloc, code) {
         Ok(flat) => flat,
         Err(fault) => return Err(want_of_memory(fault)),
     };
-    renumber(alloc, flat)
+    simplify(alloc, flat)
 }
 
-/// The flat code of a program.
+/// The flat code of a program, with the words in front that are used most.
 pub fn flat_code(alloc: Global, program: &Program) -> Result<FlatProgram, AllocError>
     requires { IsReady (program_of program.now) }
     ensures { IfOk result (λ f. IsFlatCodeOf (program_of program.now) (flat.program_of f)) }
 {
     let code = lowered(alloc, program)?;
-    resident_code(alloc, &code)
+    let simple = simple_code(alloc, &code)?;
+    renumber(alloc, simple)
 }

@@ -1,0 +1,10 @@
+pub mod Acts
+pub mod Stands
+pub mod Alike
+pub mod Steps
+pub mod Runs
+pub mod Positions
+pub mod Results
+pub mod Lists
+pub mod Fitting
+pub mod Whole

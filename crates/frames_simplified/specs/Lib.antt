@@ -1,0 +1,5 @@
+pub mod Bytes
+pub mod Simplified
+pub mod inside
+pub use Rattle.frames_code.specs.Sound
+pub use Rattle.frames_code.specs.Costs

@@ -1,0 +1,31 @@
+-- What it is for a flat program to do what another does, at no more cost.
+use Rattle.std.specs.Prelude.{◌≡◌, ◌≤◌, ℕ, List, map, slice_get, sum_by, Some}
+use Rattle.frames_code.specs.Code.{Function, Program, frame_bytes}
+use Rattle.frames_code.specs.Run.{State, Progress, running, ended, stuck, run, start, active}
+use Rattle.frames_code.specs.Costs.{spent}
+use Rattle.frames_code.specs.Sound.{IsSoundProgram}
+use Rattle.frames_simplified.specs.Bytes.{code_bytes}
+
+-- the second stands with the first, which promises nothing where it is stuck
+abbrev pub DoesTheSame : Progress → Progress → Type 0
+DoesTheSame (running s) (running t) = (t.trace ≡ s.trace) × (t.input ≡ s.input) × (active t ≡ active s)
+DoesTheSame (running s) (ended status input trace) = ⊥
+DoesTheSame (running s) stuck = ⊥
+DoesTheSame (ended status input trace) r = r ≡ ended status input trace
+DoesTheSame stuck r = Unit {0}
+
+abbrev pub IsDefined : Progress → Type 0
+IsDefined (running s) = Unit {0}
+IsDefined (ended status input trace) = Unit {0}
+IsDefined stuck = ⊥
+
+-- program q is p made simpler: after each number of steps it has done the same, has the same calls active, and has cost no more; its frames have the
+-- same bytes, and the code of each function no more
+pub record IsSimplified (p q : Program) : Type 0 where
+  pub runs : (n : ℕ) (input : List ℕ) → DoesTheSame (run p n (start p input)) (run q n (start q input))
+  pub costs : (n : ℕ) (input : List ℕ) → IsDefined (run p n (start p input)) → spent q n (start q input) ≤ spent p n (start p input)
+  pub frames : map frame_bytes q.functions ≡ map frame_bytes p.functions
+  pub bytes : (k : ℕ) (f g : Function) → slice_get p.functions k ≡ Some f → slice_get q.functions k ≡ Some g → sum_by code_bytes g.code ≤ sum_by code_bytes f.code
+  pub sound : IsSoundProgram p → IsSoundProgram q
+  pub statics : q.statics ≡ p.statics
+  pub main : q.main ≡ p.main

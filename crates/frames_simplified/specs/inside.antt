@@ -1,0 +1,6 @@
+-- What only proofs and private functions need: nothing here has to be believed.
+pub mod Facts
+pub mod Rules
+pub mod Unread
+pub mod Passes
+pub mod Functions
