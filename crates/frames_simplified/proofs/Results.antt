@@ -3,7 +3,7 @@ use Rattle.std.proofs.Common.{◌≡◌, ◌≤◌, ℕ, zero, suc, Bool, true, 
 use Rattle.std.specs.Prelude.{Result, Err, IfOk, sum_by}
 use Rattle.std.proofs.lemmas.List.{length-set}
 use Rattle.frames_code.specs.declared.code.Instruction.{Instruction}
-use Rattle.frames_simplified.specs.Bytes.{code_bytes}
+use Rattle.frames.specs.Costs.{code_bytes}
 use Rattle.frames_simplified.specs.inside.Facts.{nothing}
 use Rattle.frames_simplified.specs.inside.Passes.{jump_of, marked_by, marked, all_marked, AreMarked, forward, swept}
 use Rattle.frames_simplified.specs.inside.Functions.{IsImproved, IsSimplerCode, stayed, improved}

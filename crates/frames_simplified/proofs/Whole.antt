@@ -7,7 +7,7 @@ use Rattle.frames_code.specs.Code.{Function, Program, frame_bytes}
 use Rattle.frames_code.specs.Run.{function_at}
 use Rattle.frames_code.specs.Sound.{FunctionFits, IsSoundProgram, places_of}
 use Rattle.frames_simplified.specs.declared.facts.Known.{Known}
-use Rattle.frames_simplified.specs.Bytes.{code_bytes}
+use Rattle.frames.specs.Costs.{code_bytes}
 use Rattle.frames_simplified.specs.Simplified.{IsSimplified}
 use Rattle.frames_simplified.specs.inside.Facts.{nothing}
 use Rattle.frames_simplified.specs.inside.Functions.{IsSimplerCode, stayed, improved, IsSimplerFunction, AreSimpler}

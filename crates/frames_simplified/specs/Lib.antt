@@ -1,4 +1,3 @@
-pub mod Bytes
 pub mod Simplified
 pub mod inside
 pub use Rattle.frames_code.specs.Sound

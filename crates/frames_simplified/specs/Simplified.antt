@@ -4,7 +4,7 @@ use Rattle.frames_code.specs.Code.{Function, Program, frame_bytes}
 use Rattle.frames_code.specs.Run.{State, Progress, running, ended, stuck, run, start, active}
 use Rattle.frames_code.specs.Costs.{spent}
 use Rattle.frames_code.specs.Sound.{IsSoundProgram}
-use Rattle.frames_simplified.specs.Bytes.{code_bytes}
+use Rattle.frames.specs.Costs.{code_bytes}
 
 -- the second stands with the first, which promises nothing where it is stuck
 abbrev pub DoesTheSame : Progress → Progress → Type 0

@@ -2,8 +2,8 @@
 
 ghost use Rattle.std.specs.Prelude.{◌≡◌, ◌≤◌, IfSome, sum_by};
 ghost use Rattle.std.specs.Bool.{OnTrue};
-ghost use Rattle.frames_simplified.specs.Bytes as bytes;
-ghost use Rattle.frames_simplified.specs.Bytes.{code_bytes as bytes_of_code};
+ghost use Rattle.frames.specs.Costs as bytes;
+ghost use Rattle.frames.specs.Costs.{code_bytes as bytes_of_code};
 
 use frames_code::{Instruction, Location, Operand, Target};
 

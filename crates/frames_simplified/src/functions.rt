@@ -3,7 +3,7 @@
 ghost use Rattle.std.specs.Prelude.{◌≡◌, ◌≤◌, map, sum_by, IfOk};
 ghost use Rattle.frames_code.specs.Code as flat;
 ghost use Rattle.frames_code.specs.Code.{function_of};
-ghost use Rattle.frames_simplified.specs.Bytes.{code_bytes};
+ghost use Rattle.frames.specs.Costs.{code_bytes};
 ghost use Rattle.frames_simplified.specs.Simplified.{IsSimplified};
 ghost use Rattle.frames_simplified.specs.inside.Functions.{IsImproved, IsSimplerCode, IsSimplerFunction, AreSimpler};
 

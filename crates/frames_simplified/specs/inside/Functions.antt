@@ -2,7 +2,7 @@
 use Rattle.std.specs.Prelude.{◌≡◌, ◌≤◌, ℕ, Bool, List, [], ◌∷◌, sum_by}
 use Rattle.frames_code.specs.declared.code.Instruction.{Instruction}
 use Rattle.frames_code.specs.Code.{Function}
-use Rattle.frames_simplified.specs.Bytes.{code_bytes}
+use Rattle.frames.specs.Costs.{code_bytes}
 use Rattle.frames_simplified.specs.inside.Facts.{nothing}
 use Rattle.frames_simplified.specs.inside.Passes.{AreMarked, forward, swept}
 

@@ -1,6 +1,6 @@
 use Rattle.std.proofs.Common.{◌≡◌, take}
 use Rattle.std.specs.Prelude.{sum_by}
-use Rattle.frames_simplified.specs.Bytes.{code_bytes}
+use Rattle.frames.specs.Costs.{code_bytes}
 use Rattle.frames_simplified.proofs.bytes.size_of.Given as goal
 
 abbrev pub invariant-loop-instruction : goal.invariant-loop-instruction
