@@ -166,6 +166,7 @@ module _ (p : Program) (parts : Parts) (q : IsImageOf p parts) where
     data_written = writes_data;
     data_aligned = omega arith;
     data_below = omega (arith, q.size, count, q.stack.2);
+    floor_below = omega arith;
     small = λ j. omega arith;
     bytes = small_bytes;
     statics = holds_data;

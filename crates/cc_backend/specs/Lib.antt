@@ -3,6 +3,7 @@ pub use Rattle.tac_code.specs.Lowered
 pub use Rattle.frames_registers.specs.Renumbered
 pub use Rattle.frames.specs.Translated
 pub use Rattle.frames.specs.Flattened
+pub use Rattle.memory_map.specs.MemoryMap
 pub use Rattle.elf_out.specs.Program
 pub use Rattle.select_simulation.specs.Runs as Simulated
 pub use Rattle.select_simulation.specs.Reaching

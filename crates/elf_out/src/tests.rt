@@ -112,17 +112,12 @@ fn sizes_of_stacks(rt: HostRuntime) -> Result<(), Fail> {
 }
 
 #[test]
-fn the_header_of_the_least_stack(rt: HostRuntime) -> Result<(), Fail> {
+fn the_least_stack(rt: HostRuntime) -> Result<(), Fail> {
     let alloc = rt.alloc();
     let text = Vec::from_slice(alloc, &TEXT)?;
     let size = StackSize::new(4096).ok_or("a size")?;
     let image = Image::new(text, Vec::new(alloc), size).ok_or("too large")?;
     let file = write_elf(alloc, &image)?;
-    let want = [
-        1, 0, 0, 0, 0, 0, 0, 0, 0, 0xF0, 0xFF, 0x7F, 0, 0xF0, 0xFF, 0x7F, //
-        0, 0, 0, 0, 0, 0x10, 0, 0, 6, 0, 0, 0, 0, 0x10, 0, 0,
-    ];
-    assert_eq!(rt; &file[116..148], want.as_slice());
     let memory = load(alloc, file.as_slice())?.into_memory();
     assert_eq!(rt; memory.can_write(0x7FFF_F000), true);
     assert_eq!(rt; memory.can_write(0x7FFF_EFFF), false);

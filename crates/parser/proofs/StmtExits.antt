@@ -1,5 +1,5 @@
 -- What the functions that read statements answer at each exit, from what their parts answered.
-use Rattle.std.specs.Prelude.{Option, None, Box, Vec}
+use Rattle.std.specs.Prelude.{Option, None, Vec}
 use Rattle.std.proofs.Common.{◌≡◌, ℕ, ◌+◌, ◌<◌, ◌≤◌, max, inr, List, ◌∷◌, map, refl, arith, Global}
 use Rattle.srcset.specs.declared.refusal.Pos.{Pos}
 use Rattle.lexer.specs.declared.token.Token.{Token}
@@ -11,9 +11,7 @@ use Rattle.tree.specs.declared.expression.Expr.{Expr}
 use Rattle.tree.specs.declared.statement.ForStart.{ForStart}
 use Rattle.tree.specs.declared.statement.BlockItem.{BlockItem}
 use Rattle.tree.specs.declared.statement.Stmt.{Stmt}
-use Rattle.tree.specs.declared.statement.Stmt as V
-use Rattle.tree.specs.declared.statement.Stmt.TheVariants as W
-use Rattle.tree.specs.Tree.{Tree, hole, expression_start, StmtTree, stmt_hole, no_pieces}
+use Rattle.tree.specs.Tree.{Tree, hole, expression_start, StmtTree, stmt_hole, no_pieces, block_stmt, empty_stmt, expression_stmt, if_stmt, if_else_stmt, switch_stmt, case_stmt, default_stmt, while_stmt, do_while_stmt, for_stmt, break_stmt, continue_stmt, return_stmt}
 use Rattle.tree.specs.Counts.{depth, option_depth, stmt_depth, pieces_depth}
 use Rattle.tree.specs.View.{tree_of, option_tree, start_of, pieces_of, stmt_of, piece_of}
 use Rattle.parser_grammar.specs.declared.refusal.Refusal.{Refusal}
@@ -30,7 +28,6 @@ use Rattle.parser.proofs.StmtSorts.{not_true, expr_reads, expr_fails, expr_stand
 use Rattle.parser.proofs.StmtForms.{stmt_whole, labelled_pairs, blank_labelled, tested, tested_pairs, gap_tested, block_heads, gap_body, switch_heads, while_heads, case_pairs, case_heads, gap_case, default_heads, do_pairs, do_heads, for_pairs, for_heads, break_heads, continue_heads, return_heads, nothing_reads, empty_heads}
 use Rattle.parser.proofs.StmtIf.{if_reads, fork_reads}
 use Rattle.parser.proofs.StmtAct.{act_reads}
-use Rattle.parser.proofs.StmtViews.{stmt_Empty, stmt_Break, stmt_Continue, stmt_Expression, stmt_Return, stmt_Block, stmt_If, stmt_IfElse, stmt_Switch, stmt_Case, stmt_Default, stmt_While, stmt_DoWhile, stmt_For}
 
 abbrev FailsStmt : ℕ → List Token → Refusal → Type 0
 FailsStmt d ts f = FailsOf (SpellsStmt None) EndsStmt stmt_depth d ts f
@@ -58,8 +55,8 @@ pub break_fails : (d : ℕ) (p : Pos) (us : List Token) (f : Refusal) → NotFro
 break_fails d p us f none = head_fails _ _ _ break_heads d (d + 1) p _ us f refl refl (mark_fails (kind.Punctuator sign.Semicolon) (d + 1) us f none)
 
 pub break_reads : (d : ℕ) (p q : Pos) (us rest : List Token) → d < 256 → Own (kind.Punctuator sign.Semicolon) q us rest →
-    Answered d (after (kind.Keyword keyword.Break) p us) (stmt_of (W.Break p)) 1 rest
-break_reads d p q us rest lt own = rw (stmt_Break p) (
+    Answered d (after (kind.Keyword keyword.Break) p us) (break_stmt p) 1 rest
+break_reads d p q us rest lt own = (
   head_reads _ _ _ break_heads d (d + 1) p _ us tt 0 rest 1 refl refl
       (mark_reads (kind.Punctuator sign.Semicolon) (d + 1) q us rest own (omega (arith, lt))) refl,
   λ op. absurd (not_true op),
@@ -73,8 +70,8 @@ pub continue_fails : (d : ℕ) (p : Pos) (us : List Token) (f : Refusal) → Not
 continue_fails d p us f none = head_fails _ _ _ continue_heads d (d + 1) p _ us f refl refl (mark_fails (kind.Punctuator sign.Semicolon) (d + 1) us f none)
 
 pub continue_reads : (d : ℕ) (p q : Pos) (us rest : List Token) → d < 256 → Own (kind.Punctuator sign.Semicolon) q us rest →
-    Answered d (after (kind.Keyword keyword.Continue) p us) (stmt_of (W.Continue p)) 1 rest
-continue_reads d p q us rest lt own = rw (stmt_Continue p) (
+    Answered d (after (kind.Keyword keyword.Continue) p us) (continue_stmt p) 1 rest
+continue_reads d p q us rest lt own = (
   head_reads _ _ _ continue_heads d (d + 1) p _ us tt 0 rest 1 refl refl
       (mark_reads (kind.Punctuator sign.Semicolon) (d + 1) q us rest own (omega (arith, lt))) refl,
   λ op. absurd (not_true op),
@@ -83,8 +80,8 @@ continue_reads d p q us rest lt own = rw (stmt_Continue p) (
 pub empty_full : (d : ℕ) (p : Pos) (us : List Token) (f : Refusal) → d ≡ 256 → f ≡ Depth p → StandsStmtAt d (after (kind.Punctuator sign.Semicolon) p us) f
 empty_full d p us f ed ef = head_full _ _ _ empty_heads tt (λ cut. refl) d p _ us f refl ed ef
 
-pub empty_reads : (d : ℕ) (p : Pos) (us : List Token) → d < 256 → Answered d (after (kind.Punctuator sign.Semicolon) p us) (stmt_of (W.Empty p)) 1 us
-empty_reads d p us lt = rw (stmt_Empty p) (
+pub empty_reads : (d : ℕ) (p : Pos) (us : List Token) → d < 256 → Answered d (after (kind.Punctuator sign.Semicolon) p us) (empty_stmt p) 1 us
+empty_reads d p us lt = (
   head_reads _ _ _ empty_heads d (d + 1) p _ us tt 0 us 1 refl refl (nothing_reads (d + 1) us (omega (arith, lt)))
       refl,
   λ op. absurd (not_true op),
@@ -104,16 +101,16 @@ pub return_stands : (d e : ℕ) (p : Pos) (us : List Token) (f : Refusal) → e 
 return_stands d e p us f ed h = head_stands _ _ _ return_heads d e p _ us f refl ed h
 
 pub return_reads : (d e : ℕ) (p : Pos) (us : List Token) (x : Option Expr) (k : ℕ) (rest : List Token) → e ≡ d + 1 → ReadsOf (SpellsEnded sign.Semicolon None)
-    Anywhere option_depth e us (option_tree x) k rest → Answered d (after (kind.Keyword keyword.Return) p us) (stmt_of (W.Return p x)) (k + 1) rest
-return_reads d e p us x k rest ed h = rw (stmt_Return p x) (
+    Anywhere option_depth e us (option_tree x) k rest → Answered d (after (kind.Keyword keyword.Return) p us) (return_stmt p (option_tree x)) (k + 1) rest
+return_reads d e p us x k rest ed h = (
   head_reads _ _ _ return_heads d e p _ us (option_tree x) k rest (k + 1) refl ed h refl,
   λ op. absurd
       (not_true op),
 )
 
 pub expression_reads : (d e : ℕ) (p : Pos) (ts : List Token) (x : Expr) (k : ℕ) (rest : List Token) → ((f : Form) → NotFront (form_kind f) ts) → StartsAt p ts →
-    e ≡ d + 1 → ReadsOf (SpellsClosed sign.Semicolon None) Anywhere depth e ts (tree_of x) k rest → Answered d ts (stmt_of (W.Expression p x)) (k + 1) rest
-expression_reads d e p ts x k rest none starts ed h = rw (stmt_Expression p x) (
+    e ≡ d + 1 → ReadsOf (SpellsClosed sign.Semicolon None) Anywhere depth e ts (tree_of x) k rest → Answered d ts (expression_stmt p (tree_of x)) (k + 1) rest
+expression_reads d e p ts x k rest none starts ed h = (
   act_reads d e p ts (tree_of x) k rest (k + 1) none starts ed h refl,
   λ op.
       absurd (not_true op),
@@ -133,8 +130,8 @@ pub block_stand : (d e : ℕ) (p : Pos) (us : List Token) (f : Refusal) → e �
 block_stand d e p us f ed h = head_stands _ _ _ block_heads d e p _ us f refl ed h
 
 pub block_reads : (d e : ℕ) (p : Pos) (us : List Token) (v : Vec BlockItem Global) (k : ℕ) (rest : List Token) → e ≡ d + 1 → ReadsOf (SpellsBody None) Anywhere
-    pieces_depth e us (pieces_of (map piece_of v.items)) k rest → Answered d (after (kind.Punctuator sign.BraceOpen) p us) (stmt_of (W.Block p v)) (k + 1) rest
-block_reads d e p us v k rest ed h = rw (stmt_Block p v) (
+    pieces_depth e us (pieces_of (map piece_of v.items)) k rest → Answered d (after (kind.Punctuator sign.BraceOpen) p us) (block_stmt p (pieces_of (map piece_of v.items))) (k + 1) rest
+block_reads d e p us v k rest ed h = (
   head_reads _ _ _ block_heads d e p _ us (pieces_of (map piece_of v.items)) k rest (k + 1) refl ed h
       refl,
   λ op. absurd (not_true op),
@@ -176,11 +173,10 @@ pub switch_stands : (d e : ℕ) (p : Pos) (us : List Token) (f : Refusal) → e 
     StandsStmtAt d (after (kind.Keyword keyword.Switch) p us) f
 switch_stands d e p us f ed h = head_stands _ _ _ switch_heads d e p _ us f refl ed h
 
-pub switch_reads : (d e : ℕ) (p : Pos) (us : List Token) (x : Expr) (b : Box Stmt Global) (s : Stmt) (k : ℕ) (rest : List Token) → e ≡ d + 1 → b.value ≡ s →
+pub switch_reads : (d e : ℕ) (p : Pos) (us : List Token) (x : Expr) (s : Stmt) (k : ℕ) (rest : List Token) → e ≡ d + 1 →
     ReadsTested e us (record { test = tree_of x; body = stmt_of s }) k rest × EndsStmt (stmt_of s) rest → Answered d (after (kind.Keyword keyword.Switch) p us)
-    (stmt_of (V.Switch p x b)) (k + 1) rest
-switch_reads d e p us x b s k rest ed eb h = rw (stmt_Switch p x b s eb)
-    (head_reads _ _ _ switch_heads d e p _ us (record { test = tree_of x; body = stmt_of s }) k rest (k + 1) refl ed h.0 refl, h.1)
+    (switch_stmt p (tree_of x) (stmt_of s)) (k + 1) rest
+switch_reads d e p us x s k rest ed h = (head_reads _ _ _ switch_heads d e p _ us (record { test = tree_of x; body = stmt_of s }) k rest (k + 1) refl ed h.0 refl, h.1)
 
 pub while_full : (d : ℕ) (p : Pos) (us : List Token) (f : Refusal) → d ≡ 256 → f ≡ Depth p → StandsStmtAt d (after (kind.Keyword keyword.While) p us) f
 while_full d p us f ed ef = head_full _ _ _ while_heads (tested hole stmt_hole) gap_tested d p _ us f refl ed ef
@@ -193,10 +189,10 @@ pub while_stands : (d e : ℕ) (p : Pos) (us : List Token) (f : Refusal) → e �
     StandsStmtAt d (after (kind.Keyword keyword.While) p us) f
 while_stands d e p us f ed h = head_stands _ _ _ while_heads d e p _ us f refl ed h
 
-pub while_reads : (d e : ℕ) (p : Pos) (us : List Token) (x : Expr) (b : Box Stmt Global) (s : Stmt) (k : ℕ) (rest : List Token) → e ≡ d + 1 → b.value ≡ s →
+pub while_reads : (d e : ℕ) (p : Pos) (us : List Token) (x : Expr) (s : Stmt) (k : ℕ) (rest : List Token) → e ≡ d + 1 →
     ReadsTested e us (record { test = tree_of x; body = stmt_of s }) k rest × EndsStmt (stmt_of s) rest → Answered d (after (kind.Keyword keyword.While) p us)
-    (stmt_of (V.While p x b)) (k + 1) rest
-while_reads d e p us x b s k rest ed eb h = rw (stmt_While p x b s eb) (
+    (while_stmt p (tree_of x) (stmt_of s)) (k + 1) rest
+while_reads d e p us x s k rest ed h = (
   head_reads _ _ _ while_heads d e p _ us (record { test = tree_of x; body = stmt_of s })
       k rest (k + 1) refl ed h.0 refl,
   h.1,
@@ -204,20 +200,20 @@ while_reads d e p us x b s k rest ed eb h = rw (stmt_While p x b s eb) (
 
 -- ---- if
 
-pub branch_reads : (d e : ℕ) (p : Pos) (us : List Token) (x : Expr) (b : Box Stmt Global) (s : Stmt) (k : ℕ) (rest : List Token) → e ≡ d + 1 → b.value ≡ s →
+pub branch_reads : (d e : ℕ) (p : Pos) (us : List Token) (x : Expr) (s : Stmt) (k : ℕ) (rest : List Token) → e ≡ d + 1 →
     ReadsTested e us (record { test = tree_of x; body = stmt_of s }) k rest × EndsStmt (stmt_of s) rest → NotFront (kind.Keyword keyword.Else) rest →
-    Answered d (after (kind.Keyword keyword.If) p us) (stmt_of (V.If p x b)) (k + 1) rest
-branch_reads d e p us x b s k rest ed eb h none = rw (stmt_If p x b s eb) (
+    Answered d (after (kind.Keyword keyword.If) p us) (if_stmt p (tree_of x) (stmt_of s)) (k + 1) rest
+branch_reads d e p us x s k rest ed h none = (
   if_reads d e p _ us (record { test = tree_of x; body = stmt_of s }) k rest (k + 1)
       refl ed h.0 none refl,
   λ op. none,
 )
 
-pub branches_read : (d e : ℕ) (p q : Pos) (us : List Token) (x : Expr) (b c : Box Stmt Global) (s u : Stmt) (k : ℕ) (mid next : List Token) (j : ℕ)
-    (rest : List Token) (m : ℕ) → e ≡ d + 1 → b.value ≡ s → c.value ≡ u → ReadsTested e us (record { test = tree_of x; body = stmt_of s }) k mid
+pub branches_read : (d e : ℕ) (p q : Pos) (us : List Token) (x : Expr) (s u : Stmt) (k : ℕ) (mid next : List Token) (j : ℕ)
+    (rest : List Token) (m : ℕ) → e ≡ d + 1 → ReadsTested e us (record { test = tree_of x; body = stmt_of s }) k mid
     × EndsStmt (stmt_of s) mid → Own (kind.Keyword keyword.Else) q mid next → Answered e next (stmt_of u) j rest → m ≡ max k j + 1 →
-    Answered d (after (kind.Keyword keyword.If) p us) (stmt_of (V.IfElse p x b c)) m rest
-branches_read d e p q us x b c s u k mid next j rest m ed eb ec h el i em = rw (stmt_IfElse p x b c s u eb ec)
+    Answered d (after (kind.Keyword keyword.If) p us) (if_else_stmt p (tree_of x) (stmt_of s) (stmt_of u)) m rest
+branches_read d e p q us x s u k mid next j rest m ed h el i em =
     (fork_reads d e p q _ us (record { test = tree_of x; body = stmt_of s }) k mid next (stmt_of u) j rest m refl ed h.0 h.1 el i.0 em, i.1)
 
 -- ---- a colon and a statement
@@ -253,9 +249,9 @@ pub default_stands : (d e : ℕ) (p : Pos) (us : List Token) (f : Refusal) → e
     StandsStmtAt d (after (kind.Keyword keyword.Default) p us) f
 default_stands d e p us f ed h = head_stands _ _ _ default_heads d e p _ us f refl ed h
 
-pub default_reads : (d e : ℕ) (p : Pos) (us : List Token) (b : Box Stmt Global) (s : Stmt) (k : ℕ) (rest : List Token) → e ≡ d + 1 → b.value ≡ s →
-    AnsweredLabel e us (stmt_of s) k rest → Answered d (after (kind.Keyword keyword.Default) p us) (stmt_of (V.Default p b)) (k + 1) rest
-default_reads d e p us b s k rest ed eb h = rw (stmt_Default p b s eb) (
+pub default_reads : (d e : ℕ) (p : Pos) (us : List Token) (s : Stmt) (k : ℕ) (rest : List Token) → e ≡ d + 1 →
+    AnsweredLabel e us (stmt_of s) k rest → Answered d (after (kind.Keyword keyword.Default) p us) (default_stmt p (stmt_of s)) (k + 1) rest
+default_reads d e p us s k rest ed h = (
   head_reads _ _ _ default_heads d e p _ us (stmt_of s) k rest (k + 1) refl ed h.0 refl,
   h.1,
 )
@@ -281,10 +277,10 @@ pub case_body_stands : (d e : ℕ) (p : Pos) (us : List Token) (x : Tree) (k : �
 case_body_stands d e p us x k mid f ed h bad = head_stands _ _ _ case_heads d e p _ us f refl ed (pair_second_stands _ _ _ _ case_pairs (expr_whole 2) e us x k
     mid f (expr_reads 2 e us x k mid h) bad)
 
-pub case_reads : (d e : ℕ) (p : Pos) (us : List Token) (x : Expr) (k : ℕ) (mid : List Token) (b : Box Stmt Global) (s : Stmt) (j : ℕ) (rest : List Token)
-    (m : ℕ) → e ≡ d + 1 → b.value ≡ s → Reads 2 e us (tree_of x) k mid → AnsweredLabel e mid (stmt_of s) j rest → m ≡ max k j + 1 →
-    Answered d (after (kind.Keyword keyword.Case) p us) (stmt_of (V.Case p x b)) m rest
-case_reads d e p us x k mid b s j rest m ed eb h i em = rw (stmt_Case p x b s eb) (
+pub case_reads : (d e : ℕ) (p : Pos) (us : List Token) (x : Expr) (k : ℕ) (mid : List Token) (s : Stmt) (j : ℕ) (rest : List Token)
+    (m : ℕ) → e ≡ d + 1 → Reads 2 e us (tree_of x) k mid → AnsweredLabel e mid (stmt_of s) j rest → m ≡ max k j + 1 →
+    Answered d (after (kind.Keyword keyword.Case) p us) (case_stmt p (tree_of x) (stmt_of s)) m rest
+case_reads d e p us x k mid s j rest m ed h i em = (
   head_reads _ _ _ case_heads d e p _ us (record { first = tree_of x; second = stmt_of s }) (max k j) rest m refl ed
       (pair_reads _ _ _ _ case_pairs e us (tree_of x) k mid (stmt_of s) j rest (max k j) (expr_reads 2 e us (tree_of x) k mid h) i.0 refl) em,
   i.1,
@@ -312,10 +308,10 @@ pub do_test_stands : (d e : ℕ) (p : Pos) (us : List Token) (a : StmtTree) (k :
 do_test_stands d e p us a k mid f ed h bad = head_stands _ _ _ do_heads d e p _ us f refl ed (pair_second_stands _ _ _ _ do_pairs stmt_whole e us a k mid f h.0
     bad)
 
-pub do_reads : (d e : ℕ) (p : Pos) (us : List Token) (b : Box Stmt Global) (s : Stmt) (k : ℕ) (mid : List Token) (x : Expr) (j : ℕ) (rest : List Token) (m : ℕ)
-    → e ≡ d + 1 → b.value ≡ s → Answered e us (stmt_of s) k mid → ReadsOf (SpellsDoEnd None) Anywhere depth e mid (tree_of x) j rest → m ≡ max k j + 1 →
-    Answered d (after (kind.Keyword keyword.Do) p us) (stmt_of (V.DoWhile p b x)) m rest
-do_reads d e p us b s k mid x j rest m ed eb h i em = rw (stmt_DoWhile p b x s eb) (
+pub do_reads : (d e : ℕ) (p : Pos) (us : List Token) (s : Stmt) (k : ℕ) (mid : List Token) (x : Expr) (j : ℕ) (rest : List Token) (m : ℕ)
+    → e ≡ d + 1 → Answered e us (stmt_of s) k mid → ReadsOf (SpellsDoEnd None) Anywhere depth e mid (tree_of x) j rest → m ≡ max k j + 1 →
+    Answered d (after (kind.Keyword keyword.Do) p us) (do_while_stmt p (stmt_of s) (tree_of x)) m rest
+do_reads d e p us s k mid x j rest m ed h i em = (
   head_reads _ _ _ do_heads d e p _ us (record { first = stmt_of s; second = tree_of x }) (max k j) rest m refl ed
       (pair_reads _ _ _ _ do_pairs e us (stmt_of s) k mid (tree_of x) j rest (max k j) h.0 i refl) em,
   λ op. absurd (not_true op),
@@ -345,11 +341,11 @@ pub for_body_stands : (d e : ℕ) (p : Pos) (us : List Token) (x : ForHeadTree) 
 for_body_stands d e p us x k mid f ed h bad = head_stands _ _ _ for_heads d e p _ us f refl ed (pair_second_stands _ _ _ _ for_pairs for_head_whole e us x k mid
     f h bad)
 
-pub for_reads : (d e : ℕ) (p : Pos) (us : List Token) (i : ForStart) (t n : Option Expr) (k : ℕ) (mid : List Token) (b : Box Stmt Global) (s : Stmt) (j : ℕ)
-    (rest : List Token) (m : ℕ) → e ≡ d + 1 → b.value ≡ s → ReadsOf (SpellsForHead None) Anywhere for_head_depth e us
+pub for_reads : (d e : ℕ) (p : Pos) (us : List Token) (i : ForStart) (t n : Option Expr) (k : ℕ) (mid : List Token) (s : Stmt) (j : ℕ)
+    (rest : List Token) (m : ℕ) → e ≡ d + 1 → ReadsOf (SpellsForHead None) Anywhere for_head_depth e us
     (record { start = start_of i; test = option_tree t; step = option_tree n }) k mid → Answered e mid (stmt_of s) j rest → m ≡ max k j + 1 →
-    Answered d (after (kind.Keyword keyword.For) p us) (stmt_of (V.For p i t n b)) m rest
-for_reads d e p us i t n k mid b s j rest m ed eb h g em = rw (stmt_For p i t n b s eb) (
+    Answered d (after (kind.Keyword keyword.For) p us) (for_stmt p (start_of i) (option_tree t) (option_tree n) (stmt_of s)) m rest
+for_reads d e p us i t n k mid s j rest m ed h g em = (
   head_reads _ _ _ for_heads d e p _ us (record { first = record { start = start_of i; test = option_tree t; step = option_tree n }; second = stmt_of s })
       (max k j) rest m refl ed (pair_reads _ _ _ _ for_pairs e us (record { start = start_of i; test = option_tree t; step = option_tree n }) k mid (stmt_of s) j
       rest (max k j) h g.0 refl) em,

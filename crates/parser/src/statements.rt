@@ -5,9 +5,15 @@ ghost use Rattle.lexer.specs.declared.token.Token.{Token};
 ghost use Rattle.parser.specs.declared.statement_parts.Form.{Form};
 ghost use Rattle.parser.specs.declared.statement_parts.Form.TheVariants as form;
 ghost use Rattle.parser_grammar.specs.Tokens.{NotFront};
+ghost use Rattle.parser_declarations.specs.DeclarationAnswers.{BeginsDeclaration};
 ghost use Rattle.parser.specs.inside.StatementAnswers.{AnswersStmt, StandsStmt, AnswersBody, StandsBody};
 ghost use Rattle.parser.specs.inside.StmtParts.{form_kind, AnswersLabelled, StandsLabelled, AnswersTested, StandsTested, AnswersPiece, StandsPiece};
 
+use crate::nodes::{
+    block_node, break_node, case_node, continue_node, declaration_piece, default_node,
+    do_while_node, empty_node, expression_node, for_node, if_else_node, if_node, push_unboxed,
+    return_node, statement_piece, switch_node, while_node,
+};
 use crate::statement_parts::{
     Form, closed_expression, do_end, expression_place, for_head, form_front, optional_expression,
     test_expression,
@@ -21,10 +27,11 @@ use srcset::Pos;
 use std::alloc::Global;
 use tree::{BlockItem, Expr, Stmt};
 
-/// A statement at the front of a list, its depth, and the rest of the list.
+/// A statement at the front of a list, its depth, and the rest of the list. It is boxed: reading goes as deep as the tree does, and
+/// what a level leaves on the host's stack is small.
 #[derive(Drop)]
 pub(crate) struct StmtPart<'t> {
-    pub stmt: Stmt,
+    pub stmt: Box<Stmt>,
     pub depth: u32,
     pub rest: &'t [Token],
 }
@@ -33,7 +40,7 @@ pub(crate) struct StmtPart<'t> {
 #[derive(Drop)]
 pub(crate) struct TestedPart<'t> {
     pub test: Expr,
-    pub body: Stmt,
+    pub body: Box<Stmt>,
     pub depth: u32,
     pub rest: &'t [Token],
 }
@@ -41,7 +48,7 @@ pub(crate) struct TestedPart<'t> {
 /// A declaration or statement of a block, its depth, and the rest of the list.
 #[derive(Drop)]
 pub(crate) struct BlockItemPart<'t> {
-    pub item: BlockItem,
+    pub item: Box<BlockItem>,
     pub depth: u32,
     pub rest: &'t [Token],
 }
@@ -72,7 +79,7 @@ pub(crate) fn statement<'t>(
     };
     match form {
         Form::Block => block(alloc, pos, rest, depth),
-        Form::Empty => empty_statement(pos, rest, depth),
+        Form::Empty => empty_statement(alloc, pos, rest, depth),
         Form::If => if_statement(alloc, pos, rest, depth),
         Form::Switch => switch_statement(alloc, pos, rest, depth),
         Form::Case => case_statement(alloc, pos, rest, depth),
@@ -80,8 +87,8 @@ pub(crate) fn statement<'t>(
         Form::While => while_statement(alloc, pos, rest, depth),
         Form::Do => do_statement(alloc, pos, rest, depth),
         Form::For => for_statement(alloc, pos, rest, depth),
-        Form::Break => break_statement(pos, rest, depth),
-        Form::Continue => continue_statement(pos, rest, depth),
+        Form::Break => break_statement(alloc, pos, rest, depth),
+        Form::Continue => continue_statement(alloc, pos, rest, depth),
         Form::Return => return_statement(alloc, pos, rest, depth),
     }
 }
@@ -114,8 +121,29 @@ pub(crate) fn block_items<'t>(
         let next = block_item(alloc, rest, depth)?;
         deepest = deepest.max(next.depth);
         rest = next.rest;
-        items.push(next.item)?;
+        push_unboxed(&mut items, next.item)?;
     }
+}
+
+/// A declaration of a block (6.8.2), below so many nodes.
+#[inline(never)]
+fn declared_item<'t>(
+    alloc: Global,
+    tokens: &'t [Token],
+    depth: u32,
+) -> Result<BlockItemPart<'t>, Refusal>
+    requires room { depth ≤ 256 }
+    requires begins { BeginsDeclaration tokens.now }
+    ensures answer { AnswersPiece depth tokens.now result }
+    ensures stands { IfErr result (λ f. StandsPiece depth tokens.now f) }
+    ensures shorter { IfOk result (λ p. length p.rest.now < length tokens.now) }
+{
+    let part = declaration(alloc, tokens, depth)?;
+    Ok(BlockItemPart {
+        item: declaration_piece(alloc, part.declaration)?,
+        depth: part.depth,
+        rest: part.rest,
+    })
 }
 
 /// A declaration or a statement (6.8.2), below so many nodes.
@@ -132,16 +160,11 @@ fn block_item<'t>(
     ensures shorter { IfOk result (λ p. length p.rest.now < length tokens.now) }
 {
     if begins_declaration(tokens) {
-        let part = declaration(alloc, tokens, depth)?;
-        return Ok(BlockItemPart {
-            item: BlockItem::Declaration(part.declaration),
-            depth: part.depth,
-            rest: part.rest,
-        });
+        return declared_item(alloc, tokens, depth);
     }
     let part = statement(alloc, tokens, depth)?;
     Ok(BlockItemPart {
-        item: BlockItem::Statement(part.stmt),
+        item: statement_piece(alloc, part.stmt)?,
         depth: part.depth,
         rest: part.rest,
     })
@@ -206,7 +229,7 @@ fn block<'t>(
     let below = down(depth, pos)?;
     let body = block_items(alloc, tokens, below)?;
     Ok(StmtPart {
-        stmt: Stmt::Block(pos, body.items),
+        stmt: block_node(alloc, pos, body.items)?,
         depth: body.depth + 1,
         rest: body.rest,
     })
@@ -230,7 +253,7 @@ fn if_statement<'t>(
     let first = tested_statement(alloc, tokens, below)?;
     let Some((_, rest)) = keyword_front(first.rest, Keyword::Else) else {
         return Ok(StmtPart {
-            stmt: Stmt::If(pos, first.test, Box::new(alloc, first.body)?),
+            stmt: if_node(alloc, pos, first.test, first.body)?,
             depth: first.depth + 1,
             rest: first.rest,
         });
@@ -238,12 +261,7 @@ fn if_statement<'t>(
     let second = statement(alloc, rest, below)?;
     let depth = first.depth.max(second.depth) + 1;
     Ok(StmtPart {
-        stmt: Stmt::IfElse(
-            pos,
-            first.test,
-            Box::new(alloc, first.body)?,
-            Box::new(alloc, second.stmt)?,
-        ),
+        stmt: if_else_node(alloc, pos, first.test, first.body, second.stmt)?,
         depth,
         rest: second.rest,
     })
@@ -266,7 +284,7 @@ fn switch_statement<'t>(
     let below = down(depth, pos)?;
     let part = tested_statement(alloc, tokens, below)?;
     Ok(StmtPart {
-        stmt: Stmt::Switch(pos, part.test, Box::new(alloc, part.body)?),
+        stmt: switch_node(alloc, pos, part.test, part.body)?,
         depth: part.depth + 1,
         rest: part.rest,
     })
@@ -289,7 +307,7 @@ fn while_statement<'t>(
     let below = down(depth, pos)?;
     let part = tested_statement(alloc, tokens, below)?;
     Ok(StmtPart {
-        stmt: Stmt::While(pos, part.test, Box::new(alloc, part.body)?),
+        stmt: while_node(alloc, pos, part.test, part.body)?,
         depth: part.depth + 1,
         rest: part.rest,
     })
@@ -314,7 +332,7 @@ fn case_statement<'t>(
     let body = labelled_statement(alloc, value.rest, below)?;
     let depth = value.depth.max(body.depth) + 1;
     Ok(StmtPart {
-        stmt: Stmt::Case(pos, value.expr, Box::new(alloc, body.stmt)?),
+        stmt: case_node(alloc, pos, value.expr, body.stmt)?,
         depth,
         rest: body.rest,
     })
@@ -337,7 +355,7 @@ fn default_statement<'t>(
     let below = down(depth, pos)?;
     let body = labelled_statement(alloc, tokens, below)?;
     Ok(StmtPart {
-        stmt: Stmt::Default(pos, Box::new(alloc, body.stmt)?),
+        stmt: default_node(alloc, pos, body.stmt)?,
         depth: body.depth + 1,
         rest: body.rest,
     })
@@ -362,7 +380,7 @@ fn do_statement<'t>(
     let test = do_end(alloc, body.rest, below)?;
     let depth = body.depth.max(test.depth) + 1;
     Ok(StmtPart {
-        stmt: Stmt::DoWhile(pos, Box::new(alloc, body.stmt)?, test.expr),
+        stmt: do_while_node(alloc, pos, body.stmt, test.expr)?,
         depth,
         rest: test.rest,
     })
@@ -387,13 +405,7 @@ fn for_statement<'t>(
     let body = statement(alloc, head.rest, below)?;
     let depth = head.depth.max(body.depth) + 1;
     Ok(StmtPart {
-        stmt: Stmt::For(
-            pos,
-            head.start,
-            head.test,
-            head.step,
-            Box::new(alloc, body.stmt)?,
-        ),
+        stmt: for_node(alloc, pos, head.start, head.test, head.step, body.stmt)?,
         depth,
         rest: body.rest,
     })
@@ -401,7 +413,12 @@ fn for_statement<'t>(
 
 /// `;` (6.8.3).
 #[inline(never)]
-fn empty_statement<'t>(pos: Pos, tokens: &'t [Token], depth: u32) -> Result<StmtPart<'t>, Refusal>
+fn empty_statement<'t>(
+    alloc: Global,
+    pos: Pos,
+    tokens: &'t [Token],
+    depth: u32,
+) -> Result<StmtPart<'t>, Refusal>
     requires { depth ≤ 256 }
     ensures answer { AnswersStmt depth (record { kind = form_kind form.Empty; pos = pos } ∷ tokens.now) result }
     ensures stands { IfErr result (λ f. StandsStmt depth (record { kind = form_kind form.Empty; pos = pos } ∷ tokens.now) f) }
@@ -409,7 +426,7 @@ fn empty_statement<'t>(pos: Pos, tokens: &'t [Token], depth: u32) -> Result<Stmt
 {
     down(depth, pos)?;
     Ok(StmtPart {
-        stmt: Stmt::Empty(pos),
+        stmt: empty_node(alloc, pos)?,
         depth: 1,
         rest: tokens,
     })
@@ -417,7 +434,12 @@ fn empty_statement<'t>(pos: Pos, tokens: &'t [Token], depth: u32) -> Result<Stmt
 
 /// `break` (6.8.6.3), after that word.
 #[inline(never)]
-fn break_statement<'t>(pos: Pos, tokens: &'t [Token], depth: u32) -> Result<StmtPart<'t>, Refusal>
+fn break_statement<'t>(
+    alloc: Global,
+    pos: Pos,
+    tokens: &'t [Token],
+    depth: u32,
+) -> Result<StmtPart<'t>, Refusal>
     requires { depth ≤ 256 }
     ensures answer { AnswersStmt depth (record { kind = form_kind form.Break; pos = pos } ∷ tokens.now) result }
     ensures stands { IfErr result (λ f. StandsStmt depth (record { kind = form_kind form.Break; pos = pos } ∷ tokens.now) f) }
@@ -426,7 +448,7 @@ fn break_statement<'t>(pos: Pos, tokens: &'t [Token], depth: u32) -> Result<Stmt
     down(depth, pos)?;
     let rest = expect_sign(tokens, Punctuator::Semicolon)?;
     Ok(StmtPart {
-        stmt: Stmt::Break(pos),
+        stmt: break_node(alloc, pos)?,
         depth: 1,
         rest,
     })
@@ -435,6 +457,7 @@ fn break_statement<'t>(pos: Pos, tokens: &'t [Token], depth: u32) -> Result<Stmt
 /// `continue` (6.8.6.2), after that word.
 #[inline(never)]
 fn continue_statement<'t>(
+    alloc: Global,
     pos: Pos,
     tokens: &'t [Token],
     depth: u32,
@@ -447,7 +470,7 @@ fn continue_statement<'t>(
     down(depth, pos)?;
     let rest = expect_sign(tokens, Punctuator::Semicolon)?;
     Ok(StmtPart {
-        stmt: Stmt::Continue(pos),
+        stmt: continue_node(alloc, pos)?,
         depth: 1,
         rest,
     })
@@ -469,7 +492,7 @@ fn return_statement<'t>(
     let below = down(depth, pos)?;
     let value = optional_expression(alloc, tokens, below, Punctuator::Semicolon)?;
     Ok(StmtPart {
-        stmt: Stmt::Return(pos, value.expr),
+        stmt: return_node(alloc, pos, value.expr)?,
         depth: value.depth + 1,
         rest: value.rest,
     })
@@ -494,7 +517,7 @@ fn expression_statement<'t>(
     let below = down(depth, pos)?;
     let part = closed_expression(alloc, tokens, below, Punctuator::Semicolon)?;
     Ok(StmtPart {
-        stmt: Stmt::Expression(pos, part.expr),
+        stmt: expression_node(alloc, pos, part.expr)?,
         depth: part.depth + 1,
         rest: part.rest,
     })

@@ -18,7 +18,7 @@ use Rattle.tree.specs.Counts.{depth, type_depth}
 use Rattle.parser_grammar.proofs.Exits.{err_passed_on}
 use Rattle.parser_grammar.specs.declared.refusal.Refusal.{Refusal}
 use Rattle.parser_grammar.specs.declared.refusal.Refusal.TheVariants.{Syntax, Depth, Memory}
-use Rattle.parser_expressions.specs.declared.expressions.Part.{Part}
+use Rattle.parser_expressions.specs.declared.expressions.BoxedPart.{BoxedPart}
 use Rattle.parser_grammar.specs.Expressions.{binary_sign, prefix_sign, step_sign, assign_sign, layer_of, layer, Spells}
 use Rattle.parser_grammar.specs.Tokens.{Own, Reaches}
 use Rattle.parser_grammar.specs.inside.Answer.{ReadsOf, Anywhere}
@@ -60,7 +60,7 @@ lift_layer m n d ts (Depth at) le h = record {
 }
 
 -- the same of a result
-pub lift_result : (m n d : ℕ) (ts : List Token) (r : Result Part Refusal) → m ≤ n → IfErr r (λ f. Stands n d ts f) → IfErr r (λ f. Stands m d ts f)
+pub lift_result : (m n d : ℕ) (ts : List Token) (r : Result BoxedPart Refusal) → m ≤ n → IfErr r (λ f. Stands n d ts f) → IfErr r (λ f. Stands m d ts f)
 lift_result m n d ts (Ok p) le h = tt
 lift_result m n d ts (Err f) le h = lift_layer m n d ts f le h
 
@@ -298,7 +298,7 @@ assign_lift d ts cur us e k at op f own h le s =
 
 -- ---- the exit of a `?`
 
-pub pass_stands : (n d : ℕ) (ts : List Token) (r : Result Part Refusal) (f : Refusal) → IsErrAnd r (λ e. e ≡ f) → Stands n d ts f →
+pub pass_stands : (n d : ℕ) (ts : List Token) (r : Result BoxedPart Refusal) (f : Refusal) → IsErrAnd r (λ e. e ≡ f) → Stands n d ts f →
     IfErr r (λ e. Stands n d ts e)
 pass_stands n d ts r f is h = err_passed_on (Stands n d ts) r f is h
 

@@ -21,10 +21,11 @@ use Rattle.tree.specs.Counts.{depth}
 use Rattle.parser_grammar.proofs.Exits.{passed_on}
 use Rattle.parser_grammar.specs.declared.refusal.Refusal.{Refusal}
 use Rattle.parser_grammar.specs.declared.refusal.Refusal.TheVariants.{Depth}
-use Rattle.parser_expressions.specs.declared.expressions.Part.{Part}
+use Rattle.parser_expressions.specs.declared.expressions.BoxedPart.{BoxedPart}
 use Rattle.parser_grammar.specs.Expressions.{prefix_sign, step_sign, assign_sign, layer, Spells}
 use Rattle.parser_grammar.specs.Tokens.{Own, NotFront}
-use Rattle.parser_expressions.specs.ExpressionAnswers.{sign_power, power, Stops, Front, Reads, Fails, Answers, BeginsType}
+use Rattle.parser_expressions.specs.inside.PartAnswers.{AnswersBoxed}
+use Rattle.parser_expressions.specs.ExpressionAnswers.{sign_power, power, Stops, Front, Reads, Fails, BeginsType}
 use Rattle.parser_grammar.proofs.Tokens.{no_hole, own_once, own_kinds, mark_own}
 use Rattle.parser_expressions.proofs.Leads.{whole_deep, whole_begins, begins_apart}
 use Rattle.parser_expressions.specs.ExpressionLeads.{BeginsExpression}
@@ -154,8 +155,8 @@ wrap_reads n m d ts us w e k mid rest le sp dep inv h = record {
 }
 
 -- an answer at a tighter layer, where only its trees stand
-pub raise : (m n d : ℕ) (ts : List Token) (r : Result Part Refusal) → m ≤ n → ((t : Tree) (x : List Token) → Front m t ts x → n ≤ layer t) → Answers n d ts r →
-    Answers m d ts r
+pub raise : (m n d : ℕ) (ts : List Token) (r : Result BoxedPart Refusal) → m ≤ n → ((t : Tree) (x : List Token) → Front m t ts x → n ≤ layer t) → AnswersBoxed n d ts r →
+    AnswersBoxed m d ts r
 raise m n d ts (Ok p) le up h = record {
   tight = omega (arith, le, h.tight);
   spells = h.spells;
@@ -168,8 +169,8 @@ raise m n d ts (Err f) le up h = record {
 }
 
 -- the exit of a `?`
-pub pass : (n d : ℕ) (ts : List Token) (r : Result Part Refusal) (f : Refusal) → IsErrAnd r (λ e. e ≡ f) → Fails n d ts f → Answers n d ts r
-pass n d ts r f is h = passed_on (Answers n d ts) r f is h
+pub pass : (n d : ℕ) (ts : List Token) (r : Result BoxedPart Refusal) (f : Refusal) → IsErrAnd r (λ e. e ≡ f) → Fails n d ts f → AnswersBoxed n d ts r
+pass n d ts r f is h = passed_on (AnswersBoxed n d ts) r f is h
 
 -- ---- a type in parentheses
 

@@ -13,12 +13,17 @@ ghost use Rattle.parser_grammar.specs.Tokens.{Own, NotFront};
 ghost use Rattle.parser_grammar.specs.Expressions.{layer_of, binary_sign};
 ghost use Rattle.parser_expressions.specs.ExpressionAnswers.{BeginsType, Answers, Stands};
 ghost use Rattle.parser_expressions.specs.ExpressionLeads.{KindBeginsExpression, BeginsExpression};
-ghost use Rattle.parser_expressions.specs.inside.PartAnswers.{AnswersArguments, StandsArguments, AnswersType, StandsType};
+ghost use Rattle.parser_expressions.specs.inside.PartAnswers.{AnswersBoxed, AnswersArguments, StandsArguments, AnswersType, StandsType};
 ghost use Rattle.parser_grammar.specs.declared.refusal.Refusal.TheVariants.{Memory};
 
 use crate::fronts::{
     above, constant_front, down, expect_sign, identifier_front, keyword_front, sign_front,
     string_front,
+};
+use crate::nodes::{
+    after_node, assign_node, before_node, binary_node, call_node, cast_node, conditional_node,
+    constant_node, name_node, paren_node, prefix_node, push_unboxed, size_node, string_node,
+    subscript_node, type_size_node,
 };
 use crate::operators::{
     assign_front, binary_front, is_unary, layer_number, prefix_front, step_front,
@@ -34,6 +39,14 @@ use tree::{BinaryOp, Expr, StepOp, TypeName};
 #[derive(Drop)]
 pub struct Part<'t> {
     pub expr: Expr,
+    pub depth: u32,
+    pub rest: &'t [Token],
+}
+
+/// The same, boxed: reading goes as deep as the tree does, and what a level leaves on the host's stack is small.
+#[derive(Drop)]
+pub(crate) struct BoxedPart<'t> {
+    pub expr: Box<Expr>,
     pub depth: u32,
     pub rest: &'t [Token],
 }
@@ -105,24 +118,19 @@ fn join<'t>(
     alloc: Global,
     pos: Pos,
     op: BinaryOp,
-    left: Part<'t>,
-    right: Part<'t>,
-) -> Result<Part<'t>, Refusal>
+    left: BoxedPart<'t>,
+    right: BoxedPart<'t>,
+) -> Result<BoxedPart<'t>, Refusal>
     requires left { left.depth ≤ 256 }
     requires right { right.depth ≤ 256 }
-    ensures ok { IfOk result (λ p. tree_of p.expr ≡ binary pos op (tree_of left.entry.expr) (tree_of right.entry.expr)) }
+    ensures ok { IfOk result (λ p. tree_of p.expr.value ≡ binary pos op (tree_of left.entry.expr.value) (tree_of right.entry.expr.value)) }
     ensures depth { IfOk result (λ p. p.depth ≡ max left.entry.depth right.entry.depth + 1) }
     ensures rest { IfOk result (λ p. p.rest.now ≡ right.entry.rest.now) }
     ensures err { IfErr result (λ f. f ≡ Memory) }
 {
     let depth = left.depth.max(right.depth) + 1;
-    Ok(Part {
-        expr: Expr::Binary(
-            pos,
-            op,
-            Box::new(alloc, left.expr)?,
-            Box::new(alloc, right.expr)?,
-        ),
+    Ok(BoxedPart {
+        expr: binary_node(alloc, pos, op, left.expr, right.expr)?,
         depth,
         rest: right.rest,
     })
@@ -133,24 +141,20 @@ fn join<'t>(
 fn join_index<'t>(
     alloc: Global,
     pos: Pos,
-    left: Part<'t>,
-    index: Part<'t>,
+    left: BoxedPart<'t>,
+    index: BoxedPart<'t>,
     rest: &'t [Token],
-) -> Result<Part<'t>, Refusal>
+) -> Result<BoxedPart<'t>, Refusal>
     requires left { left.depth ≤ 256 }
     requires index { index.depth ≤ 256 }
-    ensures ok { IfOk result (λ p. tree_of p.expr ≡ subscript pos (tree_of left.entry.expr) (tree_of index.entry.expr)) }
+    ensures ok { IfOk result (λ p. tree_of p.expr.value ≡ subscript pos (tree_of left.entry.expr.value) (tree_of index.entry.expr.value)) }
     ensures depth { IfOk result (λ p. p.depth ≡ max left.entry.depth index.entry.depth + 1) }
     ensures rest { IfOk result (λ p. p.rest.now ≡ rest.now) }
     ensures err { IfErr result (λ f. f ≡ Memory) }
 {
     let depth = left.depth.max(index.depth) + 1;
-    Ok(Part {
-        expr: Expr::Subscript(
-            pos,
-            Box::new(alloc, left.expr)?,
-            Box::new(alloc, index.expr)?,
-        ),
+    Ok(BoxedPart {
+        expr: subscript_node(alloc, pos, left.expr, index.expr)?,
         depth,
         rest,
     })
@@ -162,24 +166,36 @@ fn join_step<'t>(
     alloc: Global,
     pos: Pos,
     op: StepOp,
-    left: Part<'t>,
+    left: BoxedPart<'t>,
     rest: &'t [Token],
-) -> Result<Part<'t>, Refusal>
+) -> Result<BoxedPart<'t>, Refusal>
     requires left { left.depth ≤ 256 }
-    ensures ok { IfOk result (λ p. tree_of p.expr ≡ after pos op (tree_of left.entry.expr)) }
+    ensures ok { IfOk result (λ p. tree_of p.expr.value ≡ after pos op (tree_of left.entry.expr.value)) }
     ensures depth { IfOk result (λ p. p.depth ≡ left.entry.depth + 1) }
     ensures rest { IfOk result (λ p. p.rest.now ≡ rest.now) }
     ensures err { IfErr result (λ f. f ≡ Memory) }
 {
-    Ok(Part {
-        expr: Expr::After(pos, op, Box::new(alloc, left.expr)?),
+    Ok(BoxedPart {
+        expr: after_node(alloc, pos, op, left.expr)?,
         depth: left.depth + 1,
         rest,
     })
 }
 
+// The part that is boxed.
+fn unboxed<'t>(part: BoxedPart<'t>) -> Part<'t>
+    ensures expr { result.expr ≡ part.entry.expr.value }
+    ensures depth { result.depth ≡ part.entry.depth }
+    ensures rest { result.rest.now ≡ part.entry.rest.now }
+{
+    Part {
+        expr: Box::into_inner(part.expr),
+        depth: part.depth,
+        rest: part.rest,
+    }
+}
+
 /// An expression (6.5.17), below so many nodes.
-#[cycle(expressions)]
 #[inline(never)]
 pub fn expression<'t>(alloc: Global, tokens: &'t [Token], depth: u32) -> Result<Part<'t>, Refusal>
     requires { depth ≤ 256 }
@@ -187,17 +203,13 @@ pub fn expression<'t>(alloc: Global, tokens: &'t [Token], depth: u32) -> Result<
     ensures stands { IfErr result (λ f. Stands 0 depth tokens.now f) }
     ensures shorter { IfOk result (λ p. length p.rest.now < length tokens.now) }
 {
-    let mut left = assignment(alloc, tokens, depth)?;
-    while let Some((pos, rest)) = sign_front(left.rest, Punctuator::Comma) {
-        let below = above(depth, left.depth, pos)?;
-        let right = assignment(alloc, rest, below)?;
-        left = join(alloc, pos, BinaryOp::Comma, left, right)?;
+    match read_expression(alloc, tokens, depth) {
+        Ok(part) => Ok(unboxed(part)),
+        Err(refusal) => Err(refusal),
     }
-    Ok(left)
 }
 
 /// An assignment expression (6.5.16), below so many nodes.
-#[cycle(expressions)]
 #[inline(never)]
 pub fn assignment<'t>(alloc: Global, tokens: &'t [Token], depth: u32) -> Result<Part<'t>, Refusal>
     requires { depth ≤ 256 }
@@ -205,7 +217,62 @@ pub fn assignment<'t>(alloc: Global, tokens: &'t [Token], depth: u32) -> Result<
     ensures stands { IfErr result (λ f. Stands 1 depth tokens.now f) }
     ensures shorter { IfOk result (λ p. length p.rest.now < length tokens.now) }
 {
-    let left = conditional(alloc, tokens, depth)?;
+    match read_assignment(alloc, tokens, depth) {
+        Ok(part) => Ok(unboxed(part)),
+        Err(refusal) => Err(refusal),
+    }
+}
+
+/// A conditional expression (6.5.15), below so many nodes.
+#[inline(never)]
+pub fn conditional<'t>(alloc: Global, tokens: &'t [Token], depth: u32) -> Result<Part<'t>, Refusal>
+    requires { depth ≤ 256 }
+    ensures answer { Answers 2 depth tokens.now result }
+    ensures stands { IfErr result (λ f. Stands 2 depth tokens.now f) }
+    ensures shorter { IfOk result (λ p. length p.rest.now < length tokens.now) }
+{
+    match read_conditional(alloc, tokens, depth) {
+        Ok(part) => Ok(unboxed(part)),
+        Err(refusal) => Err(refusal),
+    }
+}
+
+// An expression (6.5.17), below so many nodes.
+#[cycle(expressions)]
+#[inline(never)]
+fn read_expression<'t>(
+    alloc: Global,
+    tokens: &'t [Token],
+    depth: u32,
+) -> Result<BoxedPart<'t>, Refusal>
+    requires { depth ≤ 256 }
+    ensures answer { AnswersBoxed 0 depth tokens.now result }
+    ensures stands { IfErr result (λ f. Stands 0 depth tokens.now f) }
+    ensures shorter { IfOk result (λ p. length p.rest.now < length tokens.now) }
+{
+    let mut left = read_assignment(alloc, tokens, depth)?;
+    while let Some((pos, rest)) = sign_front(left.rest, Punctuator::Comma) {
+        let below = above(depth, left.depth, pos)?;
+        let right = read_assignment(alloc, rest, below)?;
+        left = join(alloc, pos, BinaryOp::Comma, left, right)?;
+    }
+    Ok(left)
+}
+
+// An assignment expression (6.5.16), below so many nodes.
+#[cycle(expressions)]
+#[inline(never)]
+fn read_assignment<'t>(
+    alloc: Global,
+    tokens: &'t [Token],
+    depth: u32,
+) -> Result<BoxedPart<'t>, Refusal>
+    requires { depth ≤ 256 }
+    ensures answer { AnswersBoxed 1 depth tokens.now result }
+    ensures stands { IfErr result (λ f. Stands 1 depth tokens.now f) }
+    ensures shorter { IfOk result (λ p. length p.rest.now < length tokens.now) }
+{
+    let left = read_conditional(alloc, tokens, depth)?;
     let Some((pos, op, rest)) = assign_front(left.rest) else {
         return Ok(left);
     };
@@ -213,26 +280,25 @@ pub fn assignment<'t>(alloc: Global, tokens: &'t [Token], depth: u32) -> Result<
         return Err(Refusal::Syntax(left.rest.len()));
     }
     let below = above(depth, left.depth, pos)?;
-    let right = assignment(alloc, rest, below)?;
+    let right = read_assignment(alloc, rest, below)?;
     let depth = left.depth.max(right.depth) + 1;
-    Ok(Part {
-        expr: Expr::Assign(
-            pos,
-            op,
-            Box::new(alloc, left.expr)?,
-            Box::new(alloc, right.expr)?,
-        ),
+    Ok(BoxedPart {
+        expr: assign_node(alloc, pos, op, left.expr, right.expr)?,
         depth,
         rest: right.rest,
     })
 }
 
-/// A conditional expression (6.5.15), below so many nodes.
+// A conditional expression (6.5.15), below so many nodes.
 #[cycle(expressions)]
 #[inline(never)]
-pub fn conditional<'t>(alloc: Global, tokens: &'t [Token], depth: u32) -> Result<Part<'t>, Refusal>
+fn read_conditional<'t>(
+    alloc: Global,
+    tokens: &'t [Token],
+    depth: u32,
+) -> Result<BoxedPart<'t>, Refusal>
     requires { depth ≤ 256 }
-    ensures answer { Answers 2 depth tokens.now result }
+    ensures answer { AnswersBoxed 2 depth tokens.now result }
     ensures stands { IfErr result (λ f. Stands 2 depth tokens.now f) }
     ensures shorter { IfOk result (λ p. length p.rest.now < length tokens.now) }
 {
@@ -241,17 +307,12 @@ pub fn conditional<'t>(alloc: Global, tokens: &'t [Token], depth: u32) -> Result
         return Ok(test);
     };
     let below = above(depth, test.depth, pos)?;
-    let yes = expression(alloc, rest, below)?;
+    let yes = read_expression(alloc, rest, below)?;
     let rest = expect_sign(yes.rest, Punctuator::Colon)?;
-    let no = conditional(alloc, rest, below)?;
+    let no = read_conditional(alloc, rest, below)?;
     let depth = test.depth.max(yes.depth.max(no.depth)) + 1;
-    Ok(Part {
-        expr: Expr::Conditional(
-            pos,
-            Box::new(alloc, test.expr)?,
-            Box::new(alloc, yes.expr)?,
-            Box::new(alloc, no.expr)?,
-        ),
+    Ok(BoxedPart {
+        expr: conditional_node(alloc, pos, test.expr, yes.expr, no.expr)?,
         depth,
         rest: no.rest,
     })
@@ -260,11 +321,16 @@ pub fn conditional<'t>(alloc: Global, tokens: &'t [Token], depth: u32) -> Result
 // An expression of operators whose layer is at least `min` (6.5.5 to 6.5.14), by precedence climbing.
 #[cycle(expressions)]
 #[inline(never)]
-fn binary<'t>(alloc: Global, tokens: &'t [Token], min: u32, depth: u32) -> Result<Part<'t>, Refusal>
+fn binary<'t>(
+    alloc: Global,
+    tokens: &'t [Token],
+    min: u32,
+    depth: u32,
+) -> Result<BoxedPart<'t>, Refusal>
     requires room { depth ≤ 256 }
     requires from { 3 ≤ min }
     requires upto { min ≤ 13 }
-    ensures answer { Answers min depth tokens.now result }
+    ensures answer { AnswersBoxed min depth tokens.now result }
     ensures stands { IfErr result (λ f. Stands min depth tokens.now f) }
     ensures ends { IfOk result (λ p. (op : BinaryOp) → min ≤ layer_of op → NotFront (kind.Punctuator (binary_sign op)) p.rest.now) }
     ensures shorter { IfOk result (λ p. length p.rest.now < length tokens.now) }
@@ -281,9 +347,9 @@ fn binary<'t>(alloc: Global, tokens: &'t [Token], min: u32, depth: u32) -> Resul
 // A cast expression (6.5.4).
 #[cycle(expressions)]
 #[inline(never)]
-fn cast<'t>(alloc: Global, tokens: &'t [Token], depth: u32) -> Result<Part<'t>, Refusal>
+fn cast<'t>(alloc: Global, tokens: &'t [Token], depth: u32) -> Result<BoxedPart<'t>, Refusal>
     requires { depth ≤ 256 }
-    ensures answer { Answers 13 depth tokens.now result }
+    ensures answer { AnswersBoxed 13 depth tokens.now result }
     ensures stands { IfErr result (λ f. Stands 13 depth tokens.now f) }
     ensures shorter { IfOk result (λ p. length p.rest.now < length tokens.now) }
 {
@@ -292,8 +358,8 @@ fn cast<'t>(alloc: Global, tokens: &'t [Token], depth: u32) -> Result<Part<'t>, 
         let named = type_name(alloc, rest, below)?;
         let operand = cast(alloc, named.rest, below)?;
         let depth = named.depth.max(operand.depth) + 1;
-        return Ok(Part {
-            expr: Expr::Cast(pos, named.name, Box::new(alloc, operand.expr)?),
+        return Ok(BoxedPart {
+            expr: cast_node(alloc, pos, named.name, operand.expr)?,
             depth,
             rest: operand.rest,
         });
@@ -315,10 +381,10 @@ fn type_name<'t>(alloc: Global, tokens: &'t [Token], depth: u32) -> Result<TypeP
     let mut deepest = 0u32;
     let mut rest = first.rest;
     while let Some((_, inner)) = sign_front(rest, Punctuator::BracketOpen) {
-        let size = conditional(alloc, inner, depth)?;
+        let size = read_conditional(alloc, inner, depth)?;
         rest = expect_sign(size.rest, Punctuator::BracketClose)?;
         deepest = deepest.max(size.depth);
-        sizes.push(size.expr)?;
+        push_unboxed(&mut sizes, size.expr)?;
     }
     let rest = expect_sign(rest, Punctuator::ParenClose)?;
     Ok(TypePart {
@@ -334,17 +400,17 @@ fn type_name<'t>(alloc: Global, tokens: &'t [Token], depth: u32) -> Result<TypeP
 // A unary expression (6.5.3).
 #[cycle(expressions)]
 #[inline(never)]
-fn unary<'t>(alloc: Global, tokens: &'t [Token], depth: u32) -> Result<Part<'t>, Refusal>
+fn unary<'t>(alloc: Global, tokens: &'t [Token], depth: u32) -> Result<BoxedPart<'t>, Refusal>
     requires { depth ≤ 256 }
-    ensures answer { Answers 14 depth tokens.now result }
+    ensures answer { AnswersBoxed 14 depth tokens.now result }
     ensures stands { IfErr result (λ f. Stands 14 depth tokens.now f) }
     ensures shorter { IfOk result (λ p. length p.rest.now < length tokens.now) }
 {
     if let Some((pos, op, rest)) = step_front(tokens) {
         let below = down(depth, pos)?;
         let operand = unary(alloc, rest, below)?;
-        return Ok(Part {
-            expr: Expr::Before(pos, op, Box::new(alloc, operand.expr)?),
+        return Ok(BoxedPart {
+            expr: before_node(alloc, pos, op, operand.expr)?,
             depth: operand.depth + 1,
             rest: operand.rest,
         });
@@ -352,8 +418,8 @@ fn unary<'t>(alloc: Global, tokens: &'t [Token], depth: u32) -> Result<Part<'t>,
     if let Some((pos, op, rest)) = prefix_front(tokens) {
         let below = down(depth, pos)?;
         let operand = cast(alloc, rest, below)?;
-        return Ok(Part {
-            expr: Expr::Prefix(pos, op, Box::new(alloc, operand.expr)?),
+        return Ok(BoxedPart {
+            expr: prefix_node(alloc, pos, op, operand.expr)?,
             depth: operand.depth + 1,
             rest: operand.rest,
         });
@@ -367,24 +433,29 @@ fn unary<'t>(alloc: Global, tokens: &'t [Token], depth: u32) -> Result<Part<'t>,
 // What is measured (6.5.3.4), after `sizeof`.
 #[cycle(expressions)]
 #[inline(never)]
-fn sizeof<'t>(alloc: Global, pos: Pos, tokens: &'t [Token], depth: u32) -> Result<Part<'t>, Refusal>
+fn sizeof<'t>(
+    alloc: Global,
+    pos: Pos,
+    tokens: &'t [Token],
+    depth: u32,
+) -> Result<BoxedPart<'t>, Refusal>
     requires { depth ≤ 256 }
-    ensures answer { Answers 14 depth (record { kind = kind.Keyword keyword.Sizeof; pos = pos } ∷ tokens.now) result }
+    ensures answer { AnswersBoxed 14 depth (record { kind = kind.Keyword keyword.Sizeof; pos = pos } ∷ tokens.now) result }
     ensures stands { IfErr result (λ f. Stands 14 depth (record { kind = kind.Keyword keyword.Sizeof; pos = pos } ∷ tokens.now) f) }
     ensures shorter { IfOk result (λ p. length p.rest.now < length tokens.now + 1) }
 {
     let below = down(depth, pos)?;
     if let Some((_, rest)) = cast_front(tokens) {
         let named = type_name(alloc, rest, below)?;
-        return Ok(Part {
-            expr: Expr::SizeofType(pos, named.name),
+        return Ok(BoxedPart {
+            expr: type_size_node(alloc, pos, named.name)?,
             depth: named.depth + 1,
             rest: named.rest,
         });
     }
     let operand = unary(alloc, tokens, below)?;
-    Ok(Part {
-        expr: Expr::SizeofExpr(pos, Box::new(alloc, operand.expr)?),
+    Ok(BoxedPart {
+        expr: size_node(alloc, pos, operand.expr)?,
         depth: operand.depth + 1,
         rest: operand.rest,
     })
@@ -393,9 +464,9 @@ fn sizeof<'t>(alloc: Global, pos: Pos, tokens: &'t [Token], depth: u32) -> Resul
 // A postfix expression (6.5.2).
 #[cycle(expressions)]
 #[inline(never)]
-fn postfix<'t>(alloc: Global, tokens: &'t [Token], depth: u32) -> Result<Part<'t>, Refusal>
+fn postfix<'t>(alloc: Global, tokens: &'t [Token], depth: u32) -> Result<BoxedPart<'t>, Refusal>
     requires { depth ≤ 256 }
-    ensures answer { Answers 15 depth tokens.now result }
+    ensures answer { AnswersBoxed 15 depth tokens.now result }
     ensures stands { IfErr result (λ f. Stands 15 depth tokens.now f) }
     ensures shorter { IfOk result (λ p. length p.rest.now < length tokens.now) }
 {
@@ -410,7 +481,7 @@ fn postfix<'t>(alloc: Global, tokens: &'t [Token], depth: u32) -> Result<Part<'t
             return Ok(left);
         };
         let below = above(depth, left.depth, pos)?;
-        let index = expression(alloc, rest, below)?;
+        let index = read_expression(alloc, rest, below)?;
         let rest = expect_sign(index.rest, Punctuator::BracketClose)?;
         left = join_index(alloc, pos, left, index, rest)?;
     }
@@ -419,9 +490,9 @@ fn postfix<'t>(alloc: Global, tokens: &'t [Token], depth: u32) -> Result<Part<'t
 // A primary expression (6.5.1), or the call of a function that is named (6.5.2.2).
 #[cycle(expressions)]
 #[inline(never)]
-fn primary<'t>(alloc: Global, tokens: &'t [Token], depth: u32) -> Result<Part<'t>, Refusal>
+fn primary<'t>(alloc: Global, tokens: &'t [Token], depth: u32) -> Result<BoxedPart<'t>, Refusal>
     requires { depth ≤ 256 }
-    ensures answer { Answers 16 depth tokens.now result }
+    ensures answer { AnswersBoxed 16 depth tokens.now result }
     ensures stands { IfErr result (λ f. Stands 16 depth tokens.now f) }
     ensures shorter { IfOk result (λ p. length p.rest.now < length tokens.now) }
 {
@@ -429,30 +500,30 @@ fn primary<'t>(alloc: Global, tokens: &'t [Token], depth: u32) -> Result<Part<'t
         let below = down(depth, pos)?;
         if let Some((_, rest)) = sign_front(rest, Punctuator::ParenOpen) {
             let arguments = read_arguments(alloc, rest, below)?;
-            return Ok(Part {
-                expr: Expr::Call(pos, name, arguments.list),
+            return Ok(BoxedPart {
+                expr: call_node(alloc, pos, name, arguments.list)?,
                 depth: arguments.depth + 1,
                 rest: arguments.rest,
             });
         }
-        return Ok(Part {
-            expr: Expr::Name(pos, name),
+        return Ok(BoxedPart {
+            expr: name_node(alloc, pos, name)?,
             depth: 1,
             rest,
         });
     }
     if let Some((pos, ty, value, rest)) = constant_front(tokens) {
         down(depth, pos)?;
-        return Ok(Part {
-            expr: Expr::Constant(pos, ty, value),
+        return Ok(BoxedPart {
+            expr: constant_node(alloc, pos, ty, value)?,
             depth: 1,
             rest,
         });
     }
     if let Some((pos, text, rest)) = string_front(tokens) {
         down(depth, pos)?;
-        return Ok(Part {
-            expr: Expr::StringLiteral(pos, text),
+        return Ok(BoxedPart {
+            expr: string_node(alloc, pos, text)?,
             depth: 1,
             rest,
         });
@@ -461,10 +532,10 @@ fn primary<'t>(alloc: Global, tokens: &'t [Token], depth: u32) -> Result<Part<'t
         return Err(Refusal::Syntax(tokens.len()));
     };
     let below = down(depth, pos)?;
-    let inner = expression(alloc, rest, below)?;
+    let inner = read_expression(alloc, rest, below)?;
     let rest = expect_sign(inner.rest, Punctuator::ParenClose)?;
-    Ok(Part {
-        expr: Expr::Paren(Box::new(alloc, inner.expr)?),
+    Ok(BoxedPart {
+        expr: paren_node(alloc, inner.expr)?,
         depth: inner.depth + 1,
         rest,
     })
@@ -491,15 +562,15 @@ fn read_arguments<'t>(
             rest,
         });
     }
-    let first = assignment(alloc, tokens, depth)?;
+    let first = read_assignment(alloc, tokens, depth)?;
     let mut deepest = first.depth;
     let mut rest = first.rest;
-    list.push(first.expr)?;
+    push_unboxed(&mut list, first.expr)?;
     while let Some((_, after)) = sign_front(rest, Punctuator::Comma) {
-        let next = assignment(alloc, after, depth)?;
+        let next = read_assignment(alloc, after, depth)?;
         deepest = deepest.max(next.depth);
         rest = next.rest;
-        list.push(next.expr)?;
+        push_unboxed(&mut list, next.expr)?;
     }
     let rest = expect_sign(rest, Punctuator::ParenClose)?;
     Ok(ArgumentsPart {

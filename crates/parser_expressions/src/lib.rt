@@ -3,5 +3,6 @@
 
 pub mod expressions;
 pub mod fronts;
+mod nodes;
 mod operators;
 pub mod type_specifiers;

@@ -39,7 +39,7 @@ shown_in G (suc l) o small = omega (arith, small)
 module _ (G : Ground) (ready : Ready G) where
   statics_live : (bytes : Bytes) (b : ℕ → ℕ) → Holds bytes G.data_at 0 (length G.program.statics) b → Lives G 0 (record { bytes = bytes; first = 0; past = length G.program.statics }) b
   statics_live bytes b held = record {
-    top = omega (arith, ready.data_below);
+    top = omega (arith, ready.data_below, ready.floor_below);
     aligned = ready.data_aligned;
     held = held;
     reads = λ a lo hi. ready.data_read a (omega (arith, lo)) hi;

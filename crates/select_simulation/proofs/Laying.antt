@@ -156,6 +156,7 @@ is_ready p F env floor data_at base e r b q =
       data_written = q.data_written;
       data_aligned = q.data_aligned;
       data_below = q.data_below;
+      floor_below = q.floor_below;
       top = omega arith;
       return_aligned = omega (arith, q.aligned);
       return_small = omega (arith, one.on, q.low);

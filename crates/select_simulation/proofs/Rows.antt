@@ -161,6 +161,7 @@ laid = record {
   data_written = λ a lo hi. refl;
   data_aligned = refl;
   data_below = omega arith;
+  floor_below = omega arith;
   small = λ j. omega arith;
   bytes = λ k. omega arith;
   statics = λ k c e. cc;

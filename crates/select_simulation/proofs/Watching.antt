@@ -38,6 +38,7 @@ module _ (G : Ground) (sp ra : ℕ) (file : ℕ → ℕ) where
     data_written = q.data_written;
     data_aligned = q.data_aligned;
     data_below = q.data_below;
+    floor_below = q.floor_below;
     top = q.top;
     return_aligned = q.return_aligned;
     return_small = q.return_small;

@@ -148,6 +148,7 @@ pub record Ready (G : Ground) : Type 0 where
   pub data_written : (a : ℕ) → G.data_at ≤ a → a < G.data_at + length G.program.statics → G.machine.can_write a ≡ true
   pub data_aligned : G.data_at % 4 ≡ 0
   pub data_below : G.data_at + length G.program.statics ≤ G.floor
+  pub floor_below : G.floor ≤ 2 ^ 31
   pub top : G.sp ≤ 2 ^ 31
   pub return_aligned : G.ra % 4 ≡ 0
   pub return_small : G.ra < 2 ^ 32

@@ -144,6 +144,7 @@ pub record Laid (p : Program) (F : Fixed) (env : ℕ → ℕ) (floor data_at bas
   pub data_written : (a : ℕ) → data_at ≤ a → a < data_at + length p.statics → F.can_write a ≡ true
   pub data_aligned : data_at % 4 ≡ 0
   pub data_below : data_at + length p.statics ≤ floor
+  pub floor_below : floor ≤ 2 ^ 31
   pub small : Small (file_of r)
   pub bytes : (k : ℕ) → b k < 2 ^ 8
   pub statics : Holds (slice_get p.statics) data_at 0 (length p.statics) b

@@ -32,7 +32,7 @@ pub(crate) fn element_at(start: Start) -> Place
 
 /// A count that an instruction names.
 fn limit_of(count: usize) -> Result<u32, AllocError>
-    ensures { IfOk result (λ n. n ≡ count) }
+    ensures gives { IfOk result (λ n. n ≡ count) }
     ensures refuses { IfErr result (λ _. 2 ^ 32 ≤ count) }
 {
     let Ok(limit) = u32::try_from(count) else {

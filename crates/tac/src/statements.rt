@@ -205,7 +205,7 @@ fn put_switch(
     put(code, Instruction::Nothing)?;
     put_value(scope, code, e, mode_of(operand), all_free())?;
     put(code, Instruction::Forget { first, count })?;
-    put_tests(scope, code, operand, all, body, end)?;
+    put_tests(scope, code, &operand, all, body, end)?;
     put_statements(scope, code, all, end, again, back)?;
     Ok(())
 }

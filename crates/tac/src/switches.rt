@@ -28,16 +28,17 @@ fn label_at(statement: &Statement) -> Option<Option<i64>>
     }
 }
 
-/// The tests of the labels among statements, the first of which is to stand at `at`; where none is met, the code goes to `other`.
+/// The tests of the labels among statements, the first of which is to stand at `at`; where none is met, the code goes to `other`. Each
+/// call of itself is its last act and nothing of its own is lent to it, so that a compiler makes a loop of it.
 pub(crate) fn put_tests(
     scope: &Scope<'_>,
     code: &mut Code,
-    operand: Operand,
+    operand: &Operand,
     all: &[Statement],
     at: usize,
     other: usize,
 ) -> Result<(), AllocError>
-    ensures { OnOk result (WroteTests (program_in scope.now) (function_in scope.now) operand (statements_of (map statement_of all.now)) at other code.old.list.items code.new.list.items) }
+    ensures { OnOk result (WroteTests (program_in scope.now) (function_in scope.now) operand.now (statements_of (map statement_of all.now)) at other code.old.list.items code.new.list.items) }
 {
     match all.split_first() {
         None => {
@@ -59,7 +60,7 @@ pub(crate) fn put_tests(
                     let case = Operand::Constant(word_of(value));
                     put(
                         code,
-                        branch(Comparison::Equal, Reading::Signed, operand, case, at),
+                        branch(Comparison::Equal, Reading::Signed, *operand, case, at),
                     )?;
                     put_tests(scope, code, operand, more, next, other)?;
                     Ok(())

@@ -1,17 +1,18 @@
 //! The code of expressions.
 
-ghost use Rattle.std.specs.Prelude.{◌≡◌, map, ℕ, Bool, Option, OnOk, IfOk};
+ghost use Rattle.std.specs.Prelude.{◌≡◌, ◌+◌, map, ℕ, Bool, Option, OnOk, IfOk};
 ghost use Rattle.srcset.specs.declared.refusal.Pos.{Pos};
 ghost use Rattle.ctypes.specs.declared.types.IntType.{IntType};
 ghost use Rattle.typing_rules.specs.Program as typed;
 ghost use Rattle.typing_program.specs.View.{value_of, place_of, argument_of, arguments_of, callee_of};
 ghost use Rattle.tac_lowering.specs.Code as relation;
 ghost use Rattle.tac_lowering.specs.Values as lowered;
+ghost use Rattle.tac_lowering.specs.Places as placed;
 ghost use Rattle.tac_forms.specs.inside.Rows as rows;
 ghost use Rattle.tac_forms.specs.inside.FormSizes as form;
 ghost use Rattle.tac_forms.specs.inside.Parts.{meant, shape_of, Wrote};
 ghost use Rattle.tac_values.specs.inside.Sizes as size;
-ghost use Rattle.tac_values.specs.inside.Written.{WroteValue, WrotePasses};
+ghost use Rattle.tac_values.specs.inside.Written.{WroteFinds, WroteValue, WrotePasses};
 
 use crate::operands::{keeps, operand_of, waits_for_arguments};
 use crate::operators::{put_binary, put_both, put_chosen, put_one, put_unary};
@@ -145,7 +146,46 @@ fn put_cast_node(
     Ok(())
 }
 
-/// An argument, those behind it, and its move into its temporary.
+/// The value of an argument, where it waits for the arguments behind it, and what is free beside it.
+#[cycle(value_code)]
+#[inline(never)]
+fn put_waiting_number(
+    scope: &Scope<'_>,
+    code: &mut Code,
+    e: &Value,
+    more: &[Argument],
+    free: Free,
+) -> Result<Free, AllocError>
+    ensures { IfOk result (λ less. (less.temporary ≡ free.temporary + 1)
+        × (less.slot ≡ lowered.free_kept (lowered.waits_in (value_of e.now) (lowered.arguments_write (arguments_of (map argument_of more.now))) (lowered.arguments_call (arguments_of (map argument_of more.now))) free.temporary free.slot) free.slot)
+        × WroteValue (rows.sizes_in scope.now) (value_of e.now) (lowered.mode_of (lowered.waits_in (value_of e.now) (lowered.arguments_write (arguments_of (map argument_of more.now))) (lowered.arguments_call (arguments_of (map argument_of more.now))) free.temporary free.slot)) free.temporary free.slot code.old.list.items code.new.list.items) }
+{
+    let operand = waits_for_arguments(e, more, free.temporary, free.slot);
+    put_value(scope, code, e, mode_of(operand), free)?;
+    let temporary = next(free.temporary)?;
+    let slot = free_slot(operand, free.slot)?;
+    Ok(Free { temporary, slot })
+}
+
+/// Its move into its temporary.
+#[inline(never)]
+fn put_number_load(
+    code: &mut Code,
+    ty: IntType,
+    e: &Value,
+    more: &[Argument],
+    free: Free,
+) -> Result<(), AllocError>
+    ensures { OnOk result (Wrote (λ w p q. relation.Loads w (lowered.keeps ty (value_of e.now)) ty (lowered.waits_in (value_of e.now) (lowered.arguments_write (arguments_of (map argument_of more.now))) (lowered.arguments_call (arguments_of (map argument_of more.now))) free.temporary free.slot) free.temporary p q)
+        (form.loads_size (lowered.keeps ty (value_of e.now)) (lowered.waits_in (value_of e.now) (lowered.arguments_write (arguments_of (map argument_of more.now))) (lowered.arguments_call (arguments_of (map argument_of more.now))) free.temporary free.slot)) code.old.list.items code.new.list.items) }
+{
+    let operand = waits_for_arguments(e, more, free.temporary, free.slot);
+    put_load(code, keeps(ty, e), ty, operand, free.temporary)?;
+    Ok(())
+}
+
+/// An argument, those behind it, and its move into its temporary. Where it waits is asked for twice, so that a call of many arguments
+/// leaves little of each on the host's stack.
 #[cycle(value_code)]
 fn put_number(
     scope: &Scope<'_>,
@@ -157,18 +197,53 @@ fn put_number(
 ) -> Result<(), AllocError>
     ensures { OnOk result (WrotePasses (rows.sizes_in scope.now) (typed.and_number ty (value_of e.now) (arguments_of (map argument_of more.now))) free.temporary free.slot code.old.list.items code.new.list.items) }
 {
-    let operand = waits_for_arguments(e, more, free.temporary, free.slot);
-    put_value(scope, code, e, mode_of(operand), free)?;
-    let temporary = next(free.temporary)?;
-    let slot = free_slot(operand, free.slot)?;
-    let less = Free { temporary, slot };
+    let less = put_waiting_number(scope, code, e, more, free)?;
     put_passes(scope, code, more, less)?;
-    put_load(code, keeps(ty, e), ty, operand, free.temporary)?;
+    put_number_load(code, ty, e, more, free)?;
+    Ok(())
+}
+
+/// What finds an array, where its reference waits for the arguments behind it, and what is free beside it.
+#[cycle(value_code)]
+#[inline(never)]
+fn put_waiting_array(
+    scope: &Scope<'_>,
+    code: &mut Code,
+    array: &Place,
+    more: &[Argument],
+    free: Free,
+) -> Result<Free, AllocError>
+    ensures { IfOk result (λ less. (less.temporary ≡ free.temporary + 1)
+        × (less.slot ≡ placed.free_kept_at (placed.found (place_of array.now) (lowered.arguments_call (arguments_of (map argument_of more.now))) free.temporary free.slot) free.slot)
+        × WroteFinds (rows.sizes_in scope.now) (place_of array.now) (lowered.arguments_call (arguments_of (map argument_of more.now))) free.temporary free.slot code.old.list.items code.new.list.items) }
+{
+    let calls = arguments_call(more);
+    let spot = found(array, calls, free.temporary, free.slot);
+    put_found(scope, code, array, calls, free)?;
+    let temporary = next(free.temporary)?;
+    let slot = free_slot_at(spot, free.slot)?;
+    Ok(Free { temporary, slot })
+}
+
+/// Its reference into its temporary.
+#[inline(never)]
+fn put_array_reference(
+    code: &mut Code,
+    array: &Place,
+    more: &[Argument],
+    free: Free,
+) -> Result<(), AllocError>
+    ensures { OnOk result (Wrote (λ w p q. relation.HandsOver w (placed.found (place_of array.now) (lowered.arguments_call (arguments_of (map argument_of more.now))) free.temporary free.slot) free.temporary p q)
+        (form.hands_over_size (placed.found (place_of array.now) (lowered.arguments_call (arguments_of (map argument_of more.now))) free.temporary free.slot)) code.old.list.items code.new.list.items) }
+{
+    let spot = found(array, arguments_call(more), free.temporary, free.slot);
+    put_handed(code, spot, free.temporary)?;
     Ok(())
 }
 
 /// An array, the arguments behind it, and its reference into its temporary.
 #[cycle(value_code)]
+#[inline(never)]
 fn put_array(
     scope: &Scope<'_>,
     code: &mut Code,
@@ -178,14 +253,9 @@ fn put_array(
 ) -> Result<(), AllocError>
     ensures { OnOk result (WrotePasses (rows.sizes_in scope.now) (typed.and_array (place_of array.now) (arguments_of (map argument_of more.now))) free.temporary free.slot code.old.list.items code.new.list.items) }
 {
-    let calls = arguments_call(more);
-    let spot = found(array, calls, free.temporary, free.slot);
-    put_found(scope, code, array, calls, free)?;
-    let temporary = next(free.temporary)?;
-    let slot = free_slot_at(spot, free.slot)?;
-    let less = Free { temporary, slot };
+    let less = put_waiting_array(scope, code, array, more, free)?;
     put_passes(scope, code, more, less)?;
-    put_handed(code, spot, free.temporary)?;
+    put_array_reference(code, array, more, free)?;
     Ok(())
 }
 

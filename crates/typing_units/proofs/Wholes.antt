@@ -9,9 +9,9 @@ use Rattle.srcset.specs.declared.refusal.Refusal.TheVariants.{At}
 use Rattle.typing_program.specs.declared.units.Function as held
 use Rattle.typing_program.specs.View as view
 use Rattle.typing_scopes.specs.declared.bindings.StaticObject as held_object
-use Rattle.typing_scopes.specs.Scopes.{with_texts}
+use Rattle.typing_scopes.specs.Scopes.{with_texts, with_statics, static_of}
 use Rattle.typing_rules.specs.Verdict.{Verdict, fine, both, then_check, each}
-use Rattle.typing_rules.specs.Scope.{Scope}
+use Rattle.typing_rules.specs.Scope.{Scope, StaticObject}
 use Rattle.typing_rules.specs.Program as typed
 use Rattle.typing_rules.specs.Program.{Function, Static, Statement, Statements, Program}
 use Rattle.typing_rules.specs.Types.{ObjectType, FunctionType}
@@ -44,6 +44,14 @@ main_ended s fs i all h inv = sym (inv ∙ ap (λ l. main_left s i l) (drop_all 
 pub main_same : (t : List (List ℕ)) (ls : List ℕ) (os : List held_object.StaticObject) (s : Scope) (n : ℕ) (fs : List Function) → main_from (unit_scope t ls os s) n fs ≡ main_from (with_texts t s) n fs
 main_same t ls os s n [] = refl
 main_same t ls os s n (f ∷ fs) = ap (λ k. if is_main (with_texts t s) f then Some n else k) (main_same t ls os s (n + 1) fs)
+
+-- the literals and the objects with static storage that were taken out of a scope
+pub taken_out : (t : List (List ℕ)) (ls : List ℕ) (os : List held_object.StaticObject) (rest : List StaticObject) (old new : Scope) → new ≡ with_statics rest old → ls ≡ new.literals → map static_of os ≡ old.statics →
+    unit_scope t ls os new ≡ with_texts t old
+taken_out t ls os rest old new e f g =
+    ap (λ s. unit_scope t ls os s) e
+    ∙ ap (λ l. record old { texts = t; literals = l; statics = map static_of os }) (f ∙ ap (λ s. s.literals) e)
+    ∙ ap (λ l. record old { texts = t; statics = l }) g
 
 -- ---- the program
 

@@ -4,8 +4,8 @@
     python3 tests/outside/hostile/check.py bin/cc [STACK IN KIB]
 
 Each list that a source may have is made as long as the limits allow, by macros or by hand, and each construct as deep; pp, build,
-list, interp and run each have so much stack (8192 KiB by default, that of most systems), 1.5 GB of address space and 60
-seconds. What each source comes to follows from the rules of the language: its status, or the code of its fault.
+list, interp and run each have so much stack (1024 KiB by default, an eighth of that of most systems), 1.5 GB of address space
+and 60 seconds. What each source comes to follows from the rules of the language: its status, or the code of its fault.
 The last line is 'N passed, M failed'."""
 import os
 import resource
@@ -89,6 +89,57 @@ ROWS = [
     ('sizeof', body('return (int)(' + 'sizeof ' * 240 + '1);'), None, 4),
     ('sizes within sizes', body('return (int)sizeof(char' + '[sizeof(char' * 120 + '[1]' + ')]' * 120 + ');'), None, 1),
     ('declarations in nested blocks', body('{ int a; ' * 120 + '}' * 120 + ' return 0;'), None, 0),
+    ('do', body('do ' * 240 + ';' + ' while (0);' * 240 + ' return 3;'), None, 3),
+    ('do and blocks', body('do { ' * 120 + '} while (0); ' * 120 + 'return 3;'), None, 3),
+    ('while', body('while (0) ' * 240 + '; return 3;'), None, 3),
+    ('loops with declarations', body('for (int i = 0; i < 1; i++) ' * 120 + '; return 3;'), None, 3),
+    ('else inside', body('if (1) ' * 240 + 'return 3;' + ' else return 4;' * 240 + ' return 5;'), None, 3),
+    ('else if', body('if (0) ; else ' * 240 + 'return 3; return 4;'), None, 3),
+    ('switches on parentheses', body('switch (' + '(' * 40 + '1' + ')' * 40 + ') { case 1: ' + 'switch (1) { case 1: ' * 60 + ';' + ' }' * 61 + ' return 3;'), None, 3),
+    ('empty statements of a switch', body('switch (1) { ' + ';' * 7900 + ' } return 3;'), None, 3),
+    ('as many arguments as nodes', 'int f(' + many('int a{}', 7900) + ') { return a7899; }\n' + body('return f(' + many('9', 7900) + ');'), None, 9),
+    ('arguments that are arrays', 'char c[1];\nint f(' + many('char a{}[1]', 3900) + ') { return a3899[0]; }\n' + body('return f(' + many('c', 3900) + ');'), None, 0),
+    ('nested calls of arrays', 'int c[1];\nint f(' + many('int a{}[1]', 23) + ', int b) { return b; }\n' + body('return ' + ('f(' + 'c,' * 23) * 240 + '7' + ')' * 240 + ';'), None, 7),
+    ('choices of choices', body('return ' + '(' * 120 + '1' + ' ? 1 : 0)' * 120 + ';'), None, 1),
+    ('last choices', body('return ' + '0 ? 1 : ' * 240 + '8;'), None, 8),
+    ('commas in a row', body('return ' + '1,' * 240 + '9;'), None, 9),
+    ('sums of sums', body('return ' + '1+(' * 120 + '9' + ')' * 120 + ';'), None, 129),
+    ('operators of each layer', body('return ' + '0||1&&0|1^3&2==1<3<<1+2*(' * 18 + '0' + ')' * 18 + ' == 0 || 1;'), None, 1),
+    ('conjunctions of conjunctions', body('return ' + '1&&(' * 120 + '1' + ')' * 120 + ';'), None, 1),
+    ('disjunctions of disjunctions', body('return ' + '0||(' * 120 + '1' + ')' * 120 + ';'), None, 1),
+    ('complements', body('return ' + '~' * 240 + '3;'), None, 3),
+    ('negations', body('return ' + '!' * 240 + '3;'), None, 1),
+    ('plus signs', body('return ' + '+ ' * 240 + '3;'), None, 3),
+    ('casts of parentheses', body('return ' + '(char)(' * 120 + '2' + ')' * 120 + ';'), None, 2),
+    ('assignments to elements', 'int a[1];\n' + body('a[' * 80 + '0' + '] = 0' * 79 + '] = 3; return a[0];'), None, 3),
+    ('subscripts of signs', 'int a[1];\n' + body('return ' + 'a[+' * 120 + '0' + ']' * 120 + ';'), None, 0),
+    ('subscripts in a row', 'char a' + '[1]' * 240 + ';\n' + body('return sizeof(a' + '[0]' * 239 + ') + a' + '[0]' * 240 + ';'), None, 1),
+    ('dimensions', 'char a' + '[1]' * 35000 + ';\n' + body('return (int)sizeof(a);'), None, 1),
+    ('dimensions of rows', 'int a[2][3]' + '[1]' * 20000 + '[2]' + '[1]' * 1000 + ';\n' + body('return (int)sizeof(a);'), None, 48),
+    ('dimensions in a block', body('char a' + '[1]' * 7900 + '; return (int)sizeof(a);'), None, 1),
+    ('dimensions of a parameter', 'int f(char a' + '[1]' * 7800 + ') { return (int)sizeof(a[0]); }\nchar c' + '[1]' * 7800 + ';\n' + body('return f(c);'), None, 1),
+    ('dimensions declared again', ('extern char a' + '[1]' * 15000 + ';\n') * 2 + 'char a' + '[1]' * 15000 + ';\n' + MAIN, None, 0),
+    ('braces in a block', body('int a' + '[1]' * 120 + ' = ' + '{' * 120 + '3' + '}' * 120 + '; return a' + '[0]' * 120 + ';'), None, 3),
+    ('constant of an enumerator', 'enum { e = ' + '(' * 240 + '3' + ')' * 240 + ' };\n' + body('return e;'), None, 3),
+    ('constant of a label', body('switch (3) { case ' + '(' * 240 + '3' + ')' * 240 + ': return 4; } return 5;'), None, 4),
+    ('constant of a size', 'char a[' + '(' * 240 + '3' + ')' * 240 + '];\n' + body('return sizeof a;'), None, 3),
+    ('constant of an assertion', '_Static_assert(' + '1+' * 240 + '1, "m");\n' + MAIN, None, 0),
+    ('first value of a static object', 'int a = ' + '-(' * 120 + '3' + ')' * 120 + ';\n' + body('return a;'), None, 3),
+    ('loops and parentheses', body('do ' * 120 + ';' + (' while (' + '(' * 120 + '0' + ')' * 120 + ');') + ' while (0);' * 119 + ' return 3;'), None, 3),
+    ('conditions of text', '#if 1\n' * 127 + '#endif\n' * 127 + MAIN, None, 0),
+    ('conditions of text past the limit', '#if 1\n' * 60000 + '#endif\n' * 60000 + MAIN, 707, 0),
+    ('condition of signs', '#if ' + '- ' * 100000 + '1\n#endif\n' + MAIN, None, 0),
+    ('condition of negations', '#if ' + '!' * 100000 + '1\n#endif\n' + MAIN, None, 0),
+    ('condition of choices', '#if ' + '1?' * 50000 + '1' + ':0' * 50000 + '\n#endif\n' + MAIN, None, 0),
+    ('condition of conjunctions', '#if ' + '1&&' * 100000 + '1\n#endif\n' + MAIN, None, 0),
+    ('condition of sums', '#if ' + '1+' * 100000 + '1\n#endif\n' + MAIN, None, 0),
+    ('chain of macros', ''.join(f'#define m{i} m{i - 1}\n' for i in range(1, 3000)) + '#define m0 3\n' + body('return m2999;'), None, 3),
+    ('nested calls of a macro', '#define g(a) a\n' + body('return ' + 'g(' * 1000 + '3' + ')' * 1000 + ';'), None, 3),
+    ('parameters of a macro', '#define f(' + many('a{}', 127) + ') a126\n' + body('return f(' + many('3', 127) + ');'), None, 3),
+    ('parameters of a macro past the limit', '#define f(' + many('a{}', 1000) + ') a999\n' + MAIN, 705, 0),
+    ('long line', body('return ' + ' ' * 900000 + '3;'), None, 3),
+    ('long comment', '/*' + '*' * 900000 + '*/ ' + MAIN, None, 0),
+    ('continued lines', body('return ' + '\\\n' * 100000 + '3;'), None, 3),
 ]
 
 
@@ -118,7 +169,7 @@ def tried(cc, stack, folder, number, row):
         it.write(source)
     wrong = []
     # (preprocessing alone does not meet what the grammar and the constraints refuse)
-    early = code is not None and code < 400
+    early = code is not None and (code < 400 or code in (705, 707))
     wanted = {'pp': 1 if early else 0, 'build': 1 if code else 0, 'list': 1 if code else 0, 'interp': 1 if code else status}
     words = {'pp': ['pp', file], 'build': ['build', file, '-o', out], 'list': ['list', file], 'interp': ['interp', file]}
     if code is None:
@@ -133,7 +184,7 @@ def tried(cc, stack, folder, number, row):
 
 
 def main():
-    cc, stack = os.path.abspath(sys.argv[1]), int(sys.argv[2]) if len(sys.argv) > 2 else 8192
+    cc, stack = os.path.abspath(sys.argv[1]), int(sys.argv[2]) if len(sys.argv) > 2 else 1024
     passed = failed = 0
     with tempfile.TemporaryDirectory() as folder, ThreadPoolExecutor(os.cpu_count()) as pool:
         for count, wrong in pool.map(lambda it: tried(cc, stack, folder, *it), enumerate(ROWS)):

@@ -19,7 +19,7 @@ abbrev pub EndsStmt : StmtTree → List Token → Type 0
 EndsStmt s rest = is_open s ≡ true → NotFront (kind.Keyword keyword.Else) rest
 
 abbrev pub AnswersStmt : ℕ → List Token → Result StmtPart Refusal → Type 0
-AnswersStmt d ts (Ok p) = ReadsOf (SpellsStmt None) EndsStmt stmt_depth d ts (stmt_of p.stmt) p.depth p.rest.now × EndsStmt (stmt_of p.stmt) p.rest.now
+AnswersStmt d ts (Ok p) = ReadsOf (SpellsStmt None) EndsStmt stmt_depth d ts (stmt_of p.stmt.value) p.depth p.rest.now × EndsStmt (stmt_of p.stmt.value) p.rest.now
 AnswersStmt d ts (Err f) = FailsOf (SpellsStmt None) EndsStmt stmt_depth d ts f
 
 abbrev pub StandsStmt : ℕ → List Token → Refusal → Type 0

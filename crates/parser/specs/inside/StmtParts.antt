@@ -98,7 +98,7 @@ abbrev pub tested_depth : TestedTree → ℕ
 tested_depth x = max (depth x.test) (stmt_depth x.body)
 
 abbrev pub tested_of : TestedPart → TestedTree
-tested_of p = record { test = tree_of p.test; body = stmt_of p.body }
+tested_of p = record { test = tree_of p.test; body = stmt_of p.body.value }
 
 abbrev pub EndsPiece : PieceTree → List Token → Type 0
 EndsPiece (declaration_item d) rest = Unit {0}
@@ -152,21 +152,21 @@ abbrev pub StandsForHead : ℕ → List Token → Refusal → Type 0
 StandsForHead d ts f = StandsOf SpellsForHead for_head_depth d ts f
 
 abbrev pub AnswersLabelled : ℕ → List Token → Result StmtPart Refusal → Type 0
-AnswersLabelled d ts (Ok p) = ReadsOf (SpellsLabelled None) EndsStmt stmt_depth d ts (stmt_of p.stmt) p.depth p.rest.now × EndsStmt (stmt_of p.stmt) p.rest.now
+AnswersLabelled d ts (Ok p) = ReadsOf (SpellsLabelled None) EndsStmt stmt_depth d ts (stmt_of p.stmt.value) p.depth p.rest.now × EndsStmt (stmt_of p.stmt.value) p.rest.now
 AnswersLabelled d ts (Err f) = FailsOf (SpellsLabelled None) EndsStmt stmt_depth d ts f
 
 abbrev pub StandsLabelled : ℕ → List Token → Refusal → Type 0
 StandsLabelled d ts f = StandsOf SpellsLabelled stmt_depth d ts f
 
 abbrev pub AnswersTested : ℕ → List Token → Result TestedPart Refusal → Type 0
-AnswersTested d ts (Ok p) = ReadsOf (SpellsTested None) EndsTested tested_depth d ts (tested_of p) p.depth p.rest.now × EndsStmt (stmt_of p.body) p.rest.now
+AnswersTested d ts (Ok p) = ReadsOf (SpellsTested None) EndsTested tested_depth d ts (tested_of p) p.depth p.rest.now × EndsStmt (stmt_of p.body.value) p.rest.now
 AnswersTested d ts (Err f) = FailsOf (SpellsTested None) EndsTested tested_depth d ts f
 
 abbrev pub StandsTested : ℕ → List Token → Refusal → Type 0
 StandsTested d ts f = StandsOf SpellsTested tested_depth d ts f
 
 abbrev pub AnswersPiece : ℕ → List Token → Result BlockItemPart Refusal → Type 0
-AnswersPiece d ts (Ok p) = ReadsOf (SpellsPiece None) EndsPiece piece_depth d ts (piece_of p.item) p.depth p.rest.now × EndsPiece (piece_of p.item) p.rest.now
+AnswersPiece d ts (Ok p) = ReadsOf (SpellsPiece None) EndsPiece piece_depth d ts (piece_of p.item.value) p.depth p.rest.now × EndsPiece (piece_of p.item.value) p.rest.now
 AnswersPiece d ts (Err f) = FailsOf (SpellsPiece None) EndsPiece piece_depth d ts f
 
 abbrev pub StandsPiece : ℕ → List Token → Refusal → Type 0

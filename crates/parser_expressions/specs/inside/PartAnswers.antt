@@ -8,10 +8,17 @@ use Rattle.tree.specs.Counts.{depths, type_depth}
 use Rattle.tree.specs.View.{tree_of, trees_of, type_of}
 use Rattle.parser_grammar.specs.declared.refusal.Refusal.{Refusal}
 use Rattle.parser_expressions.specs.declared.expressions.ArgumentsPart.{ArgumentsPart}
+use Rattle.parser_expressions.specs.declared.expressions.BoxedPart.{BoxedPart}
 use Rattle.parser_expressions.specs.declared.expressions.TypePart.{TypePart}
+use Rattle.parser_expressions.specs.ExpressionAnswers.{Reads, Fails}
 use Rattle.parser_grammar.specs.Tokens.{Sign}
 use Rattle.parser_grammar.specs.Expressions.{SpellsArguments, SpellsType}
 use Rattle.parser_grammar.specs.inside.Answer.{ReadsOf, FailsOf, StandsOf, Anywhere}
+
+-- an expression, boxed
+abbrev pub AnswersBoxed : ℕ → ℕ → List Token → Result BoxedPart Refusal → Type 0
+AnswersBoxed n d ts (Ok p) = Reads n d ts (tree_of p.expr.value) p.depth p.rest.now
+AnswersBoxed n d ts (Err f) = Fails n d ts f
 
 -- arguments, and the parenthesis that closes them
 abbrev pub SpellsClosed : Option (List Token) → Trees → List Token → List Token → Type 0

@@ -6,7 +6,7 @@ use Rattle.select.specs.declared.places.Home.{Home}
 use Rattle.select.specs.declared.places.Home.TheVariants as home
 
 abbrev pub most_offset : ℕ
-most_offset = 2 ^ 22
+most_offset = 2 ^ 26
 
 abbrev pub SourceIsNear : Source → Type 0
 SourceIsNear (source.Register r) = Unit {0}

@@ -1,15 +1,16 @@
-use Rattle.std.proofs.Common.{◌≡◌, ◌||◌, ap, map, sym, subst, length, rules, to_z, of_z, w64, false, ◌∙◌}
+use Rattle.std.proofs.Common.{◌≡◌, ◌||◌, refl, ap, map, sym, subst, length, rules, to_z, of_z, w64, false, ◌∙◌}
 use Rattle.std.proofs.Math.Facts.{to_z-of_z}
 use Rattle.typing_rules.specs.Program as typed
 use Rattle.typing_program.specs.View.{value_of, place_of, arguments_of, argument_of, moment_of}
 use Rattle.tac_lowering.specs.Values as lowered
 use Rattle.tac_lowering.specs.Places.{cuts}
+use Rattle.tac_lowering.specs.Places as placed
 use Rattle.tac_forms.specs.declared.modes.Shape.TheVariants as shape
 use Rattle.tac_forms.specs.inside.Parts.{meant, shape_of, plus}
 use Rattle.tac_forms.specs.inside.Emitted as emitted
 use Rattle.tac_forms.specs.inside.Rows.{sizes_in}
 use Rattle.tac_values.specs.inside.Sizes.{value_size}
-use Rattle.tac_values.specs.inside.Written.{WroteValue}
+use Rattle.tac_values.specs.inside.Written.{WroteFinds, WroteValue}
 use Rattle.tac_values.proofs.Held.{sees_constant, sees_read, sees_assigned, sees_compound, sees_stepped, sees_unary, sees_binary, sees_bothtrue, sees_onetrue, sees_chosen, sees_sequence, sees_cast, sees_discarded, sees_call}
 use Rattle.tac_forms.proofs.Held.{sees_named, sees_element}
 use Rattle.tac_forms.proofs.Parts.{two, three, four, five}
@@ -88,9 +89,21 @@ pub places::put_step_memory-returns : goal.places::put_step_memory-returns
 places::put_step_memory-returns t c = step_there (sizes_in c.args.scope.now) (moment_of c.args.moment) c.args.op c.args.ty c.args.of (place_of c.args.place.now) (meant c.args.mode) c.args.free.temporary c.args.free.slot c.in_ok-temporary.temporary c.found-spot.result
     c.found-spot.ensures c.in_ok-temporary.ensures c.in_ok-put.ensures c.in_ok-put_found.ensures c.in_ok-put_loaded.ensures c.in_ok-put_altered_by.ensures
 
+pub values::put_waiting_array-returns : goal.values::put_waiting_array-returns
+values::put_waiting_array-returns t c =
+    let n = arguments_of (map argument_of c.args.more.now) in
+    let ec : c.arguments_call-calls.result ≡ lowered.arguments_call n = c.arguments_call-calls.ensures in
+    let ea : c.found-spot.result ≡ placed.found (place_of c.args.array.now) (lowered.arguments_call n) c.args.free.temporary c.args.free.slot
+    = c.found-spot.ensures ∙ ap (λ b. placed.found (place_of c.args.array.now) b c.args.free.temporary c.args.free.slot) ec in (
+      c.in_ok-temporary.ensures,
+      c.in_ok-slot.ensures ∙ ap (λ a. placed.free_kept_at a c.args.free.slot) ea,
+      subst (λ b. WroteFinds (sizes_in c.args.scope.now) (place_of c.args.array.now) b c.args.free.temporary c.args.free.slot c.args.code.now.list.items c.put_found.new.code.list.items) ec c.in_ok-put_found.ensures,
+    )
+
 pub values::put_array-returns : goal.values::put_array-returns
-values::put_array-returns t c = array_wrote (sizes_in c.args.scope.now) (place_of c.args.array.now) (arguments_of (map argument_of c.args.more.now)) c.args.free.temporary c.args.free.slot c.in_ok-temporary.temporary c.in_ok-slot.slot c.arguments_call-calls.result c.found-spot.result
-    c.arguments_call-calls.ensures c.found-spot.ensures c.in_ok-temporary.ensures c.in_ok-slot.ensures c.in_ok-put_found.ensures c.in_ok-put_passes.ensures c.in_ok-put_handed.ensures
+values::put_array-returns t c = array_wrote (sizes_in c.args.scope.now) (place_of c.args.array.now) (arguments_of (map argument_of c.args.more.now)) c.args.free.temporary c.args.free.slot c.in_ok-less.less.temporary c.in_ok-less.less.slot
+    (lowered.arguments_call (arguments_of (map argument_of c.args.more.now))) (placed.found (place_of c.args.array.now) (lowered.arguments_call (arguments_of (map argument_of c.args.more.now))) c.args.free.temporary c.args.free.slot)
+    refl refl c.in_ok-less.ensures.0 c.in_ok-less.ensures.1 c.in_ok-less.ensures.2 c.in_ok-put_passes.ensures c.in_ok-put_array_reference.ensures
 
 pub places::put_read-returns-in_ok-put_read_object-in-Some : goal.places::put_read-returns-in_ok-put_read_object-in-Some
 places::put_read-returns-in_ok-put_read_object-in-Some t c = read_object (sizes_in c.args.scope.now) (place_of c.args.place.now) (meant c.args.mode) c.args.free.temporary c.args.free.slot c.args.ty c.in-Some.object (sym c.object_of.ensures ∙ c.in-Some.is) c.in_ok-put_read_object-in-Some.ensures
@@ -230,9 +243,20 @@ values::put_discarded-returns t c = three c.in_ok-put.ensures c.in_ok-put_value.
 pub values::put_cast_node-returns : goal.values::put_cast_node-returns
 values::put_cast_node-returns t c = two c.in_ok-put.ensures c.in_ok-put_cast.ensures
 
+pub values::put_waiting_number-returns : goal.values::put_waiting_number-returns
+values::put_waiting_number-returns t c =
+    let eo = c.waits_for_arguments-operand.ensures in (
+      c.in_ok-temporary.ensures,
+      c.in_ok-slot.ensures ∙ ap (λ o. lowered.free_kept o c.args.free.slot) eo,
+      subst (λ m. WroteValue (sizes_in c.args.scope.now) (value_of c.args.e.now) m c.args.free.temporary c.args.free.slot c.args.code.now.list.items c.put_value.new.code.list.items) (c.mode_of.ensures ∙ ap lowered.mode_of eo) c.in_ok-put_value.ensures,
+    )
+
 pub values::put_number-returns : goal.values::put_number-returns
-values::put_number-returns t c = number_wrote (sizes_in c.args.scope.now) c.args.ty (value_of c.args.e.now) (arguments_of (map argument_of c.args.more.now)) c.args.free.temporary c.args.free.slot c.in_ok-temporary.temporary c.in_ok-slot.slot c.waits_for_arguments-operand.result (meant c.mode_of.result) c.keeps.result
-    c.waits_for_arguments-operand.ensures c.mode_of.ensures c.in_ok-temporary.ensures c.in_ok-slot.ensures c.keeps.ensures c.in_ok-put_value.ensures c.in_ok-put_passes.ensures c.in_ok-put_load.ensures
+values::put_number-returns t c =
+    let n = arguments_of (map argument_of c.args.more.now) in
+    let o = lowered.waits_in (value_of c.args.e.now) (lowered.arguments_write n) (lowered.arguments_call n) c.args.free.temporary c.args.free.slot in
+    number_wrote (sizes_in c.args.scope.now) c.args.ty (value_of c.args.e.now) n c.args.free.temporary c.args.free.slot c.in_ok-less.less.temporary c.in_ok-less.less.slot o (lowered.mode_of o) (lowered.keeps c.args.ty (value_of c.args.e.now))
+    refl refl c.in_ok-less.ensures.0 c.in_ok-less.ensures.1 refl c.in_ok-less.ensures.2 c.in_ok-put_passes.ensures c.in_ok-put_number_load.ensures
 
 pub values::put_call_node-returns : goal.values::put_call_node-returns
 values::put_call_node-returns t c = λ at u used. three c.in_ok-put.ensures c.in_ok-put_passes.ensures c.in_ok-put_call.ensures

@@ -12,8 +12,11 @@ decreases-values::put_passes l = 8 * argument_nodes (arguments_of (map argument_
 abbrev pub decreases-values::put_call_node : goal.decreases-values::put_call_node
 decreases-values::put_call_node l = 8 * argument_nodes (arguments_of (map argument_of l.arguments.now)) + 1
 
+abbrev pub decreases-values::put_waiting_number : goal.decreases-values::put_waiting_number
+decreases-values::put_waiting_number l = 8 * nodes (value_of l.e.now) + 1
+
 abbrev pub decreases-values::put_number : goal.decreases-values::put_number
-decreases-values::put_number l = 8 * (nodes (value_of l.e.now) + argument_nodes (arguments_of (map argument_of l.more.now))) + 1
+decreases-values::put_number l = 8 * (nodes (value_of l.e.now) + argument_nodes (arguments_of (map argument_of l.more.now))) + 2
 
 abbrev pub decreases-values::put_rested : goal.decreases-values::put_rested
 decreases-values::put_rested l = 8 * nodes (value_of l.e.now) + 1
@@ -75,8 +78,11 @@ decreases-values::put_sequence l = 8 * (nodes (value_of l.a.now) + nodes (value_
 abbrev pub decreases-operators::put_chosen : goal.decreases-operators::put_chosen
 decreases-operators::put_chosen l = 8 * (nodes (value_of l.c.now) + (nodes (value_of l.a.now) + nodes (value_of l.b.now))) + 1
 
+abbrev pub decreases-values::put_waiting_array : goal.decreases-values::put_waiting_array
+decreases-values::put_waiting_array l = 8 * place_nodes (place_of l.array.now) + 1
+
 abbrev pub decreases-values::put_array : goal.decreases-values::put_array
-decreases-values::put_array l = 8 * (place_nodes (place_of l.array.now) + argument_nodes (arguments_of (map argument_of l.more.now))) + 1
+decreases-values::put_array l = 8 * (place_nodes (place_of l.array.now) + argument_nodes (arguments_of (map argument_of l.more.now))) + 2
 
 abbrev pub decreases-places::put_element : goal.decreases-places::put_element
 decreases-places::put_element l = 8 * (place_nodes (place_of l.array.now) + nodes (value_of l.index.now)) + 2

@@ -17,4 +17,4 @@ returns-in_err-rest-clause-answer c = passed_on (AnswersStmt c.args.depth _) _ c
     (continue_fails _ _ _ _ c.in_err-rest.ensures.err.0)
 
 pub returns-clause-answer : goal.returns-clause-answer
-returns-clause-answer c = continue_reads _ _ _ _ _ c.in_ok-down.ensures.ok.0 c.in_ok-rest.ensures.ok.1
+returns-clause-answer c = rw c.in_ok-continue_node.ensures.ok (continue_reads _ _ _ _ _ c.in_ok-down.ensures.ok.0 c.in_ok-rest.ensures.ok.1)

@@ -13,4 +13,4 @@ returns-in_err-down-clause-stands c = err_passed_on (StandsStmt c.args.depth _) 
     (empty_full _ _ _ _ c.in_err-down.ensures.err.0 c.in_err-down.ensures.err.1)
 
 pub returns-clause-answer : goal.returns-clause-answer
-returns-clause-answer c = empty_reads _ _ _ c.in_ok-down.ensures.ok.0
+returns-clause-answer c = rw c.in_ok-empty_node.ensures.ok (empty_reads _ _ _ c.in_ok-down.ensures.ok.0)

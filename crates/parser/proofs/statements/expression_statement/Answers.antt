@@ -25,4 +25,5 @@ returns-in_err-part-clause-stands c = err_passed_on (StandsStmt c.args.depth _) 
     (act_stands _ _ _ _ _ c.in-Some.ensures.1 c.in_ok-below.ensures.ok.0 c.in_ok-below.ensures.ok.1 c.in_err-part.ensures.stands)
 
 pub returns-clause-answer : goal.returns-clause-answer
-returns-clause-answer c = expression_reads _ _ _ _ _ _ _ c.requires.other c.in-Some.ensures.1 c.in_ok-below.ensures.ok.1 c.in_ok-part.ensures.answer
+returns-clause-answer c = rw c.in_ok-expression_node.ensures.ok (expression_reads _ _ _ _ c.in_ok-part.part.expr _ _ c.requires.other c.in-Some.ensures.1 c.in_ok-below.ensures.ok.1
+    c.in_ok-part.ensures.answer)

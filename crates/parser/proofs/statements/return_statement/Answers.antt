@@ -21,4 +21,4 @@ returns-in_err-value-clause-stands c = err_passed_on (StandsStmt c.args.depth _)
     (return_stands _ _ _ _ _ c.in_ok-below.ensures.ok.1 c.in_err-value.ensures.stands)
 
 pub returns-clause-answer : goal.returns-clause-answer
-returns-clause-answer c = return_reads _ _ _ _ _ _ _ c.in_ok-below.ensures.ok.1 c.in_ok-value.ensures.answer
+returns-clause-answer c = rw c.in_ok-return_node.ensures.ok (return_reads _ _ _ _ c.in_ok-value.value.expr _ _ c.in_ok-below.ensures.ok.1 c.in_ok-value.ensures.answer)

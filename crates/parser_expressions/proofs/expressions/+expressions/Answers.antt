@@ -1,8 +1,9 @@
-use Rattle.std.proofs.Common.{◌+◌, length, ◌∷◌, [], sym, ap, refl, arith}
+use Rattle.std.proofs.Common.{◌+◌, ◌≤◌, length, ◌∷◌, [], sym, subst, ap, refl, arith}
 use Rattle.std.proofs.lemmas.List.{map-append}
 use Rattle.tree.specs.View.{tree_of}
+use Rattle.parser_grammar.specs.Expressions.{layer}
 use Rattle.tree.specs.declared.expression.BinaryOp.TheVariants as binary_op
-use Rattle.parser_expressions.proofs.Views.{type_TypeName, tree_SizeofType, tree_Name, tree_Constant, tree_StringLiteral, tree_Cast, tree_Paren, tree_Before, tree_Prefix, tree_Assign, tree_Conditional, tree_SizeofExpr, tree_Call}
+use Rattle.parser_expressions.proofs.Views.{type_TypeName}
 use Rattle.parser_expressions.proofs.Begun.{lift_layer, lift_result, pass_stands, full_stands, passes_stands, cast_full, cast_type_lift, cast_lift, before_full, before_lift, prefix_full, prefix_lift, size_full, size_lift, size_type_lift, identifier_full, constant_full, string_full, paren_full, paren_lift, call_lift, loop_passes, loop_stands, choice_passes, choice_yes_lift, choice_no_lift, assign_passes, assign_lift, growing_step_passes, growing_index_passes, growing_index_lift}
 use Rattle.parser_expressions.proofs.Arguments.{pass_arguments, pass_stands_arguments, arguments_first_lift, arguments_next_lift, arguments_first_fails, arguments_next_fails, arguments_open, arguments_end, arguments_begin, arguments_next, arguments_none}
 use Rattle.parser_expressions.proofs.Spine.{comma_climbs, cast_climbs, below_cast, comma_only, drop_last, loop_begins, loop_fails, loop_goes_on, loop_ends, loop_operand, loop_full}
@@ -12,39 +13,39 @@ use Rattle.parser_expressions.proofs.Productions.{pass, raise, full, never, befo
 use Rattle.parser_expressions.proofs.Parts.{cond_ends, cond_fails, cond_full, cond_yes_fails, cond_colon, cond_no_fails, cond_reads, assign_ends, assign_left_fails, assign_no_left, assign_full, assign_right_fails, assign_reads, identifier_reads, call_reads, call_fails, constant_reads, string_reads}
 use Rattle.parser_expressions.proofs.expressions.+expressions.Goals as goal
 
-pub expression-returns-in_err-left-clause-answer : goal.expression-returns-in_err-left-clause-answer
-expression-returns-in_err-left-clause-answer t c = pass 0 _ _ _ c.in_err-left.field-0.0 c.from_residual.ensures.1
+pub read_expression-returns-in_err-left-clause-answer : goal.read_expression-returns-in_err-left-clause-answer
+read_expression-returns-in_err-left-clause-answer t c = pass 0 _ _ _ c.in_err-left.field-0.0 c.from_residual.ensures.1
     (loop_fails 1 0 _ _ _ comma_climbs c.in_err-left.ensures.answer)
 
-pub expression-returns-in_err-left-clause-stands : goal.expression-returns-in_err-left-clause-stands
-expression-returns-in_err-left-clause-stands t c = pass_stands 0 _ _ _ c.in_err-left.field-0.0 c.from_residual.ensures.1
+pub read_expression-returns-in_err-left-clause-stands : goal.read_expression-returns-in_err-left-clause-stands
+read_expression-returns-in_err-left-clause-stands t c = pass_stands 0 _ _ _ c.in_err-left.field-0.0 c.from_residual.ensures.1
     (lift_layer 0 1 _ _ _ (omega arith) c.in_err-left.ensures.stands)
 
-pub expression-loop-pos-init : goal.expression-loop-pos-init
-expression-loop-pos-init t c = record { shorter = c.in_ok-left.ensures.shorter; read = loop_begins 1 0 _ _ _ _ _ comma_climbs c.in_ok-left.ensures.answer }
+pub read_expression-loop-pos-init : goal.read_expression-loop-pos-init
+read_expression-loop-pos-init t c = record { shorter = c.in_ok-left.ensures.shorter; read = loop_begins 1 0 _ _ _ _ _ comma_climbs c.in_ok-left.ensures.answer }
 
-pub expression-returns-in_err-below-clause-answer : goal.expression-returns-in_err-below-clause-answer
-expression-returns-in_err-below-clause-answer t c = pass 0 _ _ _ c.in_err-below.field-0.0 c.from_residual-in_err-below.ensures.1
+pub read_expression-returns-in_err-below-clause-answer : goal.read_expression-returns-in_err-below-clause-answer
+read_expression-returns-in_err-below-clause-answer t c = pass 0 _ _ _ c.in_err-below.field-0.0 c.from_residual-in_err-below.ensures.1
     (rw c.in_err-below.ensures.err.1 (loop_full 1 0 _ _ _ _ _ _ _ binary_op.Comma _ (omega arith) c.in-Some.ensures c.loop-pos.invariant.read
     c.in_err-below.ensures.err.0))
 
-pub expression-returns-in_err-below-clause-stands : goal.expression-returns-in_err-below-clause-stands
-expression-returns-in_err-below-clause-stands t c = pass_stands 0 _ _ _ c.in_err-below.field-0.0 c.from_residual-in_err-below.ensures.1
+pub read_expression-returns-in_err-below-clause-stands : goal.read_expression-returns-in_err-below-clause-stands
+read_expression-returns-in_err-below-clause-stands t c = pass_stands 0 _ _ _ c.in_err-below.field-0.0 c.from_residual-in_err-below.ensures.1
     (passes_stands 0 _ _ _ _ c.in_err-below.ensures.err.1 (loop_passes 1 0 _ _ _ _ _ _ _ binary_op.Comma (omega arith) (omega arith) c.in-Some.ensures
     c.loop-pos.invariant.read c.in_err-below.ensures.err.0))
 
-pub expression-returns-in_err-right-clause-answer : goal.expression-returns-in_err-right-clause-answer
-expression-returns-in_err-right-clause-answer t c = pass 0 _ _ _ c.in_err-right.field-0.0 c.from_residual-in_err-right.ensures.1
+pub read_expression-returns-in_err-right-clause-answer : goal.read_expression-returns-in_err-right-clause-answer
+read_expression-returns-in_err-right-clause-answer t c = pass 0 _ _ _ c.in_err-right.field-0.0 c.from_residual-in_err-right.ensures.1
     (loop_operand 1 0 _ _ _ _ _ _ _ binary_op.Comma _ (omega arith) c.in-Some.ensures c.loop-pos.invariant.read
     (rw (sym c.in_ok-below.ensures.ok.1) c.in_err-right.ensures.answer))
 
-pub expression-returns-in_err-right-clause-stands : goal.expression-returns-in_err-right-clause-stands
-expression-returns-in_err-right-clause-stands t c = pass_stands 0 _ _ _ c.in_err-right.field-0.0 c.from_residual-in_err-right.ensures.1
+pub read_expression-returns-in_err-right-clause-stands : goal.read_expression-returns-in_err-right-clause-stands
+read_expression-returns-in_err-right-clause-stands t c = pass_stands 0 _ _ _ c.in_err-right.field-0.0 c.from_residual-in_err-right.ensures.1
     (loop_stands 1 0 _ _ _ _ _ _ _ binary_op.Comma _ (omega arith) (omega arith) c.in-Some.ensures c.loop-pos.invariant.read
     (rw (sym c.in_ok-below.ensures.ok.1) c.in_err-right.ensures.stands))
 
-pub expression-loop-pos-preserved : goal.expression-loop-pos-preserved
-expression-loop-pos-preserved t c = record {
+pub read_expression-loop-pos-preserved : goal.read_expression-loop-pos-preserved
+read_expression-loop-pos-preserved t c = record {
   shorter = omega (
     arith,
     ap length c.in_ok-left-2.ensures.rest,
@@ -59,95 +60,93 @@ expression-loop-pos-preserved t c = record {
       (omega (arith, c.in_ok-left-2.ensures.depth, c.loop-pos.invariant.read.height, c.in_ok-right.ensures.answer.height)));
 }
 
-pub expression-returns-clause-answer : goal.expression-returns-clause-answer
-expression-returns-clause-answer t c = loop_ends 1 0 _ _ _ _ _ (λ op at mid le lt own. comma_only op _ at mid lt c.in_default.ensures own)
+pub read_expression-returns-clause-answer : goal.read_expression-returns-clause-answer
+read_expression-returns-clause-answer t c = loop_ends 1 0 _ _ _ _ _ (λ op at mid le lt own. comma_only op _ at mid lt c.in_default.ensures own)
     c.loop-pos.invariant.read
 
-pub assignment-returns-in_err-left-clause-answer : goal.assignment-returns-in_err-left-clause-answer
-assignment-returns-in_err-left-clause-answer t c = pass 1 _ _ _ c.in_err-left.field-0.0 c.from_residual.ensures.1
+pub read_assignment-returns-in_err-left-clause-answer : goal.read_assignment-returns-in_err-left-clause-answer
+read_assignment-returns-in_err-left-clause-answer t c = pass 1 _ _ _ c.in_err-left.field-0.0 c.from_residual.ensures.1
     (assign_left_fails _ _ _ c.in_err-left.ensures.answer)
 
-pub assignment-returns-in_err-left-clause-stands : goal.assignment-returns-in_err-left-clause-stands
-assignment-returns-in_err-left-clause-stands t c = pass_stands 1 _ _ _ c.in_err-left.field-0.0 c.from_residual.ensures.1
+pub read_assignment-returns-in_err-left-clause-stands : goal.read_assignment-returns-in_err-left-clause-stands
+read_assignment-returns-in_err-left-clause-stands t c = pass_stands 1 _ _ _ c.in_err-left.field-0.0 c.from_residual.ensures.1
     (lift_layer 1 2 _ _ _ (omega arith) c.in_err-left.ensures.stands)
 
-pub assignment-returns-in_default-clause-answer : goal.assignment-returns-in_default-clause-answer
-assignment-returns-in_default-clause-answer t c = assign_ends _ _ _ _ _ c.in_default.ensures c.in_ok-left.ensures.answer
+pub read_assignment-returns-in_default-clause-answer : goal.read_assignment-returns-in_default-clause-answer
+read_assignment-returns-in_default-clause-answer t c = assign_ends _ _ _ _ _ c.in_default.ensures c.in_ok-left.ensures.answer
 
-pub assignment-returns-then-not-is_unary-clause-answer : goal.assignment-returns-then-not-is_unary-clause-answer
-assignment-returns-then-not-is_unary-clause-answer t c = assign_no_left c.args.depth c.args.tokens.now _ _ _ _ _ _ _ c.in-Some.ensures
-    c.in_ok-left.ensures.answer (λ le. let a = c.is_unary.ensures.1 le in let b = c.if-not-is_unary.true in grind (arith, a, b))
+pub read_assignment-returns-then-not-is_unary-clause-answer : goal.read_assignment-returns-then-not-is_unary-clause-answer
+read_assignment-returns-then-not-is_unary-clause-answer t c = assign_no_left c.args.depth c.args.tokens.now _ _ _ _ _ _ _ c.in-Some.ensures
+    c.in_ok-left.ensures.answer (λ le. let a = c.is_unary.ensures.1 (subst (λ e. 14 ≤ layer (tree_of e)) (sym c.deref.ensures) le) in let b = c.if-not-is_unary.true in grind (arith, a, b))
 
-pub assignment-returns-in_err-below-clause-answer : goal.assignment-returns-in_err-below-clause-answer
-assignment-returns-in_err-below-clause-answer t c = pass 1 _ _ _ c.in_err-below.field-0.0 c.from_residual-in_err-below.ensures.1
+pub read_assignment-returns-in_err-below-clause-answer : goal.read_assignment-returns-in_err-below-clause-answer
+read_assignment-returns-in_err-below-clause-answer t c = pass 1 _ _ _ c.in_err-below.field-0.0 c.from_residual-in_err-below.ensures.1
     (rw c.in_err-below.ensures.err.1 (assign_full _ _ _ _ _ _ _ _ _ c.in-Some.ensures c.in_ok-left.ensures.answer c.in_err-below.ensures.err.0))
 
-pub assignment-returns-in_err-below-clause-stands : goal.assignment-returns-in_err-below-clause-stands
-assignment-returns-in_err-below-clause-stands t c = pass_stands 1 _ _ _ c.in_err-below.field-0.0 c.from_residual-in_err-below.ensures.1
+pub read_assignment-returns-in_err-below-clause-stands : goal.read_assignment-returns-in_err-below-clause-stands
+read_assignment-returns-in_err-below-clause-stands t c = pass_stands 1 _ _ _ c.in_err-below.field-0.0 c.from_residual-in_err-below.ensures.1
     (passes_stands 1 _ _ _ _ c.in_err-below.ensures.err.1 (assign_passes _ _ _ _ _ _ _ _ c.in-Some.ensures c.in_ok-left.ensures.answer
-    (c.is_unary.ensures.0 (let b = c.if-not-is_unary.false in grind (arith, b))) c.in_err-below.ensures.err.0))
+    (subst (λ e. 14 ≤ layer (tree_of e)) c.deref.ensures (c.is_unary.ensures.0 (let b = c.if-not-is_unary.false in grind (arith, b)))) c.in_err-below.ensures.err.0))
 
-pub assignment-returns-in_err-right-clause-answer : goal.assignment-returns-in_err-right-clause-answer
-assignment-returns-in_err-right-clause-answer t c = pass 1 _ _ _ c.in_err-right.field-0.0 c.from_residual-in_err-right.ensures.1
+pub read_assignment-returns-in_err-right-clause-answer : goal.read_assignment-returns-in_err-right-clause-answer
+read_assignment-returns-in_err-right-clause-answer t c = pass 1 _ _ _ c.in_err-right.field-0.0 c.from_residual-in_err-right.ensures.1
     (assign_right_fails _ _ _ _ _ _ _ _ _ c.in-Some.ensures c.in_ok-left.ensures.answer (rw (sym c.in_ok-below.ensures.ok.1) c.in_err-right.ensures.answer))
 
-pub assignment-returns-in_err-right-clause-stands : goal.assignment-returns-in_err-right-clause-stands
-assignment-returns-in_err-right-clause-stands t c = pass_stands 1 _ _ _ c.in_err-right.field-0.0 c.from_residual-in_err-right.ensures.1
-    (assign_lift _ _ _ _ _ _ _ _ _ c.in-Some.ensures c.in_ok-left.ensures.answer (c.is_unary.ensures.0 (let b = c.if-not-is_unary.false in grind (arith, b)))
+pub read_assignment-returns-in_err-right-clause-stands : goal.read_assignment-returns-in_err-right-clause-stands
+read_assignment-returns-in_err-right-clause-stands t c = pass_stands 1 _ _ _ c.in_err-right.field-0.0 c.from_residual-in_err-right.ensures.1
+    (assign_lift _ _ _ _ _ _ _ _ _ c.in-Some.ensures c.in_ok-left.ensures.answer (subst (λ e. 14 ≤ layer (tree_of e)) c.deref.ensures (c.is_unary.ensures.0 (let b = c.if-not-is_unary.false in grind (arith, b))))
     (rw (sym c.in_ok-below.ensures.ok.1) c.in_err-right.ensures.stands))
 
-pub assignment-returns-clause-answer : goal.assignment-returns-clause-answer
-assignment-returns-clause-answer t c = rw (tree_Assign c.in-Some.pos c.in-Some.op c.in_ok-new.field-0 c.in_ok-new-2.field-0 c.in_ok-left.left.expr
-    c.in_ok-right.right.expr c.in_ok-new.ensures.ok c.in_ok-new-2.ensures.ok) (assign_reads _ _ _ _ _ _ _ _ _ c.in_ok-right.right.depth _
-    (c.max-depth.result + 1) c.in-Some.ensures c.in_ok-left.ensures.answer (c.is_unary.ensures.0 (let b = c.if-not-is_unary.false in grind (arith, b)))
+pub read_assignment-returns-clause-answer : goal.read_assignment-returns-clause-answer
+read_assignment-returns-clause-answer t c = rw c.in_ok-assign_node.ensures.ok (assign_reads _ _ _ _ _ _ _ _ _ c.in_ok-right.right.depth _
+    (c.max-depth.result + 1) c.in-Some.ensures c.in_ok-left.ensures.answer (subst (λ e. 14 ≤ layer (tree_of e)) c.deref.ensures (c.is_unary.ensures.0 (let b = c.if-not-is_unary.false in grind (arith, b))))
     (rw (sym c.in_ok-below.ensures.ok.1) c.in_ok-right.ensures.answer) c.in_ok-below.ensures.ok.0
     (omega (arith, c.max-depth.ensures, c.in_ok-left.ensures.answer.height, c.in_ok-right.ensures.answer.height)))
 
-pub conditional-returns-in_err-test-clause-answer : goal.conditional-returns-in_err-test-clause-answer
-conditional-returns-in_err-test-clause-answer t c = pass 2 _ _ _ c.in_err-test.field-0.0 c.from_residual.ensures.1
+pub read_conditional-returns-in_err-test-clause-answer : goal.read_conditional-returns-in_err-test-clause-answer
+read_conditional-returns-in_err-test-clause-answer t c = pass 2 _ _ _ c.in_err-test.field-0.0 c.from_residual.ensures.1
     (cond_fails _ _ _ c.in_err-test.ensures.answer)
 
-pub conditional-returns-in_err-test-clause-stands : goal.conditional-returns-in_err-test-clause-stands
-conditional-returns-in_err-test-clause-stands t c = pass_stands 2 _ _ _ c.in_err-test.field-0.0 c.from_residual.ensures.1
+pub read_conditional-returns-in_err-test-clause-stands : goal.read_conditional-returns-in_err-test-clause-stands
+read_conditional-returns-in_err-test-clause-stands t c = pass_stands 2 _ _ _ c.in_err-test.field-0.0 c.from_residual.ensures.1
     (lift_layer 2 3 _ _ _ (omega arith) c.in_err-test.ensures.stands)
 
-pub conditional-returns-in_default-clause-answer : goal.conditional-returns-in_default-clause-answer
-conditional-returns-in_default-clause-answer t c = cond_ends _ _ _ _ _ c.in_default.ensures c.in_ok-test.ensures.answer
+pub read_conditional-returns-in_default-clause-answer : goal.read_conditional-returns-in_default-clause-answer
+read_conditional-returns-in_default-clause-answer t c = cond_ends _ _ _ _ _ c.in_default.ensures c.in_ok-test.ensures.answer
 
-pub conditional-returns-in_err-below-clause-answer : goal.conditional-returns-in_err-below-clause-answer
-conditional-returns-in_err-below-clause-answer t c = pass 2 _ _ _ c.in_err-below.field-0.0 c.from_residual-in_err-below.ensures.1
+pub read_conditional-returns-in_err-below-clause-answer : goal.read_conditional-returns-in_err-below-clause-answer
+read_conditional-returns-in_err-below-clause-answer t c = pass 2 _ _ _ c.in_err-below.field-0.0 c.from_residual-in_err-below.ensures.1
     (rw c.in_err-below.ensures.err.1 (cond_full _ _ _ _ _ _ _ _ c.in-Some.ensures c.in_ok-test.ensures.answer c.in_err-below.ensures.err.0))
 
-pub conditional-returns-in_err-below-clause-stands : goal.conditional-returns-in_err-below-clause-stands
-conditional-returns-in_err-below-clause-stands t c = pass_stands 2 _ _ _ c.in_err-below.field-0.0 c.from_residual-in_err-below.ensures.1
+pub read_conditional-returns-in_err-below-clause-stands : goal.read_conditional-returns-in_err-below-clause-stands
+read_conditional-returns-in_err-below-clause-stands t c = pass_stands 2 _ _ _ c.in_err-below.field-0.0 c.from_residual-in_err-below.ensures.1
     (passes_stands 2 _ _ _ _ c.in_err-below.ensures.err.1 (choice_passes _ _ _ _ _ _ _ c.in-Some.ensures c.in_ok-test.ensures.answer
     c.in_err-below.ensures.err.0))
 
-pub conditional-returns-in_err-yes-clause-answer : goal.conditional-returns-in_err-yes-clause-answer
-conditional-returns-in_err-yes-clause-answer t c = pass 2 _ _ _ c.in_err-yes.field-0.0 c.from_residual-in_err-yes.ensures.1
+pub read_conditional-returns-in_err-yes-clause-answer : goal.read_conditional-returns-in_err-yes-clause-answer
+read_conditional-returns-in_err-yes-clause-answer t c = pass 2 _ _ _ c.in_err-yes.field-0.0 c.from_residual-in_err-yes.ensures.1
     (cond_yes_fails _ _ _ _ _ _ _ _ c.in-Some.ensures c.in_ok-test.ensures.answer (rw (sym c.in_ok-below.ensures.ok.1) c.in_err-yes.ensures.answer))
 
-pub conditional-returns-in_err-yes-clause-stands : goal.conditional-returns-in_err-yes-clause-stands
-conditional-returns-in_err-yes-clause-stands t c = pass_stands 2 _ _ _ c.in_err-yes.field-0.0 c.from_residual-in_err-yes.ensures.1
+pub read_conditional-returns-in_err-yes-clause-stands : goal.read_conditional-returns-in_err-yes-clause-stands
+read_conditional-returns-in_err-yes-clause-stands t c = pass_stands 2 _ _ _ c.in_err-yes.field-0.0 c.from_residual-in_err-yes.ensures.1
     (choice_yes_lift _ _ _ _ _ _ _ _ c.in-Some.ensures c.in_ok-test.ensures.answer (rw (sym c.in_ok-below.ensures.ok.1) c.in_err-yes.ensures.stands))
 
-pub conditional-returns-in_err-rest-clause-answer : goal.conditional-returns-in_err-rest-clause-answer
-conditional-returns-in_err-rest-clause-answer t c = pass 2 _ _ _ c.in_err-rest.field-0.0 c.from_residual-in_err-rest.ensures.1
+pub read_conditional-returns-in_err-rest-clause-answer : goal.read_conditional-returns-in_err-rest-clause-answer
+read_conditional-returns-in_err-rest-clause-answer t c = pass 2 _ _ _ c.in_err-rest.field-0.0 c.from_residual-in_err-rest.ensures.1
     (cond_colon _ _ _ _ _ _ _ _ _ _ _ _ c.in-Some.ensures c.in_ok-test.ensures.answer c.in_ok-yes.ensures.answer c.in_err-rest.ensures.err.0)
 
-pub conditional-returns-in_err-no-clause-answer : goal.conditional-returns-in_err-no-clause-answer
-conditional-returns-in_err-no-clause-answer t c = pass 2 _ _ _ c.in_err-no.field-0.0 c.from_residual-in_err-no.ensures.1
+pub read_conditional-returns-in_err-no-clause-answer : goal.read_conditional-returns-in_err-no-clause-answer
+read_conditional-returns-in_err-no-clause-answer t c = pass 2 _ _ _ c.in_err-no.field-0.0 c.from_residual-in_err-no.ensures.1
     (cond_no_fails _ _ _ _ _ _ _ _ _ _ _ _ _ _ c.in-Some.ensures c.in_ok-test.ensures.answer c.in_ok-yes.ensures.answer c.in_ok-rest.ensures.ok.1
     (rw (sym c.in_ok-below.ensures.ok.1) c.in_err-no.ensures.answer))
 
-pub conditional-returns-in_err-no-clause-stands : goal.conditional-returns-in_err-no-clause-stands
-conditional-returns-in_err-no-clause-stands t c = pass_stands 2 _ _ _ c.in_err-no.field-0.0 c.from_residual-in_err-no.ensures.1
+pub read_conditional-returns-in_err-no-clause-stands : goal.read_conditional-returns-in_err-no-clause-stands
+read_conditional-returns-in_err-no-clause-stands t c = pass_stands 2 _ _ _ c.in_err-no.field-0.0 c.from_residual-in_err-no.ensures.1
     (choice_no_lift _ _ _ _ _ _ _ _ _ _ _ _ _ _ c.in-Some.ensures c.in_ok-test.ensures.answer c.in_ok-yes.ensures.answer c.in_ok-rest.ensures.ok.1
     (rw (sym c.in_ok-below.ensures.ok.1) c.in_err-no.ensures.stands))
 
-pub conditional-returns-clause-answer : goal.conditional-returns-clause-answer
-conditional-returns-clause-answer t c = rw (tree_Conditional c.in-Some.pos c.in_ok-new.field-0 c.in_ok-new-2.field-0 c.in_ok-new-3.field-0
-    c.in_ok-test.test.expr c.in_ok-yes.yes.expr c.in_ok-no.no.expr c.in_ok-new.ensures.ok c.in_ok-new-2.ensures.ok c.in_ok-new-3.ensures.ok)
+pub read_conditional-returns-clause-answer : goal.read_conditional-returns-clause-answer
+read_conditional-returns-clause-answer t c = rw c.in_ok-conditional_node.ensures.ok
     (cond_reads _ _ _ _ _ _ _ _ _ _ _ _ _ _ c.in_ok-no.no.depth _ (c.max-depth.result + 1) c.in-Some.ensures c.in_ok-test.ensures.answer
     c.in_ok-yes.ensures.answer c.in_ok-rest.ensures.ok.1 (rw (sym c.in_ok-below.ensures.ok.1) c.in_ok-no.ensures.answer) c.in_ok-below.ensures.ok.0
     c.in_ok-below.ensures.ok.1 (omega (
@@ -240,7 +239,7 @@ cast-returns-in_err-operand-clause-stands t c = pass_stands 13 _ _ _ c.in_err-op
     (cast_lift _ _ _ _ _ _ _ _ _ c.in-Some.ensures.0 c.in_ok-named.ensures.answer (rw (sym c.in_ok-below.ensures.ok.1) c.in_err-operand.ensures.stands))
 
 pub cast-returns-in-Some-clause-answer : goal.cast-returns-in-Some-clause-answer
-cast-returns-in-Some-clause-answer t c = rw (tree_Cast c.in-Some.pos c.in_ok-named.named.name c.in_ok-new.field-0 _ c.in_ok-new.ensures.ok)
+cast-returns-in-Some-clause-answer t c = rw c.in_ok-cast_node.ensures.ok
     (cast_reads _ _ _ _ c.in_ok-named.named.rest.now _ c.in_ok-named.named.depth _ c.in_ok-operand.operand.depth _ (c.max-depth.result + 1) c.in-Some.ensures.0
     c.in-Some.ensures.1 (rw (sym c.in_ok-below.ensures.ok.1) c.in_ok-named.ensures.answer) (rw (sym c.in_ok-below.ensures.ok.1) c.in_ok-operand.ensures.answer)
     (omega (arith, c.max-depth.ensures)))
@@ -289,9 +288,9 @@ type_name-loop-inner-preserved t c = record {
     c.loop-inner.invariant.shorter,
   );
   read = rw (
-    c.in_ok-push.ensures.items,
+    c.in_ok-push_unboxed.ensures.ok,
     map-append tree_of c.loop-inner.sizes.items
-        (c.in_ok-size.size.expr ∷ []),
+        (c.in_ok-size.size.expr.value ∷ []),
   ) (sizes_next _ _ _ _ _ _ _ _ _ _ _ _ _ c.in_ok-size.size.depth _ c.in-Some.ensures c.loop-inner.invariant.read
       c.in_ok-size.ensures.answer c.in_ok-rest.ensures.ok.1 c.max-deepest.ensures);
 }
@@ -321,7 +320,7 @@ unary-returns-in_err-operand-clause-stands t c = pass_stands 14 _ _ _ c.in_err-o
     (before_lift _ _ _ _ _ _ c.in-Some.ensures (rw (sym c.in_ok-below.ensures.ok.1) c.in_err-operand.ensures.stands))
 
 pub unary-returns-in-Some-clause-answer : goal.unary-returns-in-Some-clause-answer
-unary-returns-in-Some-clause-answer t c = rw (tree_Before c.in-Some.pos c.in-Some.op c.in_ok-new.field-0 _ c.in_ok-new.ensures.ok)
+unary-returns-in-Some-clause-answer t c = rw c.in_ok-before_node.ensures.ok
     (before_reads _ _ _ _ _ _ _ _ c.in-Some.ensures (rw (sym c.in_ok-below.ensures.ok.1) c.in_ok-operand.ensures.answer))
 
 pub unary-returns-in_err-below-2-clause-answer : goal.unary-returns-in_err-below-2-clause-answer
@@ -341,8 +340,7 @@ unary-returns-in_err-operand-2-clause-stands t c = pass_stands 14 _ _ _ c.in_err
     (prefix_lift _ _ _ _ _ _ c.in-Some-prefix_front.ensures (rw (sym c.in_ok-below-2.ensures.ok.1) c.in_err-operand-2.ensures.stands))
 
 pub unary-returns-in-Some-prefix_front-clause-answer : goal.unary-returns-in-Some-prefix_front-clause-answer
-unary-returns-in-Some-prefix_front-clause-answer t c = rw (tree_Prefix c.in-Some-prefix_front.pos c.in-Some-prefix_front.op c.in_ok-new-2.field-0 _
-    c.in_ok-new-2.ensures.ok) (prefix_reads _ _ _ _ _ _ _ _ c.in-Some-prefix_front.ensures
+unary-returns-in-Some-prefix_front-clause-answer t c = rw c.in_ok-prefix_node.ensures.ok (prefix_reads _ _ _ _ _ _ _ _ c.in-Some-prefix_front.ensures
     (rw (sym c.in_ok-below-2.ensures.ok.1) c.in_ok-operand-2.ensures.answer))
 
 pub unary-returns-in-Some-keyword_front-clause-answer : goal.unary-returns-in-Some-keyword_front-clause-answer
@@ -375,7 +373,7 @@ sizeof-returns-in_err-named-clause-stands t c = pass_stands 14 _ _ _ c.in_err-na
     (size_type_lift _ _ _ _ _ _ _ refl c.in-Some.ensures.0 (rw (sym c.in_ok-below.ensures.ok.1) c.in_err-named.ensures.stands))
 
 pub sizeof-returns-in-Some-clause-answer : goal.sizeof-returns-in-Some-clause-answer
-sizeof-returns-in-Some-clause-answer t c = rw (tree_SizeofType c.args.pos c.in_ok-named.named.name) (size_type_reads _ _ _ _ _ _ _ _ _ refl c.in-Some.ensures.0
+sizeof-returns-in-Some-clause-answer t c = rw c.in_ok-type_size_node.ensures.ok (size_type_reads _ _ _ _ _ _ _ _ _ refl c.in-Some.ensures.0
     c.in-Some.ensures.1 (rw (sym c.in_ok-below.ensures.ok.1) c.in_ok-named.ensures.answer))
 
 pub sizeof-returns-in_err-operand-clause-answer : goal.sizeof-returns-in_err-operand-clause-answer
@@ -387,7 +385,7 @@ sizeof-returns-in_err-operand-clause-stands t c = pass_stands 14 _ _ _ c.in_err-
     (size_lift _ _ _ _ _ refl (rw (sym c.in_ok-below.ensures.ok.1) c.in_err-operand.ensures.stands))
 
 pub sizeof-returns-clause-answer : goal.sizeof-returns-clause-answer
-sizeof-returns-clause-answer t c = rw (tree_SizeofExpr c.args.pos c.in_ok-new.field-0 _ c.in_ok-new.ensures.ok)
+sizeof-returns-clause-answer t c = rw c.in_ok-size_node.ensures.ok
     (size_reads _ _ _ _ _ _ _ refl c.in_default.ensures (rw (sym c.in_ok-below.ensures.ok.1) c.in_ok-operand.ensures.answer))
 
 pub postfix-returns-in_err-left-clause-answer : goal.postfix-returns-in_err-left-clause-answer
@@ -482,11 +480,11 @@ primary-returns-in_err-arguments-clause-stands t c = pass_stands 16 _ _ _ c.in_e
     (call_lift _ _ _ _ _ _ _ _ c.in-Some.ensures c.in-Some-sign_front.ensures (rw (sym c.in_ok-below.ensures.ok.1) c.in_err-arguments.ensures.stands))
 
 pub primary-returns-in-Some-sign_front-clause-answer : goal.primary-returns-in-Some-sign_front-clause-answer
-primary-returns-in-Some-sign_front-clause-answer t c = rw (tree_Call c.in-Some.pos c.in-Some.name c.in_ok-arguments.arguments.list)
+primary-returns-in-Some-sign_front-clause-answer t c = rw c.in_ok-call_node.ensures.ok
     (call_reads _ _ _ _ _ _ _ _ _ _ c.in-Some.ensures c.in-Some-sign_front.ensures (rw (sym c.in_ok-below.ensures.ok.1) c.in_ok-arguments.ensures.answer))
 
 pub primary-returns-in-Some-clause-answer : goal.primary-returns-in-Some-clause-answer
-primary-returns-in-Some-clause-answer t c = rw (tree_Name c.in-Some.pos c.in-Some.name)
+primary-returns-in-Some-clause-answer t c = rw c.in_ok-name_node.ensures.ok
     (identifier_reads _ _ _ _ _ c.in-Some.ensures c.in_default-sign_front.ensures c.in_ok-below.ensures.ok.0)
 
 pub primary-returns-in_err-down-clause-answer : goal.primary-returns-in_err-down-clause-answer
@@ -498,8 +496,7 @@ primary-returns-in_err-down-clause-stands t c = pass_stands 16 _ _ _ c.in_err-do
     (full_stands 16 _ _ _ _ c.in_err-down.ensures.err.1 c.in_err-down.ensures.err.0 (constant_full _ _ _ _ _ c.in-Some-constant_front.ensures))
 
 pub primary-returns-in-Some-constant_front-clause-answer : goal.primary-returns-in-Some-constant_front-clause-answer
-primary-returns-in-Some-constant_front-clause-answer t c = rw (tree_Constant c.in-Some-constant_front.pos c.in-Some-constant_front.ty
-    c.in-Some-constant_front.value) (constant_reads _ _ _ _ _ _ c.in-Some-constant_front.ensures c.in_ok-down.ensures.ok.0)
+primary-returns-in-Some-constant_front-clause-answer t c = rw c.in_ok-constant_node.ensures.ok (constant_reads _ _ _ _ _ _ c.in-Some-constant_front.ensures c.in_ok-down.ensures.ok.0)
 
 pub primary-returns-in_err-down-2-clause-answer : goal.primary-returns-in_err-down-2-clause-answer
 primary-returns-in_err-down-2-clause-answer t c = pass 16 _ _ _ c.in_err-down-2.field-0.0 c.from_residual-in_err-down-2.ensures.1
@@ -510,7 +507,7 @@ primary-returns-in_err-down-2-clause-stands t c = pass_stands 16 _ _ _ c.in_err-
     (full_stands 16 _ _ _ _ c.in_err-down-2.ensures.err.1 c.in_err-down-2.ensures.err.0 (string_full _ _ _ _ c.in-Some-string_front.ensures))
 
 pub primary-returns-in-Some-string_front-clause-answer : goal.primary-returns-in-Some-string_front-clause-answer
-primary-returns-in-Some-string_front-clause-answer t c = rw (tree_StringLiteral c.in-Some-string_front.pos c.in-Some-string_front.text)
+primary-returns-in-Some-string_front-clause-answer t c = rw c.in_ok-string_node.ensures.ok
     (string_reads _ _ _ _ _ c.in-Some-string_front.ensures c.in_ok-down-2.ensures.ok.0)
 
 pub primary-returns-in_default-sign_front-2-clause-answer : goal.primary-returns-in_default-sign_front-2-clause-answer
@@ -538,7 +535,7 @@ primary-returns-in_err-rest-clause-answer t c = pass 16 _ _ _ c.in_err-rest.fiel
     (paren_open _ _ _ _ _ _ _ _ _ c.in-Some-sign_front-2.ensures c.in_ok-inner.ensures.answer c.in_err-rest.ensures.err.0)
 
 pub primary-returns-clause-answer : goal.primary-returns-clause-answer
-primary-returns-clause-answer t c = rw (tree_Paren c.in_ok-new.field-0 _ c.in_ok-new.ensures.ok) (paren_reads _ _ _ _ _ _ _ _ _ c.in-Some-sign_front-2.ensures
+primary-returns-clause-answer t c = rw c.in_ok-paren_node.ensures.ok (paren_reads _ _ _ _ _ _ _ _ _ c.in-Some-sign_front-2.ensures
     c.in_ok-rest.ensures.ok.1 (rw (sym c.in_ok-below-2.ensures.ok.1) c.in_ok-inner.ensures.answer))
 
 pub read_arguments-returns-in-Some-clause-answer : goal.read_arguments-returns-in-Some-clause-answer
@@ -555,7 +552,7 @@ read_arguments-returns-in_err-first-clause-stands t c = pass_stands_arguments _ 
 pub read_arguments-loop-after-init : goal.read_arguments-loop-after-init
 read_arguments-loop-after-init t c = record {
   shorter = c.in_ok-first.ensures.shorter;
-  read = rw (c.in_ok-push.ensures.items, c.new-list.ensures.items)
+  read = rw (c.in_ok-push_unboxed.ensures.ok, c.new-list.ensures.items)
       (arguments_begin _ _ _ _ _ (λ at rest own. c.in_default.ensures at rest own) c.in_ok-first.ensures.answer);
 }
 
@@ -575,7 +572,7 @@ read_arguments-loop-after-preserved t c = record {
     ap length c.in-Some-sign_front.ensures,
     c.loop-after.invariant.shorter,
   );
-  read = rw (c.in_ok-push-2.ensures.items, map-append tree_of c.loop-after.list.items (c.in_ok-next.next.expr ∷ []))
+  read = rw (c.in_ok-push_unboxed-2.ensures.ok, map-append tree_of c.loop-after.list.items (c.in_ok-next.next.expr.value ∷ []))
       (arguments_next _ _ _ _ _ _ _ _ c.in_ok-next.next.depth _ _ c.in-Some-sign_front.ensures c.loop-after.invariant.read c.in_ok-next.ensures.answer
       c.max-deepest.ensures);
 }

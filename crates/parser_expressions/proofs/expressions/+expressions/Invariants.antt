@@ -21,14 +21,14 @@ decreases-cast l = 16 * length l.tokens.now + 4
 abbrev pub decreases-binary : goal.decreases-binary
 decreases-binary l = 16 * length l.tokens.now + 5
 
-abbrev pub decreases-conditional : goal.decreases-conditional
-decreases-conditional l = 16 * length l.tokens.now + 6
+abbrev pub decreases-read_conditional : goal.decreases-read_conditional
+decreases-read_conditional l = 16 * length l.tokens.now + 6
 
-abbrev pub decreases-assignment : goal.decreases-assignment
-decreases-assignment l = 16 * length l.tokens.now + 7
+abbrev pub decreases-read_assignment : goal.decreases-read_assignment
+decreases-read_assignment l = 16 * length l.tokens.now + 7
 
-abbrev pub decreases-expression : goal.decreases-expression
-decreases-expression l = 16 * length l.tokens.now + 8
+abbrev pub decreases-read_expression : goal.decreases-read_expression
+decreases-read_expression l = 16 * length l.tokens.now + 8
 
 abbrev pub decreases-read_arguments : goal.decreases-read_arguments
 decreases-read_arguments l = 16 * length l.tokens.now + 9
@@ -39,19 +39,19 @@ decreases-type_name l = 16 * length l.tokens.now + 9
 abbrev pub decreases-sizeof : goal.decreases-sizeof
 decreases-sizeof l = 16 * length l.tokens.now + 10
 
-abbrev pub invariant-expression-loop-pos : goal.invariant-expression-loop-pos
-invariant-expression-loop-pos l = record {
+abbrev pub invariant-read_expression-loop-pos : goal.invariant-read_expression-loop-pos
+invariant-read_expression-loop-pos l = record {
   shorter : length l.left.rest.now < length l.tokens;
-  read : Loop 1 0 l.depth l.tokens (tree_of l.left.expr) l.left.depth l.left.rest.now;
+  read : Loop 1 0 l.depth l.tokens (tree_of l.left.expr.value) l.left.depth l.left.rest.now;
 }
 
-abbrev pub decreases-expression-loop-pos : goal.decreases-expression-loop-pos
-decreases-expression-loop-pos l = length l.left.rest.now
+abbrev pub decreases-read_expression-loop-pos : goal.decreases-read_expression-loop-pos
+decreases-read_expression-loop-pos l = length l.left.rest.now
 
 abbrev pub invariant-binary-loop-pos : goal.invariant-binary-loop-pos
 invariant-binary-loop-pos l = record {
   shorter : length l.left.rest.now < length l.tokens;
-  read : Loop 13 l.min l.depth l.tokens (tree_of l.left.expr) l.left.depth l.left.rest.now;
+  read : Loop 13 l.min l.depth l.tokens (tree_of l.left.expr.value) l.left.depth l.left.rest.now;
 }
 
 abbrev pub decreases-binary-loop-pos : goal.decreases-binary-loop-pos
@@ -60,7 +60,7 @@ decreases-binary-loop-pos l = length l.left.rest.now
 abbrev pub invariant-postfix-loop-pos : goal.invariant-postfix-loop-pos
 invariant-postfix-loop-pos l = record {
   shorter : length l.left.rest.now < length l.tokens;
-  read : Growing l.depth l.tokens (tree_of l.left.expr) l.left.depth l.left.rest.now;
+  read : Growing l.depth l.tokens (tree_of l.left.expr.value) l.left.depth l.left.rest.now;
 }
 
 abbrev pub decreases-postfix-loop-pos : goal.decreases-postfix-loop-pos

@@ -17,5 +17,5 @@ returns-in_ok-put_tests-in-Some-Some t c =
     let next : c.plus-next.result ≡ plus c.args.at (statement_size (program_in c.args.scope.now) (function_in c.args.scope.now) x) = c.plus-next.ensures ∙ ap (λ n. plus c.args.at n) c.statement_size.ensures in
     let label : labels_at x ≡ one_label (Some (Some v)) = search rules in
     let same : to_z w64 (of_z w64 v) ≡ v = search (rules, to_z-of_z) in
-    rw c.in-Some.ensures.cases.0 (tests_case (program_in c.args.scope.now) (function_in c.args.scope.now) c.args.operand x more c.args.at c.plus-next.result c.args.other next v label
+    rw c.in-Some.ensures.cases.0 (tests_case (program_in c.args.scope.now) (function_in c.args.scope.now) c.args.operand.now x more c.args.at c.plus-next.result c.args.other next v label
     (rw (c.branch-operand.ensures, c.word_of.ensures, same) at c.in_ok-put-in-Some-Some.ensures) c.in_ok-put_tests-in-Some-Some.ensures)

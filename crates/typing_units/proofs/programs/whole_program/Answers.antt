@@ -11,8 +11,8 @@ use Rattle.typing_units.proofs.programs.whole_program.Goals as goal
 
 pub returns-in-Err-clause-err : goal.returns-in-Err-clause-err
 returns-in-Err-clause-err c = λ stack.
-    limits_told c.args.whole (built_of stack stack (unit_scope c.args.names.now c.args.literals.now c.args.statics.items c.args.scope.now) c.args.functions.items c.args.initial.items) c.in-Err.refusal
-    (at_slices (λ os fs. IsOf c.in-Err.refusal (within_limits c.args.whole (built_of stack stack (unit_scope c.args.names.now c.args.literals.now os c.args.scope.now) fs c.args.initial.items))) _ _ _ _ c.deref.ensures.value
+    limits_told c.args.whole (built_of stack (unit_scope c.args.names.now c.args.literals.now c.args.statics.items c.args.scope.now) c.args.functions.items c.args.initial.items) c.in-Err.refusal
+    (at_slices (λ os fs. IsOf c.in-Err.refusal (within_limits c.args.whole (built_of stack (unit_scope c.args.names.now c.args.literals.now os c.args.scope.now) fs c.args.initial.items))) _ _ _ _ c.deref.ensures.value
     c.deref-2.ensures.value (c.in-Err.ensures.err stack c.args.scope.now c.args.initial.items))
 
 pub returns-in-Err-all_defined-clause-err : goal.returns-in-Err-all_defined-clause-err
@@ -27,7 +27,7 @@ returns-in-Some-clause-ok c = λ stack.
     let s = unit_scope c.args.names.now c.args.literals.now c.args.statics.items c.args.scope.now in
     if_ok c.program_of.result (c.program_of.ensures.ok stack c.args.scope.now) (λ p e.
     whole_fine c.args.whole (built_of stack s c.args.functions.items c.args.initial.items) c.in-Some.main _
-    (at_slices (λ os fs. within_limits c.args.whole (built_of stack stack (unit_scope c.args.names.now c.args.literals.now os c.args.scope.now) fs c.args.initial.items) ≡ fine tt) _ _ _ _ c.deref.ensures.value c.deref-2.ensures.value
+    (at_slices (λ os fs. within_limits c.args.whole (built_of stack (unit_scope c.args.names.now c.args.literals.now os c.args.scope.now) fs c.args.initial.items) ≡ fine tt) _ _ _ _ c.deref.ensures.value c.deref-2.ensures.value
     (c.in-Ok.ensures.ok stack c.args.scope.now c.args.initial.items))
     (at_slices (λ os fs. all_defined (with_statics (map static_of os) s) [] (uses_in_functions (map function_of fs)) ≡ fine tt) _ _ _ _ c.deref-3.ensures.value c.deref-4.ensures.value (c.in-Ok-all_defined.ensures.ok s))
     (main_same c.args.names.now c.args.literals.now c.args.statics.items c.args.scope.now 0 (map function_of c.args.functions.items)

@@ -1,0 +1,13 @@
+use Rattle.std.proofs.Common.{map, subst, ap, ◌∙◌}
+use Rattle.typing_program.specs.View.{place_of}
+use Rattle.tac_lowering.specs.Code.{HandsOver}
+use Rattle.tac_lowering.specs.Places.{found}
+use Rattle.tac_forms.specs.inside.FormSizes.{hands_over_size}
+use Rattle.tac_forms.specs.inside.Parts.{Wrote}
+use Rattle.tac_values.proofs.values.put_array_reference.Goals as goal
+
+pub returns : goal.returns
+returns c = subst
+    (λ a. Wrote (λ w p q. HandsOver w a c.args.free.temporary p q) (hands_over_size a) c.args.code.now.list.items c.put_handed.new.code.list.items)
+    (c.found-spot.ensures ∙ ap (λ b. found (place_of c.args.array.now) b c.args.free.temporary c.args.free.slot) c.arguments_call.ensures)
+    c.in_ok-put_handed.ensures
