@@ -81,9 +81,9 @@ struct zk_machine { uint32_t detail, pc, registers[32]; uint64_t steps, output; 
 
 /* Runs an executable file from its start for `count` instructions, or to where it stops before, or, once it has done `after`, to where
    the instruction at the address `halt` is next (none stands at an odd one); and shows the machine there: `window` gets the bytes
-   of its memory from the address `from` on, 0 for each that can't be read. Answers 0 where it goes on, 1 where it ended, 2 where it
-   trapped, 3 where memory ran out for the output, 4 where the file is not loaded: then `detail` and `output` alone are set, the
-   window and `out` are as they were, and nothing was put. */
+   of its memory from the address `from` on, 0 for each that the program can't read, as its own code. Answers 0 where it goes on,
+   1 where it ended, 2 where it trapped, 3 where memory ran out for the output, 4 where the file is not loaded: then `detail` and
+   `output` alone are set, the window and `out` are as they were, and nothing was put. */
 uint32_t zk_step(const uint8_t *file, size_t file_length, const uint8_t *input, size_t input_length,
                  uint64_t count, uint64_t after, uint32_t halt, uint32_t from, uint8_t *window, size_t window_length,
                  uint8_t *out, size_t out_length, struct zk_machine *machine);

@@ -4,10 +4,10 @@ import { session } from './session.js';
 
 const SHOWN = 4000;      // rows; a longer listing is the program's to show
 let lines = [];          // { address, word, says }
-let runTo = () => {}, breakAt = () => {}, lookAt = () => {};
+let runTo = () => {}, breakAt = () => {};
 
 export function begin(ways) {
-  ({ runTo, breakAt, lookAt } = ways);
+  ({ runTo, breakAt } = ways);
   $('listing-lines').onclick = event => { const button = event.target.closest('button'); if (button) select(Number(button.value)); };
   $('listing-lines').onkeydown = move;
 }
@@ -100,7 +100,6 @@ function showWord(line) {
   $('word-bits').replaceChildren(...parts.map(([, bits]) => element('td', bits)));
   $('run-to').onclick = () => runTo(address);
   $('break-here').onclick = () => breakAt(address);
-  $('look-at').onclick = () => lookAt(address);
   $('go-to').hidden = to === undefined || !rowAt(to);
   $('go-to').textContent = to === undefined ? '' : `It leads to ${hex(to)}`;
   $('go-to').onclick = () => select(lines.findIndex(one => one.address === to));

@@ -96,13 +96,6 @@ function breakAt(address) {
   say(`The breakpoint is at ${hex(address)}: run goes there.`);
 }
 
-function lookAt(address) {
-  $('from').value = `0x${hex(address)}`;
-  tabs.choose($('tab-machine'));
-  showMemory();
-  $('from').focus();
-}
-
 function shown(tab) {
   if (session.seen) showMachine();
   if (session.file && tab.id === 'tab-both') traces.measure();
@@ -172,7 +165,7 @@ async function begin() {
   $('examples').replaceChildren(new Option('choose one', ''), ...examples.map(({ name }, k) => new Option(name, k)));
   listen();
   tabs.begin(shown);
-  listing.begin({ runTo: goTo, breakAt, lookAt });
+  listing.begin({ runTo: goTo, breakAt });
   traces.begin();
   enable();
   try {

@@ -1,2 +1,3 @@
 -- What only proofs and private clauses need.
 pub mod Refusing
+pub mod Stopping

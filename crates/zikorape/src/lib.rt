@@ -11,6 +11,7 @@ mod giving;
 mod refusing;
 mod standing;
 mod stepping;
+mod ticking;
 
 ghost use Rattle.std.specs.Prelude.{◌⊎◌, []};
 ghost use Rattle.srcset.specs.Codes.{message_of};

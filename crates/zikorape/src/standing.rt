@@ -1,16 +1,19 @@
 //! Where a machine stands after so many instructions.
 
 ghost use Rattle.std.specs.Prelude.{◌≡◌, ◌⊎◌, [], IfOk};
+ghost use Rattle.rv32.specs.Step.{machine_of};
 ghost use Rattle.srcset.specs.Codes.{number_of};
+ghost use Rattle.loader.specs.Loading.{loaded_image};
+ghost use Rattle.sim.specs.Runs.{start_of};
 ghost use Rattle.zikorape.specs.Got.{Buffer};
 ghost use Rattle.zikorape.specs.Stepped.{Window, Stands, FailsToStand, cause_number, outcome_number, detail_of};
 
 use crate::giving::give;
 use crate::stepping::{Halt, run_to, show};
-use loader::load;
+use loader::{Loaded, load};
 use meaning_ports::MemPort;
-use rv32::state::Cause;
-use sim::{Machine, Outcome};
+use rv32::state::{Cause, State};
+use sim::Outcome;
 use srcset::Code;
 use std::alloc::{AllocError, Global};
 
@@ -51,12 +54,12 @@ pub fn stand(
     };
     match load(alloc, file) {
         Ok(program) => {
-            let mut machine = Machine::new(program);
-            let reached = run_to(&mut machine, &mut port, count, halt);
-            show(machine.memory(), from, window);
+            let mut state = start(program);
+            let reached = run_to(&mut state, &mut port, count, halt);
+            show(&state.memory, from, window);
             standing.detail = detail(reached.outcome);
-            standing.pc = machine.pc();
-            standing.registers = machine.registers();
+            standing.pc = state.pc;
+            standing.registers = state.registers;
             standing.steps = reached.steps;
             standing.output = give(port.output(), out);
             number(reached.outcome)
@@ -73,6 +76,18 @@ fn port_over(alloc: Global, input: &[u8]) -> Result<MemPort, AllocError>
         return Err(AllocError);
     };
     Ok(MemPort::new(alloc, input))
+}
+
+/// The machine before its first instruction.
+fn start(program: Loaded) -> State
+    ensures { machine_of result ≡ start_of (loaded_image program) }
+{
+    let pc = program.entry();
+    State {
+        registers: [0; 32],
+        pc,
+        memory: program.into_memory(),
+    }
 }
 
 /// Tells why the file is not loaded.

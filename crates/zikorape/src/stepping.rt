@@ -1,15 +1,17 @@
 //! A machine from its start to an instruction, and what it then shows.
 
-ghost use Rattle.std.specs.Prelude.{◌≡◌, ◌⊎◌, ◌<◌, ◌≤◌, ◌+◌, ◌↔◌, ℕ, List, Option, None, IsTrue, length, slice_index};
+ghost use Rattle.std.specs.Prelude.{◌≡◌, ◌⊎◌, ◌<◌, ◌≤◌, ◌+◌, ◌↔◌, ℕ, List, Option, IsTrue, length, slice_index};
 ghost use Rattle.rv32.specs.Space.{space_of};
+ghost use Rattle.rv32.specs.Step.{machine_of};
 ghost use Rattle.sim.specs.Runs.{World, rvrun};
-ghost use Rattle.sim.specs.Machines.{machine_now, stopped_with};
 ghost use Rattle.sim.specs.Meets.{At, RunMeets};
 ghost use Rattle.zikorape.specs.Stepped.{Passes, shown_byte};
 
+use crate::ticking::tick;
 use meaning_ports::Port;
 use rv32::memory::Memory;
-use sim::{Machine, Outcome};
+use rv32::state::State;
+use sim::Outcome;
 
 /// How far a run came.
 #[derive(Clone, Copy)]
@@ -27,26 +29,25 @@ pub struct Halt {
 }
 
 /// Takes `count` instructions, or those up to where the run stops or is to halt, if that is earlier.
-pub fn run_to<P: Port>(machine: &mut Machine, port: &mut P, count: u64, halt: Halt) -> Reached
-    requires { stopped_with machine.old ≡ None }
-    ensures meets { (o : Option (List ℕ)) (w : World) → At o w (machine_now machine.old) (P.seen port.old) →
-        RunMeets o w result.steps result.outcome (machine_now machine.new) (P.seen port.new) }
-    ensures passes { (o : Option (List ℕ)) (w : World) → At o w (machine_now machine.old) (P.seen port.old) →
+pub fn run_to<P: Port>(state: &mut State, port: &mut P, count: u64, halt: Halt) -> Reached
+    ensures meets { (o : Option (List ℕ)) (w : World) → At o w (machine_of state.old) (P.seen port.old) →
+        RunMeets o w result.steps result.outcome (machine_of state.new) (P.seen port.new) }
+    ensures passes { (o : Option (List ℕ)) (w : World) → At o w (machine_of state.old) (P.seen port.old) →
         (k : ℕ) → k < result.steps → Passes halt k (rvrun k w) }
     ensures most { result.steps ≤ count }
-    ensures halts { result.outcome ≡ Outcome.Budget → (result.steps ≡ count) ⊎ ((halt.after ≤ result.steps) × ((machine_now machine.new).pc ≡ halt.at)) }
+    ensures halts { result.outcome ≡ Outcome.Budget → (result.steps ≡ count) ⊎ ((halt.after ≤ result.steps) × (state.new.pc ≡ halt.at)) }
 {
     let mut steps = 0;
     while steps < count {
-        if is_halted(machine, halt, steps) {
+        if is_halted(state, halt, steps) {
             return Reached {
                 outcome: Outcome::Budget,
                 steps,
             };
         }
-        match machine.run(port, 1) {
-            Outcome::Budget => steps += 1,
-            outcome => return Reached {
+        match tick(state, port) {
+            None => steps += 1,
+            Some(outcome) => return Reached {
                 outcome,
                 steps: steps + 1,
             },
@@ -59,10 +60,10 @@ pub fn run_to<P: Port>(machine: &mut Machine, port: &mut P, count: u64, halt: Ha
 }
 
 /// Whether the run is to halt here, after so many instructions.
-fn is_halted(machine: &Machine, halt: Halt, steps: u64) -> bool
-    ensures { IsTrue result ↔ ((halt.after ≤ steps) × ((machine_now machine.now).pc ≡ halt.at)) }
+fn is_halted(state: &State, halt: Halt, steps: u64) -> bool
+    ensures { IsTrue result ↔ ((halt.after ≤ steps) × (state.now.pc ≡ halt.at)) }
 {
-    halt.after <= steps && machine.pc() == halt.at
+    halt.after <= steps && state.pc == halt.at
 }
 
 /// Copies what the memory holds from an address on; 0 where nothing may be read.

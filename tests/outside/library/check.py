@@ -186,18 +186,19 @@ def frames(counted, zk):
 # ---- the machine at an instruction
 
 # By hand, of docs/TOUR.md and the unprivileged ISA manual: the entry sets x2 (LUI, ADDI) and calls main (AUIPC, JALR), which opens its frame at
-# 0x11018, and makes 70 and 72.
+# 0x11018, makes 70 and 72, and stores 72 at the stack's new end.
 TOUR = b'void rv_putbyte(int c);\n\nint main(void) {\n    rv_putbyte(70 + 2);\n    return 44 - 2;\n}\n'
 STANDS = [(0, 0x11000, {}), (1, 0x11004, {2: 0x80000000}), (2, 0x11008, {2: 0x80000000}), (3, 0x1100C, {1: 0x11008, 2: 0x80000000}),
           (4, 0x11018, {1: 0x11010, 2: 0x80000000}), (5, 0x1101C, {1: 0x11010, 2: 0x7FFFFFF0}), (6, 0x11020, {1: 0x11010, 2: 0x7FFFFFF0, 5: 70}),
-          (7, 0x11024, {1: 0x11010, 2: 0x7FFFFFF0, 5: 70, 10: 72})]
+          (7, 0x11024, {1: 0x11010, 2: 0x7FFFFFF0, 5: 70, 10: 72}), (8, 0x11028, {1: 0x11010, 2: 0x7FFFFFF0, 5: 70, 10: 72, 11: 0x7FFFFFF0}),
+          (9, 0x1102C, {1: 0x11010, 2: 0x7FFFFFF0, 5: 70, 10: 72, 11: 0x7FFFFFF0})]
 
 
 def machine(counted, zk):
     file = zk.build([('main.c', TOUR)], 'main.c').output
     for count, pc, registers in STANDS:
-        seen = zk.step(file, count, start=0x1101C, length=4)
-        counted.holds('the machine at %d' % count, (seen.outcome, seen.detail, seen.steps, seen.pc, seen.output, seen.window.hex()) == (0, 0, count, pc, b'', '93026004')
+        seen, window = zk.step(file, count, start=0x7FFFFFEF, length=3), bytes([0, 72 if count > 8 else 0, 0])
+        counted.holds('the machine at %d' % count, (seen.outcome, seen.detail, seen.steps, seen.pc, seen.output, seen.window) == (0, 0, count, pc, b'', window)
                       and seen.registers == [registers.get(k, 0) for k in range(32)], seen)
     seen = zk.step(file, 10 ** 6)
     before = zk.step(file, seen.steps - 1)
@@ -207,8 +208,8 @@ def machine(counted, zk):
         found = zk.step(file, 10 ** 6, after=after, halt=halt)
         counted.holds('halting at %x, after %d' % (halt, after), (found.outcome, found.steps, found.pc) == wanted, found)
     counted.holds('no more than the count', zk.step(file, 3, halt=0x1101C).steps == 3)
-    for start, length in [(0xFFFFFFFE, 4), (0, 8), (0x7FFFFFFC, 8)]:
-        counted.holds('no memory at %x' % start, zk.step(file, 1, start=start, length=length).window == bytes(length))
+    for start, length in [(0xFFFFFFFE, 4), (0, 8), (0x7FFFFFFC, 8), (0x11000, 8)]:      # the text may be executed, and not read
+        counted.holds('nothing to read at %x' % start, zk.step(file, 1, start=start, length=length).window == bytes(length))
     not_loaded(counted, zk, file)
 
 

@@ -76,8 +76,9 @@ async function listing() {
   await built();
   await page.key('F8', 119);
   check('a run stops at the breakpoint', await page.tells('status', '/^After 3 instructions the program goes on, at 0001100C/'), await page.told('status'));
-  await page.click('look-at');
-  check('a word is shown in memory', await page.run(`!document.getElementById('machine').hidden`) && await page.tells('memory', '/^00011000/'), await page.told('memory'));
+  await page.click('tab-machine');
+  await page.set('from', '0x11008');
+  check('memory is shown from an address', await page.tells('memory', '/^00011000/'), await page.told('memory'));
   check('32 registers are shown', await page.run(`document.querySelectorAll('#registers span').length`) === 32);
   await page.set('from', 'sp');
   check('and memory from sp', await page.until(`document.querySelectorAll('#memory tr').length === 8 && !/^00011000/.test(document.getElementById('memory').textContent)`));

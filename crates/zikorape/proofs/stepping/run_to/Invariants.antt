@@ -1,6 +1,6 @@
-use Rattle.std.proofs.Common.{◌≡◌, ◌<◌, ◌≤◌, ◌-◌, ℕ, List, Option, None}
+use Rattle.std.proofs.Common.{◌≡◌, ◌<◌, ◌≤◌, ◌-◌, ℕ, List, Option}
+use Rattle.rv32.specs.Step.{machine_of}
 use Rattle.sim.specs.Runs.{World, Running, rvrun}
-use Rattle.sim.specs.Machines.{machine_now, stopped_with}
 use Rattle.sim.specs.Meets.{At}
 use Rattle.zikorape.specs.Stepped.{Passes}
 use Rattle.zikorape.proofs.stepping.run_to.Given as goal
@@ -8,10 +8,9 @@ use Rattle.zikorape.proofs.stepping.run_to.Given as goal
 abbrev pub invariant-loop-steps : goal.invariant-loop-steps
 invariant-loop-steps g l = record {
   bounded : l.steps ≤ l.count;
-  going : stopped_with l.machine ≡ None;
-  came : (o : Option (List ℕ)) (w : World) → At o w (machine_now l.initial.machine) (g.P.Port.seen l.initial.port) →
-      (v : World) × (rvrun l.steps w ≡ Running v) × At o v (machine_now l.machine) (g.P.Port.seen l.port);
-  passed : (o : Option (List ℕ)) (w : World) → At o w (machine_now l.initial.machine) (g.P.Port.seen l.initial.port) →
+  came : (o : Option (List ℕ)) (w : World) → At o w (machine_of l.initial.state) (g.P.Port.seen l.initial.port) →
+      (v : World) × (rvrun l.steps w ≡ Running v) × At o v (machine_of l.state) (g.P.Port.seen l.port);
+  passed : (o : Option (List ℕ)) (w : World) → At o w (machine_of l.initial.state) (g.P.Port.seen l.initial.port) →
       (k : ℕ) → k < l.steps → Passes l.halt k (rvrun k w);
 }
 
