@@ -8,7 +8,7 @@ mod finding;
 mod hints;
 mod includes;
 mod locating;
-mod macros;
+mod macro_notes;
 mod near;
 mod noting;
 mod sources;

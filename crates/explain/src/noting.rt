@@ -3,7 +3,7 @@
 use crate::finding::{Note, Place, Topic};
 use crate::hints::hint;
 use crate::includes::Includes;
-use crate::macros::put_macro_note;
+use crate::macro_notes::put_macro_note;
 use crate::near::{nearest, nearest_file};
 use crate::sources::Sources;
 use explain_places::Tokens;

@@ -1,6 +1,6 @@
 //! Explained faults as a log of SARIF 2.1.0 (OASIS, sections 3.13 to 3.30).
 
-use crate::json::{put_string, said};
+use crate::json_lines::{put_string, said};
 use crate::text::column_of;
 use explain::{Finding, Note};
 use std::alloc::{AllocError, Global};
