@@ -80,7 +80,11 @@ fn names_of<'a>(
 }
 
 /// Explains what a command comes to: its faults, or the undefined act of a program that is interpreted.
-fn explain_what(rt: &HostRuntime, matches: &ArgMatches<'_>, inner: &ArgMatches<'_>) -> Result<u8> {
+fn explain_what<'a>(
+    rt: &HostRuntime,
+    matches: &ArgMatches<'a>,
+    inner: &ArgMatches<'a>,
+) -> Result<u8> {
     let main = inner.get_str("MAIN").unwrap_or_default();
     let given = match read_given(rt, matches, main) {
         Ok(given) => given,
