@@ -55,7 +55,7 @@ struct Given<'a> {
 }
 
 /// Reads the files of the words.
-fn given<'a>(
+fn read_given<'a>(
     rt: &HostRuntime,
     matches: &ArgMatches<'a>,
     main: &'a str,
@@ -80,9 +80,13 @@ fn names_of<'a>(
 }
 
 /// Explains what a command comes to: its faults, or the undefined act of a program that is interpreted.
-fn explain_what(rt: &HostRuntime, matches: &ArgMatches<'_>, inner: &ArgMatches<'_>) -> Result<u8> {
+fn explain_what<'a>(
+    rt: &HostRuntime,
+    matches: &ArgMatches<'a>,
+    inner: &ArgMatches<'a>,
+) -> Result<u8> {
     let main = inner.get_str("MAIN").unwrap_or_default();
-    let given = match given(rt, matches, main) {
+    let given = match read_given(rt, matches, main) {
         Ok(given) => given,
         Err(fault) => return Ok(say(rt, &fault)),
     };
@@ -102,7 +106,7 @@ fn explain_what(rt: &HostRuntime, matches: &ArgMatches<'_>, inner: &ArgMatches<'
 /// Tells faults: 1 where there are some, else 0.
 fn show_faults(rt: &HostRuntime, inner: &ArgMatches<'_>, told: Option<&Explained>) -> Result<u8> {
     let alloc = rt.alloc();
-    let status = u8::from(told.is_some());
+    let status = if told.is_some() { 1 } else { 0 };
     if inner.get_flag("sarif") {
         let log = sarif(alloc, told)?;
         return Ok(put_out(rt, log.as_bytes(), status));
