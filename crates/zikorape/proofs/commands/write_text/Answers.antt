@@ -1,4 +1,4 @@
-use Rattle.std.proofs.Common.{rules, ◌≡◌, ℕ, [], ap, refl, subst, ◌∙◌}
+use Rattle.std.proofs.Common.{rules, ◌≡◌, ℕ, [], Some, ap, refl, subst, ◌∙◌}
 use Rattle.meaning_ports.specs.Port.{PortView}
 use Rattle.meaning_ports.specs.Memory.{port_of}
 use Rattle.cc.specs.MemoryMap.{usual_stack}
@@ -15,8 +15,10 @@ returns c =
     let status : ℕ = c.perform-status.result in
     let out : Buffer = record { before = c.args.out.now; after = c.hand_out.new.out; told = c.hand_out.new.sizes.output } in
     let message : Buffer = record { before = c.args.message.now; after = c.hand_out.new.message; told = c.hand_out.new.sizes.message } in
-    let P : PortView → Said → Said → Type 0 = λ port text line.
-    Performs usual_stack c.args.command c.args.set.now c.args.main.now [] for_memory port (port_of c.perform-status.new.port) text line status in
+    let P : ℕ → PortView → Said → Said → Type 0 = λ stack port text line.
+    Performs stack c.args.command c.args.set.now c.args.main.now [] for_memory port (port_of c.perform-status.new.port) text line status in
+    let text : Said = record { before = Some c.new-text.result.items; after = Some c.perform-status.new.out.items } in
+    let line : Said = record { before = Some c.new-line.result.items; after = Some c.perform-status.new.err.items } in
     let Q : ℕ → Type 0 = λ n. HandsOut (Writes c.args.command c.args.main.now n c.args.set.now) out message in
     let same : status ≡ c.from.result = search rules in
     subst Q same (
@@ -27,8 +29,8 @@ returns c =
       c.perform-status.new.out.items,
       (
         c.perform-status.new.port,
-        performed P _ _ _ _ _ _ c.new-port.ensures c.new.ensures.items c.new-text.ensures.items c.new-line.ensures.items
-            (subst (λ n. Performs n c.args.command c.args.set.now c.args.main.now [] for_memory _ _ _ _ status) c.usual-stack.ensures c.perform-status.ensures),
+        performed (P usual_stack) _ _ _ _ _ _ c.new-port.ensures c.new.ensures.items c.new-text.ensures.items c.new-line.ensures.items
+            (subst (λ n. P n (port_of c.new-port.result) text line) c.usual-stack.ensures c.perform-status.ensures),
         refl,
       ),
     )
