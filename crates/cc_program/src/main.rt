@@ -1,10 +1,7 @@
 //! The program `cc`.
 #![tactic(auto)]
 
-mod aid_words;
-mod aids;
 mod late_file;
-mod run_aids;
 mod words;
 
 use anyhow::Result;
@@ -72,9 +69,6 @@ fn show(rt: &HostRuntime, error: &clap::Error) -> u8 {
 }
 
 fn answer(rt: &HostRuntime, matches: &ArgMatches<'_>) -> Result<u8> {
-    if let Some(status) = aids::answer(rt, matches)? {
-        return Ok(status);
-    }
     let Some(request) = read_request(matches) else {
         let _said = eprintln!(rt; "error: the bytes of the stack are no multiple of 4096");
         return Ok(2);

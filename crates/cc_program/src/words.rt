@@ -1,6 +1,5 @@
 //! The command line.
 
-use crate::aid_words::{with_aids, with_run_aids};
 use cc::{Cmd, StackSize};
 use clap::{Arg, ArgAction, ArgMatches, Command, value_parser};
 use std::alloc::{AllocError, Global};
@@ -17,7 +16,7 @@ pub struct Request<'a> {
 
 /// The command line's form.
 pub fn command<'a>(alloc: Global) -> Result<Command<'a>, AllocError> {
-    let command = Command::new(alloc, "cc")
+    Command::new(alloc, "cc")
         .about("Compiles C11 programs for RV32IM, and runs them")
         .subcommand_required(true)
         .disable_help_subcommand(true)
@@ -25,8 +24,7 @@ pub fn command<'a>(alloc: Global) -> Result<Command<'a>, AllocError> {
         .subcommand(pp(alloc)?)?
         .subcommand(list(alloc)?)?
         .subcommand(run(alloc)?)?
-        .subcommand(interp(alloc)?)?;
-    with_aids(alloc, command)
+        .subcommand(interp(alloc)?)
 }
 
 /// The argument of the main file.
@@ -93,11 +91,10 @@ fn run<'a>(alloc: Global) -> Result<Command<'a>, AllocError> {
     let file = Arg::new(alloc, "FILE")
         .help("The executable file")
         .required(true);
-    let command = Command::new(alloc, "run")
+    Command::new(alloc, "run")
         .about("Runs an executable file over standard input and output")
         .arg(file)?
-        .arg(most(alloc).help("At most this many instructions"))?;
-    with_run_aids(alloc, command)
+        .arg(most(alloc).help("At most this many instructions"))
 }
 
 fn interp<'a>(alloc: Global) -> Result<Command<'a>, AllocError> {
