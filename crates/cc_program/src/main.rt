@@ -5,7 +5,7 @@ mod late_file;
 mod words;
 
 use anyhow::Result;
-use cc::{Cmd, perform};
+use cc::{Cmd, StackSize, perform};
 use clap::ArgMatches;
 use late_file::LateFile;
 use meaning_ports::{IoPort, PortFault};
@@ -16,7 +16,7 @@ use std::io::{BufReader, BufWriter, ErrorKind, Read, Write};
 use std::process::ExitCode;
 use std::rt::Files;
 use std::{env, fs, io};
-use words::{Request, further_files, read_request};
+use words::{Request, further_files, read_request, read_stack};
 
 fn main(rt: HostRuntime) -> ExitCode {
     match env::args(&rt) {
@@ -70,14 +70,17 @@ fn show(rt: &HostRuntime, error: &clap::Error) -> u8 {
 
 fn answer(rt: &HostRuntime, matches: &ArgMatches<'_>) -> Result<u8> {
     let Some(request) = read_request(matches) else {
+        return Ok(2);
+    };
+    let Some(stack) = read_stack(matches) else {
         let _said = eprintln!(rt; "error: the bytes of the stack are no multiple of 4096");
         return Ok(2);
     };
     match request.command {
-        Cmd::Build(out) => build(rt, request, out, matches),
-        Cmd::Pp | Cmd::List => print_text(rt, request, matches),
-        Cmd::Run(_) => run(rt, request),
-        Cmd::Interp(_) => interp(rt, request, matches),
+        Cmd::Build(out) => build(rt, request, out, matches, stack),
+        Cmd::Pp | Cmd::List => print_text(rt, request, matches, stack),
+        Cmd::Run(_) => run(rt, request, stack),
+        Cmd::Interp(_) => interp(rt, request, matches, stack),
     }
 }
 
@@ -87,6 +90,7 @@ fn build(
     request: Request<'_>,
     out: &str,
     matches: &ArgMatches<'_>,
+    stack: StackSize,
 ) -> Result<u8> {
     if is_source(out, request.main, matches) {
         let _said = eprintln!(rt; "error: OUT is one of the files that are read");
@@ -107,7 +111,7 @@ fn build(
         &mut port,
         &mut io::sink(),
         &mut rt.stderr(),
-        request.stack,
+        stack,
     );
     if status == 0 && port.finish().is_err() {
         return Ok(say(rt, &Fault::at(rt.alloc(), Code::CannotWrite, out, 0)));
@@ -127,7 +131,12 @@ fn is_source(out: &str, main: &str, matches: &ArgMatches<'_>) -> bool {
 }
 
 /// Prints the tokens of the files, or the listing of their code. What was buffered is written before the status is answered.
-fn print_text(rt: &HostRuntime, request: Request<'_>, matches: &ArgMatches<'_>) -> Result<u8> {
+fn print_text(
+    rt: &HostRuntime,
+    request: Request<'_>,
+    matches: &ArgMatches<'_>,
+    stack: StackSize,
+) -> Result<u8> {
     let mut set = FileSet::new(rt.alloc());
     if let Err(fault) = read_files(rt, request.main, matches, &mut set) {
         return Ok(say(rt, &fault));
@@ -142,7 +151,7 @@ fn print_text(rt: &HostRuntime, request: Request<'_>, matches: &ArgMatches<'_>) 
         &mut IoPort::new(no_input(rt.alloc())?, io::sink()),
         &mut out,
         &mut rt.stderr(),
-        request.stack,
+        stack,
     );
     if out.flush().is_err() && status == 0 {
         return Ok(say(rt, &Fault::at(rt.alloc(), Code::CannotWrite, "", 0)));
@@ -156,25 +165,42 @@ fn no_input(alloc: Global) -> io::Result<BufReader<io::Empty>> {
 }
 
 /// Runs the executable file over standard input and output.
-fn run(rt: &HostRuntime, request: Request<'_>) -> Result<u8> {
+fn run(rt: &HostRuntime, request: Request<'_>, stack: StackSize) -> Result<u8> {
     match fs::read(rt, request.main) {
-        Ok(file) => over_streams(rt, request, &FileSet::new(rt.alloc()), file.as_slice()),
+        Ok(file) => over_streams(
+            rt,
+            request,
+            &FileSet::new(rt.alloc()),
+            file.as_slice(),
+            stack,
+        ),
         Err(error) => Ok(say(rt, &unread(rt.alloc(), request.main, &error))),
     }
 }
 
 /// Interprets the program of the files over standard input and output.
-fn interp(rt: &HostRuntime, request: Request<'_>, matches: &ArgMatches<'_>) -> Result<u8> {
+fn interp(
+    rt: &HostRuntime,
+    request: Request<'_>,
+    matches: &ArgMatches<'_>,
+    stack: StackSize,
+) -> Result<u8> {
     let mut set = FileSet::new(rt.alloc());
     match read_files(rt, request.main, matches, &mut set) {
-        Ok(()) => over_streams(rt, request, &set, b""),
+        Ok(()) => over_streams(rt, request, &set, b"", stack),
         Err(fault) => Ok(say(rt, &fault)),
     }
 }
 
 /// A command over standard input and output. One line at the most is said: that the output was refused at last goes before
 /// how the run stopped.
-fn over_streams(rt: &HostRuntime, request: Request<'_>, set: &FileSet, file: &[u8]) -> Result<u8> {
+fn over_streams(
+    rt: &HostRuntime,
+    request: Request<'_>,
+    set: &FileSet,
+    file: &[u8],
+    stack: StackSize,
+) -> Result<u8> {
     let input = BufReader::new(rt.alloc(), rt.stdin())?;
     let output = BufWriter::new(rt.alloc(), rt.stdout())?;
     let mut port = IoPort::new(input, output);
@@ -188,7 +214,7 @@ fn over_streams(rt: &HostRuntime, request: Request<'_>, set: &FileSet, file: &[u
         &mut port,
         &mut io::sink(),
         &mut line,
-        request.stack,
+        stack,
     );
     match port.finish() {
         Err(fault) if status != 126 || line.is_empty() => Ok(say_port(rt, fault)),

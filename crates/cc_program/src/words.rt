@@ -10,8 +10,6 @@ pub struct Request<'a> {
     pub command: Cmd<'a>,
     /// The main file, or the executable file.
     pub main: &'a str,
-    /// The stack of the program.
-    pub stack: StackSize,
 }
 
 /// The command line's form.
@@ -106,8 +104,9 @@ fn interp<'a>(alloc: Global) -> Result<Command<'a>, AllocError> {
         .arg(most(alloc).help("At most this many ticks"))
 }
 
-/// The stack that a parse found, or the usual one for a command that has no word for it.
-fn read_stack(name: &str, inner: &ArgMatches<'_>) -> Option<StackSize> {
+/// The stack that a parse found, or the usual one for a command that has no word for it; `None` where its bytes are no multiple of 4096.
+pub fn read_stack(matches: &ArgMatches<'_>) -> Option<StackSize> {
+    let (name, inner) = matches.subcommand()?;
     match name {
         "build" | "list" | "interp" => {
             let bytes = u32::try_from(inner.get_one::<u64>("stack")?).ok()?;
@@ -117,35 +116,29 @@ fn read_stack(name: &str, inner: &ArgMatches<'_>) -> Option<StackSize> {
     }
 }
 
-/// The request that a parse found, or `None` where the bytes of the stack are no multiple of 4096.
+/// The request that a parse found.
 pub fn read_request<'a>(matches: &ArgMatches<'a>) -> Option<Request<'a>> {
     let (name, inner) = matches.subcommand()?;
-    let stack = read_stack(name, inner)?;
     match name {
         "build" => Some(Request {
             command: Cmd::Build(inner.get_str("OUT")?),
             main: inner.get_str("MAIN")?,
-            stack,
         }),
         "pp" => Some(Request {
             command: Cmd::Pp,
             main: inner.get_str("MAIN")?,
-            stack,
         }),
         "list" => Some(Request {
             command: Cmd::List,
             main: inner.get_str("MAIN")?,
-            stack,
         }),
         "run" => Some(Request {
             command: Cmd::Run(inner.get_one::<u64>("max")?),
             main: inner.get_str("FILE")?,
-            stack,
         }),
         "interp" => Some(Request {
             command: Cmd::Interp(inner.get_one::<u64>("max")?),
             main: inner.get_str("MAIN")?,
-            stack,
         }),
         _ => None,
     }
