@@ -1,5 +1,5 @@
 #!/usr/bin/env python3
-"""Measures the page's module beside the library that it is made of: milliseconds, the least of several turns in one process each.
+"""Measures the page's module beside the library that it is made of: milliseconds of the processor, the least of several turns in one process each.
 
     python3 bench/page.py [OUT [TURNS]]
 
@@ -63,9 +63,9 @@ def native(path, turns):
     for name in NAMES:
         taken = []
         for _ in range(turns):
-            start = time.perf_counter()
+            start = time.process_time()
             work[name]()
-            taken.append((time.perf_counter() - start) * 1000)
+            taken.append((time.process_time() - start) * 1000)
         found[name] = min(taken)
     return found
 
@@ -74,15 +74,16 @@ SCRIPT = '''
 import fs from 'fs';
 const { compile, open } = await import(process.argv[2]);
 const [sources, turns] = [JSON.parse(fs.readFileSync(process.argv[4], 'utf8')), Number(process.argv[5])];
-const begun = performance.now(), zk = open(compile(fs.readFileSync(process.argv[3])));
+const now = () => { const { user, system } = process.cpuUsage(); return (user + system) / 1000; };
+const begun = now(), zk = open(compile(fs.readFileSync(process.argv[3])));
 const of = key => [[key + '.c', sources[key]]];
 const file = zk.build(of('loop'), 'loop.c').output;
 const work = {
   build: () => zk.build(of('lines'), 'lines.c'), listing: () => zk.list(of('lines'), 'lines.c'), interp: () => zk.interpret(of('loop'), 'loop.c'),
   run: () => zk.run(file, 'a.out'), step: () => zk.step(file, new Uint8Array(), 1e9, 0, 1, 0, 0),
 };
-const timed = call => { const start = performance.now(); call(); return performance.now() - start; };
-const found = { first: performance.now() - begun + timed(work.build) };
+const timed = call => { const start = now(); call(); return now() - start; };
+const found = { first: now() - begun + timed(work.build) };
 for (const [name, call] of Object.entries(work)) found[name] = Math.min(...Array.from({ length: turns }, () => timed(call)));
 console.log(JSON.stringify(found));
 '''
