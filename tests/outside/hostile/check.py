@@ -4,7 +4,7 @@
     python3 tests/outside/hostile/check.py bin/cc [STACK IN KIB]
 
 Each list that a source may have is made as long as the limits allow, by macros or by hand, and each construct as deep; pp, build,
-list, interp and run each have so much stack (1024 KiB by default, an eighth of that of most systems), 1.5 GB of address space
+list, interp and run each have so much stack (1536 KiB by default; that of most systems is 8192), 1.5 GB of address space
 and 60 seconds. What each source comes to follows from the rules of the language: its status, or the code of its fault.
 The last line is 'N passed, M failed'."""
 import os
@@ -184,7 +184,7 @@ def tried(cc, stack, folder, number, row):
 
 
 def main():
-    cc, stack = os.path.abspath(sys.argv[1]), int(sys.argv[2]) if len(sys.argv) > 2 else 1024
+    cc, stack = os.path.abspath(sys.argv[1]), int(sys.argv[2]) if len(sys.argv) > 2 else 1536
     passed = failed = 0
     with tempfile.TemporaryDirectory() as folder, ThreadPoolExecutor(os.cpu_count()) as pool:
         for count, wrong in pool.map(lambda it: tried(cc, stack, folder, *it), enumerate(ROWS)):
