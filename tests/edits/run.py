@@ -1,7 +1,9 @@
 #!/usr/bin/env python3
 """run.py [CRATE ..]: tries the edits of this folder, as `rt ci` tries those of crates/NAME/must-fail: the prover must refuse each.
 run.sh says how it is called. Crates are tried side by side; of one crate each edit is checked over what the check of the crate
-as it is has proved, and those that were not refused so are checked again from nothing."""
+as it is has proved. Edits of the bodies of different functions are checked together, since a proof rests on no other body:
+each of them is refused where the prover says of its own function that it is not proved. What is left is checked edit by edit,
+and what was not refused so once more from nothing."""
 import concurrent.futures
 import os
 import re
@@ -122,6 +124,116 @@ def refused(crate, all_of_them, edit, kept):
     return True, 'refused: ' + first[:160]
 
 
+HEAD = re.compile(r'^ *(pub(\(\w+\))? )?(const |unsafe )*fn (?P<name>\w+)')
+ANSWERED = re.compile(r'(?:^|\n)(?:\./)?proofs/(\S+)/(?:Answers|Invariants)\.antt:\d+:\d+: error: (.*)')
+NOTED = re.compile(r'note: (src/\S+?):(\d+):\d+: it is not proved')
+
+
+def function_at(lines, number):
+    """The line, from 0, at which the function begins that holds this line, and that of the brace behind its clauses."""
+    indent = len(lines[number]) - len(lines[number].lstrip())
+    first = next((at for at in range(number, -1, -1) if HEAD.match(lines[at]) and len(lines[at]) - len(lines[at].lstrip()) <= indent), None)
+    if first is None:
+        return None, None
+    at = len(lines[first]) - len(lines[first].lstrip())
+    opened = next((k for k in range(first, len(lines)) if lines[k].rstrip().endswith('{') and (k == first or lines[k] == ' ' * at + '{')), None)
+    closed = next((k for k in range(first, len(lines)) if lines[k] == ' ' * at + '}'), None)
+    if opened is None or closed is None or not opened < number <= closed:
+        return None, None
+    return first, opened
+
+
+def pairs_of(edit):
+    """The file, the old and the new text of each change."""
+    found, path, old = [], '', None
+    for line in tried.text_of(edit).split('\n'):
+        if line.startswith('file: '):
+            path = line[6:].strip()
+        elif line.startswith('old: '):
+            old = line[5:]
+        elif line.startswith('new:'):
+            found.append((path, old, line[5:]))
+    return found
+
+
+def bodies_of(edit, folder):
+    """The functions, as a file and a line of it as it is, whose bodies alone an edit changes; nothing where it changes more."""
+    found = set()
+    for path, old, _ in pairs_of(edit):
+        if not path.startswith('src/') or not old or not os.path.isfile(f'{folder}/{path}'):
+            return set()
+        text = tried.text_of(f'{folder}/{path}')
+        if text.count(old) != 1:
+            return set()
+        lines, at = text.split('\n'), text.index(old)
+        first, _ = function_at(lines, text[:at].count('\n'))
+        if first is None:
+            return set()
+        found.add((path, first))
+    return found
+
+
+def chosen(edits, bodies):
+    """As many edits, in their order, as have no function in common."""
+    taken, used = [], set()
+    for edit in edits:
+        if bodies[edit] and not bodies[edit] & used:
+            taken.append(edit)
+            used |= bodies[edit]
+    return taken
+
+
+def failures(said, folder):
+    """The functions, as a file and a line, of which the prover says that they are not proved: by a goal, or by an answer to one
+    that no longer fits. An edit is one line for one line, so each line stands where it stood."""
+    found = set()
+    for path, number in re.findall(NOTED, said):
+        lines, at = tried.text_of(f'{folder}/{path}').split('\n'), int(number) - 1
+        while lines[at].strip().startswith(('#[', '///')):
+            at += 1
+        found.add((path, next((k for k in range(at, -1, -1) if HEAD.match(lines[k])), None)))
+    for place, why in re.findall(ANSWERED, said):
+        *modules, name = place.split('/')
+        path = next((f'src/{"/".join(modules[:k])}.rt' for k in range(len(modules), 0, -1) if os.path.isfile(f'{folder}/src/{"/".join(modules[:k])}.rt')), None)
+        if path and not re.search(r'has no field|is not in scope|has no `|was not admitted', why):
+            lines = tried.text_of(f'{folder}/{path}').split('\n')
+            found |= {(path, at) for at, line in enumerate(lines) if HEAD.match(line) and HEAD.match(line)['name'] == name}
+    return found
+
+
+def refused_together(crate, all_of_them, edits, bodies, kept):
+    """Those of these edits, of different functions, that the prover refuses in one check."""
+    folder = f'{tried.ROOT}/crates/{crate}'
+    texts = {path: tried.text_of(f'{folder}/{path}') for edit in edits for path, _, _ in pairs_of(edit)}
+    for edit in edits:
+        for path, old, new in pairs_of(edit):
+            if texts[path].count(old) != 1:
+                return []
+            texts[path] = texts[path].replace(old, new)
+    status, lines = check(crate, all_of_them, texts, kept)
+    if status != 1 or not lines[-1].startswith('logic=not-proved') or any(unread(line, texts) for line in lines):
+        return []
+    failed = failures('\n'.join(lines), folder)
+    return [edit for edit in edits if bodies[edit] & failed]
+
+
+def try_together(crate, all_of_them, edits, kept):
+    """Those of the edits that were not refused by checks of many at once, and how many were."""
+    folder = f'{tried.ROOT}/crates/{crate}'
+    bodies = {edit: bodies_of(edit, folder) for edit in edits}
+    left, alone = list(edits), []
+    while left:
+        group = chosen(left, bodies)
+        gone = refused_together(crate, all_of_them, group, bodies, kept) if len(group) > 1 else []
+        for edit in gone:
+            say(f'{crate}/{os.path.basename(edit)[:-5]}: refused, beside others')
+        # Where no progress is made, whoever was asked for is asked for alone.
+        if not gone:
+            alone += group or left
+        left = [edit for edit in left if edit not in gone and edit not in alone]
+    return alone, len(edits) - len(alone)
+
+
 def try_crate(crate, all_of_them):
     """How many edits of a crate there are, and how many were refused."""
     edits = tried.files(f'{tried.ROOT}/tests/edits/{crate}', '.edit')
@@ -131,8 +243,8 @@ def try_crate(crate, all_of_them):
         if status:
             say(f'{crate}: NOT PROVED as it is: {" ".join(lines[:4])[:400]}')
             return len(edits), 0
-        count = 0
-        for edit in edits:
+        left, count = try_together(crate, all_of_them, edits, kept)
+        for edit in left:
             is_refused, why = refused(crate, all_of_them, edit, kept)
             if not is_refused and not why.startswith('BAD EDIT: an'):
                 is_refused, why = refused(crate, all_of_them, edit, None)
