@@ -87,7 +87,10 @@ fn flat_code(
     ensures { IfOk result (λ f. flat.function_of f ≡ flat_function (starts_in starts.now) (three_address.function_of function.now)) }
 {
     let layout = Layout::new(alloc, function)?;
-    let room = function.code.len().saturating_add(function.parameters.len());
+    let room = function
+        .code
+        .len()
+        .saturating_add(function.parameters.len());
     let mut code = Vec::with_capacity(alloc, room)?;
     put_moves(&mut code, &layout, &function.parameters)?;
     put_code(&mut code, starts, &layout, &function.code)?;

@@ -77,10 +77,7 @@ fn renumber_function(alloc: Global, function: &Function) -> Result<Function, All
     })
 }
 
-fn renumber_functions(
-    alloc: Global,
-    functions: Vec<Function>,
-) -> Result<Vec<Function>, AllocError>
+fn renumber_functions(alloc: Global, functions: Vec<Function>) -> Result<Vec<Function>, AllocError>
     ensures { IfOk result (λ list. AreRenumbered (map function_of functions.items) (map function_of list.items)) }
 {
     let mut list = Vec::with_capacity(alloc, functions.len())?;

@@ -56,10 +56,7 @@ fn simplify_function(alloc: Global, function: Function) -> Result<Function, Allo
     })
 }
 
-fn simplify_functions(
-    alloc: Global,
-    functions: Vec<Function>,
-) -> Result<Vec<Function>, AllocError>
+fn simplify_functions(alloc: Global, functions: Vec<Function>) -> Result<Vec<Function>, AllocError>
     ensures { IfOk result (λ list. AreSimpler (map function_of functions.items) (map function_of list.items)) }
 {
     let mut list = Vec::with_capacity(alloc, functions.len())?;
