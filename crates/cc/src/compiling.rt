@@ -66,6 +66,7 @@ fn by_phases(alloc: Global, set: &FileSet, main: &str, stack: StackSize) -> Resu
 {
     let mut names = Names::new(alloc);
     let checked = checked_unit(alloc, set, main, &mut names, stack)?;
+    drop(checked.unit);
     build(alloc, &checked.program, &names, stack)
 }
 

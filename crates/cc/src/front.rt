@@ -50,7 +50,9 @@ pub fn checked_unit(
 {
     let list = preprocessed(alloc, set, main, names)?;
     let tokens = c_tokens(alloc, list.as_slice(), names)?;
+    drop(list);
     let unit = syntax_tree(alloc, tokens.as_slice(), names)?;
+    drop(tokens);
     let program = typed_program(alloc, &unit, names, main, stack)?;
     texts_are_bytes(names);
     Ok(Checked { unit, program })

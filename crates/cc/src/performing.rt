@@ -195,6 +195,7 @@ fn items_of(
     ensures stops { IfErr result (Stops stack set.now main.now) }
 {
     let checked = checked_unit(alloc, set, main, names, stack)?;
+    drop(checked.unit);
     match items(alloc, &checked.program, stack) {
         Ok(items) => Ok(items),
         Err(_) => Err(Stop::Memory),
@@ -281,6 +282,7 @@ fn interp<P: Port, E: Write>(
     let mut names = Names::new(alloc);
     match checked_unit(alloc, set, main, &mut names, stack) {
         Ok(checked) => {
+            drop(checked.unit);
             let done = interpret(alloc, &checked.program, port, max);
             run_status(alloc, &names, done.run, err)
         }

@@ -56,5 +56,6 @@ pub fn flat_code(alloc: Global, program: &Program) -> Result<FlatProgram, AllocE
 {
     let code = lowered(alloc, program)?;
     let simple = simple_code(alloc, &code)?;
+    drop(code);
     renumber(alloc, simple)
 }

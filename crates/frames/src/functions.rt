@@ -87,7 +87,11 @@ fn flat_code(
     ensures { IfOk result (λ f. flat.function_of f ≡ flat_function (starts_in starts.now) (three_address.function_of function.now)) }
 {
     let layout = Layout::new(alloc, function)?;
-    let mut code = Vec::new(alloc);
+    let room = function
+        .code
+        .len()
+        .saturating_add(function.parameters.len());
+    let mut code = Vec::with_capacity(alloc, room)?;
     put_moves(&mut code, &layout, &function.parameters)?;
     put_code(&mut code, starts, &layout, &function.code)?;
     Ok(frames_code::Function {
@@ -119,7 +123,7 @@ fn flat_code_of(alloc: Global, program: &TacProgram) -> Result<FlatProgram, Allo
     ensures { IfOk result (λ f. flat.program_of f ≡ flat_program (three_address.program_of program.now)) }
 {
     let starts = Starts::new(alloc, program)?;
-    let mut functions = Vec::new(alloc);
+    let mut functions = Vec::with_capacity(alloc, program.functions.len())?;
     put_functions(&mut functions, alloc, &starts, &program.functions)?;
     let statics = data(alloc, program)?;
     Ok(FlatProgram {

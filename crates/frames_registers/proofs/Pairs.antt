@@ -1,5 +1,5 @@
 -- Words that change places: each number is that of one word.
-use Rattle.std.proofs.Common.{◌≡◌, ◌≤◌, ◌<◌, ℕ, zero, suc, ◌+◌, List, [], ◌∷◌, ◌++◌, length, map, drop, get_or, Bool, true, false, refl, sym, ap, ◌∙◌, subst, arith, drop-cons}
+use Rattle.std.proofs.Common.{◌≡◌, ◌≤◌, ◌<◌, ℕ, zero, suc, ◌+◌, List, [], ◌∷◌, ◌++◌, length, map, Bool, true, false, refl, sym, ap, ◌∙◌, subst, arith}
 use Rattle.std.specs.Prelude.{◌==◌, if◌then◌else◌}
 use Rattle.std.proofs.lemmas.Bool.{eqb-true, eq-eqb}
 use Rattle.std.proofs.lemmas.List.{map-append, append_assoc}
@@ -86,29 +86,25 @@ code_put f resident code start xs ss ts e none same all =
 
 -- ---- one function after the other
 
-drop_end : {A : Type 0} (xs : List A) (i : ℕ) → length xs ≤ i → drop i xs ≡ []
-drop_end [] zero le = refl
-drop_end [] (suc i) le = refl
-drop_end (x ∷ xs) zero le = absurd (omega (arith, le))
-drop_end (x ∷ xs) (suc i) le = drop_end xs i (omega (arith, le))
-
 no_more : {A : Type 0} (xs : List A) → xs ++ [] ≡ xs
 no_more [] = refl
 no_more (x ∷ xs) = ap (λ ys. x ∷ ys) (no_more xs)
 
-abbrev pub Continued : (hs : List Held) (i : ℕ) (made : List Held) → Type 0
-Continued hs i made = (more : List Function) → AreRenumbered (map function_of (drop i hs)) more → AreRenumbered (map function_of hs) (map function_of made ++ more)
+abbrev pub Continued : (all left made : List Held) → Type 0
+Continued all left made = (more : List Function) → AreRenumbered (map function_of left) more → AreRenumbered (map function_of all) (map function_of made ++ more)
 
-pub one_more_renumbered : (hs : List Held) (i : ℕ) (x y : Held) (old made : List Held) → i < length hs → x ≡ get_or hs i x → made ≡ old ++ y ∷ [] → IsRenumberedFunction (function_of x) (function_of y) → Continued hs i old → Continued hs (i + 1) made
-one_more_renumbered hs i x y old made lt e put is before more rest =
-    let next : suc i ≡ i + 1 = omega arith in
-    let split : drop i hs ≡ x ∷ drop (i + 1) hs = drop-cons hs i x lt ∙ ap (λ z. z ∷ drop (suc i) hs) (sym e) ∙ ap (λ k. x ∷ drop k hs) next in
-    let all : AreRenumbered (map function_of (drop i hs)) (function_of y ∷ more) = subst (λ xs. AreRenumbered (map function_of xs) (function_of y ∷ more)) (sym split) (is, rest) in
+pub one_more_renumbered : (all left rest : List Held) (x y : Held) (old made : List Held) → left ≡ x ∷ rest → made ≡ old ++ y ∷ [] → IsRenumberedFunction (function_of x) (function_of y) → Continued all left old → Continued all rest made
+one_more_renumbered all left rest x y old made split put is before more done =
+    let held : AreRenumbered (map function_of left) (function_of y ∷ more) = subst (λ xs. AreRenumbered (map function_of xs) (function_of y ∷ more)) (sym split) (is, done) in
     let list : map function_of made ++ more ≡ map function_of old ++ function_of y ∷ more =
     ap (λ xs. map function_of xs ++ more) put ∙ ap (λ xs. xs ++ more) (map-append function_of old (y ∷ [])) ∙ append_assoc (map function_of old) (function_of y ∷ []) more in
-    subst (AreRenumbered (map function_of hs)) (sym list) (before (function_of y ∷ more) all)
+    subst (AreRenumbered (map function_of all)) (sym list) (before (function_of y ∷ more) held)
 
-pub all_renumbered : (hs : List Held) (i : ℕ) (made : List Held) → length hs ≤ i → Continued hs i made → AreRenumbered (map function_of hs) (map function_of made)
-all_renumbered hs i made le done =
-    let none : AreRenumbered (map function_of (drop i hs)) [] = subst (λ xs. AreRenumbered (map function_of xs) []) (sym (drop_end hs i le)) tt in
-    subst (AreRenumbered (map function_of hs)) (no_more (map function_of made)) (done [] none)
+empty : {A : Type 0} (xs : List A) → length xs ≡ 0 → xs ≡ []
+empty [] e = refl
+empty (x ∷ xs) e = absurd (omega (arith, e))
+
+pub all_renumbered : (all left made : List Held) → length left ≡ 0 → Continued all left made → AreRenumbered (map function_of all) (map function_of made)
+all_renumbered all left made end done =
+    let none : AreRenumbered (map function_of left) [] = subst (λ xs. AreRenumbered (map function_of xs) []) (sym (empty left end)) tt in
+    subst (AreRenumbered (map function_of all)) (no_more (map function_of made)) (done [] none)

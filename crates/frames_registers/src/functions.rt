@@ -66,7 +66,7 @@ fn renumber_function(alloc: Global, function: &Function) -> Result<Function, All
     ensures { IfOk result (λ g. IsRenumberedFunction (function_of function.now) (function_of g)) }
 {
     let swaps = choose(alloc, function)?;
-    let mut code = Vec::new(alloc);
+    let mut code = Vec::with_capacity(alloc, function.code.len())?;
     put_code(&mut code, &swaps, &function.code)?;
     Ok(Function {
         code,
@@ -77,12 +77,12 @@ fn renumber_function(alloc: Global, function: &Function) -> Result<Function, All
     })
 }
 
-fn renumber_functions(alloc: Global, functions: &[Function]) -> Result<Vec<Function>, AllocError>
-    ensures { IfOk result (λ list. AreRenumbered (map function_of functions.now) (map function_of list.items)) }
+fn renumber_functions(alloc: Global, functions: Vec<Function>) -> Result<Vec<Function>, AllocError>
+    ensures { IfOk result (λ list. AreRenumbered (map function_of functions.items) (map function_of list.items)) }
 {
-    let mut list = Vec::new(alloc);
+    let mut list = Vec::with_capacity(alloc, functions.len())?;
     for function in functions {
-        list.push(renumber_function(alloc, function)?)?;
+        list.push(renumber_function(alloc, &function)?)?;
     }
     Ok(list)
 }
@@ -91,7 +91,7 @@ fn renumber_functions(alloc: Global, functions: &[Function]) -> Result<Vec<Funct
 pub fn renumber(alloc: Global, program: FlatProgram) -> Result<FlatProgram, AllocError>
     ensures { IfOk result (λ q. IsRenumbered (flat.program_of program) (flat.program_of q)) }
 {
-    let functions = renumber_functions(alloc, &program.functions)?;
+    let functions = renumber_functions(alloc, program.functions)?;
     Ok(FlatProgram {
         functions,
         statics: program.statics,

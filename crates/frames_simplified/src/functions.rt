@@ -26,33 +26,27 @@ fn improved(
     swept(alloc, &known)
 }
 
-fn copied(alloc: Global, code: &[Instruction]) -> Result<Vec<Instruction>, AllocError>
-    ensures { IfOk result (λ made. made.items ≡ code.now) }
-{
-    let mut made = Vec::new(alloc);
-    for instruction in code {
-        made.push(*instruction)?;
-    }
-    Ok(made)
-}
-
 /// The code by both passes, or as it was where it would have more bytes.
-fn chosen(alloc: Global, area: usize, code: &[Instruction]) -> Result<Vec<Instruction>, AllocError>
-    ensures code { IfOk result (λ made. IsSimplerCode area code.now made.items) }
-    ensures bytes { IfOk result (λ made. sum_by code_bytes made.items ≤ sum_by code_bytes code.now) }
+fn chosen(
+    alloc: Global,
+    area: usize,
+    code: Vec<Instruction>,
+) -> Result<Vec<Instruction>, AllocError>
+    ensures code { IfOk result (λ made. IsSimplerCode area code.items made.items) }
+    ensures bytes { IfOk result (λ made. sum_by code_bytes made.items ≤ sum_by code_bytes code.items) }
 {
-    let better = improved(alloc, area, code)?;
-    if is_no_longer(&better, code) {
+    let better = improved(alloc, area, &code)?;
+    if is_no_longer(&better, &code) {
         Ok(better)
     } else {
-        copied(alloc, code)
+        Ok(code)
     }
 }
 
-fn simplify_function(alloc: Global, function: &Function) -> Result<Function, AllocError>
-    ensures { IfOk result (λ g. IsSimplerFunction (function_of function.now) (function_of g)) }
+fn simplify_function(alloc: Global, function: Function) -> Result<Function, AllocError>
+    ensures { IfOk result (λ g. IsSimplerFunction (function_of function) (function_of g)) }
 {
-    let code = chosen(alloc, function.area, &function.code)?;
+    let code = chosen(alloc, function.area, function.code)?;
     Ok(Function {
         code,
         cells: function.cells,
@@ -62,10 +56,10 @@ fn simplify_function(alloc: Global, function: &Function) -> Result<Function, All
     })
 }
 
-fn simplify_functions(alloc: Global, functions: &[Function]) -> Result<Vec<Function>, AllocError>
-    ensures { IfOk result (λ list. AreSimpler (map function_of functions.now) (map function_of list.items)) }
+fn simplify_functions(alloc: Global, functions: Vec<Function>) -> Result<Vec<Function>, AllocError>
+    ensures { IfOk result (λ list. AreSimpler (map function_of functions.items) (map function_of list.items)) }
 {
-    let mut list = Vec::new(alloc);
+    let mut list = Vec::with_capacity(alloc, functions.len())?;
     for function in functions {
         list.push(simplify_function(alloc, function)?)?;
     }
@@ -76,7 +70,7 @@ fn simplify_functions(alloc: Global, functions: &[Function]) -> Result<Vec<Funct
 pub fn simplify(alloc: Global, program: FlatProgram) -> Result<FlatProgram, AllocError>
     ensures { IfOk result (λ q. IsSimplified (flat.program_of program) (flat.program_of q)) }
 {
-    let functions = simplify_functions(alloc, &program.functions)?;
+    let functions = simplify_functions(alloc, program.functions)?;
     Ok(FlatProgram {
         functions,
         statics: program.statics,

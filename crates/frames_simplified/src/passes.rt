@@ -24,7 +24,7 @@ pub fn forward(
     ensures { IfOk result (λ made. made.items ≡ passes.forward area marks.now 0 nothing_known code.now) }
 {
     let mut facts = nothing();
-    let mut made = Vec::new(alloc);
+    let mut made = Vec::with_capacity(alloc, code.len())?;
     for number in 0..code.len() {
         if is_marked(marks, number) {
             facts = nothing();
@@ -40,7 +40,7 @@ pub fn forward(
 pub fn swept(alloc: Global, code: &[Instruction]) -> Result<Vec<Instruction>, AllocError>
     ensures { IfOk result (λ made. made.items ≡ passes.swept code.now) }
 {
-    let mut made = Vec::new(alloc);
+    let mut made = Vec::with_capacity(alloc, code.len())?;
     for number in 0..code.len() {
         let behind = &code[number + 1..];
         let near = &behind[..behind.len().min(WINDOW)];

@@ -65,6 +65,15 @@ fn put_body(scope: &Scope<'_>, code: &mut Code, is_main: bool) -> Result<(), All
     Ok(())
 }
 
+/// The instructions of a function's body, with one for `main`.
+fn room_for(scope: &Scope<'_>) -> usize {
+    let parameters = scope.function.function_type.parameters.len();
+    plus(
+        parameters,
+        plus(3, statement_size(scope, &scope.function.body)),
+    )
+}
+
 fn body_of(
     alloc: Global,
     program: &Program,
@@ -73,10 +82,10 @@ fn body_of(
 ) -> Result<Vec<Instruction>, AllocError>
     ensures { IfOk result (λ code. IsBodyOf (program_of program.now) is_main (function_of function.now) code.items) }
 {
-    let mut code = Code {
-        list: Vec::new(alloc),
-    };
     let scope = Scope { program, function };
+    let mut code = Code {
+        list: Vec::with_capacity(alloc, room_for(&scope))?,
+    };
     put_body(&scope, &mut code, is_main)?;
     Ok(code.list)
 }

@@ -18,7 +18,7 @@ fn lowered_functions(
 ) -> Result<Vec<tac_code::Function>, AllocError>
     ensures { IfOk result (λ gs. AreFunctionsOf (view.program_of program.now) (length program.now.functions.items) (map three_address.function_of gs.items)) }
 {
-    let mut list = Vec::new(alloc);
+    let mut list = Vec::with_capacity(alloc, program.functions.len())?;
     let mut number = 0;
     for function in &program.functions {
         let is_main = number == program.main;

@@ -9,5 +9,5 @@ returns c =
     let f = function_of c.args.function.now in
     let ss = c.in_ok-swaps.swaps.items in
     let count : vec_len c.in_ok-swaps.swaps ≡ length ss = search rules in
-    let put = code_put f c.len.result c.put_code.new.code.items c.new-code.result.items c.deref-2.result.now c.deref.result.now ss c.in_ok-put_code.ensures c.new-code.ensures.items c.deref.ensures.value c.deref-2.ensures.value in
-    is_renumbered f _ ss c.in_ok-swaps.ensures.inside (omega (arith, c.len.ensures, count, c.in_ok-swaps.ensures.few)) put
+    let put = code_put f c.len-2.result c.put_code.new.code.items c.in_ok-code.code.items c.deref-2.result.now c.deref.result.now ss c.in_ok-put_code.ensures c.in_ok-code.ensures.items c.deref.ensures.value c.deref-2.ensures.value in
+    is_renumbered f _ ss c.in_ok-swaps.ensures.inside (omega (arith, c.len-2.ensures, count, c.in_ok-swaps.ensures.few)) put
