@@ -1,18 +1,20 @@
 -- The typed program of a unit within the limits is one for which the back end makes code.
 use Rattle.std.proofs.Common.{◌≡◌, ◌≤◌, ℕ, zero, suc, List, [], ◌∷◌, Some, ap, sym, subst}
+use Rattle.std.proofs.Math.Nat.{le_trans}
 use Rattle.std.specs.Prelude.{slice_get}
 use Rattle.srcset.specs.NameTable.{Texts}
 use Rattle.tree.specs.Tree.{FunctionTree, ExternalTree, definition}
 use Rattle.typing_rules.specs.Program.{Program}
 use Rattle.typing_rules.specs.Verdict.{fine}
 use Rattle.typing_rules.specs.Units.{unit_typed}
-use Rattle.parser.specs.Units.{IsTreeWithin, of_function, IsSmall, AreSmall}
+use Rattle.parser.specs.Units.{IsTreeWithin, of_function, of_program, IsSmall, AreSmall}
 use Rattle.lexer.specs.declared.token.Token.{Token}
 use Rattle.tac_checked.specs.Laws.{AreTexts, IsWithinNodes}
 use Rattle.tac_checked.proofs.Ground.{same_some}
 use Rattle.tac_checked.proofs.AskedStatements.{program_is_asked}
 use Rattle.tac_units.proofs.Whole.{program_is_checked}
 use Rattle.cc_backend.specs.Made.{IsReady}
+use Rattle.cc_backend.proofs.Bounds.{units_are_small}
 use Rattle.cc.specs.Compiled.{typed_at, IsProgramOf}
 
 within_nodes : (unit : List ExternalTree) → AreSmall unit → IsWithinNodes unit
@@ -29,4 +31,5 @@ is_ready stack name texts tokens unit p l a w h =
     let e = typed_is stack texts h.file unit p h.typed in record {
       checked = program_is_checked stack texts (record { file = h.file; line = 1 }) unit p l a (within_nodes unit (w.within of_function)) e;
       asked = program_is_asked stack texts (record { file = h.file; line = 1 }) unit p e;
+      few = le_trans (units_are_small stack texts (record { file = h.file; line = 1 }) unit p e) (w.within of_program);
     }

@@ -24,7 +24,9 @@ use Rattle.select_simulation.specs.Laws.{AreBytes}
 use Rattle.select_simulation.specs.Runs.{Laid, ground_at}
 use Rattle.select_simulation.proofs.Real.{goes_on, ends_so}
 use Rattle.select_simulation.proofs.Keeping.{calls_keep}
+use Rattle.select_simulation.proofs.Conventions as convention
 use Rattle.cc_backend.specs.FlatImages.{IsImageOf, FitStack, ImageGoesOn, ImageEnds, ImageCallsKeep}
+use Rattle.cc_backend.specs.Convention.{ImageCallsKeepConvention, ImageMainKeepsConvention}
 
 within_low : (start n a : ℕ) → is_within start n a ≡ true → (start ≤ a) × (a < start + n)
 within_low start n a e =
@@ -194,3 +196,13 @@ pub image_calls_keep : ImageCallsKeep
 image_calls_keep p parts input q bytes n m f s t over es later et same rooms inner within =
     calls_keep (permits p parts q) (low p parts q) (apart p parts q) p q.assembled.env (floor p parts q) (data_at p parts q) text_start (past_text p parts q) (λ k. 0) (space p parts q).byte (replicate 32 0) input (laid p parts q) (zero_registers p parts q) bytes n m f s t over es later et same
     (λ k le. room p parts q (run p k (start p input)) (rooms k le)) (λ k le. room p parts q (run p k (entered s f)) (inner k le)) within
+
+pub calls_keep_convention : ImageCallsKeepConvention
+calls_keep_convention p parts input q bytes last rooms =
+    convention.calls_keep (permits p parts q) (low p parts q) (apart p parts q) p q.assembled.env (floor p parts q) (data_at p parts q) text_start (past_text p parts q) (λ k. 0) (space p parts q).byte (replicate 32 0) input (laid p parts q) (zero_registers p parts q) bytes last
+    (λ k le. room p parts q (run p k (start p input)) (rooms k le))
+
+pub main_keeps_convention : ImageMainKeepsConvention
+main_keeps_convention p parts input q bytes last rooms =
+    convention.main_keeps (permits p parts q) (low p parts q) (apart p parts q) p q.assembled.env (floor p parts q) (data_at p parts q) text_start (past_text p parts q) (λ k. 0) (space p parts q).byte (replicate 32 0) input (laid p parts q) (zero_registers p parts q) bytes last
+    (λ k le. room p parts q (run p k (start p input)) (rooms k le))

@@ -5,7 +5,7 @@ use Rattle.std.specs.Prelude.{slice_get, sum_by, option_map, IfOk, Result, Err}
 use Rattle.std.proofs.lemmas.Option.{slice_get-map, slice_get_within}
 use Rattle.std.proofs.lemmas.List.{length-map}
 use Rattle.std.proofs.lemmas.List.Sums.{sum_by-append, sum_by-cons}
-use Rattle.memory_map.specs.MemoryMap.{text_start}
+use Rattle.memory_map.specs.MemoryMap.{text_start, max_image}
 use Rattle.loader.specs.File.{file_image}
 use Rattle.elf_out.specs.Layout.{Parts}
 use Rattle.elf_out.specs.Program.{program_image}
@@ -43,6 +43,7 @@ use Rattle.cc_backend.proofs.Simplifying.{simplified_is_flattened}
 use Rattle.cc_backend.specs.Runs.{RunsAs}
 use Rattle.cc_backend.specs.Made.{IsReady, IsFlatCodeOf, FramesFit, FunctionsFit, most_text, IsFileOf, AreItemsOf}
 use Rattle.cc_backend.proofs.FunctionSizes.{part_within, function_among}
+use Rattle.cc_backend.proofs.Bounds.{has_room as room_of}
 
 -- sums of what is less at each place
 pub sums_within : {A B : Type 0} (g : A → ℕ) (h : B → ℕ) (xs : List A) (ys : List B) → length xs ≡ length ys
@@ -144,6 +145,14 @@ module _ (p : typed.Program) (f : flat.Program) (ready : IsReady p) (made : IsFl
       let same : data_bytes q.literals q.statics ≡ data_bytes p.literals p.statics =
       ap (λ l. data_bytes l q.statics) made.lowered.literals ∙ ap (λ o. data_bytes p.literals o) made.lowered.statics in
       omega (arith, whole, length_data q, data_bytes_are q.literals q.statics, same)
+
+  pub has_room : longest (program_items f) + length f.statics ≤ max_image
+  has_room =
+      let q = made.code in
+      let whole : length f.statics ≡ length (data_of q) = ap length flattened.statics in
+      let same : data_bytes q.literals q.statics ≡ data_bytes p.literals p.statics =
+      ap (λ l. data_bytes l q.statics) made.lowered.literals ∙ ap (λ o. data_bytes p.literals o) made.lowered.statics in
+      room_of p (longest (program_items f)) (length f.statics) ready text_fits (omega (arith, whole, length_data q, data_bytes_are q.literals q.statics, same))
 
   -- ---- the run
 

@@ -10,3 +10,5 @@ pub mod ProgramImages
 pub mod Rows
 pub mod ShortPrograms
 pub mod FunctionSizes
+pub mod Conventions
+pub mod Bounds

@@ -47,7 +47,7 @@ module _ (p : typed.Program) (q : tac.Program) (f : flat.Program) (lowered : IsL
   frames_within (w ∷ ws) k = omega (arith, frames_within ws k.1, frame_within w.function k.0)
 
   -- up to m steps of three-address code, by what its history then tells
-  fits : (stack : ℕ) (x : flat_run.Progress) (input : List ℕ) (m m2 j : ℕ) → HasItsCalls q f input m m2 → j ≤ m2 → behind f input j ≡ x → (most : ℕ)
+  pub fits : (stack : ℕ) (x : flat_run.Progress) (input : List ℕ) (m m2 j : ℕ) → HasItsCalls q f input m m2 → j ≤ m2 → behind f input j ≡ x → (most : ℕ)
       → ((k : ℕ) → IsSeen (weight_in p) k (before q input m) → k ≤ most) → most ≤ stack → FitStack stack f x
   fits stack (flat_run.running s) input m m2 j its le e most seen small =
       let c = its j s le e in

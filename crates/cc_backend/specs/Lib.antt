@@ -8,9 +8,11 @@ pub use Rattle.memory_map.specs.MemoryMap
 pub use Rattle.elf_out.specs.Program
 pub use Rattle.select_simulation.specs.Runs as Simulated
 pub use Rattle.select_simulation.specs.Reaching
+pub use Rattle.select_simulation.specs.Convention as Conventional
 pub mod Runs
 pub mod Made
 pub mod Sizes
 pub mod FlatImages
+pub mod Convention
 pub mod TacImages
 pub mod ProgramImages

@@ -6,7 +6,13 @@ use Rattle.elf_out.specs.Written as written
 use Rattle.asm.specs.declared.item.Item.{Item}
 use Rattle.asm.specs.Layout.{place, IsLow, AllReach}
 use Rattle.asm.specs.Placed.{IsFewest}
+use Rattle.srcset.specs.declared.refusal.Pos.{Pos}
+use Rattle.tree.specs.Tree.{ExternalTree}
+use Rattle.tree.specs.Counts.{unit_nodes}
+use Rattle.tree.specs.Limits.{program_node_limit}
 use Rattle.typing_rules.specs.Program.{Function, Program}
+use Rattle.typing_rules.specs.Verdict.{fine}
+use Rattle.typing_rules.specs.Units.{unit_typed}
 use Rattle.tac_code.specs.Code as tac
 use Rattle.tac_code.specs.Sound.{data_bytes}
 use Rattle.tac_code.specs.Spans.{span}
@@ -22,10 +28,21 @@ use Rattle.select.specs.Program.{program_items, function_items}
 use Rattle.cc_backend.specs.FlatImages.{IsImageOf}
 use Rattle.cc_backend.specs.Runs.{RunsAs}
 
--- what the constraints give
+-- the nodes of the definitions of functions
+abbrev pub nodes_of : List Function → ℕ
+nodes_of fs = sum_by (λ f. f.nodes) fs
+
+-- what the constraints give, and the limit of a program's nodes
 pub record IsReady (p : Program) : Type 0 where
   pub checked : IsChecked p
   pub asked : is_asked p ≡ true
+  pub few : nodes_of p.functions ≤ program_node_limit
+
+-- the functions of a unit's program have no more nodes than the unit
+abbrev pub UnitsAreSmall : Type 0
+UnitsAreSmall =
+    (stack : ℕ) (texts : List (List ℕ)) (whole : Pos) (unit : List ExternalTree) (p : Program) → unit_typed stack texts whole unit ≡ fine p
+    → nodes_of p.functions ≤ unit_nodes unit
 
 -- Flat code of the program: what its three-address code is flattened to, made simpler, the words of its frames under numbers by their use.
 pub record IsFlatCodeOf (p : Program) (f : flat.Program) : Type 0 where

@@ -1,7 +1,7 @@
 //! The items of flat code, and their image.
 
-ghost use Rattle.std.specs.Prelude.{◌≡◌, ◌≤◌, length, IfOk};
-ghost use Rattle.memory_map.specs.MemoryMap.{text_start};
+ghost use Rattle.std.specs.Prelude.{◌≡◌, ◌≤◌, ◌+◌, length, IfOk};
+ghost use Rattle.memory_map.specs.MemoryMap.{text_start, max_image};
 ghost use Rattle.asm.specs.Placed.{IsFewest};
 ghost use Rattle.frames_code.specs.Code as flat;
 ghost use Rattle.frames_code.specs.Sound.{IsSoundProgram};
@@ -18,20 +18,14 @@ use memory_map::TEXT_START;
 use select::select;
 use std::alloc::{AllocError, Global};
 
-/// The items of flat code, which end where the assembler takes them.
-fn low_items(alloc: Global, program: &FlatProgram) -> Result<Items, AllocError>
+/// The items of flat code.
+fn flat_items(alloc: Global, program: &FlatProgram) -> Result<Items, AllocError>
     requires { IsSoundProgram (flat.program_of program.now) }
-    ensures items { IfOk result (λ items. items ≡ program_items (flat.program_of program.now)) }
-    ensures low { IfOk result (λ items. IsLow text_start items) }
+    ensures { IfOk result (λ items. items ≡ program_items (flat.program_of program.now)) }
 {
-    let items = match select(alloc, program) {
-        Ok(items) => items,
-        Err(fault) => return Err(want_of_memory(fault)),
-    };
-    if items.is_low(TEXT_START) {
-        Ok(items)
-    } else {
-        Err(AllocError)
+    match select(alloc, program) {
+        Ok(items) => Ok(items),
+        Err(fault) => Err(want_of_memory(fault)),
     }
 }
 
@@ -50,6 +44,7 @@ pub fn code_image(
 ) -> Result<Assembled, AllocError>
     requires sound { IsSoundProgram (flat.program_of program) }
     requires reaches { AllReach text_start (program_items (flat.program_of program)) }
+    requires small { longest (program_items (flat.program_of program)) + length (flat.program_of program).statics ≤ max_image }
     ensures image { IfOk result (λ a. IsImageOf (flat.program_of program) a.image) }
     ensures stack { IfOk result (λ a. a.image.stack ≡ stack) }
     ensures fewest { IfOk result (λ a. IsFewest (program_items (flat.program_of program)) text_start a.image.text) }
@@ -57,7 +52,7 @@ pub fn code_image(
     ensures items { IfOk result (λ a. a.items ≡ program_items (flat.program_of program)) }
     ensures low { IfOk result (λ a. IsLow text_start a.items) }
 {
-    let items = low_items(alloc, &program)?;
+    let items = flat_items(alloc, &program)?;
     let image = image_of(alloc, &items, program, stack)?;
     Ok(Assembled { image, items })
 }
@@ -71,8 +66,8 @@ fn image_of(
 ) -> Result<Image, AllocError>
     requires sound { IsSoundProgram (flat.program_of program) }
     requires items { items.now ≡ program_items (flat.program_of program) }
-    requires low { IsLow text_start items.now }
     requires reaches { AllReach text_start (program_items (flat.program_of program)) }
+    requires small { longest (program_items (flat.program_of program)) + length (flat.program_of program).statics ≤ max_image }
     ensures image { IfOk result (IsImageOf (flat.program_of program)) }
     ensures stack { IfOk result (λ image. image.stack ≡ stack) }
     ensures fewest { IfOk result (λ image. IsFewest (program_items (flat.program_of program)) text_start image.text) }
@@ -87,6 +82,6 @@ fn image_of(
     is_stack_size(stack);
     match Image::new(text, program.statics, stack) {
         Some(image) => Ok(image),
-        None => Err(AllocError),
+        None => unreachable!(),
     }
 }

@@ -1,9 +1,11 @@
 //! The image of a program runs as the program does: laws of flat code, of three-address code and of the typed program that they come from; and the
 //! code of a function is as short as the tables of bytes say.
 ghost use Rattle.cc_backend.specs.FlatImages.{ImageGoesOn, ImageEnds, ImageCallsKeep};
+ghost use Rattle.cc_backend.specs.Convention.{ImageCallsKeepConvention, ImageMainKeepsConvention, FramesAreWeighed};
 ghost use Rattle.cc_backend.specs.TacImages.{TacGoesOn, TacEnds};
 ghost use Rattle.cc_backend.specs.ProgramImages.{FlattenedGoesOn, FlattenedEnds, ProgramGoesOn, ProgramEnds};
 ghost use Rattle.cc_backend.specs.Sizes.{RowsFit, CodeFits, ProgramIsShort};
+ghost use Rattle.cc_backend.specs.Made.{UnitsAreSmall};
 
 /// Where a flat program goes on, its image does too, having done the same, and with the same input left.
 pub fn image_goes_on()
@@ -19,6 +21,21 @@ pub fn image_ends()
 /// result in a0.
 pub fn image_calls_keep()
     ensures { ImageCallsKeep }
+{}
+
+/// Each call that a flat program comes to keeps the calling convention on the machine that runs its image.
+pub fn image_calls_keep_convention()
+    ensures { ImageCallsKeepConvention }
+{}
+
+/// And so does main.
+pub fn image_main_keeps_convention()
+    ensures { ImageMainKeepsConvention }
+{}
+
+/// The frames of the calls that are active never sum to more than the weights that the abstract machine tells.
+pub fn frames_are_weighed()
+    ensures { FramesAreWeighed }
 {}
 
 /// Where three-address code goes on, its image does too, having done the same, and with the same input left.
@@ -66,4 +83,9 @@ pub fn code_fits()
 /// So each jump reaches in the code of a program that was checked, lowered and flattened.
 pub fn program_is_short()
     ensures { ProgramIsShort }
+{}
+
+/// The functions of a unit's program have no more nodes than the unit.
+pub fn units_are_small()
+    ensures { UnitsAreSmall }
 {}

@@ -5,3 +5,4 @@ pub mod Steps
 pub mod Instants
 pub mod Whole
 pub mod Made
+pub mod Conventions

@@ -14,8 +14,11 @@ use Rattle.rv32.specs.Words.{decode_of}
 use Rattle.rv32.specs.Space.{Space, all_four, both, word_at}
 use Rattle.rv32.specs.Step.{Machine, register}
 use Rattle.loader.specs.File.{Image, file_image}
+use Rattle.memory_map.specs.MemoryMap.{text_start, data_start}
 use Rattle.elf_out.specs.Layout.{Parts}
 use Rattle.elf_out.specs.Program.{is_text, is_data, is_stack}
+use Rattle.frames_code.specs.Run as flat
+use Rattle.select_simulation.specs.Convention.{KeepsConvention, ComesToCall, behind_call}
 use Rattle.meaning_events.specs.Events.{Event}
 use Rattle.sim.specs.Runs as sim
 use Rattle.sim.specs.Runs.{World, Progress, Running, Trapped, rvrun, start_world}
@@ -118,6 +121,36 @@ pub record IsLaidOut (parts : Parts) (s : Space) : Type 0 where
 -- those are the permissions of a file that is made of a program, whose stack has as many bytes as were asked for
 abbrev pub FilesAreLaidOut : Type 0
 FilesAreLaidOut = (stack : ℕ) (p : Program) (file frames : List ℕ) (made : IsFileOf stack p file frames) → HasImage file (λ image. IsLaidOut made.parts image.space × (made.parts.stack ≡ stack))
+
+-- ---- how it calls (RISC-V ELF psABI, "Integer Calling Convention")
+
+-- the addresses of the labels of a file that is made: function number f is at label f
+abbrev pub labels : {stack : ℕ} {p : Program} {file frames : List ℕ} → IsFileOf stack p file frames → ℕ → ℕ
+labels made = made.image_is.assembled.env
+
+-- where its data begin
+abbrev pub data_of : {stack : ℕ} {p : Program} {file frames : List ℕ} → IsFileOf stack p file frames → ℕ
+data_of made = data_start (length made.parts.text)
+
+-- each call that the run of its flat code comes to keeps the calling convention, for any number of steps ..
+abbrev pub CallsAreKept : {stack : ℕ} {p : Program} {file frames : List ℕ} → IsFileOf stack p file frames → Image → (input : List ℕ) → Type 0
+CallsAreKept made image input =
+    (n f : ℕ) (s : flat.State) → ComesToCall made.code input n f s → (steps : ℕ)
+    → KeepsConvention made.code (labels made) (data_of made) (λ k. run_of image input k)
+    (labels made f) (behind_call made.code (labels made) s) (flat.entered s f) steps
+
+-- .. and main does, which returns to the 16th byte of the text
+abbrev pub MainIsKept : {stack : ℕ} {p : Program} {file frames : List ℕ} → IsFileOf stack p file frames → Image → (input : List ℕ) → Type 0
+MainIsKept made image input =
+    (steps : ℕ) → KeepsConvention made.code (labels made) (data_of made) (λ k. run_of image input k)
+    (labels made made.code.main) (text_start + 16) (flat.start made.code input) steps
+
+-- so it is of each file that is made of a program, on every input on which the program stays defined
+abbrev pub FilesKeepConvention : Type 0
+FilesKeepConvention =
+    (stack : ℕ) (p : Program) (file frames : List ℕ) (made : IsFileOf stack p file frames)
+    → HasImage file (λ image. (input : List ℕ) → IsInput input → StaysDefined stack p input
+    → CallsAreKept made image input × MainIsKept made image input)
 
 -- ---- how it ends
 

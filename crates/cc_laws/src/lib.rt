@@ -1,7 +1,7 @@
 //! What is promised of a built file, in the words of what is seen of it. There is nothing to run: each law is the contract of a function without code.
 #![tactic(auto)]
 
-ghost use Rattle.cc_laws.specs.Laws.{DoesAll, DoesNoMore, NeverTraps, StaysInside, FilesAreLaidOut, EndsOnlySo, UnitsHaveMain, EndsInTime};
+ghost use Rattle.cc_laws.specs.Laws.{DoesAll, DoesNoMore, NeverTraps, StaysInside, FilesAreLaidOut, FilesKeepConvention, EndsOnlySo, UnitsHaveMain, EndsInTime};
 
 /// What the abstract machine has done within any number of ticks, the file has done after some number of instructions.
 pub fn does_all()
@@ -29,6 +29,12 @@ pub fn stays_inside()
 /// Of a file that is made of a program the text alone may be executed, and the data and the stack alone may be read and written.
 pub fn files_are_laid_out()
     ensures { FilesAreLaidOut }
+{}
+
+/// In a file that is made of a program each call, and main, keeps the calling convention: on the entry of the function the arguments stand as they are passed, while it
+/// runs its frame is below, and where it has returned the stack pointer and s0 to s11 are as they were, and the result is in a0.
+pub fn files_keep_convention()
+    ensures { FilesKeepConvention }
 {}
 
 /// Where the file has ended with a status, the abstract machine ends with this status, having done the same: the file ends nowhere else.

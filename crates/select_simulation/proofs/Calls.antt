@@ -15,7 +15,7 @@ use Rattle.frames_code.specs.Run.{Value, word, Values, Bytes, unset, Frame, Stat
 use Rattle.select_running.specs.Light.{Light, Go, reg, with_reg, Comes}
 use Rattle.select_running.proofs.Bridge.{bool_cases}
 use Rattle.select_running.proofs.Words.{with_other, word_same}
-use Rattle.select_running.proofs.Steps.{comes_now, comes_by, on_jump_register}
+use Rattle.select_running.proofs.Steps.{comes_now, comes_then, on_jump_register}
 use Rattle.select_running.proofs.ItemSteps.{on_call}
 use Rattle.select_running.proofs.Placing.{stands_parts}
 use Rattle.select.specs.Selected.{kept, is_call, calls, change_sp, return_home, restores, take_return}
@@ -84,8 +84,22 @@ module _ (G : Ground) (s : State) (r b : ℕ → ℕ) (ready : Ready G) (m : Mat
 
   -- ---- Call
 
-  pub does_call : (g : ℕ) → (m.sp ≡ G.watch_sp → (end ≡ G.watch_ra) × ((j : ℕ) → file_of r j ≡ G.watch_file j)) → slice_get (fn G s r b ready m).code s.frame.at ≡ Some (instruction.Call g) → HasRoom G (act G.program s (instruction.Call g)) → Comes G.machine Anything 1 (step_cost G.program (fn G s r b ready m) (instruction.Call g)) (Go r start b s.input s.trace) (Matches G (act G.program s (instruction.Call g)))
-  does_call g seen e room =
+  -- at the entry of the function that is called: but for ra, with the address to return to, all is as it was
+  abbrev pub at_entry : ℕ → Light
+  at_entry g = Go (with_reg r 1 end) (G.env g) b s.input s.trace
+
+  pub calls_to : (g : ℕ) → slice_get (fn G s r b ready m).code s.frame.at ≡ Some (instruction.Call g) → Comes G.machine Anything 1 2 (Go r start b s.input s.trace) (λ x. x ≡ at_entry g)
+  calls_to g e =
+      let Q : Light → Type 0 = λ x. x ≡ at_entry g in
+      let st = ready.stands s.frame.function s.frame.at (instruction.Call g) e in
+      let known = fits G s r b ready m (instruction.Call g) e in
+      on_call G.machine Anything Q 0 r start b s.input s.trace tt (G.env g) st.0 (ready.entry_aligned g known) st.1 tt
+      (comes_now G.machine Anything 0 _ Q tt (ap (λ x. Go (with_reg r 1 x) (G.env g) b s.input s.trace) st.2))
+
+  -- its frame opens
+  pub opens : (g : ℕ) → (m.sp ≡ G.watch_sp → (end ≡ G.watch_ra) × ((j : ℕ) → file_of r j ≡ G.watch_file j)) → slice_get (fn G s r b ready m).code s.frame.at ≡ Some (instruction.Call g) → HasRoom G (act G.program s (instruction.Call g))
+      → Comes G.machine Anything 1 (opening_cost (function_at G.program g)) (at_entry g) (Matches G (running (entered s g)))
+  opens g seen e room =
       let Q : Light → Type 0 = Matches G (running (entered s g)) in
       let f = function_at G.program g in
       let st = ready.stands s.frame.function s.frame.at (instruction.Call g) e in
@@ -98,23 +112,22 @@ module _ (G : Ground) (s : State) (r b : ℕ → ℕ) (ready : Ready G) (m : Mat
       let sp = m.sp - frame_bytes f in
       let up : sp + frame_bytes f ≡ m.sp = omega (arith, room, sum) in
       let win : Within G.floor f sp = record { low = omega (arith, room, sum); top = omega (arith, up, mine.top); aligned = omega (arith, up, mine.aligned, tall) } in
-      let ra = st.0 in
       let here = ready.aligned s.frame.function s.frame.at (instruction.Call g) e in
-      let small : ra < 2 ^ 32 = omega (arith, here.1, q.next_is) in
-      let even : ra % 4 ≡ 0 = omega (arith, here.0, q.next_is) in
-      let r1 = with_reg r 1 ra in
-      let stays : (k : ℕ) → k ≢ 1 → r1 k ≡ r k = λ k ne. with_other r 1 ra k ne in
+      let small : end < 2 ^ 32 = omega (arith, here.1, q.next_is, st.2) in
+      let even : end % 4 ≡ 0 = omega (arith, here.0, q.next_is, st.2) in
+      let r1 = with_reg r 1 end in
+      let stays : (k : ℕ) → k ≢ 1 → r1 k ≡ r k = λ k ne. with_other r 1 end k ne in
       let file : (j : ℕ) → file_of r1 j ≡ file_of r j = λ j. stays (kept j) (λ x. omega (arith, x, kept_above j)) in
       let words : Small (file_of r1) = λ j. subst (λ x. x < 2 ^ 32) (sym (file j)) (m.frame.small j) in
       let w : Frame = record s.frame { at = s.frame.at + 1 } in
       let calling : calls (fn G s r b ready m).code ≡ true = calls_there (fn G s r b ready m).code s.frame.at g e in
-      let back : Returns G w (file_of r) m.sp ra = record { at_is = st.2; aligned = even; small = small; calls = calling; seen = λ x. let y = seen x in (st.2 ∙ y.0, y.1) } in
+      let back : Returns G w (file_of r) m.sp end = record { at_is = refl; aligned = even; small = small; calls = calling; seen = seen } in
       let caller = fn G s r b ready m in
       let stored : return_at caller b m.sp (r 1) ≡ word_at b (m.sp + return_home caller) = rw calling refl in
       let others : Waits G s.waiting b (file_below caller b m.sp (file_of r)) (m.sp + frame_bytes caller) (word_at b (m.sp + return_home caller)) =
       subst (Waits G s.waiting b (file_below caller b m.sp (file_of r)) (m.sp + frame_bytes caller)) stored m.waits in
-      let waits : Waits G (w ∷ s.waiting) b (file_of r) m.sp ra = (back, record { aligned = m.frame.aligned; small = m.frame.small; cells = m.frame.cells; area = m.frame.area }, others) in
-      let waits1 : Waits G (w ∷ s.waiting) b (file_of r1) (sp + frame_bytes f) ra = subst (λ x. Waits G (w ∷ s.waiting) b (file_of r1) x ra) (sym up) (waits_same G (w ∷ s.waiting) b b (file_of r) (file_of r1) m.sp ra (λ k le. refl) file waits) in
+      let waits : Waits G (w ∷ s.waiting) b (file_of r) m.sp end = (back, record { aligned = m.frame.aligned; small = m.frame.small; cells = m.frame.cells; area = m.frame.area }, others) in
+      let waits1 : Waits G (w ∷ s.waiting) b (file_of r1) (sp + frame_bytes f) end = subst (λ x. Waits G (w ∷ s.waiting) b (file_of r1) x end) (sym up) (waits_same G (w ∷ s.waiting) b b (file_of r) (file_of r1) m.sp end (λ k le. refl) file waits) in
       let ts : (k : ℕ) (v : Value) → below_eight s.temporaries k ≡ Some v → (k < 8) × (shown G v < 2 ^ 32) × (r1 (10 + k) ≡ shown G v) = λ k v ek. bool_cases (nat_lt k 8)
       (λ t.
       let before : s.temporaries k ≡ Some v = rw t at ek in
@@ -131,11 +144,17 @@ module _ (G : Ground) (s : State) (r b : ℕ → ℕ) (ready : Ready G) (m : Mat
       let lies = temporary_lies (fn G s r b ready m) m.sp mine k (ltb-false k 8 t) old.0 in
       let there : argument_at f sp k ≡ m.sp + 4 * (k - 8) = omega (arith, up) in
       (old.1, omega (arith, there, lies.top), ap (word_at b) there ∙ held)) in
-      comes_by G.machine Anything (suc (suc (opening_cost f))) (2 + opening_cost f) (Go r start b s.input s.trace) Q (omega arith)
-      (on_call G.machine Anything Q (opening_cost f) r start b s.input s.trace tt (G.env g) ra (ready.entry_aligned g known) q tt
-      (enters G.machine G.env G.data_at s.input s.trace Q f sp win (record { reads = λ a lo hi. ready.stack_read a (omega (arith, lo, win.low)) hi; writes = λ a lo hi. ready.stack_written a (omega (arith, lo, win.low)) hi }) m.sp (G.env g) (address G g 0) r1 b fit.all up (omega (arith, mine.top)) fit.small m.sp_is words small m.bytes (ready.entries g known) (λ r2 b2 o.
+      enters G.machine G.env G.data_at s.input s.trace Q f sp win (record { reads = λ a lo hi. ready.stack_read a (omega (arith, lo, win.low)) hi; writes = λ a lo hi. ready.stack_written a (omega (arith, lo, win.low)) hi }) m.sp (G.env g) (address G g 0) r1 b fit.all up (omega (arith, mine.top)) fit.small m.sp_is words small m.bytes (ready.entries g known) (λ r2 b2 o.
       comes_now G.machine Anything 0 _ Q tt
-      (opened_matched G ready g sp (below_eight s.temporaries) (from_eight s.temporaries) (w ∷ s.waiting) s.statics s.input s.trace r1 b r2 b2 win words ts xs m.statics waits1 o, refl, refl))))
+      (opened_matched G ready g sp (below_eight s.temporaries) (from_eight s.temporaries) (w ∷ s.waiting) s.statics s.input s.trace r1 b r2 b2 win words ts xs m.statics waits1 o, refl, refl))
+
+  pub does_call : (g : ℕ) → (m.sp ≡ G.watch_sp → (end ≡ G.watch_ra) × ((j : ℕ) → file_of r j ≡ G.watch_file j)) → slice_get (fn G s r b ready m).code s.frame.at ≡ Some (instruction.Call g) → HasRoom G (act G.program s (instruction.Call g)) → Comes G.machine Anything 1 (step_cost G.program (fn G s r b ready m) (instruction.Call g)) (Go r start b s.input s.trace) (Matches G (act G.program s (instruction.Call g)))
+  does_call g seen e room =
+      let Q : Light → Type 0 = Matches G (running (entered s g)) in
+      let opened = opening_cost (function_at G.program g) in
+      let c : Comes G.machine Anything (1 + 1) (2 + opened) (Go r start b s.input s.trace) Q =
+      comes_then G.machine Anything 2 opened (Go r start b s.input s.trace) (λ x. x ≡ at_entry g) Q (calls_to g e) (λ x ex. subst (λ y. Comes G.machine Anything 1 opened y Q) (sym ex) (opens g seen e room)) in
+      record { j = c.j; some = omega (arith, c.some); within = c.within; kept = c.kept; good = c.good }
 
   -- ---- Return
 

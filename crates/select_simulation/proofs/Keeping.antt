@@ -31,7 +31,7 @@ use Rattle.select_simulation.proofs.Standing.{register_shown, stands_with}
 use Rattle.select_simulation.proofs.Whole.{comes_to}
 use Rattle.select_simulation.proofs.Watching.{each_call_keeps}
 
-kept_low : (j : ℕ) → j < 12 → kept j < 32
+pub kept_low : (j : ℕ) → j < 12 → kept j < 32
 kept_low j lt = bool_cases (nat_lt j 2) (λ t. rw t (omega (arith, ltb-true j 2 t))) (λ t. rw t (omega (arith, lt)))
 
 -- the world behind the call, where the light machine is, and its registers beside those at the call

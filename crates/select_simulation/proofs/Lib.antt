@@ -27,6 +27,7 @@ pub mod Whole
 pub mod Standing
 pub mod Real
 pub mod Keeping
+pub mod Conventions
 pub mod Worked
 pub mod Rows
 pub mod Inside

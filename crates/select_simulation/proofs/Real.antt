@@ -20,12 +20,12 @@ use Rattle.select_simulation.proofs.Standing.{stands_with}
 use Rattle.select_simulation.proofs.Whole.{comes_to, ends}
 
 -- the world of a run that goes on
-record Shown (G : Ground) (s : State) (x : machine.Progress) : Type 0 where
+pub record Shown (G : Ground) (s : State) (x : machine.Progress) : Type 0 where
   pub world : machine.World
   pub is : x ≡ machine.Running world
   pub stands : StandsWith G.program G.env s world
 
-shown : (P : Permits) (G : Ground) (s : State) (m : Light) (x : machine.Progress) → Ready G → G.sp ≡ stack_end → Matches G (running s) m → Follows P m x → Shown G s x
+pub shown : (P : Permits) (G : Ground) (s : State) (m : Light) (x : machine.Progress) → Ready G → G.sp ≡ stack_end → Matches G (running s) m → Follows P m x → Shown G s x
 shown P G s (Go r at b i h) x ready top q f = record { world = world P f.list at b i h; is = f.is; stands = stands_with P G s f.list r at b i h ready top q.0 q.1 q.2 f.shows }
 shown P G s (Done status h) x ready top q f = absurd q
 shown P G s (Fell h) x ready top q f = absurd q

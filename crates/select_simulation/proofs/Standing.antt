@@ -18,10 +18,10 @@ use Rattle.select_simulation.proofs.Frames.{sum_is}
 pub register_shown : (P : Permits) (list : List ℕ) (r : ℕ → ℕ) (pc : ℕ) (b : ℕ → ℕ) (i : List ℕ) (h : List Event) → Registers list r → (k : ℕ) → 0 < k → k < 32 → register (world P list pc b i h).machine k ≡ r k
 register_shown P list r pc b i h q k pos lt = q.each k lt ∙ reg_is r k pos
 
-in_register : (r b : ℕ → ℕ) (sp k : ℕ) → k < 8 → temporary_at r b sp k ≡ r (10 + k)
+pub in_register : (r b : ℕ → ℕ) (sp k : ℕ) → k < 8 → temporary_at r b sp k ≡ r (10 + k)
 in_register r b sp k lt = ap (λ x. if x then r (10 + k) else word_at b (sp + 4 * (k - 8))) (lt-ltb k 8 lt)
 
-on_stack : (r b : ℕ → ℕ) (sp k : ℕ) → 8 ≤ k → temporary_at r b sp k ≡ word_at b (sp + 4 * (k - 8))
+pub on_stack : (r b : ℕ → ℕ) (sp k : ℕ) → 8 ≤ k → temporary_at r b sp k ≡ word_at b (sp + 4 * (k - 8))
 on_stack r b sp k le = ap (λ x. if x then r (10 + k) else word_at b (sp + 4 * (k - 8))) (le-ltb k 8 le)
 
 pub stands_with : (P : Permits) (G : Ground) (s : State) (list : List ℕ) (r : ℕ → ℕ) (at : ℕ) (b : ℕ → ℕ) (i : List ℕ) (h : List Event) → Ready G → G.sp ≡ stack_end → Matched G s r at b → i ≡ s.input → h ≡ s.trace → Registers list r

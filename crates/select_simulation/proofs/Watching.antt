@@ -1,5 +1,5 @@
 -- Each call within a run keeps the stack pointer and s0 to s11: it is the call of which one speaks.
-use Rattle.std.proofs.Common.{◌≡◌, ℕ, zero, suc, ◌+◌, ◌<◌, List, [], ◌∷◌, Some, refl, sym, ◌∙◌, subst, arith}
+use Rattle.std.proofs.Common.{◌≡◌, ℕ, zero, suc, ◌+◌, ◌<◌, ◌≤◌, List, [], ◌∷◌, Some, refl, sym, ◌∙◌, subst, arith}
 use Rattle.rv32.specs.Space.{word_at}
 use Rattle.frames_code.specs.declared.code.Instruction.TheVariants as instruction
 use Rattle.frames_code.specs.Code.{Function, frame_bytes}
@@ -8,13 +8,13 @@ use Rattle.frames_code.specs.Run.{Value, word, reference, Values, Bytes, Frame, 
 use Rattle.select_running.specs.Light.{Light, Go, Done, Fell, Comes, light_run}
 use Rattle.select_running.proofs.Steps.{comes_now, comes_then}
 use Rattle.select.specs.Selected.{return_home}
-use Rattle.select_simulation.specs.Matches.{Ground, Ready, FrameHolds, Waits, Matched, Matches, IsBelow, address, file_of, file_below, return_at, shown}
-use Rattle.select_simulation.specs.Costs.{least_spent, row, step_cost, most_spent}
-use Rattle.select_simulation.specs.Laws.{Anything}
+use Rattle.select_simulation.specs.Matches.{Ground, Ready, FrameHolds, Waits, Matched, Matches, HasRoom, IsBelow, address, file_of, file_below, return_at, shown}
+use Rattle.select_simulation.specs.Costs.{least_spent, opening_cost, row, most_spent}
+use Rattle.select_simulation.specs.Laws.{Anything, AreBytes}
 use Rattle.select_simulation.specs.Runs.{IsWithin, IsBack, EachCallKeeps}
 use Rattle.select_simulation.proofs.Fits.{frame_room}
 use Rattle.select_simulation.proofs.Frames.{sum_is}
-use Rattle.select_simulation.proofs.Calls.{does_call, leaves}
+use Rattle.select_simulation.proofs.Calls.{at_entry, calls_to, opens, leaves}
 use Rattle.select_simulation.proofs.Steps.{steps}
 
 -- one speaks of the call that begins there
@@ -122,8 +122,14 @@ back_same G sp ra file r t to (Go r2 at b i h) q = (q.0, q.1, q.2, λ v e. q.3 v
 back_same G sp ra file r t to (Done x h) q = q
 back_same G sp ra file r t to (Fell h) q = q
 
-pub each_call_keeps : EachCallKeeps
-each_call_keeps G s t f n r b ready m bytes e over et same rooms within =
+-- from the entry of the function that is called
+pub each_entry_keeps : (G : Ground) (s t : State) (f n : ℕ) (r b : ℕ → ℕ) (ready : Ready G) (m : Matched G s r (address G s.frame.function s.frame.at) b) → AreBytes s.input
+    → next_of G.program s ≡ Some (instruction.Call f) → run G.program n (entered s f) ≡ running t
+    → next_of G.program t ≡ Some instruction.Return → bytes_of G.program t.waiting ≡ bytes_of G.program (s.frame ∷ s.waiting)
+    → ((k : ℕ) → k ≤ n → HasRoom G (run G.program k (entered s f))) → ((k : ℕ) → k ≤ n → IsWithin G.program s (run G.program k (entered s f)))
+    → Comes G.machine Anything 1 (opening_cost (function_at G.program f) + most_spent G.program n (entered s f) + row (function_at G.program t.frame.function) instruction.Return) (at_entry G s r b ready m f)
+    (IsBack G r t (address G s.frame.function (s.frame.at + 1)))
+each_entry_keeps G s t f n r b ready m bytes e over et same rooms within =
     let p = G.program in
     let here = address G s.frame.function s.frame.at in
     let to = address G s.frame.function (s.frame.at + 1) in
@@ -133,14 +139,27 @@ each_call_keeps G s t f n r b ready m bytes e over et same rooms within =
     let hm = matched_watched G m.sp to (file_of r) s r here b m refl in
     let sum = sum_is G ready s r here b m in
     let s1 = entered s f in
-    let call = step_cost p mine (instruction.Call f) in
+    let opening = opening_cost (function_at p f) in
     let leaving = row (function_at p t.frame.function) instruction.Return in
-    let begin = Go r here b s.input s.trace in
-    let one : Comes H.machine Anything 1 call begin (Matches H (running s1)) = does_call H s r b hr hm f (λ x. (refl, λ j. refl)) e (rooms 0 (omega arith)) in
-    let two : Comes H.machine Anything (1 + least_spent p n s1) (call + most_spent p n s1) begin (Matches H (run p n s1)) =
-    comes_then H.machine Anything call (most_spent p n s1) begin (Matches H (running s1)) (Matches H (run p n s1)) one
+    let begin = at_entry G s r b ready m f in
+    let one : Comes H.machine Anything 1 opening begin (Matches H (running s1)) = opens H s r b hr hm f (λ x. (refl, λ j. refl)) e (rooms 0 (omega arith)) in
+    let two : Comes H.machine Anything (1 + least_spent p n s1) (opening + most_spent p n s1) begin (Matches H (run p n s1)) =
+    comes_then H.machine Anything opening (most_spent p n s1) begin (Matches H (running s1)) (Matches H (run p n s1)) one
     (λ m2 q. steps H hr n s1 m2 q bytes rooms (λ k lt. under H s (run p k s1) (omega (arith, sum)) (within k (omega (arith, lt))))) in
-    let three : Comes H.machine Anything (1 + least_spent p n s1 + 1) (call + most_spent p n s1 + leaving) begin (IsBack H r t to) =
-    comes_then H.machine Anything (call + most_spent p n s1) leaving begin (Matches H (run p n s1)) (IsBack H r t to) two
+    let three : Comes H.machine Anything (1 + least_spent p n s1 + 1) (opening + most_spent p n s1 + leaving) begin (IsBack H r t to) =
+    comes_then H.machine Anything (opening + most_spent p n s1) leaving begin (Matches H (run p n s1)) (IsBack H r t to) two
     (λ m2 q. returns_back H hr r (sym m.sp_is) (λ j. refl) t (omega (arith, sum, same)) (omega (arith, same, frame_room mine)) et m2 (subst (λ x. Matches H x m2) over q)) in
     record { j = three.j; some = omega (arith, three.some); within = three.within; kept = three.kept; good = back_same G m.sp to (file_of r) r t to (light_run G.machine three.j begin) three.good }
+
+pub each_call_keeps : EachCallKeeps
+each_call_keeps G s t f n r b ready m bytes e over et same rooms within =
+    let p = G.program in
+    let here = address G s.frame.function s.frame.at in
+    let to = address G s.frame.function (s.frame.at + 1) in
+    let more = opening_cost (function_at p f) + most_spent p n (entered s f) + row (function_at p t.frame.function) instruction.Return in
+    let begin = Go r here b s.input s.trace in
+    let P : Light → Type 0 = λ x. x ≡ at_entry G s r b ready m f in
+    let c : Comes G.machine Anything (1 + 1) (2 + more) begin (IsBack G r t to) =
+    comes_then G.machine Anything 2 more begin P (IsBack G r t to) (calls_to G s r b ready m f e)
+    (λ x ex. subst (λ y. Comes G.machine Anything 1 more y (IsBack G r t to)) (sym ex) (each_entry_keeps G s t f n r b ready m bytes e over et same rooms within)) in
+    record { j = c.j; some = omega (arith, c.some); within = omega (arith, c.within); kept = c.kept; good = c.good }

@@ -27,7 +27,7 @@ use Rattle.select_simulation.proofs.Steps.{steps}
 use Rattle.select_simulation.proofs.Laying.{is_ready}
 
 -- where no call is spoken of
-unwatched : (G : Ground) → 2 ^ 32 ≤ G.watch_sp → G.sp ≤ 2 ^ 31 → (x : Progress) → IsBelow G x
+pub unwatched : (G : Ground) → 2 ^ 32 ≤ G.watch_sp → G.sp ≤ 2 ^ 31 → (x : Progress) → IsBelow G x
 unwatched G none top (running s) = omega (arith, none, top)
 unwatched G none top (ended status input trace) = tt
 unwatched G none top stuck = tt

@@ -7,5 +7,6 @@ pub use Rattle.select.specs.Program
 pub use Rattle.frames_code.specs.Run
 pub use Rattle.frames_code.specs.Sound
 pub use Rattle.select_running.specs.Light
+pub mod Convention
 pub mod Reaching
 pub use Rattle.select.specs.Bytes

@@ -5,6 +5,7 @@
 ghost use Rattle.select_simulation.specs.Laws.{NothingFollows, JumpsFollow, BranchesFollow, MovesFollow, ConversionsFollow, OperationsFollow, ExitFollows, AddressesFollow, ElementsFollow, LoadsFollow, StoresFollow, PutFollows, GetFollows, CallsFollow, ReturnsFollow};
 ghost use Rattle.select_simulation.specs.Costs.{RowsAreLengths, RowsAreFew, SpentIsMore};
 ghost use Rattle.select_simulation.specs.Runs.{StepFollows, RunsFollow, Progresses, EachCallKeeps, LaidIsReady, EntriesFollow, ConventionKept, BeginsFollow, EndsFollow, MachineGoesOn, MachineEnds, MachineCallsKeep};
+ghost use Rattle.select_simulation.specs.Convention.{CallsKeepConvention, MainKeepsConvention};
 ghost use Rattle.select_simulation.specs.Reaching.{JumpsReach};
 
 /// A row of the table of costs is how many instructions the items are, with all branches long.
@@ -157,6 +158,16 @@ pub fn machine_ends()
 /// pointer and s0 to s11, and the result in a0.
 pub fn machine_calls_keep()
     ensures { MachineCallsKeep }
+{}
+
+/// Each call of a flat program's run keeps the calling convention: on the entry of the function, while it runs, and where it has returned.
+pub fn calls_keep_convention()
+    ensures { CallsKeepConvention }
+{}
+
+/// And so does main, from the program's entry.
+pub fn main_keeps_convention()
+    ensures { MainKeepsConvention }
 {}
 
 /// Where the rows of no function sum to more than 2^20 bytes, each jump of a sound program's items reaches its label.
