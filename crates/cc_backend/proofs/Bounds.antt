@@ -1,5 +1,5 @@
 -- The program of a unit has no more nodes than the unit; so its text and data have fewer bytes than an image may have.
-use Rattle.std.proofs.Common.{◌≡◌, ◌≤◌, ℕ, ◌+◌, ◌*◌, List, [], ◌∷◌, ◌++◌, length, subst, arith}
+use Rattle.std.proofs.Common.{None, ◌≡◌, ◌≤◌, ℕ, ◌+◌, ◌*◌, List, [], ◌∷◌, ◌++◌, length, subst, arith}
 use Rattle.std.specs.Prelude.{sum_by}
 use Rattle.std.proofs.lemmas.List.Sums.{sum_by-append, sum_by-cons}
 use Rattle.memory_map.specs.MemoryMap.{text_start, max_image}
@@ -14,7 +14,7 @@ use Rattle.typing_rules.specs.Linkage.{file_function}
 use Rattle.typing_rules.specs.Declarations.{specified, declaration_typed}
 use Rattle.typing_rules.specs.Statements.{pieces}
 use Rattle.typing_rules.specs.Uses.{all_defined, uses_in_functions}
-use Rattle.typing_rules.specs.Units.{Built, all_named, body_scope, around_of, with_function, function_typed, with_declaration, external_typed, externals_typed, definitions_in, main_from, main_or_fault, within_limits, program_of, whole_program}
+use Rattle.typing_rules.specs.Units.{Built, all_named, body_scope, around_of, function_of, with_function, function_typed, with_declaration, external_typed, externals_typed, definitions_in, main_from, main_or_fault, within_limits, program_of, whole_program}
 use Rattle.asm.specs.declared.item.Item.{Item}
 use Rattle.asm.specs.Layout.{IsLow, longest}
 use Rattle.asm.proofs.Ends.{ends}
@@ -48,7 +48,7 @@ function_fine b f =
     let t = function_type d.base ps.types in
     then_fine P (file_function (behind_parameters d.scope ps.scope) f.at f.name d.class t defined) _ (λ file.
     then_fine P (pieces (around_of t) None (body_scope file ps.scope d.scope) f.body) (with_function b file f t) (λ all.
-    provided_fine P _ _ (let e = added b.functions _ in omega (arith, e))))))
+    provided_fine P _ _ (let e = added b.functions (function_of f t all) in omega (arith, e))))))
 
 external_fine : (b : Built) (e : ExternalTree) → IfFine (HasNodes (nodes_of b.functions + external_nodes e)) (external_typed b e)
 external_fine b (definition f) = function_fine b f

@@ -3,12 +3,7 @@ use Rattle.std.proofs.Common.{◌≡◌, ⊎_elim, ℕ, ◌+◌, ◌*◌, ◌<�
 use Rattle.std.specs.Prelude.{slice_get}
 use Rattle.std.proofs.Math.Nat.{le_trans}
 use Rattle.std.proofs.lemmas.Option.{slice_get_within, slice_get_cases}
-use Rattle.typing_rules.specs.Program as typed
-use Rattle.tac_code.specs.Code as tac
-use Rattle.tac_code.specs.Lowered.{IsLowered, IsChecked}
-use Rattle.frames_code.specs.Code as flat
-use Rattle.frames.specs.Flattened.{IsFlattened}
-use Rattle.select_simulation.specs.Reaching.{rows_of, IsShortProgram}
+use Rattle.select_simulation.specs.Reaching.{rows_of}
 use Rattle.cc_backend.specs.Sizes.{CodeFits, ProgramIsShort}
 use Rattle.cc_backend.proofs.Rows.{rows_fit}
 

@@ -1,5 +1,5 @@
 -- Flat code that does what three-address code does, does so too when it is made simpler.
-use Rattle.std.proofs.Common.{◌≡◌, ◌≤◌, ℕ, ◌+◌, ◌-◌, List, length, map, Option, Some, None, refl, sym, ap, ◌∙◌, subst, arith}
+use Rattle.std.proofs.Common.{◌≡◌, ◌≤◌, ℕ, ◌+◌, ◌-◌, List, length, Option, Some, None, refl, sym, ap, ◌∙◌, subst, arith}
 use Rattle.std.specs.Prelude.{slice_get, sum_by, option_map}
 use Rattle.std.proofs.lemmas.List.{length-map}
 use Rattle.std.proofs.lemmas.Option.{slice_get-map}
@@ -10,7 +10,7 @@ use Rattle.frames_code.specs.Code.{frame_bytes}
 use Rattle.frames_code.specs.Run as flat_run
 use Rattle.meaning_events.specs.Events.{Event}
 use Rattle.meaning.specs.History.{trace_of}
-use Rattle.frames.specs.Costs.{code_bytes, function_bytes}
+use Rattle.frames.specs.Costs.{code_bytes}
 use Rattle.frames.proofs.Elements.{same_some}
 use Rattle.frames_steps.proofs.Runs.{run_both}
 use Rattle.frames.specs.Flattened.{IsFlattened, InStep, IsCodeOf, HasItsCalls, CostsNoMore, behind, before}

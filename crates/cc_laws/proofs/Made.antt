@@ -1,5 +1,5 @@
 -- What may be done with the memory of a file that is made of a program.
-use Rattle.std.proofs.Common.{◌≡◌, ℕ, List, Ok, refl, sym, subst}
+use Rattle.std.proofs.Common.{◌≡◌, Ok, refl, sym, subst}
 use Rattle.loader.specs.File.{file_image}
 use Rattle.elf_out.specs.Layout.{Parts}
 use Rattle.elf_out.specs.Program.{program_space, program_image}

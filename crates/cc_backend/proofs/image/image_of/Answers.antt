@@ -1,30 +1,29 @@
-use Rattle.std.proofs.Common.{◌≡◌, ◌≤◌, ◌+◌, refl, List, length, subst, sym, ap, arith}
-use Rattle.memory_map.specs.MemoryMap.{text_start}
+use Rattle.std.proofs.Common.{◌≤◌, ◌+◌, List, length, subst, sym, arith}
+use Rattle.std.specs.Vec.{vec_len}
+use Rattle.memory_map.specs.MemoryMap.{text_start, max_image}
 use Rattle.elf_out.specs.Layout.{Parts}
 use Rattle.asm.specs.declared.item.Item.{Item}
-use Rattle.asm.specs.Layout.{IsSized, longest}
+use Rattle.asm.specs.Layout.{IsLow, longest}
 use Rattle.frames_code.specs.Code as flat
 use Rattle.select.specs.Program.{program_items}
-use Rattle.cc_backend.specs.FlatImages.{IsImageOf}
-use Rattle.tac_code.specs.Sound.{AreBytes}
-use Rattle.cc_backend.proofs.Images.{image_of, longest_text}
+use Rattle.cc_backend.proofs.Images.{short_text}
+use Rattle.cc_backend.proofs.Bounds.{is_low}
 use Rattle.cc_backend.proofs.image.image_of.Goals as goal
 
-pub returns-in-Some-clause-image : goal.returns-in-Some-clause-image
-returns-in-Some-clause-image c =
+pub assemble-requires-clause-low : goal.assemble-requires-clause-low
+assemble-requires-clause-low c =
     let f = flat.program_of c.args.program in
-    let text = c.in-Ok.text.items in
-    let statics = c.args.program.statics.items in
-    let made = image_of f c.args.items.now text statics c.args.stack c.requires.sound c.requires.items c.in-Ok.ensures.placed refl
-    (subst AreBytes c.as_slice.ensures.value c.are_bytes.ensures) (subst AreBytes c.as_slice-2.ensures.value c.are_bytes-2.ensures) (omega (arith, c.in-Some.ensures.some.0 refl, c.in-Ok.text.ok, c.args.program.statics.ok)) c.is_stack_size.ensures in
-    subst (IsImageOf f) (sym c.in-Some.ensures.value) made
+    subst (λ (xs : List Item). IsLow text_start xs) (sym c.requires.items) (is_low (program_items f) (length f.statics) c.requires.small)
 
-pub returns-in-Some-clause-size : goal.returns-in-Some-clause-size
-returns-in-Some-clause-size c =
+pub unreachable-requires : goal.unreachable-requires
+unreachable-requires c =
     let f = flat.program_of c.args.program in
-    let n = length c.in-Ok.text.items in
-    let xs = c.args.items.now in
-    let sized : IsSized text_start xs n = c.in-Ok.ensures.size in
-    let all : n ≤ longest xs = longest_text xs n sized in
-    let short : n ≤ longest (program_items f) = subst (λ (ys : List Item). n ≤ longest ys) c.requires.items all in
+    let short = short_text c.args.items.now (program_items f) (length c.in-Ok.text.items) c.requires.items c.in-Ok.ensures.size in
+    let room : vec_len c.in-Ok.text + vec_len c.args.program.statics ≤ max_image = omega (arith, short, c.requires.small, c.in-Ok.text.ok, c.args.program.statics.ok) in
+    absurd (let no = c.in-None.ensures.some.1 room in cc)
+
+pub returns-clause-size : goal.returns-clause-size
+returns-clause-size c =
+    let f = flat.program_of c.args.program in
+    let short = short_text c.args.items.now (program_items f) (length c.in-Ok.text.items) c.requires.items c.in-Ok.ensures.size in
     subst (λ (p : Parts). length p.text ≤ longest (program_items f)) (sym c.in-Some.ensures.value) short

@@ -1,4 +1,3 @@
-use Rattle.std.proofs.Common.{map}
 use Rattle.frames_code.specs.Code.{frame_bytes, function_of}
 use Rattle.frames.proofs.Elements.{item_in_map, one_more_held}
 use Rattle.cc_backend.proofs.sizes.put_sizes.Goals as goal
