@@ -277,7 +277,7 @@ join_weight w argument full e old new (Ok l) h k =
     ⊎_elim (λ (lt : length full.items < length w.arguments.items). omega (arith, h, lt, m)) (λ (le : length w.arguments.items ≤ length full.items). omega (arith, k le)) (cases_lt (length full.items) (length w.arguments.items))
 join_weight w argument full e old new (Err f) h k = tt
 
-pub begun_in : (count : ℕ) (level : Level) (k : Task) (uses : Vec Use Global) (pieces : Vec HeldPiece Global) (full : Vec (Vec HiddenToken Global) Global) (seen : List HeldPiece) → LevelIn count level → TaskIn count k → PiecesIn 0 pieces.items → full.items ≡ [] → length uses.items ≡ length k.arguments.items → seen ≡ pieces.items → ((texts : Texts) (sets : Sets) (i : ℕ) → i < length k.arguments.items → slice_get uses.items i ≡ Some (use_of i (pieces_as texts sets seen))) → WaitingIn count (record { level = level; space_before = k.space_before; at = k.at; hides = k.hides; arguments = k.arguments; uses = uses; pieces = pieces; full = full })
+pub begun_in : (count : ℕ) (level : Level) (k : Task) (uses : Vec Use Global) (pieces : Vec HeldPiece Global) (full : Vec (Vec HiddenToken Global) Global) (seen : List HeldPiece) → LevelIn count level → TaskIn count k → PiecesIn 0 pieces.items → full.items ≡ [] → length uses.items ≡ length k.arguments.items → seen ≡ pieces.items → ((texts : Texts) (sets : Sets) (i : ℕ) → i < length k.arguments.items → slice_get uses.items i ≡ Some (use_of i (pieces_as texts sets seen))) → WaitingIn count (record { level = level; space_before = k.space_before; at = k.at; hides = k.hides; arguments = k.arguments; uses = uses; pieces = pieces; full = full; held = 0 })
 begun_in count level k uses pieces full seen l t p none n e each = record {
   level_in = l;
   hides_in = t.hides_in;
