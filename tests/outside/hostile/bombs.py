@@ -41,6 +41,8 @@ THOUSAND = '#define a ' + ';' * 1024 + '\n#define b ' + 'a ' * 1024 + '\n'
 # 15,625,000 tokens of 62,501 replacements
 MILLIONS = '#define a ' + '; ' * 250 + '\n#define b ' + 'a ' * 250 + '\n#define c ' + 'b ' * 250 + '\n'
 
+LONG = '#define twice(x) x x\n#define a ' + ';' * 1040000 + '\n'
+
 # name, source, what comes of it: the tokens without white space, or the code of the fault
 ROWS = [
     ('chain of calls', chain(4000, 'x') + 'f4000(3)\n', '3'),
@@ -68,6 +70,8 @@ ROWS = [
     ('empty arguments', '#define f(' + ','.join(f'a{i}' for i in range(127)) + ') a126\n' + ('f(' + ',' * 126) * 400 + '1' + ')' * 400 + '\n', '1'),
     ('a long body in calls', '#define f(x) x ' + ';' * 4000 + '\n' + calls('f', 200, '1') + '\n', '1' + ';' * 800000),
     ('a long body in too many calls', '#define f(x) x ' + ';' * 4000 + '\n' + calls('f', 1000, '1') + '\n', 801),
+    ('a long list, and twice the same', LONG + 'a\n#undef x\ntwice(a)\n', 708),
+    ('a long list, and twice the same in a condition', LONG + 'a\n#if twice(a)\n#endif\n', 221),
     ('a long file that includes itself', '#include "bomb.c"\n' + ';' * 1040000 + '\n', 801),
     ('a short file that includes itself', '#include "bomb.c"\n' + ';' * 1000 + '\n', 707),
     ('strings of strings', '#define s(x) #x\n#define t(x) s(x)\n' + calls('t', 12, '1') + '\n', None),
