@@ -1,5 +1,6 @@
 pub mod Tables
 pub mod FirstLemmas
+pub mod WholeLemmas
 pub mod Fronts
 pub mod Names
 pub mod Joins

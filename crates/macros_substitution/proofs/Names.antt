@@ -1,12 +1,13 @@
 -- Names by their numbers and by their texts.
-use Rattle.std.proofs.Common.{◌≡◌, ℕ, zero, suc, ◌<◌, ◌≤◌, List, [], ◌∷◌, Bool, true, false, nat_eq, ◌||◌, if◌then◌else◌, Some, length, slice_get, refl, sym, ap, ◌∙◌, arith}
+use Rattle.std.proofs.Common.{◌≡◌, ℕ, zero, suc, ◌<◌, ◌≤◌, List, [], ◌∷◌, Bool, true, false, nat_eq, not, ◌||◌, ◌++◌, if◌then◌else◌, Some, length, slice_get, refl, sym, ap, ◌∙◌, arith}
 use Rattle.std.proofs.lemmas.Bool.{eqb-true, eq-eqb}
 use Rattle.std.proofs.lemmas.Slice.Eq.{bytes_eq-Decides}
 use Rattle.std.specs.List.{list_any, filter}
 use Rattle.std.specs.Str.{bytes_eq}
 use Rattle.srcset.specs.NameTable.{Texts, NumbersOnce}
-use Rattle.macros_substitution.specs.HideSets.{Sets, members, name_of, spelled, Extends, AreBelow, NamesBelow}
-use Rattle.macros_substitution.specs.Substitution.{is_hidden, common}
+use Rattle.std.proofs.lemmas.List.{map-append}
+use Rattle.macros_substitution.specs.HideSets.{Sets, members, is_new, united as united_numbers, name_of, spelled, Extends, AreBelow, NamesBelow}
+use Rattle.macros_substitution.specs.Substitution.{is_hidden, common, united}
 use Rattle.macros_substitution.proofs.Tables.{members_below}
 
 has_text : (texts : Texts) (n : ℕ) → n < length texts → slice_get texts n ≡ Some (name_of texts n)
@@ -59,3 +60,26 @@ common_later texts old now later a b made once below before grown p q m e =
     let second : members later b ≡ members old b = grown.same b (omega (arith, before.longer)) ∙ before.same b q in
     rw (first, second) (common_names texts (members old a) (members old b) once (members_below (length texts) old a below) (members_below (length texts) old b below)
     ∙ ap (spelled texts) (sym e ∙ sym (grown.same made m)))
+
+new_names : (texts : Texts) (ms ns : List ℕ) → NumbersOnce texts → AreBelow (length texts) ms → AreBelow (length texts) ns
+    → filter (λ name. not (is_hidden name (spelled texts ns))) (spelled texts ms) ≡ spelled texts (filter (is_new ns) ms)
+new_names texts [] ns once p q = refl
+new_names texts (m ∷ ms) ns once p q =
+    ap (λ b. if not b then name_of texts m ∷ all (spelled texts ms) else all (spelled texts ms)) (hidden_name texts m ns once p.0 q)
+    ∙ by (new_names texts ms ns once p.1 q) (list_any (nat_eq m) ns)
+  where
+    all : List (List ℕ) → List (List ℕ)
+    all names = filter (λ name. not (is_hidden name (spelled texts ns))) names
+
+    by : all (spelled texts ms) ≡ spelled texts (filter (is_new ns) ms) → (b : Bool)
+        → (if not b then name_of texts m ∷ all (spelled texts ms) else all (spelled texts ms))
+        ≡ spelled texts (if not b then m ∷ filter (is_new ns) ms else filter (is_new ns) ms)
+    by e true = e
+    by e false = ap (λ t. name_of texts m ∷ t) e
+
+-- the names of either by their texts
+pub united_names : (texts : Texts) (ms ns : List ℕ) → NumbersOnce texts → AreBelow (length texts) ms → AreBelow (length texts) ns
+    → spelled texts (united_numbers ms ns) ≡ united (spelled texts ms) (spelled texts ns)
+united_names texts ms ns once p q =
+    map-append (λ n. name_of texts n) (filter (is_new ns) ms) ns
+    ∙ ap (λ t. t ++ spelled texts ns) (sym (new_names texts ms ns once p q))

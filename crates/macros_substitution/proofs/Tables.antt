@@ -1,10 +1,11 @@
 -- Laws of the table of hide sets.
-use Rattle.std.proofs.Common.{◌≡◌, ℕ, zero, suc, ◌+◌, ◌<◌, ◌≤◌, List, [], ◌∷◌, ◌++◌, Option, Some, None, length, slice_get, refl, sym, ap, ◌∙◌, Bool, true, false, nat_eq, ◌==◌, ◌&&◌, ◌||◌, if◌then◌else◌, ◌⊎◌, inl, inr, ◌-◌, subst, arith, length-append, append_assoc}
+use Rattle.std.proofs.Common.{◌≡◌, ℕ, zero, suc, ◌+◌, ◌<◌, ◌≤◌, List, [], ◌∷◌, ◌++◌, Option, Some, None, length, slice_get, refl, sym, ap, ◌∙◌, Bool, true, false, nat_eq, ◌==◌, ◌&&◌, ◌||◌, if◌then◌else◌, ◌⊎◌, inl, inr, ◌-◌, not, subst, arith, length-append, append_assoc, append-nil}
 use Rattle.std.proofs.lemmas.Bool.{eqb-true, eq-eqb}
 use Rattle.std.proofs.lemmas.Option.{slice_get_within}
 use Rattle.macros_substitution.specs.declared.hide_sets.Node.{Node}
 use Rattle.std.specs.List.{list_any, filter}
-use Rattle.macros_substitution.specs.HideSets.{Sets, list_or_none, members, Extends, AreBelow, NamesBelow}
+use Rattle.macros_substitution.specs.HideSets.{Sets, list_or_none, members, is_new, united, Extends, AreBelow, NamesBelow}
+use Rattle.macros_substitution.specs.inside.Both.{Holds}
 use Rattle.macros_substitution.specs.inside.Nodes.{with_node, with_nodes, sets_of, Ordered, FirstIs}
 
 -- a list stays at the front of a longer one
@@ -218,18 +219,21 @@ same_node m n e = by (m.parent == n.parent) refl e
 
 -- ---- what two sets have in common
 
+pub has_first : (n : ℕ) (ns : List ℕ) → list_any (nat_eq n) (n ∷ ns) ≡ true
+has_first n ns = ap (λ b. b || list_any (nat_eq n) ns) (eq-eqb n n refl)
+
+pub has_later : (m n : ℕ) (ns : List ℕ) → list_any (nat_eq m) ns ≡ true → list_any (nat_eq m) (n ∷ ns) ≡ true
+has_later m n ns e = by (nat_eq m n)
+  where
+    by : (b : Bool) → (b || list_any (nat_eq m) ns) ≡ true
+    by true = refl
+    by false = e
+
 keeps_all : (test : ℕ → Bool) (ns : List ℕ) → ((n : ℕ) → list_any (nat_eq n) ns ≡ true → test n ≡ true) → filter test ns ≡ ns
 keeps_all test [] h = refl
 keeps_all test (n ∷ ns) h =
-    let here : test n ≡ true = h n (ap (λ b. b || list_any (nat_eq n) ns) (eq-eqb n n refl)) in
-    rw here (ap (λ t. n ∷ t) (keeps_all test ns (λ m e. h m (later m e))))
-  where
-    later : (m : ℕ) → list_any (nat_eq m) ns ≡ true → list_any (nat_eq m) (n ∷ ns) ≡ true
-    later m e = by (nat_eq m n)
-      where
-        by : (b : Bool) → (b || list_any (nat_eq m) ns) ≡ true
-        by true = refl
-        by false = e
+    let here : test n ≡ true = h n (has_first n ns) in
+    rw here (ap (λ t. n ∷ t) (keeps_all test ns (λ m e. h m (has_later m n ns e))))
 
 pub common_itself : (ns : List ℕ) → ns ≡ filter (λ n. list_any (nat_eq n) ns) ns
 common_itself ns = sym (keeps_all (λ n. list_any (nat_eq n) ns) ns (λ n e. e))
@@ -237,6 +241,43 @@ common_itself ns = sym (keeps_all (λ n. list_any (nat_eq n) ns) ns (λ n e. e))
 pub common_nothing : (ns : List ℕ) → [] ≡ filter (λ n. list_any (nat_eq n) []) ns
 common_nothing [] = refl
 common_nothing (n ∷ ns) = common_nothing ns
+
+-- ---- a set that another has whole
+
+pub holds_nothing : (sets : Sets) (set other : ℕ) → set ≡ 0 → Holds sets set other
+holds_nothing sets set other e n h = absurd (no (ap (λ s. list_any (nat_eq n) (members sets s)) (sym e) ∙ h))
+  where
+    no : false ≡ true → ⊥
+    no e = cc
+
+pub holds_behind : (sets : Sets) (set other : ℕ) (first : ℕ × ℕ) → members sets set ≡ first.0 ∷ members sets first.1 → Holds sets set other → Holds sets first.1 other
+holds_behind sets set other first e h n k =
+    h n (ap (list_any (nat_eq n)) e ∙ has_later n first.0 (members sets first.1) k)
+
+no_new : (others ns : List ℕ) → ((n : ℕ) → list_any (nat_eq n) ns ≡ true → list_any (nat_eq n) others ≡ true) → filter (is_new others) ns ≡ []
+no_new others [] h = refl
+no_new others (n ∷ ns) h =
+    ap (λ b. if not b then n ∷ filter (is_new others) ns else filter (is_new others) ns) (h n (has_first n ns))
+    ∙ no_new others ns (λ m e. h m (has_later m n ns e))
+
+-- it has no further name
+pub lacks_nothing : (sets : Sets) (set other : ℕ) → Holds sets set other → filter (is_new (members sets other)) (members sets set) ≡ []
+lacks_nothing sets set other h = no_new (members sets other) (members sets set) h
+
+-- all of its names are common
+pub shares_all : (sets : Sets) (set other : ℕ) → Holds sets set other → filter (λ n. list_any (nat_eq n) (members sets other)) (members sets set) ≡ members sets set
+shares_all sets set other h = keeps_all (λ n. list_any (nat_eq n) (members sets other)) (members sets set) h
+
+all_new : (ns : List ℕ) → filter (is_new []) ns ≡ ns
+all_new [] = refl
+all_new (n ∷ ns) = ap (λ t. n ∷ t) (all_new ns)
+
+pub united_nothing : (ns : List ℕ) → united ns [] ≡ ns
+united_nothing ns = append-nil (filter (is_new []) ns) ∙ all_new ns
+
+pub new_below : (count : ℕ) (sets : Sets) (set other : ℕ) (names : List ℕ) → names ≡ filter (is_new (members sets other)) (members sets set) → NamesBelow count sets → AreBelow count names
+new_below count sets set other names e below =
+    subst (λ t. AreBelow count t) (sym e) (below_filter count (is_new (members sets other)) (members sets set) (members_below count sets set below))
 
 -- ---- many names put in, from the last to the first
 

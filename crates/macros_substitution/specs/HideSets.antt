@@ -1,5 +1,6 @@
 -- Hide sets in a table (ISO/IEC 9899:2011 6.10.3.4p2): each is a list of names, which stand as the numbers of their texts.
-use Rattle.std.specs.Prelude.{◌≡◌, ℕ, zero, suc, ◌<◌, ◌≤◌, List, [], ◌∷◌, Option, Some, None, length, map, slice_get}
+use Rattle.std.specs.Prelude.{◌≡◌, ℕ, zero, suc, ◌<◌, ◌≤◌, List, [], ◌∷◌, ◌++◌, Option, Some, None, Bool, not, nat_eq, length, map, slice_get}
+use Rattle.std.specs.List.{list_any, filter}
 use Rattle.srcset.specs.NameTable.{Texts}
 
 -- the sets with the numbers 1, 2, 3 and so on; number 0 is the empty set
@@ -36,3 +37,11 @@ name_of texts n = list_or_none (slice_get texts n)
 
 abbrev pub spelled : Texts → List ℕ → List (List ℕ)
 spelled texts names = map (λ n. name_of texts n) names
+
+-- whether a name is not among these
+abbrev pub is_new : List ℕ → ℕ → Bool
+is_new others n = not (list_any (nat_eq n) others)
+
+-- the names of either: those of the first that the second has not, before those of the second
+abbrev pub united : List ℕ → List ℕ → List ℕ
+united names others = filter (is_new others) names ++ others

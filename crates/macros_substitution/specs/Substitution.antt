@@ -29,9 +29,13 @@ is_hidden name hides = list_any (bytes_eq name) hides
 abbrev pub common : List (List ℕ) → List (List ℕ) → List (List ℕ)
 common names others = filter (λ name. is_hidden name others) names
 
+-- the names of either: those of the first that the second has not, before those of the second
+abbrev pub united : List (List ℕ) → List (List ℕ) → List (List ℕ)
+united names others = filter (λ name. not (is_hidden name others)) names ++ others
+
 -- these names hidden too
 abbrev pub hiding : List (List ℕ) → List Hidden → List Hidden
-hiding names xs = map (λ x. record { token = x.token; hides = names ++ x.hides }) xs
+hiding names xs = map (λ x. record { token = x.token; hides = united names x.hides }) xs
 
 -- the first token is marked so: whether white space stands before it
 abbrev pub marked : Bool → List Hidden → List Hidden

@@ -4,3 +4,4 @@ pub mod Steps
 pub mod Reading
 pub mod Both
 pub mod Plain
+pub mod Wholes

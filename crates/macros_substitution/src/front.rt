@@ -1,6 +1,6 @@
 //! What a replacement puts in front of the tokens behind its name.
 ghost use Rattle.std.specs.Prelude.{◌≡◌, ℕ, ◌≤◌, ◌++◌, length, Bool, OnOk, IfErr};
-ghost use Rattle.srcset.specs.NameTable.{Texts};
+ghost use Rattle.srcset.specs.NameTable.{Texts, NumbersOnce};
 ghost use Rattle.srcset.specs.declared.refusal.Refusal.TheVariants.{Memory};
 ghost use Rattle.macros_substitution.specs.HideSets.{Sets, members, spelled, Extends, NamesBelow};
 ghost use Rattle.macros_substitution.specs.Meaning.{hidden_all, AreIn};
@@ -37,7 +37,7 @@ pub fn put_in_front<'a>(
     requires tokens { AreIn (length sets.old) new.items }
     requires known { hides ≤ length sets.old }
     requires behind { AreIn (length sets.old) rest.old.items }
-    ensures ok { OnOk result ((texts : Texts) (later : Sets) → Extends sets.new later → hidden_all texts later rest.new.items
+    ensures ok { OnOk result ((texts : Texts) (later : Sets) → NumbersOnce texts → NamesBelow (length texts) sets.old → Extends sets.new later → hidden_all texts later rest.new.items
         ≡ marked space_before (hiding (spelled texts (members later hides)) (hidden_all texts later new.entry.items)) ++ hidden_all texts later rest.old.items) }
     ensures known { OnOk result (AreIn (length sets.new) rest.new.items) }
     ensures keeps { Extends sets.old sets.new }
@@ -49,7 +49,7 @@ pub fn put_in_front<'a>(
     let mut last_set = (HideSet::empty(), hides);
     while let Some(last) = new.pop() {
         let HiddenToken { token, hides: own } = last;
-        let made = sets.with_all_or_last(hides, own, last_set)?;
+        let made = sets.united_or_last(hides, own, last_set)?;
         last_set = (own, made);
         let token = marked_first(token, new.is_empty(), space_before);
         rest.push_front(HiddenToken { token, hides: made })?;

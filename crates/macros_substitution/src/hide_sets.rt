@@ -2,10 +2,10 @@
 ghost use Rattle.std.specs.Prelude.{◌≡◌, ℕ, ◌≤◌, ◌<◌, [], ◌∷◌, ◌++◌, length, nat_eq, IfOk, IfErr, MatchOption};
 ghost use Rattle.std.specs.List.{list_any, filter};
 ghost use Rattle.srcset.specs.declared.refusal.Refusal.TheVariants.{Memory};
-ghost use Rattle.macros_substitution.specs.HideSets.{members, Extends, AreBelow, NamesBelow};
+ghost use Rattle.macros_substitution.specs.HideSets.{members, is_new, united, Extends, AreBelow, NamesBelow};
 ghost use Rattle.macros_substitution.specs.inside.Nodes.{FirstIs};
 ghost use Rattle.macros_substitution.specs.inside.Firsts.{IsAbsent};
-ghost use Rattle.macros_substitution.specs.inside.Both.{IsBoth};
+ghost use Rattle.macros_substitution.specs.inside.Both.{IsBoth, Holds};
 
 use crate::firsts::Firsts;
 use indexmap::IndexSet;
@@ -59,21 +59,26 @@ pub struct HideSets {
     alloc: Global,
     nodes: IndexSet<Node>,
     firsts: Firsts,
+    // For a set the first one that it was found to have whole.
+    wholes: Firsts,
 }
 
 // So many names of a set are looked at before the least number of the name's nodes is asked for.
 const NEAR_NAMES: usize = 4;
 
+// The most nodes of a table. One that wants more is refused as where memory runs out.
+const MAX_NODES: usize = 1_048_576;
+
 impl Model for HideSets {
     ghost use Rattle.macros_substitution.specs.HideSets.{Sets};
     ghost use Rattle.macros_substitution.specs.inside.Nodes.{sets_of};
-    ghost use Rattle.macros_substitution.specs.inside.Firsts.{Stand};
+    ghost use Rattle.macros_substitution.specs.inside.Wholes.{Sound};
 
     ghost Value = { Sets };
 
     ghost view = { λ s. sets_of s.nodes.keys };
 
-    ghost invariant = { λ s. Stand s.nodes.keys s.firsts };
+    ghost invariant = { λ s. Sound s.nodes.keys s.firsts s.wholes };
 }
 
 impl HideSets {
@@ -85,6 +90,7 @@ impl HideSets {
             alloc,
             nodes: IndexSet::new(alloc),
             firsts: Firsts::new(alloc),
+            wholes: Firsts::new(alloc),
         }
     }
 
@@ -148,34 +154,99 @@ impl HideSets {
         false
     }
 
-    // The names of a set.
-    fn names(&self, set: HideSet) -> Result<Vec<usize>, Refusal>
-        ensures ok { IfOk result (λ names. names.items ≡ members self.now set) }
-        ensures err { IfErr result (λ refusal. refusal ≡ Memory) }
+    // A set of which this one is known to have all names.
+    fn whole(&self, set: HideSet) -> HideSet
+        ensures { Holds self.now result set }
     {
-        let mut names = Vec::new(self.alloc);
-        let mut left = set;
-        while let Some((first, behind)) = self.first(left) {
-            names.push(first)?;
-            left = behind;
+        match self.wholes.get(set.number) {
+            Some(number) => HideSet { number },
+            None => HideSet::empty(),
         }
-        Ok(names)
     }
 
-    // The names of the first set that the second has too.
-    fn shared(&self, set: HideSet, other: HideSet) -> Result<Vec<usize>, Refusal>
-        ensures ok { IfOk result (λ names. names.items ≡ filter (λ n. list_any (nat_eq n) (members self.now other)) (members self.now set)) }
+    // Notes that the second set has all names of the first, if nothing was noted of it.
+    fn note_whole(&mut self, whole: HideSet, set: HideSet) -> Result<(), Refusal>
+        requires whole { whole ≤ length self.old }
+        requires set { set ≤ length self.old }
+        requires holds { Holds self.old whole set }
+        ensures same { self.new ≡ self.old }
+        ensures err { IfErr result (λ refusal. refusal ≡ Memory) }
+    {
+        self.wholes.note(set.number, whole.number)
+    }
+
+    // A set whose names the other has all, and at which a walk along the first one's names arrives: one of which that is known, or
+    // the one in which the nodes of both end. Numbers fall towards it.
+    fn meeting(&self, set: HideSet, other: HideSet) -> HideSet
+        ensures { Holds self.now result other }
+    {
+        let whole = self.whole(other);
+        let mut left = set;
+        let mut right = other;
+        while left.number != right.number {
+            if left.number == whole.number {
+                return whole;
+            }
+            if left.number > right.number {
+                let Some((_, behind)) = self.first(left) else {
+                    return HideSet::empty();
+                };
+                left = behind;
+            } else {
+                let Some((_, behind)) = self.first(right) else {
+                    return HideSet::empty();
+                };
+                right = behind;
+            }
+        }
+        right
+    }
+
+    // The names of the first set that the second lacks, which has those of the third.
+    fn lacking(&self, set: HideSet, other: HideSet, meeting: HideSet) -> Result<Vec<usize>, Refusal>
+        requires { Holds self.now meeting other }
+        ensures ok { IfOk result (λ names. names.items ≡ filter (is_new (members self.now other)) (members self.now set)) }
         ensures err { IfErr result (λ refusal. refusal ≡ Memory) }
     {
         let mut names = Vec::new(self.alloc);
         let mut left = set;
-        while let Some((first, behind)) = self.first(left) {
-            if self.contains(other, first) {
+        while left.number != meeting.number {
+            let Some((first, behind)) = self.first(left) else {
+                return Ok(names);
+            };
+            if !self.contains(other, first) {
                 names.push(first)?;
             }
             left = behind;
         }
         Ok(names)
+    }
+
+    // The names of the first set that the second has too, up to a set that it has whole, since it has the third.
+    fn shared(
+        &self,
+        set: HideSet,
+        other: HideSet,
+        meeting: HideSet,
+    ) -> Result<(Vec<usize>, HideSet), Refusal>
+        requires known { set ≤ length self.now }
+        requires holds { Holds self.now meeting other }
+        ensures ok { IfOk result (λ found. (found.1 ≤ length self.now)
+            × (found.0.items ++ members self.now found.1 ≡ filter (λ n. list_any (nat_eq n) (members self.now other)) (members self.now set))) }
+        ensures err { IfErr result (λ refusal. refusal ≡ Memory) }
+    {
+        let mut names = Vec::new(self.alloc);
+        let mut left = set;
+        while left.number != meeting.number {
+            let Some((first, behind)) = self.first(left) else {
+                return Ok((names, left));
+            };
+            if self.contains(other, first) {
+                names.push(first)?;
+            }
+            left = behind;
+        }
+        Ok((names, left))
     }
 
     // The set with these names before the others.
@@ -194,6 +265,10 @@ impl HideSets {
         Ok(made)
     }
 
+    fn is_full(&self) -> bool {
+        self.nodes.len() >= MAX_NODES
+    }
+
     /// The set with this name before the others.
     pub fn with(&mut self, set: HideSet, name: usize) -> Result<HideSet, Refusal>
         requires { set ≤ length self.old }
@@ -202,6 +277,9 @@ impl HideSets {
         ensures names { (count : ℕ) → name < count → NamesBelow count self.old → NamesBelow count self.new }
         ensures err { IfErr result (λ refusal. refusal ≡ Memory) }
     {
+        if self.is_full() {
+            return Err(Refusal::Memory);
+        }
         if let Err(refusal) = self.firsts.note(name, self.nodes.len()) {
             return Err(refusal);
         }
@@ -232,16 +310,18 @@ impl HideSets {
         if other.number == 0 {
             return Ok(HideSet::empty());
         }
-        let names = self.shared(set, other)?;
-        self.with_names(names, HideSet::empty())
+        let meeting = self.meeting(set, other);
+        let found = self.shared(set, other, meeting)?;
+        let (names, behind) = found;
+        self.with_names(names, behind)
     }
 
-    /// The names of the first set before those of the second.
-    pub fn with_all(&mut self, set: HideSet, behind: HideSet) -> Result<HideSet, Refusal>
+    /// The names of either: those of the first set that the second has not, before those of the second.
+    pub fn united(&mut self, set: HideSet, behind: HideSet) -> Result<HideSet, Refusal>
         requires first { set ≤ length self.old }
         requires second { behind ≤ length self.old }
         ensures ok { IfOk result (λ made. (made ≤ length self.new)
-            × (members self.new made ≡ members self.old set ++ members self.old behind)) }
+            × (members self.new made ≡ united (members self.old set) (members self.old behind))) }
         ensures keeps { Extends self.old self.new }
         ensures names { (count : ℕ) → NamesBelow count self.old → NamesBelow count self.new }
         ensures err { IfErr result (λ refusal. refusal ≡ Memory) }
@@ -249,12 +329,15 @@ impl HideSets {
         if behind.number == 0 {
             return Ok(set);
         }
-        let names = self.names(set)?;
-        self.with_names(names, behind)
+        let meeting = self.meeting(set, behind);
+        let names = self.lacking(set, behind, meeting)?;
+        let made = self.with_names(names, behind)?;
+        self.note_whole(set, made)?;
+        Ok(made)
     }
 
     /// The same, where the answer for one other set, `last.0`, was `last.1`: so that many tokens with one set cost as one.
-    pub(crate) fn with_all_or_last(
+    pub(crate) fn united_or_last(
         &mut self,
         set: HideSet,
         behind: HideSet,
@@ -271,6 +354,6 @@ impl HideSets {
         if behind.number == last.0.number {
             return Ok(last.1);
         }
-        self.with_all(set, behind)
+        self.united(set, behind)
     }
 }

@@ -1,9 +1,10 @@
 -- What ends of runs and directives do to the state.
-use Rattle.std.proofs.Common.{◌≡◌, ◌≤◌, ◌<◌, ℕ, zero, suc, List, [], ◌∷◌, ◌++◌, length, Bool, true, false, None, Result, Ok, Err, OnOk, IfErr, get_or, drop, take, ◌-◌, arith, slice_index_or, refl, sym, ap, subst, ◌∙◌}
+use Rattle.std.proofs.Common.{◌≡◌, ◌≤◌, ◌<◌, ◌+◌, ℕ, zero, suc, List, [], ◌∷◌, ◌++◌, length, Bool, true, false, None, Result, Ok, Err, OnOk, IfErr, get_or, drop, take, ◌-◌, arith, slice_index_or, refl, sym, ap, subst, length-append, ⊎_elim, ◌∙◌}
 use Rattle.std.specs.Prelude.{slice_get, codes, if◌then◌else◌, map, ◌&&◌, Vec}
 use Rattle.std.specs.List.{flat_map}
 use Rattle.std.specs.declared.alloc.Global.{Global}
-use Rattle.std.proofs.lemmas.List.{take_all, length-drop}
+use Rattle.std.proofs.lemmas.Bool.{cases_lt}
+use Rattle.std.proofs.lemmas.List.{take_all, length-take-le, length-drop}
 use Rattle.std.proofs.lemmas.Option.{slice_get_within, slice_get-get_or}
 use Rattle.srcset.specs.declared.refusal.Pos.{Pos}
 use Rattle.srcset.specs.declared.refusal.Refusal.{Refusal}
@@ -17,7 +18,7 @@ use Rattle.macros.specs.Definition.{define, undefine}
 use Rattle.macros.specs.Table.{IsTable, Defines, IsDefineRefusal, Undefines, IsUndefineRefusal}
 use Rattle.pp_expand.specs.Expansion as expansion
 use Rattle.pp_expand.specs.Expansion.{Known, of_run, of_directive, expanded}
-use Rattle.pp_expand.specs.Expands.{HaveFiles, IsExpansion}
+use Rattle.pp_expand.specs.Expands.{HaveFiles, IsExpansion, put_behind}
 use Rattle.pp.specs.declared.state.State.{State as Held}
 use Rattle.pp.specs.Phase4.{Presumed, printable, State, Outcome, goes, stops, ◌>>=◌, Enter, presume, with_macros, undefined, fails, of_expansion, expand, give, first_past, run_done, include_done, line_done, named, directive_by, directive_done, max_tokens}
 use Rattle.pp.specs.inside.Including.{is_include}
@@ -124,15 +125,43 @@ run_fails (At c pos) texts names xs tokens held left s a t e = record {
 }
 run_fails (Told c pos text) texts names xs tokens held left s a t e = absurd e
 
-pub run_goes : {A : Type 0} → (result : Result A Refusal) (texts names : Texts) (xs tokens list : List Token) (held new : Held) (s : State)
+-- ---- tokens that are kept as far as they are so many
+
+take_get : (k : ℕ) (xs : List Token) (i : ℕ) → i < k → slice_get (take k xs) i ≡ slice_get xs i
+take_get zero xs i h = absurd (omega (arith, h))
+take_get (suc k) [] i h = refl
+take_get (suc k) (x ∷ xs) zero h = refl
+take_get (suc k) (x ∷ xs) (suc i) h = take_get k xs i (omega (arith, h))
+
+get_kept : (before : List Token) (k : ℕ) (list : List Token) (i : ℕ) → i < length before + k → slice_get (before ++ take k list) i ≡ slice_get (before ++ list) i
+get_kept [] k list i h = take_get k list i (omega (arith, h))
+get_kept (b ∷ before) k list zero h = refl
+get_kept (b ∷ before) k list (suc i) h = get_kept before k list i (omega (arith, h))
+
+-- each of so many is there
+kept_at : (most : ℕ) (before list : List Token) (i : ℕ) → i < most → slice_get (put_behind most before list) i ≡ slice_get (before ++ list) i
+kept_at most before list i h = get_kept before (most - length before) list i (omega (arith, h))
+
+-- where they are fewer, all are there
+all_kept : (most : ℕ) (before list : List Token) → length (put_behind most before list) < most → put_behind most before list ≡ before ++ list
+all_kept most before list h =
+    let fewer : length (before ++ take (most - length before) list) < most = h in
+    ⊎_elim
+    (λ (p : most - length before < length list). absurd (omega (arith, fewer, p, length-append before (take (most - length before) list), length-take-le (most - length before) list (omega (arith, p)))))
+    (λ (p : length list ≤ most - length before). ap (λ l. before ++ l) (take_all (most - length before) list p))
+    (cases_lt (most - length before) (length list))
+
+pub run_goes : {A : Type 0} → (result : Result A Refusal) (texts names : Texts) (xs tokens list : List Token) (held new : Held) (s : State) (most : ℕ) → max_tokens < most
     → Agrees names held s → tokens ≡ placed (presumed_of held.presumed) xs
     → expanded (record { macros = s.macros; texts = texts }) tokens of_run held.budget ≡ Ok (list, new.budget)
-    → new.table ≡ held.table → new.presumed ≡ held.presumed → new.given.items ≡ held.given.items ++ list
+    → new.table ≡ held.table → new.presumed ≡ held.presumed → new.given.items ≡ put_behind most held.given.items list
+    → OnOk result (length new.given.items ≤ max_tokens)
     → OnOk result (slice_get new.given.items max_tokens ≡ None)
     → IfErr result (IsPast new.given.items)
     → Answers result names new (run_done texts xs s)
-run_goes (Ok u) texts names xs tokens list held new s a t e table p all ok err =
-    let g = ap (λ g. g ++ list) a.given_is ∙ sym all in
+run_goes (Ok u) texts names xs tokens list held new s most more a t e table p all room ok err =
+    let whole = all_kept most held.given.items list (omega (arith, ap length all, room, more)) in
+    let g = ap (λ g. g ++ list) a.given_is ∙ sym (all ∙ whole) in
     record {
       after = record s { left = new.budget; given = s.given ++ list };
       agrees = record {
@@ -144,17 +173,18 @@ run_goes (Ok u) texts names xs tokens list held new s a t e table p all ok err =
       goes_is = run_is texts names xs tokens held s (Ok (list, new.budget)) a t e
           ∙ ap (λ o. first_past o (s.given ++ list) s (record s { left = new.budget })) (ap (λ all. slice_get all max_tokens) g ∙ ok);
     }
-run_goes (Err Memory) texts names xs tokens list held new s a t e table p all ok err = tt
-run_goes (Err (At c at)) texts names xs tokens list held new s a t e table p all ok err =
-    let g = ap (λ g. g ++ list) a.given_is ∙ sym all in
+run_goes (Err Memory) texts names xs tokens list held new s most more a t e table p all room ok err = tt
+run_goes (Err (At c at)) texts names xs tokens list held new s most more a t e table p all room ok err =
+    let same : slice_get (s.given ++ list) max_tokens ≡ slice_get new.given.items max_tokens =
+    ap (λ g. slice_get (g ++ list) max_tokens) a.given_is ∙ sym (ap (λ g. slice_get g max_tokens) all ∙ kept_at most held.given.items list max_tokens more) in
     record {
       given = s.given;
       stops_is = run_is texts names xs tokens held s (Ok (list, new.budget)) a t e
-          ∙ ap (λ o. first_past o (s.given ++ list) s (record s { left = new.budget })) (ap (λ all. slice_get all max_tokens) g ∙ err.1)
+          ∙ ap (λ o. first_past o (s.given ++ list) s (record s { left = new.budget })) (same ∙ err.1)
           ∙ ap (λ k. stops s.given (record { code = k; at = err.0.pos; text = [] })) (sym err.2)
           ∙ ap (λ q. stops s.given (record { code = c; at = q; text = [] })) (sym err.3);
     }
-run_goes (Err (Told c at text)) texts names xs tokens list held new s a t e table p all ok err = absurd err
+run_goes (Err (Told c at text)) texts names xs tokens list held new s most more a t e table p all room ok err = absurd err
 
 -- ---- directives
 

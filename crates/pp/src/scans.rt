@@ -68,8 +68,8 @@ impl<'a> Scanned<'a> {
         self.lines.get(index)
     }
 
-    // How many tokens the lines have.
-    fn tokens(&self) -> usize {
+    /// How many tokens the lines have.
+    pub fn tokens(&self) -> usize {
         self.lines.tokens().len()
     }
 

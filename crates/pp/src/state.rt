@@ -80,7 +80,7 @@ impl<'a> State<'a> {
         }
     }
 
-    // Expands the tokens of a run, and gives what comes of them.
+    // Expands the tokens of a run, and gives what comes of them. Of those that are too many the first is kept, for its place.
     fn expand_run(
         &mut self,
         alloc: Global,
@@ -99,6 +99,7 @@ impl<'a> State<'a> {
             RunEnd::Run,
             &mut self.budget,
             names,
+            MAX_TOKENS + 1,
             &mut self.given,
         ) {
             Ok(()) => limit(&self.given),

@@ -1,9 +1,9 @@
 -- What is given of the outermost list, and what is left of it.
-use Rattle.std.specs.Prelude.{Vec, OnOk}
+use Rattle.std.specs.Prelude.{Vec, OnOk, take}
 use Rattle.std.specs.declared.alloc.Global.{Global}
-use Rattle.std.proofs.Common.{◌≡◌, ℕ, List, [], ◌∷◌, ◌++◌, map, length, Bool, true, Result, Ok, Err, refl, sym, ap, subst, ◌==◌, arith, append_assoc, ◌∙◌}
-use Rattle.std.proofs.lemmas.Bool.{eqb-true}
-use Rattle.std.proofs.lemmas.List.{map-append}
+use Rattle.std.proofs.Common.{◌≡◌, ℕ, zero, suc, ◌-◌, ◌<◌, ◌≤◌, List, [], ◌∷◌, ◌++◌, map, length, Bool, true, Result, Ok, Err, refl, sym, ap, subst, ◌==◌, arith, append_assoc, append-nil, length-append, ⊎_elim, ◌∙◌}
+use Rattle.std.proofs.lemmas.Bool.{eqb-true, cases_lt}
+use Rattle.std.proofs.lemmas.List.{map-append, take_all, length-take-le}
 use Rattle.srcset.specs.NameTable.{Texts}
 use Rattle.srcset.specs.declared.refusal.Refusal.{Refusal}
 use Rattle.srcset.specs.declared.refusal.Refusal.TheVariants.{Memory, At, Told}
@@ -14,7 +14,7 @@ use Rattle.macros_substitution.specs.Meaning.{hidden_all}
 use Rattle.pp_expand.specs.declared.level.Level.{Level}
 use Rattle.pp_expand.specs.declared.waiting.Waiting.{Waiting}
 use Rattle.pp_expand.specs.Expansion.{Known, Answer, Fault}
-use Rattle.pp_expand.specs.Expands.{ending_of}
+use Rattle.pp_expand.specs.Expands.{ending_of, put_behind}
 use Rattle.pp_expand.specs.inside.Meaning.{expanding, level_meaning, with_list, behind, shown_behind, Refuses}
 use Rattle.pp_expand.specs.inside.Waits.{resume}
 
@@ -22,21 +22,69 @@ pub tokens_all : (texts : Texts) (sets : Sets) (xs : List HiddenToken) → map (
 tokens_all texts sets [] = refl
 tokens_all texts sets (x ∷ xs) = ap (λ l. x.token ∷ l) (tokens_all texts sets xs)
 
+-- ---- tokens that are put behind others as far as they are so many
+
+abbrev no_tokens : List Token
+no_tokens = []
+
+take_nothing : (k : ℕ) → take k no_tokens ≡ no_tokens
+take_nothing zero = refl
+take_nothing (suc k) = refl
+
+pub put_nothing : (most : ℕ) (before : List Token) → put_behind most before [] ≡ before
+put_nothing most before = ap (λ l. before ++ l) (take_nothing (most - length before)) ∙ append-nil before
+
+take_again : (k : ℕ) (xs ys : List Token) → take k xs ++ take (k - length (take k xs)) ys ≡ take k (xs ++ ys)
+take_again zero xs ys = refl
+take_again (suc k) [] ys =
+    let n : suc k - 0 ≡ suc k = omega arith in
+    ap (λ m. take m ys) n
+take_again (suc k) (x ∷ xs) ys =
+    let n : suc k - suc (length (take k xs)) ≡ k - length (take k xs) = omega arith in
+    ap (λ m. x ∷ (take k xs ++ take m ys)) n ∙ ap (λ l. x ∷ l) (take_again k xs ys)
+
+pub put_again : (most : ℕ) (before xs ys : List Token) → put_behind most (put_behind most before xs) ys ≡ put_behind most before (xs ++ ys)
+put_again most before xs ys =
+    let k = most - length before in
+    let n : most - length (before ++ take k xs) ≡ k - length (take k xs) = omega (arith, length-append before (take k xs)) in
+    append_assoc before (take k xs) (take (most - length (before ++ take k xs)) ys)
+    ∙ ap (λ m. before ++ (take k xs ++ take m ys)) n
+    ∙ ap (λ l. before ++ l) (take_again k xs ys)
+
+pub one_kept : (most : ℕ) (before : List Token) (x : Token) → length before < most → before ++ x ∷ [] ≡ put_behind most before (x ∷ [])
+one_kept most before x h =
+    let n : most - length before ≡ suc (most - length before - 1) = omega (arith, h) in
+    sym (ap (λ m. before ++ take m (x ∷ [])) n ∙ ap (λ l. before ++ x ∷ l) (take_nothing (most - length before - 1)))
+
+pub one_dropped : (most : ℕ) (before : List Token) (x : Token) → most ≤ length before → before ≡ put_behind most before (x ∷ [])
+one_dropped most before x h =
+    let n : most - length before ≡ 0 = omega (arith, h) in
+    sym (ap (λ m. before ++ take m (x ∷ [])) n ∙ append-nil before)
+
+-- where they are fewer, all are there
+pub all_kept : (most : ℕ) (before list : List Token) → length (put_behind most before list) < most → put_behind most before list ≡ before ++ list
+all_kept most before list h =
+    let fewer : length (before ++ take (most - length before) list) < most = h in
+    ⊎_elim
+    (λ (p : most - length before < length list). absurd (omega (arith, fewer, p, length-append before (take (most - length before) list), length-take-le (most - length before) list (omega (arith, p)))))
+    (λ (p : length list ≤ most - length before). ap (λ l. before ++ l) (take_all (most - length before) list p))
+    (cases_lt (most - length before) (length list))
+
 -- what stands of a list may be given before the rest is expanded
-pub given_first : (texts : Texts) (sets : Sets) (given : List Token) (out : List HiddenToken) (a : Answer)
-    → shown_behind (given ++ map (λ x. x.token) out) (with_list [] a) ≡ shown_behind given (with_list (hidden_all texts sets out) a)
-given_first texts sets given out (Ok a) =
+pub given_first : (most : ℕ) (texts : Texts) (sets : Sets) (given : List Token) (out : List HiddenToken) (a : Answer)
+    → shown_behind most (put_behind most given (map (λ x. x.token) out)) (with_list [] a) ≡ shown_behind most given (with_list (hidden_all texts sets out) a)
+given_first most texts sets given out (Ok a) =
     ap (λ (l : List Token). Ok (l, a.1))
-    (append_assoc given (map (λ x. x.token) out) (map (λ x. x.token) a.0)
-    ∙ ap (λ l. given ++ (l ++ map (λ x. x.token) a.0)) (sym (tokens_all texts sets out))
-    ∙ ap (λ l. given ++ l) (sym (map-append (λ x. x.token) (hidden_all texts sets out) a.0)))
-given_first texts sets given out (Err e) = refl
+    (put_again most given (map (λ x. x.token) out) (map (λ x. x.token) a.0)
+    ∙ ap (λ l. put_behind most given (l ++ map (λ x. x.token) a.0)) (sym (tokens_all texts sets out))
+    ∙ ap (put_behind most given) (sym (map-append (λ x. x.token) (hidden_all texts sets out) a.0)))
+given_first most texts sets given out (Err e) = refl
 
 -- the list that was expanded, behind what was given before
-pub record Behind (before all : List Token) (left : ℕ) (r : Result (List Token × ℕ) Fault) : Type 0 where
+pub record Behind (most : ℕ) (before all : List Token) (left : ℕ) (r : Result (List Token × ℕ) Fault) : Type 0 where
   pub list : List Token
   pub list_is : r ≡ Ok (list, left)
-  pub all_is : all ≡ before ++ list
+  pub all_is : all ≡ put_behind most before list
 
 count_in : ℕ → Result (List Token × ℕ) Fault → ℕ
 count_in n (Ok a) = a.1
@@ -50,43 +98,43 @@ IsGiven : Result (List Token × ℕ) Fault → Type 0
 IsGiven (Ok a) = Unit {0}
 IsGiven (Err e) = ⊥
 
-pub behind_ok : (before all : List Token) (left : ℕ) (r : Result (List Token × ℕ) Fault) → behind before r ≡ Ok (all, left) → Behind before all left r
+pub behind_ok : (most : ℕ) (before all : List Token) (left : ℕ) (r : Result (List Token × ℕ) Fault) → behind most before r ≡ Ok (all, left) → Behind most before all left r
 unfolding count_in tokens_in IsGiven
-behind_ok before all left (Ok a) e = record {
+behind_ok most before all left (Ok a) e = record {
   list = a.0;
   list_is = ap (λ (n : ℕ). let r : Result (List Token × ℕ) Fault = Ok (a.0, n) in r) (ap (count_in left) e);
   all_is = sym (ap tokens_in e);
 }
-behind_ok before all left (Err f) e = absurd (subst IsGiven (sym e) tt)
+behind_ok most before all left (Err f) e = absurd (subst IsGiven (sym e) tt)
 
-pub behind_err : (before : List Token) (f : Refusal) (r : Result (List Token × ℕ) Fault) → Refuses f (behind before r) → Refuses f r
+pub behind_err : (most : ℕ) (before : List Token) (f : Refusal) (r : Result (List Token × ℕ) Fault) → Refuses f (behind most before r) → Refuses f r
 unfolding IsGiven
-behind_err before Memory r h = tt
-behind_err before (At c pos) (Ok a) h = absurd (subst IsGiven h tt)
-behind_err before (At c pos) (Err e) h = h
-behind_err before (Told c pos text) r h = h
+behind_err most before Memory r h = tt
+behind_err most before (At c pos) (Ok a) h = absurd (subst IsGiven h tt)
+behind_err most before (At c pos) (Err e) h = h
+behind_err most before (Told c pos text) r h = h
 
 pub no_item : {X : Type 0} (xs : List X) (b : Bool) → b ≡ (length xs == 0) → b ≡ true → xs ≡ []
 no_item [] b e f = refl
 no_item (x ∷ xs) b e f = let h : length (x ∷ xs) ≡ 0 = eqb-true (length (x ∷ xs)) 0 (sym e ∙ f) in absurd (omega arith)
 
 -- where no replacement waits, what stands of the list is given
-pub handed : {A : Type 0} → (result : Result A Refusal) (waiting : List Waiting) (level : Level) (empty out : Vec HiddenToken Global) (given all : List Token)
-    → waiting ≡ [] → out ≡ level.out → empty.items ≡ [] → OnOk result (all ≡ given ++ map (λ x. x.token) out.items)
-    → OnOk result ((known : Known) (sets : Sets) (left : ℕ) → shown_behind all (resume known sets waiting (level_meaning known sets (record { rest = level.rest; out = empty; end = level.end }) left)) ≡ shown_behind given (resume known sets waiting (level_meaning known sets level left)))
-handed (Ok u) waiting level empty out given all none was nothing put = λ known sets left.
+pub handed : {A : Type 0} → (most : ℕ) (result : Result A Refusal) (waiting : List Waiting) (level : Level) (empty out : Vec HiddenToken Global) (given all : List Token)
+    → waiting ≡ [] → out ≡ level.out → empty.items ≡ [] → OnOk result (all ≡ put_behind most given (map (λ x. x.token) out.items))
+    → OnOk result ((known : Known) (sets : Sets) (left : ℕ) → shown_behind most all (resume known sets waiting (level_meaning known sets (record { rest = level.rest; out = empty; end = level.end }) left)) ≡ shown_behind most given (resume known sets waiting (level_meaning known sets level left)))
+handed most (Ok u) waiting level empty out given all none was nothing put = λ known sets left.
     let rest = expanding known (hidden_all known.texts sets level.rest.items) (ending_of level.end) left in
-    ap (λ ws. shown_behind all (resume known sets ws (with_list (hidden_all known.texts sets empty.items) rest))) none
-    ∙ ap (λ os. shown_behind all (with_list (hidden_all known.texts sets os) rest)) nothing
-    ∙ ap (λ l. shown_behind l (with_list [] rest)) put
-    ∙ given_first known.texts sets given out.items rest
-    ∙ ap (λ (o : Vec HiddenToken Global). shown_behind given (with_list (hidden_all known.texts sets o.items) rest)) was
-    ∙ ap (λ ws. shown_behind given (resume known sets ws (with_list (hidden_all known.texts sets level.out.items) rest))) (sym none)
-handed (Err f) waiting level empty out given all none was nothing put = tt
+    ap (λ ws. shown_behind most all (resume known sets ws (with_list (hidden_all known.texts sets empty.items) rest))) none
+    ∙ ap (λ os. shown_behind most all (with_list (hidden_all known.texts sets os) rest)) nothing
+    ∙ ap (λ l. shown_behind most l (with_list [] rest)) put
+    ∙ given_first most known.texts sets given out.items rest
+    ∙ ap (λ (o : Vec HiddenToken Global). shown_behind most given (with_list (hidden_all known.texts sets o.items) rest)) was
+    ∙ ap (λ ws. shown_behind most given (resume known sets ws (with_list (hidden_all known.texts sets level.out.items) rest))) (sym none)
+handed most (Err f) waiting level empty out given all none was nothing put = tt
 
 -- the same of the list of those that wait, by another name
-pub handed_of : (ws waiting : List Waiting) (level next : Level) (given all : List Token) → ws ≡ waiting
-    → ((known : Known) (sets : Sets) (left : ℕ) → shown_behind all (resume known sets ws (level_meaning known sets next left)) ≡ shown_behind given (resume known sets ws (level_meaning known sets level left)))
-    → (known : Known) (sets : Sets) (left : ℕ) → shown_behind all (resume known sets waiting (level_meaning known sets next left)) ≡ shown_behind given (resume known sets waiting (level_meaning known sets level left))
-handed_of ws waiting level next given all e same known sets left =
-    subst (λ l. shown_behind all (resume known sets l (level_meaning known sets next left)) ≡ shown_behind given (resume known sets l (level_meaning known sets level left))) e (same known sets left)
+pub handed_of : (most : ℕ) (ws waiting : List Waiting) (level next : Level) (given all : List Token) → ws ≡ waiting
+    → ((known : Known) (sets : Sets) (left : ℕ) → shown_behind most all (resume known sets ws (level_meaning known sets next left)) ≡ shown_behind most given (resume known sets ws (level_meaning known sets level left)))
+    → (known : Known) (sets : Sets) (left : ℕ) → shown_behind most all (resume known sets waiting (level_meaning known sets next left)) ≡ shown_behind most given (resume known sets waiting (level_meaning known sets level left))
+handed_of most ws waiting level next given all e same known sets left =
+    subst (λ l. shown_behind most all (resume known sets l (level_meaning known sets next left)) ≡ shown_behind most given (resume known sets l (level_meaning known sets level left))) e (same known sets left)

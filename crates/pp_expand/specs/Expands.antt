@@ -1,5 +1,5 @@
 -- What the calls of this crate answer, where the macros and the texts are seen by number.
-use Rattle.std.specs.Prelude.{◌≡◌, ℕ, ◌<◌, List, ◌++◌, length, slice_get, Some, Result, Ok, Err, Vec}
+use Rattle.std.specs.Prelude.{◌≡◌, ℕ, ◌-◌, ◌<◌, List, ◌++◌, take, length, slice_get, Some, Result, Ok, Err, Vec}
 use Rattle.std.specs.declared.alloc.Global.{Global}
 use Rattle.srcset.specs.declared.fault.Fault.{Fault as ToldFault}
 use Rattle.srcset.specs.declared.refusal.Refusal.{Refusal}
@@ -27,10 +27,14 @@ IsExpansion (Err Memory) old new expansion = new ≡ old
 IsExpansion (Err (At code pos)) old new expansion = (expansion ≡ Err (record { code = code; at = pos })) × (new ≡ old)
 IsExpansion (Err (Told code pos text)) old new expansion = ⊥
 
--- the same, where it is put behind tokens that stand already
-abbrev pub IsExpansionBehind : {A : Type 0} → Result A Refusal → List Token → List Token → ℕ → ℕ → Result (List Token × ℕ) Fault → Type 0
-IsExpansionBehind (Ok u) before all old new expansion = (list : List Token) × (expansion ≡ Ok (list, new)) × (all ≡ before ++ list)
-IsExpansionBehind (Err refusal) before all old new expansion = IsExpansion (Err refusal) old new expansion
+-- these tokens behind others, as far as they are so many with them
+abbrev pub put_behind : ℕ → List Token → List Token → List Token
+put_behind most before list = before ++ take (most - length before) list
+
+-- the same, where it is put behind tokens that stand already, so many at the most
+abbrev pub IsExpansionBehind : {A : Type 0} → Result A Refusal → ℕ → List Token → List Token → ℕ → ℕ → Result (List Token × ℕ) Fault → Type 0
+IsExpansionBehind (Ok u) most before all old new expansion = (list : List Token) × (expansion ≡ Ok (list, new)) × (all ≡ put_behind most before list)
+IsExpansionBehind (Err refusal) most before all old new expansion = IsExpansion (Err refusal) old new expansion
 
 -- the same, where a fault is told by texts
 abbrev pub IsToldExpansion : Texts → Result (Vec Token Global) ToldFault → ℕ → ℕ → Result (List Token × ℕ) Fault → Type 0

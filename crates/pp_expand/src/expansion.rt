@@ -8,6 +8,7 @@ ghost use Rattle.pp_expand.specs.Expands.{HaveFiles, IsExpansion, IsExpansionBeh
 
 use crate::budget::Budget;
 use crate::engine::run;
+use crate::room::MAX_HELD;
 use crate::run_end::RunEnd;
 use crate::unexpanded::Unexpanded;
 use macros::MacroTable;
@@ -23,8 +24,8 @@ fn numbers_once(names: &Names)
     let _ = names.find(b"");
 }
 
-/// Puts the expansion of a list, as `expand` gives it, behind the tokens given. A refusal names no file, and after one nothing
-/// is said of what stands behind them.
+/// Puts the expansion of a list, as `expand` gives it, behind the tokens given, as long as they are fewer than `most`: what comes
+/// behind is expanded and not kept. A refusal names no file, and after one nothing is said of what stands behind them.
 pub fn expand_behind<'a>(
     alloc: Global,
     table: &MacroTable<'a>,
@@ -32,17 +33,20 @@ pub fn expand_behind<'a>(
     end: RunEnd,
     budget: &mut Budget,
     names: &Names,
+    most: usize,
     given: &mut Vec<PpToken<'a>>,
 ) -> Result<(), Refusal>
     requires { HaveFiles names.now list }
-    ensures expansion { (macros : Macros) (texts : Texts) → IsTable names.now table.now macros → KeepsNumbers names.now texts → IsExpansionBehind result given.old.items given.new.items budget.old budget.new (expanded (record { macros = macros; texts = texts }) list.entry (ending_of end) budget.old) }
+    ensures expansion { (macros : Macros) (texts : Texts) → IsTable names.now table.now macros → KeepsNumbers names.now texts → IsExpansionBehind result most given.old.items given.new.items budget.old budget.new (expanded (record { macros = macros; texts = texts }) list.entry (ending_of end) budget.old) }
     ensures files { (macros : Macros) → IsTable names.now table.now macros → OnOk result (HaveFiles names.now (drop (length given.old.items) given.new.items)) }
 {
     numbers_once(names);
     let mut sets = HideSets::new(alloc);
     let hidden = list.into_hidden();
     let left = budget.left();
-    match run(alloc, table, names, &mut sets, hidden, end, left, given) {
+    match run(
+        alloc, table, names, &mut sets, hidden, end, left, most, given,
+    ) {
         Ok(left) => {
             *budget = Budget::new(left);
             Ok(())
@@ -65,9 +69,17 @@ pub fn try_expand<'a>(
     ensures files { (macros : Macros) → IsTable names.now table.now macros → IfOk result (λ v. HaveFiles names.now v.items) }
 {
     let list = Unexpanded::copy_of(alloc, list)?;
+    let before = budget.left();
     let mut given = Vec::new(alloc);
-    match expand_behind(alloc, table, list, end, budget, names, &mut given) {
-        Ok(()) => Ok(given),
+    let most = MAX_HELD + 1;
+    match expand_behind(alloc, table, list, end, budget, names, most, &mut given) {
+        Ok(()) => {
+            if given.len() > MAX_HELD {
+                *budget = Budget::new(before);
+                return Err(Refusal::Memory);
+            }
+            Ok(given)
+        }
         Err(refusal) => Err(refusal),
     }
 }

@@ -8,6 +8,7 @@ mod expansion;
 mod level;
 mod mark;
 mod naming;
+mod room;
 mod run_end;
 mod task;
 mod tokens;

@@ -8,7 +8,7 @@ use Rattle.macros_substitution.specs.HideSets.{Sets}
 use Rattle.macros_substitution.specs.Meaning.{hidden_all, AreIn}
 use Rattle.pp_expand.specs.declared.level.Level.{Level}
 use Rattle.pp_expand.specs.Expansion.{Known, Answer, Fault, Next, expanded_by, shown_answer}
-use Rattle.pp_expand.specs.Expands.{ending_of}
+use Rattle.pp_expand.specs.Expands.{ending_of, put_behind}
 
 -- the expansion of a list with so many replacements left
 abbrev pub expanding : Known → Next
@@ -27,12 +27,12 @@ level_meaning known sets l left =
 abbrev pub LevelIn : ℕ → Level → Type 0
 LevelIn count l = AreIn count l.rest.items × AreIn count l.out.items
 
--- behind tokens that stand already
-abbrev pub behind : List Token → Result (List Token × ℕ) Fault → Result (List Token × ℕ) Fault
-behind before r = r >>= λ a. Ok (before ++ a.0, a.1)
+-- behind tokens that stand already, so many at the most
+abbrev pub behind : ℕ → List Token → Result (List Token × ℕ) Fault → Result (List Token × ℕ) Fault
+behind most before r = r >>= λ a. Ok (put_behind most before a.0, a.1)
 
-abbrev pub shown_behind : List Token → Answer → Result (List Token × ℕ) Fault
-shown_behind before answer = behind before (shown_answer answer)
+abbrev pub shown_behind : ℕ → List Token → Answer → Result (List Token × ℕ) Fault
+shown_behind most before answer = behind most before (shown_answer answer)
 
 -- a refusal of the engine
 abbrev pub Refuses : {A : Type 0} → Refusal → Result A Fault → Type 0

@@ -1,5 +1,5 @@
 use Rattle.std.proofs.Common.{◌≡◌, ℕ, ◌≤◌, ◌++◌, length}
-use Rattle.srcset.specs.NameTable.{Texts}
+use Rattle.srcset.specs.NameTable.{Texts, NumbersOnce}
 use Rattle.macros_substitution.specs.HideSets.{Sets, members, spelled, Extends, NamesBelow}
 use Rattle.macros_substitution.specs.Meaning.{hidden_all, AreIn}
 use Rattle.macros_substitution.specs.Substitution.{marked, hiding}
@@ -14,7 +14,7 @@ invariant-loop-last l = record {
   behind : AreIn (length l.sets) l.rest.items;
   grown : Extends l.initial.sets l.sets;
   names : (count : ℕ) → NamesBelow count l.initial.sets → NamesBelow count l.sets;
-  same : (texts : Texts) (later : Sets) → Extends l.sets later →
+  same : (texts : Texts) (later : Sets) → NumbersOnce texts → NamesBelow (length texts) l.initial.sets → Extends l.sets later →
       marked l.space_before (hiding (spelled texts (members later l.hides)) (hidden_all texts later l.new.items)) ++ hidden_all texts later l.rest.items
       ≡ marked l.space_before (hiding (spelled texts (members later l.hides)) (hidden_all texts later l.initial.new.items)) ++ hidden_all texts later l.initial.rest.items;
 }

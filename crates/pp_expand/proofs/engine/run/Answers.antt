@@ -23,13 +23,13 @@ pub returns-in_err-step : goal.returns-in_err-step
 returns-in_err-step c = λ macros later is_table once below grown.
     let l = c.loop-level in
     let p = err_from_is_err_and c.from_residual-in_err-step.result c.from_residual-in_err-step.ensures.1 in
-    rw (p.1, p.2) (advance_fails (record { macros = macros; texts = c.args.names.now }) later l.waiting.items c.hand_on.new.level l.left c.args.given.now.items c.hand_on.new.given.items (expanding (record { macros = macros; texts = c.args.names.now }) (hidden_all c.args.names.now later c.args.list.items) (ending_of c.args.end) c.args.budget) (handed_of c.deref.result.now c.loop-level.waiting.items c.loop-level.level c.hand_on.new.level c.loop-level.given.items c.hand_on.new.given.items c.deref.ensures.value c.in_ok-hand_on.ensures.same (record { macros = macros; texts = c.args.names.now }) later l.left ∙ l.invariant.same macros later is_table once below (extends_both _ _ _ c.advance.ensures.keeps grown)) c.advance.new.level c.in_err-step.field-0.0 (c.in_err-step.ensures.advances macros later is_table once (l.invariant.names_below below) grown))
+    rw (p.1, p.2) (advance_fails c.args.most (record { macros = macros; texts = c.args.names.now }) later l.waiting.items c.hand_on.new.level l.left c.args.given.now.items c.hand_on.new.given.items (expanding (record { macros = macros; texts = c.args.names.now }) (hidden_all c.args.names.now later c.args.list.items) (ending_of c.args.end) c.args.budget) (handed_of c.args.most c.deref.result.now c.loop-level.waiting.items c.loop-level.level c.hand_on.new.level c.loop-level.given.items c.hand_on.new.given.items c.deref.ensures.value c.in_ok-hand_on.ensures.same (record { macros = macros; texts = c.args.names.now }) later l.left ∙ l.invariant.same macros later is_table once below (extends_both _ _ _ c.advance.ensures.keeps grown)) c.advance.new.level c.in_err-step.field-0.0 (c.in_err-step.ensures.advances macros later is_table once (l.invariant.names_below below) grown))
 
 pub returns-then-left-eq0 : goal.returns-then-left-eq0
 returns-then-left-eq0 c = λ macros later is_table once below grown.
     let l = c.loop-level in
     let h = subst (λ z. AdvanceIs (record { macros = macros; texts = c.args.names.now }) later c.hand_on.new.level (Ok z) c.advance.new.level) c.in-Some.is (c.in_ok-step.ensures.advances macros later is_table once (l.invariant.names_below below) grown) in
-    budget_used (record { macros = macros; texts = c.args.names.now }) later l.waiting.items c.hand_on.new.level l.left c.args.given.now.items c.hand_on.new.given.items (expanding (record { macros = macros; texts = c.args.names.now }) (hidden_all c.args.names.now later c.args.list.items) (ending_of c.args.end) c.args.budget) (handed_of c.deref.result.now c.loop-level.waiting.items c.loop-level.level c.hand_on.new.level c.loop-level.given.items c.hand_on.new.given.items c.deref.ensures.value c.in_ok-hand_on.ensures.same (record { macros = macros; texts = c.args.names.now }) later l.left ∙ l.invariant.same macros later is_table once below (extends_both _ _ _ c.advance.ensures.keeps grown)) c.advance.new.level c.in-Some.step h c.if-left-eq0.true ∙ ap (λ (p : Pos). let a : Result (List Token × ℕ) Fault = Err (record { code = code.ReplacementLimit; at = p }) in a) (sym c.place.ensures)
+    budget_used c.args.most (record { macros = macros; texts = c.args.names.now }) later l.waiting.items c.hand_on.new.level l.left c.args.given.now.items c.hand_on.new.given.items (expanding (record { macros = macros; texts = c.args.names.now }) (hidden_all c.args.names.now later c.args.list.items) (ending_of c.args.end) c.args.budget) (handed_of c.args.most c.deref.result.now c.loop-level.waiting.items c.loop-level.level c.hand_on.new.level c.loop-level.given.items c.hand_on.new.given.items c.deref.ensures.value c.in_ok-hand_on.ensures.same (record { macros = macros; texts = c.args.names.now }) later l.left ∙ l.invariant.same macros later is_table once below (extends_both _ _ _ c.advance.ensures.keeps grown)) c.advance.new.level c.in-Some.step h c.if-left-eq0.true ∙ ap (λ (p : Pos). let a : Result (List Token × ℕ) Fault = Err (record { code = code.ReplacementLimit; at = p }) in a) (sym c.place.ensures)
 
 pub loop-level-preserved-in_ok-push_front-in-Predefined : goal.loop-level-preserved-in_ok-push_front-in-Predefined
 loop-level-preserved-in_ok-push_front-in-Predefined c =
@@ -44,7 +44,7 @@ loop-level-preserved-in_ok-push_front-in-Predefined c =
       same = λ macros later is_table once below grown.
           let h = subst (λ z. AdvanceIs (record { macros = macros; texts = c.args.names.now }) later c.hand_on.new.level (Ok z) c.advance.new.level) c.in-Some.is (c.in_ok-step.ensures.advances macros later is_table once (l.invariant.names_below below) grown) in
           let h2 = subst (λ z. AdvanceIs (record { macros = macros; texts = c.args.names.now }) later c.hand_on.new.level (Ok (Some z)) c.advance.new.level) c.in-Predefined.is h in
-          predefined_next (record { macros = macros; texts = c.args.names.now }) later l.waiting.items c.hand_on.new.level l.left c.args.given.now.items c.hand_on.new.given.items (expanding (record { macros = macros; texts = c.args.names.now }) (hidden_all c.args.names.now later c.args.list.items) (ending_of c.args.end) c.args.budget) (handed_of c.deref.result.now c.loop-level.waiting.items c.loop-level.level c.hand_on.new.level c.loop-level.given.items c.hand_on.new.given.items c.deref.ensures.value c.in_ok-hand_on.ensures.same (record { macros = macros; texts = c.args.names.now }) later l.left ∙ l.invariant.same macros later is_table once below (extends_both _ _ _ c.advance.ensures.keeps grown)) c.advance.new.level c.in-Predefined.x y.field-0 (l.left - 1) (record { rest = c.push_front.new.self; out = c.advance.new.level.out; end = c.advance.new.level.end }) h2 (omega arith) (y.ensures.ok.1 macros later) c.in_ok-push_front-in-Predefined.ensures.items refl refl;
+          predefined_next c.args.most (record { macros = macros; texts = c.args.names.now }) later l.waiting.items c.hand_on.new.level l.left c.args.given.now.items c.hand_on.new.given.items (expanding (record { macros = macros; texts = c.args.names.now }) (hidden_all c.args.names.now later c.args.list.items) (ending_of c.args.end) c.args.budget) (handed_of c.args.most c.deref.result.now c.loop-level.waiting.items c.loop-level.level c.hand_on.new.level c.loop-level.given.items c.hand_on.new.given.items c.deref.ensures.value c.in_ok-hand_on.ensures.same (record { macros = macros; texts = c.args.names.now }) later l.left ∙ l.invariant.same macros later is_table once below (extends_both _ _ _ c.advance.ensures.keeps grown)) c.advance.new.level c.in-Predefined.x y.field-0 (l.left - 1) (record { rest = c.push_front.new.self; out = c.advance.new.level.out; end = c.advance.new.level.end }) h2 (omega arith) (y.ensures.ok.1 macros later) c.in_ok-push_front-in-Predefined.ensures.items refl refl;
     }
 
 pub loop-level-preserved-in_ok-push_front-in-Predefined-2 : goal.loop-level-preserved-in_ok-push_front-in-Predefined-2
@@ -60,7 +60,7 @@ loop-level-preserved-in_ok-push_front-in-Predefined-2 c =
       same = λ macros later is_table once below grown.
           let h = subst (λ z. AdvanceIs (record { macros = macros; texts = c.args.names.now }) later c.hand_on.new.level (Ok z) c.advance.new.level) c.in-Some.is (c.in_ok-step.ensures.advances macros later is_table once (l.invariant.names_below below) grown) in
           let h2 = subst (λ z. AdvanceIs (record { macros = macros; texts = c.args.names.now }) later c.hand_on.new.level (Ok (Some z)) c.advance.new.level) c.in-Predefined.is h in
-          predefined_next (record { macros = macros; texts = c.args.names.now }) later l.waiting.items c.hand_on.new.level l.left c.args.given.now.items c.hand_on.new.given.items (expanding (record { macros = macros; texts = c.args.names.now }) (hidden_all c.args.names.now later c.args.list.items) (ending_of c.args.end) c.args.budget) (handed_of c.deref.result.now c.loop-level.waiting.items c.loop-level.level c.hand_on.new.level c.loop-level.given.items c.hand_on.new.given.items c.deref.ensures.value c.in_ok-hand_on.ensures.same (record { macros = macros; texts = c.args.names.now }) later l.left ∙ l.invariant.same macros later is_table once below (extends_both _ _ _ c.advance.ensures.keeps grown)) c.advance.new.level c.in-Predefined.x y.field-0 (l.left - 1) (record { rest = c.push_front.new.self; out = c.advance.new.level.out; end = c.advance.new.level.end }) h2 (omega arith) (y.ensures.ok.1 macros later) c.in_ok-push_front-in-Predefined.ensures.items refl refl;
+          predefined_next c.args.most (record { macros = macros; texts = c.args.names.now }) later l.waiting.items c.hand_on.new.level l.left c.args.given.now.items c.hand_on.new.given.items (expanding (record { macros = macros; texts = c.args.names.now }) (hidden_all c.args.names.now later c.args.list.items) (ending_of c.args.end) c.args.budget) (handed_of c.args.most c.deref.result.now c.loop-level.waiting.items c.loop-level.level c.hand_on.new.level c.loop-level.given.items c.hand_on.new.given.items c.deref.ensures.value c.in_ok-hand_on.ensures.same (record { macros = macros; texts = c.args.names.now }) later l.left ∙ l.invariant.same macros later is_table once below (extends_both _ _ _ c.advance.ensures.keeps grown)) c.advance.new.level c.in-Predefined.x y.field-0 (l.left - 1) (record { rest = c.push_front.new.self; out = c.advance.new.level.out; end = c.advance.new.level.end }) h2 (omega arith) (y.ensures.ok.1 macros later) c.in_ok-push_front-in-Predefined.ensures.items refl refl;
     }
 
 pub begin-requires-clause-others : goal.begin-requires-clause-others
@@ -75,7 +75,7 @@ returns-in_err-level-in-Replaced c = λ macros later is_table once below grown.
     let h = subst (λ z. AdvanceIs (record { macros = macros; texts = c.args.names.now }) later c.hand_on.new.level (Ok z) c.advance.new.level) c.in-Some.is (c.in_ok-step.ensures.advances macros later is_table once (l.invariant.names_below below) grown_step) in
     let h2 = subst (λ z. AdvanceIs (record { macros = macros; texts = c.args.names.now }) later c.hand_on.new.level (Ok (Some z)) c.advance.new.level) c.in-Replaced.is h in
     let p = err_from_is_err_and c.from_residual-in_err-level-in-Replaced.result c.from_residual-in_err-level-in-Replaced.ensures.1 in
-    rw (p.1, p.2) (begin_failed (record { macros = macros; texts = c.args.names.now }) later l.waiting.items c.hand_on.new.level l.left c.args.given.now.items c.hand_on.new.given.items (expanding (record { macros = macros; texts = c.args.names.now }) (hidden_all c.args.names.now later c.args.list.items) (ending_of c.args.end) c.args.budget) (handed_of c.deref.result.now c.loop-level.waiting.items c.loop-level.level c.hand_on.new.level c.loop-level.given.items c.hand_on.new.given.items c.deref.ensures.value c.in_ok-hand_on.ensures.same (record { macros = macros; texts = c.args.names.now }) later l.left ∙ l.invariant.same macros later is_table once below (extends_both _ _ _ c.advance.ensures.keeps grown_step)) c.advance.new.level c.in-Replaced.task h2 (l.left - 1) (omega arith) c.begin.new.waiting.items c.in_err-level-in-Replaced.field-0.0 (λ r task. c.in_err-level-in-Replaced.ensures.begins (record { macros = macros; texts = c.args.names.now }) later r task once below_step grown))
+    rw (p.1, p.2) (begin_failed c.args.most (record { macros = macros; texts = c.args.names.now }) later l.waiting.items c.hand_on.new.level l.left c.args.given.now.items c.hand_on.new.given.items (expanding (record { macros = macros; texts = c.args.names.now }) (hidden_all c.args.names.now later c.args.list.items) (ending_of c.args.end) c.args.budget) (handed_of c.args.most c.deref.result.now c.loop-level.waiting.items c.loop-level.level c.hand_on.new.level c.loop-level.given.items c.hand_on.new.given.items c.deref.ensures.value c.in_ok-hand_on.ensures.same (record { macros = macros; texts = c.args.names.now }) later l.left ∙ l.invariant.same macros later is_table once below (extends_both _ _ _ c.advance.ensures.keeps grown_step)) c.advance.new.level c.in-Replaced.task h2 (l.left - 1) (omega arith) c.begin.new.waiting.items c.in_err-level-in-Replaced.field-0.0 (λ r task. c.in_err-level-in-Replaced.ensures.begins (record { macros = macros; texts = c.args.names.now }) later r task once below_step grown))
 
 pub loop-level-preserved-in-Replaced : goal.loop-level-preserved-in-Replaced
 loop-level-preserved-in-Replaced c =
@@ -90,7 +90,7 @@ loop-level-preserved-in-Replaced c =
           let below_step = c.advance.ensures.names (l.invariant.names_below below) in
           let h = subst (λ z. AdvanceIs (record { macros = macros; texts = c.args.names.now }) later c.hand_on.new.level (Ok z) c.advance.new.level) c.in-Some.is (c.in_ok-step.ensures.advances macros later is_table once (l.invariant.names_below below) grown_step) in
           let h2 = subst (λ z. AdvanceIs (record { macros = macros; texts = c.args.names.now }) later c.hand_on.new.level (Ok (Some z)) c.advance.new.level) c.in-Replaced.is h in
-          begun (record { macros = macros; texts = c.args.names.now }) later l.waiting.items c.hand_on.new.level l.left c.args.given.now.items c.hand_on.new.given.items (expanding (record { macros = macros; texts = c.args.names.now }) (hidden_all c.args.names.now later c.args.list.items) (ending_of c.args.end) c.args.budget) (handed_of c.deref.result.now c.loop-level.waiting.items c.loop-level.level c.hand_on.new.level c.loop-level.given.items c.hand_on.new.given.items c.deref.ensures.value c.in_ok-hand_on.ensures.same (record { macros = macros; texts = c.args.names.now }) later l.left ∙ l.invariant.same macros later is_table once below (extends_both _ _ _ c.advance.ensures.keeps grown_step)) c.advance.new.level c.in-Replaced.task h2 (l.left - 1) (omega arith) c.begin.new.waiting.items c.in_ok-level-in-Replaced.level (λ r task. c.in_ok-level-in-Replaced.ensures.begins (record { macros = macros; texts = c.args.names.now }) later r task once below_step grown);
+          begun c.args.most (record { macros = macros; texts = c.args.names.now }) later l.waiting.items c.hand_on.new.level l.left c.args.given.now.items c.hand_on.new.given.items (expanding (record { macros = macros; texts = c.args.names.now }) (hidden_all c.args.names.now later c.args.list.items) (ending_of c.args.end) c.args.budget) (handed_of c.args.most c.deref.result.now c.loop-level.waiting.items c.loop-level.level c.hand_on.new.level c.loop-level.given.items c.hand_on.new.given.items c.deref.ensures.value c.in_ok-hand_on.ensures.same (record { macros = macros; texts = c.args.names.now }) later l.left ∙ l.invariant.same macros later is_table once below (extends_both _ _ _ c.advance.ensures.keeps grown_step)) c.advance.new.level c.in-Replaced.task h2 (l.left - 1) (omega arith) c.begin.new.waiting.items c.in_ok-level-in-Replaced.level (λ r task. c.in_ok-level-in-Replaced.ensures.begins (record { macros = macros; texts = c.args.names.now }) later r task once below_step grown);
     }
 
 pub join-requires-clause-known : goal.join-requires-clause-known
@@ -110,7 +110,7 @@ returns-in_err-level-in-Some-pop c = λ macros later is_table once below grown.
     let below_step = c.advance.ensures.names (l.invariant.names_below below) in
     let h = subst (λ z. AdvanceIs (record { macros = macros; texts = c.args.names.now }) later c.hand_on.new.level (Ok z) c.advance.new.level) c.in-None.is (c.in_ok-step.ensures.advances macros later is_table once (l.invariant.names_below below) grown_step) in
     let p = err_from_is_err_and c.from_residual-in_err-level-in-Some-pop.result c.from_residual-in_err-level-in-Some-pop.ensures.1 in
-    rw (p.1, p.2) (join_failed (record { macros = macros; texts = c.args.names.now }) later l.waiting.items c.hand_on.new.level l.left c.args.given.now.items c.hand_on.new.given.items (expanding (record { macros = macros; texts = c.args.names.now }) (hidden_all c.args.names.now later c.args.list.items) (ending_of c.args.end) c.args.budget) (handed_of c.deref.result.now c.loop-level.waiting.items c.loop-level.level c.hand_on.new.level c.loop-level.given.items c.hand_on.new.given.items c.deref.ensures.value c.in_ok-hand_on.ensures.same (record { macros = macros; texts = c.args.names.now }) later l.left ∙ l.invariant.same macros later is_table once below (extends_both _ _ _ c.advance.ensures.keeps grown_step)) c.advance.new.level h c.pop.new.self.items c.in-Some-pop.at c.in-Some-pop.ensures.items c.join.new.waiting.items c.in_err-level-in-Some-pop.field-0.0 (c.in_err-level-in-Some-pop.ensures.joins (record { macros = macros; texts = c.args.names.now }) later once below_step grown))
+    rw (p.1, p.2) (join_failed c.args.most (record { macros = macros; texts = c.args.names.now }) later l.waiting.items c.hand_on.new.level l.left c.args.given.now.items c.hand_on.new.given.items (expanding (record { macros = macros; texts = c.args.names.now }) (hidden_all c.args.names.now later c.args.list.items) (ending_of c.args.end) c.args.budget) (handed_of c.args.most c.deref.result.now c.loop-level.waiting.items c.loop-level.level c.hand_on.new.level c.loop-level.given.items c.hand_on.new.given.items c.deref.ensures.value c.in_ok-hand_on.ensures.same (record { macros = macros; texts = c.args.names.now }) later l.left ∙ l.invariant.same macros later is_table once below (extends_both _ _ _ c.advance.ensures.keeps grown_step)) c.advance.new.level h c.pop.new.self.items c.in-Some-pop.at c.in-Some-pop.ensures.items c.join.new.waiting.items c.in_err-level-in-Some-pop.field-0.0 (c.in_err-level-in-Some-pop.ensures.joins (record { macros = macros; texts = c.args.names.now }) later once below_step grown))
 
 pub loop-level-smaller : goal.loop-level-smaller
 loop-level-smaller c =
@@ -130,11 +130,11 @@ loop-level-preserved c =
           let grown_step = extends_both _ _ _ c.join.ensures.keeps grown in
           let below_step = c.advance.ensures.names (l.invariant.names_below below) in
           let h = subst (λ z. AdvanceIs (record { macros = macros; texts = c.args.names.now }) later c.hand_on.new.level (Ok z) c.advance.new.level) c.in-None.is (c.in_ok-step.ensures.advances macros later is_table once (l.invariant.names_below below) grown_step) in
-          joined (record { macros = macros; texts = c.args.names.now }) later l.waiting.items c.hand_on.new.level l.left c.args.given.now.items c.hand_on.new.given.items (expanding (record { macros = macros; texts = c.args.names.now }) (hidden_all c.args.names.now later c.args.list.items) (ending_of c.args.end) c.args.budget) (handed_of c.deref.result.now c.loop-level.waiting.items c.loop-level.level c.hand_on.new.level c.loop-level.given.items c.hand_on.new.given.items c.deref.ensures.value c.in_ok-hand_on.ensures.same (record { macros = macros; texts = c.args.names.now }) later l.left ∙ l.invariant.same macros later is_table once below (extends_both _ _ _ c.advance.ensures.keeps grown_step)) c.advance.new.level h c.pop.new.self.items c.in-Some-pop.at c.in-Some-pop.ensures.items c.join.new.waiting.items c.in_ok-level-in-Some-pop.level (c.in_ok-level-in-Some-pop.ensures.joins (record { macros = macros; texts = c.args.names.now }) later once below_step grown);
+          joined c.args.most (record { macros = macros; texts = c.args.names.now }) later l.waiting.items c.hand_on.new.level l.left c.args.given.now.items c.hand_on.new.given.items (expanding (record { macros = macros; texts = c.args.names.now }) (hidden_all c.args.names.now later c.args.list.items) (ending_of c.args.end) c.args.budget) (handed_of c.args.most c.deref.result.now c.loop-level.waiting.items c.loop-level.level c.hand_on.new.level c.loop-level.given.items c.hand_on.new.given.items c.deref.ensures.value c.in_ok-hand_on.ensures.same (record { macros = macros; texts = c.args.names.now }) later l.left ∙ l.invariant.same macros later is_table once below (extends_both _ _ _ c.advance.ensures.keeps grown_step)) c.advance.new.level h c.pop.new.self.items c.in-Some-pop.at c.in-Some-pop.ensures.items c.join.new.waiting.items c.in_ok-level-in-Some-pop.level (c.in_ok-level-in-Some-pop.ensures.joins (record { macros = macros; texts = c.args.names.now }) later once below_step grown);
     }
 
 pub returns-in-None-pop : goal.returns-in-None-pop
 returns-in-None-pop c = λ macros later is_table once below grown.
     let l = c.loop-level in
     let h = subst (λ z. AdvanceIs (record { macros = macros; texts = c.args.names.now }) later c.hand_on.new.level (Ok z) c.advance.new.level) c.in-None.is (c.in_ok-step.ensures.advances macros later is_table once (l.invariant.names_below below) grown) in
-    finished (record { macros = macros; texts = c.args.names.now }) later l.waiting.items c.hand_on.new.level l.left c.args.given.now.items c.hand_on.new.given.items (expanding (record { macros = macros; texts = c.args.names.now }) (hidden_all c.args.names.now later c.args.list.items) (ending_of c.args.end) c.args.budget) (handed_of c.deref.result.now c.loop-level.waiting.items c.loop-level.level c.hand_on.new.level c.loop-level.given.items c.hand_on.new.given.items c.deref.ensures.value c.in_ok-hand_on.ensures.same (record { macros = macros; texts = c.args.names.now }) later l.left ∙ l.invariant.same macros later is_table once below (extends_both _ _ _ c.advance.ensures.keeps grown)) c.advance.new.level h (nothing_at l.waiting.items (λ h. c.in-None-pop.ensures.variant.1 (omega (arith, h, l.waiting.ok.0)))) c.show.new.given.items c.in_ok-show-in-None-pop.ensures.ok
+    finished c.args.most (record { macros = macros; texts = c.args.names.now }) later l.waiting.items c.hand_on.new.level l.left c.args.given.now.items c.hand_on.new.given.items (expanding (record { macros = macros; texts = c.args.names.now }) (hidden_all c.args.names.now later c.args.list.items) (ending_of c.args.end) c.args.budget) (handed_of c.args.most c.deref.result.now c.loop-level.waiting.items c.loop-level.level c.hand_on.new.level c.loop-level.given.items c.hand_on.new.given.items c.deref.ensures.value c.in_ok-hand_on.ensures.same (record { macros = macros; texts = c.args.names.now }) later l.left ∙ l.invariant.same macros later is_table once below (extends_both _ _ _ c.advance.ensures.keeps grown)) c.advance.new.level h (nothing_at l.waiting.items (λ h. c.in-None-pop.ensures.variant.1 (omega (arith, h, l.waiting.ok.0)))) c.show.new.given.items c.in_ok-show-in-None-pop.ensures.ok

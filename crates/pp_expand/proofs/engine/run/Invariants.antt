@@ -14,7 +14,7 @@ invariant-loop-level l = record {
   level_known : LevelIn (length l.sets) l.level;
   waiting_known : WaitingsIn (length l.sets) l.waiting.items;
   names_below : NamesBelow (length l.names) l.initial.sets → NamesBelow (length l.names) l.sets;
-  same : (macros : Macros) (later : Sets) → IsTable l.names l.table macros → NumbersOnce l.names → NamesBelow (length l.names) l.initial.sets → Extends l.sets later → shown_behind l.given.items (resume (record { macros = macros; texts = l.names }) later l.waiting.items (level_meaning (record { macros = macros; texts = l.names }) later l.level l.left)) ≡ shown_behind l.initial.given.items (expanding (record { macros = macros; texts = l.names }) (hidden_all l.names later l.fn.list.items) (ending_of l.fn.end) l.fn.budget);
+  same : (macros : Macros) (later : Sets) → IsTable l.names l.table macros → NumbersOnce l.names → NamesBelow (length l.names) l.initial.sets → Extends l.sets later → shown_behind l.most l.given.items (resume (record { macros = macros; texts = l.names }) later l.waiting.items (level_meaning (record { macros = macros; texts = l.names }) later l.level l.left)) ≡ shown_behind l.most l.initial.given.items (expanding (record { macros = macros; texts = l.names }) (hidden_all l.names later l.fn.list.items) (ending_of l.fn.end) l.fn.budget);
 }
 
 abbrev pub decreases-loop-level : goal.decreases-loop-level
