@@ -3,3 +3,4 @@ pub mod Nodes
 pub mod Held
 pub mod Expressions
 pub mod Located
+pub mod Passed

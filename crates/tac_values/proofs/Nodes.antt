@@ -1,7 +1,8 @@
 -- Measures of expressions.
-use Rattle.std.proofs.Common.{ℕ, ◌+◌}
+use Rattle.std.proofs.Common.{◌≡◌, ℕ, ◌+◌, refl}
 use Rattle.typing_rules.specs.Program as typed
 use Rattle.typing_rules.specs.Program.{Place, Value, Arguments}
+use Rattle.typing_program.specs.View.{Given, number_given, array_given, and_given}
 
 abbrev mutual
   pub place_nodes : Place → ℕ
@@ -28,3 +29,11 @@ abbrev mutual
   argument_nodes typed.no_arguments = 0
   argument_nodes (typed.and_number t e more) = 1 + (nodes e + argument_nodes more)
   argument_nodes (typed.and_array array more) = 1 + (place_nodes array + argument_nodes more)
+
+abbrev pub given_nodes : Given → ℕ
+given_nodes (number_given t e) = nodes e
+given_nodes (array_given array) = place_nodes array
+
+pub argument_step : (g : Given) (more : Arguments) → argument_nodes (and_given g more) ≡ 1 + (given_nodes g + argument_nodes more)
+argument_step (number_given t e) more = refl
+argument_step (array_given array) more = refl

@@ -2,3 +2,4 @@
 pub mod Given
 pub mod Sizes
 pub mod Written
+pub mod Waiting

@@ -1,7 +1,7 @@
 //! How many instructions the code of expressions has.
 
 ghost use Rattle.std.specs.Prelude.{◌≡◌, map};
-ghost use Rattle.typing_program.specs.View.{place_of, value_of, argument_of, arguments_of, callee_of, moment_of};
+ghost use Rattle.typing_program.specs.View.{place_of, value_of, argument_of, arguments_of, callee_of, moment_of, number_given};
 ghost use Rattle.typing_rules.specs.Program as typed;
 ghost use Rattle.tac_lowering.specs.Values as values;
 ghost use Rattle.srcset.specs.declared.refusal.Pos.{Pos};
@@ -11,6 +11,7 @@ ghost use Rattle.tac_forms.specs.declared.modes.Shape.TheVariants as shape;
 ghost use Rattle.tac_forms.specs.inside.Parts as parts;
 ghost use Rattle.tac_forms.specs.inside.FormSizes as form;
 ghost use Rattle.tac_values.specs.inside.Sizes as size;
+ghost use Rattle.tac_values.specs.inside.Waiting.{given_size};
 
 use crate::operands::{keeps, operand_of, waits_for, waits_for_arguments};
 use crate::rests::arguments_call;
@@ -209,32 +210,40 @@ fn both_size(a: &Value, b: &Value, shape: Shape) -> usize
 
 #[cycle(value_sizes)]
 fn number_size(ty: IntType, e: &Value, more: &[Argument]) -> usize
-    ensures { result ≡ size.passes_size (typed.and_number ty (value_of e.now) (arguments_of (map argument_of more.now))) }
+    ensures { result ≡ given_size (number_given ty (value_of e.now)) (arguments_of (map argument_of more.now)) }
 {
     let operand = waits_for_arguments(e, more, 0, 0);
     plus(
         value_size(e, shape_for(operand)),
-        plus(passes_size(more), loads_size(keeps(ty, e), operand)),
+        loads_size(keeps(ty, e), operand),
     )
 }
 
+/// How many instructions an argument has, beside those behind it.
 #[cycle(value_sizes)]
-fn array_size(array: &Place, more: &[Argument]) -> usize
-    ensures { result ≡ size.passes_size (typed.and_array (place_of array.now) (arguments_of (map argument_of more.now))) }
+fn argument_size(argument: &Argument, more: &[Argument]) -> usize
+    ensures { result ≡ given_size (argument_of argument.now) (arguments_of (map argument_of more.now)) }
 {
-    let handed = hands_over_size(found(array, arguments_call(more), 0, 0));
-    plus(place_size(array), plus(passes_size(more), handed))
+    match argument {
+        Argument::Number(ty, e) => number_size(*ty, e, more),
+        Argument::Array(array) => plus(
+            place_size(array),
+            hands_over_size(found(array, arguments_call(more), 0, 0)),
+        ),
+    }
 }
 
 #[cycle(value_sizes)]
 fn passes_size(arguments: &[Argument]) -> usize
     ensures { result ≡ size.passes_size (arguments_of (map argument_of arguments.now)) }
 {
-    match arguments.split_first() {
-        None => 0,
-        Some((Argument::Number(ty, e), more)) => number_size(*ty, e, more),
-        Some((Argument::Array(array), more)) => array_size(array, more),
+    let mut size = 0;
+    let mut rest = arguments;
+    while let Some((argument, more)) = rest.split_first() {
+        size = plus(size, argument_size(argument, more));
+        rest = more;
     }
+    size
 }
 
 /// The instructions of an expression.

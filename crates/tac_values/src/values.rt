@@ -1,6 +1,6 @@
 //! The code of expressions.
 
-ghost use Rattle.std.specs.Prelude.{◌≡◌, ◌+◌, map, ℕ, Bool, Option, OnOk, IfOk};
+ghost use Rattle.std.specs.Prelude.{◌≡◌, ◌+◌, map, drop, ℕ, Bool, Option, OnOk, IfOk};
 ghost use Rattle.srcset.specs.declared.refusal.Pos.{Pos};
 ghost use Rattle.ctypes.specs.declared.types.IntType.{IntType};
 ghost use Rattle.typing_rules.specs.Program as typed;
@@ -13,6 +13,7 @@ ghost use Rattle.tac_forms.specs.inside.FormSizes as form;
 ghost use Rattle.tac_forms.specs.inside.Parts.{meant, shape_of, Wrote};
 ghost use Rattle.tac_values.specs.inside.Sizes as size;
 ghost use Rattle.tac_values.specs.inside.Written.{WroteFinds, WroteValue, WrotePasses};
+ghost use Rattle.tac_values.specs.inside.Waiting.{Waits, Fetches, AllWait, AllFetched};
 
 use crate::operands::{keeps, operand_of, waits_for_arguments};
 use crate::operators::{put_binary, put_both, put_chosen, put_one, put_unary};
@@ -184,25 +185,6 @@ fn put_number_load(
     Ok(())
 }
 
-/// An argument, those behind it, and its move into its temporary. Where it waits is asked for twice, so that a call of many arguments
-/// leaves little of each on the host's stack.
-#[cycle(value_code)]
-fn put_number(
-    scope: &Scope<'_>,
-    code: &mut Code,
-    ty: IntType,
-    e: &Value,
-    more: &[Argument],
-    free: Free,
-) -> Result<(), AllocError>
-    ensures { OnOk result (WrotePasses (rows.sizes_in scope.now) (typed.and_number ty (value_of e.now) (arguments_of (map argument_of more.now))) free.temporary free.slot code.old.list.items code.new.list.items) }
-{
-    let less = put_waiting_number(scope, code, e, more, free)?;
-    put_passes(scope, code, more, less)?;
-    put_number_load(code, ty, e, more, free)?;
-    Ok(())
-}
-
 /// What finds an array, where its reference waits for the arguments behind it, and what is free beside it.
 #[cycle(value_code)]
 #[inline(never)]
@@ -241,25 +223,100 @@ fn put_array_reference(
     Ok(())
 }
 
-/// An array, the arguments behind it, and its reference into its temporary.
+/// An argument, where it waits for those behind it, and what is free beside it.
 #[cycle(value_code)]
-#[inline(never)]
-fn put_array(
+fn put_waiting(
     scope: &Scope<'_>,
     code: &mut Code,
-    array: &Place,
+    argument: &Argument,
+    more: &[Argument],
+    free: Free,
+) -> Result<Free, AllocError>
+    ensures { IfOk result (λ less. Waits (rows.sizes_in scope.now) (argument_of argument.now) (arguments_of (map argument_of more.now)) free less code.old.list.items code.new.list.items) }
+{
+    match argument {
+        Argument::Number(_, e) => {
+            let less = put_waiting_number(scope, code, e, more, free)?;
+            Ok(less)
+        }
+        Argument::Array(array) => {
+            let less = put_waiting_array(scope, code, array, more, free)?;
+            Ok(less)
+        }
+    }
+}
+
+/// It goes from where it waits into its temporary.
+fn put_fetched(
+    code: &mut Code,
+    argument: &Argument,
     more: &[Argument],
     free: Free,
 ) -> Result<(), AllocError>
-    ensures { OnOk result (WrotePasses (rows.sizes_in scope.now) (typed.and_array (place_of array.now) (arguments_of (map argument_of more.now))) free.temporary free.slot code.old.list.items code.new.list.items) }
+    ensures { OnOk result (Fetches (argument_of argument.now) (arguments_of (map argument_of more.now)) free code.old.list.items code.new.list.items) }
 {
-    let less = put_waiting_array(scope, code, array, more, free)?;
-    put_passes(scope, code, more, less)?;
-    put_array_reference(code, array, more, free)?;
+    match argument {
+        Argument::Number(ty, e) => {
+            put_number_load(code, *ty, e, more, free)?;
+            Ok(())
+        }
+        Argument::Array(array) => {
+            put_array_reference(code, array, more, free)?;
+            Ok(())
+        }
+    }
+}
+
+/// The arguments, each where it waits, and what was free before each.
+#[cycle(value_code)]
+fn put_all_waiting(
+    scope: &Scope<'_>,
+    code: &mut Code,
+    arguments: &[Argument],
+    first: Free,
+) -> Result<Vec<Free>, AllocError>
+    ensures { IfOk result (λ frees. AllWait (rows.sizes_in scope.now) (map argument_of arguments.now) frees.items first code.old.list.items code.new.list.items) }
+{
+    let mut frees = Vec::new(*code.list.allocator());
+    let mut free = first;
+    let mut rest = arguments;
+    while let Some((argument, more)) = rest.split_first() {
+        frees.push(free)?;
+        free = put_waiting(scope, code, argument, more, free)?;
+        rest = more;
+    }
+    Ok(frees)
+}
+
+/// The arguments, the last one first, each into its temporary.
+fn put_all_fetched(
+    code: &mut Code,
+    arguments: &[Argument],
+    frees: Vec<Free>,
+) -> Result<(), AllocError>
+    ensures { OnOk result (AllFetched (map argument_of arguments.now) frees.items code.old.list.items code.new.list.items) }
+{
+    let mut left = frees;
+    while let Some(free) = left.pop() {
+        if let Some((argument, more)) = behind(arguments, left.len()).split_first() {
+            put_fetched(code, argument, more, free)?;
+        }
+    }
     Ok(())
 }
 
-/// The arguments of a call.
+/// The arguments behind the first `count`.
+fn behind<'a>(arguments: &'a [Argument], count: usize) -> &'a [Argument]
+    ensures { result.now ≡ drop count arguments.now }
+{
+    match arguments.get(count..) {
+        None => &[],
+        Some(rest) => rest,
+    }
+}
+
+/// The arguments of a call: each is evaluated, then each goes into its temporary, the last one first. There may be as many as the
+/// source is long, so that they wait in memory and not on the host's stack.
 #[cycle(value_code)]
 fn put_passes(
     scope: &Scope<'_>,
@@ -269,17 +326,9 @@ fn put_passes(
 ) -> Result<(), AllocError>
     ensures { OnOk result (WrotePasses (rows.sizes_in scope.now) (arguments_of (map argument_of arguments.now)) free.temporary free.slot code.old.list.items code.new.list.items) }
 {
-    match arguments.split_first() {
-        None => Ok(()),
-        Some((Argument::Number(ty, e), more)) => {
-            put_number(scope, code, *ty, e, more, free)?;
-            Ok(())
-        }
-        Some((Argument::Array(array), more)) => {
-            put_array(scope, code, array, more, free)?;
-            Ok(())
-        }
-    }
+    let frees = put_all_waiting(scope, code, arguments, free)?;
+    put_all_fetched(code, arguments, frees)?;
+    Ok(())
 }
 
 #[cycle(value_code)]

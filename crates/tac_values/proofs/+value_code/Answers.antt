@@ -1,4 +1,4 @@
-use Rattle.std.proofs.Common.{◌≡◌, ◌||◌, refl, ap, map, sym, subst, length, rules, to_z, of_z, w64, false, ◌∙◌}
+use Rattle.std.proofs.Common.{◌≡◌, ◌||◌, ◌∷◌, arith, ap, map, sym, subst, length, rules, to_z, of_z, w64, false, ◌∙◌}
 use Rattle.std.proofs.Math.Facts.{to_z-of_z}
 use Rattle.typing_rules.specs.Program as typed
 use Rattle.typing_program.specs.View.{value_of, place_of, arguments_of, argument_of, moment_of}
@@ -15,8 +15,9 @@ use Rattle.tac_values.proofs.Held.{sees_constant, sees_read, sees_assigned, sees
 use Rattle.tac_forms.proofs.Held.{sees_named, sees_element}
 use Rattle.tac_forms.proofs.Parts.{two, three, four, five}
 use Rattle.tac_forms.proofs.Operated.{one_as}
-use Rattle.tac_values.proofs.Expressions.{waiting, binary_wrote, number_wrote, both_jump_wrote, one_jump_wrote, both_number_wrote, one_number_wrote, chosen_wrote, not_to, both_to, one_to}
-use Rattle.tac_values.proofs.Located.{read_object, read_memory, assigned_object, assigned_memory, compound_object, compound_memory, step_object, step_memory, element_wrote, assigned_there, compound_there, read_there, step_there, array_wrote}
+use Rattle.tac_values.proofs.Expressions.{waiting, binary_wrote, both_jump_wrote, one_jump_wrote, both_number_wrote, one_number_wrote, chosen_wrote, not_to, both_to, one_to}
+use Rattle.tac_values.proofs.Located.{read_object, read_memory, assigned_object, assigned_memory, compound_object, compound_memory, step_object, step_memory, element_wrote, assigned_there, compound_there, read_there, step_there}
+use Rattle.tac_values.proofs.Passed.{passes_of, waits_behind, all_waited, nodes_left}
 use Rattle.tac_values.proofs.+value_code.Goals as goal
 
 pub values::put_rested-returns : goal.values::put_rested-returns
@@ -99,11 +100,6 @@ values::put_waiting_array-returns t c =
       c.in_ok-slot.ensures ∙ ap (λ a. placed.free_kept_at a c.args.free.slot) ea,
       subst (λ b. WroteFinds (sizes_in c.args.scope.now) (place_of c.args.array.now) b c.args.free.temporary c.args.free.slot c.args.code.now.list.items c.put_found.new.code.list.items) ec c.in_ok-put_found.ensures,
     )
-
-pub values::put_array-returns : goal.values::put_array-returns
-values::put_array-returns t c = array_wrote (sizes_in c.args.scope.now) (place_of c.args.array.now) (arguments_of (map argument_of c.args.more.now)) c.args.free.temporary c.args.free.slot c.in_ok-less.less.temporary c.in_ok-less.less.slot
-    (lowered.arguments_call (arguments_of (map argument_of c.args.more.now))) (placed.found (place_of c.args.array.now) (lowered.arguments_call (arguments_of (map argument_of c.args.more.now))) c.args.free.temporary c.args.free.slot)
-    refl refl c.in_ok-less.ensures.0 c.in_ok-less.ensures.1 c.in_ok-less.ensures.2 c.in_ok-put_passes.ensures c.in_ok-put_array_reference.ensures
 
 pub places::put_read-returns-in_ok-put_read_object-in-Some : goal.places::put_read-returns-in_ok-put_read_object-in-Some
 places::put_read-returns-in_ok-put_read_object-in-Some t c = read_object (sizes_in c.args.scope.now) (place_of c.args.place.now) (meant c.args.mode) c.args.free.temporary c.args.free.slot c.args.ty c.in-Some.object (sym c.object_of.ensures ∙ c.in-Some.is) c.in_ok-put_read_object-in-Some.ensures
@@ -251,13 +247,6 @@ values::put_waiting_number-returns t c =
       subst (λ m. WroteValue (sizes_in c.args.scope.now) (value_of c.args.e.now) m c.args.free.temporary c.args.free.slot c.args.code.now.list.items c.put_value.new.code.list.items) (c.mode_of.ensures ∙ ap lowered.mode_of eo) c.in_ok-put_value.ensures,
     )
 
-pub values::put_number-returns : goal.values::put_number-returns
-values::put_number-returns t c =
-    let n = arguments_of (map argument_of c.args.more.now) in
-    let o = lowered.waits_in (value_of c.args.e.now) (lowered.arguments_write n) (lowered.arguments_call n) c.args.free.temporary c.args.free.slot in
-    number_wrote (sizes_in c.args.scope.now) c.args.ty (value_of c.args.e.now) n c.args.free.temporary c.args.free.slot c.in_ok-less.less.temporary c.in_ok-less.less.slot o (lowered.mode_of o) (lowered.keeps c.args.ty (value_of c.args.e.now))
-    refl refl c.in_ok-less.ensures.0 c.in_ok-less.ensures.1 refl c.in_ok-less.ensures.2 c.in_ok-put_passes.ensures c.in_ok-put_number_load.ensures
-
 pub values::put_call_node-returns : goal.values::put_call_node-returns
 values::put_call_node-returns t c = λ at u used. three c.in_ok-put.ensures c.in_ok-put_passes.ensures c.in_ok-put_call.ensures
 
@@ -331,3 +320,30 @@ pub values::put_value-returns-in_ok-put_call_node-in-Call : goal.values::put_val
 values::put_value-returns-in_ok-put_call_node-in-Call t c =
     let s = c.in-Call in
     rw (sees_call c.args.e.now s.field-0 s.callee s.field-2 s.field-3 s.arguments s.is) (rw c.deref-in-Call.ensures.value at (c.in_ok-put_call_node-in-Call.ensures s.field-0 s.field-2 s.field-3))
+
+pub values::put_passes-returns : goal.values::put_passes-returns
+values::put_passes-returns t c = passes_of (sizes_in c.args.scope.now) (map argument_of c.args.arguments.now) c.in_ok-frees.frees.items c.args.free _ _ _ c.in_ok-frees.ensures c.in_ok-put_all_fetched.ensures
+
+pub values::put_all_waiting-loop-argument-init : goal.values::put_all_waiting-loop-argument-init
+values::put_all_waiting-loop-argument-init t c = record { so_far = λ fs end x. rw c.new-frees.ensures.items x; fewer = omega arith }
+
+pub values::put_all_waiting-loop-argument-preserved : goal.values::put_all_waiting-loop-argument-preserved
+values::put_all_waiting-loop-argument-preserved t c =
+    let l = c.loop-argument in
+    let rest : l.rest.now ≡ c.in-Some.argument.now ∷ c.in-Some.more.now = search rules in
+    record {
+      so_far = waits_behind (sizes_in c.args.scope.now) c.in-Some.argument.now c.in-Some.more.now l.rest.now l.free _ l.frees.items _ _ _ _ _ _ rest l.invariant.so_far c.in_ok-push.ensures.items c.in_ok-free.ensures;
+      fewer = omega (arith, nodes_left c.in-Some.argument.now c.in-Some.more.now l.rest.now _ rest l.invariant.fewer);
+    }
+
+pub values::put_all_waiting-returns : goal.values::put_all_waiting-returns
+values::put_all_waiting-returns t c =
+    let l = c.loop-argument in
+    all_waited (sizes_in c.args.scope.now) l.rest.now l.free l.frees.items _ _ _ _ l.invariant.so_far (search rules) (search rules)
+
+pub values::put_all_waiting-put_waiting-requires : goal.values::put_all_waiting-put_waiting-requires
+values::put_all_waiting-put_waiting-requires t c =
+    let l = c.loop-argument in
+    let rest : l.rest.now ≡ c.in-Some.argument.now ∷ c.in-Some.more.now = search rules in
+    let h = nodes_left c.in-Some.argument.now c.in-Some.more.now l.rest.now _ rest l.invariant.fewer in
+    (omega (arith, h, c.decreases), tt)

@@ -1,22 +1,17 @@
-use Rattle.std.proofs.Common.{◌+◌, ◌*◌, map}
+use Rattle.std.proofs.Common.{◌≤◌, ◌+◌, ◌*◌, ◌++◌, List, map, length}
 use Rattle.typing_program.specs.View.{value_of, place_of, arguments_of, argument_of}
-use Rattle.tac_values.proofs.Nodes.{nodes, place_nodes, argument_nodes}
+use Rattle.tac_values.proofs.Nodes.{nodes, place_nodes, argument_nodes, given_nodes}
+use Rattle.tac_code.specs.declared.code.Instruction.{Instruction}
+use Rattle.tac_forms.specs.inside.Rows.{sizes_in}
+use Rattle.tac_values.specs.declared.places.Free.{Free}
+use Rattle.tac_values.specs.inside.Waiting.{AllWait}
 use Rattle.tac_values.proofs.+value_code.Given as goal
 
 abbrev pub decreases-values::put_value : goal.decreases-values::put_value
 decreases-values::put_value l = 8 * nodes (value_of l.e.now)
 
-abbrev pub decreases-values::put_passes : goal.decreases-values::put_passes
-decreases-values::put_passes l = 8 * argument_nodes (arguments_of (map argument_of l.arguments.now))
-
-abbrev pub decreases-values::put_call_node : goal.decreases-values::put_call_node
-decreases-values::put_call_node l = 8 * argument_nodes (arguments_of (map argument_of l.arguments.now)) + 1
-
 abbrev pub decreases-values::put_waiting_number : goal.decreases-values::put_waiting_number
 decreases-values::put_waiting_number l = 8 * nodes (value_of l.e.now) + 1
-
-abbrev pub decreases-values::put_number : goal.decreases-values::put_number
-decreases-values::put_number l = 8 * (nodes (value_of l.e.now) + argument_nodes (arguments_of (map argument_of l.more.now))) + 2
 
 abbrev pub decreases-values::put_rested : goal.decreases-values::put_rested
 decreases-values::put_rested l = 8 * nodes (value_of l.e.now) + 1
@@ -81,9 +76,6 @@ decreases-operators::put_chosen l = 8 * (nodes (value_of l.c.now) + (nodes (valu
 abbrev pub decreases-values::put_waiting_array : goal.decreases-values::put_waiting_array
 decreases-values::put_waiting_array l = 8 * place_nodes (place_of l.array.now) + 1
 
-abbrev pub decreases-values::put_array : goal.decreases-values::put_array
-decreases-values::put_array l = 8 * (place_nodes (place_of l.array.now) + argument_nodes (arguments_of (map argument_of l.more.now))) + 2
-
 abbrev pub decreases-places::put_element : goal.decreases-places::put_element
 decreases-places::put_element l = 8 * (place_nodes (place_of l.array.now) + nodes (value_of l.index.now)) + 2
 
@@ -119,3 +111,25 @@ decreases-places::put_step_memory l = 8 * place_nodes (place_of l.place.now) + 1
 
 abbrev pub decreases-places::put_step : goal.decreases-places::put_step
 decreases-places::put_step l = 8 * place_nodes (place_of l.place.now) + 2
+
+abbrev pub decreases-values::put_waiting : goal.decreases-values::put_waiting
+decreases-values::put_waiting l = 8 * given_nodes (argument_of l.argument.now) + 2
+
+abbrev pub decreases-values::put_all_waiting : goal.decreases-values::put_all_waiting
+decreases-values::put_all_waiting l = 8 * argument_nodes (arguments_of (map argument_of l.arguments.now))
+
+abbrev pub decreases-values::put_passes : goal.decreases-values::put_passes
+decreases-values::put_passes l = 8 * argument_nodes (arguments_of (map argument_of l.arguments.now)) + 1
+
+abbrev pub decreases-values::put_call_node : goal.decreases-values::put_call_node
+decreases-values::put_call_node l = 8 * argument_nodes (arguments_of (map argument_of l.arguments.now)) + 2
+
+abbrev pub decreases-values::put_all_waiting-loop-argument : goal.decreases-values::put_all_waiting-loop-argument
+decreases-values::put_all_waiting-loop-argument l = length l.rest
+
+abbrev pub invariant-values::put_all_waiting-loop-argument : goal.invariant-values::put_all_waiting-loop-argument
+invariant-values::put_all_waiting-loop-argument l = record {
+  so_far : (fs : List Free) (end : List Instruction) → AllWait (sizes_in l.scope) (map argument_of l.rest) fs l.free l.code.list.items end
+      → AllWait (sizes_in l.scope) (map argument_of l.arguments) (l.frees.items ++ fs) l.fn.first l.initial.code.list.items end;
+  fewer : argument_nodes (arguments_of (map argument_of l.rest)) ≤ argument_nodes (arguments_of (map argument_of l.arguments));
+}

@@ -1,9 +1,10 @@
-use Rattle.std.proofs.Common.{◌≡◌, map, ap, sym, ◌∙◌}
+use Rattle.std.proofs.Common.{◌≡◌, ◌∷◌, map, ap, sym, ◌∙◌, rules, arith}
 use Rattle.typing_rules.specs.Program as typed
-use Rattle.typing_program.specs.View.{value_of, place_of, argument_of, arguments_of, moment_of}
+use Rattle.typing_program.specs.View.{value_of, place_of, argument_of, moment_of}
 use Rattle.tac_values.specs.inside.Sizes as size
 use Rattle.tac_forms.proofs.Held.{sees_element}
 use Rattle.tac_values.proofs.Held.{sees_read, sees_assigned, sees_compound, sees_stepped, sees_unary, sees_binary}
+use Rattle.tac_values.proofs.Passed.{size_begins, size_goes, size_ends, plus_within, nodes_left}
 use Rattle.tac_values.proofs.sizes.+value_sizes.Goals as goal
 
 pub place_size-returns-in-Element : goal.place_size-returns-in-Element
@@ -60,3 +61,19 @@ value_size-returns-in-Binary t c =
     ∙ ap (λ x. size.value_size (typed.binary s.field-0 s.op s.field-2 (value_of x) (value_of c.deref-in-Binary-2.result.now)) c.args.shape) c.deref-in-Binary.ensures
     ∙ ap (λ x. size.value_size (typed.binary s.field-0 s.op s.field-2 (value_of s.a.value) (value_of x)) c.args.shape) c.deref-in-Binary-2.ensures
     ∙ ap (λ v. size.value_size v c.args.shape) (sym (sees_binary c.args.e.now s.field-0 s.op s.field-2 s.a s.b s.is))
+
+pub passes_size-loop-argument-init : goal.passes_size-loop-argument-init
+passes_size-loop-argument-init t c = record { so_far = size_begins (map argument_of c.args.arguments.now); within = omega arith; fewer = omega arith }
+
+pub passes_size-loop-argument-preserved : goal.passes_size-loop-argument-preserved
+passes_size-loop-argument-preserved t c =
+    let l = c.loop-argument in
+    let rest : l.rest.now ≡ c.in-Some.argument.now ∷ c.in-Some.more.now = search rules in
+    record {
+      so_far = size_goes l.size c.argument_size.result c.plus-size.result c.in-Some.argument.now c.in-Some.more.now l.rest.now _ rest c.argument_size.ensures c.plus-size.ensures l.invariant.so_far;
+      within = plus_within c.plus-size.result _ _ c.plus-size.ensures;
+      fewer = omega (arith, nodes_left c.in-Some.argument.now c.in-Some.more.now l.rest.now _ rest l.invariant.fewer);
+    }
+
+pub passes_size-returns : goal.passes_size-returns
+passes_size-returns t c = size_ends c.loop-argument.size c.loop-argument.rest.now _ c.loop-argument.invariant.within (search rules) c.loop-argument.invariant.so_far

@@ -1,6 +1,8 @@
-use Rattle.std.proofs.Common.{◌+◌, ◌*◌, map}
+use Rattle.std.proofs.Common.{◌≡◌, ◌≤◌, ◌+◌, ◌*◌, map, length}
 use Rattle.typing_program.specs.View.{value_of, place_of, arguments_of, argument_of}
-use Rattle.tac_values.proofs.Nodes.{nodes, place_nodes, argument_nodes}
+use Rattle.tac_values.proofs.Nodes.{nodes, place_nodes, argument_nodes, given_nodes}
+use Rattle.tac_forms.specs.inside.Parts.{plus}
+use Rattle.tac_values.specs.inside.Sizes.{passes_size}
 use Rattle.tac_values.proofs.sizes.+value_sizes.Given as goal
 
 abbrev pub decreases-value_size : goal.decreases-value_size
@@ -10,7 +12,20 @@ abbrev pub decreases-passes_size : goal.decreases-passes_size
 decreases-passes_size l = 4 * argument_nodes (arguments_of (map argument_of l.arguments.now))
 
 abbrev pub decreases-number_size : goal.decreases-number_size
-decreases-number_size l = 4 * (nodes (value_of l.e.now) + argument_nodes (arguments_of (map argument_of l.more.now))) + 1
+decreases-number_size l = 4 * nodes (value_of l.e.now) + 1
+
+abbrev pub decreases-argument_size : goal.decreases-argument_size
+decreases-argument_size l = 4 * given_nodes (argument_of l.argument.now) + 2
+
+abbrev pub decreases-passes_size-loop-argument : goal.decreases-passes_size-loop-argument
+decreases-passes_size-loop-argument l = length l.rest
+
+abbrev pub invariant-passes_size-loop-argument : goal.invariant-passes_size-loop-argument
+invariant-passes_size-loop-argument l = record {
+  so_far : plus l.size (passes_size (arguments_of (map argument_of l.rest))) ≡ passes_size (arguments_of (map argument_of l.arguments));
+  within : l.size ≤ 18446744073709551615;
+  fewer : argument_nodes (arguments_of (map argument_of l.rest)) ≤ argument_nodes (arguments_of (map argument_of l.arguments));
+}
 
 abbrev pub decreases-converted_size : goal.decreases-converted_size
 decreases-converted_size l = 4 * nodes (value_of l.e.now) + 1
@@ -53,6 +68,3 @@ decreases-compound_size l = 4 * (place_nodes (place_of l.place.now) + nodes (val
 
 abbrev pub decreases-stepped_size : goal.decreases-stepped_size
 decreases-stepped_size l = 4 * place_nodes (place_of l.place.now) + 1
-
-abbrev pub decreases-array_size : goal.decreases-array_size
-decreases-array_size l = 4 * (place_nodes (place_of l.array.now) + argument_nodes (arguments_of (map argument_of l.more.now))) + 1
