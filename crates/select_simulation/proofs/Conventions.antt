@@ -1,5 +1,5 @@
 -- The calling convention at each call of a flat program's run, and of main.
-use Rattle.std.proofs.Common.{◌≡◌, ℕ, zero, suc, ◌+◌, ◌*◌, ◌-◌, ◌%◌, ◌^◌, ◌<◌, ◌≤◌, List, ◌∷◌, [], Some, None, true, false, refl, sym, ap, ◌∙◌, subst, arith}
+use Rattle.std.proofs.Common.{◌≡◌, ℕ, zero, suc, ◌+◌, ◌*◌, ◌-◌, ◌%◌, ◌^◌, ◌<◌, ◌≤◌, List, ◌∷◌, [], map, Some, None, true, false, refl, sym, ap, ◌∙◌, subst, arith}
 use Rattle.std.specs.Prelude.{nat_lt, slice_get}
 use Rattle.std.proofs.lemmas.Bool.{ltb-true, le-ltb}
 use Rattle.memory_map.specs.MemoryMap.{stack_end}
@@ -61,6 +61,30 @@ behind_entry p input n f s c k =
     let e : suc n + k ≡ n + suc k = omega arith in
     ap (λ j. run p j (start p input)) e
     ∙ (run_split p n (suc k) (start p input) ∙ (ap (λ x. goes_on x (run p (suc k))) c.runs ∙ ap (λ x. goes_on x (run p k)) (called p s f c.next)))
+
+-- ---- calls that are the same
+
+abbrev first : List ℕ → ℕ
+first [] = 0
+first (x ∷ xs) = x
+
+abbrev others : List ℕ → List ℕ
+others [] = []
+others (x ∷ xs) = xs
+
+bytes_alike : (p : Program) (ws vs : List Frame) → map (λ w. w.function) ws ≡ map (λ w. w.function) vs → bytes_of p ws ≡ bytes_of p vs
+bytes_alike p [] [] e = refl
+bytes_alike p [] (v ∷ vs) e = absurd (let z : ⊥ = cc in z)
+bytes_alike p (w ∷ ws) [] e = absurd (let z : ⊥ = cc in z)
+bytes_alike p (w ∷ ws) (v ∷ vs) e =
+    let one : frame_bytes (function_at p w.function) ≡ frame_bytes (function_at p v.function) = ap (λ f. frame_bytes (function_at p f)) (ap first e) in
+    omega (arith, one, bytes_alike p ws vs (ap others e))
+
+own_bytes : (p : Program) (c : State) (m : ℕ) (t : State) → IsInCallee p c m t → bytes_of p t.waiting ≡ bytes_of p c.waiting
+own_bytes p c m t inner = bytes_alike p t.waiting c.waiting (ap others inner.own)
+
+own_frame : (p : Program) (c : State) (m : ℕ) (t : State) → IsInCallee p c m t → frame_bytes (function_at p t.frame.function) ≡ frame_bytes (function_at p c.frame.function)
+own_frame p c m t inner = ap (λ f. frame_bytes (function_at p f)) (ap first inner.own)
 
 is_within : (p : Program) (s : State) (f : ℕ) (x : Progress) → IsInside p (entered s f) x → IsWithin p s x
 is_within p s f (running t) lt = lt
@@ -185,7 +209,7 @@ module _ (P : Permits) (low : (a : ℕ) → P.can_execute a ≡ true → a < 2 ^
             let d = comes_then F Anything g.most (most_spent p m c) here (Matches G (running c)) (Matches G (run p m c)) g.opened
             (λ m2 x. matched_steps G ready m c m2 x bytes (λ j lj. rooms j (omega (arith, lj, le))) (λ j lt. unwatched G (omega arith) (omega arith) (run p j c))) in
             let z = standing P G t (light_run F d.j here) (real (g.k + d.j)) ready refl (subst (λ x. Matches G x (light_run F d.j here)) inner.runs d.good) (later d.j) in
-            (d.j, z.world, z.is, z.stands, record { sp = omega (arith, z.stands.sp, g.sp, sp, inner.own); aligned = z.stands.aligned });
+            (d.j, z.world, z.is, z.stands, record { sp = omega (arith, z.stands.sp, g.sp, sp, own_bytes p c m t inner, own_frame p c m t inner); aligned = z.stands.aligned });
         leaves = λ m t le inner et.
             let d = g.returns m t le inner et in
             let w = came_back g.r1 back t v (light_run F d.0 here) (real (g.k + d.0)) (ra ∙ g.ra) sp (λ j lt. held (kept j) (omega (arith, kept_above j)) (kept_low j lt)) d.1 (later d.0) in
@@ -236,7 +260,7 @@ module _ (P : Permits) (low : (a : ℕ) → P.can_execute a ≡ true → a < 2 ^
         most = opening_cost (function_at p f);
         opened = opens G s r1 b1 ready m1 f seen es room;
         returns = λ m t le inner et.
-            let d = each_entry_keeps G s t f m r1 b1 ready m1 bytes es inner.runs et inner.own (λ j lj. rooms j (omega (arith, lj, le))) (λ j lj. is_within p s f (run p j (entered s f)) (inner.inside j lj)) in
+            let d = each_entry_keeps G s t f m r1 b1 ready m1 bytes es inner.runs et (own_bytes p (entered s f) m t inner) (λ j lj. rooms j (omega (arith, lj, le))) (λ j lj. is_within p s f (run p j (entered s f)) (inner.inside j lj)) in
             (d.j, backed r1 end t (light_run F d.j (Go r2 (env f) b1 s.input s.trace)) d.good);
       }
   begun_call k steps f s (Done status h) em w bytes es rooms = absurd w
@@ -292,7 +316,7 @@ module _ (P : Permits) (low : (a : ℕ) → P.can_execute a ≡ true → a < 2 ^
             let d = comes_then F Anything (opening_cost (function_at p p.main)) (most_spent p m s) here (Matches G (running s)) (Matches G (run p m s)) opened
             (λ m2 x. matched_steps G ready m s m2 x bytes (λ j lj. rooms j (omega (arith, lj, le))) (λ j lt. unwatched G (omega arith) (omega arith) (run p j s))) in
             let out = comes_then F Anything (opening_cost (function_at p p.main) + most_spent p m s) (row (function_at p t.frame.function) instruction.Return) here (Matches G (run p m s)) (IsBack G r2 t (base + 16)) d
-            (λ m2 x. returns_out G ready r2 refl file t inner.own et m2 (subst (λ y. Matches G y m2) inner.runs x)) in
+            (λ m2 x. returns_out G ready r2 refl file t (own_bytes p (start p input) m t inner) et m2 (subst (λ y. Matches G y m2) inner.runs x)) in
             (out.j, out.good);
       }
 

@@ -7,7 +7,7 @@ use Rattle.rv32.specs.Step.{register}
 use Rattle.frames_code.specs.declared.code.Instruction.TheVariants as instruction
 use Rattle.frames_code.specs.Code.{Program, frame_bytes}
 use Rattle.frames_code.specs.Costs.{next_of}
-use Rattle.frames_code.specs.Run.{Value, word, reference, State, Progress, running, ended, stuck, entered, function_at, bytes_of, run, start}
+use Rattle.frames_code.specs.Run.{Value, word, reference, State, Progress, running, ended, stuck, active, entered, function_at, bytes_of, run, start}
 use Rattle.sim.specs.Runs as sim
 use Rattle.sim.specs.Runs.{World, Running, rvrun}
 use Rattle.select_running.specs.Whole.{Permits, fixed}
@@ -40,11 +40,11 @@ IsInside p c (running t) = bytes_of p c.waiting < bytes_of p (t.frame ∷ t.wait
 IsInside p c (ended status input trace) = Unit {0}
 IsInside p c stuck = Unit {0}
 
--- m steps after c the run is in t, in the function that was entered: it has not returned on the way, and no call of its own waits
+-- m steps after c the run is in t, in the function that was entered: it has not returned on the way, and the calls that are active are those at the entry
 pub record IsInCallee (p : Program) (c : State) (m : ℕ) (t : State) : Type 0 where
   pub runs : run p m c ≡ running t
   pub inside : (k : ℕ) → k ≤ m → IsInside p c (run p k c)
-  pub own : bytes_of p t.waiting ≡ bytes_of p c.waiting
+  pub own : active t ≡ active c
 
 -- entered at v, the function has so many bytes of the stack at u: its stack pointer is so far below, and a multiple of 16
 pub record HasFrame (bytes : ℕ) (v u : World) : Type 0 where
@@ -69,7 +69,7 @@ pub record KeepsConvention (p : Program) (env : ℕ → ℕ) (data_at : ℕ) (at
   pub runs : at k ≡ Running v
   pub enters : AtEntry data_at entry back c v
   pub has_frame : (m : ℕ) (t : State) → m ≤ steps → IsInCallee p c m t
-      → (j : ℕ) × (u : World) × (at (k + j) ≡ Running u) × StandsWith p env t u × HasFrame (frame_bytes (function_at p t.frame.function)) v u
+      → (j : ℕ) × (u : World) × (at (k + j) ≡ Running u) × StandsWith p env t u × HasFrame (frame_bytes (function_at p c.frame.function)) v u
   pub leaves : (m : ℕ) (t : State) → m ≤ steps → IsInCallee p c m t → next_of p t ≡ Some instruction.Return
       → (j : ℕ) × (w : World) × (at (k + j) ≡ Running w) × AtReturn data_at t v w
 
