@@ -1,4 +1,5 @@
 pub mod Trees
+pub mod Wraps
 pub mod Resumes
 pub mod Adequate
 pub mod Scenes

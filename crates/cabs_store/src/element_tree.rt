@@ -5,16 +5,31 @@ ghost use Rattle.meaning.specs.Store.{at_path, put_at, length_of, value_of, fill
 ghost use Rattle.meaning.specs.Store as machine;
 ghost use Rattle.cabs_store.specs.View.{parts_of, tree_of};
 
+use crate::nesting::{past_ones, wrapped};
 use std::alloc::{AllocError, Global};
 use std::mem;
 
 /// An object or a part of one (6.2.4, 6.2.5p20).
-#[derive(Drop)]
 pub enum Tree {
     /// An element's value, none while it is indeterminate (3.19.2).
     Element(Option<i64>),
     /// The elements or rows of an array.
     Array(Vec<Tree>),
+}
+
+// A loop along the last parts: a type may have as many sizes of one as its source is long.
+impl Drop for Tree {
+    fn drop(mut self) {
+        loop {
+            match self {
+                Tree::Element(_) => return,
+                Tree::Array(mut parts) => match parts.pop() {
+                    None => return,
+                    Some(last) => self = last,
+                },
+            }
+        }
+    }
 }
 
 impl Tree {
@@ -74,7 +89,19 @@ impl Tree {
     /// An object of these lengths with each element alike (6.2.4p6, 6.7.9p10).
     ///
     /// Errors: memory ran out.
+    #[cycle(fills)]
     pub fn filled(alloc: Global, value: Option<i64>, lengths: &[u32]) -> Result<Tree, AllocError>
+        ensures { IfOk result (λ t. tree_of t ≡ filled value lengths.now) }
+    {
+        let inner = past_ones(lengths);
+        let tree = Tree::rows_filled(alloc, value, inner)?;
+        let whole = wrapped(alloc, lengths.len() - inner.len(), tree)?;
+        Ok(whole)
+    }
+
+    /// The same, row by row.
+    #[cycle(fills)]
+    fn rows_filled(alloc: Global, value: Option<i64>, lengths: &[u32]) -> Result<Tree, AllocError>
         ensures { IfOk result (λ t. tree_of t ≡ filled value lengths.now) }
     {
         match lengths.split_first() {

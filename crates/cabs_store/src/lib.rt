@@ -6,6 +6,7 @@ pub mod expressions;
 pub mod frames;
 pub mod laws;
 pub mod machine;
+mod nesting;
 pub mod operands;
 pub mod operators;
 mod path;
@@ -15,6 +16,7 @@ pub mod stop;
 mod store;
 
 pub use element_tree::Tree;
+pub use nesting::{past_ones, wrapped};
 pub use path::Path;
 pub use reference::Reference;
 pub use store::Store;
