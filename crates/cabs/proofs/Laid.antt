@@ -5,6 +5,7 @@ use Rattle.std.specs.Prelude.{Some}
 use Rattle.typing_rules.specs.Types.{elements_in}
 use Rattle.cabs_store.specs.declared.element_tree.Tree.{Tree, Element, Array}
 use Rattle.cabs_store.specs.View.{tree_of, parts_of}
+use Rattle.cabs_store.specs.Nesting.{ones, wraps}
 use Rattle.cabs_store.proofs.Trees.{map_push, element_is, array_is}
 
 -- these parts, and then a row
@@ -74,3 +75,14 @@ pub object_laid : (parts : Vec Tree Global) (n i size : ℕ) (lengths inner : Li
 object_laid parts n i size lengths inner vs rest e f h all =
     array_is parts ∙ ap machine.Array (all_laid parts.items n i size (machine.laid_out inner) rest (machine.row_of n size (machine.laid_out inner) vs) (omega arith) all
     ∙ ap (λ size. machine.row_of n size (machine.laid_out inner) vs) f) ∙ ap (λ l. machine.laid_out l vs) (sym e)
+
+-- ---- lengths of one
+
+laid_ones : (k : ℕ) (ls : List ℕ) (vs : List ℤ) → machine.laid_out (ones k ls) vs ≡ wraps k (machine.laid_out ls vs)
+laid_ones zero ls vs = refl
+laid_ones (suc k) ls vs = ap (λ t. machine.Array (machine.and_part t machine.no_parts)) (laid_ones k ls vs)
+
+pub laid_within : (lengths inner : List ℕ) (vs : List ℤ) (n : ℕ) (t w : machine.Tree) → lengths ≡ ones (length lengths - length inner) inner
+    → n ≡ length lengths - length inner → t ≡ machine.laid_out inner vs → w ≡ wraps n t → w ≡ machine.laid_out lengths vs
+laid_within lengths inner vs n t w e en et ew =
+    ew ∙ ap (wraps n) et ∙ sym (laid_ones n inner vs) ∙ ap (λ k. machine.laid_out (ones k inner) vs) en ∙ ap (λ l. machine.laid_out l vs) (sym e)

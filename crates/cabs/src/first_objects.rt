@@ -8,7 +8,7 @@ ghost use Rattle.cabs_store.specs.declared.stop.Stop.TheVariants.{Memory};
 
 use cabs_steps::initialisers::element_count;
 use cabs_store::stop::Stop;
-use cabs_store::{Store, Tree};
+use cabs_store::{Store, Tree, past_ones, wrapped};
 use std::alloc::{AllocError, Global};
 use typing_program::{Program, Static};
 
@@ -48,7 +48,24 @@ fn behind<'v>(values: &'v [i64], count: usize) -> &'v [i64]
 /// An object of these lengths whose elements have these values in order, the others being zero (6.7.9p10, p21).
 ///
 /// Errors: memory ran out.
+#[cycle(layouts)]
 fn laid_out(alloc: Global, lengths: &[u32], values: &[i64]) -> Result<Tree, Stop>
+    ensures ok { IfOk result (λ t. tree_of t ≡ machine.laid_out lengths.now values.now) }
+    ensures err { IfErr result (λ e. e ≡ Memory) }
+{
+    let inner = past_ones(lengths);
+    match rows_laid_out(alloc, inner, values) {
+        Ok(object) => match wrapped(alloc, lengths.len() - inner.len(), object) {
+            Ok(whole) => Ok(whole),
+            Err(_) => Err(Stop::Memory),
+        },
+        Err(stop) => Err(stop),
+    }
+}
+
+/// The same, row by row.
+#[cycle(layouts)]
+fn rows_laid_out(alloc: Global, lengths: &[u32], values: &[i64]) -> Result<Tree, Stop>
     ensures ok { IfOk result (λ t. tree_of t ≡ machine.laid_out lengths.now values.now) }
     ensures err { IfErr result (λ e. e ≡ Memory) }
 {

@@ -4,7 +4,7 @@
     python3 tests/outside/hostile/check.py bin/cc [STACK IN KIB]
 
 Each list that a source may have is made as long as the limits allow, by macros or by hand, and each construct as deep; pp, build,
-list, interp and run each have so much stack (1536 KiB by default; that of most systems is 8192), 1.5 GB of address space
+list, interp and run each have so much stack (1024 KiB by default; that of most systems is 8192), 1.5 GB of address space
 and 60 seconds. What each source comes to follows from the rules of the language: its status, or the code of its fault.
 The last line is 'N passed, M failed'."""
 import os
@@ -100,6 +100,8 @@ ROWS = [
     ('as many arguments as nodes', 'int f(' + many('int a{}', 7900) + ') { return a7899; }\n' + body('return f(' + many('9', 7900) + ');'), None, 9),
     ('arguments that are arrays', 'char c[1];\nint f(' + many('char a{}[1]', 3900) + ') { return a3899[0]; }\n' + body('return f(' + many('c', 3900) + ');'), None, 0),
     ('nested calls of arrays', 'int c[1];\nint f(' + many('int a{}[1]', 23) + ', int b) { return b; }\n' + body('return ' + ('f(' + 'c,' * 23) * 240 + '7' + ')' * 240 + ';'), None, 7),
+    ('two nested calls of arrays', 'char c[1];\nint f(' + many('char a{}[1]', 3890) + ', int b) { return b; }\n' + body('return f(' + 'c,' * 3890 + 'f(' + 'c,' * 3890 + '7));'), None, 7),
+    ('two nested calls of numbers', 'int f(' + many('int a{}', 3900) + ') { return a3899; }\n' + body('return f(' + '1,' * 3899 + 'f(' + '1,' * 3899 + '7));'), None, 7),
     ('choices of choices', body('return ' + '(' * 120 + '1' + ' ? 1 : 0)' * 120 + ';'), None, 1),
     ('last choices', body('return ' + '0 ? 1 : ' * 240 + '8;'), None, 8),
     ('commas in a row', body('return ' + '1,' * 240 + '9;'), None, 9),
@@ -115,6 +117,8 @@ ROWS = [
     ('subscripts of signs', 'int a[1];\n' + body('return ' + 'a[+' * 120 + '0' + ']' * 120 + ';'), None, 0),
     ('subscripts in a row', 'char a' + '[1]' * 240 + ';\n' + body('return sizeof(a' + '[0]' * 239 + ') + a' + '[0]' * 240 + ';'), None, 1),
     ('dimensions', 'char a' + '[1]' * 3000 + ';\n' + body('return (int)sizeof(a);'), None, 1),
+    ('dimensions as long as the source', 'char a' + '[1]' * 200000 + ';\n' + body('return (int)sizeof(a);'), None, 1),
+    ('long dimensions of rows', 'int a[2][3]' + '[1]' * 35000 + '[2]' + '[1]' * 400 + ';\n' + body('return (int)sizeof(a);'), None, 48),
     ('dimensions of rows', 'int a[2][3]' + '[1]' * 2500 + '[2]' + '[1]' * 400 + ';\n' + body('return (int)sizeof(a);'), None, 48),
     ('dimensions in a block', body('char a' + '[1]' * 3000 + '; return (int)sizeof(a);'), None, 1),
     ('dimensions of a parameter', 'int f(char a' + '[1]' * 3000 + ') { return (int)sizeof(a[0]); }\nchar c' + '[1]' * 3000 + ';\n' + body('return f(c);'), None, 1),
@@ -184,7 +188,7 @@ def tried(cc, stack, folder, number, row):
 
 
 def main():
-    cc, stack = os.path.abspath(sys.argv[1]), int(sys.argv[2]) if len(sys.argv) > 2 else 1536
+    cc, stack = os.path.abspath(sys.argv[1]), int(sys.argv[2]) if len(sys.argv) > 2 else 1024
     passed = failed = 0
     with tempfile.TemporaryDirectory() as folder, ThreadPoolExecutor(os.cpu_count()) as pool:
         for count, wrong in pool.map(lambda it: tried(cc, stack, folder, *it), enumerate(ROWS)):
