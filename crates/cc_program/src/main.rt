@@ -1,7 +1,10 @@
 //! The program `cc`.
 #![tactic(auto)]
 
+mod aid_words;
+mod aids;
 mod late_file;
+mod run_aids;
 mod words;
 
 use anyhow::Result;
@@ -69,6 +72,9 @@ fn show(rt: &HostRuntime, error: &clap::Error) -> u8 {
 }
 
 fn answer(rt: &HostRuntime, matches: &ArgMatches<'_>) -> Result<u8> {
+    if let Some(status) = aids::answer(rt, matches)? {
+        return Ok(status);
+    }
     let Some(request) = read_request(matches) else {
         return Ok(2);
     };
