@@ -1,13 +1,13 @@
 //! The compiler asked again.
 
 use crate::sources::Sources;
-use cc::compile;
+use cc::{StackSize, compile_with};
 use srcset::{Fault, FileSet};
 use std::alloc::Global;
 
 /// The fault of a set of files, where it has one.
-pub fn fault_of(alloc: Global, set: &FileSet, main: &str) -> Option<Fault> {
-    match compile(alloc, set, main) {
+pub fn fault_of(alloc: Global, set: &FileSet, main: &str, stack: StackSize) -> Option<Fault> {
+    match compile_with(alloc, set, main, stack) {
         Ok(_) => None,
         Err(fault) => Some(fault),
     }
@@ -23,7 +23,7 @@ pub fn line_again(
     text: &[u8],
 ) -> Option<u32> {
     let set = sources.set_with(alloc, number, text)?;
-    let again = fault_of(alloc, &set, main)?;
+    let again = fault_of(alloc, &set, main, sources.stack)?;
     if again.code == fault.code && again.file.as_str() == fault.file.as_str() {
         Some(again.line)
     } else {

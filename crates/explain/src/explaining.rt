@@ -1,7 +1,6 @@
 //! The faults of a program, explained.
 
 ghost use Rattle.std.specs.Prelude.{◌≡◌, IfOk, IfSome};
-ghost use Rattle.memory_map.specs.MemoryMap.{usual_stack};
 ghost use Rattle.cc.specs.Refused.{IsRefused};
 
 use crate::asking::fault_of;
@@ -10,7 +9,7 @@ use crate::includes::Includes;
 use crate::locating::place_of;
 use crate::noting::notes;
 use crate::sources::Sources;
-use cc::compile;
+use cc::{StackSize, compile_with};
 use explain_places::{Spot, Tokens, blank, bodies};
 use srcset::{Code, Fault, FileSet};
 use std::alloc::{AllocError, Global};
@@ -37,17 +36,18 @@ pub struct Explained {
 }
 
 /// Why the program in the file `main` of the set is refused; `None` where it is not, at this stage. `names` are those of
-/// the files of the set. An error: want of memory.
+/// the files of the set, and `stack` is the size of its stack. An error: want of memory.
 pub fn explain(
     alloc: Global,
     set: &FileSet,
     names: &[&str],
     main: &str,
     stage: Stage,
+    stack: StackSize,
 ) -> Result<Option<Explained>, AllocError>
-    ensures { IfOk result (λ told. IfSome told (λ explained. IsRefused usual_stack set.now main.now explained.first.fault)) }
+    ensures { IfOk result (λ told. IfSome told (λ explained. IsRefused stack set.now main.now explained.first.fault)) }
 {
-    let fault = match compile(alloc, set, main) {
+    let fault = match compile_with(alloc, set, main, stack) {
         Ok(_) => return Ok(None),
         Err(fault) => fault,
     };
@@ -57,7 +57,7 @@ pub fn explain(
     if fault.code == Code::OutOfMemory.number() {
         return Err(AllocError);
     }
-    let mut sources = Sources::of(alloc, set, names)?;
+    let mut sources = Sources::of(alloc, set, names, stack)?;
     let includes = Includes::of(alloc, &sources, sources.number(main).unwrap_or(0))?;
     let place = place_of(alloc, &sources, main, &fault)?;
     let first = told(alloc, set, &sources, &includes, place, fault)?;
@@ -103,7 +103,7 @@ fn further(
 
 fn next_fault(alloc: Global, sources: &Sources, main: &str, stage: Stage) -> Option<Fault> {
     let set = sources.set(alloc)?;
-    let fault = fault_of(alloc, &set, main)?;
+    let fault = fault_of(alloc, &set, main, sources.stack)?;
     if fault.code != Code::OutOfMemory.number() && is_of_stage(stage, fault.code) {
         Some(fault)
     } else {

@@ -28,6 +28,8 @@ pub enum Topic {
     Macro,
     /// A call that is active, at the line that it has come to.
     Called,
+    /// The values with which an act is undefined.
+    Value,
     /// A name that may have been meant.
     Suggestion,
     /// What to write instead, or what the command takes.

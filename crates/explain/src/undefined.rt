@@ -61,10 +61,14 @@ pub fn interpreted(
     main: &str,
     input: &[u8],
     max: u64,
+    stack: StackSize,
 ) -> Result<Interpretation, AllocError> {
-    let run = run(alloc, set, main, input, max)?;
+    let run = run(alloc, set, main, input, max, stack)?;
     let undefined = match site_in(alloc, run.line.as_slice())? {
-        Some(site) => Some(explain_act(alloc, set, names, main, input, max, site)?),
+        Some(site) => {
+            let sources = Sources::of(alloc, set, names, stack)?;
+            Some(explain_act(alloc, set, &sources, main, input, max, site)?)
+        }
         None => None,
     };
     Ok(Interpretation {
@@ -81,6 +85,7 @@ fn run(
     main: &str,
     input: &[u8],
     max: u64,
+    stack: StackSize,
 ) -> Result<RunEnd, AllocError> {
     let mut port = MemPort::new(alloc, Vec::from_slice(alloc, input)?);
     let mut line = Vec::new(alloc);
@@ -93,7 +98,7 @@ fn run(
         &mut port,
         &mut io::sink(),
         &mut line,
-        StackSize::usual(),
+        stack,
     );
     Ok(RunEnd {
         status,
@@ -126,18 +131,17 @@ fn site_in(alloc: Global, line: &[u8]) -> Result<Option<Site>, AllocError> {
 fn explain_act(
     alloc: Global,
     set: &FileSet,
-    names: &[&str],
+    sources: &Sources,
     main: &str,
     input: &[u8],
     max: u64,
     site: Site,
 ) -> Result<Undefined, AllocError> {
-    let sources = Sources::of(alloc, set, names)?;
-    let place = place_of_act(alloc, &sources, main, input, max, &site)?;
+    let place = place_of_act(alloc, sources, main, input, max, &site)?;
     let mut notes = Vec::new(alloc);
     if let Some(file) = sources.number(site.file.as_str()) {
-        let includes = Includes::of(alloc, &sources, sources.number(main).unwrap_or(0))?;
-        includes.put_notes(alloc, &sources, file, &mut notes)?;
+        let includes = Includes::of(alloc, sources, sources.number(main).unwrap_or(0))?;
+        includes.put_notes(alloc, sources, file, &mut notes)?;
     }
     let help = String::from_str(alloc, act_help(site.act))?;
     put_text(alloc, Topic::Hint, help, &mut notes)?;
@@ -170,7 +174,7 @@ fn place_of_act(
     let Some(set) = sources.set_with(alloc, file, &again) else {
         return Ok(None);
     };
-    let run = run(alloc, &set, main, input, max)?;
+    let run = run(alloc, &set, main, input, max, sources.stack)?;
     let Some(found) = site_in(alloc, run.line.as_slice())? else {
         return Ok(None);
     };

@@ -29,7 +29,7 @@ pub fn put_active_calls(
     input: &[u8],
     undefined: &mut Undefined,
 ) -> Result<(), AllocError> {
-    let mut sources = Sources::of(alloc, set, names)?;
+    let mut sources = Sources::of(alloc, set, names, StackSize::usual())?;
     let mut functions = Vec::new(alloc);
     put_probes(alloc, &mut sources, &mut functions)?;
     let Some(mut probing) = sources.set(alloc) else {

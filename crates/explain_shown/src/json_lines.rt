@@ -97,6 +97,7 @@ fn put_note(alloc: Global, note: &Note, out: &mut String) -> Result<(), AllocErr
         Topic::Included => "included",
         Topic::Macro => "macro",
         Topic::Called => "called",
+        Topic::Value => "value",
         Topic::Suggestion => "suggestion",
         Topic::Hint => "hint",
     })?;

@@ -235,7 +235,7 @@ fn put_note(alloc: Global, style: Style, note: &Note, out: &mut String) -> Resul
     out.push_str(style.cyan())?;
     out.push_str(match note.topic {
         Topic::Suggestion | Topic::Hint => "help",
-        Topic::Included | Topic::Macro | Topic::Called => "note",
+        Topic::Included | Topic::Macro | Topic::Called | Topic::Value => "note",
     })?;
     out.push_str(style.end())?;
     out.push_str(": ")?;

@@ -1,10 +1,11 @@
 //! The command line of the commands that explain and show.
 
+use crate::version::VERSION;
 use clap::{Arg, ArgAction, Command, value_parser};
 use std::alloc::{AllocError, Global};
 
-/// What `cc --version` tells behind the name.
-pub const VERSION: &str = "1.0, proved with a kit of the logic dac8208d650f15bf";
+/// What `--stack` says of itself.
+const STACK_HELP: &str = "The bytes of the stack, a multiple of 4096";
 
 /// The command line with these commands.
 pub fn with_aids<'a>(alloc: Global, command: Command<'a>) -> Result<Command<'a>, AllocError> {
@@ -41,7 +42,36 @@ pub fn with_run_aids<'a>(alloc: Global, command: Command<'a>) -> Result<Command<
         .arg(flag(alloc, "trace", "Tells each instruction on standard error"))?
         .arg(trace_file)?
         .arg(at)?
-        .arg(map)
+        .arg(map)?
+        .arg(stack(alloc, "The bytes of the stack that FILE was built with, for --map"))
+}
+
+/// The options of `interp` that show more than a run.
+pub fn with_interp_aids<'a>(
+    alloc: Global,
+    command: Command<'a>,
+) -> Result<Command<'a>, AllocError> {
+    let trace_file = Arg::new(alloc, "trace-file")
+        .long("trace-file")
+        .value_name("OUT")
+        .help("Writes the trace to a file");
+    command
+        .arg(flag(
+            alloc,
+            "trace",
+            "Tells each statement and what it changes on standard error",
+        ))?
+        .arg(trace_file)
+}
+
+/// The argument of how many bytes the stack has.
+fn stack<'a>(alloc: Global, help: &'a str) -> Arg<'a> {
+    Arg::new(alloc, "stack")
+        .long("stack")
+        .value_name("N")
+        .help(help)
+        .value_parser(value_parser!(u64).range(4096..=16777216))
+        .default_value("1048576")
 }
 
 /// The argument of the main file.
@@ -86,6 +116,7 @@ fn explain<'a>(alloc: Global) -> Result<Command<'a>, AllocError> {
         )?)?
         .arg(flag(alloc, "sarif", "A SARIF 2.1.0 log, on standard output"))?
         .arg(color)?
+        .arg(stack(alloc, STACK_HELP))?
         .arg(most(alloc))
 }
 
@@ -103,6 +134,7 @@ fn frames<'a>(alloc: Global) -> Result<Command<'a>, AllocError> {
     Command::new(alloc, "frames")
         .about("Prints what each function takes of the stack, and what it calls")
         .arg(main_file(alloc))?
+        .arg(stack(alloc, STACK_HELP))?
         .arg(files(alloc))
 }
 
@@ -114,6 +146,7 @@ fn symbols<'a>(alloc: Global) -> Result<Command<'a>, AllocError> {
     Command::new(alloc, "symbols")
         .about("Writes an ELF file of a program's symbols")
         .arg(main_file(alloc))?
+        .arg(stack(alloc, STACK_HELP))?
         .arg(files(alloc))?
         .arg(out)
 }

@@ -1,0 +1,11 @@
+//! A program interpreted with a line for each statement, and the objects that it changed.
+#![tactic(auto)]
+
+mod events;
+mod script;
+mod trace_port;
+mod tracing;
+
+pub use script::Script;
+pub use trace_port::TracePort;
+pub use tracing::{TRACING, Tracing, interpret_traced, tracing};
