@@ -2,24 +2,22 @@
 
 use crate::late_file::LateFile;
 use crate::run_aids::{asks_more, run_more};
+use crate::trace_aids::{asks_trace, trace};
 use crate::words::further_files;
 use crate::{is_source, read_files, say};
 use anyhow::Result;
-use cc::{Built, compile};
+use cc::{Built, StackSize, compile_with};
+use cc_aids::{Form, Said, explain_faults, explain_run};
 use clap::ArgMatches;
 use code_map::{CodeMap, code_map, frames_table, symbol_file};
-use explain::{Explained, Stage, explain, interpreted};
-use explain_calls::put_active_calls;
-use explain_shown::{
-    Style, put_finding, put_json, put_json_undefined, put_sarif_end, put_sarif_result,
-    put_sarif_start, put_undefined,
-};
+use explain::Stage;
+use explain_shown::Style;
 use image_forms::{binary, entry, intel_hex, pieces, verilog_memory};
 use loader::LoadFault;
 use srcset::{Code, Fault, FileSet, write_text};
 use std::alloc::{AllocError, Global};
-use std::io::{BufWriter, Read, Write};
-use std::rt::{Env, Files};
+use std::io::{BufWriter, IsTerminal, Read, Write};
+use std::rt::Env;
 use std::{env, fs};
 
 /// The exit status of one of these commands; `None` where the words ask for another.
@@ -33,6 +31,7 @@ pub fn answer(rt: &HostRuntime, matches: &ArgMatches<'_>) -> Result<Option<u8>> 
         "symbols" => Ok(Some(write_symbols(rt, matches, inner)?)),
         "image" => Ok(Some(show_image(rt, inner)?)),
         "run" if asks_more(inner) => Ok(Some(run_more(rt, inner)?)),
+        "interp" if asks_trace(inner) => Ok(Some(trace(rt, matches, inner)?)),
         _ => Ok(None),
     }
 }
@@ -46,16 +45,29 @@ fn put_out(rt: &HostRuntime, bytes: &[u8], status: u8) -> u8 {
     }
 }
 
+/// The stack of the words, or the usual one where they have none; `None`, and a line is said, where its bytes are no multiple of 4096.
+pub fn stack_of(rt: &HostRuntime, inner: &ArgMatches<'_>) -> Option<StackSize> {
+    let bytes = inner.get_one::<u64>("stack").unwrap_or(0x10_0000);
+    let found = match u32::try_from(bytes) {
+        Ok(bytes) => StackSize::new(bytes),
+        Err(_) => None,
+    };
+    if found.is_none() {
+        let _said = eprintln!(rt; "error: the bytes of the stack are no multiple of 4096");
+    }
+    found
+}
+
 /// The program of the words, and the names of its files.
 #[derive(Drop)]
-struct Given<'a> {
-    set: FileSet,
-    names: Vec<&'a str>,
-    main: &'a str,
+pub struct Given<'a> {
+    pub set: FileSet,
+    pub names: Vec<&'a str>,
+    pub main: &'a str,
 }
 
 /// Reads the files of the words.
-fn read_given<'a>(
+pub fn read_given<'a>(
     rt: &HostRuntime,
     matches: &ArgMatches<'a>,
     main: &'a str,
@@ -85,6 +97,9 @@ fn explain_what<'a>(
     matches: &ArgMatches<'a>,
     inner: &ArgMatches<'a>,
 ) -> Result<u8> {
+    let Some(stack) = stack_of(rt, inner) else {
+        return Ok(2);
+    };
     let main = inner.get_str("MAIN").unwrap_or_default();
     let given = match read_given(rt, matches, main) {
         Ok(given) => given,
@@ -96,101 +111,74 @@ fn explain_what<'a>(
     } else {
         Stage::Whole
     };
-    let told = explain(rt.alloc(), &given.set, given.names.as_slice(), main, stage)?;
-    if what == "interp" && told.is_none() && !inner.get_flag("sarif") {
-        return explain_run(rt, inner, &given);
+    let form = form(rt, inner);
+    let names = given.names.as_slice();
+    let said = explain_faults(rt.alloc(), &given.set, names, main, stage, stack, form)?;
+    if what == "interp" && said.status == 0 && form != Form::Sarif {
+        return explain_what_runs(rt, inner, &given, stack);
     }
-    show_faults(rt, inner, told.as_ref())
-}
-
-/// Tells faults: 1 where there are some, else 0.
-fn show_faults(rt: &HostRuntime, inner: &ArgMatches<'_>, told: Option<&Explained>) -> Result<u8> {
-    let alloc = rt.alloc();
-    let status = if told.is_some() { 1 } else { 0 };
-    if inner.get_flag("sarif") {
-        let log = sarif(alloc, told)?;
-        return Ok(put_out(rt, log.as_bytes(), status));
-    }
-    let Some(told) = told else {
-        return Ok(0);
-    };
-    if inner.get_flag("json") {
-        let lines = json(alloc, told)?;
-        return Ok(put_out(rt, lines.as_bytes(), status));
-    }
-    let text = text(alloc, style(rt, inner), told)?;
-    let _said = rt.stderr().write_all(text.as_bytes());
-    Ok(status)
+    Ok(put_said(rt, &said))
 }
 
 /// Interprets the program over standard input, which is read to its end first; writes what it wrote, and explains its undefined
 /// act. The exit status is that of `interp`.
-fn explain_run(rt: &HostRuntime, inner: &ArgMatches<'_>, given: &Given<'_>) -> Result<u8> {
+fn explain_what_runs(
+    rt: &HostRuntime,
+    inner: &ArgMatches<'_>,
+    given: &Given<'_>,
+    stack: StackSize,
+) -> Result<u8> {
     let alloc = rt.alloc();
     let mut input = Vec::new(alloc);
     if rt.stdin().read_to_end(&mut input).is_err() {
         return Ok(say(rt, &Fault::at(alloc, Code::CannotRead, "", 0)));
     }
     let max = inner.get_one::<u64>("max").unwrap_or(1_000_000_000);
-    let names = given.names.as_slice();
-    let mut run = interpreted(alloc, &given.set, names, given.main, input.as_slice(), max)?;
-    if let Some(undefined) = &mut run.undefined {
-        put_active_calls(
-            alloc,
-            &given.set,
-            names,
-            given.main,
-            input.as_slice(),
-            undefined,
-        )?;
+    let said = explain_run(
+        alloc,
+        &given.set,
+        given.names.as_slice(),
+        given.main,
+        input.as_slice(),
+        max,
+        stack,
+        form(rt, inner),
+    )?;
+    Ok(put_said(rt, &said))
+}
+
+/// Writes what a command tells: the exit status.
+fn put_said(rt: &HostRuntime, said: &Said) -> u8 {
+    let status = put_out(rt, said.out.as_slice(), said.status);
+    if status == said.status {
+        let _said = rt.stderr().write_all(said.err.as_slice());
     }
-    if inner.get_flag("json") {
-        let mut line = String::new(alloc);
-        if let Some(undefined) = &run.undefined {
-            put_json_undefined(alloc, undefined, &mut line)?;
-        }
-        return Ok(put_out(rt, line.as_bytes(), run.status));
+    status
+}
+
+/// The form that the words ask for.
+fn form(rt: &HostRuntime, inner: &ArgMatches<'_>) -> Form {
+    if inner.get_flag("sarif") {
+        Form::Sarif
+    } else if inner.get_flag("json") {
+        Form::Json
+    } else {
+        Form::Text(style(rt, inner))
     }
-    if !write_text(&mut rt.stdout(), run.output.as_slice()) {
-        return Ok(say(rt, &Fault::at(alloc, Code::CannotWrite, "", 0)));
-    }
-    match &run.undefined {
-        Some(undefined) => {
-            let mut text = String::new(alloc);
-            put_undefined(alloc, style(rt, inner), undefined, &mut text)?;
-            let _said = rt.stderr().write_all(text.as_bytes());
-        }
-        None => {
-            let _said = rt.stderr().write_all(run.line.as_slice());
-        }
-    }
-    Ok(run.status)
 }
 
 /// Whether the text on standard error has colours.
-fn style<R: Files + Env + AllocGlobal>(rt: &R, inner: &ArgMatches<'_>) -> Style {
+fn style(rt: &HostRuntime, inner: &ArgMatches<'_>) -> Style {
     let is_coloured = match inner.get_str("color") {
         Some("always") => true,
         Some("never") => false,
-        _ => is_terminal(rt) && !is_set(rt, "NO_COLOR"),
+        _ => rt.stderr().is_terminal() && !is_set(rt, "NO_COLOR"),
     };
     if is_coloured {
         Style::Coloured
     } else {
         Style::Plain
     }
-}
-
-/// Whether standard error is a terminal, as far as the system's files tell it.
-fn is_terminal<R: Files + AllocGlobal>(rt: &R) -> bool {
-    match fs::read_link(rt, "/proc/self/fd/2") {
-        Ok(path) => is_terminal_name(path.as_str()),
-        Err(_) => false,
-    }
-}
-
-fn is_terminal_name(name: &str) -> bool {
-    name.starts_with("/dev/pts/") || name.starts_with("/dev/tty")
 }
 
 /// Whether a variable of the environment is there, and not empty.
@@ -201,40 +189,12 @@ fn is_set<R: Env + AllocGlobal>(rt: &R, name: &str) -> bool {
     }
 }
 
-fn text(alloc: Global, style: Style, told: &Explained) -> Result<String> {
-    let mut out = String::new(alloc);
-    put_finding(alloc, style, &told.first, &mut out)?;
-    for finding in &told.further {
-        put_finding(alloc, style, finding, &mut out)?;
-    }
-    Ok(out)
-}
-
-fn json(alloc: Global, told: &Explained) -> Result<String> {
-    let mut out = String::new(alloc);
-    put_json(alloc, &told.first, &mut out)?;
-    for finding in &told.further {
-        put_json(alloc, finding, &mut out)?;
-    }
-    Ok(out)
-}
-
-fn sarif(alloc: Global, told: Option<&Explained>) -> Result<String> {
-    let mut out = String::new(alloc);
-    put_sarif_start(alloc, crate::aid_words::VERSION, &mut out)?;
-    if let Some(told) = told {
-        put_sarif_result(alloc, &told.first, true, &mut out)?;
-        for finding in &told.further {
-            put_sarif_result(alloc, finding, false, &mut out)?;
-        }
-    }
-    put_sarif_end(&mut out)?;
-    Ok(out)
-}
-
 /// Builds the files and prints what each function takes.
 fn show_frames(rt: &HostRuntime, matches: &ArgMatches<'_>, inner: &ArgMatches<'_>) -> Result<u8> {
-    let built = match built(rt, matches, inner) {
+    let Some(stack) = stack_of(rt, inner) else {
+        return Ok(2);
+    };
+    let built = match built(rt, matches, inner, stack) {
         Ok(built) => built,
         Err(fault) => return Ok(say(rt, &fault)),
     };
@@ -258,11 +218,12 @@ fn built(
     rt: &HostRuntime,
     matches: &ArgMatches<'_>,
     inner: &ArgMatches<'_>,
+    stack: StackSize,
 ) -> Result<Built, Fault> {
     let main = inner.get_str("MAIN").unwrap_or_default();
     let mut set = FileSet::new(rt.alloc());
     read_files(rt, main, matches, &mut set)?;
-    compile(rt.alloc(), &set, main)
+    compile_with(rt.alloc(), &set, main, stack)
 }
 
 /// Builds the files and writes the file of symbols.
@@ -273,7 +234,10 @@ fn write_symbols(rt: &HostRuntime, matches: &ArgMatches<'_>, inner: &ArgMatches<
         let _said = eprintln!(rt; "error: OUT is one of the files that are read");
         return Ok(2);
     }
-    let built = match built(rt, matches, inner) {
+    let Some(stack) = stack_of(rt, inner) else {
+        return Ok(2);
+    };
+    let built = match built(rt, matches, inner, stack) {
         Ok(built) => built,
         Err(fault) => return Ok(say(rt, &fault)),
     };
@@ -294,7 +258,7 @@ fn put_symbols(rt: &HostRuntime, map: &CodeMap, out: &str) -> Result<u8> {
 
 /// Writes a file; answers whether all of it was written.
 fn put_file(rt: &HostRuntime, out: &str, bytes: &[u8]) -> Result<bool> {
-    let mut writer = BufWriter::new(rt.alloc(), LateFile::new(rt, out))?;
+    let mut writer = BufWriter::new(rt.alloc(), LateFile::plain(rt, out))?;
     let is_whole = write_text(&mut writer, bytes);
     Ok(writer.flush().is_ok() && is_whole)
 }

@@ -1,9 +1,10 @@
 //! `cc run` with a trace, with the machine shown after so many instructions, or with the names of functions.
 
+use crate::aids::stack_of;
 use crate::late_file::LateFile;
 use crate::{read_file, say, say_port, unread};
 use anyhow::Result;
-use cc::compile;
+use cc::{StackSize, compile_with};
 use clap::ArgMatches;
 use code_map::{CodeMap, code_map};
 use loader::{LoadFault, Loaded, load};
@@ -27,6 +28,9 @@ pub fn asks_more(inner: &ArgMatches<'_>) -> bool {
 /// Runs the executable file of the words; answers the exit status.
 pub fn run_more(rt: &HostRuntime, inner: &ArgMatches<'_>) -> Result<u8> {
     let alloc = rt.alloc();
+    let Some(stack) = stack_of(rt, inner) else {
+        return Ok(2);
+    };
     let name = inner.get_str("FILE").unwrap_or_default();
     let file = match fs::read(rt, name) {
         Ok(file) => file,
@@ -38,7 +42,7 @@ pub fn run_more(rt: &HostRuntime, inner: &ArgMatches<'_>) -> Result<u8> {
     };
     let map = match inner.get_strs("map") {
         None => None,
-        Some(sources) => match map_of(rt, sources, file.as_slice()) {
+        Some(sources) => match map_of(rt, sources, file.as_slice(), stack) {
             Ok(Some(map)) => Some(map),
             Ok(None) => {
                 let _said = eprintln!(rt; "error: FILE is not what the sources of --map build");
@@ -58,13 +62,18 @@ fn load_fault(alloc: Global, fault: LoadFault, name: &str) -> Fault {
 }
 
 /// The functions of the file that these sources build, the main one first; `None` where that is not this file.
-fn map_of(rt: &HostRuntime, sources: &[&str], file: &[u8]) -> Result<Option<CodeMap>, Fault> {
+fn map_of(
+    rt: &HostRuntime,
+    sources: &[&str],
+    file: &[u8],
+    stack: StackSize,
+) -> Result<Option<CodeMap>, Fault> {
     let mut set = FileSet::new(rt.alloc());
     for name in sources {
         read_file(rt, name, &mut set)?;
     }
     let main = sources.first().copied().unwrap_or_default();
-    let built = compile(rt.alloc(), &set, main)?;
+    let built = compile_with(rt.alloc(), &set, main, stack)?;
     if built.elf.as_slice() != file {
         return Ok(None);
     }
@@ -112,7 +121,7 @@ fn run_as_asked<P: Port>(
 ) -> Result<TraceEnd> {
     let max = inner.get_one::<u64>("max").unwrap_or(1_000_000_000);
     if let Some(path) = inner.get_str("trace-file") {
-        let mut out = BufWriter::new(rt.alloc(), LateFile::new(rt, path))?;
+        let mut out = BufWriter::new(rt.alloc(), LateFile::plain(rt, path))?;
         let end = traced_run(rt.alloc(), state, port, max, map, &mut out)?;
         return Ok(flushed(out.flush().is_ok(), end));
     }

@@ -1,7 +1,7 @@
 //! The command line.
 
-use crate::aid_words::{with_aids, with_run_aids};
 use cc::{Cmd, StackSize};
+use cc_aids::{with_aids, with_interp_aids, with_run_aids};
 use clap::{Arg, ArgAction, ArgMatches, Command, value_parser};
 use std::alloc::{AllocError, Global};
 
@@ -99,12 +99,13 @@ fn run<'a>(alloc: Global) -> Result<Command<'a>, AllocError> {
 }
 
 fn interp<'a>(alloc: Global) -> Result<Command<'a>, AllocError> {
-    Command::new(alloc, "interp")
+    let command = Command::new(alloc, "interp")
         .about("Interprets a program over standard input and output")
         .arg(main_file(alloc))?
         .arg(stack(alloc))?
         .arg(files(alloc))?
-        .arg(most(alloc).help("At most this many ticks"))
+        .arg(most(alloc).help("At most this many ticks"))?;
+    with_interp_aids(alloc, command)
 }
 
 /// The stack that a parse found, or the usual one for a command that has no word for it; `None` where its bytes are no multiple of 4096.

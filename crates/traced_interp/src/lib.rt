@@ -6,6 +6,4 @@ mod script;
 mod trace_port;
 mod tracing;
 
-pub use script::Script;
-pub use trace_port::TracePort;
-pub use tracing::{TRACING, Tracing, interpret_traced, tracing};
+pub use tracing::{Traced, Tracing, interpret_traced, tracing};

@@ -12,7 +12,7 @@ use std::io;
 use std::io::Write;
 
 /// The name of the file that includes the main one.
-pub const TRACING: &str = "zikorape-tracing.c";
+const TRACING: &str = "zikorape-tracing.c";
 
 /// What stands before the main file: each event is a byte, 0 to 9, and what belongs to it.
 const PROBES: &str = "#include <rvio.h>\n\
@@ -32,8 +32,19 @@ static int zk_truth;\n\
 /// A program with probes.
 #[derive(Drop)]
 pub struct Tracing {
-    pub set: FileSet,
-    pub script: Script,
+    set: FileSet,
+    script: Script,
+}
+
+/// How a traced run ended.
+#[derive(Drop)]
+pub struct Traced<P: Port + Drop> {
+    /// The exit status of `interp`.
+    pub status: u8,
+    /// The port of the program's own bytes.
+    pub port: P,
+    /// Whether the whole trace was written.
+    pub is_whole: bool,
 }
 
 /// The program of these files, the main one of this name, with probes. `None` where a file's tokens have no places, or a set does not
@@ -63,25 +74,35 @@ pub fn tracing(
     Ok(Some(Tracing { set, script }))
 }
 
-/// Interprets a program with probes for at most so many ticks; answers the exit status of `interp`, whose line goes to `line`.
+/// Interprets a program with probes for at most so many ticks; its own bytes come from the port and go there, and its trace goes to the writer. What
+/// `interp` says goes to `line`; where that speaks of a fault, the probes do not fit into the program.
 pub fn interpret_traced<P: Port + Drop, W: Write + Drop>(
     alloc: Global,
-    set: &FileSet,
-    port: &mut TracePort<P, W>,
+    tracing: Tracing,
+    port: P,
+    out: W,
     max: u64,
     line: &mut Vec<u8>,
-) -> u8 {
-    perform(
+) -> Traced<P> {
+    let Tracing { set, script } = tracing;
+    let mut probed = TracePort::new(alloc, port, out, script);
+    let status = perform(
         alloc,
         Cmd::Interp(max),
-        set,
+        &set,
         TRACING,
         b"",
-        port,
+        &mut probed,
         &mut io::sink(),
         line,
         widest(),
-    )
+    );
+    let (port, is_whole) = probed.finish();
+    Traced {
+        status,
+        port,
+        is_whole,
+    }
 }
 
 /// The greatest stack, since probes take room.

@@ -6,11 +6,11 @@
 Frames are held against the listing (the first instruction of a function lowers sp by its frame); symbols are read by readelf, and by objdump
 and gdb-multiarch where they are there; an image is held against the program headers, and where objcopy is there against its forms; a trace
 against the listing and the run; completions are asked of the shells that are there. The last line is 'N passed, M failed'."""
-import os, re, shutil, struct, subprocess, sys, tempfile
+import os, pty, re, select, shutil, struct, subprocess, sys, tempfile, time
 
 CC = os.path.abspath(sys.argv[1])
 ROOT = os.path.dirname(os.path.dirname(os.path.dirname(os.path.dirname(os.path.abspath(__file__)))))
-passed = failed = 0
+passed = failed = skipped = 0
 
 FACT = '''int fact(int n) { if (n < 2) return 1; return n * fact(n - 1); }
 static int twice(int x) { return x + x; }
@@ -113,10 +113,10 @@ def symbols():
                 rows = {r[3]: (int(r[1], 16), int(r[2])) for r in re.finditer(r'^ *\d+: ([0-9a-f]{8}) +(\d+) FUNC +GLOBAL DEFAULT +\d+ (\w+)$', said, re.M) for r in [(None, r[1], r[2], r[3])]}
                 check(tool, rows == wanted and 'arning' not in said and 'rror' not in said, said)
                 break
-        if shutil.which('riscv64-unknown-elf-objdump'):
+        if there('riscv64-unknown-elf-objdump'):
             said = subprocess.run(['riscv64-unknown-elf-objdump', '-d', '--disassemble=twice', 'a.sym.elf'], cwd=work, stdout=subprocess.PIPE, stderr=subprocess.STDOUT).stdout.decode()
             check('objdump', '<twice>:' in said and 'ret' in said and '<main>:' not in said, said)
-        if shutil.which('gdb-multiarch') and shutil.which('qemu-riscv32'):
+        if there('gdb-multiarch') and there('qemu-riscv32'):
             check('gdb', debugged(work))
         check('OUT is a source', cc(work, 'symbols', 'a.c', '-o', 'a.c')[0] == 2 and open(os.path.join(work, 'a.c')).read() == FACT)
         put(work, 'bad.c', 'int main(void) { return x; }\n')
@@ -163,8 +163,11 @@ def image():
         check('ihex', status == 0 and read_hex(out.decode()) == (memory, 0x11000))
         status, out, err = cc(work, 'image', 'a', '--memh')
         check('memh', status == 0 and read_memory(out.decode()) == memory)
-        if shutil.which('riscv64-unknown-elf-objcopy'):
-            put(work, 'empty', '')
+        if there('riscv64-unknown-elf-objcopy'):
+            with open(os.path.join(work, 'a.hex'), 'wb') as file:
+                file.write(cc(work, 'image', 'a', '--ihex')[1])
+            subprocess.run(['riscv64-unknown-elf-objcopy', '-I', 'ihex', '-O', 'binary', 'a.hex', 'a.bin'], cwd=work, check=True)
+            check('ihex by objcopy', open(os.path.join(work, 'a.bin'), 'rb').read() == whole)
         for words in (['image', 'a'], ['image', 'a', '--bin', '--ihex'], ['image', '--bin']):
             check(' '.join(words), cc(work, *words)[0:2] == (2, b''))
         check('no executable file', cc(work, 'image', 'a.c', '--bin') == (1, b'', 'a.c:0: 902 not ELF32 little endian\n'))
@@ -226,6 +229,109 @@ def traces():
         for words in (['--at', 'x'], ['--at', '1', '--trace'], ['--map']):
             check('run ' + ' '.join(words), cc(work, 'run', 'a', *words)[0:2] == (2, b''))
 
+# A program, and its trace by hand.
+TRACED = '''#include <rvio.h>
+int a[3];
+int twice(int n) {
+    return n + n;
+}
+int main(void) {
+    int s = 0;
+    for (int i = 0; i < 2; i++) {
+        a[i] = twice(i);
+        s += a[i];
+    }
+    rv_putbyte(104);
+    if (s == 2)
+        s--;
+    else
+        s = 9;
+    unsigned u = 3000000000u;
+    switch (s) {
+    case 1:
+        u++;
+        break;
+    default:
+        return 7;
+    }
+    while ((s = s + 1) < 3)
+        ;
+    return s;
+}
+'''
+TOLD = '''enter main
+a.c:7: int s = 0;
+    s = 0
+a.c:8: for (int i = 0; i < 2; i++) {
+    i = 0
+a.c:9: a[i] = twice(i);
+enter twice
+    n = 0
+a.c:4: return n + n;
+leave twice: 0
+    a[0] = 0
+a.c:10: s += a[i];
+    s = 0
+a.c:8: for (int i = 0; i < 2; i++) {
+    i = 1
+a.c:9: a[i] = twice(i);
+enter twice
+    n = 1
+a.c:4: return n + n;
+leave twice: 2
+    a[1] = 2
+a.c:10: s += a[i];
+    s = 2
+a.c:8: for (int i = 0; i < 2; i++) {
+    i = 2
+a.c:12: rv_putbyte(104);
+a.c:13: if (s == 2)
+a.c:14: s--;
+    s = 1
+a.c:17: unsigned u = 3000000000u;
+    u = 3000000000
+a.c:18: switch (s) {
+a.c:20: u++;
+    u = 3000000001
+a.c:21: break;
+a.c:25: while ((s = s + 1) < 3)
+    s = 2
+a.c:25: while ((s = s + 1) < 3)
+    s = 3
+a.c:27: return s;
+leave main: 3
+'''
+
+def statements():
+    """`cc interp` with a trace."""
+    with tempfile.TemporaryDirectory() as work:
+        put(work, 'a.c', TRACED)
+        check('statements', cc(work, 'interp', 'a.c', '--trace') == (3, b'h', TOLD), cc(work, 'interp', 'a.c', '--trace'))
+        status, out, err = cc(work, 'interp', 'a.c', '--trace-file', 'log')
+        check('statements to a file', (status, out, err) == (3, b'h', '') and open(os.path.join(work, 'log')).read() == TOLD and not os.access(os.path.join(work, 'log'), os.X_OK))
+        put(work, 'echo.c', '#include <rvio.h>\nint main(void) {\n    int c;\n    while ((c = rv_getbyte()) >= 0)\n        rv_putbyte(c);\n    return 1 / (c + 1);\n}\n')
+        status, out, err = cc(work, 'interp', 'echo.c', '--trace', text=b'hi')
+        check('statements to an undefined act', status == 123 and out == b'hi' and err.endswith('echo.c:6: return 1 / (c + 1);\necho.c:6: undefined U2\n') and err.count('    c = ') == 3, err)
+        put(work, 'b.c', '#include "util.h"\nint main(void) { return twice(21); }\n')
+        put(work, 'util.h', 'int twice(int x) {\n    return x + x;\n}\n')
+        status, out, err = cc(work, 'interp', 'b.c', 'util.h', '--trace')
+        check('statements of two files', status == 42 and 'util.h:2: return x + x;\nleave twice: 42\n' in err, err)
+        check('statements: budget', cc(work, 'interp', 'a.c', '--trace', '--max', '20')[0] == 124)
+        put(work, 'braces.c', '#define BEGIN {\n#define END }\nint main(void) BEGIN return 3; END\n')
+        check('statements: no functions seen', cc(work, 'interp', 'braces.c', '--trace')[:2] == (3, b''))
+        put(work, 'bad.c', 'int main(void) { return x; }\n')
+        check('statements of no program', cc(work, 'interp', 'bad.c', '--trace') == (1, b'', 'bad.c:1: 528 undeclared name\n'))
+        check('statements: OUT is a source', cc(work, 'interp', 'a.c', '--trace-file', 'a.c')[:2] == (2, b'') and open(os.path.join(work, 'a.c')).read() == TRACED)
+        check('statements: OUT cannot be made', cc(work, 'interp', 'a.c', '--trace-file', 'no/log')[0] == 1)
+        # every example ends as it does without a trace
+        for name in sorted(os.listdir(os.path.join(ROOT, 'examples'))):
+            if name.endswith('.c'):
+                path = os.path.join(ROOT, 'examples', name)
+                more = [os.path.join(ROOT, 'examples', other) for other in sorted(os.listdir(os.path.join(ROOT, 'examples'))) if other.endswith('.h')]
+                plain = cc(os.path.join(ROOT, 'examples'), 'interp', name, '--max', '200000', text=b'12 7 hello\n')
+                traced = cc(os.path.join(ROOT, 'examples'), 'interp', name, '--trace-file', os.path.join(work, 'log'), '--max', '4000000', text=b'12 7 hello\n')
+                check('statements: ' + name, plain[0] == 124 or traced == plain, plain, traced)
+
 def follows(lines):
     """Whether the registers that a trace tells are those that its additions of constants give."""
     registers, sure = [0] * 32, 0
@@ -240,18 +346,84 @@ def follows(lines):
             registers[int(number)] = int(value, 16)
     return sure > 10
 
+def terminals():
+    """What is told on a pseudo terminal while a run goes on, and nowhere else."""
+    with tempfile.TemporaryDirectory() as work:
+        put(work, 'a.c', 'int main(void) { while (1) ; }\n')
+        cc(work, 'build', 'a.c', '-o', 'a')
+        for words in (['run', 'a', '--max', '9000000000000'], ['interp', 'a.c', '--max', '9000000000000']):
+            piped = subprocess.Popen([CC, *words], cwd=work, stdin=subprocess.DEVNULL, stdout=subprocess.DEVNULL, stderr=subprocess.PIPE)
+            ours, theirs = pty.openpty()
+            shown = subprocess.Popen([CC, *words], cwd=work, stdin=subprocess.DEVNULL, stdout=subprocess.DEVNULL, stderr=theirs)
+            os.close(theirs)
+            said, start = b'', time.time()
+            while b's' not in said.split(b'cc: running, ')[-1] and time.time() - start < 60:
+                if select.select([ours], [], [], 1)[0]:
+                    said += os.read(ours, 4096)
+            took = time.time() - start
+            for one in (piped, shown):
+                one.kill()
+                one.wait()
+            os.close(ours)
+            check('a line on a terminal: ' + words[0], re.match(rb'\rcc: running, \d+ s', said) is not None and took > 1.5, said, took)
+            check('none on a pipe: ' + words[0], piped.stderr.read() == b'')
+            piped.stderr.close()
+
+def there(tool):
+    """Whether a tool is there; what is left out is told."""
+    global skipped
+    if shutil.which(tool):
+        return True
+    skipped += 1
+    print('SKIPPED for want of', tool)
+    return False
+
+def on_terminal(shell, setup, keys, wanted):
+    """What a shell on a pseudo terminal shows once these keys are typed."""
+    child, ours = pty.fork()
+    if child == 0:
+        os.chdir(ROOT)
+        os.environ['TERM'] = 'dumb'
+        os.execvp(shell[0], shell)
+    said = b''
+
+    def read(until):
+        nonlocal said
+        end = time.time() + 20
+        while until not in said and time.time() < end:
+            if select.select([ours], [], [], 0.2)[0]:
+                try:
+                    said += os.read(ours, 4096)
+                except OSError:
+                    return
+
+    os.write(ours, setup.encode() + b"\necho rea''dy\n")
+    read(b'ready\r\n')
+    said = b''
+    os.write(ours, keys.encode())
+    read(wanted.encode())
+    os.close(ours)
+    os.kill(child, 9)
+    os.waitpid(child, 0)
+    return said
+
 def surroundings():
     status, out, err = cc(ROOT, '--version')
-    check('version', status == 0 and re.match(rb'cc \d+\.\d+', out) is not None, out)
-    if shutil.which('bash'):
-        for words, wanted in ((['zkc', 'exp'], 'explain'), (['zkc', 'explain', ''], 'build interp pp'), (['zkc', 'image', 'a', '--'], '--bin --ihex --memh --help'), (['zkc', 'explain', 'build', '--color', ''], 'auto always never')):
-            script = 'source share/zkc.bash; COMP_WORDS=(%s); COMP_CWORD=%d; _zkc; echo "${COMPREPLY[@]}"' % (' '.join("'%s'" % w for w in words), len(words) - 1)
-            said = subprocess.run(['bash', '-c', script], cwd=ROOT, stdout=subprocess.PIPE).stdout.decode().strip()
-            check('bash: ' + ' '.join(words), said == wanted, said)
-    if shutil.which('zsh'):
-        check('zsh', subprocess.run(['zsh', '-n', 'share/_zkc'], cwd=ROOT).returncode == 0)
-    if shutil.which('fish'):
-        check('fish', 'explain' in subprocess.run(['fish', '-c', 'source share/zkc.fish; complete -C "zkc exp"'], cwd=ROOT, stdout=subprocess.PIPE).stdout.decode())
+    check('version', status == 0 and re.fullmatch(rb'cc \d+\.\d+, proved with the logic [0-9a-f]{16}, compiler [0-9a-f]{64}\n', out) is not None, out)
+    wanted = (('exp', 'zkc explain '), ('explain int', 'zkc explain interp '), ('image a --me', 'zkc image a --memh '), ('explain build --color al', 'zkc explain build --color always '))
+    shells = (('bash', ['bash', '--norc', '-i'], 'source share/zkc.bash'), ('zsh', ['zsh', '-f', '-i'], 'fpath=(share $fpath); autoload -Uz compinit; compinit -u -D'))
+    for name, words, setup in shells:
+        for typed, line in wanted if there(name) else ():
+            said = on_terminal(words, "PS1='> '; " + setup, 'zkc %s\t' % typed, line)
+            check('%s: %s' % (name, typed), line.encode() in said, said)
+    if there('fish'):
+        for typed, line in wanted:
+            said = subprocess.run(['fish', '--no-config', '-c', "source share/zkc.fish; complete -C 'zkc %s'" % typed], cwd=ROOT, stdout=subprocess.PIPE).stdout.decode()
+            check('fish: ' + typed, [row.split('\t')[0] for row in said.splitlines()] == [line.split()[-1]], said)
+    if there('man'):
+        done = subprocess.run(['man', '--warnings', '-l', 'share/zkc.1'], cwd=ROOT, stdout=subprocess.PIPE, stderr=subprocess.PIPE, env={**os.environ, 'MANWIDTH': '100'})
+        said = re.sub('.\b', '', done.stdout.decode())
+        check('man', done.returncode == 0 and done.stderr == b'' and all('zkc %s ' % name in said for name in ('build', 'explain', 'frames', 'symbols', 'image')), done.stderr, said[:300])
     with tempfile.TemporaryDirectory() as work:
         done = subprocess.run(['sh', os.path.join(ROOT, 'install.sh'), work], cwd=ROOT, stdout=subprocess.PIPE, stderr=subprocess.PIPE)
         check('install', done.returncode == 0 and all(os.path.exists(os.path.join(work, p)) for p in ('bin/zkc', 'share/man/man1/zkc.1', 'share/bash-completion/completions/zkc')), done.stdout, done.stderr)
@@ -260,6 +432,8 @@ frames()
 symbols()
 image()
 traces()
+statements()
+terminals()
 surroundings()
-print('%d passed, %d failed' % (passed, failed))
+print('%d passed, %d failed' % (passed, failed) + (', %d skipped' % skipped if skipped else ''))
 sys.exit(failed != 0)

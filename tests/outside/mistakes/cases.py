@@ -58,12 +58,34 @@ FURTHER = [
     ('a syntax error goes before', ['main.c:2:25: 401', 'main.c:1:22: 528'], 'int f(void) { return a; }\nint main(void) { return ; return ; }\n'.replace('return ; return ;', 'return )'  + ';')),
 ]
 
-# Undefined acts: a name, the act, the source with marks, the input, and what was written before.
+# What an int holds, as it stands behind a value that it does not.
+INT = ', and an int holds -2147483648 to 2147483647'
+
+# Undefined acts: a name, the act, the source with marks, the input, what was written before, and what is said of the values; None where
+# nothing is.
 UNDEFINED = [
-    ('sum out of range', 1, 'int main(void) { int i = 2147483647; return i «+» 1; }\n', b'', ''),
-    ('division by zero', 2, 'int main(void) { int z = 0; return 7 «/» z; }\n', b'', ''),
-    ('shift count', 3, 'int main(void) { int n = 40; return 1 «<<» n; }\n', b'', ''),
-    ('shift of a negative number', 4, 'int main(void) { int n = -1; return n «<<» 1; }\n', b'', ''),
-    ('subscript', 5, 'int a[5];\nint main(void) {\n    int i = 5;\n    return a«[»i];\n}\n', b'', ''),
-    ('behind input and output', 2, '#include <rvio.h>\nint main(void) {\n    int n = rv_getbyte() - 48;\n    rv_putbyte(111);\n    return 1 «%» n;\n}\n', b'0', 'o'),
+    ('sum out of range', 1, 'int main(void) { int i = 2147483647; return i «+» 1; }\n', b'', '', '2147483647 + 1 is 2147483648' + INT),
+    ('difference out of range', 1, 'int main(void) { int i = -2147483647; int j = 2; return i «-» j - 1; }\n', b'', '', '-2147483647 - 2 is -2147483649' + INT),
+    ('product of sums out of range', 1, 'int f(int x) { return x; }\nint main(void) { int i = 65535; return 1 + (i + 1) «*» f(i + 2) % 3; }\n', b'', '', '65536 * 65537 is 4295032832' + INT),
+    ('quotient out of range', 1, 'int main(void) { int i = -2147483647 - 1; return i «/» -1; }\n', b'', '', '-2147483648 / -1 is 2147483648' + INT),
+    ('negation out of range', 1, 'int main(void) { int i = -2147483647 - 1; return «-»i; }\n', b'', '', '-(-2147483648) is 2147483648' + INT),
+    ('step out of range', 1, 'int a[2];\nint main(void) { a[1] = 2147483647; int i = 1; return a[i]«++»; }\n', b'', '', '2147483647 + 1 is 2147483648' + INT),
+    ('step down out of range', 1, 'int main(void) { int i = -2147483647; for (;;) «--»i; }\n', b'', '', '-2147483648 - 1 is -2147483649' + INT),
+    ('compound out of range', 1, 'int main(void) { int s = 1; for (int i = 1; i < 20; i++) s «*=» i; return s; }\n', b'', '', '479001600 * 13 is 6227020800' + INT),
+    ('division by zero', 2, 'int main(void) { int z = 0; return 7 «/» z; }\n', b'', '', '7 / 0'),
+    ('unsigned remainder by zero', 2, 'int main(void) { unsigned n = 3000000000u; unsigned z = 0; return n «%» z; }\n', b'', '', '3000000000 % 0'),
+    ('shift count', 3, 'int main(void) { int n = 40; return 1 «<<» n; }\n', b'', '', 'shift by 40 of a 32-bit int'),
+    ('shift count of an unsigned number', 3, 'int main(void) { unsigned n = 32; unsigned one = 1; one «<<=» n; return one; }\n', b'', '', 'shift by 32 of a 32-bit unsigned int'),
+    ('negative shift count', 3, 'int main(void) { int n = -1; return 1 «>>» n; }\n', b'', '', 'shift by -1 of a 32-bit int'),
+    ('shift of a negative number', 4, 'int main(void) { int n = -1; return n «<<» 1; }\n', b'', '', '-1 << 1: the left operand is negative'),
+    ('shift out of range', 4, 'int main(void) { int n = 3; return n «<<» 30; }\n', b'', '', '3 << 30 is 3221225472' + INT),
+    ('subscript', 5, 'int a[5];\nint main(void) {\n    int i = 5;\n    return a«[»i];\n}\n', b'', '', 'index 5 of 5 elements of `a`'),
+    ('negative subscript', 5, 'char s[7];\nint main(void) {\n    int i = 0;\n    return s«[»i - 1];\n}\n', b'', '', 'index -1 of 7 elements of `s`'),
+    ('unsigned subscript', 5, 'short s[7];\nint main(void) {\n    unsigned i = 0;\n    return s«[»i - 1];\n}\n', b'', '', 'index 4294967295 of 7 elements of `s`'),
+    ('subscript in a row', 5, 'int m[2][3];\nint main(void) {\n    int i = 3;\n    return m[1]«[»i];\n}\n', b'', '', 'index 3 of 3 elements of `m[1]`'),
+    ('subscript of a parameter', 5, 'int at(int a[], int i) { return a«[»i]; }\nint main(void) {\n    int b[6];\n    for (int i = 0; i < 6; i++) b[i] = i;\n    return at(b, 2) + at(b, 6);\n}\n', b'', '', 'index 6 of 6 elements of `a`'),
+    ('negative subscript of a parameter', 5, 'void put(char a[], int i) { a«[»i] = 1; }\nint main(void) {\n    char b[100];\n    put(b, 99);\n    put(b, -3);\n    return 0;\n}\n', b'', '', 'index -3 of 100 elements of `a`'),
+    ('no value', 6, 'int main(void) {\n    int a[3];\n    a[0] = 1;\n    return a«[»2];\n}\n', b'', '', 'element 2 of `a` has no value'),
+    ('behind input and output', 2, '#include <rvio.h>\nint main(void) {\n    int n = rv_getbyte() - 48;\n    rv_putbyte(111);\n    return 1 «%» n;\n}\n', b'0', 'o', '1 % 0'),
+    ('operands that a macro makes', 1, '#define N 2147483647\nint main(void) { return N «+» 1; }\n', b'', '', '2147483647 + 1 is 2147483648' + INT),
 ]

@@ -103,12 +103,22 @@ def further():
         check(name + ': json', len(out.splitlines()) == len(heads) and all(json.loads(line) for line in out.splitlines()), out)
 
 def undefined():
-    for name, act, source, text, output in UNDEFINED:
+    for name, act, source, text, output, values in UNDEFINED:
         files, (file, line, column, token) = marked(source)
         status, out, err, kept = run(files, ['explain', 'interp', *words_of(files)], text)
         first = err.split('\n', 1)[0]
         check(name, status == 123 and kept and out == output and first.startswith('%s:%d:%d: U%d undefined: ' % (file, line, column, act))
               and first.endswith(" '%s'" % token), out, err)
+        check(name + ': values', err.split('\n')[3] == '  note: ' + values, err)
+        status, out, err, _ = run(files, ['explain', 'interp', '--json', *words_of(files)], text)
+        one = json.loads(out)
+        wanted = dict(file=file, line=line, column=column, code='U%d' % act, token=token)
+        check(name + ': json', status == 123 and err == '' and all(one[k] == v for k, v in wanted.items())
+              and one['notes'][0] == dict(topic='value', text=values), out)
+    calls = 'int zero(int n) {\n    if (n == 0)\n        return 1 / n;\n    return zero(n - 1);\n}\nint main(void) {\n    int s = 1;\n    s += zero(2);\n    return s;\n}\n'
+    err = run({'main.c': calls}, ['explain', 'interp', 'main.c'])[2]
+    active = [line for line in err.split('\n') if ': in `' in line]
+    check('active calls', active == ['  note: main.c:3: in `zero`', '  note: main.c:4: in `zero`', '  note: main.c:4: in `zero`', '  note: main.c:8: in `main`'], err)
 
 def others():
     good = {'main.c': '#include <rvio.h>\nint main(void) { rv_putbyte(104); return 3; }\n'}
@@ -116,10 +126,13 @@ def others():
     check('interp of what is defined', run(good, ['explain', 'interp', 'main.c'])[:3] == (3, 'h', ''))
     status, out, err, _ = run(good, ['explain', 'build', '--sarif', 'main.c'])
     check('empty log', status == 0 and is_sarif(json.loads(out)) and json.loads(out)['runs'][0]['results'] == [], out)
+    heavy = {'main.c': 'int f(void) { char a[9000]; a[0] = 1; return a[0]; }\nint main(void) { return f(); }\n'}
+    check('a small stack', run(heavy, ['explain', 'build', 'main.c', '--stack', '8192'])[2].startswith('main.c:1:5: 714 '))
+    check('a stack that serves', run(heavy, ['explain', 'build', 'main.c', '--stack', '12288'])[:3] == (0, '', ''))
     late = {'main.c': 'int main(void) { return x; }\n'}
     check('pp stops before', run(late, ['explain', 'pp', 'main.c'])[:3] == (0, '', ''))
     check('pp', run({'main.c': '#error no\n'}, ['explain', 'pp', 'main.c'])[2].startswith('main.c:1:2: 234 #error no'))
-    for words in (['explain'], ['explain', 'build'], ['explain', 'list', 'main.c'], ['explain', 'build', 'main.c', '--json', '--sarif'], ['explain', 'build', 'main.c', '--color', 'red'], ['explain', 'interp', 'main.c', '--max', '0']):
+    for words in (['explain'], ['explain', 'build'], ['explain', 'list', 'main.c'], ['explain', 'build', 'main.c', '--json', '--sarif'], ['explain', 'build', 'main.c', '--color', 'red'], ['explain', 'interp', 'main.c', '--max', '0'], ['explain', 'build', 'main.c', '--stack', '5000'], ['explain', 'build', 'main.c', '--stack', '0']):
         status, out, err, kept = run(good, words)
         check(' '.join(words), status == 2 and out == '' and err != '' and kept, err)
     status, out, err, _ = run({}, ['explain', 'build', 'main.c'])
