@@ -84,9 +84,17 @@ fn followed(alloc: Global, set: &FileSet, port: &mut MemPort) -> Vec<u8> {
         port,
         &mut io::sink(),
         &mut line,
-        StackSize::usual(),
+        widest(),
     );
     line
+}
+
+/// The greatest stack, since probes take room.
+fn widest() -> StackSize {
+    match StackSize::new(16_777_216) {
+        Some(size) => size,
+        None => StackSize::usual(),
+    }
 }
 
 fn put_notes(
