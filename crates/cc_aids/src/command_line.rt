@@ -43,7 +43,10 @@ pub fn with_run_aids<'a>(alloc: Global, command: Command<'a>) -> Result<Command<
         .arg(trace_file)?
         .arg(at)?
         .arg(map)?
-        .arg(stack(alloc, "The bytes of the stack that FILE was built with, for --map"))
+        .arg(stack(
+            alloc,
+            "The bytes of the stack that FILE was built with, for --map",
+        ))
 }
 
 /// The options of `interp` that show more than a run.

@@ -18,17 +18,17 @@ pub fn asks_trace(inner: &ArgMatches<'_>) -> bool {
 }
 
 /// Interprets the program of the words with a trace; answers the exit status.
-pub fn trace<'a>(
-    rt: &HostRuntime,
-    matches: &ArgMatches<'a>,
-    inner: &ArgMatches<'a>,
-) -> Result<u8> {
+pub fn trace<'a>(rt: &HostRuntime, matches: &ArgMatches<'a>, inner: &ArgMatches<'a>) -> Result<u8> {
     let alloc = rt.alloc();
     let Some(stack) = stack_of(rt, inner) else {
         return Ok(2);
     };
     let main = inner.get_str("MAIN").unwrap_or_default();
-    if is_source(inner.get_str("trace-file").unwrap_or_default(), main, matches) {
+    if is_source(
+        inner.get_str("trace-file").unwrap_or_default(),
+        main,
+        matches,
+    ) {
         let _said = eprintln!(rt; "error: OUT is one of the files that are read");
         return Ok(2);
     }

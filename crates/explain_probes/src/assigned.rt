@@ -7,11 +7,7 @@ use std::alloc::{AllocError, Global};
 
 /// The objects and elements that these tokens of an expression assign whatever comes, and that may be read behind it: none behind `&&`,
 /// `||` and `?`, and none in the arguments of a call.
-pub fn assigned(
-    alloc: Global,
-    words: &Words<'_>,
-    within: Span,
-) -> Result<Vec<Span>, AllocError> {
+pub fn assigned(alloc: Global, words: &Words<'_>, within: Span) -> Result<Vec<Span>, AllocError> {
     let mut found = Vec::new(alloc);
     let mut number = within.first;
     for _ in within.first..within.past {
@@ -28,7 +24,9 @@ pub fn assigned(
 
 /// The token behind this one, or behind the arguments of the call whose `(` it is.
 fn next(words: &Words<'_>, number: usize) -> usize {
-    let is_call = words.at(number) == b"(".as_slice() && number != 0 && ends_operand(words, number - 1);
+    let is_call = words.at(number) == b"(".as_slice()
+        && number != 0
+        && ends_operand(words, number - 1);
     let last = if is_call {
         close_of(words, number).unwrap_or(number)
     } else {

@@ -145,7 +145,14 @@ pub fn put_operation_probes(
         }
         OperationForm::Compound => {
             let before = format!(in alloc; "(zk_left({name}), zk_right(")?;
-            put_around(alloc, words, operation.right, before.as_str(), "))", &mut edits)?;
+            put_around(
+                alloc,
+                words,
+                operation.right,
+                before.as_str(),
+                "))",
+                &mut edits,
+            )?;
         }
         OperationForm::Step => {
             let before = format!(in alloc; "(zk_left({name}), ")?;
@@ -154,7 +161,14 @@ pub fn put_operation_probes(
         }
         OperationForm::Subscript => {
             let behind = format!(in alloc; ", sizeof({name}), sizeof({name}[0]))")?;
-            put_around(alloc, words, operation.right, "zk_index(", behind.as_str(), &mut edits)?;
+            put_around(
+                alloc,
+                words,
+                operation.right,
+                "zk_index(",
+                behind.as_str(),
+                &mut edits,
+            )?;
         }
     }
     edited(alloc, words.bytes(), edits.as_slice())
@@ -177,7 +191,11 @@ fn put_around(
     behind: &str,
     edits: &mut Vec<Edit>,
 ) -> Result<(), AllocError> {
-    put_edit(edits, words.start(span.first), String::from_str(alloc, before)?)?;
+    put_edit(
+        edits,
+        words.start(span.first),
+        String::from_str(alloc, before)?,
+    )?;
     let end = words.end(span.past.saturating_sub(1));
     put_edit(edits, end, String::from_str(alloc, behind)?)
 }

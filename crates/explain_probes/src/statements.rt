@@ -25,7 +25,11 @@ impl Told {
 
     /// The number of the object with this name, which is a new one where there is none.
     fn object(&mut self, name: String) -> Result<usize, AllocError> {
-        match self.objects.iter().position(|other| other.as_str() == name.as_str()) {
+        match self
+            .objects
+            .iter()
+            .position(|other| other.as_str() == name.as_str())
+        {
             Some(number) => Ok(number),
             None => {
                 let number = self.objects.len();
@@ -114,7 +118,8 @@ impl Prober {
         let name = list.saturating_sub(1);
         self.keep_specifiers(alloc, words, first, name)?;
         let count = told.functions.len();
-        told.functions.push(String::from_str(alloc, text_of(words.at(name)))?)?;
+        told.functions
+            .push(String::from_str(alloc, text_of(words.at(name)))?)?;
         let objects = parameters(alloc, words, list, open.saturating_sub(1))?;
         let values = tells(alloc, words, objects.as_slice(), "; ", told)?;
         let entered = format!(in alloc; " zk_enter({count}); {values}")?;
@@ -241,7 +246,11 @@ impl Prober {
         let mut before = self.line(alloc, words, number)?;
         before.push_str(", (")?;
         put_edit(&mut self.edits, words.end(open), before)?;
-        put_edit(&mut self.edits, words.start(close), String::from_str(alloc, ")")?)?;
+        put_edit(
+            &mut self.edits,
+            words.start(close),
+            String::from_str(alloc, ")")?,
+        )?;
         Ok(close.saturating_add(1))
     }
 
@@ -304,7 +313,11 @@ impl Prober {
         if end == number.saturating_add(1) {
             let before = format!(in alloc; "{{ {line}; zk_leave(); ")?;
             put_edit(&mut self.edits, words.start(number), before)?;
-            put_edit(&mut self.edits, words.end(end), String::from_str(alloc, " }")?)?;
+            put_edit(
+                &mut self.edits,
+                words.end(end),
+                String::from_str(alloc, " }")?,
+            )?;
             return Ok(end.saturating_add(1));
         }
         let specifiers = self.specifiers.as_str();
@@ -331,8 +344,16 @@ impl Prober {
             return Ok(usize::MAX);
         };
         let line = self.line(alloc, words, number)?;
-        put_edit(&mut self.edits, words.start(number), format!(in alloc; "{{ {line}; ")?)?;
-        put_edit(&mut self.edits, words.end(end), format!(in alloc; " {values}}}")?)?;
+        put_edit(
+            &mut self.edits,
+            words.start(number),
+            format!(in alloc; "{{ {line}; ")?,
+        )?;
+        put_edit(
+            &mut self.edits,
+            words.end(end),
+            format!(in alloc; " {values}}}")?,
+        )?;
         Ok(end.saturating_add(1))
     }
 
@@ -374,8 +395,16 @@ impl Prober {
         let objects = initialised(alloc, words, within)?;
         let values = tells(alloc, words, objects.as_slice(), "; ", told)?;
         let line = self.line(alloc, words, number)?;
-        put_edit(&mut self.edits, words.start(number), format!(in alloc; "{line}; ")?)?;
-        put_edit(&mut self.edits, words.end(past), format!(in alloc; " {values}")?)?;
+        put_edit(
+            &mut self.edits,
+            words.start(number),
+            format!(in alloc; "{line}; ")?,
+        )?;
+        put_edit(
+            &mut self.edits,
+            words.end(past),
+            format!(in alloc; " {values}")?,
+        )?;
         Ok(past.saturating_add(1))
     }
 }

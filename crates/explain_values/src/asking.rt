@@ -101,17 +101,27 @@ pub fn ask(
 
 /// The text of the file that includes the main one.
 fn first_file(alloc: Global, main: &str, asked: Asked) -> Result<Vec<u8>, AllocError> {
-    let left = if asked.is_left_unsigned { "unsigned" } else { "signed" };
-    let right = if asked.is_right_unsigned { "unsigned" } else { "signed" };
+    let left = if asked.is_left_unsigned {
+        "unsigned"
+    } else {
+        "signed"
+    };
+    let right = if asked.is_right_unsigned {
+        "unsigned"
+    } else {
+        "signed"
+    };
     let (turn, trial) = (asked.turn, asked.trial);
     let mut text = String::from_str(alloc, PROBES)?;
-    text.push_str(
-        format!(in alloc; "#define zk_left(E) zk_{left}_left(zk_is_unsigned(E), (E))\n")?.as_str(),
-    )?;
-    text.push_str(
-        format!(in alloc; "#define zk_right(E) zk_{right}_right(zk_is_unsigned(E), (E))\n")?.as_str(),
-    )?;
-    text.push_str(format!(in alloc; "#define zk_turn {turn}\n#define zk_trial {trial}\n")?.as_str())?;
+    text.push_str(format!(in alloc;
+        "#define zk_left(E) zk_{left}_left(zk_is_unsigned(E), (E))\n"
+    )?.as_str())?;
+    text.push_str(format!(in alloc;
+        "#define zk_right(E) zk_{right}_right(zk_is_unsigned(E), (E))\n"
+    )?.as_str())?;
+    text.push_str(format!(in alloc;
+        "#define zk_turn {turn}\n#define zk_trial {trial}\n"
+    )?.as_str())?;
     text.push_str(format!(in alloc; "#include \"{main}\"\n")?.as_str())?;
     Ok(text.into_bytes())
 }

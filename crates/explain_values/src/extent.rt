@@ -34,7 +34,15 @@ pub fn extent(
         turn: count,
         trial: 0,
     };
-    if index.number >= 0 && !is_outside(alloc, probed, undefined, asked, index.number.min(0x7fff_ffff) as u32)? {
+    if index.number >= 0
+        && !is_outside(
+            alloc,
+            probed,
+            undefined,
+            asked,
+            index.number.min(0x7fff_ffff) as u32,
+        )?
+    {
         return Ok(None);
     }
     match above(alloc, probed, undefined, asked)? {

@@ -5,6 +5,7 @@ use std::alloc::{AllocError, Global};
 
 /// The least and the greatest `int`.
 const LEAST: i64 = -2147483648;
+
 const GREATEST: i64 = 2147483647;
 
 /// What the operator of this spelling gives where that is out of range for a signed operation (6.5p5); `None` where it is not.
@@ -58,23 +59,25 @@ pub fn operands_text(
     let (a, b, sign) = (left.number, right.number, shown(operator));
     match act {
         1 => match out_of_range(operator, a, b) {
-            Some(value) => Ok(Some(
-                format!(in alloc; "{a} {sign} {b} is {value}, and an int holds {LEAST} to {GREATEST}")?,
-            )),
+            Some(value) => Ok(Some(format!(in alloc;
+                "{a} {sign} {b} is {value}, and an int holds {LEAST} to {GREATEST}"
+            )?)),
             None => Ok(None),
         },
         2 if b == 0 => Ok(Some(format!(in alloc; "{a} {sign} 0")?)),
         3 if b < 0 || b > 31 => {
-            let kind = if left.is_unsigned { "unsigned int" } else { "int" };
+            let kind = if left.is_unsigned {
+                "unsigned int"
+            } else {
+                "int"
+            };
             Ok(Some(format!(in alloc; "shift by {b} of a 32-bit {kind}")?))
         }
-        4 if a < 0 => Ok(Some(
-            format!(in alloc; "{a} {sign} {b}: the left operand is negative")?,
-        )),
+        4 if a < 0 => Ok(Some(format!(in alloc; "{a} {sign} {b}: the left operand is negative")?)),
         4 => match out_of_range(operator, a, b) {
-            Some(value) => Ok(Some(
-                format!(in alloc; "{a} {sign} {b} is {value}, and an int holds {LEAST} to {GREATEST}")?,
-            )),
+            Some(value) => Ok(Some(format!(in alloc;
+                "{a} {sign} {b} is {value}, and an int holds {LEAST} to {GREATEST}"
+            )?)),
             None => Ok(None),
         },
         _ => Ok(None),
@@ -86,9 +89,7 @@ pub fn negation_text(alloc: Global, left: Value) -> Result<Option<String>, Alloc
     if left.is_unsigned || left.number != LEAST {
         return Ok(None);
     }
-    Ok(Some(
-        format!(in alloc; "-({LEAST}) is 2147483648, and an int holds {LEAST} to {GREATEST}")?,
-    ))
+    Ok(Some(format!(in alloc; "-({LEAST}) is 2147483648, and an int holds {LEAST} to {GREATEST}")?))
 }
 
 /// What a subscript makes undefined about the act of this number, in the array of this name.
@@ -100,16 +101,14 @@ pub fn subscript_text(
     extent: Option<u32>,
 ) -> Result<Option<String>, AllocError> {
     match (act, extent) {
-        (5, Some(count)) if index < 0 || index >= count as i64 => Ok(Some(
-            format!(in alloc; "index {index} of {count} elements of `{name}`")?,
-        )),
+        (5, Some(count)) if index < 0 || index >= count as i64 => Ok(Some(format!(in alloc;
+            "index {index} of {count} elements of `{name}`"
+        )?)),
         (5, _) => Ok(Some(format!(in alloc; "index {index} of `{name}`")?)),
-        (6, _) => Ok(Some(
-            format!(in alloc; "element {index} of `{name}` has no value")?,
-        )),
-        (7, _) => Ok(Some(
-            format!(in alloc; "element {index} of `{name}` is of a string literal")?,
-        )),
+        (6, _) => Ok(Some(format!(in alloc; "element {index} of `{name}` has no value")?)),
+        (7, _) => Ok(Some(format!(in alloc;
+            "element {index} of `{name}` is of a string literal"
+        )?)),
         _ => Ok(None),
     }
 }

@@ -5,9 +5,7 @@ use crate::events::{Seen, Value};
 use crate::extent::extent;
 use crate::telling::{negation_text, operands_text, subscript_text};
 use explain::{Note, Sources, Topic, Undefined};
-use explain_probes::{
-    Operation, OperationForm, Words, operation_at, put_operation_probes,
-};
+use explain_probes::{Operation, OperationForm, Words, operation_at, put_operation_probes};
 use std::alloc::{AllocError, Global};
 
 /// How many ticks the program is run again at most.
@@ -102,7 +100,9 @@ fn told(
         is_unsigned: false,
     };
     match operation.form {
-        OperationForm::Subscript => subscript_told(alloc, probed, undefined, words, operation, seen),
+        OperationForm::Subscript => subscript_told(
+            alloc, probed, undefined, words, operation, seen,
+        ),
         OperationForm::Negation => match seen.left {
             Some(left) if undefined.act == 1 => negation_text(alloc, left),
             _ => Ok(None),
@@ -133,7 +133,15 @@ fn subscript_told(
     };
     let name = words.text(alloc, operation.left)?;
     let count = if undefined.act == 5 {
-        extent(alloc, probed, undefined, index, seen.bytes, seen.element, seen.count)?
+        extent(
+            alloc,
+            probed,
+            undefined,
+            index,
+            seen.bytes,
+            seen.element,
+            seen.count,
+        )?
     } else {
         None
     };
