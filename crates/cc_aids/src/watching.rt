@@ -1,5 +1,7 @@
 //! A port that tells on a terminal that a run goes on.
 
+ghost use Rattle.std.specs.Prelude.{◌≡◌};
+
 use meaning_ports::{Port, PortFault};
 use std::time::{Clock, Instant};
 
@@ -37,14 +39,18 @@ impl<'a, R: Clock + Eprint, P: Port + Drop> Watching<'a, R, P> {
     }
 
     /// Takes back what is told.
-    pub fn clear(&mut self) {
+    pub fn clear(&mut self)
+        ensures { self.new.inner ≡ self.old.inner }
+    {
         if self.told != 0 {
             self.told = 0;
             let _cleared = eprint!(self.rt; "\r\x1b[K");
         }
     }
 
-    fn tell(&mut self) {
+    fn tell(&mut self)
+        ensures { self.new.inner ≡ self.old.inner }
+    {
         let Some(start) = self.start else {
             return;
         };

@@ -1,5 +1,7 @@
 //! A port that takes the events of probes out of what a program puts.
 
+ghost use Rattle.std.specs.Prelude.{◌≡◌};
+
 use crate::events::{Coming, Event};
 use crate::script::Script;
 use meaning_ports::{Port, PortFault};
@@ -46,7 +48,9 @@ impl<P: Port + Drop, W: Write + Drop> TracePort<P, W> {
     }
 
     /// Writes what an event is shown as. What cannot be written is left out, and then the trace is not whole.
-    fn tell(&mut self, event: Event) {
+    fn tell(&mut self, event: Event)
+        ensures { self.new.inner ≡ self.old.inner }
+    {
         match self.script.shown(self.alloc, event) {
             Ok(text) => {
                 if !write_text(&mut self.out, text.as_bytes()) {
