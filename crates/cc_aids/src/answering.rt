@@ -4,7 +4,7 @@ ghost use Rattle.std.specs.Prelude.{◌≤◌, IfOk};
 
 use crate::version::VERSION;
 use cc::StackSize;
-use explain::{Explained, Sources, Stage, explain, interpreted};
+use explain::{Explained, Interpretation, Sources, Stage, Undefined, explain, interpreted};
 use explain_calls::put_active_calls;
 use explain_shown::{
     Style, put_finding, put_json, put_json_undefined, put_sarif_end, put_sarif_result,
@@ -120,32 +120,56 @@ pub fn explain_run(
     stack: StackSize,
     form: Form,
 ) -> Result<Said, AllocError> {
-    let mut run = interpreted(alloc, set, names, main, input, max, stack)?;
-    let mut told = String::new(alloc);
-    if let Some(undefined) = &mut run.undefined {
-        let sources = Sources::of(alloc, set, names, stack)?;
-        put_values(alloc, &sources, main, input, undefined)?;
-        put_active_calls(alloc, set, names, main, input, undefined)?;
-        match form {
-            Form::Text(style) => put_undefined(alloc, style, undefined, &mut told)?,
-            Form::Json | Form::Sarif => put_json_undefined(alloc, undefined, &mut told)?,
+    let Interpretation {
+        status,
+        output,
+        line,
+        undefined,
+    } = interpreted(alloc, set, names, main, input, max, stack)?;
+    let told = match undefined {
+        Some(act) => {
+            let sources = Sources::of(alloc, set, names, stack)?;
+            explained_act(alloc, set, &sources, names, main, input, form, act)?
         }
-    }
+        None => String::new(alloc),
+    };
     if !matches!(form, Form::Text(_)) {
         return Ok(Said {
             out: told.into_bytes(),
             err: Vec::new(alloc),
-            status: run.status,
+            status,
         });
     }
     let err = if told.is_empty() {
-        run.line
+        line
     } else {
         told.into_bytes()
     };
     Ok(Said {
-        out: run.output,
+        out: output,
         err,
-        status: run.status,
+        status,
     })
+}
+
+/// An undefined act in a form, with its values and the calls behind it.
+fn explained_act(
+    alloc: Global,
+    set: &FileSet,
+    sources: &Sources,
+    names: &[&str],
+    main: &str,
+    input: &[u8],
+    form: Form,
+    act: Undefined,
+) -> Result<String, AllocError> {
+    let mut act = act;
+    put_values(alloc, sources, main, input, &mut act)?;
+    put_active_calls(alloc, set, names, main, input, &mut act)?;
+    let mut told = String::new(alloc);
+    match form {
+        Form::Text(style) => put_undefined(alloc, style, &act, &mut told)?,
+        Form::Json | Form::Sarif => put_json_undefined(alloc, &act, &mut told)?,
+    }
+    Ok(told)
 }

@@ -120,7 +120,7 @@ fn first_file(alloc: Global, main: &str, asked: Asked) -> Result<Vec<u8>, AllocE
         "#define zk_right(E) zk_{right}_right(zk_is_unsigned(E), (E))\n"
     )?.as_str())?;
     text.push_str(format!(in alloc;
-        "#define zk_turn {turn}\n#define zk_trial {trial}\n"
+        "#define zk_turn {turn}\n#define zk_trial {trial}u\n"
     )?.as_str())?;
     text.push_str(format!(in alloc; "#include \"{main}\"\n")?.as_str())?;
     Ok(text.into_bytes())

@@ -48,15 +48,15 @@ pub fn seen_in(events: &[u8]) -> Seen {
 
 /// Notes an event.
 fn note(seen: &mut Seen, kind: u8, body: &[u8]) {
-    let word = word(body);
+    let first = word(body);
     match kind {
-        1 => seen.left = Some(signed(word)),
-        2 => seen.left = Some(unsigned(word)),
-        3 => seen.right = Some(signed(word)),
-        4 => seen.right = Some(unsigned(word)),
+        1 => seen.left = Some(signed(first)),
+        2 => seen.left = Some(unsigned(first)),
+        3 => seen.right = Some(signed(first)),
+        4 => seen.right = Some(unsigned(first)),
         5 => {
-            seen.bytes = word;
-            seen.element = self::word(body.get(4..).unwrap_or_default());
+            seen.bytes = first;
+            seen.element = word(body.get(4..).unwrap_or_default());
             seen.count = seen.count.saturating_add(1);
         }
         _ => {}

@@ -34,16 +34,10 @@ pub fn extent(
         turn: count,
         trial: 0,
     };
-    if index.number >= 0
-        && !is_outside(
-            alloc,
-            probed,
-            undefined,
-            asked,
-            index.number.min(0x7fff_ffff) as u32,
-        )?
-    {
-        return Ok(None);
+    if let Ok(trial) = u32::try_from(index.number) {
+        if !is_outside(alloc, probed, undefined, asked, trial)? {
+            return Ok(None);
+        }
     }
     match above(alloc, probed, undefined, asked)? {
         Some(high) => Ok(Some(least(alloc, probed, undefined, asked, high)?)),

@@ -14,11 +14,11 @@ const MAX_TICKS: u64 = 20_000_000;
 /// Puts a note, before all others, with the values that make the act undefined: the program is interpreted again with probes at the operation
 /// that its place begins. Nothing is put where that run does not end with the same act at the same line, or where the values would
 /// make nothing undefined.
-pub fn put_values(
+pub fn put_values<'a>(
     alloc: Global,
-    sources: &Sources,
-    main: &str,
-    input: &[u8],
+    sources: &'a Sources,
+    main: &'a str,
+    input: &'a [u8],
     undefined: &mut Undefined,
 ) -> Result<(), AllocError> {
     let Some(place) = undefined.shown.place else {

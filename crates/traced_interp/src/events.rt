@@ -71,11 +71,10 @@ fn length(kind: u8) -> usize {
 
 /// The event of a kind with these bytes.
 fn event(kind: u8, body: &[u8; 8]) -> Event {
-    let [a, b, c, d, e, f, g, h] = *body;
-    let first = u32::from_le_bytes([a, b, c, d]);
-    let second = u32::from_le_bytes([e, f, g, h]);
+    let first = u32::from_le_bytes([body[0], body[1], body[2], body[3]]);
+    let second = u32::from_le_bytes([body[4], body[5], body[6], body[7]]);
     match kind {
-        0 => Event::Byte(a),
+        0 => Event::Byte(body[0]),
         1 => Event::Enter(first),
         2 => Event::Leave,
         3 => Event::Line(first),

@@ -38,11 +38,12 @@ impl<P: Port + Drop, W: Write + Drop> TracePort<P, W> {
         let TracePort {
             alloc: _,
             inner,
-            mut out,
-            script: _,
+            out,
+            script: _script,
             coming: _,
             is_whole,
         } = self;
+        let mut out = out;
         let is_flushed = out.flush().is_ok();
         (inner, is_whole && is_flushed)
     }
