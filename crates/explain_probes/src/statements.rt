@@ -1,7 +1,7 @@
 //! Sources that tell each statement, and what it gives values to.
 
 use crate::assigned::{assigned, initialised, parameters};
-use crate::edits::{Edit, edited, put_edit};
+use crate::edits::{Edit, edited, put_edit, put_instead};
 use crate::spans::{close_of, find_flat, open_of};
 use crate::words::{Span, Words, is_name, is_type_word};
 use std::alloc::{AllocError, Global};
@@ -172,7 +172,7 @@ impl Prober {
             b"switch" => self.switch(alloc, words, number),
             b"for" => self.for_head(alloc, words, number, told),
             b"return" => self.return_of(alloc, words, number),
-            b"break" | b"continue" => self.plain(alloc, words, number, "", told),
+            b"break" | b"continue" => self.plain(alloc, words, number, ""),
             word if is_type_word(word) => self.declaration(alloc, words, number, told),
             _ => self.expression(alloc, words, number, told),
         }
@@ -322,12 +322,13 @@ impl Prober {
         }
         let specifiers = self.specifiers.as_str();
         let before = format!(in alloc; "{{ {line}; {specifiers}zk_value = (")?;
-        put_edit(&mut self.edits, words.start(number), before)?;
+        let (start, past) = (words.start(number), words.end(number));
+        put_instead(&mut self.edits, start, past, before)?;
         let behind = String::from_str(
             alloc,
             "); zk_result((1 ? -1 : zk_value) > 0, zk_value); return zk_value; }",
         )?;
-        put_edit(&mut self.edits, words.start(end), behind)?;
+        put_instead(&mut self.edits, words.start(end), words.end(end), behind)?;
         Ok(end.saturating_add(1))
     }
 
@@ -338,7 +339,6 @@ impl Prober {
         words: &Words<'_>,
         number: usize,
         values: &str,
-        _told: &mut Told,
     ) -> Result<usize, AllocError> {
         let Some(end) = find_flat(words, number, b";") else {
             return Ok(usize::MAX);
@@ -374,7 +374,7 @@ impl Prober {
         };
         let objects = assigned(alloc, words, within)?;
         let values = tells(alloc, words, objects.as_slice(), "; ", told)?;
-        self.plain(alloc, words, number, values.as_str(), told)
+        self.plain(alloc, words, number, values.as_str())
     }
 
     /// A declaration, which stays in its block.
