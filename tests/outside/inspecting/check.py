@@ -346,6 +346,23 @@ def follows(lines):
             registers[int(number)] = int(value, 16)
     return sure > 10
 
+def refused():
+    """Bad words and files for each of these commands: a line, status 2 or 1, and nothing is written."""
+    with tempfile.TemporaryDirectory() as work:
+        put(work, 'a.c', FACT)
+        cc(work, 'build', 'a.c', '-o', 'a')
+        before = sorted(os.listdir(work))
+        usage = (['frames', 'a.c', '--stack', '5000'], ['frames', 'a.c', '--stack', '0'], ['symbols', 'a.c'], ['symbols', '-o', 'x'], ['symbols', 'a.c', '-o', 'x', '--stack', '5000'],
+                 ['image'], ['image', 'a', '--hex'], ['image', 'a', 'b', '--bin'], ['interp', 'a.c', '--trace-file'], ['interp', 'a.c', '--trace', '--stack', '5000'], ['interp', '--trace'],
+                 ['run', 'a', '--map', 'a.c', '--stack', '5000'], ['run', 'a', '--trace-file'], ['run', 'a', '--at', '-1'], ['frames', 'a.c', '--json'], ['explained', 'a.c'])
+        faults = (['frames', 'none.c'], ['frames', 'a'], ['symbols', 'none.c', '-o', 'x'], ['symbols', 'a.c', '-o', 'none/x'], ['image', 'none', '--bin'], ['image', 'a.c', '--memh'], ['interp', 'none.c', '--trace'],
+                  ['interp', 'none.c', '--trace-file', 'x'], ['run', 'none', '--trace'], ['run', 'a', '--map', 'none.c'], ['run', 'a', '--trace-file', 'none/x'], ['explain', 'build', 'none.c'])
+        for status, rows in ((2, usage), (1, faults)):
+            for words in rows:
+                done = cc(work, *words)
+                lines = done[2].splitlines()
+                check('refused: ' + ' '.join(words), done[:2] == (status, b'') and lines and (lines[0].startswith('error: ') if status == 2 else len(lines) == 1) and sorted(os.listdir(work)) == before, done)
+
 def terminals():
     """What is told on a pseudo terminal while a run goes on, and nowhere else."""
     with tempfile.TemporaryDirectory() as work:
@@ -433,6 +450,7 @@ symbols()
 image()
 traces()
 statements()
+refused()
 terminals()
 surroundings()
 print('%d passed, %d failed' % (passed, failed) + (', %d skipped' % skipped if skipped else ''))
