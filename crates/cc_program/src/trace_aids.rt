@@ -10,7 +10,7 @@ use explain::Sources;
 use meaning_ports::IoPort;
 use srcset::{Code, Fault};
 use std::io::{BufReader, BufWriter, Write};
-use traced_interp::{Tracing, interpret_traced, tracing};
+use traced_interp::{Tracing, interpret_traced, with_probes};
 
 /// Whether the words of `cc interp` ask for a trace.
 pub fn asks_trace(inner: &ArgMatches<'_>) -> bool {
@@ -51,7 +51,7 @@ fn trace_given(
 ) -> Result<u8> {
     let alloc = rt.alloc();
     let sources = Sources::of(alloc, &given.set, given.names.as_slice(), stack)?;
-    let Some(found) = tracing(alloc, &sources, given.main)? else {
+    let Some(found) = with_probes(alloc, &sources, given.main)? else {
         return Ok(untraced(rt));
     };
     match inner.get_str("trace-file") {

@@ -55,7 +55,7 @@ impl Coming {
             return None;
         }
         self.is_open = false;
-        Some(event(self.kind, &self.body))
+        Some(event_of(self.kind, &self.body))
     }
 }
 
@@ -70,7 +70,7 @@ fn length(kind: u8) -> usize {
 }
 
 /// The event of a kind with these bytes.
-fn event(kind: u8, body: &[u8; 8]) -> Event {
+fn event_of(kind: u8, body: &[u8; 8]) -> Event {
     let first = u32::from_le_bytes([body[0], body[1], body[2], body[3]]);
     let second = u32::from_le_bytes([body[4], body[5], body[6], body[7]]);
     match kind {

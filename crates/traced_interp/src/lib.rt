@@ -6,4 +6,4 @@ mod script;
 mod trace_port;
 mod tracing;
 
-pub use tracing::{Traced, Tracing, interpret_traced, tracing};
+pub use tracing::{Traced, Tracing, interpret_traced, with_probes};

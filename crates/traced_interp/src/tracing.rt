@@ -49,7 +49,7 @@ pub struct Traced<P: Port + Drop> {
 
 /// The program of these files, the main one of this name, with probes. `None` where a file's tokens have no places, or a set does not
 /// take the files.
-pub fn tracing(
+pub fn with_probes(
     alloc: Global,
     sources: &Sources,
     main: &str,
