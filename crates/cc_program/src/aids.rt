@@ -111,7 +111,7 @@ fn explain_what<'a>(
     } else {
         Stage::Whole
     };
-    let form = form(rt, inner);
+    let form = asked_form(rt, inner);
     let names = given.names.as_slice();
     let said = explain_faults(rt.alloc(), &given.set, names, main, stage, stack, form)?;
     if what == "interp" && said.status == 0 && form != Form::Sarif {
@@ -142,7 +142,7 @@ fn explain_what_runs(
         input.as_slice(),
         max,
         stack,
-        form(rt, inner),
+        asked_form(rt, inner),
     )?;
     Ok(put_said(rt, &said))
 }
@@ -157,7 +157,7 @@ fn put_said(rt: &HostRuntime, said: &Said) -> u8 {
 }
 
 /// The form that the words ask for.
-fn form(rt: &HostRuntime, inner: &ArgMatches<'_>) -> Form {
+fn asked_form(rt: &HostRuntime, inner: &ArgMatches<'_>) -> Form {
     if inner.get_flag("sarif") {
         Form::Sarif
     } else if inner.get_flag("json") {
