@@ -1,6 +1,7 @@
 #!/bin/sh
-# sh install.sh [PREFIX]: puts the program as PREFIX/bin/zkc (the name cc on a PATH would hide the system's), and the library, its header and
-# the Python module, where the library was built (sh bindings/build.sh bindings/out). PREFIX is /usr/local by default; DESTDIR stands before it.
+# sh install.sh [PREFIX]: puts the program as PREFIX/bin/zkc (the name cc on a PATH would hide the system's), its man page and its completions
+# for bash, zsh and fish, and the library, its header and the Python module, where the library was built (sh bindings/build.sh
+# bindings/out). PREFIX is /usr/local by default; DESTDIR stands before it.
 set -eu
 cd "$(dirname "$0")"
 to=${DESTDIR:-}${1:-/usr/local}
@@ -11,6 +12,17 @@ mkdir -p "$to/bin"
 cp "$program" "$to/bin/zkc"
 chmod 755 "$to/bin/zkc"
 echo "$to/bin/zkc"
+# put FILE FOLDER NAME: a file that only is read
+put() {
+    mkdir -p "$to/$2"
+    cp "$1" "$to/$2/$3"
+    chmod 644 "$to/$2/$3"
+    echo "$to/$2/$3"
+}
+put share/zkc.1 share/man/man1 zkc.1
+put share/zkc.bash share/bash-completion/completions zkc
+put share/_zkc share/zsh/site-functions _zkc
+put share/zkc.fish share/fish/vendor_completions.d zkc.fish
 for out in bindings/out release; do
     if [ -e "$out/libzikorape.a" ]; then
         mkdir -p "$to/lib" "$to/include" "$to/share/zikorape"

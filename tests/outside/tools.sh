@@ -23,5 +23,9 @@ done <<'END'
 qemu-riscv32 qemu-user
 qemu-system-riscv32 qemu-system-misc
 riscv64-unknown-elf-readelf binutils-riscv64-unknown-elf
+gdb-multiarch gdb-multiarch
+zsh zsh
+fish fish
+man man-db
 END
 exit $lacking

@@ -1,4 +1,4 @@
-//! An executable file that is made at the first write to it.
+//! A file that is made at the first write to it.
 
 use std::fs::OpenOptions;
 use std::io;
@@ -9,19 +9,35 @@ use std::rt::Files;
 /// Who may do what with a file that is made: all may read, write and execute it, less what the user's mask takes away.
 const EXECUTABLE: u32 = 0o777;
 
+/// The same, but that none may execute it.
+const PLAIN: u32 = 0o666;
+
 /// The file at a path, which is made, or emptied, once something is written to it.
 #[derive(Drop)]
 pub struct LateFile<'a, R: Files> {
     rt: &'a R,
     path: &'a str,
+    mode: u32,
     file: Option<R::File>,
 }
 
 impl<'a, R: Files> LateFile<'a, R> {
+    /// An executable file.
     pub fn new(rt: &'a R, path: &'a str) -> Self {
         LateFile {
             rt,
             path,
+            mode: EXECUTABLE,
+            file: None,
+        }
+    }
+
+    /// A file that is not executable.
+    pub fn plain(rt: &'a R, path: &'a str) -> Self {
+        LateFile {
+            rt,
+            path,
+            mode: PLAIN,
             file: None,
         }
     }
@@ -37,7 +53,7 @@ impl<'a, R: Files> Write for LateFile<'a, R> {
             .write(true)
             .create(true)
             .truncate(true)
-            .mode(EXECUTABLE);
+            .mode(self.mode);
         let mut file = options.open(self.rt, self.path)?;
         let count = file.write(buf)?;
         self.file = Some(file);

@@ -1,18 +1,22 @@
 //! The program `cc`.
 #![tactic(auto)]
 
+mod aids;
 mod late_file;
+mod run_aids;
+mod trace_aids;
 mod words;
 
 use anyhow::Result;
 use cc::{Cmd, StackSize, perform};
+use cc_aids::Watching;
 use clap::ArgMatches;
 use late_file::LateFile;
 use meaning_ports::{IoPort, PortFault};
 use srcset::{Code, Fault, FileSet, MAX_FILE_BYTES};
 use std::alloc::Global;
 use std::env::Args;
-use std::io::{BufReader, BufWriter, ErrorKind, Read, Write};
+use std::io::{BufReader, BufWriter, ErrorKind, IsTerminal, Read, Write};
 use std::process::ExitCode;
 use std::rt::Files;
 use std::{env, fs, io};
@@ -69,6 +73,9 @@ fn show(rt: &HostRuntime, error: &clap::Error) -> u8 {
 }
 
 fn answer(rt: &HostRuntime, matches: &ArgMatches<'_>) -> Result<u8> {
+    if let Some(status) = aids::answer(rt, matches)? {
+        return Ok(status);
+    }
     let Some(request) = read_request(matches) else {
         return Ok(2);
     };
@@ -203,7 +210,9 @@ fn over_streams(
 ) -> Result<u8> {
     let input = BufReader::new(rt.alloc(), rt.stdin())?;
     let output = BufWriter::new(rt.alloc(), rt.stdout())?;
-    let mut port = IoPort::new(input, output);
+    let is_terminal = rt.stderr().is_terminal();
+    let shares_terminal = rt.stdout().is_terminal();
+    let mut port = Watching::new(rt, IoPort::new(input, output), is_terminal, shares_terminal);
     let mut line = Vec::new(rt.alloc());
     let status = perform(
         rt.alloc(),
@@ -216,7 +225,8 @@ fn over_streams(
         &mut line,
         stack,
     );
-    match port.finish() {
+    port.clear();
+    match port.inner.finish() {
         Err(fault) if status != 126 || line.is_empty() => Ok(say_port(rt, fault)),
         _ => {
             let _said = rt.stderr().write_all(line.as_slice());

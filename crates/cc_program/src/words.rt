@@ -1,6 +1,7 @@
 //! The command line.
 
 use cc::{Cmd, StackSize};
+use cc_aids::{with_aids, with_interp_aids, with_run_aids};
 use clap::{Arg, ArgAction, ArgMatches, Command, value_parser};
 use std::alloc::{AllocError, Global};
 
@@ -14,7 +15,7 @@ pub struct Request<'a> {
 
 /// The command line's form.
 pub fn command<'a>(alloc: Global) -> Result<Command<'a>, AllocError> {
-    Command::new(alloc, "cc")
+    let command = Command::new(alloc, "cc")
         .about("Compiles C11 programs for RV32IM, and runs them")
         .subcommand_required(true)
         .disable_help_subcommand(true)
@@ -22,7 +23,8 @@ pub fn command<'a>(alloc: Global) -> Result<Command<'a>, AllocError> {
         .subcommand(pp(alloc)?)?
         .subcommand(list(alloc)?)?
         .subcommand(run(alloc)?)?
-        .subcommand(interp(alloc)?)
+        .subcommand(interp(alloc)?)?;
+    with_aids(alloc, command)
 }
 
 /// The argument of the main file.
@@ -89,19 +91,21 @@ fn run<'a>(alloc: Global) -> Result<Command<'a>, AllocError> {
     let file = Arg::new(alloc, "FILE")
         .help("The executable file")
         .required(true);
-    Command::new(alloc, "run")
+    let command = Command::new(alloc, "run")
         .about("Runs an executable file over standard input and output")
         .arg(file)?
-        .arg(most(alloc).help("At most this many instructions"))
+        .arg(most(alloc).help("At most this many instructions"))?;
+    with_run_aids(alloc, command)
 }
 
 fn interp<'a>(alloc: Global) -> Result<Command<'a>, AllocError> {
-    Command::new(alloc, "interp")
+    let command = Command::new(alloc, "interp")
         .about("Interprets a program over standard input and output")
         .arg(main_file(alloc))?
         .arg(stack(alloc))?
         .arg(files(alloc))?
-        .arg(most(alloc).help("At most this many ticks"))
+        .arg(most(alloc).help("At most this many ticks"))?;
+    with_interp_aids(alloc, command)
 }
 
 /// The stack that a parse found, or the usual one for a command that has no word for it; `None` where its bytes are no multiple of 4096.

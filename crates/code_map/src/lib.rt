@@ -1,0 +1,12 @@
+//! Where each function of a built file lies, what it takes of the stack, and what it calls.
+#![tactic(auto)]
+
+mod depth;
+mod functions;
+mod symbols;
+mod table;
+
+pub use depth::{Chain, Cost, deepest};
+pub use functions::{CodeMap, Function, code_map};
+pub use symbols::symbol_file;
+pub use table::frames_table;

@@ -1,0 +1,229 @@
+//! An ELF file of symbols beside an executable file, for debuggers and disassemblers.
+
+use crate::functions::CodeMap;
+use std::alloc::{AllocError, Global};
+
+/// The sizes of the ELF header, of a section header and of a symbol (System V gABI, chapter 4).
+const HEADER_SIZE: u32 = 52;
+
+const SECTION_SIZE: u32 = 40;
+
+const SYMBOL_SIZE: u32 = 16;
+
+/// The names of the sections, each behind a zero byte.
+const SECTION_NAMES: &[u8] = b"\0.text\0.symtab\0.strtab\0.shstrtab\0";
+
+/// The address of the text.
+const TEXT_START: u32 = 0x1_1000;
+
+/// What a section header says.
+#[derive(Clone, Copy)]
+struct Section {
+    name: u32,
+    kind: u32,
+    flags: u32,
+    address: u32,
+    offset: u32,
+    size: u32,
+    link: u32,
+    info: u32,
+    alignment: u32,
+    entry_size: u32,
+}
+
+/// What a symbol says.
+#[derive(Clone, Copy)]
+struct Symbol {
+    name: u32,
+    value: u32,
+    size: u32,
+    kind: u8,
+    section: u16,
+}
+
+/// An ELF32 file with the text of a program and a symbol for each of its functions, and for `_start`, where it begins: for
+/// `objdump -d`, and for a debugger beside the executable file, whose addresses it has.
+pub fn symbol_file(alloc: Global, map: &CodeMap) -> Result<Vec<u8>, AllocError> {
+    let mut names = Vec::new(alloc);
+    let mut symbols = Vec::new(alloc);
+    put_symbols(map, &mut names, &mut symbols)?;
+    let text_size = size(map.words.len()).wrapping_mul(4);
+    let symbols_at = HEADER_SIZE.wrapping_add(text_size);
+    let names_at = symbols_at.wrapping_add(size(symbols.len()));
+    let section_names_at = names_at.wrapping_add(size(names.len()));
+    let table_at = section_names_at.wrapping_add(size(SECTION_NAMES.len()));
+    let mut file = Vec::new(alloc);
+    put_header(&mut file, table_at)?;
+    for word in &map.words {
+        put_word(&mut file, *word)?;
+    }
+    file.extend_from_slice(symbols.as_slice())?;
+    file.extend_from_slice(names.as_slice())?;
+    file.extend_from_slice(SECTION_NAMES)?;
+    let sections = sections(text_size, symbols_at, names_at, section_names_at, table_at);
+    for section in &sections {
+        put_section(&mut file, section)?;
+    }
+    Ok(file)
+}
+
+/// A size that has 32 bits.
+fn size(count: usize) -> u32 {
+    (count % 0x1_0000_0000) as u32
+}
+
+/// Puts the symbols and their names: the empty one, `_start`, and the functions.
+fn put_symbols(
+    map: &CodeMap,
+    names: &mut Vec<u8>,
+    symbols: &mut Vec<u8>,
+) -> Result<(), AllocError> {
+    let first = match map.functions.first() {
+        Some(function) => function.start,
+        None => TEXT_START,
+    };
+    names.push(0)?;
+    put_symbol(
+        symbols,
+        &Symbol {
+            name: 0,
+            value: 0,
+            size: 0,
+            kind: 0,
+            section: 0,
+        },
+    )?;
+    put_function(
+        names,
+        symbols,
+        "_start",
+        TEXT_START,
+        first.wrapping_sub(TEXT_START),
+    )?;
+    for function in &map.functions {
+        put_function(
+            names,
+            symbols,
+            function.name.as_str(),
+            function.start,
+            function.size,
+        )?;
+    }
+    Ok(())
+}
+
+/// Puts a symbol of the type `STT_FUNC` with the binding `STB_GLOBAL`, and its name.
+fn put_function(
+    names: &mut Vec<u8>,
+    symbols: &mut Vec<u8>,
+    name: &str,
+    value: u32,
+    bytes: u32,
+) -> Result<(), AllocError> {
+    put_symbol(
+        symbols,
+        &Symbol {
+            name: size(names.len()),
+            value,
+            size: bytes,
+            kind: 0x12,
+            section: 1,
+        },
+    )?;
+    names.extend_from_slice(name.as_bytes())?;
+    names.push(0)?;
+    Ok(())
+}
+
+fn put_symbol(symbols: &mut Vec<u8>, symbol: &Symbol) -> Result<(), AllocError> {
+    put_word(symbols, symbol.name)?;
+    put_word(symbols, symbol.value)?;
+    put_word(symbols, symbol.size)?;
+    symbols.push(symbol.kind)?;
+    symbols.push(0)?;
+    put_half(symbols, symbol.section)
+}
+
+/// Puts the ELF header of an executable file for RISC-V without program headers, with five sections.
+fn put_header(file: &mut Vec<u8>, table_at: u32) -> Result<(), AllocError> {
+    file.extend_from_slice(&[0x7F, 0x45, 0x4C, 0x46, 1, 1, 1, 0, 0, 0, 0, 0, 0, 0, 0, 0])?;
+    put_half(file, 2)?;
+    put_half(file, 243)?;
+    for word in [1, TEXT_START, 0, table_at, 0] {
+        put_word(file, word)?;
+    }
+    for half in [HEADER_SIZE as u16, 0, 0, SECTION_SIZE as u16, 5, 4] {
+        put_half(file, half)?;
+    }
+    Ok(())
+}
+
+/// The sections: the empty one, the text (`SHT_PROGBITS`, `SHF_ALLOC` and `SHF_EXECINSTR`), the symbols (`SHT_SYMTAB`), whose first
+/// global is number 1, their names and the sections' names (`SHT_STRTAB`).
+fn sections(
+    text_size: u32,
+    symbols_at: u32,
+    names_at: u32,
+    section_names_at: u32,
+    table_at: u32,
+) -> [Section; 5] {
+    let none = plain_section(0, 0, 0, 0);
+    let mut text = plain_section(1, 1, HEADER_SIZE, text_size);
+    text.flags = 6;
+    text.address = TEXT_START;
+    text.alignment = 4;
+    let mut symbols = plain_section(7, 2, symbols_at, names_at.wrapping_sub(symbols_at));
+    symbols.link = 3;
+    symbols.info = 1;
+    symbols.entry_size = SYMBOL_SIZE;
+    symbols.alignment = 4;
+    let names = plain_section(15, 3, names_at, section_names_at.wrapping_sub(names_at));
+    let section_names = plain_section(
+        23,
+        3,
+        section_names_at,
+        table_at.wrapping_sub(section_names_at),
+    );
+    [none, text, symbols, names, section_names]
+}
+
+fn plain_section(name: u32, kind: u32, offset: u32, size: u32) -> Section {
+    Section {
+        name,
+        kind,
+        flags: 0,
+        address: 0,
+        offset,
+        size,
+        link: 0,
+        info: 0,
+        alignment: 1,
+        entry_size: 0,
+    }
+}
+
+fn put_section(file: &mut Vec<u8>, section: &Section) -> Result<(), AllocError> {
+    for word in [
+        section.name,
+        section.kind,
+        section.flags,
+        section.address,
+        section.offset,
+        section.size,
+        section.link,
+        section.info,
+        section.alignment,
+        section.entry_size,
+    ] {
+        put_word(file, word)?;
+    }
+    Ok(())
+}
+
+fn put_word(bytes: &mut Vec<u8>, word: u32) -> Result<(), AllocError> {
+    bytes.extend_from_slice(&word.to_le_bytes())
+}
+
+fn put_half(bytes: &mut Vec<u8>, half: u16) -> Result<(), AllocError> {
+    bytes.extend_from_slice(&half.to_le_bytes())
+}

@@ -1,0 +1,110 @@
+//! What each function takes, as a table.
+
+use crate::depth::{Chain, Cost, deepest};
+use crate::functions::{CodeMap, Function};
+use std::alloc::{AllocError, Global};
+
+/// The fewest letters of the column of names.
+const NAME_WIDTH: usize = 8;
+
+/// A line for each function: its name, the bytes of its frame, its weight, the bytes of its code, and what it calls; behind them
+/// the greatest sums along the calls from `main` on, or a circle of calls, for which there is none.
+pub fn frames_table(alloc: Global, map: &CodeMap) -> Result<String, AllocError> {
+    let width = name_width(map.functions.as_slice());
+    let mut out = String::new(alloc);
+    put_padded("function", width, &mut out)?;
+    out.push_str("     frame    weight      code  calls\n")?;
+    for function in &map.functions {
+        put_function(alloc, map, function, width, &mut out)?;
+    }
+    if let Some(main) = map.number("main") {
+        let functions = map.functions.as_slice();
+        put_chain(
+            alloc,
+            map,
+            "frames",
+            &deepest(alloc, functions, main, Cost::Frame)?,
+            &mut out,
+        )?;
+        put_chain(
+            alloc,
+            map,
+            "weights",
+            &deepest(alloc, functions, main, Cost::Weight)?,
+            &mut out,
+        )?;
+    }
+    Ok(out)
+}
+
+/// The letters of the longest name.
+fn name_width(functions: &[Function]) -> usize {
+    let mut width = NAME_WIDTH;
+    for function in functions {
+        width = width.max(function.name.len());
+    }
+    width
+}
+
+/// Puts a text, and spaces up to this width.
+fn put_padded(text: &str, width: usize, out: &mut String) -> Result<(), AllocError> {
+    out.push_str(text)?;
+    for _ in text.len()..width {
+        out.push(' ')?;
+    }
+    Ok(())
+}
+
+fn put_function(
+    alloc: Global,
+    map: &CodeMap,
+    function: &Function,
+    width: usize,
+    out: &mut String,
+) -> Result<(), AllocError> {
+    let (frame, weight, size) = (function.frame, function.weight, function.size);
+    put_padded(function.name.as_str(), width, out)?;
+    let numbers = format!(in alloc; "{frame:10}{weight:10}{size:10}")?;
+    out.push_str(numbers.as_str())?;
+    for (place, callee) in function.calls.iter().enumerate() {
+        out.push_str(if place == 0 { "  " } else { " " })?;
+        out.push_str(name_of(map, *callee))?;
+    }
+    out.push_str("\n")
+}
+
+/// The name of the function of this number.
+fn name_of(map: &CodeMap, number: usize) -> &str {
+    match map.functions.get(number) {
+        Some(function) => function.name.as_str(),
+        None => "",
+    }
+}
+
+fn put_chain(
+    alloc: Global,
+    map: &CodeMap,
+    what: &str,
+    chain: &Chain,
+    out: &mut String,
+) -> Result<(), AllocError> {
+    match chain {
+        Chain::Deepest(sum, numbers) => {
+            out.push_str(format!(in alloc; "deepest by {what}: {sum} bytes:")?.as_str())?;
+            put_names(map, numbers.as_slice(), out)
+        }
+        Chain::Circle(numbers) => {
+            out.push_str(format!(in alloc; "deepest by {what}: no bound, a circle:")?.as_str())?;
+            put_names(map, numbers.as_slice(), out)
+        }
+    }
+}
+
+/// Puts names with ` > ` between them.
+fn put_names(map: &CodeMap, numbers: &[usize], out: &mut String) -> Result<(), AllocError> {
+    for (place, number) in numbers.iter().enumerate() {
+        out.push_str(if place == 0 { " " } else { " > " })?;
+        out.push_str(name_of(map, *number))?;
+    }
+    out.push_str("\n")
+}

@@ -1,0 +1,99 @@
+//! The source files that are asked about, which may be laid out otherwise.
+
+use cc::StackSize;
+use srcset::FileSet;
+use std::alloc::{AllocError, Global};
+
+/// A source file.
+#[derive(Drop)]
+pub struct Source {
+    pub name: String,
+    pub text: Vec<u8>,
+}
+
+/// The source files of a command, in its order, and the stack that they are built for.
+#[derive(Drop)]
+pub struct Sources {
+    pub files: Vec<Source>,
+    pub stack: StackSize,
+}
+
+impl Sources {
+    /// A copy of the files of a set that have these names.
+    pub fn of(
+        alloc: Global,
+        set: &FileSet,
+        names: &[&str],
+        stack: StackSize,
+    ) -> Result<Sources, AllocError> {
+        let mut files = Vec::new(alloc);
+        for name in names {
+            if let Some(bytes) = set.get(name) {
+                let text = Vec::from_slice(alloc, bytes)?;
+                let name = String::from_str(alloc, name)?;
+                files.push(Source { name, text })?;
+            }
+        }
+        Ok(Sources { files, stack })
+    }
+
+    /// The number of the file with this name.
+    pub fn number(&self, name: &str) -> Option<usize> {
+        self.files
+            .iter()
+            .position(|file| file.name.as_str() == name)
+    }
+
+    /// The text of the file with this number; empty where there is none.
+    pub fn text(&self, number: usize) -> &[u8] {
+        match self.files.get(number) {
+            Some(file) => file.text.as_slice(),
+            None => &[],
+        }
+    }
+
+    /// The name of the file with this number; empty where there is none.
+    pub fn name(&self, number: usize) -> &str {
+        match self.files.get(number) {
+            Some(file) => file.name.as_str(),
+            None => "",
+        }
+    }
+
+    /// The text of the file with this number, to be changed.
+    pub fn text_mut(&mut self, number: usize) -> Option<&mut Vec<u8>> {
+        match self.files.get_mut(number) {
+            Some(file) => Some(&mut file.text),
+            None => None,
+        }
+    }
+
+    /// The set of these files; `None` where a set does not take one of them, as one that is too large, or memory ran out.
+    pub fn set(&self, alloc: Global) -> Option<FileSet> {
+        self.set_with(alloc, self.files.len(), &[])
+    }
+
+    /// The same, with this text in the file of this number.
+    pub fn set_with(&self, alloc: Global, number: usize, text: &[u8]) -> Option<FileSet> {
+        let mut set = FileSet::new(alloc);
+        for (at, file) in self.files.iter().enumerate() {
+            let bytes = if at == number {
+                text
+            } else {
+                file.text.as_slice()
+            };
+            if !add(alloc, &mut set, file.name.as_str(), bytes) {
+                return None;
+            }
+        }
+        Some(set)
+    }
+}
+
+/// Adds a copy of a file, or answers that it could not.
+fn add(alloc: Global, set: &mut FileSet, name: &str, bytes: &[u8]) -> bool {
+    match Vec::from_slice(alloc, bytes) {
+        Ok(text) => set.add(name, text).is_ok(),
+        Err(_) => false,
+    }
+}

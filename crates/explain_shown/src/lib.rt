@@ -1,0 +1,10 @@
+//! Explained faults as text for a person, as JSON, and as a SARIF log.
+#![tactic(auto)]
+
+mod json_lines;
+mod sarif;
+mod text;
+
+pub use json_lines::{put_json, put_json_undefined};
+pub use sarif::{put_sarif_end, put_sarif_result, put_sarif_start};
+pub use text::{Style, put_finding, put_undefined};

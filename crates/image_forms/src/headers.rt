@@ -1,0 +1,78 @@
+//! What the program headers of a file load from its bytes.
+
+use loader::{LoadFault, load};
+use std::alloc::{AllocError, Global};
+
+/// `PT_LOAD` (System V gABI, chapter 5).
+const LOAD: u32 = 1;
+
+/// Bytes of a file that are loaded at an address.
+#[derive(Clone, Copy, Debug)]
+pub struct Piece {
+    pub address: u32,
+    /// How many bytes of the file stand before them.
+    pub start: usize,
+    /// How many bytes of the file there are up to their end.
+    pub end: usize,
+}
+
+/// The bytes that a file loads, by rising addresses; what it loads as zeros alone is left out. Refuses as `load` does.
+pub fn pieces(alloc: Global, file: &[u8]) -> Result<Vec<Piece>, LoadFault> {
+    match load(alloc, file) {
+        Ok(_) => match loaded_pieces(alloc, file) {
+            Ok(found) => Ok(found),
+            Err(_) => Err(LoadFault::Memory),
+        },
+        Err(fault) => Err(fault),
+    }
+}
+
+/// The address of a file's first instruction.
+pub fn entry(file: &[u8]) -> u32 {
+    number(file, 24, 4)
+}
+
+/// The pieces that the program headers name.
+fn loaded_pieces(alloc: Global, file: &[u8]) -> Result<Vec<Piece>, AllocError> {
+    let table = number(file, 28, 4) as usize;
+    let mut found = Vec::new(alloc);
+    for header in 0..number(file, 44, 2) as usize {
+        let at = table.saturating_add(header.saturating_mul(32));
+        if number(file, at, 4) == LOAD {
+            let start = number(file, at.saturating_add(4), 4) as usize;
+            let size = number(file, at.saturating_add(16), 4) as usize;
+            let piece = Piece {
+                address: number(file, at.saturating_add(8), 4),
+                start,
+                end: start.saturating_add(size),
+            };
+            if size != 0 {
+                put(&mut found, piece)?;
+            }
+        }
+    }
+    Ok(found)
+}
+
+/// Puts a piece before the first that has a higher address.
+fn put(found: &mut Vec<Piece>, piece: Piece) -> Result<(), AllocError> {
+    let at = match found.iter().position(|other| other.address > piece.address) {
+        Some(at) => at,
+        None => found.len(),
+    };
+    found.insert(at, piece)?;
+    Ok(())
+}
+
+/// The number in `size` bytes from `at` on, at most four, the lowest first; what lies behind the file's end is zero.
+fn number(file: &[u8], at: usize, size: usize) -> u32 {
+    let mut sum: u32 = 0;
+    for place in (0..size).rev() {
+        let byte = match file.get(at.saturating_add(place)) {
+            Some(byte) => *byte,
+            None => 0,
+        };
+        sum = sum.wrapping_mul(256).wrapping_add(u32::from(byte));
+    }
+    sum
+}

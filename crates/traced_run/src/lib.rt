@@ -1,0 +1,11 @@
+//! A run of an executable file that is told instruction by instruction.
+#![tactic(auto)]
+
+mod instruction;
+mod shown;
+mod stepping;
+mod tracing;
+
+pub use shown::{machine_text, place_text};
+pub use stepping::{hart, run_for};
+pub use tracing::{TraceEnd, traced_run};

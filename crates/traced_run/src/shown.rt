@@ -1,0 +1,38 @@
+//! The state of a hart as text.
+
+use code_map::CodeMap;
+use rv32::state::State;
+use std::alloc::{AllocError, Global};
+
+/// The pc, with its function where the map has it, and the registers, four a line.
+pub fn machine_text(
+    alloc: Global,
+    state: &State,
+    map: Option<&CodeMap>,
+) -> Result<String, AllocError> {
+    let pc = state.pc;
+    let mut out = format!(in alloc; "pc {pc:08X}")?;
+    if let Some(map) = map {
+        out.push_str(" ")?;
+        out.push_str(place_text(alloc, map, pc)?.as_str())?;
+    }
+    out.push_str("\n")?;
+    for (number, value) in state.registers.iter().enumerate() {
+        let shown = if number == 0 { 0 } else { *value };
+        out.push_str(format!(in alloc; "x{number:<2} {shown:08X}")?.as_str())?;
+        out.push_str(if number % 4 == 3 { "\n" } else { "  " })?;
+    }
+    Ok(out)
+}
+
+/// The function in which an address lies, and how many bytes behind its start: `fact+24`; `?` where it lies in none.
+pub fn place_text(alloc: Global, map: &CodeMap, address: u32) -> Result<String, AllocError> {
+    match map.at(address) {
+        Some(function) => {
+            let name = function.name.as_str();
+            let offset = address.wrapping_sub(function.start);
+            format!(in alloc; "{name}+{offset}")
+        }
+        None => String::from_str(alloc, "?"),
+    }
+}

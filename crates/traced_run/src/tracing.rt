@@ -1,0 +1,134 @@
+//! A run with a line for each instruction.
+
+use crate::instruction::instruction_line;
+use crate::shown::place_text;
+use crate::stepping::tick;
+use code_map::CodeMap;
+use meaning_ports::Port;
+use rv32::state::State;
+use rv32::{Instr, decode};
+use sim::Outcome;
+use srcset::write_text;
+use std::alloc::{AllocError, Global};
+use std::io::Write;
+
+/// The column in which what an instruction did begins.
+const WIDTH: usize = 44;
+
+/// How a traced run ended.
+#[derive(Clone, Copy, Debug, PartialEq, Eq)]
+pub enum TraceEnd {
+    Stopped(Outcome),
+    /// A line of the trace could not be written.
+    Unwritten,
+}
+
+/// Takes at most `max` steps, and writes a line for each: the instruction, each register whose value changed, and the address that it
+/// loaded from or stored to; with a map a line `NAME+OFFSET:` wherever another function goes on.
+pub fn traced_run<P: Port, W: Write>(
+    alloc: Global,
+    state: &mut State,
+    port: &mut P,
+    max: u64,
+    map: Option<&CodeMap>,
+    out: &mut W,
+) -> Result<TraceEnd, AllocError> {
+    let mut start = 0;
+    for _ in 0..max {
+        let mut line = Vec::new(alloc);
+        if let Some(map) = map {
+            start = put_function(alloc, map, state.pc, start, &mut line)?;
+        }
+        let text = instruction_text(alloc, state)?;
+        let touched = touched(state);
+        let before = state.registers;
+        let stopped = tick(state, port);
+        let effects = effects(alloc, touched, &before, &state.registers)?;
+        put_columns(text.as_slice(), effects.as_slice(), &mut line)?;
+        line.push(b'\n')?;
+        if !write_text(out, line.as_slice()) {
+            return Ok(TraceEnd::Unwritten);
+        }
+        if let Some(outcome) = stopped {
+            return Ok(TraceEnd::Stopped(outcome));
+        }
+    }
+    Ok(TraceEnd::Stopped(Outcome::Budget))
+}
+
+/// Puts where the run is, where its function is another than that which starts at `start`; answers where its function starts.
+fn put_function(
+    alloc: Global,
+    map: &CodeMap,
+    pc: u32,
+    start: u32,
+    line: &mut Vec<u8>,
+) -> Result<u32, AllocError> {
+    let now = match map.at(pc) {
+        Some(function) => function.start,
+        None => 0,
+    };
+    if now != start && now != 0 {
+        line.extend_from_slice(place_text(alloc, map, pc)?.as_bytes())?;
+        line.extend_from_slice(b":\n")?;
+    }
+    Ok(now)
+}
+
+/// The word at the pc, where one can be fetched there.
+fn word_at(state: &State) -> Option<u32> {
+    if state.pc < 0xffff_fffc {
+        state.memory.fetch(state.pc)
+    } else {
+        None
+    }
+}
+
+/// The instruction at the pc.
+fn instruction_text(alloc: Global, state: &State) -> Result<Vec<u8>, AllocError> {
+    let pc = state.pc;
+    match word_at(state) {
+        Some(word) => instruction_line(alloc, pc, word),
+        None => Ok(format!(in alloc; "{pc:08X} ?")?.into_bytes()),
+    }
+}
+
+/// The address from which the instruction at the pc loads or to which it stores.
+fn touched(state: &State) -> Option<u32> {
+    match decode(word_at(state)?)? {
+        Instr::Load { base, offset, .. } => Some(state.read(base).wrapping_add(offset.get())),
+        Instr::Store { base, offset, .. } => Some(state.read(base).wrapping_add(offset.get())),
+        _ => None,
+    }
+}
+
+/// The address that was touched, and the registers whose value changed.
+fn effects(
+    alloc: Global,
+    touched: Option<u32>,
+    before: &[u32; 32],
+    now: &[u32; 32],
+) -> Result<Vec<u8>, AllocError> {
+    let mut line = Vec::new(alloc);
+    if let Some(address) = touched {
+        line.extend_from_slice(format!(in alloc; " [{address:08X}]")?.as_bytes())?;
+    }
+    for (number, (old, value)) in before.iter().zip(now.iter()).enumerate() {
+        if old != value && number != 0 {
+            line.extend_from_slice(format!(in alloc; " x{number}={value:08X}")?.as_bytes())?;
+        }
+    }
+    Ok(line)
+}
+
+/// Puts a text, and the effects in their column where there are some.
+fn put_columns(text: &[u8], effects: &[u8], line: &mut Vec<u8>) -> Result<(), AllocError> {
+    line.extend_from_slice(text)?;
+    if effects.is_empty() {
+        return Ok(());
+    }
+    for _ in text.len()..WIDTH {
+        line.push(b' ')?;
+    }
+    line.extend_from_slice(effects)
+}

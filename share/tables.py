@@ -1,0 +1,143 @@
+#!/usr/bin/env python3
+"""Writes the man page and the completions for bash, zsh and fish from what the program says of itself.
+
+    python3 share/tables.py CC FOLDER     writes zkc.1, zkc.bash, _zkc and zkc.fish into FOLDER
+    python3 share/tables.py CC --check    compares those of share/ with what it would write; the last line is 'N passed, M failed'
+    python3 share/tables.py CC --list     the commands with their options, a line each
+
+The table is that of `cc --help` and `cc COMMAND --help`: nothing stands here a second time."""
+import os, re, subprocess, sys
+
+def said(cc, *words):
+    done = subprocess.run([cc, *words, '--help'], stdout=subprocess.PIPE, check=True)
+    return done.stdout.decode()
+
+def section(text, title):
+    """The lines of a section, as (left, right) by the first two spaces behind the left part."""
+    found = re.search(r'^%s:\n((?:[ ].*\n?)*)' % title, text, re.M)
+    rows = []
+    for line in found[1].splitlines() if found else []:
+        row = re.match(r'^ {2,}(\S.*?)(?: {2,}(\S.*))?$', line)
+        rows.append((row[1], row[2] or ''))
+    return rows
+
+def option(left):
+    """(short, long, value) of an option as it is shown: `-o <OUT>`, `--max <N>`, `-h, --help`."""
+    short = re.search(r'(?:^|\s)(-\w)\b', left)
+    long = re.search(r'--[\w-]+', left)
+    value = re.search(r'<(\w+)>', left)
+    return (short[1] if short else '', long[0] if long else '', value[1] if value else '')
+
+def choices(right):
+    found = re.search(r'\[possible values: ([^\]]*)\]', right)
+    return found[1].split(', ') if found else []
+
+def table(cc):
+    text = said(cc)
+    about = text.split('\n', 1)[0]
+    commands = []
+    for name, what in section(text, 'Commands'):
+        inner = said(cc, name)
+        usage = re.search(r'^Usage: cc (.*)$', inner, re.M)[1]
+        commands.append((name, what, usage, section(inner, 'Arguments'), section(inner, 'Options')))
+    return about, commands, section(text, 'Options')
+
+def manual(about, commands, options):
+    escape = lambda text: text.replace('\\', '\\e').replace('-', '\\-')
+    out = ['.TH ZKC 1', '.SH NAME', 'zkc \\- %s' % escape(about[0].lower() + about[1:]), '.SH SYNOPSIS']
+    for name, _, usage, _, _ in commands:
+        out += ['.B zkc', escape(usage), '.br']
+    out += ['.SH DESCRIPTION', 'MAIN is the source file that is translated; FILES are the others that it may include, by their paths as they stand in the command.',
+            'A fault is one line on standard error, FILE:LINE: CODE TEXT.']
+    for name, what, usage, arguments, own in commands:
+        out += ['.SS zkc %s' % escape(usage), escape(what) + '.']
+        for left, right in arguments + own:
+            out += ['.TP', '.B %s' % escape(left), escape(right)]
+    out += ['.SH OPTIONS']
+    for left, right in options:
+        out += ['.TP', '.B %s' % escape(left), escape(right)]
+    out += ['.SH EXIT STATUS', '.TP', '0', 'done', '.TP', '1', 'a fault', '.TP', '2', 'the command line is wrong', '.PP',
+            'A program that is run or interpreted ends with its own status, or with 123 (undefined act), 124 (budget used), 125 (trap) or 126 (port fault).']
+    return '\n'.join(out) + '\n'
+
+def bash(commands, options):
+    top = ' '.join([name for name, *_ in commands] + [o for left, _ in options for o in option(left)[:2] if o])
+    out = ['# completions of zkc for bash', '_zkc() {', '    local word=${COMP_WORDS[COMP_CWORD]} before=${COMP_WORDS[COMP_CWORD-1]}', '    COMPREPLY=()',
+           '    if [ "$COMP_CWORD" = 1 ]; then', "        COMPREPLY=($(compgen -W '%s' -- \"$word\"))" % top, '        return', '    fi', '    case ${COMP_WORDS[1]}:$before in']
+    for name, _, _, _, own in commands:
+        for left, right in own:
+            for o in option(left)[:2]:
+                if o and choices(right):
+                    out += ["    %s:%s) COMPREPLY=($(compgen -W '%s' -- \"$word\")); return ;;" % (name, o, ' '.join(choices(right)))]
+    out += ['    esac', '    case ${COMP_WORDS[1]} in']
+    for name, _, _, arguments, own in commands:
+        words = ' '.join(o for left, _ in own for o in option(left)[:2] if o)
+        first = [c for left, right in arguments[:1] for c in choices(right)]
+        extra = ''
+        if first:
+            extra = "[ \"$COMP_CWORD\" = 2 ] && { COMPREPLY=($(compgen -W '%s' -- \"$word\")); return; }; " % ' '.join(first)
+        out += ["    %s) %scase $word in -*) COMPREPLY=($(compgen -W '%s' -- \"$word\")) ;; *) COMPREPLY=($(compgen -f -- \"$word\")) ;; esac ;;" % (name, extra, words)]
+    out += ['    esac', '}', 'complete -o filenames -F _zkc zkc']
+    return '\n'.join(out) + '\n'
+
+def zsh(commands, options):
+    quote = lambda text: text.replace("'", "'\\''").replace('[', '(').replace(']', ')').replace(':', ',')
+    out = ['#compdef zkc', '# completions of zkc for zsh', '_zkc() {', '    local -a commands', '    commands=(']
+    out += ["        '%s:%s'" % (name, quote(what)) for name, what, *_ in commands]
+    out += ['    )', '    if (( CURRENT == 2 )); then', "        _describe 'command' commands", '        return', '    fi', '    local command=$words[2]', '    (( CURRENT-- ))', '    shift words', '    case $command in']
+    for name, _, _, arguments, own in commands:
+        specs = []
+        for left, right in own:
+            short, long, value = option(left)
+            for o in (short, long):
+                if o:
+                    tail = ''
+                    if value:
+                        tail = ':%s:%s' % (value, '(%s)' % ' '.join(choices(right)) if choices(right) else '_files')
+                    specs.append("'%s[%s]%s'" % (o, quote(right), tail))
+        for left, right in arguments:
+            rest = '*' if left.endswith('...') else ''
+            specs.append("'%s:%s:%s'" % (rest, quote(re.sub(r'[<>\[\].]', '', left)), '(%s)' % ' '.join(choices(right)) if choices(right) else '_files'))
+        out += ['    %s) _arguments %s ;;' % (name, ' '.join(specs))]
+    out += ['    esac', '}', '_zkc "$@"']
+    return '\n'.join(out) + '\n'
+
+def fish(commands, options):
+    quote = lambda text: text.replace("'", "\\'")
+    out = ['# completions of zkc for fish']
+    for name, what, _, arguments, own in commands:
+        out += ["complete -c zkc -f -n __fish_use_subcommand -a %s -d '%s'" % (name, quote(what))]
+        for left, right in arguments[:1]:
+            if choices(right):
+                out += ["complete -c zkc -n '__fish_seen_subcommand_from %s' -a '%s'" % (name, ' '.join(choices(right)))]
+        for left, right in own:
+            short, long, value = option(left)
+            flags = (' -s %s' % short[1:] if short else '') + (' -l %s' % long[2:] if long else '')
+            if value:
+                flags += ' -x -a \'%s\'' % ' '.join(choices(right)) if choices(right) else ' -r'
+            out += ["complete -c zkc -n '__fish_seen_subcommand_from %s'%s -d '%s'" % (name, flags, quote(right))]
+    return '\n'.join(out) + '\n'
+
+def main():
+    cc, to = os.path.abspath(sys.argv[1]), sys.argv[2]
+    about, commands, options = table(cc)
+    if to == '--list':
+        for name, _, usage, _, _ in commands:
+            print(usage)
+        return
+    files = {'zkc.1': manual(about, commands, options), 'zkc.bash': bash(commands, options), '_zkc': zsh(commands, options), 'zkc.fish': fish(commands, options)}
+    if to == '--check':
+        here = os.path.dirname(os.path.abspath(__file__))
+        failed = 0
+        for name, text in files.items():
+            path = os.path.join(here, name)
+            if not os.path.exists(path) or open(path).read() != text:
+                failed += 1
+                print('FAIL share/%s is not what share/tables.py writes' % name)
+        print('%d passed, %d failed' % (len(files) - failed, failed))
+        sys.exit(failed != 0)
+    for name, text in files.items():
+        with open(os.path.join(to, name), 'w') as file:
+            file.write(text)
+
+main()

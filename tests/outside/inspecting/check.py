@@ -1,0 +1,457 @@
+#!/usr/bin/env python3
+"""What `cc frames`, `symbols`, `image` and `run` with a trace show, held against other tools and against the file itself.
+
+    python3 tests/outside/inspecting/check.py CC
+
+Frames are held against the listing (the first instruction of a function lowers sp by its frame); symbols are read by readelf, and by objdump
+and gdb-multiarch where they are there; an image is held against the program headers, and where objcopy is there against its forms; a trace
+against the listing and the run; completions are asked of the shells that are there. The last line is 'N passed, M failed'."""
+import os, pty, re, select, shutil, struct, subprocess, sys, tempfile, time
+
+CC = os.path.abspath(sys.argv[1])
+ROOT = os.path.dirname(os.path.dirname(os.path.dirname(os.path.dirname(os.path.abspath(__file__)))))
+passed = failed = skipped = 0
+
+FACT = '''int fact(int n) { if (n < 2) return 1; return n * fact(n - 1); }
+static int twice(int x) { return x + x; }
+int main(void) { return twice(fact(5)) & 255; }
+'''
+CHAIN = '''#include <rvio.h>
+int table[4] = { 1, 2, 3, 4 };
+int deep(int x) { int a[8]; for (int i = 0; i < 8; i++) a[i] = x + i; return a[x & 7]; }
+int middle(int x) { return deep(x) + deep(x + 1); }
+int main(void) { rv_putbyte(97); return middle(table[2]) & 255; }
+'''
+EVEN = '''int odd(int n);
+int even(int n) { return n == 0 ? 1 : odd(n - 1); }
+int odd(int n) { return n == 0 ? 0 : even(n - 1); }
+int main(void) { return even(10); }
+'''
+TRAP = '''#include <rvio.h>
+int a[1];
+int far(int i) { return a[i]; }
+int main(void) { return far(268435456); }
+'''
+
+def check(name, holds, *more):
+    global passed, failed
+    if holds:
+        passed += 1
+    else:
+        failed += 1
+        print('FAIL', name, *more)
+
+def cc(work, *words, text=b''):
+    done = subprocess.run([CC, *words], cwd=work, input=text, stdout=subprocess.PIPE, stderr=subprocess.PIPE, timeout=120)
+    return done.returncode, done.stdout, done.stderr.decode('utf-8', 'replace')
+
+def put(work, name, text):
+    with open(os.path.join(work, name), 'w') as file:
+        file.write(text)
+
+def listing(work, name):
+    rows = cc(work, 'list', name)[1].decode().splitlines()
+    return [(int(row[:8], 16), int(row[9:17], 16), row[19:]) for row in rows]
+
+def functions(rows):
+    """The stretches of code behind the first ecall, each through a return."""
+    start = next(k for k, row in enumerate(rows) if row[2] == 'ecall') + 1
+    found = []
+    for k in range(start, len(rows)):
+        if rows[k][2] == 'jalr x0,0(x1)':
+            found.append((rows[start][0], rows[k][0] + 4, rows[start][2]))
+            start = k + 1
+    return found
+
+def table(text):
+    rows = {}
+    for line in text.splitlines()[1:]:
+        row = re.match(r'(\w+) +(\d+) +(\d+) +(\d+) ( .*)?$', line)
+        if row:
+            rows[row[1]] = (int(row[2]), int(row[3]), int(row[4]), (row[5] or '').split())
+    return rows
+
+def frames():
+    for name, source, order, calls in (('fact', FACT, ['fact', 'twice', 'main'], {'fact': ['fact'], 'twice': [], 'main': ['fact', 'twice']}),
+                                       ('chain', CHAIN, ['deep', 'middle', 'main'], {'deep': [], 'middle': ['deep'], 'main': ['middle']}),
+                                       ('even', EVEN, ['even', 'odd', 'main'], {'even': ['odd'], 'odd': ['even'], 'main': ['even']})):
+        with tempfile.TemporaryDirectory() as work:
+            put(work, 'a.c', source)
+            status, out, err = cc(work, 'frames', 'a.c')
+            rows = table(out.decode())
+            check(name + ': functions', status == 0 and err == '' and list(rows) == order, out)
+            for (start, end, first), function in zip(functions(listing(work, 'a.c')), order):
+                lowered = re.match(r'addi x2,x2,-(\d+)$', first)
+                check('%s: %s' % (name, function), rows[function][0] == (int(lowered[1]) if lowered else 0) and rows[function][2] == end - start
+                      and rows[function][0] <= rows[function][1] and rows[function][3] == calls[function], rows)
+            said = out.decode()
+            if name == 'chain':
+                for what, column in (('frames', 0), ('weights', 1)):
+                    total = sum(rows[f][column] for f in order)
+                    check('deepest by ' + what, 'deepest by %s: %d bytes: main > middle > deep\n' % (what, total) in said, said)
+            if name == 'fact':
+                check('circle of one', 'deepest by frames: no bound, a circle: fact > fact\n' in said, said)
+            if name == 'even':
+                check('circle of two', 'deepest by frames: no bound, a circle: even > odd > even\n' in said, said)
+    with tempfile.TemporaryDirectory() as work:
+        put(work, 'bad.c', 'int main(void) { return x; }\n')
+        check('frames of no program', cc(work, 'frames', 'bad.c') == (1, b'', 'bad.c:1: 528 undeclared name\n'))
+        check('frames of nothing', cc(work, 'frames')[0] == 2)
+
+def symbols():
+    with tempfile.TemporaryDirectory() as work:
+        put(work, 'a.c', FACT)
+        cc(work, 'build', 'a.c', '-o', 'a')
+        status, out, err = cc(work, 'symbols', 'a.c', '-o', 'a.sym.elf')
+        check('symbols', (status, out, err) == (0, b'', ''))
+        wanted = {name: (start, end - start) for (start, end, _), name in zip(functions(listing(work, 'a.c')), ['fact', 'twice', 'main'])}
+        wanted['_start'] = (0x11000, min(start for start, _ in wanted.values()) - 0x11000)
+        check('symbols: by hand', read_symbols(open(os.path.join(work, 'a.sym.elf'), 'rb').read()) == wanted)
+        for tool in ('riscv64-unknown-elf-readelf', 'readelf'):
+            if shutil.which(tool):
+                said = subprocess.run([tool, '-sW', 'a.sym.elf'], cwd=work, stdout=subprocess.PIPE, stderr=subprocess.STDOUT).stdout.decode()
+                rows = {r[3]: (int(r[1], 16), int(r[2])) for r in re.finditer(r'^ *\d+: ([0-9a-f]{8}) +(\d+) FUNC +GLOBAL DEFAULT +\d+ (\w+)$', said, re.M) for r in [(None, r[1], r[2], r[3])]}
+                check(tool, rows == wanted and 'arning' not in said and 'rror' not in said, said)
+                break
+        if there('riscv64-unknown-elf-objdump'):
+            said = subprocess.run(['riscv64-unknown-elf-objdump', '-d', '--disassemble=twice', 'a.sym.elf'], cwd=work, stdout=subprocess.PIPE, stderr=subprocess.STDOUT).stdout.decode()
+            check('objdump', '<twice>:' in said and 'ret' in said and '<main>:' not in said, said)
+        if there('gdb-multiarch') and there('qemu-riscv32'):
+            check('gdb', debugged(work))
+        check('OUT is a source', cc(work, 'symbols', 'a.c', '-o', 'a.c')[0] == 2 and open(os.path.join(work, 'a.c')).read() == FACT)
+        put(work, 'bad.c', 'int main(void) { return x; }\n')
+        check('symbols of no program', cc(work, 'symbols', 'bad.c', '-o', 'none')[0] == 1 and not os.path.exists(os.path.join(work, 'none')))
+
+def read_symbols(file):
+    """The functions of an ELF32 file by its section headers."""
+    at, size, count, names = struct.unpack_from('<I10xHHH', file, 32)
+    headers = [struct.unpack_from('<10I', file, at + size * k) for k in range(count)]
+    found = {}
+    for header in headers:
+        if header[1] == 2:
+            texts = headers[header[6]]
+            for place in range(header[4], header[4] + header[5], 16):
+                name, value, bytes_, info, _, section = struct.unpack_from('<IIIBBH', file, place)
+                if info & 15 == 2:
+                    start = texts[4] + name
+                    found[file[start:file.index(b'\0', start)].decode()] = (value, bytes_)
+    return found
+
+def debugged(work):
+    """Stops in `twice` by its name, in the program under qemu."""
+    server = subprocess.Popen(['qemu-riscv32', '-g', '17345', './a'], cwd=work, stdout=subprocess.DEVNULL, stderr=subprocess.DEVNULL)
+    try:
+        said = subprocess.run(['gdb-multiarch', '-batch', '-ex', 'set architecture riscv:rv32', '-ex', 'symbol-file a.sym.elf', '-ex', 'target remote :17345', '-ex', 'break twice', '-ex', 'continue', '-ex', 'bt 1', '-ex', 'kill'],
+                              cwd=work, stdin=subprocess.DEVNULL, stdout=subprocess.PIPE, stderr=subprocess.STDOUT, timeout=60).stdout.decode()
+        return re.search(r'Breakpoint 1, 0x[0-9a-f]+ in twice', said) is not None
+    finally:
+        server.kill()
+        server.wait()
+
+def image():
+    with tempfile.TemporaryDirectory() as work:
+        put(work, 'a.c', CHAIN)
+        cc(work, 'build', 'a.c', '-o', 'a')
+        file = open(os.path.join(work, 'a'), 'rb').read()
+        loads = [struct.unpack_from('<8I', file, 52 + 32 * k) for k in range(struct.unpack_from('<H', file, 44)[0])]
+        pieces = sorted((h[2], file[h[1]:h[1] + h[4]]) for h in loads if h[4])
+        memory = {a + k: b for a, bytes_ in pieces for k, b in enumerate(bytes_)}
+        low, high = min(memory), max(memory)
+        whole = bytes(memory.get(a, 0) for a in range(low, high + 1))
+        check('bin', cc(work, 'image', 'a', '--bin') == (0, whole, ''))
+        status, out, err = cc(work, 'image', 'a', '--ihex')
+        check('ihex', status == 0 and read_hex(out.decode()) == (memory, 0x11000))
+        status, out, err = cc(work, 'image', 'a', '--memh')
+        check('memh', status == 0 and read_memory(out.decode()) == memory)
+        if there('riscv64-unknown-elf-objcopy'):
+            with open(os.path.join(work, 'a.hex'), 'wb') as file:
+                file.write(cc(work, 'image', 'a', '--ihex')[1])
+            subprocess.run(['riscv64-unknown-elf-objcopy', '-I', 'ihex', '-O', 'binary', 'a.hex', 'a.bin'], cwd=work, check=True)
+            check('ihex by objcopy', open(os.path.join(work, 'a.bin'), 'rb').read() == whole)
+        for words in (['image', 'a'], ['image', 'a', '--bin', '--ihex'], ['image', '--bin']):
+            check(' '.join(words), cc(work, *words)[0:2] == (2, b''))
+        check('no executable file', cc(work, 'image', 'a.c', '--bin') == (1, b'', 'a.c:0: 902 not ELF32 little endian\n'))
+        check('no file', cc(work, 'image', 'none', '--bin') == (1, b'', 'none:0: 802 cannot read\n'))
+
+def read_hex(text):
+    memory, upper, entry, ended = {}, 0, None, False
+    for line in text.splitlines():
+        record = bytes.fromhex(line[1:])
+        assert line[0] == ':' and sum(record) % 256 == 0 and record[0] == len(record) - 5 and not ended
+        place, kind, data = record[1] * 256 + record[2], record[3], record[4:-1]
+        if kind == 0:
+            for k, byte in enumerate(data):
+                memory[upper * 65536 + place + k] = byte
+        elif kind == 4:
+            upper = int.from_bytes(data, 'big')
+        elif kind == 5:
+            entry = int.from_bytes(data, 'big')
+        else:
+            ended = kind == 1
+    return (memory, entry) if ended else None
+
+def read_memory(text):
+    memory, at = {}, 0
+    for word in text.split():
+        if word[0] == '@':
+            at = int(word[1:], 16)
+        else:
+            memory[at] = int(word, 16)
+            at += 1
+    return memory
+
+def traces():
+    with tempfile.TemporaryDirectory() as work:
+        put(work, 'a.c', CHAIN)
+        cc(work, 'build', 'a.c', '-o', 'a')
+        rows = {address: text for address, _, text in listing(work, 'a.c')}
+        plain = cc(work, 'run', 'a')
+        status, out, err = cc(work, 'run', 'a', '--trace')
+        lines = err.splitlines()
+        check('trace', (status, out) == plain[:2] and all(rows[int(l[:8], 16)] == l[19:44].strip() for l in lines), err[:400])
+        check('trace: registers', follows(lines), err[:400])
+        status, out, _ = cc(work, 'run', 'a', '--trace-file', 'log')
+        check('trace file', (status, out) == plain[:2] and open(os.path.join(work, 'log')).read() == err)
+        status, out, err = cc(work, 'run', 'a', '--at', '0')
+        check('at 0', status == 0 and out == b'' and err.startswith('pc 00011000\nx0  00000000  x1  00000000  '), err)
+        status, out, err = cc(work, 'run', 'a', '--at', '2', '--map', 'a.c')
+        check('at 2', status == 0 and err.startswith('pc 00011008 ?\n') and 'x2  80000000' in err, err)
+        status, out, err = cc(work, 'run', 'a', '--trace', '--map', 'a.c')
+        check('map', [l for l in err.splitlines() if l.endswith('+0:')] [:2] == ['main+0:', 'middle+0:'], err[:300])
+        put(work, 'b.c', FACT)
+        check('another file', cc(work, 'run', 'a', '--map', 'b.c') == (2, b'', 'error: FILE is not what the sources of --map build\n'))
+        put(work, 'trap.c', TRAP)
+        cc(work, 'build', 'trap.c', '-o', 'trap')
+        status, out, err = cc(work, 'run', 'trap', '--map', 'trap.c')
+        check('trap', status == 125 and re.fullmatch(r'cc: trap LoadFault at 0x[0-9A-F]{8}\ncc: in far\+\d+\n', err) is not None, err)
+        check('trap as before', cc(work, 'run', 'trap')[2] == err.splitlines()[0] + '\n')
+        check('max', cc(work, 'run', 'a', '--max', '5', '--trace')[0] == 124)
+        for words in (['--at', 'x'], ['--at', '1', '--trace'], ['--map']):
+            check('run ' + ' '.join(words), cc(work, 'run', 'a', *words)[0:2] == (2, b''))
+
+# A program, and its trace by hand.
+TRACED = '''#include <rvio.h>
+int a[3];
+int twice(int n) {
+    return n + n;
+}
+int main(void) {
+    int s = 0;
+    for (int i = 0; i < 2; i++) {
+        a[i] = twice(i);
+        s += a[i];
+    }
+    rv_putbyte(104);
+    if (s == 2)
+        s--;
+    else
+        s = 9;
+    unsigned u = 3000000000u;
+    switch (s) {
+    case 1:
+        u++;
+        break;
+    default:
+        return 7;
+    }
+    while ((s = s + 1) < 3)
+        ;
+    return s;
+}
+'''
+TOLD = '''enter main
+a.c:7: int s = 0;
+    s = 0
+a.c:8: for (int i = 0; i < 2; i++) {
+    i = 0
+a.c:9: a[i] = twice(i);
+enter twice
+    n = 0
+a.c:4: return n + n;
+leave twice: 0
+    a[0] = 0
+a.c:10: s += a[i];
+    s = 0
+a.c:8: for (int i = 0; i < 2; i++) {
+    i = 1
+a.c:9: a[i] = twice(i);
+enter twice
+    n = 1
+a.c:4: return n + n;
+leave twice: 2
+    a[1] = 2
+a.c:10: s += a[i];
+    s = 2
+a.c:8: for (int i = 0; i < 2; i++) {
+    i = 2
+a.c:12: rv_putbyte(104);
+a.c:13: if (s == 2)
+a.c:14: s--;
+    s = 1
+a.c:17: unsigned u = 3000000000u;
+    u = 3000000000
+a.c:18: switch (s) {
+a.c:20: u++;
+    u = 3000000001
+a.c:21: break;
+a.c:25: while ((s = s + 1) < 3)
+    s = 2
+a.c:25: while ((s = s + 1) < 3)
+    s = 3
+a.c:27: return s;
+leave main: 3
+'''
+
+def statements():
+    """`cc interp` with a trace."""
+    with tempfile.TemporaryDirectory() as work:
+        put(work, 'a.c', TRACED)
+        check('statements', cc(work, 'interp', 'a.c', '--trace') == (3, b'h', TOLD), cc(work, 'interp', 'a.c', '--trace'))
+        status, out, err = cc(work, 'interp', 'a.c', '--trace-file', 'log')
+        check('statements to a file', (status, out, err) == (3, b'h', '') and open(os.path.join(work, 'log')).read() == TOLD and not os.access(os.path.join(work, 'log'), os.X_OK))
+        put(work, 'echo.c', '#include <rvio.h>\nint main(void) {\n    int c;\n    while ((c = rv_getbyte()) >= 0)\n        rv_putbyte(c);\n    return 1 / (c + 1);\n}\n')
+        status, out, err = cc(work, 'interp', 'echo.c', '--trace', text=b'hi')
+        check('statements to an undefined act', status == 123 and out == b'hi' and err.endswith('echo.c:6: return 1 / (c + 1);\necho.c:6: undefined U2\n') and err.count('    c = ') == 3, err)
+        put(work, 'b.c', '#include "util.h"\nint main(void) { return twice(21); }\n')
+        put(work, 'util.h', 'int twice(int x) {\n    return x + x;\n}\n')
+        status, out, err = cc(work, 'interp', 'b.c', 'util.h', '--trace')
+        check('statements of two files', status == 42 and 'util.h:2: return x + x;\nleave twice: 42\n' in err, err)
+        check('statements: budget', cc(work, 'interp', 'a.c', '--trace', '--max', '20')[0] == 124)
+        put(work, 'braces.c', '#define BEGIN {\n#define END }\nint main(void) BEGIN return 3; END\n')
+        check('statements: no functions seen', cc(work, 'interp', 'braces.c', '--trace')[:2] == (3, b''))
+        put(work, 'bad.c', 'int main(void) { return x; }\n')
+        check('statements of no program', cc(work, 'interp', 'bad.c', '--trace') == (1, b'', 'bad.c:1: 528 undeclared name\n'))
+        check('statements: OUT is a source', cc(work, 'interp', 'a.c', '--trace-file', 'a.c')[:2] == (2, b'') and open(os.path.join(work, 'a.c')).read() == TRACED)
+        check('statements: OUT cannot be made', cc(work, 'interp', 'a.c', '--trace-file', 'no/log')[0] == 1)
+        # every example ends as it does without a trace
+        for name in sorted(os.listdir(os.path.join(ROOT, 'examples'))):
+            if name.endswith('.c'):
+                path = os.path.join(ROOT, 'examples', name)
+                more = [os.path.join(ROOT, 'examples', other) for other in sorted(os.listdir(os.path.join(ROOT, 'examples'))) if other.endswith('.h')]
+                plain = cc(os.path.join(ROOT, 'examples'), 'interp', name, '--max', '200000', text=b'12 7 hello\n')
+                traced = cc(os.path.join(ROOT, 'examples'), 'interp', name, '--trace-file', os.path.join(work, 'log'), '--max', '4000000', text=b'12 7 hello\n')
+                check('statements: ' + name, plain[0] == 124 or traced == plain, plain, traced)
+
+def follows(lines):
+    """Whether the registers that a trace tells are those that its additions of constants give."""
+    registers, sure = [0] * 32, 0
+    for line in lines:
+        text, told = line[19:44].strip(), dict(re.findall(r' x(\d+)=([0-9A-F]{8})', line[44:]))
+        one = re.fullmatch(r'addi x(\d+),x(\d+),(-?\d+)', text)
+        if one and one[1] != '0':
+            sure += 1
+            if int(told.get(one[1], '%X' % registers[int(one[1])]), 16) != (registers[int(one[2])] + int(one[3])) % 2 ** 32:
+                return False
+        for number, value in told.items():
+            registers[int(number)] = int(value, 16)
+    return sure > 10
+
+def refused():
+    """Bad words and files for each of these commands: a line, status 2 or 1, and nothing is written."""
+    with tempfile.TemporaryDirectory() as work:
+        put(work, 'a.c', FACT)
+        cc(work, 'build', 'a.c', '-o', 'a')
+        before = sorted(os.listdir(work))
+        usage = (['frames', 'a.c', '--stack', '5000'], ['frames', 'a.c', '--stack', '0'], ['symbols', 'a.c'], ['symbols', '-o', 'x'], ['symbols', 'a.c', '-o', 'x', '--stack', '5000'],
+                 ['image'], ['image', 'a', '--hex'], ['image', 'a', 'b', '--bin'], ['interp', 'a.c', '--trace-file'], ['interp', 'a.c', '--trace', '--stack', '5000'], ['interp', '--trace'],
+                 ['run', 'a', '--map', 'a.c', '--stack', '5000'], ['run', 'a', '--trace-file'], ['run', 'a', '--at', '-1'], ['frames', 'a.c', '--json'], ['explained', 'a.c'])
+        faults = (['frames', 'none.c'], ['frames', 'a'], ['symbols', 'none.c', '-o', 'x'], ['symbols', 'a.c', '-o', 'none/x'], ['image', 'none', '--bin'], ['image', 'a.c', '--memh'], ['interp', 'none.c', '--trace'],
+                  ['interp', 'none.c', '--trace-file', 'x'], ['run', 'none', '--trace'], ['run', 'a', '--map', 'none.c'], ['run', 'a', '--trace-file', 'none/x'], ['explain', 'build', 'none.c'])
+        for status, rows in ((2, usage), (1, faults)):
+            for words in rows:
+                done = cc(work, *words)
+                lines = done[2].splitlines()
+                check('refused: ' + ' '.join(words), done[:2] == (status, b'') and lines and (lines[0].startswith('error: ') if status == 2 else len(lines) == 1) and sorted(os.listdir(work)) == before, done)
+
+def terminals():
+    """What is told on a pseudo terminal while a run goes on, and nowhere else."""
+    with tempfile.TemporaryDirectory() as work:
+        put(work, 'a.c', 'int main(void) { while (1) ; }\n')
+        cc(work, 'build', 'a.c', '-o', 'a')
+        for words in (['run', 'a', '--max', '9000000000000'], ['interp', 'a.c', '--max', '9000000000000']):
+            piped = subprocess.Popen([CC, *words], cwd=work, stdin=subprocess.DEVNULL, stdout=subprocess.DEVNULL, stderr=subprocess.PIPE)
+            ours, theirs = pty.openpty()
+            shown = subprocess.Popen([CC, *words], cwd=work, stdin=subprocess.DEVNULL, stdout=subprocess.DEVNULL, stderr=theirs)
+            os.close(theirs)
+            said, start = b'', time.time()
+            while b's' not in said.split(b'cc: running, ')[-1] and time.time() - start < 60:
+                if select.select([ours], [], [], 1)[0]:
+                    said += os.read(ours, 4096)
+            took = time.time() - start
+            for one in (piped, shown):
+                one.kill()
+                one.wait()
+            os.close(ours)
+            check('a line on a terminal: ' + words[0], re.match(rb'\rcc: running, \d+ s', said) is not None and took > 1.5, said, took)
+            check('none on a pipe: ' + words[0], piped.stderr.read() == b'')
+            piped.stderr.close()
+
+def there(tool):
+    """Whether a tool is there; what is left out is told."""
+    global skipped
+    if shutil.which(tool):
+        return True
+    skipped += 1
+    print('SKIPPED for want of', tool)
+    return False
+
+def on_terminal(shell, setup, keys, wanted):
+    """What a shell on a pseudo terminal shows once these keys are typed."""
+    child, ours = pty.fork()
+    if child == 0:
+        os.chdir(ROOT)
+        os.environ['TERM'] = 'dumb'
+        os.execvp(shell[0], shell)
+    said = b''
+
+    def read(until):
+        nonlocal said
+        end = time.time() + 20
+        while until not in said and time.time() < end:
+            if select.select([ours], [], [], 0.2)[0]:
+                try:
+                    said += os.read(ours, 4096)
+                except OSError:
+                    return
+
+    os.write(ours, setup.encode() + b"\necho rea''dy\n")
+    read(b'ready\r\n')
+    said = b''
+    os.write(ours, keys.encode())
+    read(wanted.encode())
+    os.close(ours)
+    os.kill(child, 9)
+    os.waitpid(child, 0)
+    return said
+
+def surroundings():
+    status, out, err = cc(ROOT, '--version')
+    check('version', status == 0 and re.fullmatch(rb'cc \d+\.\d+, proved with the logic [0-9a-f]{16}, compiler [0-9a-f]{64}\n', out) is not None, out)
+    wanted = (('exp', 'zkc explain '), ('explain int', 'zkc explain interp '), ('image a --me', 'zkc image a --memh '), ('explain build --color al', 'zkc explain build --color always '))
+    shells = (('bash', ['bash', '--norc', '-i'], 'source share/zkc.bash'), ('zsh', ['zsh', '-f', '-i'], 'fpath=(share $fpath); autoload -Uz compinit; compinit -u -D'))
+    for name, words, setup in shells:
+        for typed, line in wanted if there(name) else ():
+            said = on_terminal(words, "PS1='> '; " + setup, 'zkc %s\t' % typed, line)
+            check('%s: %s' % (name, typed), line.encode() in said, said)
+    if there('fish'):
+        for typed, line in wanted:
+            said = subprocess.run(['fish', '--no-config', '-c', "source share/zkc.fish; complete -C 'zkc %s'" % typed], cwd=ROOT, stdout=subprocess.PIPE).stdout.decode()
+            check('fish: ' + typed, [row.split('\t')[0] for row in said.splitlines()] == [line.split()[-1]], said)
+    if there('man'):
+        done = subprocess.run(['man', '--warnings', '-l', 'share/zkc.1'], cwd=ROOT, stdout=subprocess.PIPE, stderr=subprocess.PIPE, env={**os.environ, 'MANWIDTH': '100'})
+        said = re.sub('.\b', '', done.stdout.decode())
+        check('man', done.returncode == 0 and done.stderr == b'' and all('zkc %s ' % name in said for name in ('build', 'explain', 'frames', 'symbols', 'image')), done.stderr, said[:300])
+    with tempfile.TemporaryDirectory() as work:
+        done = subprocess.run(['sh', os.path.join(ROOT, 'install.sh'), work], cwd=ROOT, stdout=subprocess.PIPE, stderr=subprocess.PIPE)
+        check('install', done.returncode == 0 and all(os.path.exists(os.path.join(work, p)) for p in ('bin/zkc', 'share/man/man1/zkc.1', 'share/bash-completion/completions/zkc')), done.stdout, done.stderr)
+
+frames()
+symbols()
+image()
+traces()
+statements()
+refused()
+terminals()
+surroundings()
+print('%d passed, %d failed' % (passed, failed) + (', %d skipped' % skipped if skipped else ''))
+sys.exit(failed != 0)

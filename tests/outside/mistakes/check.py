@@ -1,0 +1,175 @@
+#!/usr/bin/env python3
+"""Mistakes and what `cc explain` shows of them: line, column and token as cases.py marks them by hand; the same as JSON and as a SARIF
+log, whose members are asked for as the standards name them; further faults; undefined acts; includes; colours; bad words.
+
+    python3 tests/outside/mistakes/check.py CC
+
+The last line is 'N passed, M failed'."""
+import json, os, pty, re, subprocess, sys, tempfile
+
+sys.path.insert(0, os.path.dirname(os.path.abspath(__file__)))
+from cases import CASES, FURTHER, UNDEFINED
+
+CC = os.path.abspath(sys.argv[1])
+passed = failed = 0
+
+def check(name, holds, *more):
+    global passed, failed
+    if holds:
+        passed += 1
+    else:
+        failed += 1
+        print('FAIL', name, *more)
+
+def run(files, words, text=b'', env=None):
+    with tempfile.TemporaryDirectory() as work:
+        for name, body in files.items():
+            with open(os.path.join(work, name), 'w', newline='') as file:
+                file.write(body)
+        before = sorted(os.listdir(work))
+        done = subprocess.run([CC, *words], cwd=work, input=text, stdout=subprocess.PIPE, stderr=subprocess.PIPE, timeout=120, env=env)
+        return done.returncode, done.stdout.decode('utf-8', 'replace'), done.stderr.decode('utf-8', 'replace'), sorted(os.listdir(work)) == before
+
+def marked(source):
+    """The files without marks, and where the mark is: (file, line, column, token)."""
+    files = {'main.c': source} if isinstance(source, str) else source
+    clean, place = {}, None
+    for name, text in files.items():
+        if '«' in text:
+            start, end = text.index('«'), text.index('»')
+            place = (name, text.count('\n', 0, start) + 1, start - text.rfind('\n', 0, start), text[start + 1:end])
+        clean[name] = text.replace('«', '').replace('»', '')
+    return clean, place
+
+def words_of(files):
+    return ['main.c'] + [name for name in files if name != 'main.c']
+
+def mistakes():
+    for name, code, source, note in CASES:
+        files, (file, line, column, token) = marked(source)
+        status, out, err, kept = run(files, ['explain', 'build', *words_of(files)])
+        head = '%s:%d:%d: %d ' % (file, line, column, code)
+        first = err.split('\n', 1)[0]
+        check(name, status == 1 and out == '' and kept and first.startswith(head) and first.endswith(" '%s'" % token), err)
+        caret = err.split('\n')[2:3]
+        row = files[file].split('\n')[line - 1]
+        wanted = '      | ' + re.sub(r'[^\t]', ' ', row[:column - 1]) + '^' + '~' * (len(token) - 1)
+        check(name + ': caret', caret == [wanted] and err.split('\n')[1] == '%5d | %s' % (line, row), err)
+        if note:
+            check(name + ': note', note in err, err)
+        # the line that `cc build` says is the same fault
+        plain = run(files, ['build', *words_of(files), '-o', 'out'])[2]
+        check(name + ': fault', plain.startswith('%s:%d: %d ' % (file, line, code)), plain)
+        as_json(name, files, (file, line, column, token), code)
+
+def as_json(name, files, place, code):
+    file, line, column, token = place
+    status, out, err, _ = run(files, ['explain', 'build', '--json', *words_of(files)])
+    one = json.loads(out.split('\n')[0])
+    wanted = dict(file=file, line=line, column=column, end=column + len(token), code=code, token=token)
+    check(name + ': json', status == 1 and err == '' and all(one.get(k) == v for k, v in wanted.items()) and isinstance(one['text'], str)
+          and all(set(n) >= {'topic', 'text'} for n in one['notes']), out)
+    status, out, err, _ = run(files, ['explain', 'build', '--sarif', *words_of(files)])
+    log = json.loads(out)
+    check(name + ': sarif', status == 1 and is_sarif(log), out)
+    result = log['runs'][0]['results'][0]
+    where = result['locations'][0]['physicalLocation']
+    check(name + ': sarif place', result['ruleId'] == str(code) and where['artifactLocation']['uri'] == file
+          and where['region'] == dict(startLine=line, startColumn=column, endColumn=column + len(token)), out)
+
+def is_sarif(log):
+    """The members that SARIF 2.1.0 requires, with their types (3.13 to 3.30 and the schema's `required`)."""
+    if log.get('version') != '2.1.0' or not isinstance(log.get('runs'), list):
+        return False
+    for one in log['runs']:
+        if not isinstance(one['tool']['driver']['name'], str) or one['columnKind'] not in ('utf16CodeUnits', 'unicodeCodePoints'):
+            return False
+        for result in one['results']:
+            if not isinstance(result['message']['text'], str) or result['level'] not in ('none', 'note', 'warning', 'error'):
+                return False
+            for place in result.get('locations', []) + result.get('relatedLocations', []):
+                physical = place['physicalLocation']
+                if not isinstance(physical['artifactLocation']['uri'], str) or any(v < 1 for v in physical.get('region', {}).values()):
+                    return False
+    return True
+
+def further():
+    for name, heads, source in FURTHER:
+        files = {'main.c': source} if isinstance(source, str) else source
+        status, out, err, _ = run(files, ['explain', 'build', *words_of(files)])
+        said = [line for line in err.split('\n') if re.match(r'[\w.]+:\d+:(\d+:)? \d+ ', line)]
+        check(name, [re.match(r'(.*?: \d+) ', line)[1] for line in said] == heads, err)
+        status, out, err, _ = run(files, ['explain', 'build', '--json', *words_of(files)])
+        check(name + ': json', len(out.splitlines()) == len(heads) and all(json.loads(line) for line in out.splitlines()), out)
+
+def undefined():
+    for name, act, source, text, output, values in UNDEFINED:
+        files, (file, line, column, token) = marked(source)
+        status, out, err, kept = run(files, ['explain', 'interp', *words_of(files)], text)
+        first = err.split('\n', 1)[0]
+        check(name, status == 123 and kept and out == output and first.startswith('%s:%d:%d: U%d undefined: ' % (file, line, column, act))
+              and first.endswith(" '%s'" % token), out, err)
+        check(name + ': values', err.split('\n')[3] == '  note: ' + values, err)
+        status, out, err, _ = run(files, ['explain', 'interp', '--json', *words_of(files)], text)
+        one = json.loads(out)
+        wanted = dict(file=file, line=line, column=column, code='U%d' % act, token=token)
+        check(name + ': json', status == 123 and err == '' and all(one[k] == v for k, v in wanted.items())
+              and one['notes'][0] == dict(topic='value', text=values), out)
+    calls = 'int zero(int n) {\n    if (n == 0)\n        return 1 / n;\n    return zero(n - 1);\n}\nint main(void) {\n    int s = 1;\n    s += zero(2);\n    return s;\n}\n'
+    err = run({'main.c': calls}, ['explain', 'interp', 'main.c'])[2]
+    active = [line for line in err.split('\n') if ': in `' in line]
+    check('active calls', active == ['  note: main.c:3: in `zero`', '  note: main.c:4: in `zero`', '  note: main.c:4: in `zero`', '  note: main.c:8: in `main`'], err)
+
+def others():
+    good = {'main.c': '#include <rvio.h>\nint main(void) { rv_putbyte(104); return 3; }\n'}
+    check('nothing to explain', run(good, ['explain', 'build', 'main.c'])[:3] == (0, '', ''))
+    check('interp of what is defined', run(good, ['explain', 'interp', 'main.c'])[:3] == (3, 'h', ''))
+    status, out, err, _ = run(good, ['explain', 'build', '--sarif', 'main.c'])
+    check('empty log', status == 0 and is_sarif(json.loads(out)) and json.loads(out)['runs'][0]['results'] == [], out)
+    heavy = {'main.c': 'int f(void) { char a[9000]; a[0] = 1; return a[0]; }\nint main(void) { return f(); }\n'}
+    check('a small stack', run(heavy, ['explain', 'build', 'main.c', '--stack', '8192'])[2].startswith('main.c:1:5: 714 '))
+    check('a stack that serves', run(heavy, ['explain', 'build', 'main.c', '--stack', '12288'])[:3] == (0, '', ''))
+    late = {'main.c': 'int main(void) { return x; }\n'}
+    check('pp stops before', run(late, ['explain', 'pp', 'main.c'])[:3] == (0, '', ''))
+    check('pp', run({'main.c': '#error no\n'}, ['explain', 'pp', 'main.c'])[2].startswith('main.c:1:2: 234 #error no'))
+    for words in (['explain'], ['explain', 'build'], ['explain', 'list', 'main.c'], ['explain', 'build', 'main.c', '--json', '--sarif'], ['explain', 'build', 'main.c', '--color', 'red'], ['explain', 'interp', 'main.c', '--max', '0'], ['explain', 'build', 'main.c', '--stack', '5000'], ['explain', 'build', 'main.c', '--stack', '0']):
+        status, out, err, kept = run(good, words)
+        check(' '.join(words), status == 2 and out == '' and err != '' and kept, err)
+    status, out, err, _ = run({}, ['explain', 'build', 'main.c'])
+    check('no such file', status == 1 and err == 'main.c:0: 802 cannot read\n', err)
+    unused = {'main.c': 'int twice(int x);\nint main(void) { return twice(1); }\n', 'twice.c': 'int twice(int x) { return 2 * x; }\n'}
+    err = run(unused, ['explain', 'build', 'main.c', 'twice.c'])[2]
+    check('a file that nothing includes', '`twice.c` of FILES is included by nothing' in err, err)
+    bare = {'main.c': 'int main(void) { return x; }\n'}
+    check('no colours', '\x1b' not in run(bare, ['explain', 'build', 'main.c'])[2])
+    check('colours', '\x1b[1;31m528\x1b[0m' in run(bare, ['explain', 'build', 'main.c', '--color', 'always'])[2])
+    for name, env, wanted in (('terminal', {}, True), ('terminal and NO_COLOR', {'NO_COLOR': '1'}, False)):
+        check(name, ('\x1b' in on_terminal(bare, env)) == wanted)
+
+def on_terminal(files, env):
+    """What is written to standard error where that is a pseudo terminal."""
+    with tempfile.TemporaryDirectory() as work:
+        for name, body in files.items():
+            open(os.path.join(work, name), 'w').write(body)
+        ours, theirs = pty.openpty()
+        done = subprocess.Popen([CC, 'explain', 'build', 'main.c'], cwd=work, stdin=subprocess.DEVNULL, stdout=subprocess.DEVNULL, stderr=theirs, env={**{k: v for k, v in os.environ.items() if k != 'NO_COLOR'}, **env})
+        os.close(theirs)
+        said = b''
+        try:
+            while True:
+                more = os.read(ours, 4096)
+                if not more:
+                    break
+                said += more
+        except OSError:
+            pass
+        done.wait(timeout=60)
+        os.close(ours)
+        return said.decode()
+
+mistakes()
+further()
+undefined()
+others()
+print('%d passed, %d failed' % (passed, failed))
+sys.exit(failed != 0)
