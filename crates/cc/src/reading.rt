@@ -10,7 +10,7 @@ use meaning_ports::Port;
 use srcset::{Code, Fault, MAX_FILE_BYTES};
 use std::alloc::Global;
 
-// The bytes that a port has left, unless they are more than a file may have.
+/// The bytes that a port has left, unless they are more than a file may have.
 fn read_bytes<P: Port>(alloc: Global, port: &mut P) -> Result<Vec<u8>, Stop>
     ensures { MatchResult result
         (λ bytes. ReadsAll (P.seen port.old) (P.seen port.new) bytes.items)

@@ -1,12 +1,10 @@
 //! What the program says on standard error.
 
-ghost use Rattle.std.specs.Prelude.{◌≡◌, ◌++◌, [], codes, decimal, true, IfOk, OnOk, MatchResult};
+ghost use Rattle.std.specs.Prelude.{◌≡◌, ◌++◌, [], codes, decimal, true, IfOk, OnOk};
 ghost use Rattle.std.specs.Io.KnownBytes.{Appends};
-ghost use Rattle.ctypes.specs.Arithmetic.{number_of};
 ghost use Rattle.srcset.specs.NameTable.{file_name_of};
 ghost use Rattle.srcset.specs.Codes.{message_of};
 ghost use Rattle.srcset.specs.Fault.{place_text};
-ghost use Rattle.std.specs.String.{string_bytes};
 ghost use Rattle.cc.specs.Reported.{Says, fault_text, memory_text, budget_text, trap_text, undefined_text, port_text, cause_name, behind_file};
 ghost use Rattle.srcset.specs.Writing.{TakesBeginning};
 
