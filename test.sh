@@ -44,7 +44,9 @@ rows_answers | python3                                  | python3 tests/outside/
 rows_machine | python3                                  | python3 tests/outside/machine/rows.py --check
 rows_flat    | python3                                  | python3 tests/outside/flat/rows.py --check
 rows_tac     | python3                                  | python3 tests/outside/tac/rows.py --check
+growths      | python3 gcc                              | python3 tests/outside/refused/growths.py "$cc"
 bytes        | python3 gcc                              | python3 tests/outside/refused/bytes.py "$cc"
+signals      | python3                                  | python3 tests/outside/refused/signals.py "$cc"
 variadic     | python3 gcc                              | python3 tests/outside/pp/variadic.py "$cc"
 streams      | python3                                  | python3 tests/outside/streams/check.py "$cc"
 stack        | python3                                  | python3 tests/outside/stack/check.py "$cc"

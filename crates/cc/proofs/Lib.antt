@@ -8,3 +8,5 @@ pub mod Texts
 pub mod Listings
 pub mod Ready
 pub mod Light
+pub mod Getting
+pub mod Sayings

@@ -12,8 +12,9 @@ use Rattle.sim.specs.Meets.{At}
 use Rattle.meaning_ports.specs.declared.port.PortFault.{PortFault}
 use Rattle.meaning_ports.specs.declared.port.PortFault.TheVariants as port_fault
 use Rattle.cc.specs.declared.stopping.Stop.{Stop}
-use Rattle.cc.specs.inside.Stops.{IsToldAs, put_stop, load_stop}
-use Rattle.cc.specs.Performed.{FailsLoad, TellsPort}
+use Rattle.cc.specs.inside.Stops.{IsToldAs, port_stop, load_stop}
+use Rattle.cc.specs.Performed.{FailsLoad}
+use Rattle.cc.specs.Transfer.{TellsPort}
 use Rattle.cc.proofs.Transfers.{appends_none}
 
 pub begins : (old : PortView) (image : Image) (input : List ℕ) (m : Machine) → m ≡ start_of image → old.input ≡ Some input → At old.output (start_world image input) m old
@@ -29,7 +30,8 @@ pub load_fails : (file name : List ℕ) (why : LoadFault) (stop : Stop) (fault :
 load_fails file name why stop fault o is told = load_told file name why fault o (subst (λ s. IsToldAs name s fault) is told)
 
 -- the fault that tells what a port refused
-pub put_fails : (output : List ℕ) (refusal : PortFault) (stop : Stop) (fault : Fault) → stop ≡ put_stop refusal → IsToldAs output stop fault → TellsPort refusal output fault
-put_fails output port_fault.Memory stop fault is told = subst (λ s. IsToldAs output s fault) is told
-put_fails output port_fault.Read stop fault is told = subst (λ s. IsToldAs output s fault) is told
-put_fails output port_fault.Write stop fault is told = subst (λ s. IsToldAs output s fault) is told
+pub port_fails : (output : List ℕ) (refusal : PortFault) (stop : Stop) (fault : Fault) → stop ≡ port_stop refusal → IsToldAs output stop fault
+    → TellsPort refusal output fault
+port_fails output port_fault.Memory stop fault is told = subst (λ s. IsToldAs output s fault) is told
+port_fails output port_fault.Read stop fault is told = subst (λ s. IsToldAs output s fault) is told
+port_fails output port_fault.Write stop fault is told = subst (λ s. IsToldAs output s fault) is told

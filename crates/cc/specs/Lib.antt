@@ -31,6 +31,7 @@ pub mod Compiled
 pub mod Refused
 pub mod Made
 pub mod Transfer
+pub mod Sources
 pub mod Reported
 pub mod Performed
 pub mod inside

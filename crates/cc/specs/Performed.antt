@@ -9,7 +9,6 @@ use Rattle.rv32.specs.Step.{Machine}
 use Rattle.loader.specs.File.{Image, file_image}
 use Rattle.meaning_ports.specs.Port.{PortView}
 use Rattle.meaning_ports.specs.declared.port.PortFault.{PortFault}
-use Rattle.meaning_ports.specs.declared.port.PortFault.TheVariants as port_fault
 use Rattle.sim.specs.Meets.{RunMeets, Counts, Blames}
 use Rattle.sim.specs.declared.machine.Outcome.{Outcome}
 use Rattle.sim.specs.declared.machine.Outcome.TheVariants as outcome
@@ -35,7 +34,7 @@ use Rattle.cabs.specs.Interpreting as interpreting
 use Rattle.cc.specs.Compiled.{HasList, HasProgram, Compiles}
 use Rattle.cc.specs.Refused.{FailsPreprocessing, IsRefused}
 use Rattle.cc.specs.Reported.{Said, Says, SaysOutcome, SaysRun, fault_text}
-use Rattle.cc.specs.Transfer.{PutsAll, PutsSome}
+use Rattle.cc.specs.Transfer.{PutsAll, WritesSome}
 
 -- ---- building
 
@@ -45,22 +44,11 @@ pub record BuildsInto (stack : ℕ) (set : Files) (name : List ℕ) (old new : P
   pub compiles : Compiles stack set name built
   pub puts : PutsAll old new built.elf.items
 
--- the fault of a file of this name that was not put whole, by what the port refused
-abbrev pub TellsPort : PortFault → List ℕ → Fault → Type 0
-TellsPort port_fault.Memory output fault = IsMemoryFault fault
-TellsPort port_fault.Read output fault = IsFaultOrMemory fault CannotWrite output 0
-TellsPort port_fault.Write output fault = IsFaultOrMemory fault CannotWrite output 0
-
--- the set is a program, a beginning of its file was put, and the port refused the next byte, which this fault tells.
--- `refuses` is what the port says of what it refused
+-- the set is a program, and its file was not put whole
 pub record BuildsSome (stack : ℕ) (set : Files) (name output : List ℕ) (refuses : PortFault → Type 0) (old new : PortView) (fault : Fault) : Type 0 where
   pub built : Built
   pub compiles : Compiles stack set name built
-  pub count : ℕ
-  pub puts : PutsSome old new built.elf.items count
-  pub refusal : PortFault
-  pub refused_with : refuses refusal
-  pub told : TellsPort refusal output fault
+  pub writes : WritesSome output built.elf.items refuses old new fault
 
 -- the set is refused with this fault, and nothing was put; or its file was not put whole
 abbrev pub FailsBuild : (stack : ℕ) → Files → List ℕ → List ℕ → (PortFault → Type 0) → PortView → PortView → Fault → Type 0

@@ -45,10 +45,14 @@ address a = padded_integral (format_spec 32 0 4 8 (2 ^ 64 - 1)) false [] (digits
 abbrev pub trap_text : ℕ → Cause → List ℕ
 trap_text pc cause = codes "cc: trap " ++ cause_name cause ++ codes " at 0x" ++ address pc ++ codes "\n"
 
+-- what stands behind the file's name
+abbrev pub behind_file : (line : ℕ) → Undef → List ℕ
+behind_file line act = codes ":" ++ decimal line ++ codes ": undefined U" ++ decimal (arithmetic.number_of act) ++ codes "\n"
+
 -- an undefined act at a line of a file, which is named as in a fault
 abbrev pub undefined_text : (file : List ℕ) → (line : ℕ) → Undef → List ℕ
 undefined_text [] line act = codes "cc: undefined U" ++ decimal (arithmetic.number_of act) ++ codes "\n"
-undefined_text (b ∷ bs) line act = (b ∷ bs) ++ codes ":" ++ decimal line ++ codes ": undefined U" ++ decimal (arithmetic.number_of act) ++ codes "\n"
+undefined_text (b ∷ bs) line act = (b ∷ bs) ++ behind_file line act
 
 abbrev pub port_text : PortFault → List ℕ
 port_text fault = codes "cc: port fault " ++ decimal (number_of (code_of fault)) ++ codes "\n"
@@ -60,14 +64,14 @@ pub record Said : Type 0 where
   pub before : Option (List ℕ)
   pub after : Option (List ℕ)
 
--- the text, or the beginning of it that the writer took; or the same of the line of 801, for want of memory for the text
+-- the text, or the beginning of it that the writer took
 abbrev pub Says : Said → List ℕ → Type 0
-Says said text = TakesBeginning said.before said.after text ⊎ TakesBeginning said.before said.after memory_text
+Says said text = TakesBeginning said.before said.after text
 
 -- nothing where a run ended by itself, and else why it did not
 abbrev pub SaysOutcome : Said → Outcome → Type 0
 SaysOutcome said (outcome.Ended status) = said.after ≡ said.before
-SaysOutcome said outcome.Budget = TakesBeginning said.before said.after budget_text
+SaysOutcome said outcome.Budget = Says said budget_text
 SaysOutcome said (outcome.Trapped pc cause) = Says said (trap_text pc cause)
 SaysOutcome said (outcome.Port fault) = Says said (port_text fault)
 
@@ -75,6 +79,6 @@ SaysOutcome said (outcome.Port fault) = Says said (port_text fault)
 abbrev pub SaysRun : Texts → Said → Run → Type 0
 SaysRun texts said (run.Ended status) = said.after ≡ said.before
 SaysRun texts said (run.Undefined act at) = Says said (undefined_text (file_name_of texts at.file) at.line act)
-SaysRun texts said run.TicksUsed = TakesBeginning said.before said.after budget_text
+SaysRun texts said run.TicksUsed = Says said budget_text
 SaysRun texts said (run.Port fault) = Says said (port_text fault)
-SaysRun texts said run.Memory = TakesBeginning said.before said.after memory_text
+SaysRun texts said run.Memory = Says said memory_text

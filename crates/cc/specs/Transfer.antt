@@ -1,7 +1,12 @@
--- What a call that puts many bytes leaves of its port.
+-- What a call that puts many bytes leaves of its port, and the fault that tells what a port refused.
 use Rattle.std.specs.Prelude.{◌≡◌, ℕ, ◌<◌, List, take, length}
 use Rattle.std.specs.Io.KnownBytes.{Keeps, Appends}
+use Rattle.srcset.specs.declared.fault.Fault.{Fault}
+use Rattle.srcset.specs.declared.code.Code.TheVariants.{CannotRead, CannotWrite}
+use Rattle.srcset.specs.Fault.{IsFaultOrMemory, IsMemoryFault}
 use Rattle.meaning_ports.specs.Port.{PortView, Rises}
+use Rattle.meaning_ports.specs.declared.port.PortFault.{PortFault}
+use Rattle.meaning_ports.specs.declared.port.PortFault.TheVariants as port_fault
 
 -- all bytes were put
 pub record PutsAll (old new : PortView) (bytes : List ℕ) : Type 0 where
@@ -15,3 +20,18 @@ pub record PutsSome (old new : PortView) (bytes : List ℕ) (count : ℕ) : Type
   pub input_stays : Keeps old.input new.input
   pub output_grows : Appends old.output new.output (take count bytes)
   pub counted : Rises old.failures new.failures
+
+-- the fault of a file of this name, by what the port refused
+abbrev pub TellsPort : PortFault → List ℕ → Fault → Type 0
+TellsPort port_fault.Memory name fault = IsMemoryFault fault
+TellsPort port_fault.Read name fault = IsFaultOrMemory fault CannotRead name 0
+TellsPort port_fault.Write name fault = IsFaultOrMemory fault CannotWrite name 0
+
+-- a beginning of the file of this name was put, and the port refused the next byte, which this fault tells. `refuses` is what the
+-- port says of what it refused
+pub record WritesSome (name bytes : List ℕ) (refuses : PortFault → Type 0) (old new : PortView) (fault : Fault) : Type 0 where
+  pub count : ℕ
+  pub puts : PutsSome old new bytes count
+  pub refusal : PortFault
+  pub refused_with : refuses refusal
+  pub told : TellsPort refusal name fault

@@ -4,10 +4,14 @@
 mod compiling;
 mod front;
 mod performing;
+mod reading;
 mod reporting;
 mod stopping;
 mod transfer;
+mod writing;
 
 pub use compiling::{Built, compile, compile_with};
 pub use elf_out::StackSize;
 pub use performing::{Cmd, perform};
+pub use reading::read_source;
+pub use writing::write_out;

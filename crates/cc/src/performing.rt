@@ -2,20 +2,20 @@
 
 ghost use Rattle.std.specs.Prelude.{◌≡◌, ◌≢◌, ◌⊎◌, List, [], ℕ, MatchResult, IfOk, IfErr, Some, Ok};
 ghost use Rattle.cc.specs.Performed.{Performs, Runs, Interprets, interpreted_status, Builds, BuildsInto, FailsBuild, Prints, PrintsAll, FailsPrint, ListsCode, ListsAll, FailsList, exit_status};
-ghost use Rattle.cc.specs.inside.Stops.{Stops, HasItems, put_stop, load_stop};
+ghost use Rattle.cc.specs.inside.Stops.{Stops, HasItems, load_stop};
 ghost use Rattle.cc.specs.Reported.{SaysOutcome, SaysRun};
 
 use crate::compiling::compile_with;
 use crate::front::{checked_unit, preprocessed};
 use crate::reporting::{say_budget, say_fault, say_memory, say_port, say_trap, say_undefined};
 use crate::stopping::Stop;
-use crate::transfer::put_all;
+use crate::writing::write_out;
 use asm::{Items, list};
 use cabs::{Run, interpret};
 use cc_backend::items;
 use elf_out::StackSize;
 use loader::{LoadFault, load};
-use meaning_ports::{Port, PortFault};
+use meaning_ports::Port;
 use memory_map::TEXT_START;
 use pp::print;
 use sim::{Machine, Outcome};
@@ -49,8 +49,7 @@ pub enum Cmd<'c> {
 /// out, 124 where it did not end within the instructions allowed, 125 where it trapped, and 126 where the port
 /// refused. `Interp` does what the program of the file `main` of the set means, over the port: the program's status, or, each
 /// with one line on `err`, 1 where the set is refused or memory runs out, 123 at an undefined act, 124 where it did not end within
-/// the ticks allowed, and 126 where the port refused. In place of a line for which there is no memory, that of 801 is written. What `err` refuses is left
-/// out.
+/// the ticks allowed, and 126 where the port refused. No line takes memory to say. What `err` refuses is left out.
 pub fn perform<P: Port, W: Write, E: Write>(
     alloc: Global,
     command: Cmd<'_>,
@@ -107,9 +106,9 @@ fn build_into<P: Port>(
         (FailsBuild stack set.now main.now name.now (P.refused_with port.new) (P.seen port.old) (P.seen port.new)) }
 {
     let built = compile_with(alloc, set, main, stack)?;
-    match put_all(port, built.elf.as_slice()) {
+    match write_out(alloc, name, built.elf.as_slice(), port) {
         Ok(()) => Ok(()),
-        Err(fault) => Err(put_stop(fault).to_fault(alloc, name)),
+        Err(fault) => Err(fault),
     }
 }
 
@@ -202,16 +201,6 @@ fn items_of(
     }
 }
 
-/// Why a file was not put whole, by what the port refused.
-fn put_stop(fault: PortFault) -> Stop
-    ensures { result ≡ put_stop fault }
-{
-    match fault {
-        PortFault::Memory => Stop::Memory,
-        PortFault::Read | PortFault::Write => Stop::At(Code::CannotWrite, 0),
-    }
-}
-
 fn run<P: Port, E: Write>(
     alloc: Global,
     name: &str,
@@ -226,7 +215,7 @@ fn run<P: Port, E: Write>(
         Ok(program) => {
             let mut machine = Machine::new(program);
             let outcome = machine.run(port, max);
-            status(alloc, outcome, err)
+            status(outcome, err)
         }
         Err(fault) => {
             say_fault(alloc, &load_stop(fault).to_fault(alloc, name), err);
@@ -246,7 +235,7 @@ fn load_stop(fault: LoadFault) -> Stop
 }
 
 /// The exit status of a run, and its line where the program did not end by itself.
-fn status<E: Write>(alloc: Global, outcome: Outcome, err: &mut E) -> u8
+fn status<E: Write>(outcome: Outcome, err: &mut E) -> u8
     ensures status { result ≡ exit_status outcome }
     ensures says { SaysOutcome (record { before = E.contents err.old; after = E.contents err.new }) outcome }
 {
@@ -257,11 +246,11 @@ fn status<E: Write>(alloc: Global, outcome: Outcome, err: &mut E) -> u8
             124
         }
         Outcome::Trapped(pc, cause) => {
-            say_trap(alloc, pc, cause, err);
+            say_trap(pc, cause, err);
             125
         }
         Outcome::Port(fault) => {
-            say_port(alloc, fault, err);
+            say_port(fault, err);
             126
         }
     }
@@ -284,7 +273,7 @@ fn interp<P: Port, E: Write>(
         Ok(checked) => {
             drop(checked.unit);
             let done = interpret(alloc, &checked.program, port, max);
-            run_status(alloc, &names, done.run, err)
+            run_status(&names, done.run, err)
         }
         Err(stop) => {
             say_fault(alloc, &stop.to_fault(alloc, main), err);
@@ -294,14 +283,14 @@ fn interp<P: Port, E: Write>(
 }
 
 /// The exit status of a program that was interpreted, and its line where it did not end by itself.
-fn run_status<E: Write>(alloc: Global, names: &Names, run: Run, err: &mut E) -> u8
+fn run_status<E: Write>(names: &Names, run: Run, err: &mut E) -> u8
     ensures status { result ≡ interpreted_status run }
     ensures says { SaysRun names.now (record { before = E.contents err.old; after = E.contents err.new }) run }
 {
     match run {
         Run::Ended(status) => status,
         Run::Undefined(act, at) => {
-            say_undefined(alloc, names, act, at, err);
+            say_undefined(names, act, at, err);
             123
         }
         Run::TicksUsed => {
@@ -309,7 +298,7 @@ fn run_status<E: Write>(alloc: Global, names: &Names, run: Run, err: &mut E) -> 
             124
         }
         Run::Port(fault) => {
-            say_port(alloc, fault, err);
+            say_port(fault, err);
             126
         }
         Run::Memory => {

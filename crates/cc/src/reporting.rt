@@ -1,43 +1,42 @@
 //! What the program says on standard error.
 
-ghost use Rattle.std.specs.Prelude.{◌≡◌, ◌++◌, [], codes, decimal, IfOk, MatchResult};
-ghost use Rattle.ctypes.specs.Arithmetic.{number_of};
+ghost use Rattle.std.specs.Prelude.{◌≡◌, ◌++◌, [], codes, decimal, true, IfOk, OnOk};
+ghost use Rattle.std.specs.Io.KnownBytes.{Appends};
 ghost use Rattle.srcset.specs.NameTable.{file_name_of};
-ghost use Rattle.cc.specs.Reported.{Says, fault_text, memory_text, budget_text, trap_text, undefined_text, port_text, cause_name};
+ghost use Rattle.srcset.specs.Codes.{message_of};
+ghost use Rattle.srcset.specs.Fault.{place_text};
+ghost use Rattle.cc.specs.Reported.{Says, fault_text, memory_text, budget_text, trap_text, undefined_text, port_text, cause_name, behind_file};
 ghost use Rattle.srcset.specs.Writing.{TakesBeginning};
 
+use arrayvec::ArrayString;
 use ctypes::Undef;
+use itoa::Buffer;
 use meaning_ports::PortFault;
 use rv32::Cause;
-use srcset::{Fault, Names, Pos, write_text};
+use srcset::{Fault, Names, Pos, message, write_text};
 use std::alloc::{AllocError, Global};
+use std::fmt;
+use std::fmt::Write as _;
 use std::io::Write;
 
 /// The line for want of memory, which takes none.
 const OUT_OF_MEMORY: &[u8] = b"cc: 801 out of memory\n";
 
-/// Writes a text, or in its place, where it found no memory, the line that says so. What the writer refuses
-/// is left out.
-fn say<E: Write>(err: &mut E, text: Result<Vec<u8>, AllocError>)
-    ensures { MatchResult text
-        (λ t. TakesBeginning (E.contents err.old) (E.contents err.new) t.items)
-        (λ _. TakesBeginning (E.contents err.old) (E.contents err.new) memory_text) }
-{
-    match text {
-        Ok(text) => {
-            let _whole = write_text(err, text.as_slice());
-        }
-        Err(_) => {
-            let _whole = write_text(err, OUT_OF_MEMORY);
-        }
-    }
-}
+/// Room for the longest text that names no file.
+const ROOM: usize = 64;
 
-/// The line of a fault.
+/// The line of a fault: at once where there is memory for it, and else piece by piece.
 pub fn say_fault<E: Write>(alloc: Global, fault: &Fault, err: &mut E)
     ensures { Says (record { before = E.contents err.old; after = E.contents err.new }) (fault_text fault.now) }
 {
-    say(err, fault_text(alloc, fault));
+    match fault_text(alloc, fault) {
+        Ok(line) => {
+            let _whole = write_text(err, line.as_slice());
+        }
+        Err(_) => {
+            let _whole = write_fault(err, fault);
+        }
+    }
 }
 
 fn fault_text(alloc: Global, fault: &Fault) -> Result<Vec<u8>, AllocError>
@@ -48,6 +47,57 @@ fn fault_text(alloc: Global, fault: &Fault) -> Result<Vec<u8>, AllocError>
     Ok(line)
 }
 
+/// Writes one text and then another. `false` where the writer refused; it then took a beginning of both.
+fn write_both<E: Write>(err: &mut E, first: &[u8], second: &[u8]) -> bool
+    ensures all { result ≡ true → Appends (E.contents err.old) (E.contents err.new) (first.now ++ second.now) }
+    ensures some { TakesBeginning (E.contents err.old) (E.contents err.new) (first.now ++ second.now) }
+{
+    if !write_text(err, first) {
+        return false;
+    }
+    write_text(err, second)
+}
+
+/// Where a fault stands: `FILE:LINE: `, or `cc: ` where there is no file.
+fn write_place<E: Write>(err: &mut E, file: &str, line: u32) -> bool
+    ensures all { result ≡ true → Appends (E.contents err.old) (E.contents err.new) (place_text file.now line) }
+    ensures some { TakesBeginning (E.contents err.old) (E.contents err.new) (place_text file.now line) }
+{
+    if file.is_empty() {
+        return write_text(err, b"cc: ");
+    }
+    let mut number = Buffer::new();
+    if !write_both(err, file.as_bytes(), b":") {
+        return false;
+    }
+    write_both(err, number.format(line).as_bytes(), b": ")
+}
+
+/// What is wrong: `CODE TEXT`, without the text that the fault adds.
+fn write_message<E: Write>(err: &mut E, code: u16) -> bool
+    ensures all { result ≡ true → Appends (E.contents err.old) (E.contents err.new) (decimal code ++ codes " " ++ message_of code) }
+    ensures some { TakesBeginning (E.contents err.old) (E.contents err.new) (decimal code ++ codes " " ++ message_of code) }
+{
+    let mut number = Buffer::new();
+    if !write_both(err, number.format(code).as_bytes(), b" ") {
+        return false;
+    }
+    write_text(err, message(code).as_bytes())
+}
+
+/// The line of a fault, which takes no memory.
+fn write_fault<E: Write>(err: &mut E, fault: &Fault) -> bool
+    ensures { TakesBeginning (E.contents err.old) (E.contents err.new) (fault_text fault.now) }
+{
+    if !write_place(err, fault.file.as_str(), fault.line) {
+        return false;
+    }
+    if !write_message(err, fault.code) {
+        return false;
+    }
+    write_both(err, fault.text.as_bytes(), b"\n")
+}
+
 /// That the instructions allowed were not enough.
 pub fn say_budget<E: Write>(err: &mut E)
     ensures { TakesBeginning (E.contents err.old) (E.contents err.new) budget_text }
@@ -55,61 +105,62 @@ pub fn say_budget<E: Write>(err: &mut E)
     let _whole = write_text(err, b"cc: budget used\n");
 }
 
-/// Why and where the program trapped.
-pub fn say_trap<E: Write>(alloc: Global, pc: u32, cause: Cause, err: &mut E)
+/// Why and where the program trapped, which takes no memory to say.
+pub fn say_trap<E: Write>(pc: u32, cause: Cause, err: &mut E)
     ensures { Says (record { before = E.contents err.old; after = E.contents err.new }) (trap_text pc cause) }
 {
-    say(err, trap_text(alloc, pc, cause));
+    let mut line = ArrayString::<ROOM>::new();
+    if put_trap(&mut line, pc, cause).is_ok() {
+        let _whole = write_text(err, line.as_str().as_bytes());
+    }
 }
 
-fn trap_text(alloc: Global, pc: u32, cause: Cause) -> Result<Vec<u8>, AllocError>
-    ensures { IfOk result (λ t. t.items ≡ trap_text pc cause) }
+fn put_trap(line: &mut ArrayString<ROOM>, pc: u32, cause: Cause) -> fmt::Result
+    ensures { OnOk result (line.new.bytes ≡ line.old.bytes ++ trap_text pc cause) }
 {
-    let line = format!(in alloc; "cc: trap {} at 0x{pc:08X}\n", cause_name(cause))?;
-    Ok(line.into_bytes())
+    write!(line, "cc: trap {} at 0x{pc:08X}\n", cause_name(cause))
 }
 
-/// Which undefined act a program did, and where.
-pub fn say_undefined<E: Write>(alloc: Global, names: &Names, act: Undef, at: Pos, err: &mut E)
+/// Which undefined act a program did, and where, which takes no memory to say.
+pub fn say_undefined<E: Write>(names: &Names, act: Undef, at: Pos, err: &mut E)
     ensures { Says (record { before = E.contents err.old; after = E.contents err.new }) (undefined_text (file_name_of names.now at.file) at.line act) }
 {
-    say(
-        err,
-        undefined_text(alloc, names.file_name(at.file), at.line, act),
-    );
-}
-
-fn undefined_text(alloc: Global, file: &str, line: u32, act: Undef) -> Result<Vec<u8>, AllocError>
-    ensures { IfOk result (λ t. t.items ≡ undefined_text file.now line act) }
-{
+    let file = names.file_name(at.file);
     if file.is_empty() {
-        return nowhere_text(alloc, act);
+        say_nowhere(act, err);
+    } else {
+        say_somewhere(file, at.line, act, err);
     }
-    somewhere_text(alloc, file, line, act)
 }
 
-fn nowhere_text(alloc: Global, act: Undef) -> Result<Vec<u8>, AllocError>
-    ensures { IfOk result (λ t. t.items ≡ undefined_text [] 0 act) }
+fn say_nowhere<E: Write>(act: Undef, err: &mut E)
+    ensures { Says (record { before = E.contents err.old; after = E.contents err.new }) (undefined_text [] 0 act) }
 {
-    let text = format!(in alloc; "cc: undefined U{}\n", act.number())?;
-    Ok(text.into_bytes())
+    let mut line = ArrayString::<ROOM>::new();
+    if put_nowhere(&mut line, act).is_ok() {
+        let _whole = write_text(err, line.as_str().as_bytes());
+    }
 }
 
-fn somewhere_text(alloc: Global, file: &str, line: u32, act: Undef) -> Result<Vec<u8>, AllocError>
-    ensures { IfOk result (λ t. t.items ≡ file.now ++ codes ":" ++ decimal line ++ codes ": undefined U" ++ decimal (number_of act) ++ codes "\n") }
+fn put_nowhere(line: &mut ArrayString<ROOM>, act: Undef) -> fmt::Result
+    ensures { OnOk result (line.new.bytes ≡ line.old.bytes ++ undefined_text [] 0 act) }
 {
-    let rest = line_text(alloc, line, act)?;
-    let mut text = Vec::new(alloc);
-    text.extend_from_slice(file.as_bytes())?;
-    text.extend_from_slice(rest.as_slice())?;
-    Ok(text)
+    write!(line, "cc: undefined U{}\n", act.number())
 }
 
-fn line_text(alloc: Global, line: u32, act: Undef) -> Result<Vec<u8>, AllocError>
-    ensures { IfOk result (λ t. t.items ≡ codes ":" ++ decimal line ++ codes ": undefined U" ++ decimal (number_of act) ++ codes "\n") }
+fn say_somewhere<E: Write>(file: &str, at: u32, act: Undef, err: &mut E)
+    ensures { Says (record { before = E.contents err.old; after = E.contents err.new }) (file.now ++ behind_file at act) }
 {
-    let text = format!(in alloc; ":{line}: undefined U{}\n", act.number())?;
-    Ok(text.into_bytes())
+    let mut line = ArrayString::<ROOM>::new();
+    if put_somewhere(&mut line, at, act).is_ok() {
+        let _whole = write_both(err, file.as_bytes(), line.as_str().as_bytes());
+    }
+}
+
+fn put_somewhere(line: &mut ArrayString<ROOM>, at: u32, act: Undef) -> fmt::Result
+    ensures { OnOk result (line.new.bytes ≡ line.old.bytes ++ behind_file at act) }
+{
+    write!(line, ":{at}: undefined U{}\n", act.number())
 }
 
 /// That there was no memory, which takes none to say.
@@ -119,18 +170,21 @@ pub fn say_memory<E: Write>(err: &mut E)
     let _whole = write_text(err, OUT_OF_MEMORY);
 }
 
-/// That the port refused.
-pub fn say_port<E: Write>(alloc: Global, fault: PortFault, err: &mut E)
-    ensures { Says (record { before = E.contents err.old; after = E.contents err.new }) (port_text fault) }
+/// That the port refused, which takes no memory to say.
+pub fn say_port<E: Write>(fault: PortFault, err: &mut E)
+    ensures { TakesBeginning (E.contents err.old) (E.contents err.new) (port_text fault) }
 {
-    say(err, port_text(alloc, fault));
+    let _whole = write_text(err, port_text(fault));
 }
 
-fn port_text(alloc: Global, fault: PortFault) -> Result<Vec<u8>, AllocError>
-    ensures { IfOk result (λ t. t.items ≡ port_text fault) }
+fn port_text(fault: PortFault) -> &'static [u8]
+    ensures { result.now ≡ port_text fault }
 {
-    let line = format!(in alloc; "cc: port fault {}\n", fault.code().number())?;
-    Ok(line.into_bytes())
+    match fault {
+        PortFault::Memory => b"cc: port fault 801\n",
+        PortFault::Read => b"cc: port fault 802\n",
+        PortFault::Write => b"cc: port fault 803\n",
+    }
 }
 
 fn cause_name(cause: Cause) -> &'static str

@@ -1,7 +1,9 @@
 //! Why a command stops.
 
-ghost use Rattle.cc.specs.inside.Stops.{IsToldAs};
+ghost use Rattle.std.specs.Prelude.{◌≡◌};
+ghost use Rattle.cc.specs.inside.Stops.{IsToldAs, port_stop};
 
+use meaning_ports::PortFault;
 use srcset::{Code, Fault};
 use std::alloc::Global;
 
@@ -27,5 +29,16 @@ impl Stop {
             Stop::At(code, line) => Fault::at(alloc, code, name, line),
             Stop::Told(fault) => fault,
         }
+    }
+}
+
+/// Why a file was not read or not put whole, by what the port refused.
+pub fn port_stop(fault: PortFault) -> Stop
+    ensures { result ≡ port_stop fault }
+{
+    match fault {
+        PortFault::Memory => Stop::Memory,
+        PortFault::Read => Stop::At(Code::CannotRead, 0),
+        PortFault::Write => Stop::At(Code::CannotWrite, 0),
     }
 }

@@ -3,20 +3,23 @@
 
 mod aids;
 mod late_file;
+mod line;
 mod run_aids;
 mod trace_aids;
 mod words;
 
 use anyhow::Result;
-use cc::{Cmd, StackSize, perform};
+use cc::{Cmd, StackSize, perform, read_source};
 use cc_aids::Watching;
 use clap::ArgMatches;
+use clap::error::ErrorKind as UsageKind;
 use late_file::LateFile;
+use line::Line;
 use meaning_ports::{IoPort, PortFault};
-use srcset::{Code, Fault, FileSet, MAX_FILE_BYTES};
+use srcset::{Code, Fault, FileSet};
 use std::alloc::Global;
 use std::env::Args;
-use std::io::{BufReader, BufWriter, ErrorKind, IsTerminal, Read, Write};
+use std::io::{BufReader, BufWriter, ErrorKind, IsTerminal, Write};
 use std::process::ExitCode;
 use std::rt::Files;
 use std::{env, fs, io};
@@ -60,8 +63,11 @@ fn parse(rt: &HostRuntime, words: Args<Global>) -> Result<u8> {
     }
 }
 
-/// Prints the help that was asked for, or what is wrong with the words.
+/// Prints the help that was asked for, or what is wrong with the words, or that there was no memory to read them.
 fn show(rt: &HostRuntime, error: &clap::Error) -> u8 {
+    if error.kind() == UsageKind::OutOfMemory {
+        return say(rt, &Fault::memory(rt.alloc()));
+    }
     let printed = error.print(rt);
     if error.exit_code() != 0 {
         return 2;
@@ -107,6 +113,7 @@ fn build(
     if let Err(fault) = read_files(rt, request.main, matches, &mut set) {
         return Ok(say(rt, &fault));
     }
+    let mut line = Line::new(rt.alloc())?;
     let writer = BufWriter::new(rt.alloc(), LateFile::new(rt, out))?;
     let mut port = IoPort::new(no_input(rt.alloc())?, writer);
     let status = perform(
@@ -117,13 +124,13 @@ fn build(
         b"",
         &mut port,
         &mut io::sink(),
-        &mut rt.stderr(),
+        &mut line,
         stack,
     );
     if status == 0 && port.finish().is_err() {
         return Ok(say(rt, &Fault::at(rt.alloc(), Code::CannotWrite, out, 0)));
     }
-    Ok(status)
+    Ok(tell(rt, line, status))
 }
 
 /// Whether the executable file would go to the path of a file that is read.
@@ -148,6 +155,7 @@ fn print_text(
     if let Err(fault) = read_files(rt, request.main, matches, &mut set) {
         return Ok(say(rt, &fault));
     }
+    let mut line = Line::new(rt.alloc())?;
     let mut out = BufWriter::new(rt.alloc(), rt.stdout())?;
     let status = perform(
         rt.alloc(),
@@ -157,13 +165,13 @@ fn print_text(
         b"",
         &mut IoPort::new(no_input(rt.alloc())?, io::sink()),
         &mut out,
-        &mut rt.stderr(),
+        &mut line,
         stack,
     );
     if out.flush().is_err() && status == 0 {
         return Ok(say(rt, &Fault::at(rt.alloc(), Code::CannotWrite, "", 0)));
     }
-    Ok(status)
+    Ok(tell(rt, line, status))
 }
 
 /// Input without a byte.
@@ -208,12 +216,12 @@ fn over_streams(
     file: &[u8],
     stack: StackSize,
 ) -> Result<u8> {
+    let mut line = Line::new(rt.alloc())?;
     let input = BufReader::new(rt.alloc(), rt.stdin())?;
     let output = BufWriter::new(rt.alloc(), rt.stdout())?;
     let is_terminal = rt.stderr().is_terminal();
     let shares_terminal = rt.stdout().is_terminal();
     let mut port = Watching::new(rt, IoPort::new(input, output), is_terminal, shares_terminal);
-    let mut line = Vec::new(rt.alloc());
     let status = perform(
         rt.alloc(),
         request.command,
@@ -228,11 +236,17 @@ fn over_streams(
     port.clear();
     match port.inner.finish() {
         Err(fault) if status != 126 || line.is_empty() => Ok(say_port(rt, fault)),
-        _ => {
-            let _said = rt.stderr().write_all(line.as_slice());
-            Ok(status)
-        }
+        _ => Ok(tell(rt, line, status)),
     }
+}
+
+/// Says what a command said, and answers its status; or that there was no memory for it.
+fn tell(rt: &HostRuntime, mut line: Line, status: u8) -> u8 {
+    if line.is_cut() {
+        return say(rt, &Fault::memory(rt.alloc()));
+    }
+    let _said = rt.stderr().write_all(line.printable());
+    status
 }
 
 /// Says that the output was refused at last.
@@ -241,24 +255,21 @@ fn say_port(rt: &HostRuntime, fault: PortFault) -> u8 {
     126
 }
 
-/// Says a fault in one line: in place of a byte of a file's name that is no printable character stands `?`.
+/// Says a fault in one line.
 fn say(rt: &HostRuntime, fault: &Fault) -> u8 {
-    let said = match fault.to_line(rt.alloc()) {
-        Ok(line) => say_line(rt, line),
-        Err(_) => Ok(eprintln!(rt; "{}", Fault::memory(rt.alloc()))),
-    };
-    drop(said);
+    if say_line(rt, fault).is_err() {
+        let _said = eprintln!(rt; "{}", Fault::memory(rt.alloc()));
+    }
     1
 }
 
-fn say_line(rt: &HostRuntime, mut line: Vec<u8>) -> Result<io::Result<()>> {
-    for byte in line.iter_mut() {
-        if *byte < 0x20 || *byte == 0x7f {
-            *byte = b'?';
-        }
-    }
-    line.push(b'\n')?;
-    Ok(rt.stderr().write_all(line.as_slice()))
+fn say_line(rt: &HostRuntime, fault: &Fault) -> Result<()> {
+    let text = fault.to_line(rt.alloc())?;
+    let mut line = Line::new(rt.alloc())?;
+    line.write_all(text.as_slice())?;
+    line.write_all(b"\n")?;
+    let _said = rt.stderr().write_all(line.printable());
+    Ok(())
 }
 
 fn read_files<R: Files + AllocGlobal>(
@@ -279,23 +290,22 @@ fn read_files<R: Files + AllocGlobal>(
 
 /// Adds the file at a path to the set. A file that is too large is refused before its name is looked at.
 fn read_file<R: Files + AllocGlobal>(rt: &R, name: &str, set: &mut FileSet) -> Result<(), Fault> {
-    let bytes = match read_start(rt, name) {
-        Ok(bytes) => bytes,
+    let mut port = match open_source(rt, name) {
+        Ok(port) => port,
         Err(error) => return Err(unread(rt.alloc(), name, &error)),
     };
-    if bytes.len() > MAX_FILE_BYTES {
-        return Err(Fault::at(rt.alloc(), Code::FileSizeLimit, name, 0));
-    }
+    let bytes = read_source(rt.alloc(), name, &mut port)?;
     set.add(name, bytes)
 }
 
-/// The bytes of a file, up to the first that is too many.
-fn read_start<R: Files + AllocGlobal>(rt: &R, name: &str) -> io::Result<Vec<u8>> {
-    let mut bytes = Vec::new(rt.alloc());
+/// A port over the bytes of a file.
+fn open_source<R: Files + AllocGlobal>(
+    rt: &R,
+    name: &str,
+) -> io::Result<IoPort<R::File, io::Sink>> {
     let file = fs::open(rt, name)?;
-    file.take(MAX_FILE_BYTES as u64 + 1)
-        .read_to_end(&mut bytes)?;
-    Ok(bytes)
+    let reader = BufReader::new(rt.alloc(), file)?;
+    Ok(IoPort::new(reader, io::sink()))
 }
 
 /// Why a file was not read: it can't be, or there is no memory for it.

@@ -1,8 +1,9 @@
-//! Prints the frames that `compile` tells of the sources of its input, and what `perform` says of a main file that its set does not have.
+//! Prints the frames that `compile` tells of the sources of its input, what `perform` says of a main file that its set does not have,
+//! and what passes through `read_source` and `write_out`.
 #![tactic(auto)]
 
 use anyhow::Result;
-use cc::{Cmd, StackSize, compile, perform};
+use cc::{Cmd, StackSize, compile, perform, read_source, write_out};
 use meaning_ports::MemPort;
 use srcset::FileSet;
 use std::alloc::Global;
@@ -17,6 +18,15 @@ fn main(rt: HostRuntime) -> Result<()> {
         println!(&rt; "{line}")?;
     }
     let line = missing(rt.alloc())?;
+    println!(&rt; "{line}")?;
+    let line = passed(
+        rt.alloc(),
+        b"int main(void) { return 42; }\n".to_vec(rt.alloc())?,
+    )?;
+    println!(&rt; "{line}")?;
+    let line = passed(rt.alloc(), vec![in rt.alloc(); b' '; 1048576]?)?;
+    println!(&rt; "{}", line.len())?;
+    let line = passed(rt.alloc(), vec![in rt.alloc(); b' '; 1048577]?)?;
     println!(&rt; "{line}")?;
     Ok(())
 }
@@ -51,4 +61,16 @@ fn missing(alloc: Global) -> Result<String> {
     );
     let line = String::from_utf8_lossy(alloc, line.as_slice())?;
     Ok(format!(in alloc; "{status} {}", line.trim_end())?)
+}
+
+/// What comes of a source that is read and written out again; or the line of its fault.
+fn passed(alloc: Global, source: Vec<u8>) -> Result<String> {
+    let mut port = MemPort::new(alloc, source);
+    let bytes = match read_source(alloc, "main.c", &mut port) {
+        Ok(bytes) => bytes,
+        Err(fault) => return Ok(format!(in alloc; "{fault}")?),
+    };
+    write_out(alloc, "out", bytes.as_slice(), &mut port)?;
+    let text = String::from_utf8_lossy(alloc, port.output())?;
+    Ok(String::from_str(alloc, text.trim_end_matches('\n'))?)
 }

@@ -2,7 +2,7 @@
 use Rattle.std.specs.Prelude.{◌≡◌, List, ℕ}
 use Rattle.srcset.specs.Files.{Files}
 use Rattle.srcset.specs.declared.fault.Fault.{Fault}
-use Rattle.srcset.specs.declared.code.Code.TheVariants.{CannotWrite}
+use Rattle.srcset.specs.declared.code.Code.TheVariants.{CannotRead, CannotWrite}
 use Rattle.srcset.specs.Fault.{IsFaultOrMemory, IsMemoryFault}
 use Rattle.loader.specs.declared.fault.LoadFault.{LoadFault}
 use Rattle.loader.specs.declared.fault.LoadFault.TheVariants as load_fault
@@ -41,11 +41,11 @@ IsMemory (Told told) = IsMemoryFault told
 abbrev pub Stops : (stack : ℕ) → Files → List ℕ → Stop → Type 0
 Stops stack set name stop = (fault : Fault) → IsToldAs name stop fault → IsRefused stack set name fault
 
--- why a file was not put whole, by what the port refused
-abbrev pub put_stop : PortFault → Stop
-put_stop port_fault.Memory = Memory
-put_stop port_fault.Read = At CannotWrite 0
-put_stop port_fault.Write = At CannotWrite 0
+-- why a file was not read or not put whole, by what the port refused
+abbrev pub port_stop : PortFault → Stop
+port_stop port_fault.Memory = Memory
+port_stop port_fault.Read = At CannotRead 0
+port_stop port_fault.Write = At CannotWrite 0
 
 -- why a file is not loaded
 abbrev pub load_stop : LoadFault → Stop

@@ -1,6 +1,5 @@
 use Rattle.std.proofs.Common.{inl, inr, refl, subst}
-use Rattle.cc.specs.Transfer.{PutsAll, PutsSome}
-use Rattle.cc.proofs.Outcomes.{put_fails}
+use Rattle.cc.specs.Transfer.{PutsAll, WritesSome}
 use Rattle.cc.proofs.Refusals.{handed_match}
 use Rattle.cc.proofs.performing.build_into.Goals as goal
 
@@ -11,16 +10,15 @@ pub returns-in-Ok : goal.returns-in-Ok
 returns-in-Ok g c = record {
   built = c.in_ok-built.built;
   compiles = c.in_ok-built.ensures.built;
-  puts = subst (PutsAll (g.P.Port.seen c.args.port.now) (g.P.Port.seen c.put_all.new.port)) c.as_slice.ensures.value c.in-Ok.ensures.puts;
+  puts = subst (PutsAll (g.P.Port.seen c.args.port.now) (g.P.Port.seen c.write_out.new.port)) c.as_slice.ensures.value c.in-Ok.ensures;
 }
 
 pub returns : goal.returns
-returns g c = inr (record {
-  built = c.in_ok-built.built;
-  compiles = c.in_ok-built.ensures.built;
-  count = c.in-Err.ensures.puts.0;
-  puts = subst (λ bytes. PutsSome (g.P.Port.seen c.args.port.now) (g.P.Port.seen c.put_all.new.port) bytes c.in-Err.ensures.puts.0) c.as_slice.ensures.value c.in-Err.ensures.puts.1;
-  refusal = c.in-Err.fault;
-  refused_with = c.in-Err.ensures.fault;
-  told = put_fails c.args.name.now c.in-Err.fault c.put_stop.result c.to_fault.result c.put_stop.ensures c.to_fault.ensures;
-})
+returns g c =
+    let after = c.write_out.new.port in
+    inr (record {
+      built = c.in_ok-built.built;
+      compiles = c.in_ok-built.ensures.built;
+      writes = subst (λ bytes. WritesSome c.args.name.now bytes (g.P.Port.refused_with after) (g.P.Port.seen c.args.port.now) (g.P.Port.seen after) c.in-Err.fault)
+          c.as_slice.ensures.value c.in-Err.ensures;
+    })

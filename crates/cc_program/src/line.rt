@@ -1,0 +1,65 @@
+//! The line that a command says.
+
+use std::alloc::{AllocError, Global};
+use std::io;
+use std::io::{ErrorKind, Write};
+
+/// Room for most lines, so that saying one takes no memory: a name, a line, a code and its text.
+const ROOM: usize = 1024;
+
+/// What a command says on standard error, which is kept until its output is written.
+#[derive(Drop)]
+pub struct Line {
+    bytes: Vec<u8>,
+    is_cut: bool,
+}
+
+impl Line {
+    /// Nothing so far.
+    pub fn new(alloc: Global) -> Result<Line, AllocError> {
+        let mut bytes = Vec::new(alloc);
+        bytes.reserve(ROOM)?;
+        Ok(Line {
+            bytes,
+            is_cut: false,
+        })
+    }
+
+    /// Whether nothing was said.
+    pub fn is_empty(&self) -> bool {
+        self.bytes.is_empty()
+    }
+
+    /// Whether there was no memory for all that was said.
+    pub fn is_cut(&self) -> bool {
+        self.is_cut
+    }
+
+    /// The line with its newline. In place of a byte of a file's name that is no printable character stands `?`.
+    pub fn printable(&mut self) -> &[u8] {
+        let count = self.bytes.len();
+        for (index, byte) in self.bytes.iter_mut().enumerate() {
+            let is_last = index + 1 == count;
+            if !is_last && (*byte < 0x20 || *byte == 0x7f) {
+                *byte = b'?';
+            }
+        }
+        self.bytes.as_slice()
+    }
+}
+
+impl Write for Line {
+    fn write(&mut self, buf: &[u8]) -> io::Result<usize> {
+        match self.bytes.extend_from_slice(buf) {
+            Ok(()) => Ok(buf.len()),
+            Err(_) => {
+                self.is_cut = true;
+                Err(io::Error::from(ErrorKind::OutOfMemory))
+            }
+        }
+    }
+
+    fn flush(&mut self) -> io::Result<()> {
+        Ok(())
+    }
+}

@@ -1,0 +1,135 @@
+#!/usr/bin/env python3
+"""Refuses the program each growth of its memory in turn.
+
+    python3 tests/outside/refused/growths.py bin/cc
+
+refusing.c, preloaded, refuses one call of malloc or realloc, or all from one on. For each of pp, build, list and interp on each
+source, and for run on each file that is built, for each call that the undisturbed command makes (of a long run one in 25): the
+answer is the line of 801 with status 1 (of a port that was refused memory with 126), with a beginning of what the undisturbed
+command writes; or it is the undisturbed answer. It needs gcc or clang for the C file. The last line is 'N passed, M failed'."""
+import os
+import subprocess
+import sys
+import tempfile
+from concurrent.futures import ThreadPoolExecutor
+
+from bytes import library
+
+RVIO = '#include <rvio.h>\n'
+SOURCES = {
+    'macros': '#define x 2\n#define f(a) f(x * (a))\n#define g f\n#define z z[0]\n#define t(a) a\nf(y+1) + f(f(z)) % t(t(g)(0) + t)(1);\n',
+    'calls': RVIO + 'int p(int c) { rv_putbyte(c); return c; }\nint main(void) { return p(65) - p(66) + 2; }\n',
+    'ten arguments': RVIO + 'void f(int a, int b, int c, int d, int e, int g, int h, int i, int j, int k) { rv_putbyte(j); rv_putbyte(k); }\n'
+                     'int main(void) { f(65, 66, 67, 68, 69, 70, 71, 72, 73, 74); return 0; }\n',
+    'a row too short': 'int f(int p[]) { return p[3]; }\nstatic int m[5][3];\nint main(void) { return f(m[3]); }\n',
+    'deep calls': 'int f(int n) { if (n == 0) return 0; return f(n - 1); }\nint main(void) { char pad[208]; return f(3447); }\n',
+}
+# programs that do not end by themselves: each has a line of its own
+RUNS = {
+    'a trap': 'int main(void) { return 0; }\n',
+    'a budget': 'int main(void) { for (;;) ; }\n',
+}
+
+
+class Command:
+    """One command in a folder of its own, and its answers."""
+
+    def __init__(self, cc, preload, name, words, files, out=None):
+        self.cc, self.preload, self.name, self.words, self.files, self.out = cc, preload, name, words, files, out
+
+    def ask(self, at=0, on=False, count=False):
+        with tempfile.TemporaryDirectory() as folder:
+            for name, data in self.files.items():
+                with open(os.path.join(folder, name), 'wb') as file:
+                    file.write(data)
+            env = {'PATH': os.environ.get('PATH', ''), 'LD_PRELOAD': self.preload}
+            if at:
+                env['REFUSE_AT'] = str(at)
+            if on:
+                env['REFUSE_ON'] = '1'
+            pass_fds = ()
+            if count:
+                read_end, write_end = os.pipe()
+                env['COUNT_TO'] = str(write_end)
+                pass_fds = (write_end,)
+            done = subprocess.run([self.cc] + self.words, cwd=folder, env=env, stdin=subprocess.DEVNULL, capture_output=True,
+                                  timeout=120, pass_fds=pass_fds)
+            calls = 0
+            if count:
+                os.close(write_end)
+                calls = int(os.read(read_end, 32))
+                os.close(read_end)
+            built = None
+            if self.out and os.path.exists(os.path.join(folder, self.out)):
+                with open(os.path.join(folder, self.out), 'rb') as file:
+                    built = file.read()
+        return (done.returncode, done.stdout, done.stderr, built), calls
+
+    def judge(self, wanted, at, on):
+        got, _ = self.ask(at, on)
+        if got == wanted:
+            return None
+        status, out, said, built = got
+        told = (status, said) in ((1, b'cc: 801 out of memory\n'), (126, b'cc: port fault 801\n'))
+        begun = wanted[1].startswith(out) and (built is None or (wanted[3] or b'').startswith(built))
+        if told and begun:
+            return None
+        return f'{self.name}: growth {at}{" and those behind" if on else ""}: status {status}, {said!r}, {len(out)} bytes written'
+
+
+def commands(cc, preload):
+    def plain(*words):
+        return Command(cc, preload, *words)
+
+    for name, text in SOURCES.items():
+        files = {'main.c': text.encode()}
+        yield plain('pp ' + name, ['pp', 'main.c'], files)
+        yield plain('build ' + name, ['build', 'main.c', '-o', 'out'], files, 'out')
+        yield plain('list ' + name, ['list', 'main.c'], files)
+        yield plain('interp ' + name, ['interp', 'main.c'], files)
+        build = plain('', ['build', 'main.c', '-o', 'out'], files, 'out')
+        built = build.ask()[0][3]
+        if built:
+            yield plain('run ' + name, ['run', 'out'], {'out': built})
+    for name, text in RUNS.items():
+        build = plain('', ['build', 'main.c', '-o', 'out'], {'main.c': text.encode()}, 'out')
+        built = build.ask()[0][3]
+        if name == 'a trap':
+            built = built[:24] + bytes(4) + built[28:]
+        yield plain('run ' + name, ['run', 'out', '--max', '1000'], {'out': built})
+        yield plain('run of a cut file', ['run', 'out'], {'out': built[:60]})
+    yield plain('interp two files', ['interp', 'main.c', 'a.h', '--max', '5'], {'main.c': b'#include "a.h"\n', 'a.h': RUNS['a budget'].encode()})
+    yield plain('a missing file', ['build', 'main.c', 'a.h', '-o', 'out'], {'main.c': b'\n'}, 'out')
+    yield plain('a fault', ['interp', 'main.c'], {'main.c': b'#error ' + b'long ' * 800 + b'\n'})
+    yield plain('help', ['--help'], {})
+
+
+def numbers(calls):
+    """The growths that are refused: each of the first 400, and of those of a long run one in 25."""
+    return [at for at in range(1, calls + 1) if at <= 400 or at % 25 == 0]
+
+
+def main():
+    cc = os.path.abspath(sys.argv[1])
+    passed = failed = 0
+    with tempfile.TemporaryDirectory() as folder:
+        preload = library(folder)
+        if not preload:
+            print('no compiler for refusing.c')
+            print('0 passed, 0 failed, 1 skipped')
+            return 0
+        with ThreadPoolExecutor(os.cpu_count() or 1) as pool:
+            for command in commands(cc, preload):
+                wanted, calls = command.ask(count=True)
+                cases = [(at, on) for on in (False, True) for at in numbers(calls)]
+                wrong = [line for line in pool.map(lambda case: command.judge(wanted, *case), cases) if line]
+                for line in wrong[:5]:
+                    print('FAIL', line)
+                print(f'{command.name}: {calls} growths, {len(wrong)} wrong answers of {len(cases)}')
+                passed, failed = passed + (not wrong and calls > 0), failed + (bool(wrong) or calls == 0)
+    print(f'{passed} passed, {failed} failed')
+    return 0 if failed == 0 else 1
+
+
+if __name__ == '__main__':
+    sys.exit(main())
