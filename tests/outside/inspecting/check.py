@@ -66,7 +66,7 @@ def functions(rows):
 def table(text):
     rows = {}
     for line in text.splitlines()[1:]:
-        row = re.match(r'(\w+) +(\d+) +(\d+) +(\d+) ( .*)?$', line)
+        row = re.match(r'(\w+) +(\d+) +(\d+) +(\d+)(  .*)?$', line)
         if row:
             rows[row[1]] = (int(row[2]), int(row[3]), int(row[4]), (row[5] or '').split())
     return rows
