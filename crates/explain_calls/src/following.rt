@@ -54,7 +54,18 @@ pub fn put_active_calls(
         functions.as_slice(),
         calls.as_slice(),
         &mut undefined.shown.notes,
-    )
+    )?;
+    place_innermost(undefined.shown.notes.as_mut_slice(), at);
+    Ok(())
+}
+
+/// Gives the innermost call the line of the act itself.
+fn place_innermost(notes: &mut [Note], line: u32) {
+    if let Some(number) = notes.iter().position(|note| note.topic == Topic::Called) {
+        if let Some(note) = notes.get_mut(number) {
+            note.line = line;
+        }
+    }
 }
 
 /// Puts probes into all files.

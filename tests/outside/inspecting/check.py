@@ -66,7 +66,7 @@ def functions(rows):
 def table(text):
     rows = {}
     for line in text.splitlines()[1:]:
-        row = re.match(r'(\w+) +(\d+) +(\d+) +(\d+) ( .*)?$', line)
+        row = re.match(r'(\w+) +(\d+) +(\d+) +(\d+)(  .*)?$', line)
         if row:
             rows[row[1]] = (int(row[2]), int(row[3]), int(row[4]), (row[5] or '').split())
     return rows
@@ -364,9 +364,9 @@ def refused():
                 check('refused: ' + ' '.join(words), done[:2] == (status, b'') and lines and (lines[0].startswith('error: ') if status == 2 else len(lines) == 1) and sorted(os.listdir(work)) == before, done)
 
 def terminals():
-    """What is told on a pseudo terminal while a run goes on, and nowhere else."""
+    """What is told on a pseudo terminal while a run goes on, and nowhere else. `interp` tells nothing within a loop that calls nothing."""
     with tempfile.TemporaryDirectory() as work:
-        put(work, 'a.c', 'int main(void) { while (1) ; }\n')
+        put(work, 'a.c', 'int f(int n) { return n & 1; }\nint main(void) { while (1) f(1); }\n')
         cc(work, 'build', 'a.c', '-o', 'a')
         for words in (['run', 'a', '--max', '9000000000000'], ['interp', 'a.c', '--max', '9000000000000']):
             piped = subprocess.Popen([CC, *words], cwd=work, stdin=subprocess.DEVNULL, stdout=subprocess.DEVNULL, stderr=subprocess.PIPE)
