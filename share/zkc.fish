@@ -14,7 +14,7 @@ complete -c zkc -n '__fish_seen_subcommand_from run' -l trace -d 'Tells each ins
 complete -c zkc -n '__fish_seen_subcommand_from run' -l trace-file -r -d 'Writes the trace to a file'
 complete -c zkc -n '__fish_seen_subcommand_from run' -l at -r -d 'Shows the machine after so many instructions, on standard error'
 complete -c zkc -n '__fish_seen_subcommand_from run' -l map -r -d 'The sources that FILE was built from, the main one first, for the names of functions'
-complete -c zkc -n '__fish_seen_subcommand_from run' -l stack -r -d 'The bytes of the stack that FILE was built with, for --map [default: 1048576]'
+complete -c zkc -n '__fish_seen_subcommand_from run' -l stack -r -d 'The bytes of the stack that FILE was built with, for --map'
 complete -c zkc -n '__fish_seen_subcommand_from run' -s h -l help -d 'Print help'
 complete -c zkc -f -n __fish_use_subcommand -a interp -d 'Interprets a program over standard input and output'
 complete -c zkc -n '__fish_seen_subcommand_from interp' -l stack -r -d 'The bytes of the stack, a multiple of 4096 [default: 1048576]'

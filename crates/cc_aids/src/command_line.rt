@@ -4,9 +4,6 @@ use crate::version::VERSION;
 use clap::{Arg, ArgAction, Command, value_parser};
 use std::alloc::{AllocError, Global};
 
-/// What `--stack` says of itself.
-const STACK_HELP: &str = "The bytes of the stack, a multiple of 4096";
-
 /// The command line with these commands.
 pub fn with_aids<'a>(alloc: Global, command: Command<'a>) -> Result<Command<'a>, AllocError> {
     command
@@ -38,15 +35,17 @@ pub fn with_run_aids<'a>(alloc: Global, command: Command<'a>) -> Result<Command<
         .long("trace-file")
         .value_name("OUT")
         .help("Writes the trace to a file");
+    let stack = stack_word(
+        alloc,
+        "The bytes of the stack that FILE was built with, for --map",
+    )
+    .requires_arg("map")?;
     command
         .arg(flag(alloc, "trace", "Tells each instruction on standard error"))?
         .arg(trace_file)?
         .arg(at)?
         .arg(map)?
-        .arg(stack(
-            alloc,
-            "The bytes of the stack that FILE was built with, for --map",
-        ))
+        .arg(stack)
 }
 
 /// The options of `interp` that show more than a run.
@@ -68,13 +67,17 @@ pub fn with_interp_aids<'a>(
 }
 
 /// The argument of how many bytes the stack has.
-fn stack<'a>(alloc: Global, help: &'a str) -> Arg<'a> {
+fn stack<'a>(alloc: Global) -> Arg<'a> {
+    stack_word(alloc, "The bytes of the stack, a multiple of 4096").default_value("1048576")
+}
+
+/// The same, for a command that need not know it.
+fn stack_word<'a>(alloc: Global, help: &'a str) -> Arg<'a> {
     Arg::new(alloc, "stack")
         .long("stack")
         .value_name("N")
         .help(help)
         .value_parser(value_parser!(u64).range(4096..=16777216))
-        .default_value("1048576")
 }
 
 /// The argument of the main file.
@@ -119,7 +122,7 @@ fn explain<'a>(alloc: Global) -> Result<Command<'a>, AllocError> {
         )?)?
         .arg(flag(alloc, "sarif", "A SARIF 2.1.0 log, on standard output"))?
         .arg(color)?
-        .arg(stack(alloc, STACK_HELP))?
+        .arg(stack(alloc))?
         .arg(most(alloc))
 }
 
@@ -137,7 +140,7 @@ fn frames<'a>(alloc: Global) -> Result<Command<'a>, AllocError> {
     Command::new(alloc, "frames")
         .about("Prints what each function takes of the stack, and what it calls")
         .arg(main_file(alloc))?
-        .arg(stack(alloc, STACK_HELP))?
+        .arg(stack(alloc))?
         .arg(files(alloc))
 }
 
@@ -149,7 +152,7 @@ fn symbols<'a>(alloc: Global) -> Result<Command<'a>, AllocError> {
     Command::new(alloc, "symbols")
         .about("Writes an ELF file of a program's symbols")
         .arg(main_file(alloc))?
-        .arg(stack(alloc, STACK_HELP))?
+        .arg(stack(alloc))?
         .arg(files(alloc))?
         .arg(out)
 }
