@@ -29,7 +29,19 @@ tools=$?
 [ "${ALLOW_SKIPPED:-}" = 1 ] && tools=0
 told 'tools are missing, and what needs them would be skipped (ALLOW_SKIPPED=1 lets it be)' $tools | tee "$logs/tools"
 
-{ rt ci 2>&1; echo $? >"$logs/ci.status"; } | tee "$logs/ci"
+# On a terminal a line tells once a second how many crates are proved; it is taken back before each line of output.
+back=
+if [ -t 2 ]; then
+    back=$(printf '\r\033[K')
+    : >"$logs/ci"
+    sh tests/how_far.sh "$logs/ci" &
+    teller=$!
+fi
+{ rt ci 2>&1; echo $? >"$logs/ci.status"; } | tee "$logs/ci" | sed -u "s/^/$back/"
+if [ -n "$back" ]; then
+    kill $teller
+    printf '%s' "$back" >&2
+fi
 
 # The program that is checked is the one that rt ci proved and built from this tree.
 rm -f bin/cc

@@ -73,7 +73,7 @@ fn holds_loop(a: &Statement) -> bool {
         Statement::Default => false,
         Statement::While(_, _) => true,
         Statement::DoWhile(_, _) => true,
-        Statement::For(_, _, _, _, _) => true,
+        Statement::For(_, _, _) => true,
         Statement::Break => false,
         Statement::Continue => false,
         Statement::ReturnNothing => false,

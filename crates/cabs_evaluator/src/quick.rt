@@ -78,10 +78,10 @@ pub fn is_quick_statement(a: &Statement) -> bool {
         Statement::Default => true,
         Statement::While(e, a) => is_quick(e) && is_quick_statement(a),
         Statement::DoWhile(a, e) => is_quick(e) && is_quick_statement(a),
-        Statement::For(declared, start, test, step, a) => {
-            is_quick_or(start.as_ref())
-                && is_quick_or(test.as_ref())
-                && is_quick_or(step.as_ref())
+        Statement::For(declared, control, a) => {
+            is_quick_or(control.start.as_ref())
+                && is_quick_or(control.test.as_ref())
+                && is_quick_or(control.step.as_ref())
                 && are_quick(declared)
                 && is_quick_statement(a)
         }

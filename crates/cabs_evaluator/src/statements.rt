@@ -43,10 +43,11 @@ pub fn statement(
         Statement::Switch(_, _, _, _, _) => left_out(clock),
         Statement::While(e, a) => while_loop(scope, scene, clock, e, a),
         Statement::DoWhile(a, e) => do_loop(scope, scene, clock, a, e),
-        Statement::For(declared, start, test, step, a) => {
-            let test = test.as_ref();
-            let step = step.as_ref();
-            for_loop(scope, scene, clock, declared, start.as_ref(), test, step, a)
+        Statement::For(declared, control, a) => {
+            let start = control.start.as_ref();
+            let test = control.test.as_ref();
+            let step = control.step.as_ref();
+            for_loop(scope, scene, clock, declared, start, test, step, a)
         }
         Statement::Break => at_once(scope, scene, clock, Flow::Broken),
         Statement::Continue => at_once(scope, scene, clock, Flow::Continued),

@@ -40,7 +40,7 @@ pub fn label_of(a: &Statement) -> Label
         Statement::Define(_, _) | Statement::Block(_, _, _) | Statement::If(_, _) => Label::None,
         Statement::IfElse(_, _, _) | Statement::Switch(_, _, _, _, _) => Label::None,
         Statement::While(_, _) | Statement::DoWhile(_, _) => Label::None,
-        Statement::For(_, _, _, _, _) | Statement::Break | Statement::Continue => Label::None,
+        Statement::For(_, _, _) | Statement::Break | Statement::Continue => Label::None,
         Statement::ReturnNothing | Statement::ReturnValue(_, _) => Label::None,
     }
 }

@@ -192,14 +192,14 @@ pub fn enter_statement<'p>(
                 step: None,
             },
         ),
-        Statement::For(declared, start_with, test, step, body) => {
+        Statement::For(declared, control, body) => {
             let l = Loop {
                 objects,
-                test: test.as_ref(),
+                test: control.test.as_ref(),
                 body,
-                step: step.as_ref(),
+                step: control.step.as_ref(),
             };
-            start_for(machine, declared, start_with.as_ref(), l)
+            start_for(machine, declared, control.start.as_ref(), l)
         }
         Statement::Break => left(Flow::Broken),
         Statement::Continue => left(Flow::Continued),

@@ -1,6 +1,7 @@
 pub mod Transfers
 pub mod Outcomes
 pub mod Refusals
+pub mod Streams
 pub mod Prints
 pub mod Checks
 pub mod Entries

@@ -17,7 +17,7 @@ use Rattle.parser.specs.Units.{IsTreeWithin, IsOnly, IsFaultOfUnit}
 use Rattle.cc.specs.declared.stopping.Stop.{Stop}
 use Rattle.cc.specs.declared.stopping.Stop.TheVariants.{Memory, At, Told}
 use Rattle.cc.specs.Compiled.{HasList, HasTokens, HasTree}
-use Rattle.cc.specs.Refused.{FailsPreprocessing, BreaksConstraint, IsRefused}
+use Rattle.cc.specs.Refused.{FailsPreprocessing, FailsTokens, BreaksConstraint, IsRefused}
 use Rattle.cc.specs.inside.Stops.{IsTold, IsMemory, Stops}
 
 -- what is said of an error that `?` hands on
@@ -45,42 +45,19 @@ module _ (stack : ℕ) (set : Files) (name : List ℕ) where
   told_stops (At code line) P each h = absurd h
   told_stops (Told told) P each h = λ fault is. subst (IsRefused stack set name) (sym is) (each told h)
 
-  no_list : (fault : Fault) → FailsPreprocessing set name fault ⊎ IsMemoryFault fault → IsRefused stack set name fault
-  no_list fault (inl f) = inl f
-  no_list fault (inr m) = wants fault m
+  no_tokens : (fault : Fault) → FailsPreprocessing set name fault ⊎ FailsTokens set name fault ⊎ IsMemoryFault fault → IsRefused stack set name fault
+  no_tokens fault (inl f) = inl f
+  no_tokens fault (inr (inl t)) = inr (inl t)
+  no_tokens fault (inr (inr m)) = wants fault m
 
-  pub list_stops : (stop : Stop) → IsTold (λ fault. FailsPreprocessing set name fault ⊎ IsMemoryFault fault) stop → Stops stack set name stop
-  list_stops stop told = told_stops stop (λ fault. FailsPreprocessing set name fault ⊎ IsMemoryFault fault) no_list told
+  pub tokens_stop : (stop : Stop) → IsTold (λ fault. FailsPreprocessing set name fault ⊎ FailsTokens set name fault ⊎ IsMemoryFault fault) stop → Stops stack set name stop
+  tokens_stop stop told = told_stops stop (λ fault. FailsPreprocessing set name fault ⊎ FailsTokens set name fault ⊎ IsMemoryFault fault) no_tokens told
 
-  module _ (texts : Texts) (list : List PpToken) (has : HasList set name texts list) where
-    token_refused : (fault : Fault) (r : Option Refusal) → (ctokens list).fault ≡ r → IsTokenFault fault texts r → IsRefused stack set name fault
-    token_refused fault None e h = wants fault h
-    token_refused fault (Some refusal) e h =
-        inr (inl (record { texts = texts; list = list; has_list = has; refusal = refusal; first = e; fault_is = h }))
+  pub has_tree : (texts : Texts) (tokens slice : List Token) (unit : List ExternalTree) → slice ≡ tokens → HasTokens set name texts tokens → IsTreeWithin slice unit → IsOnly slice unit → HasTree set name texts unit
+  has_tree texts tokens slice unit e has tree only = record { tokens = slice; has_tokens = subst (HasTokens set name texts) (sym e) has; tree = tree; only = only }
 
-    pub tokens_stop : (stop : Stop) → IsTold (λ fault. IsTokenFault fault texts (ctokens list).fault) stop → Stops stack set name stop
-    tokens_stop stop told =
-        told_stops stop (λ fault. IsTokenFault fault texts (ctokens list).fault) (λ f h. token_refused f (ctokens list).fault refl h) told
-
-  -- the tokens of a list, behind whose table these texts come
-  pub has_list : (old texts : Texts) (items list : List PpToken) → list ≡ items → ((t : Texts) → KeepsNumbers old t → NumbersOnce t → HasList set name t items) → KeepsNumbers old texts → NumbersOnce texts → HasList set name texts list
-  has_list old texts items list e each keeps once = subst (HasList set name texts) (sym e) (each texts keeps once)
-
-  pub has_tokens : (old texts : Texts) (list : List PpToken) (tokens slice : List Token) → slice ≡ tokens → HasList set name texts list → AreAll old texts (ctokens list) tokens → HasTokens set name texts slice
-  has_tokens old texts list tokens slice e has are = record {
-    list = list;
-    has_list = has;
-    before = old;
-    tokens_are = subst (λ ts. AreAll old texts (ctokens list) ts) (sym e) are;
-  }
-
-  pub has_tree : (old texts : Texts) (items list : List PpToken) (tokens slice : List Token) (unit : List ExternalTree) → list ≡ items → ((t : Texts) → KeepsNumbers old t → NumbersOnce t → HasList set name t items) → KeepsNumbers old texts → NumbersOnce texts → slice ≡ tokens → AreAll old texts (ctokens list) tokens → IsTreeWithin slice unit → IsOnly slice unit → HasTree set name texts unit
-  has_tree old texts items list tokens slice unit e each keeps once f are tree only =
-      let has : HasList set name texts list = has_list old texts items list e each keeps once in
-      record { tokens = slice; has_tokens = has_tokens old texts list tokens slice f has are; tree = tree; only = only }
-
-  pub has_number : (old texts : Texts) (items : List PpToken) → ((t : Texts) → KeepsNumbers old t → NumbersOnce t → HasList set name t items) → KeepsNumbers old texts → NumbersOnce texts → (n : ℕ) × (slice_get texts n ≡ Some name)
-  has_number old texts items each keeps once = let numbers = (each texts keeps once).numbers in (numbers.file, numbers.named)
+  pub has_number : (texts : Texts) (tokens : List Token) → HasTokens set name texts tokens → (n : ℕ) × (slice_get texts n ≡ Some name)
+  has_number texts tokens has = (has.has_list.numbers.file, has.has_list.numbers.named)
 
   pub tree_stops : (texts : Texts) (tokens : List Token) (stop : Stop) → HasTokens set name texts tokens → IsTold (λ fault. IsFaultOfUnit fault texts tokens) stop → Stops stack set name stop
   tree_stops texts tokens stop has told =

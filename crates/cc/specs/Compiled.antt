@@ -1,5 +1,5 @@
 -- What the compiler promises of a file that it answers: the sources are a program, and the file runs as that program does.
-use Rattle.std.specs.Prelude.{◌≡◌, ℕ, List, [], ◌∷◌, String, Some, map, slice_get}
+use Rattle.std.specs.Prelude.{◌≡◌, ℕ, List, [], ◌∷◌, String, Some, None, map, slice_get}
 use Rattle.std.specs.String.{string_bytes}
 use Rattle.std.specs.Global.{Global}
 use Rattle.srcset.specs.Files.{Files}
@@ -7,7 +7,7 @@ use Rattle.srcset.specs.NameTable.{Texts, KeepsNumbers, NumbersOnce, shown_text}
 use Rattle.phases.specs.Token.{Token as PpToken}
 use Rattle.pp.specs.Preprocessed.{IsDone}
 use Rattle.lexer.specs.CTokens.{ctokens}
-use Rattle.lexer.specs.Numbering.{AreAll}
+use Rattle.lexer.specs.Numbering.{AreTokensOf}
 use Rattle.lexer.specs.declared.token.Token.{Token}
 use Rattle.tree.specs.Tree.{ExternalTree}
 use Rattle.parser.specs.Units.{IsTreeWithin, IsOnly}
@@ -37,8 +37,8 @@ pub record HasList (set : Files) (name : List ℕ) (texts : Texts) (list : List 
 pub record HasTokens (set : Files) (name : List ℕ) (texts : Texts) (tokens : List Token) : Type 0 where
   pub list : List PpToken
   pub has_list : HasList set name texts list
-  pub before : Texts
-  pub tokens_are : AreAll before texts (ctokens list) tokens
+  pub no_fault : (ctokens list).fault ≡ None
+  pub tokens_are : AreTokensOf texts (ctokens list).tokens tokens
 
 -- the only tree of these tokens, and it is within the limits
 pub record HasTree (set : Files) (name : List ℕ) (texts : Texts) (unit : List ExternalTree) : Type 0 where

@@ -3,8 +3,6 @@
 ghost use Rattle.std.specs.Prelude.{◌≡◌, ◌≤◌, ◌⊎◌, ℕ, List, [], Some, slice_get, IfOk, IfErr, OnOk};
 ghost use Rattle.srcset.specs.NameTable.{Texts, KeepsNumbers, NumbersOnce};
 ghost use Rattle.srcset.specs.Fault.{IsMemoryFault};
-ghost use Rattle.lexer.specs.CTokens.{ctokens};
-ghost use Rattle.lexer.specs.Numbering.{AreAll, IsTokenFault};
 ghost use Rattle.parser.specs.Units.{IsTreeWithin, IsOnly, IsFaultOfUnit};
 ghost use Rattle.tree.specs.View.{unit_of};
 ghost use Rattle.typing_program.specs.View.{program_of};
@@ -16,8 +14,9 @@ ghost use Rattle.cc.specs.Refused.{BreaksConstraint, FailsPreprocessing};
 ghost use Rattle.cc.specs.inside.Stops.{IsTold, Stops};
 
 use crate::stopping::Stop;
+use crate::token_stream::c_tokens;
 use elf_out::StackSize;
-use lexer::{Token, tokens};
+use lexer::Token;
 use parser::parse;
 use phases::PpToken;
 use pp::preprocess;
@@ -48,9 +47,7 @@ pub fn checked_unit(
     ensures ready { IfOk result (λ c. IsReady (program_of c.program)) }
     ensures stops { IfErr result (λ stop. Stops stack set.now main.now stop) }
 {
-    let list = preprocessed(alloc, set, main, names)?;
-    let tokens = c_tokens(alloc, list.as_slice(), names)?;
-    drop(list);
+    let tokens = c_tokens(alloc, set, main, names)?;
     let unit = syntax_tree(alloc, tokens.as_slice(), names)?;
     drop(tokens);
     let program = typed_program(alloc, &unit, names, main, stack)?;
@@ -84,7 +81,7 @@ pub fn preprocessed<'s>(
 }
 
 /// Gives the name of the main file a number.
-fn number_name(main: &str, names: &mut Names) -> Result<(), Stop>
+pub(crate) fn number_name(main: &str, names: &mut Names) -> Result<(), Stop>
     ensures named { OnOk result ((n : ℕ) × (slice_get names.new n ≡ Some main.now)) }
     ensures stops { IfErr result (IsTold IsMemoryFault) }
 {
@@ -95,7 +92,7 @@ fn number_name(main: &str, names: &mut Names) -> Result<(), Stop>
 }
 
 /// No text of a table has two numbers, as `find` says.
-fn numbers_once(names: &Names)
+pub(crate) fn numbers_once(names: &Names)
     ensures { NumbersOnce names.now }
 {
     let _ = names.find(b"".as_slice());
@@ -122,21 +119,6 @@ fn text_is_bytes(names: &Names, number: usize)
 fn are_bytes(bytes: &[u8])
     ensures { AreBytes bytes.now }
 {}
-
-/// The C tokens: translation phases 5 to 7, before the grammar.
-pub fn c_tokens(alloc: Global, list: &[PpToken], names: &mut Names) -> Result<Vec<Token>, Stop>
-    ensures ok { IfOk result (λ tokens. AreAll names.old names.new (ctokens list.now) tokens.items) }
-    ensures stops { IfErr result (IsTold (λ fault. IsTokenFault fault names.new (ctokens list.now).fault)) }
-    ensures keeps { KeepsNumbers names.old names.new }
-    ensures once { NumbersOnce names.new }
-{
-    let made = tokens(alloc, list, names);
-    numbers_once(names);
-    match made {
-        Ok(tokens) => Ok(tokens),
-        Err(fault) => Err(Stop::Told(fault)),
-    }
-}
 
 /// The syntax tree: translation phase 7.
 pub fn syntax_tree(alloc: Global, tokens: &[Token], names: &Names) -> Result<Unit, Stop>

@@ -7,6 +7,7 @@ mod performing;
 mod reading;
 mod reporting;
 mod stopping;
+mod token_stream;
 mod transfer;
 mod writing;
 

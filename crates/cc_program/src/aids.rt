@@ -9,7 +9,7 @@ use anyhow::Result;
 use cc::{Built, StackSize, compile_with};
 use cc_aids::{Form, Said, explain_faults, explain_run};
 use clap::ArgMatches;
-use code_map::{CodeMap, code_map, frames_table, symbol_file};
+use code_map::{CodeMap, code_map, definitions, frames_table, symbol_file};
 use explain::Stage;
 use explain_shown::Style;
 use image_forms::{binary, entry, intel_hex, pieces, verilog_memory};
@@ -213,6 +213,18 @@ fn unknown_code(rt: &HostRuntime) -> u8 {
     1
 }
 
+/// The files of the words.
+fn sources(
+    rt: &HostRuntime,
+    matches: &ArgMatches<'_>,
+    inner: &ArgMatches<'_>,
+) -> Result<FileSet, Fault> {
+    let main = inner.get_str("MAIN").unwrap_or_default();
+    let mut set = FileSet::new(rt.alloc());
+    read_files(rt, main, matches, &mut set)?;
+    Ok(set)
+}
+
 /// The executable file of the program of the words.
 fn built(
     rt: &HostRuntime,
@@ -221,8 +233,7 @@ fn built(
     stack: StackSize,
 ) -> Result<Built, Fault> {
     let main = inner.get_str("MAIN").unwrap_or_default();
-    let mut set = FileSet::new(rt.alloc());
-    read_files(rt, main, matches, &mut set)?;
+    let set = sources(rt, matches, inner)?;
     compile_with(rt.alloc(), &set, main, stack)
 }
 
@@ -237,18 +248,30 @@ fn write_symbols(rt: &HostRuntime, matches: &ArgMatches<'_>, inner: &ArgMatches<
     let Some(stack) = stack_of(rt, inner) else {
         return Ok(2);
     };
-    let built = match built(rt, matches, inner, stack) {
+    let set = match sources(rt, matches, inner) {
+        Ok(set) => set,
+        Err(fault) => return Ok(say(rt, &fault)),
+    };
+    let built = match compile_with(rt.alloc(), &set, main, stack) {
         Ok(built) => built,
         Err(fault) => return Ok(say(rt, &fault)),
     };
     match code_map(rt.alloc(), &built)? {
-        Some(map) => put_symbols(rt, &map, out),
+        Some(map) => put_symbols(rt, &map, &set, main, out),
         None => Ok(unknown_code(rt)),
     }
 }
 
-fn put_symbols(rt: &HostRuntime, map: &CodeMap, out: &str) -> Result<u8> {
-    let symbols = symbol_file(rt.alloc(), map)?;
+fn put_symbols(
+    rt: &HostRuntime,
+    map: &CodeMap,
+    set: &FileSet,
+    main: &str,
+    out: &str,
+) -> Result<u8> {
+    let known = definitions(rt.alloc(), set, main)?;
+    let lines = known.as_deref().unwrap_or_default();
+    let symbols = symbol_file(rt.alloc(), map, lines)?;
     if put_file(rt, out, symbols.as_slice())? {
         Ok(0)
     } else {

@@ -1,6 +1,8 @@
 //! An ELF file of symbols beside an executable file, for debuggers and disassemblers.
 
+use crate::definitions::Definition;
 use crate::functions::CodeMap;
+use crate::line_table::{ABBREVIATIONS, line_table};
 use std::alloc::{AllocError, Global};
 
 /// The sizes of the ELF header, of a section header and of a symbol (System V gABI, chapter 4).
@@ -11,7 +13,8 @@ const SECTION_SIZE: u32 = 40;
 const SYMBOL_SIZE: u32 = 16;
 
 /// The names of the sections, each behind a zero byte.
-const SECTION_NAMES: &[u8] = b"\0.text\0.symtab\0.strtab\0.shstrtab\0";
+const SECTION_NAMES: &[u8] =
+    b"\0.text\0.symtab\0.strtab\0.debug_abbrev\0.debug_info\0.debug_line\0.shstrtab\0";
 
 /// The address of the text.
 const TEXT_START: u32 = 0x1_1000;
@@ -42,29 +45,46 @@ struct Symbol {
 }
 
 /// An ELF32 file with the text of a program and a symbol for each of its functions, and for `_start`, where it begins: for
-/// `objdump -d`, and for a debugger beside the executable file, whose addresses it has.
-pub fn symbol_file(alloc: Global, map: &CodeMap) -> Result<Vec<u8>, AllocError> {
+/// `objdump -d`, and for a debugger beside the executable file, whose addresses it has. Where the definitions of all functions are
+/// given, each function has the line of its definition.
+pub fn symbol_file(
+    alloc: Global,
+    map: &CodeMap,
+    definitions: &[Definition],
+) -> Result<Vec<u8>, AllocError> {
     let mut names = Vec::new(alloc);
     let mut symbols = Vec::new(alloc);
     put_symbols(map, &mut names, &mut symbols)?;
-    let text_size = size(map.words.len()).wrapping_mul(4);
-    let symbols_at = HEADER_SIZE.wrapping_add(text_size);
-    let names_at = symbols_at.wrapping_add(size(symbols.len()));
-    let section_names_at = names_at.wrapping_add(size(names.len()));
-    let table_at = section_names_at.wrapping_add(size(SECTION_NAMES.len()));
-    let mut file = Vec::new(alloc);
-    put_header(&mut file, table_at)?;
+    let lines = line_table(alloc, map, definitions)?;
+    let mut text = Vec::new(alloc);
     for word in &map.words {
-        put_word(&mut file, *word)?;
+        put_word(&mut text, *word)?;
     }
-    file.extend_from_slice(symbols.as_slice())?;
-    file.extend_from_slice(names.as_slice())?;
-    file.extend_from_slice(SECTION_NAMES)?;
-    let sections = sections(text_size, symbols_at, names_at, section_names_at, table_at);
-    for section in &sections {
-        put_section(&mut file, section)?;
+    let contents = [
+        text.as_slice(),
+        symbols.as_slice(),
+        names.as_slice(),
+        ABBREVIATIONS,
+        lines.info.as_slice(),
+        lines.lines.as_slice(),
+        SECTION_NAMES,
+    ];
+    let mut file = Vec::new(alloc);
+    put_header(&mut file, table_place(&contents))?;
+    for content in &contents {
+        file.extend_from_slice(content)?;
     }
+    put_sections(&mut file, &contents)?;
     Ok(file)
+}
+
+/// Where the sections' headers begin: behind the file's header and all contents.
+fn table_place(contents: &[&[u8]]) -> u32 {
+    let mut place = HEADER_SIZE;
+    for content in contents {
+        place = place.wrapping_add(size(content.len()));
+    }
+    place
 }
 
 /// A size that has 32 bits.
@@ -144,7 +164,7 @@ fn put_symbol(symbols: &mut Vec<u8>, symbol: &Symbol) -> Result<(), AllocError> 
     put_half(symbols, symbol.section)
 }
 
-/// Puts the ELF header of an executable file for RISC-V without program headers, with five sections.
+/// Puts the ELF header of an executable file for RISC-V without program headers, with eight sections.
 fn put_header(file: &mut Vec<u8>, table_at: u32) -> Result<(), AllocError> {
     file.extend_from_slice(&[0x7F, 0x45, 0x4C, 0x46, 1, 1, 1, 0, 0, 0, 0, 0, 0, 0, 0, 0])?;
     put_half(file, 2)?;
@@ -152,39 +172,48 @@ fn put_header(file: &mut Vec<u8>, table_at: u32) -> Result<(), AllocError> {
     for word in [1, TEXT_START, 0, table_at, 0] {
         put_word(file, word)?;
     }
-    for half in [HEADER_SIZE as u16, 0, 0, SECTION_SIZE as u16, 5, 4] {
+    for half in [HEADER_SIZE as u16, 0, 0, SECTION_SIZE as u16, 8, 7] {
         put_half(file, half)?;
     }
     Ok(())
 }
 
-/// The sections: the empty one, the text (`SHT_PROGBITS`, `SHF_ALLOC` and `SHF_EXECINSTR`), the symbols (`SHT_SYMTAB`), whose first
-/// global is number 1, their names and the sections' names (`SHT_STRTAB`).
-fn sections(
-    text_size: u32,
-    symbols_at: u32,
-    names_at: u32,
-    section_names_at: u32,
-    table_at: u32,
-) -> [Section; 5] {
-    let none = plain_section(0, 0, 0, 0);
-    let mut text = plain_section(1, 1, HEADER_SIZE, text_size);
-    text.flags = 6;
-    text.address = TEXT_START;
-    text.alignment = 4;
-    let mut symbols = plain_section(7, 2, symbols_at, names_at.wrapping_sub(symbols_at));
-    symbols.link = 3;
-    symbols.info = 1;
-    symbols.entry_size = SYMBOL_SIZE;
-    symbols.alignment = 4;
-    let names = plain_section(15, 3, names_at, section_names_at.wrapping_sub(names_at));
-    let section_names = plain_section(
-        23,
-        3,
-        section_names_at,
-        table_at.wrapping_sub(section_names_at),
-    );
-    [none, text, symbols, names, section_names]
+/// Puts the headers of the sections: the empty one, and one for each of the contents.
+fn put_sections(file: &mut Vec<u8>, contents: &[&[u8]]) -> Result<(), AllocError> {
+    put_section(file, &plain_section(0, 0, 0, 0))?;
+    let mut offset = HEADER_SIZE;
+    for (number, content) in contents.iter().enumerate() {
+        let bytes = size(content.len());
+        put_section(file, &section(number, offset, bytes))?;
+        offset = offset.wrapping_add(bytes);
+    }
+    Ok(())
+}
+
+/// The header of the section with this number, counted from 0: the text (`SHT_PROGBITS`, `SHF_ALLOC` and `SHF_EXECINSTR`), the symbols
+/// (`SHT_SYMTAB`), whose first global is number 1, their names (`SHT_STRTAB`), the three sections for debuggers (`SHT_PROGBITS`), the
+/// sections' names.
+fn section(number: usize, offset: u32, bytes: u32) -> Section {
+    match number {
+        0 => Section {
+            flags: 6,
+            address: TEXT_START,
+            alignment: 4,
+            ..plain_section(1, 1, offset, bytes)
+        },
+        1 => Section {
+            link: 3,
+            info: 1,
+            entry_size: SYMBOL_SIZE,
+            alignment: 4,
+            ..plain_section(7, 2, offset, bytes)
+        },
+        2 => plain_section(15, 3, offset, bytes),
+        3 => plain_section(23, 1, offset, bytes),
+        4 => plain_section(37, 1, offset, bytes),
+        5 => plain_section(49, 1, offset, bytes),
+        _ => plain_section(61, 3, offset, bytes),
+    }
 }
 
 fn plain_section(name: u32, kind: u32, offset: u32, size: u32) -> Section {

@@ -9,7 +9,7 @@ mod table;
 mod tests_of_tokens;
 
 pub use operators::{
-    paste, push_shown, push_shown_next, string_of, stringize, try_paste, try_stringize,
+    paste, push_shown, push_shown_next, shown_room, string_of, stringize, try_paste, try_stringize,
 };
 pub use reserved::{is_predefined, is_reserved};
 pub use table::{BodyToken, MAX_MACROS, MAX_PARAMETERS, Macro, MacroTable};

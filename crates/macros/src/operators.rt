@@ -70,6 +70,26 @@ pub fn push_shown_next(text: &mut Vec<u8>, token: &PpToken) -> Result<(), AllocE
     push_shown(text, token)
 }
 
+// How many bytes more than its spelling a literal takes, in which a backslash stands before each quote and backslash.
+fn count_escapes(literal: &[u8]) -> usize {
+    let mut count: usize = 0;
+    for byte in literal {
+        if *byte == b'"' || *byte == b'\\' {
+            count = count.saturating_add(1);
+        }
+    }
+    count
+}
+
+/// The most bytes that a token takes in a string, with a space before it.
+pub fn shown_room(token: &PpToken) -> usize {
+    let length = token.spelling().len().saturating_add(1);
+    if is_literal(token.kind()) {
+        return length.saturating_add(count_escapes(token.spelling()));
+    }
+    length
+}
+
 // Puts the texts of the tokens behind the first.
 fn push_behind(text: &mut Vec<u8>, tokens: &[PpToken]) -> Result<(), AllocError>
     ensures { OnOk result (text.new.items ≡ text.old.items ++ shown_behind tokens.now) }
@@ -93,11 +113,21 @@ fn push_all(text: &mut Vec<u8>, tokens: &[PpToken]) -> Result<(), AllocError>
     }
 }
 
+// The most bytes of the string that an argument becomes. Room for it is taken once, since such a string may be long.
+fn string_room(argument: &[PpToken]) -> usize {
+    let mut room: usize = 2;
+    for token in argument {
+        room = room.saturating_add(shown_room(token));
+    }
+    room
+}
+
 // The text of the string that an argument becomes.
 fn string_text(alloc: Global, argument: &[PpToken]) -> Result<Vec<u8>, AllocError>
     ensures { IfOk result (λ text. text.items ≡ string_text argument.now) }
 {
     let mut text = Vec::new(alloc);
+    text.reserve_exact(string_room(argument))?;
     text.push(b'"')?;
     push_all(&mut text, argument)?;
     text.push(b'"')?;
@@ -177,7 +207,9 @@ pub fn stringize<'a>(
 fn both_spellings(alloc: Global, left: &PpToken, right: &PpToken) -> Result<Vec<u8>, AllocError>
     ensures { IfOk result (λ text. text.items ≡ left.now.spelling ++ right.now.spelling) }
 {
-    let mut text = Vec::from_slice(alloc, left.spelling())?;
+    let mut text = Vec::new(alloc);
+    text.reserve_exact(left.spelling().len().saturating_add(right.spelling().len()))?;
+    text.extend_from_slice(left.spelling())?;
     text.extend_from_slice(right.spelling())?;
     Ok(text)
 }

@@ -17,7 +17,9 @@ ghost use Rattle.macros_substitution.specs.inside.Steps.{JoinsTo};
 use crate::hide_sets::HideSet;
 use crate::joining::is_joint as is_joint_piece;
 use crate::piece::{HiddenToken, Piece, Use};
-use macros::{BodyToken, Macro, is_hash, is_joint, push_shown, push_shown_next, string_of};
+use macros::{
+    BodyToken, Macro, is_hash, is_joint, push_shown, push_shown_next, shown_room, string_of,
+};
 use phases::PpToken;
 use srcset::{Pos, Refusal};
 use std::alloc::{AllocError, Global};
@@ -110,12 +112,22 @@ fn push_others(text: &mut Vec<u8>, others: &[HiddenToken]) -> Result<(), AllocEr
     Ok(())
 }
 
+// The most bytes of the string that an argument becomes. Room for it is taken once, since such a string may be long.
+fn string_room(argument: &[HiddenToken]) -> usize {
+    let mut room: usize = 2;
+    for token in argument {
+        room = room.saturating_add(shown_room(&token.token));
+    }
+    room
+}
+
 // The text of the string literal that `#` makes of an argument.
 fn text_of_argument(alloc: Global, argument: &[HiddenToken]) -> Result<Vec<u8>, Refusal>
     ensures ok { IfOk result (λ text. text.items ≡ string_text (tokens_held argument.now)) }
     ensures err { IfErr result (λ refusal. refusal ≡ Memory) }
 {
     let mut text = Vec::new(alloc);
+    text.reserve_exact(string_room(argument))?;
     text.push(b'"')?;
     push_argument(&mut text, argument)?;
     text.push(b'"')?;

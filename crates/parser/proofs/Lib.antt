@@ -7,7 +7,6 @@ pub mod StmtIf
 pub mod StmtLeading
 pub mod StmtSequence
 pub mod StmtSorts
-pub mod StmtViews
 pub mod UnitCounts
 pub mod UnitLoop
 pub mod UnitParts

@@ -10,7 +10,7 @@ ghost use Rattle.parser_grammar.specs.declared.refusal.Refusal.TheVariants.{Memo
 use parser_grammar::Refusal;
 use srcset::Pos;
 use std::alloc::Global;
-use tree::{BlockItem, Declaration, Expr, ForStart, Stmt};
+use tree::{BlockItem, Declaration, Expr, ForHead, ForStart, Stmt};
 
 /// `;`
 #[inline(never)]
@@ -181,7 +181,8 @@ pub(crate) fn for_node(
     ensures ok { IfOk result (λ b. stmt_of b.value ≡ for_stmt pos (start_of start) (option_tree test) (option_tree step) (stmt_of body.value)) }
     ensures err { IfErr result (λ f. f ≡ Memory) }
 {
-    Ok(Box::new(alloc, Stmt::For(pos, start, test, step, body))?)
+    let head = Box::new(alloc, ForHead { start, test, step })?;
+    Ok(Box::new(alloc, Stmt::For(pos, head, body))?)
 }
 
 /// A statement of a block.

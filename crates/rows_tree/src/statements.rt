@@ -37,10 +37,10 @@ pub fn statement<'t>(parts: &mut Pieces<'t>, stmt: &'t Stmt) -> Result<(), Alloc
             Piece::Expression(condition),
             Piece::Text(b"]"),
         ]),
-        Stmt::For(_, start, condition, step, body) => {
-            for_start(parts, start)?;
-            optional(parts, condition, b"; ")?;
-            optional(parts, step, b" ")?;
+        Stmt::For(_, head, body) => {
+            for_start(parts, &head.start)?;
+            optional(parts, &head.test, b"; ")?;
+            optional(parts, &head.step, b" ")?;
             parts.add(Piece::Statement(&**body))?;
             parts.add(Piece::Text(b"]"))
         }

@@ -5,6 +5,7 @@ use Rattle.ctypes.specs.declared.types.IntType.{IntType}
 use Rattle.typing_program.specs.declared.expressions.Value.{Value}
 use Rattle.typing_program.specs.declared.initialisers.Initialiser.{Initialiser, the_lemmas as initialiser_lemmas}
 use Rattle.typing_program.specs.declared.initialisers.Initialiser as I
+use Rattle.typing_program.specs.declared.statements.ForControl.{ForControl}
 use Rattle.typing_program.specs.declared.statements.Statement.{Statement, the_lemmas}
 use Rattle.typing_program.specs.declared.statements.Statement as S
 use Rattle.typing_program.specs.View.{value_of, option_value, initialiser_of, initialisers_of, statement_of, statements_of}
@@ -82,11 +83,11 @@ dowhile_is a e = search (rules, the_lemmas)
 pub sees_dowhile : (x : Statement) (a : Box Statement Global) (e : Value) → x ≡ S.DoWhile a e → statement_of x ≡ typed.do_while (statement_of a.value) (value_of e)
 sees_dowhile x a e h = ap statement_of h ∙ dowhile_is a e
 
-for_is : (declared : Vec Statement Global) (start test step : Option Value) (a : Box Statement Global) → statement_of (S.For declared start test step a) ≡ typed.for (statements_of (map statement_of declared.items)) (option_value start) (option_value test) (option_value step) (statement_of a.value)
-for_is declared start test step a = search (rules, the_lemmas)
+for_is : (declared : Vec Statement Global) (control : Box ForControl Global) (a : Box Statement Global) → statement_of (S.For declared control a) ≡ typed.for (statements_of (map statement_of declared.items)) (option_value control.value.start) (option_value control.value.test) (option_value control.value.step) (statement_of a.value)
+for_is declared control a = search (rules, the_lemmas)
 
-pub sees_for : (x : Statement) (declared : Vec Statement Global) (start test step : Option Value) (a : Box Statement Global) → x ≡ S.For declared start test step a → statement_of x ≡ typed.for (statements_of (map statement_of declared.items)) (option_value start) (option_value test) (option_value step) (statement_of a.value)
-sees_for x declared start test step a h = ap statement_of h ∙ for_is declared start test step a
+pub sees_for : (x : Statement) (declared : Vec Statement Global) (control : Box ForControl Global) (a : Box Statement Global) → x ≡ S.For declared control a → statement_of x ≡ typed.for (statements_of (map statement_of declared.items)) (option_value control.value.start) (option_value control.value.test) (option_value control.value.step) (statement_of a.value)
+sees_for x declared control a h = ap statement_of h ∙ for_is declared control a
 
 break_is : statement_of S.Break ≡ typed.break
 break_is = search (rules, the_lemmas)

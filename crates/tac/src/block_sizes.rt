@@ -131,9 +131,14 @@ pub(crate) fn statement_size(scope: &Scope<'_>, statement: &Statement) -> usize
             1,
             plus(statement_size(scope, a), value_size(e, Shape::Jump)),
         ),
-        Statement::For(declared, start, test, step, a) => {
-            for_size(scope, declared, start, test, step, a)
-        }
+        Statement::For(declared, control, a) => for_size(
+            scope,
+            declared,
+            &control.start,
+            &control.test,
+            &control.step,
+            a,
+        ),
         Statement::Break => 1,
         Statement::Continue => 1,
         Statement::ReturnNothing => plus(1, 1),

@@ -299,8 +299,17 @@ pub(crate) fn put_statement(
             put_do_while(scope, code, a, e, back)?;
             Ok(())
         }
-        Statement::For(declared, start, test, step, a) => {
-            put_for(scope, code, declared, start, test, step, a, back)?;
+        Statement::For(declared, control, a) => {
+            put_for(
+                scope,
+                code,
+                declared,
+                &control.start,
+                &control.test,
+                &control.step,
+                a,
+                back,
+            )?;
             Ok(())
         }
         Statement::Break => {

@@ -128,7 +128,7 @@ DeclaredAsked d = ListAsked d.effects.statements
 
 static_asked : (b : Begun) (n : ℕ) (i : Init) → IfFine EffectsAsked (declarations.static_values b n i)
 static_asked b n i =
-    then_any EffectsAsked (initials.constant_parts b.scope i) _ (λ u. then_any EffectsAsked (declarations.initialiser_of b i) _ (λ x.
+    then_any EffectsAsked (initials.constant_parts b.scope (declarations.element_of b.type) (declarations.wanted_by b.type) i) _ (λ u. then_any EffectsAsked (declarations.initialiser_of b i) _ (λ x.
     then_any EffectsAsked (initials.values (past_init b.scope i) (declarations.element_of b.type) (declarations.lengths_of b.type) x) _ (λ vs. tt)))
 
 initialised_asked : (b : Begun) (what : Storage) (init : Option Init) → IfFine EffectsAsked (initialised_as b what init)

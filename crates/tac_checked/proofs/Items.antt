@@ -146,7 +146,7 @@ module _ (W : Setting) where
 
   abbrev pub static_verdict : Scope → Pos → DeclaredType → ℕ → Init → Verdict Effects
   static_verdict s at T n i =
-      then_check (constant_parts s i) (λ u.
+      then_check (constant_parts s (element_of T) (wanted_by T) i) (λ u.
       then_check (initialiser s at (element_of T) (wanted_by T) true i) (λ x.
       then_check (values (past_init s i) (element_of T) (lengths_of T) x) (λ vs.
       fine (record { statements = []; initial = record { static = n; values = vs } ∷ [] }))))
@@ -166,7 +166,7 @@ module _ (W : Setting) where
 
   pub static_complete : (s : Scope) (at : Pos) (t : ObjectType) (n : ℕ) (i : Init) → Names W s → TextsEnd W (s.literals ++ strings_of i) → IsWider t (slice_get W.program.statics n) → IfFine NoneDone (static_verdict s at (complete t) n i)
   static_complete s at t n i N T h =
-      then_any NoneDone (constant_parts s i) _ (λ u.
+      then_any NoneDone (constant_parts s t.element (wanted t.lengths) i) _ (λ u.
       then_some (InitGood W t.element t.lengths) NoneDone (initialiser s at t.element (wanted t.lengths) true i) _ (initialiser_good W s at t.element t.lengths true i N T) (λ x g.
       then_some (Laid t.element t.lengths) NoneDone (values (past_init s i) t.element t.lengths x) _ (laid_by (past_init s i) N.0 T t.element t.lengths x g.1) (λ vs k.
       (λ a b lo hi l m. tt, (entry_good t n vs h k, tt)))))
@@ -174,7 +174,7 @@ module _ (W : Setting) where
   pub static_open : (s : Scope) (at : Pos) (t : ObjectType) (m n : ℕ) (i : Init) → Names W s → TextsEnd W (s.literals ++ strings_of i) → Room s None m (has_characters t.element t.lengths) i → IsWider (array_of m t) (slice_get W.program.statics n) →
       IfFine NoneDone (static_verdict s at (unknown_size t) n i)
   static_open s at t m n i N T r h =
-      then_any NoneDone (constant_parts s i) _ (λ u.
+      then_any NoneDone (constant_parts s t.element (an_array None t.lengths) i) _ (λ u.
       then_some (InitGood W t.element (m ∷ t.lengths)) NoneDone (initialiser s at t.element (an_array None t.lengths) true i) _ (open_good W s at t.element m t.lengths true i N T r) (λ x g.
       then_some (Laid t.element (m ∷ t.lengths)) NoneDone (values (past_init s i) t.element (1 ∷ t.lengths) x) _ (many_laid W (past_init s i) N.0 T t.element 1 m t.lengths x g.1) (λ vs k.
       (λ a b lo hi l q. tt, (entry_good (array_of m t) n vs h k, tt)))))

@@ -133,7 +133,7 @@ begun_with s class b at n sizes init = then_any (HasInit init) (declared_type s 
 
 static_within : (b : Begun) (n : ℕ) (i : Init) (k : ℕ) → IfFine (EffectsWithin k) (declarations.static_values b n i)
 static_within b n i k =
-    then_any (EffectsWithin k) (initials.constant_parts b.scope i) _ (λ u. then_any (EffectsWithin k) (declarations.initialiser_of b i) _ (λ x.
+    then_any (EffectsWithin k) (initials.constant_parts b.scope (declarations.element_of b.type) (declarations.wanted_by b.type) i) _ (λ u. then_any (EffectsWithin k) (declarations.initialiser_of b i) _ (λ x.
     then_any (EffectsWithin k) (initials.values (past_init b.scope i) (declarations.element_of b.type) (declarations.lengths_of b.type) x) _ (λ vs. omega arith)))
 
 initialised_within : (b : Begun) (what : Storage) (init : Option Init) → IfFine (EffectsWithin (option_init_nodes init + 1)) (initialised_as b what init)

@@ -282,9 +282,9 @@ impl Stmt {
             Stmt::Default(_, body) => deeper(body.depth()),
             Stmt::While(_, test, body) => deeper(greater(test.depth(), body.depth())),
             Stmt::DoWhile(_, body, test) => deeper(greater(body.depth(), test.depth())),
-            Stmt::For(_, start, test, step, body) => deeper(greater(
-                start_depth(start),
-                below_head(test, step, body.depth()),
+            Stmt::For(_, head, body) => deeper(greater(
+                start_depth(&head.start),
+                below_head(&head.test, &head.step, body.depth()),
             )),
             Stmt::Break(_) => 1,
             Stmt::Continue(_) => 1,

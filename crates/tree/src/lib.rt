@@ -20,6 +20,6 @@ pub use declaration::{
 pub use expression::{
     AssignOp, BinaryOp, Expr, PrefixOp, StepOp, TypeName, TypeSpecifier, TypeSpecifiers, Word,
 };
-pub use statement::{BlockItem, ForStart, Stmt};
+pub use statement::{BlockItem, ForHead, ForStart, Stmt};
 pub use unit::{External, Function, Unit};
 pub use weights::weight;

@@ -283,8 +283,8 @@ impl Stmt {
             Stmt::Default(_, body) => one_more(body.nodes()),
             Stmt::While(_, test, body) => one_more(sum(test.nodes(), body.nodes())),
             Stmt::DoWhile(_, body, test) => one_more(sum(body.nodes(), test.nodes())),
-            Stmt::For(_, start, test, step, body) => one_more(sum(
-                head_nodes(start, test, step),
+            Stmt::For(_, head, body) => one_more(sum(
+                head_nodes(&head.start, &head.test, &head.step),
                 body.nodes(),
             )),
             Stmt::Break(_) => 1,

@@ -11,6 +11,14 @@ pub enum ForStart {
     Declaration(Declaration),
 }
 
+/// What stands in the parentheses of a `for` (6.8.5.3).
+#[derive(Drop)]
+pub struct ForHead {
+    pub start: ForStart,
+    pub test: Option<Expr>,
+    pub step: Option<Expr>,
+}
+
 /// What a block consists of (6.8.2).
 #[cycle(statements)]
 #[derive(Drop)]
@@ -19,7 +27,8 @@ pub enum BlockItem {
     Statement(Stmt),
 }
 
-/// A statement (6.8). The place of each is that of its first token.
+/// A statement (6.8). The place of each is that of its first token. The head of a `for` stands in a box, so that no other
+/// statement takes as much room as that.
 #[cycle(statements)]
 #[derive(Drop)]
 pub enum Stmt {
@@ -44,7 +53,7 @@ pub enum Stmt {
     /// `do s while (e);` (6.8.5.2).
     DoWhile(Pos, Box<Stmt>, Expr),
     /// `for (a; b; c) s` (6.8.5.3).
-    For(Pos, ForStart, Option<Expr>, Option<Expr>, Box<Stmt>),
+    For(Pos, Box<ForHead>, Box<Stmt>),
     /// `break;` (6.8.6.3).
     Break(Pos),
     /// `continue;` (6.8.6.2).

@@ -1,8 +1,9 @@
 -- What the declarator of an object does, of its parts.
-use Rattle.std.proofs.Common.{◌≡◌, ℕ, Bool, true, false, List, [], ◌∷◌, ◌++◌, Option, Some, None, refl, sym, ap, ◌∙◌, subst, append-nil}
+use Rattle.std.proofs.Common.{◌≡◌, ℕ, Bool, true, false, ◌&&◌, is_some, List, [], ◌∷◌, ◌++◌, Option, Some, None, refl, sym, ap, ◌∙◌, subst, append-nil}
 use Rattle.srcset.specs.declared.refusal.Pos.{Pos}
 use Rattle.srcset.specs.declared.refusal.Refusal.{Refusal}
 use Rattle.tree.specs.Tree.{Tree, Init, init_hole, one_init, braced_init, Inits, no_inits, and_init}
+use Rattle.ctypes.specs.declared.types.IntType.{IntType}
 use Rattle.typing_program.specs.declared.statements.Statement.{Statement}
 use Rattle.typing_program.specs.declared.initialisers.Initialiser.{Initialiser}
 use Rattle.typing_program.specs.View.{initialiser_of}
@@ -11,7 +12,7 @@ use Rattle.typing_rules.specs.Types.{DeclaredType}
 use Rattle.typing_rules.specs.Verdict.{Verdict, fine, each, then_check}
 use Rattle.typing_rules.specs.Program as program
 use Rattle.typing_rules.specs.Scope.{Scope}
-use Rattle.typing_rules.specs.Initialisers.{initialiser, constant_parts, all_constant, is_text, form_unless, past_init, values}
+use Rattle.typing_rules.specs.Initialisers.{Wanted, initialiser, constant_parts, all_constant, is_text, takes_text, part_wanted, text_alone, form_unless, parts_unless, past_init, values}
 use Rattle.typing_rules.specs.Declarations as typed
 use Rattle.typing_scopes.specs.Scopes.{with_texts}
 use Rattle.typing_expressions.specs.Forms.{seen}
@@ -32,14 +33,14 @@ unless_same t s true e = refl
 unless_same t s false e = form_same t s.literals s e
 
 mutual
-  parts_same : (t : List (List ℕ)) (s : Scope) (i : Init) → constant_parts s i ≡ constant_parts (with_texts t s) i
-  parts_same t s init_hole = refl
-  parts_same t s (one_init e) = unless_same t s (is_text e) e
-  parts_same t s (braced_init at parts) = all_same t s parts
+  parts_same : (t : List (List ℕ)) (s : Scope) (ty : IntType) (w : Wanted) (i : Init) → constant_parts s ty w i ≡ constant_parts (with_texts t s) ty w i
+  parts_same t s ty w init_hole = refl
+  parts_same t s ty w (one_init e) = unless_same t s (takes_text ty w && is_text e) e
+  parts_same t s ty w (braced_init at parts) = ap (parts_unless (takes_text ty w && is_some (text_alone parts))) (all_same t s ty (part_wanted w) parts)
 
-  all_same : (t : List (List ℕ)) (s : Scope) (is : Inits) → all_constant s is ≡ all_constant (with_texts t s) is
-  all_same t s no_inits = refl
-  all_same t s (and_init i is) = ap (λ v. each v (all_constant s is)) (parts_same t s i) ∙ ap (λ v. each (constant_parts (with_texts t s) i) v) (all_same t s is)
+  all_same : (t : List (List ℕ)) (s : Scope) (ty : IntType) (w : Wanted) (is : Inits) → all_constant s ty w is ≡ all_constant (with_texts t s) ty w is
+  all_same t s ty w no_inits = refl
+  all_same t s ty w (and_init i is) = ap (λ v. each v (all_constant s ty w is)) (parts_same t s ty w i) ∙ ap (λ v. each (constant_parts (with_texts t s) ty w i) v) (all_same t s ty w is)
 
 abbrev with_first : Scope → DeclaredType → ℕ → Init → program.Initialiser → Verdict typed.Effects
 with_first s u n i x = then_check (values (past_init s i) (typed.element_of u) (typed.lengths_of u) x) (first_values n)
@@ -47,22 +48,25 @@ with_first s u n i x = then_check (values (past_init s i) (typed.element_of u) (
 abbrev of_object : Scope → Pos → DeclaredType → Init → Verdict program.Initialiser
 of_object s at u i = initialiser s at (typed.element_of u) (typed.wanted_by u) true i
 
+abbrev constant_of : Scope → DeclaredType → Init → Verdict (Unit {0})
+constant_of s u i = constant_parts s (typed.element_of u) (typed.wanted_by u) i
+
 abbrev behind_parts : Scope → Pos → DeclaredType → ℕ → Init → Unit {0} → Verdict typed.Effects
 behind_parts s at u n i x = then_check (of_object s at u i) (with_first s u n i)
 
-pub first_read : (t : List (List ℕ)) (s : Scope) (at : Pos) (u : DeclaredType) (n : ℕ) (i : Init) (x : program.Initialiser) → constant_parts s i ≡ fine tt → of_object (with_texts t s) at u i ≡ fine x →
+pub first_read : (t : List (List ℕ)) (s : Scope) (at : Pos) (u : DeclaredType) (n : ℕ) (i : Init) (x : program.Initialiser) → constant_of s u i ≡ fine tt → of_object (with_texts t s) at u i ≡ fine x →
     typed.static_values (begun_at (with_texts t s) at u) n i ≡ with_first (with_texts t s) u n i x
 first_read t s at u n i x f g =
-    then_fine (constant_parts (with_texts t s) i) tt (behind_parts (with_texts t s) at u n i) (sym (parts_same t s i) ∙ f) ∙ then_fine (of_object (with_texts t s) at u i) x (with_first (with_texts t s) u n i) g
+    then_fine (constant_of (with_texts t s) u i) tt (behind_parts (with_texts t s) at u n i) (sym (parts_same t s (typed.element_of u) (typed.wanted_by u) i) ∙ f) ∙ then_fine (of_object (with_texts t s) at u i) x (with_first (with_texts t s) u n i) g
 
-pub first_form : (t : List (List ℕ)) (s : Scope) (at : Pos) (u : DeclaredType) (n : ℕ) (i : Init) (r : Refusal) → IsOf r (constant_parts s i) → Tells r (typed.static_values (begun_at (with_texts t s) at u) n i)
+pub first_form : (t : List (List ℕ)) (s : Scope) (at : Pos) (u : DeclaredType) (n : ℕ) (i : Init) (r : Refusal) → IsOf r (constant_of s u i) → Tells r (typed.static_values (begun_at (with_texts t s) at u) n i)
 first_form t s at u n i r h =
-    tells_then r (constant_parts (with_texts t s) i) (behind_parts (with_texts t s) at u n i) (subst (λ v. Tells r v) (parts_same t s i) (tells_of r (constant_parts s i) h))
+    tells_then r (constant_of (with_texts t s) u i) (behind_parts (with_texts t s) at u n i) (subst (λ v. Tells r v) (parts_same t s (typed.element_of u) (typed.wanted_by u) i) (tells_of r (constant_of s u i) h))
 
-pub first_typing : (t : List (List ℕ)) (s : Scope) (at : Pos) (u : DeclaredType) (n : ℕ) (i : Init) (r : Refusal) → constant_parts s i ≡ fine tt → Tells r (of_object (with_texts t s) at u i) →
+pub first_typing : (t : List (List ℕ)) (s : Scope) (at : Pos) (u : DeclaredType) (n : ℕ) (i : Init) (r : Refusal) → constant_of s u i ≡ fine tt → Tells r (of_object (with_texts t s) at u i) →
     Tells r (typed.static_values (begun_at (with_texts t s) at u) n i)
 first_typing t s at u n i r f h =
-    then_tells r (constant_parts (with_texts t s) i) tt (behind_parts (with_texts t s) at u n i) (sym (parts_same t s i) ∙ f) (tells_then r (of_object (with_texts t s) at u i) (with_first (with_texts t s) u n i) h)
+    then_tells r (constant_of (with_texts t s) u i) tt (behind_parts (with_texts t s) at u n i) (sym (parts_same t s (typed.element_of u) (typed.wanted_by u) i) ∙ f) (tells_then r (of_object (with_texts t s) at u i) (with_first (with_texts t s) u n i) h)
 
 -- ---- what is put behind
 

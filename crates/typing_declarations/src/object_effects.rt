@@ -12,7 +12,7 @@ ghost use Rattle.typing_expressions.specs.Refused.{Tells};
 ghost use Rattle.typing_scopes.specs.Scopes.{with_texts};
 ghost use Rattle.typing_declarations.specs.inside.Effects.{begun_at, behind, effect_in};
 
-use crate::object_initialisers::object_initialiser;
+use crate::object_initialisers::{element_of, object_initialiser, wanted_by};
 use decls_initialisers::constant_parts;
 use srcset::{Names, Pos, Refusal};
 use std::alloc::Global;
@@ -44,7 +44,7 @@ fn first_effect(
     ensures ok { IfOk result (λ e. typed.static_values (begun_at (with_texts names.now scope.now) pos (declared_type_of declared.now)) number (init_of init.now) ≡ effect_in (past_init (with_texts names.now scope.now) (init_of init.now)) (declared_type_of declared.now) e) }
     ensures err { IfErr result (λ r. Tells r (typed.static_values (begun_at (with_texts names.now scope.now) pos (declared_type_of declared.now)) number (init_of init.now))) }
 {
-    match constant_parts(scope, init) {
+    match constant_parts(scope, element_of(declared), wanted_by(declared), init) {
         Ok(()) => {}
         Err(refusal) => return Err(refusal),
     }

@@ -147,8 +147,8 @@ statement_step (Statement-F.Case v) = typed.case v
 statement_step Statement-F.Default = typed.default
 statement_step (Statement-F.While e a) = typed.while (value_of e) a.value
 statement_step (Statement-F.DoWhile a e) = typed.do_while a.value (value_of e)
-statement_step (Statement-F.For declared start test step a) =
-    typed.for (statements_of declared.items) (option_value start) (option_value test) (option_value step) a.value
+statement_step (Statement-F.For declared control a) =
+    typed.for (statements_of declared.items) (option_value control.value.start) (option_value control.value.test) (option_value control.value.step) a.value
 statement_step Statement-F.Break = typed.break
 statement_step Statement-F.Continue = typed.continue
 statement_step Statement-F.ReturnNothing = typed.return_nothing

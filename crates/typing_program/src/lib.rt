@@ -13,7 +13,7 @@ mod units;
 
 pub use expressions::{Argument, Place, Value};
 pub use initialisers::Initialiser;
-pub use statements::Statement;
+pub use statements::{ForControl, Statement};
 pub use storage_places::{Callee, Moment, Storage};
 pub use types::{DeclaredType, FunctionType, ObjectType, ParameterType};
 pub use units::{Function, Program, Static};

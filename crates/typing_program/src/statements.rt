@@ -4,6 +4,14 @@ use crate::expressions::Value;
 use crate::initialisers::Initialiser;
 use ctypes::IntType;
 
+/// The expressions in the parentheses of a `for` (6.8.5.3). They stand in a box, so that no other statement takes as much room.
+#[derive(Drop)]
+pub struct ForControl {
+    pub start: Option<Value>,
+    pub test: Option<Value>,
+    pub step: Option<Value>,
+}
+
 /// A statement (6.8), or the declarator of an automatic object (6.7) by the number of the object.
 #[derive(Drop)]
 pub enum Statement {
@@ -21,8 +29,8 @@ pub enum Statement {
     Default,
     While(Value, Box<Statement>),
     DoWhile(Box<Statement>, Value),
-    /// What is declared, the first expression, the test, the step and the body (6.8.5.3).
-    For(Vec<Statement>, Option<Value>, Option<Value>, Option<Value>, Box<Statement>),
+    /// What is declared, the expressions in the parentheses and the body (6.8.5.3).
+    For(Vec<Statement>, Box<ForControl>, Box<Statement>),
     Break,
     Continue,
     ReturnNothing,

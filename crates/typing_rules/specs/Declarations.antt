@@ -263,7 +263,7 @@ initialiser_of b i = initialiser b.scope b.at (element_of b.type) (wanted_by b.t
 
 abbrev pub static_values : Begun → ℕ → Init → Verdict Effects
 static_values b n i =
-    then_check (constant_parts b.scope i) (λ u.
+    then_check (constant_parts b.scope (element_of b.type) (wanted_by b.type) i) (λ u.
     then_check (initialiser_of b i) (λ x.
     then_check (values (past_init b.scope i) (element_of b.type) (lengths_of b.type) x) (λ vs.
     fine (record { statements = []; initial = record { static = n; values = vs } ∷ [] }))))

@@ -1,6 +1,6 @@
 -- Initialisers (ISO/IEC 9899:2011 6.7.9): a number's is an expression, also in braces; an array's a full braced list or, for arrays of
 -- characters, a string literal, also in braces.
-use Rattle.std.specs.Prelude.{ℕ, zero, suc, ◌+◌, ◌-◌, Bool, true, false, ℤ, pos, nat_lt, List, [], ◌∷◌, ◌++◌, length, take, Option, Some, None, slice_get}
+use Rattle.std.specs.Prelude.{ℕ, zero, suc, ◌+◌, ◌-◌, Bool, true, false, ℤ, pos, nat_lt, ◌&&◌, List, [], ◌∷◌, ◌++◌, length, take, Option, Some, None, is_some, slice_get}
 use Rattle.srcset.specs.declared.refusal.Pos.{Pos}
 use Rattle.srcset.specs.declared.code.Code.TheVariants as code
 use Rattle.ctypes.specs.declared.types.IntType.{IntType}
@@ -138,26 +138,40 @@ literal_text s (Some n) = literal_of s n
 abbrev pub text_at : Scope → ℕ → List ℕ
 text_at s n = literal_text s (slice_get s.literals n)
 
--- ---- the initialiser of an object with static storage: constant expressions or string literals (6.7.9p4)
+-- ---- the initialiser of an object with static storage: constant expressions, or the string literal of an array of characters (6.7.9p4, p14)
 
 abbrev pub is_text : Tree → Bool
 is_text (string own n) = true
 is_text (paren e) = is_text e
 is_text e = false
 
+-- a string literal may stand for an array of characters
+abbrev pub takes_text : IntType → Wanted → Bool
+takes_text t one_number = false
+takes_text t (an_array room lengths) = has_characters t lengths
+
+abbrev pub part_wanted : Wanted → Wanted
+part_wanted one_number = one_number
+part_wanted (an_array room lengths) = wanted lengths
+
 abbrev pub form_unless : Bool → Scope → Tree → Verdict (Unit {0})
 form_unless true s e = fine tt
 form_unless false s e = constant_form s e
 
-abbrev mutual
-  pub constant_parts : Scope → Init → Verdict (Unit {0})
-  constant_parts s init_hole = fine tt
-  constant_parts s (one_init e) = form_unless (is_text e) s e
-  constant_parts s (braced_init at parts) = all_constant s parts
+abbrev pub parts_unless : Bool → Verdict (Unit {0}) → Verdict (Unit {0})
+parts_unless true parts = fine tt
+parts_unless false parts = parts
 
-  pub all_constant : Scope → Inits → Verdict (Unit {0})
-  all_constant s no_inits = fine tt
-  all_constant s (and_init i is) = each (constant_parts s i) (all_constant s is)
+abbrev mutual
+  pub constant_parts : Scope → IntType → Wanted → Init → Verdict (Unit {0})
+  constant_parts s t w init_hole = fine tt
+  constant_parts s t w (one_init e) = form_unless (takes_text t w && is_text e) s e
+  constant_parts s t w (braced_init at parts) =
+      parts_unless (takes_text t w && is_some (text_alone parts)) (all_constant s t (part_wanted w) parts)
+
+  pub all_constant : Scope → IntType → Wanted → Inits → Verdict (Unit {0})
+  all_constant s t w no_inits = fine tt
+  all_constant s t w (and_init i is) = each (constant_parts s t w i) (all_constant s t w is)
 
 -- the values of so many elements: those given, and zeros
 abbrev pub zeros : ℕ → List ℤ

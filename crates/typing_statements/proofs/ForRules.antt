@@ -47,10 +47,6 @@ pub followed : (xs : List (program.Statement)) → typed.followed_by xs program.
 followed [] = refl
 followed (x ∷ xs) = ap (λ k. program.and_statement x k) (followed xs)
 
-sees_for : (xs : Vec Statement Global) (v test step : Option Value) (a : Box Statement Global) →
-    statement_of (S.For xs v test step a) ≡ program.for (statements_of (map statement_of xs.items)) (option_value v) (option_value test) (option_value step) (statement_of a.value)
-sees_for xs v test step a = search (rules, the_lemmas)
-
 abbrev controls : Scope → Pos → Option Tree → Option Tree → Verdict typed.Control
 controls s at test step = both (typed.test_in s at test) (typed.effect_in (typed.past_option s test) step) typed.control
 
@@ -70,16 +66,16 @@ abbrev pub Begins : Verdict typed.Start → (empty declared : List Statement) �
 Begins w empty declared before after s v = (xs : List Statement) × (js : List Initial) × (declared ≡ empty ++ xs) × (after ≡ before ++ js) × (w ≡ fine (start_of s xs js v))
 
 pub for_fine : (A B : typed.Around) (d : Option IntType) (t : List (List ℕ)) (s s1 s2 s3 s4 s5 s6 : Scope) (at : Pos) (start : StartTree) (test step : Option Tree) (a : StmtTree) (empty : List Statement) (all : Vec Statement Global)
-    (before mid after : List Initial) (v : Option Value) (c : Control) (b : Box Statement Global) → B ≡ typed.in_a_loop A → s1 ≡ inside s → empty ≡ [] →
+    (before mid after : List Initial) (v : Option Value) (c : Control) (b : Box Statement Global) (x : Statement) → statement_of x ≡ program.for (statements_of (map statement_of all.items)) (option_value v) (option_value c.test) (option_value c.step) (statement_of b.value) → B ≡ typed.in_a_loop A → s1 ≡ inside s → empty ≡ [] →
     Begins (typed.started (with_texts t s1) start) empty all.items before mid (with_texts t s2) v → controls (with_texts t s2) at test step ≡ fine (control_of c) →
     s3 ≡ typed.past_option (typed.past_option s2 test) step → s4 ≡ inside s3 → Inner (statement B None (with_texts t s4) a) mid after (with_texts t s5) b.value → s6 ≡ outside s s5 →
-    Unlabelled (statement A d (with_texts t s) (for_stmt at start test step a)) before after (with_texts t s6) (S.For all v c.test c.step b)
-for_fine A B d t s s1 s2 s3 s4 s5 s6 at start test step a empty all before mid after v c b l i z p h f g q o =
+    Unlabelled (statement A d (with_texts t s) (for_stmt at start test step a)) before after (with_texts t s6) x
+for_fine A B d t s s1 s2 s3 s4 s5 s6 at start test step a empty all before mid after v c b x made l i z p h f g q o =
     let xs = p.0 in
     let js = p.1 in
     let ks = q.1 in
-    let shown : program.for (typed.followed_by (map statement_of xs) program.no_statements) (option_value v) (option_value c.test) (option_value c.step) (statement_of b.value) ≡ statement_of (S.For all v c.test c.step b) =
-    ap (λ k. program.for k (option_value v) (option_value c.test) (option_value c.step) (statement_of b.value)) (followed (map statement_of xs) ∙ ap (λ k. statements_of (map statement_of k)) (sym (p.2 ∙ ap (λ k. k ++ xs) z))) ∙ sym (sees_for all v c.test c.step b) in (
+    let shown : program.for (typed.followed_by (map statement_of xs) program.no_statements) (option_value v) (option_value c.test) (option_value c.step) (statement_of b.value) ≡ statement_of x =
+    ap (λ k. program.for k (option_value v) (option_value c.test) (option_value c.step) (statement_of b.value)) (followed (map statement_of xs) ∙ ap (λ k. statements_of (map statement_of k)) (sym (p.2 ∙ ap (λ k. k ++ xs) z))) ∙ sym made in (
       js ++ ks,
       q.2 ∙ ap (λ k. k ++ ks) p.3 ∙ append_assoc before js ks,
       ap (λ k. then_check (typed.started (with_texts t k) start) (rest A (with_texts t s) at test step a)) (sym i)
@@ -87,8 +83,8 @@ for_fine A B d t s s1 s2 s3 s4 s5 s6 at start test step a empty all before mid a
           ∙ both_fine (controls (with_texts t s2) at test step) (statement (typed.in_a_loop A) None (inside (typed.past_option (typed.past_option (with_texts t s2) test) step)) a) (control_of c) (done_of (with_texts t s5) q.0 ks b.value)
           (typed.loop_of (with_texts t s) (start_of (with_texts t s2) xs js v)) h (body_is A B t s2 s3 s4 test step a l f g ∙ q.3)
           ∙ ap (λ k. fine (record { labels = []; statement = k; scope = with_texts t (outside s s5); initial = map initial_of js ++ map initial_of ks })) shown
-          ∙ ap (λ k. fine (record { labels = []; statement = statement_of (S.For all v c.test c.step b); scope = with_texts t k; initial = map initial_of js ++ map initial_of ks })) (sym o)
-          ∙ ap (λ k. fine (record { labels = []; statement = statement_of (S.For all v c.test c.step b); scope = with_texts t s6; initial = k })) (sym (map-append initial_of js ks)),
+          ∙ ap (λ k. fine (record { labels = []; statement = statement_of x; scope = with_texts t k; initial = map initial_of js ++ map initial_of ks })) (sym o)
+          ∙ ap (λ k. fine (record { labels = []; statement = statement_of x; scope = with_texts t s6; initial = k })) (sym (map-append initial_of js ks)),
     )
 
 pub for_left : (A : typed.Around) (d : Option IntType) (t : List (List ℕ)) (s s1 : Scope) (at : Pos) (start : StartTree) (test step : Option Tree) (a : StmtTree) (r : Refusal) → s1 ≡ inside s →

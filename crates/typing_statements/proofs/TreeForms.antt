@@ -4,7 +4,7 @@ use Rattle.std.specs.Prelude.{Box, Vec, Result}
 use Rattle.srcset.specs.declared.refusal.Pos.{Pos}
 use Rattle.srcset.specs.declared.refusal.Refusal.{Refusal}
 use Rattle.tree.specs.declared.expression.Expr.{Expr}
-use Rattle.tree.specs.declared.statement.ForStart.{ForStart}
+use Rattle.tree.specs.declared.statement.ForHead.{ForHead}
 use Rattle.tree.specs.declared.statement.BlockItem.{BlockItem}
 use Rattle.tree.specs.declared.statement.Stmt.{Stmt, the_lemmas}
 use Rattle.tree.specs.declared.statement.Stmt as T
@@ -106,12 +106,12 @@ sees_do at a e = search (rules, the_lemmas)
 pub do_tree : (s : Stmt) (at : Pos) (a : Box Stmt Global) (e : Expr) (x : Stmt) → s ≡ T.DoWhile at a e → x ≡ a.value → stmt_of s ≡ do_while_stmt at (stmt_of x) (tree_of e)
 do_tree s at a e x is f = ap stmt_of is ∙ sees_do at a e ∙ ap (λ k. do_while_stmt at (stmt_of k) (tree_of e)) (sym f)
 
-sees_for : (at : Pos) (st : ForStart) (test step : Option Expr) (a : Box Stmt Global) → stmt_of (T.For at st test step a) ≡ for_stmt at (start_of st) (option_tree test) (option_tree step) (stmt_of a.value)
-sees_for at st test step a = search (rules, the_lemmas)
+sees_for : (at : Pos) (h : Box ForHead Global) (a : Box Stmt Global) → stmt_of (T.For at h a) ≡ for_stmt at (start_of h.value.start) (option_tree h.value.test) (option_tree h.value.step) (stmt_of a.value)
+sees_for at h a = search (rules, the_lemmas)
 
-pub for_tree : (s : Stmt) (at : Pos) (st : ForStart) (test step : Option Expr) (a : Box Stmt Global) (x : Stmt) → s ≡ T.For at st test step a → x ≡ a.value →
-    stmt_of s ≡ for_stmt at (start_of st) (option_tree test) (option_tree step) (stmt_of x)
-for_tree s at st test step a x is f = ap stmt_of is ∙ sees_for at st test step a ∙ ap (λ k. for_stmt at (start_of st) (option_tree test) (option_tree step) (stmt_of k)) (sym f)
+pub for_tree : (s : Stmt) (at : Pos) (h : Box ForHead Global) (a : Box Stmt Global) (g : ForHead) (x : Stmt) → s ≡ T.For at h a → g ≡ h.value → x ≡ a.value →
+    stmt_of s ≡ for_stmt at (start_of g.start) (option_tree g.test) (option_tree g.step) (stmt_of x)
+for_tree s at h a g x is e f = ap stmt_of is ∙ sees_for at h a ∙ ap (λ k. for_stmt at (start_of k.start) (option_tree k.test) (option_tree k.step) (stmt_of a.value)) (sym e) ∙ ap (λ k. for_stmt at (start_of g.start) (option_tree g.test) (option_tree g.step) (stmt_of k)) (sym f)
 
 sees_break : (at : Pos) → stmt_of (T.Break at) ≡ break_stmt at
 sees_break at = search (rules, the_lemmas)

@@ -1,8 +1,11 @@
 //! What controls a `for` (6.8.5.3).
 #![tactic(auto, using(decls_declarators::proofs::Verdicts::told))]
 
-ghost use Rattle.std.specs.Prelude.{◌≡◌, ◌++◌, List, IfErr, IfOk};
+ghost use Rattle.std.specs.Prelude.{◌≡◌, ◌++◌, List, map, IfErr, IfOk};
+ghost use Rattle.srcset.specs.declared.refusal.Refusal.TheVariants.{Memory};
 ghost use Rattle.typing_program.specs.declared.statements.Statement.{Statement};
+ghost use Rattle.typing_program.specs.View.{option_value, statement_of, statements_of};
+ghost use Rattle.typing_rules.specs.Program as program;
 ghost use Rattle.tree.specs.View as tree_view;
 ghost use Rattle.tree.specs.View.{option_tree};
 ghost use Rattle.typing_rules.specs.Verdict.{fine, both};
@@ -19,7 +22,7 @@ use srcset::{Names, Pos, Refusal};
 use std::alloc::Global;
 use tree::{Expr, ForStart};
 use typing_declarations::declaration_typed;
-use typing_program::{Statement, Value};
+use typing_program::{ForControl, Statement, Value};
 use typing_scopes::Scope;
 use typing_units::Initial;
 
@@ -82,4 +85,21 @@ pub(crate) fn started(
             }
         }
     }
+}
+
+/// A `for` of its parts. Refused where memory runs out.
+#[inline(never)]
+pub(crate) fn for_statement(
+    alloc: Global,
+    declared: Vec<Statement>,
+    start: Option<Value>,
+    control: Control,
+    a: Box<Statement>,
+) -> Result<Statement, Refusal>
+    ensures ok { IfOk result (λ x. statement_of x ≡ program.for (statements_of (map statement_of declared.items)) (option_value start) (option_value control.test) (option_value control.step) (statement_of a.value)) }
+    ensures err { IfErr result (λ r. r ≡ Memory) }
+{
+    let Control { test, step } = control;
+    let control = Box::new(alloc, ForControl { start, test, step })?;
+    Ok(Statement::For(declared, control, a))
 }

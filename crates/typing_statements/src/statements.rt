@@ -23,7 +23,7 @@ ghost use Rattle.typing_statements.specs.inside.Pieces.{switch_on, Inner, Puts, 
 use crate::block_parts::{boxed, declaration_item, objects_since};
 use crate::controls::worth_past;
 use crate::labels::{Label, case_past, misplaced, no_label_twice, push_labelled};
-use crate::loop_controls::{controlled, started};
+use crate::loop_controls::{controlled, for_statement, started};
 use crate::simple_statements::{break_typed, continue_typed, expression_typed, return_typed};
 use crate::surroundings::Around;
 use ctypes::{IntType, promote};
@@ -209,7 +209,10 @@ fn for_typed(
         Err(refusal) => return Err(refusal),
     };
     scope.outside(block);
-    Ok(Statement::For(declared, first, control.test, control.step, a))
+    match for_statement(alloc, declared, first, control, a) {
+        Ok(done) => Ok(done),
+        Err(refusal) => Err(refusal),
+    }
 }
 
 /// The items of a block, whose names and tags go at its end.
@@ -346,7 +349,7 @@ fn switch_typed(
         Stmt::Default(_, _) => Err(left_out),
         Stmt::While(_, _, _) => Err(left_out),
         Stmt::DoWhile(_, _, _) => Err(left_out),
-        Stmt::For(_, _, _, _, _) => Err(left_out),
+        Stmt::For(_, _, _) => Err(left_out),
         Stmt::Break(_) => Err(left_out),
         Stmt::Continue(_) => Err(left_out),
         Stmt::Return(_, _) => Err(left_out),
@@ -460,11 +463,18 @@ fn statement(
         Stmt::DoWhile(pos, a, e) => do_while_typed(
             alloc, names, around, a, scope, initial, *pos, e,
         ),
-        Stmt::For(pos, start, test, step, a) => {
-            for_typed(
-                alloc, names, around, a, scope, initial, *pos, start, test, step,
-            )
-        }
+        Stmt::For(pos, head, a) => for_typed(
+            alloc,
+            names,
+            around,
+            a,
+            scope,
+            initial,
+            *pos,
+            &head.start,
+            &head.test,
+            &head.step,
+        ),
         Stmt::Break(pos) => break_typed(around, *pos),
         Stmt::Continue(pos) => continue_typed(around, *pos),
         Stmt::Return(pos, e) => return_typed(alloc, names, around, scope, *pos, e),

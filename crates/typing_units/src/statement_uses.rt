@@ -64,8 +64,14 @@ pub(crate) fn in_statement(statics: &[StaticObject], statement: &Statement) -> O
         Statement::Default => None,
         Statement::While(e, a) => earlier(in_value(statics, e), in_statement(statics, a)),
         Statement::DoWhile(a, e) => earlier(in_statement(statics, a), in_value(statics, e)),
-        Statement::For(declared, start, test, step, a) => earlier(
-            in_head(statics, declared, start, test, step),
+        Statement::For(declared, control, a) => earlier(
+            in_head(
+                statics,
+                declared,
+                &control.start,
+                &control.test,
+                &control.step,
+            ),
             in_statement(statics, a),
         ),
         Statement::Break => None,

@@ -715,9 +715,13 @@ def initialiser(s, at, t, w, top, i):
     both(lambda: refuse_if(not parts, 521, p), lambda: refuse_if(room is not None and len(parts) > room, 520, p))
     return ('list', got)
 def is_text(e): return e[0] == 'str' or e[0] == 'paren' and is_text(e[1])
-def constant_parts(s, i):
-    if i[0] == 'one': return None if is_text(i[1]) else constant_form(s, i[1])
-    both(*[lambda p=p: constant_parts(s, p) for p in i[2]])
+# a string literal is no constant expression, but may stand for an array of characters (6.7.9p4, p14)
+def constant_parts(s, t, w, i):
+    text = w is not None and characters(t, w[1])
+    if i[0] == 'one': return None if text and is_text(i[1]) else constant_form(s, i[1])
+    if text and alone(i[2]): return None
+    inner = None if w is None else wanted(w[1])
+    both(*[lambda p=p: constant_parts(s, t, inner, p) for p in i[2]])
 def values(x):
     if x[0] == 'v': folded(x[1])
     elif x[0] == 'list': both(*[lambda y=y: values(y) for y in x[1]])
@@ -807,7 +811,7 @@ def items_typed(s, cls, base, items):
         if init is None: return []
         w = wanted(t[1].lengths) if t[0] == 'complete' else (None, t[1].lengths)
         if storage[0] == 'static':
-            constant_parts(b, init); x = initialiser(b, at, t[1].element, w, True, init); values(x); return []
+            constant_parts(b, t[1].element, w, init); x = initialiser(b, at, t[1].element, w, True, init); values(x); return []
         return init_uses(initialiser(b, at, t[1].element, w, True, init))
     u, (s, more) = both(initialised, lambda: items_typed(finished(b, cls, at, n, t, init), cls, base, items[1:]))
     return s, u + more

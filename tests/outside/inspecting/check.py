@@ -116,11 +116,30 @@ def symbols():
         if there('riscv64-unknown-elf-objdump'):
             said = subprocess.run(['riscv64-unknown-elf-objdump', '-d', '--disassemble=twice', 'a.sym.elf'], cwd=work, stdout=subprocess.PIPE, stderr=subprocess.STDOUT).stdout.decode()
             check('objdump', '<twice>:' in said and 'ret' in said and '<main>:' not in said, said)
+        # each function's first address has the line of its definition
+        lines = {start: ('a.c', {'fact': 1, 'twice': 2, 'main': 3}[name]) for name, (start, _) in wanted.items() if name != '_start'}
+        check('lines: by readelf', read_lines(work, 'a.sym.elf') == lines, read_lines(work, 'a.sym.elf'))
+        if there('riscv64-unknown-elf-objdump'):
+            said = subprocess.run(['riscv64-unknown-elf-objdump', '-dl', '--disassemble=twice', 'a.sym.elf'], cwd=work, stdout=subprocess.PIPE, stderr=subprocess.STDOUT).stdout.decode()
+            check('lines: by objdump', 'a.c:2' in said and 'a.c:1' not in said and 'a.c:3' not in said, said)
         if there('gdb-multiarch') and there('qemu-riscv32'):
             check('gdb', debugged(work))
+        if there('gdb-multiarch'):
+            said = subprocess.run(['gdb-multiarch', '-batch', '-ex', 'info line twice', '-ex', 'list main', 'a.sym.elf'], cwd=work, stdin=subprocess.DEVNULL, stdout=subprocess.PIPE, stderr=subprocess.STDOUT, timeout=60).stdout.decode()
+            check('lines: by gdb', 'Line 2 of "a.c" starts at address %#x <twice>' % wanted['twice'][0] in said and 'int main(void) { return twice(fact(5)) & 255; }' in said, said)
+        put(work, 'far.h', 'int far(int x)\n{\n    return x + 1;\n}\n')
+        put(work, 'b.c', '#include "far.h"\n\nint main(void)\n{\n    return far(1);\n}\n#line 1000000 "made.y"\nint last(void) { return 3; }\n')
+        check('symbols of several files', cc(work, 'symbols', 'b.c', 'far.h', '-o', 'b.sym.elf')[0] == 0)
+        check('lines of several files', sorted(read_lines(work, 'b.sym.elf').values()) == [('b.c', 3), ('far.h', 1), ('made.y', 1000000)], read_lines(work, 'b.sym.elf'))
         check('OUT is a source', cc(work, 'symbols', 'a.c', '-o', 'a.c')[0] == 2 and open(os.path.join(work, 'a.c')).read() == FACT)
         put(work, 'bad.c', 'int main(void) { return x; }\n')
         check('symbols of no program', cc(work, 'symbols', 'bad.c', '-o', 'none')[0] == 1 and not os.path.exists(os.path.join(work, 'none')))
+
+def read_lines(work, name):
+    """The file and the line of each address of a table of lines, by readelf."""
+    said = subprocess.run(['readelf', '--debug-dump=decodedline', name], cwd=work, stdout=subprocess.PIPE, stderr=subprocess.STDOUT).stdout.decode()
+    rows = re.findall(r'^(\S+) +(\d+) +(0x[0-9a-f]+) +\d* *x', said, re.M)
+    return {int(address, 16): (file, int(line)) for file, line, address in rows}
 
 def read_symbols(file):
     """The functions of an ELF32 file by its section headers."""
@@ -143,7 +162,7 @@ def debugged(work):
     try:
         said = subprocess.run(['gdb-multiarch', '-batch', '-ex', 'set architecture riscv:rv32', '-ex', 'symbol-file a.sym.elf', '-ex', 'target remote :17345', '-ex', 'break twice', '-ex', 'continue', '-ex', 'bt 1', '-ex', 'kill'],
                               cwd=work, stdin=subprocess.DEVNULL, stdout=subprocess.PIPE, stderr=subprocess.STDOUT, timeout=60).stdout.decode()
-        return re.search(r'Breakpoint 1, 0x[0-9a-f]+ in twice', said) is not None
+        return re.search(r'Breakpoint 1, (0x[0-9a-f]+ in )?twice \(\) at a\.c:2', said) is not None
     finally:
         server.kill()
         server.wait()

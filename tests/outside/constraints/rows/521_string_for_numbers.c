@@ -1,2 +1,4 @@
-int a[3] = "ab";
-int main(void) { return 0; }
+int main(void) {
+    int a[3] = "ab";
+    return a[0];
+}

@@ -1,2 +1,4 @@
-short a[] = "ab";
-int main(void) { return 0; }
+int main(void) {
+    short a[] = "ab";
+    return a[0];
+}

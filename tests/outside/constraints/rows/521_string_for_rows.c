@@ -1,2 +1,4 @@
-char s[2][3] = "ab";
-int main(void) { return 0; }
+int main(void) {
+    char s[2][3] = "ab";
+    return s[0][0];
+}

@@ -1,2 +1,4 @@
-int x = "abc";
-int main(void) { return 0; }
+int main(void) {
+    int x = "abc";
+    return x;
+}

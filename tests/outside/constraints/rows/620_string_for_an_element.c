@@ -1,2 +1,4 @@
-char s[2] = {"a", "b"};
-int main(void) { return 0; }
+int main(void) {
+    char s[2] = {"a", "b"};
+    return s[0];
+}

@@ -1,3 +1,5 @@
-char s[4] = {
-    ("abc")};
-int main(void) { return 0; }
+int main(void) {
+    char s[4] = {
+        ("abc")};
+    return s[0];
+}

@@ -1,2 +1,4 @@
-short a[2][3] = {"ab", "cd"};
-int main(void) { return 0; }
+int main(void) {
+    short a[2][3] = {"ab", "cd"};
+    return a[0][0];
+}

@@ -102,9 +102,9 @@ pub for_typed-returns-in-Err-inner_statement-clause-err : goal.for_typed-returns
 for_typed-returns-in-Err-inner_statement-clause-err t c =
     λ d. for_right (around_of c.args.around) (around_of c.in_a_loop.result) d c.args.names.now c.args.scope.now c.inside.new.self c.started.new.scope c.controlled.new.scope c.inside-2.new.self c.args.pos (start_of c.args.start.now) (option_tree c.args.test.now) (option_tree c.args.step.now) (stmt_of c.args.a.now) c.new-declared.result.items c.started.new.declared.items c.args.initial.now.items c.started.new.initial.items c.in-Ok-started.first c.in-Err-inner_statement.refusal c.in_a_loop.ensures c.in-Ok.ensures.ok.1 c.in-Ok-started.ensures.ok c.in-Ok-controlled.ensures.ok.1 c.in-Ok-inside.ensures.ok.1 c.in-Err-inner_statement.ensures.err
 
-pub for_typed-returns-clause-ok : goal.for_typed-returns-clause-ok
-for_typed-returns-clause-ok t c =
-    λ d. for_fine (around_of c.args.around) (around_of c.in_a_loop.result) d c.args.names.now c.args.scope.now c.inside.new.self c.started.new.scope c.controlled.new.scope c.inside-2.new.self c.inner_statement.new.scope c.outside.new.self c.args.pos (start_of c.args.start.now) (option_tree c.args.test.now) (option_tree c.args.step.now) (stmt_of c.args.a.now) c.new-declared.result.items c.started.new.declared c.args.initial.now.items c.started.new.initial.items c.inner_statement.new.initial.items c.in-Ok-started.first c.in-Ok-controlled.control c.in-Ok-inner_statement.a c.in_a_loop.ensures c.in-Ok.ensures.ok.1 c.new-declared.ensures.items c.in-Ok-started.ensures.ok c.in-Ok-controlled.ensures.ok.0 c.in-Ok-controlled.ensures.ok.1 c.in-Ok-inside.ensures.ok.1 c.in-Ok-inner_statement.ensures.ok
+pub for_typed-returns-in-Ok-for_statement-clause-ok : goal.for_typed-returns-in-Ok-for_statement-clause-ok
+for_typed-returns-in-Ok-for_statement-clause-ok t c =
+    λ d. for_fine (around_of c.args.around) (around_of c.in_a_loop.result) d c.args.names.now c.args.scope.now c.inside.new.self c.started.new.scope c.controlled.new.scope c.inside-2.new.self c.inner_statement.new.scope c.outside.new.self c.args.pos (start_of c.args.start.now) (option_tree c.args.test.now) (option_tree c.args.step.now) (stmt_of c.args.a.now) c.new-declared.result.items c.started.new.declared c.args.initial.now.items c.started.new.initial.items c.inner_statement.new.initial.items c.in-Ok-started.first c.in-Ok-controlled.control c.in-Ok-inner_statement.a c.in-Ok-for_statement.done c.in-Ok-for_statement.ensures.ok c.in_a_loop.ensures c.in-Ok.ensures.ok.1 c.new-declared.ensures.items c.in-Ok-started.ensures.ok c.in-Ok-controlled.ensures.ok.0 c.in-Ok-controlled.ensures.ok.1 c.in-Ok-inside.ensures.ok.1 c.in-Ok-inner_statement.ensures.ok
     (for_outside (around_of c.in_a_loop.result) c.args.names.now c.args.scope.now c.inside.new.self c.started.new.scope c.controlled.new.scope c.inside-2.new.self c.inner_statement.new.scope c.outside.new.self (start_of c.args.start.now) (option_tree c.args.test.now) (option_tree c.args.step.now) (stmt_of c.args.a.now) c.in-Ok.block c.new-declared.result.items c.started.new.declared.items c.args.initial.now.items c.started.new.initial.items c.inner_statement.new.initial.items c.in-Ok-started.first c.in-Ok-inner_statement.a.value c.in-Ok.ensures.ok.0 c.in-Ok.ensures.ok.1 c.in-Ok-started.ensures.ok c.in-Ok-controlled.ensures.ok.1 c.in-Ok-inside.ensures.ok.1 c.in-Ok-inner_statement.ensures.ok c.outside.ensures)
 
 pub inner_statement-returns-in-Err-clause-err : goal.inner_statement-returns-in-Err-clause-err
@@ -225,11 +225,11 @@ statement-returns-in-DoWhile-clause-err t c =
 
 pub statement-returns-in-For-clause-ok : goal.statement-returns-in-For-clause-ok
 statement-returns-in-For-clause-ok t c =
-    unlabelled_as c.for_typed.result _ _ c.args.labels.now.items c.args.initial.now.items c.for_typed.new.initial.items (with_texts c.args.names.now c.for_typed.new.scope) (ap (statement (around_of c.args.around) c.args.direct (with_texts c.args.names.now c.args.scope.now)) (for_tree c.args.s.now c.in-For.pos c.in-For.start c.in-For.test c.in-For.step c.in-For.a _ c.in-For.is c.deref-in-For.ensures)) (c.for_typed.ensures.ok c.args.direct)
+    unlabelled_as c.for_typed.result _ _ c.args.labels.now.items c.args.initial.now.items c.for_typed.new.initial.items (with_texts c.args.names.now c.for_typed.new.scope) (ap (statement (around_of c.args.around) c.args.direct (with_texts c.args.names.now c.args.scope.now)) (for_tree c.args.s.now c.in-For.pos c.in-For.head c.in-For.a _ _ c.in-For.is c.deref-in-For.ensures.value c.deref-in-For-2.ensures)) (c.for_typed.ensures.ok c.args.direct)
 
 pub statement-returns-in-For-clause-err : goal.statement-returns-in-For-clause-err
 statement-returns-in-For-clause-err t c =
-    told_as c.for_typed.result _ _ (ap (statement (around_of c.args.around) c.args.direct (with_texts c.args.names.now c.args.scope.now)) (for_tree c.args.s.now c.in-For.pos c.in-For.start c.in-For.test c.in-For.step c.in-For.a _ c.in-For.is c.deref-in-For.ensures)) (c.for_typed.ensures.err c.args.direct)
+    told_as c.for_typed.result _ _ (ap (statement (around_of c.args.around) c.args.direct (with_texts c.args.names.now c.args.scope.now)) (for_tree c.args.s.now c.in-For.pos c.in-For.head c.in-For.a _ _ c.in-For.is c.deref-in-For.ensures.value c.deref-in-For-2.ensures)) (c.for_typed.ensures.err c.args.direct)
 
 pub statement-returns-in-Break-clause-ok : goal.statement-returns-in-Break-clause-ok
 statement-returns-in-Break-clause-ok t c =
@@ -350,7 +350,7 @@ switch_typed-returns-in-DoWhile-clause-err t c =
 
 pub switch_typed-returns-in-For-clause-err : goal.switch_typed-returns-in-For-clause-err
 switch_typed-returns-in-For-clause-err t c =
-    λ d. switch_no_block (around_of c.args.around) d (with_texts c.args.names.now c.args.scope.now) c.args.pos (tree_of c.args.e.now) (stmt_of c.args.body.now) c.broken-left_out.result (ap block_items (for_tree c.args.body.now c.in-For.field-0 c.in-For.field-1 c.in-For.field-2 c.in-For.field-3 c.in-For.field-4 c.in-For.field-4.value c.in-For.is refl)) (subst (λ r. IsOf r (breaks {A = Done} code.LeftOutLabel c.args.pos)) (sym c.broken-left_out.ensures) (refl, refl))
+    λ d. switch_no_block (around_of c.args.around) d (with_texts c.args.names.now c.args.scope.now) c.args.pos (tree_of c.args.e.now) (stmt_of c.args.body.now) c.broken-left_out.result (ap block_items (for_tree c.args.body.now c.in-For.field-0 c.in-For.field-1 c.in-For.field-2 c.in-For.field-1.value c.in-For.field-2.value c.in-For.is refl)) (subst (λ r. IsOf r (breaks {A = Done} code.LeftOutLabel c.args.pos)) (sym c.broken-left_out.ensures) (refl, refl))
 
 pub switch_typed-returns-in-Break-clause-err : goal.switch_typed-returns-in-Break-clause-err
 switch_typed-returns-in-Break-clause-err t c =

@@ -1,0 +1,2 @@
+int x = "abc";
+int main(void) { return 0; }

@@ -1,0 +1,2 @@
+int a[3] = "ab";
+int main(void) { return 0; }

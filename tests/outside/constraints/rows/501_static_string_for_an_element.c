@@ -1,0 +1,2 @@
+char s[2] = {"a", "b"};
+int main(void) { return 0; }

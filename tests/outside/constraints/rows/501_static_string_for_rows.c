@@ -1,0 +1,2 @@
+char s[2][3] = "ab";
+int main(void) { return 0; }

@@ -1,0 +1,4 @@
+int main(void) {
+    static int n = "a";
+    return n;
+}

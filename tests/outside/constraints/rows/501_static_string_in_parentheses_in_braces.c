@@ -1,0 +1,2 @@
+char s[4] = {("abc")};
+int main(void) { return 0; }
