@@ -2,12 +2,15 @@
 #![tactic(auto)]
 
 mod lexing;
+pub mod laws;
 pub mod literals;
 pub mod numbers;
 mod punctuators;
+mod reading;
 mod token;
 mod translation;
 mod words;
 
+pub use reading::Lexer;
 pub use token::{Keyword, Kind, Punctuator, Token};
 pub use translation::tokens;

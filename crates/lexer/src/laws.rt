@@ -1,0 +1,17 @@
+//! Laws of the definitions. The functions here do nothing: each has a contract so that its laws are proved.
+
+ghost use Rattle.lexer.specs.Laws.{FaultStays, FinishedStay, ReadIsKept, ReadIsTakenUp};
+
+/// The fault of the first tokens is the fault of all (`fault`), and what is finished of their C tokens stands first of all
+/// (`finished`).
+pub fn a_front()
+    ensures fault { FaultStays }
+    ensures finished { FinishedStay }
+{}
+
+/// What a lexer has read it has read still under a table that has gained other texts (`kept`), and a table under which it
+/// has read tokens has their texts already (`taken_up`).
+pub fn what_is_read()
+    ensures kept { ReadIsKept }
+    ensures taken_up { ReadIsTakenUp }
+{}
