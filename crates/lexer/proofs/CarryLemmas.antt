@@ -1,8 +1,6 @@
 -- Lemmas on carrying tokens.
-use Rattle.std.proofs.Common.{◌≡◌, ℕ, suc, Bool, true, false, not, Option, Some, None, Result, Ok, Err, ◌+◌, ◌<◌, ◌≤◌, ◌⊎◌, inl, inr, OnErr, IfErr, List, [], ◌∷◌, ◌++◌, length, drop, get_or, slice_get, add-one, refl, sym, ap, ◌∙◌, subst, append_assoc, append-nil}
+use Rattle.std.proofs.Common.{◌≡◌, ℕ, Bool, true, false, not, Option, Some, None, Result, Ok, Err, ◌⊎◌, inl, inr, OnErr, IfErr, List, [], ◌∷◌, ◌++◌, slice_get, refl, sym, ap, ◌∙◌, subst, append_assoc, append-nil}
 use Rattle.srcset.specs.declared.code.Code.{Code}
-use Rattle.std.proofs.Math.Seq.{drop-cons}
-use Rattle.std.proofs.lemmas.List.{drop_all}
 use Rattle.srcset.specs.declared.refusal.Pos.{Pos}
 use Rattle.srcset.specs.declared.refusal.Refusal.{Refusal}
 use Rattle.srcset.specs.declared.refusal.Refusal.TheVariants.{Memory, At}
@@ -23,7 +21,7 @@ use Rattle.lexer.specs.Numbers.{number}
 use Rattle.lexer.specs.Literals.{character, string}
 use Rattle.lexer.specs.inside.Decoding.{IsRefusal}
 use Rattle.lexer.specs.Meanings.{Meaning, keyword, name, constant, text, punctuator, CToken}
-use Rattle.lexer.specs.CTokens.{CTokens, nothing, join, before, put, as_constant, as_text, meaning, ctokens}
+use Rattle.lexer.specs.CTokens.{CTokens, nothing, join, before, put, as_constant, as_text, meaning}
 use Rattle.lexer.specs.Numbering.{IsKindOf, IsTokenOf, AreTokensOf, texts_in, texts_of, with_texts, AreAll, TakesUp}
 use Rattle.lexer.specs.Reading.{is_text}
 use Rattle.lexer.specs.inside.Carrying.{pending_before, begins_text, has_no_text, is_string, IsKindFor, with_meaning, IsPushed, Carries, Passes, Closes, Stops, StopsClosing}
@@ -57,7 +55,7 @@ texts_append (c ∷ cs) ds = ap (λ x. texts_in c.meaning ++ x) (texts_append cs
 texts_pushed : (cs : List CToken) (c : CToken) → texts_of (cs ++ c ∷ []) ≡ texts_of cs ++ texts_in c.meaning
 texts_pushed cs c = texts_append cs (c ∷ []) ∙ ap (λ x. texts_of cs ++ x) (append-nil (texts_in c.meaning))
 
-with_append : (texts : Texts) (ss us : List (List ℕ)) → with_texts texts (ss ++ us) ≡ with_texts (with_texts texts ss) us
+pub with_append : (texts : Texts) (ss us : List (List ℕ)) → with_texts texts (ss ++ us) ≡ with_texts (with_texts texts ss) us
 with_append texts [] us = refl
 with_append texts (s ∷ ss) us = with_append (with_text texts s) ss us
 
@@ -218,19 +216,6 @@ pub push_passes : (texts between texts' : Texts) (stored stored' stored'' : Stor
 push_passes texts between texts' stored stored' stored'' t k pos s closed none i w keeps at p = λ old rest total q.
     let c = closed old (put t.pos (meaning t.kind t.spelling) rest) total (before_token t rest s) q in
     pushes between texts' stored' stored'' t.pos (meaning t.kind t.spelling) k none (no_text t.kind t.spelling s) i w keeps (subst (λ x. IsPushed stored' stored'' (record { kind = k; pos = x })) at p) old rest total c
-
--- ---- whole lists
-
-tokens_at : (list : List PpToken) (i : ℕ) (t : PpToken) → i < length list → t ≡ get_or list i t → ctokens (drop i list) ≡ put t.pos (meaning t.kind t.spelling) (ctokens (drop (i + 1) list))
-tokens_at list i t h e =
-    let f : drop i list ≡ t ∷ drop (i + 1) list = drop-cons list i t h ∙ sym (ap (λ x. x ∷ drop (suc i) list) e) ∙ ap (λ k. t ∷ drop k list) (sym (add-one i)) in
-    ap ctokens f
-
-pub at_token : (old texts : Texts) (stored : Stored) (list : List PpToken) (i : ℕ) (t : PpToken) → i < length list → t ≡ get_or list i t → Carries old texts stored (ctokens (drop i list)) (ctokens list) → Carries old texts stored (put t.pos (meaning t.kind t.spelling) (ctokens (drop (i + 1) list))) (ctokens list)
-at_token old texts stored list i t h e q = subst (λ x. Carries old texts stored x (ctokens list)) (tokens_at list i t h e) q
-
-pub at_end : (old texts : Texts) (stored : Stored) (list : List PpToken) (i : ℕ) → length list ≤ i → Carries old texts stored (ctokens (drop i list)) (ctokens list) → Carries old texts stored nothing (ctokens list)
-at_end old texts stored list i h q = subst (λ x. Carries old texts stored (ctokens x) (ctokens list)) (drop_all i list h) q
 
 -- the fault of a token is that of the list
 pub refused : (old texts : Texts) (stored : Stored) (pos : Pos) (r : Result Meaning Code) (rest total : CTokens) (e : Refusal) → Carries old texts stored (put pos r rest) total → IsRefusal e pos r → (e ≡ Memory) ⊎ (total.fault ≡ Some e)

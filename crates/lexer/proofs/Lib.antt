@@ -3,3 +3,4 @@ pub mod LiteralLemmas
 pub mod CarryLemmas
 pub mod LawLemmas
 pub mod ReadingLemmas
+pub mod Uses

@@ -1,8 +1,7 @@
 -- Lemmas on what is read of a list, token by token.
-use Rattle.std.proofs.Common.{◌≡◌, ◌≢◌, ℕ, suc, Bool, true, false, not, cond, Option, Some, None, Result, Ok, Err, IfOk, IfErr, OnOk, OnErr, ◌+◌, ◌<◌, ◌≤◌, ◌⊎◌, inl, inr, List, [], ◌∷◌, ◌++◌, length, take, drop, get_or, slice_get, add-one, refl, sym, ap, ◌∙◌, subst, append_assoc, append-nil}
+use Rattle.std.proofs.Common.{◌≡◌, ℕ, suc, Bool, true, false, not, cond, Option, Some, None, Result, Ok, Err, IfOk, OnOk, ◌+◌, ◌<◌, ◌⊎◌, inl, inr, List, [], ◌∷◌, ◌++◌, length, take, drop, get_or, slice_get, add-one, refl, sym, ap, ◌∙◌, subst, append_assoc, append-nil}
 use Rattle.std.proofs.Math.Seq.{drop-cons}
-use Rattle.std.proofs.lemmas.Bool.{cases_Bool}
-use Rattle.std.proofs.lemmas.List.{take_all, take-append-drop, take_more}
+use Rattle.std.proofs.lemmas.List.{take-append-drop}
 use Rattle.std.proofs.lemmas.List.Folds.{list_any_at}
 use Rattle.std.proofs.lemmas.Option.{slice_get_within, get_or_from_slice_get}
 use Rattle.std.proofs.lemmas.Slice.Eq.{bytes_eq-Decides}
@@ -24,13 +23,13 @@ use Rattle.lexer.specs.declared.lexing.Stored.{Stored}
 use Rattle.lexer.specs.declared.reading.Lexer.{Lexer}
 use Rattle.lexer.specs.Meanings.{Meaning, keyword, name, constant, text, punctuator, CToken}
 use Rattle.lexer.specs.CTokens.{CTokens, nothing, join, before, put, meaning, ctokens}
-use Rattle.lexer.specs.Laws.{AreInTheirTypes, FaultStays, FinishedStay, ReadIsKept, ReadIsTakenUp}
+use Rattle.lexer.specs.Laws.{AreInTheirTypes, FaultStays, ToldStays, FinishedStay, ReadIsKept, ReadIsTakenUp}
 use Rattle.lexer.specs.Numbering.{IsKindOf, AreTokensOf, texts_in, texts_of, with_texts, AreAll, TakesUp, IsTokenFault}
-use Rattle.lexer.specs.Reading.{is_text, unfinished, finished, string_at, Stores, refusal_of, IsAt, HasRead, numbered, HasTakenUp}
+use Rattle.lexer.specs.Reading.{is_text, unfinished, finished, string_at, refusal_of, IsAt, HasRead, HasTakenUp}
 use Rattle.lexer.specs.inside.Decoding.{IsRefusal}
-use Rattle.lexer.specs.inside.Carrying.{pending_before, begins_text, has_no_text, is_string, IsKindFor, IsPushed, Carries, Passes, Stops, StopsClosing, is_literal, ends_in_literal, IsSettled}
+use Rattle.lexer.specs.inside.Carrying.{pending_before, has_no_text, is_string, IsKindFor, IsPushed, Carries, Passes, Stops, StopsClosing, is_literal, ends_in_literal, IsSettled}
 use Rattle.lexer.proofs.LawLemmas.{constants_law}
-use Rattle.lexer.proofs.CarryLemmas.{before_no_text, no_text, tokens_kept, refused}
+use Rattle.lexer.proofs.CarryLemmas.{before_no_text, no_text, tokens_kept, with_append, refused}
 
 -- ---- the C tokens of two lists behind one another
 
@@ -195,10 +194,6 @@ has_text texts s n e =
 with_found : (texts : Texts) (s : List ℕ) (n : ℕ) → slice_get texts n ≡ Some s → with_text texts s ≡ texts
 with_found texts s n e = ap (λ b. cond b texts (texts ++ s ∷ [])) (has_text texts s n e)
 
-with_append : (texts : Texts) (ss us : List (List ℕ)) → with_texts texts (ss ++ us) ≡ with_texts (with_texts texts ss) us
-with_append texts [] us = refl
-with_append texts (s ∷ ss) us = with_append (with_text texts s) ss us
-
 with_kind : (texts : Texts) (m : Meaning) (k : Kind) → IsKindOf texts m k → with_texts texts (texts_in m) ≡ texts
 with_kind texts (keyword x) (Keyword y) h = refl
 with_kind texts (name s) (Identifier n) h = with_found texts s n h
@@ -236,18 +231,20 @@ settled_unfinished texts stored cs settled are e = none_unfinished texts cs stor
 
 pub is_at : (old texts : Texts) (stored : Stored) (front : List PpToken) → IsSettled stored → Carries old texts stored nothing (ctokens front) → IsAt None texts stored (ctokens front)
 is_at old texts stored front settled q =
-    let h = settled_unfinished texts stored q.done settled q.done_is in
-    (q.fault_is, record {
-      finished_are = subst (λ cs. AreTokensOf texts cs stored.tokens.items) (sym (ap finished q.tokens_are ∙ pending_finished q.done stored.pending stored.bytes.items h)) q.done_is;
-      unfinished_is = ap unfinished q.tokens_are ∙ pending_unfinished q.done stored.pending stored.bytes.items h;
-    })
+    let h = settled_unfinished texts stored q.done settled q.done_is in (
+      q.fault_is,
+      record {
+        finished_are = subst (λ cs. AreTokensOf texts cs stored.tokens.items) (sym (ap finished q.tokens_are ∙ pending_finished q.done stored.pending stored.bytes.items h)) q.done_is;
+        unfinished_is = ap unfinished q.tokens_are ∙ pending_unfinished q.done stored.pending stored.bytes.items h;
+      },
+    )
 
 pub taken_up : (old texts : Texts) (stored : Stored) (front : List PpToken) → IsSettled stored → Carries old texts stored nothing (ctokens front) → HasTakenUp old front texts
 taken_up old texts stored front settled q =
     let h = settled_unfinished texts stored q.done settled q.done_is in
     q.texts_are ∙ ap (λ cs. with_texts old (texts_of cs)) (sym (ap finished q.tokens_are ∙ pending_finished q.done stored.pending stored.bytes.items h))
 
--- ---- laws
+-- ---- a fault
 
 put_same : (pos : Pos) (r : Result Meaning Code) (c all : CTokens) (e : Refusal) → (c.fault ≡ Some e → all ≡ c) → (put pos r c).fault ≡ Some e → put pos r all ≡ put pos r c
 put_same pos (Err code) c all e h f = refl
@@ -258,35 +255,37 @@ nothing_behind : (front rest : List PpToken) (e : Refusal) → (ctokens front).f
 nothing_behind [] rest e f = absurd (cc)
 nothing_behind (t ∷ ts) rest e f = put_same t.pos (meaning t.kind t.spelling) (ctokens ts) (ctokens (ts ++ rest)) e (nothing_behind ts rest e) f
 
-pub fault_stays : FaultStays
-fault_stays front rest e f = ap (λ c. c.fault) (nothing_behind front rest e f) ∙ f
+pub fault_law : FaultStays
+fault_law front rest e f = ap (λ c. c.fault) (nothing_behind front rest e f) ∙ f
 
-pub finished_stay : FinishedStay
-finished_stay front rest = by (ctokens front).fault refl
+pub finished_law : FinishedStay
+finished_law front rest = by (ctokens front).fault refl
   where
     by : (o : Option Refusal) → (ctokens front).fault ≡ o → (more : List CToken) × ((ctokens (front ++ rest)).tokens ≡ finished (ctokens front).tokens ++ more)
     by None e = (joined (unfinished (ctokens front).tokens) (ctokens rest).tokens, ap (λ c. c.tokens) (both_read front rest e) ∙ finished_first (ctokens front).tokens (ctokens rest).tokens)
     by (Some r) e = (unfinished (ctokens front).tokens, ap (λ c. c.tokens) (nothing_behind front rest r e) ∙ sym (parts (ctokens front).tokens))
 
+-- ---- what is read under a later table
+
 kept_at : (o : Option Refusal) (texts later : Texts) (stored : Stored) (c : CTokens) → KeepsNumbers texts later → IsAt o texts stored c → IsAt o later stored c
 kept_at None texts later stored c keeps at = (at.0, record { finished_are = tokens_kept texts later keeps (finished c.tokens) stored.tokens.items at.1.finished_are; unfinished_is = at.1.unfinished_is })
 kept_at (Some r) texts later stored c keeps at = at
 
-pub read_kept : ReadIsKept
-read_kept texts later front lexer read keeps = kept_at lexer.refused texts later lexer.stored (ctokens front) keeps read
+pub kept_law : ReadIsKept
+kept_law texts later front lexer read keeps = kept_at lexer.refused texts later lexer.stored (ctokens front) keeps read
 
 at_none : (o : Option Refusal) (texts : Texts) (stored : Stored) (c : CTokens) → o ≡ None → IsAt o texts stored c → IsAt None texts stored c
 at_none o texts stored c e at = subst (λ x. IsAt x texts stored c) e at
 
-pub read_taken_up : ReadIsTakenUp
-read_taken_up texts front lexer read none = taken_already texts front lexer.stored (at_none lexer.refused texts lexer.stored (ctokens front) none read)
+pub taken_up_law : ReadIsTakenUp
+taken_up_law texts front lexer read none = taken_already texts front lexer.stored (at_none lexer.refused texts lexer.stored (ctokens front) none read)
 
 -- ---- one token more
 
 pub again_reads : (texts : Texts) (o : Option Refusal) (r : Refusal) (stored : Stored) (t : PpToken) → o ≡ Some r → (front : List PpToken) → IsAt o texts stored (ctokens front) → IsAt o texts stored (ctokens (front ++ t ∷ []))
 again_reads texts None r stored t e front at = absurd (cc)
 again_reads texts (Some x) r stored t e front (inl m) = inl m
-again_reads texts (Some x) r stored t e front (inr f) = inr (fault_stays front (t ∷ []) x f)
+again_reads texts (Some x) r stored t e front (inr f) = inr (fault_law front (t ∷ []) x f)
 
 pub takes_reads : (texts texts' : Texts) (o : Option Refusal) (stored stored' : Stored) (t : PpToken) → o ≡ None → Passes texts stored texts' stored' t → IsSettled stored' → (front : List PpToken) → IsAt o texts stored (ctokens front) → IsAt o texts' stored' (ctokens (front ++ t ∷ []))
 takes_reads texts texts' o stored stored' t none passes settled front at =
@@ -303,9 +302,15 @@ pub takes_texts : (texts texts' : Texts) (o : Option Refusal) (stored stored' : 
 takes_texts texts texts' o stored stored' t none passes settled before front at up =
     taken_up before texts' stored' (front ++ t ∷ []) settled (passes before nothing (ctokens (front ++ t ∷ [])) (carries_on before texts front (t ∷ []) stored (at_none o texts stored (ctokens front) none at) up))
 
-pub takes_stop : (texts texts' : Texts) (o : Option Refusal) (stored : Stored) (t : PpToken) → Stops texts stored texts' t → (before : Texts) (front rest : List PpToken) → IsAt o texts stored (ctokens front) → HasTakenUp before front texts → o ≡ None → TakesUp before texts' (ctokens (front ++ t ∷ rest)).tokens
-takes_stop texts texts' o stored t stops before front rest at up none =
+pub takes_stop : (texts texts' : Texts) (o : Option Refusal) (stored : Stored) (t : PpToken) → o ≡ None → Stops texts stored texts' t → (before : Texts) (front rest : List PpToken) → IsAt o texts stored (ctokens front) → HasTakenUp before front texts → TakesUp before texts' (ctokens (front ++ t ∷ rest)).tokens
+takes_stop texts texts' o stored t none stops before front rest at up =
     stops before (ctokens rest) (ctokens (front ++ t ∷ rest)) (carries_on before texts front (t ∷ rest) stored (at_none o texts stored (ctokens front) none at) up)
+
+-- where nothing is taken
+pub again_stop : (texts before : Texts) (front rest : List PpToken) → HasTakenUp before front texts → TakesUp before texts (ctokens (front ++ rest)).tokens
+again_stop texts before front rest up =
+    let p = finished_law front rest in
+    record { front = finished (ctokens front).tokens; back = p.0; splits = p.1; texts_are = up }
 
 -- ---- no token more
 
@@ -331,8 +336,13 @@ ends_constants texts texts' o stored ts none ends front at = constants_law texts
 pub ends_texts : (texts texts' : Texts) (o : Option Refusal) (stored : Stored) (ts : List Token) → o ≡ None → EndsWith texts stored texts' ts → (before : Texts) (front : List PpToken) → IsAt o texts stored (ctokens front) → HasTakenUp before front texts → texts' ≡ with_texts before (texts_of (ctokens front).tokens)
 ends_texts texts texts' o stored ts none ends before front at up = (ends_all texts texts' o stored ts none ends before front at up).texts_are
 
-pub ends_stop : (texts texts' : Texts) (o : Option Refusal) (stored : Stored) → StopsClosing texts stored texts' → (before : Texts) (front : List PpToken) → IsAt o texts stored (ctokens front) → HasTakenUp before front texts → o ≡ None → TakesUp before texts' (ctokens front).tokens
-ends_stop texts texts' o stored stops before front at up none = stops before nothing (ctokens front) refl (carries_all before texts front stored (at_none o texts stored (ctokens front) none at) up)
+pub ends_stop : (texts texts' : Texts) (o : Option Refusal) (stored : Stored) → o ≡ None → StopsClosing texts stored texts' → (before : Texts) (front : List PpToken) → IsAt o texts stored (ctokens front) → HasTakenUp before front texts → TakesUp before texts' (ctokens front).tokens
+ends_stop texts texts' o stored none stops before front at up = stops before nothing (ctokens front) refl (carries_all before texts front stored (at_none o texts stored (ctokens front) none at) up)
+
+pub again_end : (texts before : Texts) (front : List PpToken) → HasTakenUp before front texts → TakesUp before texts (ctokens front).tokens
+again_end texts before front up =
+    let cs = (ctokens front).tokens in
+    record { front = finished cs; back = unfinished cs; splits = sym (parts cs); texts_are = up }
 
 -- ---- faults
 
@@ -346,10 +356,14 @@ pub token_fault : (fault : Fault) (texts : Texts) (e : Refusal) (o : Option Refu
 token_fault fault texts e o h (inl m) = memory_told fault texts o (subst (IsFaultOfRefusal fault texts) m h)
 token_fault fault texts e o h (inr f) = subst (IsTokenFault fault texts) (sym f) h
 
--- ---- whole lists
+told_of : (fault : Fault) (texts : Texts) (one all : Option Refusal) → ((e : Refusal) → one ≡ Some e → all ≡ Some e) → IsTokenFault fault texts one → IsTokenFault fault texts all
+told_of fault texts None all stays h = memory_told fault texts all h
+told_of fault texts (Some e) all stays h = subst (IsTokenFault fault texts) (sym (stays e refl)) h
 
-pub front_on : (list : List PpToken) (i : ℕ) (t : PpToken) → i < length list → t ≡ get_or list i t → take i list ++ t ∷ [] ≡ take (i + 1) list
-front_on list i t h e = ap (λ x. take i list ++ x ∷ []) e ∙ sym (take_more list i t h)
+pub told_law : ToldStays
+told_law front rest fault texts h = told_of fault texts (ctokens front).fault (ctokens (front ++ rest)).fault (fault_law front rest) h
+
+-- ---- whole lists
 
 pub list_at : (list : List PpToken) (i : ℕ) (t : PpToken) → i < length list → t ≡ get_or list i t → take i list ++ t ∷ drop (i + 1) list ≡ list
 list_at list i t h e =
@@ -365,6 +379,7 @@ list_refused texts list i t lexer e h at some read = by (subst (λ x. IsAt x tex
   where
     whole : (take i list ++ t ∷ []) ++ drop (i + 1) list ≡ list
     whole = append_assoc (take i list) (t ∷ []) (drop (i + 1) list) ∙ list_at list i t h at
+
     by : (e ≡ Memory) ⊎ ((ctokens (take i list ++ t ∷ [])).fault ≡ Some e) → (e ≡ Memory) ⊎ ((ctokens list).fault ≡ Some e)
     by (inl m) = inl m
-    by (inr f) = inr (subst (λ l. (ctokens l).fault ≡ Some e) whole (fault_stays (take i list ++ t ∷ []) (drop (i + 1) list) e f))
+    by (inr f) = inr (subst (λ l. (ctokens l).fault ≡ Some e) whole (fault_law (take i list ++ t ∷ []) (drop (i + 1) list) e f))

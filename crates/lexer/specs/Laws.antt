@@ -1,11 +1,12 @@
 -- What holds of the definitions, in the words of ISO/IEC 9899:2011 6.4.4 and 6.4.5: constants are read by their digits,
--- have values of their types, and the characters of literals are bytes.
+-- have values of their types, and the characters of literals are bytes. And what the first tokens say of all.
 use Rattle.std.specs.Prelude.{◌≡◌, ℕ, ◌<◌, ◌^◌, ◌==◌, ◌&&◌, nat_le, not, Bool, true, false, pos, List, [], ◌∷◌, ◌++◌, length, Ok, Some, None}
 use Rattle.std.specs.Fmt.{digits}
 use Rattle.std.specs.List.{list_all}
 use Rattle.phases.specs.Characters.{backslash, double_quote}
 use Rattle.phases.specs.Token.{Token as PpToken}
 use Rattle.srcset.specs.NameTable.{Texts, KeepsNumbers}
+use Rattle.srcset.specs.declared.fault.Fault.{Fault}
 use Rattle.srcset.specs.declared.refusal.Refusal.{Refusal}
 use Rattle.ctypes.specs.Types.{is_value_of}
 use Rattle.lexer.specs.declared.token.Kind.{Kind}
@@ -16,6 +17,7 @@ use Rattle.lexer.specs.CTokens.{ctokens}
 use Rattle.lexer.specs.Digits.{value_of}
 use Rattle.lexer.specs.Literals.{is_plain, first_part, elements, string}
 use Rattle.lexer.specs.Meanings.{CToken}
+use Rattle.lexer.specs.Numbering.{IsTokenFault}
 use Rattle.lexer.specs.Reading.{finished, HasRead, HasTakenUp, refusal_of}
 
 -- the digits of a number stand for that number, in decimal, in octal and, of either case, in hexadecimal
@@ -56,6 +58,10 @@ AreInTheirTypes ts = list_all (λ t. is_in_its_type t.kind) ts ≡ true
 -- the fault of the first tokens is the fault of all
 abbrev pub FaultStays : Type 0
 FaultStays = (front rest : List PpToken) (r : Refusal) → (ctokens front).fault ≡ Some r → (ctokens (front ++ rest)).fault ≡ Some r
+
+-- what is told of the fault of the first tokens is told of that of all
+abbrev pub ToldStays : Type 0
+ToldStays = (front rest : List PpToken) (fault : Fault) (texts : Texts) → IsTokenFault fault texts (ctokens front).fault → IsTokenFault fault texts (ctokens (front ++ rest)).fault
 
 -- what is finished of the C tokens of the first tokens stands first of all
 abbrev pub FinishedStay : Type 0

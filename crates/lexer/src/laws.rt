@@ -1,11 +1,12 @@
 //! Laws of the definitions. The functions here do nothing: each has a contract so that its laws are proved.
 
-ghost use Rattle.lexer.specs.Laws.{FaultStays, FinishedStay, ReadIsKept, ReadIsTakenUp};
+ghost use Rattle.lexer.specs.Laws.{FaultStays, ToldStays, FinishedStay, ReadIsKept, ReadIsTakenUp};
 
-/// The fault of the first tokens is the fault of all (`fault`), and what is finished of their C tokens stands first of all
-/// (`finished`).
+/// The fault of the first tokens is the fault of all (`fault`), also where it is told (`told`). What is finished of their C
+/// tokens stands first of all (`finished`).
 pub fn a_front()
     ensures fault { FaultStays }
+    ensures told { ToldStays }
     ensures finished { FinishedStay }
 {}
 

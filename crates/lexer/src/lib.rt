@@ -1,8 +1,8 @@
 //! From preprocessing tokens to C tokens: translation phases 5 to 7 of ISO/IEC 9899:2011 5.1.1.2.
 #![tactic(auto)]
 
-mod lexing;
 pub mod laws;
+mod lexing;
 pub mod literals;
 pub mod numbers;
 mod punctuators;

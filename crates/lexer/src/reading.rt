@@ -1,6 +1,6 @@
 //! A lexer that takes one preprocessing token after another.
-ghost use Rattle.std.specs.Prelude.{◌≡◌, ◌⊎◌, List, [], ◌∷◌, ◌++◌, Option, None, Some, Result, Err, IsSome, IfSome, IsSomeAnd, IsErrAnd, IfOk, IfErr, OnOk, OnErr};
-ghost use Rattle.phases.specs.Token.{Token as Read};
+ghost use Rattle.std.specs.Prelude.{◌≡◌, ◌⊎◌, List, [], ◌∷◌, ◌++◌, Option, None, Some, Result, Err, IfSome, IsSomeAnd, IsErrAnd, IfOk, IfErr, OnOk, OnErr};
+ghost use Rattle.phases.specs.Token.{Token as PpToken};
 ghost use Rattle.srcset.specs.Fault.{IsMemoryFault};
 ghost use Rattle.srcset.specs.NameTable.{Texts, KeepsNumbers};
 ghost use Rattle.srcset.specs.Refusal.{IsFaultOfRefusal};
@@ -43,7 +43,7 @@ impl Lexer {
 
     /// Room for so many more tokens, so that taking them asks for none.
     pub(crate) fn try_reserve(&mut self, additional: usize) -> Result<(), Refusal>
-        ensures same { (texts : Texts) (front : List Read) → HasRead texts front self.old → HasRead texts front self.new }
+        ensures same { (texts : Texts) (front : List PpToken) → HasRead texts front self.old → HasRead texts front self.new }
         ensures refusal { refusal_of self.new ≡ refusal_of self.old }
         ensures err { IfErr result (λ e. e ≡ Memory) }
     {
@@ -53,7 +53,7 @@ impl Lexer {
 
     /// Makes room for so many more tokens. Fails with 801 where memory runs out. In any case it has read the same.
     pub fn reserve(&mut self, additional: usize) -> Result<(), Fault>
-        ensures same { (texts : Texts) (front : List Read) → HasRead texts front self.old → HasRead texts front self.new }
+        ensures same { (texts : Texts) (front : List PpToken) → HasRead texts front self.old → HasRead texts front self.new }
         ensures refusal { refusal_of self.new ≡ refusal_of self.old }
         ensures err { IfErr result IsMemoryFault }
     {
@@ -65,14 +65,14 @@ impl Lexer {
 
     /// Reads one token more, as `take` does, and answers a refusal, which names no file.
     pub fn try_take(&mut self, token: &PpToken, names: &mut Names) -> Result<(), Refusal>
-        ensures reads { (front : List Read) → HasRead names.old front self.old → HasRead names.new (front ++ token.now ∷ []) self.new }
+        ensures reads { (front : List PpToken) → HasRead names.old front self.old → HasRead names.new (front ++ token.now ∷ []) self.new }
         ensures ok { OnOk result (refusal_of self.new ≡ None) }
         ensures err { IfErr result (λ e. refusal_of self.new ≡ Some e) }
         ensures again { IfSome (refusal_of self.old) (λ e. (result ≡ Err e) × (self.new ≡ self.old) × (names.new ≡ names.old)) }
-        ensures texts { OnOk result ((before : Texts) (front : List Read) → HasRead names.old front self.old → HasTakenUp before front names.old
+        ensures texts { OnOk result ((before : Texts) (front : List PpToken) → HasRead names.old front self.old → HasTakenUp before front names.old
             → HasTakenUp before (front ++ token.now ∷ []) names.new) }
-        ensures stops { OnErr result ((before : Texts) (front rest : List Read) → HasRead names.old front self.old → HasTakenUp before front names.old
-            → refusal_of self.old ≡ None → TakesUp before names.new (ctokens (front ++ token.now ∷ rest)).tokens) }
+        ensures stops { OnErr result ((before : Texts) (front rest : List PpToken) → HasRead names.old front self.old → HasTakenUp before front names.old
+            → TakesUp before names.new (ctokens (front ++ token.now ∷ rest)).tokens) }
         ensures keeps { KeepsNumbers names.old names.new }
     {
         if let Some(refusal) = self.refused {
@@ -91,16 +91,16 @@ impl Lexer {
     /// Fails with the fault that this token has (those of `tokens`), and with 801 where memory runs out. From then on every
     /// call fails with the same fault, or 801 where a copy of its texts finds no memory, and changes nothing.
     pub fn take(&mut self, token: &PpToken, names: &mut Names) -> Result<(), Fault>
-        ensures reads { (front : List Read) → HasRead names.old front self.old → HasRead names.new (front ++ token.now ∷ []) self.new }
+        ensures reads { (front : List PpToken) → HasRead names.old front self.old → HasRead names.new (front ++ token.now ∷ []) self.new }
         ensures ok { OnOk result (refusal_of self.new ≡ None) }
         ensures err { IfErr result (λ fault. IsSomeAnd (refusal_of self.new) (IsFaultOfRefusal fault names.new)) }
-        ensures fault { IfErr result (λ fault. (front : List Read) → HasRead names.old front self.old
+        ensures fault { IfErr result (λ fault. (front : List PpToken) → HasRead names.old front self.old
             → IsTokenFault fault names.new (ctokens (front ++ token.now ∷ [])).fault) }
-        ensures again { IsSome (refusal_of self.old) → (self.new ≡ self.old) × (names.new ≡ names.old) }
-        ensures texts { OnOk result ((before : Texts) (front : List Read) → HasRead names.old front self.old → HasTakenUp before front names.old
+        ensures again { IfSome (refusal_of self.old) (λ e. IsErrAnd result (λ fault. IsFaultOfRefusal fault names.new e) × (self.new ≡ self.old) × (names.new ≡ names.old)) }
+        ensures texts { OnOk result ((before : Texts) (front : List PpToken) → HasRead names.old front self.old → HasTakenUp before front names.old
             → HasTakenUp before (front ++ token.now ∷ []) names.new) }
-        ensures stops { OnErr result ((before : Texts) (front rest : List Read) → HasRead names.old front self.old → HasTakenUp before front names.old
-            → refusal_of self.old ≡ None → TakesUp before names.new (ctokens (front ++ token.now ∷ rest)).tokens) }
+        ensures stops { OnErr result ((before : Texts) (front rest : List PpToken) → HasRead names.old front self.old → HasTakenUp before front names.old
+            → TakesUp before names.new (ctokens (front ++ token.now ∷ rest)).tokens) }
         ensures keeps { KeepsNumbers names.old names.new }
     {
         match self.try_take(token, names) {
@@ -111,36 +111,36 @@ impl Lexer {
 
     /// All tokens, as `end` gives them, or a refusal, which names no file.
     pub fn try_end(self, names: &mut Names) -> Result<Vec<Token>, Refusal>
-        ensures ok { IfOk result (λ ts. (front : List Read) → HasRead names.old front self
+        ensures ok { IfOk result (λ ts. (front : List PpToken) → HasRead names.old front self
             → ((ctokens front).fault ≡ None) × AreTokensOf names.new (ctokens front).tokens ts.items) }
-        ensures constants { IfOk result (λ ts. (front : List Read) → HasRead names.old front self → AreInTheirTypes ts.items) }
-        ensures err { IfErr result (λ e. (front : List Read) → HasRead names.old front self → (e ≡ Memory) ⊎ ((ctokens front).fault ≡ Some e)) }
+        ensures constants { IfOk result (λ ts. (front : List PpToken) → HasRead names.old front self → AreInTheirTypes ts.items) }
+        ensures err { IfErr result (λ e. (front : List PpToken) → HasRead names.old front self → (e ≡ Memory) ⊎ ((ctokens front).fault ≡ Some e)) }
         ensures again { IfSome (refusal_of self) (λ e. (result ≡ Err e) × (names.new ≡ names.old)) }
-        ensures texts { OnOk result ((before : Texts) (front : List Read) → HasRead names.old front self → HasTakenUp before front names.old
+        ensures texts { OnOk result ((before : Texts) (front : List PpToken) → HasRead names.old front self → HasTakenUp before front names.old
             → names.new ≡ with_texts before (texts_of (ctokens front).tokens)) }
-        ensures stops { OnErr result ((before : Texts) (front : List Read) → HasRead names.old front self → HasTakenUp before front names.old
-            → refusal_of self ≡ None → TakesUp before names.new (ctokens front).tokens) }
+        ensures stops { OnErr result ((before : Texts) (front : List PpToken) → HasRead names.old front self → HasTakenUp before front names.old
+            → TakesUp before names.new (ctokens front).tokens) }
         ensures keeps { KeepsNumbers names.old names.new }
     {
-        if let Some(refusal) = self.refused {
-            return Err(refusal);
+        match self.refused {
+            Some(refusal) => Err(refusal),
+            None => self.stored.end(names),
         }
-        self.stored.end(names)
     }
 
     /// All tokens, where no token is left to read. A string literal that stands last takes its number from `names`.
     ///
     /// Fails with the fault that the tokens have, and with 801 where memory runs out.
     pub fn end(self, names: &mut Names) -> Result<Vec<Token>, Fault>
-        ensures ok { IfOk result (λ ts. (front : List Read) → HasRead names.old front self
+        ensures ok { IfOk result (λ ts. (front : List PpToken) → HasRead names.old front self
             → ((ctokens front).fault ≡ None) × AreTokensOf names.new (ctokens front).tokens ts.items) }
-        ensures constants { IfOk result (λ ts. (front : List Read) → HasRead names.old front self → AreInTheirTypes ts.items) }
-        ensures err { IfErr result (λ fault. (front : List Read) → HasRead names.old front self → IsTokenFault fault names.new (ctokens front).fault) }
+        ensures constants { IfOk result (λ ts. (front : List PpToken) → HasRead names.old front self → AreInTheirTypes ts.items) }
+        ensures err { IfErr result (λ fault. (front : List PpToken) → HasRead names.old front self → IsTokenFault fault names.new (ctokens front).fault) }
         ensures again { IfSome (refusal_of self) (λ e. IsErrAnd result (λ fault. IsFaultOfRefusal fault names.new e) × (names.new ≡ names.old)) }
-        ensures texts { OnOk result ((before : Texts) (front : List Read) → HasRead names.old front self → HasTakenUp before front names.old
+        ensures texts { OnOk result ((before : Texts) (front : List PpToken) → HasRead names.old front self → HasTakenUp before front names.old
             → names.new ≡ with_texts before (texts_of (ctokens front).tokens)) }
-        ensures stops { OnErr result ((before : Texts) (front : List Read) → HasRead names.old front self → HasTakenUp before front names.old
-            → refusal_of self ≡ None → TakesUp before names.new (ctokens front).tokens) }
+        ensures stops { OnErr result ((before : Texts) (front : List PpToken) → HasRead names.old front self → HasTakenUp before front names.old
+            → TakesUp before names.new (ctokens front).tokens) }
         ensures keeps { KeepsNumbers names.old names.new }
     {
         let alloc = self.alloc;

@@ -1,8 +1,5 @@
-use Rattle.lexer.proofs.ReadingLemmas.{fault_stays, finished_stay}
+use Rattle.lexer.proofs.ReadingLemmas.{fault_law, told_law, finished_law}
 use Rattle.lexer.proofs.laws.a_front.Goals as goal
 
-pub returns-clause-fault : goal.returns-clause-fault
-returns-clause-fault c = fault_stays
-
-pub returns-clause-finished : goal.returns-clause-finished
-returns-clause-finished c = finished_stay
+pub returns : goal.returns
+returns c = record { fault = fault_law; told = told_law; finished = finished_law }

@@ -1,8 +1,5 @@
-use Rattle.lexer.proofs.ReadingLemmas.{read_kept, read_taken_up}
+use Rattle.lexer.proofs.ReadingLemmas.{kept_law, taken_up_law}
 use Rattle.lexer.proofs.laws.what_is_read.Goals as goal
 
-pub returns-clause-kept : goal.returns-clause-kept
-returns-clause-kept c = read_kept
-
-pub returns-clause-taken_up : goal.returns-clause-taken_up
-returns-clause-taken_up c = read_taken_up
+pub returns : goal.returns
+returns c = record { kept = kept_law; taken_up = taken_up_law }

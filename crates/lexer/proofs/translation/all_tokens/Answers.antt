@@ -1,4 +1,4 @@
-use Rattle.std.proofs.Common.{◌≡◌, ◌∷◌, ◌++◌, [], ◌+◌, drop, take, subst}
+use Rattle.std.proofs.Common.{◌+◌, drop, take, subst}
 use Rattle.std.proofs.lemmas.Result.{err_from_is_err_and}
 use Rattle.lexer.specs.CTokens.{ctokens}
 use Rattle.lexer.specs.Numbering.{TakesUp}
@@ -16,6 +16,6 @@ returns-in_err-try_take-clause-err c =
 pub returns-in_err-try_take-clause-stops : goal.returns-in_err-try_take-clause-stops
 returns-in_err-try_take-clause-stops c =
     let l = c.loop-token in
-    let stops = c.in_err-try_take.ensures.stops c.args.names.now (take l.token-index c.args.list.now) (drop (l.token-index + 1) c.args.list.now) l.invariant.reads l.invariant.texts l.invariant.ready in
+    let stops = c.in_err-try_take.ensures.stops c.args.names.now (take l.token-index c.args.list.now) (drop (l.token-index + 1) c.args.list.now) l.invariant.reads l.invariant.texts in
     let whole = list_at c.args.list.now l.token-index c.token-item.result c.loop-token-test.true c.token-item.is in
     on_err_any c.from_residual-in_err-try_take.result (subst (λ x. TakesUp c.args.names.now c.try_take.new.names (ctokens x).tokens) whole stops)
