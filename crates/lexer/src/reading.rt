@@ -19,8 +19,8 @@ use std::alloc::Global;
 /// What is read of a list of preprocessing tokens that come one after another: translation phases 5 to 7 (ISO/IEC
 /// 9899:2011 5.1.1.2).
 ///
-/// It is seen as the C tokens of those read (`HasRead`). Once it has refused one it refuses everything, each time for the
-/// same reason.
+/// It is seen as the C tokens of those read (`HasRead`), under the table of names as it is: other texts may get numbers
+/// between two calls. Once it has refused a token it refuses everything, each time for the same reason.
 #[derive(Drop)]
 pub struct Lexer {
     alloc: Global,
@@ -41,17 +41,19 @@ impl Lexer {
         }
     }
 
-    /// Room for so many more tokens, so that taking them asks for none.
+    /// Makes room for so many more tokens, as `reserve` does, and answers a refusal.
     pub(crate) fn try_reserve(&mut self, additional: usize) -> Result<(), Refusal>
         ensures same { (texts : Texts) (front : List PpToken) → HasRead texts front self.old → HasRead texts front self.new }
         ensures refusal { refusal_of self.new ≡ refusal_of self.old }
         ensures err { IfErr result (λ e. e ≡ Memory) }
     {
-        self.stored.tokens.reserve_exact(additional)?;
+        self.stored.tokens.reserve(additional)?;
         Ok(())
     }
 
-    /// Makes room for so many more tokens. Fails with 801 where memory runs out. In any case it has read the same.
+    /// Makes room for so many more tokens, so that none of them has to ask for it. Without it room grows by doubling.
+    ///
+    /// Fails with 801 where memory runs out. In any case what was read stays.
     pub fn reserve(&mut self, additional: usize) -> Result<(), Fault>
         ensures same { (texts : Texts) (front : List PpToken) → HasRead texts front self.old → HasRead texts front self.new }
         ensures refusal { refusal_of self.new ≡ refusal_of self.old }
