@@ -1,8 +1,6 @@
 -- Lemmas on carrying tokens.
-use Rattle.std.proofs.Common.{◌≡◌, ℕ, suc, Bool, true, false, not, Option, Some, None, Result, Ok, Err, ◌+◌, ◌<◌, ◌≤◌, ◌⊎◌, inl, inr, OnErr, IfErr, List, [], ◌∷◌, ◌++◌, length, drop, get_or, slice_get, add-one, refl, sym, ap, ◌∙◌, subst, append_assoc, append-nil}
+use Rattle.std.proofs.Common.{◌≡◌, ℕ, Bool, true, false, not, Option, Some, None, Result, Ok, Err, ◌⊎◌, inl, inr, OnErr, IfErr, List, [], ◌∷◌, ◌++◌, slice_get, refl, sym, ap, ◌∙◌, subst, append_assoc, append-nil}
 use Rattle.srcset.specs.declared.code.Code.{Code}
-use Rattle.std.proofs.Math.Seq.{drop-cons}
-use Rattle.std.proofs.lemmas.List.{drop_all}
 use Rattle.srcset.specs.declared.refusal.Pos.{Pos}
 use Rattle.srcset.specs.declared.refusal.Refusal.{Refusal}
 use Rattle.srcset.specs.declared.refusal.Refusal.TheVariants.{Memory, At}
@@ -11,7 +9,7 @@ use Rattle.srcset.specs.NameTable.{Texts, with_text, KeepsNumbers}
 use Rattle.lexer.specs.declared.token.Kind.{Kind}
 use Rattle.lexer.specs.declared.token.Kind.TheVariants.{Keyword, Identifier, Constant, StringLiteral, Punctuator}
 use Rattle.lexer.specs.declared.token.Token.{Token}
-use Rattle.lexer.specs.declared.lexing.Lexer.{Lexer}
+use Rattle.lexer.specs.declared.lexing.Stored.{Stored}
 use Rattle.phases.specs.declared.token.Kind.{Kind as PpKind}
 use Rattle.phases.specs.declared.token.Kind.TheVariants as pp
 use Rattle.lexer.specs.declared.token.Keyword.{Keyword as Word}
@@ -23,9 +21,10 @@ use Rattle.lexer.specs.Numbers.{number}
 use Rattle.lexer.specs.Literals.{character, string}
 use Rattle.lexer.specs.inside.Decoding.{IsRefusal}
 use Rattle.lexer.specs.Meanings.{Meaning, keyword, name, constant, text, punctuator, CToken}
-use Rattle.lexer.specs.CTokens.{CTokens, nothing, join, before, put, as_constant, as_text, meaning, ctokens}
+use Rattle.lexer.specs.CTokens.{CTokens, nothing, join, before, put, as_constant, as_text, meaning}
 use Rattle.lexer.specs.Numbering.{IsKindOf, IsTokenOf, AreTokensOf, texts_in, texts_of, with_texts, AreAll, TakesUp}
-use Rattle.lexer.specs.inside.Carrying.{pending_before, is_text, begins_text, has_no_text, is_string, IsKindFor, with_meaning, IsPushed, Carries, Passes, Closes, Stops, StopsClosing}
+use Rattle.lexer.specs.Reading.{is_text}
+use Rattle.lexer.specs.inside.Carrying.{pending_before, begins_text, has_no_text, is_string, IsKindFor, with_meaning, IsPushed, Carries, Passes, Closes, Stops, StopsClosing}
 
 -- a longer table shows the same
 kind_kept : (old new : Texts) → KeepsNumbers old new → (m : Meaning) (k : Kind) → IsKindOf old m k → IsKindOf new m k
@@ -36,7 +35,7 @@ kind_kept old new keeps (text bytes) (StringLiteral n) h = keeps n (bytes ++ 0 �
 kind_kept old new keeps (punctuator x) (Punctuator y) h = h
 kind_kept old new keeps m k h = absurd h
 
-tokens_kept : (old new : Texts) → KeepsNumbers old new → (cs : List CToken) (ts : List Token) → AreTokensOf old cs ts → AreTokensOf new cs ts
+pub tokens_kept : (old new : Texts) → KeepsNumbers old new → (cs : List CToken) (ts : List Token) → AreTokensOf old cs ts → AreTokensOf new cs ts
 tokens_kept old new keeps [] [] h = tt
 tokens_kept old new keeps [] (t ∷ ts) h = absurd h
 tokens_kept old new keeps (c ∷ cs) [] h = absurd h
@@ -56,7 +55,7 @@ texts_append (c ∷ cs) ds = ap (λ x. texts_in c.meaning ++ x) (texts_append cs
 texts_pushed : (cs : List CToken) (c : CToken) → texts_of (cs ++ c ∷ []) ≡ texts_of cs ++ texts_in c.meaning
 texts_pushed cs c = texts_append cs (c ∷ []) ∙ ap (λ x. texts_of cs ++ x) (append-nil (texts_in c.meaning))
 
-with_append : (texts : Texts) (ss us : List (List ℕ)) → with_texts texts (ss ++ us) ≡ with_texts (with_texts texts ss) us
+pub with_append : (texts : Texts) (ss us : List (List ℕ)) → with_texts texts (ss ++ us) ≡ with_texts (with_texts texts ss) us
 with_append texts [] us = refl
 with_append texts (s ∷ ss) us = with_append (with_text texts s) ss us
 
@@ -65,7 +64,7 @@ with_pushed old texts texts' done c e f =
     f ∙ ap (λ x. with_texts x (texts_in c.meaning)) e ∙ sym (with_append old (texts_of done) (texts_in c.meaning)) ∙ ap (with_texts old) (sym (texts_pushed done c))
 
 -- a token that is no string literal joins nothing
-before_no_text : (c : CToken) (cs : List CToken) → is_text c.meaning ≡ false → before c cs ≡ c ∷ cs
+pub before_no_text : (c : CToken) (cs : List CToken) → is_text c.meaning ≡ false → before c cs ≡ c ∷ cs
 before_no_text c [] e = refl
 before_no_text c (d ∷ ds) e = by c.meaning e
   where
@@ -126,65 +125,65 @@ begins_after pos (Ok m) rest e = begins_no_text (record { meaning = m; pos = pos
 begins_after pos (Err code) rest e = refl
 
 -- of what is carried, the table has taken up the texts
-pub takes_up : (old texts : Texts) (lexer : Lexer) (rest total : CTokens) → Carries old texts lexer rest total → TakesUp old texts total.tokens
-takes_up old texts lexer rest total q = record { front = q.done; back = pending_before lexer.pending lexer.bytes.items rest.tokens; splits = q.tokens_are; texts_are = q.texts_are }
+pub takes_up : (old texts : Texts) (stored : Stored) (rest total : CTokens) → Carries old texts stored rest total → TakesUp old texts total.tokens
+takes_up old texts stored rest total q = record { front = q.done; back = pending_before stored.pending stored.bytes.items rest.tokens; splits = q.tokens_are; texts_are = q.texts_are }
 
 -- a string literal that is whole becomes a token
-total_closed : (texts : Texts) (lexer : Lexer) (p : Pos) (old : Texts) (rest total : CTokens) → lexer.pending ≡ Some p → begins_text rest.tokens ≡ false → (q : Carries old texts lexer rest total) → total.tokens ≡ (q.done ++ record { meaning = text lexer.bytes.items; pos = p } ∷ []) ++ rest.tokens
-total_closed texts lexer p old rest total e b q =
-    let c : CToken = record { meaning = text lexer.bytes.items; pos = p } in
-    q.tokens_are ∙ ap (λ x. q.done ++ pending_before x lexer.bytes.items rest.tokens) e ∙ ap (λ x. q.done ++ x) (text_before lexer.bytes.items p rest.tokens b) ∙ sym (append_assoc q.done (c ∷ []) rest.tokens)
+total_closed : (texts : Texts) (stored : Stored) (p : Pos) (old : Texts) (rest total : CTokens) → stored.pending ≡ Some p → begins_text rest.tokens ≡ false → (q : Carries old texts stored rest total) → total.tokens ≡ (q.done ++ record { meaning = text stored.bytes.items; pos = p } ∷ []) ++ rest.tokens
+total_closed texts stored p old rest total e b q =
+    let c : CToken = record { meaning = text stored.bytes.items; pos = p } in
+    q.tokens_are ∙ ap (λ x. q.done ++ pending_before x stored.bytes.items rest.tokens) e ∙ ap (λ x. q.done ++ x) (text_before stored.bytes.items p rest.tokens b) ∙ sym (append_assoc q.done (c ∷ []) rest.tokens)
 
-pub closes_stops : (texts texts' : Texts) (lexer : Lexer) (p : Pos) → lexer.pending ≡ Some p → texts' ≡ with_text texts (lexer.bytes.items ++ 0 ∷ []) → StopsClosing texts lexer texts'
-closes_stops texts texts' lexer p e w = λ old rest total b q.
-    let c : CToken = record { meaning = text lexer.bytes.items; pos = p } in
-    record { front = q.done ++ c ∷ []; back = rest.tokens; splits = total_closed texts lexer p old rest total e b q; texts_are = with_pushed old texts texts' q.done c q.texts_are w }
+pub closes_stops : (texts texts' : Texts) (stored : Stored) (p : Pos) → stored.pending ≡ Some p → texts' ≡ with_text texts (stored.bytes.items ++ 0 ∷ []) → StopsClosing texts stored texts'
+closes_stops texts texts' stored p e w = λ old rest total b q.
+    let c : CToken = record { meaning = text stored.bytes.items; pos = p } in
+    record { front = q.done ++ c ∷ []; back = rest.tokens; splits = total_closed texts stored p old rest total e b q; texts_are = with_pushed old texts texts' q.done c q.texts_are w }
 
-pub closes : (texts texts' : Texts) (lexer lexer' : Lexer) (p : Pos) (n : ℕ) → lexer.pending ≡ Some p → lexer'.pending ≡ None → lexer'.tokens.items ≡ lexer.tokens.items ++ record { kind = StringLiteral n; pos = p } ∷ [] → slice_get texts' n ≡ Some (lexer.bytes.items ++ 0 ∷ []) → KeepsNumbers texts texts' → texts' ≡ with_text texts (lexer.bytes.items ++ 0 ∷ []) → Closes texts lexer texts' lexer'
-closes texts texts' lexer lexer' p n e f g at keeps w = λ old rest total b q.
-    let c : CToken = record { meaning = text lexer.bytes.items; pos = p } in
+pub closes : (texts texts' : Texts) (stored stored' : Stored) (p : Pos) (n : ℕ) → stored.pending ≡ Some p → stored'.pending ≡ None → stored'.tokens.items ≡ stored.tokens.items ++ record { kind = StringLiteral n; pos = p } ∷ [] → slice_get texts' n ≡ Some (stored.bytes.items ++ 0 ∷ []) → KeepsNumbers texts texts' → texts' ≡ with_text texts (stored.bytes.items ++ 0 ∷ []) → Closes texts stored texts' stored'
+closes texts texts' stored stored' p n e f g at keeps w = λ old rest total b q.
+    let c : CToken = record { meaning = text stored.bytes.items; pos = p } in
     let t : Token = record { kind = StringLiteral n; pos = p } in
     record {
       done = q.done ++ c ∷ [];
-      done_is = subst (AreTokensOf texts' (q.done ++ c ∷ [])) (sym g) (tokens_pushed texts' q.done lexer.tokens.items c t (tokens_kept texts texts' keeps q.done lexer.tokens.items q.done_is) (at, refl));
+      done_is = subst (AreTokensOf texts' (q.done ++ c ∷ [])) (sym g) (tokens_pushed texts' q.done stored.tokens.items c t (tokens_kept texts texts' keeps q.done stored.tokens.items q.done_is) (at, refl));
       texts_are = with_pushed old texts texts' q.done c q.texts_are w;
-      tokens_are = total_closed texts lexer p old rest total e b q ∙ sym (ap (λ x. (q.done ++ c ∷ []) ++ pending_before x lexer'.bytes.items rest.tokens) f);
+      tokens_are = total_closed texts stored p old rest total e b q ∙ sym (ap (λ x. (q.done ++ c ∷ []) ++ pending_before x stored'.bytes.items rest.tokens) f);
       fault_is = q.fault_is;
     }
 
 -- a token that is no string literal comes last
-total_pushed : (texts : Texts) (lexer : Lexer) (pos : Pos) (m : Meaning) (old : Texts) (rest total : CTokens) → lexer.pending ≡ None → is_text m ≡ false → (q : Carries old texts lexer (put pos (Ok m) rest) total) → total.tokens ≡ (q.done ++ record { meaning = m; pos = pos } ∷ []) ++ rest.tokens
-total_pushed texts lexer pos m old rest total e b q =
+total_pushed : (texts : Texts) (stored : Stored) (pos : Pos) (m : Meaning) (old : Texts) (rest total : CTokens) → stored.pending ≡ None → is_text m ≡ false → (q : Carries old texts stored (put pos (Ok m) rest) total) → total.tokens ≡ (q.done ++ record { meaning = m; pos = pos } ∷ []) ++ rest.tokens
+total_pushed texts stored pos m old rest total e b q =
     let c : CToken = record { meaning = m; pos = pos } in
-    q.tokens_are ∙ ap (λ x. q.done ++ pending_before x lexer.bytes.items (before c rest.tokens)) e ∙ ap (λ x. q.done ++ x) (before_no_text c rest.tokens b) ∙ sym (append_assoc q.done (c ∷ []) rest.tokens)
+    q.tokens_are ∙ ap (λ x. q.done ++ pending_before x stored.bytes.items (before c rest.tokens)) e ∙ ap (λ x. q.done ++ x) (before_no_text c rest.tokens b) ∙ sym (append_assoc q.done (c ∷ []) rest.tokens)
 
-pub pushes : (texts texts' : Texts) (lexer lexer' : Lexer) (pos : Pos) (r : Result Meaning Code) (k : Kind) → lexer.pending ≡ None → has_no_text r ≡ true → IsKindFor texts' r k → texts' ≡ with_meaning texts r → KeepsNumbers texts texts' → IsPushed lexer lexer' (record { kind = k; pos = pos }) → (old : Texts) (rest total : CTokens) → Carries old texts lexer (put pos r rest) total → Carries old texts' lexer' rest total
-pushes texts texts' lexer lexer' pos (Err code) k e b i w keeps g = absurd i
-pushes texts texts' lexer lexer' pos (Ok m) k e b i w keeps g = λ old rest total q.
+pub pushes : (texts texts' : Texts) (stored stored' : Stored) (pos : Pos) (r : Result Meaning Code) (k : Kind) → stored.pending ≡ None → has_no_text r ≡ true → IsKindFor texts' r k → texts' ≡ with_meaning texts r → KeepsNumbers texts texts' → IsPushed stored stored' (record { kind = k; pos = pos }) → (old : Texts) (rest total : CTokens) → Carries old texts stored (put pos r rest) total → Carries old texts' stored' rest total
+pushes texts texts' stored stored' pos (Err code) k e b i w keeps g = absurd i
+pushes texts texts' stored stored' pos (Ok m) k e b i w keeps g = λ old rest total q.
     let c : CToken = record { meaning = m; pos = pos } in
     let t : Token = record { kind = k; pos = pos } in
-    let f : lexer'.pending ≡ None = g.pending_is ∙ e in
+    let f : stored'.pending ≡ None = g.pending_is ∙ e in
     record {
       done = q.done ++ c ∷ [];
-      done_is = subst (AreTokensOf texts' (q.done ++ c ∷ [])) (sym g.tokens_are) (tokens_pushed texts' q.done lexer.tokens.items c t (tokens_kept texts texts' keeps q.done lexer.tokens.items q.done_is) (i, refl));
+      done_is = subst (AreTokensOf texts' (q.done ++ c ∷ [])) (sym g.tokens_are) (tokens_pushed texts' q.done stored.tokens.items c t (tokens_kept texts texts' keeps q.done stored.tokens.items q.done_is) (i, refl));
       texts_are = with_pushed old texts texts' q.done c q.texts_are w;
-      tokens_are = total_pushed texts lexer pos m old rest total e (not_false (is_text m) b) q ∙ sym (ap (λ x. (q.done ++ c ∷ []) ++ pending_before x lexer'.bytes.items rest.tokens) f);
+      tokens_are = total_pushed texts stored pos m old rest total e (not_false (is_text m) b) q ∙ sym (ap (λ x. (q.done ++ c ∷ []) ++ pending_before x stored'.bytes.items rest.tokens) f);
       fault_is = q.fault_is;
     }
 
-pub pushes_stops : (texts texts' : Texts) (lexer : Lexer) (pos : Pos) (r : Result Meaning Code) → lexer.pending ≡ None → has_no_text r ≡ true → texts' ≡ with_meaning texts r → (old : Texts) (rest total : CTokens) → Carries old texts lexer (put pos r rest) total → TakesUp old texts' total.tokens
-pushes_stops texts texts' lexer pos (Err code) e b w = λ old rest total q. subst (λ x. TakesUp old x total.tokens) (sym w) (takes_up old texts lexer (put pos (Err code) rest) total q)
-pushes_stops texts texts' lexer pos (Ok m) e b w = λ old rest total q.
+pub pushes_stops : (texts texts' : Texts) (stored : Stored) (pos : Pos) (r : Result Meaning Code) → stored.pending ≡ None → has_no_text r ≡ true → texts' ≡ with_meaning texts r → (old : Texts) (rest total : CTokens) → Carries old texts stored (put pos r rest) total → TakesUp old texts' total.tokens
+pushes_stops texts texts' stored pos (Err code) e b w = λ old rest total q. subst (λ x. TakesUp old x total.tokens) (sym w) (takes_up old texts stored (put pos (Err code) rest) total q)
+pushes_stops texts texts' stored pos (Ok m) e b w = λ old rest total q.
     let c : CToken = record { meaning = m; pos = pos } in
-    record { front = q.done ++ c ∷ []; back = rest.tokens; splits = total_pushed texts lexer pos m old rest total e (not_false (is_text m) b) q; texts_are = with_pushed old texts texts' q.done c q.texts_are w }
+    record { front = q.done ++ c ∷ []; back = rest.tokens; splits = total_pushed texts stored pos m old rest total e (not_false (is_text m) b) q; texts_are = with_pushed old texts texts' q.done c q.texts_are w }
 
 -- where all tokens are read
-pub all_read : (old texts : Texts) (lexer : Lexer) (total : CTokens) → lexer.pending ≡ None → Carries old texts lexer nothing total → AreAll old texts total lexer.tokens.items
-all_read old texts lexer total e q =
-    let d : total.tokens ≡ q.done = q.tokens_are ∙ ap (λ x. q.done ++ pending_before x lexer.bytes.items []) e ∙ append-nil q.done in
+pub all_read : (old texts : Texts) (stored : Stored) (total : CTokens) → stored.pending ≡ None → Carries old texts stored nothing total → AreAll old texts total stored.tokens.items
+all_read old texts stored total e q =
+    let d : total.tokens ≡ q.done = q.tokens_are ∙ ap (λ x. q.done ++ pending_before x stored.bytes.items []) e ∙ append-nil q.done in
     record {
       no_fault = q.fault_is;
-      tokens_are = subst (λ x. AreTokensOf texts x lexer.tokens.items) (sym d) q.done_is;
+      tokens_are = subst (λ x. AreTokensOf texts x stored.tokens.items) (sym d) q.done_is;
       texts_are = q.texts_are ∙ ap (λ x. with_texts old (texts_of x)) (sym d);
     }
 
@@ -200,41 +199,28 @@ on_err_any (Err e) q = q
 before_token : (t : PpToken) (rest : CTokens) → is_string t.kind ≡ false → begins_text (put t.pos (meaning t.kind t.spelling) rest).tokens ≡ false
 before_token t rest s = begins_after t.pos (meaning t.kind t.spelling) rest (no_text t.kind t.spelling s)
 
-pub close_stops : (texts texts' : Texts) (lexer : Lexer) (t : PpToken) → is_string t.kind ≡ false → StopsClosing texts lexer texts' → Stops texts lexer texts' t
-close_stops texts texts' lexer t s stops = λ old rest total q. stops old (put t.pos (meaning t.kind t.spelling) rest) total (before_token t rest s) q
+pub close_stops : (texts texts' : Texts) (stored : Stored) (t : PpToken) → is_string t.kind ≡ false → StopsClosing texts stored texts' → Stops texts stored texts' t
+close_stops texts texts' stored t s stops = λ old rest total q. stops old (put t.pos (meaning t.kind t.spelling) rest) total (before_token t rest s) q
 
-pub kind_stops : (texts between texts' : Texts) (lexer lexer' : Lexer) (t : PpToken) → is_string t.kind ≡ false → Closes texts lexer between lexer' → texts' ≡ between → Stops texts lexer texts' t
-kind_stops texts between texts' lexer lexer' t s closed same = λ old rest total q.
+pub kind_stops : (texts between texts' : Texts) (stored stored' : Stored) (t : PpToken) → is_string t.kind ≡ false → Closes texts stored between stored' → texts' ≡ between → Stops texts stored texts' t
+kind_stops texts between texts' stored stored' t s closed same = λ old rest total q.
     let c = closed old (put t.pos (meaning t.kind t.spelling) rest) total (before_token t rest s) q in
-    subst (λ x. TakesUp old x total.tokens) (sym same) (takes_up old between lexer' (put t.pos (meaning t.kind t.spelling) rest) total c)
+    subst (λ x. TakesUp old x total.tokens) (sym same) (takes_up old between stored' (put t.pos (meaning t.kind t.spelling) rest) total c)
 
-pub push_stops : (texts between texts' : Texts) (lexer lexer' : Lexer) (t : PpToken) → is_string t.kind ≡ false → Closes texts lexer between lexer' → lexer'.pending ≡ None → texts' ≡ with_meaning between (meaning t.kind t.spelling) → Stops texts lexer texts' t
-push_stops texts between texts' lexer lexer' t s closed none w = λ old rest total q.
+pub push_stops : (texts between texts' : Texts) (stored stored' : Stored) (t : PpToken) → is_string t.kind ≡ false → Closes texts stored between stored' → stored'.pending ≡ None → texts' ≡ with_meaning between (meaning t.kind t.spelling) → Stops texts stored texts' t
+push_stops texts between texts' stored stored' t s closed none w = λ old rest total q.
     let c = closed old (put t.pos (meaning t.kind t.spelling) rest) total (before_token t rest s) q in
-    pushes_stops between texts' lexer' t.pos (meaning t.kind t.spelling) none (no_text t.kind t.spelling s) w old rest total c
+    pushes_stops between texts' stored' t.pos (meaning t.kind t.spelling) none (no_text t.kind t.spelling s) w old rest total c
 
-pub push_passes : (texts between texts' : Texts) (lexer lexer' lexer'' : Lexer) (t : PpToken) (k : Kind) (pos : Pos) → is_string t.kind ≡ false → Closes texts lexer between lexer' → lexer'.pending ≡ None → IsKindFor texts' (meaning t.kind t.spelling) k → texts' ≡ with_meaning between (meaning t.kind t.spelling) → KeepsNumbers between texts' → pos ≡ t.pos → IsPushed lexer' lexer'' (record { kind = k; pos = pos }) → Passes texts lexer texts' lexer'' t
-push_passes texts between texts' lexer lexer' lexer'' t k pos s closed none i w keeps at p = λ old rest total q.
+pub push_passes : (texts between texts' : Texts) (stored stored' stored'' : Stored) (t : PpToken) (k : Kind) (pos : Pos) → is_string t.kind ≡ false → Closes texts stored between stored' → stored'.pending ≡ None → IsKindFor texts' (meaning t.kind t.spelling) k → texts' ≡ with_meaning between (meaning t.kind t.spelling) → KeepsNumbers between texts' → pos ≡ t.pos → IsPushed stored' stored'' (record { kind = k; pos = pos }) → Passes texts stored texts' stored'' t
+push_passes texts between texts' stored stored' stored'' t k pos s closed none i w keeps at p = λ old rest total q.
     let c = closed old (put t.pos (meaning t.kind t.spelling) rest) total (before_token t rest s) q in
-    pushes between texts' lexer' lexer'' t.pos (meaning t.kind t.spelling) k none (no_text t.kind t.spelling s) i w keeps (subst (λ x. IsPushed lexer' lexer'' (record { kind = k; pos = x })) at p) old rest total c
-
--- ---- whole lists
-
-tokens_at : (list : List PpToken) (i : ℕ) (t : PpToken) → i < length list → t ≡ get_or list i t → ctokens (drop i list) ≡ put t.pos (meaning t.kind t.spelling) (ctokens (drop (i + 1) list))
-tokens_at list i t h e =
-    let f : drop i list ≡ t ∷ drop (i + 1) list = drop-cons list i t h ∙ sym (ap (λ x. x ∷ drop (suc i) list) e) ∙ ap (λ k. t ∷ drop k list) (sym (add-one i)) in
-    ap ctokens f
-
-pub at_token : (old texts : Texts) (lexer : Lexer) (list : List PpToken) (i : ℕ) (t : PpToken) → i < length list → t ≡ get_or list i t → Carries old texts lexer (ctokens (drop i list)) (ctokens list) → Carries old texts lexer (put t.pos (meaning t.kind t.spelling) (ctokens (drop (i + 1) list))) (ctokens list)
-at_token old texts lexer list i t h e q = subst (λ x. Carries old texts lexer x (ctokens list)) (tokens_at list i t h e) q
-
-pub at_end : (old texts : Texts) (lexer : Lexer) (list : List PpToken) (i : ℕ) → length list ≤ i → Carries old texts lexer (ctokens (drop i list)) (ctokens list) → Carries old texts lexer nothing (ctokens list)
-at_end old texts lexer list i h q = subst (λ x. Carries old texts lexer (ctokens x) (ctokens list)) (drop_all i list h) q
+    pushes between texts' stored' stored'' t.pos (meaning t.kind t.spelling) k none (no_text t.kind t.spelling s) i w keeps (subst (λ x. IsPushed stored' stored'' (record { kind = k; pos = x })) at p) old rest total c
 
 -- the fault of a token is that of the list
-pub refused : (old texts : Texts) (lexer : Lexer) (pos : Pos) (r : Result Meaning Code) (rest total : CTokens) (e : Refusal) → Carries old texts lexer (put pos r rest) total → IsRefusal e pos r → (e ≡ Memory) ⊎ (total.fault ≡ Some e)
-refused old texts lexer pos (Ok m) rest total e q h = inl h
-refused old texts lexer pos (Err code) rest total e q h = by h
+pub refused : (old texts : Texts) (stored : Stored) (pos : Pos) (r : Result Meaning Code) (rest total : CTokens) (e : Refusal) → Carries old texts stored (put pos r rest) total → IsRefusal e pos r → (e ≡ Memory) ⊎ (total.fault ≡ Some e)
+refused old texts stored pos (Ok m) rest total e q h = inl h
+refused old texts stored pos (Err code) rest total e q h = by h
   where
     by : (e ≡ Memory) ⊎ (e ≡ At code pos) → (e ≡ Memory) ⊎ (total.fault ≡ Some e)
     by (inl x) = inl x

@@ -1,15 +1,24 @@
 -- What holds of the definitions, in the words of ISO/IEC 9899:2011 6.4.4 and 6.4.5: constants are read by their digits,
--- have values of their types, and the characters of literals are bytes.
-use Rattle.std.specs.Prelude.{◌≡◌, ℕ, ◌<◌, ◌^◌, ◌==◌, ◌&&◌, nat_le, not, Bool, true, false, pos, List, [], ◌∷◌, ◌++◌, length, Ok}
+-- have values of their types, and the characters of literals are bytes. And what the first tokens say of all.
+use Rattle.std.specs.Prelude.{◌≡◌, ℕ, ◌<◌, ◌^◌, ◌==◌, ◌&&◌, nat_le, not, Bool, true, false, pos, List, [], ◌∷◌, ◌++◌, length, Ok, Some, None}
 use Rattle.std.specs.Fmt.{digits}
 use Rattle.std.specs.List.{list_all}
 use Rattle.phases.specs.Characters.{backslash, double_quote}
+use Rattle.phases.specs.Token.{Token as PpToken}
+use Rattle.srcset.specs.NameTable.{Texts, KeepsNumbers}
+use Rattle.srcset.specs.declared.fault.Fault.{Fault}
+use Rattle.srcset.specs.declared.refusal.Refusal.{Refusal}
 use Rattle.ctypes.specs.Types.{is_value_of}
 use Rattle.lexer.specs.declared.token.Kind.{Kind}
 use Rattle.lexer.specs.declared.token.Kind.TheVariants as kind
 use Rattle.lexer.specs.declared.token.Token.{Token}
+use Rattle.lexer.specs.declared.reading.Lexer.{Lexer}
+use Rattle.lexer.specs.CTokens.{ctokens}
 use Rattle.lexer.specs.Digits.{value_of}
 use Rattle.lexer.specs.Literals.{is_plain, first_part, elements, string}
+use Rattle.lexer.specs.Meanings.{CToken}
+use Rattle.lexer.specs.Numbering.{IsTokenFault}
+use Rattle.lexer.specs.Reading.{finished, HasRead, HasTakenUp, refusal_of}
 
 -- the digits of a number stand for that number, in decimal, in octal and, of either case, in hexadecimal
 pub record AreDigitsOf (n : ℕ) : Type 0 where
@@ -45,3 +54,23 @@ is_in_its_type k = true
 
 abbrev pub AreInTheirTypes : List Token → Type 0
 AreInTheirTypes ts = list_all (λ t. is_in_its_type t.kind) ts ≡ true
+
+-- the fault of the first tokens is the fault of all
+abbrev pub FaultStays : Type 0
+FaultStays = (front rest : List PpToken) (r : Refusal) → (ctokens front).fault ≡ Some r → (ctokens (front ++ rest)).fault ≡ Some r
+
+-- what is told of the fault of the first tokens is told of that of all
+abbrev pub ToldStays : Type 0
+ToldStays = (front rest : List PpToken) (fault : Fault) (texts : Texts) → IsTokenFault fault texts (ctokens front).fault → IsTokenFault fault texts (ctokens (front ++ rest)).fault
+
+-- what is finished of the C tokens of the first tokens stands first of all
+abbrev pub FinishedStay : Type 0
+FinishedStay = (front rest : List PpToken) → (more : List CToken) × ((ctokens (front ++ rest)).tokens ≡ finished (ctokens front).tokens ++ more)
+
+-- what a lexer has read it has read still where the table has gained texts
+abbrev pub ReadIsKept : Type 0
+ReadIsKept = (texts later : Texts) (front : List PpToken) (lexer : Lexer) → HasRead texts front lexer → KeepsNumbers texts later → HasRead later front lexer
+
+-- the table under which a lexer has read tokens has their texts
+abbrev pub ReadIsTakenUp : Type 0
+ReadIsTakenUp = (texts : Texts) (front : List PpToken) (lexer : Lexer) → HasRead texts front lexer → refusal_of lexer ≡ None → HasTakenUp texts front texts

@@ -13,4 +13,5 @@ pub mod Numbers
 pub mod Literals
 pub mod CTokens
 pub mod Numbering
+pub mod Reading
 pub mod inside

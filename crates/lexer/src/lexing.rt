@@ -1,5 +1,5 @@
-//! C tokens, one preprocessing token after another.
-ghost use Rattle.std.specs.Prelude.{◌≡◌, ℕ, [], ◌∷◌, ◌++◌, false, None, Some, IfOk, IfErr, OnOk, OnErr};
+//! The C tokens of the preprocessing tokens so far, as they are stored.
+ghost use Rattle.std.specs.Prelude.{◌≡◌, ◌≢◌, ℕ, [], ◌∷◌, ◌++◌, false, None, Some, IfOk, IfErr, OnOk, OnErr};
 ghost use Rattle.srcset.specs.NameTable.{Texts, KeepsNumbers};
 ghost use Rattle.srcset.specs.declared.refusal.Refusal.TheVariants.{Memory};
 ghost use Rattle.lexer.specs.CTokens.{CTokens, nothing, meaning, as_constant};
@@ -8,7 +8,7 @@ ghost use Rattle.lexer.specs.Punctuators.{mark};
 ghost use Rattle.lexer.specs.inside.Decoding.{IsRefusal, IsFaultAt, IsFaultFirst};
 ghost use Rattle.lexer.specs.Literals.{string};
 ghost use Rattle.lexer.specs.Numbering.{AreAll};
-ghost use Rattle.lexer.specs.inside.Carrying.{is_string, IsKindFor, with_meaning, Carries, IsPushed, Passes, PassesText, Closes, Stops, StopsClosing};
+ghost use Rattle.lexer.specs.inside.Carrying.{is_string, IsKindFor, with_meaning, Carries, IsPushed, Passes, PassesText, Closes, Stops, StopsClosing, IsSettled, ends_in_literal};
 
 use crate::literals::{character, string};
 use crate::numbers::{Constant, number};
@@ -19,9 +19,9 @@ use phases::{Kind as PpKind, PpToken};
 use srcset::{Code, Names, Pos, Refusal};
 use std::alloc::Global;
 
-/// The tokens so far.
+/// What a lexer stores.
 #[derive(Drop)]
-pub struct Lexer {
+pub struct Stored {
     // The tokens, without a string literal that may not be whole.
     pub(crate) tokens: Vec<Token>,
     // Where this string literal stands.
@@ -113,19 +113,17 @@ fn kind_of(token: &PpToken, names: &mut Names) -> Result<Kind, Refusal>
     }
 }
 
-impl Lexer {
-    /// No token, and room for as many as are given.
-    pub(crate) fn new(alloc: Global, room: usize) -> Result<Lexer, Refusal>
-        ensures ok { IfOk result (λ lexer. (texts : Texts) (total : CTokens) → Carries texts texts lexer total total) }
-        ensures err { IfErr result (λ e. e ≡ Memory) }
+impl Stored {
+    /// No token.
+    pub(crate) fn new(alloc: Global) -> Stored
+        ensures nothing { result.tokens.items ≡ [] }
+        ensures pending { result.pending ≡ None }
     {
-        let mut tokens = Vec::new(alloc);
-        tokens.reserve_exact(room)?;
-        Ok(Lexer {
-            tokens,
+        Stored {
+            tokens: Vec::new(alloc),
             pending: None,
             bytes: Vec::new(alloc),
-        })
+        }
     }
 
     // Puts a token last.
@@ -158,6 +156,7 @@ impl Lexer {
 
     // Puts the bytes of a string literal behind those of the literals directly before it.
     fn take_string(&mut self, spelling: &[u8], pos: Pos) -> Result<(), Refusal>
+        ensures pending { self.new.pending ≢ None }
         ensures ok { OnOk result ((texts : Texts) → PassesText texts self.old self.new pos (string spelling.now)) }
         ensures err { IfErr result (λ e. IsRefusal e pos (string spelling.now)) }
     {
@@ -172,6 +171,7 @@ impl Lexer {
     fn take_other(&mut self, token: &PpToken, names: &mut Names) -> Result<(), Refusal>
         requires { is_string token.now.kind ≡ false }
         ensures ok { OnOk result (Passes names.old self.old names.new self.new token.now) }
+        ensures ends { OnOk result (ends_in_literal self.new.tokens.items ≡ false) }
         ensures err { IfErr result (λ e. IsRefusal e token.now.pos (meaning token.now.kind token.now.spelling)) }
         ensures stops { OnErr result (Stops names.old self.old names.new token.now) }
         ensures keeps { KeepsNumbers names.old names.new }
@@ -184,6 +184,7 @@ impl Lexer {
     /// Goes on by one token.
     pub(crate) fn take(&mut self, token: &PpToken, names: &mut Names) -> Result<(), Refusal>
         ensures ok { OnOk result (Passes names.old self.old names.new self.new token.now) }
+        ensures settled { OnOk result (IsSettled self.new) }
         ensures err { IfErr result (λ e. IsRefusal e token.now.pos (meaning token.now.kind token.now.spelling)) }
         ensures stops { OnErr result (Stops names.old self.old names.new token.now) }
         ensures keeps { KeepsNumbers names.old names.new }

@@ -6,7 +6,7 @@ ghost use Rattle.lexer.specs.CTokens.{ctokens};
 ghost use Rattle.lexer.specs.Laws.{AreInTheirTypes, DigitsStandForTheirNumber, HasBytes, IsItself, GoesOnBehind};
 ghost use Rattle.lexer.specs.Numbering.{AreAll, TakesUp, IsTokenFault};
 
-use crate::lexing::Lexer;
+use crate::reading::Lexer;
 use crate::token::Token;
 use phases::PpToken;
 use srcset::{Fault, Names, Refusal};
@@ -19,11 +19,12 @@ fn all_tokens(alloc: Global, list: &[PpToken], names: &mut Names) -> Result<Vec<
     ensures stops { OnErr result (TakesUp names.old names.new (ctokens list.now).tokens) }
     ensures keeps { KeepsNumbers names.old names.new }
 {
-    let mut lexer = Lexer::new(alloc, list.len())?;
+    let mut lexer = Lexer::new(alloc);
+    lexer.try_reserve(list.len())?;
     for token in list {
-        lexer.take(token, names)?;
+        lexer.try_take(token, names)?;
     }
-    lexer.end(names)
+    lexer.try_end(names)
 }
 
 /// The C tokens of preprocessing tokens: translation phases 5 to 7 (ISO/IEC 9899:2011 5.1.1.2).

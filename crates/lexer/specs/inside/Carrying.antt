@@ -7,10 +7,12 @@ use Rattle.phases.specs.declared.token.Kind.{Kind as PpKind}
 use Rattle.phases.specs.declared.token.Kind.TheVariants.{StringLiteral}
 use Rattle.phases.specs.Token.{Token as PpToken}
 use Rattle.lexer.specs.declared.token.Kind.{Kind}
+use Rattle.lexer.specs.declared.token.Kind.TheVariants as kind
 use Rattle.lexer.specs.declared.token.Token.{Token}
-use Rattle.lexer.specs.declared.lexing.Lexer.{Lexer}
+use Rattle.lexer.specs.declared.lexing.Stored.{Stored}
 use Rattle.lexer.specs.Meanings.{Meaning, text, CToken}
 use Rattle.lexer.specs.CTokens.{CTokens, before, put, as_text, meaning}
+use Rattle.lexer.specs.Reading.{is_text}
 use Rattle.lexer.specs.Numbering.{IsKindOf, AreTokensOf, texts_in, texts_of, with_texts, TakesUp}
 
 abbrev pub is_string : PpKind → Bool
@@ -32,10 +34,6 @@ abbrev pub pending_before : Option Pos → List ℕ → List CToken → List CTo
 pending_before None bytes cs = cs
 pending_before (Some p) bytes cs = before (record { meaning = text bytes; pos = p }) cs
 
-abbrev pub is_text : Meaning → Bool
-is_text (text bytes) = true
-is_text m = false
-
 -- there is a meaning, and it is no string literal's; or there is a fault
 abbrev pub has_no_text : Result Meaning Code → Bool
 has_no_text (Ok m) = not (is_text m)
@@ -46,38 +44,51 @@ begins_text [] = false
 begins_text (c ∷ cs) = is_text c.meaning
 
 -- the tokens so far, and `rest` of those behind them, are `total`; the table took up their texts
-pub record Carries (old texts : Texts) (lexer : Lexer) (rest total : CTokens) : Type 0 where
+pub record Carries (old texts : Texts) (stored : Stored) (rest total : CTokens) : Type 0 where
   pub done : List CToken
-  pub done_is : AreTokensOf texts done lexer.tokens.items
+  pub done_is : AreTokensOf texts done stored.tokens.items
   pub texts_are : texts ≡ with_texts old (texts_of done)
-  pub tokens_are : total.tokens ≡ done ++ pending_before lexer.pending lexer.bytes.items rest.tokens
+  pub tokens_are : total.tokens ≡ done ++ pending_before stored.pending stored.bytes.items rest.tokens
   pub fault_is : total.fault ≡ rest.fault
 
 -- whatever is carried up to a token is carried past it
-abbrev pub Passes : Texts → Lexer → Texts → Lexer → PpToken → Type 0
-Passes texts lexer texts' lexer' t =
-    (old : Texts) (rest total : CTokens) → Carries old texts lexer (put t.pos (meaning t.kind t.spelling) rest) total → Carries old texts' lexer' rest total
+abbrev pub Passes : Texts → Stored → Texts → Stored → PpToken → Type 0
+Passes texts stored texts' stored' t =
+    (old : Texts) (rest total : CTokens) → Carries old texts stored (put t.pos (meaning t.kind t.spelling) rest) total → Carries old texts' stored' rest total
 
 -- the same of a string literal
-abbrev pub PassesText : Texts → Lexer → Lexer → Pos → Result (List ℕ) Code → Type 0
-PassesText texts lexer lexer' pos r =
-    (old : Texts) (rest total : CTokens) → Carries old texts lexer (put pos (as_text r) rest) total → Carries old texts lexer' rest total
+abbrev pub PassesText : Texts → Stored → Stored → Pos → Result (List ℕ) Code → Type 0
+PassesText texts stored stored' pos r =
+    (old : Texts) (rest total : CTokens) → Carries old texts stored (put pos (as_text r) rest) total → Carries old texts stored' rest total
 
 -- the token comes last
-pub record IsPushed (old new : Lexer) (t : Token) : Type 0 where
+pub record IsPushed (old new : Stored) (t : Token) : Type 0 where
   pub tokens_are : new.tokens.items ≡ old.tokens.items ++ t ∷ []
   pub pending_is : new.pending ≡ old.pending
 
 -- whatever is carried up to what begins with no string literal is carried there still
-abbrev pub Closes : Texts → Lexer → Texts → Lexer → Type 0
-Closes texts lexer texts' lexer' =
-    (old : Texts) (rest total : CTokens) → begins_text rest.tokens ≡ false → Carries old texts lexer rest total → Carries old texts' lexer' rest total
+abbrev pub Closes : Texts → Stored → Texts → Stored → Type 0
+Closes texts stored texts' stored' =
+    (old : Texts) (rest total : CTokens) → begins_text rest.tokens ≡ false → Carries old texts stored rest total → Carries old texts' stored' rest total
 
 -- of whatever is carried up to a token, the table has taken up the first texts
-abbrev pub Stops : Texts → Lexer → Texts → PpToken → Type 0
-Stops texts lexer texts' t =
-    (old : Texts) (rest total : CTokens) → Carries old texts lexer (put t.pos (meaning t.kind t.spelling) rest) total → TakesUp old texts' total.tokens
+abbrev pub Stops : Texts → Stored → Texts → PpToken → Type 0
+Stops texts stored texts' t =
+    (old : Texts) (rest total : CTokens) → Carries old texts stored (put t.pos (meaning t.kind t.spelling) rest) total → TakesUp old texts' total.tokens
 
-abbrev pub StopsClosing : Texts → Lexer → Texts → Type 0
-StopsClosing texts lexer texts' =
-    (old : Texts) (rest total : CTokens) → begins_text rest.tokens ≡ false → Carries old texts lexer rest total → TakesUp old texts' total.tokens
+abbrev pub StopsClosing : Texts → Stored → Texts → Type 0
+StopsClosing texts stored texts' =
+    (old : Texts) (rest total : CTokens) → begins_text rest.tokens ≡ false → Carries old texts stored rest total → TakesUp old texts' total.tokens
+
+abbrev pub is_literal : Kind → Bool
+is_literal (kind.StringLiteral n) = true
+is_literal k = false
+
+abbrev pub ends_in_literal : List Token → Bool
+ends_in_literal [] = false
+ends_in_literal (t ∷ []) = is_literal t.kind
+ends_in_literal (t ∷ u ∷ ts) = ends_in_literal (u ∷ ts)
+
+-- a string literal that stands last is pending
+abbrev pub IsSettled : Stored → Type 0
+IsSettled stored = stored.pending ≡ None → ends_in_literal stored.tokens.items ≡ false

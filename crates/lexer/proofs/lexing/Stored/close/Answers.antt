@@ -1,7 +1,7 @@
 use Rattle.std.proofs.Common.{◌≡◌, [], ◌∷◌, ◌++◌}
 use Rattle.std.proofs.lemmas.Result.{on_ok_weaker}
 use Rattle.lexer.proofs.CarryLemmas.{closes, closes_stops, on_err_any}
-use Rattle.lexer.proofs.lexing.Lexer.close.Goals as goal
+use Rattle.lexer.proofs.lexing.Stored.close.Goals as goal
 
 pub returns-clause-ok : goal.returns-clause-ok
 returns-clause-ok c =

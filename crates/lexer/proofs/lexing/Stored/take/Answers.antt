@@ -1,6 +1,6 @@
 use Rattle.std.proofs.Common.{sym, ◌∙◌}
 use Rattle.lexer.proofs.CarryLemmas.{string_refused}
-use Rattle.lexer.proofs.lexing.Lexer.take.Goals as goal
+use Rattle.lexer.proofs.lexing.Stored.take.Goals as goal
 
 pub returns-then-is_string-clause-err : goal.returns-then-is_string-clause-err
 returns-then-is_string-clause-err c =
