@@ -40,7 +40,7 @@ fn is_text(e: &Expr) -> bool
 
 /// Whether a string literal may stand for it: an array of characters (6.7.9p14).
 fn takes_text(element: IntType, wanted: Wanted<'_>) -> bool
-    ensures { result ≡ typed.takes_text element (wanted_of wanted) }
+    ensures { result ≡ typed.takes_text element (wanted_of wanted.entry) }
 {
     match wanted {
         Wanted::Number => false,
@@ -50,7 +50,7 @@ fn takes_text(element: IntType, wanted: Wanted<'_>) -> bool
 
 /// What a part of a list is.
 fn part_wanted<'s>(wanted: Wanted<'s>) -> Wanted<'s>
-    ensures { wanted_of result ≡ typed.part_wanted (wanted_of wanted) }
+    ensures { wanted_of result ≡ typed.part_wanted (wanted_of wanted.entry) }
 {
     match wanted {
         Wanted::Number => Wanted::Number,
@@ -65,8 +65,8 @@ fn constant_part(
     wanted: Wanted<'_>,
     e: &Expr,
 ) -> Result<(), Refusal>
-    ensures ok { OnOk result (typed.form_unless (typed.takes_text element (wanted_of wanted) && typed.is_text (tree_of e.now)) scope.now (tree_of e.now) ≡ fine tt) }
-    ensures err { IfErr result (λ r. IsOf r (typed.form_unless (typed.takes_text element (wanted_of wanted) && typed.is_text (tree_of e.now)) scope.now (tree_of e.now))) }
+    ensures ok { OnOk result (typed.form_unless (typed.takes_text element (wanted_of wanted.entry) && typed.is_text (tree_of e.now)) scope.now (tree_of e.now) ≡ fine tt) }
+    ensures err { IfErr result (λ r. IsOf r (typed.form_unless (typed.takes_text element (wanted_of wanted.entry) && typed.is_text (tree_of e.now)) scope.now (tree_of e.now))) }
 {
     if takes_text(element, wanted) && is_text(e) {
         return Ok(());
@@ -76,7 +76,7 @@ fn constant_part(
 
 /// Whether a list is one string literal for an array of characters.
 fn is_text_alone(element: IntType, wanted: Wanted<'_>, parts: &[Initialiser]) -> bool
-    ensures { result ≡ (typed.takes_text element (wanted_of wanted) && is_some (typed.text_alone (inits_of (map init_of parts.now)))) }
+    ensures { result ≡ (typed.takes_text element (wanted_of wanted.entry) && is_some (typed.text_alone (inits_of (map init_of parts.now)))) }
 {
     takes_text(element, wanted) && text_alone(parts).is_some()
 }
@@ -89,8 +89,8 @@ fn all_constant(
     wanted: Wanted<'_>,
     parts: &[Initialiser],
 ) -> Result<(), Refusal>
-    ensures ok { OnOk result (typed.all_constant scope.now element (wanted_of wanted) (inits_of (map init_of parts.now)) ≡ fine tt) }
-    ensures err { IfErr result (λ r. IsOf r (typed.all_constant scope.now element (wanted_of wanted) (inits_of (map init_of parts.now)))) }
+    ensures ok { OnOk result (typed.all_constant scope.now element (wanted_of wanted.entry) (inits_of (map init_of parts.now)) ≡ fine tt) }
+    ensures err { IfErr result (λ r. IsOf r (typed.all_constant scope.now element (wanted_of wanted.entry) (inits_of (map init_of parts.now)))) }
 {
     for part in parts {
         match constant_parts(scope, element, wanted, part) {
@@ -112,8 +112,8 @@ pub fn constant_parts(
     wanted: Wanted<'_>,
     init: &Initialiser,
 ) -> Result<(), Refusal>
-    ensures ok { OnOk result (typed.constant_parts scope.now element (wanted_of wanted) (init_of init.now) ≡ fine tt) }
-    ensures err { IfErr result (λ r. IsOf r (typed.constant_parts scope.now element (wanted_of wanted) (init_of init.now))) }
+    ensures ok { OnOk result (typed.constant_parts scope.now element (wanted_of wanted.entry) (init_of init.now) ≡ fine tt) }
+    ensures err { IfErr result (λ r. IsOf r (typed.constant_parts scope.now element (wanted_of wanted.entry) (init_of init.now))) }
 {
     match init {
         Initialiser::One(e) => constant_part(scope, element, wanted, e),
