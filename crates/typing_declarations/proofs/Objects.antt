@@ -51,6 +51,10 @@ of_object s at u i = initialiser s at (typed.element_of u) (typed.wanted_by u) t
 abbrev constant_of : Scope → DeclaredType → Init → Verdict (Unit {0})
 constant_of s u i = constant_parts s (typed.element_of u) (typed.wanted_by u) i
 
+-- of the element and of what is wanted as the code holds them
+pub constant_as : (s : Scope) (u : DeclaredType) (e : IntType) (w : Wanted) (i : Init) → e ≡ typed.element_of u → w ≡ typed.wanted_by u → constant_parts s e w i ≡ constant_parts s (typed.element_of u) (typed.wanted_by u) i
+constant_as s u e w i p q = ap (λ k. constant_parts s k w i) p ∙ ap (λ k. constant_parts s (typed.element_of u) k i) q
+
 abbrev behind_parts : Scope → Pos → DeclaredType → ℕ → Init → Unit {0} → Verdict typed.Effects
 behind_parts s at u n i x = then_check (of_object s at u i) (with_first s u n i)
 
