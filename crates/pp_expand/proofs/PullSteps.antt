@@ -1,7 +1,5 @@
 -- The way to the first token of an expansion.
-use Rattle.std.proofs.Common.{◌≡◌, ℕ, zero, suc, ◌<◌, ◌≤◌, List, [], ◌∷◌, length, ◌⊎◌, Option, Some, None, Result, Ok, Err, refl, sym, ap, ◌∙◌, subst, arith, inl, ⊎_elim}
-use Rattle.srcset.specs.NameTable.{NumbersOnce}
-use Rattle.srcset.specs.declared.code.Code.TheVariants as code
+use Rattle.std.proofs.Common.{◌≡◌, ℕ, zero, suc, ◌<◌, List, ◌∷◌, Some, Result, Ok, Err, refl, sym, ap, ◌∙◌, subst, arith, inl, ⊎_elim}
 use Rattle.srcset.specs.declared.refusal.Pos.{Pos}
 use Rattle.srcset.specs.declared.refusal.Refusal.{Refusal}
 use Rattle.srcset.specs.declared.refusal.Refusal.TheVariants.{Memory, At, Told}
@@ -18,18 +16,14 @@ use Rattle.pp_expand.specs.Expansion.{Known, Answer, Fault, Turn, stands, refuse
 use Rattle.pp_expand.specs.Expands.{ending_of}
 use Rattle.pp_expand.specs.Pulled.{expanding, made_by, Pull, one_less, pulled_at, pulled}
 use Rattle.pp_expand.specs.inside.Meaning.{Refuses}
-use Rattle.pp_expand.specs.inside.Turns.{TurnIs, OnceFor, place_of}
+use Rattle.pp_expand.specs.inside.Turns.{TurnIs, OnceFor}
 use Rattle.pp_expand.specs.inside.Pulls.{StepsAs, PullsAs, FallsTo}
 use Rattle.pp_expand.specs.inside.Waits.{MakesAs}
-use Rattle.pp_expand.proofs.Pulls.{bind_bind, pulled_turn}
+use Rattle.pp_expand.proofs.Pulls.{pulled_turn}
 
 one_then : {X Y : Type 0} (at : Pos) (left : ℕ) (f : ℕ → Result X Fault) (g : X → Result Y Fault) → one_less at left (λ n. f n >>= g) ≡ (one_less at left f >>= g)
 one_then at zero f g = refl
 one_then at (suc left) f g = refl
-
--- no replacement is left
-none_less : {A : Type 0} (at : Pos) (left : ℕ) (f : ℕ → Result A Fault) → left ≡ 0 → one_less at left f ≡ Err (record { code = code.ReplacementLimit; at = at })
-none_less at left f e = ap (λ n. one_less at n f) e
 
 one_fewer : {A : Type 0} (at : Pos) (left n : ℕ) (f : ℕ → Result A Fault) → left ≡ suc n → one_less at left f ≡ f n
 one_fewer at left n f e = ap (λ n. one_less at n f) e

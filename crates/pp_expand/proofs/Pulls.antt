@@ -1,10 +1,10 @@
 -- What is pulled, with no bound on the recursion in sight, and the expansion of a list by it.
-use Rattle.std.proofs.Common.{◌≡◌, ℕ, zero, suc, ◌+◌, ◌-◌, ◌<◌, ◌≤◌, List, [], ◌∷◌, false, Option, Some, None, Result, Ok, Err, refl, sym, ap, ◌∙◌, subst, arith}
+use Rattle.std.proofs.Common.{◌≡◌, ℕ, zero, suc, ◌+◌, ◌-◌, ◌<◌, ◌≤◌, List, [], ◌∷◌, false, None, Result, Ok, Err, refl, sym, ◌∙◌, subst, arith}
 use Rattle.srcset.specs.declared.refusal.Pos.{Pos}
 use Rattle.macros_substitution.specs.Substitution.{◌>>=◌, Hidden, strings_made, sides, substituted}
-use Rattle.pp_expand.specs.Expansion.{Ending, Known, Answer, Next, Fault, Replacement, Turn, stands, refused, predefined, replaced, turn, arguments_expanded, at_place, front_of, replace, predefined_front, taken}
+use Rattle.pp_expand.specs.Expansion.{Ending, Known, Answer, Next, Fault, Replacement, Turn, stands, refused, predefined, replaced, turn, arguments_expanded, at_place, replace, predefined_front, taken}
 use Rattle.pp_expand.specs.Pulled.{expanding, made_by, Pull, one_less, pulled_at, pulled_first, pulled_by, pulled, then_expanded}
-use Rattle.pp_expand.proofs.Law.{Within, Agree, agree_self, bind_same, bind_within, then_within, arguments_within, expanding_within, expanding_none, expanding_first}
+use Rattle.pp_expand.proofs.Law.{Within, agree_self, bind_same, bind_within, then_within, arguments_within, expanding_within, expanding_none, expanding_first}
 
 pub bind_bind : {X Y Z E : Type 0} (r : Result X E) (f : X → Result Y E) (g : Y → Result Z E) → ((r >>= f) >>= g) ≡ (r >>= λ x. f x >>= g)
 bind_bind (Ok x) f g = refl

@@ -11,7 +11,7 @@ use Rattle.macros_substitution.specs.Substitution.{◌>>=◌, Hidden}
 use Rattle.macros_substitution.specs.HideSets.{Sets}
 use Rattle.macros_substitution.specs.declared.piece.HiddenToken.{HiddenToken}
 use Rattle.macros_substitution.specs.Meaning.{hidden_all, AreIn}
-use Rattle.pp_expand.specs.Expansion.{Ending, Known, Answer, Fault, unhidden, shown_answer, expanded}
+use Rattle.pp_expand.specs.Expansion.{Ending, Known, Fault, unhidden, shown_answer, expanded}
 use Rattle.pp_expand.specs.declared.run_end.RunEnd.{RunEnd}
 use Rattle.pp_expand.specs.Expands.{HaveFiles, IsExpansion, ending_of, put_behind}
 use Rattle.pp_expand.specs.Pulled.{expanding, Pull, pulled, then_expanded}

@@ -1,5 +1,5 @@
 //! A replacement, whose arguments are expanded one after the other.
-ghost use Rattle.std.specs.Prelude.{◌≡◌, ℕ, suc, ◌+◌, ◌*◌, ◌<◌, ◌≤◌, length, IfOk, IfErr, OnOk};
+ghost use Rattle.std.specs.Prelude.{◌≡◌, suc, ◌+◌, ◌*◌, ◌<◌, ◌≤◌, length, IfOk, IfErr, OnOk};
 ghost use Rattle.srcset.specs.NameTable.{NumbersOnce};
 ghost use Rattle.srcset.specs.declared.code.Code.TheVariants.{ReplacementLimit};
 ghost use Rattle.srcset.specs.declared.refusal.Refusal.TheVariants.{At};

@@ -1,13 +1,12 @@
 //! The first token of an expansion.
-ghost use Rattle.std.specs.Prelude.{◌≡◌, ℕ, suc, ◌<◌, ◌≤◌, length, IfOk, IfSome, OnOk};
-ghost use Rattle.srcset.specs.NameTable.{NumbersOnce};
+ghost use Rattle.std.specs.Prelude.{◌<◌, length, IfOk, IfSome, OnOk};
 ghost use Rattle.macros.specs.Macro.{Macros};
 ghost use Rattle.macros.specs.Table.{IsTable};
 ghost use Rattle.macros_substitution.specs.HideSets.{Sets, Extends, NamesBelow};
 ghost use Rattle.macros_substitution.specs.Meaning.{hidden_all, AreIn};
 ghost use Rattle.pp_expand.specs.Expands.{ending_of};
 ghost use Rattle.pp_expand.specs.Pulled.{pulled};
-ghost use Rattle.pp_expand.specs.inside.Turns.{StepIn, OnceFor};
+ghost use Rattle.pp_expand.specs.inside.Turns.{StepIn};
 ghost use Rattle.pp_expand.specs.inside.Pulls.{StepsAs, PullsAs, FallsTo};
 
 use crate::engine::{count_one, make};

@@ -1,5 +1,5 @@
 //! The expansion of a list, one token after the other.
-ghost use Rattle.std.specs.Prelude.{◌≡◌, ℕ, ◌+◌, ◌<◌, List, [], ◌++◌, map, length, Option, Some, None, Result, Err, option_map, IfOk, IfErr, IfSome, OnOk};
+ghost use Rattle.std.specs.Prelude.{◌≡◌, ◌+◌, ◌<◌, [], ◌++◌, map, length, Option, Some, None, Result, Err, option_map, IfOk, IfErr, IfSome, OnOk};
 ghost use Rattle.srcset.specs.NameTable.{Texts, KeepsNumbers};
 ghost use Rattle.srcset.specs.declared.refusal.Refusal.{Refusal};
 ghost use Rattle.srcset.specs.declared.refusal.Refusal.TheVariants.{Memory};
@@ -75,6 +75,7 @@ fn take_fresh<'a>(
 }
 
 // The first token, as `pull` gives it, of a list and the tokens behind it that were not looked at yet.
+#[inline(always)]
 fn pull_all<'a>(
     alloc: Global,
     table: &MacroTable<'a>,
@@ -191,8 +192,8 @@ impl<'a> Expander<'a> {
     /// files, and may gain texts between two calls. The replacements that are made until the token stands first, and no others,
     /// are taken from `budget`.
     ///
-    /// Fails as `expand` does, where no token is given before the fault, and with 801 where memory runs out. Then the budget is
-    /// as it was, and each further call fails in the same way.
+    /// Fails as `expand` does, once each token that stands before the fault is given, and with 801 where memory runs out. Then the
+    /// budget is as it was, and each further call fails in the same way.
     pub fn next(
         &mut self,
         alloc: Global,

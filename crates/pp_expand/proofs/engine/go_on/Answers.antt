@@ -1,4 +1,4 @@
-use Rattle.std.proofs.Common.{length, Ok, Some, refl, sym, ap, ◌∙◌, subst, arith}
+use Rattle.std.proofs.Common.{length, Ok, Some, refl, ap, ◌∙◌, subst, arith}
 use Rattle.std.proofs.lemmas.Result.{err_from_is_err_and}
 use Rattle.pp_expand.specs.inside.Turns.{AdvanceIs, AdvancedIn, StepIn}
 use Rattle.pp_expand.specs.inside.Waits.{weights, WaitingsIn}

@@ -1,4 +1,4 @@
-use Rattle.std.proofs.Common.{◌≡◌, ℕ, ◌+◌, length}
+use Rattle.std.proofs.Common.{◌≡◌, ◌+◌, length}
 use Rattle.macros.specs.Macro.{Macros}
 use Rattle.macros.specs.Table.{IsTable}
 use Rattle.macros_substitution.specs.HideSets.{Sets, Extends, NamesBelow}

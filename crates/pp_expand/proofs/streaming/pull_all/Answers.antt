@@ -1,4 +1,4 @@
-use Rattle.std.proofs.Common.{List, length, subst}
+use Rattle.std.proofs.Common.{List, subst}
 use Rattle.macros_substitution.specs.Substitution.{Hidden}
 use Rattle.pp_expand.specs.Expands.{ending_of}
 use Rattle.pp_expand.specs.Pulled.{pulled}

@@ -1,5 +1,4 @@
 use Rattle.std.proofs.Common.{None}
-use Rattle.pp_expand.specs.Streams.{Stream}
 use Rattle.pp_expand.proofs.Whole.{begins_in}
 use Rattle.pp_expand.proofs.Streams.{of_left, of_known}
 use Rattle.pp_expand.proofs.streaming.Expander.of.Goals as goal

@@ -1,5 +1,5 @@
 use Rattle.std.proofs.Common.{sym, subst}
-use Rattle.pp_expand.specs.Streams.{Knows, list_left}
+use Rattle.pp_expand.specs.Streams.{Knows}
 use Rattle.pp_expand.proofs.Sets.{extends_same}
 use Rattle.pp_expand.proofs.Streams.{call_pulls, call_known, call_files, call_fails}
 use Rattle.pp_expand.proofs.streaming.Expander.try_next.Goals as goal
