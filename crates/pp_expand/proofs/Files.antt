@@ -18,6 +18,7 @@ use Rattle.macros.specs.Operators.{is_string_kind, string_text, string_of, strin
 use Rattle.macros_substitution.specs.Substitution.{◌>>=◌, Hidden, hiding, marked, Piece, one, parameter, joint, placemarker, Call, list_at, token_or_parameter, parameter_of, piece_of, operand_of, string_piece, in_front, string_or_piece, strings_made, sides, is_expanded, ones, plain, plain_or_full, argument_put, arguments_put, joined, join, all_joined, joints_done, tokens_of, substituted}
 use Rattle.pp_expand.specs.Expansion.{Ending, of_run, of_directive, of_argument, Known, text_or_empty, text_of, quoted, is_live_predefined, macro_at, Further, Taken, with_token, behind_comma, merged, with_merged, separated, Mark, opens, closes, separates, other, mark_of, taken_with, arguments_in, arguments_for, Replacement, Turn, stands, refused, predefined, replaced, counted_turn, taken_turn, last_turn, function_turn, turn_by, turn_of, turn, Fault, Answer, Next, at_place, argument_by, arguments_expanded, front_of, replace, predefined_by, predefined_front, predefined_one, replace_one, taken, walk, expanded_by, unhidden, shown_answer, expanded}
 use Rattle.pp_expand.specs.Expands.{HaveFiles}
+use Rattle.pp_expand.specs.Pulled.{expanding, made_by, Pull, one_less, pulled_at, pulled_first, pulled_by, pulled}
 
 -- ---- what holds of a result
 
@@ -345,6 +346,18 @@ module _ (c : ℕ) where
         bind_same All HasList (at_place r.call.at (substituted r.call full.0 ps)) _ _ (at_place_res All r.call.at (substituted r.call full.0 ps) (substituted_has r.call full.0 ps t.1 t.2 q has))
         (λ new k. follows (front_of r new) e full.1 (front_all r new t.3 k))))
 
+    makes : (r : Replacement) (left : ℕ) → Turns (replaced r) → Alike HasList (made_by f r left) (made_by g r left)
+    unfolding made_by
+    makes r left t =
+        bind_same Pieces HasList (at_place r.call.at (strings_made r.call r.call.macro.body)) _ _ (at_place_res Pieces r.call.at (strings_made r.call r.call.macro.body) (strings_have r.call t.1 r.call.macro.body))
+        (λ made p.
+        let ps = sides false made in
+        let has : Pieces ps = sides_have false made p in
+        bind HasLists HasList (arguments_expanded f ps 0 r.call.arguments left) (arguments_expanded g ps 0 r.call.arguments left) _ _ (all_expanded ps 0 r.call.arguments left t.2)
+        (λ full q.
+        bind_same All HasList (at_place r.call.at (substituted r.call full.0 ps)) _ _ (at_place_res All r.call.at (substituted r.call full.0 ps) (substituted_has r.call full.0 ps t.1 t.2 q has))
+        (λ new k. (refl, front_all r new t.3 k))))
+
     replaces_one : (r : Replacement) (e : Ending) (left : ℕ) → Turns (replaced r) → Alike HasList (replace_one f r e left) (replace_one g r e left)
     replaces_one r e zero t = (refl, tt)
     replaces_one r e (suc left) t = replaces r e left t
@@ -404,6 +417,42 @@ module _ (m : Macros) (t u : Texts) (keeps : KeepsNumbers t u) where
   expands zero xs e left a = walks (λ _ _ _. Ok ([], 0)) (λ _ _ _. Ok ([], 0)) (λ ys d k b. (refl, tt)) xs e left a
   expands (suc n) xs e left a = walks (expanded_by n before) (expanded_by n later) (expands n) xs e left a
 
+  -- ---- what is pulled
+
+  abbrev HasPull : Option Hidden × List Hidden × ℕ → Type 0
+  HasPull a = HasOne a.0 × All c a.1
+    where
+      HasOne : Option Hidden → Type 0
+      HasOne None = Unit {0}
+      HasOne (Some x) = Has c x
+
+  one_less_alike : {A : Type 0} (P : A → Type 0) (at : Pos) (left : ℕ) (f g : ℕ → Result A Fault) → ((n : ℕ) → Alike P (f n) (g n)) → Alike P (one_less at left f) (one_less at left g)
+  one_less_alike P at zero f g each = (refl, tt)
+  one_less_alike P at (suc left) f g each = each left
+
+  abbrev Pulls : (f g : List Hidden → ℕ → Pull) → Type 0
+  Pulls f g = (xs : List Hidden) (left : ℕ) → All c xs → Alike HasPull (f xs left) (g xs left)
+
+  pulls_at : (f g : List Hidden → ℕ → Pull) → Pulls f g → (turned : Turn) (x : Hidden) (rest : List Hidden) (left : ℕ) → Turns c turned → Has c x → All c rest → Alike HasPull (pulled_at before f turned x rest left) (pulled_at later g turned x rest left)
+  pulls_at f g pulls stands x rest left d h a = (refl, (h, a))
+  pulls_at f g pulls (refused k) x rest left d h a = (refl, tt)
+  pulls_at f g pulls predefined x rest left d h a =
+      one_less_alike HasPull x.token.pos left _ _ (λ n. let both = pulls (predefined_front before x ∷ rest) n (h, a) in (both.0 ∙ ap (λ y. g (y ∷ rest) n) (front_kept x h), both.1))
+  pulls_at f g pulls (replaced r) x rest left d h a =
+      one_less_alike HasPull r.call.at left _ _ (λ n. bind (HasList c) HasPull (made_by (expanding before) r n) (made_by (expanding later) r n) _ _ (makes c (expanding before) (expanding later) (λ xs e k b. expands k xs e k b) r n d) (λ b p. pulls b.0 b.1 p))
+
+  pulls_first : (f g : List Hidden → ℕ → Pull) → Pulls f g → (xs : List Hidden) (e : Ending) (left : ℕ) → All c xs → Alike HasPull (pulled_first before f xs e left) (pulled_first later g xs e left)
+  unfolding pulled_first turn
+  pulls_first f g pulls [] e left a = (refl, (tt, tt))
+  pulls_first f g pulls (x ∷ rest) e left a =
+      pulls_at f g pulls (turn before x rest e) x rest left (turns c before x rest e a.0 a.1) a.0 a.1
+
+  pulls_by : (n : ℕ) (xs : List Hidden) (e : Ending) (left : ℕ) → All c xs → Alike HasPull (pulled_by n before xs e left) (pulled_by n later xs e left)
+  unfolding pulled_by
+  pulls_by zero xs e left a = pulls_first (λ _ _. Ok (None, [], 0)) (λ _ _. Ok (None, [], 0)) (λ ys k b. (refl, (tt, tt))) xs e left a
+  pulls_by (suc n) xs e left a =
+      pulls_first (λ ys k. pulled_by n before ys e k) (λ ys k. pulled_by n later ys e k) (λ ys k b. pulls_by n ys e k b) xs e left a
+
 -- ---- lists of tokens
 
 all_unhidden : (texts : Texts) (xs : List Token) → HaveFiles texts xs → All (length texts) (unhidden xs)
@@ -438,3 +487,25 @@ shown_have texts (Err k) ys n p e = cc
 pub files_stay : (m : Macros) (t : Texts) (xs : List Token) (e : Ending) (left : ℕ) (ys : List Token) (n : ℕ) → HaveFiles t xs → expanded (record { macros = m; texts = t }) xs e left ≡ Ok (ys, n) → HaveFiles t ys
 unfolding expanded
 files_stay m t xs e left ys n h is = shown_have t (expanded_by left (record { macros = m; texts = t }) (unhidden xs) e left) ys n (expands m t t (λ i text q. q) left (unhidden xs) e left (all_unhidden t xs h)).1 is
+
+-- ---- lists of tokens with hide sets
+
+abbrev HaveHidden : Texts → List Hidden → Type 0
+HaveHidden texts xs = HaveFiles texts (map (λ x. x.token) xs)
+
+all_hidden : (texts : Texts) (xs : List Hidden) → HaveHidden texts xs → All (length texts) xs
+all_hidden texts [] h = tt
+all_hidden texts (x ∷ xs) h = (h 0 x.token refl, all_hidden texts xs (λ i y e. h (suc i) y e))
+
+-- texts that come later change nothing
+pub expanding_grows : (m : Macros) (t u : Texts) (xs : List Hidden) (e : Ending) (left : ℕ) → KeepsNumbers t u → HaveHidden t xs → expanding (record { macros = m; texts = t }) xs e left ≡ expanding (record { macros = m; texts = u }) xs e left
+expanding_grows m t u xs e left keeps h = (expands m t u keeps left xs e left (all_hidden t xs h)).0
+
+pub pulled_grows : (m : Macros) (t u : Texts) (xs : List Hidden) (e : Ending) (left : ℕ) → KeepsNumbers t u → HaveHidden t xs → pulled (record { macros = m; texts = t }) xs e left ≡ pulled (record { macros = m; texts = u }) xs e left
+pulled_grows m t u xs e left keeps h = (pulls_by m t u keeps left xs e left (all_hidden t xs h)).0
+
+-- what is pulled has files of the list, and so has the list that is left
+pub pulled_files : (m : Macros) (t : Texts) (xs : List Hidden) (e : Ending) (left : ℕ) (x : Hidden) (rest : List Hidden) (after : ℕ) → HaveHidden t xs → pulled (record { macros = m; texts = t }) xs e left ≡ Ok (Some x, rest, after) → (x.token.pos.file < length t) × HaveHidden t rest
+pulled_files m t xs e left x rest after h is =
+    let both = subst (λ p. Res (HasPull m t t (λ i text q. q)) p) is (pulls_by m t t (λ i text q. q) left xs e left (all_hidden t xs h)).1 in
+    (both.0, have_shown t rest both.1)

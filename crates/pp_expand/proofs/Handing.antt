@@ -1,9 +1,8 @@
--- What is given of the outermost list, and what is left of it.
-use Rattle.std.specs.Prelude.{Vec, OnOk, take}
-use Rattle.std.specs.declared.alloc.Global.{Global}
-use Rattle.std.proofs.Common.{◌≡◌, ℕ, zero, suc, ◌-◌, ◌<◌, ◌≤◌, List, [], ◌∷◌, ◌++◌, map, length, Bool, true, Result, Ok, Err, refl, sym, ap, subst, ◌==◌, arith, append_assoc, append-nil, length-append, ⊎_elim, ◌∙◌}
-use Rattle.std.proofs.lemmas.Bool.{eqb-true, cases_lt}
-use Rattle.std.proofs.lemmas.List.{map-append, take_all, length-take-le}
+-- Tokens that are put behind others, so many at the most.
+use Rattle.std.specs.Prelude.{take}
+use Rattle.std.proofs.Common.{◌≡◌, ℕ, zero, suc, ◌-◌, ◌<◌, ◌≤◌, List, [], ◌∷◌, ◌++◌, map, length, Result, Ok, Err, refl, sym, ap, subst, arith, append_assoc, append-nil, length-append, ⊎_elim, ◌∙◌}
+use Rattle.std.proofs.lemmas.Bool.{cases_lt}
+use Rattle.std.proofs.lemmas.List.{take_all, length-take-le}
 use Rattle.srcset.specs.NameTable.{Texts}
 use Rattle.srcset.specs.declared.refusal.Refusal.{Refusal}
 use Rattle.srcset.specs.declared.refusal.Refusal.TheVariants.{Memory, At, Told}
@@ -11,12 +10,10 @@ use Rattle.phases.specs.Token.{Token}
 use Rattle.macros_substitution.specs.HideSets.{Sets}
 use Rattle.macros_substitution.specs.declared.piece.HiddenToken.{HiddenToken}
 use Rattle.macros_substitution.specs.Meaning.{hidden_all}
-use Rattle.pp_expand.specs.declared.level.Level.{Level}
-use Rattle.pp_expand.specs.declared.waiting.Waiting.{Waiting}
-use Rattle.pp_expand.specs.Expansion.{Known, Answer, Fault}
-use Rattle.pp_expand.specs.Expands.{ending_of, put_behind}
-use Rattle.pp_expand.specs.inside.Meaning.{expanding, level_meaning, with_list, behind, shown_behind, Refuses}
-use Rattle.pp_expand.specs.inside.Waits.{resume}
+use Rattle.macros_substitution.specs.Substitution.{Hidden}
+use Rattle.pp_expand.specs.Expansion.{Answer, Fault, behind as behind_one}
+use Rattle.pp_expand.specs.Expands.{put_behind}
+use Rattle.pp_expand.specs.inside.Meaning.{behind, shown_behind, Refuses}
 
 pub tokens_all : (texts : Texts) (sets : Sets) (xs : List HiddenToken) → map (λ x. x.token) (hidden_all texts sets xs) ≡ map (λ x. x.token) xs
 tokens_all texts sets [] = refl
@@ -70,15 +67,11 @@ all_kept most before list h =
     (λ (p : length list ≤ most - length before). ap (λ l. before ++ l) (take_all (most - length before) list p))
     (cases_lt (most - length before) (length list))
 
--- what stands of a list may be given before the rest is expanded
-pub given_first : (most : ℕ) (texts : Texts) (sets : Sets) (given : List Token) (out : List HiddenToken) (a : Answer)
-    → shown_behind most (put_behind most given (map (λ x. x.token) out)) (with_list [] a) ≡ shown_behind most given (with_list (hidden_all texts sets out) a)
-given_first most texts sets given out (Ok a) =
-    ap (λ (l : List Token). Ok (l, a.1))
-    (put_again most given (map (λ x. x.token) out) (map (λ x. x.token) a.0)
-    ∙ ap (λ l. put_behind most given (l ++ map (λ x. x.token) a.0)) (sym (tokens_all texts sets out))
-    ∙ ap (put_behind most given) (sym (map-append (λ x. x.token) (hidden_all texts sets out) a.0)))
-given_first most texts sets given out (Err e) = refl
+-- a token that stands may be given before the rest is expanded
+pub given_first : (most : ℕ) (given : List Token) (x : Hidden) (a : Answer) → shown_behind most given (behind_one x a) ≡ shown_behind most (put_behind most given (x.token ∷ [])) a
+given_first most given x (Ok a) =
+    ap (λ (l : List Token). Ok (l, a.1)) (sym (put_again most given (x.token ∷ []) (map (λ x. x.token) a.0)))
+given_first most given x (Err e) = refl
 
 -- the list that was expanded, behind what was given before
 pub record Behind (most : ℕ) (before all : List Token) (left : ℕ) (r : Result (List Token × ℕ) Fault) : Type 0 where
@@ -113,28 +106,3 @@ behind_err most before Memory r h = tt
 behind_err most before (At c pos) (Ok a) h = absurd (subst IsGiven h tt)
 behind_err most before (At c pos) (Err e) h = h
 behind_err most before (Told c pos text) r h = h
-
-pub no_item : {X : Type 0} (xs : List X) (b : Bool) → b ≡ (length xs == 0) → b ≡ true → xs ≡ []
-no_item [] b e f = refl
-no_item (x ∷ xs) b e f = let h : length (x ∷ xs) ≡ 0 = eqb-true (length (x ∷ xs)) 0 (sym e ∙ f) in absurd (omega arith)
-
--- where no replacement waits, what stands of the list is given
-pub handed : {A : Type 0} → (most : ℕ) (result : Result A Refusal) (waiting : List Waiting) (level : Level) (empty out : Vec HiddenToken Global) (given all : List Token)
-    → waiting ≡ [] → out ≡ level.out → empty.items ≡ [] → OnOk result (all ≡ put_behind most given (map (λ x. x.token) out.items))
-    → OnOk result ((known : Known) (sets : Sets) (left : ℕ) → shown_behind most all (resume known sets waiting (level_meaning known sets (record { rest = level.rest; out = empty; end = level.end }) left)) ≡ shown_behind most given (resume known sets waiting (level_meaning known sets level left)))
-handed most (Ok u) waiting level empty out given all none was nothing put = λ known sets left.
-    let rest = expanding known (hidden_all known.texts sets level.rest.items) (ending_of level.end) left in
-    ap (λ ws. shown_behind most all (resume known sets ws (with_list (hidden_all known.texts sets empty.items) rest))) none
-    ∙ ap (λ os. shown_behind most all (with_list (hidden_all known.texts sets os) rest)) nothing
-    ∙ ap (λ l. shown_behind most l (with_list [] rest)) put
-    ∙ given_first most known.texts sets given out.items rest
-    ∙ ap (λ (o : Vec HiddenToken Global). shown_behind most given (with_list (hidden_all known.texts sets o.items) rest)) was
-    ∙ ap (λ ws. shown_behind most given (resume known sets ws (with_list (hidden_all known.texts sets level.out.items) rest))) (sym none)
-handed most (Err f) waiting level empty out given all none was nothing put = tt
-
--- the same of the list of those that wait, by another name
-pub handed_of : (most : ℕ) (ws waiting : List Waiting) (level next : Level) (given all : List Token) → ws ≡ waiting
-    → ((known : Known) (sets : Sets) (left : ℕ) → shown_behind most all (resume known sets ws (level_meaning known sets next left)) ≡ shown_behind most given (resume known sets ws (level_meaning known sets level left)))
-    → (known : Known) (sets : Sets) (left : ℕ) → shown_behind most all (resume known sets waiting (level_meaning known sets next left)) ≡ shown_behind most given (resume known sets waiting (level_meaning known sets level left))
-handed_of most ws waiting level next given all e same known sets left =
-    subst (λ l. shown_behind most all (resume known sets l (level_meaning known sets next left)) ≡ shown_behind most given (resume known sets l (level_meaning known sets level left))) e (same known sets left)

@@ -2,7 +2,7 @@
 use Rattle.std.proofs.Common.{◌≡◌, ℕ, zero, suc, ◌+◌, ◌-◌, ◌<◌, ◌≤◌, List, [], ◌∷◌, Bool, true, false, Result, Ok, Err, refl, sym, ap, ◌∙◌, subst, arith}
 use Rattle.macros_substitution.specs.Substitution.{◌>>=◌, Hidden, Piece, is_expanded, strings_made, sides, substituted}
 use Rattle.pp_expand.specs.Expansion.{Ending, of_argument, Known, Answer, Next, Fault, Replacement, Turn, stands, refused, predefined, replaced, turn, argument_by, arguments_expanded, at_place, front_of, replace, predefined_front, behind, taken, walk, expanded_by}
-use Rattle.pp_expand.specs.inside.Meaning.{expanding}
+use Rattle.pp_expand.specs.Pulled.{expanding}
 
 -- no more replacements are left than there were
 abbrev pub Within : {X : Type 0} → ℕ → Result (X × ℕ) Fault → Type 0
@@ -16,11 +16,11 @@ Agree n f g = (xs : List Hidden) (e : Ending) (m : ℕ) → m < n → f xs e m �
 abbrev pub Falls : ℕ → Next → Type 0
 Falls n f = (xs : List Hidden) (e : Ending) (m : ℕ) → m < n → Within m (f xs e m)
 
-bind_same : {X Y : Type 0} (m : ℕ) (r : Result (X × ℕ) Fault) (f g : X × ℕ → Result Y Fault) → Within m r → ((a : X × ℕ) → a.1 ≤ m → f a ≡ g a) → (r >>= f) ≡ (r >>= g)
+pub bind_same : {X Y : Type 0} (m : ℕ) (r : Result (X × ℕ) Fault) (f g : X × ℕ → Result Y Fault) → Within m r → ((a : X × ℕ) → a.1 ≤ m → f a ≡ g a) → (r >>= f) ≡ (r >>= g)
 bind_same m (Ok a) f g w h = h a w
 bind_same m (Err e) f g w h = refl
 
-bind_within : {X Y : Type 0} (m n : ℕ) (r : Result (X × ℕ) Fault) (f : X × ℕ → Result (Y × ℕ) Fault) → Within m r → ((a : X × ℕ) → a.1 ≤ m → Within n (f a)) → Within n (r >>= f)
+pub bind_within : {X Y : Type 0} (m n : ℕ) (r : Result (X × ℕ) Fault) (f : X × ℕ → Result (Y × ℕ) Fault) → Within m r → ((a : X × ℕ) → a.1 ≤ m → Within n (f a)) → Within n (r >>= f)
 bind_within m n (Ok a) f w h = h a w
 bind_within m n (Err e) f w h = tt
 
@@ -28,7 +28,7 @@ then_same : {X Y : Type 0} (r : Result X Fault) (f g : X → Result Y Fault) →
 then_same (Ok a) f g h = h a
 then_same (Err e) f g h = refl
 
-then_within : {X Y : Type 0} (n : ℕ) (r : Result X Fault) (f : X → Result (Y × ℕ) Fault) → ((a : X) → Within n (f a)) → Within n (r >>= f)
+pub then_within : {X Y : Type 0} (n : ℕ) (r : Result X Fault) (f : X → Result (Y × ℕ) Fault) → ((a : X) → Within n (f a)) → Within n (r >>= f)
 then_within n (Ok a) f h = h a
 then_within n (Err e) f h = tt
 
@@ -53,7 +53,7 @@ module _ (n : ℕ) (f g : Next) (ag : Agree n f g) (fall : Falls n f) where
       let cont : Next → List Hidden × ℕ → Result (List (List Hidden) × ℕ) Fault = λ k r. arguments_expanded k ps (suc i) args r.1 >>= λ s. Ok (r.0 ∷ s.0, s.1) in
       bind_same left (argument_by f w a left) (cont f) (cont g) (argument_within w a left h) (λ r q. ap (λ z. z >>= λ s. Ok (r.0 ∷ s.0, s.1)) (arguments_same ps (suc i) args r.1 (omega (arith, q, h)))) ∙ ap (λ z. z >>= cont g) (argument_same w a left h)
 
-  arguments_within : (ps : List Piece) (i : ℕ) (args : List (List Hidden)) (left : ℕ) → left < n → Within left (arguments_expanded f ps i args left)
+  pub arguments_within : (ps : List Piece) (i : ℕ) (args : List (List Hidden)) (left : ℕ) → left < n → Within left (arguments_expanded f ps i args left)
   unfolding arguments_expanded
   arguments_within ps i [] left h = omega arith
   arguments_within ps i (a ∷ args) left h =
@@ -101,7 +101,7 @@ module _ (n : ℕ) (f g : Next) (ag : Agree n f g) (fall : Falls n f) where
     walk_within (x ∷ rest) end left h =
         taken_within (turn known x rest end) x rest end left (λ _. walk known f rest end left) h (walk_within rest end left h)
 
-agree_self : (n : ℕ) (f : Next) → Agree n f f
+pub agree_self : (n : ℕ) (f : Next) → Agree n f f
 agree_self n f l e m h = refl
 
 by_falls : (k : ℕ) (known : Known) → Falls (suc k) (expanded_by k known)

@@ -1,4 +1,5 @@
 pub mod Law
+pub mod Pulls
 pub mod Sets
 pub mod Steps
 pub mod Predefined
@@ -11,3 +12,5 @@ pub mod Handing
 pub mod Runs
 pub mod Files
 pub mod Whole
+pub mod PullSteps
+pub mod Streams

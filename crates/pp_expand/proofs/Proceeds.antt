@@ -20,13 +20,14 @@ use Rattle.pp_expand.specs.declared.level.Level.{Level}
 use Rattle.pp_expand.specs.declared.task.Task.{Task}
 use Rattle.pp_expand.specs.declared.waiting.Waiting.{Waiting}
 use Rattle.pp_expand.specs.declared.run_end.RunEnd.TheVariants as run_end
-use Rattle.pp_expand.specs.Expansion.{Known, Answer, Replacement, of_argument, at_place, replace}
+use Rattle.pp_expand.specs.Expansion.{Known, Answer, Replacement, of_argument, at_place}
 use Rattle.pp_expand.specs.Expands.{ending_of}
-use Rattle.pp_expand.specs.inside.Meaning.{expanding, with_list, level_meaning, LevelIn}
+use Rattle.pp_expand.specs.Pulled.{expanding}
+use Rattle.pp_expand.specs.inside.Meaning.{LevelIn}
 use Rattle.pp_expand.specs.inside.Turns.{IsTask, TaskIn}
-use Rattle.pp_expand.specs.inside.Waits.{Job, call_of, front_by, going, job_of, waiting_going, resume_one, resume, weight, weights, TakesArgument, WaitingIn, WaitingsIn, ProceedIs, BeginIs, JoinIs}
+use Rattle.pp_expand.specs.inside.Waits.{Job, call_of, front_by, Onward, to_end, going, job_of, waiting_going, resume_one, resume, onward_in, level_onward, level_behind, waiting_behind, made_in, weight, weights, TakesArgument, WaitingIn, WaitingsIn, ProceedIs, BeginIs, JoinIs}
 use Rattle.pp_expand.proofs.Sets.{lists_in_append, pieces_in_more}
-use Rattle.pp_expand.proofs.Steps.{with_list_none, take_argument, skip_argument, let_go, arguments_done, finish_argument, resume_push, replace_going, replace_refused}
+use Rattle.pp_expand.proofs.Steps.{with_list_none, take_argument, skip_argument, let_go, arguments_done, finish_argument, onward_pushed, resume_push, made_going, made_refused}
 
 lists_length : (texts : Texts) (sets : Sets) (lists : List (Vec HiddenToken Global)) → length (hidden_lists texts sets lists) ≡ length lists
 lists_length texts sets lists = length-map lists (λ (v : Vec HiddenToken Global). hidden_all texts sets v.items)
@@ -38,17 +39,21 @@ module _ (known : Known) (later : Sets) (w : Waiting) (over : length w.arguments
   made_of =
       substituted (call_of w.at (hidden_lists known.texts later w.arguments.items)) (hidden_lists known.texts later w.full.items) (pieces_as known.texts later w.pieces.items)
 
-  done_going : (left : ℕ) → waiting_going known later w left ≡ with_list (hidden_all known.texts later w.level.out.items) (at_place w.at made_of >>= λ new. expanding known (front_by (job_of known.texts later w) new) (ending_of w.level.end) left)
-  done_going left =
-      arguments_done known (job_of known.texts later w) (hidden_lists known.texts later w.full.items) left (omega (arith, over, lists_length known.texts later w.arguments.items, lists_length known.texts later w.full.items))
+  abbrev goes_to : Onward → ℕ → Result (List Hidden) Code → Answer
+  goes_to onward left made =
+      at_place w.at made >>= λ new. onward (hidden_all known.texts later w.level.out.items) (front_by (job_of known.texts later w) new) (ending_of w.level.end) left
 
-  pub finish_ok : (made : List Hidden) (level : Level) → substituted (call_of w.at (hidden_lists known.texts later w.arguments.items)) (hidden_lists known.texts later w.full.items) (pieces_as known.texts later w.pieces.items) ≡ Ok made → hidden_all known.texts later level.rest.items ≡ front_by (job_of known.texts later w) made → level.out ≡ w.level.out → level.end ≡ w.level.end → (left : ℕ) → level_meaning known later level left ≡ waiting_going known later w left
-  finish_ok made level m rest out end left =
-      ap (λ (o : Vec HiddenToken Global). with_list (hidden_all known.texts later o.items) (expanding known (hidden_all known.texts later level.rest.items) (ending_of level.end) left)) out ∙ ap (λ e. with_list (hidden_all known.texts later w.level.out.items) (expanding known (hidden_all known.texts later level.rest.items) (ending_of e) left)) end ∙ ap (λ l. with_list (hidden_all known.texts later w.level.out.items) (expanding known l (ending_of w.level.end) left)) rest ∙ ap (λ r. with_list (hidden_all known.texts later w.level.out.items) (at_place w.at r >>= λ new. expanding known (front_by (job_of known.texts later w) new) (ending_of w.level.end) left)) (sym m) ∙ sym (done_going left)
+  done_going : (onward : Onward) (left : ℕ) → waiting_going known onward later w left ≡ goes_to onward left made_of
+  done_going onward left =
+      arguments_done known onward (job_of known.texts later w) (hidden_lists known.texts later w.full.items) left (omega (arith, over, lists_length known.texts later w.arguments.items, lists_length known.texts later w.full.items))
+
+  pub finish_ok : (made : List Hidden) (level : Level) → substituted (call_of w.at (hidden_lists known.texts later w.arguments.items)) (hidden_lists known.texts later w.full.items) (pieces_as known.texts later w.pieces.items) ≡ Ok made → hidden_all known.texts later level.rest.items ≡ front_by (job_of known.texts later w) made → level.out ≡ w.level.out → level.end ≡ w.level.end → (onward : Onward) (left : ℕ) → level_onward known.texts onward later level left ≡ waiting_going known onward later w left
+  finish_ok made level m rest out end onward left =
+      ap (λ (o : Vec HiddenToken Global). onward (hidden_all known.texts later o.items) (hidden_all known.texts later level.rest.items) (ending_of level.end) left) out ∙ ap (λ e. onward (hidden_all known.texts later w.level.out.items) (hidden_all known.texts later level.rest.items) (ending_of e) left) end ∙ ap (λ l. onward (hidden_all known.texts later w.level.out.items) l (ending_of w.level.end) left) rest ∙ ap (goes_to onward left) (sym m) ∙ sym (done_going onward left)
 
   pub finish_fails : (f : Refusal) (old new : List Waiting) → GivesTokens known.texts later w.at (Err f) (substituted (call_of w.at (hidden_lists known.texts later w.arguments.items)) (hidden_lists known.texts later w.full.items) (pieces_as known.texts later w.pieces.items)) → ProceedIs known later old w (Err f) new
   finish_fails Memory old new h = tt
-  finish_fails (At c pos) old new h = λ left. done_going left ∙ ap (λ r. with_list (hidden_all known.texts later w.level.out.items) (at_place w.at r >>= λ new. expanding known (front_by (job_of known.texts later w) new) (ending_of w.level.end) left)) h.1 ∙ ap (λ (p : Pos). let r : Answer = Err (record { code = c; at = p }) in r) (sym h.0)
+  finish_fails (At c pos) old new h = λ onward left. done_going onward left ∙ ap (goes_to onward left) h.1 ∙ ap (λ (p : Pos). let r : Answer = Err (record { code = c; at = p }) in r) (sym h.0)
   finish_fails (Told c pos text) old new h = h
 
 -- ---- the argument in hand
@@ -94,7 +99,7 @@ let_argument old i true e v empty h g list l n = let z : ⊥ = cc in absurd z
 let_argument old i false e v empty h g list l n = (v, at_index old i v h g, l, (empty, (n, refl)))
 
 -- a replacement whose next argument is to be expanded
-module _ (known : Known) (later : Sets) (w0 w w2 : Waiting) (used : Use) (list : List HiddenToken) (same : (left : ℕ) → waiting_going known later w0 left ≡ waiting_going known later w left) (used_is : used ≡ use_of (length w.full.items) (pieces_as known.texts later w.pieces.items)) (takes : TakesArgument w.arguments.items (length w.full.items) used.beside list w2.arguments.items) (like : w2 ≡ record w { arguments = w2.arguments; held = w2.held }) where
+module _ (known : Known) (later : Sets) (w0 w w2 : Waiting) (used : Use) (list : List HiddenToken) (same : (onward : Onward) (left : ℕ) → waiting_going known onward later w0 left ≡ waiting_going known onward later w left) (used_is : used ≡ use_of (length w.full.items) (pieces_as known.texts later w.pieces.items)) (takes : TakesArgument w.arguments.items (length w.full.items) used.beside list w2.arguments.items) (like : w2 ≡ record w { arguments = w2.arguments; held = w2.held }) where
   abbrev i : ℕ
   i = length w.full.items
 
@@ -112,22 +117,23 @@ module _ (known : Known) (later : Sets) (w0 w w2 : Waiting) (used : Use) (list :
       let not_beside : is_beside i (pieces_as texts later w.pieces.items) ≡ false = sym (ap (λ (u : Use). u.beside) used_is) ∙ b in
       (ap (λ vs. drop (suc i) (hidden_lists texts later vs)) e ∙ behind_same texts later w.arguments.items i t.3.0, λ n h. others_same texts later w.arguments.items i n t.3.0 (λ q. let z : true ≡ false = sym h ∙ ap (λ n. is_beside n (pieces_as texts later w.pieces.items)) q ∙ not_beside in let y : ⊥ = cc in y) ∙ ap (λ vs. list_at n (hidden_lists texts later vs)) (sym e))
 
-  pub takes_is : (old new : List Waiting) (level : Level) → used.expanded ≡ true → level.rest.items ≡ list → level.out.items ≡ [] → level.end ≡ run_end.Argument → new ≡ old ++ w2 ∷ [] → (left : ℕ) → resume known later new (level_meaning known later level left) ≡ resume known later old (waiting_going known later w0 left)
-  takes_is old new level expands rest out end new_is left =
+  pub takes_is : (old new : List Waiting) (level : Level) → used.expanded ≡ true → level.rest.items ≡ list → level.out.items ≡ [] → level.end ≡ run_end.Argument → new ≡ old ++ w2 ∷ [] → (onward : Onward) (left : ℕ) → level_behind known onward later new level left ≡ waiting_behind known onward later old w0 left
+  takes_is old new level expands rest out end new_is onward left =
       let j = job_of texts later w in
       let full = hidden_lists texts later w.full.items in
       let argument = hidden_all texts later takes.0.items in
       let k = kept used.beside refl takes in
       let answer = expanding known argument of_argument left in
+      let o = onward_in known onward old in
       let wanted : is_expanded (length full) j.pieces ≡ true = ap (λ n. is_expanded n j.pieces) full_length ∙ sym (ap (λ (u : Use). u.expanded) used_is) ∙ expands in
       let first : drop (length full) j.arguments ≡ argument ∷ drop (suc (length full)) j.arguments = subst (λ n. drop n j.arguments ≡ argument ∷ drop (suc n) j.arguments) (sym full_length) (first_of_rest texts later w.arguments.items i takes.0 takes.1) in
       let behind : drop (suc (length full)) (hidden_lists texts later w2.arguments.items) ≡ drop (suc (length full)) j.arguments = subst (λ n. drop (suc n) (hidden_lists texts later w2.arguments.items) ≡ drop (suc n) j.arguments) (sym full_length) k.0 in
-      let meaning : level_meaning known later level left ≡ answer = ap (λ o. with_list (hidden_all texts later o) (expanding known (hidden_all texts later level.rest.items) (ending_of level.end) left)) out ∙ with_list_none (expanding known (hidden_all texts later level.rest.items) (ending_of level.end) left) ∙ ap (λ e. expanding known (hidden_all texts later level.rest.items) (ending_of e) left) end ∙ ap (λ l. expanding known (hidden_all texts later l) of_argument left) (rest ∙ takes.2) in
-      ap (λ ws. resume known later ws (level_meaning known later level left)) new_is ∙ resume_push known later old w2 (level_meaning known later level left) ∙ ap (resume known later old) (ap (resume_one known later w2) meaning ∙ ap (λ (v : Waiting). resume_one known later v answer) like ∙ sym (let_go known j full (hidden_lists texts later w2.arguments.items) answer behind k.1) ∙ sym (take_argument known j full left argument first wanted) ∙ sym (same left))
+      let meaning : level_onward texts (to_end known) later level left ≡ answer = ap (λ o. to_end known (hidden_all texts later o) (hidden_all texts later level.rest.items) (ending_of level.end) left) out ∙ with_list_none (expanding known (hidden_all texts later level.rest.items) (ending_of level.end) left) ∙ ap (λ e. expanding known (hidden_all texts later level.rest.items) (ending_of e) left) end ∙ ap (λ l. expanding known (hidden_all texts later l) of_argument left) (rest ∙ takes.2) in
+      ap (λ ws. level_behind known onward later ws level left) new_is ∙ ap (λ (p : Onward). resume known onward later (old ++ w2 ∷ []) (level_onward texts p later level left)) (onward_pushed known onward old w2) ∙ ap (resume known onward later (old ++ w2 ∷ [])) meaning ∙ resume_push known onward later old w2 answer ∙ ap (resume known onward later old) (ap (λ (v : Waiting). resume_one known o later v answer) like ∙ sym (let_go known o j full (hidden_lists texts later w2.arguments.items) answer behind k.1) ∙ sym (take_argument known o j full left argument first wanted) ∙ sym (same o left))
 
 -- a replacement whose next argument is not wanted
-pub skips_is : (known : Known) (later : Sets) (w0 w w2 : Waiting) (used : Use) (empty : Vec HiddenToken Global) → ((left : ℕ) → waiting_going known later w0 left ≡ waiting_going known later w left) → used ≡ use_of (length w.full.items) (pieces_as known.texts later w.pieces.items) → length w.full.items < length w.arguments.items → used.expanded ≡ false → empty.items ≡ [] → w2 ≡ record w { full = w2.full } → w2.full.items ≡ w.full.items ++ empty ∷ [] → (left : ℕ) → waiting_going known later w0 left ≡ waiting_going known later w2 left
-skips_is known later w0 w w2 used empty same used_is inside unwanted none like full_is left =
+pub skips_is : (known : Known) (later : Sets) (w0 w w2 : Waiting) (used : Use) (empty : Vec HiddenToken Global) → ((onward : Onward) (left : ℕ) → waiting_going known onward later w0 left ≡ waiting_going known onward later w left) → used ≡ use_of (length w.full.items) (pieces_as known.texts later w.pieces.items) → length w.full.items < length w.arguments.items → used.expanded ≡ false → empty.items ≡ [] → w2 ≡ record w { full = w2.full } → w2.full.items ≡ w.full.items ++ empty ∷ [] → (onward : Onward) (left : ℕ) → waiting_going known onward later w0 left ≡ waiting_going known onward later w2 left
+skips_is known later w0 w w2 used empty same used_is inside unwanted none like full_is onward left =
     let texts = known.texts in
     let j = job_of texts later w in
     let full = hidden_lists texts later w.full.items in
@@ -135,23 +141,23 @@ skips_is known later w0 w w2 used empty same used_is inside unwanted none like f
     let m : length j.arguments ≡ length w.arguments.items = lists_length texts later w.arguments.items in
     let wanted : is_expanded (length full) j.pieces ≡ false = ap (λ n. is_expanded n j.pieces) n ∙ sym (ap (λ (u : Use). u.expanded) used_is) ∙ unwanted in
     let f : hidden_lists texts later w2.full.items ≡ full ++ [] ∷ [] = ap (hidden_lists texts later) full_is ∙ map-append (λ (v : Vec HiddenToken Global). hidden_all texts later v.items) w.full.items (empty ∷ []) ∙ ap (λ (l : List HiddenToken). full ++ hidden_all texts later l ∷ []) none in
-    same left ∙ skip_argument known j full left _ (drop-cons j.arguments (length full) [] (omega (arith, inside, n, m))) wanted ∙ ap (λ l. going known j l left) (sym f) ∙ ap (λ (v : Waiting). going known (job_of texts later v) (hidden_lists texts later w2.full.items) left) (sym like)
+    same onward left ∙ skip_argument known onward j full left _ (drop-cons j.arguments (length full) [] (omega (arith, inside, n, m))) wanted ∙ ap (λ l. going known onward j l left) (sym f) ∙ ap (λ (v : Waiting). going known onward (job_of texts later v) (hidden_lists texts later w2.full.items) left) (sym like)
 
 -- an argument's expansion goes to its replacement
-pub joins_is : (known : Known) (later : Sets) (w w2 : Waiting) (v : Vec HiddenToken Global) → w2 ≡ record w { full = w2.full } → w2.full.items ≡ w.full.items ++ v ∷ [] → (left : ℕ) → resume_one known later w (Ok (hidden_all known.texts later v.items, left)) ≡ waiting_going known later w2 left
-joins_is known later w w2 v like full_is left =
+pub joins_is : (known : Known) (later : Sets) (w w2 : Waiting) (v : Vec HiddenToken Global) → w2 ≡ record w { full = w2.full } → w2.full.items ≡ w.full.items ++ v ∷ [] → (onward : Onward) (left : ℕ) → resume_one known onward later w (Ok (hidden_all known.texts later v.items, left)) ≡ waiting_going known onward later w2 left
+joins_is known later w w2 v like full_is onward left =
     let texts = known.texts in
     let j = job_of texts later w in
     let full = hidden_lists texts later w.full.items in
     let f : hidden_lists texts later w2.full.items ≡ full ++ hidden_all texts later v.items ∷ [] = ap (hidden_lists texts later) full_is ∙ map-append (λ (v : Vec HiddenToken Global). hidden_all texts later v.items) w.full.items (v ∷ []) in
-    finish_argument known j full (hidden_all texts later v.items) left ∙ ap (λ l. going known j l left) (sym f) ∙ ap (λ (v : Waiting). going known (job_of texts later v) (hidden_lists texts later w2.full.items) left) (sym like)
+    finish_argument known onward j full (hidden_all texts later v.items) left ∙ ap (λ l. going known onward j l left) (sym f) ∙ ap (λ (v : Waiting). going known onward (job_of texts later v) (hidden_lists texts later w2.full.items) left) (sym like)
 
 pub join_is : (known : Known) (later : Sets) (old new : List Waiting) (w w2 : Waiting) (v : Vec HiddenToken Global) (r : Result Level Refusal) → w2 ≡ record w { full = w2.full } → w2.full.items ≡ w.full.items ++ v ∷ [] → ProceedIs known later old w2 r new → JoinIs known later old w v.items r new
 join_is known later old new w w2 v (Ok made) like full_is h =
-    λ left. h left ∙ ap (resume known later old) (sym (joins_is known later w w2 v like full_is left))
+    λ onward left. h onward left ∙ ap (resume known onward later old) (sym (joins_is known later w w2 v like full_is (onward_in known onward old) left))
 join_is known later old new w w2 v (Err Memory) like full_is h = tt
 join_is known later old new w w2 v (Err (At c pos)) like full_is h =
-    λ left. joins_is known later w w2 v like full_is left ∙ h left
+    λ onward left. joins_is known later w w2 v like full_is onward left ∙ h onward left
 join_is known later old new w w2 v (Err (Told c pos text)) like full_is h = h
 
 -- ---- the beginning of a replacement
@@ -161,8 +167,8 @@ module _ (known : Known) (later : Sets) (old new : List Waiting) (level : Level)
   out = hidden_all known.texts later level.out.items
 
   -- the task's job is that of the replacement
-  going_begun : (w : Waiting) → w.level ≡ level → w.space_before ≡ k.space_before → w.at ≡ k.at → w.hides ≡ k.hides → w.arguments ≡ k.arguments → w.full.items ≡ [] → pieces_of r.call ≡ Ok (pieces_as known.texts later w.pieces.items) → (left : ℕ) → waiting_going known later w left ≡ with_list out (replace (expanding known) r (ending_of level.end) left)
-  going_begun w l s a h g f p left =
+  going_begun : (w : Waiting) → w.level ≡ level → w.space_before ≡ k.space_before → w.at ≡ k.at → w.hides ≡ k.hides → w.arguments ≡ k.arguments → w.full.items ≡ [] → pieces_of r.call ≡ Ok (pieces_as known.texts later w.pieces.items) → (onward : Onward) (left : ℕ) → waiting_going known onward later w left ≡ made_in known onward later level r left
+  going_begun w l s a h g f p onward left =
       let j : job_of known.texts later w ≡ record { out = out; space = r.name.token.space_before; at = r.call.at; hides = r.hides; arguments = r.call.arguments; pieces = pieces_as known.texts later w.pieces.items; rest = r.rest; ending = ending_of level.end } =
       ap (λ (z : Level). let j : Job = record { out = hidden_all known.texts later z.out.items; space = w.space_before; at = w.at; hides = spelled known.texts (members later w.hides); arguments = hidden_lists known.texts later w.arguments.items; pieces = pieces_as known.texts later w.pieces.items; rest = hidden_all known.texts later z.rest.items; ending = ending_of z.end } in j) l
       ∙ ap (λ (z : Bool). let j : Job = record { out = out; space = z; at = w.at; hides = spelled known.texts (members later w.hides); arguments = hidden_lists known.texts later w.arguments.items; pieces = pieces_as known.texts later w.pieces.items; rest = hidden_all known.texts later level.rest.items; ending = ending_of level.end } in j) (s ∙ sym task.space_is)
@@ -170,13 +176,13 @@ module _ (known : Known) (later : Sets) (old new : List Waiting) (level : Level)
       ∙ ap (λ (z : List (List ℕ)). let j : Job = record { out = out; space = r.name.token.space_before; at = r.call.at; hides = z; arguments = hidden_lists known.texts later w.arguments.items; pieces = pieces_as known.texts later w.pieces.items; rest = hidden_all known.texts later level.rest.items; ending = ending_of level.end } in j) (ap (λ n. spelled known.texts (members later n)) h ∙ sym task.hides_are)
       ∙ ap (λ (z : List (List Hidden)). let j : Job = record { out = out; space = r.name.token.space_before; at = r.call.at; hides = r.hides; arguments = z; pieces = pieces_as known.texts later w.pieces.items; rest = hidden_all known.texts later level.rest.items; ending = ending_of level.end } in j) (ap (λ (v : Vec (Vec HiddenToken Global) Global). hidden_lists known.texts later v.items) g ∙ sym task.arguments_are)
       ∙ ap (λ (z : List Hidden). let j : Job = record { out = out; space = r.name.token.space_before; at = r.call.at; hides = r.hides; arguments = r.call.arguments; pieces = pieces_as known.texts later w.pieces.items; rest = z; ending = ending_of level.end } in j) (sym task.rest_is) in
-      ap (λ j. going known j (hidden_lists known.texts later w.full.items) left) j ∙ ap (λ f. going known (record { out = out; space = r.name.token.space_before; at = r.call.at; hides = r.hides; arguments = r.call.arguments; pieces = pieces_as known.texts later w.pieces.items; rest = r.rest; ending = ending_of level.end }) (hidden_lists known.texts later f) left) f ∙ sym (replace_going known out r (ending_of level.end) left (pieces_as known.texts later w.pieces.items) p)
+      ap (λ j. going known onward j (hidden_lists known.texts later w.full.items) left) j ∙ ap (λ f. going known onward (record { out = out; space = r.name.token.space_before; at = r.call.at; hides = r.hides; arguments = r.call.arguments; pieces = pieces_as known.texts later w.pieces.items; rest = r.rest; ending = ending_of level.end }) (hidden_lists known.texts later f) left) f ∙ sym (made_going known out r (ending_of level.end) left onward (pieces_as known.texts later w.pieces.items) p)
 
   pub begin_is : (w : Waiting) → w.level ≡ level → w.space_before ≡ k.space_before → w.at ≡ k.at → w.hides ≡ k.hides → w.arguments ≡ k.arguments → w.full.items ≡ [] → pieces_of r.call ≡ Ok (pieces_as known.texts later w.pieces.items) → (made : Result Level Refusal) → ProceedIs known later old w made new → BeginIs known later old level r made new
   begin_is w l s a h g f p (Ok made) q =
-      λ left. q left ∙ ap (resume known later old) (going_begun w l s a h g f p left)
+      λ onward left. q onward left ∙ ap (resume known onward later old) (going_begun w l s a h g f p (onward_in known onward old) left)
   begin_is w l s a h g f p (Err Memory) q = tt
-  begin_is w l s a h g f p (Err (At c pos)) q = λ left. sym (going_begun w l s a h g f p left) ∙ q left
+  begin_is w l s a h g f p (Err (At c pos)) q = λ onward left. sym (going_begun w l s a h g f p onward left) ∙ q onward left
   begin_is w l s a h g f p (Err (Told c pos text)) q = q
 
   -- the call by the parts of the task
@@ -186,7 +192,7 @@ module _ (known : Known) (later : Sets) (old new : List Waiting) (level : Level)
 
   begin_fails_at : (f : Refusal) → GivesPieces known.texts later k.at (Err f) (pieces_of r.call) → BeginIs known later old level r (Err f) new
   begin_fails_at Memory h = tt
-  begin_fails_at (At c pos) h = λ left. replace_refused known out r (ending_of level.end) left c h.1 ∙ ap (λ (p : Pos). let r : Answer = Err (record { code = c; at = p }) in r) (task.at_is ∙ sym h.0)
+  begin_fails_at (At c pos) h = λ onward left. ap (λ (m : Answer). m >>= λ a. onward out a.0 (ending_of level.end) a.1) (made_refused known out r (ending_of level.end) left c h.1) ∙ ap (λ (p : Pos). let r : Answer = Err (record { code = c; at = p }) in r) (task.at_is ∙ sym h.0)
   begin_fails_at (Told c pos text) h = h
 
   pub begin_fails : (seen : List (Vec HiddenToken Global)) → seen ≡ k.arguments.items → (f : Refusal) → GivesPieces known.texts later k.at (Err f) (pieces_of (record { macro = r.call.macro; at = k.at; arguments = hidden_lists known.texts later seen })) → BeginIs known later old level r (Err f) new
@@ -237,11 +243,11 @@ taken_length count w known i keeps list new t =
     (taken_lists count w.arguments.items i keeps list new.items known.arguments_in t).2
 
 -- the end of a replacement leaves what waits
-pub proceed_from : (known : Known) (later : Sets) (old new : List Waiting) (w0 w : Waiting) (r : Result Level Refusal) → new ≡ old → ((left : ℕ) → waiting_going known later w0 left ≡ waiting_going known later w left) → ProceedIs known later [] w r [] → ProceedIs known later old w0 r new
+pub proceed_from : (known : Known) (later : Sets) (old new : List Waiting) (w0 w : Waiting) (r : Result Level Refusal) → new ≡ old → ((onward : Onward) (left : ℕ) → waiting_going known onward later w0 left ≡ waiting_going known onward later w left) → ProceedIs known later [] w r [] → ProceedIs known later old w0 r new
 proceed_from known later old new w0 w (Ok level) e same h =
-    λ left. ap (λ ws. resume known later ws (level_meaning known later level left)) e ∙ ap (resume known later old) (h left ∙ sym (same left))
+    λ onward left. ap (λ ws. level_behind known onward later ws level left) e ∙ ap (resume known onward later old) (h (onward_in known onward old) left ∙ sym (same (onward_in known onward old) left))
 proceed_from known later old new w0 w (Err Memory) e same h = tt
-proceed_from known later old new w0 w (Err (At c pos)) e same h = λ left. same left ∙ h left
+proceed_from known later old new w0 w (Err (At c pos)) e same h = λ onward left. same onward left ∙ h onward left
 proceed_from known later old new w0 w (Err (Told c pos text)) e same h = h
 
 pub skipped_in : (count : ℕ) (w : Waiting) → WaitingIn count w → (empty : Vec HiddenToken Global) (full : Vec (Vec HiddenToken Global) Global) → empty.items ≡ [] → full.items ≡ w.full.items ++ empty ∷ [] → WaitingIn count (record w { full = full })

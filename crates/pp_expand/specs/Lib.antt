@@ -1,4 +1,6 @@
 pub use Rattle.macros.specs.Table
 pub mod Expansion
 pub mod Expands
+pub mod Pulled
+pub mod Streams
 pub mod inside

@@ -1,27 +1,36 @@
 //! The replacement of the macros in a list of tokens.
-ghost use Rattle.std.specs.Prelude.{drop, length, IfOk, OnOk};
-ghost use Rattle.srcset.specs.NameTable.{Texts, KeepsNumbers, NumbersOnce};
+ghost use Rattle.std.specs.Prelude.{◌≡◌, [], ◌∷◌, drop, length, IfOk, IfErr, OnOk};
+ghost use Rattle.srcset.specs.NameTable.{Texts, KeepsNumbers};
+ghost use Rattle.srcset.specs.declared.refusal.Refusal.TheVariants.{Memory};
 ghost use Rattle.macros.specs.Macro.{Macros};
 ghost use Rattle.macros.specs.Table.{IsTable};
 ghost use Rattle.pp_expand.specs.Expansion.{expanded};
-ghost use Rattle.pp_expand.specs.Expands.{HaveFiles, IsExpansion, IsExpansionBehind, IsToldExpansion, ending_of};
+ghost use Rattle.pp_expand.specs.Expands.{HaveFiles, IsExpansion, IsExpansionBehind, IsToldExpansion, ending_of, put_behind};
 
 use crate::budget::Budget;
-use crate::engine::run;
 use crate::room::MAX_HELD;
 use crate::run_end::RunEnd;
+use crate::streaming::Expander;
 use crate::unexpanded::Unexpanded;
 use macros::MacroTable;
-use macros_substitution::HideSets;
 use phases::PpToken;
 use srcset::{Fault, Names, Refusal};
 use std::alloc::Global;
 
-// No text has two numbers, which each look-up tells.
-fn numbers_once(names: &Names)
-    ensures { NumbersOnce names.now }
+// Puts a token behind those given, if they are fewer than so many.
+#[tactic(auto, using(crate::proofs::Handing::one_kept, crate::proofs::Handing::one_dropped))]
+fn show_one<'a>(
+    token: PpToken<'a>,
+    most: usize,
+    given: &mut Vec<PpToken<'a>>,
+) -> Result<(), Refusal>
+    ensures ok { OnOk result (given.new.items ≡ put_behind most given.old.items (token.entry ∷ [])) }
+    ensures err { IfErr result (λ refusal. refusal ≡ Memory) }
 {
-    let _ = names.find(b"");
+    if given.len() < most {
+        given.push(token)?;
+    }
+    Ok(())
 }
 
 /// Puts the expansion of a list, as `expand` gives it, behind the tokens given, as long as they are fewer than `most`: what comes
@@ -40,18 +49,24 @@ pub fn expand_behind<'a>(
     ensures expansion { (macros : Macros) (texts : Texts) → IsTable names.now table.now macros → KeepsNumbers names.now texts → IsExpansionBehind result most given.old.items given.new.items budget.old budget.new (expanded (record { macros = macros; texts = texts }) list.entry (ending_of end) budget.old) }
     ensures files { (macros : Macros) → IsTable names.now table.now macros → OnOk result (HaveFiles names.now (drop (length given.old.items) given.new.items)) }
 {
-    numbers_once(names);
-    let mut sets = HideSets::new(alloc);
-    let hidden = list.into_hidden();
-    let left = budget.left();
-    match run(
-        alloc, table, names, &mut sets, hidden, end, left, most, given,
-    ) {
-        Ok(left) => {
-            *budget = Budget::new(left);
-            Ok(())
+    let before = budget.left();
+    let mut expander = Expander::of(alloc, list, end);
+    loop {
+        match expander.try_next(alloc, table, budget, names) {
+            Ok(next) => {
+                let Some(token) = next else {
+                    return Ok(());
+                };
+                if let Err(refusal) = show_one(token, most, given) {
+                    *budget = Budget::new(before);
+                    return Err(refusal);
+                }
+            }
+            Err(refusal) => {
+                *budget = Budget::new(before);
+                return Err(refusal);
+            }
         }
-        Err(refusal) => Err(refusal),
     }
 }
 

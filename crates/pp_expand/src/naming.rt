@@ -6,7 +6,7 @@ ghost use Rattle.macros.specs.Macro.{Macros};
 ghost use Rattle.macros.specs.Table.{IsTable};
 ghost use Rattle.macros_substitution.specs.HideSets.{Sets, Extends, NamesBelow, members};
 ghost use Rattle.macros_substitution.specs.Meaning.{hidden_of};
-ghost use Rattle.pp_expand.specs.inside.Turns.{IsNamed, IsNamedBelow, has_number};
+ghost use Rattle.pp_expand.specs.inside.Turns.{IsNamed, IsNamedBelow, IsNamedOnce, has_number};
 
 use crate::task::Named;
 use macros::{MacroTable, is_identifier, is_predefined};
@@ -34,6 +34,7 @@ pub(crate) fn named<'a, 't>(
     requires { x.now.hides ≤ length sets.now }
     ensures named { (macros : Macros) (later : Sets) → IsTable names.now table.now macros → NamesBelow (length names.now) sets.now → Extends sets.now later → IsNamed (record { macros = macros; texts = names.now }) (hidden_of names.now later x.now) result }
     ensures below { IsNamedBelow (length names.now) result }
+    ensures once { IsNamedOnce names.now result }
 {
     if !is_identifier(&x.token) {
         return Named::Nothing;

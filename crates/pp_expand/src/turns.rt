@@ -10,7 +10,7 @@ ghost use Rattle.pp_expand.specs.Expansion.{object_turn, count_fault, taken_turn
 ghost use Rattle.macros_substitution.specs.declared.piece.HiddenToken.{HiddenToken};
 ghost use Rattle.pp_expand.specs.Expands.{ending_of};
 ghost use Rattle.pp_expand.specs.inside.Meaning.{LevelIn};
-ghost use Rattle.pp_expand.specs.inside.Turns.{TaskIn, TaskTurn, TurnIs, TurnedIn, KeepsRest, LastIs, AdvanceIs, AdvancedIn};
+ghost use Rattle.pp_expand.specs.inside.Turns.{TaskIn, TaskTurn, TurnIs, TurnedIn, KeepsRest, OnceFor, LastIs, AdvanceIs, AdvancedIn};
 
 use crate::arguments::{take_arguments, without_empty};
 use crate::level::Level;
@@ -162,8 +162,8 @@ fn macro_turn<'a, 't>(
     }
 }
 
-// What the first token of a list does.
-fn take_turn<'a, 't>(
+/// What the first token of a list does.
+pub(crate) fn take_turn<'a, 't>(
     alloc: Global,
     table: &'t MacroTable<'a>,
     names: &Names,
@@ -174,9 +174,10 @@ fn take_turn<'a, 't>(
 ) -> Result<Turned<'a, 't>, Refusal>
     requires name { x.hides ≤ length sets.old }
     requires behind { AreIn (length sets.old) rest.old.items }
-    ensures turn { (macros : Macros) (later : Sets) → IsTable names.now table.now macros → NumbersOnce names.now → NamesBelow (length names.now) sets.old → Extends sets.new later → TurnIs names.now later x.entry rest.old.items (turn (record { macros = macros; texts = names.now }) (hidden_of names.now later x.entry) (hidden_all names.now later rest.old.items) (ending_of end)) result rest.new.items }
+    ensures turn { (macros : Macros) (later : Sets) → IsTable names.now table.now macros → NamesBelow (length names.now) sets.old → Extends sets.new later → TurnIs names.now later x.entry rest.old.items (turn (record { macros = macros; texts = names.now }) (hidden_of names.now later x.entry) (hidden_all names.now later rest.old.items) (ending_of end)) result rest.new.items }
     ensures known { IfOk result (λ t. TurnedIn (length sets.new) t × AreIn (length sets.new) rest.new.items) }
     ensures rest { IfOk result (λ t. KeepsRest t rest.old.items rest.new.items) }
+    ensures once { IfOk result (λ t. OnceFor names.now t) }
     ensures keeps { Extends sets.old sets.new }
     ensures names { NamesBelow (length names.now) sets.old → NamesBelow (length names.now) sets.new }
 {
@@ -198,7 +199,7 @@ pub(crate) fn advance<'a, 't>(
     level: &mut Level<'a>,
 ) -> Result<Option<Step<'a, 't>>, Refusal>
     requires { LevelIn (length sets.old) level.old }
-    ensures advances { (macros : Macros) (later : Sets) → IsTable names.now table.now macros → NumbersOnce names.now → NamesBelow (length names.now) sets.old → Extends sets.new later → AdvanceIs (record { macros = macros; texts = names.now }) later level.old result level.new }
+    ensures advances { (macros : Macros) (later : Sets) → IsTable names.now table.now macros → NamesBelow (length names.now) sets.old → Extends sets.new later → AdvanceIs (record { macros = macros; texts = names.now }) later level.old result level.new }
     ensures known { IfOk result (λ o. AdvancedIn (length sets.new) o × LevelIn (length sets.new) level.new) }
     ensures keeps { Extends sets.old sets.new }
     ensures names { NamesBelow (length names.now) sets.old → NamesBelow (length names.now) sets.new }

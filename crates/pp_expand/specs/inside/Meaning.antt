@@ -7,12 +7,9 @@ use Rattle.macros_substitution.specs.Substitution.{◌>>=◌, Hidden}
 use Rattle.macros_substitution.specs.HideSets.{Sets}
 use Rattle.macros_substitution.specs.Meaning.{hidden_all, AreIn}
 use Rattle.pp_expand.specs.declared.level.Level.{Level}
-use Rattle.pp_expand.specs.Expansion.{Known, Answer, Fault, Next, expanded_by, shown_answer}
+use Rattle.pp_expand.specs.Expansion.{Known, Answer, Fault, shown_answer}
+use Rattle.pp_expand.specs.Pulled.{expanding}
 use Rattle.pp_expand.specs.Expands.{ending_of, put_behind}
-
--- the expansion of a list with so many replacements left
-abbrev pub expanding : Known → Next
-expanding known xs ending left = expanded_by left known xs ending left
 
 -- behind what is expanded already
 abbrev pub with_list : List Hidden → Answer → Answer
@@ -39,8 +36,3 @@ abbrev pub Refuses : {A : Type 0} → Refusal → Result A Fault → Type 0
 Refuses Memory answer = Unit {0}
 Refuses (At c pos) answer = answer ≡ Err (record { code = c; at = pos })
 Refuses (Told c pos text) answer = ⊥
-
--- an answer of the engine, behind which these tokens are given
-abbrev pub GivesBehind : Result ℕ Refusal → List Token → Result (List Token × ℕ) Fault → Type 0
-GivesBehind (Ok left) given answer = answer ≡ Ok (given, left)
-GivesBehind (Err refusal) given answer = Refuses refusal answer

@@ -2,7 +2,7 @@
 use Rattle.std.specs.Prelude.{◌≡◌, ℕ, ◌-◌, ◌<◌, ◌≤◌, List, ◌++◌, length, nat_eq, Bool, false, Option, Some, None, Result, Ok, Err, Vec, slice_get}
 use Rattle.std.specs.List.{list_any}
 use Rattle.std.specs.declared.alloc.Global.{Global}
-use Rattle.srcset.specs.NameTable.{Texts}
+use Rattle.srcset.specs.NameTable.{Texts, NumbersOnce}
 use Rattle.srcset.specs.declared.refusal.Pos.{Pos}
 use Rattle.srcset.specs.declared.refusal.Refusal.{Refusal}
 use Rattle.srcset.specs.declared.refusal.Refusal.TheVariants.{Memory, At, Told}
@@ -24,7 +24,8 @@ use Rattle.pp_expand.specs.declared.task.Named.{Named}
 use Rattle.pp_expand.specs.declared.task.Named.TheVariants.{Nothing, OfCompiler, Defined}
 use Rattle.pp_expand.specs.Expansion.{Ending, Known, Taken, separated, Mark, opens, closes, separates, other, Replacement, Turn, stands, refused, predefined, replaced, turn_by, turn, predefined_one, replace_one}
 use Rattle.pp_expand.specs.Expands.{ending_of}
-use Rattle.pp_expand.specs.inside.Meaning.{expanding, with_list, level_meaning}
+use Rattle.pp_expand.specs.Pulled.{expanding}
+use Rattle.pp_expand.specs.inside.Meaning.{with_list, level_meaning}
 
 abbrev pub mark_as : Found → Mark
 mark_as found.Opens = opens
@@ -45,6 +46,12 @@ IsNamed known x OfCompiler = (rest : List Hidden) (ending : Ending) → turn kno
 IsNamed known x (Defined n definition) =
     (slice_get known.texts n ≡ Some x.token.spelling) ×
     ((macro : Macro) × (IsMacro known.texts definition.now macro × ((rest : List Hidden) (ending : Ending) → turn known x rest ending ≡ turn_by x macro macro.parameters rest ending)))
+
+-- where it is a macro of the table, its number is its name's alone
+abbrev pub IsNamedOnce : Texts → Named → Type 0
+IsNamedOnce texts Nothing = Unit {0}
+IsNamedOnce texts OfCompiler = Unit {0}
+IsNamedOnce texts (Defined n definition) = NumbersOnce texts
 
 -- its number is that of one of so many names
 abbrev pub IsNamedBelow : ℕ → Named → Type 0
@@ -92,6 +99,12 @@ StepIn count (Replaced k) = TaskIn count k
 abbrev pub TurnedIn : ℕ → Turned → Type 0
 TurnedIn count (Stays x) = x.hides ≤ count
 TurnedIn count (Takes s) = StepIn count s
+
+-- a macro of the table is found by a number that its name alone has
+abbrev pub OnceFor : Texts → Turned → Type 0
+OnceFor texts (Stays x) = Unit {0}
+OnceFor texts (Takes (Predefined x)) = Unit {0}
+OnceFor texts (Takes (Replaced k)) = NumbersOnce texts
 
 -- where the token stands nothing else is taken
 abbrev pub KeepsRest : Turned → List HiddenToken → List HiddenToken → Type 0

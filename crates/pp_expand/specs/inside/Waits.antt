@@ -11,9 +11,10 @@ use Rattle.macros_substitution.specs.Meaning.{hidden_all, hidden_lists, pieces_a
 use Rattle.macros_substitution.specs.declared.piece.HiddenToken.{HiddenToken}
 use Rattle.pp_expand.specs.declared.level.Level.{Level}
 use Rattle.pp_expand.specs.declared.waiting.Waiting.{Waiting}
-use Rattle.pp_expand.specs.Expansion.{Ending, Known, Answer, Fault, Replacement, arguments_expanded, at_place, replace}
+use Rattle.pp_expand.specs.Expansion.{Ending, Known, Answer, Fault, Replacement, arguments_expanded, at_place}
 use Rattle.pp_expand.specs.Expands.{ending_of}
-use Rattle.pp_expand.specs.inside.Meaning.{expanding, with_list, level_meaning, LevelIn}
+use Rattle.pp_expand.specs.Pulled.{expanding, made_by}
+use Rattle.pp_expand.specs.inside.Meaning.{with_list, LevelIn, Refuses}
 
 -- A replacement in pieces, and the list that it stands in.
 pub record Job : Type 0 where
@@ -33,20 +34,32 @@ call_of at arguments = record { macro = record { parameters = None; body = [] };
 abbrev pub front_by : Job → List Hidden → List Hidden
 front_by j new = marked j.space (hiding j.hides new) ++ j.rest
 
+-- What a list goes on to: what stands of it already, the rest of it, where it ends, and how many replacements are left.
+abbrev pub Onward : Type 0
+Onward = List Hidden → List Hidden → Ending → ℕ → Answer
+
+-- an argument is expanded to its end
+abbrev pub to_end : Known → Onward
+to_end known out xs ending left = with_list out (expanding known xs ending left)
+
+-- of the outermost list the rest is wanted, once nothing waits
+abbrev pub the_rest : Onward
+the_rest out xs ending left = Ok (xs, left)
+
 -- what comes of the arguments' expansions
-unfoldable pub after_arguments : Known → Job → List (List Hidden) → Result (List (List Hidden) × ℕ) Fault → Answer
-after_arguments known j full r =
-    with_list j.out (r >>= λ s. at_place j.at (substituted (call_of j.at j.arguments) (full ++ s.0) j.pieces) >>= λ new. expanding known (front_by j new) j.ending s.1)
+unfoldable pub after_arguments : Onward → Job → List (List Hidden) → Result (List (List Hidden) × ℕ) Fault → Answer
+after_arguments onward j full r =
+    r >>= λ s. at_place j.at (substituted (call_of j.at j.arguments) (full ++ s.0) j.pieces) >>= λ new. onward j.out (front_by j new) j.ending s.1
 
 -- these arguments are expanded, and the others are still to be
-unfoldable pub going : Known → Job → List (List Hidden) → ℕ → Answer
-going known j full left =
-    after_arguments known j full (arguments_expanded (expanding known) j.pieces (length full) (drop (length full) j.arguments) left)
+unfoldable pub going : Known → Onward → Job → List (List Hidden) → ℕ → Answer
+going known onward j full left =
+    after_arguments onward j full (arguments_expanded (expanding known) j.pieces (length full) (drop (length full) j.arguments) left)
 
 -- the next argument comes to this
-unfoldable pub taken_up : Known → Job → List (List Hidden) → Answer → Answer
-taken_up known j full a =
-    after_arguments known j full (a >>= λ r. arguments_expanded (expanding known) j.pieces (suc (length full)) (drop (suc (length full)) j.arguments) r.1 >>= λ s. Ok (r.0 ∷ s.0, s.1))
+unfoldable pub taken_up : Known → Onward → Job → List (List Hidden) → Answer → Answer
+taken_up known onward j full a =
+    after_arguments onward j full (a >>= λ r. arguments_expanded (expanding known) j.pieces (suc (length full)) (drop (suc (length full)) j.arguments) r.1 >>= λ s. Ok (r.0 ∷ s.0, s.1))
 
 abbrev pub job_of : Texts → Sets → Waiting → Job
 job_of texts sets w = record {
@@ -60,18 +73,36 @@ job_of texts sets w = record {
   ending = ending_of w.level.end;
 }
 
-abbrev pub waiting_going : Known → Sets → Waiting → ℕ → Answer
-waiting_going known sets w left =
-    going known (job_of known.texts sets w) (hidden_lists known.texts sets w.full.items) left
+abbrev pub waiting_going : Known → Onward → Sets → Waiting → ℕ → Answer
+waiting_going known onward sets w left =
+    going known onward (job_of known.texts sets w) (hidden_lists known.texts sets w.full.items) left
 
-abbrev pub resume_one : Known → Sets → Waiting → Answer → Answer
-resume_one known sets w a =
-    taken_up known (job_of known.texts sets w) (hidden_lists known.texts sets w.full.items) a
+abbrev pub resume_one : Known → Onward → Sets → Waiting → Answer → Answer
+resume_one known onward sets w a =
+    taken_up known onward (job_of known.texts sets w) (hidden_lists known.texts sets w.full.items) a
 
--- the innermost list stands last
-abbrev pub resume : Known → Sets → List Waiting → Answer → Answer
-resume known sets [] a = a
-resume known sets (w ∷ ws) a = resume_one known sets w (resume known sets ws a)
+-- the innermost list stands last; the first one stands in the outermost list
+abbrev pub resume : Known → Onward → Sets → List Waiting → Answer → Answer
+resume known onward sets [] a = a
+resume known onward sets (w ∷ ws) a = resume_one known onward sets w (resume known (to_end known) sets ws a)
+
+-- what a list goes on to in which these wait
+abbrev pub onward_in : Known → Onward → List Waiting → Onward
+onward_in known onward [] = onward
+onward_in known onward (w ∷ ws) = to_end known
+
+abbrev pub level_onward : Texts → Onward → Sets → Level → ℕ → Answer
+level_onward texts onward sets l left =
+    onward (hidden_all texts sets l.out.items) (hidden_all texts sets l.rest.items) (ending_of l.end) left
+
+-- a level, and a replacement that goes on, in which these wait
+abbrev pub level_behind : Known → Onward → Sets → List Waiting → Level → ℕ → Answer
+level_behind known onward sets ws l left =
+    resume known onward sets ws (level_onward known.texts (onward_in known onward ws) sets l left)
+
+abbrev pub waiting_behind : Known → Onward → Sets → List Waiting → Waiting → ℕ → Answer
+waiting_behind known onward sets ws w left =
+    resume known onward sets ws (waiting_going known (onward_in known onward ws) sets w left)
 
 -- ---- how much is still to be done
 
@@ -102,29 +133,48 @@ WaitingsIn count (w ∷ ws) = WaitingIn count w × WaitingsIn count ws
 -- a replacement goes on to a level in which its next argument or the list behind it is expanded
 abbrev pub ProceedIs : Known → Sets → List Waiting → Waiting → Result Level Refusal → List Waiting → Type 0
 ProceedIs known sets old w (Ok level) new =
-    (left : ℕ) → resume known sets new (level_meaning known sets level left) ≡ resume known sets old (waiting_going known sets w left)
+    (onward : Onward) (left : ℕ) → level_behind known onward sets new level left ≡ waiting_behind known onward sets old w left
 ProceedIs known sets old w (Err Memory) new = Unit {0}
 ProceedIs known sets old w (Err (At c pos)) new =
-    (left : ℕ) → waiting_going known sets w left ≡ Err (record { code = c; at = pos })
+    (onward : Onward) (left : ℕ) → waiting_going known onward sets w left ≡ Err (record { code = c; at = pos })
 ProceedIs known sets old w (Err (Told c pos text)) new = ⊥
+
+-- what a replacement makes in a level
+abbrev pub made_in : Known → Onward → Sets → Level → Replacement → ℕ → Answer
+made_in known onward sets level r left =
+    made_by (expanding known) r left >>= λ a. onward (hidden_all known.texts sets level.out.items) a.0 (ending_of level.end) a.1
 
 -- a task begins
 abbrev pub BeginIs : Known → Sets → List Waiting → Level → Replacement → Result Level Refusal → List Waiting → Type 0
 BeginIs known sets old level r (Ok made) new =
-    (left : ℕ) → resume known sets new (level_meaning known sets made left) ≡ resume known sets old (with_list (hidden_all known.texts sets level.out.items) (replace (expanding known) r (ending_of level.end) left))
+    (onward : Onward) (left : ℕ) → level_behind known onward sets new made left ≡ resume known onward sets old (made_in known (onward_in known onward old) sets level r left)
 BeginIs known sets old level r (Err Memory) new = Unit {0}
 BeginIs known sets old level r (Err (At c pos)) new =
-    (left : ℕ) → with_list (hidden_all known.texts sets level.out.items) (replace (expanding known) r (ending_of level.end) left) ≡ Err (record { code = c; at = pos })
+    (onward : Onward) (left : ℕ) → made_in known onward sets level r left ≡ Err (record { code = c; at = pos })
 BeginIs known sets old level r (Err (Told c pos text)) new = ⊥
 
 -- an argument's expansion goes to its replacement
 abbrev pub JoinIs : Known → Sets → List Waiting → Waiting → List HiddenToken → Result Level Refusal → List Waiting → Type 0
 JoinIs known sets old w argument (Ok made) new =
-    (left : ℕ) → resume known sets new (level_meaning known sets made left) ≡ resume known sets old (resume_one known sets w (Ok (hidden_all known.texts sets argument, left)))
+    (onward : Onward) (left : ℕ) → level_behind known onward sets new made left ≡ resume known onward sets old (resume_one known (onward_in known onward old) sets w (Ok (hidden_all known.texts sets argument, left)))
 JoinIs known sets old w argument (Err Memory) new = Unit {0}
 JoinIs known sets old w argument (Err (At c pos)) new =
-    (left : ℕ) → resume_one known sets w (Ok (hidden_all known.texts sets argument, left)) ≡ Err (record { code = c; at = pos })
+    (onward : Onward) (left : ℕ) → resume_one known onward sets w (Ok (hidden_all known.texts sets argument, left)) ≡ Err (record { code = c; at = pos })
 JoinIs known sets old w argument (Err (Told c pos text)) new = ⊥
+
+-- one step of the innermost list
+abbrev pub GoesOnAs : Known → Sets → List Waiting → Level → ℕ → Result Level Refusal → List Waiting → ℕ → Type 0
+GoesOnAs known sets old level left (Ok made) new after =
+    (onward : Onward) → level_behind known onward sets old level left ≡ level_behind known onward sets new made after
+GoesOnAs known sets old level left (Err Memory) new after = Unit {0}
+GoesOnAs known sets old level left (Err (At c pos)) new after =
+    (onward : Onward) → level_behind known onward sets old level left ≡ Err (record { code = c; at = pos })
+GoesOnAs known sets old level left (Err (Told c pos text)) new after = ⊥
+
+-- a list is left in which a replacement is made, with so many replacements left
+abbrev pub MakesAs : {A : Type 0} → Texts → Sets → Result A Refusal → List HiddenToken → ℕ → Answer → Type 0
+MakesAs texts sets (Ok u) list left answer = answer ≡ Ok (hidden_all texts sets list, left)
+MakesAs texts sets (Err refusal) list left answer = Refuses refusal answer
 
 -- the argument at an index is handed out, and is empty from then on unless it is kept
 abbrev pub TakesArgument : List (Vec HiddenToken Global) → ℕ → Bool → List HiddenToken → List (Vec HiddenToken Global) → Type 0

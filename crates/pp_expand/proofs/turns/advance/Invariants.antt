@@ -1,5 +1,4 @@
 use Rattle.std.proofs.Common.{◌≡◌, ℕ, length}
-use Rattle.srcset.specs.NameTable.{NumbersOnce}
 use Rattle.macros.specs.Macro.{Macros}
 use Rattle.macros.specs.Table.{IsTable}
 use Rattle.macros_substitution.specs.HideSets.{Sets, Extends, NamesBelow}
@@ -12,7 +11,7 @@ invariant-loop-x l = record {
   keeps : Extends l.initial.sets l.sets;
   names : NamesBelow (length l.names) l.initial.sets → NamesBelow (length l.names) l.sets;
   same_end : l.level.end ≡ l.initial.level.end;
-  same : (macros : Macros) (later : Sets) → IsTable l.names l.table macros → NumbersOnce l.names → NamesBelow (length l.names) l.initial.sets → Extends l.sets later → (left : ℕ) → level_meaning (record { macros = macros; texts = l.names }) later l.initial.level left ≡ level_meaning (record { macros = macros; texts = l.names }) later l.level left;
+  same : (macros : Macros) (later : Sets) → IsTable l.names l.table macros → NamesBelow (length l.names) l.initial.sets → Extends l.sets later → (left : ℕ) → level_meaning (record { macros = macros; texts = l.names }) later l.initial.level left ≡ level_meaning (record { macros = macros; texts = l.names }) later l.level left;
 }
 
 abbrev pub decreases-loop-x : goal.decreases-loop-x

@@ -19,9 +19,9 @@ pub returns-in_err-put_in_front-clause-names : goal.returns-in_err-put_in_front-
 returns-in_err-put_in_front-clause-names c = λ count below. c.put_in_front.ensures.names count (c.substitute.ensures.names count below)
 
 pub returns-clause-finishes : goal.returns-clause-finishes
-returns-clause-finishes c = λ known later once below grown left.
+returns-clause-finishes c = λ known later once below grown onward left.
     let grown_new = extends_both _ _ _ c.put_in_front.ensures.keeps grown in
-    finish_ok known later c.args.at c.requires.all (hidden_all known.texts later c.in_ok-new.new.items) (record { rest = c.put_in_front.new.rest; out = c.args.at.level.out; end = c.args.at.level.end }) (c.in_ok-new.ensures.value known.texts later (call_of c.args.at.at (hidden_lists known.texts later c.args.at.arguments.items)) once below grown_new refl (λ i h. refl)) (c.in_ok-put_in_front.ensures.ok known.texts later once (c.substitute.ensures.names (length known.texts) below) grown) refl refl left
+    finish_ok known later c.args.at c.requires.all (hidden_all known.texts later c.in_ok-new.new.items) (record { rest = c.put_in_front.new.rest; out = c.args.at.level.out; end = c.args.at.level.end }) (c.in_ok-new.ensures.value known.texts later (call_of c.args.at.at (hidden_lists known.texts later c.args.at.arguments.items)) once below grown_new refl (λ i h. refl)) (c.in_ok-put_in_front.ensures.ok known.texts later once (c.substitute.ensures.names (length known.texts) below) grown) refl refl onward left
 
 pub returns-clause-known : goal.returns-clause-known
 returns-clause-known c =

@@ -6,14 +6,14 @@ use Rattle.pp_expand.proofs.Proceeds.{takes_is, skips_is, used_as, taken_in, tak
 use Rattle.pp_expand.proofs.waiting.proceed.Goals as goal
 
 pub returns-then-used-clause-proceeds : goal.returns-then-used-clause-proceeds
-returns-then-used-clause-proceeds c = λ known later once below grown left.
+returns-then-used-clause-proceeds c = λ known later once below grown onward left.
     let q = c.loop-at.at in
     let i = c.loop-at.invariant in
     let n : c.len-index.result ≡ length q.full.items = omega arith in
     let inside : length q.full.items < length q.arguments.items = omega arith in
     let u = used_as (length c.args.sets.now) q i.known c.len-index.result n inside c.index-used.result.now c.index-used.ensures known.texts later in
     let t = subst (λ m. TakesArgument q.arguments.items m c.index-used.result.now.beside c.in_ok-rest.rest.items c.take_argument.new.arguments.items) n c.in_ok-rest.ensures.ok in
-    takes_is known later c.args.at q (record q { arguments = c.take_argument.new.arguments; held = c.held_with-held.result }) c.index-used.result.now c.in_ok-rest.rest.items (i.same known later) u t refl c.args.waiting.now.items c.push.new.self.items (record { rest = c.in_ok-rest.rest; out = c.new.result; end = _ }) c.if-used.true refl c.new.ensures.items refl (c.in_ok-push.ensures.items ∙ ap (λ l. l ++ record q { arguments = c.take_argument.new.arguments; held = c.held_with-held.result } ∷ []) i.waiting) left
+    takes_is known later c.args.at q (record q { arguments = c.take_argument.new.arguments; held = c.held_with-held.result }) c.index-used.result.now c.in_ok-rest.rest.items (i.same known later) u t refl c.args.waiting.now.items c.push.new.self.items (record { rest = c.in_ok-rest.rest; out = c.new.result; end = _ }) c.if-used.true refl c.new.ensures.items refl (c.in_ok-push.ensures.items ∙ ap (λ l. l ++ record q { arguments = c.take_argument.new.arguments; held = c.held_with-held.result } ∷ []) i.waiting) onward left
 
 pub returns-then-used-clause-known : goal.returns-then-used-clause-known
 returns-then-used-clause-known c =
@@ -43,7 +43,7 @@ loop-at-preserved c =
       known = skipped_in (length c.args.sets.now) q i.known c.new-in-loop-at.result c.push-in-loop-at.new.self c.new-in-loop-at.ensures.items c.in_ok-push-2.ensures.items;
       count = i.count;
       more = omega (arith, ap length c.in_ok-push-2.ensures.items, length-append q.full.items (c.new-in-loop-at.result ∷ []), i.more);
-      same = λ known later left. skips_is known later c.args.at q (record q { full = c.push-in-loop-at.new.self }) c.index-used.result.now c.new-in-loop-at.result (i.same known later) (used_as (length c.args.sets.now) q i.known c.len-index.result n inside c.index-used.result.now c.index-used.ensures known.texts later) inside c.if-used.false c.new-in-loop-at.ensures.items refl c.in_ok-push-2.ensures.items left;
+      same = λ known later onward left. skips_is known later c.args.at q (record q { full = c.push-in-loop-at.new.self }) c.index-used.result.now c.new-in-loop-at.result (i.same known later) (used_as (length c.args.sets.now) q i.known c.len-index.result n inside c.index-used.result.now c.index-used.ensures known.texts later) inside c.if-used.false c.new-in-loop-at.ensures.items refl c.in_ok-push-2.ensures.items onward left;
     }
 
 pub returns-clause-proceeds : goal.returns-clause-proceeds
