@@ -1,5 +1,5 @@
 //! The lines of a file, one after another.
-ghost use Rattle.std.specs.Prelude.{◌≡◌, ℕ, [], true, false, drop, OnOk, IfErr};
+ghost use Rattle.std.specs.Prelude.{◌≡◌, ℕ, [], false, drop, OnOk};
 ghost use Rattle.std.specs.List.{list_all};
 ghost use Rattle.srcset.specs.NameTable.{Texts, KeepsNumbers};
 ghost use Rattle.srcset.specs.declared.refusal.Refusal.TheVariants.{At};
@@ -10,7 +10,7 @@ ghost use Rattle.pp.specs.Groups.{Parsed, Group, ends, opens, divides, closes, s
 ghost use Rattle.pp.specs.Phase4.{State as Done, Outcome, Around, group_done};
 ghost use Rattle.pp.specs.inside.Including.{is_include};
 ghost use Rattle.pp.specs.inside.Rest.{nowhere, is_active, rest_done};
-ghost use Rattle.pp.specs.inside.Stepping.{line_with, role_meant, IsSound, Agrees, Does, EndsOrGoes, RestsOrStops, Stands, StandsOrStops};
+ghost use Rattle.pp.specs.inside.Stepping.{line_with, role_meant, IsSound, Agrees, EndsOrGoes, RestsOrStops, Stands, StandsOrStops};
 
 use crate::conditionals::{BranchState, Conditionals, Open};
 use crate::conditions::{check_end, next_branch};

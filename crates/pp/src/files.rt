@@ -1,11 +1,11 @@
 //! The files that include one another.
-ghost use Rattle.std.specs.Prelude.{◌≡◌, ◌≤◌, ◌<◌, ◌+◌, ℕ, List, [], suc, true, false, length, Err, IfOk, IfErr, IfSome, OnOk, ◌⊎◌};
+ghost use Rattle.std.specs.Prelude.{◌≡◌, ◌≤◌, ◌<◌, ◌+◌, ℕ, [], suc, true, false, length, Err, IfOk, IfErr, IfSome, OnOk, ◌⊎◌};
 ghost use Rattle.srcset.specs.Files.{Files as Set};
 ghost use Rattle.srcset.specs.NameTable.{Texts, KeepsNumbers};
 ghost use Rattle.srcset.specs.declared.refusal.Refusal.TheVariants.{Memory};
 ghost use Rattle.phases.specs.Lines.{scanned};
 ghost use Rattle.pp_expand.specs.Expands.{HaveFiles};
-ghost use Rattle.pp.specs.Phase4.{State as Done, Outcome, file_done, number_in, max_includes};
+ghost use Rattle.pp.specs.Phase4.{State as Done, Outcome, max_includes};
 ghost use Rattle.pp.specs.inside.Including.{around_with, IsReading, IsOpened, CanEnter, AreStacked, AreOpen, Waits, StandsOrWaits, left_of, resumed_all, Left, LeftOrStops, LeftOrAnswers, LeftOrGoes, room_of, weight, size_of};
 ghost use Rattle.pp.specs.inside.Stepping.{IsSound, Does, Goes, Stands};
 

@@ -1,5 +1,5 @@
 //! Phase 4 of a set of files.
-ghost use Rattle.std.specs.Prelude.{◌≡◌, IfOk, IfErr};
+ghost use Rattle.std.specs.Prelude.{IfOk, IfErr};
 ghost use Rattle.srcset.specs.NameTable.{Texts, KeepsNumbers};
 ghost use Rattle.pp.specs.Preprocessed.{IsDone, IsRefused, IsPreprocessFault};
 

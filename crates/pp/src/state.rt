@@ -1,5 +1,5 @@
 //! What phase 4 has done so far, and what ends of runs and directives do to it.
-ghost use Rattle.std.specs.Prelude.{◌≡◌, ◌≤◌, ◌<◌, ◌++◌, ℕ, List, true, false, [], length, drop, codes, slice_get, Some, None, IfOk, IfErr, OnOk};
+ghost use Rattle.std.specs.Prelude.{◌≡◌, ◌<◌, List, true, false, [], length, drop, codes, IfOk, IfErr, OnOk};
 ghost use Rattle.srcset.specs.NameTable.{Texts, KeepsNumbers};
 ghost use Rattle.srcset.specs.declared.refusal.Refusal.TheVariants.{At};
 ghost use Rattle.srcset.specs.declared.code.Code.TheVariants.{BadDirective};
@@ -9,10 +9,10 @@ ghost use Rattle.macros.specs.Definition.{define};
 ghost use Rattle.pp_expand.specs.Expansion.{of_directive};
 ghost use Rattle.pp_expand.specs.Expands.{HaveFiles};
 ghost use Rattle.pp.specs.Lines.{first_end};
-ghost use Rattle.pp.specs.Phase4.{State as Done, Enter, start, expand, presume, with_macros, undefined, run_done, named, directive_done, max_tokens};
+ghost use Rattle.pp.specs.Phase4.{State as Done, Enter, start, expand, presume, with_macros, undefined, run_done, named, directive_done};
 ghost use Rattle.pp.specs.inside.Including.{is_include};
 ghost use Rattle.pp.specs.inside.Pending.{is_directive, run_ended};
-ghost use Rattle.pp.specs.inside.Stepping.{presumed_of, placed, line_with, Agrees, IsSound, Gives, StopsAs, Does, IsPast};
+ghost use Rattle.pp.specs.inside.Stepping.{presumed_of, placed, line_with, Agrees, IsSound, Gives, StopsAs, Does};
 
 use crate::ends::LineEnds;
 use crate::error_directive::refusal_of;
