@@ -18,9 +18,9 @@ use Rattle.pp_expand.specs.Expands.{HaveFiles}
 use Rattle.pp.specs.declared.state.State.{State as Held}
 use Rattle.pp.specs.Lines.{Line}
 use Rattle.pp.specs.Groups.{place_of}
-use Rattle.pp.specs.Phase4.{State, Outcome, goes, ◌>>=◌, fails, expand, presume, truth_token, is_macro, operand_of, operand_resolved, resolved_by, with_first, defined_resolved, of_truth, condition_by, macro_asked, else_asked, asked, branch_by, branch_taken, else_checked}
+use Rattle.pp.specs.Phase4.{State, Outcome, goes, stops, ◌>>=◌, fails, expand, presume, truth_token, is_macro, operand_of, operand_resolved, resolved_by, with_first, defined_resolved, of_truth, condition_by, macro_asked, else_asked, asked, branch_by, branch_taken, else_checked}
 use Rattle.pp.specs.inside.Stepping.{presumed_by, line_with, Agrees, Goes, Gives, StopsAs, Asks, PutsResolved, IsUnresolved, joined, Resolves}
-use Rattle.pp.proofs.StateLemmas.{append_files, if_true, if_false, Reads, reads_line}
+use Rattle.pp.proofs.StateLemmas.{append_files, expand_given, if_true, if_false, Reads, reads_line}
 use Rattle.pp.specs.declared.conditionals.BranchState.TheVariants.{Past}
 use Rattle.pp.specs.inside.Rest.{to_branch}
 use Rattle.pp.proofs.FileLemmas.{stops_then}
@@ -195,7 +195,7 @@ resolves_all names held tokens list skip i h r s a =
 pub condition_gives : (result : Result Bool Refusal) (texts names : Texts) (held new : Held) (raw list tokens : List Token) (at : Pos) (s : State)
     → defined_resolved 0 s (presume s raw) ≡ Some list → Gives tokens names new (expand texts list of_directive s)
     → IfOk result (λ b. holds tokens ≡ Ok b) → IfErr result (λ r. IsConditionRefused (holds tokens) at r)
-    → Asks result names new (condition_by texts at (defined_resolved 0 s (presume s raw)) s)
+    → Asks s.given result names new (condition_by texts at (defined_resolved 0 s (presume s raw)) s)
 condition_gives (Ok b) texts names held new raw list tokens at s resolved g ok err = record {
   after = g.after;
   agrees = g.agrees;
@@ -203,23 +203,22 @@ condition_gives (Ok b) texts names held new raw list tokens at s resolved g ok e
 }
 condition_gives (Err Memory) texts names held new raw list tokens at s resolved g ok err = tt
 condition_gives (Err (At c p)) texts names held new raw list tokens at s resolved g ok err = record {
-  given = g.after.given;
   stops_is = ap (λ o. condition_by texts at o s) resolved ∙ ap (λ k. k >>= λ r. of_truth r.1 at (holds r.0)) g.gives_is ∙ ap (of_truth g.after at) err.0
-      ∙ ap (λ at. fails g.after c at) (sym err.1);
+      ∙ ap (λ at. fails g.after c at) (sym err.1)
+      ∙ ap (λ (l : List Token). stops l (record { code = c; at = p; text = [] })) (expand_given texts list of_directive s (tokens, g.after) g.gives_is);
 }
 condition_gives (Err (Told c p n)) texts names held new raw list tokens at s resolved g ok err = absurd err
 
 pub condition_stops : (r : Refusal) (texts names : Texts) (raw list : List Token) (at : Pos) (s : State)
-    → defined_resolved 0 s (presume s raw) ≡ Some list → StopsAs names r (expand texts list of_directive s)
-    → StopsAs names r (condition_by texts at (defined_resolved 0 s (presume s raw)) s)
+    → defined_resolved 0 s (presume s raw) ≡ Some list → StopsAs s.given names r (expand texts list of_directive s)
+    → StopsAs s.given names r (condition_by texts at (defined_resolved 0 s (presume s raw)) s)
 condition_stops r texts names raw list at s resolved st =
-    subst (λ o. StopsAs names r (condition_by texts at o s)) (sym resolved) (stops_then r names (expand texts list of_directive s) (λ r. of_truth r.1 at (holds r.0)) st)
+    subst (λ o. StopsAs s.given names r (condition_by texts at o s)) (sym resolved) (stops_then s.given r names (expand texts list of_directive s) (λ r. of_truth r.1 at (holds r.0)) st)
 
 pub condition_unresolved : (r : Refusal) (texts names : Texts) (held : Held) (raw tokens : List Token) (at : Pos) (s : State) → Agrees names held s → presume s raw ≡ tokens
-    → IsUnresolved r names held tokens at → StopsAs names r (condition_by texts at (defined_resolved 0 s (presume s raw)) s)
+    → IsUnresolved r names held tokens at → StopsAs s.given names r (condition_by texts at (defined_resolved 0 s (presume s raw)) s)
 condition_unresolved Memory texts names held raw tokens at s a e u = tt
 condition_unresolved (At c p) texts names held raw tokens at s a e u = record {
-  given = s.given;
   stops_is = ap (λ ts. condition_by texts at (defined_resolved 0 s ts) s) e ∙ ap (λ o. condition_by texts at o s) (u.2 s a)
       ∙ ap (λ c. fails s c at) (sym u.0) ∙ ap (λ at. fails s c at) (sym u.1);
 }
@@ -253,42 +252,42 @@ after_ifndef texts name at xs s =
     else condition_by texts at (defined_resolved 0 s xs) s
 
 pub asks_ifdef : (result : Result Bool Refusal) (texts names : Texts) (held new : Held) (ts : List Token) (end : ℕ) (h x : Token) (at : Pos) (s : State) → Reads held ts h x at → Agrees names held s
-    → is_spelled (codes "ifdef") x ≡ true → Asks result names new (macro_asked true at (presume s (take (length ts - 2) (drop 2 ts))) s)
-    → Asks result names new (branch_taken texts (line_with ts end) s)
+    → is_spelled (codes "ifdef") x ≡ true → Asks s.given result names new (macro_asked true at (presume s (take (length ts - 2) (drop 2 ts))) s)
+    → Asks s.given result names new (branch_taken texts (line_with ts end) s)
 unfolding after_ifdef
 asks_ifdef result texts names held new ts end h x at s r a d asks =
     let xs = presume s (take (length ts - 2) (drop 2 ts)) in
-    subst (Asks result names new) (sym (asked_is texts names held ts end h x at s r a ∙ if_true (is_spelled (codes "ifdef") x) (macro_asked true at xs s) (after_ifdef texts x at xs s) d)) asks
+    subst (Asks s.given result names new) (sym (asked_is texts names held ts end h x at s r a ∙ if_true (is_spelled (codes "ifdef") x) (macro_asked true at xs s) (after_ifdef texts x at xs s) d)) asks
 
 pub asks_ifndef : (result : Result Bool Refusal) (texts names : Texts) (held new : Held) (ts : List Token) (end : ℕ) (h x : Token) (at : Pos) (s : State) → Reads held ts h x at → Agrees names held s
-    → is_spelled (codes "ifdef") x ≡ false → is_spelled (codes "ifndef") x ≡ true → Asks result names new (macro_asked false at (presume s (take (length ts - 2) (drop 2 ts))) s)
-    → Asks result names new (branch_taken texts (line_with ts end) s)
+    → is_spelled (codes "ifdef") x ≡ false → is_spelled (codes "ifndef") x ≡ true → Asks s.given result names new (macro_asked false at (presume s (take (length ts - 2) (drop 2 ts))) s)
+    → Asks s.given result names new (branch_taken texts (line_with ts end) s)
 unfolding after_ifdef after_ifndef
 asks_ifndef result texts names held new ts end h x at s r a d n asks =
     let xs = presume s (take (length ts - 2) (drop 2 ts)) in
-    subst (Asks result names new) (sym (asked_is texts names held ts end h x at s r a
+    subst (Asks s.given result names new) (sym (asked_is texts names held ts end h x at s r a
     ∙ if_false (is_spelled (codes "ifdef") x) (macro_asked true at xs s) (after_ifdef texts x at xs s) d
     ∙ if_true (is_spelled (codes "ifndef") x) (macro_asked false at xs s) (after_ifndef texts x at xs s) n)) asks
 
 pub asks_else : (result : Result Bool Refusal) (texts names : Texts) (held new : Held) (ts : List Token) (end : ℕ) (h x : Token) (at : Pos) (s : State) → Reads held ts h x at → Agrees names held s
-    → is_spelled (codes "ifdef") x ≡ false → is_spelled (codes "ifndef") x ≡ false → is_spelled (codes "else") x ≡ true → Asks result names new (else_asked at (presume s (take (length ts - 2) (drop 2 ts))) s)
-    → Asks result names new (branch_taken texts (line_with ts end) s)
+    → is_spelled (codes "ifdef") x ≡ false → is_spelled (codes "ifndef") x ≡ false → is_spelled (codes "else") x ≡ true → Asks s.given result names new (else_asked at (presume s (take (length ts - 2) (drop 2 ts))) s)
+    → Asks s.given result names new (branch_taken texts (line_with ts end) s)
 unfolding after_ifdef after_ifndef
 asks_else result texts names held new ts end h x at s r a d n e asks =
     let xs = presume s (take (length ts - 2) (drop 2 ts)) in
-    subst (Asks result names new) (sym (asked_is texts names held ts end h x at s r a
+    subst (Asks s.given result names new) (sym (asked_is texts names held ts end h x at s r a
     ∙ if_false (is_spelled (codes "ifdef") x) (macro_asked true at xs s) (after_ifdef texts x at xs s) d
     ∙ if_false (is_spelled (codes "ifndef") x) (macro_asked false at xs s) (after_ifndef texts x at xs s) n
     ∙ if_true (is_spelled (codes "else") x) (else_asked at xs s) (condition_by texts at (defined_resolved 0 s xs) s) e)) asks
 
 pub asks_condition : (result : Result Bool Refusal) (texts names : Texts) (held new : Held) (ts : List Token) (end : ℕ) (h x : Token) (at : Pos) (s : State) → Reads held ts h x at → Agrees names held s
     → is_spelled (codes "ifdef") x ≡ false → is_spelled (codes "ifndef") x ≡ false → is_spelled (codes "else") x ≡ false
-    → Asks result names new (condition_by texts at (defined_resolved 0 s (presume s (take (length ts - 2) (drop 2 ts)))) s)
-    → Asks result names new (branch_taken texts (line_with ts end) s)
+    → Asks s.given result names new (condition_by texts at (defined_resolved 0 s (presume s (take (length ts - 2) (drop 2 ts)))) s)
+    → Asks s.given result names new (branch_taken texts (line_with ts end) s)
 unfolding after_ifdef after_ifndef
 asks_condition result texts names held new ts end h x at s r a d n e asks =
     let xs = presume s (take (length ts - 2) (drop 2 ts)) in
-    subst (Asks result names new) (sym (asked_is texts names held ts end h x at s r a
+    subst (Asks s.given result names new) (sym (asked_is texts names held ts end h x at s r a
     ∙ if_false (is_spelled (codes "ifdef") x) (macro_asked true at xs s) (after_ifdef texts x at xs s) d
     ∙ if_false (is_spelled (codes "ifndef") x) (macro_asked false at xs s) (after_ifndef texts x at xs s) n
     ∙ if_false (is_spelled (codes "else") x) (else_asked at xs s) (condition_by texts at (defined_resolved 0 s xs) s) e)) asks
@@ -304,8 +303,8 @@ asks_nothing texts names held ts end s h a = record { after = s; agrees = a; giv
 
 -- ---- behind a branch that is taken
 
-pub past_stops : (r : Refusal) (names : Texts) (l : Line) (s : State) → StopsAs names r (else_checked l s) → StopsAs names r (else_checked l s >>= to_branch Past)
-past_stops r names l s st = stops_then r names (else_checked l s) (to_branch Past) st
+pub past_stops : (r : Refusal) (names : Texts) (l : Line) (s : State) → StopsAs s.given names r (else_checked l s) → StopsAs s.given names r (else_checked l s >>= to_branch Past)
+past_stops r names l s st = stops_then s.given r names (else_checked l s) (to_branch Past) st
 
 pub past_gives : (names : Texts) (held : Held) (l : Line) (s : State) → Goes names held (else_checked l s) → Gives Past names held (else_checked l s >>= to_branch Past)
 past_gives names held l s g = record { after = g.after; agrees = g.agrees; gives_is = ap (λ k. k >>= to_branch Past) g.goes_is }

@@ -32,10 +32,10 @@ error_utf8 xs =
     is_utf8-from_IsUtf8 (error_text xs) (IsUtf8-from_ascii (error_text xs) (taken_ascii 200 bs))
 
 pub error_told : (names : Texts) (at : Pos) (xs : List Token) (n : ℕ) (s : State) → slice_get names n ≡ Some (error_text xs)
-    → StopsTold names code.ErrorDirective at n (error_done at xs s)
+    → StopsTold s.given names code.ErrorDirective at n (error_done at xs s)
 error_told names at xs n s e = record {
   text = error_text xs;
   number_is = e;
   utf8 = error_utf8 xs;
-  fault_is = record { given = s.given; stops_is = refl };
+  fault_is = record { stops_is = refl };
 }

@@ -18,8 +18,9 @@ use Rattle.pp.specs.Lines.{Line, lines_with, first_end}
 use Rattle.pp.specs.Groups.{ends, of_text, role_of, Parsed, to_end, in_first, with_text, with_line, parsed, groups}
 use Rattle.pp.specs.Phase4.{State, Presumed, Outcome, stops, ◌>>=◌, Around, presume, group_done}
 use Rattle.pp.specs.inside.Pending.{pending, run_ended}
+use Rattle.pp.specs.inside.Queue.{Given}
 use Rattle.pp.specs.inside.Rest.{nowhere, is_active, rest_done}
-use Rattle.pp.specs.inside.Stepping.{role_meant, first_of, presumed_of, presumed_by, placed, behind_line, line_with, Agrees, Goes, Stops, StopsAs, RestsOrStops, Stands, StandsOrStops}
+use Rattle.pp.specs.inside.Stepping.{role_meant, first_of, presumed_of, presumed_by, placed, behind_line, line_with, IsGiven, Agrees, Goes, StopsAs, Ends, EndsAs, RestsOrStops, Stands, StandsOrStops}
 use Rattle.pp.proofs.GroupLemmas.{and_left, and_right}
 use Rattle.pp.proofs.RestLemmas.{is_text, in_none, text_joined, text_rest, line_rest, end_rest, end_alone, end_open, whole_rest}
 use Rattle.pp.proofs.StateLemmas.{append_files, true-false}
@@ -55,24 +56,30 @@ placed_files names p (x ∷ xs) h zero t e = subst (λ (k : Token). k.pos.file <
 placed_files names p (x ∷ xs) h (suc i) t e = placed_files names p xs h i t e
 
 -- what stops a part stops all
-pub stops_all : {A : Type 0} (names : Texts) (r : Refusal) (o : Outcome A) (whole : Outcome State) (f : A → Outcome State) → whole ≡ (o >>= f) → StopsAs names r o → StopsAs names r whole
-stops_all names Memory o whole f e s = tt
-stops_all names (At c at) o whole f e s = record { given = s.given; stops_is = e ∙ ap (λ k. k >>= f) s.stops_is }
-stops_all names (Told c at n) o whole f e s = record {
+pub stops_all : {A : Type 0} (given : List Token) (names : Texts) (r : Refusal) (o : Outcome A) (whole : Outcome State) (f : A → Outcome State) → whole ≡ (o >>= f) → StopsAs given names r o → StopsAs given names r whole
+stops_all given names Memory o whole f e s = tt
+stops_all given names (At c at) o whole f e s = record { stops_is = e ∙ ap (λ k. k >>= f) s.stops_is }
+stops_all given names (Told c at n) o whole f e s = record {
   text = s.text;
   number_is = s.number_is;
   utf8 = s.utf8;
-  fault_is = record { given = s.fault_is.given; stops_is = e ∙ ap (λ k. k >>= f) s.fault_is.stops_is };
+  fault_is = record { stops_is = e ∙ ap (λ k. k >>= f) s.fault_is.stops_is };
 }
 
-pub stops_then : {A B : Type 0} (r : Refusal) (names : Texts) (o : Outcome A) (f : A → Outcome B) → StopsAs names r o → StopsAs names r (o >>= f)
-stops_then Memory names o f s = tt
-stops_then (At c at) names o f s = record { given = s.given; stops_is = ap (λ k. k >>= f) s.stops_is }
-stops_then (Told c at n) names o f s = record { text = s.text; number_is = s.number_is; utf8 = s.utf8; fault_is = record { given = s.fault_is.given; stops_is = ap (λ k. k >>= f) s.fault_is.stops_is } }
+pub stops_then : {A B : Type 0} (given : List Token) (r : Refusal) (names : Texts) (o : Outcome A) (f : A → Outcome B) → StopsAs given names r o → StopsAs given names r (o >>= f)
+stops_then given Memory names o f s = tt
+stops_then given (At c at) names o f s = record { stops_is = ap (λ k. k >>= f) s.stops_is }
+stops_then given (Told c at n) names o f s = record { text = s.text; number_is = s.number_is; utf8 = s.utf8; fault_is = record { stops_is = ap (λ k. k >>= f) s.fault_is.stops_is } }
 
 -- an outcome that is another's stops as it does
-pub stops_same : {A : Type 0} (names : Texts) (r : Refusal) (o whole : Outcome A) → whole ≡ o → StopsAs names r o → StopsAs names r whole
-stops_same names r o whole e s = subst (StopsAs names r) (sym e) s
+pub stops_same : {A : Type 0} (given : List Token) (names : Texts) (r : Refusal) (o whole : Outcome A) → whole ≡ o → StopsAs given names r o → StopsAs given names r whole
+stops_same given names r o whole e s = subst (StopsAs given names r) (sym e) s
+
+-- what stops with what is given ends all
+pub ends_with : {A : Type 0} (held new : Given) (given : List Token) (names : Texts) (r : Refusal) (o : Outcome A) → new ≡ held → IsGiven held given → StopsAs given names r o → EndsAs new names r o
+ends_with held new given names Memory o e g s = tt
+ends_with held new given names (At c at) o e g s = record { given = given; given_is = subst (λ h. IsGiven h given) (sym e) g; stops = s }
+ends_with held new given names (Told c at n) o e g s = record { given = given; given_is = subst (λ h. IsGiven h given) (sym e) g; told = s }
 
 pub text_stands : (names : Texts) (held : Held) (run after : Run) (around : Around) (os : List Open) (l : Line) (p : Parsed) (o : Outcome State)
     → role_of l.tokens ≡ of_text → is_active os ≡ true → after.begun ≡ true
@@ -102,7 +109,7 @@ pub text_answers : {A : Type 0} → (result : Result A Refusal) (names : Texts) 
     → IfErr result (λ r. r ≡ Memory)
     → Stands names held run around os (with_line (role_of l.tokens) l p) o → StandsOrStops result names held after around os p o
 text_answers (Ok u) names held run after around os l p o text active begun ok err st = text_stands names held run after around os l p o text active begun ok st
-text_answers (Err r) names held run after around os l p o text active begun ok err st = subst (λ r. StopsAs names r o) (sym err) tt
+text_answers (Err r) names held run after around os l p o text active begun ok err st = subst (λ r. EndsAs held.given names r o) (sym err) tt
 
 pub text_files : {A : Type 0} → (result : Result A Refusal) (names : Texts) (held : Held) (run after : Run) (ts : List Token)
     → OnOk result (after.tokens ≡ run.tokens ++ placed (presumed_of held.presumed) (behind_line run.begun ts))
@@ -158,20 +165,21 @@ directive_is names held run around os w l p o e st =
     ∙ ap (λ r. rest_done around os (in_first (pending run.begun st.text) (with_line r l p)) st.now) e
     ∙ line_rest (role_meant w) around os run.begun st.text l p st.now (text_meant w) st.active
 
-pub run_stops : (refusal : Refusal) (names : Texts) (held : Held) (run : Run) (around : Around) (os : List Open) (w : Word) (l : Line) (p : Parsed) (o : Outcome State)
-    → role_of l.tokens ≡ role_meant w → (st : Stands names held run around os (with_line (role_of l.tokens) l p) o)
-    → StopsAs names refusal (run_ended around.texts run.begun st.text st.now) → StopsAs names refusal o
-run_stops refusal names held run around os w l p o e st s =
-    stops_all names refusal (run_ended around.texts run.begun st.text st.now) o (λ s. rest_done around os (with_line (role_meant w) l p) s)
-    (directive_is names held run around os w l p o e st) s
+pub run_stops : (refusal : Refusal) (names : Texts) (held new : Held) (run : Run) (around : Around) (os : List Open) (w : Word) (l : Line) (p : Parsed) (o : Outcome State)
+    → role_of l.tokens ≡ role_meant w → (st : Stands names held run around os (with_line (role_of l.tokens) l p) o) → new.given ≡ held.given
+    → StopsAs st.now.given names refusal (run_ended around.texts run.begun st.text st.now) → EndsAs new.given names refusal o
+run_stops refusal names held new run around os w l p o e st kept s =
+    ends_with held.given new.given st.now.given names refusal o kept st.agrees.given_is
+    (stops_all st.now.given names refusal (run_ended around.texts run.begun st.text st.now) o (λ s. rest_done around os (with_line (role_meant w) l p) s)
+    (directive_is names held run around os w l p o e st) s)
 
 pub directive_stands : {A : Type 0} → (result : Result A Refusal) (names after : Texts) (held between new : Held) (run run' : Run) (around : Around) (os os' : List Open) (w : Word) (l : Line) (p : Parsed) (o : Outcome State)
     → role_of l.tokens ≡ role_meant w → (st : Stands names held run around os (with_line (role_of l.tokens) l p) o)
     → run'.begun ≡ false → run'.tokens ≡ []
-    → Goes names between (run_ended around.texts run.begun st.text st.now)
-    → ((s : State) → Agrees names between s → RestsOrStops result after new around os' p (rest_done around os (with_line (role_meant w) l p) s))
+    → Goes names between (run_ended around.texts run.begun st.text st.now) → new.given ≡ between.given
+    → ((s : State) → Agrees names between s → RestsOrStops s.given result after new around os' p (rest_done around os (with_line (role_meant w) l p) s))
     → StandsOrStops result after new run' around os' p o
-directive_stands (Ok u) names after held between new run run' around os os' w l p o e st begun tokens m does =
+directive_stands (Ok u) names after held between new run run' around os os' w l p o e st begun tokens m kept does =
     let n = does m.after m.agrees in
     record {
       now = n.after;
@@ -186,10 +194,11 @@ directive_stands (Ok u) names after held between new run run' around os os' w l 
           ∙ ap (λ q. rest_done around os' q n.after) (sym (in_none [] p))
           ∙ ap (λ b. rest_done around os' (in_first (pending b []) p) n.after) (sym begun);
     }
-directive_stands (Err r) names after held between new run run' around os os' w l p o e st begun tokens m does =
-    stops_same after r (rest_done around os (with_line (role_meant w) l p) m.after) o
+directive_stands (Err r) names after held between new run run' around os os' w l p o e st begun tokens m kept does =
+    ends_with between.given new.given m.after.given after r o kept m.agrees.given_is
+    (stops_same m.after.given after r (rest_done around os (with_line (role_meant w) l p) m.after) o
     (directive_is names held run around os w l p o e st ∙ ap (λ k. k >>= λ s. rest_done around os (with_line (role_meant w) l p) s) m.goes_is)
-    (does m.after m.agrees)
+    (does m.after m.agrees))
 
 -- ---- the end of the file
 
@@ -197,10 +206,11 @@ end_is : (names : Texts) (held : Held) (run : Run) (around : Around) (os : List 
     → o ≡ (run_ended around.texts run.begun st.text st.now >>= λ s. rest_done around os (to_end ends) s)
 end_is names held run around os o st = st.comes_to ∙ end_rest around os run.begun st.text st.now st.active
 
-pub end_stops : (refusal : Refusal) (names : Texts) (held : Held) (run : Run) (around : Around) (os : List Open) (o : Outcome State) → (st : Stands names held run around os (to_end ends) o)
-    → StopsAs names refusal (run_ended around.texts run.begun st.text st.now) → StopsAs names refusal o
-end_stops refusal names held run around os o st s =
-    stops_all names refusal (run_ended around.texts run.begun st.text st.now) o (λ s. rest_done around os (to_end ends) s) (end_is names held run around os o st) s
+pub end_stops : (refusal : Refusal) (names : Texts) (held new : Held) (run : Run) (around : Around) (os : List Open) (o : Outcome State) → (st : Stands names held run around os (to_end ends) o) → new.given ≡ held.given
+    → StopsAs st.now.given names refusal (run_ended around.texts run.begun st.text st.now) → EndsAs new.given names refusal o
+end_stops refusal names held new run around os o st kept s =
+    ends_with held.given new.given st.now.given names refusal o kept st.agrees.given_is
+    (stops_all st.now.given names refusal (run_ended around.texts run.begun st.text st.now) o (λ s. rest_done around os (to_end ends) s) (end_is names held run around os o st) s)
 
 pub end_goes : (names : Texts) (held new : Held) (run : Run) (around : Around) (os : List Open) (o : Outcome State) → os ≡ [] → (st : Stands names held run around os (to_end ends) o)
     → Goes names new (run_ended around.texts run.begun st.text st.now) → Goes names new o
@@ -212,12 +222,15 @@ end_goes names held new run around os o e st m = record {
 }
 
 pub end_missing : (names : Texts) (held new : Held) (run : Run) (around : Around) (os : List Open) (first : Open) (o : Outcome State) → Some first ≡ first_of os → (st : Stands names held run around os (to_end ends) o)
-    → Goes names new (run_ended around.texts run.begun st.text st.now) → Stops code.UnbalancedConditional first.at [] o
+    → Goes names new (run_ended around.texts run.begun st.text st.now) → Ends new.given code.UnbalancedConditional first.at [] o
 end_missing names held new run around [] first o e st m = absurd (none-some first (sym e))
 end_missing names held new run around (a ∷ os) first o e st m = record {
   given = m.after.given;
-  stops_is = end_is names held run around (a ∷ os) o st ∙ ap (λ k. k >>= λ s. rest_done around (a ∷ os) (to_end ends) s) m.goes_is
-      ∙ end_open around a os m.after ∙ ap (λ (f : Open). stops m.after.given (record { code = code.UnbalancedConditional; at = f.at; text = [] })) (sym (some_open first a e));
+  given_is = m.agrees.given_is;
+  stops = record {
+    stops_is = end_is names held run around (a ∷ os) o st ∙ ap (λ k. k >>= λ s. rest_done around (a ∷ os) (to_end ends) s) m.goes_is
+        ∙ end_open around a os m.after ∙ ap (λ (f : Open). stops m.after.given (record { code = code.UnbalancedConditional; at = f.at; text = [] })) (sym (some_open first a e));
+  };
 }
 
 -- ---- lines by their numbers

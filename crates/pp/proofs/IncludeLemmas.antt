@@ -26,10 +26,10 @@ use Rattle.pp.specs.inside.Pending.{run_ended}
 use Rattle.pp.specs.inside.Rest.{is_active, rest_done}
 use Rattle.pp.specs.inside.Stepping.{presumed_of, presumed_by, placed, line_with, Agrees, Goes, Gives, Stops, StopsAs, Stands}
 use Rattle.pp.proofs.BranchLemmas.{alone_skipped}
-use Rattle.pp.proofs.FileLemmas.{directive_is, directive_stands, stops_all}
+use Rattle.pp.proofs.FileLemmas.{directive_is, directive_stands, stops_all, ends_with}
 use Rattle.pp.proofs.PhaseLemmas.{number_kept}
 use Rattle.pp.proofs.RestLemmas.{directive_rest}
-use Rattle.pp.proofs.StateLemmas.{Reads, if_true, if_false, true-false, directive_as}
+use Rattle.pp.proofs.StateLemmas.{Reads, expand_given, if_true, if_false, true-false, directive_as}
 
 -- a longer table
 pub agrees_grows : (names after : Texts) (held : Held) (s : State) → KeepsNumbers names after → NumbersOnce after → Agrees names held s → Agrees after held s
@@ -72,13 +72,12 @@ unfolding entered
 entered_file n files texts spelling at s name bytes e = ap (λ m. entered_by m at s (λ name bytes. file_done (around_with n files texts) name bytes s)) e
 
 pub not_found : (room : ℕ) (files : Files) (texts : Texts) (spelling : List ℕ) (at : Pos) (s : State) → file_meant files spelling ≡ None
-    → Stops code.IncludeNotFound at [] (entered room files texts spelling at s)
-not_found room files texts spelling at s e = record { given = s.given; stops_is = entered_none room files texts spelling at s e }
+    → Stops s.given code.IncludeNotFound at [] (entered room files texts spelling at s)
+not_found room files texts spelling at s e = record { stops_is = entered_none room files texts spelling at s e }
 
 pub no_room : (names : Texts) (source : Source) (room : ℕ) (files : Files) (texts : Texts) (spelling : List ℕ) (at : Pos) (s : State) → room ≡ 0 → Means names source (file_meant files spelling)
-    → Stops code.NestingLimit at [] (entered room files texts spelling at s)
+    → Stops s.given code.NestingLimit at [] (entered room files texts spelling at s)
 no_room names source room files texts spelling at s z m = record {
-  given = s.given;
   stops_is = ap (λ n. entered n files texts spelling at s) z ∙ entered_full files texts spelling at s m.name source.bytes.now m.meant_is;
 }
 
@@ -102,50 +101,49 @@ room_for (suc n) names source files texts spelling at s z keeps m = record {
 -- what is entered is resumed
 pub includes_then : (result : Result Source Refusal) (names after : Texts) (held : Held) (files : Files) (texts : Texts) (room : ℕ) (s : State) (o whole : Outcome State)
     → Agrees names held s → KeepsNumbers names after → IfOk result (λ x. NumbersOnce after) → whole ≡ (o >>= resumed s)
-    → EntersOrStops result after files texts room s o → IncludesOrStops result after held files texts room whole
+    → EntersOrStops result after files texts room s o → IncludesOrStops s.given result after held files texts room whole
 includes_then (Ok source) names after held files texts room s o whole a keeps once e h = record { after = s; agrees = agrees_grows names after held s keeps once a; done = o; enters = h; includes = e }
-includes_then (Err r) names after held files texts room s o whole a keeps once e h = stops_all after r o whole (resumed s) e h
+includes_then (Err r) names after held files texts room s o whole a keeps once e h = stops_all s.given after r o whole (resumed s) e h
 
 pub header_includes : (result : Result Source Refusal) (names after : Texts) (held : Held) (files : Files) (texts : Texts) (room : ℕ) (enter : Enter) (at : Pos) (xs : List Token) (x : Token) (spelling : List ℕ) (s : State)
     → xs ≡ x ∷ [] → spelling ≡ x.spelling → Agrees names held s → KeepsNumbers names after → IfOk result (λ x. NumbersOnce after) → EntersOrStops result after files texts room s (enter spelling at s)
-    → IncludesOrStops result after held files texts room (include_named enter at (presume s xs) s)
+    → IncludesOrStops s.given result after held files texts room (include_named enter at (presume s xs) s)
 header_includes result names after held files texts room enter at xs x spelling s e w a keeps once h =
     includes_then result names after held files texts room s (enter spelling at s) (include_named enter at (presume s xs) s) a keeps once
     (ap (λ xs. include_named enter at (presume s xs) s) e ∙ ap (λ t. enter t at s >>= resumed s) (sym w)) h
 
 pub string_includes : (result : Result Source Refusal) (names after : Texts) (held : Held) (files : Files) (texts : Texts) (room : ℕ) (enter : Enter) (at : Pos) (xs : List Token) (x : Token) (spelling : List ℕ) (s : State)
     → xs ≡ x ∷ [] → spelling ≡ x.spelling → is_plain_string x ≡ true → Agrees names held s → KeepsNumbers names after → IfOk result (λ x. NumbersOnce after) → EntersOrStops result after files texts room s (enter spelling at s)
-    → IncludesOrStops result after held files texts room (include_made enter at (xs, s))
+    → IncludesOrStops s.given result after held files texts room (include_made enter at (xs, s))
 string_includes result names after held files texts room enter at xs x spelling s e w p a keeps once h =
     includes_then result names after held files texts room s (enter spelling at s) (include_made enter at (xs, s)) a keeps once
     (ap (λ xs. include_made enter at (xs, s)) e ∙ if_true (is_plain_string x) (enter x.spelling at s >>= resumed s) (fails s code.BadDirective at) p ∙ ap (λ t. enter t at s >>= resumed s) (sym w)) h
 
 pub string_bad : (enter : Enter) (at : Pos) (xs : List Token) (x : Token) (s : State) → xs ≡ x ∷ [] → is_plain_string x ≡ false
-    → Stops code.BadDirective at [] (include_made enter at (xs, s))
+    → Stops s.given code.BadDirective at [] (include_made enter at (xs, s))
 string_bad enter at xs x s e p = record {
-  given = s.given;
   stops_is = ap (λ xs. include_made enter at (xs, s)) e ∙ if_false (is_plain_string x) (enter x.spelling at s >>= resumed s) (fails s code.BadDirective at) p;
 }
 
 -- a list that is no single token
-pub named_alone : (enter : Enter) (at : Pos) (xs : List Token) (s : State) → (length xs ≡ 1 → ⊥) → Stops code.BadDirective at [] (include_named enter at (presume s xs) s)
-named_alone enter at [] s h = record { given = s.given; stops_is = refl }
+pub named_alone : (enter : Enter) (at : Pos) (xs : List Token) (s : State) → (length xs ≡ 1 → ⊥) → Stops s.given code.BadDirective at [] (include_named enter at (presume s xs) s)
+named_alone enter at [] s h = record { stops_is = refl }
 named_alone enter at (x ∷ []) s h = absurd (h refl)
-named_alone enter at (x ∷ y ∷ xs) s h = record { given = s.given; stops_is = refl }
+named_alone enter at (x ∷ y ∷ xs) s h = record { stops_is = refl }
 
-pub made_alone : (enter : Enter) (at : Pos) (xs : List Token) (s : State) → (length xs ≡ 1 → ⊥) → Stops code.BadDirective at [] (include_made enter at (xs, s))
-made_alone enter at [] s h = record { given = s.given; stops_is = refl }
+pub made_alone : (enter : Enter) (at : Pos) (xs : List Token) (s : State) → (length xs ≡ 1 → ⊥) → Stops s.given code.BadDirective at [] (include_made enter at (xs, s))
+made_alone enter at [] s h = record { stops_is = refl }
 made_alone enter at (x ∷ []) s h = absurd (h refl)
-made_alone enter at (x ∷ y ∷ xs) s h = record { given = s.given; stops_is = refl }
+made_alone enter at (x ∷ y ∷ xs) s h = record { stops_is = refl }
 
 -- by the first token behind the name
 pub none_left : (xs : List Token) → length xs < 1 → xs ≡ []
 none_left [] h = refl
 none_left (x ∷ xs) h = absurd (omega (arith, h))
 
-pub done_none : (texts : Texts) (enter : Enter) (at : Pos) (xs : List Token) (s : State) → xs ≡ [] → Stops code.BadDirective at [] (include_done texts enter at (presume s xs) s)
+pub done_none : (texts : Texts) (enter : Enter) (at : Pos) (xs : List Token) (s : State) → xs ≡ [] → Stops s.given code.BadDirective at [] (include_done texts enter at (presume s xs) s)
 unfolding include_done
-done_none texts enter at xs s e = record { given = s.given; stops_is = ap (λ xs. include_done texts enter at (presume s xs) s) e }
+done_none texts enter at xs s e = record { stops_is = ap (λ xs. include_done texts enter at (presume s xs) s) e }
 
 pub done_header : (texts : Texts) (enter : Enter) (at : Pos) (xs rest : List Token) (x : Token) (s : State) → xs ≡ x ∷ rest → is_header_kind x.kind ≡ true
     → include_done texts enter at (presume s xs) s ≡ include_named enter at (presume s xs) s
@@ -172,16 +170,17 @@ made_is texts names enter at held xs tokens rest x s a t e k =
     ∙ ap (λ l. expand texts l of_directive s >>= include_made enter at) (ap (λ p. placed p xs) a.presumed_is ∙ sym t)
 
 pub made_stops : (r : Refusal) (texts names after : Texts) (enter : Enter) (at : Pos) (held : Held) (xs tokens rest : List Token) (x : Token) (s : State) → Agrees names held s → tokens ≡ placed (presumed_of held.presumed) xs
-    → xs ≡ x ∷ rest → is_header_kind x.kind ≡ false → StopsAs after r (expand texts tokens of_directive s) → StopsAs after r (include_done texts enter at (presume s xs) s)
+    → xs ≡ x ∷ rest → is_header_kind x.kind ≡ false → StopsAs s.given after r (expand texts tokens of_directive s) → StopsAs s.given after r (include_done texts enter at (presume s xs) s)
 made_stops r texts names after enter at held xs tokens rest x s a t e k st =
-    stops_all after r (expand texts tokens of_directive s) (include_done texts enter at (presume s xs) s) (include_made enter at) (made_is texts names enter at held xs tokens rest x s a t e k) st
+    stops_all s.given after r (expand texts tokens of_directive s) (include_done texts enter at (presume s xs) s) (include_made enter at) (made_is texts names enter at held xs tokens rest x s a t e k) st
 
 pub made_includes : (result : Result Source Refusal) (texts names after : Texts) (enter : Enter) (at : Pos) (held new : Held) (files : Files) (room : ℕ) (xs tokens rest list : List Token) (x : Token) (s : State) → Agrees names held s → tokens ≡ placed (presumed_of held.presumed) xs
     → xs ≡ x ∷ rest → is_header_kind x.kind ≡ false → (g : Gives list names new (expand texts tokens of_directive s))
-    → IncludesOrStops result after new files texts room (include_made enter at (list, g.after))
-    → IncludesOrStops result after new files texts room (include_done texts enter at (presume s xs) s)
+    → IncludesOrStops g.after.given result after new files texts room (include_made enter at (list, g.after))
+    → IncludesOrStops s.given result after new files texts room (include_done texts enter at (presume s xs) s)
 made_includes result texts names after enter at held new files room xs tokens rest list x s a t e k g h =
-    subst (IncludesOrStops result after new files texts room) (sym (made_is texts names enter at held xs tokens rest x s a t e k ∙ ap (λ o. o >>= include_made enter at) g.gives_is)) h
+    subst (IncludesOrStops s.given result after new files texts room) (sym (made_is texts names enter at held xs tokens rest x s a t e k ∙ ap (λ o. o >>= include_made enter at) g.gives_is))
+    (subst (λ l. IncludesOrStops l result after new files texts room (include_made enter at (list, g.after))) (expand_given texts tokens of_directive s (list, g.after) g.gives_is) h)
 
 -- ---- the line
 
@@ -236,23 +235,24 @@ pub line_skipped : (names : Texts) (held now : Held) (run run' : Run) (around : 
     → is_include ts ≡ true → (st : Stands names held run around os (with_line (role_of ts) (line_with ts end) p) o) → run'.begun ≡ false → run'.tokens ≡ []
     → Goes names now (run_ended around.texts run.begun st.text st.now) → is_active os ≡ false → Stands names now run' around os p o
 line_skipped names held now run run' around os ts end p o i st begun tokens m out =
-    directive_stands {A = Bool} (Ok true) names names held now now run run' around os os word.StandsAlone (line_with ts end) p o (include_role ts i) st begun tokens m
+    directive_stands {A = Bool} (Ok true) names names held now now run run' around os os word.StandsAlone (line_with ts end) p o (include_role ts i) st begun tokens m refl
     (λ s a. alone_skipped names now around os (line_with ts end) p s out a)
 
 pub line_includes : (result : Result Source Refusal) (names after : Texts) (held now new : Held) (run : Run) (file : OpenFile) (files : Files) (texts : Texts) (room : ℕ) (ts : List Token) (end : ℕ) (p : Parsed) (o : Outcome State) (h : Token) (at : Pos)
     → is_include ts ≡ true → (st : Stands names held run (around_with room files texts) file.conditionals (with_line (role_of ts) (line_with ts end) p) o)
     → (m : Goes names now (run_ended texts run.begun st.text st.now)) → is_active file.conditionals ≡ true
-    → 2 ≤ length ts → h ≡ slice_index_or ts 0 h → at ≡ presumed_by (presumed_of now.presumed) h.pos
-    → ((s : State) → Agrees names now s → IncludesOrStops result after new files texts room (include_done texts (entered room files texts) at (presume s (take (length ts - 2) (drop 2 ts))) s))
+    → 2 ≤ length ts → h ≡ slice_index_or ts 0 h → at ≡ presumed_by (presumed_of now.presumed) h.pos → new.given ≡ now.given
+    → ((s : State) → Agrees names now s → IncludesOrStops s.given result after new files texts room (include_done texts (entered room files texts) at (presume s (take (length ts - 2) (drop 2 ts))) s))
     → IncludedOrStops result after new file files texts room p o
-line_includes (Ok source) names after held now new run file files texts room ts end p o h at i st m active n f q does = record {
+line_includes (Ok source) names after held now new run file files texts room ts end p o h at i st m active n f q kept does = record {
   made = include_done texts (entered room files texts) at (presume m.after (take (length ts - 2) (drop 2 ts))) m.after;
   includes = does m.after m.agrees;
   waits = line_is texts names names held now run (around_with room files texts) file.conditionals ts end p o i st m active
       ∙ ap (λ k. k >>= rest_done (around_with room files texts) file.conditionals p) (include_is texts names (entered room files texts) now ts end h at m.after n f q i m.agrees);
 }
-line_includes (Err r) names after held now new run file files texts room ts end p o h at i st m active n f q does =
-    stops_all after r (include_done texts (entered room files texts) at (presume m.after (take (length ts - 2) (drop 2 ts))) m.after) o (rest_done (around_with room files texts) file.conditionals p)
+line_includes (Err r) names after held now new run file files texts room ts end p o h at i st m active n f q kept does =
+    ends_with now.given new.given m.after.given after r o kept m.agrees.given_is
+    (stops_all m.after.given after r (include_done texts (entered room files texts) at (presume m.after (take (length ts - 2) (drop 2 ts))) m.after) o (rest_done (around_with room files texts) file.conditionals p)
     (line_is texts names names held now run (around_with room files texts) file.conditionals ts end p o i st m active
     ∙ ap (λ k. k >>= rest_done (around_with room files texts) file.conditionals p) (include_is texts names (entered room files texts) now ts end h at m.after n f q i m.agrees))
-    (does m.after m.agrees)
+    (does m.after m.agrees))

@@ -11,3 +11,7 @@ pub mod StackLemmas
 pub mod PhaseLemmas
 pub mod ConditionLemmas
 pub mod LineLemmas
+pub mod FrontLemmas
+pub mod StreamLemmas
+pub mod StreamLaws
+pub mod CollectLemmas

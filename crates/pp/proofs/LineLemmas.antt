@@ -13,12 +13,12 @@ use Rattle.lexer.specs.Digits.{digit_value, value_behind, value_of}
 use Rattle.macros.specs.Table.{IsTable}
 use Rattle.macros.proofs.TableLemmas.{table_grows}
 use Rattle.pp.specs.declared.state.State.{State as Held}
-use Rattle.pp.specs.Phase4.{State, ◌>>=◌, expand, presume, line_done, goes, fails, is_line_number, is_file_text, inside, numbered, number_in, line_made}
-use Rattle.pp.specs.inside.Stepping.{presumed_of, placed, Agrees, Goes, Gives, Stops, StopsAs, Answers, Does, IsNextDigit, IsLineNumber}
+use Rattle.pp.specs.Phase4.{State, ◌>>=◌, expand, presume, line_done, goes, stops, fails, is_line_number, is_file_text, inside, numbered, number_in, line_made}
+use Rattle.pp.specs.inside.Stepping.{presumed_of, placed, IsGiven, Agrees, Goes, Gives, Stops, StopsAs, Answers, Does, IsNextDigit, IsLineNumber}
 use Rattle.srcset.specs.declared.refusal.Refusal.{Refusal}
 use Rattle.srcset.specs.declared.refusal.Refusal.TheVariants.{At}
 use Rattle.pp_expand.specs.Expansion.{of_directive}
-use Rattle.pp.proofs.StateLemmas.{true-false}
+use Rattle.pp.proofs.StateLemmas.{true-false, expand_given}
 use Rattle.pp.proofs.FileLemmas.{stops_all}
 use Rattle.pp.proofs.ConditionLemmas.{first_rest, rest_one}
 use Rattle.pp.proofs.PhaseLemmas.{number_kept}
@@ -74,7 +74,7 @@ same_file texts names held new end line at number s n l a = record {
   agrees = record {
     table_is = subst (λ (h : Held). IsTable names h.table s.macros) (sym n) a.table_is;
     left_is = a.left_is ∙ ap (λ (h : Held). h.budget) (sym n);
-    given_is = a.given_is ∙ ap (λ (h : Held). h.given.items) (sym n);
+    given_is = subst (λ (h : Held). IsGiven h.given s.given) (sym n) a.given_is;
     presumed_is = ap (λ (h : Held). presumed_of h.presumed) (sym n);
   };
   goes_is = if_true (is_line_number number.spelling) (numbered end number.spelling s.presumed.file s) (fails s code.BadLineDirective at) l.0
@@ -97,7 +97,7 @@ new_file texts names after held new end line file at number name s n keeps once 
       agrees = record {
         table_is = table_grows names after new.table s.macros keeps once (subst (λ (h : Held). IsTable names h.table s.macros) (sym n) a.table_is);
         left_is = a.left_is ∙ ap (λ (h : Held). h.budget) (sym n);
-        given_is = a.given_is ∙ ap (λ (h : Held). h.given.items) (sym n);
+        given_is = subst (λ (h : Held). IsGiven h.given s.given) (sym n) a.given_is;
         presumed_is = ap (λ (h : Held). presumed_of h.presumed) (sym n);
       };
       goes_is = if_true (is_line_number number.spelling && is_file_text name) (numbered end number.spelling (number_in texts (inside name.spelling)) s) (fails s code.BadLineDirective at) (both_true (is_line_number number.spelling) (is_file_text name) l.0 f)
@@ -106,39 +106,36 @@ new_file texts names after held new end line file at number name s n keeps once 
     }
 
 pub bad_file : (texts : Texts) (end : ℕ) (at : Pos) (number name : Token) (s : State) → is_file_text name ≡ false
-    → Stops code.BadLineDirective at [] (line_made texts end at (number ∷ name ∷ [], s))
+    → Stops s.given code.BadLineDirective at [] (line_made texts end at (number ∷ name ∷ [], s))
 bad_file texts end at number name s f = record {
-  given = s.given;
   stops_is = if_false (is_line_number number.spelling && is_file_text name) (numbered end number.spelling (number_in texts (inside name.spelling)) s) (fails s code.BadLineDirective at)
       (not_both (is_line_number number.spelling) (is_file_text name) f);
 }
 
 pub more_tokens : (texts : Texts) (end : ℕ) (at : Pos) (number : Token) (further : List Token) (s : State) → 2 ≤ length further
-    → Stops code.BadLineDirective at [] (line_made texts end at (number ∷ further, s))
+    → Stops s.given code.BadLineDirective at [] (line_made texts end at (number ∷ further, s))
 more_tokens texts end at number [] s h = absurd (omega (arith, h))
 more_tokens texts end at number (a ∷ []) s h = absurd (omega (arith, h))
-more_tokens texts end at number (a ∷ b ∷ rest) s h = record { given = s.given; stops_is = refl }
+more_tokens texts end at number (a ∷ b ∷ rest) s h = record { stops_is = refl }
 
 no_line : (texts : Texts) (end : ℕ) (at : Pos) (number : Token) (further : List Token) (s : State) → is_line_number number.spelling ≡ false
-    → Stops code.BadLineDirective at [] (line_made texts end at (number ∷ further, s))
+    → Stops s.given code.BadLineDirective at [] (line_made texts end at (number ∷ further, s))
 no_line texts end at number [] s h = record {
-  given = s.given;
   stops_is = if_false (is_line_number number.spelling) (numbered end number.spelling s.presumed.file s) (fails s code.BadLineDirective at) h;
 }
 no_line texts end at number (a ∷ []) s h = record {
-  given = s.given;
   stops_is = ap (λ b. if b && is_file_text a then numbered end number.spelling (number_in texts (inside a.spelling)) s else fails s code.BadLineDirective at) h;
 }
-no_line texts end at number (a ∷ b ∷ rest) s h = record { given = s.given; stops_is = refl }
+no_line texts end at number (a ∷ b ∷ rest) s h = record { stops_is = refl }
 
-pub bad_tokens : (texts : Texts) (end : ℕ) (at : Pos) (list : List Token) (s : State) → length list < 1 → Stops code.BadLineDirective at [] (line_made texts end at (list, s))
-bad_tokens texts end at [] s h = record { given = s.given; stops_is = refl }
+pub bad_tokens : (texts : Texts) (end : ℕ) (at : Pos) (list : List Token) (s : State) → length list < 1 → Stops s.given code.BadLineDirective at [] (line_made texts end at (list, s))
+bad_tokens texts end at [] s h = record { stops_is = refl }
 bad_tokens texts end at (a ∷ rest) s h = absurd (omega (arith, h))
 
 pub bad_number : (texts : Texts) (end : ℕ) (at : Pos) (list further : List Token) (number : Token) (s : State) → list ≡ number ∷ further → is_line_number number.spelling ≡ false
-    → Stops code.BadLineDirective at [] (line_made texts end at (list, s))
+    → Stops s.given code.BadLineDirective at [] (line_made texts end at (list, s))
 bad_number texts end at list further number s e h =
-    subst (λ l. Stops code.BadLineDirective at [] (line_made texts end at (l, s))) (sym e) (no_line texts end at number further s h)
+    subst (λ l. Stops s.given code.BadLineDirective at [] (line_made texts end at (l, s))) (sym e) (no_line texts end at number further s h)
 
 -- ---- the whole directive
 
@@ -150,25 +147,26 @@ line_is texts names held raw tokens end at s a e =
     ∙ ap (λ ts. expand texts ts of_directive s >>= line_made texts end at) (sym e)
 
 pub line_stops : (r : Refusal) (texts names : Texts) (held : Held) (raw tokens : List Token) (end : ℕ) (at : Pos) (s : State) → Agrees names held s → tokens ≡ placed (presumed_of held.presumed) raw
-    → StopsAs names r (expand texts tokens of_directive s) → StopsAs names r (line_done texts end at (presume s raw) s)
+    → StopsAs s.given names r (expand texts tokens of_directive s) → StopsAs s.given names r (line_done texts end at (presume s raw) s)
 line_stops r texts names held raw tokens end at s a e st =
-    stops_all names r (expand texts tokens of_directive s) (line_done texts end at (presume s raw) s) (line_made texts end at) (line_is texts names held raw tokens end at s a e) st
+    stops_all s.given names r (expand texts tokens of_directive s) (line_done texts end at (presume s raw) s) (line_made texts end at) (line_is texts names held raw tokens end at s a e) st
 
 pub line_bad : (r : Refusal) (texts names : Texts) (held new : Held) (raw tokens list : List Token) (end : ℕ) (at : Pos) (s : State) → Agrees names held s → tokens ≡ placed (presumed_of held.presumed) raw
-    → r ≡ At code.BadLineDirective at → Gives list names new (expand texts tokens of_directive s) → ((s : State) → Stops code.BadLineDirective at [] (line_made texts end at (list, s)))
-    → StopsAs names r (line_done texts end at (presume s raw) s)
+    → r ≡ At code.BadLineDirective at → Gives list names new (expand texts tokens of_directive s) → ((s : State) → Stops s.given code.BadLineDirective at [] (line_made texts end at (list, s)))
+    → StopsAs s.given names r (line_done texts end at (presume s raw) s)
 line_bad r texts names held new raw tokens list end at s a e is g bad =
-    subst (λ r. StopsAs names r (line_done texts end at (presume s raw) s)) (sym is)
+    subst (λ r. StopsAs s.given names r (line_done texts end at (presume s raw) s)) (sym is)
     (record {
-      given = (bad g.after).given;
-      stops_is = line_is texts names held raw tokens end at s a e ∙ ap (λ k. k >>= line_made texts end at) g.gives_is ∙ (bad g.after).stops_is;
+      stops_is = line_is texts names held raw tokens end at s a e ∙ ap (λ k. k >>= line_made texts end at) g.gives_is ∙ (bad g.after).stops_is
+          ∙ ap (λ (l : List Token). stops l (record { code = code.BadLineDirective; at = at; text = [] })) (expand_given texts tokens of_directive s (list, g.after) g.gives_is);
     })
 
 pub line_answers : {A : Type 0} (result : Result A Refusal) (texts names after : Texts) (held mid new : Held) (raw tokens list : List Token) (end : ℕ) (at : Pos) (s : State) → Agrees names held s → tokens ≡ placed (presumed_of held.presumed) raw
     → Gives list names mid (expand texts tokens of_directive s) → Does result names mid after new (λ s. line_made texts end at (list, s))
-    → Answers result after new (line_done texts end at (presume s raw) s)
+    → Answers s.given result after new (line_done texts end at (presume s raw) s)
 line_answers result texts names after held mid new raw tokens list end at s a e g does =
-    subst (Answers result after new) (sym (line_is texts names held raw tokens end at s a e ∙ ap (λ k. k >>= line_made texts end at) g.gives_is)) (does g.after g.agrees)
+    subst (Answers s.given result after new) (sym (line_is texts names held raw tokens end at s a e ∙ ap (λ k. k >>= line_made texts end at) g.gives_is))
+    (subst (λ l. Answers l result after new (line_made texts end at (list, g.after))) (expand_given texts tokens of_directive s (list, g.after) g.gives_is) (does g.after g.agrees))
 
 pub whole_list : (ts list : List Token) (x : Token) → ts ≡ list → 1 ≤ length ts → x ≡ slice_index_or ts 0 x → list ≡ x ∷ take (length ts - 1) (drop 1 ts)
 whole_list ts list x e n p = sym e ∙ first_rest ts x n p ∙ ap (λ l. x ∷ l) (sym (rest_one ts))

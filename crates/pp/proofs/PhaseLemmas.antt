@@ -15,15 +15,14 @@ use Rattle.phases.specs.Token.{Token}
 use Rattle.phases.specs.Text.{logical, phase1, last_line, ends_open, ends_spliced}
 use Rattle.phases.specs.Lines.{scanned, at_end, lines_or_fault, fault_or, found, Found}
 use Rattle.phases.specs.declared.token.Place.TheVariants.{Start}
-use Rattle.pp.specs.declared.state.State.{State as Held}
 use Rattle.phases.specs.LineEnds.{line_ends}
 use Rattle.pp.specs.Lines.{Line, lines_with, lines_or_refusal, lines_of}
 use Rattle.pp.specs.Groups.{groups}
-use Rattle.pp.specs.Phase4.{State, Fault, goes, Around, start, max_includes, number_in, lines_done, file_done, main_done, ending_of, phase4, group_done}
-use Rattle.pp.specs.Preprocessed.{IsDone, IsStopped, IsRefused}
+use Rattle.pp.specs.Phase4.{State, Fault, Around, start, max_includes, number_in, lines_done, file_done, main_done, ending_of, phase4, group_done}
+use Rattle.pp.specs.Preprocessed.{IsStopped, IsRefused}
 use Rattle.pp.specs.inside.Including.{around_with}
 use Rattle.pp.specs.inside.Rest.{nowhere}
-use Rattle.pp.specs.inside.Stepping.{Goes, Stops, StopsAs}
+use Rattle.pp.specs.inside.Stepping.{Stops, StopsAs}
 use Rattle.pp.proofs.StateLemmas.{true-false}
 
 -- ---- numbers of texts
@@ -115,19 +114,18 @@ scan_placed file bytes =
 
 -- phases 1 to 3 refuse at places
 pub file_refused : (r : Refusal) (names : Texts) (around : Around) (name bytes : List ℕ) (file : ℕ) (s : State)
-    → number_in around.texts name ≡ file → scanned file bytes ≡ Err r → StopsAs names r (file_done around name bytes s)
+    → number_in around.texts name ≡ file → scanned file bytes ≡ Err r → StopsAs s.given names r (file_done around name bytes s)
 unfolding file_done lines_of IsPlaced
 file_refused Memory names around name bytes file s numbered e = tt
 file_refused (At c at) names around name bytes file s numbered e = record {
-  given = s.given;
   stops_is = ap (λ n. lines_done around (lines_of n bytes) (begun_in n s)) numbered
       ∙ ap (λ r. lines_done around (lines_or_refusal r (line_ends 0 Start (logical 1 bytes))) (begun_in file s)) e;
 }
 file_refused (Told c at text) names around name bytes file s numbered e = absurd (subst IsPlaced e (scan_placed file bytes))
 
 pub scan_stops : (r : Refusal) (names : Texts) (around : Around) (name bytes : List ℕ) (file : ℕ) (s : State)
-    → number_in around.texts name ≡ file → (r ≡ Memory) ⊎ (scanned file bytes ≡ Err r) → StopsAs names r (file_done around name bytes s)
-scan_stops r names around name bytes file s numbered (inl m) = subst (λ r. StopsAs names r (file_done around name bytes s)) (sym m) tt
+    → number_in around.texts name ≡ file → (r ≡ Memory) ⊎ (scanned file bytes ≡ Err r) → StopsAs s.given names r (file_done around name bytes s)
+scan_stops r names around name bytes file s numbered (inl m) = subst (λ r. StopsAs s.given names r (file_done around name bytes s)) (sym m) tt
 scan_stops r names around name bytes file s numbered (inr e) = file_refused r names around name bytes file s numbered e
 
 -- ---- phase 4
@@ -137,28 +135,22 @@ pub main_is : (files : Files) (texts : Texts) (main bytes : List ℕ) → file_o
 unfolding phase4
 main_is files texts main bytes given = ap (λ o. ending_of (main_done files texts main o)) given
 
-pub done_is : (files : Files) (texts names : Texts) (main bytes : List ℕ) (held : Held) → file_of files main ≡ Some bytes
-    → Goes names held (file_done (around_with max_includes files texts) main bytes start) → IsDone files texts main held.given.items
-done_is files texts names main bytes held given g = record {
-  done = main_is files texts main bytes given ∙ ap ending_of g.goes_is ∙ ap (λ l. ending_of (goes (record g.after { given = l }))) g.agrees.given_is;
-}
-
-stops_with : (files : Files) (texts : Texts) (main bytes : List ℕ) (c : Code) (at : Pos) (text : List ℕ) → file_of files main ≡ Some bytes
-    → Stops c at text (file_done (around_with max_includes files texts) main bytes start) → IsStopped files texts main c at text
-stops_with files texts main bytes c at text given s = record {
-  stops = ap (λ p. p.fault) (main_is files texts main bytes given ∙ ap ending_of s.stops_is);
-}
-
-shown_is : (texts : Texts) (n : ℕ) (text : List ℕ) → slice_get texts n ≡ Some text → is_utf8 text ≡ true → shown_text texts n ≡ text
+pub shown_is : (texts : Texts) (n : ℕ) (text : List ℕ) → slice_get texts n ≡ Some text → is_utf8 text ≡ true → shown_text texts n ≡ text
 shown_is texts n text e u = ap utf8_or_empty e ∙ ap (λ b. if b then text else []) u
 
-pub stopped_is : (refusal : Refusal) (files : Files) (texts names : Texts) (main bytes : List ℕ) → KeepsNumbers names texts → file_of files main ≡ Some bytes
-    → StopsAs names refusal (file_done (around_with max_includes files texts) main bytes start) → IsRefused files texts main refusal
-stopped_is Memory files texts names main bytes keeps given s = tt
-stopped_is (At c at) files texts names main bytes keeps given s = stops_with files texts main bytes c at [] given s
-stopped_is (Told c at n) files texts names main bytes keeps given s =
+stops_with : (files : Files) (texts : Texts) (main bytes : List ℕ) (given : List Token) (c : Code) (at : Pos) (text : List ℕ) → file_of files main ≡ Some bytes
+    → Stops given c at text (file_done (around_with max_includes files texts) main bytes start) → IsStopped files texts main c at text
+stops_with files texts main bytes given c at text found s = record {
+  stops = ap (λ p. p.fault) (main_is files texts main bytes found ∙ ap ending_of s.stops_is);
+}
+
+pub stopped_is : (refusal : Refusal) (given : List Token) (files : Files) (texts names : Texts) (main bytes : List ℕ) → KeepsNumbers names texts → file_of files main ≡ Some bytes
+    → StopsAs given names refusal (file_done (around_with max_includes files texts) main bytes start) → IsRefused files texts main refusal
+stopped_is Memory given files texts names main bytes keeps found s = tt
+stopped_is (At c at) given files texts names main bytes keeps found s = stops_with files texts main bytes given c at [] found s
+stopped_is (Told c at n) given files texts names main bytes keeps found s =
     subst (IsStopped files texts main c at) (sym (shown_is texts n s.text (keeps n s.text s.number_is) s.utf8))
-    (stops_with files texts main bytes c at s.text given s.fault_is)
+    (stops_with files texts main bytes given c at s.text found s.fault_is)
 
 abbrev no_main : ℕ → Fault
 no_main n = record { code = code.NoMainFile; at = record { file = n; line = 0 }; text = [] }

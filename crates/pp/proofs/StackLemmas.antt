@@ -1,6 +1,8 @@
 -- Files that wait for those that they include.
-use Rattle.std.proofs.Common.{◌≡◌, ◌≤◌, ◌<◌, ◌-◌, ◌+◌, ◌*◌, ◌⊎◌, ℕ, zero, suc, List, [], ◌∷◌, length, drop, false, Result, Ok, Err, OnOk, refl, sym, ap, subst, ◌∙◌, arith}
+use Rattle.std.proofs.Common.{◌≡◌, ◌≤◌, ◌<◌, ◌-◌, ◌+◌, ◌*◌, ◌⊎◌, ℕ, zero, suc, List, [], ◌∷◌, length, drop, false, Result, Ok, Err, OnOk, refl, sym, ap, subst, ◌∙◌, arith, length-append}
 use Rattle.std.proofs.Math.Nat as nat
+use Rattle.srcset.specs.declared.code.Code.{Code}
+use Rattle.srcset.specs.declared.refusal.Pos.{Pos}
 use Rattle.srcset.specs.declared.refusal.Refusal.{Refusal}
 use Rattle.srcset.specs.declared.refusal.Refusal.TheVariants.{Memory, At, Told}
 use Rattle.srcset.specs.Files.{Files}
@@ -22,9 +24,10 @@ use Rattle.pp.specs.Phase4.{State, Fault, Outcome, goes, stops, ◌>>=◌, Aroun
 use Rattle.pp.specs.inside.Guards.{IsPassedOver}
 use Rattle.pp.specs.inside.Including.{around_with, Waits, left_of, IsReading, IsOpened, AreWaiting, AreStacked, AreOpen, room_of, back_in, goes_on, resumed_all, Left, weight, lines_left, weighed, size_of}
 use Rattle.pp.specs.inside.Pending.{pending}
+use Rattle.pp.specs.inside.Queue.{Given}
 use Rattle.pp.specs.inside.Rest.{nowhere, rest_done}
-use Rattle.pp.specs.inside.Stepping.{presumed_of, Agrees, IsSound, Goes, StopsAs, Stands}
-use Rattle.pp.proofs.FileLemmas.{stands_first, no_files, true_or_false}
+use Rattle.pp.specs.inside.Stepping.{presumed_of, IsGiven, Agrees, IsSound, Goes, Stops, EndsAs, Stands}
+use Rattle.pp.proofs.FileLemmas.{stops_then, stops_same, ends_with, stands_first, no_files, true_or_false}
 use Rattle.pp.proofs.PhaseLemmas.{begun_in, file_is, scan_stops}
 use Rattle.pp.proofs.RestLemmas.{in_none}
 use Rattle.pp.proofs.StateLemmas.{still_within}
@@ -35,15 +38,18 @@ stops_on : (set : Files) (texts : Texts) (room : ℕ) (is : List Includer) (give
 stops_on set texts room [] given f = refl
 stops_on set texts room (i ∷ is) given f = stops_on set texts (suc room) is given f
 
-pub left_stops : (r : Refusal) (names : Texts) (set : Files) (texts : Texts) (room : ℕ) (is : List Includer) (inner o : Outcome State)
-    → o ≡ resumed_all set texts room is inner → StopsAs names r inner → StopsAs names r o
-left_stops Memory names set texts room is inner o e s = tt
-left_stops (At c at) names set texts room is inner o e s = record { given = s.given; stops_is = e ∙ ap (resumed_all set texts room is) s.stops_is ∙ stops_on set texts room is s.given _ }
-left_stops (Told c at n) names set texts room is inner o e s = record {
-  text = s.text;
-  number_is = s.number_is;
-  utf8 = s.utf8;
-  fault_is = record { given = s.fault_is.given; stops_is = e ∙ ap (resumed_all set texts room is) s.fault_is.stops_is ∙ stops_on set texts room is s.fault_is.given _ };
+ends_on : (c : Code) (at : Pos) (text : List ℕ) (given : List Token) (set : Files) (texts : Texts) (room : ℕ) (is : List Includer) (inner o : Outcome State)
+    → o ≡ resumed_all set texts room is inner → Stops given c at text inner → Stops given c at text o
+ends_on c at text given set texts room is inner o e s = record { stops_is = e ∙ ap (resumed_all set texts room is) s.stops_is ∙ stops_on set texts room is given _ }
+
+pub left_stops : (r : Refusal) (held : Given) (names : Texts) (set : Files) (texts : Texts) (room : ℕ) (is : List Includer) (inner o : Outcome State)
+    → o ≡ resumed_all set texts room is inner → EndsAs held names r inner → EndsAs held names r o
+left_stops Memory held names set texts room is inner o e s = tt
+left_stops (At c at) held names set texts room is inner o e s = record { given = s.given; given_is = s.given_is; stops = ends_on c at [] s.given set texts room is inner o e s.stops }
+left_stops (Told c at n) held names set texts room is inner o e s = record {
+  given = s.given;
+  given_is = s.given_is;
+  told = record { text = s.told.text; number_is = s.told.number_is; utf8 = s.told.utf8; fault_is = ends_on c at s.told.text s.given set texts room is inner o e s.told.fault_is };
 }
 
 -- ---- a file is entered
@@ -100,20 +106,16 @@ entered_left names held set texts innermost is source made o r w e op =
 
 pub entered_stops : (r : Refusal) (names : Texts) (held : Held) (set : Files) (texts : Texts) (innermost : Reading) (is : List Includer) (source : Source) (made o : Outcome State)
     → Waits names held innermost.file set texts (room_of is) source (left_of innermost) made → o ≡ resumed_all set texts (room_of is) is made
-    → (r ≡ Memory) ⊎ (scanned source.name source.bytes.now ≡ Err r) → StopsAs names r o
+    → (r ≡ Memory) ⊎ (scanned source.name source.bytes.now ≡ Err r) → EndsAs held.given names r o
 entered_stops r names held set texts innermost is source made o w e why =
     let g = w.includes in
     let k = rest_done (around_with (room_of is) set texts) innermost.file.conditionals (left_of innermost) in
     let f = file_done (around_with g.enters.further set texts) g.enters.name source.bytes.now g.after in
-    left_stops r names set texts (room_of is) is made o e
-    (subst (StopsAs names r) (sym (w.waits ∙ ap (λ j. j >>= k) (g.includes ∙ ap (λ j. j >>= resumed g.after) g.enters.enters)))
-    (then_stops r names (f >>= resumed g.after) k (then_stops r names f (resumed g.after)
-    (scan_stops r names (around_with g.enters.further set texts) g.enters.name source.bytes.now source.name g.after g.enters.number_is why))))
-  where
-    then_stops : (r : Refusal) (names : Texts) (o : Outcome State) (k : State → Outcome State) → StopsAs names r o → StopsAs names r (o >>= k)
-    then_stops Memory names o k s = tt
-    then_stops (At c at) names o k s = record { given = s.given; stops_is = ap (λ j. j >>= k) s.stops_is }
-    then_stops (Told c at n) names o k s = record { text = s.text; number_is = s.number_is; utf8 = s.utf8; fault_is = record { given = s.fault_is.given; stops_is = ap (λ j. j >>= k) s.fault_is.stops_is } }
+    left_stops r held.given names set texts (room_of is) is made o e
+    (ends_with held.given held.given g.after.given names r made refl g.agrees.given_is
+    (stops_same g.after.given names r ((f >>= resumed g.after) >>= k) made (w.waits ∙ ap (λ j. j >>= k) (g.includes ∙ ap (λ j. j >>= resumed g.after) g.enters.enters))
+    (stops_then g.after.given r names (f >>= resumed g.after) k (stops_then g.after.given r names f (resumed g.after)
+    (scan_stops r names (around_with g.enters.further set texts) g.enters.name source.bytes.now source.name g.after g.enters.number_is why)))))
 
 -- ---- a file goes on
 
@@ -135,6 +137,9 @@ passed_whole : (old : State) (around : Around) (name bytes : List ℕ) (file : �
     → (file_done around name bytes old >>= resumed old) ≡ goes old
 passed_whole old around name bytes file p n = ap (λ o. o >>= resumed old) (p.nothing around name n)
 
+given_few : (held : Given) (given : List Token) → IsGiven held given → held.taken + length held.left ≤ max_tokens → length given ≤ max_tokens
+given_few held given g few = omega (arith, few, g.taken_is, ap length g.given_is, length-append g.taken held.left)
+
 pub passed_left : (names : Texts) (held : Held) (set : Files) (texts : Texts) (innermost : Reading) (is : List Includer) (source : Source) (made o : Outcome State)
     → Waits names held innermost.file set texts (room_of is) source (left_of innermost) made → o ≡ resumed_all set texts (room_of is) is made
     → innermost.file.run.begun ≡ false → innermost.file.run.tokens ≡ []
@@ -145,7 +150,7 @@ passed_left names held set texts innermost is source made o w e begun tokens pas
     let around = around_with (room_of is) set texts in
     let os = innermost.file.conditionals in
     let p = left_of innermost in
-    let few = subst (λ (xs : List Token). length xs ≤ max_tokens) (sym g.agrees.given_is) sound.room in
+    let few = given_few held.given g.after.given g.agrees.given_is sound.room in
     let nothing = ap (λ k. k >>= resumed g.after) g.enters.enters
     ∙ passed_whole g.after (around_with g.enters.further set texts) g.enters.name source.bytes.now source.name (passes g.after g.agrees few) g.enters.number_is in
     record {

@@ -1,5 +1,5 @@
 -- What ends of runs and directives do to the state.
-use Rattle.std.proofs.Common.{◌≡◌, ◌≤◌, ◌<◌, ◌+◌, ℕ, zero, suc, List, [], ◌∷◌, ◌++◌, length, Bool, true, false, None, Result, Ok, Err, OnOk, IfErr, get_or, drop, take, ◌-◌, arith, slice_index_or, refl, sym, ap, subst, length-append, ⊎_elim, ◌∙◌}
+use Rattle.std.proofs.Common.{◌≡◌, ◌≤◌, ◌<◌, ◌+◌, ℕ, zero, suc, List, [], ◌∷◌, ◌++◌, length, Bool, true, false, None, Result, Ok, Err, OnOk, IfErr, get_or, drop, take, ◌-◌, arith, slice_index_or, refl, sym, ap, subst, ⊎_elim, ◌∙◌}
 use Rattle.std.specs.Prelude.{slice_get, codes, if◌then◌else◌, map, ◌&&◌, Vec}
 use Rattle.std.specs.List.{flat_map}
 use Rattle.std.specs.declared.alloc.Global.{Global}
@@ -17,13 +17,14 @@ use Rattle.macros.specs.Macro.{Macros, is_identifier, is_spelled, is_hash}
 use Rattle.macros.specs.Definition.{define, undefine}
 use Rattle.macros.specs.Table.{IsTable, Defines, IsDefineRefusal, Undefines, IsUndefineRefusal}
 use Rattle.pp_expand.specs.Expansion as expansion
-use Rattle.pp_expand.specs.Expansion.{Known, of_run, of_directive, expanded}
+use Rattle.pp_expand.specs.Expansion.{Ending, Known, of_run, of_directive, expanded}
 use Rattle.pp_expand.specs.Expands.{HaveFiles, IsExpansion, put_behind}
 use Rattle.pp.specs.declared.state.State.{State as Held}
 use Rattle.pp.specs.Phase4.{Presumed, printable, State, Outcome, goes, stops, ◌>>=◌, Enter, presume, with_macros, undefined, fails, of_expansion, expand, give, first_past, run_done, include_done, line_done, named, directive_by, directive_done, max_tokens}
 use Rattle.pp.specs.inside.Including.{is_include}
 use Rattle.pp.specs.inside.Pending.{is_directive}
-use Rattle.pp.specs.inside.Stepping.{presumed_of, presumed_by, placed, line_with, spaced_out, error_fault, error_done, Gives, Agrees, IsSound, Goes, Stops, StopsAs, Answers, Does, IsPast}
+use Rattle.pp.specs.inside.Queue.{Given}
+use Rattle.pp.specs.inside.Stepping.{presumed_of, presumed_by, placed, line_with, spaced_out, error_fault, error_done, IsGiven, Gives, Agrees, IsSound, Goes, Stops, StopsAs, Answers, Does, IsPast}
 
 pub on_ok : {A : Type 0} {P : Type 0} → (result : Result A Refusal) → P → OnOk result P
 on_ok (Ok u) p = p
@@ -48,7 +49,7 @@ append_files names (x ∷ xs) ys hx hy (suc i) t e = append_files names xs ys (�
 pub still_sound : (names after : Texts) (held new : Held) → KeepsNumbers names after → IsSound names held
     → new.given ≡ held.given → new.presumed ≡ held.presumed → IsSound after new
 still_sound names after held new keeps sound g p = record {
-  room = subst (λ v. length v.items ≤ max_tokens) (sym g) sound.room;
+  room = subst (λ v. v.taken + length v.left ≤ max_tokens) (sym g) sound.room;
   has_file = subst (λ q. q.file < length after) (sym p) (still_within names after held.presumed.file keeps sound.has_file);
 }
 
@@ -63,15 +64,14 @@ with_macros_goes names after held new s at r macros a e t b g p = record {
   agrees = record {
     table_is = t;
     left_is = a.left_is ∙ sym b;
-    given_is = a.given_is ∙ ap (λ v. v.items) (sym g);
+    given_is = subst (λ v. IsGiven v s.given) (sym g) a.given_is;
     presumed_is = a.presumed_is ∙ ap presumed_of (sym p);
   };
   goes_is = ap (with_macros s at) e;
 }
 
-with_macros_stops : (s : State) (at pos : Pos) (r : Result Macros Code) (c : Code) → r ≡ Err c → pos ≡ at → Stops c pos [] (with_macros s at r)
+with_macros_stops : (s : State) (at pos : Pos) (r : Result Macros Code) (c : Code) → r ≡ Err c → pos ≡ at → Stops s.given c pos [] (with_macros s at r)
 with_macros_stops s at pos r c e p = record {
-  given = s.given;
   stops_is = ap (with_macros s at) e ∙ ap (λ q. stops s.given (record { code = c; at = q; text = [] })) (sym p);
 }
 
@@ -79,7 +79,7 @@ pub defines : {A : Type 0} → (result : Result A Refusal) (names after : Texts)
     → OnOk result (Defines names held.table line after new.table)
     → IfErr result (λ r. (macros : Macros) → IsTable names held.table macros → IsDefineRefusal macros line at r)
     → new.budget ≡ held.budget → new.given ≡ held.given → new.presumed ≡ held.presumed
-    → (s : State) → Agrees names held s → Answers result after new (with_macros s at (define s.macros line))
+    → (s : State) → Agrees names held s → Answers s.given result after new (with_macros s at (define s.macros line))
 defines (Ok u) names after held new line at ok err b g p s a =
     let d = ok s.macros a.table_is in
     with_macros_goes names after held new s at (define s.macros line) d.after a d.defined d.table_is b g p
@@ -92,12 +92,12 @@ pub undefines : {A : Type 0} → (result : Result A Refusal) (names : Texts) (he
     → OnOk result (Undefines names held.table name new.table)
     → IfErr result (IsUndefineRefusal name at)
     → new.budget ≡ held.budget → new.given ≡ held.given → new.presumed ≡ held.presumed
-    → (s : State) → Agrees names held s → Answers result names new (with_macros s at (undefine s.macros name))
+    → (s : State) → Agrees names held s → Answers s.given result names new (with_macros s at (undefine s.macros name))
 undefines (Ok u) names held new name at ok err b g p s a =
     let d = ok s.macros a.table_is in
     with_macros_goes names names held new s at (undefine s.macros name) d.after a d.undefined d.table_is b g p
 undefines (Err r) names held new name at ok err b g p s a =
-    subst (λ r. StopsAs names r (with_macros s at (undefine s.macros name))) (sym err.refusal_is)
+    subst (λ r. StopsAs s.given names r (with_macros s at (undefine s.macros name))) (sym err.refusal_is)
     (with_macros_stops s at at (undefine s.macros name) code.ReservedMacroName (err.undefined s.macros) refl)
 
 -- ---- the end of a run
@@ -117,15 +117,14 @@ run_is texts names xs tokens held s r a t e =
 pub run_fails : (refusal : Refusal) (texts names : Texts) (xs tokens : List Token) (held : Held) (left : ℕ) (s : State)
     → Agrees names held s → tokens ≡ placed (presumed_of held.presumed) xs
     → IsExpansion (Err refusal) held.budget left (expanded (record { macros = s.macros; texts = texts }) tokens of_run held.budget)
-    → StopsAs names refusal (run_done texts xs s)
+    → StopsAs s.given names refusal (run_done texts xs s)
 run_fails Memory texts names xs tokens held left s a t e = tt
 run_fails (At c pos) texts names xs tokens held left s a t e = record {
-  given = s.given;
   stops_is = run_is texts names xs tokens held s (Err (record { code = c; at = pos })) a t e.0;
 }
 run_fails (Told c pos text) texts names xs tokens held left s a t e = absurd e
 
--- ---- tokens that are kept as far as they are so many
+-- ---- tokens that are made as far as they are so many
 
 take_get : (k : ℕ) (xs : List Token) (i : ℕ) → i < k → slice_get (take k xs) i ≡ slice_get xs i
 take_get zero xs i h = absurd (omega (arith, h))
@@ -133,58 +132,94 @@ take_get (suc k) [] i h = refl
 take_get (suc k) (x ∷ xs) zero h = refl
 take_get (suc k) (x ∷ xs) (suc i) h = take_get k xs i (omega (arith, h))
 
-get_kept : (before : List Token) (k : ℕ) (list : List Token) (i : ℕ) → i < length before + k → slice_get (before ++ take k list) i ≡ slice_get (before ++ list) i
-get_kept [] k list i h = take_get k list i (omega (arith, h))
-get_kept (b ∷ before) k list zero h = refl
-get_kept (b ∷ before) k list (suc i) h = get_kept before k list i (omega (arith, h))
+zero_behind : (i n : ℕ) → n ≡ length {A = Token} [] + i → n ≡ i
+zero_behind i n e = omega (arith, e)
 
--- each of so many is there
-kept_at : (most : ℕ) (before list : List Token) (i : ℕ) → i < most → slice_get (put_behind most before list) i ≡ slice_get (before ++ list) i
-kept_at most before list i h = get_kept before (most - length before) list i (omega (arith, h))
+get_behind : (before list : List Token) (i n : ℕ) → n ≡ length before + i → slice_get (before ++ list) n ≡ slice_get list i
+get_behind [] list i n e = ap (slice_get list) (zero_behind i n e)
+get_behind (b ∷ before) list i zero e = absurd (omega (arith, e))
+get_behind (b ∷ before) list i (suc n) e = get_behind before list i n (omega (arith, e))
 
 -- where they are fewer, all are there
-all_kept : (most : ℕ) (before list : List Token) → length (put_behind most before list) < most → put_behind most before list ≡ before ++ list
-all_kept most before list h =
-    let fewer : length (before ++ take (most - length before) list) < most = h in
+all_made : (most : ℕ) (list : List Token) → length (take most list) < most → take most list ≡ list
+all_made most list h =
     ⊎_elim
-    (λ (p : most - length before < length list). absurd (omega (arith, fewer, p, length-append before (take (most - length before) list), length-take-le (most - length before) list (omega (arith, p)))))
-    (λ (p : length list ≤ most - length before). ap (λ l. before ++ l) (take_all (most - length before) list p))
-    (cases_lt (most - length before) (length list))
+    (λ (p : most < length list). absurd (omega (arith, h, p, length-take-le most list (omega (arith, p)))))
+    (λ (p : length list ≤ most). take_all most list p)
+    (cases_lt most (length list))
 
-pub run_goes : {A : Type 0} → (result : Result A Refusal) (texts names : Texts) (xs tokens list : List Token) (held new : Held) (s : State) (most : ℕ) → max_tokens < most
-    → Agrees names held s → tokens ≡ placed (presumed_of held.presumed) xs
+append_nothing : (xs : List Token) → xs ++ [] ≡ xs
+append_nothing [] = refl
+append_nothing (x ∷ xs) = ap (λ l. x ∷ l) (append_nothing xs)
+
+-- where none is left, all were taken
+pub all_taken : (held : Given) (given : List Token) → held.left ≡ [] → (g : IsGiven held given) → given ≡ g.taken
+all_taken held given none g = g.given_is ∙ ap (λ l. g.taken ++ l) none ∙ append_nothing g.taken
+
+room_behind : (held : Given) (given : List Token) (room : ℕ) → held.left ≡ [] → IsGiven held given → room ≡ max_tokens - held.taken → held.taken ≤ max_tokens → max_tokens ≡ length given + room
+room_behind held given room none g r few = omega (arith, r, few, g.taken_is, ap length (all_taken held given none g))
+
+given_more : (held new : Given) (given list : List Token) → held.left ≡ [] → IsGiven held given → new ≡ record { taken = held.taken; left = list } → IsGiven new (given ++ list)
+given_more held new given list none g e =
+    subst (λ n. IsGiven n (given ++ list)) (sym e)
+    (record { taken = g.taken; taken_is = g.taken_is; given_is = ap (λ l. l ++ list) (all_taken held given none g) })
+
+run_goes : {A : Type 0} → (result : Result A Refusal) (texts names : Texts) (xs tokens list made : List Token) (held new : Held) (s : State) (room most : ℕ) → room ≡ max_tokens - held.given.taken → most ≡ room + 1 → held.given.taken ≤ max_tokens
+    → held.given.left ≡ [] → Agrees names held s → tokens ≡ placed (presumed_of held.presumed) xs
     → expanded (record { macros = s.macros; texts = texts }) tokens of_run held.budget ≡ Ok (list, new.budget)
-    → new.table ≡ held.table → new.presumed ≡ held.presumed → new.given.items ≡ put_behind most held.given.items list
-    → OnOk result (length new.given.items ≤ max_tokens)
-    → OnOk result (slice_get new.given.items max_tokens ≡ None)
-    → IfErr result (IsPast new.given.items)
-    → Answers result names new (run_done texts xs s)
-run_goes (Ok u) texts names xs tokens list held new s most more a t e table p all room ok err =
-    let whole = all_kept most held.given.items list (omega (arith, ap length all, room, more)) in
-    let g = ap (λ g. g ++ list) a.given_is ∙ sym (all ∙ whole) in
+    → new.table ≡ held.table → new.presumed ≡ held.presumed → made ≡ take most list
+    → OnOk result (new.given ≡ record { taken = held.given.taken; left = made })
+    → OnOk result (held.given.taken + length made ≤ max_tokens)
+    → OnOk result (slice_get made room ≡ None)
+    → IfErr result (IsPast room made)
+    → Answers s.given result names new (run_done texts xs s)
+run_goes (Ok u) texts names xs tokens list made held new s room most r n few none a t e table p all ok fits within err =
+    let whole = all ∙ all_made most list (omega (arith, ap length all, r, n, few, fits)) in
     record {
       after = record s { left = new.budget; given = s.given ++ list };
       agrees = record {
         table_is = subst (λ n. IsTable names n s.macros) (sym table) a.table_is;
         left_is = refl;
-        given_is = g;
+        given_is = given_more held.given new.given s.given list none a.given_is (ok ∙ ap (λ (l : List Token). record { taken = held.given.taken; left = l }) whole);
         presumed_is = a.presumed_is ∙ ap presumed_of (sym p);
       };
       goes_is = run_is texts names xs tokens held s (Ok (list, new.budget)) a t e
-          ∙ ap (λ o. first_past o (s.given ++ list) s (record s { left = new.budget })) (ap (λ all. slice_get all max_tokens) g ∙ ok);
+          ∙ ap (λ o. first_past o (s.given ++ list) s (record s { left = new.budget }))
+          (get_behind s.given list room max_tokens (room_behind held.given s.given room none a.given_is r few) ∙ ap (λ l. slice_get l room) (sym whole) ∙ within);
     }
-run_goes (Err Memory) texts names xs tokens list held new s most more a t e table p all room ok err = tt
-run_goes (Err (At c at)) texts names xs tokens list held new s most more a t e table p all room ok err =
-    let same : slice_get (s.given ++ list) max_tokens ≡ slice_get new.given.items max_tokens =
-    ap (λ g. slice_get (g ++ list) max_tokens) a.given_is ∙ sym (ap (λ g. slice_get g max_tokens) all ∙ kept_at most held.given.items list max_tokens more) in
+run_goes (Err Memory) texts names xs tokens list made held new s room most r n few none a t e table p all ok fits within err = tt
+run_goes (Err (At c at)) texts names xs tokens list made held new s room most r n few none a t e table p all ok fits within err =
+    let same = get_behind s.given list room max_tokens (room_behind held.given s.given room none a.given_is r few)
+    ∙ sym (take_get most list room (omega (arith, n))) ∙ ap (λ l. slice_get l room) (sym all) in
     record {
-      given = s.given;
       stops_is = run_is texts names xs tokens held s (Ok (list, new.budget)) a t e
           ∙ ap (λ o. first_past o (s.given ++ list) s (record s { left = new.budget })) (same ∙ err.1)
           ∙ ap (λ k. stops s.given (record { code = k; at = err.0.pos; text = [] })) (sym err.2)
           ∙ ap (λ q. stops s.given (record { code = c; at = q; text = [] })) (sym err.3);
     }
-run_goes (Err (Told c at text)) texts names xs tokens list held new s most more a t e table p all room ok err = absurd err
+run_goes (Err (Told c at text)) texts names xs tokens list made held new s room most r n few none a t e table p all ok fits within err = absurd err
+
+less_nothing : (n : ℕ) → n - length {A = Token} [] ≡ n
+less_nothing n = omega arith
+
+pub run_puts : {A : Type 0} → (result : Result A Refusal) (texts names : Texts) (xs tokens list made before : List Token) (held new : Held) (old : Given) (s : State) (taken : ℕ)
+    → old ≡ held.given → taken ≡ held.given.taken → taken ≤ max_tokens → before ≡ []
+    → held.given.left ≡ [] → Agrees names held s → tokens ≡ placed (presumed_of held.presumed) xs
+    → expanded (record { macros = s.macros; texts = texts }) tokens of_run held.budget ≡ Ok (list, new.budget)
+    → new.table ≡ held.table → new.presumed ≡ held.presumed → made ≡ put_behind (max_tokens - taken + 1) before list
+    → OnOk result (new.given ≡ record { taken = old.taken; left = made })
+    → OnOk result (old.taken + length made ≤ max_tokens)
+    → OnOk result (slice_get made (max_tokens - old.taken) ≡ None)
+    → IfErr result (IsPast (max_tokens - old.taken) made)
+    → Answers s.given result names new (run_done texts xs s)
+run_puts result texts names xs tokens list made before held new old s taken o t few b none a place e table p all ok fits within err =
+    run_goes result texts names xs tokens list made held new s (max_tokens - held.given.taken) (max_tokens - taken + 1) refl (ap (λ n. max_tokens - n + 1) t) (subst (λ n. n ≤ max_tokens) t few)
+    none a place e table p
+    (all ∙ ap (λ l. put_behind (max_tokens - taken + 1) l list) b ∙ ap (λ n. take n list) (less_nothing (max_tokens - taken + 1)))
+    (subst (λ (g : Given). OnOk result (new.given ≡ record { taken = g.taken; left = made })) o ok)
+    (subst (λ (g : Given). OnOk result (g.taken + length made ≤ max_tokens)) o fits)
+    (subst (λ (g : Given). OnOk result (slice_get made (max_tokens - g.taken) ≡ None)) o within)
+    (subst (λ (g : Given). IfErr result (IsPast (max_tokens - g.taken) made)) o err)
 
 -- ---- directives
 
@@ -248,12 +283,11 @@ pub directive_named : {A : Type 0} → (result : Result A Refusal) (texts names 
     → Does result names held after new (λ s. named texts enter x (presume s (take (length ts - 2) (drop 2 ts))) end at s)
     → Does result names held after new (directive_done texts enter (line_with ts end))
 directive_named result texts names after enter held new ts end h x at r i does s a =
-    subst (Answers result after new) (sym (directive_as texts names enter held ts end h x at s r a ∙ if_true (is_identifier x) (named texts enter x (presume s (take (length ts - 2) (drop 2 ts))) end at s) (fails s code.BadDirective at) i)) (does s a)
+    subst (Answers s.given result after new) (sym (directive_as texts names enter held ts end h x at s r a ∙ if_true (is_identifier x) (named texts enter x (presume s (take (length ts - 2) (drop 2 ts))) end at s) (fails s code.BadDirective at) i)) (does s a)
 
 pub directive_bad : (texts names : Texts) (enter : Enter) (held : Held) (ts : List Token) (end : ℕ) (h x : Token) (at : Pos) (s : State)
-    → Reads held ts h x at → is_identifier x ≡ false → Agrees names held s → Stops code.BadDirective at [] (directive_done texts enter (line_with ts end) s)
+    → Reads held ts h x at → is_identifier x ≡ false → Agrees names held s → Stops s.given code.BadDirective at [] (directive_done texts enter (line_with ts end) s)
 directive_bad texts names enter held ts end h x at s r i a = record {
-  given = s.given;
   stops_is = directive_as texts names enter held ts end h x at s r a ∙ if_false (is_identifier x) (named texts enter x (presume s (take (length ts - 2) (drop 2 ts))) end at s) (fails s code.BadDirective at) i;
 }
 
@@ -357,10 +391,9 @@ named_pragma texts names held enter x xs end at s d u i l e p a = record {
 
 pub named_bad : (texts : Texts) (enter : Enter) (x : Token) (xs : List Token) (end : ℕ) (at : Pos) (s : State) → is_spelled (codes "define") x ≡ false → is_spelled (codes "undef") x ≡ false → is_spelled (codes "include") x ≡ false
     → is_spelled (codes "line") x ≡ false → is_spelled (codes "error") x ≡ false → is_spelled (codes "pragma") x ≡ false
-    → Stops code.BadDirective at [] (named texts enter x xs end at s)
+    → Stops s.given code.BadDirective at [] (named texts enter x xs end at s)
 unfolding after_error
 named_bad texts enter x xs end at s d u i l e p = record {
-  given = s.given;
   stops_is = named_last texts enter x xs end at s d u i l e ∙ if_false (is_spelled (codes "pragma") x) (goes s) (fails s code.BadDirective at) p;
 }
 
@@ -381,9 +414,9 @@ one_item (a ∷ b ∷ ts) x n m p = absurd (omega (arith, m))
 
 pub does_undefine : {A : Type 0} → (result : Result A Refusal) (names after : Texts) (held new : Held) (ts : List Token) (x : Token) (at : Pos) (s : State)
     → 1 ≤ length ts → length ts < 2 → x ≡ slice_index_or ts 0 x → is_identifier x ≡ true
-    → Answers result after new (with_macros s at (undefine s.macros x)) → Answers result after new (undefined s at (presume s ts))
+    → Answers s.given result after new (with_macros s at (undefine s.macros x)) → Answers s.given result after new (undefined s at (presume s ts))
 does_undefine result names after held new ts x at s n m p i answers =
-    subst (Answers result after new)
+    subst (Answers s.given result after new)
     (sym (ap (λ k. undefined s at (presume s k)) (one_item ts x n m p) ∙ if_true (is_identifier x) (with_macros s at (undefine s.macros x)) (fails s code.BadDirective at) i))
     answers
 
@@ -405,7 +438,7 @@ expand_gives texts names xs list held new s a e t g p = record {
   agrees = record {
     table_is = subst (λ n. IsTable names n s.macros) (sym t) a.table_is;
     left_is = refl;
-    given_is = a.given_is ∙ ap (λ v. v.items) (sym g);
+    given_is = subst (λ v. IsGiven v s.given) (sym g) a.given_is;
     presumed_is = a.presumed_is ∙ ap presumed_of (sym p);
   };
   gives_is = expand_is texts names xs held s (Ok (list.items, new.budget)) a e;
@@ -413,16 +446,32 @@ expand_gives texts names xs list held new s a e t g p = record {
 
 pub expand_stops : (refusal : Refusal) (texts names : Texts) (xs : List Token) (held : Held) (left : ℕ) (s : State)
     → Agrees names held s → IsExpansion (Err refusal) held.budget left (expanded (record { macros = s.macros; texts = texts }) xs of_directive held.budget)
-    → StopsAs names refusal (expand texts xs of_directive s)
+    → StopsAs s.given names refusal (expand texts xs of_directive s)
 expand_stops Memory texts names xs held left s a e = tt
 expand_stops (At c pos) texts names xs held left s a e = record {
-  given = s.given;
   stops_is = expand_is texts names xs held s (Err (record { code = c; at = pos })) a e.0;
 }
 expand_stops (Told c pos text) texts names xs held left s a e = absurd e
 
+given_of : State → Outcome (List Token × State) → List Token
+given_of s (goes a) = a.1.given
+given_of s (stops given f) = s.given
+
+IsGoing : Outcome (List Token × State) → Type 0
+IsGoing (goes a) = Unit {0}
+IsGoing (stops given f) = ⊥
+
+expansion_given : (s : State) (r : Result (List Token × ℕ) expansion.Fault) (a : List Token × State) → of_expansion s r ≡ goes a → a.1.given ≡ s.given
+unfolding given_of IsGoing
+expansion_given s (Ok b) a e = sym (ap (λ (o : Outcome (List Token × State)). given_of s o) e)
+expansion_given s (Err f) a e = absurd (subst IsGoing (sym e) tt)
+
+-- what a directive is expanded to is not given
+pub expand_given : (texts : Texts) (xs : List Token) (ending : Ending) (s : State) (a : List Token × State) → expand texts xs ending s ≡ goes a → a.1.given ≡ s.given
+expand_given texts xs ending s a e = expansion_given s (expanded (record { macros = s.macros; texts = texts }) xs ending s.left) a e
+
 pub error_is : (texts : Texts) (names : Texts) (r : Refusal) (enter : Enter) (x : Token) (raw : List Token) (end : ℕ) (at : Pos) (s : State) → is_spelled (codes "define") x ≡ false → is_spelled (codes "undef") x ≡ false → is_spelled (codes "include") x ≡ false
     → is_spelled (codes "line") x ≡ false → is_spelled (codes "error") x ≡ true
-    → StopsAs names r (error_done at raw s) → StopsAs names r (named texts enter x (presume s raw) end at s)
+    → StopsAs s.given names r (error_done at raw s) → StopsAs s.given names r (named texts enter x (presume s raw) end at s)
 error_is texts names r enter x raw end at s d u i l e st =
-    subst (StopsAs names r) (sym (named_error texts enter x (presume s raw) end at s d u i l e ∙ ap (λ f. stops s.given f) (error_placed at s.presumed raw))) st
+    subst (StopsAs s.given names r) (sym (named_error texts enter x (presume s raw) end at s d u i l e ∙ ap (λ f. stops s.given f) (error_placed at s.presumed raw))) st

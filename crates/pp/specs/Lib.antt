@@ -6,5 +6,6 @@ pub mod Lines
 pub mod Groups
 pub mod Phase4
 pub mod Preprocessed
+pub mod Stream
 pub mod Printed
 pub mod inside

@@ -169,8 +169,9 @@ fn condition<'a>(
     names: &Names,
 ) -> Result<bool, Refusal>
     requires { IsSound names.now state.old }
-    ensures asks { (texts : Texts) (s : Done) → KeepsNumbers names.now texts → Agrees names.now state.old s → Asks result names.now state.new (condition_by texts at (defined_resolved 0 s (presume s further.now)) s) }
+    ensures asks { (texts : Texts) (s : Done) → KeepsNumbers names.now texts → Agrees names.now state.old s → Asks s.given result names.now state.new (condition_by texts at (defined_resolved 0 s (presume s further.now)) s) }
     ensures sound { OnOk result (IsSound names.now state.new) }
+    ensures given { state.new.given ≡ state.old.given }
 {
     let mut placed = Vec::new(alloc);
     state.presumed.put(alloc, further, &mut placed)?;
@@ -187,7 +188,7 @@ fn macro_asked<'a>(
     at: Pos,
     names: &Names,
 ) -> Result<bool, Refusal>
-    ensures { (s : Done) → Agrees names.now state.now s → Asks result names.now state.now (macro_asked wanted at (presume s further.now) s) }
+    ensures { (s : Done) → Agrees names.now state.now s → Asks s.given result names.now state.now (macro_asked wanted at (presume s further.now) s) }
 {
     let [name] = further else {
         return Err(bad_directive(at));
@@ -204,7 +205,7 @@ fn macro_asked<'a>(
 
 // An `#else` is taken, where nothing stands behind it.
 fn else_asked<'a>(state: &State<'a>, further: &[PpToken<'a>], at: Pos) -> Result<bool, Refusal>
-    ensures { (names : Texts) (s : Done) → Agrees names state.now s → Asks result names state.now (else_asked at (presume s further.now) s) }
+    ensures { (names : Texts) (s : Done) → Agrees names state.now s → Asks s.given result names state.now (else_asked at (presume s further.now) s) }
 {
     if further.is_empty() {
         Ok(true)
@@ -221,8 +222,9 @@ fn branch_taken<'a>(
     names: &Names,
 ) -> Result<bool, Refusal>
     requires { IsSound names.now state.old }
-    ensures asks { (texts : Texts) (end : ℕ) (s : Done) → KeepsNumbers names.now texts → Agrees names.now state.old s → Asks result names.now state.new (branch_taken texts (line_with line.now end) s) }
+    ensures asks { (texts : Texts) (end : ℕ) (s : Done) → KeepsNumbers names.now texts → Agrees names.now state.old s → Asks s.given result names.now state.new (branch_taken texts (line_with line.now end) s) }
     ensures sound { OnOk result (IsSound names.now state.new) }
+    ensures given { state.new.given ≡ state.old.given }
 {
     let [hash, name, further @ ..] = line else {
         return Ok(false);
@@ -269,8 +271,9 @@ pub fn next_branch<'a>(
     names: &Names,
 ) -> Result<BranchState, Refusal>
     requires { IsSound names.now state.old }
-    ensures asks { (around : Around) (end : ℕ) (s : Done) → KeepsNumbers names.now around.texts → Agrees names.now state.old s → Asks result names.now state.new (next_branch before around (line_with line.now end) s) }
+    ensures asks { (around : Around) (end : ℕ) (s : Done) → KeepsNumbers names.now around.texts → Agrees names.now state.old s → Asks s.given result names.now state.new (next_branch before around (line_with line.now end) s) }
     ensures sound { OnOk result (IsSound names.now state.new) }
+    ensures given { state.new.given ≡ state.old.given }
 {
     match before {
         BranchState::Waiting => {

@@ -57,7 +57,7 @@ fn error_text(alloc: Global, tokens: &[PpToken]) -> Result<Vec<u8>, AllocError>
 
 /// The refusal of an `#error`, by the tokens behind its name, at this place.
 pub fn refusal_of(alloc: Global, tokens: &[PpToken], at: Pos, names: &mut Names) -> Refusal
-    ensures told { (s : Done) → StopsAs names.new result (error_done at tokens.now s) }
+    ensures told { (s : Done) → StopsAs s.given names.new result (error_done at tokens.now s) }
     ensures keeps { KeepsNumbers names.old names.new }
 {
     let Ok(text) = error_text(alloc, tokens) else {

@@ -1,5 +1,5 @@
 //! The lines of a file, one after another.
-ghost use Rattle.std.specs.Prelude.{◌≡◌, ℕ, true, false, drop, OnOk};
+ghost use Rattle.std.specs.Prelude.{◌≡◌, ℕ, [], false, drop, OnOk};
 ghost use Rattle.std.specs.List.{list_all};
 ghost use Rattle.srcset.specs.NameTable.{Texts, KeepsNumbers};
 ghost use Rattle.srcset.specs.declared.refusal.Refusal.TheVariants.{At};
@@ -10,7 +10,7 @@ ghost use Rattle.pp.specs.Groups.{Parsed, Group, ends, opens, divides, closes, s
 ghost use Rattle.pp.specs.Phase4.{State as Done, Outcome, Around, group_done};
 ghost use Rattle.pp.specs.inside.Including.{is_include};
 ghost use Rattle.pp.specs.inside.Rest.{nowhere, is_active, rest_done};
-ghost use Rattle.pp.specs.inside.Stepping.{line_with, role_meant, IsSound, Agrees, Does, Answers, RestsOrStops, Stands, StandsOrStops};
+ghost use Rattle.pp.specs.inside.Stepping.{line_with, role_meant, IsSound, Agrees, EndsOrGoes, RestsOrStops, Stands, StandsOrStops};
 
 use crate::conditionals::{BranchState, Conditionals, Open};
 use crate::conditions::{check_end, next_branch};
@@ -49,8 +49,9 @@ fn opens<'a>(
 ) -> Result<(), Refusal>
     requires sound { IsSound names.now state.old }
     requires role { role_of line.now ≡ opens }
-    ensures rests { (around : Around) (end : ℕ) (p : Parsed) (s : Done) → KeepsNumbers names.now around.texts → Agrees names.now state.old s → RestsOrStops result names.now state.new around conditionals.new p (rest_done around conditionals.old (with_line opens (line_with line.now end) p) s) }
+    ensures rests { (around : Around) (end : ℕ) (p : Parsed) (s : Done) → KeepsNumbers names.now around.texts → Agrees names.now state.old s → RestsOrStops s.given result names.now state.new around conditionals.new p (rest_done around conditionals.old (with_line opens (line_with line.now end) p) s) }
     ensures sound { OnOk result (IsSound names.now state.new) }
+    ensures given { state.new.given ≡ state.old.given }
 {
     let at = state.presumed.place(place_of(line))?;
     if conditionals.is_full() {
@@ -77,8 +78,9 @@ fn divides<'a>(
 ) -> Result<(), Refusal>
     requires sound { IsSound names.now state.old }
     requires role { role_of line.now ≡ divides }
-    ensures rests { (around : Around) (end : ℕ) (p : Parsed) (s : Done) → KeepsNumbers names.now around.texts → Agrees names.now state.old s → RestsOrStops result names.now state.new around conditionals.new p (rest_done around conditionals.old (with_line divides (line_with line.now end) p) s) }
+    ensures rests { (around : Around) (end : ℕ) (p : Parsed) (s : Done) → KeepsNumbers names.now around.texts → Agrees names.now state.old s → RestsOrStops s.given result names.now state.new around conditionals.new p (rest_done around conditionals.old (with_line divides (line_with line.now end) p) s) }
     ensures sound { OnOk result (IsSound names.now state.new) }
+    ensures given { state.new.given ≡ state.old.given }
 {
     let at = state.presumed.place(place_of(line))?;
     let Some(innermost) = conditionals.pop() else {
@@ -102,7 +104,7 @@ fn closes<'a>(
     state: &State<'a>,
 ) -> Result<(), Refusal>
     requires role { role_of line.now ≡ closes }
-    ensures rests { (names : Texts) (around : Around) (end : ℕ) (p : Parsed) (s : Done) → Agrees names state.now s → RestsOrStops result names state.now around conditionals.new p (rest_done around conditionals.old (with_line closes (line_with line.now end) p) s) }
+    ensures rests { (names : Texts) (around : Around) (end : ℕ) (p : Parsed) (s : Done) → Agrees names state.now s → RestsOrStops s.given result names state.now around conditionals.new p (rest_done around conditionals.old (with_line closes (line_with line.now end) p) s) }
 {
     let at = state.presumed.place(place_of(line))?;
     let Some(innermost) = conditionals.pop() else {
@@ -129,8 +131,9 @@ fn directive_done<'a>(
     requires sound { IsSound names.old state.old }
     requires other { is_include line.now ≡ false }
     requires role { role_of line.now ≡ role_meant role }
-    ensures rests { (around : Around) (p : Parsed) (s : Done) → KeepsNumbers names.new around.texts → Agrees names.old state.old s → RestsOrStops result names.new state.new around file.new.conditionals p (rest_done around file.old.conditionals (with_line (role_meant role) (line_with line.now (first_end (drop index file.old.ends))) p) s) }
+    ensures rests { (around : Around) (p : Parsed) (s : Done) → KeepsNumbers names.new around.texts → Agrees names.old state.old s → RestsOrStops s.given result names.new state.new around file.new.conditionals p (rest_done around file.old.conditionals (with_line (role_meant role) (line_with line.now (first_end (drop index file.old.ends))) p) s) }
     ensures sound { OnOk result (IsSound names.new state.new) }
+    ensures given { state.new.given ≡ state.old.given }
     ensures keeps { KeepsNumbers names.old names.new }
     ensures run { file.new.run ≡ file.old.run }
     ensures ends { file.new.ends ≡ file.old.ends }
@@ -159,9 +162,11 @@ pub fn line_done<'a>(
 ) -> Result<(), Refusal>
     requires sound { IsSound names.old state.old }
     requires files { HaveFiles names.old file.old.run.tokens }
+    requires none { state.old.given.left ≡ [] }
     requires other { is_include line.now ≡ false }
     ensures stands { (around : Around) (p : Parsed) (o : Outcome Done) → KeepsNumbers names.new around.texts → Stands names.old state.old file.old.run around file.old.conditionals (with_line (role_of line.now) (line_with line.now (first_end (drop index file.old.ends))) p) o → StandsOrStops result names.new state.new file.new.run around file.new.conditionals p o }
     ensures sound { OnOk result (IsSound names.new state.new) }
+    ensures taken { state.new.given.taken ≡ state.old.given.taken }
     ensures files { OnOk result (HaveFiles names.new file.new.run.tokens) }
     ensures keeps { KeepsNumbers names.old names.new }
     ensures ends { file.new.ends ≡ file.old.ends }
@@ -185,8 +190,10 @@ pub fn end_done<'a>(
 ) -> Result<(), Refusal>
     requires sound { IsSound names.now state.old }
     requires files { HaveFiles names.now file.old.run.tokens }
-    ensures answers { (around : Around) (o : Outcome Done) → KeepsNumbers names.now around.texts → Stands names.now state.old file.old.run around file.old.conditionals (to_end ends) o → Answers result names.now state.new o }
+    requires none { state.old.given.left ≡ [] }
+    ensures answers { (around : Around) (o : Outcome Done) → KeepsNumbers names.now around.texts → Stands names.now state.old file.old.run around file.old.conditionals (to_end ends) o → EndsOrGoes result names.now state.new o }
     ensures sound { OnOk result (IsSound names.now state.new) }
+    ensures taken { state.new.given.taken ≡ state.old.given.taken }
 {
     state.end_run(alloc, &mut file.run, names)?;
     match file.conditionals.innermost() {

@@ -1,11 +1,11 @@
 //! The files that include one another.
-ghost use Rattle.std.specs.Prelude.{◌≡◌, ◌≤◌, ◌<◌, ◌+◌, ℕ, List, [], suc, true, false, length, Err, IfOk, IfErr, IfSome, OnOk, ◌⊎◌};
+ghost use Rattle.std.specs.Prelude.{◌≡◌, ◌≤◌, ◌<◌, ◌+◌, ℕ, [], suc, true, false, length, Err, IfOk, IfErr, IfSome, OnOk, ◌⊎◌};
 ghost use Rattle.srcset.specs.Files.{Files as Set};
 ghost use Rattle.srcset.specs.NameTable.{Texts, KeepsNumbers};
 ghost use Rattle.srcset.specs.declared.refusal.Refusal.TheVariants.{Memory};
 ghost use Rattle.phases.specs.Lines.{scanned};
 ghost use Rattle.pp_expand.specs.Expands.{HaveFiles};
-ghost use Rattle.pp.specs.Phase4.{State as Done, Outcome, file_done, number_in, max_includes};
+ghost use Rattle.pp.specs.Phase4.{State as Done, Outcome, max_includes};
 ghost use Rattle.pp.specs.inside.Including.{around_with, IsReading, IsOpened, CanEnter, AreStacked, AreOpen, Waits, StandsOrWaits, left_of, resumed_all, Left, LeftOrStops, LeftOrAnswers, LeftOrGoes, room_of, weight, size_of};
 ghost use Rattle.pp.specs.inside.Stepping.{IsSound, Does, Goes, Stands};
 
@@ -92,6 +92,7 @@ impl<'a> Reading<'a> {
         names: &mut Names,
     ) -> Result<Option<Source<'a>>, Refusal>
         requires sound { IsSound names.old state.old }
+        requires none { state.old.given.left ≡ [] }
         requires files { HaveFiles names.old self.old.file.run.tokens }
         requires reading { IsReading self.old }
         requires more { self.old.next < self.old.end }
@@ -99,6 +100,7 @@ impl<'a> Reading<'a> {
         ensures ok { IfOk result (λ included. IfSome included (CanEnter names.new room self.new.file)) }
         ensures files { OnOk result (HaveFiles names.new self.new.file.run.tokens) }
         ensures sound { OnOk result (IsSound names.new state.new) }
+        ensures taken { state.new.given.taken ≡ state.old.given.taken }
         ensures keeps { KeepsNumbers names.old names.new }
         ensures next { self.new.next ≡ self.old.next + 1 }
         ensures end { self.new.end ≡ self.old.end }
@@ -118,6 +120,21 @@ impl<'a> Reading<'a> {
 }
 
 impl<'a> Files<'a> {
+    /// The main file at its first line.
+    pub fn new(alloc: Global, main: &Source<'a>) -> Result<Files<'a>, Refusal>
+        requires { length main.now.bytes.now ≤ 1048576 }
+        ensures ok { IfOk result (λ files. IsOpened main.now files.innermost × (files.includers.items ≡ [])) }
+        ensures err { IfErr result (λ refusal. (refusal ≡ Memory) ⊎ (scanned main.now.name main.now.bytes.now ≡ Err refusal)) }
+    {
+        let mut scans = Scans::new(alloc);
+        let innermost = opened(alloc, main, &mut scans)?;
+        Ok(Files {
+            innermost,
+            includers: VecDeque::new(alloc),
+            scans,
+        })
+    }
+
     // How many further files may be opened, one in the other.
     fn room(&self) -> usize
         ensures { result ≡ room_of self.now.includers.items }
@@ -145,6 +162,7 @@ impl<'a> Files<'a> {
         ensures left { (names texts : Texts) (set : Set) (made o : Outcome Done) → Waits names state.old self.old.innermost.file set texts (room_of self.old.includers.items) source.now (left_of self.old.innermost) made → o ≡ resumed_all set texts (room_of self.old.includers.items) self.old.includers.items made → LeftOrStops result names state.new set texts self.new.innermost self.new.includers.items o }
         ensures open { (names : Texts) → AreOpen names self.old.innermost self.old.includers.items → IsSound names state.old → source.now.name < length names → length self.old.includers.items < max_includes → self.old.innermost.file.run.begun ≡ false → self.old.innermost.file.run.tokens ≡ [] → OnOk result (AreOpen names self.new.innermost self.new.includers.items) }
         ensures sound { (names : Texts) → IsSound names state.old → source.now.name < length names → OnOk result (IsSound names state.new) }
+        ensures given { state.new.given ≡ state.old.given }
         ensures less { (further : ℕ) → room_of self.old.includers.items ≡ suc further → OnOk result (size_of self.new.innermost self.new.includers.items < size_of self.old.innermost self.old.includers.items + weight (room_of self.old.includers.items)) }
     {
         let reading = opened(alloc, source, &mut self.scans)?;
@@ -169,6 +187,7 @@ impl<'a> Files<'a> {
         ensures left { (texts : Texts) (set : Set) (made o : Outcome Done) → IsSound names.now state.old → self.old.innermost.file.run.begun ≡ false → self.old.innermost.file.run.tokens ≡ [] → Waits names.now state.old self.old.innermost.file set texts (room_of self.old.includers.items) source.now (left_of self.old.innermost) made → o ≡ resumed_all set texts (room_of self.old.includers.items) self.old.includers.items made → LeftOrStops result names.now state.new set texts self.new.innermost self.new.includers.items o }
         ensures open { AreOpen names.now self.old.innermost self.old.includers.items → IsSound names.now state.old → source.now.name < length names.now → length self.old.includers.items < max_includes → self.old.innermost.file.run.begun ≡ false → self.old.innermost.file.run.tokens ≡ [] → OnOk result (AreOpen names.now self.new.innermost self.new.includers.items) }
         ensures sound { IsSound names.now state.old → source.now.name < length names.now → OnOk result (IsSound names.now state.new) }
+        ensures given { state.new.given ≡ state.old.given }
         ensures less { (further : ℕ) → room_of self.old.includers.items ≡ suc further → OnOk result (size_of self.new.innermost self.new.includers.items < size_of self.old.innermost self.old.includers.items + weight (room_of self.old.includers.items)) }
     {
         if self.scans.passes_over(source, state, names) {
@@ -185,6 +204,7 @@ impl<'a> Files<'a> {
         ensures left { (names texts : Texts) (set : Set) (inner o : Outcome Done) → AreStacked names self.old.innermost self.old.includers.items → Goes names state.old inner → o ≡ resumed_all set texts (room_of self.old.includers.items) self.old.includers.items inner → LeftOrGoes result names state.new set texts self.new.innermost self.new.includers.items o }
         ensures open { (names : Texts) → AreStacked names self.old.innermost self.old.includers.items → result ≡ true → AreOpen names self.new.innermost self.new.includers.items }
         ensures sound { (names : Texts) → AreStacked names self.old.innermost self.old.includers.items → IsSound names state.old → IsSound names state.new }
+        ensures given { state.new.given ≡ state.old.given }
         ensures less { (names : Texts) → AreStacked names self.old.innermost self.old.includers.items → result ≡ true → size_of self.new.innermost self.new.includers.items < size_of self.old.innermost self.old.includers.items }
     {
         let Some(includer) = self.includers.pop_front() else {
@@ -205,11 +225,13 @@ impl<'a> Files<'a> {
         names: &mut Names,
     ) -> Result<(), Refusal>
         requires sound { IsSound names.old state.old }
+        requires none { state.old.given.left ≡ [] }
         requires open { AreOpen names.old self.old.innermost self.old.includers.items }
         requires more { self.old.innermost.next < self.old.innermost.end }
         ensures left { (texts : Texts) (o : Outcome Done) → KeepsNumbers names.new texts → Left names.old state.old set.now texts self.old.innermost self.old.includers.items o → LeftOrStops result names.new state.new set.now texts self.new.innermost self.new.includers.items o }
         ensures open { OnOk result (AreOpen names.new self.new.innermost self.new.includers.items) }
         ensures sound { OnOk result (IsSound names.new state.new) }
+        ensures taken { state.new.given.taken ≡ state.old.given.taken }
         ensures less { OnOk result (size_of self.new.innermost self.new.includers.items < size_of self.old.innermost self.old.includers.items) }
         ensures keeps { KeepsNumbers names.old names.new }
     {
@@ -228,19 +250,21 @@ impl<'a> Files<'a> {
         names: &Names,
     ) -> Result<bool, Refusal>
         requires sound { IsSound names.now state.old }
+        requires none { state.old.given.left ≡ [] }
         requires open { AreOpen names.now self.old.innermost self.old.includers.items }
         requires last { self.old.innermost.end ≤ self.old.innermost.next }
         ensures left { (texts : Texts) (set : Set) (o : Outcome Done) → KeepsNumbers names.now texts → Left names.now state.old set texts self.old.innermost self.old.includers.items o → LeftOrAnswers result names.now state.new set texts self.new.innermost self.new.includers.items o }
         ensures open { IfOk result (λ more. more ≡ true → AreOpen names.now self.new.innermost self.new.includers.items) }
         ensures sound { OnOk result (IsSound names.now state.new) }
+        ensures taken { state.new.given.taken ≡ state.old.given.taken }
         ensures less { IfOk result (λ more. more ≡ true → size_of self.new.innermost self.new.includers.items < size_of self.old.innermost self.old.includers.items) }
     {
         end_done(alloc, &mut self.innermost.file, state, names)?;
         Ok(self.leave(alloc, state))
     }
 
-    // Does the next line, or ends the innermost file. Whether anything is left.
-    fn step(
+    /// Does the next line, or ends the innermost file. Whether anything is left.
+    pub fn step(
         &mut self,
         alloc: Global,
         set: &'a FileSet,
@@ -248,10 +272,12 @@ impl<'a> Files<'a> {
         names: &mut Names,
     ) -> Result<bool, Refusal>
         requires sound { IsSound names.old state.old }
+        requires none { state.old.given.left ≡ [] }
         requires open { AreOpen names.old self.old.innermost self.old.includers.items }
         ensures left { (texts : Texts) (o : Outcome Done) → KeepsNumbers names.new texts → Left names.old state.old set.now texts self.old.innermost self.old.includers.items o → LeftOrAnswers result names.new state.new set.now texts self.new.innermost self.new.includers.items o }
         ensures open { IfOk result (λ more. more ≡ true → AreOpen names.new self.new.innermost self.new.includers.items) }
         ensures sound { OnOk result (IsSound names.new state.new) }
+        ensures taken { state.new.given.taken ≡ state.old.given.taken }
         ensures less { IfOk result (λ more. more ≡ true → size_of self.new.innermost self.new.includers.items < size_of self.old.innermost self.old.includers.items) }
         ensures keeps { KeepsNumbers names.old names.new }
     {
@@ -261,30 +287,4 @@ impl<'a> Files<'a> {
         }
         self.end_done(alloc, state, names)
     }
-}
-
-/// Does all lines of a file, and of those that it includes.
-pub fn files_done<'a>(
-    alloc: Global,
-    set: &'a FileSet,
-    main: &Source<'a>,
-    state: &mut State<'a>,
-    names: &mut Names,
-) -> Result<(), Refusal>
-    requires sound { IsSound names.old state.old }
-    requires small { length main.now.bytes.now ≤ 1048576 }
-    requires has_file { main.now.name < length names.old }
-    ensures does { (texts : Texts) (name : List ℕ) → KeepsNumbers names.new texts → number_in texts name ≡ main.now.name → Does result names.old state.old names.new state.new (file_done (around_with max_includes set.now texts) name main.now.bytes.now) }
-    ensures sound { OnOk result (IsSound names.new state.new) }
-    ensures keeps { KeepsNumbers names.old names.new }
-{
-    let mut scans = Scans::new(alloc);
-    let mut files = Files {
-        innermost: opened(alloc, main, &mut scans)?,
-        includers: VecDeque::new(alloc),
-        scans,
-    };
-    state.presumed = Presumed::physical(main.name);
-    'steps: while files.step(alloc, set, state, names)? {}
-    Ok(())
 }

@@ -156,7 +156,7 @@ fn header_named<'a>(
     state: &State<'a>,
     names: &mut Names,
 ) -> Result<Source<'a>, Refusal>
-    ensures includes { (texts : Texts) (s : Done) → KeepsNumbers names.new texts → Agrees names.old state.now s → IncludesOrStops result names.new state.now set.now texts room (include_named (entered room set.now texts) at (presume s further.now) s) }
+    ensures includes { (texts : Texts) (s : Done) → KeepsNumbers names.new texts → Agrees names.old state.now s → IncludesOrStops s.given result names.new state.now set.now texts room (include_named (entered room set.now texts) at (presume s further.now) s) }
     ensures ok { IfOk result (CanRead names.new room) }
     ensures keeps { KeepsNumbers names.old names.new }
 {
@@ -176,7 +176,7 @@ fn string_named<'a>(
     state: &State<'a>,
     names: &mut Names,
 ) -> Result<Source<'a>, Refusal>
-    ensures includes { (texts : Texts) (s : Done) → KeepsNumbers names.new texts → Agrees names.old state.now s → IncludesOrStops result names.new state.now set.now texts room (include_made (entered room set.now texts) at (tokens.now, s)) }
+    ensures includes { (texts : Texts) (s : Done) → KeepsNumbers names.new texts → Agrees names.old state.now s → IncludesOrStops s.given result names.new state.now set.now texts room (include_made (entered room set.now texts) at (tokens.now, s)) }
     ensures ok { IfOk result (CanRead names.new room) }
     ensures keeps { KeepsNumbers names.old names.new }
 {
@@ -200,9 +200,10 @@ fn included<'a>(
     names: &mut Names,
 ) -> Result<Source<'a>, Refusal>
     requires { IsSound names.old state.old }
-    ensures includes { (texts : Texts) (s : Done) → KeepsNumbers names.new texts → Agrees names.old state.old s → IncludesOrStops result names.new state.new set.now texts room (include_done texts (entered room set.now texts) at (presume s further.now) s) }
+    ensures includes { (texts : Texts) (s : Done) → KeepsNumbers names.new texts → Agrees names.old state.old s → IncludesOrStops s.given result names.new state.new set.now texts room (include_done texts (entered room set.now texts) at (presume s further.now) s) }
     ensures ok { IfOk result (CanRead names.new room) }
     ensures sound { OnOk result (IsSound names.new state.new) }
+    ensures given { state.new.given ≡ state.old.given }
     ensures keeps { KeepsNumbers names.old names.new }
 {
     let [first, ..] = further else {
@@ -230,10 +231,12 @@ pub fn include_done<'a>(
 ) -> Result<Option<Source<'a>>, Refusal>
     requires sound { IsSound names.old state.old }
     requires files { HaveFiles names.old file.old.run.tokens }
+    requires none { state.old.given.left ≡ [] }
     requires include { is_include line.now ≡ true }
     ensures waits { (texts : Texts) (end : ℕ) (p : Parsed) (o : Outcome Done) → KeepsNumbers names.new texts → Stands names.old state.old file.old.run (around_with room set.now texts) file.old.conditionals (with_line (role_of line.now) (line_with line.now end) p) o → StandsOrWaits result names.new state.new file.new set.now texts room p o }
     ensures ok { IfOk result (λ included. IfSome included (CanRead names.new room)) }
     ensures sound { OnOk result (IsSound names.new state.new) }
+    ensures taken { state.new.given.taken ≡ state.old.given.taken }
     ensures begun { OnOk result (file.new.run.begun ≡ false) }
     ensures tokens { OnOk result (file.new.run.tokens ≡ []) }
     ensures ends { file.new.ends ≡ file.old.ends }

@@ -13,10 +13,13 @@ mod line_directive;
 mod places;
 mod preprocessing;
 mod printing;
+mod queue;
 mod run;
 mod scans;
 mod state;
+mod stream;
 mod words;
 
 pub use preprocessing::{preprocess, try_preprocess};
 pub use printing::print;
+pub use stream::Pp;

@@ -120,6 +120,7 @@ fn rename<'a>(
     requires sound { IsSound names.old state.old }
     ensures does { (texts : Texts) (number : Token) → KeepsNumbers names.new texts → IsLineNumber (Some line) number.spelling → Does result names.old state.old names.new state.new (λ s. line_made texts end at (number ∷ name.now ∷ [], s)) }
     ensures sound { OnOk result (IsSound names.new state.new) }
+    ensures given { state.new.given ≡ state.old.given }
     ensures keeps { KeepsNumbers names.old names.new }
 {
     if !is_file_text(name) {
@@ -148,6 +149,7 @@ fn renumber<'a>(
     requires sound { IsSound names.old state.old }
     ensures does { (texts : Texts) (number : Token) → KeepsNumbers names.new texts → IsLineNumber (Some line) number.spelling → Does result names.old state.old names.new state.new (λ s. line_made texts end at (number ∷ further.now, s)) }
     ensures sound { OnOk result (IsSound names.new state.new) }
+    ensures given { state.new.given ≡ state.old.given }
     ensures keeps { KeepsNumbers names.old names.new }
 {
     match further {
@@ -176,6 +178,7 @@ pub fn line_done<'a>(
     requires sound { IsSound names.old state.old }
     ensures does { (texts : Texts) → KeepsNumbers names.new texts → Does result names.old state.old names.new state.new (λ s. line_done texts end at (presume s further.now) s) }
     ensures sound { OnOk result (IsSound names.new state.new) }
+    ensures given { state.new.given ≡ state.old.given }
     ensures keeps { KeepsNumbers names.old names.new }
 {
     let mut placed = Vec::new(alloc);

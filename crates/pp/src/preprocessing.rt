@@ -1,13 +1,11 @@
 //! Phase 4 of a set of files.
-ghost use Rattle.std.specs.Prelude.{◌≡◌, IfOk, IfErr};
+ghost use Rattle.std.specs.Prelude.{IfOk, IfErr};
 ghost use Rattle.srcset.specs.NameTable.{Texts, KeepsNumbers};
 ghost use Rattle.pp.specs.Preprocessed.{IsDone, IsRefused, IsPreprocessFault};
 
-use crate::files::files_done;
-use crate::includes::Source;
-use crate::state::State;
+use crate::stream::Pp;
 use phases::PpToken;
-use srcset::{Code, Fault, FileSet, Names, Pos, Refusal};
+use srcset::{Fault, FileSet, Names, Refusal};
 use std::alloc::Global;
 
 /// The tokens after translation phase 4 of the file `main` of the set (ISO/IEC 9899:2011 5.1.1.2, 6.10), each with its
@@ -26,20 +24,12 @@ pub fn try_preprocess<'a>(
     ensures err { IfErr result (λ refusal. (texts : Texts) → KeepsNumbers names.new texts → IsRefused set.now texts main.now refusal) }
     ensures keeps { KeepsNumbers names.old names.new }
 {
-    let Ok(file) = names.intern(main.as_bytes()) else {
-        return Err(Refusal::Memory);
-    };
-    let Some(bytes) = set.get(main) else {
-        let pos = Pos { file, line: 0 };
-        return Err(Refusal::At {
-            code: Code::NoMainFile,
-            pos,
-        });
-    };
-    let source = Source { name: file, bytes };
-    let mut state = State::new(alloc, file);
-    files_done(alloc, set, &source, &mut state, names)?;
-    Ok(state.given)
+    let mut pp = Pp::try_new(alloc, set, names, main)?;
+    let mut list = Vec::new(alloc);
+    'tokens: while let Some(token) = pp.try_next(alloc, names)? {
+        list.push(token)?;
+    }
+    Ok(list)
 }
 
 /// The tokens after translation phase 4 of the file `main` of the set, as `try_preprocess` gives them.

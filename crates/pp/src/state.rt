@@ -1,5 +1,5 @@
 //! What phase 4 has done so far, and what ends of runs and directives do to it.
-ghost use Rattle.std.specs.Prelude.{◌≡◌, ◌≤◌, ◌<◌, ◌++◌, ℕ, List, true, false, [], length, drop, codes, slice_get, Some, None, IfOk, IfErr, OnOk};
+ghost use Rattle.std.specs.Prelude.{◌≡◌, ◌<◌, List, true, false, [], length, drop, codes, IfOk, IfErr, OnOk};
 ghost use Rattle.srcset.specs.NameTable.{Texts, KeepsNumbers};
 ghost use Rattle.srcset.specs.declared.refusal.Refusal.TheVariants.{At};
 ghost use Rattle.srcset.specs.declared.code.Code.TheVariants.{BadDirective};
@@ -9,15 +9,16 @@ ghost use Rattle.macros.specs.Definition.{define};
 ghost use Rattle.pp_expand.specs.Expansion.{of_directive};
 ghost use Rattle.pp_expand.specs.Expands.{HaveFiles};
 ghost use Rattle.pp.specs.Lines.{first_end};
-ghost use Rattle.pp.specs.Phase4.{State as Done, Enter, start, expand, presume, with_macros, undefined, run_done, named, directive_done, max_tokens};
+ghost use Rattle.pp.specs.Phase4.{State as Done, Enter, start, expand, presume, with_macros, undefined, run_done, named, directive_done};
 ghost use Rattle.pp.specs.inside.Including.{is_include};
 ghost use Rattle.pp.specs.inside.Pending.{is_directive, run_ended};
-ghost use Rattle.pp.specs.inside.Stepping.{presumed_of, placed, line_with, Agrees, IsSound, Gives, StopsAs, Does, IsPast};
+ghost use Rattle.pp.specs.inside.Stepping.{presumed_of, placed, line_with, Agrees, IsSound, Gives, StopsAs, Does};
 
 use crate::ends::LineEnds;
 use crate::error_directive::refusal_of;
 use crate::line_directive::line_done;
 use crate::places::Presumed;
+use crate::queue::{MAX_TOKENS, Queue};
 use crate::run::Run;
 use crate::words::is_spelled;
 use macros::{MacroTable, is_identifier};
@@ -26,34 +27,17 @@ use pp_expand::{Budget, RunEnd, Unexpanded, expand_behind, try_expand};
 use srcset::{Code, Names, Pos, Refusal};
 use std::alloc::Global;
 
-/// The greatest number of tokens after phase 4.
-pub const MAX_TOKENS: usize = 1048576;
-
 /// The greatest number of replacements of macros.
 pub const MAX_REPLACEMENTS: u32 = 1048576;
 
-/// What was done so far: the macros, the replacements left, the tokens of whole runs, and how places are presumed.
+/// What was done so far: the macros, the replacements left, the tokens of whole runs, and how places are presumed. A run
+/// is given once those of the run before it are taken.
 #[derive(Drop)]
 pub struct State<'a> {
     pub table: MacroTable<'a>,
     pub budget: Budget,
-    pub given: Vec<PpToken<'a>>,
+    pub given: Queue<'a>,
     pub presumed: Presumed,
-}
-
-// The tokens given are no more than there may be.
-fn limit(given: &[PpToken<'_>]) -> Result<(), Refusal>
-    ensures room { OnOk result (length given.now ≤ max_tokens) }
-    ensures within { OnOk result (slice_get given.now max_tokens ≡ None) }
-    ensures err { IfErr result (IsPast given.now) }
-{
-    if let Some(token) = given.get(MAX_TOKENS) {
-        return Err(Refusal::At {
-            code: Code::TokenLimit,
-            pos: token.pos(),
-        });
-    }
-    Ok(())
 }
 
 /// Behind the name of a directive stand tokens that it does not take, or there is no such directive.
@@ -71,16 +55,17 @@ impl<'a> State<'a> {
     pub fn new(alloc: Global, file: usize) -> State<'a>
         ensures agrees { (names : Texts) → Agrees names result (record start { presumed = record { from = 1; line = 1; file = file } }) }
         ensures sound { (names : Texts) → file < length names → IsSound names result }
+        ensures none { result.given.taken ≡ 0 }
     {
         State {
             table: MacroTable::new(alloc),
             budget: Budget::new(MAX_REPLACEMENTS),
-            given: Vec::new(alloc),
+            given: Queue::new(alloc),
             presumed: Presumed::physical(file),
         }
     }
 
-    // Expands the tokens of a run, and gives what comes of them. Of those that are too many the first is kept, for its place.
+    // Expands the tokens of a run, and gives what comes of them. Of those that are too many the first is made, for its place.
     fn expand_run(
         &mut self,
         alloc: Global,
@@ -89,9 +74,14 @@ impl<'a> State<'a> {
     ) -> Result<(), Refusal>
         requires sound { IsSound names.now self.old }
         requires files { HaveFiles names.now tokens }
+        requires none { self.old.given.left ≡ [] }
         ensures does { (texts : Texts) (xs : List Token) → KeepsNumbers names.now texts → tokens.entry ≡ placed (presumed_of self.old.presumed) xs → Does result names.now self.old names.now self.new (run_done texts xs) }
         ensures sound { OnOk result (IsSound names.now self.new) }
+        ensures kept { IfErr result (λ refusal. self.new.given ≡ self.old.given) }
+        ensures taken { self.new.given.taken ≡ self.old.given.taken }
     {
+        let most = MAX_TOKENS - self.given.taken() + 1;
+        let mut made = self.given.room(alloc);
         match expand_behind(
             alloc,
             &self.table,
@@ -99,10 +89,10 @@ impl<'a> State<'a> {
             RunEnd::Run,
             &mut self.budget,
             names,
-            MAX_TOKENS + 1,
-            &mut self.given,
+            most,
+            &mut made,
         ) {
-            Ok(()) => limit(&self.given),
+            Ok(()) => self.given.put(made),
             Err(refusal) => Err(refusal),
         }
     }
@@ -117,8 +107,9 @@ impl<'a> State<'a> {
         requires sound { IsSound names.now self.old }
         requires files { HaveFiles names.now tokens.now }
         ensures ok { IfOk result (λ list. (texts : Texts) (s : Done) → KeepsNumbers names.now texts → Agrees names.now self.old s → Gives list.items names.now self.new (expand texts tokens.now of_directive s)) }
-        ensures err { IfErr result (λ refusal. (texts : Texts) (s : Done) → KeepsNumbers names.now texts → Agrees names.now self.old s → StopsAs names.now refusal (expand texts tokens.now of_directive s)) }
+        ensures err { IfErr result (λ refusal. (texts : Texts) (s : Done) → KeepsNumbers names.now texts → Agrees names.now self.old s → StopsAs s.given names.now refusal (expand texts tokens.now of_directive s)) }
         ensures sound { OnOk result (IsSound names.now self.new) }
+        ensures given { self.new.given ≡ self.old.given }
     {
         let list = try_expand(
             alloc,
@@ -140,10 +131,13 @@ impl<'a> State<'a> {
     ) -> Result<(), Refusal>
         requires sound { IsSound names.now self.old }
         requires files { HaveFiles names.now run.old.tokens }
+        requires none { self.old.given.left ≡ [] }
         ensures does { (texts : Texts) (xs : List Token) → KeepsNumbers names.now texts → run.old.tokens ≡ placed (presumed_of self.old.presumed) xs → Does result names.now self.old names.now self.new (run_ended texts run.old.begun xs) }
         ensures sound { OnOk result (IsSound names.now self.new) }
         ensures begun { OnOk result (run.new.begun ≡ false) }
         ensures tokens { OnOk result (run.new.tokens ≡ []) }
+        ensures kept { IfErr result (λ refusal. self.new.given ≡ self.old.given) }
+        ensures taken { self.new.given.taken ≡ self.old.given.taken }
     {
         let begun = run.begun;
         let tokens = run.take(alloc);
@@ -165,6 +159,7 @@ impl<'a> State<'a> {
         ensures does { Does result names.old self.old names.new self.new (λ s. with_macros s at (define s.macros (presume s line.now))) }
         ensures sound { OnOk result (IsSound names.new self.new) }
         ensures keeps { KeepsNumbers names.old names.new }
+        ensures given { self.new.given ≡ self.old.given }
     {
         let mut tokens = Vec::new(alloc);
         self.presumed.put(alloc, line, &mut tokens)?;
@@ -176,6 +171,7 @@ impl<'a> State<'a> {
         requires { IsSound names.now self.old }
         ensures does { Does result names.now self.old names.now self.new (λ s. undefined s at (presume s line.now)) }
         ensures sound { OnOk result (IsSound names.now self.new) }
+        ensures given { self.new.given ≡ self.old.given }
     {
         let [name] = line else {
             return Err(bad_directive(at));
@@ -203,6 +199,7 @@ impl<'a> State<'a> {
         ensures does { (texts : Texts) (enter : Enter) → KeepsNumbers names.new texts → Does result names.old self.old names.new self.new (λ s. named texts enter name.now (presume s further.now) (first_end (drop index ends.old)) at s) }
         ensures sound { OnOk result (IsSound names.new self.new) }
         ensures keeps { KeepsNumbers names.old names.new }
+        ensures given { self.new.given ≡ self.old.given }
         ensures same { ends.new ≡ ends.old }
     {
         if is_spelled(name, b"define") {
@@ -239,6 +236,7 @@ impl<'a> State<'a> {
         ensures does { (texts : Texts) (enter : Enter) → KeepsNumbers names.new texts → Does result names.old self.old names.new self.new (directive_done texts enter (line_with line.now (first_end (drop index ends.old)))) }
         ensures sound { OnOk result (IsSound names.new self.new) }
         ensures keeps { KeepsNumbers names.old names.new }
+        ensures given { self.new.given ≡ self.old.given }
         ensures same { ends.new ≡ ends.old }
     {
         let [hash, name, further @ ..] = line else {

@@ -19,7 +19,7 @@ use Rattle.pp.specs.Lines.{lines_with}
 use Rattle.pp.specs.Groups.{Parsed, parsed}
 use Rattle.pp.specs.Phase4.{State, Outcome, ◌>>=◌, Around, entered, file_done, number_in, resumed, max_includes}
 use Rattle.pp.specs.inside.Rest.{rest_done}
-use Rattle.pp.specs.inside.Stepping.{presumed_of, Agrees, Goes, StopsAs, Stands}
+use Rattle.pp.specs.inside.Stepping.{presumed_of, Agrees, Goes, StopsAs, EndsAs, Stands}
 
 -- the line is an #include
 abbrev pub is_include : List Token → Bool
@@ -58,7 +58,7 @@ pub record Enters (files : Files) (texts : Texts) (room : ℕ) (source : Source)
 
 abbrev pub EntersOrStops : Result Source Refusal → Texts → Files → Texts → ℕ → State → Outcome State → Type 0
 EntersOrStops (Ok source) names files texts room s o = Enters files texts room source s o
-EntersOrStops (Err r) names files texts room s o = StopsAs names r o
+EntersOrStops (Err r) names files texts room s o = StopsAs s.given names r o
 
 -- an #include enters it, and resumes its includer
 pub record Includes (names : Texts) (held : Held) (files : Files) (texts : Texts) (room : ℕ) (source : Source) (o : Outcome State) : Type 0 where
@@ -68,9 +68,9 @@ pub record Includes (names : Texts) (held : Held) (files : Files) (texts : Texts
   pub enters : Enters files texts room source after done
   pub includes : o ≡ (done >>= resumed after)
 
-abbrev pub IncludesOrStops : Result Source Refusal → Texts → Held → Files → Texts → ℕ → Outcome State → Type 0
-IncludesOrStops (Ok source) names held files texts room o = Includes names held files texts room source o
-IncludesOrStops (Err r) names held files texts room o = StopsAs names r o
+abbrev pub IncludesOrStops : List Token → Result Source Refusal → Texts → Held → Files → Texts → ℕ → Outcome State → Type 0
+IncludesOrStops given (Ok source) names held files texts room o = Includes names held files texts room source o
+IncludesOrStops given (Err r) names held files texts room o = StopsAs given names r o
 
 -- what is left of the file behind an #include that enters it
 pub record Waits (names : Texts) (held : Held) (file : OpenFile) (files : Files) (texts : Texts) (room : ℕ) (source : Source) (p : Parsed) (o : Outcome State) : Type 0 where
@@ -80,13 +80,13 @@ pub record Waits (names : Texts) (held : Held) (file : OpenFile) (files : Files)
 
 abbrev pub IncludedOrStops : Result Source Refusal → Texts → Held → OpenFile → Files → Texts → ℕ → Parsed → Outcome State → Type 0
 IncludedOrStops (Ok source) names held file files texts room p o = Waits names held file files texts room source p o
-IncludedOrStops (Err r) names held file files texts room p o = StopsAs names r o
+IncludedOrStops (Err r) names held file files texts room p o = EndsAs held.given names r o
 
 -- the line was skipped, or names a file
 abbrev pub StandsOrWaits : Result (Option Source) Refusal → Texts → Held → OpenFile → Files → Texts → ℕ → Parsed → Outcome State → Type 0
 StandsOrWaits (Ok None) names held file files texts room p o = Stands names held file.run (around_with room files texts) file.conditionals p o
 StandsOrWaits (Ok (Some source)) names held file files texts room p o = Waits names held file files texts room source p o
-StandsOrWaits (Err r) names held file files texts room p o = StopsAs names r o
+StandsOrWaits (Err r) names held file files texts room p o = EndsAs held.given names r o
 
 -- ---- the files that are open
 
@@ -174,7 +174,7 @@ pub record Left (names : Texts) (held : Held) (set : Files) (texts : Texts) (inn
 
 abbrev pub LeftOrStops : {A : Type 0} → Result A Refusal → Texts → Held → Files → Texts → Reading → List Includer → Outcome State → Type 0
 LeftOrStops (Ok a) names held set texts innermost is o = Left names held set texts innermost is o
-LeftOrStops (Err r) names held set texts innermost is o = StopsAs names r o
+LeftOrStops (Err r) names held set texts innermost is o = EndsAs held.given names r o
 
 -- something is left, or it goes on to what is held
 abbrev pub LeftOrGoes : Bool → Texts → Held → Files → Texts → Reading → List Includer → Outcome State → Type 0
@@ -183,7 +183,7 @@ LeftOrGoes false names held set texts innermost is o = Goes names held o
 
 abbrev pub LeftOrAnswers : Result Bool Refusal → Texts → Held → Files → Texts → Reading → List Includer → Outcome State → Type 0
 LeftOrAnswers (Ok more) names held set texts innermost is o = LeftOrGoes more names held set texts innermost is o
-LeftOrAnswers (Err r) names held set texts innermost is o = StopsAs names r o
+LeftOrAnswers (Err r) names held set texts innermost is o = EndsAs held.given names r o
 
 -- ---- how much is left
 

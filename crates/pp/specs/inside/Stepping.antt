@@ -24,6 +24,7 @@ use Rattle.pp.specs.Lines.{Line}
 use Rattle.pp.specs.Groups.{place_of, Role, of_text, opens, divides, closes, stands_alone, Parsed, in_first}
 use Rattle.pp.specs.Phase4.{Fault, is_line_number, error_text, Presumed, State, Outcome, goes, stops, Around, presume, with_first, defined_resolved, max_tokens}
 use Rattle.pp.specs.inside.Pending.{pending}
+use Rattle.pp.specs.inside.Queue.{Given}
 use Rattle.pp.specs.inside.Rest.{is_active, rest_done}
 
 -- ---- lines
@@ -66,16 +67,22 @@ behind_line later (x ∷ xs) = record x { space_before = later || x.space_before
 
 -- ---- states
 
+-- these tokens are given: those that were taken, and those that were not
+pub record IsGiven (held : Given) (given : List Token) : Type 0 where
+  pub taken : List Token
+  pub taken_is : length taken ≡ held.taken
+  pub given_is : given ≡ taken ++ held.left
+
 -- where names are numbered by these texts
 pub record Agrees (names : Texts) (held : Held) (s : State) : Type 0 where
   pub table_is : IsTable names held.table s.macros
   pub left_is : s.left ≡ held.budget
-  pub given_is : s.given ≡ held.given.items
+  pub given_is : IsGiven held.given s.given
   pub presumed_is : s.presumed ≡ presumed_of held.presumed
 
 -- the bounds that it keeps
 pub record IsSound (names : Texts) (held : Held) : Type 0 where
-  pub room : length held.given.items ≤ max_tokens
+  pub room : held.given.taken + length held.given.left ≤ max_tokens
   pub has_file : held.presumed.file < length names
 
 -- it goes on to what is held
@@ -90,35 +97,57 @@ pub record Gives {Y : Type 0} (y : Y) (names : Texts) (held : Held) (o : Outcome
   pub agrees : Agrees names held after
   pub gives_is : o ≡ goes (y, after)
 
--- it stops with this fault
-pub record Stops {A : Type 0} (c : Code) (at : Pos) (text : List ℕ) (o : Outcome A) : Type 0 where
-  pub given : List Token
+-- it stops with these tokens given, and with this fault
+pub record Stops {A : Type 0} (given : List Token) (c : Code) (at : Pos) (text : List ℕ) (o : Outcome A) : Type 0 where
   pub stops_is : o ≡ stops given (record { code = c; at = at; text = text })
 
 -- with a fault whose text has this number
-pub record StopsTold {A : Type 0} (names : Texts) (c : Code) (at : Pos) (n : ℕ) (o : Outcome A) : Type 0 where
+pub record StopsTold {A : Type 0} (given : List Token) (names : Texts) (c : Code) (at : Pos) (n : ℕ) (o : Outcome A) : Type 0 where
   pub text : List ℕ
   pub number_is : slice_get names n ≡ Some text
   pub utf8 : is_utf8 text ≡ true
-  pub fault_is : Stops c at text o
+  pub fault_is : Stops given c at text o
 
-abbrev pub StopsAs : {A : Type 0} → Texts → Refusal → Outcome A → Type 0
-StopsAs names Memory o = Unit {0}
-StopsAs names (At c at) o = Stops c at [] o
-StopsAs names (Told c at n) o = StopsTold names c at n o
+abbrev pub StopsAs : {A : Type 0} → List Token → Texts → Refusal → Outcome A → Type 0
+StopsAs given names Memory o = Unit {0}
+StopsAs given names (At c at) o = Stops given c at [] o
+StopsAs given names (Told c at n) o = StopsTold given names c at n o
 
-abbrev pub Answers : {A : Type 0} → Result A Refusal → Texts → Held → Outcome State → Type 0
-Answers (Ok a) names held o = Goes names held o
-Answers (Err r) names held o = StopsAs names r o
+abbrev pub Answers : {A : Type 0} → List Token → Result A Refusal → Texts → Held → Outcome State → Type 0
+Answers given (Ok a) names held o = Goes names held o
+Answers given (Err r) names held o = StopsAs given names r o
 
 -- the same of a question, whose answer it gives
-abbrev pub Asks : {Y : Type 0} → Result Y Refusal → Texts → Held → Outcome (Y × State) → Type 0
-Asks (Ok y) names held o = Gives y names held o
-Asks (Err r) names held o = StopsAs names r o
+abbrev pub Asks : {Y : Type 0} → List Token → Result Y Refusal → Texts → Held → Outcome (Y × State) → Type 0
+Asks given (Ok y) names held o = Gives y names held o
+Asks given (Err r) names held o = StopsAs given names r o
 
+-- where it stops, it gives nothing
 abbrev pub Does : {A : Type 0} → Result A Refusal → Texts → Held → Texts → Held → (State → Outcome State) → Type 0
 Does result names held names_after held_after step =
-    (s : State) → Agrees names held s → Answers result names_after held_after (step s)
+    (s : State) → Agrees names held s → Answers s.given result names_after held_after (step s)
+
+-- ---- where it stops behind a run
+
+-- it stops with what is given here, and with this fault
+pub record Ends {A : Type 0} (held : Given) (c : Code) (at : Pos) (text : List ℕ) (o : Outcome A) : Type 0 where
+  pub given : List Token
+  pub given_is : IsGiven held given
+  pub stops : Stops given c at text o
+
+pub record EndsTold {A : Type 0} (held : Given) (names : Texts) (c : Code) (at : Pos) (n : ℕ) (o : Outcome A) : Type 0 where
+  pub given : List Token
+  pub given_is : IsGiven held given
+  pub told : StopsTold given names c at n o
+
+abbrev pub EndsAs : {A : Type 0} → Given → Texts → Refusal → Outcome A → Type 0
+EndsAs held names Memory o = Unit {0}
+EndsAs held names (At c at) o = Ends held c at [] o
+EndsAs held names (Told c at n) o = EndsTold held names c at n o
+
+abbrev pub EndsOrGoes : {A : Type 0} → Result A Refusal → Texts → Held → Outcome State → Type 0
+EndsOrGoes (Ok a) names held o = Goes names held o
+EndsOrGoes (Err r) names held o = EndsAs held.given names r o
 
 -- ---- the lines of a file
 
@@ -128,9 +157,9 @@ pub record Rests (names : Texts) (held : Held) (around : Around) (os : List Open
   pub agrees : Agrees names held after
   pub rests : o ≡ rest_done around os p after
 
-abbrev pub RestsOrStops : {A : Type 0} → Result A Refusal → Texts → Held → Around → List Open → Parsed → Outcome State → Type 0
-RestsOrStops (Ok a) names held around os p o = Rests names held around os p o
-RestsOrStops (Err r) names held around os p o = StopsAs names r o
+abbrev pub RestsOrStops : {A : Type 0} → List Token → Result A Refusal → Texts → Held → Around → List Open → Parsed → Outcome State → Type 0
+RestsOrStops given (Ok a) names held around os p o = Rests names held around os p o
+RestsOrStops given (Err r) names held around os p o = StopsAs given names r o
 
 -- the same behind a run
 pub record Stands (names : Texts) (held : Held) (run : Run) (around : Around) (os : List Open) (p : Parsed) (o : Outcome State) : Type 0 where
@@ -144,13 +173,13 @@ pub record Stands (names : Texts) (held : Held) (run : Run) (around : Around) (o
 
 abbrev pub StandsOrStops : {A : Type 0} → Result A Refusal → Texts → Held → Run → Around → List Open → Parsed → Outcome State → Type 0
 StandsOrStops (Ok a) names held run around os p o = Stands names held run around os p o
-StandsOrStops (Err r) names held run around os p o = StopsAs names r o
+StandsOrStops (Err r) names held run around os p o = EndsAs held.given names r o
 
--- why so many tokens are refused: the place of the first that is too many
-abbrev pub IsPast : List Token → Refusal → Type 0
-IsPast all Memory = Unit {0}
-IsPast all (At c at) = (t : Token) × (slice_get all max_tokens ≡ Some t) × (c ≡ code.TokenLimit) × (at ≡ t.pos)
-IsPast all (Told c at text) = ⊥
+-- why so many tokens are refused: the place of the first behind those for which there is room
+abbrev pub IsPast : ℕ → List Token → Refusal → Type 0
+IsPast room all Memory = Unit {0}
+IsPast room all (At c at) = (t : Token) × (slice_get all room ≡ Some t) × (c ≡ code.TokenLimit) × (at ≡ t.pos)
+IsPast room all (Told c at text) = ⊥
 
 -- ---- lines, and what is asked of them
 

@@ -8,12 +8,12 @@ use Rattle.pp.proofs.file.divides.Goals as goal
 
 pub returns-in_default-clause-rests : goal.returns-in_default-clause-rests
 returns-in_default-clause-rests c around end p s keeps a =
-    subst (λ r. StopsAs c.args.names.now r (rest_done around c.args.conditionals.now (with_line divides (line_with c.args.line.now end) p) s)) (sym c.unbalanced.ensures)
+    subst (λ r. StopsAs s.given c.args.names.now r (rest_done around c.args.conditionals.now (with_line divides (line_with c.args.line.now end) p) s)) (sym c.unbalanced.ensures)
     (divides_alone c.args.names.now c.args.state.now around c.args.conditionals.now c.args.line.now end p s c.in_ok-at.at (a, c.in_ok-at.ensures.ok ∙ ap (λ p. presumed_by (presumed_of c.args.state.now.presumed) p) c.place_of.ensures) c.in_default.ensures.first)
 
 pub returns-then-innermost-clause-rests : goal.returns-then-innermost-clause-rests
 returns-then-innermost-clause-rests c around end p s keeps a =
-    subst (λ r. StopsAs c.args.names.now r (rest_done around c.args.conditionals.now (with_line divides (line_with c.args.line.now end) p) s)) (sym c.unbalanced-then-innermost.ensures)
+    subst (λ r. StopsAs s.given c.args.names.now r (rest_done around c.args.conditionals.now (with_line divides (line_with c.args.line.now end) p) s)) (sym c.unbalanced-then-innermost.ensures)
     (divides_amiss c.args.names.now c.args.state.now around c.args.conditionals.now c.in-Some.innermost c.args.line.now end p s c.in_ok-at.at (a, c.in_ok-at.ensures.ok ∙ ap (λ p. presumed_by (presumed_of c.args.state.now.presumed) p) c.place_of.ensures) c.requires.role c.in-Some.ensures.first c.if-innermost.true)
 
 pub returns-in_err-branch-clause-rests : goal.returns-in_err-branch-clause-rests

@@ -12,13 +12,13 @@ use Rattle.pp.proofs.includes.included.Goals as goal
 
 pub returns-in_default-clause-includes : goal.returns-in_default-clause-includes
 returns-in_default-clause-includes c texts s keeps a =
-    subst (λ r. StopsAs c.args.names.now r (include_done texts (entered c.args.room c.args.set.now texts) c.args.at (presume s c.args.further.now) s)) (sym c.bad_directive.ensures)
+    subst (λ r. StopsAs s.given c.args.names.now r (include_done texts (entered c.args.room c.args.set.now texts) c.args.at (presume s c.args.further.now) s)) (sym c.bad_directive.ensures)
     (done_none texts (entered c.args.room c.args.set.now texts) c.args.at c.args.further.now s (none_left c.args.further.now c.in_default.len_below))
 
 pub returns-then-is_header_kind-clause-includes : goal.returns-then-is_header_kind-clause-includes
 returns-then-is_header_kind-clause-includes c texts s keeps a =
     let e = whole_list c.args.further.now c.args.further.now c.first-item.result refl c.in-len1-up.len_at_least c.first-item.is in
-    subst (IncludesOrStops c.header_named.result c.header_named.new.names c.args.state.now c.args.set.now texts c.args.room)
+    subst (IncludesOrStops s.given c.header_named.result c.header_named.new.names c.args.state.now c.args.set.now texts c.args.room)
     (sym (done_header texts (entered c.args.room c.args.set.now texts) c.args.at c.args.further.now (take (length c.args.further.now - 1) (drop 1 c.args.further.now)) c.first-item.result s e
     (ap is_header_kind (sym c.kind.ensures) ∙ sym c.is_header_kind.ensures ∙ c.if-is_header_kind.true)))
     (c.header_named.ensures.includes texts s keeps a)
@@ -53,7 +53,7 @@ returns-clause-includes c texts s keeps a =
     let enter = entered c.args.room c.args.set.now texts in
     made_includes c.string_named.result texts c.args.names.now c.string_named.new.names enter c.args.at c.args.state.now c.expand_directive.new.self c.args.set.now c.args.room c.args.further.now c.deref.result.now
     (take (length c.args.further.now - 1) (drop 1 c.args.further.now)) c.in_ok-tokens.tokens.items c.first-item.result s a t e (ap is_header_kind (sym c.kind.ensures) ∙ sym c.is_header_kind.ensures ∙ c.if-is_header_kind.false) g
-    (subst (λ l. IncludesOrStops c.string_named.result c.string_named.new.names c.expand_directive.new.self c.args.set.now texts c.args.room (include_made enter c.args.at (l, g.after))) c.deref-2.ensures.value
+    (subst (λ l. IncludesOrStops g.after.given c.string_named.result c.string_named.new.names c.expand_directive.new.self c.args.set.now texts c.args.room (include_made enter c.args.at (l, g.after))) c.deref-2.ensures.value
     (c.string_named.ensures.includes texts g.after keeps g.agrees))
 
 pub returns-clause-sound : goal.returns-clause-sound

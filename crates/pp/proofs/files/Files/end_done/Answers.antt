@@ -11,7 +11,7 @@ returns-in_err-end_done-clause-left c texts set o keeps l =
     let r = c.args.self.now.innermost in
     let is = c.args.self.now.includers.items in
     let past : length r.lines ≤ r.next = omega (arith, c.requires.last, c.requires.open.stacked.reading.whole) in
-    rw (q.1, q.2) (left_stops c.in_err-end_done.field-0.0 c.args.names.now set texts (room_of is) is l.inner o l.whole
+    rw (q.1, q.2) (left_stops c.in_err-end_done.field-0.0 c.end_done.new.state.given c.args.names.now set texts (room_of is) is l.inner o l.whole
     (c.in_err-end_done.ensures.answers (around_with (room_of is) set texts) l.inner keeps
     (last_stands c.args.names.now c.args.state.now r.file.run (around_with (room_of is) set texts) r.file.conditionals r.lines r.file.ends r.next l.inner past l.stands)))
 

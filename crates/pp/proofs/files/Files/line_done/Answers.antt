@@ -12,7 +12,7 @@ returns-in_err-line_done-clause-left c texts o keeps l =
     let r = c.args.self.now.innermost in
     let is = c.args.self.now.includers.items in
     let st = subst (λ n. Stands c.args.names.now c.args.state.now r.file.run (around_with n c.args.set.now texts) r.file.conditionals (left_of r) l.inner) (sym c.room-room.ensures) l.stands in
-    rw (q.1, q.2) (left_stops c.in_err-line_done.field-0.0 c.line_done.new.names c.args.set.now texts (room_of is) is l.inner o l.whole (c.in_err-line_done.ensures.waits texts l.inner keeps st))
+    rw (q.1, q.2) (left_stops c.in_err-line_done.field-0.0 c.line_done.new.state.given c.line_done.new.names c.args.set.now texts (room_of is) is l.inner o l.whole (c.in_err-line_done.ensures.waits texts l.inner keeps st))
 
 pub returns-in-None-clause-open : goal.returns-in-None-clause-open
 returns-in-None-clause-open c =

@@ -13,7 +13,7 @@ pub returns-then-not-is_identifier-clause-does : goal.returns-then-not-is_identi
 returns-then-not-is_identifier-clause-does c texts enter keeps s a =
     let reads : Reads c.args.self.now c.args.line.now c.hash-item.result c.name-item.result c.in_ok-at.at = record { long = c.in-len2-up.len_at_least; first = c.hash-item.is; second = c.name-item.is; at_is = c.in_ok-at.ensures.ok ∙ ap (λ p. presumed_by (presumed_of c.args.self.now.presumed) p) c.pos.ensures } in
     let end = first_end (drop c.args.index c.args.ends.now) in
-    subst (λ r. StopsAs c.args.names.now r (directive_done texts enter (line_with c.args.line.now end) s)) (sym c.bad_directive.ensures)
+    subst (λ r. StopsAs s.given c.args.names.now r (directive_done texts enter (line_with c.args.line.now end) s)) (sym c.bad_directive.ensures)
     (directive_bad texts c.args.names.now enter c.args.self.now c.args.line.now end c.hash-item.result c.name-item.result c.in_ok-at.at s reads (sym c.is_identifier.ensures ∙ c.if-not-is_identifier.true) a)
 
 pub returns-clause-does : goal.returns-clause-does
