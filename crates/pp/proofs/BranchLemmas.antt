@@ -15,8 +15,9 @@ use Rattle.pp.specs.declared.state.State.{State as Held}
 use Rattle.pp.specs.Lines.{Line}
 use Rattle.pp.specs.Groups.{opens, divides, closes, stands_alone, role_of, is_else, place_of, Parsed, with_line}
 use Rattle.pp.specs.Phase4.{State, Outcome, ◌>>=◌, fails, Around, max_conditionals, nested_done, directive_done, end_checked}
-use Rattle.pp.specs.inside.Rest.{is_active, next_branch, opening, closed_by, open_at, rest_done}
-use Rattle.pp.specs.inside.Stepping.{first_of, behind_first, presumed_of, presumed_by, line_with, Agrees, Gives, Stops, StopsAs, Answers, Does, Rests, RestsOrStops}
+use Rattle.pp.specs.Rest.{is_active, next_branch, opening, closed_by, open_at, rest_done}
+use Rattle.pp.specs.Held.{presumed_of, Agrees}
+use Rattle.pp.specs.inside.Stepping.{first_of, behind_first, presumed_by, line_with, Gives, Stops, StopsAs, Answers, Does, Rests, RestsOrStops}
 use Rattle.pp.proofs.RestLemmas.{open_rest, divide_rest, divide_amiss, divide_alone, close_rest, close_alone, directive_rest, skipped_rest}
 use Rattle.pp.proofs.FileLemmas.{stops_all}
 

@@ -19,10 +19,11 @@ use Rattle.pp.specs.declared.state.State.{State as Held}
 use Rattle.pp.specs.Lines.{Line}
 use Rattle.pp.specs.Groups.{place_of}
 use Rattle.pp.specs.Phase4.{State, Outcome, goes, stops, ◌>>=◌, fails, expand, presume, truth_token, is_macro, operand_of, operand_resolved, resolved_by, with_first, defined_resolved, of_truth, condition_by, macro_asked, else_asked, asked, branch_by, branch_taken, else_checked}
-use Rattle.pp.specs.inside.Stepping.{presumed_by, line_with, Agrees, Goes, Gives, StopsAs, Asks, PutsResolved, IsUnresolved, joined, Resolves}
+use Rattle.pp.specs.Held.{Agrees}
+use Rattle.pp.specs.inside.Stepping.{presumed_by, line_with, Goes, Gives, StopsAs, Asks, PutsResolved, IsUnresolved, joined, Resolves}
 use Rattle.pp.proofs.StateLemmas.{append_files, expand_given, if_true, if_false, Reads, reads_line}
 use Rattle.pp.specs.declared.conditionals.BranchState.TheVariants.{Past}
-use Rattle.pp.specs.inside.Rest.{to_branch}
+use Rattle.pp.specs.Rest.{to_branch}
 use Rattle.pp.proofs.FileLemmas.{stops_then}
 
 -- ---- `defined`

@@ -17,10 +17,12 @@ use Rattle.pp.specs.declared.words.Role.TheVariants as word
 use Rattle.pp.specs.Lines.{Line, lines_with, first_end}
 use Rattle.pp.specs.Groups.{ends, of_text, role_of, Parsed, to_end, in_first, with_text, with_line, parsed, groups}
 use Rattle.pp.specs.Phase4.{State, Presumed, Outcome, stops, ◌>>=◌, Around, presume, group_done}
-use Rattle.pp.specs.inside.Pending.{pending, run_ended}
-use Rattle.pp.specs.inside.Queue.{Given}
-use Rattle.pp.specs.inside.Rest.{nowhere, is_active, rest_done}
-use Rattle.pp.specs.inside.Stepping.{role_meant, first_of, presumed_of, presumed_by, placed, behind_line, line_with, IsGiven, Agrees, Goes, StopsAs, Ends, EndsAs, RestsOrStops, Stands, StandsOrStops}
+use Rattle.pp.specs.Rest.{pending, nowhere, is_active, rest_done}
+use Rattle.pp.specs.inside.Pending.{run_ended}
+use Rattle.pp.specs.Queue.{Given}
+use Rattle.pp.specs.Held.{presumed_of, IsGiven, Agrees}
+use Rattle.pp.specs.Left.{Stands}
+use Rattle.pp.specs.inside.Stepping.{role_meant, first_of, presumed_by, placed, behind_line, line_with, Goes, StopsAs, Ends, EndsAs, RestsOrStops, StandsOrStops}
 use Rattle.pp.proofs.GroupLemmas.{and_left, and_right}
 use Rattle.pp.proofs.RestLemmas.{is_text, in_none, text_joined, text_rest, line_rest, end_rest, end_alone, end_open, whole_rest}
 use Rattle.pp.proofs.StateLemmas.{append_files, true-false}

@@ -21,8 +21,8 @@ use Rattle.pp.specs.declared.files.Includer.{Includer}
 use Rattle.pp.specs.Lines.{Line, lines_of}
 use Rattle.pp.specs.Groups.{Group, ends, run, directive, section, open_section, missing_end, unbalanced, Branches, no_branch, branch, Role, of_text, opens, divides, closes, stands_alone, role_of, is_else, place_of, Parsed, to_end, to_line, ended_by, groups}
 use Rattle.pp.specs.Phase4.{Fault, State, Outcome, goes, stops, ◌>>=◌, fails, Enter, Around, ending_of, presume, presumed_at, of_expansion, expand, first_past, give, run_done, with_macros, undefined, resumed, is_plain_string, include_made, is_header_kind, include_named, include_done, is_line_number, is_file_text, inside, number_in, numbered, line_made, line_done, error_text, named, directive_by, directive_done, defined_resolved, of_truth, condition_by, is_macro, macro_asked, else_asked, asked, branch_by, branch_taken, else_checked, end_checked, first_line, unless_fault, skipped, max_conditionals, max_tokens, nested_done, taken_or_skipped, group_done, branches_done, branches_left, refused, lines_done, file_done, file_meant, entered_by, entered}
-use Rattle.pp.specs.inside.Including.{around_with, left_of, back_in, goes_on, resumed_all}
-use Rattle.pp.specs.inside.Rest.{nowhere, within, taken_if, to_branch, next_branch, closed_by, open_at, divided, behind_group, rest_done}
+use Rattle.pp.specs.Left.{around_with, left_of, back_in, goes_on, resumed_all}
+use Rattle.pp.specs.Rest.{nowhere, within, taken_if, to_branch, next_branch, closed_by, open_at, divided, behind_group, rest_done}
 
 -- ---- fronts
 

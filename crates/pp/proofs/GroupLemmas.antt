@@ -3,7 +3,7 @@ use Rattle.std.proofs.Common.{◌≡◌, List, [], ◌∷◌, ◌++◌, Bool, tr
 use Rattle.std.specs.Prelude.{◌&&◌}
 use Rattle.phases.specs.Token.{Token}
 use Rattle.pp.specs.Groups.{Group, ends, run, directive, section, open_section, missing_end, unbalanced, with_text, behind_newline}
-use Rattle.pp.specs.inside.Pending.{pending}
+use Rattle.pp.specs.Rest.{pending}
 use Rattle.pp.specs.inside.Stepping.{behind_line}
 
 newline_twice : (ys : List Token) → behind_newline (behind_newline ys) ≡ behind_newline ys

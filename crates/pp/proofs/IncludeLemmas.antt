@@ -21,10 +21,12 @@ use Rattle.pp.specs.declared.state.State.{State as Held}
 use Rattle.pp.specs.declared.words.Role.TheVariants as word
 use Rattle.pp.specs.Groups.{stands_alone, role_of, hash_role, word_role, Parsed, with_line}
 use Rattle.pp.specs.Phase4.{State, Outcome, ◌>>=◌, Enter, fails, presume, expand, entered, entered_by, file_done, file_meant, built_in, or_built_in, inside, resumed, is_header_kind, is_plain_string, include_named, include_made, include_done, named, Around, directive_done}
-use Rattle.pp.specs.inside.Including.{is_include, around_with, Means, Enters, EntersOrStops, IncludesOrStops, IncludedOrStops}
+use Rattle.pp.specs.Left.{around_with, Stands}
+use Rattle.pp.specs.inside.Including.{is_include, Means, Enters, EntersOrStops, IncludesOrStops, IncludedOrStops}
 use Rattle.pp.specs.inside.Pending.{run_ended}
-use Rattle.pp.specs.inside.Rest.{is_active, rest_done}
-use Rattle.pp.specs.inside.Stepping.{presumed_of, presumed_by, placed, line_with, Agrees, Goes, Gives, Stops, StopsAs, Stands}
+use Rattle.pp.specs.Rest.{is_active, rest_done}
+use Rattle.pp.specs.Held.{presumed_of, Agrees}
+use Rattle.pp.specs.inside.Stepping.{presumed_by, placed, line_with, Goes, Gives, Stops, StopsAs}
 use Rattle.pp.proofs.BranchLemmas.{alone_skipped}
 use Rattle.pp.proofs.FileLemmas.{directive_is, directive_stands, stops_all, ends_with}
 use Rattle.pp.proofs.PhaseLemmas.{number_kept}

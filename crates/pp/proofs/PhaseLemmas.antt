@@ -20,8 +20,8 @@ use Rattle.pp.specs.Lines.{Line, lines_with, lines_or_refusal, lines_of}
 use Rattle.pp.specs.Groups.{groups}
 use Rattle.pp.specs.Phase4.{State, Fault, Around, start, max_includes, number_in, lines_done, file_done, main_done, ending_of, phase4, group_done}
 use Rattle.pp.specs.Preprocessed.{IsStopped, IsRefused}
-use Rattle.pp.specs.inside.Including.{around_with}
-use Rattle.pp.specs.inside.Rest.{nowhere}
+use Rattle.pp.specs.Left.{around_with}
+use Rattle.pp.specs.Rest.{nowhere}
 use Rattle.pp.specs.inside.Stepping.{Stops, StopsAs}
 use Rattle.pp.proofs.StateLemmas.{true-false}
 

@@ -10,8 +10,8 @@ use Rattle.pp.specs.declared.conditionals.Open.{Open}
 use Rattle.pp.specs.Lines.{Line}
 use Rattle.pp.specs.Groups.{Group, ends, run, directive, section, open_section, missing_end, unbalanced, Branches, no_branch, branch, Role, of_text, opens, divides, closes, stands_alone, role_of, is_else, place_of, Parsed, to_end, to_line, in_first, with_text, ended_by, whole_file, Tail, closed, unclosed, with_branch, divided_by, branch_ended, branches_from, with_section, with_line}
 use Rattle.pp.specs.Phase4.{Fault, State, Outcome, goes, stops, ◌>>=◌, fails, Around, presumed_at, run_done, directive_done, max_conditionals, branch_taken, else_checked, end_checked, first_line, or_else, plain_fault, nested, skipped, branches_skipped, unless_fault, nested_done, taken_or_skipped, group_done, branches_done, branches_left}
-use Rattle.pp.specs.inside.Pending.{pending, run_ended}
-use Rattle.pp.specs.inside.Rest.{nowhere, is_taken, is_active, within, taken_if, to_branch, next_branch, opening, closed_by, open_at, divided, behind_group, rest_done}
+use Rattle.pp.specs.Rest.{pending, nowhere, is_taken, is_active, within, taken_if, to_branch, next_branch, opening, closed_by, open_at, divided, behind_group, rest_done}
+use Rattle.pp.specs.inside.Pending.{run_ended}
 use Rattle.pp.specs.inside.Stepping.{behind_line}
 use Rattle.pp.proofs.GroupLemmas.{text_pending}
 

@@ -22,11 +22,12 @@ use Rattle.pp.specs.Lines.{lines_with}
 use Rattle.pp.specs.Groups.{Parsed, parsed, groups, in_first}
 use Rattle.pp.specs.Phase4.{State, Fault, Outcome, goes, stops, ◌>>=◌, Around, file_done, group_done, number_in, resumed, max_includes, max_tokens}
 use Rattle.pp.specs.inside.Guards.{IsPassedOver}
-use Rattle.pp.specs.inside.Including.{around_with, Waits, left_of, IsReading, IsOpened, AreWaiting, AreStacked, AreOpen, room_of, back_in, goes_on, resumed_all, Left, weight, lines_left, weighed, size_of}
-use Rattle.pp.specs.inside.Pending.{pending}
-use Rattle.pp.specs.inside.Queue.{Given}
-use Rattle.pp.specs.inside.Rest.{nowhere, rest_done}
-use Rattle.pp.specs.inside.Stepping.{presumed_of, IsGiven, Agrees, IsSound, Goes, Stops, EndsAs, Stands}
+use Rattle.pp.specs.Left.{around_with, left_of, IsReading, AreWaiting, AreStacked, AreOpen, room_of, back_in, goes_on, resumed_all, Left, Stands}
+use Rattle.pp.specs.inside.Including.{Waits, IsOpened, weight, lines_left, weighed, size_of}
+use Rattle.pp.specs.Rest.{pending, nowhere, rest_done}
+use Rattle.pp.specs.Queue.{Given}
+use Rattle.pp.specs.Held.{presumed_of, IsGiven, Agrees, IsSound}
+use Rattle.pp.specs.inside.Stepping.{Goes, Stops, EndsAs}
 use Rattle.pp.proofs.FileLemmas.{stops_then, stops_same, ends_with, stands_first, no_files, true_or_false}
 use Rattle.pp.proofs.PhaseLemmas.{begun_in, file_is, scan_stops}
 use Rattle.pp.proofs.RestLemmas.{in_none}

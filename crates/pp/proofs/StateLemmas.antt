@@ -23,8 +23,9 @@ use Rattle.pp.specs.declared.state.State.{State as Held}
 use Rattle.pp.specs.Phase4.{Presumed, printable, State, Outcome, goes, stops, ◌>>=◌, Enter, presume, with_macros, undefined, fails, of_expansion, expand, give, first_past, run_done, include_done, line_done, named, directive_by, directive_done, max_tokens}
 use Rattle.pp.specs.inside.Including.{is_include}
 use Rattle.pp.specs.inside.Pending.{is_directive}
-use Rattle.pp.specs.inside.Queue.{Given}
-use Rattle.pp.specs.inside.Stepping.{presumed_of, presumed_by, placed, line_with, spaced_out, error_fault, error_done, IsGiven, Gives, Agrees, IsSound, Goes, Stops, StopsAs, Answers, Does, IsPast}
+use Rattle.pp.specs.Queue.{Given}
+use Rattle.pp.specs.Held.{presumed_of, IsGiven, Agrees, IsSound}
+use Rattle.pp.specs.inside.Stepping.{presumed_by, placed, line_with, spaced_out, error_fault, error_done, Gives, Goes, Stops, StopsAs, Answers, Does, IsPast}
 
 pub on_ok : {A : Type 0} {P : Type 0} → (result : Result A Refusal) → P → OnOk result P
 on_ok (Ok u) p = p

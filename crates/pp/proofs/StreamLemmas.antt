@@ -10,12 +10,13 @@ use Rattle.pp.specs.declared.stream.Stage.{Stage}
 use Rattle.pp.specs.declared.stream.Stage.TheVariants.{Reads, Ended, Refused}
 use Rattle.pp.specs.Phase4.{Fault, State, Outcome, stops, Phase4, ending_of}
 use Rattle.pp.specs.Stream.{taken_of, left_behind, fault_meant, ComesTo, ends_with, RestBy, ReadsBy, Refuses, IsNext, IsAnswer, IsRest, taken_after}
-use Rattle.pp.specs.inside.Including.{AreOpen, Left, LeftOrAnswers, left_of, resumed_all, room_of, size_of}
+use Rattle.pp.specs.Left.{AreOpen, Left, left_of, resumed_all, room_of}
+use Rattle.pp.specs.inside.Including.{LeftOrAnswers, size_of}
 use Rattle.pp.specs.Groups.{in_first}
-use Rattle.pp.specs.inside.Pending.{pending}
-use Rattle.pp.specs.inside.Queue.{Given, is_nothing, IsTaken}
+use Rattle.pp.specs.Rest.{pending}
+use Rattle.pp.specs.Queue.{Given, is_nothing, IsTaken}
 use Rattle.pp.specs.inside.Reading.{stage_after, is_reading, is_starved, end_of, size_by}
-use Rattle.pp.specs.inside.Stepping.{IsGiven, IsSound}
+use Rattle.pp.specs.Held.{IsGiven, IsSound}
 use Rattle.pp.proofs.FrontLemmas.{left_front}
 use Rattle.pp.proofs.PhaseLemmas.{shown_is}
 use Rattle.pp.proofs.StateLemmas.{true-false}

@@ -5,6 +5,10 @@ pub use Rattle.srcset.specs.Writing
 pub mod Lines
 pub mod Groups
 pub mod Phase4
+pub mod Queue
+pub mod Rest
+pub mod Held
+pub mod Left
 pub mod Preprocessed
 pub mod Stream
 pub mod Printed

@@ -10,9 +10,9 @@ use Rattle.pp.specs.declared.stream.Pp.{Pp}
 use Rattle.pp.specs.declared.stream.Stage.{Stage}
 use Rattle.pp.specs.declared.stream.Stage.TheVariants.{Reads, Ended, Refused}
 use Rattle.pp.specs.Phase4.{Fault, State, Outcome, Phase4, ending_of, max_tokens}
-use Rattle.pp.specs.inside.Including.{AreOpen, Left}
-use Rattle.pp.specs.inside.Queue.{is_nothing}
-use Rattle.pp.specs.inside.Stepping.{IsSound}
+use Rattle.pp.specs.Left.{AreOpen, Left}
+use Rattle.pp.specs.Queue.{is_nothing}
+use Rattle.pp.specs.Held.{IsSound}
 
 -- ---- what is left
 

@@ -1,7 +1,5 @@
 pub mod Guards
 pub mod Including
 pub mod Pending
-pub mod Queue
 pub mod Reading
-pub mod Rest
 pub mod Stepping

@@ -3,7 +3,7 @@ ghost use Rattle.std.specs.Prelude.{◌≡◌, [], ◌∷◌, nat_le, length, On
 ghost use Rattle.std.specs.Option.{option_copied};
 ghost use Rattle.srcset.specs.declared.refusal.Refusal.TheVariants.{Memory};
 ghost use Rattle.pp.specs.Phase4.{max_conditionals};
-ghost use Rattle.pp.specs.inside.Rest.{is_taken, is_active, opening};
+ghost use Rattle.pp.specs.Rest.{is_taken, is_active, opening};
 ghost use Rattle.pp.specs.inside.Stepping.{first_of, behind_first};
 
 use srcset::{Pos, Refusal};

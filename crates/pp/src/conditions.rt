@@ -6,8 +6,9 @@ ghost use Rattle.srcset.specs.declared.code.Code.TheVariants.{BadDirective, NotC
 ghost use Rattle.macros.specs.Macro.{is_identifier, is_spelled};
 ghost use Rattle.pp_expand.specs.Expands.{HaveFiles};
 ghost use Rattle.pp.specs.Phase4.{State as Done, truth_token, is_macro, name_operand, operand_of, defined_resolved, condition_by, macro_asked, else_asked, branch_taken, else_checked, end_checked, presume, Around};
-ghost use Rattle.pp.specs.inside.Rest.{next_branch};
-ghost use Rattle.pp.specs.inside.Stepping.{Agrees, IsSound, Asks, Does, line_with, operand_meant, PutsResolved, Resolves, IsUnresolved};
+ghost use Rattle.pp.specs.Rest.{next_branch};
+ghost use Rattle.pp.specs.Held.{Agrees, IsSound};
+ghost use Rattle.pp.specs.inside.Stepping.{Asks, Does, line_with, operand_meant, PutsResolved, Resolves, IsUnresolved};
 
 use crate::conditionals::BranchState;
 use crate::state::{State, bad_directive};

@@ -9,8 +9,10 @@ ghost use Rattle.pp.specs.Lines.{first_end, lines_with};
 ghost use Rattle.pp.specs.Groups.{Parsed, Group, ends, opens, divides, closes, stands_alone, role_of, to_end, with_line, groups};
 ghost use Rattle.pp.specs.Phase4.{State as Done, Outcome, Around, group_done};
 ghost use Rattle.pp.specs.inside.Including.{is_include};
-ghost use Rattle.pp.specs.inside.Rest.{nowhere, is_active, rest_done};
-ghost use Rattle.pp.specs.inside.Stepping.{line_with, role_meant, IsSound, Agrees, EndsOrGoes, RestsOrStops, Stands, StandsOrStops};
+ghost use Rattle.pp.specs.Rest.{nowhere, is_active, rest_done};
+ghost use Rattle.pp.specs.Held.{IsSound, Agrees};
+ghost use Rattle.pp.specs.Left.{Stands};
+ghost use Rattle.pp.specs.inside.Stepping.{line_with, role_meant, EndsOrGoes, RestsOrStops, StandsOrStops};
 
 use crate::conditionals::{BranchState, Conditionals, Open};
 use crate::conditions::{check_end, next_branch};

@@ -6,8 +6,10 @@ ghost use Rattle.srcset.specs.declared.refusal.Refusal.TheVariants.{Memory};
 ghost use Rattle.phases.specs.Lines.{scanned};
 ghost use Rattle.pp_expand.specs.Expands.{HaveFiles};
 ghost use Rattle.pp.specs.Phase4.{State as Done, Outcome, max_includes};
-ghost use Rattle.pp.specs.inside.Including.{around_with, IsReading, IsOpened, CanEnter, AreStacked, AreOpen, Waits, StandsOrWaits, left_of, resumed_all, Left, LeftOrStops, LeftOrAnswers, LeftOrGoes, room_of, weight, size_of};
-ghost use Rattle.pp.specs.inside.Stepping.{IsSound, Does, Goes, Stands};
+ghost use Rattle.pp.specs.Left.{around_with, IsReading, AreStacked, AreOpen, left_of, resumed_all, Left, room_of, Stands};
+ghost use Rattle.pp.specs.inside.Including.{IsOpened, CanEnter, Waits, StandsOrWaits, LeftOrStops, LeftOrAnswers, LeftOrGoes, weight, size_of};
+ghost use Rattle.pp.specs.Held.{IsSound};
+ghost use Rattle.pp.specs.inside.Stepping.{Does, Goes};
 
 use crate::conditionals::Conditionals;
 use crate::ends::LineEnds;

@@ -8,8 +8,10 @@ ghost use Rattle.pp_expand.specs.Expands.{HaveFiles};
 ghost use Rattle.pp.specs.Lines.{first_end};
 ghost use Rattle.pp.specs.Groups.{Parsed, role_of, with_line};
 ghost use Rattle.pp.specs.Phase4.{State as Done, Outcome, Enter, presume, built_in, file_meant, entered, is_header_kind, include_named, include_made, include_done};
-ghost use Rattle.pp.specs.inside.Including.{is_include, around_with, IsNumber, IsMeant, CanRead, EntersOrStops, IncludesOrStops, StandsOrWaits};
-ghost use Rattle.pp.specs.inside.Stepping.{line_with, Agrees, IsSound, Stands};
+ghost use Rattle.pp.specs.Left.{around_with, Stands};
+ghost use Rattle.pp.specs.inside.Including.{is_include, IsNumber, IsMeant, CanRead, EntersOrStops, IncludesOrStops, StandsOrWaits};
+ghost use Rattle.pp.specs.Held.{Agrees, IsSound};
+ghost use Rattle.pp.specs.inside.Stepping.{line_with};
 
 use crate::file::OpenFile;
 use crate::line_directive::{inside, is_plain_string};

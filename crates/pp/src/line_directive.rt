@@ -6,7 +6,8 @@ ghost use Rattle.phases.specs.Token.{Token};
 ghost use Rattle.srcset.specs.declared.refusal.Refusal.TheVariants.{At};
 ghost use Rattle.srcset.specs.declared.code.Code.TheVariants.{BadLineDirective};
 ghost use Rattle.pp.specs.Phase4.{is_file_byte, is_file_text, is_plain_string, is_string_kind, inside, line_made, line_done, presume};
-ghost use Rattle.pp.specs.inside.Stepping.{IsSound, Does, IsNextDigit, IsLineNumber};
+ghost use Rattle.pp.specs.Held.{IsSound};
+ghost use Rattle.pp.specs.inside.Stepping.{Does, IsNextDigit, IsLineNumber};
 
 use crate::places::Presumed;
 use crate::state::State;

@@ -1,7 +1,8 @@
 //! Places as the source presumes them to be.
 ghost use Rattle.std.specs.Prelude.{◌≡◌, ◌++◌, IfOk, IfErr, OnOk};
 ghost use Rattle.srcset.specs.declared.refusal.Refusal.TheVariants.{Memory};
-ghost use Rattle.pp.specs.inside.Stepping.{presumed_of, presumed_by, placed};
+ghost use Rattle.pp.specs.Held.{presumed_of};
+ghost use Rattle.pp.specs.inside.Stepping.{presumed_by, placed};
 
 use phases::PpToken;
 use srcset::{Pos, Refusal};

@@ -1,7 +1,7 @@
 //! The tokens that are given.
 ghost use Rattle.std.specs.Prelude.{◌≡◌, ◌≤◌, ◌-◌, ◌+◌, length, slice_get, [], None, IfErr, OnOk};
 ghost use Rattle.pp.specs.Phase4.{max_tokens};
-ghost use Rattle.pp.specs.inside.Queue.{IsTaken, is_nothing};
+ghost use Rattle.pp.specs.Queue.{IsTaken, is_nothing};
 ghost use Rattle.pp.specs.inside.Stepping.{IsPast};
 
 use phases::PpToken;
@@ -24,7 +24,7 @@ pub struct Queue<'a> {
 impl<'a> Model for Queue<'a> {
     ghost use Rattle.std.specs.Prelude.{◌+◌, ◌≤◌, length};
     ghost use Rattle.pp.specs.Phase4.{max_tokens};
-    ghost use Rattle.pp.specs.inside.Queue.{Given};
+    ghost use Rattle.pp.specs.Queue.{Given};
 
     ghost Value = { Given };
 

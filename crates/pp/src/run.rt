@@ -1,7 +1,8 @@
 //! Text lines with no directive between.
 ghost use Rattle.std.specs.Prelude.{◌≡◌, ◌++◌, true, false, [], IfErr, OnOk};
 ghost use Rattle.srcset.specs.declared.refusal.Refusal.TheVariants.{Memory};
-ghost use Rattle.pp.specs.inside.Stepping.{presumed_of, placed, behind_line};
+ghost use Rattle.pp.specs.Held.{presumed_of};
+ghost use Rattle.pp.specs.inside.Stepping.{placed, behind_line};
 
 use crate::places::Presumed;
 use phases::PpToken;

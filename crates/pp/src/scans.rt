@@ -4,7 +4,7 @@ ghost use Rattle.srcset.specs.declared.refusal.Refusal.TheVariants.{Memory};
 ghost use Rattle.phases.specs.Lines.{scanned};
 ghost use Rattle.pp.specs.Phase4.{State as Done, max_tokens};
 ghost use Rattle.pp.specs.inside.Guards.{IsPassedOver, IsGuarded};
-ghost use Rattle.pp.specs.inside.Stepping.{Agrees};
+ghost use Rattle.pp.specs.Held.{Agrees};
 
 use crate::conditions::is_macro;
 use crate::guards::guard_of;

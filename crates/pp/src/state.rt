@@ -12,7 +12,8 @@ ghost use Rattle.pp.specs.Lines.{first_end};
 ghost use Rattle.pp.specs.Phase4.{State as Done, Enter, start, expand, presume, with_macros, undefined, run_done, named, directive_done};
 ghost use Rattle.pp.specs.inside.Including.{is_include};
 ghost use Rattle.pp.specs.inside.Pending.{is_directive, run_ended};
-ghost use Rattle.pp.specs.inside.Stepping.{presumed_of, placed, line_with, Agrees, IsSound, Gives, StopsAs, Does};
+ghost use Rattle.pp.specs.Held.{presumed_of, Agrees, IsSound};
+ghost use Rattle.pp.specs.inside.Stepping.{placed, line_with, Gives, StopsAs, Does};
 
 use crate::ends::LineEnds;
 use crate::error_directive::refusal_of;

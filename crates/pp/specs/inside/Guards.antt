@@ -8,8 +8,7 @@ use Rattle.pp.specs.declared.conditionals.Open.{Open}
 use Rattle.pp.specs.Lines.{lines_with}
 use Rattle.pp.specs.Groups.{Parsed, parsed, groups, role_of, is_else, with_line, in_first}
 use Rattle.pp.specs.Phase4.{State, Outcome, goes, Around, is_macro, group_done, file_done, number_in, max_tokens}
-use Rattle.pp.specs.inside.Pending.{pending}
-use Rattle.pp.specs.inside.Rest.{nowhere, is_active, rest_done}
+use Rattle.pp.specs.Rest.{pending, nowhere, is_active, rest_done}
 use Rattle.pp.specs.inside.Stepping.{line_with}
 
 -- the lines of a file do nothing where this macro is defined

@@ -1,5 +1,5 @@
 -- What is left of a file and of those that wait for it, where files include one another.
-use Rattle.std.specs.Prelude.{◌≡◌, ◌≤◌, ◌<◌, ◌&&◌, ◌+◌, ◌-◌, ◌*◌, ℕ, zero, suc, List, [], ◌∷◌, length, drop, slice_get, Bool, true, false, Option, Some, None, Result, Ok, Err, codes}
+use Rattle.std.specs.Prelude.{◌≡◌, ◌≤◌, ◌<◌, ◌&&◌, ◌+◌, ◌-◌, ◌*◌, ℕ, zero, suc, List, [], ◌∷◌, length, slice_get, Bool, true, false, Option, Some, None, Result, Ok, Err, codes}
 use Rattle.srcset.specs.declared.refusal.Refusal.{Refusal}
 use Rattle.srcset.specs.Files.{Files}
 use Rattle.srcset.specs.NameTable.{Texts, NumbersOnce}
@@ -9,26 +9,22 @@ use Rattle.phases.specs.Text.{logical}
 use Rattle.phases.specs.Lines.{scanned}
 use Rattle.phases.specs.LineEnds.{line_ends}
 use Rattle.macros.specs.Macro.{is_identifier, is_spelled, is_hash}
-use Rattle.pp_expand.specs.Expands.{HaveFiles}
 use Rattle.pp.specs.declared.files.Includer.{Includer}
 use Rattle.pp.specs.declared.files.Reading.{Reading}
 use Rattle.pp.specs.declared.file.OpenFile.{OpenFile}
 use Rattle.pp.specs.declared.includes.Source.{Source}
 use Rattle.pp.specs.declared.state.State.{State as Held}
-use Rattle.pp.specs.Lines.{lines_with}
-use Rattle.pp.specs.Groups.{Parsed, parsed}
-use Rattle.pp.specs.Phase4.{State, Outcome, ◌>>=◌, Around, entered, file_done, number_in, resumed, max_includes}
-use Rattle.pp.specs.inside.Rest.{rest_done}
-use Rattle.pp.specs.inside.Stepping.{presumed_of, Agrees, Goes, StopsAs, EndsAs, Stands}
+use Rattle.pp.specs.Groups.{Parsed}
+use Rattle.pp.specs.Phase4.{State, Outcome, ◌>>=◌, file_done, number_in, resumed}
+use Rattle.pp.specs.Held.{Agrees}
+use Rattle.pp.specs.Left.{around_with, IsReading, room_of, Left, Stands}
+use Rattle.pp.specs.Rest.{rest_done}
+use Rattle.pp.specs.inside.Stepping.{Goes, StopsAs, EndsAs}
 
 -- the line is an #include
 abbrev pub is_include : List Token → Bool
 is_include (h ∷ x ∷ xs) = is_hash h && (is_identifier x && is_spelled (codes "include") x)
 is_include _ = false
-
--- where so many further files may be opened, one in the other
-abbrev pub around_with : ℕ → Files → Texts → Around
-around_with room files texts = record { texts = texts; enter = entered room files texts }
 
 -- ---- the file that is meant
 
@@ -90,15 +86,6 @@ StandsOrWaits (Err r) names held file files texts room p o = EndsAs held.given n
 
 -- ---- the files that are open
 
--- the lines from the next on
-abbrev pub left_of : Reading → Parsed
-left_of r = parsed (drop r.next (lines_with r.lines r.file.ends))
-
-pub record IsReading (r : Reading) : Type 0 where
-  pub within : r.next ≤ r.end
-  pub whole : r.end ≡ length r.lines
-  pub bounded : r.end < 18446744073709551616
-
 -- no line of it is done
 pub record IsFresh (r : Reading) : Type 0 where
   pub first : r.next ≡ 0
@@ -113,28 +100,6 @@ pub record IsOpened (source : Source) (r : Reading) : Type 0 where
   pub ends_are : r.file.ends ≡ line_ends 0 Start (logical 1 source.bytes.now)
   pub fresh : IsFresh r
 
--- an includer that waits
-pub record IsWaiting (names : Texts) (i : Includer) : Type 0 where
-  pub begun : i.reading.file.run.begun ≡ false
-  pub tokens : i.reading.file.run.tokens ≡ []
-  pub has_file : i.presumed.file < length names
-  pub reading : IsReading i.reading
-
-abbrev pub AreWaiting : Texts → List Includer → Type 0
-AreWaiting names [] = Unit {0}
-AreWaiting names (i ∷ is) = IsWaiting names i × AreWaiting names is
-
--- the files that are open, at most so many of which wait
-pub record AreStacked (names : Texts) (innermost : Reading) (is : List Includer) : Type 0 where
-  pub few : length is ≤ max_includes
-  pub reading : IsReading innermost
-  pub waiting : AreWaiting names is
-
--- the run of the innermost has places
-pub record AreOpen (names : Texts) (innermost : Reading) (is : List Includer) : Type 0 where
-  pub stacked : AreStacked names innermost is
-  pub has_files : HaveFiles names innermost.file.run.tokens
-
 -- a file can be read, and there is room for it
 pub record CanRead (names : Texts) (room : ℕ) (source : Source) : Type 0 where
   pub has_file : source.name < length names
@@ -147,30 +112,7 @@ pub record CanEnter (names : Texts) (room : ℕ) (file : OpenFile) (source : Sou
   pub begun : file.run.begun ≡ false
   pub tokens : file.run.tokens ≡ []
 
--- how many further files may be opened, one in the other
-abbrev pub room_of : List Includer → ℕ
-room_of is = max_includes - length is
-
 -- ---- what is left
-
--- places are presumed as they were in the includer
-abbrev pub back_in : Includer → State → State
-back_in i s = record s { presumed = presumed_of i.presumed }
-
--- an includer goes on behind its #include
-abbrev pub goes_on : Files → Texts → ℕ → Includer → State → Outcome State
-goes_on files texts room i s = rest_done (around_with room files texts) i.reading.file.conditionals (left_of i.reading) (back_in i s)
-
--- The includers, the innermost first, go on where the file for which they wait comes to this, and leaves room for so many.
-abbrev pub resumed_all : Files → Texts → ℕ → List Includer → Outcome State → Outcome State
-resumed_all files texts room [] o = o
-resumed_all files texts room (i ∷ is) o = resumed_all files texts (suc room) is (o >>= goes_on files texts (suc room) i)
-
--- what is left of the files that are open comes to this
-pub record Left (names : Texts) (held : Held) (set : Files) (texts : Texts) (innermost : Reading) (is : List Includer) (o : Outcome State) : Type 0 where
-  pub inner : Outcome State
-  pub stands : Stands names held innermost.file.run (around_with (room_of is) set texts) innermost.file.conditionals (left_of innermost) inner
-  pub whole : o ≡ resumed_all set texts (room_of is) is inner
 
 abbrev pub LeftOrStops : {A : Type 0} → Result A Refusal → Texts → Held → Files → Texts → Reading → List Includer → Outcome State → Type 0
 LeftOrStops (Ok a) names held set texts innermost is o = Left names held set texts innermost is o

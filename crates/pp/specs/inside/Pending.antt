@@ -3,17 +3,11 @@ use Rattle.std.specs.Prelude.{List, [], ◌∷◌, Bool, true, false}
 use Rattle.srcset.specs.NameTable.{Texts}
 use Rattle.phases.specs.Token.{Token}
 use Rattle.macros.specs.Macro.{is_hash}
-use Rattle.pp.specs.Groups.{Group, with_text}
 use Rattle.pp.specs.Phase4.{State, Outcome, goes, run_done}
 
 abbrev pub is_directive : List Token → Bool
 is_directive [] = false
 is_directive (x ∷ xs) = is_hash x
-
--- a run that has begun, in front of a group
-abbrev pub pending : Bool → List Token → Group → Group
-pending false xs g = g
-pending true xs g = with_text xs g
 
 abbrev pub run_ended : Texts → Bool → List Token → State → Outcome State
 run_ended texts false xs s = goes s

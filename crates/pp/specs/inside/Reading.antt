@@ -10,7 +10,7 @@ use Rattle.pp.specs.declared.stream.Stage.TheVariants.{Reads, Ended, Refused}
 use Rattle.pp.specs.Phase4.{Phase4}
 use Rattle.pp.specs.Stream.{IsRest}
 use Rattle.pp.specs.inside.Including.{size_of}
-use Rattle.pp.specs.inside.Queue.{is_nothing}
+use Rattle.pp.specs.Queue.{is_nothing}
 
 -- a step left more lines, or none, or was refused
 abbrev pub stage_after : Result Bool Refusal → Stage

@@ -1,6 +1,6 @@
 -- What the state of the code is to that of the definition, and what a step of the code answers, where the definition's step is
 -- this one.
-use Rattle.std.specs.Prelude.{◌≡◌, ◌⊎◌, ◌≤◌, ◌<◌, ◌||◌, ◌-◌, ◌+◌, ◌*◌, ◌++◌, ℕ, suc, List, [], ◌∷◌, length, map, drop, slice_get, Bool, true, false, Option, Some, None, Result, Ok, Err}
+use Rattle.std.specs.Prelude.{◌≡◌, ◌⊎◌, ◌≤◌, ◌<◌, ◌||◌, ◌-◌, ◌+◌, ◌*◌, ◌++◌, ℕ, List, [], ◌∷◌, map, drop, slice_get, Bool, true, false, Option, Some, None, Result, Ok, Err}
 use Rattle.std.specs.Borrow.{Bor}
 use Rattle.std.specs.Str.{byte, is_utf8}
 use Rattle.srcset.specs.declared.refusal.Pos.{Pos}
@@ -12,20 +12,19 @@ use Rattle.srcset.specs.NameTable.{Texts}
 use Rattle.phases.specs.Characters.{is_digit}
 use Rattle.phases.specs.Token.{Token}
 use Rattle.lexer.specs.Digits.{digit_value, value_of}
-use Rattle.macros.specs.Table.{IsTable}
 use Rattle.pp_expand.specs.Expands.{HaveFiles}
 use Rattle.pp.specs.declared.conditionals.Open.{Open}
-use Rattle.pp.specs.declared.places.Presumed.{Presumed as Places}
 use Rattle.pp.specs.declared.run.Run.{Run}
 use Rattle.pp.specs.declared.state.State.{State as Held}
 use Rattle.pp.specs.declared.words.Role.{Role as Word}
 use Rattle.pp.specs.declared.words.Role.TheVariants as word
 use Rattle.pp.specs.Lines.{Line}
-use Rattle.pp.specs.Groups.{place_of, Role, of_text, opens, divides, closes, stands_alone, Parsed, in_first}
-use Rattle.pp.specs.Phase4.{Fault, is_line_number, error_text, Presumed, State, Outcome, goes, stops, Around, presume, with_first, defined_resolved, max_tokens}
-use Rattle.pp.specs.inside.Pending.{pending}
-use Rattle.pp.specs.inside.Queue.{Given}
-use Rattle.pp.specs.inside.Rest.{is_active, rest_done}
+use Rattle.pp.specs.Groups.{place_of, Role, of_text, opens, divides, closes, stands_alone, Parsed}
+use Rattle.pp.specs.Phase4.{Fault, is_line_number, error_text, Presumed, State, Outcome, goes, stops, Around, with_first, defined_resolved}
+use Rattle.pp.specs.Queue.{Given}
+use Rattle.pp.specs.Held.{IsGiven, Agrees}
+use Rattle.pp.specs.Left.{Stands}
+use Rattle.pp.specs.Rest.{rest_done}
 
 -- ---- lines
 
@@ -51,9 +50,6 @@ behind_first (o ∷ os) = os
 
 -- ---- places
 
-abbrev pub presumed_of : Places → Presumed
-presumed_of p = record { from = suc p.behind; line = p.line; file = p.file }
-
 abbrev pub presumed_by : Presumed → Pos → Pos
 presumed_by p at = record { file = p.file; line = at.line - p.from + p.line }
 
@@ -66,24 +62,6 @@ behind_line later [] = []
 behind_line later (x ∷ xs) = record x { space_before = later || x.space_before } ∷ xs
 
 -- ---- states
-
--- these tokens are given: those that were taken, and those that were not
-pub record IsGiven (held : Given) (given : List Token) : Type 0 where
-  pub taken : List Token
-  pub taken_is : length taken ≡ held.taken
-  pub given_is : given ≡ taken ++ held.left
-
--- where names are numbered by these texts
-pub record Agrees (names : Texts) (held : Held) (s : State) : Type 0 where
-  pub table_is : IsTable names held.table s.macros
-  pub left_is : s.left ≡ held.budget
-  pub given_is : IsGiven held.given s.given
-  pub presumed_is : s.presumed ≡ presumed_of held.presumed
-
--- the bounds that it keeps
-pub record IsSound (names : Texts) (held : Held) : Type 0 where
-  pub room : held.given.taken + length held.given.left ≤ max_tokens
-  pub has_file : held.presumed.file < length names
 
 -- it goes on to what is held
 pub record Goes (names : Texts) (held : Held) (o : Outcome State) : Type 0 where
@@ -160,16 +138,6 @@ pub record Rests (names : Texts) (held : Held) (around : Around) (os : List Open
 abbrev pub RestsOrStops : {A : Type 0} → List Token → Result A Refusal → Texts → Held → Around → List Open → Parsed → Outcome State → Type 0
 RestsOrStops given (Ok a) names held around os p o = Rests names held around os p o
 RestsOrStops given (Err r) names held around os p o = StopsAs given names r o
-
--- the same behind a run
-pub record Stands (names : Texts) (held : Held) (run : Run) (around : Around) (os : List Open) (p : Parsed) (o : Outcome State) : Type 0 where
-  pub now : State
-  pub text : List Token
-  pub agrees : Agrees names held now
-  pub run_is : run.tokens ≡ presume now text
-  pub fresh : run.begun ≡ false → text ≡ []
-  pub active : run.begun ≡ true → is_active os ≡ true
-  pub comes_to : o ≡ rest_done around os (in_first (pending run.begun text) p) now
 
 abbrev pub StandsOrStops : {A : Type 0} → Result A Refusal → Texts → Held → Run → Around → List Open → Parsed → Outcome State → Type 0
 StandsOrStops (Ok a) names held run around os p o = Stands names held run around os p o

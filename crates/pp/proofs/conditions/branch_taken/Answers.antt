@@ -1,5 +1,6 @@
 use Rattle.std.proofs.Common.{sym, ap, ◌∙◌}
-use Rattle.pp.specs.inside.Stepping.{presumed_of, presumed_by}
+use Rattle.pp.specs.Held.{presumed_of}
+use Rattle.pp.specs.inside.Stepping.{presumed_by}
 use Rattle.pp.proofs.StateLemmas.{Reads}
 use Rattle.pp.proofs.ConditionLemmas.{asks_nothing, asks_ifdef, asks_ifndef, asks_else, asks_condition}
 use Rattle.pp.proofs.conditions.branch_taken.Goals as goal

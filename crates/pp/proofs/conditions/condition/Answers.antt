@@ -3,7 +3,8 @@ use Rattle.std.proofs.lemmas.Result.{err_from_is_err_and}
 use Rattle.pp_expand.specs.Expands.{HaveFiles}
 use Rattle.pp_expand.specs.Expansion.{of_directive}
 use Rattle.pp.specs.Phase4.{defined_resolved, expand}
-use Rattle.pp.specs.inside.Stepping.{presumed_of, placed, Gives}
+use Rattle.pp.specs.Held.{presumed_of}
+use Rattle.pp.specs.inside.Stepping.{placed, Gives}
 use Rattle.pp.proofs.FileLemmas.{placed_files}
 use Rattle.pp.proofs.ConditionLemmas.{condition_gives, condition_stops}
 use Rattle.pp.proofs.conditions.condition.Goals as goal

@@ -1,7 +1,7 @@
 use Rattle.std.proofs.lemmas.Result.{err_from_is_err_and}
 use Rattle.std.proofs.Common.{sym, subst}
 use Rattle.pp.specs.declared.conditionals.BranchState.TheVariants.{Past}
-use Rattle.pp.specs.inside.Rest.{next_branch}
+use Rattle.pp.specs.Rest.{next_branch}
 use Rattle.pp.specs.inside.Stepping.{line_with, Gives, StopsAs}
 use Rattle.pp.proofs.ConditionLemmas.{past_stops, past_gives}
 use Rattle.pp.proofs.conditions.next_branch.Goals as goal

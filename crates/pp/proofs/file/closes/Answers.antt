@@ -1,8 +1,9 @@
 use Rattle.std.proofs.Common.{refl, sym, ap, subst, ◌∙◌}
 use Rattle.pp.specs.declared.conditionals.BranchState.TheVariants.{Waiting, Taken, Past}
 use Rattle.pp.specs.Groups.{closes, with_line}
-use Rattle.pp.specs.inside.Rest.{rest_done}
-use Rattle.pp.specs.inside.Stepping.{presumed_of, presumed_by, line_with, StopsAs}
+use Rattle.pp.specs.Rest.{rest_done}
+use Rattle.pp.specs.Held.{presumed_of}
+use Rattle.pp.specs.inside.Stepping.{presumed_by, line_with, StopsAs}
 use Rattle.pp.proofs.BranchLemmas.{closes_alone, closes_skipped, closes_checked}
 use Rattle.pp.proofs.file.closes.Goals as goal
 

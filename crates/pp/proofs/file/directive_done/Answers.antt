@@ -1,7 +1,7 @@
 use Rattle.std.proofs.Common.{sym, subst, ◌∙◌, drop}
 use Rattle.pp.specs.Lines.{first_end}
 use Rattle.pp.specs.Groups.{with_line}
-use Rattle.pp.specs.inside.Rest.{rest_done}
+use Rattle.pp.specs.Rest.{rest_done}
 use Rattle.pp.specs.inside.Stepping.{role_meant, line_with, Rests, RestsOrStops}
 use Rattle.pp.proofs.BranchLemmas.{alone_answers, alone_skipped}
 use Rattle.pp.proofs.file.directive_done.Goals as goal

@@ -1,8 +1,9 @@
 use Rattle.std.proofs.Common.{sym, ap, subst, ◌∙◌}
 use Rattle.std.proofs.lemmas.Result.{err_from_is_err_and}
 use Rattle.pp.specs.Groups.{divides, with_line}
-use Rattle.pp.specs.inside.Rest.{rest_done}
-use Rattle.pp.specs.inside.Stepping.{presumed_of, presumed_by, line_with, StopsAs}
+use Rattle.pp.specs.Rest.{rest_done}
+use Rattle.pp.specs.Held.{presumed_of}
+use Rattle.pp.specs.inside.Stepping.{presumed_by, line_with, StopsAs}
 use Rattle.pp.proofs.BranchLemmas.{divides_alone, divides_amiss, divides_stops, divides_answers}
 use Rattle.pp.proofs.file.divides.Goals as goal
 

@@ -1,6 +1,7 @@
 use Rattle.std.proofs.Common.{sym, ap, ◌∙◌}
 use Rattle.std.proofs.lemmas.Result.{err_from_is_err_and}
-use Rattle.pp.specs.inside.Stepping.{presumed_of, presumed_by}
+use Rattle.pp.specs.Held.{presumed_of}
+use Rattle.pp.specs.inside.Stepping.{presumed_by}
 use Rattle.pp.proofs.BranchLemmas.{opens_full, opens_stops, opens_answers}
 use Rattle.pp.proofs.file.opens.Goals as goal
 

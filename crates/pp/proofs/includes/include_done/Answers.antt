@@ -1,8 +1,9 @@
 use Rattle.std.proofs.Common.{Ok, Err, sym, ap, ◌∙◌}
 use Rattle.std.proofs.lemmas.Result.{err_from_is_err_and}
 use Rattle.pp.specs.declared.words.Role.TheVariants as word
-use Rattle.pp.specs.inside.Including.{around_with}
-use Rattle.pp.specs.inside.Stepping.{presumed_of, presumed_by, placed, line_with}
+use Rattle.pp.specs.Left.{around_with}
+use Rattle.pp.specs.Held.{presumed_of}
+use Rattle.pp.specs.inside.Stepping.{presumed_by, placed, line_with}
 use Rattle.pp.proofs.FileLemmas.{run_stops, keeps_through}
 use Rattle.pp.proofs.IncludeLemmas.{include_role, line_skipped, line_includes}
 use Rattle.pp.proofs.includes.include_done.Goals as goal

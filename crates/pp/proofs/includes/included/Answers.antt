@@ -3,7 +3,8 @@ use Rattle.std.proofs.lemmas.Result.{err_from_is_err_and}
 use Rattle.pp_expand.specs.Expands.{HaveFiles}
 use Rattle.pp.specs.Phase4.{entered, include_done, include_made, is_header_kind, presume}
 use Rattle.pp.specs.inside.Including.{IncludesOrStops}
-use Rattle.pp.specs.inside.Stepping.{presumed_of, placed, StopsAs}
+use Rattle.pp.specs.Held.{presumed_of}
+use Rattle.pp.specs.inside.Stepping.{placed, StopsAs}
 use Rattle.pp.proofs.FileLemmas.{placed_files, keeps_through}
 use Rattle.pp.proofs.IncludeLemmas.{done_none, done_header, made_stops, made_includes, none_left}
 use Rattle.pp.proofs.LineLemmas.{whole_list}

@@ -2,7 +2,8 @@ use Rattle.std.proofs.Common.{◌++◌, ◌-◌, ◌<◌, take, drop, length, So
 use Rattle.std.proofs.lemmas.Result.{err_from_is_err_and}
 use Rattle.pp_expand.specs.Expands.{HaveFiles}
 use Rattle.pp.specs.Phase4.{line_made, is_line_number}
-use Rattle.pp.specs.inside.Stepping.{presumed_of, placed, Does, IsLineNumber}
+use Rattle.pp.specs.Held.{presumed_of}
+use Rattle.pp.specs.inside.Stepping.{placed, Does, IsLineNumber}
 use Rattle.pp.proofs.FileLemmas.{placed_files, keeps_through}
 use Rattle.pp.proofs.LineLemmas.{line_stops, line_bad, line_answers, bad_tokens, bad_number, whole_list}
 use Rattle.pp.proofs.line_directive.line_done.Goals as goal

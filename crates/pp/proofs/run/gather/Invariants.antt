@@ -1,5 +1,6 @@
 use Rattle.std.proofs.Common.{◌≡◌, ◌++◌, take}
-use Rattle.pp.specs.inside.Stepping.{presumed_of, placed}
+use Rattle.pp.specs.Held.{presumed_of}
+use Rattle.pp.specs.inside.Stepping.{placed}
 use Rattle.pp.proofs.run.gather.Given as goal
 
 abbrev pub invariant-loop-token : goal.invariant-loop-token

@@ -1,6 +1,6 @@
 use Rattle.std.proofs.Common.{◌≤◌, length, arith}
 use Rattle.std.proofs.lemmas.Result.{err_from_is_err_and}
-use Rattle.pp.specs.inside.Including.{around_with, room_of}
+use Rattle.pp.specs.Left.{around_with, room_of}
 use Rattle.pp.proofs.FileLemmas.{last_stands}
 use Rattle.pp.proofs.StackLemmas.{left_stops, ended_stacked}
 use Rattle.pp.proofs.files.Files.end_done.Goals as goal

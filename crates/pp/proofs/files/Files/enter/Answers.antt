@@ -1,7 +1,8 @@
 use Rattle.std.proofs.Common.{◌≡◌, ◌<◌, ◌+◌, ◌∷◌, sym, ap, subst, ◌∙◌}
 use Rattle.std.proofs.lemmas.Result.{err_from_is_err_and}
 use Rattle.pp.specs.declared.places.Presumed.{Presumed}
-use Rattle.pp.specs.inside.Including.{Left, size_of, weight, room_of}
+use Rattle.pp.specs.Left.{Left, room_of}
+use Rattle.pp.specs.inside.Including.{size_of, weight}
 use Rattle.pp.proofs.StackLemmas.{includer_of, begun_held, entered_left, entered_stops, entered_less}
 use Rattle.pp.proofs.files.Files.enter.Goals as goal
 

@@ -1,4 +1,5 @@
-use Rattle.pp.specs.inside.Including.{room_of, size_of}
+use Rattle.pp.specs.Left.{room_of}
+use Rattle.pp.specs.inside.Including.{size_of}
 use Rattle.pp.proofs.StackLemmas.{passed_left, less_with}
 use Rattle.pp.proofs.files.Files.include.Goals as goal
 

@@ -1,5 +1,6 @@
 use Rattle.std.proofs.Common.{◌<◌, ap, subst, sym, ◌∙◌}
-use Rattle.pp.specs.inside.Including.{AreStacked, Left, resumed_all, room_of, size_of}
+use Rattle.pp.specs.Left.{AreStacked, Left, resumed_all, room_of}
+use Rattle.pp.specs.inside.Including.{size_of}
 use Rattle.pp.proofs.StackLemmas.{resumed_left, resumed_less, resumed_held}
 use Rattle.pp.proofs.files.Files.leave.Goals as goal
 

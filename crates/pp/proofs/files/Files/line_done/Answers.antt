@@ -1,8 +1,8 @@
 use Rattle.std.proofs.Common.{◌≡◌, ◌+◌, ◌<◌, ℕ, suc, Ok, IfSome, Some, sym, subst, arith, length, ◌-◌}
 use Rattle.std.proofs.lemmas.Result.{err_from_is_err_and}
 use Rattle.pp.specs.Phase4.{max_includes}
-use Rattle.pp.specs.inside.Including.{around_with, room_of, size_of, weight, left_of, CanEnter, StandsOrWaits}
-use Rattle.pp.specs.inside.Stepping.{Stands}
+use Rattle.pp.specs.Left.{around_with, room_of, left_of, Stands}
+use Rattle.pp.specs.inside.Including.{size_of, weight, CanEnter, StandsOrWaits}
 use Rattle.pp.proofs.StackLemmas.{left_stops, stepped_less, less_by, weight_more, stepped_reading, stepped_open, has_place, less_then}
 use Rattle.pp.proofs.files.Files.line_done.Goals as goal
 

@@ -2,8 +2,8 @@ use Rattle.std.proofs.Common.{◌≡◌, ◌+◌, ℕ, List, suc, sym, ap, subst
 use Rattle.std.proofs.lemmas.Result.{err_from_is_err_and}
 use Rattle.pp.specs.Lines.{lines_with, first_end}
 use Rattle.pp.specs.Groups.{Parsed, parsed, role_of, with_line}
-use Rattle.pp.specs.inside.Including.{around_with}
-use Rattle.pp.specs.inside.Stepping.{line_with, Stands}
+use Rattle.pp.specs.Left.{around_with, Stands}
+use Rattle.pp.specs.inside.Stepping.{line_with}
 use Rattle.pp.proofs.FileLemmas.{next_stands}
 use Rattle.pp.proofs.files.Reading.line_done.Goals as goal
 

@@ -1,7 +1,8 @@
 use Rattle.std.proofs.Common.{refl, sym, ap, subst, ◌∙◌, ◌++◌}
 use Rattle.pp.specs.Phase4.{with_macros}
 use Rattle.macros.specs.Definition.{define}
-use Rattle.pp.specs.inside.Stepping.{presumed_of, placed, Answers}
+use Rattle.pp.specs.Held.{presumed_of}
+use Rattle.pp.specs.inside.Stepping.{placed, Answers}
 use Rattle.pp.proofs.StateLemmas.{defines, on_ok, still_sound}
 use Rattle.pp.proofs.state.State.define.Goals as goal
 

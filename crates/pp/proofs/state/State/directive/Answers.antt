@@ -1,6 +1,7 @@
 use Rattle.std.proofs.Common.{sym, ap, subst, drop, ◌∙◌}
 use Rattle.pp.specs.Lines.{first_end}
-use Rattle.pp.specs.inside.Stepping.{presumed_of, presumed_by, line_with, StopsAs}
+use Rattle.pp.specs.Held.{presumed_of}
+use Rattle.pp.specs.inside.Stepping.{presumed_by, line_with, StopsAs}
 use Rattle.pp.specs.Phase4.{directive_done}
 use Rattle.pp.proofs.StateLemmas.{Reads, directive_named, directive_bad, does_alone}
 use Rattle.pp.proofs.state.State.directive.Goals as goal

@@ -2,7 +2,7 @@ use Rattle.std.proofs.Common.{sym, ap, subst, ◌∙◌}
 use Rattle.pp.specs.declared.stream.Pp.{Pp}
 use Rattle.pp.specs.Phase4.{ending_of}
 use Rattle.pp.specs.Stream.{RestBy, left_behind}
-use Rattle.pp.specs.inside.Queue.{is_nothing}
+use Rattle.pp.specs.Queue.{is_nothing}
 use Rattle.pp.specs.inside.Reading.{is_reading}
 use Rattle.pp.proofs.GroupLemmas.{and_left}
 use Rattle.pp.proofs.StreamLemmas.{rest_now, stepped}

@@ -4,7 +4,7 @@ use Rattle.std.proofs.lemmas.Result.{err_from_is_err_and}
 use Rattle.pp.specs.declared.includes.Source.{Source}
 use Rattle.pp.specs.Phase4.{ending_of, file_done, start, max_includes}
 use Rattle.pp.specs.Stream.{left_behind}
-use Rattle.pp.specs.inside.Including.{around_with}
+use Rattle.pp.specs.Left.{around_with}
 use Rattle.pp.proofs.PhaseLemmas.{number_kept, no_main_is, main_is, scan_stops, stopped_is}
 use Rattle.pp.proofs.StackLemmas.{main_left, main_open}
 use Rattle.pp.proofs.stream.Pp.try_new.Goals as goal

@@ -1,5 +1,5 @@
 use Rattle.std.proofs.Common.{sym, ◌∙◌}
-use Rattle.pp.specs.inside.Queue.{is_nothing}
+use Rattle.pp.specs.Queue.{is_nothing}
 use Rattle.pp.specs.inside.Reading.{is_reading}
 use Rattle.pp.proofs.FileLemmas.{keeps_through}
 use Rattle.pp.proofs.GroupLemmas.{and_left}

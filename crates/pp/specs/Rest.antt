@@ -4,8 +4,9 @@ use Rattle.srcset.specs.declared.refusal.Pos.{Pos}
 use Rattle.pp.specs.declared.conditionals.BranchState.{BranchState}
 use Rattle.pp.specs.declared.conditionals.BranchState.TheVariants.{Waiting, Taken, Past, Skipped}
 use Rattle.pp.specs.declared.conditionals.Open.{Open}
+use Rattle.phases.specs.Token.{Token}
 use Rattle.pp.specs.Lines.{Line}
-use Rattle.pp.specs.Groups.{Group, missing_end, unbalanced, Role, closes, role_of, is_else, place_of, Parsed, to_end, to_line, ended_by, whole_file}
+use Rattle.pp.specs.Groups.{Group, missing_end, unbalanced, Role, closes, role_of, is_else, place_of, Parsed, to_end, to_line, ended_by, whole_file, with_text}
 use Rattle.pp.specs.Phase4.{State, Outcome, goes, ◌>>=◌, Around, group_done, skipped, unless_fault, branch_taken, else_checked, end_checked}
 
 abbrev pub nowhere : Pos
@@ -73,3 +74,10 @@ rest_done around [] p s = group_done around nowhere 0 (whole_file p) s
 rest_done around (o ∷ os) (to_end g) s = within o.branch around o.at (suc (length os)) (ended_by missing_end g) s
 rest_done around (o ∷ os) (to_line g l rest) s =
     behind_group (role_of l.tokens) o.behind_else o.branch around o.at (suc (length os)) g l (λ o s. rest_done around (o ∷ os) rest s) (λ s. rest_done around os rest s) s
+
+-- ---- runs
+
+-- a run that has begun, in front of a group
+abbrev pub pending : Bool → List Token → Group → Group
+pending false xs g = g
+pending true xs g = with_text xs g

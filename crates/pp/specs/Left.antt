@@ -1,0 +1,88 @@
+-- What is left of the files that are open, the includers with the innermost first.
+use Rattle.std.specs.Prelude.{◌≡◌, ◌≤◌, ◌<◌, ◌-◌, ℕ, suc, List, [], ◌∷◌, length, drop, true, false}
+use Rattle.srcset.specs.NameTable.{Texts}
+use Rattle.phases.specs.Token.{Token}
+use Rattle.pp_expand.specs.Expands.{HaveFiles}
+use Rattle.pp.specs.declared.conditionals.Open.{Open}
+use Rattle.pp.specs.declared.run.Run.{Run}
+use Rattle.pp.specs.declared.state.State.{State as Held}
+use Rattle.pp.specs.Groups.{Parsed, in_first, parsed}
+use Rattle.pp.specs.Phase4.{State, Outcome, Around, presume, ◌>>=◌, entered, max_includes}
+use Rattle.pp.specs.Rest.{pending, is_active, rest_done}
+use Rattle.srcset.specs.Files.{Files}
+use Rattle.pp.specs.declared.files.Includer.{Includer}
+use Rattle.pp.specs.declared.files.Reading.{Reading}
+use Rattle.pp.specs.Lines.{lines_with}
+use Rattle.pp.specs.Held.{presumed_of, Agrees}
+
+-- what is left of a file behind its run comes to this
+pub record Stands (names : Texts) (held : Held) (run : Run) (around : Around) (os : List Open) (p : Parsed) (o : Outcome State) : Type 0 where
+  pub now : State
+  pub text : List Token
+  pub agrees : Agrees names held now
+  pub run_is : run.tokens ≡ presume now text
+  pub fresh : run.begun ≡ false → text ≡ []
+  pub active : run.begun ≡ true → is_active os ≡ true
+  pub comes_to : o ≡ rest_done around os (in_first (pending run.begun text) p) now
+
+-- where so many further files may be opened, one in the other
+abbrev pub around_with : ℕ → Files → Texts → Around
+around_with room files texts = record { texts = texts; enter = entered room files texts }
+
+-- ---- the files that are open
+
+-- the lines from the next on
+abbrev pub left_of : Reading → Parsed
+left_of r = parsed (drop r.next (lines_with r.lines r.file.ends))
+
+pub record IsReading (r : Reading) : Type 0 where
+  pub within : r.next ≤ r.end
+  pub whole : r.end ≡ length r.lines
+  pub bounded : r.end < 18446744073709551616
+
+-- an includer that waits
+pub record IsWaiting (names : Texts) (i : Includer) : Type 0 where
+  pub begun : i.reading.file.run.begun ≡ false
+  pub tokens : i.reading.file.run.tokens ≡ []
+  pub has_file : i.presumed.file < length names
+  pub reading : IsReading i.reading
+
+abbrev pub AreWaiting : Texts → List Includer → Type 0
+AreWaiting names [] = Unit {0}
+AreWaiting names (i ∷ is) = IsWaiting names i × AreWaiting names is
+
+-- the files that are open, at most so many of which wait
+pub record AreStacked (names : Texts) (innermost : Reading) (is : List Includer) : Type 0 where
+  pub few : length is ≤ max_includes
+  pub reading : IsReading innermost
+  pub waiting : AreWaiting names is
+
+-- the run of the innermost has places
+pub record AreOpen (names : Texts) (innermost : Reading) (is : List Includer) : Type 0 where
+  pub stacked : AreStacked names innermost is
+  pub has_files : HaveFiles names innermost.file.run.tokens
+
+-- how many further files may be opened, one in the other
+abbrev pub room_of : List Includer → ℕ
+room_of is = max_includes - length is
+
+-- ---- what is left
+
+-- places are presumed as they were in the includer
+abbrev pub back_in : Includer → State → State
+back_in i s = record s { presumed = presumed_of i.presumed }
+
+-- an includer goes on behind its #include
+abbrev pub goes_on : Files → Texts → ℕ → Includer → State → Outcome State
+goes_on files texts room i s = rest_done (around_with room files texts) i.reading.file.conditionals (left_of i.reading) (back_in i s)
+
+-- The includers, the innermost first, go on where the file for which they wait comes to this, and leaves room for so many.
+abbrev pub resumed_all : Files → Texts → ℕ → List Includer → Outcome State → Outcome State
+resumed_all files texts room [] o = o
+resumed_all files texts room (i ∷ is) o = resumed_all files texts (suc room) is (o >>= goes_on files texts (suc room) i)
+
+-- what is left of the files that are open comes to this
+pub record Left (names : Texts) (held : Held) (set : Files) (texts : Texts) (innermost : Reading) (is : List Includer) (o : Outcome State) : Type 0 where
+  pub inner : Outcome State
+  pub stands : Stands names held innermost.file.run (around_with (room_of is) set texts) innermost.file.conditionals (left_of innermost) inner
+  pub whole : o ≡ resumed_all set texts (room_of is) is inner
