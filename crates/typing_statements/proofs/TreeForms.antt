@@ -109,9 +109,13 @@ do_tree s at a e x is f = ap stmt_of is ∙ sees_do at a e ∙ ap (λ k. do_whil
 sees_for : (at : Pos) (h : Box ForHead Global) (a : Box Stmt Global) → stmt_of (T.For at h a) ≡ for_stmt at (start_of h.value.start) (option_tree h.value.test) (option_tree h.value.step) (stmt_of a.value)
 sees_for at h a = search (rules, the_lemmas)
 
-pub for_tree : (s : Stmt) (at : Pos) (h : Box ForHead Global) (a : Box Stmt Global) (g : ForHead) (x : Stmt) → s ≡ T.For at h a → g ≡ h.value → x ≡ a.value →
-    stmt_of s ≡ for_stmt at (start_of g.start) (option_tree g.test) (option_tree g.step) (stmt_of x)
-for_tree s at h a g x is e f = ap stmt_of is ∙ sees_for at h a ∙ ap (λ k. for_stmt at (start_of k.start) (option_tree k.test) (option_tree k.step) (stmt_of a.value)) (sym e) ∙ ap (λ k. for_stmt at (start_of g.start) (option_tree g.test) (option_tree g.step) (stmt_of k)) (sym f)
+pub for_tree : (s : Stmt) (at : Pos) (h : Box ForHead Global) (a : Box Stmt Global) (g i j : ForHead) (x : Stmt) → s ≡ T.For at h a → g ≡ h.value → i ≡ h.value → j ≡ h.value → x ≡ a.value →
+    stmt_of s ≡ for_stmt at (start_of g.start) (option_tree i.test) (option_tree j.step) (stmt_of x)
+for_tree s at h a g i j x is e p q f =
+    ap stmt_of is ∙ sees_for at h a ∙ ap (λ (k : ForHead). for_stmt at (start_of k.start) (option_tree h.value.test) (option_tree h.value.step) (stmt_of a.value)) (sym e)
+    ∙ ap (λ (k : ForHead). for_stmt at (start_of g.start) (option_tree k.test) (option_tree h.value.step) (stmt_of a.value)) (sym p)
+    ∙ ap (λ (k : ForHead). for_stmt at (start_of g.start) (option_tree i.test) (option_tree k.step) (stmt_of a.value)) (sym q)
+    ∙ ap (λ k. for_stmt at (start_of g.start) (option_tree i.test) (option_tree j.step) (stmt_of k)) (sym f)
 
 sees_break : (at : Pos) → stmt_of (T.Break at) ≡ break_stmt at
 sees_break at = search (rules, the_lemmas)

@@ -132,7 +132,7 @@ put_statement-returns-in_ok-put_do_while-in-DoWhile t c =
 pub put_statement-returns-in_ok-put_for-in-For : goal.put_statement-returns-in_ok-put_for-in-For
 put_statement-returns-in_ok-put_for-in-For t c =
     let s = c.in-For in
-    rw (sees_for c.args.statement.now s.declared s.start s.test s.step s.a s.is) (rw (c.deref-in-For.ensures.value, c.deref-in-For-2.ensures) at (c.in_ok-put_for-in-For.ensures c.args.out c.args.again))
+    rw (sees_for c.args.statement.now s.declared s.control s.a s.is) (rw (c.deref-in-For.ensures.value, c.deref-in-For-2.ensures, c.deref-in-For-3.ensures, c.deref-in-For-4.ensures, c.deref-in-For-5.ensures) at (c.in_ok-put_for-in-For.ensures c.args.out c.args.again))
 
 pub put_statement-returns-in_ok-put-in-Break : goal.put_statement-returns-in_ok-put-in-Break
 put_statement-returns-in_ok-put-in-Break t c =

@@ -225,11 +225,11 @@ statement-returns-in-DoWhile-clause-err t c =
 
 pub statement-returns-in-For-clause-ok : goal.statement-returns-in-For-clause-ok
 statement-returns-in-For-clause-ok t c =
-    unlabelled_as c.for_typed.result _ _ c.args.labels.now.items c.args.initial.now.items c.for_typed.new.initial.items (with_texts c.args.names.now c.for_typed.new.scope) (ap (statement (around_of c.args.around) c.args.direct (with_texts c.args.names.now c.args.scope.now)) (for_tree c.args.s.now c.in-For.pos c.in-For.head c.in-For.a _ _ c.in-For.is c.deref-in-For.ensures.value c.deref-in-For-2.ensures)) (c.for_typed.ensures.ok c.args.direct)
+    unlabelled_as c.for_typed.result _ _ c.args.labels.now.items c.args.initial.now.items c.for_typed.new.initial.items (with_texts c.args.names.now c.for_typed.new.scope) (ap (statement (around_of c.args.around) c.args.direct (with_texts c.args.names.now c.args.scope.now)) (for_tree c.args.s.now c.in-For.pos c.in-For.head c.in-For.a _ _ _ _ c.in-For.is c.deref-in-For-2.ensures c.deref-in-For-3.ensures c.deref-in-For-4.ensures c.deref-in-For.ensures)) (c.for_typed.ensures.ok c.args.direct)
 
 pub statement-returns-in-For-clause-err : goal.statement-returns-in-For-clause-err
 statement-returns-in-For-clause-err t c =
-    told_as c.for_typed.result _ _ (ap (statement (around_of c.args.around) c.args.direct (with_texts c.args.names.now c.args.scope.now)) (for_tree c.args.s.now c.in-For.pos c.in-For.head c.in-For.a _ _ c.in-For.is c.deref-in-For.ensures.value c.deref-in-For-2.ensures)) (c.for_typed.ensures.err c.args.direct)
+    told_as c.for_typed.result _ _ (ap (statement (around_of c.args.around) c.args.direct (with_texts c.args.names.now c.args.scope.now)) (for_tree c.args.s.now c.in-For.pos c.in-For.head c.in-For.a _ _ _ _ c.in-For.is c.deref-in-For-2.ensures c.deref-in-For-3.ensures c.deref-in-For-4.ensures c.deref-in-For.ensures)) (c.for_typed.ensures.err c.args.direct)
 
 pub statement-returns-in-Break-clause-ok : goal.statement-returns-in-Break-clause-ok
 statement-returns-in-Break-clause-ok t c =
@@ -350,7 +350,7 @@ switch_typed-returns-in-DoWhile-clause-err t c =
 
 pub switch_typed-returns-in-For-clause-err : goal.switch_typed-returns-in-For-clause-err
 switch_typed-returns-in-For-clause-err t c =
-    λ d. switch_no_block (around_of c.args.around) d (with_texts c.args.names.now c.args.scope.now) c.args.pos (tree_of c.args.e.now) (stmt_of c.args.body.now) c.broken-left_out.result (ap block_items (for_tree c.args.body.now c.in-For.field-0 c.in-For.field-1 c.in-For.field-2 c.in-For.field-1.value c.in-For.field-2.value c.in-For.is refl)) (subst (λ r. IsOf r (breaks {A = Done} code.LeftOutLabel c.args.pos)) (sym c.broken-left_out.ensures) (refl, refl))
+    λ d. switch_no_block (around_of c.args.around) d (with_texts c.args.names.now c.args.scope.now) c.args.pos (tree_of c.args.e.now) (stmt_of c.args.body.now) c.broken-left_out.result (ap block_items (for_tree c.args.body.now c.in-For.field-0 c.in-For.field-1 c.in-For.field-2 c.in-For.field-1.value c.in-For.field-1.value c.in-For.field-1.value c.in-For.field-2.value c.in-For.is refl refl refl refl)) (subst (λ r. IsOf r (breaks {A = Done} code.LeftOutLabel c.args.pos)) (sym c.broken-left_out.ensures) (refl, refl))
 
 pub switch_typed-returns-in-Break-clause-err : goal.switch_typed-returns-in-Break-clause-err
 switch_typed-returns-in-Break-clause-err t c =
