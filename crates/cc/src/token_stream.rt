@@ -1,34 +1,50 @@
 //! The C tokens of a set of files, each preprocessing token read as it comes.
 
-ghost use Rattle.std.specs.Prelude.{◌≡◌, ◌⊎◌, [], IfOk, IfErr, OnOk};
+ghost use Rattle.std.specs.Prelude.{◌≡◌, ◌⊎◌, List, [], ◌∷◌, ◌++◌, IfOk, IfErr, OnOk};
 ghost use Rattle.srcset.specs.NameTable.{Texts, KeepsNumbers, NumbersOnce};
 ghost use Rattle.srcset.specs.Fault.{IsMemoryFault};
+ghost use Rattle.phases.specs.Token.{Token};
 ghost use Rattle.lexer.specs.Reading.{HasRead};
 ghost use Rattle.pp.specs.Phase4.{Phase4};
 ghost use Rattle.pp.specs.Stream.{IsRest, IsStream};
 ghost use Rattle.cc.specs.Compiled.{HasTokens};
 ghost use Rattle.cc.specs.Refused.{FailsPreprocessing, FailsTokens};
 ghost use Rattle.cc.specs.inside.Stops.{IsTold};
-ghost use Rattle.cc.specs.inside.Streams.{ReadsAll, IsEndOf};
+ghost use Rattle.cc.specs.inside.Streams.{ReadsAll, EndsBy};
 
 use crate::front::{number_name, numbers_once};
 use crate::stopping::Stop;
-use lexer::{Lexer, Token};
+use lexer::{Lexer, Token as CToken};
+use phases::PpToken;
 use pp::Pp;
-use srcset::{Fault, FileSet, Names};
+use srcset::{FileSet, Names, Refusal};
 use std::alloc::Global;
+
+/// Reads a token; what the lexer refuses it refuses again at its end. Where the table has no further text it is the same; else no text
+/// has two numbers.
+fn read_one(lexer: &mut Lexer, token: &PpToken<'_>, names: &mut Names)
+    ensures reads { (front : List Token) → HasRead names.old front lexer.old → HasRead names.new (front ++ token.now ∷ []) lexer.new }
+    ensures keeps { KeepsNumbers names.old names.new }
+    ensures table { (names.new ≡ names.old) ⊎ NumbersOnce names.new }
+{
+    let count = names.len();
+    let _ = lexer.try_take(token, names);
+    if names.len() != count {
+        numbers_once(names);
+    }
+}
 
 /// Reads the tokens of a stream to its end. What the lexer refuses it refuses again at its end; until then the stream goes on, since a
 /// fault of preprocessing is told before one of a token.
-fn read_all(alloc: Global, mut stream: Pp<'_>, names: &mut Names) -> Result<Lexer, Fault>
+fn read_all(alloc: Global, mut stream: Pp<'_>, names: &mut Names) -> Result<Lexer, Refusal>
     requires { IsStream names.old stream }
     ensures reads { IfOk result (λ lexer. ReadsAll names.old names.new stream.entry lexer) }
-    ensures err { IfErr result (λ fault. IsEndOf names.old names.new stream.entry fault) }
+    ensures err { IfErr result (λ refusal. EndsBy refusal names.old names.new stream.entry) }
     ensures keeps { KeepsNumbers names.old names.new }
 {
     let mut lexer = Lexer::new(alloc);
-    'tokens: while let Some(token) = stream.next(alloc, names)? {
-        let _ = lexer.try_take(&token, names);
+    'tokens: while let Some(token) = stream.try_next(alloc, names)? {
+        read_one(&mut lexer, &token, names);
     }
     Ok(lexer)
 }
@@ -40,7 +56,7 @@ pub fn c_tokens(
     set: &FileSet,
     main: &str,
     names: &mut Names,
-) -> Result<Vec<Token>, Stop>
+) -> Result<Vec<CToken>, Stop>
     requires new { names.old ≡ [] }
     ensures tokens { IfOk result (λ tokens. HasTokens set.now main.now names.new tokens.items) }
     ensures stops { IfErr result (IsTold (λ fault. FailsPreprocessing set.now main.now fault ⊎ FailsTokens set.now main.now fault ⊎ IsMemoryFault fault)) }
@@ -59,9 +75,9 @@ pub fn c_tokens(
     };
     let lexer = match read_all(alloc, stream, names) {
         Ok(lexer) => lexer,
-        Err(fault) => {
+        Err(refusal) => {
             numbers_once(names);
-            return Err(Stop::Told(fault));
+            return Err(Stop::Told(refusal.to_fault(alloc, names)));
         }
     };
     let made = lexer.end(names);

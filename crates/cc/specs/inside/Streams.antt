@@ -1,10 +1,8 @@
 -- What comes of a stream of preprocessing tokens that a lexer reads to its end.
 use Rattle.std.specs.Prelude.{◌≡◌, ◌⊎◌, true, List, [], ◌++◌, None, is_some}
-use Rattle.srcset.specs.declared.fault.Fault.{Fault}
 use Rattle.srcset.specs.declared.refusal.Refusal.{Refusal}
 use Rattle.srcset.specs.declared.refusal.Refusal.TheVariants.{Memory, At, Told}
 use Rattle.srcset.specs.NameTable.{Texts, KeepsNumbers}
-use Rattle.srcset.specs.Refusal.{IsFaultOfRefusal}
 use Rattle.phases.specs.Token.{Token}
 use Rattle.lexer.specs.declared.reading.Lexer.{Lexer}
 use Rattle.lexer.specs.Reading.{HasRead}
@@ -32,12 +30,6 @@ abbrev pub EndsBy : Refusal → (old new : Texts) → Pp → Type 0
 EndsBy Memory old new stream = Unit {0}
 EndsBy (At c at) old new stream = EndsWith old new stream (At c at)
 EndsBy (Told c at n) old new stream = EndsWith old new stream (Told c at n)
-
--- it ends with this fault, or memory ran out
-pub record IsEndOf (old new : Texts) (stream : Pp) (fault : Fault) : Type 0 where
-  pub refusal : Refusal
-  pub fault_is : IsFaultOfRefusal fault new refusal
-  pub ends : EndsBy refusal old new stream
 
 -- ---- on the way
 

@@ -1,4 +1,5 @@
 use Rattle.std.proofs.Common.{ap, ◌∙◌, sym, List, map}
+use Rattle.typing_program.specs.declared.statements.ForControl.{ForControl}
 use Rattle.typing_program.specs.declared.statements.Statement.{Statement}
 use Rattle.typing_program.specs.View.{object_type_of, statement_of, statements_of}
 use Rattle.typing_rules.specs.Program as typed
@@ -24,5 +25,5 @@ returns-in-Switch-clause-takes c = let i = c.in-Switch in
 pub returns-in-For-clause-takes : goal.returns-in-For-clause-takes
 returns-in-For-clause-takes c = let i = c.in-For in
     statement_as c.args.machine.now c.start_for.new.machine c.start_for.result (map object_type_of c.args.objects.now) (statement_of c.args.a.now) _
-    (lends_for c.args.a.now i.declared i.start_with i.test i.step i.body c.deref-in-For.result.now c.as_ref-in-For-2.result c.as_ref.result c.as_ref-in-For.result
-    i.is c.deref-in-For.ensures.value c.as_ref-in-For-2.ensures.value c.as_ref.ensures.value c.as_ref-in-For.ensures.value) c.start_for.ensures.takes
+    (lends_for c.args.a.now i.declared i.control i.body c.deref-in-For-3.result.now c.as_ref-in-For-2.result c.as_ref.result c.as_ref-in-For.result
+    i.is c.deref-in-For-3.ensures.value (c.as_ref-in-For-2.ensures.value ∙ ap (λ (k : ForControl). k.start) c.deref-in-For-4.ensures) (c.as_ref.ensures.value ∙ ap (λ (k : ForControl). k.test) c.deref-in-For.ensures) (c.as_ref-in-For.ensures.value ∙ ap (λ (k : ForControl). k.step) c.deref-in-For-2.ensures)) c.start_for.ensures.takes
