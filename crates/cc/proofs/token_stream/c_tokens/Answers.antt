@@ -20,7 +20,7 @@ returns-in-Err-read_all-clause-stops c =
     let made = c.in-Ok-new.ensures in
     inl (record {
       texts = late;
-      numbers = numbers_at c.args.main.now c.number_name.new.names late c.in-Ok.ensures.named (keeps_both c.number_name.new.names c.new.new.names late made.keeps c.in-Err-read_all.ensures.keeps) c.numbers_once.ensures;
+      numbers = numbers_at c.args.main.now c.number_name.new.names late c.in-Ok.ensures.named (keeps_both c.number_name.new.names c.new.new.names late made.keeps c.in-Err-read_all.ensures.keeps) c.numbers_once-in-Err-read_all.ensures;
       fault_is = preprocess_fault c.args.set.now c.args.main.now c.new.new.names c.in-Ok-new.stream made.ok late c.to_fault.result c.in-Err-read_all.refusal c.in-Err-read_all.ensures.keeps c.in-Err-read_all.ensures.err c.to_fault.ensures;
     })
 
@@ -32,7 +32,7 @@ returns-in-Ok-made-clause-tokens c =
     let texts = c.end-made.new.names in
     let made = c.in-Ok-new.ensures in
     let all = c.in-Ok-read_all.ensures in
-    let named = numbers_at c.args.main.now first texts c.in-Ok.ensures.named (keeps_both first late texts (keeps_both first early late made.keeps all.keeps) c.end-made.ensures.keeps) c.numbers_once.ensures in
+    let named = numbers_at c.args.main.now first texts c.in-Ok.ensures.named (keeps_both first late texts (keeps_both first early late made.keeps all.keeps) c.end-made.ensures.keeps) c.numbers_once-2.ensures in
     has_tokens c.args.set.now c.args.main.now early c.in-Ok-new.stream made.ok late texts c.in-Ok-read_all.lexer c.in-Ok-made.tokens.items all.reads all.keeps c.end-made.ensures.keeps named (c.in-Ok-made.ensures.ok all.reads.front all.reads.read)
 
 pub returns-in-Err-made-clause-stops : goal.returns-in-Err-made-clause-stops
@@ -43,5 +43,5 @@ returns-in-Err-made-clause-stops c =
     let texts = c.end-made.new.names in
     let made = c.in-Ok-new.ensures in
     let all = c.in-Ok-read_all.ensures in
-    let named = numbers_at c.args.main.now first texts c.in-Ok.ensures.named (keeps_both first late texts (keeps_both first early late made.keeps all.keeps) c.end-made.ensures.keeps) c.numbers_once.ensures in
+    let named = numbers_at c.args.main.now first texts c.in-Ok.ensures.named (keeps_both first late texts (keeps_both first early late made.keeps all.keeps) c.end-made.ensures.keeps) c.numbers_once-2.ensures in
     fails_tokens c.args.set.now c.args.main.now early c.in-Ok-new.stream made.ok late texts c.in-Ok-read_all.lexer c.in-Err-made.fault all.reads all.keeps c.end-made.ensures.keeps named (c.in-Err-made.ensures.err all.reads.front all.reads.read)
