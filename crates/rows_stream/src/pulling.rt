@@ -68,20 +68,25 @@ fn passes_to(alloc: Global, pp: &mut Pp, names: &mut Names, fault: &Fault) -> bo
     false
 }
 
+// Whether this is the end, or this fault.
+fn is_end(found: &Result<Option<PpToken>, Fault>, fault: Option<&Fault>) -> bool {
+    match found {
+        Ok(Some(_)) => false,
+        Ok(None) => fault.is_none(),
+        Err(found) => match fault {
+            Some(fault) => is_same_fault(found, fault),
+            None => false,
+        },
+    }
+}
+
 /// Whether the end comes, or this fault, three times.
 pub fn ends_so(alloc: Global, pp: &mut Pp, names: &mut Names, fault: Option<&Fault>) -> bool
     requires { IsStream names.old pp.old }
 {
     for _ in 0..3 {
-        let is_so = match pp.next(alloc, names) {
-            Ok(Some(_)) => false,
-            Ok(None) => fault.is_none(),
-            Err(found) => match fault {
-                Some(fault) => is_same_fault(&found, fault),
-                None => false,
-            },
-        };
-        if !is_so {
+        let found = pp.next(alloc, names);
+        if !is_end(&found, fault) {
             return false;
         }
     }
