@@ -30,6 +30,7 @@ fn takes(lexer: &mut Lexer, fault: &mut Option<Fault>, token: &PpToken, names: &
 }
 
 /// Pulls the tokens of a list, and has the lexer take each. Whether the stream gives the list, and the lexer keeps its fault.
+#[tactic(auto, using(pp::proofs::StreamLaws::stream_grows))]
 pub fn pull_list(
     alloc: Global,
     pp: &mut Pp,
