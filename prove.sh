@@ -53,11 +53,12 @@ fi
 cmp $built release/cc && [ "$(sh release/digest.sh)" = "$(cat release/SOURCES)" ]
 told 'release/cc is not what this tree builds: sh release/take.sh takes over what was built; then commit release/' $? |
     tee "$logs/release"
+{ sh tests/outlives.sh 2>&1; echo $? >"$logs/outlives.status"; } | tee "$logs/outlives"
 { python3 tests/edits/tried.py 2>&1; echo $? >"$logs/tried.status"; } | tee "$logs/tried"
 { sh test.sh bin/cc 2>&1; echo $? >"$logs/test.status"; } | tee "$logs/test"
 
 for part in tools release; do verdict "$logs/$part" 0; done >"$logs/verdicts"
-for part in ci tried test; do verdict "$logs/$part" "$(cat "$logs/$part.status")"; done >>"$logs/verdicts"
+for part in ci outlives tried test; do verdict "$logs/$part" "$(cat "$logs/$part.status")"; done >>"$logs/verdicts"
 # count WORD: the sum of the numbers before WORD in the verdicts.
 count() { sed -n "s/.*\b\([0-9][0-9]*\) $1.*/\1/p" "$logs/verdicts" | awk '{ n += $1 } END { print n + 0 }'; }
 passed=$(count passed)

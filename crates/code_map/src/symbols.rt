@@ -1,8 +1,8 @@
 //! An ELF file of symbols beside an executable file, for debuggers and disassemblers.
 
-use crate::definitions::Definition;
+use crate::debug_lines::{ABBREVIATIONS, line_table};
 use crate::functions::CodeMap;
-use crate::line_table::{ABBREVIATIONS, line_table};
+use crate::sources::Definition;
 use std::alloc::{AllocError, Global};
 
 /// The sizes of the ELF header, of a section header and of a symbol (System V gABI, chapter 4).
@@ -184,7 +184,7 @@ fn put_sections(file: &mut Vec<u8>, contents: &[&[u8]]) -> Result<(), AllocError
     let mut offset = HEADER_SIZE;
     for (number, content) in contents.iter().enumerate() {
         let bytes = size(content.len());
-        put_section(file, &section(number, offset, bytes))?;
+        put_section(file, &content_section(number, offset, bytes))?;
         offset = offset.wrapping_add(bytes);
     }
     Ok(())
@@ -193,7 +193,7 @@ fn put_sections(file: &mut Vec<u8>, contents: &[&[u8]]) -> Result<(), AllocError
 /// The header of the section with this number, counted from 0: the text (`SHT_PROGBITS`, `SHF_ALLOC` and `SHF_EXECINSTR`), the symbols
 /// (`SHT_SYMTAB`), whose first global is number 1, their names (`SHT_STRTAB`), the three sections for debuggers (`SHT_PROGBITS`), the
 /// sections' names.
-fn section(number: usize, offset: u32, bytes: u32) -> Section {
+fn content_section(number: usize, offset: u32, bytes: u32) -> Section {
     match number {
         0 => Section {
             flags: 6,

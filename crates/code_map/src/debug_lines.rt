@@ -1,7 +1,7 @@
 //! Lines for debuggers: the three sections of DWARF, version 2, that say in which line each function is defined.
 
-use crate::definitions::Definition;
 use crate::functions::{CodeMap, Function};
+use crate::sources::Definition;
 use std::alloc::{AllocError, Global};
 
 /// The shapes of the two entries of `.debug_info` (DWARF 2, 7.5.3): number 1, a unit with children, has a name, the place of its
