@@ -11,7 +11,7 @@ sys.path.insert(0, os.path.dirname(HERE))
 import asking
 
 # so many there are of each
-COUNTS = {'rows': 756, 'accepted': 263, 'generated': 18, 'many': 19218}
+COUNTS = {'rows': 763, 'accepted': 263, 'generated': 18, 'many': 19231}
 
 
 def listed(name):
