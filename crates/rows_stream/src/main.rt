@@ -7,7 +7,7 @@ mod same;
 
 use anyhow::Result;
 use itoa::Buffer;
-use lexer::{Lexer, tokens};
+use lexer::{Lexer, Token, tokens};
 use phases::PpToken;
 use pp::{Pp, preprocess};
 use pulling::{MAIN, ends_in, ends_so, pull_list};
@@ -70,6 +70,21 @@ fn write_refused(
     }
 }
 
+/// The lexer that has read the stream of a set, where that gives these tokens, whose names have these numbers, and then ends.
+fn streamed(
+    alloc: Global,
+    set: &FileSet,
+    list: &[PpToken],
+    names: &Names,
+    own: &mut Names,
+) -> Option<Lexer> {
+    let mut pp = Pp::new(alloc, set, own, MAIN).ok()?;
+    let mut lexer = Lexer::new(alloc);
+    let is_same = pull_list(alloc, &mut pp, own, &mut lexer, list, names)
+        && ends_so(alloc, &mut pp, own, None);
+    if is_same { Some(lexer) } else { None }
+}
+
 /// The same for a set that has these tokens, whose names have these numbers.
 fn write_list(
     alloc: Global,
@@ -79,22 +94,24 @@ fn write_list(
     mut names: Names,
 ) -> std::result::Result<(), AllocError> {
     let mut own = Names::new(alloc);
-    let Ok(mut pp) = Pp::new(alloc, set, &mut own, MAIN) else {
-        return output.extend_from_slice(b"DIFFERS: there is no stream");
+    let Some(lexer) = streamed(alloc, set, list, &names, &mut own) else {
+        return output.extend_from_slice(b"DIFFERS: the tokens, or the end");
     };
-    let mut lexer = Lexer::new(alloc);
-    if !pull_list(alloc, &mut pp, &mut own, &mut lexer, list, &names) {
-        return output.extend_from_slice(b"DIFFERS: the tokens");
-    }
-    if !ends_so(alloc, &mut pp, &mut own, None) {
-        return output.extend_from_slice(b"DIFFERS: the end");
-    }
     let whole = tokens(alloc, list, &mut names);
     if !is_same_reading(&whole, &names, &lexer.end(&mut own), &own) {
         return output.extend_from_slice(b"DIFFERS: the C tokens");
     }
-    write_number(output, b"same, ", list.len())?;
-    match &whole {
+    write_same(output, list.len(), &whole)
+}
+
+/// Writes what both came to.
+fn write_same(
+    output: &mut Vec<u8>,
+    count: usize,
+    whole: &std::result::Result<Vec<Token>, Fault>,
+) -> std::result::Result<(), AllocError> {
+    write_number(output, b"same, ", count)?;
+    match whole {
         Ok(tokens) => {
             write_number(output, b" tokens, ", tokens.len())?;
             output.extend_from_slice(b" C tokens")
