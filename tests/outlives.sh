@@ -7,7 +7,7 @@
 # The proved libraries are those of crates/NAME/out/rlib, as `rt ci` leaves them, or of LIBRARIES, a folder with NAME.rlib for each.
 # The last line counts the checks.
 cd "$(dirname "$0")/.." || exit 1
-kit=/opt/rattle
+kit=${KIT:-$(cd "$(dirname "$(readlink -f "$(command -v rt)")")/.." && pwd)}
 room=$(mktemp -d) || exit 1
 trap 'rm -rf "$room"' EXIT
 trap 'exit 1' HUP INT TERM
