@@ -38,10 +38,18 @@ fn object(alloc: Global, element: IntType, sizes: &[u32]) -> Result<Meaning> {
     Ok(Meaning::Object(Storage::Static(0), DeclaredType::Complete(object_type)))
 }
 
+/// A scope with no name.
+fn file_scope(alloc: Global, names: &Names) -> std::result::Result<Scope, Fault> {
+    match Scope::file(alloc, Vec::new(alloc)) {
+        Ok(scope) => Ok(scope),
+        Err(refusal) => Err(refusal.to_fault(alloc, names)),
+    }
+}
+
 /// The names of the rows: `enum t { A = 3, B, C = -2, D = 'z', F = -1, G, H }; char c; char z[3]; short s[3]; unsigned long
 /// m[2][5]; _Bool b;`.
 fn scope(alloc: Global, names: &mut Names) -> Result<Scope> {
-    let mut scope = Scope::file(alloc, Vec::new(alloc));
+    let mut scope = file_scope(alloc, names)?;
     let enumerators: [(&[u8], i64); 7] = [
         (b"A", 3),
         (b"B", 4),

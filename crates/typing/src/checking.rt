@@ -32,7 +32,10 @@ fn unit_typed(
         Ok(definitions) => definitions,
         Err(_) => return Err(Refusal::Memory),
     };
-    let mut scope = Scope::file(alloc, definitions);
+    let mut scope = match Scope::file(alloc, definitions) {
+        Ok(scope) => scope,
+        Err(refusal) => return Err(refusal),
+    };
     let mut functions = Vec::new(alloc);
     let mut initial = Vec::new(alloc);
     match externals_typed(

@@ -1,3 +1,4 @@
 mod Places
 mod Lookups
 mod Puts
+mod FirstPlaces

@@ -19,11 +19,11 @@ last_of xs b k e = let l = length-append xs (b ∷ []) in slice_get-get_or (xs +
 before_last : {A : Type 0} (xs : List A) (b : A) (k : ℕ) → k < length xs → slice_get (xs ++ b ∷ []) k ≡ slice_get xs k
 before_last xs b k h = let l = length-append xs (b ∷ []) in slice_get-get_or (xs ++ b ∷ []) k b (omega (arith, h, l)) ∙ ap Some (get_or_append_left xs (b ∷ []) b k h) ∙ sym (slice_get-get_or xs k b h)
 
-place_within : (ns : List ℕ) (n : ℕ) → place_of ns n ≤ length ns
+pub place_within : (ns : List ℕ) (n : ℕ) → place_of ns n ≤ length ns
 place_within [] n = omega arith
 place_within (m ∷ ms) n = elim (nat_eq m n) as (λ v. cond v (length ms + 1) (place_of ms n) ≤ length (m ∷ ms)) [ true ↦ omega arith | false ↦ omega (arith, place_within ms n) ]
 
-one_more : (p k : ℕ) → before p ≡ Some k → p ≡ k + 1
+pub one_more : (p k : ℕ) → before p ≡ Some k → p ≡ k + 1
 one_more zero k h = search rules
 one_more (suc p) k h = search rules
 

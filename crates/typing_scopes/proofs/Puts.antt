@@ -1,5 +1,5 @@
 -- One element in the place of another, or behind all.
-use Rattle.std.proofs.Common.{◌≡◌, ℕ, zero, suc, ◌<◌, ◌≤◌, List, [], ◌∷◌, ◌++◌, length, map, refl, sym, ap, ◌∙◌, arith, set}
+use Rattle.std.proofs.Common.{◌≡◌, ℕ, zero, suc, ◌<◌, ◌≤◌, List, [], ◌∷◌, ◌++◌, length, map, refl, ap, ◌∙◌, arith, set}
 use Rattle.std.proofs.lemmas.List.{map-set, map-append, length-map}
 use Rattle.typing_scopes.specs.declared.bindings.StaticObject.{StaticObject}
 use Rattle.typing_program.specs.declared.types.ObjectType.{ObjectType}

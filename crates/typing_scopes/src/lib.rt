@@ -2,6 +2,7 @@
 #![tactic(auto)]
 
 mod bindings;
+mod first_names;
 mod newest_names;
 mod scopes;
 

@@ -53,6 +53,13 @@ impl NewestNames {
         }
     }
 
+    /// How many there are.
+    pub(crate) fn len(&self) -> usize
+        ensures { result ≡ length self.now }
+    {
+        self.entries.len()
+    }
+
     /// The place of the newest of these names, counted from 0 from the oldest.
     pub(crate) fn find(&self, name: usize) -> Option<usize>
         ensures { result ≡ newest_of self.now name }

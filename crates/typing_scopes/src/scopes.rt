@@ -9,6 +9,7 @@ ghost use Rattle.typing_program.specs.View.{object_type_of};
 ghost use Rattle.srcset.specs.declared.refusal.Refusal.TheVariants.{Memory};
 
 use crate::bindings::{Binding, Linkage, Meaning, State, StaticObject, Tag};
+use crate::first_names::FirstNames;
 use crate::newest_names::NewestNames;
 use srcset::Refusal;
 use std::alloc::Global;
@@ -29,7 +30,7 @@ pub struct Block {
 /// Names and tags are found in constant time, and leaving a block costs what it declared.
 #[derive(Drop)]
 pub struct Scope {
-    definitions: Vec<usize>,
+    definitions: FirstNames,
     bindings: Vec<Binding>,
     names: NewestNames,
     tags: Vec<Tag>,
@@ -40,32 +41,24 @@ pub struct Scope {
     objects: Vec<ObjectType>,
 }
 
-/// Where a name first stands.
-fn first_place(names: &[usize], name: usize) -> Option<usize>
-    ensures { result ≡ typed.place_from 0 names.now name }
-{
-    for (place, other) in names.iter().enumerate() {
-        if *other == name {
-            return Some(place);
-        }
-    }
-    None
-}
-
 impl Model for Scope {
     ghost Value = { typed.Scope };
 
-    ghost view = { λ s. record { texts = []; definitions = s.definitions.items; bindings = newest_first s.bindings.items; tags = newest_tags s.tags.items; level = s.level; literals = s.literals.items; statics = map static_of s.statics.items; objects = map object_type_of s.objects.items } };
+    ghost view = { λ s. record { texts = []; definitions = s.definitions; bindings = newest_first s.bindings.items; tags = newest_tags s.tags.items; level = s.level; literals = s.literals.items; statics = map static_of s.statics.items; objects = map object_type_of s.objects.items } };
 
     ghost invariant = { λ s. (s.names ≡ bindings_names (newest_first s.bindings.items)) × (s.tag_names ≡ tags_names (newest_tags s.tags.items)) };
 }
 
 impl Scope {
     /// The scope at the beginning of a unit that defines functions with these names, in this order.
-    pub fn file(alloc: Global, definitions: Vec<usize>) -> Scope
-        ensures { result ≡ typed.file_scope [] definitions.items }
+    pub fn file(alloc: Global, definitions: Vec<usize>) -> Result<Scope, Refusal>
+        ensures ok { IfOk result (λ s. s ≡ typed.file_scope [] definitions.items) }
+        ensures err { IfErr result (λ e. e ≡ Memory) }
     {
-        Scope {
+        let Ok(definitions) = FirstNames::new(alloc, definitions) else {
+            return Err(Refusal::Memory);
+        };
+        Ok(Scope {
             definitions,
             bindings: Vec::new(alloc),
             names: NewestNames::new(alloc),
@@ -75,7 +68,7 @@ impl Scope {
             literals: Vec::new(alloc),
             statics: Vec::new(alloc),
             objects: Vec::new(alloc),
-        }
+        })
     }
 
     /// The innermost binding of a name.
@@ -102,7 +95,7 @@ impl Scope {
     pub fn definition(&self, name: usize) -> Option<usize>
         ensures { result ≡ typed.place_from 0 self.now.definitions name }
     {
-        first_place(&self.definitions, name)
+        self.definitions.find(name)
     }
 
     /// How many string literals there are so far.
