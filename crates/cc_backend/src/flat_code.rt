@@ -38,14 +38,15 @@ fn lowered(alloc: Global, program: &Program) -> Result<TacProgram, AllocError>
 }
 
 /// The flat code of three-address code, made simpler.
-fn simple_code(alloc: Global, code: &TacProgram) -> Result<FlatProgram, AllocError>
-    requires { tac_sound.IsSoundProgram (three_address.program_of code.now) }
-    ensures { IfOk result (λ g. IsSimplified (flat_program (three_address.program_of code.now)) (flat.program_of g)) }
+fn simple_code(alloc: Global, code: TacProgram) -> Result<FlatProgram, AllocError>
+    requires { tac_sound.IsSoundProgram (three_address.program_of code) }
+    ensures { IfOk result (λ g. IsSimplified (flat_program (three_address.program_of code)) (flat.program_of g)) }
 {
-    let flat = match flatten(alloc, code) {
+    let flat = match flatten(alloc, &code) {
         Ok(flat) => flat,
         Err(fault) => return Err(want_of_memory(fault)),
     };
+    drop(code);
     simplify(alloc, flat)
 }
 
@@ -55,7 +56,6 @@ pub fn flat_code(alloc: Global, program: &Program) -> Result<FlatProgram, AllocE
     ensures { IfOk result (λ f. IsFlatCodeOf (program_of program.now) (flat.program_of f)) }
 {
     let code = lowered(alloc, program)?;
-    let simple = simple_code(alloc, &code)?;
-    drop(code);
+    let simple = simple_code(alloc, code)?;
     renumber(alloc, simple)
 }

@@ -32,6 +32,7 @@ pub fn generate(alloc: Global, program: &Program, stack: StackSize) -> Result<Ge
     let code = flat_code(alloc, program)?;
     let frames = frame_sizes(alloc, &code)?;
     let made = code_image(alloc, code, stack)?;
+    drop(made.items);
     match write_elf(alloc, &made.image) {
         Ok(elf) => Ok(Generated { elf, frames }),
         Err(fault) => Err(want_of_memory(fault)),

@@ -73,14 +73,16 @@ fn image_of(
     ensures fewest { IfOk result (λ image. IsFewest (program_items (flat.program_of program)) text_start image.text) }
     ensures size { IfOk result (λ image. length image.text ≤ longest (program_items (flat.program_of program))) }
 {
+    let statics = program.statics;
+    drop(program.functions);
     let text = match assemble(alloc, items, TEXT_START) {
         Ok(text) => text,
         Err(fault) => return Err(want_of_memory(fault)),
     };
     are_bytes(text.as_slice());
-    are_bytes(program.statics.as_slice());
+    are_bytes(statics.as_slice());
     is_stack_size(stack);
-    match Image::new(text, program.statics, stack) {
+    match Image::new(text, statics, stack) {
         Some(image) => Ok(image),
         None => unreachable!(),
     }

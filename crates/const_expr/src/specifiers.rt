@@ -1,7 +1,7 @@
 //! The types that specifiers name (6.7.2, 6.7.3).
 #![tactic(auto, using(typing_expressions::proofs::Verdicts::each_left, typing_expressions::proofs::Verdicts::each_right, typing_expressions::proofs::Verdicts::each_fine))]
 
-ghost use Rattle.std.specs.Prelude.{◌≡◌, ◌≤◌, ◌∷◌, [], length, IfErr, OnOk, IfOk, nat_eq, not, map};
+ghost use Rattle.std.specs.Prelude.{◌≡◌, ◌≤◌, ◌∷◌, [], length, IfErr, IfSome, OnOk, IfOk, nat_eq, not, map};
 ghost use Rattle.typing_rules.specs.Specifiers as typed;
 ghost use Rattle.typing_rules.specs.Verdict.{fine, refuse_if};
 ghost use Rattle.typing_rules.specs.Scope.{tag_in};
@@ -300,11 +300,54 @@ const SETS: [WordSet; 22] = [
     },
 ];
 
+/// The type that a word names alone (6.7.2p2).
+fn type_of_word(word: Word) -> Option<Option<IntType>>
+    ensures { result ≡ typed.type_among typed.sets (word ∷ []) }
+{
+    match word {
+        Word::Void => Some(None),
+        Word::Char => Some(Some(IntType::Char)),
+        Word::Short => Some(Some(IntType::Short)),
+        Word::Int => Some(Some(IntType::Int)),
+        Word::Long => Some(Some(IntType::Long)),
+        Word::Signed => Some(Some(IntType::Int)),
+        Word::Unsigned => Some(Some(IntType::UInt)),
+        Word::Bool => Some(Some(IntType::Bool)),
+    }
+}
+
+/// The word that a specifier is.
+fn word_of(specifier: &TypeSpecifier) -> Option<Word>
+    ensures { IfSome result (λ word. typed.words_of (specifier.now ∷ []) ≡ word ∷ []) }
+{
+    match specifier {
+        TypeSpecifier::Word(word) => Some(*word),
+        TypeSpecifier::Const => None,
+        TypeSpecifier::Enum(_) => None,
+    }
+}
+
+/// The word that the specifiers are, where there is one alone.
+fn only_word(specifiers: &[TypeSpecifier]) -> Option<Word>
+    ensures { IfSome result (λ word. typed.words_of specifiers.now ≡ word ∷ []) }
+{
+    let Some((first, further)) = specifiers.split_first() else {
+        return None;
+    };
+    if !further.is_empty() {
+        return None;
+    }
+    word_of(first)
+}
+
 /// The type that words name (6.7.2p2).
 fn type_of_words(specifiers: &[TypeSpecifier]) -> Option<Option<IntType>>
     ensures { result ≡ typed.type_among typed.sets (typed.words_of specifiers.now) }
 {
-    type_among(&SETS, specifiers)
+    match only_word(specifiers) {
+        Some(word) => type_of_word(word),
+        None => type_among(&SETS, specifiers),
+    }
 }
 
 /// The type of words alone, or of one enumerated type alone, which is `int`, this profile's choice (6.7.2.2p4).

@@ -1,5 +1,5 @@
 -- Parts of expressions.
-use Rattle.std.proofs.Common.{◌≡◌, ℕ, ◌+◌, ◌<◌, Bool, true, false, ℤ, List, length, Option, Some, None, refl, ap, sym, ◌∙◌, subst, arith}
+use Rattle.std.proofs.Common.{◌≡◌, ℕ, ◌+◌, ◌<◌, Bool, true, false, ℤ, List, length, Option, Some, None, refl, ap, ◌∙◌, subst, arith}
 use Rattle.srcset.specs.declared.refusal.Pos.{Pos}
 use Rattle.ctypes.specs.declared.types.IntType.{IntType}
 use Rattle.ctypes.specs.declared.operators.BinOp.{BinOp}
@@ -9,7 +9,6 @@ use Rattle.typing_rules.specs.Program as typed
 use Rattle.typing_rules.specs.Program.{Place, Value, Arguments}
 use Rattle.meaning.specs.Machine.{choose}
 use Rattle.tac_code.specs.declared.code.Operand.{Operand}
-use Rattle.tac_code.specs.declared.code.Operand.TheVariants as operand
 use Rattle.tac_code.specs.declared.code.Target.{Target}
 use Rattle.tac_code.specs.declared.code.Target.TheVariants as target
 use Rattle.tac_code.specs.declared.code.Reading.{Reading}
@@ -22,7 +21,7 @@ use Rattle.tac_forms.specs.declared.modes.Shape.TheVariants as shape
 use Rattle.tac_forms.specs.inside.FormSizes.{then_size, operates_size, loads_size, truths_size}
 use Rattle.tac_values.specs.inside.Sizes.{wait_shape, rest_shape, value_size}
 use Rattle.tac_values.specs.inside.Written.{WroteValue, WrotePasses, BothNumber, OneNumber, truth_size}
-use Rattle.tac_forms.proofs.Parts.{begins_on, as_wrote, two, three, four, five, plus_is, reach_three, reach_four, reach_five}
+use Rattle.tac_forms.proofs.Parts.{begins_on, as_wrote, three, four, five, plus_is, reach_three, reach_four, reach_five}
 
 -- ---- sizes do not depend on what is free
 

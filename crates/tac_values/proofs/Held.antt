@@ -6,15 +6,13 @@ use Rattle.ctypes.specs.declared.types.IntType.{IntType}
 use Rattle.ctypes.specs.declared.operators.BinOp.{BinOp}
 use Rattle.tree.specs.declared.expression.PrefixOp.{PrefixOp}
 use Rattle.tree.specs.declared.expression.StepOp.{StepOp}
-use Rattle.typing_program.specs.declared.storage_places.Storage.{Storage}
 use Rattle.typing_program.specs.declared.storage_places.Callee.{Callee}
 use Rattle.typing_program.specs.declared.storage_places.Moment.{Moment}
 use Rattle.typing_program.specs.declared.expressions.Place.{Place}
-use Rattle.typing_program.specs.declared.expressions.Place as P
 use Rattle.typing_program.specs.declared.expressions.Argument.{Argument}
 use Rattle.typing_program.specs.declared.expressions.Value.{Value, the_lemmas}
 use Rattle.typing_program.specs.declared.expressions.Value as V
-use Rattle.typing_program.specs.View.{value_of, place_of, storage_of, callee_of, moment_of, argument_of, arguments_of}
+use Rattle.typing_program.specs.View.{value_of, place_of, callee_of, moment_of, argument_of, arguments_of}
 use Rattle.typing_rules.specs.Program as typed
 
 constant_is : (u : IntType) (v : ℤ) → value_of (V.Constant u v) ≡ typed.constant u v

@@ -4,3 +4,4 @@ pub mod Held
 pub mod Expressions
 pub mod Located
 pub mod Passed
+pub mod Behind

@@ -85,7 +85,7 @@ passes_of size (array_given array ∷ gs) (f ∷ fs) free c0 c1 c2 x y =
     array_wrote size array more free.temporary free.slot less.temporary less.slot (arguments_call more) (found array (arguments_call more) free.temporary free.slot)
     refl refl x.3.0 x.3.1 x.3.2 (passes_of size gs fs less x.1 c1 y.0 x.4 y.1) (subst (λ k. Fetches (array_given array) more k y.0 c2) x.2 y.2)
 
-drop_map : (n : ℕ) (l : List Argument) → drop n (map argument_of l) ≡ map argument_of (drop n l)
+pub drop_map : (n : ℕ) (l : List Argument) → drop n (map argument_of l) ≡ map argument_of (drop n l)
 drop_map zero l = refl
 drop_map (suc n) [] = refl
 drop_map (suc n) (a ∷ l) = drop_map n l

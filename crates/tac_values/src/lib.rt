@@ -1,6 +1,7 @@
 //! Three-address code of expressions (ISO/IEC 9899:2011 6.5).
 #![tactic(auto)]
 
+mod ends;
 pub mod operands;
 mod operators;
 pub mod places;

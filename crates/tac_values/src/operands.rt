@@ -5,8 +5,10 @@ ghost use Rattle.typing_program.specs.View.{value_of, argument_of, arguments_of}
 ghost use Rattle.tac_lowering.specs.Bodies as bodies;
 ghost use Rattle.tac_lowering.specs.Values as values;
 ghost use Rattle.tac_forms.specs.inside.Parts.{is_written};
+ghost use Rattle.tac_values.specs.inside.Ends.{AreEnds};
 
-use crate::rests::{arguments_call, arguments_write, has_calls, rests_in, writes};
+use crate::ends::Ends;
+use crate::rests::{has_calls, rests_in, writes};
 use ctypes::IntType;
 use tac_code::Operand;
 use tac_forms::bools::either;
@@ -87,12 +89,13 @@ fn is_written_by(e: &Value, other: &Value) -> bool
     }
 }
 
-fn is_written_by_arguments(e: &Value, others: &[Argument]) -> bool
+fn is_written_by_arguments(e: &Value, others: &[Argument], ends: Ends) -> bool
+    requires { AreEnds ends others.now }
     ensures { result ≡ is_written (values.rests_in (value_of e.now)) (values.arguments_write (arguments_of (map argument_of others.now))) }
 {
     match rests_in(e) {
         None => false,
-        Some(object) => arguments_write(others, object),
+        Some(object) => ends.write(others, object),
     }
 }
 
@@ -127,19 +130,21 @@ pub(crate) fn waits_for(e: &Value, other: &Value, temporary: usize, slot: usize)
     )
 }
 
-/// While the arguments behind it are evaluated.
+/// While the arguments behind it are evaluated, whose ends these are.
 pub(crate) fn waits_for_arguments(
     e: &Value,
     others: &[Argument],
+    ends: Ends,
     temporary: usize,
     slot: usize,
 ) -> Operand
+    requires { AreEnds ends others.now }
     ensures { result ≡ values.waits_in (value_of e.now) (values.arguments_write (arguments_of (map argument_of others.now))) (values.arguments_call (arguments_of (map argument_of others.now))) temporary slot }
 {
     waits(
         e,
-        is_written_by_arguments(e, others),
-        arguments_call(others),
+        is_written_by_arguments(e, others, ends),
+        ends.call(),
         temporary,
         slot,
     )

@@ -13,23 +13,13 @@ use tac_forms::bools::either;
 use tac_forms::objects::object_of;
 use typing_program::{Argument, Moment, Place, Value};
 
-fn argument_calls(argument: &Argument) -> bool
+pub(crate) fn argument_calls(argument: &Argument) -> bool
     ensures { result ≡ given_calls (argument_of argument.now) }
 {
     match argument {
         Argument::Number(_, e) => has_calls(e),
         Argument::Array(array) => place_calls(array),
     }
-}
-
-pub(crate) fn arguments_call(arguments: &[Argument]) -> bool
-    ensures { result ≡ values.arguments_call (arguments_of (map argument_of arguments.now)) }
-{
-    let mut some = false;
-    for argument in arguments {
-        some = either(some, argument_calls(argument));
-    }
-    some
 }
 
 #[cycle(calls)]

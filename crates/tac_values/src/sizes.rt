@@ -12,9 +12,10 @@ ghost use Rattle.tac_forms.specs.inside.Parts as parts;
 ghost use Rattle.tac_forms.specs.inside.FormSizes as form;
 ghost use Rattle.tac_values.specs.inside.Sizes as size;
 ghost use Rattle.tac_values.specs.inside.Waiting.{given_size};
+ghost use Rattle.tac_values.specs.inside.Ends.{AreEnds};
 
+use crate::ends::Ends;
 use crate::operands::{keeps, operand_of, waits_for, waits_for_arguments};
-use crate::rests::arguments_call;
 use ctypes::{BinOp, IntType};
 use tac_forms::bools::either;
 use tac_forms::form_sizes::{
@@ -209,10 +210,11 @@ fn both_size(a: &Value, b: &Value, shape: Shape) -> usize
 }
 
 #[cycle(value_sizes)]
-fn number_size(ty: IntType, e: &Value, more: &[Argument]) -> usize
+fn number_size(ty: IntType, e: &Value, more: &[Argument], ends: Ends) -> usize
+    requires { AreEnds ends more.now }
     ensures { result ≡ given_size (number_given ty (value_of e.now)) (arguments_of (map argument_of more.now)) }
 {
-    let operand = waits_for_arguments(e, more, 0, 0);
+    let operand = waits_for_arguments(e, more, ends, 0, 0);
     plus(
         value_size(e, shape_for(operand)),
         loads_size(keeps(ty, e), operand),
@@ -221,14 +223,15 @@ fn number_size(ty: IntType, e: &Value, more: &[Argument]) -> usize
 
 /// How many instructions an argument has, beside those behind it.
 #[cycle(value_sizes)]
-fn argument_size(argument: &Argument, more: &[Argument]) -> usize
+fn argument_size(argument: &Argument, more: &[Argument], ends: Ends) -> usize
+    requires { AreEnds ends more.now }
     ensures { result ≡ given_size (argument_of argument.now) (arguments_of (map argument_of more.now)) }
 {
     match argument {
-        Argument::Number(ty, e) => number_size(*ty, e, more),
+        Argument::Number(ty, e) => number_size(*ty, e, more, ends),
         Argument::Array(array) => plus(
             place_size(array),
-            hands_over_size(found(array, arguments_call(more), 0, 0)),
+            hands_over_size(found(array, ends.call(), 0, 0)),
         ),
     }
 }
@@ -239,8 +242,10 @@ fn passes_size(arguments: &[Argument]) -> usize
 {
     let mut size = 0;
     let mut rest = arguments;
+    let mut ends = Ends::of(arguments);
     while let Some((argument, more)) = rest.split_first() {
-        size = plus(size, argument_size(argument, more));
+        ends = ends.behind(1);
+        size = plus(size, argument_size(argument, more, ends));
         rest = more;
     }
     size

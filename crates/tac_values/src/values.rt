@@ -14,11 +14,12 @@ ghost use Rattle.tac_forms.specs.inside.Parts.{meant, shape_of, Wrote};
 ghost use Rattle.tac_values.specs.inside.Sizes as size;
 ghost use Rattle.tac_values.specs.inside.Written.{WroteFinds, WroteValue, WrotePasses};
 ghost use Rattle.tac_values.specs.inside.Waiting.{Waits, Fetches, AllWait, AllFetched};
+ghost use Rattle.tac_values.specs.inside.Ends.{AreEnds};
 
+use crate::ends::Ends;
 use crate::operands::{keeps, operand_of, waits_for_arguments};
 use crate::operators::{put_binary, put_both, put_chosen, put_one, put_unary};
 use crate::places::{Free, put_assigned, put_compound, put_found, put_read, put_step};
-use crate::rests::arguments_call;
 use ctypes::IntType;
 use std::alloc::AllocError;
 use tac_code::{Instruction, Operand, Target};
@@ -155,13 +156,15 @@ fn put_waiting_number(
     code: &mut Code,
     e: &Value,
     more: &[Argument],
+    ends: Ends,
     free: Free,
 ) -> Result<Free, AllocError>
+    requires { AreEnds ends more.now }
     ensures { IfOk result (λ less. (less.temporary ≡ free.temporary + 1)
         × (less.slot ≡ lowered.free_kept (lowered.waits_in (value_of e.now) (lowered.arguments_write (arguments_of (map argument_of more.now))) (lowered.arguments_call (arguments_of (map argument_of more.now))) free.temporary free.slot) free.slot)
         × WroteValue (rows.sizes_in scope.now) (value_of e.now) (lowered.mode_of (lowered.waits_in (value_of e.now) (lowered.arguments_write (arguments_of (map argument_of more.now))) (lowered.arguments_call (arguments_of (map argument_of more.now))) free.temporary free.slot)) free.temporary free.slot code.old.list.items code.new.list.items) }
 {
-    let operand = waits_for_arguments(e, more, free.temporary, free.slot);
+    let operand = waits_for_arguments(e, more, ends, free.temporary, free.slot);
     put_value(scope, code, e, mode_of(operand), free)?;
     let temporary = next(free.temporary)?;
     let slot = free_slot(operand, free.slot)?;
@@ -175,12 +178,14 @@ fn put_number_load(
     ty: IntType,
     e: &Value,
     more: &[Argument],
+    ends: Ends,
     free: Free,
 ) -> Result<(), AllocError>
+    requires { AreEnds ends more.now }
     ensures { OnOk result (Wrote (λ w p q. relation.Loads w (lowered.keeps ty (value_of e.now)) ty (lowered.waits_in (value_of e.now) (lowered.arguments_write (arguments_of (map argument_of more.now))) (lowered.arguments_call (arguments_of (map argument_of more.now))) free.temporary free.slot) free.temporary p q)
         (form.loads_size (lowered.keeps ty (value_of e.now)) (lowered.waits_in (value_of e.now) (lowered.arguments_write (arguments_of (map argument_of more.now))) (lowered.arguments_call (arguments_of (map argument_of more.now))) free.temporary free.slot)) code.old.list.items code.new.list.items) }
 {
-    let operand = waits_for_arguments(e, more, free.temporary, free.slot);
+    let operand = waits_for_arguments(e, more, ends, free.temporary, free.slot);
     put_load(code, keeps(ty, e), ty, operand, free.temporary)?;
     Ok(())
 }
@@ -193,13 +198,15 @@ fn put_waiting_array(
     code: &mut Code,
     array: &Place,
     more: &[Argument],
+    ends: Ends,
     free: Free,
 ) -> Result<Free, AllocError>
+    requires { AreEnds ends more.now }
     ensures { IfOk result (λ less. (less.temporary ≡ free.temporary + 1)
         × (less.slot ≡ placed.free_kept_at (placed.found (place_of array.now) (lowered.arguments_call (arguments_of (map argument_of more.now))) free.temporary free.slot) free.slot)
         × WroteFinds (rows.sizes_in scope.now) (place_of array.now) (lowered.arguments_call (arguments_of (map argument_of more.now))) free.temporary free.slot code.old.list.items code.new.list.items) }
 {
-    let calls = arguments_call(more);
+    let calls = ends.call();
     let spot = found(array, calls, free.temporary, free.slot);
     put_found(scope, code, array, calls, free)?;
     let temporary = next(free.temporary)?;
@@ -213,12 +220,14 @@ fn put_array_reference(
     code: &mut Code,
     array: &Place,
     more: &[Argument],
+    ends: Ends,
     free: Free,
 ) -> Result<(), AllocError>
+    requires { AreEnds ends more.now }
     ensures { OnOk result (Wrote (λ w p q. relation.HandsOver w (placed.found (place_of array.now) (lowered.arguments_call (arguments_of (map argument_of more.now))) free.temporary free.slot) free.temporary p q)
         (form.hands_over_size (placed.found (place_of array.now) (lowered.arguments_call (arguments_of (map argument_of more.now))) free.temporary free.slot)) code.old.list.items code.new.list.items) }
 {
-    let spot = found(array, arguments_call(more), free.temporary, free.slot);
+    let spot = found(array, ends.call(), free.temporary, free.slot);
     put_handed(code, spot, free.temporary)?;
     Ok(())
 }
@@ -230,17 +239,19 @@ fn put_waiting(
     code: &mut Code,
     argument: &Argument,
     more: &[Argument],
+    ends: Ends,
     free: Free,
 ) -> Result<Free, AllocError>
+    requires { AreEnds ends more.now }
     ensures { IfOk result (λ less. Waits (rows.sizes_in scope.now) (argument_of argument.now) (arguments_of (map argument_of more.now)) free less code.old.list.items code.new.list.items) }
 {
     match argument {
         Argument::Number(_, e) => {
-            let less = put_waiting_number(scope, code, e, more, free)?;
+            let less = put_waiting_number(scope, code, e, more, ends, free)?;
             Ok(less)
         }
         Argument::Array(array) => {
-            let less = put_waiting_array(scope, code, array, more, free)?;
+            let less = put_waiting_array(scope, code, array, more, ends, free)?;
             Ok(less)
         }
     }
@@ -251,17 +262,19 @@ fn put_fetched(
     code: &mut Code,
     argument: &Argument,
     more: &[Argument],
+    ends: Ends,
     free: Free,
 ) -> Result<(), AllocError>
+    requires { AreEnds ends more.now }
     ensures { OnOk result (Fetches (argument_of argument.now) (arguments_of (map argument_of more.now)) free code.old.list.items code.new.list.items) }
 {
     match argument {
         Argument::Number(ty, e) => {
-            put_number_load(code, *ty, e, more, free)?;
+            put_number_load(code, *ty, e, more, ends, free)?;
             Ok(())
         }
         Argument::Array(array) => {
-            put_array_reference(code, array, more, free)?;
+            put_array_reference(code, array, more, ends, free)?;
             Ok(())
         }
     }
@@ -280,9 +293,11 @@ fn put_all_waiting(
     let mut frees = Vec::new(*code.list.allocator());
     let mut free = first;
     let mut rest = arguments;
+    let mut ends = Ends::of(arguments);
     while let Some((argument, more)) = rest.split_first() {
         frees.push(free)?;
-        free = put_waiting(scope, code, argument, more, free)?;
+        ends = ends.behind(1);
+        free = put_waiting(scope, code, argument, more, ends, free)?;
         rest = more;
     }
     Ok(frees)
@@ -296,10 +311,12 @@ fn put_all_fetched(
 ) -> Result<(), AllocError>
     ensures { OnOk result (AllFetched (map argument_of arguments.now) frees.items code.old.list.items code.new.list.items) }
 {
+    let all = Ends::of(arguments);
     let mut left = frees;
     while let Some(free) = left.pop() {
         if let Some((argument, more)) = behind(arguments, left.len()).split_first() {
-            put_fetched(code, argument, more, free)?;
+            let ends = all.behind(left.len()).behind(1);
+            put_fetched(code, argument, more, ends, free)?;
         }
     }
     Ok(())

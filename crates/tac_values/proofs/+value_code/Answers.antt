@@ -1,4 +1,4 @@
-use Rattle.std.proofs.Common.{◌≡◌, ◌||◌, ◌∷◌, arith, ap, map, sym, subst, length, rules, to_z, of_z, w64, false, ◌∙◌}
+use Rattle.std.proofs.Common.{◌≡◌, ◌||◌, ◌∷◌, drop, arith, ap, map, sym, subst, length, rules, to_z, of_z, w64, false, ◌∙◌}
 use Rattle.std.proofs.Math.Facts.{to_z-of_z}
 use Rattle.typing_rules.specs.Program as typed
 use Rattle.typing_program.specs.View.{value_of, place_of, arguments_of, argument_of, moment_of}
@@ -10,6 +10,7 @@ use Rattle.tac_forms.specs.inside.Parts.{meant, shape_of, plus}
 use Rattle.tac_forms.specs.inside.Emitted as emitted
 use Rattle.tac_forms.specs.inside.Rows.{sizes_in}
 use Rattle.tac_values.specs.inside.Sizes.{value_size}
+use Rattle.tac_values.specs.inside.Ends.{AreEnds}
 use Rattle.tac_values.specs.inside.Written.{WroteFinds, WroteValue}
 use Rattle.tac_values.proofs.Held.{sees_constant, sees_read, sees_assigned, sees_compound, sees_stepped, sees_unary, sees_binary, sees_bothtrue, sees_onetrue, sees_chosen, sees_sequence, sees_cast, sees_discarded, sees_call}
 use Rattle.tac_forms.proofs.Held.{sees_named, sees_element}
@@ -93,7 +94,7 @@ places::put_step_memory-returns t c = step_there (sizes_in c.args.scope.now) (mo
 pub values::put_waiting_array-returns : goal.values::put_waiting_array-returns
 values::put_waiting_array-returns t c =
     let n = arguments_of (map argument_of c.args.more.now) in
-    let ec : c.arguments_call-calls.result ≡ lowered.arguments_call n = c.arguments_call-calls.ensures in
+    let ec : c.call-calls.result ≡ lowered.arguments_call n = c.call-calls.ensures c.args.more.now c.requires in
     let ea : c.found-spot.result ≡ placed.found (place_of c.args.array.now) (lowered.arguments_call n) c.args.free.temporary c.args.free.slot
     = c.found-spot.ensures ∙ ap (λ b. placed.found (place_of c.args.array.now) b c.args.free.temporary c.args.free.slot) ec in (
       c.in_ok-temporary.ensures,
@@ -325,7 +326,7 @@ pub values::put_passes-returns : goal.values::put_passes-returns
 values::put_passes-returns t c = passes_of (sizes_in c.args.scope.now) (map argument_of c.args.arguments.now) c.in_ok-frees.frees.items c.args.free _ _ _ c.in_ok-frees.ensures c.in_ok-put_all_fetched.ensures
 
 pub values::put_all_waiting-loop-argument-init : goal.values::put_all_waiting-loop-argument-init
-values::put_all_waiting-loop-argument-init t c = record { so_far = λ fs end x. rw c.new-frees.ensures.items x; fewer = omega arith }
+values::put_all_waiting-loop-argument-init t c = record { so_far = λ fs end x. rw c.new-frees.ensures.items x; fewer = omega arith; ends = c.of-ends.ensures }
 
 pub values::put_all_waiting-loop-argument-preserved : goal.values::put_all_waiting-loop-argument-preserved
 values::put_all_waiting-loop-argument-preserved t c =
@@ -334,6 +335,7 @@ values::put_all_waiting-loop-argument-preserved t c =
     record {
       so_far = waits_behind (sizes_in c.args.scope.now) c.in-Some.argument.now c.in-Some.more.now l.rest.now l.free _ l.frees.items _ _ _ _ _ _ rest l.invariant.so_far c.in_ok-push.ensures.items c.in_ok-free.ensures;
       fewer = omega (arith, nodes_left c.in-Some.argument.now c.in-Some.more.now l.rest.now _ rest l.invariant.fewer);
+      ends = subst (AreEnds c.behind-ends.result) (ap (drop 1) rest) (c.behind-ends.ensures l.rest.now l.invariant.ends);
     }
 
 pub values::put_all_waiting-returns : goal.values::put_all_waiting-returns
@@ -346,4 +348,4 @@ values::put_all_waiting-put_waiting-requires t c =
     let l = c.loop-argument in
     let rest : l.rest.now ≡ c.in-Some.argument.now ∷ c.in-Some.more.now = search rules in
     let h = nodes_left c.in-Some.argument.now c.in-Some.more.now l.rest.now _ rest l.invariant.fewer in
-    (omega (arith, h, c.decreases), tt)
+    (omega (arith, h, c.decreases), subst (AreEnds c.behind-ends.result) (ap (drop 1) rest) (c.behind-ends.ensures l.rest.now l.invariant.ends))

@@ -5,6 +5,7 @@ use Rattle.tac_code.specs.declared.code.Instruction.{Instruction}
 use Rattle.tac_forms.specs.inside.Rows.{sizes_in}
 use Rattle.tac_values.specs.declared.places.Free.{Free}
 use Rattle.tac_values.specs.inside.Waiting.{AllWait}
+use Rattle.tac_values.specs.inside.Ends.{AreEnds}
 use Rattle.tac_values.proofs.+value_code.Given as goal
 
 abbrev pub decreases-values::put_value : goal.decreases-values::put_value
@@ -132,4 +133,5 @@ invariant-values::put_all_waiting-loop-argument l = record {
   so_far : (fs : List Free) (end : List Instruction) → AllWait (sizes_in l.scope) (map argument_of l.rest) fs l.free l.code.list.items end
       → AllWait (sizes_in l.scope) (map argument_of l.arguments) (l.frees.items ++ fs) l.fn.first l.initial.code.list.items end;
   fewer : argument_nodes (arguments_of (map argument_of l.rest)) ≤ argument_nodes (arguments_of (map argument_of l.arguments));
+  ends : AreEnds l.ends l.rest;
 }

@@ -1,5 +1,5 @@
 -- How many instructions the code of expressions has.
-use Rattle.std.specs.Prelude.{ℕ, Bool, true, false, ◌||◌, Option, Some, None}
+use Rattle.std.specs.Prelude.{ℕ, Bool, false, ◌||◌, Option, Some, None}
 use Rattle.ctypes.specs.declared.operators.BinOp.TheVariants as op
 use Rattle.tree.specs.declared.expression.PrefixOp.TheVariants as prefix
 use Rattle.typing_rules.specs.Program as typed
@@ -12,7 +12,7 @@ use Rattle.tac_lowering.specs.Places.{found}
 use Rattle.tac_forms.specs.declared.modes.Shape.{Shape}
 use Rattle.tac_forms.specs.declared.modes.Shape.TheVariants as shape
 use Rattle.tac_forms.specs.inside.Parts.{shape_of, plus}
-use Rattle.tac_forms.specs.inside.FormSizes.{ends_size, follows_size, then_size, operates_size, changes_size, steps_by_size, loads_size, calls_size, truths_size, converts_size, casts_size, parts_size, gets_size, puts_size, cuts_for, alters_size, alters_by_size, hands_over_size}
+use Rattle.tac_forms.specs.inside.FormSizes.{ends_size, then_size, operates_size, changes_size, steps_by_size, loads_size, calls_size, truths_size, converts_size, casts_size, parts_size, gets_size, puts_size, cuts_for, alters_size, alters_by_size, hands_over_size}
 
 -- ---- expressions
 

@@ -7,4 +7,4 @@ pub returns : goal.returns
 returns c =
     let e = value_of c.args.e.now in
     let w = values.arguments_write (arguments_of (map argument_of c.args.others.now)) in
-    c.waits.ensures w c.is_written_by_arguments.ensures ∙ ap (λ b. values.waits_in e w b c.args.temporary c.args.slot) c.arguments_call.ensures
+    c.waits.ensures w c.is_written_by_arguments.ensures ∙ ap (λ b. values.waits_in e w b c.args.temporary c.args.slot) (c.call.ensures c.args.others.now c.requires)

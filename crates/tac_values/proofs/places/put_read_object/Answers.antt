@@ -1,4 +1,3 @@
-use Rattle.tac_values.proofs.Located.{read_object}
 use Rattle.tac_forms.proofs.Parts.{two}
 use Rattle.tac_values.proofs.places.put_read_object.Goals as goal
 

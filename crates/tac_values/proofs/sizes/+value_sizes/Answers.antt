@@ -1,7 +1,8 @@
-use Rattle.std.proofs.Common.{◌≡◌, ◌∷◌, map, ap, sym, ◌∙◌, rules, arith}
+use Rattle.std.proofs.Common.{◌≡◌, ◌∷◌, map, drop, ap, sym, subst, ◌∙◌, rules, arith}
 use Rattle.typing_rules.specs.Program as typed
 use Rattle.typing_program.specs.View.{value_of, place_of, argument_of, moment_of}
 use Rattle.tac_values.specs.inside.Sizes as size
+use Rattle.tac_values.specs.inside.Ends.{AreEnds}
 use Rattle.tac_forms.proofs.Held.{sees_element}
 use Rattle.tac_values.proofs.Held.{sees_read, sees_assigned, sees_compound, sees_stepped, sees_unary, sees_binary}
 use Rattle.tac_values.proofs.Passed.{size_begins, size_goes, size_ends, plus_within, nodes_left}
@@ -63,7 +64,7 @@ value_size-returns-in-Binary t c =
     ∙ ap (λ v. size.value_size v c.args.shape) (sym (sees_binary c.args.e.now s.field-0 s.op s.field-2 s.a s.b s.is))
 
 pub passes_size-loop-argument-init : goal.passes_size-loop-argument-init
-passes_size-loop-argument-init t c = record { so_far = size_begins (map argument_of c.args.arguments.now); within = omega arith; fewer = omega arith }
+passes_size-loop-argument-init t c = record { so_far = size_begins (map argument_of c.args.arguments.now); within = omega arith; fewer = omega arith; ends = c.of-ends.ensures }
 
 pub passes_size-loop-argument-preserved : goal.passes_size-loop-argument-preserved
 passes_size-loop-argument-preserved t c =
@@ -73,6 +74,7 @@ passes_size-loop-argument-preserved t c =
       so_far = size_goes l.size c.argument_size.result c.plus-size.result c.in-Some.argument.now c.in-Some.more.now l.rest.now _ rest c.argument_size.ensures c.plus-size.ensures l.invariant.so_far;
       within = plus_within c.plus-size.result _ _ c.plus-size.ensures;
       fewer = omega (arith, nodes_left c.in-Some.argument.now c.in-Some.more.now l.rest.now _ rest l.invariant.fewer);
+      ends = subst (AreEnds c.behind-ends.result) (ap (drop 1) rest) (c.behind-ends.ensures l.rest.now l.invariant.ends);
     }
 
 pub passes_size-returns : goal.passes_size-returns

@@ -3,6 +3,7 @@ use Rattle.typing_program.specs.View.{value_of, place_of, arguments_of, argument
 use Rattle.tac_values.proofs.Nodes.{nodes, place_nodes, argument_nodes, given_nodes}
 use Rattle.tac_forms.specs.inside.Parts.{plus}
 use Rattle.tac_values.specs.inside.Sizes.{passes_size}
+use Rattle.tac_values.specs.inside.Ends.{AreEnds}
 use Rattle.tac_values.proofs.sizes.+value_sizes.Given as goal
 
 abbrev pub decreases-value_size : goal.decreases-value_size
@@ -25,6 +26,7 @@ invariant-passes_size-loop-argument l = record {
   so_far : plus l.size (passes_size (arguments_of (map argument_of l.rest))) ≡ passes_size (arguments_of (map argument_of l.arguments));
   within : l.size ≤ 18446744073709551615;
   fewer : argument_nodes (arguments_of (map argument_of l.rest)) ≤ argument_nodes (arguments_of (map argument_of l.arguments));
+  ends : AreEnds l.ends l.rest;
 }
 
 abbrev pub decreases-converted_size : goal.decreases-converted_size

@@ -1,4 +1,4 @@
-use Rattle.std.proofs.Common.{map, subst, ap, ◌∙◌}
+use Rattle.std.proofs.Common.{subst, ap, ◌∙◌}
 use Rattle.typing_program.specs.View.{place_of}
 use Rattle.tac_lowering.specs.Code.{HandsOver}
 use Rattle.tac_lowering.specs.Places.{found}
@@ -9,5 +9,5 @@ use Rattle.tac_values.proofs.values.put_array_reference.Goals as goal
 pub returns : goal.returns
 returns c = subst
     (λ a. Wrote (λ w p q. HandsOver w a c.args.free.temporary p q) (hands_over_size a) c.args.code.now.list.items c.put_handed.new.code.list.items)
-    (c.found-spot.ensures ∙ ap (λ b. found (place_of c.args.array.now) b c.args.free.temporary c.args.free.slot) c.arguments_call.ensures)
+    (c.found-spot.ensures ∙ ap (λ b. found (place_of c.args.array.now) b c.args.free.temporary c.args.free.slot) (c.call.ensures c.args.more.now c.requires))
     c.in_ok-put_handed.ensures

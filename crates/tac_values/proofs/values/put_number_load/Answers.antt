@@ -1,4 +1,4 @@
-use Rattle.std.proofs.Common.{map, subst}
+use Rattle.std.proofs.Common.{subst}
 use Rattle.typing_program.specs.View.{value_of}
 use Rattle.tac_lowering.specs.Code.{Loads}
 use Rattle.tac_forms.specs.inside.FormSizes.{loads_size}
