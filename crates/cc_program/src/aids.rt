@@ -1,13 +1,13 @@
 //! The commands that explain and show.
 
 use crate::late_file::LateFile;
-use crate::run_aids::{asks_more, run_more};
-use crate::trace_aids::{asks_trace, trace};
-use crate::words::further_files;
+use crate::run_aids::run_more;
+use crate::trace_aids::trace;
 use crate::{is_source, read_files, say};
 use anyhow::Result;
 use cc::{Built, StackSize, compile_with};
 use cc_aids::{Form, Said, explain_faults, explain_run};
+use cc_words::{asks_more, asks_trace, further_files};
 use clap::ArgMatches;
 use code_map::{CodeMap, code_map, definitions, frames_table, symbol_file};
 use explain::Stage;

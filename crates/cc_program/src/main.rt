@@ -10,7 +10,8 @@ mod words;
 
 use anyhow::Result;
 use cc::{Cmd, StackSize, perform, read_source};
-use cc_aids::Watching;
+use cc_aids::{VERSION, Watching};
+use cc_words::{command, further_files};
 use clap::ArgMatches;
 use clap::error::ErrorKind as UsageKind;
 use late_file::LateFile;
@@ -23,7 +24,7 @@ use std::io::{BufReader, BufWriter, ErrorKind, IsTerminal, Write};
 use std::process::ExitCode;
 use std::rt::Files;
 use std::{env, fs, io};
-use words::{Request, further_files, read_request, read_stack};
+use words::{Request, read_request, read_stack};
 
 fn main(rt: HostRuntime) -> ExitCode {
     match env::args(&rt) {
@@ -56,7 +57,7 @@ fn parse(rt: &HostRuntime, words: Args<Global>) -> Result<u8> {
     if let Some(name) = words.first_mut() {
         *name = String::from_str(alloc, "cc")?;
     }
-    let command = words::command(alloc)?;
+    let command = command(alloc, VERSION)?;
     match command.try_get_matches_from(words.as_slice()) {
         Ok(matches) => answer(rt, &matches),
         Err(error) => Ok(show(rt, &error)),

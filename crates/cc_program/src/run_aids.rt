@@ -17,14 +17,6 @@ use std::fs;
 use std::io::{BufReader, BufWriter, Write};
 use traced_run::{TraceEnd, hart, machine_text, place_text, run_for, traced_run};
 
-/// Whether the words of `cc run` ask for more than a run.
-pub fn asks_more(inner: &ArgMatches<'_>) -> bool {
-    inner.get_flag("trace")
-        || inner.get_str("trace-file").is_some()
-        || inner.get_one::<u64>("at").is_some()
-        || inner.get_strs("map").is_some()
-}
-
 /// Runs the executable file of the words; answers the exit status.
 pub fn run_more(rt: &HostRuntime, inner: &ArgMatches<'_>) -> Result<u8> {
     let alloc = rt.alloc();

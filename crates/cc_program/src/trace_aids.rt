@@ -12,11 +12,6 @@ use srcset::{Code, Fault};
 use std::io::{BufReader, BufWriter, Write};
 use traced_interp::{Tracing, interpret_traced, with_probes};
 
-/// Whether the words of `cc interp` ask for a trace.
-pub fn asks_trace(inner: &ArgMatches<'_>) -> bool {
-    inner.get_flag("trace") || inner.get_str("trace-file").is_some()
-}
-
 /// Interprets the program of the words with a trace; answers the exit status.
 pub fn trace<'a>(rt: &HostRuntime, matches: &ArgMatches<'a>, inner: &ArgMatches<'a>) -> Result<u8> {
     let alloc = rt.alloc();
