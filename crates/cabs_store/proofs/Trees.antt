@@ -82,7 +82,8 @@ element_has_none t v (i ∷ path) e = sym (ap (λ t. machine.length_of (at_path 
 pub made_as : {E : Type 0} (r : Result Tree E) (a b : machine.Tree) → a ≡ b → IfOk r (λ t. tree_of t ≡ a) → IfOk r (λ t. tree_of t ≡ b)
 made_as r a b e h = let P : machine.Tree → Type 0 = λ m. IfOk r (λ t. tree_of t ≡ m) in subst P e h
 
-pub alike : (lengths : List ℕ) (cs : List ℤ) (n : ℕ) (number : ℤ) (v : Option ℤ) → n ≡ elements_in lengths → cs ≡ replicate n number → value_in number ≡ v → shaped lengths cs 0 ≡ machine.filled v lengths
+pub alike : (lengths : List ℕ) (cs : List ℤ) (n : ℕ) (number : ℤ) (v : Option ℤ) → n ≡ elements_in lengths → cs ≡ replicate n number → value_in number ≡ v →
+    shaped lengths cs 0 ≡ machine.filled v lengths
 alike lengths cs n number v size e is =
     ap (λ cs. shaped lengths cs 0) e ∙ filled_cells lengths (replicate n number) 0 v (λ j h. ap (cell (replicate n number)) (at j) ∙ cell_filled n number j (omega (arith, size, h)) ∙ is)
   where

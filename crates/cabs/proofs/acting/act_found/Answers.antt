@@ -21,7 +21,8 @@ returns-in-Ok-clause-meets g c p whole o sent s =
     let f = frame_of c.in-Some.frame in
     let top : frames_of old.machine ≡ frames_of c.pop.new.self ++ f ∷ [] = c.in-Some.ensures.frame in
     let popped : frames_of old.machine ≡ frames_of mid ++ f ∷ [] = top ∙ ap (λ (m : Machine). frames_of m ++ f ∷ []) (sym c.count_end.ensures.machine) in
-    frame_stands p whole o sent old _ mid f (found_of c.args.found) _ popped (ap (λ (m : Machine). m.scene) c.count_end.ensures.machine ∙ c.in-Some.ensures.scene) (ap (λ (m : Machine). m.program) c.count_end.ensures.machine ∙ c.in-Some.ensures.program)
+    frame_stands p whole o sent old _ mid f (found_of c.args.found) _ popped (ap (λ (m : Machine). m.scene) c.count_end.ensures.machine ∙ c.in-Some.ensures.scene)
+    (ap (λ (m : Machine). m.program) c.count_end.ensures.machine ∙ c.in-Some.ensures.program)
     (λ h. c.count_end.ensures.tells p h) c.count_end.ensures.kept s c.in-Ok.step c.in-Ok.ensures.acts c.in-Ok.ensures.program
 
 pub returns-in-Ok-clause-nears : goal.returns-in-Ok-clause-nears
@@ -34,7 +35,8 @@ returns-in-Ok-clause-nears g c =
     let top : frames_of old.machine ≡ frames_of c.pop.new.self ++ f ∷ [] = c.in-Some.ensures.frame in
     let popped : frames_of old.machine ≡ frames_of mid ++ f ∷ [] = top ∙ ap (λ (m : Machine). frames_of m ++ f ∷ []) (sym c.count_end.ensures.machine) in
     let P : List on.Frame → Type 0 = λ fs. distance (frames_of new) (step_of c.in-Ok.step) < distance fs (on.leaves x) in
-    subst P (sym popped) (frame_nears (program_of mid.program.now) (frames_of mid) (frames_of new) f x (step_of c.in-Ok.step) mid.scene new.scene (outside 0 [] []) (c.in-Ok.ensures.acts (outside 0 [] [])))
+    subst P (sym popped) (frame_nears (program_of mid.program.now) (frames_of mid) (frames_of new) f x (step_of c.in-Ok.step) mid.scene new.scene (outside 0 [] [])
+    (c.in-Ok.ensures.acts (outside 0 [] [])))
 
 pub returns-in-Err-clause-meets : goal.returns-in-Err-clause-meets
 returns-in-Err-clause-meets g c p whole o sent s =
@@ -43,5 +45,6 @@ returns-in-Err-clause-meets g c p whole o sent s =
     let f = frame_of c.in-Some.frame in
     let top : frames_of old.machine ≡ frames_of c.pop.new.self ++ f ∷ [] = c.in-Some.ensures.frame in
     let popped : frames_of old.machine ≡ frames_of mid ++ f ∷ [] = top ∙ ap (λ (m : Machine). frames_of m ++ f ∷ []) (sym c.count_end.ensures.machine) in
-    c.finish.ensures.meets p whole o sent (frame_stopping p whole o sent old _ mid f (found_of c.args.found) _ popped (ap (λ (m : Machine). m.scene) c.count_end.ensures.machine ∙ c.in-Some.ensures.scene) (ap (λ (m : Machine). m.program) c.count_end.ensures.machine ∙ c.in-Some.ensures.program)
+    c.finish.ensures.meets p whole o sent (frame_stopping p whole o sent old _ mid f (found_of c.args.found) _ popped
+    (ap (λ (m : Machine). m.scene) c.count_end.ensures.machine ∙ c.in-Some.ensures.scene) (ap (λ (m : Machine). m.program) c.count_end.ensures.machine ∙ c.in-Some.ensures.program)
     (λ h. c.count_end.ensures.tells p h) c.count_end.ensures.kept s c.in-Err.stop c.in-Err.ensures.acts)

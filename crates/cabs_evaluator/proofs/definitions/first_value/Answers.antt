@@ -29,8 +29,10 @@ returns-in-Ok c = λ run rest h.
     let same : to_z w64 (of_z w64 c.in-Some.v) ≡ c.in-Some.v = search (rules, to_z-of_z) in
     let same2 : to_z w64 (of_z w64 c.convert.result) ≡ c.convert.result = search (rules, to_z-of_z) in
     let value : to_z w64 (of_z w64 c.convert.result) ≡ converted c.args.ty c.in-Some.v = same2 ∙ c.convert.ensures.value ∙ ap (converted c.args.ty) same in
-    let is : (o : Outside) → state_in c.set.new.self o ≡ stored (reference_of c.args.r.now) (converted c.args.ty c.in-Some.v) (state_in c.value.new.scene o) = λ o. c.in-Ok.ensures.ok o ∙ ap (λ v. stored (reference_of c.args.r.now) v (state_in c.value.new.scene o)) value in
+    let is : (o : Outside) → state_in c.set.new.self o ≡ stored (reference_of c.args.r.now) (converted c.args.ty c.in-Some.v) (state_in c.value.new.scene o) = λ o. c.in-Ok.ensures.ok o
+    ∙ ap (λ v. stored (reference_of c.args.r.now) v (state_in c.value.new.scene o)) value in
     gave_now flow_of run c.args.scope.now.limit c.set.new.self Normal rest flow.Normal c.tick.new.self refl
     (moved run c.tick.new.self.spent c.value.new.scene c.set.new.self (stored (reference_of c.args.r.now) (converted c.args.ty c.in-Some.v)) (λ s. Goes Normal s) rest is
-    (after_tick run c.value.new.clock.spent c.tick.new.self.spent c.value.new.scene _ rest c.tick.result c.if-not-tick.false c.tick.ensures.taken (gone_on number run c.args.scope.now.limit c.args.clock.now.spent c.args.scene.now _ _ rest c.value.result c.in-Some.v c.value.new.clock c.value.new.scene c.in-Some.is (c.value.ensures run)
+    (after_tick run c.value.new.clock.spent c.tick.new.self.spent c.value.new.scene _ rest c.tick.result c.if-not-tick.false c.tick.ensures.taken
+    (gone_on number run c.args.scope.now.limit c.args.clock.now.spent c.args.scene.now _ _ rest c.value.result c.in-Some.v c.value.new.clock c.value.new.scene c.in-Some.is (c.value.ensures run)
     h)))

@@ -11,5 +11,6 @@ pub returns-in-Some : goal.returns-in-Some
 returns-in-Some c =
     let n : ℤ = c.in-Some.number.now in
     let same : to_z w64 (of_z w64 n) ≡ n = search (rules, to_z-of_z) in
-    c.value_in.ensures ∙ ap cells.value_in same ∙ sym (cell_got c.args.self.now.cells.items c.args.k n (omega (arith, c.in-Some.ensures.lookup.3.0, ap (λ (ns : List ℤ). length ns) c.deref.ensures.value))
+    c.value_in.ensures ∙ ap cells.value_in same ∙ sym (cell_got c.args.self.now.cells.items c.args.k n
+    (omega (arith, c.in-Some.ensures.lookup.3.0, ap (λ (ns : List ℤ). length ns) c.deref.ensures.value))
     (c.in-Some.ensures.lookup.1 ∙ ap (λ (ns : List ℤ). get_or ns c.args.k n) c.deref.ensures.value))

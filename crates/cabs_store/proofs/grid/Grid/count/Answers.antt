@@ -7,7 +7,9 @@ pub returns-in-None : goal.returns-in-None
 returns-in-None c = no_length_there c.args.path.now _ c.args.self.now.cells.items (c.in-None.ensures ∙ ap (cells.behind c.args.path.now) c.as_slice.ensures.value)
 
 pub returns-in-None-first : goal.returns-in-None-first
-returns-in-None-first c = element_there c.args.path.now _ c.in-Some.rest.now c.args.self.now.cells.items (c.in-Some.ensures ∙ ap (cells.behind c.args.path.now) c.as_slice.ensures.value) c.in-None-first.ensures.value
+returns-in-None-first c = element_there c.args.path.now _ c.in-Some.rest.now c.args.self.now.cells.items
+    (c.in-Some.ensures ∙ ap (cells.behind c.args.path.now) c.as_slice.ensures.value) c.in-None-first.ensures.value
 
 pub returns-in-Some-first : goal.returns-in-Some-first
-returns-in-Some-first c = length_there c.args.path.now _ c.in-Some.rest.now c.args.self.now.cells.items c.in-Some-first.n.now (c.in-Some.ensures ∙ ap (cells.behind c.args.path.now) c.as_slice.ensures.value) c.in-Some-first.ensures.value
+returns-in-Some-first c = length_there c.args.path.now _ c.in-Some.rest.now c.args.self.now.cells.items c.in-Some-first.n.now
+    (c.in-Some.ensures ∙ ap (cells.behind c.args.path.now) c.as_slice.ensures.value) c.in-Some-first.ensures.value

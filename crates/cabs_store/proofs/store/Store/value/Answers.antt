@@ -6,7 +6,8 @@ use Rattle.cabs_store.proofs.Trees.{no_object, some_object}
 use Rattle.cabs_store.proofs.store.Store.value.Goals as goal
 
 pub returns-in-None : goal.returns-in-None
-returns-in-None c = ap value_of (no_object c.args.self.now.objects.items c.args.r.now.object (path_of c.args.r.now.path) (omega (arith, c.in-None.ensures.lookup.3, ap (λ (ts : List Tree). length ts) c.deref.ensures.value)))
+returns-in-None c = ap value_of (no_object c.args.self.now.objects.items c.args.r.now.object (path_of c.args.r.now.path)
+    (omega (arith, c.in-None.ensures.lookup.3, ap (λ (ts : List Tree). length ts) c.deref.ensures.value)))
 
 pub returns-in-Some : goal.returns-in-Some
 returns-in-Some c =
