@@ -1,15 +1,16 @@
-//! Frames as the stack keeps them: what waits once for each nested call, or for most parts of an expression, in 40 bytes, and the
-//! others in memory of their own.
+//! Frames as the stack keeps them: what waits for most parts of an expression, for a turn of a loop or for a call, in 48 bytes, and
+//! the others in memory of their own.
 
 ghost use Rattle.std.specs.Prelude.{◌≡◌, IfErr, IfOk};
-ghost use Rattle.cabs_store.specs.inside.Views.{control_frame, flow_frame, frame_of, kept_of, operand_frame, place_frame};
+ghost use Rattle.cabs_store.specs.inside.Views.{control_frame, flow_frame, frame_of, initialiser_frame, kept_of, operand_frame, place_frame};
 ghost use Rattle.cabs_store.specs.declared.frames.FlowFrame.TheVariants as flows;
 ghost use Rattle.cabs_store.specs.declared.frames.OperandFrame.TheVariants as operands;
 ghost use Rattle.cabs_store.specs.declared.kept.Kept.TheVariants as kept;
 ghost use Rattle.cabs_store.specs.declared.stop.Stop.TheVariants.{Memory};
 
 use crate::frames::{
-    Back, ControlFrame, FlowFrame, Frame, InitialiserFrame, OperandFrame, PlaceFrame, Return,
+    Back, ControlFrame, FlowFrame, Frame, InitialiserFrame, Loop, OperandFrame, PlaceFrame, Return,
+    Stepping,
 };
 use crate::reference::Reference;
 use crate::stop::Stop;
@@ -37,6 +38,9 @@ pub enum Kept<'p> {
     Indexes(Pos, &'p Value),
     Reads(Pos),
     Assigns(Pos, IntType, &'p Value),
+    Steps(Stepping),
+    /// The subscript of a whole object.
+    IndexOf(Pos, usize),
     /// What is stored in a whole object.
     Stores(Pos, IntType, usize),
     Signs(Pos, PrefixOp, IntType),
@@ -51,9 +55,14 @@ pub enum Kept<'p> {
     Forgets,
     IfTrue(&'p [ObjectType], &'p Box<Statement>),
     IfElse(&'p [ObjectType], &'p Box<Statement>, &'p Box<Statement>),
+    Tests(Loop<'p>),
+    Loops(Loop<'p>),
     GivesBack(IntType),
     Returns(Call),
     Rest(&'p [ObjectType], &'p [Statement]),
+    InSwitch,
+    Turn(Loop<'p>),
+    Defined,
     Other(Box<Frame<'p>>),
 }
 
@@ -79,12 +88,23 @@ fn keep_place<'p>(alloc: Global, frame: PlaceFrame<'p>) -> Result<Kept<'p>, Stop
         PlaceFrame::Reads(at) => Ok(Kept::Reads(at)),
         PlaceFrame::Assigns(at, ty, e) => Ok(Kept::Assigns(at, ty, e)),
         PlaceFrame::Compounds(c, e) => apart(alloc, Frame::Place(PlaceFrame::Compounds(c, e))),
-        PlaceFrame::Steps(step) => apart(alloc, Frame::Place(PlaceFrame::Steps(step))),
+        PlaceFrame::Steps(step) => Ok(Kept::Steps(step)),
         PlaceFrame::ArrayPassed(asked) => apart(
             alloc,
             Frame::Place(PlaceFrame::ArrayPassed(asked)),
         ),
     }
+}
+
+/// The subscript of what stands at a reference.
+fn keep_subscript<'p>(alloc: Global, at: Pos, r: Reference) -> Result<Kept<'p>, Stop>
+    ensures ok { IfOk result (λ kept. kept_of kept ≡ operand_frame (operands.IndexOf at r)) }
+    ensures err { IfErr result (λ e. e ≡ Memory) }
+{
+    if r.path.is_whole() {
+        return Ok(Kept::IndexOf(at, r.object));
+    }
+    apart(alloc, Frame::Operand(OperandFrame::IndexOf(at, r)))
 }
 
 /// What is stored at a reference.
@@ -103,7 +123,7 @@ fn keep_operand<'p>(alloc: Global, frame: OperandFrame<'p>) -> Result<Kept<'p>, 
     ensures err { IfErr result (λ e. e ≡ Memory) }
 {
     match frame {
-        OperandFrame::IndexOf(at, r) => apart(alloc, Frame::Operand(OperandFrame::IndexOf(at, r))),
+        OperandFrame::IndexOf(at, r) => keep_subscript(alloc, at, r),
         OperandFrame::Stores(at, ty, r) => keep_store(alloc, at, ty, r),
         OperandFrame::Combines(c, r) => apart(alloc, Frame::Operand(OperandFrame::Combines(c, r))),
         OperandFrame::Signs(at, op, ty) => Ok(Kept::Signs(at, op, ty)),
@@ -135,8 +155,8 @@ fn keep_control<'p>(alloc: Global, frame: ControlFrame<'p>) -> Result<Kept<'p>, 
             alloc,
             Frame::Control(ControlFrame::Switches(ty, block)),
         ),
-        ControlFrame::Tests(l) => apart(alloc, Frame::Control(ControlFrame::Tests(l))),
-        ControlFrame::Loops(l) => apart(alloc, Frame::Control(ControlFrame::Loops(l))),
+        ControlFrame::Tests(l) => Ok(Kept::Tests(l)),
+        ControlFrame::Loops(l) => Ok(Kept::Loops(l)),
         ControlFrame::GivesBack(ty) => Ok(Kept::GivesBack(ty)),
     }
 }
@@ -169,9 +189,22 @@ fn keep_flow<'p>(alloc: Global, frame: FlowFrame<'p>) -> Result<Kept<'p>, Stop>
     match frame {
         FlowFrame::Returns(r) => keep_return(alloc, r),
         FlowFrame::Rest(objects, more) => Ok(Kept::Rest(objects, more)),
-        FlowFrame::InSwitch => apart(alloc, Frame::Flow(FlowFrame::InSwitch)),
-        FlowFrame::Turn(l) => apart(alloc, Frame::Flow(FlowFrame::Turn(l))),
+        FlowFrame::InSwitch => Ok(Kept::InSwitch),
+        FlowFrame::Turn(l) => Ok(Kept::Turn(l)),
         FlowFrame::ForStarts(start, l) => apart(alloc, Frame::Flow(FlowFrame::ForStarts(start, l))),
+    }
+}
+
+fn keep_initialiser<'p>(alloc: Global, frame: InitialiserFrame<'p>) -> Result<Kept<'p>, Stop>
+    ensures ok { IfOk result (λ kept. kept_of kept ≡ initialiser_frame frame.entry) }
+    ensures err { IfErr result (λ e. e ≡ Memory) }
+{
+    match frame {
+        InitialiserFrame::NextPart(l) => apart(
+            alloc,
+            Frame::Initialiser(InitialiserFrame::NextPart(l)),
+        ),
+        InitialiserFrame::Defined => Ok(Kept::Defined),
     }
 }
 
@@ -187,7 +220,7 @@ pub fn keep<'p>(alloc: Global, frame: Frame<'p>) -> Result<Kept<'p>, Stop>
         Frame::Operand(f) => keep_operand(alloc, f),
         Frame::Control(f) => keep_control(alloc, f),
         Frame::Flow(f) => keep_flow(alloc, f),
-        Frame::Initialiser(f) => apart(alloc, Frame::Initialiser(f)),
+        Frame::Initialiser(f) => keep_initialiser(alloc, f),
     }
 }
 
@@ -210,6 +243,13 @@ fn control<'p>(frame: ControlFrame<'p>) -> Frame<'p>
     ensures { frame_of result ≡ control_frame frame.entry }
 {
     Frame::Control(frame)
+}
+
+/// What waits for a statement to be left.
+fn flow<'p>(frame: FlowFrame<'p>) -> Frame<'p>
+    ensures { frame_of result ≡ flow_frame frame.entry }
+{
+    Frame::Flow(frame)
 }
 
 /// What a call's end does.
@@ -237,6 +277,8 @@ pub fn taken<'p>(alloc: Global, kept: Kept<'p>) -> Frame<'p>
         Kept::Indexes(at, index) => place(PlaceFrame::Indexes(at, index)),
         Kept::Reads(at) => place(PlaceFrame::Reads(at)),
         Kept::Assigns(at, ty, e) => place(PlaceFrame::Assigns(at, ty, e)),
+        Kept::Steps(step) => place(PlaceFrame::Steps(step)),
+        Kept::IndexOf(at, n) => operand(OperandFrame::IndexOf(at, Reference::whole(n))),
         Kept::Stores(at, ty, n) => operand(OperandFrame::Stores(at, ty, Reference::whole(n))),
         Kept::Signs(at, op, ty) => operand(OperandFrame::Signs(at, op, ty)),
         Kept::Right(at, op, ty, b) => operand(OperandFrame::Right(at, op, ty, b)),
@@ -250,9 +292,14 @@ pub fn taken<'p>(alloc: Global, kept: Kept<'p>) -> Frame<'p>
         Kept::Forgets => control(ControlFrame::Forgets),
         Kept::IfTrue(objects, a) => control(ControlFrame::IfTrue(objects, a)),
         Kept::IfElse(objects, a, b) => control(ControlFrame::IfElse(objects, a, b)),
+        Kept::Tests(l) => control(ControlFrame::Tests(l)),
+        Kept::Loops(l) => control(ControlFrame::Loops(l)),
         Kept::GivesBack(ty) => control(ControlFrame::GivesBack(ty)),
         Kept::Returns(c) => return_of(alloc, c),
-        Kept::Rest(objects, more) => Frame::Flow(FlowFrame::Rest(objects, more)),
+        Kept::Rest(objects, more) => flow(FlowFrame::Rest(objects, more)),
+        Kept::InSwitch => flow(FlowFrame::InSwitch),
+        Kept::Turn(l) => flow(FlowFrame::Turn(l)),
+        Kept::Defined => Frame::Initialiser(InitialiserFrame::Defined),
         Kept::Other(frame) => Box::into_inner(frame),
     }
 }
