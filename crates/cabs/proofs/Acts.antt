@@ -1,6 +1,6 @@
 -- Where a run stands behind a step that takes no tick, and how it stops there.
-use Rattle.std.proofs.Common.{◌≡◌, ℕ, ℤ, pos, negsuc, List, [], ◌∷◌, ◌++◌, Option, Some, None, refl, sym, ap, ◌∙◌, subst, map, length, arith, Bor}
-use Rattle.std.specs.Prelude.{Result, Ok, Err, Bool, true, false, slice_get}
+use Rattle.std.proofs.Common.{◌≡◌, ℕ, ℤ, pos, negsuc, List, [], ◌∷◌, ◌++◌, Option, Some, None, refl, sym, ap, ◌∙◌, subst, arith, Bor}
+use Rattle.std.specs.Prelude.{Ok, Err, Bool, true, false, slice_get}
 use Rattle.std.specs.Io.KnownBytes.{Keeps, Appends}
 use Rattle.srcset.specs.declared.refusal.Pos.{Pos}
 use Rattle.meaning_events.specs.Events.{Got, GotEnd, Put}
@@ -20,8 +20,8 @@ use Rattle.cabs_store.specs.declared.frames.Step.{Step}
 use Rattle.cabs_store.specs.inside.Frames as on
 use Rattle.cabs_store.specs.inside.Frames.{moves, halts, leaves, calls, a_value}
 use Rattle.cabs_store.specs.inside.Steps.{left, called}
-use Rattle.cabs_store.specs.inside.Views.{frame_of, step_of}
-use Rattle.cabs_store.specs.inside.Agrees.{Outside, state_in, onto, Agrees, frames_of}
+use Rattle.cabs_store.specs.inside.Views.{step_of}
+use Rattle.cabs_store.specs.inside.Agrees.{Outside, state_in, onto, frames_of}
 use Rattle.cabs_transitions.specs.declared.tally.Tally.{Tally}
 use Rattle.cabs_transitions.specs.Tallied.{Tells}
 use Rattle.cabs_transitions.specs.Acts.{Acts, outside_behind}
@@ -32,10 +32,6 @@ use Rattle.cabs.specs.declared.state.Interpreter.{Interpreter}
 use Rattle.cabs.specs.inside.Standing.{Whole, left_of, history_left, history_called, waiting, Stands, Stopping, StoppingBy, Stopped, Rests, is_flow, is_return, left_where, entered_where, bytes_of}
 use Rattle.cabs.proofs.Following.{left_at, called_at, frame_follows, frame_stops, call_follows, call_stops, rests}
 use Rattle.cabs.proofs.Telling.{first_taken, none_left, input_kept, output_kept, output_grown, output_as, byte_put, did_tells, tells_as}
-
-pub no_frames : (fs : List Frame) → length fs ≡ 0 → map frame_of fs ≡ []
-no_frames [] e = refl
-no_frames (f ∷ fs) e = absurd (omega (arith, e))
 
 pub called_as : (old new : Machine) (at : Pos) (callee : typed.Callee) (used : Bool) (passed : List Passed) (x y : Called) → x ≡ y → CallActs old at callee used passed (Ok x) new → CallActs old at callee used passed (Ok y) new
 called_as old new at callee used passed x y e h = let P : Called → Type 0 = λ x. CallActs old at callee used passed (Ok x) new in subst P e h

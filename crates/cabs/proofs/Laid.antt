@@ -1,88 +1,131 @@
 -- Objects before the run.
-use Rattle.std.proofs.Common.{◌≡◌, ℕ, ℤ, zero, suc, ◌+◌, ◌-◌, ◌<◌, ◌≤◌, get_or, List, [], ◌∷◌, ◌++◌, length, map, drop, take, refl, sym, ap, ◌∙◌, arith, pos, drop-cons, Vec, Global}
+use Rattle.std.proofs.Common.{◌≡◌, ℕ, ℤ, zero, suc, ◌+◌, ◌*◌, ◌<◌, ◌≤◌, ◌⊎◌, inl, inr, get_or, List, [], ◌∷◌, ◌++◌, length, map, drop, refl, sym, ap, ◌∙◌, arith, pos, drop-cons, Some}
+use Rattle.std.proofs.lemmas.Bool.{cases_lt}
 use Rattle.meaning.specs.Store as machine
-use Rattle.std.specs.Prelude.{Some}
+use Rattle.meaning.specs.Store.{first_or_zero}
 use Rattle.typing_rules.specs.Types.{elements_in}
-use Rattle.cabs_store.specs.declared.element_tree.Tree.{Tree, Element, Array}
-use Rattle.cabs_store.specs.View.{tree_of, parts_of}
-use Rattle.cabs_store.specs.Nesting.{ones, wraps}
-use Rattle.cabs_store.proofs.Trees.{map_push, element_is, array_is}
+use Rattle.cabs_store.specs.Cells.{value_in, cell, rows, shaped}
 
--- these parts, and then a row
-abbrev pub so_far : List machine.Tree → machine.Row → machine.Row
-so_far [] row = row
-so_far (t ∷ ts) row = machine.and_part t (so_far ts row)
+-- ---- one cell more
 
-one_so_far : (ts : List machine.Tree) (t : machine.Tree) (row : machine.Row) → so_far (ts ++ t ∷ []) row ≡ so_far ts (machine.and_part t row)
-one_so_far [] t row = refl
-one_so_far (u ∷ ts) t row = ap (machine.and_part u) (one_so_far ts t row)
+pub cell_before : (cs : List ℤ) (c : ℤ) (k : ℕ) → k < length cs → cell (cs ++ c ∷ []) k ≡ cell cs k
+cell_before [] c k h = absurd (omega arith)
+cell_before (d ∷ cs) c zero h = refl
+cell_before (d ∷ cs) c (suc k) h = cell_before cs c k (omega arith)
 
-pub all_so_far : (ts : List machine.Tree) → so_far ts machine.no_parts ≡ parts_of ts
-all_so_far [] = refl
-all_so_far (t ∷ ts) = ap (machine.and_part t) (all_so_far ts)
+pub cell_behind : (cs : List ℤ) (c : ℤ) → cell (cs ++ c ∷ []) (length cs) ≡ value_in c
+cell_behind [] c = refl
+cell_behind (d ∷ cs) c = cell_behind cs c
 
-pub one_laid : (parts : List Tree) (t : Tree) (n i size : ℕ) (part : List ℤ → machine.Tree) (vs rest : List ℤ) (whole : machine.Row) → i < n → tree_of t ≡ part vs → rest ≡ drop size vs →
-    so_far (map tree_of parts) (machine.row_of (n - i) size part vs) ≡ whole → so_far (map tree_of (parts ++ t ∷ [])) (machine.row_of (n - (i + 1)) size part rest) ≡ whole
-one_laid parts t n i size part vs rest whole h is dropped all =
-    let left : n - i ≡ suc (n - (i + 1)) = omega arith in
-    ap (λ ts. so_far ts (machine.row_of (n - (i + 1)) size part rest)) (map_push parts t)
-    ∙ one_so_far (map tree_of parts) (tree_of t) (machine.row_of (n - (i + 1)) size part rest)
-    ∙ ap (λ t. so_far (map tree_of parts) (machine.and_part t (machine.row_of (n - (i + 1)) size part rest))) is
-    ∙ ap (λ vs2. so_far (map tree_of parts) (machine.and_part (part vs) (machine.row_of (n - (i + 1)) size part vs2))) dropped
-    ∙ sym (ap (λ k. so_far (map tree_of parts) (machine.row_of k size part vs)) left) ∙ all
+-- so many values, and one more
+pub one_laid : (cs vs : List ℤ) (c v : ℤ) (k : ℕ) → length cs ≡ k → value_in c ≡ Some v → v ≡ first_or_zero (drop k vs) →
+    ((j : ℕ) → j < k → cell cs j ≡ Some (first_or_zero (drop j vs))) → (j : ℕ) → j < k + 1 → cell (cs ++ c ∷ []) j ≡ Some (first_or_zero (drop j vs))
+one_laid cs vs c v k size is e each j h = by_place (cases_lt j k)
+  where
+    by_place : (j < k) ⊎ (k ≤ j) → cell (cs ++ c ∷ []) j ≡ Some (first_or_zero (drop j vs))
+    by_place (inl l) = cell_before cs c j (omega (arith, size, l)) ∙ each j l
+    by_place (inr l) =
+        let last : j ≡ k = omega (arith, h, l) in
+        ap (cell (cs ++ c ∷ [])) (last ∙ sym size) ∙ cell_behind cs c ∙ is ∙ ap Some (e ∙ ap (λ k. first_or_zero (drop k vs)) (sym last))
 
-pub all_laid : (parts : List Tree) (n i size : ℕ) (part : List ℤ → machine.Tree) (vs : List ℤ) (whole : machine.Row) → n - i ≡ 0 →
-    so_far (map tree_of parts) (machine.row_of (n - i) size part vs) ≡ whole → parts_of (map tree_of parts) ≡ whole
-all_laid parts n i size part vs whole none all =
-    sym (all_so_far (map tree_of parts)) ∙ sym (ap (λ k. so_far (map tree_of parts) (machine.row_of k size part vs)) none) ∙ all
+pub size_behind : (cs : List ℤ) (c : ℤ) → length (cs ++ c ∷ []) ≡ length cs + 1
+size_behind [] c = refl
+size_behind (d ∷ cs) c = let more : length (cs ++ c ∷ []) ≡ length cs + 1 = size_behind cs c in omega arith
 
-pub element_laid : (v : ℤ) (vs : List ℤ) (lengths : List ℕ) → length lengths ≡ 0 → v ≡ machine.first_or_zero vs → tree_of (Element (Some v)) ≡ machine.laid_out lengths vs
-element_laid v vs [] e f = element_is (Some v) ∙ ap (λ v. machine.Element (Some v)) f
+-- ---- values in order
+
+nothing : (j : ℕ) (vs : List ℤ) → vs ≡ [] → vs ≡ drop j vs
+nothing zero vs e = refl
+nothing (suc j) [] e = refl
+nothing (suc j) (v ∷ vs) e = absurd (cc e)
+
+drop_further : (n j : ℕ) (vs : List ℤ) → drop (n + j) vs ≡ drop j (drop n vs)
+drop_further zero j vs = let none : 0 + j ≡ j = omega arith in ap (λ k. drop k vs) none
+drop_further (suc n) j [] = let more : suc n + j ≡ suc (n + j) = omega arith in ap (λ k. drop k []) more ∙ nothing j [] refl
+drop_further (suc n) j (v ∷ vs) = let more : suc n + j ≡ suc (n + j) = omega arith in ap (λ k. drop k (v ∷ vs)) more ∙ drop_further n j vs
+
+module _ (cs : List ℤ) where
+  rows_laid : (n size : ℕ) (part : ℕ → machine.Tree) (object : List ℤ → machine.Tree) (k : ℕ) (vs : List ℤ) →
+      ((k : ℕ) (vs : List ℤ) → ((j : ℕ) → j < size → cell cs (k + j) ≡ Some (first_or_zero (drop j vs))) → part k ≡ object vs) →
+      ((j : ℕ) → j < n * size → cell cs (k + j) ≡ Some (first_or_zero (drop j vs))) → rows n size part k ≡ machine.row_of n size object vs
+  rows_laid zero size part object k vs inner each = refl
+  rows_laid (suc n) size part object k vs inner each =
+      let whole : suc n * size ≡ size + n * size = grind arith in
+      let on : (j : ℕ) → k + size + j ≡ k + (size + j) = λ j. omega arith in
+      ap (λ t. machine.and_part t (rows n size part (k + size))) (inner k vs (λ j h. each j (omega (arith, whole, h))))
+      ∙ ap (machine.and_part (object vs)) (rows_laid n size part object (k + size) (drop size vs) inner
+      (λ j h. ap (cell cs) (on j) ∙ each (size + j) (omega (arith, whole, h)) ∙ ap (λ vs. Some (first_or_zero vs)) (drop_further size j vs)))
+
+  pub object_laid : (ls : List ℕ) (k : ℕ) (vs : List ℤ) → ((j : ℕ) → j < elements_in ls → cell cs (k + j) ≡ Some (first_or_zero (drop j vs))) → shaped ls cs k ≡ machine.laid_out ls vs
+  object_laid [] k vs each =
+      let here : k + 0 ≡ k = omega arith in
+      ap machine.Element (sym (ap (cell cs) here) ∙ each 0 (omega arith))
+  object_laid (n ∷ ls) k vs each = ap machine.Array (rows_laid n (elements_in ls) (shaped ls cs) (machine.laid_out ls) k vs (λ k vs each. object_laid ls k vs each) each)
+
+pub laid_whole : (ls : List ℕ) (cs vs : List ℤ) (n : ℕ) → n ≡ 1 * elements_in ls → ((j : ℕ) → j < n → cell cs j ≡ Some (first_or_zero (drop j vs))) → shaped ls cs 0 ≡ machine.laid_out ls vs
+laid_whole ls cs vs n size each =
+    let on : (j : ℕ) → 0 + j ≡ j = λ j. omega arith in
+    object_laid cs ls 0 vs (λ j h. ap (cell cs) (on j) ∙ each j (omega (arith, size, h)))
+
+pub element_laid : (v : ℤ) (vs : List ℤ) (lengths : List ℕ) → length lengths ≡ 0 → v ≡ first_or_zero vs → machine.Element (Some v) ≡ machine.laid_out lengths vs
+element_laid v vs [] e f = ap (λ v. machine.Element (Some v)) f
 element_laid v vs (n ∷ lengths) e f = absurd (omega (arith, e))
+
+pub value_got : (vs : List ℤ) (k : ℕ) (v : ℤ) → k < length vs → v ≡ get_or vs k v → v ≡ first_or_zero (drop k vs)
+value_got [] k v h e = absurd (omega arith)
+value_got (w ∷ vs) zero v h e = e
+value_got (w ∷ vs) (suc k) v h e = value_got vs k v (omega arith) e
+
+pub no_value_got : (vs : List ℤ) (k : ℕ) → length vs ≤ k → pos 0 ≡ first_or_zero (drop k vs)
+no_value_got [] zero h = refl
+no_value_got [] (suc k) h = refl
+no_value_got (v ∷ vs) zero h = absurd (omega arith)
+no_value_got (v ∷ vs) (suc k) h = no_value_got vs k (omega arith)
 
 -- ---- a string literal
 
-pub one_character : (parts : List Tree) (t : Tree) (c : ℕ) (text : List ℕ) (whole : machine.Row) → tree_of t ≡ machine.Element (Some (pos c)) →
-    so_far (map tree_of parts) (machine.characters_of (c ∷ text)) ≡ whole → so_far (map tree_of (parts ++ t ∷ [])) (machine.characters_of text) ≡ whole
-one_character parts t c text whole is all =
-    ap (λ ts. so_far ts (machine.characters_of text)) (map_push parts t) ∙ one_so_far (map tree_of parts) (tree_of t) (machine.characters_of text)
-    ∙ ap (λ t. so_far (map tree_of parts) (machine.and_part t (machine.characters_of text))) is ∙ all
+pub next_character : (cs : List ℤ) (c : ℤ) (text : List ℕ) (i : ℕ) (whole : List ℤ) → i < length text → c ≡ pos (get_or text i 0) →
+    cs ++ map pos (drop i text) ≡ whole → (cs ++ c ∷ []) ++ map pos (drop (i + 1) text) ≡ whole
+next_character cs c text i whole h is all =
+    behind cs c (map pos (drop (i + 1) text)) ∙ ap (λ c. cs ++ c ∷ map pos (drop (i + 1) text)) is
+    ∙ ap (λ n. cs ++ pos (get_or text i 0) ∷ map pos (drop n text)) number ∙ ap (λ l. cs ++ map pos l) (sym (drop-cons text i 0 h)) ∙ all
+  where
+    number : i + 1 ≡ suc i
+    number = omega arith
 
-pub character_is : (v : ℤ) (c : ℕ) → v ≡ pos c → tree_of (Element (Some v)) ≡ machine.Element (Some (pos c))
-character_is v c e = element_is (Some v) ∙ ap (λ v. machine.Element (Some v)) e
+    behind : (cs : List ℤ) (c : ℤ) (ds : List ℤ) → (cs ++ c ∷ []) ++ ds ≡ cs ++ c ∷ ds
+    behind [] c ds = refl
+    behind (d ∷ cs) c ds = ap (λ l. d ∷ l) (behind cs c ds)
 
-pub next_character : (parts : List Tree) (t : Tree) (text : List ℕ) (i : ℕ) (whole : machine.Row) → i < length text → tree_of t ≡ machine.Element (Some (pos (get_or text i 0))) →
-    so_far (map tree_of parts) (machine.characters_of (drop i text)) ≡ whole → so_far (map tree_of (parts ++ t ∷ [])) (machine.characters_of (drop (i + 1) text)) ≡ whole
-next_character parts t text i whole h is all =
-    let number : i + 1 ≡ suc i = omega arith in
-    ap (λ n. so_far (map tree_of (parts ++ t ∷ [])) (machine.characters_of (drop n text))) number
-    ∙ one_character parts t (get_or text i 0) (drop (suc i) text) whole is (ap (λ xs. so_far (map tree_of parts) (machine.characters_of xs)) (sym (drop-cons text i 0 h)) ∙ all)
+pub last_character : (cs : List ℤ) (text : List ℕ) (i : ℕ) (whole : List ℤ) → length text ≤ i → cs ++ map pos (drop i text) ≡ whole → cs ≡ whole
+last_character cs text i whole h all = sym (nothing_behind cs) ∙ ap (λ l. cs ++ map pos l) (sym (nothing_left text i h)) ∙ all
+  where
+    nothing_behind : (cs : List ℤ) → cs ++ [] ≡ cs
+    nothing_behind [] = refl
+    nothing_behind (c ∷ cs) = ap (λ l. c ∷ l) (nothing_behind cs)
 
-nothing_left : (text : List ℕ) (i : ℕ) → length text ≤ i → drop i text ≡ []
-nothing_left [] zero h = refl
-nothing_left [] (suc i) h = refl
-nothing_left (c ∷ text) zero h = absurd (omega (arith, h))
-nothing_left (c ∷ text) (suc i) h = nothing_left text i (omega (arith, h))
+    nothing_left : (text : List ℕ) (i : ℕ) → length text ≤ i → drop i text ≡ []
+    nothing_left [] zero h = refl
+    nothing_left [] (suc i) h = refl
+    nothing_left (c ∷ text) zero h = absurd (omega (arith, h))
+    nothing_left (c ∷ text) (suc i) h = nothing_left text i (omega (arith, h))
 
-pub last_character : (parts : Vec Tree Global) (text : List ℕ) (i : ℕ) → length text ≤ i →
-    so_far (map tree_of parts.items) (machine.characters_of (drop i text)) ≡ machine.characters_of text → tree_of (Array parts) ≡ machine.literal_object text
-last_character parts text i h all =
-    array_is parts ∙ ap machine.Array (sym (all_so_far (map tree_of parts.items))
-    ∙ sym (ap (λ xs. so_far (map tree_of parts.items) (machine.characters_of xs)) (nothing_left text i h)) ∙ all)
+cell_of_text : (text : List ℕ) (j : ℕ) → j < length text → cell (map pos text) j ≡ Some (pos (get_or text j 0))
+cell_of_text [] j h = absurd (omega arith)
+cell_of_text (c ∷ text) zero h = refl
+cell_of_text (c ∷ text) (suc j) h = cell_of_text text j (omega arith)
 
-pub object_laid : (parts : Vec Tree Global) (n i size : ℕ) (lengths inner : List ℕ) (vs rest : List ℤ) → lengths ≡ n ∷ inner → size ≡ elements_in inner → n ≤ i →
-    so_far (map tree_of parts.items) (machine.row_of (n - i) size (machine.laid_out inner) rest) ≡ machine.row_of n size (machine.laid_out inner) vs → tree_of (Array parts) ≡ machine.laid_out lengths vs
-object_laid parts n i size lengths inner vs rest e f h all =
-    array_is parts ∙ ap machine.Array (all_laid parts.items n i size (machine.laid_out inner) rest (machine.row_of n size (machine.laid_out inner) vs) (omega arith) all
-    ∙ ap (λ size. machine.row_of n size (machine.laid_out inner) vs) f) ∙ ap (λ l. machine.laid_out l vs) (sym e)
+rows_of_text : (text : List ℕ) (cs : List ℤ) (k : ℕ) → ((j : ℕ) → j < length text → cell cs (k + j) ≡ Some (pos (get_or text j 0))) →
+    rows (length text) 1 (shaped [] cs) k ≡ machine.characters_of text
+rows_of_text [] cs k each = refl
+rows_of_text (c ∷ text) cs k each =
+    let here : k + 0 ≡ k = omega arith in
+    let on : (j : ℕ) → k + 1 + j ≡ k + suc j = λ j. omega arith in
+    ap (λ v. machine.and_part (machine.Element v) (rows (length text) 1 (shaped [] cs) (k + 1))) (sym (ap (cell cs) here) ∙ each 0 (omega arith))
+    ∙ ap (machine.and_part (machine.Element (Some (pos c)))) (rows_of_text text cs (k + 1) (λ j h. ap (cell cs) (on j) ∙ each (suc j) (omega arith)))
 
--- ---- lengths of one
-
-laid_ones : (k : ℕ) (ls : List ℕ) (vs : List ℤ) → machine.laid_out (ones k ls) vs ≡ wraps k (machine.laid_out ls vs)
-laid_ones zero ls vs = refl
-laid_ones (suc k) ls vs = ap (λ t. machine.Array (machine.and_part t machine.no_parts)) (laid_ones k ls vs)
-
-pub laid_within : (lengths inner : List ℕ) (vs : List ℤ) (n : ℕ) (t w : machine.Tree) → lengths ≡ ones (length lengths - length inner) inner
-    → n ≡ length lengths - length inner → t ≡ machine.laid_out inner vs → w ≡ wraps n t → w ≡ machine.laid_out lengths vs
-laid_within lengths inner vs n t w e en et ew =
-    ew ∙ ap (wraps n) et ∙ sym (laid_ones n inner vs) ∙ ap (λ k. machine.laid_out (ones k inner) vs) en ∙ ap (λ l. machine.laid_out l vs) (sym e)
+pub literal_laid : (text : List ℕ) (n : ℕ) (cs : List ℤ) → n ≡ length text → cs ≡ map pos text → shaped (n ∷ []) cs 0 ≡ machine.literal_object text
+literal_laid text n cs size e =
+    let on : (j : ℕ) → 0 + j ≡ j = λ j. omega arith in
+    ap (λ n. shaped (n ∷ []) cs 0) size ∙ ap (λ cs. shaped (length text ∷ []) cs 0) e
+    ∙ ap machine.Array (rows_of_text text (map pos text) 0 (λ j h. ap (cell (map pos text)) (on j) ∙ cell_of_text text j h))

@@ -57,7 +57,7 @@ fn act_found<'p, P: Port>(
     ensures counts { CountsUntil result (P.seen port.old).failures (P.seen port.new).failures }
     ensures fault { BlamesUntil (P.refused_with port.new) result }
 {
-    let Some(frame) = interpreter.machine.stack.pop() else {
+    let Some(frame) = interpreter.machine.pop() else {
         return Err(Run::TicksUsed);
     };
     interpreter.count_end(&frame, &found);

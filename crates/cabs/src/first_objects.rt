@@ -1,6 +1,7 @@
 //! The objects before the run: string literals, then those with static storage.
 
-ghost use Rattle.std.specs.Prelude.{◌≡◌, ◌++◌, ◌∷◌, [], IfErr, IfOk, OnOk, drop, map};
+ghost use Rattle.std.specs.Prelude.{◌≡◌, ◌<◌, ◌++◌, ◌∷◌, [], ℕ, Some, IfErr, IfOk, OnOk, drop, map, pos};
+ghost use Rattle.cabs_store.specs.Cells.{cell};
 ghost use Rattle.typing_program.specs.View.{program_of, static_of};
 ghost use Rattle.meaning.specs.Store as machine;
 ghost use Rattle.cabs_store.specs.View.{store_of, tree_of};
@@ -8,9 +9,28 @@ ghost use Rattle.cabs_store.specs.declared.stop.Stop.TheVariants.{Memory};
 
 use cabs_steps::initialisers::element_count;
 use cabs_store::stop::Stop;
-use cabs_store::{Store, Tree, past_ones, wrapped};
+use cabs_store::{Store, Tree, number_for};
 use std::alloc::{AllocError, Global};
 use typing_program::{Program, Static};
+
+/// The characters of a string literal as cells.
+///
+/// Errors: memory ran out.
+fn literal_cells(alloc: Global, text: &[u8]) -> Result<Vec<i64>, AllocError>
+    ensures { IfOk result (λ cells. cells.items ≡ map pos text.now) }
+{
+    let mut cells = match Vec::with_capacity(alloc, text.len()) {
+        Ok(cells) => cells,
+        Err(e) => return Err(e),
+    };
+    for c in text {
+        match cells.push(i64::from(*c)) {
+            Ok(()) => {}
+            Err(_) => return Err(AllocError),
+        }
+    }
+    Ok(cells)
+}
 
 /// The array of a string literal (6.4.5p6).
 ///
@@ -18,11 +38,16 @@ use typing_program::{Program, Static};
 fn literal_object(alloc: Global, text: &[u8]) -> Result<Tree, AllocError>
     ensures { IfOk result (λ t. tree_of t ≡ machine.literal_object text.now) }
 {
-    let mut parts = Vec::new(alloc);
-    for c in text {
-        parts.push(Tree::Element(Some(i64::from(*c))))?;
+    let Ok(n) = u32::try_from(text.len()) else {
+        return Err(AllocError);
+    };
+    match literal_cells(alloc, text) {
+        Ok(cells) => match Tree::array(alloc, &[n], cells) {
+            Ok(object) => Ok(object),
+            Err(e) => Err(e),
+        },
+        Err(e) => Err(e),
     }
-    Ok(Tree::Array(parts))
 }
 
 /// The first one of these values, 0 if there is none (6.7.9p10).
@@ -35,60 +60,59 @@ fn first_or_zero(values: &[i64]) -> i64
     }
 }
 
-/// The values behind the first `count`.
-fn behind<'v>(values: &'v [i64], count: usize) -> &'v [i64]
-    ensures { result.now ≡ drop count values.now }
+/// Value `k` of these, 0 past their end (6.7.9p21).
+fn value_or_zero(values: &[i64], k: usize) -> i64
+    ensures { result ≡ machine.first_or_zero (drop k values.now) }
 {
-    match values.get(count..) {
-        None => &[],
-        Some(rest) => rest,
+    match values.get(k) {
+        None => 0,
+        Some(v) => *v,
     }
+}
+
+/// So many values in order, those behind the last one being zero, as cells (6.7.9p10, p21).
+///
+/// Errors: memory ran out.
+fn laid_cells(alloc: Global, count: usize, values: &[i64]) -> Result<Vec<i64>, Stop>
+    ensures ok { IfOk result (λ cells. (k : ℕ) → k < count → cell cells.items k ≡ Some (machine.first_or_zero (drop k values.now))) }
+    ensures err { IfErr result (λ e. e ≡ Memory) }
+{
+    let mut cells = match Vec::with_capacity(alloc, count) {
+        Ok(cells) => cells,
+        Err(_) => return Err(Stop::Memory),
+    };
+    for k in 0..count {
+        let Some(number) = number_for(Some(value_or_zero(values, k))) else {
+            return Err(Stop::Memory);
+        };
+        match cells.push(number) {
+            Ok(()) => {}
+            Err(_) => return Err(Stop::Memory),
+        }
+    }
+    Ok(cells)
 }
 
 /// An object of these lengths whose elements have these values in order, the others being zero (6.7.9p10, p21).
 ///
 /// Errors: memory ran out.
-#[cycle(layouts)]
 fn laid_out(alloc: Global, lengths: &[u32], values: &[i64]) -> Result<Tree, Stop>
     ensures ok { IfOk result (λ t. tree_of t ≡ machine.laid_out lengths.now values.now) }
     ensures err { IfErr result (λ e. e ≡ Memory) }
 {
-    let inner = past_ones(lengths);
-    match rows_laid_out(alloc, inner, values) {
-        Ok(object) => match wrapped(alloc, lengths.len() - inner.len(), object) {
-            Ok(whole) => Ok(whole),
+    if lengths.is_empty() {
+        return Ok(Tree::Element(Some(first_or_zero(values))));
+    }
+    let count = match element_count(1, lengths) {
+        Ok(count) => count,
+        Err(stop) => return Err(stop),
+    };
+    match laid_cells(alloc, count, values) {
+        Ok(cells) => match Tree::array(alloc, lengths, cells) {
+            Ok(object) => Ok(object),
             Err(_) => Err(Stop::Memory),
         },
         Err(stop) => Err(stop),
-    }
-}
-
-/// The same, row by row.
-#[cycle(layouts)]
-fn rows_laid_out(alloc: Global, lengths: &[u32], values: &[i64]) -> Result<Tree, Stop>
-    ensures ok { IfOk result (λ t. tree_of t ≡ machine.laid_out lengths.now values.now) }
-    ensures err { IfErr result (λ e. e ≡ Memory) }
-{
-    match lengths.split_first() {
-        None => Ok(Tree::Element(Some(first_or_zero(values)))),
-        Some((n, inner)) => {
-            let size = match element_count(1, inner) {
-                Ok(size) => size,
-                Err(stop) => return Err(stop),
-            };
-            let mut parts = Vec::new(alloc);
-            let mut rest = values;
-            for _ in 0..*n {
-                match laid_out(alloc, inner, rest) {
-                    Ok(part) => match parts.push(part) {
-                        Ok(()) => rest = behind(rest, size),
-                        Err(_) => return Err(Stop::Memory),
-                    },
-                    Err(stop) => return Err(stop),
-                }
-            }
-            Ok(Tree::Array(parts))
-        }
     }
 }
 

@@ -1,6 +1,6 @@
 -- Places that are whole objects, and elements of these.
-use Rattle.std.proofs.Common.{◌≡◌, ◌<◌, rules, ℕ, zero, suc, ℤ, pos, negsuc, List, [], ◌∷◌, ◌++◌, map, get_or, length, Option, Some, None, refl, sym, ap, subst, ◌∙◌, arith, Vec, Global}
-use Rattle.std.specs.Prelude.{Bool, true, false, nat_lt, slice_get, option_map, Result, Ok, Err}
+use Rattle.std.proofs.Common.{◌≡◌, ◌<◌, rules, ℕ, zero, suc, ℤ, pos, List, map, get_or, length, Option, Some, None, refl, sym, ap, subst, ◌∙◌, arith}
+use Rattle.std.specs.Prelude.{true, nat_lt, slice_get, option_map, IfSome, Result, Ok, Err}
 use Rattle.std.proofs.lemmas.Bool.{lt-ltb}
 use Rattle.srcset.specs.declared.refusal.Pos.{Pos}
 use Rattle.typing_rules.specs.Program as typed
@@ -9,24 +9,23 @@ use Rattle.typing_program.specs.declared.expressions.Place as P
 use Rattle.typing_program.specs.declared.storage_places.Storage.{Storage}
 use Rattle.typing_program.specs.View.{place_of, storage_of, moment_of}
 use Rattle.ctypes.specs.Types.{converted}
-use Rattle.ctypes.specs.declared.types.IntType.{IntType}
 use Rattle.typing_rules.specs.Operators.{operated}
 use Rattle.meaning.specs.History.{Entry}
 use Rattle.ctypes.specs.declared.operators.Undef.TheVariants.{U5}
 use Rattle.meaning.specs.Store as machine
 use Rattle.meaning.specs.Store.{Reference, Row, parts, part_of, whole, into, value_of, part_in, length_of}
 use Rattle.meaning.specs.Machine.{State, Run, Goes, Stops, then_do, choose, tick, tick_of, designated, subscripted, read, write, computed_at, value_or_undefined, undefined}
-use Rattle.meaning.specs.Expressions.{step_operation, step_value, position_of}
-use Rattle.cabs_store.specs.declared.element_tree.Tree.{Tree, Array}
+use Rattle.meaning.specs.Expressions.{step_operation, step_value}
+use Rattle.cabs_store.specs.declared.element_tree.Tree.{Tree}
 use Rattle.cabs_store.specs.declared.reference.Reference as held
 use Rattle.cabs_store.specs.declared.stop.Stop.{Stop}
-use Rattle.cabs_store.specs.View.{parts_of, tree_of, reference_of}
+use Rattle.cabs_store.specs.View.{tree_of, reference_of}
 use Rattle.cabs_store.specs.declared.scene.Scene.{Scene}
 use Rattle.cabs_store.specs.declared.frames.Compound.{Compound}
 use Rattle.cabs_store.specs.declared.frames.Stepping.{Stepping}
 use Rattle.cabs_store.specs.inside.Frames.{Found}
 use Rattle.cabs_store.specs.inside.Agrees.{Outside, Runs, number, state_in, combined, stepped}
-use Rattle.cabs_store.proofs.Trees.{get_map, part_is, count_is, array_is, got}
+use Rattle.cabs_store.proofs.Trees.{get_map, got}
 use Rattle.cabs_store.proofs.Scenes.{stops_in, goes_on}
 use Rattle.cabs_store.proofs.Resumes.{tick_then_of}
 use Rattle.cabs_evaluator.specs.inside.Comes.{Course, Leads, Designates, IsPart, IsWhole, found}
@@ -92,28 +91,30 @@ module _ (at : Pos) (array : State → Run Reference) (index : State → Run ℤ
       (λ s. ticked_then s.clock s) h
 
 -- an element of an array that is a whole object
-part_goes : (at : Pos) (s : State) (n i : ℕ) (row : Row) (t : machine.Tree) (w : ℤ) → slice_get s.store n ≡ Some (machine.Array row) → nat_lt i (parts row) ≡ true → part_of row i ≡ Some t →
-    value_of (Some t) ≡ Some w → then_do (subscripted at (whole n) (pos i) s) (λ r s. read at r s) ≡ Goes w s
-part_goes at s n i row t w a b d e =
+in_row : (row : Row) (i : ℕ) (w : ℤ) → value_of (part_of row i) ≡ Some w → i < parts row
+in_row machine.no_parts i w e = absurd (cc e)
+in_row (machine.and_part t row) zero w e = omega arith
+in_row (machine.and_part t row) (suc i) w e = let h : i < parts row = in_row row i w e in omega arith
+
+in_length : (t : machine.Tree) (i : ℕ) (w : ℤ) → value_of (part_in (Some t) i) ≡ Some w → nat_lt i (length_of (Some t)) ≡ true
+in_length (machine.Element v) i w e = absurd (cc e)
+in_length (machine.Array row) i w e = lt-ltb i (parts row) (in_row row i w e)
+
+part_goes : (at : Pos) (s : State) (n i : ℕ) (t : machine.Tree) (w : ℤ) → slice_get s.store n ≡ Some t → value_of (part_in (Some t) i) ≡ Some w →
+    then_do (subscripted at (whole n) (pos i) s) (λ r s. read at r s) ≡ Goes w s
+part_goes at s n i t w a e =
     let goes : Run Reference = Goes (into (whole n) i) s in
     let stops : Run Reference = undefined U5 at s in
     ap (λ o. then_do (choose (nat_lt i (length_of o)) goes stops) (λ r s. read at r s)) a
-    ∙ ap (λ b. then_do (choose b goes stops) (λ r s. read at r s)) b
+    ∙ ap (λ b. then_do (choose b goes stops) (λ r s. read at r s)) (in_length t i w e)
     ∙ ap (λ o. value_or_undefined at (value_of (part_in o i)) s) a
-    ∙ ap (λ o. value_or_undefined at (value_of o) s) d
     ∙ ap (λ v. value_or_undefined at v s) e
 
-pub part_read : (at : Pos) (scene : Scene) (o : Outside) (n i : ℕ) (ts : List Tree) (t u : Tree) (held : Vec Tree Global) (x : Option ℤ) → scene.store.objects.items ≡ ts → n < length ts → t ≡ get_or ts n t →
-    t ≡ Array held → i < length held.items → u ≡ get_or held.items i u → x ≡ value_of (Some (tree_of u)) →
-    IsPart x (then_do (subscripted at (whole n) (pos i) (state_in scene o)) (λ r s. read at r s)) (state_in scene o)
-part_read at scene o n i ts t u held None h a b is d e v = tt
-part_read at scene o n i ts t u held (Some w) h a b is d e v =
-    let row : Row = parts_of (map tree_of held.items) in
-    part_goes at (state_in scene o) n i row (tree_of u) w
-    (ap (λ (ts : List Tree). slice_get (map tree_of ts) n) h ∙ get_map ts n ∙ ap (option_map tree_of) (got ts n t a b) ∙ ap Some (ap tree_of is ∙ array_is held))
-    (ap (nat_lt i) (count_is held.items) ∙ lt-ltb i (length held.items) d)
-    (part_is held.items i ∙ ap (option_map tree_of) (got held.items i u d e))
-    (sym v)
+pub part_read : (at : Pos) (scene : Scene) (o : Outside) (n i : ℕ) (ts : List Tree) (t : Tree) (x : Option ℤ) → scene.store.objects.items ≡ ts → n < length ts → t ≡ get_or ts n t →
+    IfSome x (λ v. value_of (part_in (Some (tree_of t)) i) ≡ Some v) → IsPart x (then_do (subscripted at (whole n) (pos i) (state_in scene o)) (λ r s. read at r s)) (state_in scene o)
+part_read at scene o n i ts t None h a b e = tt
+part_read at scene o n i ts t (Some w) h a b e =
+    part_goes at (state_in scene o) n i (tree_of t) w (ap (λ (ts : List Tree). slice_get (map tree_of ts) n) h ∙ get_map ts n ∙ ap (option_map tree_of) (got ts n t a b)) e
 
 pub by_number : (at : Pos) (scene : Scene) (o : Outside) (n i : ℕ) (v : ℤ) (x : Option ℤ) → v ≡ pos i → IsPart x (then_do (subscripted at (whole n) (pos i) (state_in scene o)) (λ r s. read at r s)) (state_in scene o) →
     IsPart x (then_do (subscripted at (whole n) v (state_in scene o)) (λ r s. read at r s)) (state_in scene o)

@@ -48,8 +48,10 @@ fn first_value(
     if !clock.tick(scope.limit) {
         return None;
     }
-    scene.set(r, convert(ty, v));
-    Some(Flow::Normal)
+    match scene.set(r, convert(ty, v)) {
+        Ok(()) => Some(Flow::Normal),
+        Err(_) => left_out(clock),
+    }
 }
 
 /// An automatic object that has just begun gets its first value (6.7.9).

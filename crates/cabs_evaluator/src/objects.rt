@@ -10,11 +10,11 @@ ghost use Rattle.cabs_store.specs.inside.Agrees.{Outside, Runs, number, state_in
 ghost use Rattle.cabs_evaluator.specs.inside.Comes.{Does, Designates, IsPart, IsWhole, found};
 
 use crate::clock::{Clock, Scope};
+use cabs_store::Reference;
 use cabs_store::frames::Stepping;
 use cabs_store::operators::{operated_at, step_operation, step_value};
 use cabs_store::scene::Scene;
 use cabs_store::stop::Stop;
-use cabs_store::{Reference, Tree};
 use srcset::Pos;
 use std::alloc::Global;
 use typing_program::{Place, Program, Storage};
@@ -67,11 +67,7 @@ fn part_value(scene: &Scene, n: usize, i: usize) -> Option<i64>
 {
     match scene.store.objects.get(n) {
         None => None,
-        Some(Tree::Element(_)) => None,
-        Some(Tree::Array(parts)) => match parts.get(i) {
-            None => None,
-            Some(part) => part.value(),
-        },
+        Some(object) => object.part_value(i),
     }
 }
 

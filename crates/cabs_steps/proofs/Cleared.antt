@@ -1,11 +1,26 @@
 -- Elements made zero, one after the other.
-use Rattle.std.proofs.Common.{◌≡◌, ℕ, ℤ, zero, suc, ◌+◌, ◌-◌, ◌<◌, List, [], ◌∷◌, drop, refl, sym, ap, ◌∙◌, arith}
+use Rattle.std.proofs.Common.{◌≡◌, ℕ, ℤ, zero, suc, ◌+◌, ◌-◌, ◌<◌, List, [], ◌∷◌, ◌++◌, drop, refl, sym, ap, ◌∙◌, arith}
 use Rattle.std.specs.Prelude.{slice_get}
 use Rattle.ctypes.specs.declared.types.IntType.{IntType}
 use Rattle.meaning.specs.Store.{Reference, into}
 use Rattle.meaning.specs.Machine.{State, stored}
 use Rattle.meaning.specs.Statements.{characters, zeros}
+use Rattle.cabs_store.specs.inside.Frames as on
+use Rattle.cabs_store.specs.inside.Frames.{Moved, moves, leaves}
+use Rattle.cabs_store.specs.inside.Steps.{goes}
+use Rattle.cabs_store.specs.inside.Agrees.{onto}
 use Rattle.cabs_steps.specs.Zeros.{one_zero, character_at}
+
+-- ---- an element that has its first value
+
+nothing_more : (fs : List on.Frame) → fs ++ [] ≡ fs
+nothing_more [] = refl
+nothing_more (f ∷ fs) = ap (λ l. f ∷ l) (nothing_more fs)
+
+pub initialised_in : (fs : List on.Frame) (s t : State) → t ≡ s → onto fs (goes on.initialised s) ≡ moves fs (leaves on.initialised) t
+initialised_in fs s t e = ap (λ fs. moves fs (leaves on.initialised) s) (nothing_more fs) ∙ ap (moves fs (leaves on.initialised)) (sym e)
+
+-- ---- zeros
 
 -- one element more, from number a on
 pub one_cleared : (lengths : List ℕ) (r : Reference) (a i count n : ℕ) (s t whole : State) → i < count → n ≡ a + i → t ≡ one_zero n lengths r s →

@@ -12,11 +12,11 @@ ghost use Rattle.cabs_store.specs.declared.frames.Node.TheVariants as node;
 ghost use Rattle.cabs_store.specs.declared.stop.Stop.TheVariants.{Memory};
 ghost use Rattle.cabs_steps.specs.Zeros.{one_zero, character_at};
 
+use cabs_store::Reference;
 use cabs_store::frames::{Found, Step};
 use cabs_store::machine::Machine;
 use cabs_store::scene::Scene;
 use cabs_store::stop::Stop;
-use cabs_store::{Reference, Tree};
 use ctypes::{IntType, convert};
 use std::alloc::Global;
 
@@ -25,8 +25,10 @@ pub fn enter_element<'p>(machine: &mut Machine<'p>, r: Reference, v: i64) -> Res
     ensures takes { Takes (λ p s. entered p (node_of (node.Element r v)) s) machine.old result machine.new }
     ensures program { machine.new.program ≡ machine.old.program }
 {
-    machine.scene.set(&r, v);
-    Ok(Step::Leaves(Found::Initialised))
+    match machine.scene.set(&r, v) {
+        Ok(()) => Ok(Step::Leaves(Found::Initialised)),
+        Err(stop) => Err(stop),
+    }
 }
 
 /// The element or row `i` of the array at `r`.
@@ -62,11 +64,8 @@ fn clear_part(
         Ok(part) => part,
         Err(stop) => return Err(stop),
     };
-    match Tree::filled(alloc, Some(0), lengths) {
-        Ok(zero) => {
-            scene.store.put(&part, zero);
-            Ok(())
-        }
+    match scene.store.fill(&part, lengths, 0) {
+        Ok(()) => Ok(()),
         Err(_) => Err(Stop::Memory),
     }
 }
@@ -115,10 +114,10 @@ fn set_part(scene: &mut Scene, alloc: Global, r: &Reference, i: usize, v: i64) -
     ensures err { IfErr result (λ e. e ≡ Memory) }
 {
     match part(alloc, r, i) {
-        Ok(part) => {
-            scene.set(&part, v);
-            Ok(())
-        }
+        Ok(part) => match scene.set(&part, v) {
+            Ok(()) => Ok(()),
+            Err(stop) => Err(stop),
+        },
         Err(stop) => Err(stop),
     }
 }

@@ -1,5 +1,5 @@
 pub mod Trees
-pub mod Wraps
+pub mod Shapes
 pub mod Resumes
 pub mod Adequate
 pub mod Scenes

@@ -1,3 +1,3 @@
-pub mod Nesting
+pub mod Cells
 pub mod View
 pub mod inside

@@ -1,23 +1,22 @@
 -- The store of the abstract machine that the code's values hold, apart from vectors.
-use Rattle.std.specs.Prelude.{ℕ, List, [], ◌∷◌, map}
-use Rattle.cabs_store.specs.declared.element_tree.Tree.{Tree, fold-Tree}
-use Rattle.cabs_store.specs.declared.element_tree.Tree.TheOpen.{Tree-F}
+use Rattle.std.specs.Prelude.{ℕ, List, [], map}
+use Rattle.cabs_store.specs.declared.grid.Grid.{Grid}
+use Rattle.cabs_store.specs.declared.element_tree.Tree.{Tree}
+use Rattle.cabs_store.specs.declared.element_tree.Tree.TheVariants.{Element, Array}
 use Rattle.cabs_store.specs.declared.path.Path.{Path}
 use Rattle.cabs_store.specs.declared.path.Path.TheVariants.{Whole, One, Two, More}
 use Rattle.cabs_store.specs.declared.reference.Reference.{Reference}
 use Rattle.cabs_store.specs.declared.store.Store.{Store}
 use Rattle.meaning.specs.Store as machine
+use Rattle.cabs_store.specs.Cells.{shaped}
 
-abbrev pub parts_of : List machine.Tree → machine.Row
-parts_of [] = machine.no_parts
-parts_of (t ∷ ts) = machine.and_part t (parts_of ts)
-
-abbrev pub tree_step : Tree-F machine.Tree → machine.Tree
-tree_step (Tree-F.Element v) = machine.Element v
-tree_step (Tree-F.Array parts) = machine.Array (parts_of parts.items)
+-- an array by its cells
+abbrev pub grid_of : Grid → machine.Tree
+grid_of grid = shaped grid.lengths.items grid.cells.items 0
 
 abbrev pub tree_of : Tree → machine.Tree
-tree_of = fold-Tree machine.Tree tree_step
+tree_of (Element v) = machine.Element v
+tree_of (Array grid) = grid_of grid.value
 
 abbrev pub path_of : Path → List ℕ
 path_of Whole = []

@@ -4,9 +4,10 @@
 mod element_tree;
 pub mod expressions;
 pub mod frames;
+mod grid;
+mod kept;
 pub mod laws;
 pub mod machine;
-mod nesting;
 pub mod operands;
 pub mod operators;
 mod path;
@@ -16,7 +17,7 @@ pub mod stop;
 mod store;
 
 pub use element_tree::Tree;
-pub use nesting::{past_ones, wrapped};
+pub use grid::{Grid, number_for};
 pub use path::Path;
 pub use reference::Reference;
 pub use store::Store;

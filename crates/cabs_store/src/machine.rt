@@ -1,6 +1,6 @@
 //! The machine with a stack of its own.
 
-ghost use Rattle.std.specs.Prelude.{◌≡◌, ◌∷◌, ◌++◌, [], List, OnOk, IfErr, ℤ};
+ghost use Rattle.std.specs.Prelude.{◌≡◌, ◌∷◌, ◌++◌, [], List, OnOk, IfErr, IfNone, IfSome, ℤ};
 ghost use Rattle.meaning.specs.Machine.{State, Run};
 ghost use Rattle.meaning.specs.Store as store;
 ghost use Rattle.cabs_store.specs.View.{reference_of};
@@ -11,6 +11,7 @@ ghost use Rattle.cabs_store.specs.inside.Views.{frame_of, node_of, found_of};
 ghost use Rattle.cabs_store.specs.declared.stop.Stop.TheVariants.{Memory};
 
 use crate::frames::{Found, Frame, Node, Step};
+use crate::kept::{Kept, keep, taken};
 use crate::reference::Reference;
 use crate::scene::Scene;
 use crate::stop::Stop;
@@ -22,7 +23,7 @@ use typing_program::Program;
 pub struct Machine<'p> {
     pub alloc: Global,
     pub program: &'p Program,
-    pub stack: Vec<Frame<'p>>,
+    pub stack: Vec<Kept<'p>>,
     pub scene: Scene,
 }
 
@@ -37,9 +38,27 @@ impl<'p> Machine<'p> {
         ensures scene { self.new.scene ≡ self.old.scene }
         ensures program { self.new.program ≡ self.old.program }
     {
-        match self.stack.push(frame) {
+        let kept = match keep(self.alloc, frame) {
+            Ok(kept) => kept,
+            Err(stop) => return Err(stop),
+        };
+        match self.stack.push(kept) {
             Ok(()) => Ok(()),
             Err(_) => Err(Stop::Memory),
+        }
+    }
+
+    /// The innermost frame waits no longer.
+    #[inline(always)]
+    pub fn pop(&mut self) -> Option<Frame<'p>>
+        ensures empty { IfNone result (frames_of self.old ≡ []) }
+        ensures frame { IfSome result (λ frame. frames_of self.old ≡ frames_of self.new ++ frame_of frame ∷ []) }
+        ensures scene { self.new.scene ≡ self.old.scene }
+        ensures program { self.new.program ≡ self.old.program }
+    {
+        match self.stack.pop() {
+            None => None,
+            Some(kept) => Some(taken(self.alloc, kept)),
         }
     }
 

@@ -117,11 +117,17 @@ impl Scene {
     }
 
     /// The element at `r` becomes `v`.
+    ///
+    /// Errors: `Memory` where an array stands there, or `v` is the least number, neither of which is of a typed program.
     #[inline(always)]
-    pub fn set(&mut self, r: &Reference, v: i64)
-        ensures { (o : Outside) → state_in self.new o ≡ stored (reference_of r.now) v (state_in self.old o) }
+    pub fn set(&mut self, r: &Reference, v: i64) -> Result<(), Stop>
+        ensures ok { (o : Outside) → OnOk result (state_in self.new o ≡ stored (reference_of r.now) v (state_in self.old o)) }
+        ensures err { IfErr result (λ e. e ≡ Memory) }
     {
-        self.store.put(r, Tree::Element(Some(v)));
+        match self.store.set(r, v) {
+            Ok(()) => Ok(()),
+            Err(_) => Err(Stop::Memory),
+        }
     }
 
     /// The element at `r` becomes `v`, converted to its type (6.5.16p3).
@@ -143,8 +149,10 @@ impl Scene {
             return Err(Stop::Undefined(Undef::U7, at));
         }
         let v = convert(ty, v);
-        self.set(r, v);
-        Ok(v)
+        match self.set(r, v) {
+            Ok(()) => Ok(v),
+            Err(stop) => Err(stop),
+        }
     }
 
     /// A compound assignment, whose right operand is `v`, to the element at `r` (6.5.16.2).
@@ -207,7 +215,7 @@ impl Scene {
             Ok(object) => object,
             Err(stop) => return Err(stop),
         };
-        self.store.put(&r, object);
+        self.store.put(r.object, object);
         Ok(())
     }
 }

@@ -1,7 +1,7 @@
 //! The objects that live.
 
-ghost use Rattle.std.specs.Prelude.{◌≡◌, ◌++◌, ◌∷◌, [], OnOk, option_map, take, length};
-ghost use Rattle.meaning.specs.Store.{tree_at, value_at, length_of, put};
+ghost use Rattle.std.specs.Prelude.{◌≡◌, ◌++◌, ◌∷◌, [], OnOk, Some, take, length};
+ghost use Rattle.meaning.specs.Store.{Element, filled, tree_at, value_at, length_of, put, whole};
 ghost use Rattle.cabs_store.specs.View.{tree_of, store_of, reference_of};
 
 use crate::element_tree::Tree;
@@ -32,25 +32,14 @@ impl Store {
         self.objects.len()
     }
 
-    /// What stands at a reference.
-    #[inline(always)]
-    fn tree(&self, r: &Reference) -> Option<&Tree>
-        ensures { option_map (λ t. tree_of t.now) result ≡ tree_at (store_of self.now) (reference_of r.now) }
-    {
-        match self.objects.get(r.object) {
-            None => None,
-            Some(tree) => tree.at(r.path.subscripts()),
-        }
-    }
-
     /// The value of the element at a reference, none where it is indeterminate.
     #[inline(always)]
     pub fn value(&self, r: &Reference) -> Option<i64>
         ensures { result ≡ value_at (store_of self.now) (reference_of r.now) }
     {
-        match self.tree(r) {
+        match self.objects.get(r.object) {
             None => None,
-            Some(tree) => tree.value(),
+            Some(tree) => tree.value(r.path.subscripts()),
         }
     }
 
@@ -58,29 +47,49 @@ impl Store {
     pub fn length(&self, r: &Reference) -> usize
         ensures { result ≡ length_of (tree_at (store_of self.now) (reference_of r.now)) }
     {
-        match self.tree(r) {
+        match self.objects.get(r.object) {
             None => 0,
-            Some(tree) => tree.len(),
+            Some(tree) => tree.len(r.path.subscripts()),
         }
     }
 
-    /// Puts another tree at a reference, if something stands there.
+    /// The element at a reference, if something stands there, becomes `v`.
+    ///
+    /// Errors: an array stands there, or `v` is the least number, neither of which is of a typed program.
     #[inline(always)]
-    pub fn put(&mut self, r: &Reference, new: Tree)
-        ensures { store_of self.new ≡ put (store_of self.old) (reference_of r.now) (tree_of new) }
+    pub fn set(&mut self, r: &Reference, v: i64) -> Result<(), AllocError>
+        ensures { OnOk result (store_of self.new ≡ put (store_of self.old) (reference_of r.now) (Element (Some v))) }
     {
         if r.object >= self.objects.len() {
-            return;
+            return Ok(());
         }
         if r.path.is_whole() {
-            let _old = mem::replace(&mut self.objects[r.object], new);
+            let _old = mem::replace(&mut self.objects[r.object], Tree::Element(Some(v)));
+            return Ok(());
+        }
+        self.objects[r.object].set(r.path.subscripts(), v)
+    }
+
+    /// Each element of what stands at a reference, which has these lengths, becomes `v`.
+    ///
+    /// Errors: what stands there has other lengths, or `v` is the least number, neither of which is of a typed program.
+    pub fn fill(&mut self, r: &Reference, lengths: &[u32], v: i64) -> Result<(), AllocError>
+        ensures { OnOk result (store_of self.new ≡ put (store_of self.old) (reference_of r.now) (filled (Some v) lengths.now)) }
+    {
+        if r.object >= self.objects.len() {
+            return Ok(());
+        }
+        self.objects[r.object].fill(r.path.subscripts(), lengths, v)
+    }
+
+    /// Another object takes the place of number `n`, if that lives.
+    pub fn put(&mut self, n: usize, new: Tree)
+        ensures { store_of self.new ≡ put (store_of self.old) (whole n) (tree_of new) }
+    {
+        if n >= self.objects.len() {
             return;
         }
-        let object = mem::replace(&mut self.objects[r.object], Tree::Element(None));
-        let _hole = mem::replace(
-            &mut self.objects[r.object],
-            object.put(r.path.subscripts(), new),
-        );
+        let _old = mem::replace(&mut self.objects[n], new);
     }
 
     /// A new object, with the next number.

@@ -18,7 +18,7 @@ use Rattle.cabs_store.specs.declared.frames.Step.{Step}
 use Rattle.cabs_store.specs.View.{store_of, reference_of}
 use Rattle.cabs_store.specs.inside.Frames as on
 use Rattle.cabs_store.specs.inside.Frames.{Moved, moves, halts}
-use Rattle.cabs_store.specs.inside.Views.{frame_of, step_of}
+use Rattle.cabs_store.specs.inside.Views.{kept_of, step_of}
 
 -- what a state has beside the store: the clock, the input left and the history are not the code's
 pub record Outside : Type 0 where
@@ -78,7 +78,7 @@ Agrees moved (Err (stop.Ended n)) gs s = moved ≡ halts (Ended n) s
 Agrees moved (Err (stop.Undefined act at)) gs s = moved ≡ halts (Undefined act at) s
 
 abbrev pub frames_of : Machine → List on.Frame
-frames_of m = map frame_of m.stack.items
+frames_of m = map kept_of m.stack.items
 
 -- the machine takes this step
 abbrev pub Takes : (typed.Program → State → Moved) → Machine → Result Step Stop → Machine → Type 0

@@ -1,5 +1,5 @@
 -- The frames, nodes and steps of the definition that the code's values hold.
-use Rattle.std.specs.Prelude.{map, option_map}
+use Rattle.std.specs.Prelude.{map, option_map, []}
 use Rattle.typing_program.specs.View.{place_of, value_of, statement_of, statements_of, initialiser_of, initialisers_of, argument_of, arguments_of, object_type_of, callee_of, moment_of}
 use Rattle.meaning.specs.Expressions as meaning
 use Rattle.meaning.specs.Statements as statements
@@ -29,6 +29,10 @@ use Rattle.cabs_store.specs.declared.frames.InitialiserFrame.{InitialiserFrame}
 use Rattle.cabs_store.specs.declared.frames.InitialiserFrame.TheVariants as initialiser
 use Rattle.cabs_store.specs.declared.frames.Frame.{Frame}
 use Rattle.cabs_store.specs.declared.frames.Frame.TheVariants as frame
+use Rattle.cabs_store.specs.declared.kept.Call.{Call}
+use Rattle.cabs_store.specs.declared.kept.Kept.{Kept}
+use Rattle.cabs_store.specs.declared.kept.Kept.TheVariants as kept
+use Rattle.meaning.specs.Store.{whole}
 use Rattle.cabs_store.specs.View.{reference_of}
 use Rattle.cabs_store.specs.inside.Frames as on
 
@@ -134,3 +138,37 @@ frame_of (frame.Operand f) = operand_frame f
 frame_of (frame.Control f) = control_frame f
 frame_of (frame.Flow f) = flow_frame f
 frame_of (frame.Initialiser f) = initialiser_frame f
+
+-- ---- frames as the stack keeps them
+
+abbrev pub call_frame : Call → on.Frame
+call_frame c = on.returns (on.to_caller (record { file = c.file; line = c.line }) c.used) c.is_main c.count c.base []
+
+abbrev pub kept_of : Kept → on.Frame
+kept_of (kept.Indexes at index) = on.indexes at (value_of index.now)
+kept_of (kept.Reads at) = on.reads at
+kept_of (kept.Assigns at t e) = on.assigns at t (value_of e.now)
+kept_of (kept.Steps s) = place_frame (place.Steps s)
+kept_of (kept.IndexOf at n) = on.index_of at (whole n)
+kept_of (kept.Stores at t n) = on.stores at t (whole n)
+kept_of (kept.Signs at op t) = on.signs at op t
+kept_of (kept.Right at op t b) = on.right at op t (value_of b.now)
+kept_of (kept.Applies at op t a) = on.applies at op t a
+kept_of (kept.AndAlso b) = on.and_also (value_of b.now)
+kept_of (kept.OrElse b) = on.or_else (value_of b.now)
+kept_of kept.TellsTruth = on.tells_truth
+kept_of (kept.Chooses t a b) = on.chooses t (value_of a.now) (value_of b.now)
+kept_of (kept.Converts t) = on.converts t
+kept_of (kept.ThenValue b) = on.then_value (value_of b.now)
+kept_of kept.Forgets = on.forgets
+kept_of (kept.IfTrue objects a) = on.if_true (map object_type_of objects.now) (statement_of a.now.value)
+kept_of (kept.IfElse objects a b) = on.if_else (map object_type_of objects.now) (statement_of a.now.value) (statement_of b.now.value)
+kept_of (kept.Tests l) = control_frame (control.Tests l)
+kept_of (kept.Loops l) = control_frame (control.Loops l)
+kept_of (kept.GivesBack t) = on.gives_back t
+kept_of (kept.Returns c) = call_frame c
+kept_of (kept.Rest objects more) = on.rest (map object_type_of objects.now) (statements_of (map statement_of more.now))
+kept_of kept.InSwitch = on.in_switch
+kept_of (kept.Turn l) = flow_frame (flows.Turn l)
+kept_of kept.Defined = on.defined
+kept_of (kept.Other f) = frame_of f.value

@@ -1,5 +1,4 @@
-use Rattle.std.proofs.Common.{◌≡◌, ◌<◌, ℕ, List, [], ◌∷◌, ◌++◌, map, length, ap, sym, subst, ◌∙◌, arith}
-use Rattle.std.proofs.lemmas.List.{map-append}
+use Rattle.std.proofs.Common.{◌≡◌, ◌<◌, List, [], ◌∷◌, ◌++◌, ap, sym, subst, ◌∙◌}
 use Rattle.typing_program.specs.View.{program_of}
 use Rattle.cabs_store.specs.declared.machine.Machine.{Machine}
 use Rattle.cabs_store.specs.inside.Frames as on
@@ -7,23 +6,23 @@ use Rattle.cabs_store.specs.inside.Views.{found_of, frame_of, step_of}
 use Rattle.cabs_store.specs.inside.Agrees.{frames_of}
 use Rattle.cabs.specs.inside.Standing.{distance}
 use Rattle.cabs.proofs.Following.{outside, frame_nears}
-use Rattle.cabs.proofs.Acts.{nothing_waits, no_frames, frame_stands, frame_stopping}
+use Rattle.cabs.proofs.Acts.{nothing_waits, frame_stands, frame_stopping}
 use Rattle.cabs.proofs.acting.act_found.Goals as goal
 
 pub returns-in_default-clause-meets : goal.returns-in_default-clause-meets
 returns-in_default-clause-meets g c p whole o sent s =
     let m = c.args.interpreter.now in
-    let z : length m.machine.stack.items ≡ 0 = omega (arith, m.machine.stack.ok.0, c.in_default.ensures.cases.0) in
-    nothing_waits p whole o sent m (found_of c.args.found) _ (no_frames m.machine.stack.items z) s
+    nothing_waits p whole o sent m (found_of c.args.found) _ c.in_default.ensures.empty s
 
 pub returns-in-Ok-clause-meets : goal.returns-in-Ok-clause-meets
 returns-in-Ok-clause-meets g c p whole o sent s =
     let old = c.args.interpreter.now in
     let mid = c.count_end.new.self.machine in
     let f = frame_of c.in-Some.frame in
-    let top : frames_of old.machine ≡ map frame_of c.pop.new.self.items ++ f ∷ [] = ap (map frame_of) c.in-Some.ensures.items ∙ map-append _ _ _ in
+    let top : frames_of old.machine ≡ frames_of c.pop.new.self ++ f ∷ [] = c.in-Some.ensures.frame in
     let popped : frames_of old.machine ≡ frames_of mid ++ f ∷ [] = top ∙ ap (λ (m : Machine). frames_of m ++ f ∷ []) (sym c.count_end.ensures.machine) in
-    frame_stands p whole o sent old _ mid f (found_of c.args.found) _ popped (ap (λ (m : Machine). m.scene) c.count_end.ensures.machine) (ap (λ (m : Machine). m.program) c.count_end.ensures.machine)
+    frame_stands p whole o sent old _ mid f (found_of c.args.found) _ popped (ap (λ (m : Machine). m.scene) c.count_end.ensures.machine ∙ c.in-Some.ensures.scene)
+    (ap (λ (m : Machine). m.program) c.count_end.ensures.machine ∙ c.in-Some.ensures.program)
     (λ h. c.count_end.ensures.tells p h) c.count_end.ensures.kept s c.in-Ok.step c.in-Ok.ensures.acts c.in-Ok.ensures.program
 
 pub returns-in-Ok-clause-nears : goal.returns-in-Ok-clause-nears
@@ -33,17 +32,19 @@ returns-in-Ok-clause-nears g c =
     let new = c.leave.new.machine in
     let f = frame_of c.in-Some.frame in
     let x = found_of c.args.found in
-    let top : frames_of old.machine ≡ map frame_of c.pop.new.self.items ++ f ∷ [] = ap (map frame_of) c.in-Some.ensures.items ∙ map-append _ _ _ in
+    let top : frames_of old.machine ≡ frames_of c.pop.new.self ++ f ∷ [] = c.in-Some.ensures.frame in
     let popped : frames_of old.machine ≡ frames_of mid ++ f ∷ [] = top ∙ ap (λ (m : Machine). frames_of m ++ f ∷ []) (sym c.count_end.ensures.machine) in
     let P : List on.Frame → Type 0 = λ fs. distance (frames_of new) (step_of c.in-Ok.step) < distance fs (on.leaves x) in
-    subst P (sym popped) (frame_nears (program_of mid.program.now) (frames_of mid) (frames_of new) f x (step_of c.in-Ok.step) mid.scene new.scene (outside 0 [] []) (c.in-Ok.ensures.acts (outside 0 [] [])))
+    subst P (sym popped) (frame_nears (program_of mid.program.now) (frames_of mid) (frames_of new) f x (step_of c.in-Ok.step) mid.scene new.scene (outside 0 [] [])
+    (c.in-Ok.ensures.acts (outside 0 [] [])))
 
 pub returns-in-Err-clause-meets : goal.returns-in-Err-clause-meets
 returns-in-Err-clause-meets g c p whole o sent s =
     let old = c.args.interpreter.now in
     let mid = c.count_end.new.self.machine in
     let f = frame_of c.in-Some.frame in
-    let top : frames_of old.machine ≡ map frame_of c.pop.new.self.items ++ f ∷ [] = ap (map frame_of) c.in-Some.ensures.items ∙ map-append _ _ _ in
+    let top : frames_of old.machine ≡ frames_of c.pop.new.self ++ f ∷ [] = c.in-Some.ensures.frame in
     let popped : frames_of old.machine ≡ frames_of mid ++ f ∷ [] = top ∙ ap (λ (m : Machine). frames_of m ++ f ∷ []) (sym c.count_end.ensures.machine) in
-    c.finish.ensures.meets p whole o sent (frame_stopping p whole o sent old _ mid f (found_of c.args.found) _ popped (ap (λ (m : Machine). m.scene) c.count_end.ensures.machine) (ap (λ (m : Machine). m.program) c.count_end.ensures.machine)
+    c.finish.ensures.meets p whole o sent (frame_stopping p whole o sent old _ mid f (found_of c.args.found) _ popped
+    (ap (λ (m : Machine). m.scene) c.count_end.ensures.machine ∙ c.in-Some.ensures.scene) (ap (λ (m : Machine). m.program) c.count_end.ensures.machine ∙ c.in-Some.ensures.program)
     (λ h. c.count_end.ensures.tells p h) c.count_end.ensures.kept s c.in-Err.stop c.in-Err.ensures.acts)

@@ -1,21 +1,16 @@
-use Rattle.std.proofs.Common.{rules, ◌≡◌, ◌≤◌, ℤ, sym, ap, refl, ◌∙◌, pos, to_z, of_z, w64, Option, Some, None, map, option_map, arith, subst}
+use Rattle.std.proofs.Common.{rules, ◌≡◌, ap, refl, ◌∙◌, to_z, of_z, w64, arith}
 use Rattle.std.proofs.Math.Facts.{to_z-of_z}
-use Rattle.std.specs.Prelude.{true, false, slice_get}
-use Rattle.ctypes.specs.Types.{truth, of_truth, converted}
+use Rattle.std.specs.Prelude.{true, false}
+use Rattle.ctypes.specs.Types.{converted}
 use Rattle.typing_rules.specs.Program as typed
-use Rattle.typing_program.specs.View.{program_of, value_of, initialiser_of, statement_of, statements_of}
-use Rattle.meaning.specs.Machine.{State, Run, Goes, then_do, choose, tick, stored}
-use Rattle.meaning.specs.Expressions.{evaluate_or}
-use Rattle.meaning.specs.Statements.{Flow, Normal, Broken, Continued, Returned, renewed, all_renewed, after_body, next_after, define_object}
+use Rattle.meaning.specs.Machine.{Goes, tick, stored}
+use Rattle.meaning.specs.Statements.{Normal}
 use Rattle.cabs_store.specs.View.{reference_of}
 use Rattle.cabs_store.specs.inside.Agrees.{Outside, number, state_in}
-use Rattle.cabs_store.specs.inside.Presents.{call_in, loop, tested, stepped}
 use Rattle.cabs_store.specs.inside.Views.{flow_of}
 use Rattle.cabs_store.specs.declared.frames.Flow.TheVariants as flow
-use Rattle.cabs_evaluator.specs.inside.Comes.{Course, Leads, valued, executed, all_executed, objects_in}
-use Rattle.cabs_evaluator.proofs.Comings.{after_tick, no_tick, gone_on, gone_none, gave_now, came}
-use Rattle.cabs_evaluator.proofs.Leaves.{chose}
-use Rattle.cabs_evaluator.proofs.Flows.{moved, turned, out, on, headed, fewer, defines, defines_none, sees_one}
+use Rattle.cabs_evaluator.proofs.Comings.{after_tick, no_tick, gone_on, gone_none, gave_now}
+use Rattle.cabs_evaluator.proofs.Flows.{moved}
 use Rattle.cabs_evaluator.proofs.definitions.first_value.Goals as goal
 
 pub returns-in_default : goal.returns-in_default
@@ -29,13 +24,15 @@ returns-then-not-tick c = λ run rest h.
     (gone_on number run c.args.scope.now.limit c.args.clock.now.spent c.args.scene.now _ _ rest c.value.result c.in-Some.v c.value.new.clock c.value.new.scene c.in-Some.is (c.value.ensures run)
     h)
 
-pub returns : goal.returns
-returns c = λ run rest h.
+pub returns-in-Ok : goal.returns-in-Ok
+returns-in-Ok c = λ run rest h.
     let same : to_z w64 (of_z w64 c.in-Some.v) ≡ c.in-Some.v = search (rules, to_z-of_z) in
     let same2 : to_z w64 (of_z w64 c.convert.result) ≡ c.convert.result = search (rules, to_z-of_z) in
     let value : to_z w64 (of_z w64 c.convert.result) ≡ converted c.args.ty c.in-Some.v = same2 ∙ c.convert.ensures.value ∙ ap (converted c.args.ty) same in
-    let is : (o : Outside) → state_in c.set.new.self o ≡ stored (reference_of c.args.r.now) (converted c.args.ty c.in-Some.v) (state_in c.value.new.scene o) = λ o. c.set.ensures o ∙ ap (λ v. stored (reference_of c.args.r.now) v (state_in c.value.new.scene o)) value in
+    let is : (o : Outside) → state_in c.set.new.self o ≡ stored (reference_of c.args.r.now) (converted c.args.ty c.in-Some.v) (state_in c.value.new.scene o) = λ o. c.in-Ok.ensures.ok o
+    ∙ ap (λ v. stored (reference_of c.args.r.now) v (state_in c.value.new.scene o)) value in
     gave_now flow_of run c.args.scope.now.limit c.set.new.self Normal rest flow.Normal c.tick.new.self refl
     (moved run c.tick.new.self.spent c.value.new.scene c.set.new.self (stored (reference_of c.args.r.now) (converted c.args.ty c.in-Some.v)) (λ s. Goes Normal s) rest is
-    (after_tick run c.value.new.clock.spent c.tick.new.self.spent c.value.new.scene _ rest c.tick.result c.if-not-tick.false c.tick.ensures.taken (gone_on number run c.args.scope.now.limit c.args.clock.now.spent c.args.scene.now _ _ rest c.value.result c.in-Some.v c.value.new.clock c.value.new.scene c.in-Some.is (c.value.ensures run)
+    (after_tick run c.value.new.clock.spent c.tick.new.self.spent c.value.new.scene _ rest c.tick.result c.if-not-tick.false c.tick.ensures.taken
+    (gone_on number run c.args.scope.now.limit c.args.clock.now.spent c.args.scene.now _ _ rest c.value.result c.in-Some.v c.value.new.clock c.value.new.scene c.in-Some.is (c.value.ensures run)
     h)))

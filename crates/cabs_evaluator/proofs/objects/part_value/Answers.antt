@@ -1,4 +1,4 @@
-use Rattle.std.proofs.Common.{ap, arith, length, List, get_or, refl, ◌∙◌, Vec, Global}
+use Rattle.std.proofs.Common.{ap, arith, length, List, get_or, refl, ◌∙◌}
 use Rattle.cabs_store.specs.declared.element_tree.Tree.{Tree}
 use Rattle.cabs_evaluator.proofs.Wholes.{part_read}
 use Rattle.cabs_evaluator.proofs.objects.part_value.Goals as goal
@@ -6,12 +6,8 @@ use Rattle.cabs_evaluator.proofs.objects.part_value.Goals as goal
 pub returns-in-Some : goal.returns-in-Some
 returns-in-Some c = λ at o.
     let ts : List Tree = c.args.scene.now.store.objects.items in
-    let t : Tree = c.in-Some-Array.field-0.now in
-    let u : Tree = c.in-Some.part.now in
-    part_read at c.args.scene.now o c.args.n c.args.i ts t u c.in-Some-Array.parts c.value.result refl
-    (omega (arith, c.in-Some-Array.ensures.lookup.3.0, ap (λ (ts : List Tree). length ts) c.deref.ensures.value))
-    (c.in-Some-Array.ensures.lookup.1 ∙ ap (λ (ts : List Tree). get_or ts c.args.n t) c.deref.ensures.value)
-    c.in-Some-Array.field-0-is
-    (omega (arith, c.in-Some.ensures.lookup.3.0, ap (λ (ts : List Tree). length ts) c.deref-in-Some-Array.ensures.value, ap (λ (held : Vec Tree Global). length held.items) c.in-Some-Array.parts-is))
-    (c.in-Some.ensures.lookup.1 ∙ ap (λ (ts : List Tree). get_or ts c.args.i u) c.deref-in-Some-Array.ensures.value ∙ ap (λ (held : Vec Tree Global). get_or held.items c.args.i u) c.in-Some-Array.parts-is)
-    c.value.ensures
+    let t : Tree = c.in-Some.object.now in
+    part_read at c.args.scene.now o c.args.n c.args.i ts t c.part_value.result refl
+    (omega (arith, c.in-Some.ensures.lookup.3.0, ap (λ (ts : List Tree). length ts) c.deref.ensures.value))
+    (c.in-Some.ensures.lookup.1 ∙ ap (λ (ts : List Tree). get_or ts c.args.n t) c.deref.ensures.value)
+    c.part_value.ensures

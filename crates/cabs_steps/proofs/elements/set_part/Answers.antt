@@ -6,7 +6,7 @@ use Rattle.cabs_store.specs.View.{reference_of}
 use Rattle.cabs_store.specs.inside.Agrees.{state_in}
 use Rattle.cabs_steps.proofs.elements.set_part.Goals as goal
 
-pub returns-in-Ok-clause-ok : goal.returns-in-Ok-clause-ok
-returns-in-Ok-clause-ok c = λ o. let s = state_in c.args.scene.now o in
-    c.set.ensures o ∙ ap (λ r. stored r (to_z w64 (of_z w64 c.args.v)) s) c.in-Ok.ensures.ok
+pub returns-in-Ok-set-clause-ok : goal.returns-in-Ok-set-clause-ok
+returns-in-Ok-set-clause-ok c = λ o. let s = state_in c.args.scene.now o in
+    c.in-Ok-set.ensures.ok o ∙ ap (λ r. stored r (to_z w64 (of_z w64 c.args.v)) s) c.in-Ok.ensures.ok
     ∙ ap (λ v. stored (into (reference_of c.args.r.now) c.args.i) v s) (to_z-of_z c.ranges.v)

@@ -1,6 +1,5 @@
-use Rattle.std.proofs.Common.{arith}
-use Rattle.cabs_store.proofs.Trees.{length_is}
+use Rattle.cabs_store.proofs.Trees.{element_has_none}
 use Rattle.cabs_store.proofs.element_tree.Tree.len.Goals as goal
 
-pub returns-in-Array : goal.returns-in-Array
-returns-in-Array c = length_is _ c.in-Array.parts _ c.in-Array.is (omega (arith, c.len.ensures, c.in-Array.parts.ok.0))
+pub returns-in-Element : goal.returns-in-Element
+returns-in-Element c = element_has_none c.args.self.now c.in-Element.field-0 c.args.path.now c.in-Element.is

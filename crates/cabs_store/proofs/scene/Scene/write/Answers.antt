@@ -7,8 +7,8 @@ use Rattle.meaning.specs.Machine.{stored}
 use Rattle.cabs_store.proofs.Scenes.{writes}
 use Rattle.cabs_store.proofs.scene.Scene.write.Goals as goal
 
-pub returns : goal.returns
-returns c = λ o.
+pub returns-in-Ok : goal.returns-in-Ok
+returns-in-Ok c = λ o.
     let same : to_z w64 (of_z w64 c.convert-v.result) ≡ c.convert-v.result = search (rules, to_z-of_z) in
     writes c.args.program.now _ _ _ _ _ _ c.len.result (omega (arith, c.len.ensures, c.args.program.now.literals.ok.0)) c.if-r-len.false (same ∙ c.convert-v.ensures.value ∙ ap (converted c.args.ty) (to_z-of_z c.ranges.v))
-    (c.set.ensures o ∙ ap (λ v. stored (reference_of c.args.r.now) v (state_in c.args.self.now o)) (same ∙ c.convert-v.ensures.value ∙ ap (converted c.args.ty) (to_z-of_z c.ranges.v)))
+    (c.in-Ok.ensures.ok o ∙ ap (λ v. stored (reference_of c.args.r.now) v (state_in c.args.self.now o)) (same ∙ c.convert-v.ensures.value ∙ ap (converted c.args.ty) (to_z-of_z c.ranges.v)))

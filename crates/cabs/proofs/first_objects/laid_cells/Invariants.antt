@@ -1,0 +1,10 @@
+use Rattle.std.proofs.Common.{◌≡◌, ◌<◌, ℕ, length, drop, Some}
+use Rattle.meaning.specs.Store as machine
+use Rattle.cabs_store.specs.Cells.{cell}
+use Rattle.cabs.proofs.first_objects.laid_cells.Given as goal
+
+abbrev pub invariant-loop-k : goal.invariant-loop-k
+invariant-loop-k l = record {
+  size : length l.cells.items ≡ l.k;
+  each : (j : ℕ) → j < l.k → cell l.cells.items j ≡ Some (machine.first_or_zero (drop j l.values));
+}
