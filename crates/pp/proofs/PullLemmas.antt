@@ -65,7 +65,8 @@ run_past s before x r a e full =
     let all = s.given ++ ((before ++ x ∷ []) ++ a.0) in
     let same : all ≡ (s.given ++ before) ++ x ∷ a.0 = ap (λ (l : List Token). s.given ++ l) (append_assoc before (x ∷ []) a.0) ∙ sym (append_assoc s.given before (x ∷ a.0)) in
     ap (run_comes s (before ++ x ∷ [])) e
-    ∙ ap (λ o. first_past o all s (record s { left = a.1 })) (ap (λ (l : List Token). slice_get l max_tokens) same ∙ some_at (s.given ++ before) a.0 x max_tokens (omega (arith, full, length-append s.given before)))
+    ∙ ap (λ o. first_past o all s (record s { left = a.1 })) (ap (λ (l : List Token). slice_get l max_tokens) same ∙ some_at (s.given ++ before) a.0 x max_tokens
+    (omega (arith, full, length-append s.given before)))
 
 -- it stops with what was given before it, or goes on behind all of it
 pub record StopsSo (s : State) (before : List Token) (r : Result (List Token × ℕ) expansion.Fault) : Type 0 where
@@ -96,7 +97,8 @@ not_true : (a : Bool) → not a ≡ true → a ≡ false
 not_true true e = absurd (true-false (sym e))
 not_true false e = refl
 
-run_first_by : (o : Option (List Token)) (around : Around) (os : List Open) (b : Bool) (xs : List Token) (tss : List (List Token)) (es : List ℕ) (i : ℕ) (s : State) → slice_get tss i ≡ o → is_text_line o ≡ false
+run_first_by : (o : Option (List Token)) (around : Around) (os : List Open) (b : Bool) (xs : List Token) (tss : List (List Token)) (es : List ℕ) (i : ℕ) (s : State)
+    → slice_get tss i ≡ o → is_text_line o ≡ false
     → (b ≡ true → is_active os ≡ true)
     → rest_done around os (in_first (pending b xs) (parsed (drop i (lines_with tss es)))) s ≡ (run_ended around.texts b xs s >>= λ s. rest_done around os (parsed (drop i (lines_with tss es))) s)
 run_first_by None around os b xs tss es i s e t h =
@@ -131,7 +133,8 @@ done_comes texts xs s =
     let known : Known = record { macros = s.macros; texts = texts } in
     ap (λ r. of_expansion s r >>= give s) (expanded_is known (presume s xs) of_run s.left ∙ sym (with_none (shown_answer (expanding known (unhidden (presume s xs)) of_run s.left))))
 
-pub begins : (names : Texts) (held : Held) (r : Reading) (run : Stream) (around : Around) (o : Outcome State) → ends_run r ≡ true → Stands names held r.file.run around r.file.conditionals (left_of r) o
+pub begins : (names : Texts) (held : Held) (r : Reading) (run : Stream) (around : Around) (o : Outcome State) → ends_run r ≡ true
+    → Stands names held r.file.run around r.file.conditionals (left_of r) o
     → list_left around.texts run ≡ unhidden r.file.run.tokens → IsGoing names run → Pulling names held run around r.file.conditionals (left_of r) o
 begins names held r run around o e st left g =
     let s = st.now in

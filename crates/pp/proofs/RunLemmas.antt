@@ -79,7 +79,8 @@ pub reaches_end : (known : Known) (names : Texts) (first run new : Stream) (left
 reaches_end known names first run new left now after at r p =
     inr ((r.front ++ [], after), r.left_is ∙ ap (with_front r.front) (none_pulled known names run new now after r.going p), refl, refl)
 
-pub reaches_refusal : (known : Known) (names : Texts) (first run new : Stream) (left now after : ℕ) (at : Pos) (f : Refusal) → Reaches known names first run left now → Calls known run new now after (Err f)
+pub reaches_refusal : (known : Known) (names : Texts) (first run new : Stream) (left now after : ℕ) (at : Pos) (f : Refusal) → Reaches known names first run left now
+    → Calls known run new now after (Err f)
     → IsRefusedAt f at (run_left known first left)
 reaches_refusal known names first run new left now after at Memory r p = tt
 reaches_refusal known names first run new left now after at (At c pos) r p =

@@ -270,7 +270,8 @@ stepped_reading old new r h n e l = record {
   bounded = omega (arith, e, r.bounded);
 }
 
-pub stepped_open : (names after : Texts) (old new : Reading) (is : List Includer) → AreOpen names old is → KeepsNumbers names after → HaveFiles after new.file.run.tokens → (new.file.run.begun ≡ false → new.file.run.tokens ≡ []) → IsReading new → AreOpen after new is
+pub stepped_open : (names after : Texts) (old new : Reading) (is : List Includer) → AreOpen names old is → KeepsNumbers names after → HaveFiles after new.file.run.tokens
+    → (new.file.run.begun ≡ false → new.file.run.tokens ≡ []) → IsReading new → AreOpen after new is
 stepped_open names after old new is o keeps files idle r = record {
   stacked = record { few = o.stacked.few; reading = r; waiting = waiting_grows names after is keeps o.stacked.waiting };
   has_files = files;

@@ -47,7 +47,8 @@ drop_first (y ∷ xs) ys more x (suc n) e = drop_first xs ys more x n (omega (ar
 
 -- ---- where lines are left
 
-pub reads_now : (stage : Stage) (names : Texts) (pp : Pp) → is_reading stage ≡ true → ReadsBy stage names pp → IsSound names pp.state × AreOpen names pp.files.innermost pp.files.includers.items × (ends_run pp.files.innermost ≡ false)
+pub reads_now : (stage : Stage) (names : Texts) (pp : Pp) → is_reading stage ≡ true → ReadsBy stage names pp
+    → IsSound names pp.state × AreOpen names pp.files.innermost pp.files.includers.items × (ends_run pp.files.innermost ≡ false)
 reads_now Reads names pp e r = r
 reads_now Pulls names pp e r = absurd (true-false (sym e))
 reads_now Ended names pp e r = absurd (true-false (sym e))
@@ -67,7 +68,8 @@ size_now (Refused refusal) pp e = absurd (true-false (sym e))
 
 -- ---- behind a line
 
-ended_at : (n : ℕ) (given : List Token) (o : Outcome State) (fault : Fault) (rest : Phase4) → length given ≤ n → o ≡ stops given fault → rest ≡ left_behind n (ending_of o) → rest ≡ ends_with (Some fault)
+ended_at : (n : ℕ) (given : List Token) (o : Outcome State) (fault : Fault) (rest : Phase4) → length given ≤ n → o ≡ stops given fault → rest ≡ left_behind n (ending_of o)
+    → rest ≡ ends_with (Some fault)
 ended_at n given o fault rest g s e =
     e ∙ ap (λ k. left_behind n (ending_of k)) s
     ∙ ap (λ (l : List Token). record { tokens = l; fault = Some fault }) (drop_all given n g)
@@ -121,7 +123,17 @@ abbrev pub without_run : Run → Reading → Reading
 without_run run r = record { lines = r.lines; end = r.end; next = r.next; file = record { run = run; conditionals = r.file.conditionals; ends = r.file.ends } }
 
 abbrev pub begun_with : Run → Stream → Pp → Pp
-begun_with run list pp = record { set = pp.set; files = record { innermost = without_run run pp.files.innermost; includers = pp.files.includers; scans = pp.files.scans }; state = pp.state; run = list; stage = Pulls }
+begun_with run list pp = record {
+  set = pp.set;
+  files = record {
+    innermost = without_run run pp.files.innermost;
+    includers = pp.files.includers;
+    scans = pp.files.scans;
+  };
+  state = pp.state;
+  run = list;
+  stage = Pulls;
+}
 
 pub begun_rest : (names texts : Texts) (pp : Pp) (run : Run) (list : Stream) (rest : Phase4) → run_ends pp ≡ true
     → ((texts : Texts) → list_left texts list ≡ unhidden pp.files.innermost.file.run.tokens) → IsGoing names list
@@ -157,7 +169,8 @@ pulls_now Pulls names texts pp rest e r = r
 pulls_now Ended names texts pp rest e r = absurd (true-false (sym e))
 pulls_now (Refused refusal) names texts pp rest e r = absurd (true-false (sym e))
 
-pub pulling_now : (stage : Stage) (names : Texts) (pp : Pp) → is_pulling stage ≡ true → ReadsBy stage names pp → IsSound names pp.state × AreOpen names pp.files.innermost pp.files.includers.items × (pp.files.innermost.file.run.begun ≡ false)
+pub pulling_now : (stage : Stage) (names : Texts) (pp : Pp) → is_pulling stage ≡ true → ReadsBy stage names pp
+    → IsSound names pp.state × AreOpen names pp.files.innermost pp.files.includers.items × (pp.files.innermost.file.run.begun ≡ false)
 pulling_now Reads names pp e r = absurd (true-false (sym e))
 pulling_now Pulls names pp e r = r
 pulling_now Ended names pp e r = absurd (true-false (sym e))
@@ -214,7 +227,13 @@ pulled_none names texts pp run after rest keeps calls few begun tokens r =
         stands = record {
           now = s;
           text = [];
-          agrees = record { table_is = p.table_is; left_is = refl; given_is = omega (arith, p.given_is, length-append p.now.given (p.before ++ []), length-append p.before []); presumed_is = p.presumed_is };
+          agrees = record {
+            table_is = p.table_is;
+            left_is = refl;
+            given_is = omega
+                (arith, p.given_is, length-append p.now.given (p.before ++ []), length-append p.before []);
+            presumed_is = p.presumed_is;
+          };
           run_is = tokens;
           fresh = λ b. refl;
           active = λ b. absurd (true_or_false r'.file.run.begun begun b);
@@ -228,7 +247,8 @@ pulled_none names texts pp run after rest keeps calls few begun tokens r =
     }
 
 -- it was refused
-pub pulled_err : (f : Refusal) (names texts : Texts) (pp new : Pp) (run : Stream) (after : ℕ) (rest : Phase4) → KeepsNumbers names texts → CallsAll names pp.state.table pp.run run pp.state.budget after (Err f)
+pub pulled_err : (f : Refusal) (names texts : Texts) (pp new : Pp) (run : Stream) (after : ℕ) (rest : Phase4) → KeepsNumbers names texts
+    → CallsAll names pp.state.table pp.run run pp.state.budget after (Err f)
     → PullsTo names texts pp rest → RestBy (Refused f) names texts new rest
 pulled_err Memory names texts pp new run after rest keeps calls r = tt
 pulled_err (At c at) names texts pp new run after rest keeps calls r =
@@ -241,7 +261,8 @@ pulled_err (Told c at n) names texts pp new run after rest keeps calls r =
     absurd (err_pulled (known_of p.now.macros texts) names pp.run run pp.state.budget after (Told c at n) p.going (calls p.now.macros texts p.table_is keeps p.going.knows p.going.not_refused))
 
 -- behind a token more
-module _ (names texts : Texts) (pp : Pp) (run : Stream) (after : ℕ) (x : Token) (rest : Phase4) (keeps : KeepsNumbers names texts) (calls : CallsAll names pp.state.table pp.run run pp.state.budget after (Ok (Some x)))
+module _ (names texts : Texts) (pp : Pp) (run : Stream) (after : ℕ) (x : Token) (rest : Phase4) (keeps : KeepsNumbers names texts)
+    (calls : CallsAll names pp.state.table pp.run run pp.state.budget after (Ok (Some x)))
     (knows : KnowsAll names pp.state.table pp.run run) (end : run.end ≡ pp.run.end) (none : run.refused ≡ None) (r : PullsTo names texts pp rest) where
   going : IsGoing names run
   going = record { knows = knows r.pulls.now.macros r.pulls.table_is r.pulls.going.knows; end_is = end ∙ r.pulls.going.end_is; not_refused = none }
@@ -257,13 +278,15 @@ module _ (names texts : Texts) (pp : Pp) (run : Stream) (after : ℕ) (x : Token
 
   -- it was one too many
   pub pulled_past : (f : Refusal) (new : Pp) → taken_of pp ≡ max_tokens
-      → ((macros : Macros) (texts : Texts) → IsTable names pp.state.table macros → KeepsNumbers names texts → IsGoing names run → IsRefusedAt f x.pos (run_left (record { macros = macros; texts = texts }) run after))
+      → ((macros : Macros) (texts : Texts) → IsTable names pp.state.table macros → KeepsNumbers names texts → IsGoing names run
+      → IsRefusedAt f x.pos (run_left (record { macros = macros; texts = texts }) run after))
       → RestBy (Refused f) names texts new rest
   pulled_past Memory new full refused = tt
   pulled_past (At c at) new full refused =
       let p = r.pulls in
       ⊎_elim
-      (λ (e : left ≡ Err (record { code = c; at = at })). ends_rest names texts pp rest r (record { code = c; at = at; text = [] }) (comes ∙ run_fails p.now (p.before ++ x ∷ []) left (record { code = c; at = at }) e))
+      (λ (e : left ≡ Err (record { code = c; at = at })). ends_rest names texts pp rest r (record { code = c; at = at; text = [] })
+      (comes ∙ run_fails p.now (p.before ++ x ∷ []) left (record { code = c; at = at }) e))
       (λ (h : (a : List Token × ℕ) × (left ≡ Ok a) × (c ≡ code.TokenLimit) × (at ≡ x.pos)).
       ends_rest names texts pp rest r (record { code = code.TokenLimit; at = x.pos; text = [] }) (comes ∙ run_past p.now p.before x left h.0 h.1 (p.given_is ∙ full))
       ∙ ap (λ (k : Code). ends_with (Some (record { code = k; at = x.pos; text = [] }))) (sym h.2) ∙ ap (λ (q : Pos). ends_with (Some (record { code = c; at = q; text = [] }))) (sym h.3))
@@ -294,7 +317,8 @@ module _ (names texts : Texts) (pp : Pp) (run : Stream) (after : ℕ) (x : Token
     stopped s =
         let given = r.pulls.now.given in
         let e = ends_rest names texts pp rest r s.fault (comes ∙ s.stops_is) in
-        let more = ended_at n given r.outcome s.fault (left_behind n (ending_of r.outcome)) (omega (arith, given_before names texts pp rest r, count)) (stops_rest names texts pp rest r s.fault (comes ∙ s.stops_is)) refl in
+        let more = ended_at n given r.outcome s.fault (left_behind n (ending_of r.outcome)) (omega (arith, given_before names texts pp rest r, count))
+        (stops_rest names texts pp rest r s.fault (comes ∙ s.stops_is)) refl in
         inr (ap (λ (q : Phase4). q.tokens) e, ap (λ (q : Phase4). is_some q.fault) e, on rest (e ∙ sym more))
 
     went : GoesSo r.pulls.now (r.pulls.before ++ x ∷ []) left → IsFirst x names texts (pulled_with run after n Pulls pp) rest
@@ -360,7 +384,8 @@ size_pulling Ended pp e = absurd (true-false (sym e))
 size_pulling (Refused refusal) pp e = absurd (true-false (sym e))
 
 -- a token is given
-pub some_given : (names : Texts) (pp : Pp) (run : Stream) (after n : ℕ) (x : Token) → is_pulling pp.stage ≡ true → n ≡ suc (taken_of pp) → CallsAll names pp.state.table pp.run run pp.state.budget after (Ok (Some x))
+pub some_given : (names : Texts) (pp : Pp) (run : Stream) (after n : ℕ) (x : Token) → is_pulling pp.stage ≡ true → n ≡ suc (taken_of pp)
+    → CallsAll names pp.state.table pp.run run pp.state.budget after (Ok (Some x))
     → KnowsAll names pp.state.table pp.run run → run.end ≡ pp.run.end → run.refused ≡ None → IsPulled (Some x) names pp (pulled_with run after n pp.stage pp)
 some_given names pp run after n x pulling count calls knows end none = (
   λ texts rest keeps is.
@@ -402,11 +427,14 @@ pub err_given : (names : Texts) (pp new : Pp) (run : Stream) (after : ℕ) (f : 
     → new.stage ≡ Refused f → taken_of new ≡ taken_of pp → Stays names names pp new
 err_given names pp new run after f pulling calls stage count =
     stays_pulling names names pp new pulling
-    (λ texts rest keeps is. subst (λ s. RestBy s names texts new rest) (sym stage) (pulled_err f names texts pp new run after rest keeps calls (pulls_now pp.stage names texts pp rest pulling is))) count
+    (λ texts rest keeps is. subst (λ s. RestBy s names texts new rest) (sym stage)
+    (pulled_err f names texts pp new run after rest keeps calls (pulls_now pp.stage names texts pp rest pulling is))) count
 
-pub past_given : (names : Texts) (pp new : Pp) (run : Stream) (after : ℕ) (x : Token) (f : Refusal) → is_pulling pp.stage ≡ true → taken_of pp ≡ max_tokens → CallsAll names pp.state.table pp.run run pp.state.budget after (Ok (Some x))
+pub past_given : (names : Texts) (pp new : Pp) (run : Stream) (after : ℕ) (x : Token) (f : Refusal) → is_pulling pp.stage ≡ true → taken_of pp ≡ max_tokens
+    → CallsAll names pp.state.table pp.run run pp.state.budget after (Ok (Some x))
     → KnowsAll names pp.state.table pp.run run → run.end ≡ pp.run.end → run.refused ≡ None
-    → ((macros : Macros) (texts : Texts) → IsTable names pp.state.table macros → KeepsNumbers names texts → IsGoing names run → IsRefusedAt f x.pos (run_left (record { macros = macros; texts = texts }) run after))
+    → ((macros : Macros) (texts : Texts) → IsTable names pp.state.table macros → KeepsNumbers names texts → IsGoing names run
+    → IsRefusedAt f x.pos (run_left (record { macros = macros; texts = texts }) run after))
     → new.stage ≡ Refused f → taken_of new ≡ taken_of pp → Stays names names pp new
 past_given names pp new run after x f pulling full calls knows end none refused stage count =
     stays_pulling names names pp new pulling

@@ -1,11 +1,7 @@
 //! The run that is pulled.
-ghost use Rattle.std.specs.Prelude.{◌≡◌, ◌<◌, IfOk, IfSome};
-ghost use Rattle.srcset.specs.NameTable.{Texts, KeepsNumbers};
-ghost use Rattle.macros.specs.Macro.{Macros};
-ghost use Rattle.macros.specs.Table.{IsTable};
+ghost use Rattle.std.specs.Prelude.{◌≡◌};
 ghost use Rattle.pp_expand.specs.Streams.{refusal_of};
-ghost use Rattle.pp.specs.Left.{IsGoing, run_left};
-ghost use Rattle.pp.specs.inside.Calls.{CallsAll, KnowsAll, IsRefusedAt};
+ghost use Rattle.pp.specs.inside.Calls.{CallsAll, KnowsAll, RefusesAll};
 
 use crate::state::State;
 use macros::MacroTable;
@@ -40,7 +36,7 @@ fn refusal_by<'a>(
     at: Pos,
     names: &Names,
 ) -> Refusal
-    ensures { (macros : Macros) (texts : Texts) → IsTable names.now table.now macros → KeepsNumbers names.now texts → IsGoing names.now run.old → IsRefusedAt result at (run_left (record { macros = macros; texts = texts }) run.old budget.old) }
+    ensures { RefusesAll names.now table.now run.old budget.old result at }
 {
     'behind: loop {
         match run.try_next(alloc, table, budget, names) {
@@ -65,7 +61,7 @@ pub fn refusal_behind<'a>(
     at: Pos,
     names: &Names,
 ) -> Refusal
-    ensures refused { (macros : Macros) (texts : Texts) → IsTable names.now state.old.table macros → KeepsNumbers names.now texts → IsGoing names.now run.old → IsRefusedAt result at (run_left (record { macros = macros; texts = texts }) run.old state.old.budget) }
+    ensures refused { RefusesAll names.now state.old.table run.old state.old.budget result at }
     ensures same { state.new ≡ record state.old { budget = state.new.budget } }
 {
     refusal_by(alloc, run, &state.table, &mut state.budget, at, names)

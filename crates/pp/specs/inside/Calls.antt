@@ -12,6 +12,7 @@ use Rattle.pp_expand.specs.Expansion.{Known, Fault}
 use Rattle.pp_expand.specs.Expands.{ending_of}
 use Rattle.pp_expand.specs.Pulled.{pulled}
 use Rattle.pp_expand.specs.Streams.{Stream, list_left, Knows, IsPulled}
+use Rattle.pp.specs.Left.{IsGoing, run_left}
 
 -- the first token of what is left, and what is left behind it; with so many replacements left before and after
 abbrev pub Calls : Known → Stream → Stream → ℕ → ℕ → Result (Option Token) Refusal → Type 0
@@ -33,3 +34,9 @@ abbrev pub IsRefusedAt : Refusal → Pos → Result (List Token × ℕ) Fault �
 IsRefusedAt Memory at left = Unit {0}
 IsRefusedAt (At c p) at left = (left ≡ Err (record { code = c; at = p })) ⊎ ((a : List Token × ℕ) × (left ≡ Ok a) × (c ≡ code.TokenLimit) × (p ≡ at))
 IsRefusedAt (Told c p n) at left = ⊥
+
+-- the same by the macros of this table and for later texts too
+abbrev pub RefusesAll : Texts → Table → Stream → ℕ → Refusal → Pos → Type 0
+RefusesAll names table run left refusal at =
+    (macros : Macros) (texts : Texts) → IsTable names table macros → KeepsNumbers names texts → IsGoing names run
+    → IsRefusedAt refusal at (run_left (record { macros = macros; texts = texts }) run left)

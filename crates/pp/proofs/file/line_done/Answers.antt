@@ -24,7 +24,8 @@ pub returns-clause-stands : goal.returns-clause-stands
 returns-clause-stands c around p o keeps st =
     let l = line_with c.args.line.now (first_end (drop c.args.index c.args.file.now.ends)) in
     let begun = not_in_run c.args.file.now.run.begun (role_of c.args.line.now) c.requires.ended (ap is_text (sym c.in-Some.ensures) ∙ text_meant c.in-Some.role) in
-    directive_stands c.directive_done.result c.args.names.now c.directive_done.new.names c.args.state.now c.args.state.now c.directive_done.new.state c.args.file.now.run c.directive_done.new.file.run around c.args.file.now.conditionals c.directive_done.new.file.conditionals c.in-Some.role l p o (sym c.in-Some.ensures) st
+    directive_stands c.directive_done.result c.args.names.now c.directive_done.new.names c.args.state.now c.args.state.now c.directive_done.new.state c.args.file.now.run
+    c.directive_done.new.file.run around c.args.file.now.conditionals c.directive_done.new.file.conditionals c.in-Some.role l p o (sym c.in-Some.ensures) st
     (ap (λ r. r.begun) c.directive_done.ensures.run ∙ begun) (ap (λ r. r.tokens) c.directive_done.ensures.run ∙ c.requires.idle begun)
     (still_goes around.texts c.args.names.now c.args.state.now c.args.file.now.run.begun st.text st.now begun st.agrees) c.directive_done.ensures.given
     (λ s a. c.directive_done.ensures.rests around p s keeps a)

@@ -9,8 +9,10 @@ use Rattle.pp.proofs.includes.include_done.Goals as goal
 
 pub returns-then-not-is_active-clause-waits : goal.returns-then-not-is_active-clause-waits
 returns-then-not-is_active-clause-waits c texts end p o keeps st =
-    line_skipped c.args.names.now c.args.state.now c.args.state.now c.args.file.now.run c.args.file.now.run (around_with c.args.room c.args.set.now texts) c.args.file.now.conditionals c.args.line.now end p o
-    c.requires.include st c.requires.ended c.requires.idle (still_goes texts c.args.names.now c.args.state.now c.args.file.now.run.begun st.text st.now c.requires.ended st.agrees) (sym c.is_active.ensures ∙ c.if-not-is_active.true)
+    line_skipped c.args.names.now c.args.state.now c.args.state.now c.args.file.now.run c.args.file.now.run
+    (around_with c.args.room c.args.set.now texts) c.args.file.now.conditionals c.args.line.now end p o
+    c.requires.include st c.requires.ended c.requires.idle (still_goes texts c.args.names.now c.args.state.now c.args.file.now.run.begun st.text st.now c.requires.ended
+    st.agrees) (sym c.is_active.ensures ∙ c.if-not-is_active.true)
 
 pub returns-in_err-source-clause-waits : goal.returns-in_err-source-clause-waits
 returns-in_err-source-clause-waits c texts end p o keeps st =

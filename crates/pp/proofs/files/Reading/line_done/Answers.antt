@@ -17,7 +17,8 @@ include_done-requires-clause-ended c =
 
 pub include_done-requires-clause-idle : goal.include_done-requires-clause-idle
 include_done-requires-clause-idle c =
-    c.requires.idle (idle_by c.args.self.now c.in-Some.line.now (sym c.in-Some.ensures) c.requires.ended (ap is_text (include_role c.in-Some.line.now (sym c.is_include.ensures ∙ c.if-is_include.true))))
+    c.requires.idle (idle_by c.args.self.now c.in-Some.line.now (sym c.in-Some.ensures) c.requires.ended
+    (ap is_text (include_role c.in-Some.line.now (sym c.is_include.ensures ∙ c.if-is_include.true))))
 
 pub line_done-requires-clause-ended : goal.line_done-requires-clause-ended
 line_done-requires-clause-ended c = ended_by c.args.self.now c.in-Some.line.now (sym c.in-Some.ensures) c.requires.ended

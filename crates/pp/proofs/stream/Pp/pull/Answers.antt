@@ -44,7 +44,8 @@ returns-else-self-lt-MAX_TOKENS-clause-pulled c =
     let same = c.pull_run.ensures.same in
     let count = ap (λ (s : Held). s.given) same in
     let full : taken_of pp ≡ max_tokens = omega (arith, c.if-self-lt-MAX_TOKENS.false, count, c.requires.few) in
-    past_given names pp (with_state c.refusal_behind-refusal.new.state c.refusal_behind-refusal.new.run (Refused f) pp) run left c.in-Some.token f (sym c.is_pulling.ensures ∙ c.if-not-is_pulling.false) full
+    past_given names pp (with_state c.refusal_behind-refusal.new.state c.refusal_behind-refusal.new.run (Refused f) pp) run left c.in-Some.token f
+    (sym c.is_pulling.ensures ∙ c.if-not-is_pulling.false) full
     (subst (λ o. CallsAll names pp.state.table pp.run run pp.state.budget left (Ok o)) c.in-Some.is c.in-Ok.ensures.pulls) c.pull_run.ensures.known c.pull_run.ensures.end c.in-Ok.ensures.refused
     (λ macros texts is keeps g.
     subst (λ at. IsRefusedAt f at (run_left (record { macros = macros; texts = texts }) run left)) c.pos.ensures
@@ -55,5 +56,6 @@ pub returns-in-Err-clause-pulled : goal.returns-in-Err-clause-pulled
 returns-in-Err-clause-pulled c =
     let pp = c.args.self.now in
     let f = c.in-Err.refusal in
-    err_given c.args.names.now pp (with_state c.pull_run.new.state c.pull_run.new.run (Refused f) pp) c.pull_run.new.run c.pull_run.new.state.budget f (sym c.is_pulling.ensures ∙ c.if-not-is_pulling.false) c.in-Err.ensures.pulls refl
+    err_given c.args.names.now pp (with_state c.pull_run.new.state c.pull_run.new.run (Refused f) pp) c.pull_run.new.run c.pull_run.new.state.budget f
+    (sym c.is_pulling.ensures ∙ c.if-not-is_pulling.false) c.in-Err.ensures.pulls refl
     (ap (λ (s : Held). s.given) c.pull_run.ensures.same)

@@ -26,7 +26,8 @@ steps-preserved c =
 pub returns-in-Some-clause-answer : goal.returns-in-Some-clause-answer
 returns-in-Some-clause-answer c =
     let l = c.steps in
-    first_answer c.args.names.now l.names c.args.self.now l.self c.pull.new.self c.in-Some.token l.invariant.stays (subst (λ o. IsPulled o l.names l.self c.pull.new.self) c.in-Some.is c.pull.ensures.pulled)
+    first_answer c.args.names.now l.names c.args.self.now l.self c.pull.new.self c.in-Some.token l.invariant.stays
+    (subst (λ o. IsPulled o l.names l.self c.pull.new.self) c.in-Some.is c.pull.ensures.pulled)
 
 pub returns-then-not-is_reading-clause-answer : goal.returns-then-not-is_reading-clause-answer
 returns-then-not-is_reading-clause-answer c =
