@@ -1,6 +1,6 @@
 -- What the lines of a file come to.
 use Rattle.std.proofs.Common.{◌≡◌, ◌<◌, ◌≤◌, ℕ, zero, suc, List, [], ◌∷◌, ◌++◌, length, drop, Bool, true, false, Option, Some, None, Result, Ok, Err, OnOk, IfErr, refl, sym, ap, subst, ◌∙◌, arith}
-use Rattle.std.specs.Prelude.{slice_get}
+use Rattle.std.specs.Prelude.{slice_get, not, ◌&&◌}
 use Rattle.std.specs.List.{list_all}
 use Rattle.std.proofs.lemmas.Option.{none-some}
 use Rattle.srcset.specs.declared.refusal.Refusal.{Refusal}
@@ -15,16 +15,16 @@ use Rattle.pp.specs.declared.state.State.{State as Held}
 use Rattle.pp.specs.declared.words.Role.{Role as Word}
 use Rattle.pp.specs.declared.words.Role.TheVariants as word
 use Rattle.pp.specs.Lines.{Line, lines_with, first_end}
-use Rattle.pp.specs.Groups.{ends, of_text, role_of, Parsed, to_end, in_first, with_text, with_line, parsed, groups}
+use Rattle.pp.specs.Groups.{ends, Role, of_text, is_text, role_of, Parsed, to_end, in_first, with_text, with_line, parsed, groups}
 use Rattle.pp.specs.Phase4.{State, Presumed, Outcome, stops, ◌>>=◌, Around, presume, group_done}
 use Rattle.pp.specs.Rest.{pending, nowhere, is_active, rest_done}
 use Rattle.pp.specs.inside.Pending.{run_ended}
-use Rattle.pp.specs.Queue.{Given}
 use Rattle.pp.specs.Held.{presumed_of, IsGiven, Agrees}
-use Rattle.pp.specs.Left.{Stands}
+use Rattle.pp.specs.declared.files.Reading.{Reading}
+use Rattle.pp.specs.Left.{Stands, is_text_line, ends_run}
 use Rattle.pp.specs.inside.Stepping.{role_meant, first_of, presumed_by, placed, behind_line, line_with, Goes, StopsAs, Ends, EndsAs, RestsOrStops, StandsOrStops}
 use Rattle.pp.proofs.GroupLemmas.{and_left, and_right}
-use Rattle.pp.proofs.RestLemmas.{is_text, in_none, text_joined, text_rest, line_rest, end_rest, end_alone, end_open, whole_rest}
+use Rattle.pp.proofs.RestLemmas.{in_none, text_joined, text_rest, line_rest, end_rest, end_alone, end_open, whole_rest}
 use Rattle.pp.proofs.StateLemmas.{append_files, true-false}
 
 pub keeps_through : (a b c : Texts) → KeepsNumbers a b → KeepsNumbers b c → KeepsNumbers a c
@@ -78,7 +78,7 @@ pub stops_same : {A : Type 0} (given : List Token) (names : Texts) (r : Refusal)
 stops_same given names r o whole e s = subst (StopsAs given names r) (sym e) s
 
 -- what stops with what is given ends all
-pub ends_with : {A : Type 0} (held new : Given) (given : List Token) (names : Texts) (r : Refusal) (o : Outcome A) → new ≡ held → IsGiven held given → StopsAs given names r o → EndsAs new names r o
+pub ends_with : {A : Type 0} (held new : ℕ) (given : List Token) (names : Texts) (r : Refusal) (o : Outcome A) → new ≡ held → IsGiven held given → StopsAs given names r o → EndsAs new names r o
 ends_with held new given names Memory o e g s = tt
 ends_with held new given names (At c at) o e g s = record { given = given; given_is = subst (λ h. IsGiven h given) (sym e) g; stops = s }
 ends_with held new given names (Told c at n) o e g s = record { given = given; given_is = subst (λ h. IsGiven h given) (sym e) g; told = s }
@@ -153,7 +153,35 @@ text_nothing names held run around os l p o text out st =
 
 -- ---- a directive
 
-text_meant : (w : Word) → is_text (role_meant w) ≡ false
+-- no run has begun where a directive stands
+pub not_in_run : (b : Bool) (r : Role) → (b && not (is_text r)) ≡ false → is_text r ≡ false → b ≡ false
+not_in_run true r e t = absurd (true-false (sym (ap not t) ∙ e))
+not_in_run false r e t = refl
+
+-- the same by the number of the line
+pub ended_by : (r : Reading) (ts : List Token) → slice_get r.lines r.next ≡ Some ts → ends_run r ≡ false → (r.file.run.begun && not (is_text (role_of ts))) ≡ false
+ended_by r ts e h = ap (λ o. r.file.run.begun && not (is_text_line o)) (sym e) ∙ h
+
+pub idle_by : (r : Reading) (ts : List Token) → slice_get r.lines r.next ≡ Some ts → ends_run r ≡ false → is_text (role_of ts) ≡ false → r.file.run.begun ≡ false
+idle_by r ts e h t = not_in_run r.file.run.begun (role_of ts) (ended_by r ts e h) t
+
+-- none has begun at the end of a file
+pub last_idle : (r : Reading) → length r.lines ≤ r.next → ends_run r ≡ false → r.file.run.begun ≡ false
+last_idle r past h = by_begun r.file.run.begun (ap (λ o. r.file.run.begun && not (is_text_line o)) (sym (past_none r.lines r.next past)) ∙ h)
+  where
+    past_none : (tss : List (List Token)) (i : ℕ) → length tss ≤ i → slice_get tss i ≡ None
+    past_none [] i h = refl
+    past_none (t ∷ tss) zero h = absurd (omega (arith, h))
+    past_none (t ∷ tss) (suc i) h = past_none tss i (omega (arith, h))
+
+    by_begun : (b : Bool) → (b && true) ≡ false → b ≡ false
+    by_begun true e = absurd (true-false e)
+    by_begun false e = refl
+
+pub still_goes : (texts names : Texts) (held : Held) (b : Bool) (xs : List Token) (s : State) → b ≡ false → Agrees names held s → Goes names held (run_ended texts b xs s)
+still_goes texts names held b xs s e a = record { after = s; agrees = a; goes_is = ap (λ b. run_ended texts b xs s) e }
+
+pub text_meant : (w : Word) → is_text (role_meant w) ≡ false
 text_meant word.Opens = refl
 text_meant word.Divides = refl
 text_meant word.Closes = refl
@@ -166,14 +194,6 @@ directive_is names held run around os w l p o e st =
     st.comes_to
     ∙ ap (λ r. rest_done around os (in_first (pending run.begun st.text) (with_line r l p)) st.now) e
     ∙ line_rest (role_meant w) around os run.begun st.text l p st.now (text_meant w) st.active
-
-pub run_stops : (refusal : Refusal) (names : Texts) (held new : Held) (run : Run) (around : Around) (os : List Open) (w : Word) (l : Line) (p : Parsed) (o : Outcome State)
-    → role_of l.tokens ≡ role_meant w → (st : Stands names held run around os (with_line (role_of l.tokens) l p) o) → new.given ≡ held.given
-    → StopsAs st.now.given names refusal (run_ended around.texts run.begun st.text st.now) → EndsAs new.given names refusal o
-run_stops refusal names held new run around os w l p o e st kept s =
-    ends_with held.given new.given st.now.given names refusal o kept st.agrees.given_is
-    (stops_all st.now.given names refusal (run_ended around.texts run.begun st.text st.now) o (λ s. rest_done around os (with_line (role_meant w) l p) s)
-    (directive_is names held run around os w l p o e st) s)
 
 pub directive_stands : {A : Type 0} → (result : Result A Refusal) (names after : Texts) (held between new : Held) (run run' : Run) (around : Around) (os os' : List Open) (w : Word) (l : Line) (p : Parsed) (o : Outcome State)
     → role_of l.tokens ≡ role_meant w → (st : Stands names held run around os (with_line (role_of l.tokens) l p) o)
@@ -207,12 +227,6 @@ directive_stands (Err r) names after held between new run run' around os os' w l
 end_is : (names : Texts) (held : Held) (run : Run) (around : Around) (os : List Open) (o : Outcome State) → (st : Stands names held run around os (to_end ends) o)
     → o ≡ (run_ended around.texts run.begun st.text st.now >>= λ s. rest_done around os (to_end ends) s)
 end_is names held run around os o st = st.comes_to ∙ end_rest around os run.begun st.text st.now st.active
-
-pub end_stops : (refusal : Refusal) (names : Texts) (held new : Held) (run : Run) (around : Around) (os : List Open) (o : Outcome State) → (st : Stands names held run around os (to_end ends) o) → new.given ≡ held.given
-    → StopsAs st.now.given names refusal (run_ended around.texts run.begun st.text st.now) → EndsAs new.given names refusal o
-end_stops refusal names held new run around os o st kept s =
-    ends_with held.given new.given st.now.given names refusal o kept st.agrees.given_is
-    (stops_all st.now.given names refusal (run_ended around.texts run.begun st.text st.now) o (λ s. rest_done around os (to_end ends) s) (end_is names held run around os o st) s)
 
 pub end_goes : (names : Texts) (held new : Held) (run : Run) (around : Around) (os : List Open) (o : Outcome State) → os ≡ [] → (st : Stands names held run around os (to_end ends) o)
     → Goes names new (run_ended around.texts run.begun st.text st.now) → Goes names new o

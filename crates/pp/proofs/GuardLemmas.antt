@@ -18,7 +18,7 @@ use Rattle.pp.specs.declared.conditionals.BranchState.{BranchState}
 use Rattle.pp.specs.declared.conditionals.BranchState.TheVariants.{Waiting, Skipped}
 use Rattle.pp.specs.declared.conditionals.Open.{Open}
 use Rattle.pp.specs.Lines.{Line, lines_with, first_end}
-use Rattle.pp.specs.Groups.{ends, Role, of_text, opens, divides, closes, stands_alone, role_of, place_of, Parsed, parsed, to_end, in_first, with_text, with_line, groups}
+use Rattle.pp.specs.Groups.{ends, Role, is_text, of_text, opens, divides, closes, stands_alone, role_of, place_of, Parsed, parsed, to_end, in_first, with_text, with_line, groups}
 use Rattle.pp.specs.Phase4.{State, Outcome, goes, ◌>>=◌, fails, Around, presumed_at, is_macro, asked, macro_asked, branch_taken, of_expansion, first_past, give, run_done, group_done, max_tokens, max_conditionals}
 use Rattle.pp.specs.inside.Guards.{AreGuarded, IsGuarded, IsDefined, Stays, IsGuardLine, is_blank, unplaced, opened_by, Passes, PassesLine, PassesTo}
 use Rattle.pp.specs.Rest.{pending, nowhere, is_active, taken_if, to_branch, next_branch, opening, closed_by, open_at, rest_done}
@@ -26,7 +26,7 @@ use Rattle.pp.specs.inside.Pending.{run_ended}
 use Rattle.pp.specs.inside.Stepping.{first_of, behind_first, line_with}
 use Rattle.pp.proofs.FileLemmas.{true_or_false, next_of, none_left, parsed_next, parsed_end}
 use Rattle.pp.proofs.PhaseLemmas.{begun_in, file_is}
-use Rattle.pp.proofs.RestLemmas.{is_text, in_none, text_joined, text_rest, line_rest, end_rest, skipped_rest, open_rest, divide_rest, close_rest, end_alone, whole_rest}
+use Rattle.pp.proofs.RestLemmas.{in_none, text_joined, text_rest, line_rest, end_rest, skipped_rest, open_rest, divide_rest, close_rest, end_alone, whole_rest}
 use Rattle.pp.proofs.StateLemmas.{true-false}
 
 -- ---- an empty run

@@ -12,6 +12,8 @@ pub mod PhaseLemmas
 pub mod ConditionLemmas
 pub mod LineLemmas
 pub mod FrontLemmas
+pub mod RunLemmas
+pub mod PullLemmas
 pub mod StreamLemmas
 pub mod StreamLaws
 pub mod CollectLemmas

@@ -8,7 +8,7 @@ use Rattle.pp.specs.declared.conditionals.BranchState.{BranchState}
 use Rattle.pp.specs.declared.conditionals.BranchState.TheVariants.{Waiting, Taken, Past, Skipped}
 use Rattle.pp.specs.declared.conditionals.Open.{Open}
 use Rattle.pp.specs.Lines.{Line}
-use Rattle.pp.specs.Groups.{Group, ends, run, directive, section, open_section, missing_end, unbalanced, Branches, no_branch, branch, Role, of_text, opens, divides, closes, stands_alone, role_of, is_else, place_of, Parsed, to_end, to_line, in_first, with_text, ended_by, whole_file, Tail, closed, unclosed, with_branch, divided_by, branch_ended, branches_from, with_section, with_line}
+use Rattle.pp.specs.Groups.{Group, ends, run, directive, section, open_section, missing_end, unbalanced, Branches, no_branch, branch, Role, of_text, opens, divides, closes, stands_alone, is_text, role_of, is_else, place_of, Parsed, to_end, to_line, in_first, with_text, ended_by, whole_file, Tail, closed, unclosed, with_branch, divided_by, branch_ended, branches_from, with_section, with_line}
 use Rattle.pp.specs.Phase4.{Fault, State, Outcome, goes, stops, ◌>>=◌, fails, Around, presumed_at, run_done, directive_done, max_conditionals, branch_taken, else_checked, end_checked, first_line, or_else, plain_fault, nested, skipped, branches_skipped, unless_fault, nested_done, taken_or_skipped, group_done, branches_done, branches_left}
 use Rattle.pp.specs.Rest.{pending, nowhere, is_taken, is_active, within, taken_if, to_branch, next_branch, opening, closed_by, open_at, divided, behind_group, rest_done}
 use Rattle.pp.specs.inside.Pending.{run_ended}
@@ -168,13 +168,6 @@ section_run xs (unclosed bs) = refl
 directive_run : (xs : List Token) (l : Line) (p : Parsed) → in_first (with_text xs) (in_first (λ g. directive l g) p) ≡ in_first (λ g. run xs g) (in_first (λ g. directive l g) p)
 directive_run xs l (to_end g) = refl
 directive_run xs l (to_line g m rest) = refl
-
-abbrev pub is_text : Role → Bool
-is_text of_text = true
-is_text opens = false
-is_text divides = false
-is_text closes = false
-is_text stands_alone = false
 
 line_run : (r : Role) (xs : List Token) (l : Line) (p : Parsed) → is_text r ≡ false
     → in_first (with_text xs) (with_line r l p) ≡ in_first (λ g. run xs g) (with_line r l p)

@@ -1,5 +1,5 @@
 -- Files that wait for those that they include.
-use Rattle.std.proofs.Common.{◌≡◌, ◌≤◌, ◌<◌, ◌-◌, ◌+◌, ◌*◌, ◌⊎◌, ℕ, zero, suc, List, [], ◌∷◌, length, drop, false, Result, Ok, Err, OnOk, refl, sym, ap, subst, ◌∙◌, arith, length-append}
+use Rattle.std.proofs.Common.{◌≡◌, ◌≤◌, ◌<◌, ◌-◌, ◌+◌, ◌*◌, ◌⊎◌, ℕ, zero, suc, List, [], ◌∷◌, length, drop, false, Result, Ok, Err, OnOk, refl, sym, ap, subst, ◌∙◌, arith}
 use Rattle.std.proofs.Math.Nat as nat
 use Rattle.srcset.specs.declared.code.Code.{Code}
 use Rattle.srcset.specs.declared.refusal.Pos.{Pos}
@@ -25,7 +25,6 @@ use Rattle.pp.specs.inside.Guards.{IsPassedOver}
 use Rattle.pp.specs.Left.{around_with, left_of, IsReading, AreWaiting, AreStacked, AreOpen, room_of, back_in, goes_on, resumed_all, Left, Stands}
 use Rattle.pp.specs.inside.Including.{Waits, IsOpened, weight, lines_left, weighed, size_of}
 use Rattle.pp.specs.Rest.{pending, nowhere, rest_done}
-use Rattle.pp.specs.Queue.{Given}
 use Rattle.pp.specs.Held.{presumed_of, IsGiven, Agrees, IsSound}
 use Rattle.pp.specs.inside.Stepping.{Goes, Stops, EndsAs}
 use Rattle.pp.proofs.FileLemmas.{stops_then, stops_same, ends_with, stands_first, no_files, true_or_false}
@@ -35,7 +34,7 @@ use Rattle.pp.proofs.StateLemmas.{still_within}
 
 -- ---- what is left stops
 
-stops_on : (set : Files) (texts : Texts) (room : ℕ) (is : List Includer) (given : List _) (f : Fault) → resumed_all set texts room is (stops given f) ≡ stops given f
+pub stops_on : (set : Files) (texts : Texts) (room : ℕ) (is : List Includer) (given : List _) (f : Fault) → resumed_all set texts room is (stops given f) ≡ stops given f
 stops_on set texts room [] given f = refl
 stops_on set texts room (i ∷ is) given f = stops_on set texts (suc room) is given f
 
@@ -43,7 +42,7 @@ ends_on : (c : Code) (at : Pos) (text : List ℕ) (given : List Token) (set : Fi
     → o ≡ resumed_all set texts room is inner → Stops given c at text inner → Stops given c at text o
 ends_on c at text given set texts room is inner o e s = record { stops_is = e ∙ ap (resumed_all set texts room is) s.stops_is ∙ stops_on set texts room is given _ }
 
-pub left_stops : (r : Refusal) (held : Given) (names : Texts) (set : Files) (texts : Texts) (room : ℕ) (is : List Includer) (inner o : Outcome State)
+pub left_stops : (r : Refusal) (held : ℕ) (names : Texts) (set : Files) (texts : Texts) (room : ℕ) (is : List Includer) (inner o : Outcome State)
     → o ≡ resumed_all set texts room is inner → EndsAs held names r inner → EndsAs held names r o
 left_stops Memory held names set texts room is inner o e s = tt
 left_stops (At c at) held names set texts room is inner o e s = record { given = s.given; given_is = s.given_is; stops = ends_on c at [] s.given set texts room is inner o e s.stops }
@@ -138,8 +137,8 @@ passed_whole : (old : State) (around : Around) (name bytes : List ℕ) (file : �
     → (file_done around name bytes old >>= resumed old) ≡ goes old
 passed_whole old around name bytes file p n = ap (λ o. o >>= resumed old) (p.nothing around name n)
 
-given_few : (held : Given) (given : List Token) → IsGiven held given → held.taken + length held.left ≤ max_tokens → length given ≤ max_tokens
-given_few held given g few = omega (arith, few, g.taken_is, ap length g.given_is, length-append g.taken held.left)
+given_few : (held : ℕ) (given : List Token) → IsGiven held given → held ≤ max_tokens → length given ≤ max_tokens
+given_few held given g few = omega (arith, few, g)
 
 pub passed_left : (names : Texts) (held : Held) (set : Files) (texts : Texts) (innermost : Reading) (is : List Includer) (source : Source) (made o : Outcome State)
     → Waits names held innermost.file set texts (room_of is) source (left_of innermost) made → o ≡ resumed_all set texts (room_of is) is made
@@ -194,6 +193,7 @@ pub resumed_open : (names : Texts) (innermost : Reading) (i : Includer) (is : Li
 resumed_open names innermost i is o = record {
   stacked = record { few = omega (arith, o.few); reading = o.waiting.0.reading; waiting = o.waiting.1 };
   has_files = no_files names i.reading.file.run.tokens o.waiting.0.tokens;
+  idle = λ b. o.waiting.0.tokens;
 }
 
 pub entered_open : (names : Texts) (held : Held) (innermost : Reading) (is : List Includer) (source : Source) (r : Reading) → AreOpen names innermost is → IsSound names held → length is < max_includes
@@ -205,6 +205,7 @@ entered_open names held innermost is source r o sound room begun tokens op = rec
     waiting = (record { begun = begun; tokens = tokens; has_file = sound.has_file; reading = o.stacked.reading }, o.stacked.waiting);
   };
   has_files = no_files names r.file.run.tokens op.fresh.tokens;
+  idle = λ b. op.fresh.tokens;
 }
 
 -- whatever became of the run of the innermost
@@ -269,10 +270,12 @@ stepped_reading old new r h n e l = record {
   bounded = omega (arith, e, r.bounded);
 }
 
-pub stepped_open : (names after : Texts) (old new : Reading) (is : List Includer) → AreOpen names old is → KeepsNumbers names after → HaveFiles after new.file.run.tokens → IsReading new → AreOpen after new is
-stepped_open names after old new is o keeps files r = record {
+pub stepped_open : (names after : Texts) (old new : Reading) (is : List Includer) → AreOpen names old is → KeepsNumbers names after → HaveFiles after new.file.run.tokens
+    → (new.file.run.begun ≡ false → new.file.run.tokens ≡ []) → IsReading new → AreOpen after new is
+stepped_open names after old new is o keeps files idle r = record {
   stacked = record { few = o.stacked.few; reading = r; waiting = waiting_grows names after is keeps o.stacked.waiting };
   has_files = files;
+  idle = idle;
 }
 
 pub has_place : (max n : ℕ) → 0 < max - n → n < max
@@ -309,4 +312,5 @@ main_open names source r is none op =
     subst (AreOpen names r) (sym none) (record {
       stacked = record { few = omega arith; reading = op.fresh.reading; waiting = tt };
       has_files = no_files names r.file.run.tokens op.fresh.tokens;
+      idle = λ b. op.fresh.tokens;
     })

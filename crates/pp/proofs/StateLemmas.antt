@@ -1,10 +1,9 @@
 -- What ends of runs and directives do to the state.
-use Rattle.std.proofs.Common.{◌≡◌, ◌≤◌, ◌<◌, ◌+◌, ℕ, zero, suc, List, [], ◌∷◌, ◌++◌, length, Bool, true, false, None, Result, Ok, Err, OnOk, IfErr, get_or, drop, take, ◌-◌, arith, slice_index_or, refl, sym, ap, subst, ⊎_elim, ◌∙◌}
-use Rattle.std.specs.Prelude.{slice_get, codes, if◌then◌else◌, map, ◌&&◌, Vec}
+use Rattle.std.proofs.Common.{◌≡◌, ◌≤◌, ◌<◌, ℕ, zero, suc, List, [], ◌∷◌, ◌++◌, length, Bool, true, false, Result, Ok, Err, OnOk, IfErr, get_or, drop, take, ◌-◌, arith, slice_index_or, refl, sym, ap, subst, ◌∙◌}
+use Rattle.std.specs.Prelude.{codes, if◌then◌else◌, map, ◌&&◌, Vec}
 use Rattle.std.specs.List.{flat_map}
 use Rattle.std.specs.declared.alloc.Global.{Global}
-use Rattle.std.proofs.lemmas.Bool.{cases_lt}
-use Rattle.std.proofs.lemmas.List.{take_all, length-take-le, length-drop}
+use Rattle.std.proofs.lemmas.List.{take_all, length-drop}
 use Rattle.std.proofs.lemmas.Option.{slice_get_within, slice_get-get_or}
 use Rattle.srcset.specs.declared.refusal.Pos.{Pos}
 use Rattle.srcset.specs.declared.refusal.Refusal.{Refusal}
@@ -18,14 +17,13 @@ use Rattle.macros.specs.Definition.{define, undefine}
 use Rattle.macros.specs.Table.{IsTable, Defines, IsDefineRefusal, Undefines, IsUndefineRefusal}
 use Rattle.pp_expand.specs.Expansion as expansion
 use Rattle.pp_expand.specs.Expansion.{Ending, Known, of_run, of_directive, expanded}
-use Rattle.pp_expand.specs.Expands.{HaveFiles, IsExpansion, put_behind}
+use Rattle.pp_expand.specs.Expands.{HaveFiles, IsExpansion}
 use Rattle.pp.specs.declared.state.State.{State as Held}
-use Rattle.pp.specs.Phase4.{Presumed, printable, State, Outcome, goes, stops, ◌>>=◌, Enter, presume, with_macros, undefined, fails, of_expansion, expand, give, first_past, run_done, include_done, line_done, named, directive_by, directive_done, max_tokens}
+use Rattle.pp.specs.Phase4.{Presumed, printable, State, Outcome, goes, stops, Enter, presume, with_macros, undefined, fails, of_expansion, expand, include_done, line_done, named, directive_by, directive_done, max_tokens}
 use Rattle.pp.specs.inside.Including.{is_include}
 use Rattle.pp.specs.inside.Pending.{is_directive}
-use Rattle.pp.specs.Queue.{Given}
 use Rattle.pp.specs.Held.{presumed_of, IsGiven, Agrees, IsSound}
-use Rattle.pp.specs.inside.Stepping.{presumed_by, placed, line_with, spaced_out, error_fault, error_done, Gives, Goes, Stops, StopsAs, Answers, Does, IsPast}
+use Rattle.pp.specs.inside.Stepping.{presumed_by, placed, line_with, spaced_out, error_fault, error_done, Gives, Goes, Stops, StopsAs, Answers, Does}
 
 pub on_ok : {A : Type 0} {P : Type 0} → (result : Result A Refusal) → P → OnOk result P
 on_ok (Ok u) p = p
@@ -50,7 +48,7 @@ append_files names (x ∷ xs) ys hx hy (suc i) t e = append_files names xs ys (�
 pub still_sound : (names after : Texts) (held new : Held) → KeepsNumbers names after → IsSound names held
     → new.given ≡ held.given → new.presumed ≡ held.presumed → IsSound after new
 still_sound names after held new keeps sound g p = record {
-  room = subst (λ v. v.taken + length v.left ≤ max_tokens) (sym g) sound.room;
+  room = subst (λ v. v ≤ max_tokens) (sym g) sound.room;
   has_file = subst (λ q. q.file < length after) (sym p) (still_within names after held.presumed.file keeps sound.has_file);
 }
 
@@ -102,125 +100,6 @@ undefines (Err r) names held new name at ok err b g p s a =
     (with_macros_stops s at at (undefine s.macros name) code.ReservedMacroName (err.undefined s.macros) refl)
 
 -- ---- the end of a run
-
-run_is : (texts names : Texts) (xs tokens : List Token) (held : Held) (s : State) (r : Result (List Token × ℕ) expansion.Fault)
-    → Agrees names held s → tokens ≡ placed (presumed_of held.presumed) xs
-    → expanded (record { macros = s.macros; texts = texts }) tokens of_run held.budget ≡ r
-    → run_done texts xs s ≡ (of_expansion s r >>= give s)
-unfolding run_done
-run_is texts names xs tokens held s r a t e =
-    let known : Known = record { macros = s.macros; texts = texts } in
-    ap (λ r. of_expansion s r >>= give s)
-    (ap (λ p. expanded known (placed p xs) of_run s.left) a.presumed_is
-    ∙ ap (λ ts. expanded known ts of_run s.left) (sym t)
-    ∙ ap (λ n. expanded known tokens of_run n) a.left_is ∙ e)
-
-pub run_fails : (refusal : Refusal) (texts names : Texts) (xs tokens : List Token) (held : Held) (left : ℕ) (s : State)
-    → Agrees names held s → tokens ≡ placed (presumed_of held.presumed) xs
-    → IsExpansion (Err refusal) held.budget left (expanded (record { macros = s.macros; texts = texts }) tokens of_run held.budget)
-    → StopsAs s.given names refusal (run_done texts xs s)
-run_fails Memory texts names xs tokens held left s a t e = tt
-run_fails (At c pos) texts names xs tokens held left s a t e = record {
-  stops_is = run_is texts names xs tokens held s (Err (record { code = c; at = pos })) a t e.0;
-}
-run_fails (Told c pos text) texts names xs tokens held left s a t e = absurd e
-
--- ---- tokens that are made as far as they are so many
-
-take_get : (k : ℕ) (xs : List Token) (i : ℕ) → i < k → slice_get (take k xs) i ≡ slice_get xs i
-take_get zero xs i h = absurd (omega (arith, h))
-take_get (suc k) [] i h = refl
-take_get (suc k) (x ∷ xs) zero h = refl
-take_get (suc k) (x ∷ xs) (suc i) h = take_get k xs i (omega (arith, h))
-
-zero_behind : (i n : ℕ) → n ≡ length {A = Token} [] + i → n ≡ i
-zero_behind i n e = omega (arith, e)
-
-get_behind : (before list : List Token) (i n : ℕ) → n ≡ length before + i → slice_get (before ++ list) n ≡ slice_get list i
-get_behind [] list i n e = ap (slice_get list) (zero_behind i n e)
-get_behind (b ∷ before) list i zero e = absurd (omega (arith, e))
-get_behind (b ∷ before) list i (suc n) e = get_behind before list i n (omega (arith, e))
-
--- where they are fewer, all are there
-all_made : (most : ℕ) (list : List Token) → length (take most list) < most → take most list ≡ list
-all_made most list h =
-    ⊎_elim
-    (λ (p : most < length list). absurd (omega (arith, h, p, length-take-le most list (omega (arith, p)))))
-    (λ (p : length list ≤ most). take_all most list p)
-    (cases_lt most (length list))
-
-append_nothing : (xs : List Token) → xs ++ [] ≡ xs
-append_nothing [] = refl
-append_nothing (x ∷ xs) = ap (λ l. x ∷ l) (append_nothing xs)
-
--- where none is left, all were taken
-pub all_taken : (held : Given) (given : List Token) → held.left ≡ [] → (g : IsGiven held given) → given ≡ g.taken
-all_taken held given none g = g.given_is ∙ ap (λ l. g.taken ++ l) none ∙ append_nothing g.taken
-
-room_behind : (held : Given) (given : List Token) (room : ℕ) → held.left ≡ [] → IsGiven held given → room ≡ max_tokens - held.taken → held.taken ≤ max_tokens → max_tokens ≡ length given + room
-room_behind held given room none g r few = omega (arith, r, few, g.taken_is, ap length (all_taken held given none g))
-
-given_more : (held new : Given) (given list : List Token) → held.left ≡ [] → IsGiven held given → new ≡ record { taken = held.taken; left = list } → IsGiven new (given ++ list)
-given_more held new given list none g e =
-    subst (λ n. IsGiven n (given ++ list)) (sym e)
-    (record { taken = g.taken; taken_is = g.taken_is; given_is = ap (λ l. l ++ list) (all_taken held given none g) })
-
-run_goes : {A : Type 0} → (result : Result A Refusal) (texts names : Texts) (xs tokens list made : List Token) (held new : Held) (s : State) (room most : ℕ) → room ≡ max_tokens - held.given.taken → most ≡ room + 1 → held.given.taken ≤ max_tokens
-    → held.given.left ≡ [] → Agrees names held s → tokens ≡ placed (presumed_of held.presumed) xs
-    → expanded (record { macros = s.macros; texts = texts }) tokens of_run held.budget ≡ Ok (list, new.budget)
-    → new.table ≡ held.table → new.presumed ≡ held.presumed → made ≡ take most list
-    → OnOk result (new.given ≡ record { taken = held.given.taken; left = made })
-    → OnOk result (held.given.taken + length made ≤ max_tokens)
-    → OnOk result (slice_get made room ≡ None)
-    → IfErr result (IsPast room made)
-    → Answers s.given result names new (run_done texts xs s)
-run_goes (Ok u) texts names xs tokens list made held new s room most r n few none a t e table p all ok fits within err =
-    let whole = all ∙ all_made most list (omega (arith, ap length all, r, n, few, fits)) in
-    record {
-      after = record s { left = new.budget; given = s.given ++ list };
-      agrees = record {
-        table_is = subst (λ n. IsTable names n s.macros) (sym table) a.table_is;
-        left_is = refl;
-        given_is = given_more held.given new.given s.given list none a.given_is (ok ∙ ap (λ (l : List Token). record { taken = held.given.taken; left = l }) whole);
-        presumed_is = a.presumed_is ∙ ap presumed_of (sym p);
-      };
-      goes_is = run_is texts names xs tokens held s (Ok (list, new.budget)) a t e
-          ∙ ap (λ o. first_past o (s.given ++ list) s (record s { left = new.budget }))
-          (get_behind s.given list room max_tokens (room_behind held.given s.given room none a.given_is r few) ∙ ap (λ l. slice_get l room) (sym whole) ∙ within);
-    }
-run_goes (Err Memory) texts names xs tokens list made held new s room most r n few none a t e table p all ok fits within err = tt
-run_goes (Err (At c at)) texts names xs tokens list made held new s room most r n few none a t e table p all ok fits within err =
-    let same = get_behind s.given list room max_tokens (room_behind held.given s.given room none a.given_is r few)
-    ∙ sym (take_get most list room (omega (arith, n))) ∙ ap (λ l. slice_get l room) (sym all) in
-    record {
-      stops_is = run_is texts names xs tokens held s (Ok (list, new.budget)) a t e
-          ∙ ap (λ o. first_past o (s.given ++ list) s (record s { left = new.budget })) (same ∙ err.1)
-          ∙ ap (λ k. stops s.given (record { code = k; at = err.0.pos; text = [] })) (sym err.2)
-          ∙ ap (λ q. stops s.given (record { code = c; at = q; text = [] })) (sym err.3);
-    }
-run_goes (Err (Told c at text)) texts names xs tokens list made held new s room most r n few none a t e table p all ok fits within err = absurd err
-
-less_nothing : (n : ℕ) → n - length {A = Token} [] ≡ n
-less_nothing n = omega arith
-
-pub run_puts : {A : Type 0} → (result : Result A Refusal) (texts names : Texts) (xs tokens list made before : List Token) (held new : Held) (old : Given) (s : State) (taken : ℕ)
-    → old ≡ held.given → taken ≡ held.given.taken → taken ≤ max_tokens → before ≡ []
-    → held.given.left ≡ [] → Agrees names held s → tokens ≡ placed (presumed_of held.presumed) xs
-    → expanded (record { macros = s.macros; texts = texts }) tokens of_run held.budget ≡ Ok (list, new.budget)
-    → new.table ≡ held.table → new.presumed ≡ held.presumed → made ≡ put_behind (max_tokens - taken + 1) before list
-    → OnOk result (new.given ≡ record { taken = old.taken; left = made })
-    → OnOk result (old.taken + length made ≤ max_tokens)
-    → OnOk result (slice_get made (max_tokens - old.taken) ≡ None)
-    → IfErr result (IsPast (max_tokens - old.taken) made)
-    → Answers s.given result names new (run_done texts xs s)
-run_puts result texts names xs tokens list made before held new old s taken o t few b none a place e table p all ok fits within err =
-    run_goes result texts names xs tokens list made held new s (max_tokens - held.given.taken) (max_tokens - taken + 1) refl (ap (λ n. max_tokens - n + 1) t) (subst (λ n. n ≤ max_tokens) t few)
-    none a place e table p
-    (all ∙ ap (λ l. put_behind (max_tokens - taken + 1) l list) b ∙ ap (λ n. take n list) (less_nothing (max_tokens - taken + 1)))
-    (subst (λ (g : Given). OnOk result (new.given ≡ record { taken = g.taken; left = made })) o ok)
-    (subst (λ (g : Given). OnOk result (g.taken + length made ≤ max_tokens)) o fits)
-    (subst (λ (g : Given). OnOk result (slice_get made (max_tokens - g.taken) ≡ None)) o within)
-    (subst (λ (g : Given). IfErr result (IsPast (max_tokens - g.taken) made)) o err)
 
 -- ---- directives
 

@@ -3,8 +3,10 @@ use Rattle.std.proofs.Common.{refl}
 use Rattle.srcset.specs.NameTable.{Texts, KeepsNumbers, NumbersOnce}
 use Rattle.pp.specs.declared.stream.Pp.{Pp}
 use Rattle.pp.specs.declared.stream.Stage.{Stage}
-use Rattle.pp.specs.declared.stream.Stage.TheVariants.{Reads, Ended, Refused}
+use Rattle.pp.specs.declared.stream.Stage.TheVariants.{Reads, Pulls, Ended, Refused}
 use Rattle.srcset.specs.declared.refusal.Refusal.TheVariants.{Memory, At, Told}
+use Rattle.macros.proofs.TableLemmas.{table_grows}
+use Rattle.pp_expand.proofs.Streams.{knows_more}
 use Rattle.pp.specs.Phase4.{Phase4}
 use Rattle.pp.specs.Stream.{RestBy, ReadsBy, IsRest, IsStream}
 use Rattle.pp.proofs.IncludeLemmas.{agrees_grows}
@@ -17,7 +19,18 @@ reads_grow Reads names after pp keeps r = (
   record {
     stacked = record { few = r.1.stacked.few; reading = r.1.stacked.reading; waiting = waiting_grows names after pp.files.includers.items keeps r.1.stacked.waiting };
     has_files = still_files names after pp.files.innermost.file.run.tokens keeps r.1.has_files;
+    idle = r.1.idle;
   },
+  r.2,
+)
+reads_grow Pulls names after pp keeps r = (
+  still_sound names after pp.state pp.state keeps r.0 refl refl,
+  record {
+    stacked = record { few = r.1.stacked.few; reading = r.1.stacked.reading; waiting = waiting_grows names after pp.files.includers.items keeps r.1.stacked.waiting };
+    has_files = still_files names after pp.files.innermost.file.run.tokens keeps r.1.has_files;
+    idle = r.1.idle;
+  },
+  r.2,
 )
 reads_grow Ended names after pp keeps r = tt
 reads_grow (Refused refusal) names after pp keeps r = tt
@@ -44,6 +57,23 @@ by_stage Reads names after texts pp rest keeps once r =
         };
         whole = r.left.whole;
       };
+      rest_is = r.rest_is;
+    }
+by_stage Pulls names after texts pp rest keeps once r =
+    let p = r.pulls in
+    record {
+      outcome = r.outcome;
+      inner = r.inner;
+      pulls = record {
+        now = p.now;
+        before = p.before;
+        table_is = table_grows names after pp.state.table p.now.macros keeps once p.table_is;
+        given_is = p.given_is;
+        presumed_is = p.presumed_is;
+        going = record { knows = knows_more names after keeps pp.run p.going.knows; end_is = p.going.end_is; not_refused = p.going.not_refused };
+        comes_to = p.comes_to;
+      };
+      whole = r.whole;
       rest_is = r.rest_is;
     }
 by_stage Ended names after texts pp rest keeps once r = r

@@ -38,6 +38,13 @@ pub data Role : Type 0 where
   closes : Role
   stands_alone : Role
 
+abbrev pub is_text : Role → Bool
+is_text of_text = true
+is_text opens = false
+is_text divides = false
+is_text closes = false
+is_text stands_alone = false
+
 abbrev pub word_role : Token → Role
 word_role x =
     if is_spelled (codes "if") x || is_spelled (codes "ifdef") x || is_spelled (codes "ifndef") x then opens

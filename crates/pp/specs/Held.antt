@@ -1,21 +1,18 @@
 -- What the state that a stream holds is to that of the definition.
-use Rattle.std.specs.Prelude.{◌≡◌, ◌≤◌, ◌<◌, ◌+◌, ◌++◌, suc, List, length}
+use Rattle.std.specs.Prelude.{◌≡◌, ◌≤◌, ◌<◌, ℕ, suc, List, length}
 use Rattle.srcset.specs.NameTable.{Texts}
 use Rattle.phases.specs.Token.{Token}
 use Rattle.macros.specs.Table.{IsTable}
 use Rattle.pp.specs.declared.places.Presumed.{Presumed as Places}
 use Rattle.pp.specs.declared.state.State.{State as Held}
 use Rattle.pp.specs.Phase4.{Presumed, State, max_tokens}
-use Rattle.pp.specs.Queue.{Given}
 
 abbrev pub presumed_of : Places → Presumed
 presumed_of p = record { from = suc p.behind; line = p.line; file = p.file }
 
--- these tokens are given: those that were taken, and those that were not
-pub record IsGiven (held : Given) (given : List Token) : Type 0 where
-  pub taken : List Token
-  pub taken_is : length taken ≡ held.taken
-  pub given_is : given ≡ taken ++ held.left
+-- so many tokens are given
+abbrev pub IsGiven : ℕ → List Token → Type 0
+IsGiven held given = length given ≡ held
 
 -- where names are numbered by these texts
 pub record Agrees (names : Texts) (held : Held) (s : State) : Type 0 where
@@ -26,5 +23,5 @@ pub record Agrees (names : Texts) (held : Held) (s : State) : Type 0 where
 
 -- the bounds that it keeps
 pub record IsSound (names : Texts) (held : Held) : Type 0 where
-  pub room : held.given.taken + length held.given.left ≤ max_tokens
+  pub room : held.given ≤ max_tokens
   pub has_file : held.presumed.file < length names

@@ -1,13 +1,19 @@
 -- What is left of the files that are open, the includers with the innermost first.
-use Rattle.std.specs.Prelude.{◌≡◌, ◌≤◌, ◌<◌, ◌-◌, ℕ, suc, List, [], ◌∷◌, length, drop, true, false}
+use Rattle.std.specs.Prelude.{◌≡◌, ◌≤◌, ◌<◌, ◌-◌, ◌+◌, ◌++◌, ◌&&◌, not, ℕ, suc, List, [], ◌∷◌, length, drop, slice_get, Bool, true, false, Option, Some, None, Result, Ok, Err}
 use Rattle.srcset.specs.NameTable.{Texts}
 use Rattle.phases.specs.Token.{Token}
+use Rattle.macros.specs.Table.{IsTable}
+use Rattle.pp_expand.specs.declared.run_end.RunEnd.TheVariants.{Run as OfRun}
+use Rattle.pp_expand.specs.Expansion as expansion
+use Rattle.pp_expand.specs.Expansion.{Known, of_run, shown_answer}
+use Rattle.pp_expand.specs.Pulled.{expanding}
+use Rattle.pp_expand.specs.Streams.{Stream, list_left, Knows}
 use Rattle.pp_expand.specs.Expands.{HaveFiles}
 use Rattle.pp.specs.declared.conditionals.Open.{Open}
 use Rattle.pp.specs.declared.run.Run.{Run}
 use Rattle.pp.specs.declared.state.State.{State as Held}
-use Rattle.pp.specs.Groups.{Parsed, in_first, parsed}
-use Rattle.pp.specs.Phase4.{State, Outcome, Around, presume, ◌>>=◌, entered, max_includes}
+use Rattle.pp.specs.Groups.{Parsed, is_text, role_of, in_first, parsed}
+use Rattle.pp.specs.Phase4.{State, Outcome, Around, presume, ◌>>=◌, of_expansion, give, entered, max_includes}
 use Rattle.pp.specs.Rest.{pending, is_active, rest_done}
 use Rattle.srcset.specs.Files.{Files}
 use Rattle.pp.specs.declared.files.Includer.{Includer}
@@ -25,6 +31,35 @@ pub record Stands (names : Texts) (held : Held) (run : Run) (around : Around) (o
   pub active : run.begun ≡ true → is_active os ≡ true
   pub comes_to : o ≡ rest_done around os (in_first (pending run.begun text) p) now
 
+-- behind what was given of a run
+abbrev pub with_front : List Token → Result (List Token × ℕ) expansion.Fault → Result (List Token × ℕ) expansion.Fault
+with_front before (Ok a) = Ok (before ++ a.0, a.1)
+with_front before (Err f) = Err f
+
+-- the expansion of what is left of a run, with so many replacements left
+abbrev pub run_left : Known → Stream → ℕ → Result (List Token × ℕ) expansion.Fault
+run_left known run left = shown_answer (expanding known (list_left known.texts run) of_run left)
+
+-- what a run does of which some was given
+abbrev pub run_comes : State → List Token → Result (List Token × ℕ) expansion.Fault → Outcome State
+run_comes s before left = of_expansion s (with_front before left) >>= give s
+
+-- a run that is expanded, and was not refused
+pub record IsGoing (names : Texts) (run : Stream) : Type 0 where
+  pub knows : Knows names run
+  pub end_is : run.end ≡ OfRun
+  pub not_refused : run.refused ≡ None
+
+-- what is left of a run of which some was given, and of a file behind it, comes to this
+pub record Pulling (names : Texts) (held : Held) (run : Stream) (around : Around) (os : List Open) (p : Parsed) (o : Outcome State) : Type 0 where
+  pub now : State
+  pub before : List Token
+  pub table_is : IsTable names held.table now.macros
+  pub given_is : length now.given + length before ≡ held.given
+  pub presumed_is : now.presumed ≡ presumed_of held.presumed
+  pub going : IsGoing names run
+  pub comes_to : o ≡ (run_comes now before (run_left (record { macros = now.macros; texts = around.texts }) run held.budget) >>= λ s. rest_done around os p s)
+
 -- where so many further files may be opened, one in the other
 abbrev pub around_with : ℕ → Files → Texts → Around
 around_with room files texts = record { texts = texts; enter = entered room files texts }
@@ -34,6 +69,14 @@ around_with room files texts = record { texts = texts; enter = entered room file
 -- the lines from the next on
 abbrev pub left_of : Reading → Parsed
 left_of r = parsed (drop r.next (lines_with r.lines r.file.ends))
+
+-- a run has begun, and no text line follows
+abbrev pub is_text_line : Option (List Token) → Bool
+is_text_line None = false
+is_text_line (Some ts) = is_text (role_of ts)
+
+abbrev pub ends_run : Reading → Bool
+ends_run r = r.file.run.begun && not (is_text_line (slice_get r.lines r.next))
 
 pub record IsReading (r : Reading) : Type 0 where
   pub within : r.next ≤ r.end
@@ -57,10 +100,11 @@ pub record AreStacked (names : Texts) (innermost : Reading) (is : List Includer)
   pub reading : IsReading innermost
   pub waiting : AreWaiting names is
 
--- the run of the innermost has places
+-- the run of the innermost has places, and no token before it begins
 pub record AreOpen (names : Texts) (innermost : Reading) (is : List Includer) : Type 0 where
   pub stacked : AreStacked names innermost is
   pub has_files : HaveFiles names innermost.file.run.tokens
+  pub idle : innermost.file.run.begun ≡ false → innermost.file.run.tokens ≡ []
 
 -- how many further files may be opened, one in the other
 abbrev pub room_of : List Includer → ℕ

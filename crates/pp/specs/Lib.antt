@@ -5,7 +5,6 @@ pub use Rattle.srcset.specs.Writing
 pub mod Lines
 pub mod Groups
 pub mod Phase4
-pub mod Queue
 pub mod Rest
 pub mod Held
 pub mod Left

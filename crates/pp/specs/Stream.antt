@@ -1,5 +1,5 @@
 -- Phase 4 as a stream that gives one token after the other.
-use Rattle.std.specs.Prelude.{◌≡◌, ◌≤◌, ◌⊎◌, ℕ, suc, List, [], ◌∷◌, drop, true, Option, Some, None, is_some, Result, Ok, Err, IfErr}
+use Rattle.std.specs.Prelude.{◌≡◌, ◌≤◌, ◌⊎◌, ℕ, suc, List, [], ◌∷◌, drop, true, false, Option, Some, None, is_some, Result, Ok, Err, IfErr}
 use Rattle.srcset.specs.declared.fault.Fault.{Fault as ToldFault}
 use Rattle.srcset.specs.declared.refusal.Refusal.{Refusal}
 use Rattle.srcset.specs.declared.refusal.Refusal.TheVariants.{Memory, At, Told}
@@ -8,17 +8,16 @@ use Rattle.srcset.specs.Refusal.{IsFaultOfRefusal}
 use Rattle.phases.specs.Token.{Token}
 use Rattle.pp.specs.declared.stream.Pp.{Pp}
 use Rattle.pp.specs.declared.stream.Stage.{Stage}
-use Rattle.pp.specs.declared.stream.Stage.TheVariants.{Reads, Ended, Refused}
+use Rattle.pp.specs.declared.stream.Stage.TheVariants.{Reads, Pulls, Ended, Refused}
 use Rattle.pp.specs.Phase4.{Fault, State, Outcome, Phase4, ending_of, max_tokens}
-use Rattle.pp.specs.Left.{AreOpen, Left}
-use Rattle.pp.specs.Queue.{is_nothing}
+use Rattle.pp.specs.Left.{around_with, AreOpen, ends_run, Left, left_of, Pulling, resumed_all, room_of}
 use Rattle.pp.specs.Held.{IsSound}
 
 -- ---- what is left
 
 -- how many tokens it gave
 abbrev pub taken_of : Pp → ℕ
-taken_of pp = pp.state.given.taken
+taken_of pp = pp.state.given
 
 -- what is left behind so many tokens
 abbrev pub left_behind : ℕ → Phase4 → Phase4
@@ -36,19 +35,29 @@ pub record ComesTo (names texts : Texts) (pp : Pp) (rest : Phase4) : Type 0 wher
   pub left : Left names pp.state pp.set.now texts pp.files.innermost pp.files.includers.items outcome
   pub rest_is : rest ≡ left_behind (taken_of pp) (ending_of outcome)
 
--- the tokens that are left, and this end
-abbrev pub ends_with : Pp → Option Fault → Phase4
-ends_with pp fault = record { tokens = pp.state.given.left; fault = fault }
+-- what is left of the run that is pulled, and of the open files behind it, comes to this
+pub record PullsTo (names texts : Texts) (pp : Pp) (rest : Phase4) : Type 0 where
+  pub outcome : Outcome State
+  pub inner : Outcome State
+  pub pulls : Pulling names pp.state pp.run (around_with (room_of pp.files.includers.items) pp.set.now texts) pp.files.innermost.file.conditionals (left_of pp.files.innermost) inner
+  pub whole : outcome ≡ resumed_all pp.set.now texts (room_of pp.files.includers.items) pp.files.includers.items inner
+  pub rest_is : rest ≡ left_behind (taken_of pp) (ending_of outcome)
+
+-- no token, and this end
+abbrev pub ends_with : Option Fault → Phase4
+ends_with fault = record { tokens = []; fault = fault }
 
 -- a stream without memory only says so
 abbrev pub RestBy : Stage → Texts → Texts → Pp → Phase4 → Type 0
 RestBy Reads names texts pp rest = ComesTo names texts pp rest
-RestBy Ended names texts pp rest = rest ≡ ends_with pp None
+RestBy Pulls names texts pp rest = PullsTo names texts pp rest
+RestBy Ended names texts pp rest = rest ≡ ends_with None
 RestBy (Refused Memory) names texts pp rest = Unit {0}
-RestBy (Refused (At c at)) names texts pp rest = rest ≡ ends_with pp (fault_meant texts (At c at))
-RestBy (Refused (Told c at n)) names texts pp rest = rest ≡ ends_with pp (fault_meant texts (Told c at n))
+RestBy (Refused (At c at)) names texts pp rest = rest ≡ ends_with (fault_meant texts (At c at))
+RestBy (Refused (Told c at n)) names texts pp rest = rest ≡ ends_with (fault_meant texts (Told c at n))
 
--- This is left of phase 4: the tokens of the runs that are whole, and how it ends. Names have these numbers now, and those of
+-- This is left of phase 4: the tokens of the runs that are whole, and how it ends. Nothing is said of the tokens of a run that ends in a
+-- fault. Names have these numbers now, and those of
 -- `texts` once all is read.
 abbrev pub IsRest : Texts → Texts → Pp → Phase4 → Type 0
 IsRest names texts pp rest = RestBy pp.stage names texts pp rest
@@ -57,7 +66,8 @@ IsRest names texts pp rest = RestBy pp.stage names texts pp rest
 
 -- the files that are read have numbers among these
 abbrev pub ReadsBy : Stage → Texts → Pp → Type 0
-ReadsBy Reads names pp = IsSound names pp.state × AreOpen names pp.files.innermost pp.files.includers.items
+ReadsBy Reads names pp = IsSound names pp.state × AreOpen names pp.files.innermost pp.files.includers.items × (ends_run pp.files.innermost ≡ false)
+ReadsBy Pulls names pp = IsSound names pp.state × AreOpen names pp.files.innermost pp.files.includers.items × (pp.files.innermost.file.run.begun ≡ false)
 ReadsBy Ended names pp = Unit {0}
 ReadsBy (Refused refusal) names pp = Unit {0}
 
@@ -71,7 +81,6 @@ pub record IsStream (names : Texts) (pp : Pp) : Type 0 where
 -- it refuses each further token like this
 pub record Refuses (pp : Pp) (refusal : Refusal) : Type 0 where
   pub stage_is : pp.stage ≡ Refused refusal
-  pub nothing_left : (refusal ≡ Memory) ⊎ (is_nothing pp.state.given.left ≡ true)
 
 -- the first token of what is left; or one of a run that ends in a fault, before that is told
 abbrev pub IsFirst : Token → Texts → Texts → Pp → Phase4 → Type 0

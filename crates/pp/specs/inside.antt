@@ -3,3 +3,4 @@ pub mod Including
 pub mod Pending
 pub mod Reading
 pub mod Stepping
+pub mod Calls

@@ -1,12 +1,12 @@
 //! The lines of a file, one after another.
-ghost use Rattle.std.specs.Prelude.{◌≡◌, ℕ, [], false, drop, OnOk};
+ghost use Rattle.std.specs.Prelude.{◌≡◌, ◌&&◌, ℕ, [], false, not, drop, OnOk};
 ghost use Rattle.std.specs.List.{list_all};
 ghost use Rattle.srcset.specs.NameTable.{Texts, KeepsNumbers};
 ghost use Rattle.srcset.specs.declared.refusal.Refusal.TheVariants.{At};
 ghost use Rattle.srcset.specs.declared.code.Code.TheVariants.{UnbalancedConditional};
 ghost use Rattle.pp_expand.specs.Expands.{HaveFiles};
 ghost use Rattle.pp.specs.Lines.{first_end, lines_with};
-ghost use Rattle.pp.specs.Groups.{Parsed, Group, ends, opens, divides, closes, stands_alone, role_of, to_end, with_line, groups};
+ghost use Rattle.pp.specs.Groups.{Parsed, Group, is_text, ends, opens, divides, closes, stands_alone, role_of, to_end, with_line, groups};
 ghost use Rattle.pp.specs.Phase4.{State as Done, Outcome, Around, group_done};
 ghost use Rattle.pp.specs.inside.Including.{is_include};
 ghost use Rattle.pp.specs.Rest.{nowhere, is_active, rest_done};
@@ -153,7 +153,7 @@ fn directive_done<'a>(
     }
 }
 
-/// Text goes to the run, unless it is skipped; a directive ends the run, and is done.
+/// Text goes to the run, unless it is skipped; a directive is done, before which the run has ended.
 pub fn line_done<'a>(
     alloc: Global,
     line: &[PpToken<'a>],
@@ -164,12 +164,14 @@ pub fn line_done<'a>(
 ) -> Result<(), Refusal>
     requires sound { IsSound names.old state.old }
     requires files { HaveFiles names.old file.old.run.tokens }
-    requires none { state.old.given.left ≡ [] }
+    requires ended { (file.old.run.begun && not (is_text (role_of line.now))) ≡ false }
+    requires idle { file.old.run.begun ≡ false → file.old.run.tokens ≡ [] }
     requires other { is_include line.now ≡ false }
     ensures stands { (around : Around) (p : Parsed) (o : Outcome Done) → KeepsNumbers names.new around.texts → Stands names.old state.old file.old.run around file.old.conditionals (with_line (role_of line.now) (line_with line.now (first_end (drop index file.old.ends))) p) o → StandsOrStops result names.new state.new file.new.run around file.new.conditionals p o }
     ensures sound { OnOk result (IsSound names.new state.new) }
-    ensures taken { state.new.given.taken ≡ state.old.given.taken }
+    ensures given { state.new.given ≡ state.old.given }
     ensures files { OnOk result (HaveFiles names.new file.new.run.tokens) }
+    ensures idle { file.new.run.begun ≡ false → file.new.run.tokens ≡ [] }
     ensures keeps { KeepsNumbers names.old names.new }
     ensures ends { file.new.ends ≡ file.old.ends }
 {
@@ -179,25 +181,14 @@ pub fn line_done<'a>(
         }
         return file.run.put_line(alloc, line, state.presumed);
     };
-    state.end_run(alloc, &mut file.run, names)?;
     directive_done(alloc, line, index, role, file, state, names)
 }
 
-/// The end of a file: no conditional may be open.
-pub fn end_done<'a>(
-    alloc: Global,
-    file: &mut OpenFile<'a>,
-    state: &mut State<'a>,
-    names: &Names,
-) -> Result<(), Refusal>
-    requires sound { IsSound names.now state.old }
-    requires files { HaveFiles names.now file.old.run.tokens }
-    requires none { state.old.given.left ≡ [] }
-    ensures answers { (around : Around) (o : Outcome Done) → KeepsNumbers names.now around.texts → Stands names.now state.old file.old.run around file.old.conditionals (to_end ends) o → EndsOrGoes result names.now state.new o }
-    ensures sound { OnOk result (IsSound names.now state.new) }
-    ensures taken { state.new.given.taken ≡ state.old.given.taken }
+/// The end of a file, before which its run has ended: no conditional may be open.
+pub fn end_done<'a>(file: &OpenFile<'a>, state: &State<'a>) -> Result<(), Refusal>
+    requires { file.now.run.begun ≡ false }
+    ensures { (names : Texts) (around : Around) (o : Outcome Done) → Stands names state.now file.now.run around file.now.conditionals (to_end ends) o → EndsOrGoes result names state.now o }
 {
-    state.end_run(alloc, &mut file.run, names)?;
     match file.conditionals.innermost() {
         None => Ok(()),
         Some(open) => Err(unbalanced(open.at)),

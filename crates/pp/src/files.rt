@@ -1,12 +1,12 @@
 //! The files that include one another.
-ghost use Rattle.std.specs.Prelude.{◌≡◌, ◌≤◌, ◌<◌, ◌+◌, ℕ, [], suc, true, false, length, Err, IfOk, IfErr, IfSome, OnOk, ◌⊎◌};
+ghost use Rattle.std.specs.Prelude.{◌≡◌, ◌≤◌, ◌<◌, ◌+◌, ℕ, [], suc, true, false, length, slice_get, Err, IfOk, IfErr, IfSome, OnOk, ◌⊎◌};
 ghost use Rattle.srcset.specs.Files.{Files as Set};
 ghost use Rattle.srcset.specs.NameTable.{Texts, KeepsNumbers};
 ghost use Rattle.srcset.specs.declared.refusal.Refusal.TheVariants.{Memory};
 ghost use Rattle.phases.specs.Lines.{scanned};
 ghost use Rattle.pp_expand.specs.Expands.{HaveFiles};
 ghost use Rattle.pp.specs.Phase4.{State as Done, Outcome, max_includes};
-ghost use Rattle.pp.specs.Left.{around_with, IsReading, AreStacked, AreOpen, left_of, resumed_all, Left, room_of, Stands};
+ghost use Rattle.pp.specs.Left.{around_with, is_text_line, ends_run, IsReading, AreStacked, AreOpen, left_of, resumed_all, Left, room_of, Stands};
 ghost use Rattle.pp.specs.inside.Including.{IsOpened, CanEnter, Waits, StandsOrWaits, LeftOrStops, LeftOrAnswers, LeftOrGoes, weight, size_of};
 ghost use Rattle.pp.specs.Held.{IsSound};
 ghost use Rattle.pp.specs.inside.Stepping.{Does, Goes};
@@ -19,6 +19,7 @@ use crate::places::Presumed;
 use crate::run::Run;
 use crate::scans::{Scanned, Scans};
 use crate::state::State;
+use crate::words::is_text;
 use srcset::{FileSet, Names, Refusal};
 use std::alloc::Global;
 use std::collections::VecDeque;
@@ -84,6 +85,17 @@ pub fn opened<'a>(
 }
 
 impl<'a> Reading<'a> {
+    // Whether the next line is text.
+    #[inline(always)]
+    fn is_before_text(&self) -> bool
+        ensures { result ≡ is_text_line (slice_get self.now.lines self.now.next) }
+    {
+        match self.lines.get(self.next) {
+            Some(line) => is_text(line),
+            None => false,
+        }
+    }
+
     // Does the next line. Gives the file that it includes, if it includes one; so many may still be opened, one in the other.
     fn line_done(
         &mut self,
@@ -94,15 +106,17 @@ impl<'a> Reading<'a> {
         names: &mut Names,
     ) -> Result<Option<Source<'a>>, Refusal>
         requires sound { IsSound names.old state.old }
-        requires none { state.old.given.left ≡ [] }
         requires files { HaveFiles names.old self.old.file.run.tokens }
+        requires ended { ends_run self.old ≡ false }
+        requires idle { self.old.file.run.begun ≡ false → self.old.file.run.tokens ≡ [] }
         requires reading { IsReading self.old }
         requires more { self.old.next < self.old.end }
         ensures waits { (texts : Texts) (o : Outcome Done) → KeepsNumbers names.new texts → Stands names.old state.old self.old.file.run (around_with room set.now texts) self.old.file.conditionals (left_of self.old) o → StandsOrWaits result names.new state.new self.new.file set.now texts room (left_of self.new) o }
         ensures ok { IfOk result (λ included. IfSome included (CanEnter names.new room self.new.file)) }
         ensures files { OnOk result (HaveFiles names.new self.new.file.run.tokens) }
+        ensures idle { self.new.file.run.begun ≡ false → self.new.file.run.tokens ≡ [] }
         ensures sound { OnOk result (IsSound names.new state.new) }
-        ensures taken { state.new.given.taken ≡ state.old.given.taken }
+        ensures given { state.new.given ≡ state.old.given }
         ensures keeps { KeepsNumbers names.old names.new }
         ensures next { self.new.next ≡ self.old.next + 1 }
         ensures end { self.new.end ≡ self.old.end }
@@ -114,7 +128,7 @@ impl<'a> Reading<'a> {
             unreachable!();
         };
         if is_include(line) {
-            return include_done(alloc, set, room, line, &mut self.file, state, names);
+            return include_done(alloc, set, room, line, &self.file, state, names);
         }
         line_done(alloc, line, index, &mut self.file, state, names)?;
         Ok(None)
@@ -122,6 +136,13 @@ impl<'a> Reading<'a> {
 }
 
 impl<'a> Files<'a> {
+    /// Whether a run has begun that ends here: no text line follows.
+    pub fn run_ends(&self) -> bool
+        ensures { result ≡ ends_run self.now.innermost }
+    {
+        self.innermost.file.run.begun && !self.innermost.is_before_text()
+    }
+
     /// The main file at its first line.
     pub fn new(alloc: Global, main: &Source<'a>) -> Result<Files<'a>, Refusal>
         requires { length main.now.bytes.now ≤ 1048576 }
@@ -227,13 +248,13 @@ impl<'a> Files<'a> {
         names: &mut Names,
     ) -> Result<(), Refusal>
         requires sound { IsSound names.old state.old }
-        requires none { state.old.given.left ≡ [] }
         requires open { AreOpen names.old self.old.innermost self.old.includers.items }
+        requires ended { ends_run self.old.innermost ≡ false }
         requires more { self.old.innermost.next < self.old.innermost.end }
         ensures left { (texts : Texts) (o : Outcome Done) → KeepsNumbers names.new texts → Left names.old state.old set.now texts self.old.innermost self.old.includers.items o → LeftOrStops result names.new state.new set.now texts self.new.innermost self.new.includers.items o }
         ensures open { OnOk result (AreOpen names.new self.new.innermost self.new.includers.items) }
         ensures sound { OnOk result (IsSound names.new state.new) }
-        ensures taken { state.new.given.taken ≡ state.old.given.taken }
+        ensures given { state.new.given ≡ state.old.given }
         ensures less { OnOk result (size_of self.new.innermost self.new.includers.items < size_of self.old.innermost self.old.includers.items) }
         ensures keeps { KeepsNumbers names.old names.new }
     {
@@ -244,28 +265,7 @@ impl<'a> Files<'a> {
         }
     }
 
-    // Ends the innermost file. Whether another goes on.
-    fn end_done(
-        &mut self,
-        alloc: Global,
-        state: &mut State<'a>,
-        names: &Names,
-    ) -> Result<bool, Refusal>
-        requires sound { IsSound names.now state.old }
-        requires none { state.old.given.left ≡ [] }
-        requires open { AreOpen names.now self.old.innermost self.old.includers.items }
-        requires last { self.old.innermost.end ≤ self.old.innermost.next }
-        ensures left { (texts : Texts) (set : Set) (o : Outcome Done) → KeepsNumbers names.now texts → Left names.now state.old set texts self.old.innermost self.old.includers.items o → LeftOrAnswers result names.now state.new set texts self.new.innermost self.new.includers.items o }
-        ensures open { IfOk result (λ more. more ≡ true → AreOpen names.now self.new.innermost self.new.includers.items) }
-        ensures sound { OnOk result (IsSound names.now state.new) }
-        ensures taken { state.new.given.taken ≡ state.old.given.taken }
-        ensures less { IfOk result (λ more. more ≡ true → size_of self.new.innermost self.new.includers.items < size_of self.old.innermost self.old.includers.items) }
-    {
-        end_done(alloc, &mut self.innermost.file, state, names)?;
-        Ok(self.leave(alloc, state))
-    }
-
-    /// Does the next line, or ends the innermost file. Whether anything is left.
+    /// Does the next line, or ends the innermost file. Whether anything is left. No run ends there: it is taken before.
     pub fn step(
         &mut self,
         alloc: Global,
@@ -274,12 +274,12 @@ impl<'a> Files<'a> {
         names: &mut Names,
     ) -> Result<bool, Refusal>
         requires sound { IsSound names.old state.old }
-        requires none { state.old.given.left ≡ [] }
         requires open { AreOpen names.old self.old.innermost self.old.includers.items }
+        requires ended { ends_run self.old.innermost ≡ false }
         ensures left { (texts : Texts) (o : Outcome Done) → KeepsNumbers names.new texts → Left names.old state.old set.now texts self.old.innermost self.old.includers.items o → LeftOrAnswers result names.new state.new set.now texts self.new.innermost self.new.includers.items o }
         ensures open { IfOk result (λ more. more ≡ true → AreOpen names.new self.new.innermost self.new.includers.items) }
         ensures sound { OnOk result (IsSound names.new state.new) }
-        ensures taken { state.new.given.taken ≡ state.old.given.taken }
+        ensures given { state.new.given ≡ state.old.given }
         ensures less { IfOk result (λ more. more ≡ true → size_of self.new.innermost self.new.includers.items < size_of self.old.innermost self.old.includers.items) }
         ensures keeps { KeepsNumbers names.old names.new }
     {
@@ -287,6 +287,7 @@ impl<'a> Files<'a> {
             self.line_done(alloc, set, state, names)?;
             return Ok(true);
         }
-        self.end_done(alloc, state, names)
+        end_done(&self.innermost.file, state)?;
+        Ok(self.leave(alloc, state))
     }
 }

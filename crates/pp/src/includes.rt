@@ -4,7 +4,6 @@ ghost use Rattle.std.specs.Str.{byte};
 ghost use Rattle.srcset.specs.Headers.{header_of};
 ghost use Rattle.srcset.specs.NameTable.{Texts, KeepsNumbers, NumbersOnce};
 ghost use Rattle.srcset.specs.declared.refusal.Refusal.TheVariants.{Memory};
-ghost use Rattle.pp_expand.specs.Expands.{HaveFiles};
 ghost use Rattle.pp.specs.Lines.{first_end};
 ghost use Rattle.pp.specs.Groups.{Parsed, role_of, with_line};
 ghost use Rattle.pp.specs.Phase4.{State as Done, Outcome, Enter, presume, built_in, file_meant, entered, is_header_kind, include_named, include_made, include_done};
@@ -220,31 +219,27 @@ fn included<'a>(
     string_named(alloc, set, room, &tokens, at, state, names)
 }
 
-/// Ends the run before an `#include`, and finds the file that is included; `None` where the line is skipped. So many files
-/// may still be opened, one in the other.
+/// The file that an `#include` names, before which the run has ended; `None` where the line is skipped. So many files may still
+/// be opened, one in the other.
 pub fn include_done<'a>(
     alloc: Global,
     set: &'a FileSet,
     room: usize,
     line: &[PpToken<'a>],
-    file: &mut OpenFile<'a>,
+    file: &OpenFile<'a>,
     state: &mut State<'a>,
     names: &mut Names,
 ) -> Result<Option<Source<'a>>, Refusal>
     requires sound { IsSound names.old state.old }
-    requires files { HaveFiles names.old file.old.run.tokens }
-    requires none { state.old.given.left ≡ [] }
+    requires ended { file.now.run.begun ≡ false }
+    requires idle { file.now.run.tokens ≡ [] }
     requires include { is_include line.now ≡ true }
-    ensures waits { (texts : Texts) (end : ℕ) (p : Parsed) (o : Outcome Done) → KeepsNumbers names.new texts → Stands names.old state.old file.old.run (around_with room set.now texts) file.old.conditionals (with_line (role_of line.now) (line_with line.now end) p) o → StandsOrWaits result names.new state.new file.new set.now texts room p o }
+    ensures waits { (texts : Texts) (end : ℕ) (p : Parsed) (o : Outcome Done) → KeepsNumbers names.new texts → Stands names.old state.old file.now.run (around_with room set.now texts) file.now.conditionals (with_line (role_of line.now) (line_with line.now end) p) o → StandsOrWaits result names.new state.new file.now set.now texts room p o }
     ensures ok { IfOk result (λ included. IfSome included (CanRead names.new room)) }
     ensures sound { OnOk result (IsSound names.new state.new) }
-    ensures taken { state.new.given.taken ≡ state.old.given.taken }
-    ensures begun { OnOk result (file.new.run.begun ≡ false) }
-    ensures tokens { OnOk result (file.new.run.tokens ≡ []) }
-    ensures ends { file.new.ends ≡ file.old.ends }
+    ensures given { state.new.given ≡ state.old.given }
     ensures keeps { KeepsNumbers names.old names.new }
 {
-    state.end_run(alloc, &mut file.run, names)?;
     if !file.conditionals.is_active() {
         return Ok(None);
     }

@@ -13,7 +13,7 @@ mod line_directive;
 mod places;
 mod preprocessing;
 mod printing;
-mod queue;
+mod pulling;
 mod run;
 mod scans;
 mod state;

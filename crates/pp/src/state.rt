@@ -1,43 +1,39 @@
 //! What phase 4 has done so far, and what ends of runs and directives do to it.
-ghost use Rattle.std.specs.Prelude.{◌≡◌, ◌<◌, List, true, false, [], length, drop, codes, IfOk, IfErr, OnOk};
+ghost use Rattle.std.specs.Prelude.{◌≡◌, ◌<◌, true, false, length, drop, codes, IfOk, IfErr, OnOk};
 ghost use Rattle.srcset.specs.NameTable.{Texts, KeepsNumbers};
 ghost use Rattle.srcset.specs.declared.refusal.Refusal.TheVariants.{At};
 ghost use Rattle.srcset.specs.declared.code.Code.TheVariants.{BadDirective};
-ghost use Rattle.phases.specs.Token.{Token};
 ghost use Rattle.macros.specs.Macro.{is_spelled};
 ghost use Rattle.macros.specs.Definition.{define};
 ghost use Rattle.pp_expand.specs.Expansion.{of_directive};
 ghost use Rattle.pp_expand.specs.Expands.{HaveFiles};
 ghost use Rattle.pp.specs.Lines.{first_end};
-ghost use Rattle.pp.specs.Phase4.{State as Done, Enter, start, expand, presume, with_macros, undefined, run_done, named, directive_done};
+ghost use Rattle.pp.specs.Phase4.{State as Done, Enter, start, expand, presume, with_macros, undefined, named, directive_done};
 ghost use Rattle.pp.specs.inside.Including.{is_include};
-ghost use Rattle.pp.specs.inside.Pending.{is_directive, run_ended};
-ghost use Rattle.pp.specs.Held.{presumed_of, Agrees, IsSound};
-ghost use Rattle.pp.specs.inside.Stepping.{placed, line_with, Gives, StopsAs, Does};
+ghost use Rattle.pp.specs.inside.Pending.{is_directive};
+ghost use Rattle.pp.specs.Held.{Agrees, IsSound};
+ghost use Rattle.pp.specs.inside.Stepping.{line_with, Gives, StopsAs, Does};
 
 use crate::ends::LineEnds;
 use crate::error_directive::refusal_of;
 use crate::line_directive::line_done;
 use crate::places::Presumed;
-use crate::queue::{MAX_TOKENS, Queue};
-use crate::run::Run;
 use crate::words::is_spelled;
 use macros::{MacroTable, is_identifier};
 use phases::PpToken;
-use pp_expand::{Budget, RunEnd, Unexpanded, expand_behind, try_expand};
+use pp_expand::{Budget, RunEnd, try_expand};
 use srcset::{Code, Names, Pos, Refusal};
 use std::alloc::Global;
 
 /// The greatest number of replacements of macros.
 pub const MAX_REPLACEMENTS: u32 = 1048576;
 
-/// What was done so far: the macros, the replacements left, the tokens of whole runs, and how places are presumed. A run
-/// is given once those of the run before it are taken.
+/// What was done so far: the macros, the replacements left, how many tokens were given, and how places are presumed.
 #[derive(Drop)]
 pub struct State<'a> {
     pub table: MacroTable<'a>,
     pub budget: Budget,
-    pub given: Queue<'a>,
+    pub given: usize,
     pub presumed: Presumed,
 }
 
@@ -56,45 +52,13 @@ impl<'a> State<'a> {
     pub fn new(alloc: Global, file: usize) -> State<'a>
         ensures agrees { (names : Texts) → Agrees names result (record start { presumed = record { from = 1; line = 1; file = file } }) }
         ensures sound { (names : Texts) → file < length names → IsSound names result }
-        ensures none { result.given.taken ≡ 0 }
+        ensures none { result.given ≡ 0 }
     {
         State {
             table: MacroTable::new(alloc),
             budget: Budget::new(MAX_REPLACEMENTS),
-            given: Queue::new(alloc),
+            given: 0,
             presumed: Presumed::physical(file),
-        }
-    }
-
-    // Expands the tokens of a run, and gives what comes of them. Of those that are too many the first is made, for its place.
-    fn expand_run(
-        &mut self,
-        alloc: Global,
-        tokens: Unexpanded<'a>,
-        names: &Names,
-    ) -> Result<(), Refusal>
-        requires sound { IsSound names.now self.old }
-        requires files { HaveFiles names.now tokens }
-        requires none { self.old.given.left ≡ [] }
-        ensures does { (texts : Texts) (xs : List Token) → KeepsNumbers names.now texts → tokens.entry ≡ placed (presumed_of self.old.presumed) xs → Does result names.now self.old names.now self.new (run_done texts xs) }
-        ensures sound { OnOk result (IsSound names.now self.new) }
-        ensures kept { IfErr result (λ refusal. self.new.given ≡ self.old.given) }
-        ensures taken { self.new.given.taken ≡ self.old.given.taken }
-    {
-        let most = MAX_TOKENS - self.given.taken() + 1;
-        let mut made = self.given.room(alloc);
-        match expand_behind(
-            alloc,
-            &self.table,
-            tokens,
-            RunEnd::Run,
-            &mut self.budget,
-            names,
-            most,
-            &mut made,
-        ) {
-            Ok(()) => self.given.put(made),
-            Err(refusal) => Err(refusal),
         }
     }
 
@@ -121,31 +85,6 @@ impl<'a> State<'a> {
             names,
         )?;
         Ok(list)
-    }
-
-    /// Ends a run, where one has begun.
-    pub fn end_run(
-        &mut self,
-        alloc: Global,
-        run: &mut Run<'a>,
-        names: &Names,
-    ) -> Result<(), Refusal>
-        requires sound { IsSound names.now self.old }
-        requires files { HaveFiles names.now run.old.tokens }
-        requires none { self.old.given.left ≡ [] }
-        ensures does { (texts : Texts) (xs : List Token) → KeepsNumbers names.now texts → run.old.tokens ≡ placed (presumed_of self.old.presumed) xs → Does result names.now self.old names.now self.new (run_ended texts run.old.begun xs) }
-        ensures sound { OnOk result (IsSound names.now self.new) }
-        ensures begun { OnOk result (run.new.begun ≡ false) }
-        ensures tokens { OnOk result (run.new.tokens ≡ []) }
-        ensures kept { IfErr result (λ refusal. self.new.given ≡ self.old.given) }
-        ensures taken { self.new.given.taken ≡ self.old.given.taken }
-    {
-        let begun = run.begun;
-        let tokens = run.take(alloc);
-        if begun {
-            return self.expand_run(alloc, tokens, names);
-        }
-        Ok(())
     }
 
     // `#define` (ISO/IEC 9899:2011 6.10.3), by the tokens behind the name of the directive.

@@ -1,35 +1,46 @@
 //! Phase 4 as a stream of tokens.
-ghost use Rattle.std.specs.Prelude.{◌≡◌, ◌<◌, ◌&&◌, true, IfOk, IfErr};
+ghost use Rattle.std.specs.Prelude.{◌≡◌, ◌≤◌, ◌<◌, true, false, None, IfOk, IfErr};
 ghost use Rattle.srcset.specs.NameTable.{Texts, KeepsNumbers};
-ghost use Rattle.pp.specs.Phase4.{Phase4, phase4};
+ghost use Rattle.pp.specs.Phase4.{Phase4, phase4, max_tokens};
 ghost use Rattle.pp.specs.Preprocessed.{IsRefused, IsPreprocessFault};
 ghost use Rattle.pp.specs.Stream.{taken_of, IsRest, IsStream, IsAnswer, IsToldAnswer};
-ghost use Rattle.pp.specs.inside.Reading.{stage_after, is_reading, is_starved, is_waiting, end_of, size_by};
+ghost use Rattle.pp.specs.inside.Reading.{stage_after, is_reading, is_pulling, run_ends, end_of, size_by, OpenBy, IsPulled};
 
 use crate::files::Files;
 use crate::includes::Source;
+use crate::pulling::{pull_run, refusal_behind};
 use crate::state::State;
 use phases::PpToken;
+use pp_expand::{Expander, RunEnd};
 use srcset::{Code, Fault, FileSet, Names, Pos, Refusal};
 use std::alloc::Global;
+use std::mem;
+
+/// The greatest number of tokens after phase 4.
+const MAX_TOKENS: usize = 1048576;
 
 /// How far a stream is.
 #[derive(Clone, Copy)]
 pub enum Stage {
     /// Lines are left.
     Reads,
+    /// A run is pulled, and lines behind it are left.
+    Pulls,
     /// All lines are done.
     Ended,
     /// It was refused.
     Refused(Refusal),
 }
 
-/// The tokens after translation phase 4 of a set of files, one after the other (ISO/IEC 9899:2011 5.1.1.2, 6.10).
+/// The tokens after translation phase 4 of a set of files, one after the other (ISO/IEC 9899:2011 5.1.1.2, 6.10). Nothing of a
+/// run is expanded before it is asked for.
 #[derive(Drop)]
 pub struct Pp<'a> {
     set: &'a FileSet,
     files: Files<'a>,
     state: State<'a>,
+    // What is left of the run that is pulled, where one is.
+    run: Expander<'a>,
     stage: Stage,
 }
 
@@ -45,27 +56,29 @@ fn stage_after(done: Result<bool, Refusal>) -> Stage
 }
 
 impl Stage {
-    // Whether lines are left.
+    // Whether lines are read.
+    #[inline(always)]
     fn is_reading(self) -> bool
         ensures { result ≡ is_reading self }
     {
         match self {
             Stage::Reads => true,
+            Stage::Pulls => false,
             Stage::Ended => false,
             Stage::Refused(_) => false,
         }
     }
 
-    // Whether memory ran out.
-    fn is_starved(self) -> bool
-        ensures { result ≡ is_starved self }
+    // Whether a run is pulled.
+    #[inline(always)]
+    fn is_pulling(self) -> bool
+        ensures { result ≡ is_pulling self }
     {
         match self {
             Stage::Reads => false,
+            Stage::Pulls => true,
             Stage::Ended => false,
-            Stage::Refused(Refusal::Memory) => true,
-            Stage::Refused(Refusal::At { .. }) => false,
-            Stage::Refused(Refusal::Told { .. }) => false,
+            Stage::Refused(_) => false,
         }
     }
 }
@@ -102,6 +115,7 @@ impl<'a> Pp<'a> {
             set,
             files,
             state: State::new(alloc, file),
+            run: Expander::new(alloc, Vec::new(alloc), RunEnd::Run),
             stage: Stage::Reads,
         })
     }
@@ -127,19 +141,12 @@ impl<'a> Pp<'a> {
         }
     }
 
-    // Whether lines are left, and no token is.
-    fn is_waiting(&self) -> bool
-        ensures { result ≡ is_waiting self.now }
-    {
-        self.stage.is_reading() && self.state.given.is_empty()
-    }
-
     // Does the next line, or ends a file.
-    fn step(&mut self, alloc: Global, names: &mut Names)
+    fn read(&mut self, alloc: Global, names: &mut Names)
         requires stream { IsStream names.old self.old }
-        requires waits { is_waiting self.old ≡ true }
+        requires reads { is_reading self.old.stage ≡ true }
         ensures rest { (texts : Texts) (rest : Phase4) → KeepsNumbers names.new texts → IsRest names.old texts self.old rest → IsRest names.new texts self.new rest }
-        ensures stream { IsStream names.new self.new }
+        ensures open { OpenBy self.new.stage names.new self.new }
         ensures taken { taken_of self.new ≡ taken_of self.old }
         ensures less { size_by self.new.stage self.new < size_by self.old.stage self.old }
         ensures keeps { KeepsNumbers names.old names.new }
@@ -148,12 +155,88 @@ impl<'a> Pp<'a> {
         self.stage = stage_after(done);
     }
 
+    // Whether a run ends before the next line.
+    fn run_ends(&self) -> bool
+        ensures { result ≡ run_ends self.now }
+    {
+        self.stage.is_reading() && self.files.run_ends()
+    }
+
+    // Begins to pull the run that ends.
+    fn begin(&mut self, alloc: Global)
+        requires { run_ends self.old ≡ true }
+        ensures rest { (names texts : Texts) (rest : Phase4) → OpenBy self.old.stage names self.old → IsRest names texts self.old rest → IsRest names texts self.new rest }
+        ensures stream { (names : Texts) → taken_of self.old ≤ max_tokens → OpenBy self.old.stage names self.old → IsStream names self.new }
+        ensures taken { taken_of self.new ≡ taken_of self.old }
+        ensures size { size_by self.new.stage self.new ≡ size_by self.old.stage self.old }
+    {
+        let tokens = self.files.innermost.file.run.take(alloc);
+        let _before = mem::replace(&mut self.run, Expander::of(alloc, tokens, RunEnd::Run));
+        self.stage = Stage::Pulls;
+    }
+
+    // Does the next line, or ends a file. A run that ends behind it is pulled next.
+    fn step(&mut self, alloc: Global, names: &mut Names)
+        requires stream { IsStream names.old self.old }
+        requires reads { is_reading self.old.stage ≡ true }
+        ensures rest { (texts : Texts) (rest : Phase4) → KeepsNumbers names.new texts → IsRest names.old texts self.old rest → IsRest names.new texts self.new rest }
+        ensures stream { IsStream names.new self.new }
+        ensures taken { taken_of self.new ≡ taken_of self.old }
+        ensures less { size_by self.new.stage self.new < size_by self.old.stage self.old }
+        ensures keeps { KeepsNumbers names.old names.new }
+    {
+        self.read(alloc, names);
+        if self.run_ends() {
+            self.begin(alloc);
+        }
+    }
+
+    // The next token of the run that is pulled, where one is. Behind its last one lines are read.
+    #[inline(always)]
+    fn pull(&mut self, alloc: Global, names: &Names) -> Option<PpToken<'a>>
+        requires { IsStream names.now self.old }
+        ensures pulled { IsPulled result names.now self.old self.new }
+        ensures stream { IsStream names.now self.new }
+        ensures stage { result ≡ None → is_pulling self.new.stage ≡ false }
+        ensures size { size_by self.new.stage self.new ≤ size_by self.old.stage self.old }
+    {
+        if !self.stage.is_pulling() {
+            return None;
+        }
+        match pull_run(alloc, &mut self.run, &mut self.state, names) {
+            Ok(given) => {
+                let Some(token) = given else {
+                    self.stage = Stage::Reads;
+                    return None;
+                };
+                if self.state.given < MAX_TOKENS {
+                    self.state.given += 1;
+                    return Some(token);
+                }
+                let refusal = refusal_behind(
+                    alloc,
+                    &mut self.run,
+                    &mut self.state,
+                    token.pos(),
+                    names,
+                );
+                self.stage = Stage::Refused(refusal);
+                None
+            }
+            Err(refusal) => {
+                self.stage = Stage::Refused(refusal);
+                None
+            }
+        }
+    }
+
     // What the stream ends with.
     fn end(&self) -> Result<Option<PpToken<'a>>, Refusal>
         ensures { result ≡ end_of self.now.stage }
     {
         match self.stage {
             Stage::Reads => Ok(None),
+            Stage::Pulls => Ok(None),
             Stage::Ended => Ok(None),
             Stage::Refused(refusal) => Err(refusal),
         }
@@ -174,15 +257,14 @@ impl<'a> Pp<'a> {
         ensures stream { IsStream names.new self.new }
         ensures keeps { KeepsNumbers names.old names.new }
     {
-        'steps: while self.is_waiting() {
+        'steps: loop {
+            if let Some(token) = self.pull(alloc, names) {
+                return Ok(Some(token));
+            }
+            if !self.stage.is_reading() {
+                return self.end();
+            }
             self.step(alloc, names);
-        }
-        if self.stage.is_starved() {
-            return Err(Refusal::Memory);
-        }
-        match self.state.given.take() {
-            Some(token) => Ok(Some(token)),
-            None => self.end(),
         }
     }
 

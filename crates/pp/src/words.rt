@@ -1,7 +1,7 @@
 //! What a line is, by its first tokens.
 ghost use Rattle.std.specs.Prelude.{◌≡◌, ◌||◌, codes};
 ghost use Rattle.macros.specs.Macro.{is_spelled};
-ghost use Rattle.pp.specs.Groups.{word_role, hash_role, role_of, is_else, place_of};
+ghost use Rattle.pp.specs.Groups.{is_text, word_role, hash_role, role_of, is_else, place_of};
 ghost use Rattle.pp.specs.inside.Stepping.{role_meant, line_role_meant};
 
 use macros::{is_hash, is_identifier};
@@ -83,6 +83,17 @@ pub fn role_of(line: &[PpToken]) -> Option<Role>
         Some(hash_role(further))
     } else {
         None
+    }
+}
+
+/// Whether the line is text.
+#[inline(always)]
+pub fn is_text(line: &[PpToken]) -> bool
+    ensures { result ≡ is_text (role_of line.now) }
+{
+    match role_of(line) {
+        Some(_) => false,
+        None => true,
     }
 }
 

@@ -14,6 +14,7 @@ use macros_substitution::{HiddenToken, HideSet, HideSets};
 use srcset::Names;
 
 // Whether a set has the name with this number.
+#[inline(always)]
 fn has_name(sets: &HideSets, set: HideSet, number: Option<usize>) -> bool
     requires { set ≤ length sets.now }
     ensures { result ≡ has_number (members sets.now set) number }
@@ -25,6 +26,7 @@ fn has_name(sets: &HideSets, set: HideSet, number: Option<usize>) -> bool
 }
 
 /// The macro that a token names, unless the token hides it (ISO/IEC 9899:2011 6.10.3.4p2).
+#[inline(always)]
 pub(crate) fn named<'a, 't>(
     table: &'t MacroTable<'a>,
     names: &Names,

@@ -51,6 +51,7 @@ fn take_step<'a>(
 
 /// The first token of the expansion of a list, which is then the list left behind it; none where it ends. The replacements
 /// that are made until it stands are taken from those that are left.
+#[inline(always)]
 pub(crate) fn pull<'a>(
     alloc: Global,
     table: &MacroTable<'a>,

@@ -145,6 +145,7 @@ impl<'a> Expander<'a> {
     }
 
     /// The next token, as `next` gives it; a refusal names no file, and takes no memory.
+    #[inline(always)]
     pub fn try_next(
         &mut self,
         alloc: Global,

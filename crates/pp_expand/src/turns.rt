@@ -163,6 +163,7 @@ fn macro_turn<'a, 't>(
 }
 
 /// What the first token of a list does.
+#[inline(always)]
 pub(crate) fn take_turn<'a, 't>(
     alloc: Global,
     table: &'t MacroTable<'a>,

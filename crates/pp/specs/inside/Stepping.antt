@@ -21,7 +21,6 @@ use Rattle.pp.specs.declared.words.Role.TheVariants as word
 use Rattle.pp.specs.Lines.{Line}
 use Rattle.pp.specs.Groups.{place_of, Role, of_text, opens, divides, closes, stands_alone, Parsed}
 use Rattle.pp.specs.Phase4.{Fault, is_line_number, error_text, Presumed, State, Outcome, goes, stops, Around, with_first, defined_resolved}
-use Rattle.pp.specs.Queue.{Given}
 use Rattle.pp.specs.Held.{IsGiven, Agrees}
 use Rattle.pp.specs.Left.{Stands}
 use Rattle.pp.specs.Rest.{rest_done}
@@ -108,17 +107,17 @@ Does result names held names_after held_after step =
 -- ---- where it stops behind a run
 
 -- it stops with what is given here, and with this fault
-pub record Ends {A : Type 0} (held : Given) (c : Code) (at : Pos) (text : List ℕ) (o : Outcome A) : Type 0 where
+pub record Ends {A : Type 0} (held : ℕ) (c : Code) (at : Pos) (text : List ℕ) (o : Outcome A) : Type 0 where
   pub given : List Token
   pub given_is : IsGiven held given
   pub stops : Stops given c at text o
 
-pub record EndsTold {A : Type 0} (held : Given) (names : Texts) (c : Code) (at : Pos) (n : ℕ) (o : Outcome A) : Type 0 where
+pub record EndsTold {A : Type 0} (held : ℕ) (names : Texts) (c : Code) (at : Pos) (n : ℕ) (o : Outcome A) : Type 0 where
   pub given : List Token
   pub given_is : IsGiven held given
   pub told : StopsTold given names c at n o
 
-abbrev pub EndsAs : {A : Type 0} → Given → Texts → Refusal → Outcome A → Type 0
+abbrev pub EndsAs : {A : Type 0} → ℕ → Texts → Refusal → Outcome A → Type 0
 EndsAs held names Memory o = Unit {0}
 EndsAs held names (At c at) o = Ends held c at [] o
 EndsAs held names (Told c at n) o = EndsTold held names c at n o
@@ -142,12 +141,6 @@ RestsOrStops given (Err r) names held around os p o = StopsAs given names r o
 abbrev pub StandsOrStops : {A : Type 0} → Result A Refusal → Texts → Held → Run → Around → List Open → Parsed → Outcome State → Type 0
 StandsOrStops (Ok a) names held run around os p o = Stands names held run around os p o
 StandsOrStops (Err r) names held run around os p o = EndsAs held.given names r o
-
--- why so many tokens are refused: the place of the first behind those for which there is room
-abbrev pub IsPast : ℕ → List Token → Refusal → Type 0
-IsPast room all Memory = Unit {0}
-IsPast room all (At c at) = (t : Token) × (slice_get all room ≡ Some t) × (c ≡ code.TokenLimit) × (at ≡ t.pos)
-IsPast room all (Told c at text) = ⊥
 
 -- ---- lines, and what is asked of them
 

@@ -44,3 +44,8 @@ returns-clause-ok c texts keeps =
 
 pub returns-clause-keeps : goal.returns-clause-keeps
 returns-clause-keeps c = keeps_through c.args.names.now c.tokens.names c.try_next.new.names c.tokens.invariant.keeps c.in_ok-token.ensures.keeps
+
+pub returns-in_err-push-clause-err : goal.returns-in_err-push-clause-err
+returns-in_err-push-clause-err c =
+    let p = err_from_is_err_and c.from_residual-in_err-push.result c.from_residual-in_err-push.ensures.1 in
+    rw (p.1, p.2) (λ texts keeps. tt)

@@ -17,7 +17,7 @@ returns-in_err-line_done-clause-left c texts o keeps l =
 pub returns-in-None-clause-open : goal.returns-in-None-clause-open
 returns-in-None-clause-open c =
     let e = c.in_ok-line_done.ensures in
-    stepped_open c.args.names.now c.line_done.new.names c.args.self.now.innermost c.line_done.new.self c.args.self.now.includers.items c.requires.open e.keeps e.files
+    stepped_open c.args.names.now c.line_done.new.names c.args.self.now.innermost c.line_done.new.self c.args.self.now.includers.items c.requires.open e.keeps e.files e.idle
     (stepped_reading c.args.self.now.innermost c.line_done.new.self c.requires.open.stacked.reading c.requires.more e.next e.end e.lines)
 
 pub returns-in-None-clause-less : goal.returns-in-None-clause-less
@@ -44,7 +44,7 @@ returns-in-Some-clause-open c =
     let is = c.args.self.now.includers.items in
     let can = subst (λ x. IfSome x (CanEnter c.line_done.new.names c.room-room.result c.line_done.new.self.file)) c.in-Some.is e.ok in
     c.include.ensures.open
-    (stepped_open c.args.names.now c.line_done.new.names c.args.self.now.innermost c.line_done.new.self is c.requires.open e.keeps e.files
+    (stepped_open c.args.names.now c.line_done.new.names c.args.self.now.innermost c.line_done.new.self is c.requires.open e.keeps e.files e.idle
     (stepped_reading c.args.self.now.innermost c.line_done.new.self c.requires.open.stacked.reading c.requires.more e.next e.end e.lines))
     e.sound can.read.has_file (has_place max_includes (length is) (subst (λ n. 0 < n) c.room-room.ensures can.read.has_room)) can.begun can.tokens
 

@@ -1,18 +1,19 @@
-use Rattle.std.proofs.Common.{sym, ap, subst, ◌∙◌}
-use Rattle.pp.specs.declared.stream.Pp.{Pp}
-use Rattle.pp.specs.Phase4.{ending_of}
-use Rattle.pp.specs.Stream.{RestBy, left_behind}
-use Rattle.pp.specs.Queue.{is_nothing}
-use Rattle.pp.specs.inside.Reading.{is_reading}
-use Rattle.pp.proofs.GroupLemmas.{and_left}
-use Rattle.pp.proofs.StreamLemmas.{rest_now, stepped}
+use Rattle.std.proofs.Common.{◌≤◌, sym, ◌∙◌, arith}
+use Rattle.pp.specs.Phase4.{max_tokens}
+use Rattle.pp.specs.Stream.{taken_of}
+use Rattle.pp.proofs.StreamLemmas.{reads_on}
 use Rattle.pp.proofs.stream.Pp.step.Goals as goal
 
-pub returns-clause-rest : goal.returns-clause-rest
-returns-clause-rest c texts rest keeps r =
-    let pp = c.args.self.now in
-    let k = rest_now pp.stage c.args.names.now texts pp rest (and_left (is_reading pp.stage) (is_nothing pp.state.given.left) c.requires.waits) r in
-    let new : Pp = record { set = pp.set; files = c.step-done.new.self; state = c.step-done.new.state; stage = c.stage_after-self.result } in
-    subst (λ s. RestBy s c.step-done.new.names texts new rest) (sym c.stage_after-self.ensures)
-    (stepped c.step-done.result c.step-done.new.names texts new rest k.outcome keeps (c.step-done.ensures.left texts k.outcome keeps k.left)
-    (k.rest_is ∙ ap (λ n. left_behind n (ending_of k.outcome)) (sym c.step-done.ensures.taken)))
+pub returns-then-run_ends-clause-rest : goal.returns-then-run_ends-clause-rest
+returns-then-run_ends-clause-rest c texts rest keeps r = c.begin.ensures.rest c.read.new.names texts rest c.read.ensures.open (c.read.ensures.rest texts rest keeps r)
+
+pub returns-then-run_ends-clause-stream : goal.returns-then-run_ends-clause-stream
+returns-then-run_ends-clause-stream c =
+    let few : taken_of c.read.new.self ≤ max_tokens = omega (arith, c.requires.stream.few, c.read.ensures.taken) in
+    c.begin.ensures.stream c.read.new.names few c.read.ensures.open
+
+pub returns-else-run_ends-clause-stream : goal.returns-else-run_ends-clause-stream
+returns-else-run_ends-clause-stream c = record {
+  few = omega (arith, c.requires.stream.few, c.read.ensures.taken);
+  reads = reads_on c.read.new.self.stage c.read.new.names c.read.new.self (sym c.run_ends.ensures ∙ c.if-run_ends.false) c.read.ensures.open;
+}

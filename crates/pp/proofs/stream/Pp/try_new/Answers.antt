@@ -1,10 +1,11 @@
+use Rattle.std.specs.Prelude.{◌&&◌, not, slice_get}
 use Rattle.std.proofs.Common.{Some, [], sym, ap, ◌∙◌, arith}
 use Rattle.std.proofs.lemmas.Option.{slice_get_within}
 use Rattle.std.proofs.lemmas.Result.{err_from_is_err_and}
 use Rattle.pp.specs.declared.includes.Source.{Source}
 use Rattle.pp.specs.Phase4.{ending_of, file_done, start, max_includes}
 use Rattle.pp.specs.Stream.{left_behind}
-use Rattle.pp.specs.Left.{around_with}
+use Rattle.pp.specs.Left.{around_with, is_text_line}
 use Rattle.pp.proofs.PhaseLemmas.{number_kept, no_main_is, main_is, scan_stops, stopped_is}
 use Rattle.pp.proofs.StackLemmas.{main_left, main_open}
 use Rattle.pp.proofs.stream.Pp.try_new.Goals as goal
@@ -44,5 +45,6 @@ returns-clause-stream c =
       reads = (
         c.new-2.ensures.sound c.intern.new.self (slice_get_within c.intern.new.self c.in-Ok.file c.as_bytes.result.now c.in-Ok.ensures.text),
         main_open c.intern.new.self source files.innermost files.includers.items c.in_ok-files.ensures.ok.1 c.in_ok-files.ensures.ok.0,
+        ap (λ b. b && not (is_text_line (slice_get files.innermost.lines files.innermost.next))) c.in_ok-files.ensures.ok.0.fresh.begun,
       );
     }

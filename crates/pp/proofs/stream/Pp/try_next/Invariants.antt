@@ -1,13 +1,12 @@
 use Rattle.srcset.specs.NameTable.{KeepsNumbers}
 use Rattle.pp.specs.Stream.{IsStream}
-use Rattle.pp.specs.inside.Reading.{size_by}
-use Rattle.pp.proofs.StreamLemmas.{Reading}
+use Rattle.pp.specs.inside.Reading.{size_by, Stays}
 use Rattle.pp.proofs.stream.Pp.try_next.Given as goal
 
 abbrev pub invariant-steps : goal.invariant-steps
 invariant-steps l = record {
   stream : IsStream l.names l.self;
-  reading : Reading l.initial.names l.names l.initial.self l.self;
+  stays : Stays l.initial.names l.names l.initial.self l.self;
   keeps : KeepsNumbers l.initial.names l.names;
 }
 
