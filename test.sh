@@ -19,6 +19,7 @@ page         | python3                                  | sh tests/outside/page/
 boards       | python3                                  | sh tests/outside/boards/check.sh "$cc"
 hostile      | python3                                  | python3 tests/outside/hostile/check.py "$cc"
 bombs        | python3                                  | python3 tests/outside/hostile/bombs.py "$cc"
+memory       | python3                                  | python3 tests/outside/hostile/interp_memory.py "$cc"
 widths       | python3                                  | python3 tests/outside/widths/check.py "$cc"
 limits       | python3                                  | python3 tests/outside/limits/check.py "$cc"
 mutated      | python3                                  | python3 tests/outside/hostile/mutate.py "$cc" 600 1500
