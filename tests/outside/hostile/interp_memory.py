@@ -28,7 +28,7 @@ LOCAL = 'int f(int n) { int a[16]; a[3] = n; return f(a[3]); }\nint main(void) {
 ROWS = [
     ('statics of 16 MiB', STATICS, 0, 16 * MEBI - 64, 'element', 9),
     ('statics of 16 MiB in rows of one', ROWS_OF_ONE, 0, MEBI, 'element', 12),
-    ('an endless recursion', FOREVER, 124, TICKS // 8, 'call', 200),
+    ('an endless recursion', FOREVER, 124, TICKS // 8, 'call', 240),
     ('an endless recursion that passes an array', ARRAYS, 124, TICKS // 6, 'call', 600),
     ('an endless recursion with an array of 16', LOCAL, 124, TICKS // 15, 'call', 800),
 ]
