@@ -5,7 +5,8 @@
 
 Each row asks for many objects or many active calls. How many elements it has is read off the source; how many calls are active
 when the ticks are used follows from what takes a tick. The most resident memory is printed beside each row, and that of a program
-which does nothing is taken off it; what is left is held to so many bytes an element or a call.
+which does nothing is taken off it; what is left is held to so many bytes an element or a call. The bounds of an element are what was asked for; those of a call are what was
+measured and some room, so that a run which takes more is seen: 200 was asked for a call of one int.
 The last line is 'N passed, M failed'."""
 import os
 import resource
