@@ -17,11 +17,11 @@ use Rattle.cabs_store.specs.declared.machine.Machine.{Machine}
 use Rattle.cabs_store.specs.declared.scene.Scene.{Scene}
 use Rattle.cabs_store.specs.declared.frames.Frame.{Frame}
 use Rattle.cabs_store.specs.declared.frames.Step.{Step}
-use Rattle.cabs_store.specs.inside.Frames as on
-use Rattle.cabs_store.specs.inside.Frames.{moves, halts, leaves, calls, a_value}
-use Rattle.cabs_store.specs.inside.Steps.{left, called}
-use Rattle.cabs_store.specs.inside.Views.{step_of}
-use Rattle.cabs_store.specs.inside.Agrees.{Outside, state_in, onto, frames_of}
+use Rattle.cabs_store.specs.layer.Frames as on
+use Rattle.cabs_store.specs.layer.Frames.{moves, halts, leaves, calls, a_value}
+use Rattle.cabs_store.specs.layer.Steps.{left, called}
+use Rattle.cabs_store.specs.layer.Views.{step_of}
+use Rattle.cabs_store.specs.layer.Agrees.{Outside, state_in, onto, frames_of}
 use Rattle.cabs_transitions.specs.declared.tally.Tally.{Tally}
 use Rattle.cabs_transitions.specs.Tallied.{Tells}
 use Rattle.cabs_transitions.specs.Acts.{Acts, outside_behind}

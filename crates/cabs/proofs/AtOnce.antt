@@ -10,19 +10,19 @@ use Rattle.meaning.specs.Machine.{State, Ending, Goes, Stops, then_do}
 use Rattle.cabs_store.specs.declared.scene.Scene.{Scene}
 use Rattle.cabs_store.specs.declared.frames.Found.{Found}
 use Rattle.cabs_store.specs.declared.frames.Step.{Step}
-use Rattle.cabs_store.specs.inside.Frames as on
-use Rattle.cabs_store.specs.inside.Frames.{enters, leaves}
-use Rattle.cabs_store.specs.inside.Presents.{resume, presented, call_in}
-use Rattle.cabs_store.specs.inside.Views.{found_of}
-use Rattle.cabs_store.specs.inside.Agrees.{frames_of}
+use Rattle.cabs_store.specs.layer.Frames as on
+use Rattle.cabs_store.specs.layer.Frames.{enters, leaves}
+use Rattle.cabs_store.specs.layer.Presents.{resume, presented, call_in}
+use Rattle.cabs_store.specs.layer.Views.{found_of}
+use Rattle.cabs_store.specs.layer.Agrees.{frames_of}
 use Rattle.cabs_transitions.specs.declared.tally.Tally.{Tally}
 use Rattle.meaning_ports.specs.declared.port.PortFault.{PortFault}
 use Rattle.meaning_ports.specs.Port.{PortView}
 use Rattle.cabs_evaluator.specs.declared.clock.Clock.{Clock}
 use Rattle.cabs_evaluator.specs.declared.clock.Why.{Why}
 use Rattle.cabs_evaluator.specs.declared.clock.Why.TheVariants as why
-use Rattle.cabs_evaluator.specs.inside.Comes as part
-use Rattle.cabs_evaluator.specs.inside.Comes.{Course, state_at, Leads, Comes, DoesIn}
+use Rattle.cabs_evaluator.specs.layer.Comes as part
+use Rattle.cabs_evaluator.specs.layer.Comes.{Course, state_at, Leads, Comes, DoesIn}
 use Rattle.cabs.specs.declared.state.Interpreter.{Interpreter}
 use Rattle.cabs.specs.declared.outcome.Run.{Run}
 use Rattle.cabs.specs.declared.outcome.Run.TheVariants as run

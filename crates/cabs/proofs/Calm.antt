@@ -14,11 +14,11 @@ use Rattle.meaning.specs.Machine.{State, Run, Goes, Stops, then_do, choose, comp
 use Rattle.meaning.specs.Expressions.{Passed, Number, Referred, call_value, step_operation, step_value}
 use Rattle.meaning.specs.Statements.{Flow, Normal, Broken, Continued, Returned, zeros, characters, text_or_none, after_switch}
 use Rattle.meaning.specs.Meaning.{value_left}
-use Rattle.cabs_store.specs.inside.Frames as on
-use Rattle.cabs_store.specs.inside.Frames.{Found, a_value, a_place, a_flow, initialised, Late, puts_text, puts_zeros, enters_body, Step, enters, leaves, calls, Back, to_caller, to_end, Frame, Moved, moves, halts}
-use Rattle.cabs_store.specs.inside.Presents.{back_at}
-use Rattle.cabs_store.specs.inside.Steps.{at_once, goes, waits, started, asked_for, turned, looped, looped_after, turned_on, started_after, came_late, counted, listed, left_by_place, left_by_value, went_back, left_by_flow, left_initialised, left, entered_call, called}
-use Rattle.cabs_store.specs.inside.Agrees.{Outside, onto}
+use Rattle.cabs_store.specs.layer.Frames as on
+use Rattle.cabs_store.specs.layer.Frames.{Found, a_value, a_place, a_flow, initialised, Late, puts_text, puts_zeros, enters_body, Step, enters, leaves, calls, Back, to_caller, to_end, Frame, Moved, moves, halts}
+use Rattle.cabs_store.specs.layer.Presents.{back_at}
+use Rattle.cabs_store.specs.layer.Steps.{at_once, goes, waits, started, asked_for, turned, looped, looped_after, turned_on, started_after, came_late, counted, listed, left_by_place, left_by_value, went_back, left_by_flow, left_initialised, left, entered_call, called}
+use Rattle.cabs_store.specs.layer.Agrees.{Outside, onto}
 use Rattle.cabs_transitions.specs.Acts.{outside_of, outside_behind}
 use Rattle.cabs_transitions.specs.Calls.{IsInside}
 use Rattle.cabs.specs.inside.Standing.{is_return, history_left, entered_where, history_called, distance}

@@ -10,11 +10,11 @@ use Rattle.meaning.specs.History.{Entry}
 use Rattle.meaning.specs.Statements.{Returned}
 use Rattle.meaning.specs.Meaning.{start, cstep}
 use Rattle.cabs_store.specs.declared.scene.Scene.{Scene}
-use Rattle.cabs_store.specs.inside.Frames as on
-use Rattle.cabs_store.specs.inside.Frames.{Found, a_flow, Node, Step, enters, leaves, calls, to_end, Frame, Moved, moves, halts}
-use Rattle.cabs_store.specs.inside.Presents.{given, present, after, resume, resumed, call_in}
-use Rattle.cabs_store.specs.inside.Steps.{entered, left, entered_call, called}
-use Rattle.cabs_store.specs.inside.Agrees.{Outside, state_in, onto}
+use Rattle.cabs_store.specs.layer.Frames as on
+use Rattle.cabs_store.specs.layer.Frames.{Found, a_flow, Node, Step, enters, leaves, calls, to_end, Frame, Moved, moves, halts}
+use Rattle.cabs_store.specs.layer.Presents.{given, present, after, resume, resumed, call_in}
+use Rattle.cabs_store.specs.layer.Steps.{entered, left, entered_call, called}
+use Rattle.cabs_store.specs.layer.Agrees.{Outside, state_in, onto}
 use Rattle.cabs_store.proofs.Resumes.{node_enters, frame_leaves, call_acts, resume_more, run_begins}
 use Rattle.cabs_store.proofs.Adequate.{real}
 use Rattle.cabs_transitions.specs.Acts.{outside_of, outside_behind}

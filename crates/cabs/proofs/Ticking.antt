@@ -18,12 +18,12 @@ use Rattle.cabs_store.specs.declared.scene.Scene.{Scene}
 use Rattle.cabs_store.specs.declared.frames.Node.{Node}
 use Rattle.cabs_store.specs.declared.frames.Step.{Step}
 use Rattle.cabs_store.specs.declared.frames.Step.TheVariants as step
-use Rattle.cabs_store.specs.inside.Frames as on
-use Rattle.cabs_store.specs.inside.Frames.{moves, halts, enters, to_end, a_flow}
-use Rattle.cabs_store.specs.inside.Presents.{given, resumed, call_in}
-use Rattle.cabs_store.specs.inside.Steps.{entered, entered_call}
-use Rattle.cabs_store.specs.inside.Views.{step_of, node_of}
-use Rattle.cabs_store.specs.inside.Agrees.{Outside, state_in, onto, Agrees, Takes, frames_of}
+use Rattle.cabs_store.specs.layer.Frames as on
+use Rattle.cabs_store.specs.layer.Frames.{moves, halts, enters, to_end, a_flow}
+use Rattle.cabs_store.specs.layer.Presents.{given, resumed, call_in}
+use Rattle.cabs_store.specs.layer.Steps.{entered, entered_call}
+use Rattle.cabs_store.specs.layer.Views.{step_of, node_of}
+use Rattle.cabs_store.specs.layer.Agrees.{Outside, state_in, onto, Agrees, Takes, frames_of}
 use Rattle.cabs_store.proofs.Resumes.{run_begins}
 use Rattle.cabs_store.proofs.Adequate.{real}
 use Rattle.cabs_transitions.specs.declared.tally.Tally.{Tally}

@@ -7,9 +7,9 @@ ghost use Rattle.typing_program.specs.View.{callee_of};
 ghost use Rattle.meaning.specs.Expressions as meaning;
 ghost use Rattle.meaning_ports.specs.Port.{PortView};
 ghost use Rattle.typing_rules.specs.Program as typed;
-ghost use Rattle.cabs_store.specs.inside.Frames as on;
-ghost use Rattle.cabs_store.specs.inside.Agrees.{frames_of};
-ghost use Rattle.cabs_store.specs.inside.Views.{found_of, passed_of, step_of};
+ghost use Rattle.cabs_store.specs.layer.Frames as on;
+ghost use Rattle.cabs_store.specs.layer.Agrees.{frames_of};
+ghost use Rattle.cabs_store.specs.layer.Views.{found_of, passed_of, step_of};
 ghost use Rattle.cabs.specs.Interpreting.{Blames, Counts};
 ghost use Rattle.cabs.specs.inside.Standing.{ActMeets, BlamesUntil, CountsUntil, IsLeft, Nears, NearsFrom, Stands, StoppedBy, StoppingBy, Whole};
 

@@ -3,8 +3,8 @@
 ghost use Rattle.std.specs.Prelude.{◌≡◌, ◌<◌, ◌≤◌, ◌+◌, ℕ, List, Option, None, true};
 ghost use Rattle.std.specs.Bool.{OnTrue};
 ghost use Rattle.typing_rules.specs.Program as typed;
-ghost use Rattle.cabs_store.specs.inside.Frames as on;
-ghost use Rattle.cabs_store.specs.inside.Views.{node_of};
+ghost use Rattle.cabs_store.specs.layer.Frames as on;
+ghost use Rattle.cabs_store.specs.layer.Views.{node_of};
 ghost use Rattle.meaning_ports.specs.Port.{PortView};
 ghost use Rattle.cabs.specs.inside.Standing.{IsCalm, MeetsAt, Spends, Stands, Whole, stopped_for};
 

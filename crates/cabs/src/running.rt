@@ -3,8 +3,8 @@
 ghost use Rattle.std.specs.Prelude.{◌≡◌, ◌<◌, [], ℕ, List, Option, Some};
 ghost use Rattle.typing_rules.specs.Program as typed;
 ghost use Rattle.typing_program.specs.View.{program_of};
-ghost use Rattle.cabs_store.specs.inside.Frames as on;
-ghost use Rattle.cabs_store.specs.inside.Views.{node_of, step_of};
+ghost use Rattle.cabs_store.specs.layer.Frames as on;
+ghost use Rattle.cabs_store.specs.layer.Views.{node_of, step_of};
 ghost use Rattle.cabs.specs.Interpreting.{Blames, Counts, RunMeets};
 ghost use Rattle.cabs.specs.inside.Standing.{BlamesUntil, CountsUntil, Fresh, MeetsAt, RunStops, Runs, SettleMeets, Spends, Stands, Whole};
 

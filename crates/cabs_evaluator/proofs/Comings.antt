@@ -7,13 +7,13 @@ use Rattle.meaning.specs.Machine.{State, Run, Goes, Stops, then_do, tick}
 use Rattle.cabs_store.specs.declared.scene.Scene.{Scene}
 use Rattle.cabs_store.specs.declared.stop.Stop.{Stop}
 use Rattle.cabs_store.specs.declared.stop.Stop.TheVariants as stop
-use Rattle.cabs_store.specs.inside.Frames.{Found}
-use Rattle.cabs_store.specs.inside.Presents.{given}
-use Rattle.cabs_store.specs.inside.Agrees.{Outside, state_in, Runs}
+use Rattle.cabs_store.specs.layer.Frames.{Found}
+use Rattle.cabs_store.specs.layer.Presents.{given}
+use Rattle.cabs_store.specs.layer.Agrees.{Outside, state_in, Runs}
 use Rattle.cabs_evaluator.specs.declared.clock.Clock.{Clock}
 use Rattle.cabs_evaluator.specs.declared.clock.Why.{Why}
 use Rattle.cabs_evaluator.specs.declared.clock.Why.TheVariants as why
-use Rattle.cabs_evaluator.specs.inside.Comes.{Course, state_at, Leads, StopsBy, Comes, Idles, Gives}
+use Rattle.cabs_evaluator.specs.layer.Comes.{Course, state_at, Leads, StopsBy, Comes, Idles, Gives}
 
 pub then_assoc : {A B C : Type 0} (r : Run A) (f : A → State → Run B) (g : B → State → Run C) → then_do (then_do r f) g ≡ then_do r (λ a s. then_do (f a s) g)
 then_assoc (Goes a s) f g = refl

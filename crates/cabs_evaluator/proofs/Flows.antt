@@ -14,12 +14,12 @@ use Rattle.typing_program.specs.declared.initialisers.Initialiser.{Initialiser, 
 use Rattle.typing_program.specs.declared.initialisers.Initialiser as I
 use Rattle.typing_program.specs.View.{value_of, initialiser_of, statement_of, statements_of}
 use Rattle.cabs_store.specs.declared.scene.Scene.{Scene}
-use Rattle.cabs_store.specs.inside.Frames.{Found}
-use Rattle.cabs_store.specs.inside.Presents.{call_in, loop, tested}
-use Rattle.cabs_store.specs.inside.Agrees.{Outside, state_in}
+use Rattle.cabs_store.specs.layer.Frames.{Found}
+use Rattle.cabs_store.specs.layer.Presents.{call_in, loop, tested}
+use Rattle.cabs_store.specs.layer.Agrees.{Outside, state_in}
 use Rattle.cabs_store.proofs.Adequate.{real}
 use Rattle.cabs_store.proofs.Resumes.{tick_then_of}
-use Rattle.cabs_evaluator.specs.inside.Comes.{Course, Leads, valued, executed, all_executed, way_out}
+use Rattle.cabs_evaluator.specs.layer.Comes.{Course, Leads, valued, executed, all_executed, way_out}
 use Rattle.cabs_evaluator.proofs.Work.{work_all, work_statement}
 use Rattle.cabs_evaluator.proofs.Comings.{leads_as}
 

@@ -13,10 +13,10 @@ use Rattle.cabs_store.specs.declared.scene.Scene.{Scene}
 use Rattle.cabs_store.specs.declared.stop.Stop.{Stop}
 use Rattle.cabs_store.specs.declared.frames.Compound.{Compound}
 use Rattle.cabs_store.specs.declared.frames.Stepping.{Stepping}
-use Rattle.cabs_store.specs.inside.Frames.{Found}
-use Rattle.cabs_store.specs.inside.Agrees.{Outside, state_in, Runs, combined, stepped}
+use Rattle.cabs_store.specs.layer.Frames.{Found}
+use Rattle.cabs_store.specs.layer.Agrees.{Outside, state_in, Runs, combined, stepped}
 use Rattle.cabs_evaluator.specs.declared.clock.Clock.{Clock}
-use Rattle.cabs_evaluator.specs.inside.Comes.{Course, Leads, Comes, Gives}
+use Rattle.cabs_evaluator.specs.layer.Comes.{Course, Leads, Comes, Gives}
 use Rattle.cabs_evaluator.proofs.Comings.{gave, leads_as}
 
 pub runs_as : {A B : Type 0} (view : A → B) (x y : Run B) (r : Result A Stop) (s : State) → x ≡ y → Runs view x r s → Runs view y r s

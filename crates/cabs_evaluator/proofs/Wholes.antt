@@ -23,12 +23,12 @@ use Rattle.cabs_store.specs.View.{tree_of, reference_of}
 use Rattle.cabs_store.specs.declared.scene.Scene.{Scene}
 use Rattle.cabs_store.specs.declared.frames.Compound.{Compound}
 use Rattle.cabs_store.specs.declared.frames.Stepping.{Stepping}
-use Rattle.cabs_store.specs.inside.Frames.{Found}
-use Rattle.cabs_store.specs.inside.Agrees.{Outside, Runs, number, state_in, combined, stepped}
+use Rattle.cabs_store.specs.layer.Frames.{Found}
+use Rattle.cabs_store.specs.layer.Agrees.{Outside, Runs, number, state_in, combined, stepped}
 use Rattle.cabs_store.proofs.Trees.{get_map, got}
 use Rattle.cabs_store.proofs.Scenes.{stops_in, goes_on}
 use Rattle.cabs_store.proofs.Resumes.{tick_then_of}
-use Rattle.cabs_evaluator.specs.inside.Comes.{Course, Leads, Designates, IsPart, IsWhole, found}
+use Rattle.cabs_evaluator.specs.layer.Comes.{Course, Leads, Designates, IsPart, IsWhole, found}
 use Rattle.cabs_evaluator.proofs.Comings.{then_assoc, leads_as}
 use Rattle.cabs_evaluator.proofs.Flows.{leads_there}
 

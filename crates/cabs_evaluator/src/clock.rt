@@ -2,7 +2,7 @@
 
 ghost use Rattle.std.specs.Prelude.{◌≡◌, ◌+◌};
 ghost use Rattle.std.specs.Bool.{OnTrue, OnFalse};
-ghost use Rattle.cabs_evaluator.specs.inside.Comes.{Gives, Idles, StoppedBy};
+ghost use Rattle.cabs_evaluator.specs.layer.Comes.{Gives, Idles, StoppedBy};
 
 use cabs_store::Reference;
 use cabs_store::stop::Stop;

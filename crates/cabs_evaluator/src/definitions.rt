@@ -7,10 +7,10 @@ ghost use Rattle.meaning.specs.Machine.{Goes, then_do, tick, stored};
 ghost use Rattle.meaning.specs.Statements as meaning;
 ghost use Rattle.ctypes.specs.Types.{converted};
 ghost use Rattle.cabs_store.specs.View.{reference_of};
-ghost use Rattle.cabs_store.specs.inside.Presents.{call_in};
-ghost use Rattle.cabs_store.specs.inside.Views.{flow_of};
+ghost use Rattle.cabs_store.specs.layer.Presents.{call_in};
+ghost use Rattle.cabs_store.specs.layer.Views.{flow_of};
 ghost use Rattle.cabs_evaluator.specs.declared.clock.Why.TheVariants as why;
-ghost use Rattle.cabs_evaluator.specs.inside.Comes.{Does, executed, objects_in, valued};
+ghost use Rattle.cabs_evaluator.specs.layer.Comes.{Does, executed, objects_in, valued};
 
 use crate::clock::{Clock, Scope, Why};
 use crate::expressions::value;

@@ -9,8 +9,8 @@ ghost use Rattle.meaning.specs.Machine.{Goes, choose, read, subscripted, then_do
 ghost use Rattle.meaning.specs.Store.{whole};
 ghost use Rattle.meaning.specs.Expressions as meaning;
 ghost use Rattle.cabs_store.specs.View.{reference_of};
-ghost use Rattle.cabs_store.specs.inside.Agrees.{combined, number, stepped};
-ghost use Rattle.cabs_evaluator.specs.inside.Comes.{Does, found, valued};
+ghost use Rattle.cabs_store.specs.layer.Agrees.{combined, number, stepped};
+ghost use Rattle.cabs_evaluator.specs.layer.Comes.{Does, found, valued};
 
 use crate::clock::{Clock, Scope, Why};
 use crate::objects::{object_stepped, read_at, read_element, read_object, whole_object};

@@ -6,8 +6,8 @@ ghost use Rattle.typing_program.specs.View.{place_of, program_of, storage_of};
 ghost use Rattle.meaning.specs.Store.{whole};
 ghost use Rattle.meaning.specs.Machine.{designated, read, subscripted, then_do, tick};
 ghost use Rattle.cabs_store.specs.View.{reference_of};
-ghost use Rattle.cabs_store.specs.inside.Agrees.{Outside, Runs, number, state_in, stepped};
-ghost use Rattle.cabs_evaluator.specs.inside.Comes.{Does, Designates, IsPart, IsWhole, found};
+ghost use Rattle.cabs_store.specs.layer.Agrees.{Outside, Runs, number, state_in, stepped};
+ghost use Rattle.cabs_evaluator.specs.layer.Comes.{Does, Designates, IsPart, IsWhole, found};
 
 use crate::clock::{Clock, Scope};
 use cabs_store::Reference;

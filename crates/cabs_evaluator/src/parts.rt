@@ -2,11 +2,11 @@
 
 ghost use Rattle.std.specs.Prelude.{◌≡◌, None};
 ghost use Rattle.typing_program.specs.View.{program_of, statement_of, value_of};
-ghost use Rattle.cabs_store.specs.inside.Frames as on;
-ghost use Rattle.cabs_store.specs.inside.Presents.{call_in, given, presented};
-ghost use Rattle.cabs_store.specs.inside.Views.{found_of, node_of};
+ghost use Rattle.cabs_store.specs.layer.Frames as on;
+ghost use Rattle.cabs_store.specs.layer.Presents.{call_in, given, presented};
+ghost use Rattle.cabs_store.specs.layer.Views.{found_of, node_of};
 ghost use Rattle.cabs_evaluator.specs.declared.clock.Why.TheVariants as why;
-ghost use Rattle.cabs_evaluator.specs.inside.Comes.{Does, DoesIn, executed, objects_in, valued};
+ghost use Rattle.cabs_evaluator.specs.layer.Comes.{Does, DoesIn, executed, objects_in, valued};
 
 use crate::clock::{Clock, Scope, Why};
 use crate::expressions::value;

@@ -5,10 +5,10 @@ ghost use Rattle.typing_rules.specs.Program as typed;
 ghost use Rattle.typing_program.specs.View.{statement_of, statements_of, value_of};
 ghost use Rattle.meaning.specs.Machine.{Goes, tick};
 ghost use Rattle.meaning.specs.Expressions.{evaluate_or};
-ghost use Rattle.cabs_store.specs.inside.Agrees.{number};
-ghost use Rattle.cabs_store.specs.inside.Presents.{call_in, loop};
-ghost use Rattle.cabs_store.specs.inside.Views.{flow_of};
-ghost use Rattle.cabs_evaluator.specs.inside.Comes.{Does, all_executed, executed, objects_in, way_out};
+ghost use Rattle.cabs_store.specs.layer.Agrees.{number};
+ghost use Rattle.cabs_store.specs.layer.Presents.{call_in, loop};
+ghost use Rattle.cabs_store.specs.layer.Views.{flow_of};
+ghost use Rattle.cabs_evaluator.specs.layer.Comes.{Does, all_executed, executed, objects_in, way_out};
 
 use crate::clock::{Clock, Scope};
 use crate::definitions::{definition, left_out};

@@ -5,10 +5,10 @@ use Rattle.ctypes.specs.declared.types.IntType.{IntType}
 use Rattle.meaning.specs.Store.{Reference, into}
 use Rattle.meaning.specs.Machine.{State, stored}
 use Rattle.meaning.specs.Statements.{characters, zeros}
-use Rattle.cabs_store.specs.inside.Frames as on
-use Rattle.cabs_store.specs.inside.Frames.{Moved, moves, leaves}
-use Rattle.cabs_store.specs.inside.Steps.{goes}
-use Rattle.cabs_store.specs.inside.Agrees.{onto}
+use Rattle.cabs_store.specs.layer.Frames as on
+use Rattle.cabs_store.specs.layer.Frames.{Moved, moves, leaves}
+use Rattle.cabs_store.specs.layer.Steps.{goes}
+use Rattle.cabs_store.specs.layer.Agrees.{onto}
 use Rattle.cabs_steps.specs.Zeros.{one_zero, character_at}
 
 -- ---- an element that has its first value

@@ -4,9 +4,9 @@ use Rattle.std.specs.Prelude.{Result}
 use Rattle.cabs_store.specs.declared.stop.Stop.{Stop}
 use Rattle.cabs_store.specs.declared.machine.Machine.{Machine}
 use Rattle.cabs_store.specs.declared.frames.Step.{Step}
-use Rattle.cabs_store.specs.inside.Frames as on
-use Rattle.cabs_store.specs.inside.Steps.{entered}
-use Rattle.cabs_store.specs.inside.Agrees.{Takes}
+use Rattle.cabs_store.specs.layer.Frames as on
+use Rattle.cabs_store.specs.layer.Steps.{entered}
+use Rattle.cabs_store.specs.layer.Agrees.{Takes}
 use Rattle.cabs_store.proofs.Taken.{takes_as}
 
 -- a node is the one that it is

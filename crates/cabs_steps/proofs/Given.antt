@@ -15,10 +15,10 @@ use Rattle.cabs_store.specs.declared.machine.Machine.{Machine}
 use Rattle.cabs_store.specs.declared.frames.InitialiserFrame.{InitialiserFrame}
 use Rattle.cabs_store.specs.declared.frames.Late.{Late}
 use Rattle.cabs_store.specs.declared.frames.Step.{Step}
-use Rattle.cabs_store.specs.inside.Frames as on
-use Rattle.cabs_store.specs.inside.Steps.{came_late, counted, entered_initialiser, left_initialised, listed}
-use Rattle.cabs_store.specs.inside.Views.{initialiser_frame, late_of}
-use Rattle.cabs_store.specs.inside.Agrees.{Takes}
+use Rattle.cabs_store.specs.layer.Frames as on
+use Rattle.cabs_store.specs.layer.Steps.{came_late, counted, entered_initialiser, left_initialised, listed}
+use Rattle.cabs_store.specs.layer.Views.{initialiser_frame, late_of}
+use Rattle.cabs_store.specs.layer.Agrees.{Takes}
 use Rattle.cabs_store.proofs.Taken.{takes_as}
 
 -- what was to be done is what it is

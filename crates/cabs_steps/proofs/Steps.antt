@@ -18,11 +18,11 @@ use Rattle.cabs_store.proofs.Taken.{takes_as}
 use Rattle.cabs_store.specs.declared.frames.Found.{Found}
 use Rattle.cabs_store.specs.declared.frames.Step.{Step}
 use Rattle.cabs_store.specs.declared.frames.Step.TheVariants as step
-use Rattle.cabs_store.specs.inside.Frames as on
-use Rattle.cabs_store.specs.inside.Frames.{moves}
-use Rattle.cabs_store.specs.inside.Steps.{goes, waits, defines, entered_statement, from_label, left_by_value, left_by_flow}
-use Rattle.cabs_store.specs.inside.Views.{found_of, flow_of, control_frame, flow_frame}
-use Rattle.cabs_store.specs.inside.Agrees.{onto, Agrees, Takes}
+use Rattle.cabs_store.specs.layer.Frames as on
+use Rattle.cabs_store.specs.layer.Frames.{moves}
+use Rattle.cabs_store.specs.layer.Steps.{goes, waits, defines, entered_statement, from_label, left_by_value, left_by_flow}
+use Rattle.cabs_store.specs.layer.Views.{found_of, flow_of, control_frame, flow_frame}
+use Rattle.cabs_store.specs.layer.Agrees.{onto, Agrees, Takes}
 use Rattle.meaning.specs.Machine.{State}
 use Rattle.meaning.specs.Statements.{Normal, own, renewed, all_renewed}
 

@@ -7,9 +7,9 @@ use Rattle.typing_program.specs.declared.statements.Statement.{Statement}
 use Rattle.typing_program.specs.View.{statement_of, statements_of}
 use Rattle.meaning.specs.Machine.{State}
 use Rattle.meaning.specs.Statements.{Normal, labels_of}
-use Rattle.cabs_store.specs.inside.Frames as on
-use Rattle.cabs_store.specs.inside.Frames.{Moved, moves, enters, a_flow}
-use Rattle.cabs_store.specs.inside.Steps.{goes, waits, jumps}
+use Rattle.cabs_store.specs.layer.Frames as on
+use Rattle.cabs_store.specs.layer.Frames.{Moved, moves, enters, a_flow}
+use Rattle.cabs_store.specs.layer.Steps.{goes, waits, jumps}
 use Rattle.cabs_steps.specs.declared.labels.Label.{Label}
 use Rattle.cabs_steps.specs.declared.labels.Label.TheVariants as label
 use Rattle.cabs_steps.specs.declared.labels.Sought.{Sought}

@@ -3,9 +3,9 @@
 ghost use Rattle.std.specs.Prelude.{◌≡◌, map, option_map};
 ghost use Rattle.ctypes.specs.Types.{converted};
 ghost use Rattle.typing_program.specs.View.{object_type_of, statement_of, value_of};
-ghost use Rattle.cabs_store.specs.inside.Agrees.{Takes};
-ghost use Rattle.cabs_store.specs.inside.Steps.{turned, left_by_value};
-ghost use Rattle.cabs_store.specs.inside.Views.{control_frame};
+ghost use Rattle.cabs_store.specs.layer.Agrees.{Takes};
+ghost use Rattle.cabs_store.specs.layer.Steps.{turned, left_by_value};
+ghost use Rattle.cabs_store.specs.layer.Views.{control_frame};
 ghost use Rattle.cabs_store.specs.declared.frames.ControlFrame.TheVariants as control;
 
 use crate::loops::{look, turn};

@@ -2,9 +2,9 @@
 
 ghost use Rattle.std.specs.Prelude.{◌≡◌, map};
 ghost use Rattle.typing_program.specs.View.{object_type_of, statement_of, statements_of};
-ghost use Rattle.cabs_store.specs.inside.Agrees.{Takes};
-ghost use Rattle.cabs_store.specs.inside.Steps.{left_by_flow};
-ghost use Rattle.cabs_store.specs.inside.Views.{flow_of, flow_frame};
+ghost use Rattle.cabs_store.specs.layer.Agrees.{Takes};
+ghost use Rattle.cabs_store.specs.layer.Steps.{left_by_flow};
+ghost use Rattle.cabs_store.specs.layer.Views.{flow_of, flow_frame};
 ghost use Rattle.cabs_store.specs.declared.frames.FlowFrame.TheVariants as flows;
 
 use crate::loops::look_after;

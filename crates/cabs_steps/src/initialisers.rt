@@ -5,9 +5,9 @@ ghost use Rattle.typing_rules.specs.Types.{elements_in};
 ghost use Rattle.typing_program.specs.View.{initialiser_of, initialisers_of, value_of};
 ghost use Rattle.meaning.specs.Statements.{characters, first_length, inner_lengths, text_or_none, zeros};
 ghost use Rattle.cabs_store.specs.View.{reference_of};
-ghost use Rattle.cabs_store.specs.inside.Agrees.{Takes};
-ghost use Rattle.cabs_store.specs.inside.Frames as on;
-ghost use Rattle.cabs_store.specs.inside.Steps.{
+ghost use Rattle.cabs_store.specs.layer.Agrees.{Takes};
+ghost use Rattle.cabs_store.specs.layer.Frames as on;
+ghost use Rattle.cabs_store.specs.layer.Steps.{
   behind,
   came_late,
   counted,
@@ -17,7 +17,7 @@ ghost use Rattle.cabs_store.specs.inside.Steps.{
   left_initialised,
   listed,
 };
-ghost use Rattle.cabs_store.specs.inside.Views.{initialiser_frame, late_of};
+ghost use Rattle.cabs_store.specs.layer.Views.{initialiser_frame, late_of};
 ghost use Rattle.cabs_store.specs.declared.stop.Stop.TheVariants.{Memory};
 
 use crate::elements::{clear, part, put_text};

@@ -6,7 +6,7 @@ ghost use Rattle.typing_rules.specs.Program as typed;
 ghost use Rattle.typing_program.specs.View.{statement_of, statements_of};
 ghost use Rattle.meaning.specs.Machine.{State};
 ghost use Rattle.meaning.specs.Statements.{labels_at, labels_of};
-ghost use Rattle.cabs_store.specs.inside.Steps.{from_label, sought};
+ghost use Rattle.cabs_store.specs.layer.Steps.{from_label, sought};
 ghost use Rattle.cabs_store.specs.declared.stop.Stop.TheVariants.{Memory};
 ghost use Rattle.cabs_steps.specs.Labels.{label_kind, begins_at, comes_to};
 

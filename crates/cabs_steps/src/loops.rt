@@ -2,10 +2,10 @@
 
 ghost use Rattle.std.specs.Prelude.{◌≡◌, map, option_map};
 ghost use Rattle.typing_program.specs.View.{object_type_of, statement_of, value_of};
-ghost use Rattle.cabs_store.specs.inside.Agrees.{Takes};
-ghost use Rattle.cabs_store.specs.inside.Frames as on;
-ghost use Rattle.cabs_store.specs.inside.Steps.{waits, looped, looped_after};
-ghost use Rattle.cabs_store.specs.inside.Views.{control_frame, flow_frame};
+ghost use Rattle.cabs_store.specs.layer.Agrees.{Takes};
+ghost use Rattle.cabs_store.specs.layer.Frames as on;
+ghost use Rattle.cabs_store.specs.layer.Steps.{waits, looped, looped_after};
+ghost use Rattle.cabs_store.specs.layer.Views.{control_frame, flow_frame};
 ghost use Rattle.cabs_store.specs.declared.frames.FlowFrame.TheVariants as flows;
 
 use cabs_store::frames::{ControlFrame, FlowFrame, Frame, Loop, Node, Step};

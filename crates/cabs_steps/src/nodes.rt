@@ -1,9 +1,9 @@
 //! Nodes behind their tick.
 
 ghost use Rattle.std.specs.Prelude.{◌≡◌};
-ghost use Rattle.cabs_store.specs.inside.Agrees.{Takes};
-ghost use Rattle.cabs_store.specs.inside.Steps.{entered};
-ghost use Rattle.cabs_store.specs.inside.Views.{node_of};
+ghost use Rattle.cabs_store.specs.layer.Agrees.{Takes};
+ghost use Rattle.cabs_store.specs.layer.Steps.{entered};
+ghost use Rattle.cabs_store.specs.layer.Views.{node_of};
 
 use crate::elements::enter_element;
 use crate::initialisers::{enter_initialiser, spend};

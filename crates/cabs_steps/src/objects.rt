@@ -3,7 +3,7 @@
 ghost use Rattle.std.specs.Prelude.{◌≡◌, IfErr, OnOk, map, option_map, slice_get};
 ghost use Rattle.typing_program.specs.View.{object_type_of};
 ghost use Rattle.meaning.specs.Statements.{all_renewed};
-ghost use Rattle.cabs_store.specs.inside.Agrees.{Outside, state_in};
+ghost use Rattle.cabs_store.specs.layer.Agrees.{Outside, state_in};
 ghost use Rattle.cabs_store.specs.declared.stop.Stop.TheVariants.{Memory};
 
 use cabs_store::scene::Scene;

@@ -3,10 +3,10 @@
 ghost use Rattle.std.specs.Prelude.{◌≡◌, Ok, map, option_map, slice_get};
 ghost use Rattle.typing_program.specs.View.{object_type_of, initialiser_of, statement_of, statements_of, value_of};
 ghost use Rattle.meaning.specs.Statements.{Normal, renewed, all_renewed};
-ghost use Rattle.cabs_store.specs.inside.Agrees.{Takes};
-ghost use Rattle.cabs_store.specs.inside.Frames as on;
-ghost use Rattle.cabs_store.specs.inside.Steps.{goes, waits, behind, started, defines, entered_statement};
-ghost use Rattle.cabs_store.specs.inside.Views.{flow_frame};
+ghost use Rattle.cabs_store.specs.layer.Agrees.{Takes};
+ghost use Rattle.cabs_store.specs.layer.Frames as on;
+ghost use Rattle.cabs_store.specs.layer.Steps.{goes, waits, behind, started, defines, entered_statement};
+ghost use Rattle.cabs_store.specs.layer.Views.{flow_frame};
 ghost use Rattle.cabs_store.specs.declared.frames.FlowFrame.TheVariants as flows;
 ghost use Rattle.cabs_store.specs.declared.frames.Step.TheVariants as step;
 ghost use Rattle.cabs_store.specs.declared.frames.Found.TheVariants as found;

@@ -3,9 +3,9 @@
 ghost use Rattle.std.specs.Prelude.{◌≡◌, None, map};
 ghost use Rattle.typing_program.specs.View.{object_type_of, statement_of, statements_of};
 ghost use Rattle.meaning.specs.Statements.{labels_of};
-ghost use Rattle.cabs_store.specs.inside.Agrees.{Takes};
-ghost use Rattle.cabs_store.specs.inside.Steps.{from_label, jumps, sought, entered};
-ghost use Rattle.cabs_store.specs.inside.Views.{node_of};
+ghost use Rattle.cabs_store.specs.layer.Agrees.{Takes};
+ghost use Rattle.cabs_store.specs.layer.Steps.{from_label, jumps, sought, entered};
+ghost use Rattle.cabs_store.specs.layer.Views.{node_of};
 ghost use Rattle.cabs_store.specs.declared.frames.Node.TheVariants as node;
 
 use crate::labels::{Sought, find_label, seek};

@@ -15,7 +15,7 @@ use Rattle.meaning.specs.Machine.{State, Run, Goes, Stops, Ended, TicksUsed, the
 use Rattle.meaning.specs.Expressions.{Passed, Number, Referred, Calling, call_value, get_byte, put_byte, first_number, call_of, position_of, step_operation, step_value, converted_or_none, find, evaluate, pass, evaluate_or}
 use Rattle.meaning.specs.Statements.{zeros, clear, characters, first_length, inner_lengths, text_or_none, initialise, initialise_all, own, renewed, all_renewed, Flow, Normal, Broken, Continued, Returned, next_after, after_body, after_switch, turns, labels_at, labels_of, same_value, label_for, define_object, execute, execute_all, execute_from}
 use Rattle.meaning.specs.Meaning.{enter, leave, value_left, body_of, call_defined, calling}
-use Rattle.cabs_store.specs.inside.Presents.{Real, call_in}
+use Rattle.cabs_store.specs.layer.Presents.{Real, call_in}
 use Rattle.cabs_store.proofs.Resumes.{tick_then_of}
 
 -- no more ticks left than n

@@ -12,10 +12,10 @@ use Rattle.meaning.specs.Machine.{State, Run, Goes, Stops, then_do, choose, tick
 use Rattle.meaning.specs.Expressions.{Passed, Number, Referred, Calling, call_value, call_of, converted_or_none, position_of, find, evaluate, pass, evaluate_or}
 use Rattle.meaning.specs.Statements.{Flow, Normal, Broken, Continued, Returned, first_length, inner_lengths, own, renewed, all_renewed, define_object, next_after, after_body, after_switch, label_for, labels_at, labels_of, same_value, initialise, initialise_all, execute, execute_all, execute_from}
 use Rattle.meaning.specs.Meaning.{value_left, body_of, enter, leave, call_defined, calling, start, end_with, cstep}
-use Rattle.cabs_store.specs.inside.Frames as on
-use Rattle.cabs_store.specs.inside.Frames.{Found, a_value, a_place, a_flow, initialised, Late, puts_text, puts_zeros, enters_body, Node, Step, enters, leaves, calls, Back, to_caller, to_end, Frame, Moved, moves, halts}
-use Rattle.cabs_store.specs.inside.Presents.{given, done, back_at, loop, stepped, tested, late, asked, jumped, looked_for, presented, present, goes_back, with_place, with_value, with_flow, when_initialised, after, resume, resumed, Real, call_in}
-use Rattle.cabs_store.specs.inside.Steps.{at_once, goes, waits, behind, started, asked_for, turned, looped, looped_after, turned_on, started_after, from_label, jumps, sought, came_late, counted, entered_place, entered_value, defines, entered_statement, listed, entered_initialiser, entered, left_by_place, left_by_value, went_back, left_by_flow, left_initialised, left, entered_call, called}
+use Rattle.cabs_store.specs.layer.Frames as on
+use Rattle.cabs_store.specs.layer.Frames.{Found, a_value, a_place, a_flow, initialised, Late, puts_text, puts_zeros, enters_body, Node, Step, enters, leaves, calls, Back, to_caller, to_end, Frame, Moved, moves, halts}
+use Rattle.cabs_store.specs.layer.Presents.{given, done, back_at, loop, stepped, tested, late, asked, jumped, looked_for, presented, present, goes_back, with_place, with_value, with_flow, when_initialised, after, resume, resumed, Real, call_in}
+use Rattle.cabs_store.specs.layer.Steps.{at_once, goes, waits, behind, started, asked_for, turned, looped, looped_after, turned_on, started_after, from_label, jumps, sought, came_late, counted, entered_place, entered_value, defines, entered_statement, listed, entered_initialiser, entered, left_by_place, left_by_value, went_back, left_by_flow, left_initialised, left, entered_call, called}
 
 -- what is given, and then
 given_then : {A B : Type 0} (f : A → Found) (h : B → Found) (x : Run A) (k : A → State → Run B) (g : Found → State → Run Found) →

@@ -22,7 +22,7 @@ use Rattle.meaning.specs.Statements.{new_object, own, renewed}
 use Rattle.meaning.specs.Machine.{State, Run, Goes, undefined, then_do, choose, stored, read, write, computed_at}
 use Rattle.cabs_store.specs.declared.stop.Stop.{Stop}
 use Rattle.cabs_store.specs.declared.stop.Stop.TheVariants as stop
-use Rattle.cabs_store.specs.inside.Agrees.{Runs, number, combined, stepped}
+use Rattle.cabs_store.specs.layer.Agrees.{Runs, number, combined, stepped}
 
 pub beyond_any : {A : Type 0} (xs : List A) (i : ℕ) → length xs ≤ i → slice_get xs i ≡ None
 beyond_any [] i h = refl

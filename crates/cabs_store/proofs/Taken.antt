@@ -10,13 +10,13 @@ use Rattle.cabs_store.specs.declared.stop.Stop.{Stop}
 use Rattle.cabs_store.specs.declared.scene.Scene.{Scene}
 use Rattle.cabs_store.specs.declared.machine.Machine.{Machine}
 use Rattle.cabs_store.specs.declared.frames.Step.{Step}
-use Rattle.cabs_store.specs.inside.Frames as on
-use Rattle.cabs_store.specs.inside.Frames.{Moved, moves, halts}
-use Rattle.cabs_store.specs.inside.Steps.{behind, left_by_place, left_by_value}
-use Rattle.cabs_store.specs.inside.Views.{operand_frame, place_frame}
+use Rattle.cabs_store.specs.layer.Frames as on
+use Rattle.cabs_store.specs.layer.Frames.{Moved, moves, halts}
+use Rattle.cabs_store.specs.layer.Steps.{behind, left_by_place, left_by_value}
+use Rattle.cabs_store.specs.layer.Views.{operand_frame, place_frame}
 use Rattle.cabs_store.specs.declared.frames.OperandFrame.{OperandFrame}
 use Rattle.cabs_store.specs.declared.frames.PlaceFrame.{PlaceFrame}
-use Rattle.cabs_store.specs.inside.Agrees.{state_in, onto, Agrees, Takes, frames_of}
+use Rattle.cabs_store.specs.layer.Agrees.{state_in, onto, Agrees, Takes, frames_of}
 
 -- a step is the same as another one
 pub agrees_as : (m m2 : Moved) (fs gs : List on.Frame) (r : Result Step Stop) (t : State) → m2 ≡ m → Agrees (onto fs m2) r gs t → Agrees (onto fs m) r gs t

@@ -1,3 +1,4 @@
 pub mod Cells
 pub mod View
 pub mod inside
+pub mod layer

@@ -2,11 +2,11 @@
 
 ghost use Rattle.std.specs.Prelude.{◌≡◌, List, map};
 ghost use Rattle.typing_program.specs.View.{place_of, value_of, callee_of, argument_of, arguments_of};
-ghost use Rattle.cabs_store.specs.inside.Agrees.{Takes};
+ghost use Rattle.cabs_store.specs.layer.Agrees.{Takes};
 ghost use Rattle.meaning.specs.Expressions as meaning;
-ghost use Rattle.cabs_store.specs.inside.Frames as on;
-ghost use Rattle.cabs_store.specs.inside.Steps.{waits, behind, entered_place, entered_value, asked_for};
-ghost use Rattle.cabs_store.specs.inside.Views.{passed_of, operand_frame, place_frame};
+ghost use Rattle.cabs_store.specs.layer.Frames as on;
+ghost use Rattle.cabs_store.specs.layer.Steps.{waits, behind, entered_place, entered_value, asked_for};
+ghost use Rattle.cabs_store.specs.layer.Views.{passed_of, operand_frame, place_frame};
 
 use crate::frames::{
     Asked, Compound, Found, Frame, Node, OperandFrame, PlaceFrame, Step, Stepping,

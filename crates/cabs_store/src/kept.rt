@@ -2,7 +2,7 @@
 //! the others in memory of their own.
 
 ghost use Rattle.std.specs.Prelude.{◌≡◌, IfErr, IfOk};
-ghost use Rattle.cabs_store.specs.inside.Views.{control_frame, flow_frame, frame_of, initialiser_frame, kept_of, operand_frame, place_frame};
+ghost use Rattle.cabs_store.specs.layer.Views.{control_frame, flow_frame, frame_of, initialiser_frame, kept_of, operand_frame, place_frame};
 ghost use Rattle.cabs_store.specs.declared.frames.FlowFrame.TheVariants as flows;
 ghost use Rattle.cabs_store.specs.declared.frames.OperandFrame.TheVariants as operands;
 ghost use Rattle.cabs_store.specs.declared.kept.Kept.TheVariants as kept;

@@ -4,10 +4,10 @@ ghost use Rattle.std.specs.Prelude.{◌≡◌, ◌∷◌, ◌++◌, [], List, On
 ghost use Rattle.meaning.specs.Machine.{State, Run};
 ghost use Rattle.meaning.specs.Store as store;
 ghost use Rattle.cabs_store.specs.View.{reference_of};
-ghost use Rattle.cabs_store.specs.inside.Agrees.{Takes, Runs, Agrees, onto, number, frames_of};
-ghost use Rattle.cabs_store.specs.inside.Frames as on;
-ghost use Rattle.cabs_store.specs.inside.Steps.{at_once, goes, waits};
-ghost use Rattle.cabs_store.specs.inside.Views.{frame_of, node_of, found_of};
+ghost use Rattle.cabs_store.specs.layer.Agrees.{Takes, Runs, Agrees, onto, number, frames_of};
+ghost use Rattle.cabs_store.specs.layer.Frames as on;
+ghost use Rattle.cabs_store.specs.layer.Steps.{at_once, goes, waits};
+ghost use Rattle.cabs_store.specs.layer.Views.{frame_of, node_of, found_of};
 ghost use Rattle.cabs_store.specs.declared.stop.Stop.TheVariants.{Memory};
 
 use crate::frames::{Found, Frame, Node, Step};

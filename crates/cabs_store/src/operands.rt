@@ -5,10 +5,10 @@ ghost use Rattle.typing_program.specs.View.{callee_of, argument_of, arguments_of
 ghost use Rattle.cabs_store.specs.View.{reference_of};
 ghost use Rattle.cabs_store.specs.declared.frames.Step.TheVariants as step;
 ghost use Rattle.cabs_store.specs.declared.frames.Found.TheVariants as found;
-ghost use Rattle.cabs_store.specs.inside.Frames as on;
-ghost use Rattle.cabs_store.specs.inside.Agrees.{Takes};
-ghost use Rattle.cabs_store.specs.inside.Steps.{left_by_place, left_by_value, asked_for};
-ghost use Rattle.cabs_store.specs.inside.Views.{passed_of, operand_frame, place_frame};
+ghost use Rattle.cabs_store.specs.layer.Frames as on;
+ghost use Rattle.cabs_store.specs.layer.Agrees.{Takes};
+ghost use Rattle.cabs_store.specs.layer.Steps.{left_by_place, left_by_value, asked_for};
+ghost use Rattle.cabs_store.specs.layer.Views.{passed_of, operand_frame, place_frame};
 
 use crate::expressions::{ask, operand};
 use crate::frames::{Asked, Found, Node, OperandFrame, Passed, PlaceFrame, Step};

@@ -7,7 +7,7 @@ ghost use Rattle.typing_rules.specs.Operators as typed;
 ghost use Rattle.meaning.specs.Expressions as meaning;
 ghost use Rattle.meaning.specs.Statements.{same_value};
 ghost use Rattle.meaning.specs.Machine.{State, computed_at};
-ghost use Rattle.cabs_store.specs.inside.Agrees.{Runs, number};
+ghost use Rattle.cabs_store.specs.layer.Agrees.{Runs, number};
 ghost use Rattle.typing_program.specs.View.{moment_of};
 
 use crate::stop::Stop;

@@ -7,7 +7,7 @@ ghost use Rattle.meaning.specs.Store.{length_of, tree_at};
 ghost use Rattle.meaning.specs.Machine.{Goes, designated, subscripted, read, stored, write};
 ghost use Rattle.meaning.specs.Statements as statements;
 ghost use Rattle.cabs_store.specs.View.{reference_of, store_of, tree_of};
-ghost use Rattle.cabs_store.specs.inside.Agrees.{Outside, state_in, Runs, number, index_in, combined, stepped};
+ghost use Rattle.cabs_store.specs.layer.Agrees.{Outside, state_in, Runs, number, index_in, combined, stepped};
 ghost use Rattle.cabs_store.specs.declared.stop.Stop.TheVariants.{Memory};
 
 use crate::element_tree::Tree;

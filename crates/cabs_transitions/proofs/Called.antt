@@ -18,9 +18,9 @@ use Rattle.meaning.specs.Meaning.{numbers_of, arrays_of, objects_of, enter}
 use Rattle.cabs_store.specs.declared.stop.Stop.{Stop}
 use Rattle.cabs_store.specs.declared.scene.Scene.{Scene}
 use Rattle.cabs_store.specs.declared.frames.Step.{Step}
-use Rattle.cabs_store.specs.inside.Frames as on
-use Rattle.cabs_store.specs.inside.Steps.{waits, entered_call, went_back}
-use Rattle.cabs_store.specs.inside.Agrees.{Outside, state_in, onto, Agrees}
+use Rattle.cabs_store.specs.layer.Frames as on
+use Rattle.cabs_store.specs.layer.Steps.{waits, entered_call, went_back}
+use Rattle.cabs_store.specs.layer.Agrees.{Outside, state_in, onto, Agrees}
 use Rattle.cabs_transitions.specs.Acts.{outside_of, outside_behind}
 use Rattle.cabs_transitions.proofs.Left.{at_scene}
 

@@ -11,11 +11,11 @@ use Rattle.cabs_store.specs.declared.stop.Stop.TheVariants as stop
 use Rattle.cabs_store.specs.declared.scene.Scene.{Scene}
 use Rattle.cabs_store.specs.declared.machine.Machine.{Machine}
 use Rattle.cabs_store.specs.declared.frames.Step.{Step}
-use Rattle.cabs_store.specs.inside.Frames as on
-use Rattle.cabs_store.specs.inside.Frames.{Moved, moves, halts, a_value, a_place, a_flow, initialised}
-use Rattle.cabs_store.specs.inside.Steps.{left, left_by_value, left_by_place, left_by_flow, left_initialised}
-use Rattle.cabs_store.specs.inside.Views.{step_of}
-use Rattle.cabs_store.specs.inside.Agrees.{Outside, state_in, onto, Agrees, Takes, frames_of}
+use Rattle.cabs_store.specs.layer.Frames as on
+use Rattle.cabs_store.specs.layer.Frames.{Moved, moves, halts, a_value, a_place, a_flow, initialised}
+use Rattle.cabs_store.specs.layer.Steps.{left, left_by_value, left_by_place, left_by_flow, left_initialised}
+use Rattle.cabs_store.specs.layer.Views.{step_of}
+use Rattle.cabs_store.specs.layer.Agrees.{Outside, state_in, onto, Agrees, Takes, frames_of}
 use Rattle.cabs_store.proofs.Taken.{takes_as}
 use Rattle.cabs_transitions.specs.Acts.{outside_of, outside_behind, Acts}
 

@@ -6,8 +6,8 @@ use Rattle.meaning.specs.Machine.{State}
 use Rattle.cabs_store.specs.declared.stop.Stop.{Stop}
 use Rattle.cabs_store.specs.declared.machine.Machine.{Machine}
 use Rattle.cabs_store.specs.declared.frames.Step.{Step}
-use Rattle.cabs_store.specs.inside.Frames.{Moved, moves, halts}
-use Rattle.cabs_store.specs.inside.Agrees.{Outside, state_in, onto, Agrees, frames_of}
+use Rattle.cabs_store.specs.layer.Frames.{Moved, moves, halts}
+use Rattle.cabs_store.specs.layer.Agrees.{Outside, state_in, onto, Agrees, frames_of}
 
 -- what a state has beside the objects
 abbrev pub outside_of : State → Outside

@@ -6,7 +6,7 @@ use Rattle.typing_rules.specs.Program as typed
 use Rattle.meaning.specs.Expressions as meaning
 use Rattle.cabs_store.specs.declared.stop.Stop.{Stop}
 use Rattle.cabs_store.specs.declared.machine.Machine.{Machine}
-use Rattle.cabs_store.specs.inside.Steps.{called}
+use Rattle.cabs_store.specs.layer.Steps.{called}
 use Rattle.cabs_transitions.specs.declared.calling.Called.{Called}
 use Rattle.cabs_transitions.specs.declared.calling.Called.TheVariants as comes
 use Rattle.cabs_transitions.specs.Acts.{Acts}

@@ -3,7 +3,7 @@
 ghost use Rattle.std.specs.Prelude.{◌≡◌, map};
 ghost use Rattle.typing_program.specs.View.{callee_of};
 ghost use Rattle.meaning.specs.Expressions as meaning;
-ghost use Rattle.cabs_store.specs.inside.Views.{passed_of};
+ghost use Rattle.cabs_store.specs.layer.Views.{passed_of};
 ghost use Rattle.typing_program.specs.declared.storage_places.Callee.TheVariants as callee;
 ghost use Rattle.cabs_transitions.specs.Calls.{CallActs};
 

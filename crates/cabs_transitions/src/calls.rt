@@ -6,9 +6,9 @@ ghost use Rattle.meaning.specs.History.{Entered};
 ghost use Rattle.meaning.specs.Store.{indeterminate};
 ghost use Rattle.meaning.specs.Meaning as meaning;
 ghost use Rattle.cabs_store.specs.View.{reference_of, store_of};
-ghost use Rattle.cabs_store.specs.inside.Agrees.{Outside, state_in};
-ghost use Rattle.cabs_store.specs.inside.Steps.{entered_call};
-ghost use Rattle.cabs_store.specs.inside.Views.{back_of, passed_of};
+ghost use Rattle.cabs_store.specs.layer.Agrees.{Outside, state_in};
+ghost use Rattle.cabs_store.specs.layer.Steps.{entered_call};
+ghost use Rattle.cabs_store.specs.layer.Views.{back_of, passed_of};
 ghost use Rattle.cabs_store.specs.declared.stop.Stop.TheVariants.{Memory};
 ghost use Rattle.cabs_transitions.specs.Acts.{Acts};
 

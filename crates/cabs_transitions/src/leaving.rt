@@ -2,9 +2,9 @@
 
 ghost use Rattle.std.specs.Prelude.{◌≡◌, Ok};
 ghost use Rattle.cabs_store.specs.View.{reference_of};
-ghost use Rattle.cabs_store.specs.inside.Agrees.{Takes};
-ghost use Rattle.cabs_store.specs.inside.Steps.{left, left_by_flow, left_by_place, left_by_value, left_initialised};
-ghost use Rattle.cabs_store.specs.inside.Views.{flow_frame, flow_of, found_of, frame_of};
+ghost use Rattle.cabs_store.specs.layer.Agrees.{Takes};
+ghost use Rattle.cabs_store.specs.layer.Steps.{left, left_by_flow, left_by_place, left_by_value, left_initialised};
+ghost use Rattle.cabs_store.specs.layer.Views.{flow_frame, flow_of, found_of, frame_of};
 ghost use Rattle.cabs_store.specs.declared.frames.Step.TheVariants as step;
 ghost use Rattle.cabs_transitions.specs.Acts.{Acts};
 

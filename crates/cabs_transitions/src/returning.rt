@@ -6,11 +6,11 @@ ghost use Rattle.meaning.specs.History.{Left};
 ghost use Rattle.meaning.specs.Machine.{State};
 ghost use Rattle.meaning.specs.Meaning as meaning;
 ghost use Rattle.cabs_store.specs.View.{reference_of};
-ghost use Rattle.cabs_store.specs.inside.Frames as on;
-ghost use Rattle.cabs_store.specs.inside.Presents.{back_at};
-ghost use Rattle.cabs_store.specs.inside.Agrees.{Agrees, Outside, onto, state_in};
-ghost use Rattle.cabs_store.specs.inside.Steps.{left_by_flow, went_back};
-ghost use Rattle.cabs_store.specs.inside.Views.{back_of, flow_frame, flow_of};
+ghost use Rattle.cabs_store.specs.layer.Frames as on;
+ghost use Rattle.cabs_store.specs.layer.Presents.{back_at};
+ghost use Rattle.cabs_store.specs.layer.Agrees.{Agrees, Outside, onto, state_in};
+ghost use Rattle.cabs_store.specs.layer.Steps.{left_by_flow, went_back};
+ghost use Rattle.cabs_store.specs.layer.Views.{back_of, flow_frame, flow_of};
 ghost use Rattle.cabs_store.specs.declared.frames.FlowFrame.TheVariants as flows;
 ghost use Rattle.cabs_transitions.specs.Acts.{Acts};
 

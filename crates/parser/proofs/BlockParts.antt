@@ -15,7 +15,7 @@ use Rattle.parser_grammar.specs.declared.scope.Scope.TheVariants.{Block}
 use Rattle.parser_grammar.specs.Tokens.{Own, Sign, NotFront, Reaches}
 use Rattle.parser_grammar.specs.Declarations.{SpellsDeclaration}
 use Rattle.parser_grammar.specs.Statements.{SpellsStmt, SpellsPiece, SpellsPieces}
-use Rattle.parser_grammar.specs.inside.Answer.{Excuses, ReadsOf, FailsOf, StandsOf, Anywhere}
+use Rattle.parser_grammar.specs.layer.Answer.{Excuses, ReadsOf, FailsOf, StandsOf, Anywhere}
 use Rattle.parser.specs.inside.StatementAnswers.{EndsStmt, SpellsBody}
 use Rattle.parser_declarations.specs.DeclarationAnswers.{BeginsDeclaration}
 use Rattle.parser.specs.inside.StmtParts.{EndsPiece}

@@ -20,7 +20,7 @@ use Rattle.parser.specs.declared.statement_parts.Form.TheVariants as form
 use Rattle.parser_grammar.specs.Tokens.{Own, StartsAt, NotFront}
 use Rattle.parser_grammar.specs.Expressions.{Spells}
 use Rattle.parser_grammar.specs.Statements.{SpellsStmt}
-use Rattle.parser_grammar.specs.inside.Answer.{ReadsOf, FailsOf, StandsOf}
+use Rattle.parser_grammar.specs.layer.Answer.{ReadsOf, FailsOf, StandsOf}
 use Rattle.parser_expressions.specs.ExpressionLeads.{KeywordBeginsExpression, SignBeginsExpression, KindBeginsExpression, BeginsExpression}
 use Rattle.parser.specs.inside.StatementAnswers.{EndsStmt}
 use Rattle.parser.specs.inside.StmtParts.{form_kind, SpellsClosed}

@@ -19,7 +19,7 @@ use Rattle.parser_grammar.specs.declared.refusal.Refusal.TheVariants.{Depth}
 use Rattle.parser.specs.declared.statement_parts.Form.{Form}
 use Rattle.parser_grammar.specs.Tokens.{Own, StartsAt, NotFront}
 use Rattle.parser_grammar.specs.Statements.{SpellsTest, SpellsStmt}
-use Rattle.parser_grammar.specs.inside.Answer.{ReadsOf, FailsOf, StandsOf, Anywhere}
+use Rattle.parser_grammar.specs.layer.Answer.{ReadsOf, FailsOf, StandsOf, Anywhere}
 use Rattle.parser_expressions.specs.ExpressionAnswers.{Reads, Fails, Stands}
 use Rattle.parser.specs.inside.StatementAnswers.{EndsStmt, SpellsBody}
 use Rattle.parser.specs.inside.StmtParts.{form_kind, SpellsClosed, SpellsEnded, SpellsDoEnd, ForHeadTree, SpellsForHead, for_head_depth, SpellsLabelled, TestedTree, SpellsTested, EndsTested, tested_depth}

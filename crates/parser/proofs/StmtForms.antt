@@ -11,7 +11,7 @@ use Rattle.tree.specs.Counts.{stmt_depth, pieces_depth}
 use Rattle.parser_grammar.specs.Tokens.{Own, Mark, Sign, NotFront}
 use Rattle.parser_grammar.specs.Expressions.{Spells}
 use Rattle.parser_grammar.specs.Statements.{SpellsTest, SpellsOption, SpellsStmt, SpellsPieces}
-use Rattle.parser_grammar.specs.inside.Answer.{ReadsOf}
+use Rattle.parser_grammar.specs.layer.Answer.{ReadsOf}
 use Rattle.parser_expressions.specs.ExpressionAnswers.{Stops}
 use Rattle.parser.specs.inside.StatementAnswers.{EndsStmt, SpellsBody}
 use Rattle.parser.specs.inside.StmtParts.{ForHeadTree, SpellsLabelled, TestedTree, SpellsTested, EndsTested, tested_depth}

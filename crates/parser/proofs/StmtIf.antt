@@ -11,7 +11,7 @@ use Rattle.parser_grammar.specs.declared.refusal.Refusal.{Refusal}
 use Rattle.parser_grammar.specs.declared.refusal.Refusal.TheVariants.{Syntax, Depth, Memory}
 use Rattle.parser_grammar.specs.Tokens.{Own, NotFront}
 use Rattle.parser_grammar.specs.Statements.{is_open, SpellsTest, SpellsStmt}
-use Rattle.parser_grammar.specs.inside.Answer.{Excuses, ReadsOf, FailsOf, StandsOf}
+use Rattle.parser_grammar.specs.layer.Answer.{Excuses, ReadsOf, FailsOf, StandsOf}
 use Rattle.parser.specs.inside.StatementAnswers.{EndsStmt}
 use Rattle.parser.specs.inside.StmtParts.{TestedTree, SpellsTested, EndsTested, tested_depth}
 use Rattle.parser_grammar.proofs.Exits.{excuses_grow}

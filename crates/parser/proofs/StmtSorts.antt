@@ -17,7 +17,7 @@ use Rattle.parser_grammar.specs.Expressions.{layer, Spells}
 use Rattle.parser_grammar.specs.Tokens.{Own, Mark, Sign, NotFront}
 use Rattle.parser_grammar.specs.Declarations.{SpellsDeclaration}
 use Rattle.parser_grammar.specs.Statements.{SpellsTest, SpellsStart}
-use Rattle.parser_grammar.specs.inside.Answer.{Excuses, ReadsOf, FailsOf, StandsOf, Anywhere}
+use Rattle.parser_grammar.specs.layer.Answer.{Excuses, ReadsOf, FailsOf, StandsOf, Anywhere}
 use Rattle.parser_expressions.specs.ExpressionAnswers.{sign_power, power, Stops, Reads, Fails, Stands}
 use Rattle.parser_declarations.specs.DeclarationAnswers.{BeginsDeclaration}
 use Rattle.parser.specs.inside.StmtParts.{EndsExpression, SpellsClosed, SpellsEnded, SpellsDoEnd, ForHeadTree, SpellsForHeadParts, SpellsForHead, for_head_depth}

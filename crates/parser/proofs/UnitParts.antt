@@ -14,7 +14,7 @@ use Rattle.parser_grammar.specs.declared.refusal.Refusal.TheVariants.{Syntax, De
 use Rattle.parser_grammar.specs.Tokens.{Own, Reaches}
 use Rattle.parser_grammar.specs.Statements.{SpellsFunction, SpellsExternal}
 use Rattle.parser.specs.inside.StatementAnswers.{SpellsBody}
-use Rattle.parser_grammar.specs.inside.Answer.{Anywhere, Excuses, ReadsOf, FailsOf}
+use Rattle.parser_grammar.specs.layer.Answer.{Anywhere, Excuses, ReadsOf, FailsOf}
 use Rattle.parser_declarations.specs.DeclarationAnswers.{HeadTree, whole, opening, OpeningTree, SpellsOpening, SpellsHead, EndsHead, head_depth}
 use Rattle.parser.specs.inside.UnitAnswers.{ReadsBody, FailsBody, ReadsExternal, FailsExternal, StandsExternal}
 use Rattle.parser_grammar.proofs.Tokens.{own_once, own_reaches, reaches_on}

@@ -11,7 +11,7 @@ use Rattle.parser_grammar.specs.declared.refusal.Refusal.{Refusal}
 use Rattle.parser_grammar.specs.declared.refusal.Refusal.TheVariants.{Syntax, Depth, Memory}
 use Rattle.parser_grammar.specs.Tokens.{Own, Sign, NotFront}
 use Rattle.parser_grammar.specs.Declarations.{SpellsBounds}
-use Rattle.parser_grammar.specs.inside.Answer.{Excuses, ReadsOf, FailsOf, StandsOf, Anywhere}
+use Rattle.parser_grammar.specs.layer.Answer.{Excuses, ReadsOf, FailsOf, StandsOf, Anywhere}
 use Rattle.parser_declarations.specs.inside.SpecifierAnswers.{EndsBounds}
 use Rattle.parser_declarations.specs.inside.DeclarationParts.{SpellsClosedBound}
 use Rattle.parser_grammar.proofs.Tokens.{same_token, mark_own, mark_begun, reaches_on, own_reaches}

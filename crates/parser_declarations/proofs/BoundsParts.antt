@@ -10,7 +10,7 @@ use Rattle.tree.specs.Counts.{option_depth}
 use Rattle.parser_grammar.specs.declared.refusal.Refusal.{Refusal}
 use Rattle.parser_grammar.specs.declared.refusal.Refusal.TheVariants.{Syntax, Depth, Memory}
 use Rattle.parser_grammar.specs.Tokens.{Own, NotFront, Reaches}
-use Rattle.parser_grammar.specs.inside.Answer.{Excuses, ReadsOf, FailsOf, StandsOf, Anywhere}
+use Rattle.parser_grammar.specs.layer.Answer.{Excuses, ReadsOf, FailsOf, StandsOf, Anywhere}
 use Rattle.parser_expressions.specs.ExpressionAnswers.{Front, Reads, Fails, Stands}
 use Rattle.parser_declarations.specs.inside.DeclarationParts.{SpellsClosedBound}
 use Rattle.parser_grammar.proofs.Tokens.{same_token, mark_own, mark_begun, reaches_on, mark_reaches}

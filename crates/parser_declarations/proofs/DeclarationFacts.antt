@@ -16,7 +16,7 @@ use Rattle.parser_grammar.specs.declared.scope.Scope.{Scope}
 use Rattle.parser_grammar.specs.declared.scope.Scope.TheVariants.{Block}
 use Rattle.parser_grammar.specs.Tokens.{Own, StartsAt, NotFront}
 use Rattle.parser_grammar.specs.Declarations.{SpellsDeclarationSpecifiers, SpellsItem, SpellsDeclaration, SpellsDeclarationSpecifier}
-use Rattle.parser_grammar.specs.inside.Answer.{ReadsOf, FailsOf, StandsOf, Anywhere}
+use Rattle.parser_grammar.specs.layer.Answer.{ReadsOf, FailsOf, StandsOf, Anywhere}
 use Rattle.parser_expressions.specs.ExpressionAnswers.{power, Stops, Front, Reads, Fails, Stands, KeywordBeginsType, BeginsType}
 use Rattle.parser_grammar.proofs.Tokens.{same_token, mark_own, reaches_self, reaches_on, own_reaches, own_once, own_kinds}
 use Rattle.parser_grammar.proofs.Exits.{excuses_grow}

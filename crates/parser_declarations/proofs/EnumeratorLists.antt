@@ -11,7 +11,7 @@ use Rattle.parser_grammar.specs.declared.refusal.Refusal.{Refusal}
 use Rattle.parser_grammar.specs.declared.refusal.Refusal.TheVariants.{Syntax, Depth, Memory}
 use Rattle.parser_grammar.specs.Tokens.{Own, NotFront}
 use Rattle.parser_grammar.specs.Declarations.{Trailing, SpellsEnumerator}
-use Rattle.parser_grammar.specs.inside.Answer.{Excuses, ReadsOf, FailsOf, StandsOf, Anywhere}
+use Rattle.parser_grammar.specs.layer.Answer.{Excuses, ReadsOf, FailsOf, StandsOf, Anywhere}
 use Rattle.parser_expressions.specs.ExpressionAnswers.{Stops}
 use Rattle.parser_declarations.specs.inside.DeclarationParts.{EndsEnumerator, SpellsEnumeratorList}
 use Rattle.parser_grammar.proofs.Tokens.{same_token, mark_own}

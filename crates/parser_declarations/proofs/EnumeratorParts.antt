@@ -13,7 +13,7 @@ use Rattle.parser_grammar.specs.declared.refusal.Refusal.TheVariants.{Syntax, De
 use Rattle.parser_grammar.specs.Tokens.{Own, NotFront}
 use Rattle.parser_grammar.specs.Expressions.{Spells}
 use Rattle.parser_grammar.specs.Declarations.{SpellsValue, SpellsEnumerator}
-use Rattle.parser_grammar.specs.inside.Answer.{ReadsOf, FailsOf, PassesOf, StandsOf}
+use Rattle.parser_grammar.specs.layer.Answer.{ReadsOf, FailsOf, PassesOf, StandsOf}
 use Rattle.parser_expressions.specs.ExpressionAnswers.{power, Stops, Front, Reads, Fails, Stands}
 use Rattle.parser_declarations.specs.inside.DeclarationParts.{EndsEnumerator}
 use Rattle.parser_grammar.proofs.Tokens.{same_token, mark_own, reaches_on, own_reaches, own_last}

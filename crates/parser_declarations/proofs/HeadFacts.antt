@@ -14,7 +14,7 @@ use Rattle.parser_grammar.specs.declared.scope.Scope.{Scope}
 use Rattle.parser_grammar.specs.declared.scope.Scope.TheVariants.{File}
 use Rattle.parser_grammar.specs.Tokens.{Own, StartsAt, NotFront}
 use Rattle.parser_grammar.specs.Declarations.{SpellsDeclarationSpecifiers, SpellsItem, SpellsDeclaration}
-use Rattle.parser_grammar.specs.inside.Answer.{ReadsOf, FailsOf, PassesOf, StandsOf, Anywhere}
+use Rattle.parser_grammar.specs.layer.Answer.{ReadsOf, FailsOf, PassesOf, StandsOf, Anywhere}
 use Rattle.parser_expressions.specs.ExpressionAnswers.{Stops}
 use Rattle.parser_grammar.proofs.Tokens.{mark_own, reaches_self, reaches_on, own_last, own_kinds, mark_begun}
 use Rattle.parser_grammar.specs.Statements.{SpellsExternal}

@@ -13,7 +13,7 @@ use Rattle.parser_grammar.specs.declared.refusal.Refusal.TheVariants.{Depth}
 use Rattle.parser_grammar.specs.Tokens.{Own, NotFront}
 use Rattle.parser_grammar.specs.Expressions.{Spells}
 use Rattle.parser_grammar.specs.Declarations.{SpellsMoreOf, SpellsSeries, Trailing, SpellsInit, SpellsInits, SpellsMoreInits, SpellsInitialiser}
-use Rattle.parser_grammar.specs.inside.Answer.{Excuses, ReadsOf, FailsOf, StandsOf, Anywhere}
+use Rattle.parser_grammar.specs.layer.Answer.{Excuses, ReadsOf, FailsOf, StandsOf, Anywhere}
 use Rattle.parser_expressions.specs.ExpressionAnswers.{Stops, Reads, Fails, Stands}
 use Rattle.parser_grammar.proofs.Tokens.{mark_own, reaches_self, own_reaches, own_once, own_kinds}
 use Rattle.parser_expressions.proofs.Leads.{no_begin}

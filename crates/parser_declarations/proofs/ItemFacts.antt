@@ -14,7 +14,7 @@ use Rattle.parser_grammar.specs.declared.scope.Scope.{Scope}
 use Rattle.parser_grammar.specs.declared.scope.Scope.TheVariants.{File}
 use Rattle.parser_grammar.specs.Tokens.{Own, NotFront}
 use Rattle.parser_grammar.specs.Declarations.{SpellsMoreOf, SpellsBounds, SpellsParameters, SpellsInitialiser, SpellsItem}
-use Rattle.parser_grammar.specs.inside.Answer.{ReadsOf, FailsOf, StandsOf, Anywhere}
+use Rattle.parser_grammar.specs.layer.Answer.{ReadsOf, FailsOf, StandsOf, Anywhere}
 use Rattle.parser_expressions.specs.ExpressionAnswers.{Stops}
 use Rattle.parser_declarations.specs.inside.SpecifierAnswers.{EndsBounds, SpellsParameterList}
 use Rattle.parser_grammar.proofs.Tokens.{same_token, mark_own, reaches_self, reaches_on, own_reaches, own_once, own_kinds}

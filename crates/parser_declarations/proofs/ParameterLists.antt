@@ -17,7 +17,7 @@ use Rattle.parser_grammar.specs.declared.refusal.Refusal.TheVariants.{Syntax, De
 use Rattle.parser_grammar.specs.Tokens.{Own, NotFront}
 use Rattle.parser_grammar.specs.Expressions.{SpellsSpecifier, SpellsSpecifiers, word_keyword}
 use Rattle.parser_grammar.specs.Declarations.{SpellsMoreOf, SpellsBounds, SpellsParameterName, SpellsParameter, IsVoid, IsVoidAlone, SpellsParameters}
-use Rattle.parser_grammar.specs.inside.Answer.{Excuses, ReadsOf, FailsOf, PassesOf, StandsOf, Anywhere}
+use Rattle.parser_grammar.specs.layer.Answer.{Excuses, ReadsOf, FailsOf, PassesOf, StandsOf, Anywhere}
 use Rattle.parser_expressions.specs.ExpressionAnswers.{BeginsType}
 use Rattle.parser_declarations.specs.inside.SpecifierAnswers.{SpellsParameterList}
 use Rattle.parser_declarations.specs.inside.DeclarationParts.{EndsParameter}

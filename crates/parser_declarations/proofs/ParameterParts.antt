@@ -16,7 +16,7 @@ use Rattle.parser_grammar.specs.declared.refusal.Refusal.TheVariants.{Syntax, De
 use Rattle.parser_grammar.specs.Tokens.{Own, StartsAt, NotFront, Reaches}
 use Rattle.parser_grammar.specs.Expressions.{SpellsSpecifiers, word_keyword}
 use Rattle.parser_grammar.specs.Declarations.{SpellsBounds, SpellsParameterName, SpellsParameter}
-use Rattle.parser_grammar.specs.inside.Answer.{Excuses, ReadsOf, FailsOf, PassesOf, StandsOf}
+use Rattle.parser_grammar.specs.layer.Answer.{Excuses, ReadsOf, FailsOf, PassesOf, StandsOf}
 use Rattle.parser_expressions.specs.ExpressionAnswers.{BeginsType, ReadsSpecifiers, FailsSpecifiers, NotDepth}
 use Rattle.parser_declarations.specs.inside.SpecifierAnswers.{EndsBounds}
 use Rattle.parser_declarations.specs.inside.DeclarationParts.{EndsParameter, EndsFirstAt, NameThere}

@@ -7,7 +7,7 @@ use Rattle.tree.specs.Counts.{specifier_depth, specifiers_depth}
 use Rattle.parser_grammar.specs.declared.refusal.Refusal.{Refusal}
 use Rattle.parser_grammar.specs.declared.refusal.Refusal.TheVariants.{Syntax, Depth, Memory}
 use Rattle.parser_grammar.specs.Declarations.{SpellsDeclarationSpecifier, SpellsDeclarationSpecifiers}
-use Rattle.parser_grammar.specs.inside.Answer.{Excuses, ReadsOf, FailsOf, StandsOf}
+use Rattle.parser_grammar.specs.layer.Answer.{Excuses, ReadsOf, FailsOf, StandsOf}
 use Rattle.parser_declarations.specs.inside.SpecifierAnswers.{SpellsSomeSpecifiers, EndsSpecifiers, BeginsSpecifier}
 use Rattle.parser_declarations.specs.inside.DeclarationParts.{EndsSpecifier}
 use Rattle.parser_grammar.proofs.Exits.{excuses_grow}

@@ -15,7 +15,7 @@ use Rattle.parser_grammar.specs.declared.refusal.Refusal.{Refusal}
 use Rattle.parser_grammar.specs.declared.refusal.Refusal.TheVariants.{Syntax, Depth, Memory}
 use Rattle.parser_grammar.specs.Tokens.{Own, NotFront, Reaches}
 use Rattle.parser_grammar.specs.Declarations.{SpellsTag, SpellsDeclarationSpecifier}
-use Rattle.parser_grammar.specs.inside.Answer.{Excuses, ReadsOf, FailsOf, StandsOf, Anywhere}
+use Rattle.parser_grammar.specs.layer.Answer.{Excuses, ReadsOf, FailsOf, StandsOf, Anywhere}
 use Rattle.parser_declarations.specs.inside.SpecifierAnswers.{BeginsSpecifier, KindBeginsSpecifier}
 use Rattle.parser_declarations.specs.inside.DeclarationParts.{SpellsEnumeratorList, EndsSpecifier, IsAlone, IsNoneAlone}
 use Rattle.parser_grammar.proofs.Tokens.{same_token, mark_own, reaches_on, own_reaches}

@@ -20,7 +20,7 @@ use Rattle.parser_grammar.specs.Tokens.{Own, Sign, StartsAt}
 use Rattle.parser_grammar.specs.Declarations.{SpellsDeclarationSpecifiers, SpellsParameters, SpellsDeclaration}
 use Rattle.parser_grammar.specs.Statements.{SpellsExternal}
 use Rattle.parser_expressions.specs.ExpressionAnswers.{KeywordBeginsType}
-use Rattle.parser_grammar.specs.inside.Answer.{ReadsOf, FailsOf, StandsOf, Anywhere}
+use Rattle.parser_grammar.specs.layer.Answer.{ReadsOf, FailsOf, StandsOf, Anywhere}
 
 -- ---- specifiers of a declaration
 

@@ -13,7 +13,7 @@ use Rattle.parser_grammar.specs.declared.refusal.Refusal.{Refusal}
 use Rattle.parser_grammar.specs.declared.refusal.Refusal.TheVariants.{Syntax, Depth, Memory}
 use Rattle.parser_grammar.specs.Tokens.{Own, NotFront, Reaches}
 use Rattle.parser_grammar.specs.Expressions.{Spells, SpellsArguments, SpellsMore}
-use Rattle.parser_grammar.specs.inside.Answer.{Excuses, ReadsOf, FailsOf, Anywhere}
+use Rattle.parser_grammar.specs.layer.Answer.{Excuses, ReadsOf, FailsOf, Anywhere}
 use Rattle.parser_expressions.specs.ExpressionAnswers.{power, Stops, Front, Reads, Fails, Stands}
 use Rattle.parser_grammar.proofs.Tokens.{own_once, own_kinds, mark_own, mark_not, reaches_on, own_reaches}
 use Rattle.parser_grammar.proofs.ExpressionBegun.{whole_is_begun, whole_reaches}

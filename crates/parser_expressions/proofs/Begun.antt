@@ -21,7 +21,7 @@ use Rattle.parser_grammar.specs.declared.refusal.Refusal.TheVariants.{Syntax, De
 use Rattle.parser_expressions.specs.declared.expressions.BoxedPart.{BoxedPart}
 use Rattle.parser_grammar.specs.Expressions.{binary_sign, prefix_sign, step_sign, assign_sign, layer_of, layer, Spells}
 use Rattle.parser_grammar.specs.Tokens.{Own, Reaches}
-use Rattle.parser_grammar.specs.inside.Answer.{ReadsOf, Anywhere}
+use Rattle.parser_grammar.specs.layer.Answer.{ReadsOf, Anywhere}
 use Rattle.parser_expressions.specs.ExpressionAnswers.{Reads, Passes, Stands}
 use Rattle.parser_grammar.proofs.Tokens.{mark_begun, reaches_on, own_reaches, own_last, mark_reaches}
 use Rattle.parser_grammar.proofs.ExpressionBegun.{whole_is_begun, type_is_begun, whole_reaches, type_reaches}

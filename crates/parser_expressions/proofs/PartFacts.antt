@@ -10,7 +10,7 @@ use Rattle.parser_grammar.specs.declared.refusal.Refusal.{Refusal}
 use Rattle.parser_grammar.specs.declared.refusal.Refusal.TheVariants.{Syntax, Depth, Memory}
 use Rattle.parser_grammar.specs.Expressions.{layer, Spells}
 use Rattle.parser_grammar.specs.Tokens.{Own, Reaches}
-use Rattle.parser_grammar.specs.inside.Answer.{ReadsOf, FailsOf, StandsOf}
+use Rattle.parser_grammar.specs.layer.Answer.{ReadsOf, FailsOf, StandsOf}
 use Rattle.parser_expressions.specs.ExpressionAnswers.{power, Stops, Reads, Fails, Stands}
 use Rattle.parser_grammar.proofs.Tokens.{reaches_on, own_last}
 use Rattle.parser_grammar.proofs.Exits.{excuses_grow}

@@ -17,7 +17,7 @@ use Rattle.parser_grammar.specs.declared.refusal.Refusal.{Refusal}
 use Rattle.parser_grammar.specs.declared.refusal.Refusal.TheVariants.{Depth}
 use Rattle.parser_grammar.specs.Expressions.{assign_sign, layer_of, layer, Spells}
 use Rattle.parser_grammar.specs.Tokens.{Own, NotFront}
-use Rattle.parser_grammar.specs.inside.Answer.{ReadsOf, FailsOf, Anywhere}
+use Rattle.parser_grammar.specs.layer.Answer.{ReadsOf, FailsOf, Anywhere}
 use Rattle.parser_expressions.specs.ExpressionAnswers.{power, Stops, Front, Reads, Fails}
 use Rattle.parser_grammar.proofs.Tokens.{no_hole, own_kind, own_once, own_kinds, mark_own}
 use Rattle.parser_expressions.specs.inside.PartAnswers.{SpellsClosed}

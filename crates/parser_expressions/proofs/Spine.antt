@@ -15,7 +15,7 @@ use Rattle.parser_grammar.specs.declared.refusal.Refusal.{Refusal}
 use Rattle.parser_grammar.specs.declared.refusal.Refusal.TheVariants.{Syntax, Depth, Memory}
 use Rattle.parser_grammar.specs.Expressions.{binary_sign, layer_of, layer, Spells}
 use Rattle.parser_grammar.specs.Tokens.{Own, NotFront}
-use Rattle.parser_grammar.specs.inside.Answer.{Excuses}
+use Rattle.parser_grammar.specs.layer.Answer.{Excuses}
 use Rattle.parser_expressions.specs.ExpressionAnswers.{sign_power, power, Stops, Front, Reads, Fails}
 use Rattle.parser_grammar.proofs.Tokens.{no_hole, own_kind}
 

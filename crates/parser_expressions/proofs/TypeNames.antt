@@ -15,7 +15,7 @@ use Rattle.parser_grammar.specs.declared.refusal.Refusal.{Refusal}
 use Rattle.parser_grammar.specs.declared.refusal.Refusal.TheVariants.{Syntax, Depth, Memory}
 use Rattle.parser_grammar.specs.Expressions.{layer, SpellsSpecifiers, Spells, SpellsType, SpellsSizes}
 use Rattle.parser_grammar.specs.Tokens.{Own, StartsAt, NotFront, Reaches}
-use Rattle.parser_grammar.specs.inside.Answer.{Excuses, ReadsOf, FailsOf, Anywhere}
+use Rattle.parser_grammar.specs.layer.Answer.{Excuses, ReadsOf, FailsOf, Anywhere}
 use Rattle.parser_expressions.specs.ExpressionAnswers.{power, Front, Reads, Fails, Stands, BeginsType, KindBeginsType, ReadsSpecifiers, FailsSpecifiers, NotDepth}
 use Rattle.parser_grammar.proofs.Tokens.{own_kind, own_once, own_kinds, mark_own, mark_not, mark_once, reaches_on, own_reaches}
 use Rattle.parser_grammar.proofs.ExpressionBegun.{whole_is_begun, whole_reaches, specifiers_reach}

@@ -13,7 +13,7 @@ use Rattle.parser_grammar.specs.declared.refusal.Refusal.{Refusal}
 use Rattle.parser_grammar.specs.declared.refusal.Refusal.TheVariants.{Syntax}
 use Rattle.parser_grammar.specs.Tokens.{Own, StartsAt, NotFront}
 use Rattle.parser_grammar.specs.Expressions.{SpellsSpecifiers, word_keyword, SpellsSpecifier}
-use Rattle.parser_grammar.specs.inside.Answer.{Excuses}
+use Rattle.parser_grammar.specs.layer.Answer.{Excuses}
 use Rattle.parser_expressions.specs.ExpressionAnswers.{BeginsType, KindBeginsType, ReadsSpecifiers, FailsSpecifiers, AnswersSpecifiers, NotDepth}
 use Rattle.parser_grammar.proofs.Tokens.{own_once, own_kinds}
 use Rattle.tree.specs.declared.expression.Word.{Word}

@@ -18,7 +18,7 @@ use Rattle.parser_expressions.specs.declared.expressions.Part.{Part}
 use Rattle.parser_expressions.specs.declared.type_specifiers.SpecifiersPart.{SpecifiersPart}
 use Rattle.parser_grammar.specs.Expressions.{layer, SpellsSpecifiers, Spells}
 use Rattle.parser_grammar.specs.Tokens.{StartsAt, Reaches}
-use Rattle.parser_grammar.specs.inside.Answer.{Excuses}
+use Rattle.parser_grammar.specs.layer.Answer.{Excuses}
 use Rattle.tree.specs.Limits.{depth_limit}
 
 -- one more than the tightest layer that goes on at this punctuator, or 0

@@ -5,7 +5,7 @@ use Rattle.std.proofs.lemmas.Result.{err_from_is_err_and}
 use Rattle.std.proofs.Common.{◌≡◌, ℕ, ◌+◌, ◌≤◌, Bool, false, IsTrue, arith}
 use Rattle.parser_grammar.specs.declared.refusal.Refusal.{Refusal}
 use Rattle.parser_grammar.specs.declared.refusal.Refusal.TheVariants.{Syntax, Depth, Memory}
-use Rattle.parser_grammar.specs.inside.Answer.{Excuses}
+use Rattle.parser_grammar.specs.layer.Answer.{Excuses}
 
 -- refusals
 pub excuses_grow : (f : Refusal) (a b j k : ℕ) → a + j ≤ b + k → Excuses f a j → Excuses f b k

@@ -12,7 +12,7 @@ use Rattle.parser_grammar.specs.declared.refusal.Refusal.{Refusal}
 use Rattle.parser_grammar.specs.declared.refusal.Refusal.TheVariants.{Syntax, Depth, Memory}
 use Rattle.parser_grammar.specs.Tokens.{Own, Sign, Reaches}
 use Rattle.parser_grammar.specs.Declarations.{SpellsMoreOf, SpellsSeries}
-use Rattle.parser_grammar.specs.inside.Answer.{Excuses, ReadsOf, FailsOf, StandsOf}
+use Rattle.parser_grammar.specs.layer.Answer.{Excuses, ReadsOf, FailsOf, StandsOf}
 use Rattle.parser_grammar.proofs.Tokens.{same_token, mark_own, mark_begun, reaches_on, own_reaches}
 use Rattle.parser_grammar.proofs.Exits.{excuses_grow}
 

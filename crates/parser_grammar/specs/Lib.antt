@@ -2,4 +2,4 @@ pub mod Declarations
 pub mod Expressions
 pub mod Statements
 pub mod Tokens
-pub mod inside
+pub mod layer

@@ -11,7 +11,7 @@ use Rattle.pp_expand.specs.Expansion.{Known, Answer, Fault, of_run, shown_answer
 use Rattle.pp_expand.specs.Expands.{ending_of}
 use Rattle.pp_expand.specs.Pulled.{Pull, pulled, expanding, then_expanded}
 use Rattle.pp_expand.specs.Streams.{Stream, list_left, Knows}
-use Rattle.pp_expand.specs.inside.Meaning.{Refuses}
+use Rattle.pp_expand.specs.Meaning.{Refuses}
 use Rattle.pp_expand.specs.declared.run_end.RunEnd.{RunEnd}
 use Rattle.pp_expand.proofs.Pulls.{expanding_pulled}
 use Rattle.pp.specs.Left.{with_front, run_left, IsGoing}

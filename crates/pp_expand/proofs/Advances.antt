@@ -16,7 +16,7 @@ use Rattle.pp_expand.specs.declared.task.Turned.TheVariants.{Stays, Takes}
 use Rattle.pp_expand.specs.Expansion.{Known, Answer, Turn, stands, refused, predefined, replaced, turn, taken, predefined_one, replace_one}
 use Rattle.pp_expand.specs.Expands.{ending_of}
 use Rattle.pp_expand.specs.Pulled.{expanding}
-use Rattle.pp_expand.specs.inside.Meaning.{with_list, level_meaning}
+use Rattle.pp_expand.specs.Meaning.{with_list, level_meaning}
 use Rattle.pp_expand.specs.inside.Turns.{IsTask, TurnIs, AdvanceIs}
 use Rattle.pp_expand.proofs.Law.{expanding_first, expanding_none}
 use Rattle.pp_expand.proofs.Steps.{with_list_front}

@@ -13,7 +13,7 @@ use Rattle.macros_substitution.specs.Meaning.{hidden_all}
 use Rattle.macros_substitution.specs.Substitution.{Hidden}
 use Rattle.pp_expand.specs.Expansion.{Answer, Fault, behind as behind_one}
 use Rattle.pp_expand.specs.Expands.{put_behind}
-use Rattle.pp_expand.specs.inside.Meaning.{behind, shown_behind, Refuses}
+use Rattle.pp_expand.specs.Meaning.{behind, shown_behind, Refuses}
 
 pub tokens_all : (texts : Texts) (sets : Sets) (xs : List HiddenToken) → map (λ x. x.token) (hidden_all texts sets xs) ≡ map (λ x. x.token) xs
 tokens_all texts sets [] = refl

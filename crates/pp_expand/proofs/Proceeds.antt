@@ -23,7 +23,7 @@ use Rattle.pp_expand.specs.declared.run_end.RunEnd.TheVariants as run_end
 use Rattle.pp_expand.specs.Expansion.{Known, Answer, Replacement, of_argument, at_place}
 use Rattle.pp_expand.specs.Expands.{ending_of}
 use Rattle.pp_expand.specs.Pulled.{expanding}
-use Rattle.pp_expand.specs.inside.Meaning.{LevelIn}
+use Rattle.pp_expand.specs.Meaning.{LevelIn}
 use Rattle.pp_expand.specs.inside.Turns.{IsTask, TaskIn}
 use Rattle.pp_expand.specs.inside.Waits.{Job, call_of, front_by, Onward, to_end, going, job_of, waiting_going, resume_one, resume, onward_in, level_onward, level_behind, waiting_behind, made_in, weight, weights, TakesArgument, WaitingIn, WaitingsIn, ProceedIs, BeginIs, JoinIs}
 use Rattle.pp_expand.proofs.Sets.{lists_in_append, pieces_in_more}

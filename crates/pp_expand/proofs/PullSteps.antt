@@ -15,7 +15,7 @@ use Rattle.pp_expand.specs.declared.task.Turned.TheVariants.{Stays, Takes}
 use Rattle.pp_expand.specs.Expansion.{Known, Answer, Fault, Turn, stands, refused, predefined, replaced, turn, predefined_front}
 use Rattle.pp_expand.specs.Expands.{ending_of}
 use Rattle.pp_expand.specs.Pulled.{expanding, made_by, Pull, one_less, pulled_at, pulled}
-use Rattle.pp_expand.specs.inside.Meaning.{Refuses}
+use Rattle.pp_expand.specs.Meaning.{Refuses}
 use Rattle.pp_expand.specs.inside.Turns.{TurnIs, OnceFor}
 use Rattle.pp_expand.specs.inside.Pulls.{StepsAs, PullsAs, FallsTo}
 use Rattle.pp_expand.specs.inside.Waits.{MakesAs}

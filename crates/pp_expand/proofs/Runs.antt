@@ -19,7 +19,7 @@ use Rattle.pp_expand.specs.declared.waiting.Waiting.{Waiting}
 use Rattle.pp_expand.specs.Expansion.{Known, Answer, Fault, Replacement, predefined_front, predefined_one, replace_one, replace}
 use Rattle.pp_expand.specs.Expands.{ending_of}
 use Rattle.pp_expand.specs.Pulled.{expanding, made_by}
-use Rattle.pp_expand.specs.inside.Meaning.{with_list, level_meaning, Refuses}
+use Rattle.pp_expand.specs.Meaning.{with_list, level_meaning, Refuses}
 use Rattle.pp_expand.specs.inside.Turns.{IsTask, AdvanceIs, place_of}
 use Rattle.pp_expand.specs.inside.Waits.{Onward, to_end, the_rest, resume, resume_one, onward_in, level_onward, level_behind, made_in, BeginIs, JoinIs, GoesOnAs}
 use Rattle.pp_expand.proofs.Steps.{resume_push, resume_err}

@@ -15,7 +15,7 @@ use Rattle.macros_substitution.specs.Substitution.{is_hidden, common}
 use Rattle.macros_substitution.specs.Meaning.{AreIn, ListsIn, PieceIn, PiecesIn}
 use Rattle.pp_expand.specs.declared.level.Level.{Level}
 use Rattle.pp_expand.specs.declared.waiting.Waiting.{Waiting}
-use Rattle.pp_expand.specs.inside.Meaning.{LevelIn}
+use Rattle.pp_expand.specs.Meaning.{LevelIn}
 use Rattle.pp_expand.specs.inside.Waits.{WaitingIn, WaitingsIn}
 
 pub extends_same : (sets : Sets) → Extends sets sets

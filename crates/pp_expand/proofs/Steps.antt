@@ -9,7 +9,7 @@ use Rattle.macros_substitution.specs.Meaning.{stands_beside, is_beside, pieces_o
 use Rattle.pp_expand.specs.Expansion.{Ending, of_argument, Known, Answer, Fault, Replacement, argument_by, arguments_expanded, at_place, front_of}
 use Rattle.pp_expand.specs.declared.waiting.Waiting.{Waiting}
 use Rattle.pp_expand.specs.Pulled.{expanding, made_by}
-use Rattle.pp_expand.specs.inside.Meaning.{with_list}
+use Rattle.pp_expand.specs.Meaning.{with_list}
 use Rattle.macros_substitution.specs.HideSets.{Sets}
 use Rattle.pp_expand.specs.inside.Waits.{Job, call_of, front_by, Onward, to_end, after_arguments, going, taken_up, resume_one, resume, onward_in, weight, weights}
 

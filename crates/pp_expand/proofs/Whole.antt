@@ -16,7 +16,7 @@ use Rattle.pp_expand.specs.declared.run_end.RunEnd.{RunEnd}
 use Rattle.pp_expand.specs.Expands.{HaveFiles, IsExpansion, ending_of, put_behind}
 use Rattle.pp_expand.specs.Pulled.{expanding, Pull, pulled, then_expanded}
 use Rattle.pp_expand.specs.Streams.{IsPulled}
-use Rattle.pp_expand.specs.inside.Meaning.{shown_behind, Refuses}
+use Rattle.pp_expand.specs.Meaning.{shown_behind, Refuses}
 use Rattle.pp_expand.specs.inside.Unhidden.{IsUnhidden}
 use Rattle.pp_expand.proofs.Pulls.{expanding_pulled}
 use Rattle.pp_expand.proofs.Files.{files_stay}

@@ -4,3 +4,4 @@ pub mod Expands
 pub mod Pulled
 pub mod Streams
 pub mod inside
+pub mod Meaning

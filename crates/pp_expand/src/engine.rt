@@ -9,7 +9,7 @@ ghost use Rattle.macros_substitution.specs.HideSets.{Sets, Extends, NamesBelow};
 ghost use Rattle.macros_substitution.specs.Meaning.{AreIn};
 ghost use Rattle.pp_expand.specs.Expansion.{Replacement};
 ghost use Rattle.pp_expand.specs.Pulled.{expanding, made_by};
-ghost use Rattle.pp_expand.specs.inside.Meaning.{LevelIn};
+ghost use Rattle.pp_expand.specs.Meaning.{LevelIn};
 ghost use Rattle.pp_expand.specs.inside.Turns.{place_of, IsTask, TaskIn};
 ghost use Rattle.pp_expand.specs.inside.Waits.{weights, WaitingsIn, GoesOnAs, MakesAs};
 

@@ -9,7 +9,7 @@ ghost use Rattle.macros_substitution.specs.Meaning.{hidden_of, hidden_all, AreIn
 ghost use Rattle.pp_expand.specs.Expansion.{object_turn, count_fault, taken_turn, last_turn, arguments_in, turn_by, turn};
 ghost use Rattle.macros_substitution.specs.declared.piece.HiddenToken.{HiddenToken};
 ghost use Rattle.pp_expand.specs.Expands.{ending_of};
-ghost use Rattle.pp_expand.specs.inside.Meaning.{LevelIn};
+ghost use Rattle.pp_expand.specs.Meaning.{LevelIn};
 ghost use Rattle.pp_expand.specs.inside.Turns.{TaskIn, TaskTurn, TurnIs, TurnedIn, KeepsRest, OnceFor, LastIs, AdvanceIs, AdvancedIn};
 
 use crate::arguments::{take_arguments, without_empty};

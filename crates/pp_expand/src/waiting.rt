@@ -5,7 +5,7 @@ ghost use Rattle.srcset.specs.declared.refusal.Refusal.TheVariants.{Memory};
 ghost use Rattle.macros_substitution.specs.HideSets.{Sets, Extends, NamesBelow};
 ghost use Rattle.macros_substitution.specs.Meaning.{hidden_all, AreIn};
 ghost use Rattle.pp_expand.specs.Expansion.{Known, Replacement};
-ghost use Rattle.pp_expand.specs.inside.Meaning.{LevelIn};
+ghost use Rattle.pp_expand.specs.Meaning.{LevelIn};
 ghost use Rattle.pp_expand.specs.inside.Turns.{IsTask, TaskIn};
 ghost use Rattle.pp_expand.specs.inside.Waits.{WaitingIn, WaitingsIn, ProceedIs, BeginIs, JoinIs, TakesArgument, weight, weights};
 

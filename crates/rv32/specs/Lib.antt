@@ -4,4 +4,4 @@ pub mod Arithmetic
 pub mod Step
 pub mod Table
 pub mod Laws
-pub mod inside
+pub mod Segments

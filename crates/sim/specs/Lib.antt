@@ -7,3 +7,4 @@ pub mod Runs
 pub mod Meets
 pub mod Machines
 pub mod inside
+pub mod Ticks

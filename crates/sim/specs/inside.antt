@@ -1,4 +1,3 @@
 -- What only proofs and private functions need: nothing here has to be believed.
-pub mod Ticks
 pub mod Keeping
 pub mod Moves

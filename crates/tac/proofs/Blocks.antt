@@ -8,11 +8,11 @@ use Rattle.tac_lowering.specs.Values.{If}
 use Rattle.tac_lowering.specs.Places.{size_of_place}
 use Rattle.tac_lowering.specs.Code.{One}
 use Rattle.tac_lowering.specs.Bodies.{Effects, Repeats, Leaves}
-use Rattle.tac_forms.specs.inside.Parts.{plus, Wrote}
+use Rattle.tac_forms.specs.layer.Parts.{plus, Wrote}
 use Rattle.tac_forms.specs.declared.modes.Shape.TheVariants as shape
-use Rattle.tac_values.specs.inside.Sizes.{value_size}
+use Rattle.tac_values.specs.layer.Sizes.{value_size}
 use Rattle.tac.specs.inside.Sizes.{effects_size, repeats_size, statement_size, statements_size}
-use Rattle.tac_values.specs.inside.Written.{WroteValue}
+use Rattle.tac_values.specs.layer.Written.{WroteValue}
 use Rattle.tac.specs.inside.Written.{WroteStatement, WroteStatements}
 use Rattle.tac_forms.proofs.Parts.{plus_is, sum_two, begins_on, as_wrote, three, five, reach_one, reach_two, reach_three, reach_four, reach_five}
 

@@ -5,7 +5,7 @@ use Rattle.std.proofs.lemmas.List.{drop_more, drop_all}
 use Rattle.typing_rules.specs.Types.{elements_in}
 use Rattle.typing_rules.specs.Program as typed
 use Rattle.typing_rules.specs.Program.{Initialiser, Initialisers}
-use Rattle.tac_forms.specs.inside.Parts.{plus}
+use Rattle.tac_forms.specs.layer.Parts.{plus}
 use Rattle.tac.specs.inside.FirstSizes.{clears_size, fills_size, fill_all_size}
 use Rattle.tac.proofs.Filled.{plus_assoc}
 

@@ -14,10 +14,10 @@ use Rattle.tac_lowering.specs.Places.{size_of_place, cuts}
 use Rattle.tac_lowering.specs.Code.{Puts}
 use Rattle.tac_lowering.specs.Initialisers.{Sets, FillAll}
 use Rattle.tac_forms.specs.declared.modes.Shape.TheVariants as shape
-use Rattle.tac_forms.specs.inside.FormSizes.{puts_size}
+use Rattle.tac_forms.specs.layer.FormSizes.{puts_size}
 use Rattle.tac_forms.proofs.Stored.{stored_by}
-use Rattle.tac_values.specs.inside.Written.{WroteValue}
-use Rattle.tac_forms.specs.inside.Parts.{plus, Begins, Wrote}
+use Rattle.tac_values.specs.layer.Written.{WroteValue}
+use Rattle.tac_forms.specs.layer.Parts.{plus, Begins, Wrote}
 use Rattle.tac_forms.proofs.Parts.{plus_is, begins_all, begins_on, two}
 use Rattle.tac.specs.declared.elements.Start.{Start}
 use Rattle.tac.specs.inside.FirstSizes.{begins_size, clears_to_size, clears_size, sets_size, fills_size, fill_all_size}

@@ -8,7 +8,7 @@ use Rattle.typing_rules.specs.Program as typed
 use Rattle.typing_rules.specs.Program.{Initialiser}
 use Rattle.tac_code.specs.declared.code.Instruction.{Instruction}
 use Rattle.tac_lowering.specs.Bodies.{InitialisesWord, InitialisesObject, Initialises}
-use Rattle.tac_forms.specs.inside.Parts.{Wrote}
+use Rattle.tac_forms.specs.layer.Parts.{Wrote}
 use Rattle.tac_forms.proofs.Parts.{none_wrote}
 use Rattle.tac.specs.inside.FirstSizes.{word_size, fills_size, first_size}
 use Rattle.tac.specs.inside.Written.{WroteFills, WroteInitialises}

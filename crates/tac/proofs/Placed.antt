@@ -15,11 +15,11 @@ use Rattle.tac_lowering.specs.Values.{waits_in, mode_of}
 use Rattle.tac_lowering.specs.Places.{size_of_place}
 use Rattle.tac_lowering.specs.Code.{One}
 use Rattle.tac_lowering.specs.Bodies.{is_within, label_places, StandAll, StandAt, Tests}
-use Rattle.tac_forms.specs.inside.Parts.{plus, shape_of, Wrote}
-use Rattle.tac_values.specs.inside.Sizes.{value_size}
+use Rattle.tac_forms.specs.layer.Parts.{plus, shape_of, Wrote}
+use Rattle.tac_values.specs.layer.Sizes.{value_size}
 use Rattle.tac.specs.inside.Sizes.{tests_size, statement_size, statements_size}
 use Rattle.tac.specs.inside.Places.{one_label, places_of}
-use Rattle.tac_values.specs.inside.Written.{WroteValue}
+use Rattle.tac_values.specs.layer.Written.{WroteValue}
 use Rattle.tac.specs.inside.Written.{WroteStatement, WroteStatements, WrotePlaced, WroteTests}
 use Rattle.tac_forms.proofs.Parts.{begins_on, as_wrote, none_wrote, two, five, reach_one, reach_four, reach_five}
 

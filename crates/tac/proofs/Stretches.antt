@@ -9,7 +9,7 @@ use Rattle.tac_code.specs.declared.code.Instruction.{Instruction}
 use Rattle.tac_code.specs.declared.code.Instruction.TheVariants as instruction
 use Rattle.tac_lowering.specs.Code.{One, zero_word}
 use Rattle.tac_lowering.specs.Initialisers.{GoesOn, ClearsTo, CopiesTo, CopiesFirst, Clears, ClearsRest, Copies}
-use Rattle.tac_forms.specs.inside.Parts.{plus, Wrote}
+use Rattle.tac_forms.specs.layer.Parts.{plus, Wrote}
 use Rattle.tac_forms.proofs.Parts.{as_wrote, none_wrote, two, three, five, reach_one}
 use Rattle.tac.specs.declared.elements.Start.{Start}
 use Rattle.tac.specs.inside.FirstSizes.{goes_on_size, clears_to_size, copies_to_size, clears_rest_size, copies_first_size, copies_size}

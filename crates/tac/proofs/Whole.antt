@@ -9,7 +9,7 @@ use Rattle.tac_code.specs.Code.{Function, Program, function_at, or_no_function}
 use Rattle.tac_code.specs.Lowered.{kind_of}
 use Rattle.tac_lowering.specs.Code.{One}
 use Rattle.tac_lowering.specs.Bodies.{Idles, Closes, most, temporaries_of, IsCodeFor}
-use Rattle.tac_forms.specs.inside.Parts.{plus, Wrote}
+use Rattle.tac_forms.specs.layer.Parts.{plus, Wrote}
 use Rattle.tac.specs.inside.Sizes.{statement_size}
 use Rattle.tac.specs.inside.Written.{WroteStatement}
 use Rattle.tac.specs.inside.Functions.{closing_size, parameters_if, parameters_at, temporaries_with, IsBodyOf, IsFunctionWith, AreFunctionsOf}

@@ -2,7 +2,7 @@
 
 ghost use Rattle.std.specs.Prelude.{◌≡◌, ◌≤◌, ◌^◌, IfOk, IfErr, OnOk};
 ghost use Rattle.tac_lowering.specs.Initialisers as relation;
-ghost use Rattle.tac_forms.specs.inside.Parts.{Wrote};
+ghost use Rattle.tac_forms.specs.layer.Parts.{Wrote};
 ghost use Rattle.tac.specs.inside.FirstSizes as size;
 ghost use Rattle.tac.specs.inside.Starts.{element_at, WroteBegins, WroteClears};
 

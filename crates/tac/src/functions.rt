@@ -5,7 +5,7 @@ ghost use Rattle.typing_program.specs.View.{parameter_type_of, function_of, prog
 ghost use Rattle.tac_code.specs.Lowered.{kind_of};
 ghost use Rattle.tac_code.specs.Code as three_address;
 ghost use Rattle.tac_lowering.specs.Bodies as relation;
-ghost use Rattle.tac_forms.specs.inside.Parts.{Wrote};
+ghost use Rattle.tac_forms.specs.layer.Parts.{Wrote};
 ghost use Rattle.tac.specs.inside.Functions.{closing_size, IsBodyOf, IsFunctionWith};
 
 use crate::block_sizes::statement_size;

@@ -4,8 +4,8 @@ ghost use Rattle.std.specs.Prelude.{◌≡◌, ◌+◌, map, Some, slice_get, If
 ghost use Rattle.typing_program.specs.View.{value_of, object_type_of, initialiser_of, initialisers_of};
 ghost use Rattle.tac_lowering.specs.Bodies as relation;
 ghost use Rattle.tac_lowering.specs.Initialisers as stretches;
-ghost use Rattle.tac_forms.specs.inside.Parts.{Wrote};
-ghost use Rattle.tac_forms.specs.inside.Rows as rows;
+ghost use Rattle.tac_forms.specs.layer.Parts.{Wrote};
+ghost use Rattle.tac_forms.specs.layer.Rows as rows;
 ghost use Rattle.tac.specs.inside.Scopes.{program_in, function_in};
 ghost use Rattle.tac.specs.inside.FirstSizes as size;
 ghost use Rattle.tac.specs.inside.Written.{WroteFills, WroteFillAll, WroteInitialises};

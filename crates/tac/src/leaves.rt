@@ -4,7 +4,7 @@ ghost use Rattle.std.specs.Prelude.{ℕ, OnOk};
 ghost use Rattle.typing_rules.specs.Program as typed;
 ghost use Rattle.typing_program.specs.View.{value_of, option_value, initialiser_of};
 ghost use Rattle.tac_lowering.specs.Bodies as relation;
-ghost use Rattle.tac_forms.specs.inside.Parts.{Wrote};
+ghost use Rattle.tac_forms.specs.layer.Parts.{Wrote};
 ghost use Rattle.tac.specs.inside.Scopes.{program_in, function_in};
 ghost use Rattle.tac.specs.inside.Sizes as size;
 ghost use Rattle.tac.specs.inside.Written.{WroteStatement};

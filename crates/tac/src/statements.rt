@@ -4,7 +4,7 @@ ghost use Rattle.std.specs.Prelude.{◌≡◌, map, ℕ, OnOk};
 ghost use Rattle.ctypes.specs.declared.types.IntType.{IntType};
 ghost use Rattle.typing_rules.specs.Program as typed;
 ghost use Rattle.typing_program.specs.View.{value_of, option_value, statement_of, statements_of};
-ghost use Rattle.tac_forms.specs.inside.Parts as parts;
+ghost use Rattle.tac_forms.specs.layer.Parts as parts;
 ghost use Rattle.tac.specs.inside.Scopes.{program_in, function_in};
 ghost use Rattle.tac.specs.inside.Sizes as size;
 ghost use Rattle.tac.specs.inside.Written.{WroteStatement, WrotePlaced};

@@ -13,10 +13,10 @@ use Rattle.tac_code.specs.declared.code.Instruction.{Instruction}
 use Rattle.tac_code.specs.declared.code.Instruction.TheVariants as instruction
 use Rattle.tac_lowering.specs.Values.{To, If}
 use Rattle.tac_lowering.specs.Code.{One, Ends, Follows, Computes, Then, Compares, Operates, Truths, zero_word}
-use Rattle.tac_forms.specs.inside.Parts.{plus, shape_of, Wrote}
+use Rattle.tac_forms.specs.layer.Parts.{plus, shape_of, Wrote}
 use Rattle.tac_forms.specs.declared.modes.Shape.TheVariants as shape
-use Rattle.tac_forms.specs.inside.FormSizes.{ends_size, follows_size, computes_size, then_size, compares_size, operates_size, truths_size}
-use Rattle.tac_forms.specs.inside.Emitted.{is_twofold, first_of, is_comparison, jump_of}
+use Rattle.tac_forms.specs.layer.FormSizes.{ends_size, follows_size, computes_size, then_size, compares_size, operates_size, truths_size}
+use Rattle.tac_forms.specs.layer.Emitted.{is_twofold, first_of, is_comparison, jump_of}
 use Rattle.tac_forms.proofs.Parts.{begins_on, none_wrote, two, three, reach_one}
 
 abbrev Either : Bool → Type 0 → Type 0 → Type 0

@@ -2,7 +2,7 @@
 use Rattle.std.proofs.Common.{◌≡◌, ℕ, ◌+◌, ◌<◌, ◌≤◌, List, [], ◌∷◌, ◌++◌, length, slice_get, Some, refl, ap, sym, ◌∙◌, subst, append_assoc, append-nil, length-append, arith}
 use Rattle.tac_code.specs.declared.code.Instruction.{Instruction}
 use Rattle.tac_lowering.specs.Code.{One}
-use Rattle.tac_forms.specs.inside.Parts.{plus, Begins, Wrote}
+use Rattle.tac_forms.specs.layer.Parts.{plus, Begins, Wrote}
 
 -- ---- sums
 

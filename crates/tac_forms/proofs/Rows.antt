@@ -6,7 +6,7 @@ use Rattle.ctypes.specs.declared.types.IntType.TheVariants as ty
 use Rattle.ctypes.specs.declared.types.IntType.{IntType}
 use Rattle.typing_rules.specs.Types.{ObjectType, DeclaredType, complete, unknown_size, ParameterType, number, elements}
 use Rattle.typing_rules.specs.Nodes.{row_type, reference_in}
-use Rattle.tac_forms.specs.inside.Rows.{deep_size, size_at}
+use Rattle.tac_forms.specs.layer.Rows.{deep_size, size_at}
 
 pub deep_more : (n : ℕ) (t : Option DeclaredType) → deep_size (n + 1) t ≡ deep_size n (row_type t)
 deep_more n t =

@@ -13,9 +13,9 @@ use Rattle.tac_lowering.specs.Asked.{is_wide}
 use Rattle.tac_lowering.specs.Values.{reading_of, Mode, Nowhere, To, If}
 use Rattle.tac_lowering.specs.Places.{cuts}
 use Rattle.tac_lowering.specs.Code.{Ends, Computes, Puts, Alters, AltersAside, AltersBy}
-use Rattle.tac_forms.specs.inside.Parts.{plus, shape_of, Wrote}
+use Rattle.tac_forms.specs.layer.Parts.{plus, shape_of, Wrote}
 use Rattle.tac_forms.specs.declared.modes.Shape.TheVariants as shape
-use Rattle.tac_forms.specs.inside.FormSizes.{ends_size, computes_size, puts_size, cuts_for, alters_size, alters_aside_size, alters_after_size}
+use Rattle.tac_forms.specs.layer.FormSizes.{ends_size, computes_size, puts_size, cuts_for, alters_size, alters_aside_size, alters_after_size}
 use Rattle.tac_forms.proofs.Parts.{two, three}
 
 pub cuts_same : (u : IntType) (m : Mode) → cuts u m ≡ cuts_for u (shape_of m)

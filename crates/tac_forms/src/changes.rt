@@ -6,10 +6,10 @@ ghost use Rattle.tac_code.specs.declared.code.Operand.TheVariants as operands;
 ghost use Rattle.typing_program.specs.View.{callee_of, moment_of};
 ghost use Rattle.tac_lowering.specs.Code as relation;
 ghost use Rattle.tac_lowering.specs.Values.{To};
-ghost use Rattle.tac_forms.specs.inside.Parts.{meant, shape_of, Wrote};
-ghost use Rattle.tac_forms.specs.inside.Parts as parts;
-ghost use Rattle.tac_forms.specs.inside.Emitted as emitted;
-ghost use Rattle.tac_forms.specs.inside.FormSizes as size;
+ghost use Rattle.tac_forms.specs.layer.Parts.{meant, shape_of, Wrote};
+ghost use Rattle.tac_forms.specs.layer.Parts as parts;
+ghost use Rattle.tac_forms.specs.layer.Emitted as emitted;
+ghost use Rattle.tac_forms.specs.layer.FormSizes as size;
 
 use crate::instructions::{convert_to, move_to};
 use crate::modes::Mode;

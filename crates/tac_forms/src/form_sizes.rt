@@ -3,8 +3,8 @@
 ghost use Rattle.std.specs.Prelude.{◌≡◌};
 ghost use Rattle.meaning.specs.Expressions as meaning;
 ghost use Rattle.typing_program.specs.View.{callee_of, moment_of};
-ghost use Rattle.tac_forms.specs.inside.Parts as parts;
-ghost use Rattle.tac_forms.specs.inside.FormSizes as size;
+ghost use Rattle.tac_forms.specs.layer.Parts as parts;
+ghost use Rattle.tac_forms.specs.layer.FormSizes as size;
 
 use crate::bools::either;
 use crate::modes::Shape;

@@ -5,7 +5,7 @@ ghost use Rattle.ctypes.specs.Types as types;
 ghost use Rattle.meaning.specs.Machine.{choose};
 ghost use Rattle.tac_code.specs.declared.code.Comparison.TheVariants as comparison;
 ghost use Rattle.tac_lowering.specs.Code as relation;
-ghost use Rattle.tac_forms.specs.inside.Emitted as emitted;
+ghost use Rattle.tac_forms.specs.layer.Emitted as emitted;
 
 use ctypes::{BinOp, IntType};
 use tac_code::{Comparison, Instruction, Operand, Operation, Reading, Target};

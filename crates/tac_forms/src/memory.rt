@@ -5,10 +5,10 @@ ghost use Rattle.typing_rules.specs.Program as typed;
 ghost use Rattle.typing_program.specs.View.{moment_of};
 ghost use Rattle.tac_lowering.specs.Code as relation;
 ghost use Rattle.tac_lowering.specs.Values.{Nowhere};
-ghost use Rattle.tac_forms.specs.inside.Parts.{meant, shape_of, Wrote};
-ghost use Rattle.tac_forms.specs.inside.Parts as parts;
-ghost use Rattle.tac_forms.specs.inside.FormSizes as form;
-ghost use Rattle.tac_forms.specs.inside.Emitted as emitted;
+ghost use Rattle.tac_forms.specs.layer.Parts.{meant, shape_of, Wrote};
+ghost use Rattle.tac_forms.specs.layer.Parts as parts;
+ghost use Rattle.tac_forms.specs.layer.FormSizes as form;
+ghost use Rattle.tac_forms.specs.layer.Emitted as emitted;
 
 use crate::bools::either;
 use crate::instructions::{convert_to, move_to};

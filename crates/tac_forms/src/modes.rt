@@ -2,7 +2,7 @@
 
 ghost use Rattle.std.specs.Prelude.{◌≡◌};
 ghost use Rattle.tac_lowering.specs.Values as lowered;
-ghost use Rattle.tac_forms.specs.inside.Parts.{meant, shape_of};
+ghost use Rattle.tac_forms.specs.layer.Parts.{meant, shape_of};
 
 use tac_code::{Operand, Target};
 

@@ -2,9 +2,9 @@
 
 ghost use Rattle.std.specs.Prelude.{◌≡◌, true, false, OnOk};
 ghost use Rattle.tac_lowering.specs.Code as relation;
-ghost use Rattle.tac_forms.specs.inside.Parts.{meant, shape_of, Wrote};
-ghost use Rattle.tac_forms.specs.inside.FormSizes as size;
-ghost use Rattle.tac_forms.specs.inside.Emitted as emitted;
+ghost use Rattle.tac_forms.specs.layer.Parts.{meant, shape_of, Wrote};
+ghost use Rattle.tac_forms.specs.layer.FormSizes as size;
+ghost use Rattle.tac_forms.specs.layer.Emitted as emitted;
 
 use crate::instructions::{
     compute, first_of, is_comparison, is_true, is_twofold, jump_of, move_to, test, truth_jump,

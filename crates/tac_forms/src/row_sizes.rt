@@ -5,7 +5,7 @@ ghost use Rattle.ctypes.specs.declared.types.IntType.TheVariants as ty;
 ghost use Rattle.typing_rules.specs.Types.{elements_in, complete, unknown_size};
 ghost use Rattle.typing_rules.specs.Nodes as typed;
 ghost use Rattle.typing_program.specs.View.{place_of, storage_of, object_type_of, parameter_type_of, static_of, program_of, function_of};
-ghost use Rattle.tac_forms.specs.inside.Rows as rows;
+ghost use Rattle.tac_forms.specs.layer.Rows as rows;
 
 use crate::waiting::next;
 use ctypes::{IntType, size_of};

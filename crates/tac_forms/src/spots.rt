@@ -5,8 +5,8 @@ ghost use Rattle.typing_program.specs.View.{place_of, storage_of};
 ghost use Rattle.srcset.specs.declared.refusal.Pos.{Pos};
 ghost use Rattle.typing_rules.specs.Program as typed;
 ghost use Rattle.tac_lowering.specs.Places as places;
-ghost use Rattle.tac_forms.specs.inside.Parts.{meant};
-ghost use Rattle.tac_forms.specs.inside.FormSizes as size;
+ghost use Rattle.tac_forms.specs.layer.Parts.{meant};
+ghost use Rattle.tac_forms.specs.layer.FormSizes as size;
 
 use crate::modes::{Mode, Shape};
 use crate::waiting::{free_slot, free_temporary, pending};

@@ -2,7 +2,7 @@
 
 ghost use Rattle.std.specs.Prelude.{◌≡◌, ◌+◌, ℕ, Bool, IfOk};
 ghost use Rattle.tac_lowering.specs.Values as values;
-ghost use Rattle.tac_forms.specs.inside.Parts.{is_written};
+ghost use Rattle.tac_forms.specs.layer.Parts.{is_written};
 
 use crate::words::word_of;
 use std::alloc::AllocError;

@@ -2,8 +2,8 @@
 
 ghost use Rattle.std.specs.Prelude.{◌≡◌, ◌<◌, OnOk, length};
 ghost use Rattle.tac_lowering.specs.Code.{One};
-ghost use Rattle.tac_forms.specs.inside.Parts as parts;
-ghost use Rattle.tac_forms.specs.inside.Parts.{Wrote};
+ghost use Rattle.tac_forms.specs.layer.Parts as parts;
+ghost use Rattle.tac_forms.specs.layer.Parts.{Wrote};
 
 use crate::form_sizes::plus;
 use std::alloc::AllocError;

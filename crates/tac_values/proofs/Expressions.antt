@@ -16,11 +16,11 @@ use Rattle.tac_code.specs.declared.code.Instruction.{Instruction}
 use Rattle.tac_code.specs.declared.code.Instruction.TheVariants as instruction
 use Rattle.tac_lowering.specs.Values.{calls, arguments_call, writes, arguments_write, rests_in, constant_of, constant_or, at_rest, unless_written, pending, keeps, reading_of, waits_in, operand_of, free_temporary, free_kept, Mode, To, If, mode_of}
 use Rattle.tac_lowering.specs.Code.{One, Operates, IsZero, Loads, Truths, Into}
-use Rattle.tac_forms.specs.inside.Parts.{plus, shape_of, Wrote}
+use Rattle.tac_forms.specs.layer.Parts.{plus, shape_of, Wrote}
 use Rattle.tac_forms.specs.declared.modes.Shape.TheVariants as shape
-use Rattle.tac_forms.specs.inside.FormSizes.{then_size, operates_size, loads_size, truths_size}
-use Rattle.tac_values.specs.inside.Sizes.{wait_shape, rest_shape, value_size}
-use Rattle.tac_values.specs.inside.Written.{WroteValue, WrotePasses, BothNumber, OneNumber, truth_size}
+use Rattle.tac_forms.specs.layer.FormSizes.{then_size, operates_size, loads_size, truths_size}
+use Rattle.tac_values.specs.layer.Sizes.{wait_shape, rest_shape, value_size}
+use Rattle.tac_values.specs.layer.Written.{WroteValue, WrotePasses, BothNumber, OneNumber, truth_size}
 use Rattle.tac_forms.proofs.Parts.{begins_on, as_wrote, three, four, five, plus_is, reach_three, reach_four, reach_five}
 
 -- ---- sizes do not depend on what is free

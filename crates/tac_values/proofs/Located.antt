@@ -18,10 +18,10 @@ use Rattle.tac_lowering.specs.Asked.{is_wide}
 use Rattle.tac_lowering.specs.Values.{calls, arguments_call, keeps, operand_of, free_temporary, Mode, mode_of}
 use Rattle.tac_lowering.specs.Places.{found, target_for, free_temporary_at, free_kept_at, cuts}
 use Rattle.tac_lowering.specs.Code.{One, OnObject, Parts, Puts, Alters, AltersBy, Gets, HandsOver, Into}
-use Rattle.tac_forms.specs.inside.Parts.{shape_of, Wrote}
-use Rattle.tac_forms.specs.inside.FormSizes.{parts_size, gets_size, puts_size, alters_size, alters_by_size, hands_over_size}
-use Rattle.tac_values.specs.inside.Sizes.{size_on, rest_shape, value_size}
-use Rattle.tac_values.specs.inside.Written.{WroteValue, WrotePasses, WroteFinds, WroteReadObject, WroteReadMemory, WroteAssignedObject, WroteAssignedMemory, WroteCompoundObject, WroteCompoundMemory, WroteStepObject, WroteStepMemory}
+use Rattle.tac_forms.specs.layer.Parts.{shape_of, Wrote}
+use Rattle.tac_forms.specs.layer.FormSizes.{parts_size, gets_size, puts_size, alters_size, alters_by_size, hands_over_size}
+use Rattle.tac_values.specs.layer.Sizes.{size_on, rest_shape, value_size}
+use Rattle.tac_values.specs.layer.Written.{WroteValue, WrotePasses, WroteFinds, WroteReadObject, WroteReadMemory, WroteAssignedObject, WroteAssignedMemory, WroteCompoundObject, WroteCompoundMemory, WroteStepObject, WroteStepMemory}
 use Rattle.tac_forms.proofs.Parts.{two, three, four, five}
 use Rattle.tac_forms.proofs.Stored.{stored_by}
 

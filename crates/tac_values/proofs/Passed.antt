@@ -8,11 +8,11 @@ use Rattle.tac_code.specs.declared.code.Instruction.{Instruction}
 use Rattle.tac_lowering.specs.Code.{Passes}
 use Rattle.tac_lowering.specs.Values.{arguments_call, arguments_write, keeps, waits_in, mode_of}
 use Rattle.tac_lowering.specs.Places.{found}
-use Rattle.tac_forms.specs.inside.Parts.{plus}
+use Rattle.tac_forms.specs.layer.Parts.{plus}
 use Rattle.tac_forms.proofs.Parts.{none_wrote}
 use Rattle.tac_values.specs.declared.places.Free.{Free}
-use Rattle.tac_values.specs.inside.Sizes.{passes_size}
-use Rattle.tac_values.specs.inside.Written.{WrotePasses}
+use Rattle.tac_values.specs.layer.Sizes.{passes_size}
+use Rattle.tac_values.specs.layer.Written.{WrotePasses}
 use Rattle.tac_values.specs.inside.Waiting.{given_size, Waits, Fetches, AllWait, AllFetched}
 use Rattle.tac_values.proofs.Nodes.{argument_nodes, given_nodes, argument_step}
 use Rattle.tac_values.proofs.Expressions.{number_wrote}

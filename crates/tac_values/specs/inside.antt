@@ -1,6 +1,4 @@
 -- What the code of an expression is to be as it is written; nothing of it has to be believed.
 pub mod Given
 pub mod Ends
-pub mod Sizes
-pub mod Written
 pub mod Waiting

@@ -4,7 +4,7 @@ ghost use Rattle.std.specs.Prelude.{◌≡◌, map, ℕ, Bool, false};
 ghost use Rattle.typing_program.specs.View.{value_of, argument_of, arguments_of};
 ghost use Rattle.tac_lowering.specs.Bodies as bodies;
 ghost use Rattle.tac_lowering.specs.Values as values;
-ghost use Rattle.tac_forms.specs.inside.Parts.{is_written};
+ghost use Rattle.tac_forms.specs.layer.Parts.{is_written};
 ghost use Rattle.tac_values.specs.inside.Ends.{AreEnds};
 
 use crate::ends::Ends;

@@ -7,10 +7,10 @@ ghost use Rattle.typing_rules.specs.Program as typed;
 ghost use Rattle.typing_program.specs.View.{value_of, place_of, moment_of};
 ghost use Rattle.tac_lowering.specs.Values as lowered;
 ghost use Rattle.tac_lowering.specs.Places as placed;
-ghost use Rattle.tac_forms.specs.inside.Rows as rows;
-ghost use Rattle.tac_forms.specs.inside.Parts.{meant};
-ghost use Rattle.tac_values.specs.inside.Written.{WroteFinds, WroteValue};
-ghost use Rattle.tac_values.specs.inside.Written as written;
+ghost use Rattle.tac_forms.specs.layer.Rows as rows;
+ghost use Rattle.tac_forms.specs.layer.Parts.{meant};
+ghost use Rattle.tac_values.specs.layer.Written.{WroteFinds, WroteValue};
+ghost use Rattle.tac_values.specs.layer.Written as written;
 
 use crate::operands::keeps;
 use crate::rests::has_calls;

@@ -8,9 +8,9 @@ ghost use Rattle.srcset.specs.declared.refusal.Pos.{Pos};
 ghost use Rattle.ctypes.specs.declared.types.IntType.{IntType};
 ghost use Rattle.tree.specs.declared.expression.PrefixOp.TheVariants as prefix;
 ghost use Rattle.tac_forms.specs.declared.modes.Shape.TheVariants as shape;
-ghost use Rattle.tac_forms.specs.inside.Parts as parts;
-ghost use Rattle.tac_forms.specs.inside.FormSizes as form;
-ghost use Rattle.tac_values.specs.inside.Sizes as size;
+ghost use Rattle.tac_forms.specs.layer.Parts as parts;
+ghost use Rattle.tac_forms.specs.layer.FormSizes as form;
+ghost use Rattle.tac_values.specs.layer.Sizes as size;
 ghost use Rattle.tac_values.specs.inside.Waiting.{given_size};
 ghost use Rattle.tac_values.specs.inside.Ends.{AreEnds};
 

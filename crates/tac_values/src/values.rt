@@ -8,11 +8,11 @@ ghost use Rattle.typing_program.specs.View.{value_of, place_of, argument_of, arg
 ghost use Rattle.tac_lowering.specs.Code as relation;
 ghost use Rattle.tac_lowering.specs.Values as lowered;
 ghost use Rattle.tac_lowering.specs.Places as placed;
-ghost use Rattle.tac_forms.specs.inside.Rows as rows;
-ghost use Rattle.tac_forms.specs.inside.FormSizes as form;
-ghost use Rattle.tac_forms.specs.inside.Parts.{meant, shape_of, Wrote};
-ghost use Rattle.tac_values.specs.inside.Sizes as size;
-ghost use Rattle.tac_values.specs.inside.Written.{WroteFinds, WroteValue, WrotePasses};
+ghost use Rattle.tac_forms.specs.layer.Rows as rows;
+ghost use Rattle.tac_forms.specs.layer.FormSizes as form;
+ghost use Rattle.tac_forms.specs.layer.Parts.{meant, shape_of, Wrote};
+ghost use Rattle.tac_values.specs.layer.Sizes as size;
+ghost use Rattle.tac_values.specs.layer.Written.{WroteFinds, WroteValue, WrotePasses};
 ghost use Rattle.tac_values.specs.inside.Waiting.{Waits, Fetches, AllWait, AllFetched};
 ghost use Rattle.tac_values.specs.inside.Ends.{AreEnds};
 

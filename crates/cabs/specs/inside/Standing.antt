@@ -15,10 +15,10 @@ use Rattle.cabs_store.specs.declared.scene.Scene.{Scene}
 use Rattle.cabs_store.specs.declared.frames.Node.{Node}
 use Rattle.cabs_store.specs.declared.frames.Step.{Step}
 use Rattle.cabs_store.specs.declared.frames.Step.TheVariants as step
-use Rattle.cabs_store.specs.inside.Frames as on
-use Rattle.cabs_store.specs.inside.Presents.{present, resume, call_in}
-use Rattle.cabs_store.specs.inside.Views.{step_of, node_of}
-use Rattle.cabs_store.specs.inside.Agrees.{Outside, state_in, frames_of}
+use Rattle.cabs_store.specs.layer.Frames as on
+use Rattle.cabs_store.specs.layer.Presents.{present, resume, call_in}
+use Rattle.cabs_store.specs.layer.Views.{step_of, node_of}
+use Rattle.cabs_store.specs.layer.Agrees.{Outside, state_in, frames_of}
 use Rattle.cabs_transitions.specs.declared.tally.Tally.{Tally}
 use Rattle.cabs_transitions.specs.Tallied.{Tells}
 use Rattle.meaning_ports.specs.declared.port.PortFault.{PortFault}

@@ -7,9 +7,9 @@ use Rattle.meaning.specs.Machine.{State, Run, tick}
 use Rattle.meaning.specs.Expressions.{Passed, Calling}
 use Rattle.meaning.specs.Statements.{Returned}
 use Rattle.meaning.specs.Meaning.{start, cstep}
-use Rattle.cabs_store.specs.inside.Frames.{Found, a_flow, Node, enters, calls, to_end, Frame}
-use Rattle.cabs_store.specs.inside.Presents.{given, present, after, resume, resumed, Real, call_in}
-use Rattle.cabs_store.specs.inside.Steps.{entered, left, entered_call, called}
+use Rattle.cabs_store.specs.layer.Frames.{Found, a_flow, Node, enters, calls, to_end, Frame}
+use Rattle.cabs_store.specs.layer.Presents.{given, present, after, resume, resumed, Real, call_in}
+use Rattle.cabs_store.specs.layer.Steps.{entered, left, entered_call, called}
 
 -- each node takes one tick, and what it comes to is what is left of it
 abbrev pub NodeEnters : Type 0

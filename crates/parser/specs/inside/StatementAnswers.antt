@@ -12,7 +12,7 @@ use Rattle.parser.specs.declared.statements.StmtPart.{StmtPart}
 use Rattle.parser.specs.declared.statements.BlockPart.{BlockPart}
 use Rattle.parser_grammar.specs.Tokens.{Sign, NotFront}
 use Rattle.parser_grammar.specs.Statements.{is_open, SpellsStmt, SpellsPieces}
-use Rattle.parser_grammar.specs.inside.Answer.{ReadsOf, FailsOf, StandsOf, Anywhere}
+use Rattle.parser_grammar.specs.layer.Answer.{ReadsOf, FailsOf, StandsOf, Anywhere}
 
 -- a statement that an else could go on with does not end before one
 abbrev pub EndsStmt : StmtTree → List Token → Type 0

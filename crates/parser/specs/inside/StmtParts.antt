@@ -22,7 +22,7 @@ use Rattle.parser.specs.declared.statements.BlockItemPart.{BlockItemPart}
 use Rattle.parser_grammar.specs.Tokens.{Mark, Sign}
 use Rattle.parser_grammar.specs.Expressions.{Spells}
 use Rattle.parser_grammar.specs.Statements.{SpellsTest, SpellsOption, SpellsStart, SpellsStmt, SpellsPiece}
-use Rattle.parser_grammar.specs.inside.Answer.{ReadsOf, FailsOf, StandsOf, Anywhere}
+use Rattle.parser_grammar.specs.layer.Answer.{ReadsOf, FailsOf, StandsOf, Anywhere}
 use Rattle.parser.specs.inside.StatementAnswers.{EndsStmt}
 
 -- the token with which a statement of this form begins

@@ -17,7 +17,7 @@ use Rattle.parser.specs.declared.unit.ExternalPart.{ExternalPart}
 use Rattle.parser_grammar.specs.Tokens.{Own}
 use Rattle.parser_grammar.specs.Statements.{SpellsExternal}
 use Rattle.parser.specs.inside.StatementAnswers.{SpellsBody}
-use Rattle.parser_grammar.specs.inside.Answer.{Anywhere, ReadsOf, FailsOf, StandsOf}
+use Rattle.parser_grammar.specs.layer.Answer.{Anywhere, ReadsOf, FailsOf, StandsOf}
 use Rattle.parser.specs.Units.{IsSmall, HasTokenAt}
 use Rattle.tree.specs.Limits.{program_node_limit}
 

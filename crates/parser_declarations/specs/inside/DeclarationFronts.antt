@@ -18,7 +18,7 @@ use Rattle.parser_declarations.specs.declared.declarations.Tail.TheVariants as t
 use Rattle.parser_declarations.specs.declared.declarations.TailPart.{TailPart}
 use Rattle.parser_grammar.specs.Tokens.{Own, Mark, Sign}
 use Rattle.parser_grammar.specs.Declarations.{SpellsItem, SpellsDeclaration}
-use Rattle.parser_grammar.specs.inside.Answer.{ReadsOf, FailsOf, StandsOf, Anywhere}
+use Rattle.parser_grammar.specs.layer.Answer.{ReadsOf, FailsOf, StandsOf, Anywhere}
 use Rattle.parser_declarations.specs.DeclarationAnswers.{HeadTree, whole, opening}
 use Rattle.parser_declarations.specs.inside.ItemAnswers.{SpellsItemList}
 

@@ -22,7 +22,7 @@ use Rattle.parser_grammar.specs.Tokens.{Own, Sign, NotFront, Reaches}
 use Rattle.parser_grammar.specs.Expressions.{SpellsSpecifier}
 use Rattle.parser_grammar.specs.Declarations.{SpellsSeries, Trailing, SpellsEnumerator, SpellsDeclarationSpecifier, SpellsBound, SpellsParameter}
 use Rattle.parser_expressions.specs.ExpressionAnswers.{Stops, BeginsType}
-use Rattle.parser_grammar.specs.inside.Answer.{ReadsOf, FailsOf, StandsOf, Anywhere}
+use Rattle.parser_grammar.specs.layer.Answer.{ReadsOf, FailsOf, StandsOf, Anywhere}
 
 -- ---- enumerators
 

@@ -14,7 +14,7 @@ use Rattle.parser_declarations.specs.declared.initialisers.OptionalPart.{Optiona
 use Rattle.parser_grammar.specs.Tokens.{Own, Sign, NotFront}
 use Rattle.parser_grammar.specs.Declarations.{Trailing, SpellsInit, SpellsInits, SpellsInitialiser}
 use Rattle.parser_expressions.specs.ExpressionAnswers.{Stops}
-use Rattle.parser_grammar.specs.inside.Answer.{ReadsOf, FailsOf, StandsOf, Anywhere}
+use Rattle.parser_grammar.specs.layer.Answer.{ReadsOf, FailsOf, StandsOf, Anywhere}
 
 -- no assignment expression goes on here
 abbrev pub EndsInit : Init → List Token → Type 0

@@ -12,7 +12,7 @@ use Rattle.parser_declarations.specs.declared.items.ItemsPart.{ItemsPart}
 use Rattle.parser_grammar.specs.Tokens.{Sign}
 use Rattle.parser_grammar.specs.Declarations.{SpellsMoreOf, SpellsItem, SpellsItems}
 use Rattle.parser_expressions.specs.ExpressionAnswers.{Stops}
-use Rattle.parser_grammar.specs.inside.Answer.{ReadsOf, FailsOf, StandsOf, Anywhere}
+use Rattle.parser_grammar.specs.layer.Answer.{ReadsOf, FailsOf, StandsOf, Anywhere}
 
 -- neither an assignment expression nor a declarator goes on here
 abbrev pub EndsItem : ItemTree → List Token → Type 0

@@ -14,7 +14,7 @@ use Rattle.parser_declarations.specs.declared.parameters.BoundsPart.{BoundsPart}
 use Rattle.parser_declarations.specs.declared.parameters.ParametersPart.{ParametersPart}
 use Rattle.parser_grammar.specs.Tokens.{Sign, StartsAt, NotFront}
 use Rattle.parser_grammar.specs.Declarations.{SpellsDeclarationSpecifiers, SpellsBounds, SpellsParameters}
-use Rattle.parser_grammar.specs.inside.Answer.{ReadsOf, FailsOf, StandsOf, Anywhere}
+use Rattle.parser_grammar.specs.layer.Answer.{ReadsOf, FailsOf, StandsOf, Anywhere}
 use Rattle.parser_declarations.specs.DeclarationAnswers.{KeywordBeginsSpecifier}
 
 abbrev pub KindBeginsSpecifier : Kind → Type 0

@@ -13,7 +13,7 @@ use Rattle.parser_expressions.specs.declared.expressions.TypePart.{TypePart}
 use Rattle.parser_expressions.specs.ExpressionAnswers.{Reads, Fails}
 use Rattle.parser_grammar.specs.Tokens.{Sign}
 use Rattle.parser_grammar.specs.Expressions.{SpellsArguments, SpellsType}
-use Rattle.parser_grammar.specs.inside.Answer.{ReadsOf, FailsOf, StandsOf, Anywhere}
+use Rattle.parser_grammar.specs.layer.Answer.{ReadsOf, FailsOf, StandsOf, Anywhere}
 
 -- an expression, boxed
 abbrev pub AnswersBoxed : ℕ → ℕ → List Token → Result BoxedPart Refusal → Type 0

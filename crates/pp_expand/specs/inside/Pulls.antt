@@ -9,7 +9,7 @@ use Rattle.pp_expand.specs.declared.task.Step.{Step}
 use Rattle.pp_expand.specs.declared.task.Step.TheVariants.{Predefined, Replaced}
 use Rattle.pp_expand.specs.Expansion.{Known, Replacement, predefined_front}
 use Rattle.pp_expand.specs.Pulled.{expanding, made_by, Pull, one_less}
-use Rattle.pp_expand.specs.inside.Meaning.{Refuses}
+use Rattle.pp_expand.specs.Meaning.{Refuses}
 use Rattle.pp_expand.specs.inside.Turns.{IsTask}
 use Rattle.pp_expand.specs.inside.Waits.{MakesAs}
 

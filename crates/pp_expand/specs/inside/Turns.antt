@@ -25,7 +25,7 @@ use Rattle.pp_expand.specs.declared.task.Named.TheVariants.{Nothing, OfCompiler,
 use Rattle.pp_expand.specs.Expansion.{Ending, Known, Taken, separated, Mark, opens, closes, separates, other, Replacement, Turn, stands, refused, predefined, replaced, turn_by, turn, predefined_one, replace_one}
 use Rattle.pp_expand.specs.Expands.{ending_of}
 use Rattle.pp_expand.specs.Pulled.{expanding}
-use Rattle.pp_expand.specs.inside.Meaning.{with_list, level_meaning}
+use Rattle.pp_expand.specs.Meaning.{with_list, level_meaning}
 
 abbrev pub mark_as : Found → Mark
 mark_as found.Opens = opens

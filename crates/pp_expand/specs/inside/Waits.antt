@@ -14,7 +14,7 @@ use Rattle.pp_expand.specs.declared.waiting.Waiting.{Waiting}
 use Rattle.pp_expand.specs.Expansion.{Ending, Known, Answer, Fault, Replacement, arguments_expanded, at_place}
 use Rattle.pp_expand.specs.Expands.{ending_of}
 use Rattle.pp_expand.specs.Pulled.{expanding, made_by}
-use Rattle.pp_expand.specs.inside.Meaning.{with_list, LevelIn, Refuses}
+use Rattle.pp_expand.specs.Meaning.{with_list, LevelIn, Refuses}
 
 -- A replacement in pieces, and the list that it stands in.
 pub record Job : Type 0 where

@@ -7,9 +7,9 @@ use Rattle.typing_rules.specs.Program.{Value, Initialiser, Initialisers}
 use Rattle.meaning.specs.Statements.{first_length, inner_lengths, text_or_none}
 use Rattle.tac_lowering.specs.Values.{keeps}
 use Rattle.tac_forms.specs.declared.modes.Shape.TheVariants as shape
-use Rattle.tac_forms.specs.inside.Parts.{plus}
-use Rattle.tac_forms.specs.inside.FormSizes.{converts_size, puts_size, cuts_for}
-use Rattle.tac_values.specs.inside.Sizes.{value_size, rest_shape}
+use Rattle.tac_forms.specs.layer.Parts.{plus}
+use Rattle.tac_forms.specs.layer.FormSizes.{converts_size, puts_size, cuts_for}
+use Rattle.tac_values.specs.layer.Sizes.{value_size, rest_shape}
 
 -- of an object that is no array
 abbrev pub word_size : Initialiser → ℕ

@@ -3,7 +3,7 @@ use Rattle.std.specs.Prelude.{ℕ, ℤ, List, [], ◌∷◌, ◌++◌, Option, S
 use Rattle.typing_rules.specs.Program as typed
 use Rattle.typing_rules.specs.Program.{Statements}
 use Rattle.tac_lowering.specs.Bodies.{label_places}
-use Rattle.tac_forms.specs.inside.Parts.{plus}
+use Rattle.tac_forms.specs.layer.Parts.{plus}
 use Rattle.tac.specs.inside.Sizes.{statement_size}
 
 -- the label that a statement is, if it is one

@@ -6,9 +6,9 @@ use Rattle.meaning.specs.Statements.{labels_of}
 use Rattle.tac_lowering.specs.Values.{keeps}
 use Rattle.tac_lowering.specs.Bodies.{is_within}
 use Rattle.tac_forms.specs.declared.modes.Shape.TheVariants as shape
-use Rattle.tac_forms.specs.inside.Parts.{plus}
-use Rattle.tac_forms.specs.inside.FormSizes.{converts_size}
-use Rattle.tac_values.specs.inside.Sizes.{value_size, wait_shape, rest_shape}
+use Rattle.tac_forms.specs.layer.Parts.{plus}
+use Rattle.tac_forms.specs.layer.FormSizes.{converts_size}
+use Rattle.tac_values.specs.layer.Sizes.{value_size, wait_shape, rest_shape}
 use Rattle.tac.specs.inside.FirstSizes.{initialises_size}
 
 abbrev pub effects_size : Option Value → ℕ

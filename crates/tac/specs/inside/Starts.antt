@@ -7,7 +7,7 @@ use Rattle.tac_code.specs.declared.code.Instruction.{Instruction}
 use Rattle.tac_code.specs.declared.code.Instruction.TheVariants as instruction
 use Rattle.tac_lowering.specs.Code.{One, zero_word}
 use Rattle.tac_lowering.specs.Initialisers.{Clears}
-use Rattle.tac_forms.specs.inside.Parts.{Wrote}
+use Rattle.tac_forms.specs.layer.Parts.{Wrote}
 use Rattle.tac.specs.declared.elements.Start.{Start}
 use Rattle.tac.specs.inside.FirstSizes.{begins_size, clears_size}
 

@@ -9,7 +9,7 @@ use Rattle.meaning.specs.Statements.{labels_of}
 use Rattle.tac_lowering.specs.Places.{size_of_place}
 use Rattle.tac_lowering.specs.Initialisers.{Fills, FillAll}
 use Rattle.tac_lowering.specs.Bodies.{Stands, StandAll, StandAt, Tests, Initialises}
-use Rattle.tac_forms.specs.inside.Parts.{Wrote}
+use Rattle.tac_forms.specs.layer.Parts.{Wrote}
 use Rattle.tac.specs.inside.Places.{places_of}
 use Rattle.tac.specs.declared.elements.Start.{Start}
 use Rattle.tac.specs.inside.FirstSizes.{fills_size, fill_all_size, initialises_size}

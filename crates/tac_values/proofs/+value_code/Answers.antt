@@ -6,12 +6,12 @@ use Rattle.tac_lowering.specs.Values as lowered
 use Rattle.tac_lowering.specs.Places.{cuts}
 use Rattle.tac_lowering.specs.Places as placed
 use Rattle.tac_forms.specs.declared.modes.Shape.TheVariants as shape
-use Rattle.tac_forms.specs.inside.Parts.{meant, shape_of, plus}
-use Rattle.tac_forms.specs.inside.Emitted as emitted
-use Rattle.tac_forms.specs.inside.Rows.{sizes_in}
-use Rattle.tac_values.specs.inside.Sizes.{value_size}
+use Rattle.tac_forms.specs.layer.Parts.{meant, shape_of, plus}
+use Rattle.tac_forms.specs.layer.Emitted as emitted
+use Rattle.tac_forms.specs.layer.Rows.{sizes_in}
+use Rattle.tac_values.specs.layer.Sizes.{value_size}
 use Rattle.tac_values.specs.inside.Ends.{AreEnds}
-use Rattle.tac_values.specs.inside.Written.{WroteFinds, WroteValue}
+use Rattle.tac_values.specs.layer.Written.{WroteFinds, WroteValue}
 use Rattle.tac_values.proofs.Held.{sees_constant, sees_read, sees_assigned, sees_compound, sees_stepped, sees_unary, sees_binary, sees_bothtrue, sees_onetrue, sees_chosen, sees_sequence, sees_cast, sees_discarded, sees_call}
 use Rattle.tac_forms.proofs.Held.{sees_named, sees_element}
 use Rattle.tac_forms.proofs.Parts.{two, three, four, five}

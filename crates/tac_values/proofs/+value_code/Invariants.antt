@@ -2,7 +2,7 @@ use Rattle.std.proofs.Common.{◌≤◌, ◌+◌, ◌*◌, ◌++◌, List, map, 
 use Rattle.typing_program.specs.View.{value_of, place_of, arguments_of, argument_of}
 use Rattle.tac_values.proofs.Nodes.{nodes, place_nodes, argument_nodes, given_nodes}
 use Rattle.tac_code.specs.declared.code.Instruction.{Instruction}
-use Rattle.tac_forms.specs.inside.Rows.{sizes_in}
+use Rattle.tac_forms.specs.layer.Rows.{sizes_in}
 use Rattle.tac_values.specs.declared.places.Free.{Free}
 use Rattle.tac_values.specs.inside.Waiting.{AllWait}
 use Rattle.tac_values.specs.inside.Ends.{AreEnds}

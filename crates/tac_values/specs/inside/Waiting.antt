@@ -6,11 +6,11 @@ use Rattle.tac_code.specs.declared.code.Instruction.{Instruction}
 use Rattle.tac_lowering.specs.Values.{arguments_call, arguments_write, keeps, waits_in, mode_of, free_kept}
 use Rattle.tac_lowering.specs.Places.{found, free_kept_at}
 use Rattle.tac_lowering.specs.Code.{Loads, HandsOver}
-use Rattle.tac_forms.specs.inside.Parts.{plus, Wrote}
-use Rattle.tac_forms.specs.inside.FormSizes.{loads_size, hands_over_size}
+use Rattle.tac_forms.specs.layer.Parts.{plus, Wrote}
+use Rattle.tac_forms.specs.layer.FormSizes.{loads_size, hands_over_size}
 use Rattle.tac_values.specs.declared.places.Free.{Free}
-use Rattle.tac_values.specs.inside.Sizes.{value_size, place_size, wait_shape}
-use Rattle.tac_values.specs.inside.Written.{WroteFinds, WroteValue}
+use Rattle.tac_values.specs.layer.Sizes.{value_size, place_size, wait_shape}
+use Rattle.tac_values.specs.layer.Written.{WroteFinds, WroteValue}
 
 -- how many instructions one has, beside those behind it
 abbrev pub given_size : Given → Arguments → ℕ

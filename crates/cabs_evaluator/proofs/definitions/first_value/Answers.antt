@@ -6,8 +6,8 @@ use Rattle.typing_rules.specs.Program as typed
 use Rattle.meaning.specs.Machine.{Goes, tick, stored}
 use Rattle.meaning.specs.Statements.{Normal}
 use Rattle.cabs_store.specs.View.{reference_of}
-use Rattle.cabs_store.specs.inside.Agrees.{Outside, number, state_in}
-use Rattle.cabs_store.specs.inside.Views.{flow_of}
+use Rattle.cabs_store.specs.layer.Agrees.{Outside, number, state_in}
+use Rattle.cabs_store.specs.layer.Views.{flow_of}
 use Rattle.cabs_store.specs.declared.frames.Flow.TheVariants as flow
 use Rattle.cabs_evaluator.proofs.Comings.{after_tick, no_tick, gone_on, gone_none, gave_now}
 use Rattle.cabs_evaluator.proofs.Flows.{moved}

@@ -1,7 +1,7 @@
 use Rattle.std.proofs.Common.{rules}
 use Rattle.std.proofs.Math.Facts.{to_z-of_z}
 use Rattle.cabs_store.specs.View.{reference_of}
-use Rattle.cabs_store.specs.inside.Agrees.{number}
+use Rattle.cabs_store.specs.layer.Agrees.{number}
 use Rattle.std.proofs.Common.{◌≡◌, ℤ, sym, ap, refl, ◌∙◌, pos, to_z, of_z, w64}
 use Rattle.std.specs.Prelude.{true, false}
 use Rattle.ctypes.specs.Types.{truth, of_truth, converted}
@@ -10,8 +10,8 @@ use Rattle.typing_program.specs.View.{program_of, place_of, value_of}
 use Rattle.meaning.specs.Store.{Reference, whole}
 use Rattle.meaning.specs.Machine.{State, Run, Goes, then_do, subscripted, read, write, computed_at}
 use Rattle.meaning.specs.Expressions.{position_of, converted_or_none}
-use Rattle.cabs_store.specs.inside.Agrees.{state_in, combined, stepped}
-use Rattle.cabs_evaluator.specs.inside.Comes.{found, valued}
+use Rattle.cabs_store.specs.layer.Agrees.{state_in, combined, stepped}
+use Rattle.cabs_evaluator.specs.layer.Comes.{found, valued}
 use Rattle.cabs_evaluator.proofs.Comings.{after_tick, no_tick, gone_on, gone_none, gave, gave_now}
 use Rattle.cabs_evaluator.proofs.Leaves.{gave_with, gave_with_both, chose, leads_chosen}
 use Rattle.cabs_evaluator.proofs.Wholes.{leads_whole, read_whole, reads_element, combines_found, steps_found}

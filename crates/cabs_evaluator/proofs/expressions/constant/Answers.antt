@@ -1,6 +1,6 @@
 use Rattle.std.proofs.Common.{rules}
 use Rattle.std.proofs.Math.Facts.{to_z-of_z}
-use Rattle.cabs_store.specs.inside.Agrees.{number}
+use Rattle.cabs_store.specs.layer.Agrees.{number}
 use Rattle.cabs_evaluator.proofs.Comings.{after_tick, no_tick, gave_now}
 use Rattle.cabs_evaluator.proofs.expressions.constant.Goals as goal
 

@@ -1,7 +1,7 @@
 use Rattle.typing_program.specs.View.{program_of}
 use Rattle.meaning.specs.Store.{whole}
 use Rattle.cabs_store.specs.View.{reference_of}
-use Rattle.cabs_store.specs.inside.Agrees.{number, stepped}
+use Rattle.cabs_store.specs.layer.Agrees.{number, stepped}
 use Rattle.cabs_evaluator.proofs.Comings.{after_tick, no_tick}
 use Rattle.cabs_evaluator.proofs.Leaves.{gave_with}
 use Rattle.cabs_evaluator.proofs.objects.object_stepped.Goals as goal

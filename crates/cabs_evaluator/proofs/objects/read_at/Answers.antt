@@ -2,7 +2,7 @@ use Rattle.std.proofs.Common.{ap, to_z, of_z, w64, Ok, Err}
 use Rattle.std.proofs.Math.Facts.{to_z-of_z}
 use Rattle.meaning.specs.Machine.{subscripted}
 use Rattle.cabs_store.specs.View.{reference_of}
-use Rattle.cabs_store.specs.inside.Agrees.{state_in}
+use Rattle.cabs_store.specs.layer.Agrees.{state_in}
 use Rattle.cabs_evaluator.proofs.Leaves.{runs_as}
 use Rattle.cabs_evaluator.proofs.Wholes.{element_goes, element_stops}
 use Rattle.cabs_evaluator.proofs.objects.read_at.Goals as goal

@@ -3,7 +3,7 @@ use Rattle.std.proofs.Math.Facts.{to_z-of_z}
 use Rattle.meaning.specs.Store.{Reference, whole}
 use Rattle.meaning.specs.Machine.{Run, then_do, subscripted, read}
 use Rattle.cabs_store.specs.View.{reference_of}
-use Rattle.cabs_store.specs.inside.Agrees.{number, state_in}
+use Rattle.cabs_store.specs.layer.Agrees.{number, state_in}
 use Rattle.cabs_evaluator.proofs.Leaves.{runs_as}
 use Rattle.cabs_evaluator.proofs.objects.read_element.Goals as goal
 

@@ -2,7 +2,7 @@ use Rattle.std.proofs.Common.{ap, ◌∙◌}
 use Rattle.meaning.specs.Store.{whole}
 use Rattle.meaning.specs.Machine.{read}
 use Rattle.cabs_store.specs.View.{reference_of}
-use Rattle.cabs_store.specs.inside.Agrees.{number}
+use Rattle.cabs_store.specs.layer.Agrees.{number}
 use Rattle.cabs_evaluator.proofs.Comings.{after_tick, no_tick}
 use Rattle.cabs_evaluator.proofs.Leaves.{gave_with}
 use Rattle.cabs_evaluator.proofs.objects.read_object.Goals as goal

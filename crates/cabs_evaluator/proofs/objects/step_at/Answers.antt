@@ -3,7 +3,7 @@ use Rattle.std.proofs.Math.Facts.{to_z-of_z}
 use Rattle.typing_program.specs.View.{program_of, moment_of}
 use Rattle.meaning.specs.Expressions.{step_operation, step_value}
 use Rattle.cabs_store.specs.View.{reference_of}
-use Rattle.cabs_store.specs.inside.Agrees.{state_in}
+use Rattle.cabs_store.specs.layer.Agrees.{state_in}
 use Rattle.cabs_store.proofs.Scenes.{step_reads, step_computes, step_refused, step_writes}
 use Rattle.cabs_evaluator.proofs.objects.step_at.Goals as goal
 

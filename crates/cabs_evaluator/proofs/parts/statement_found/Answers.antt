@@ -1,8 +1,8 @@
 use Rattle.std.proofs.Common.{Some}
 use Rattle.typing_program.specs.View.{program_of, statement_of}
-use Rattle.cabs_store.specs.inside.Frames as on
-use Rattle.cabs_store.specs.inside.Views.{flow_of}
-use Rattle.cabs_evaluator.specs.inside.Comes.{executed, objects_in}
+use Rattle.cabs_store.specs.layer.Frames as on
+use Rattle.cabs_store.specs.layer.Views.{flow_of}
+use Rattle.cabs_evaluator.specs.layer.Comes.{executed, objects_in}
 use Rattle.cabs_evaluator.proofs.Comings.{leads_given, came}
 use Rattle.cabs_evaluator.proofs.parts.statement_found.Goals as goal
 

@@ -1,9 +1,9 @@
 use Rattle.std.proofs.Common.{rules, ◌≡◌, Some, sym, ap, ◌∙◌, to_z, of_z, w64}
 use Rattle.std.proofs.Math.Facts.{to_z-of_z}
 use Rattle.typing_program.specs.View.{program_of, value_of}
-use Rattle.cabs_store.specs.inside.Frames as on
-use Rattle.cabs_store.specs.inside.Agrees.{number}
-use Rattle.cabs_evaluator.specs.inside.Comes.{valued, state_at}
+use Rattle.cabs_store.specs.layer.Frames as on
+use Rattle.cabs_store.specs.layer.Agrees.{number}
+use Rattle.cabs_evaluator.specs.layer.Comes.{valued, state_at}
 use Rattle.cabs_evaluator.proofs.Comings.{leads_given, came}
 use Rattle.cabs_evaluator.proofs.parts.value_found.Goals as goal
 

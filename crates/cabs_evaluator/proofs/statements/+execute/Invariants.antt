@@ -2,9 +2,9 @@ use Rattle.std.proofs.Common.{◌+◌, ◌≤◌, ℕ, map, length, option_map}
 use Rattle.typing_program.specs.View.{statement_of, statements_of, value_of, program_of}
 use Rattle.meaning.specs.Machine.{State, Run}
 use Rattle.meaning.specs.Statements.{Flow}
-use Rattle.cabs_store.specs.inside.Frames.{Found}
-use Rattle.cabs_store.specs.inside.Presents.{call_in, loop}
-use Rattle.cabs_evaluator.specs.inside.Comes.{Course, Leads, all_executed, objects_in}
+use Rattle.cabs_store.specs.layer.Frames.{Found}
+use Rattle.cabs_store.specs.layer.Presents.{call_in, loop}
+use Rattle.cabs_evaluator.specs.layer.Comes.{Course, Leads, all_executed, objects_in}
 use Rattle.cabs_evaluator.proofs.Work.{work_statement, work_all}
 use Rattle.cabs_evaluator.proofs.statements.+execute.Given as goal
 

@@ -8,11 +8,11 @@ use Rattle.meaning.specs.Machine.{State, Run, Goes, then_do, choose, tick, store
 use Rattle.meaning.specs.Expressions.{evaluate_or}
 use Rattle.meaning.specs.Statements.{Flow, Normal, Broken, Continued, Returned, renewed, all_renewed, after_body, next_after, define_object}
 use Rattle.cabs_store.specs.View.{reference_of}
-use Rattle.cabs_store.specs.inside.Agrees.{Outside, number, state_in}
-use Rattle.cabs_store.specs.inside.Presents.{call_in, loop, tested, stepped}
-use Rattle.cabs_store.specs.inside.Views.{flow_of}
+use Rattle.cabs_store.specs.layer.Agrees.{Outside, number, state_in}
+use Rattle.cabs_store.specs.layer.Presents.{call_in, loop, tested, stepped}
+use Rattle.cabs_store.specs.layer.Views.{flow_of}
 use Rattle.cabs_store.specs.declared.frames.Flow.TheVariants as flow
-use Rattle.cabs_evaluator.specs.inside.Comes.{Course, Leads, valued, executed, all_executed, objects_in}
+use Rattle.cabs_evaluator.specs.layer.Comes.{Course, Leads, valued, executed, all_executed, objects_in}
 use Rattle.cabs_evaluator.proofs.Comings.{after_tick, no_tick, gone_on, gone_none, gave_now, came}
 use Rattle.cabs_evaluator.proofs.Leaves.{chose}
 use Rattle.cabs_evaluator.proofs.Flows.{moved, turned, out, on, headed, fewer, defines, defines_none, sees_one}

@@ -1,6 +1,6 @@
 use Rattle.std.proofs.Common.{rules}
 use Rattle.cabs_store.specs.View.{reference_of}
-use Rattle.cabs_store.specs.inside.Agrees.{state_in}
+use Rattle.cabs_store.specs.layer.Agrees.{state_in}
 use Rattle.cabs_steps.proofs.Cleared.{one_cleared}
 use Rattle.cabs_steps.proofs.elements.clear.Goals as goal
 

@@ -2,7 +2,7 @@ use Rattle.std.proofs.Common.{◌∙◌, ap}
 use Rattle.std.proofs.Math.Facts.{to_z-of_z}
 use Rattle.meaning.specs.Machine.{stored}
 use Rattle.cabs_store.specs.View.{reference_of}
-use Rattle.cabs_store.specs.inside.Agrees.{frames_of, state_in}
+use Rattle.cabs_store.specs.layer.Agrees.{frames_of, state_in}
 use Rattle.cabs_steps.proofs.Cleared.{initialised_in}
 use Rattle.cabs_steps.proofs.elements.enter_element.Goals as goal
 

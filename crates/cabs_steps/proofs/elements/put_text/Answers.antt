@@ -1,7 +1,7 @@
 use Rattle.std.proofs.Common.{◌≡◌, rules, to_z, of_z, w64}
 use Rattle.std.proofs.Math.Facts.{to_z-of_z}
 use Rattle.cabs_store.specs.View.{reference_of}
-use Rattle.cabs_store.specs.inside.Agrees.{state_in}
+use Rattle.cabs_store.specs.layer.Agrees.{state_in}
 use Rattle.cabs_steps.proofs.Cleared.{one_put}
 use Rattle.cabs_steps.proofs.elements.put_text.Goals as goal
 

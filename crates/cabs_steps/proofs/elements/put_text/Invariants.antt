@@ -1,7 +1,7 @@
 use Rattle.std.proofs.Common.{◌≡◌, ◌-◌, drop}
 use Rattle.meaning.specs.Statements.{characters}
 use Rattle.cabs_store.specs.View.{reference_of}
-use Rattle.cabs_store.specs.inside.Agrees.{Outside, state_in}
+use Rattle.cabs_store.specs.layer.Agrees.{Outside, state_in}
 use Rattle.cabs_steps.proofs.elements.put_text.Given as goal
 
 abbrev pub invariant-loop-i : goal.invariant-loop-i

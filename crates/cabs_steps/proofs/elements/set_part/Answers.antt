@@ -3,7 +3,7 @@ use Rattle.std.proofs.Math.Facts.{to_z-of_z}
 use Rattle.meaning.specs.Store.{into}
 use Rattle.meaning.specs.Machine.{stored}
 use Rattle.cabs_store.specs.View.{reference_of}
-use Rattle.cabs_store.specs.inside.Agrees.{state_in}
+use Rattle.cabs_store.specs.layer.Agrees.{state_in}
 use Rattle.cabs_steps.proofs.elements.set_part.Goals as goal
 
 pub returns-in-Ok-set-clause-ok : goal.returns-in-Ok-set-clause-ok

@@ -1,7 +1,7 @@
 use Rattle.std.proofs.Common.{◌*◌, sym}
 use Rattle.typing_rules.specs.Types.{elements_in}
 use Rattle.cabs_store.specs.View.{reference_of}
-use Rattle.cabs_store.specs.inside.Frames as on
+use Rattle.cabs_store.specs.layer.Frames as on
 use Rattle.cabs_steps.proofs.Given.{counted_as}
 use Rattle.cabs_steps.proofs.initialisers.end_list.Goals as goal
 

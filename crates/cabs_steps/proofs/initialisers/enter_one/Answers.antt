@@ -1,5 +1,5 @@
 use Rattle.typing_program.specs.View.{value_of}
-use Rattle.cabs_store.specs.inside.Steps.{entered_value}
+use Rattle.cabs_store.specs.layer.Steps.{entered_value}
 use Rattle.cabs_store.proofs.Taken.{takes_behind}
 use Rattle.cabs_steps.proofs.initialisers.enter_one.Goals as goal
 

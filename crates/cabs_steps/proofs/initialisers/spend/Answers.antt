@@ -1,5 +1,5 @@
 use Rattle.std.proofs.Common.{rules}
-use Rattle.cabs_store.specs.inside.Views.{late_of}
+use Rattle.cabs_store.specs.layer.Views.{late_of}
 use Rattle.cabs_steps.proofs.Given.{counted_as}
 use Rattle.cabs_steps.proofs.initialisers.spend.Goals as goal
 

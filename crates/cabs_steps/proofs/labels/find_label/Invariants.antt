@@ -2,7 +2,7 @@ use Rattle.std.proofs.Common.{◌≡◌, List, length, map, Some}
 use Rattle.typing_rules.specs.Types as type
 use Rattle.typing_program.specs.View.{statement_of, statements_of}
 use Rattle.meaning.specs.Machine.{State}
-use Rattle.cabs_store.specs.inside.Steps.{from_label}
+use Rattle.cabs_store.specs.layer.Steps.{from_label}
 use Rattle.cabs_steps.proofs.labels.find_label.Given as goal
 
 abbrev pub decreases-loop-a : goal.decreases-loop-a

@@ -4,7 +4,7 @@ use Rattle.typing_rules.specs.Program as typed
 use Rattle.typing_program.specs.View.{statement_of, statements_of}
 use Rattle.meaning.specs.Machine.{State}
 use Rattle.meaning.specs.Statements.{labels_of}
-use Rattle.cabs_store.specs.inside.Steps.{sought}
+use Rattle.cabs_store.specs.layer.Steps.{sought}
 use Rattle.cabs_steps.proofs.labels.seek.Given as goal
 
 abbrev pub decreases-loop-a : goal.decreases-loop-a

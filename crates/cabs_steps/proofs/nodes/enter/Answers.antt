@@ -1,7 +1,7 @@
 use Rattle.std.proofs.Common.{◌≡◌, ap, sym, ◌∙◌, rules, to_z, of_z, w64}
 use Rattle.std.proofs.Math.Facts.{to_z-of_z}
 use Rattle.cabs_store.specs.declared.frames.Node.TheVariants as node
-use Rattle.cabs_store.specs.inside.Views.{node_of}
+use Rattle.cabs_store.specs.layer.Views.{node_of}
 use Rattle.cabs_steps.proofs.Entered.{node_as}
 use Rattle.cabs_steps.proofs.nodes.enter.Goals as goal
 

@@ -1,6 +1,6 @@
 use Rattle.std.proofs.Common.{map, rules}
 use Rattle.typing_program.specs.View.{object_type_of}
-use Rattle.cabs_store.specs.inside.Agrees.{state_in}
+use Rattle.cabs_store.specs.layer.Agrees.{state_in}
 use Rattle.cabs_steps.proofs.Steps.{one_renewed}
 use Rattle.cabs_steps.proofs.objects.renew_all.Goals as goal
 

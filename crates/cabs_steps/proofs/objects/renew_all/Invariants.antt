@@ -1,7 +1,7 @@
 use Rattle.std.proofs.Common.{◌≡◌, ◌+◌, ◌-◌, map}
 use Rattle.typing_program.specs.View.{object_type_of}
 use Rattle.meaning.specs.Statements.{all_renewed}
-use Rattle.cabs_store.specs.inside.Agrees.{Outside, state_in}
+use Rattle.cabs_store.specs.layer.Agrees.{Outside, state_in}
 use Rattle.cabs_steps.proofs.objects.renew_all.Given as goal
 
 abbrev pub invariant-loop-i : goal.invariant-loop-i

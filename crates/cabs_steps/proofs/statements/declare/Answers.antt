@@ -1,4 +1,4 @@
-use Rattle.cabs_store.specs.inside.Agrees.{frames_of, state_in}
+use Rattle.cabs_store.specs.layer.Agrees.{frames_of, state_in}
 use Rattle.cabs_steps.proofs.Steps.{leaves_as}
 use Rattle.cabs_steps.proofs.statements.declare.Goals as goal
 

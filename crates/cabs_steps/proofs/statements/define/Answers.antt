@@ -1,8 +1,8 @@
 use Rattle.std.proofs.Common.{ap, ◌∙◌, map}
 use Rattle.std.specs.Prelude.{slice_get}
 use Rattle.typing_program.specs.View.{program_of, initialiser_of, object_type_of}
-use Rattle.cabs_store.specs.inside.Agrees.{frames_of, state_in}
-use Rattle.cabs_store.specs.inside.Steps.{defines}
+use Rattle.cabs_store.specs.layer.Agrees.{frames_of, state_in}
+use Rattle.cabs_store.specs.layer.Steps.{defines}
 use Rattle.cabs_store.proofs.Taken.{agrees_as}
 use Rattle.cabs_steps.proofs.statements.define.Goals as goal
 

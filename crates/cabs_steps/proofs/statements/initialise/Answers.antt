@@ -1,6 +1,6 @@
 use Rattle.typing_program.specs.View.{program_of, initialiser_of}
 use Rattle.cabs_store.specs.View.{reference_of}
-use Rattle.cabs_store.specs.inside.Agrees.{frames_of, state_in}
+use Rattle.cabs_store.specs.layer.Agrees.{frames_of, state_in}
 use Rattle.cabs_store.proofs.Taken.{agrees_as}
 use Rattle.cabs_steps.proofs.Steps.{defined_as}
 use Rattle.cabs_steps.proofs.statements.initialise.Goals as goal

@@ -1,6 +1,6 @@
 use Rattle.std.proofs.Common.{map}
 use Rattle.typing_program.specs.View.{object_type_of, statement_of, statements_of}
-use Rattle.cabs_store.specs.inside.Steps.{started}
+use Rattle.cabs_store.specs.layer.Steps.{started}
 use Rattle.cabs_store.proofs.Taken.{takes_behind}
 use Rattle.cabs_steps.proofs.statements.start_for.Goals as goal
 

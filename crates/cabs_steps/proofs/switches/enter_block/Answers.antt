@@ -4,8 +4,8 @@ use Rattle.std.proofs.Math.Facts.{to_z-of_z}
 use Rattle.typing_program.specs.declared.statements.Statement.{Statement}
 use Rattle.typing_program.specs.View.{object_type_of, statement_of, statements_of}
 use Rattle.meaning.specs.Statements.{labels_of}
-use Rattle.cabs_store.specs.inside.Steps.{sought}
-use Rattle.cabs_store.specs.inside.Agrees.{frames_of, state_in}
+use Rattle.cabs_store.specs.layer.Steps.{sought}
+use Rattle.cabs_store.specs.layer.Agrees.{frames_of, state_in}
 use Rattle.cabs_store.proofs.Taken.{agrees_as}
 use Rattle.cabs_steps.proofs.switches.enter_block.Goals as goal
 

@@ -1,9 +1,9 @@
 use Rattle.std.proofs.Common.{map, refl, sym, ap, ◌∙◌}
 use Rattle.typing_program.specs.View.{object_type_of, statement_of, statements_of}
 use Rattle.meaning.specs.Statements.{Normal}
-use Rattle.cabs_store.specs.inside.Frames.{a_flow}
-use Rattle.cabs_store.specs.inside.Steps.{from_label, goes}
-use Rattle.cabs_store.specs.inside.Agrees.{frames_of, state_in}
+use Rattle.cabs_store.specs.layer.Frames.{a_flow}
+use Rattle.cabs_store.specs.layer.Steps.{from_label, goes}
+use Rattle.cabs_store.specs.layer.Agrees.{frames_of, state_in}
 use Rattle.cabs_store.proofs.Taken.{agrees_as}
 use Rattle.cabs_steps.proofs.Steps.{no_label, leaves_as}
 use Rattle.cabs_steps.proofs.switches.start_at.Goals as goal

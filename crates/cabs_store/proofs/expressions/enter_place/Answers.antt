@@ -1,8 +1,8 @@
 use Rattle.std.proofs.Common.{ap, sym}
-use Rattle.cabs_store.specs.inside.Agrees.{state_in, frames_of}
+use Rattle.cabs_store.specs.layer.Agrees.{state_in, frames_of}
 use Rattle.meaning.specs.Machine.{Goes, designated}
 use Rattle.typing_program.specs.View.{program_of, place_of, storage_of}
-use Rattle.cabs_store.specs.inside.Steps.{entered_place}
+use Rattle.cabs_store.specs.layer.Steps.{entered_place}
 use Rattle.cabs_store.proofs.Held.{sees_named}
 use Rattle.cabs_store.proofs.Taken.{agrees_as}
 use Rattle.cabs_store.proofs.expressions.enter_place.Goals as goal

@@ -1,9 +1,9 @@
 use Rattle.std.proofs.Common.{ap, ◌∙◌, ◌∷◌, [], ◌++◌}
 use Rattle.typing_program.specs.View.{place_of}
 use Rattle.cabs_store.proofs.Taken.{takes_behind}
-use Rattle.cabs_store.specs.inside.Frames as on
-use Rattle.cabs_store.specs.inside.Agrees.{frames_of}
-use Rattle.cabs_store.specs.inside.Steps.{entered_place}
+use Rattle.cabs_store.specs.layer.Frames as on
+use Rattle.cabs_store.specs.layer.Agrees.{frames_of}
+use Rattle.cabs_store.specs.layer.Steps.{entered_place}
 use Rattle.cabs_store.proofs.expressions.enter_read.Goals as goal
 
 pub returns-in-Ok-clause-takes : goal.returns-in-Ok-clause-takes

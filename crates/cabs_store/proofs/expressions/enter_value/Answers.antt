@@ -2,11 +2,11 @@ use Rattle.std.proofs.Common.{ap, sym, ◌∙◌, List, map}
 use Rattle.typing_program.specs.declared.expressions.Argument.{Argument}
 use Rattle.meaning.specs.Machine.{State}
 use Rattle.cabs_store.specs.declared.frames.Passed.{Passed}
-use Rattle.cabs_store.specs.inside.Frames.{Moved}
-use Rattle.cabs_store.specs.inside.Views.{passed_of}
+use Rattle.cabs_store.specs.layer.Frames.{Moved}
+use Rattle.cabs_store.specs.layer.Views.{passed_of}
 use Rattle.typing_program.specs.View.{value_of, place_of, callee_of, arguments_of, argument_of}
 use Rattle.typing_rules.specs.Program as typed
-use Rattle.cabs_store.specs.inside.Steps.{entered_value, asked_for}
+use Rattle.cabs_store.specs.layer.Steps.{entered_value, asked_for}
 use Rattle.cabs_store.proofs.Held.{sees_read, sees_call}
 use Rattle.cabs_store.proofs.Taken.{takes_as}
 use Rattle.cabs_store.proofs.expressions.enter_value.Goals as goal

@@ -2,12 +2,12 @@ use Rattle.std.proofs.Common.{◌≡◌, ap, ◌∙◌, sym, ◌++◌, ◌∷◌
 use Rattle.std.proofs.Math.Facts.{to_z-of_z}
 use Rattle.cabs_store.proofs.Taken.{left_as, takes_as}
 use Rattle.cabs_store.proofs.Scenes.{runs_as}
-use Rattle.cabs_store.specs.inside.Frames.{Moved}
-use Rattle.cabs_store.specs.inside.Steps.{asked_for, left_by_value}
-use Rattle.cabs_store.specs.inside.Views.{passed_of, operand_frame}
+use Rattle.cabs_store.specs.layer.Frames.{Moved}
+use Rattle.cabs_store.specs.layer.Steps.{asked_for, left_by_value}
+use Rattle.cabs_store.specs.layer.Views.{passed_of, operand_frame}
 use Rattle.meaning.specs.Expressions.{Number}
 use Rattle.cabs_store.specs.View.{reference_of}
-use Rattle.cabs_store.specs.inside.Agrees.{frames_of, state_in, combined, number}
+use Rattle.cabs_store.specs.layer.Agrees.{frames_of, state_in, combined, number}
 use Rattle.typing_program.specs.View.{program_of, callee_of, argument_of, arguments_of}
 use Rattle.ctypes.specs.Types.{converted}
 use Rattle.typing_rules.specs.Operators.{operated, sign_of}

@@ -1,6 +1,6 @@
 use Rattle.cabs_store.proofs.Taken.{place_left_as}
 use Rattle.cabs_store.specs.View.{reference_of}
-use Rattle.cabs_store.specs.inside.Agrees.{frames_of, state_in, stepped}
+use Rattle.cabs_store.specs.layer.Agrees.{frames_of, state_in, stepped}
 use Rattle.typing_program.specs.View.{program_of}
 use Rattle.cabs_store.proofs.operands.leave_place.Goals as goal
 

@@ -1,8 +1,8 @@
 use Rattle.std.proofs.Common.{ap, ◌∙◌, ◌++◌, ◌∷◌, [], map}
 use Rattle.std.proofs.lemmas.List.{map-append}
 use Rattle.typing_program.specs.View.{callee_of, argument_of, arguments_of}
-use Rattle.cabs_store.specs.inside.Views.{passed_of}
-use Rattle.cabs_store.specs.inside.Steps.{asked_for}
+use Rattle.cabs_store.specs.layer.Views.{passed_of}
+use Rattle.cabs_store.specs.layer.Steps.{asked_for}
 use Rattle.cabs_store.proofs.Taken.{takes_as}
 use Rattle.cabs_store.proofs.operands.pass.Goals as goal
 

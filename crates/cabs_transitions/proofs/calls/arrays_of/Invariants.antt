@@ -1,7 +1,7 @@
 use Rattle.std.proofs.Common.{◌≡◌, ◌++◌, length, map}
 use Rattle.meaning.specs.Meaning.{arrays_of}
 use Rattle.cabs_store.specs.View.{reference_of}
-use Rattle.cabs_store.specs.inside.Views.{passed_of}
+use Rattle.cabs_store.specs.layer.Views.{passed_of}
 use Rattle.cabs_transitions.proofs.calls.arrays_of.Given as goal
 
 abbrev pub decreases-loop-one : goal.decreases-loop-one

@@ -4,9 +4,9 @@ use Rattle.std.proofs.lemmas.List.{length-map}
 use Rattle.typing_program.specs.View.{function_of, object_type_of, parameter_type_of, program_of}
 use Rattle.meaning.specs.History.{Entered}
 use Rattle.cabs_store.specs.View.{reference_of}
-use Rattle.cabs_store.specs.inside.Steps.{entered_call}
-use Rattle.cabs_store.specs.inside.Views.{back_of, passed_of}
-use Rattle.cabs_store.specs.inside.Agrees.{Outside, frames_of, state_in}
+use Rattle.cabs_store.specs.layer.Steps.{entered_call}
+use Rattle.cabs_store.specs.layer.Views.{back_of, passed_of}
+use Rattle.cabs_store.specs.layer.Agrees.{Outside, frames_of, state_in}
 use Rattle.cabs_store.proofs.Taken.{agrees_as}
 use Rattle.cabs_transitions.proofs.Called.{begin_as, set_as}
 use Rattle.cabs_transitions.proofs.calls.begin.Goals as goal

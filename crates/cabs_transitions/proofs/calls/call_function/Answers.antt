@@ -3,9 +3,9 @@ use Rattle.std.specs.Prelude.{Option, None, Some, slice_get}
 use Rattle.typing_program.specs.declared.units.Function as unit
 use Rattle.typing_program.specs.View.{function_of, program_of}
 use Rattle.typing_rules.specs.Program as typed
-use Rattle.cabs_store.specs.inside.Steps.{entered_call}
-use Rattle.cabs_store.specs.inside.Views.{back_of, passed_of}
-use Rattle.cabs_store.specs.inside.Agrees.{Agrees, frames_of, onto, state_in}
+use Rattle.cabs_store.specs.layer.Steps.{entered_call}
+use Rattle.cabs_store.specs.layer.Views.{back_of, passed_of}
+use Rattle.cabs_store.specs.layer.Agrees.{Agrees, frames_of, onto, state_in}
 use Rattle.cabs_transitions.specs.Acts.{outside_behind}
 use Rattle.cabs_transitions.proofs.Called.{a_function, back_acts, no_function}
 use Rattle.cabs_transitions.proofs.calls.call_function.Goals as goal

@@ -2,7 +2,7 @@ use Rattle.std.proofs.Common.{map, ap, ◌∙◌, ◌++◌, rules}
 use Rattle.typing_program.specs.View.{object_type_of}
 use Rattle.meaning.specs.Store.{indeterminate}
 use Rattle.cabs_store.specs.View.{store_of}
-use Rattle.cabs_store.specs.inside.Views.{passed_of}
+use Rattle.cabs_store.specs.layer.Views.{passed_of}
 use Rattle.cabs_transitions.proofs.Called.{objects_done}
 use Rattle.cabs_transitions.proofs.calls.new_objects.Goals as goal
 

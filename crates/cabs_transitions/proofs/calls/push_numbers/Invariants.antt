@@ -1,7 +1,7 @@
 use Rattle.std.proofs.Common.{◌≡◌, ◌++◌, length, map}
 use Rattle.meaning.specs.Meaning.{numbers_of}
 use Rattle.cabs_store.specs.View.{store_of}
-use Rattle.cabs_store.specs.inside.Views.{passed_of}
+use Rattle.cabs_store.specs.layer.Views.{passed_of}
 use Rattle.cabs_transitions.proofs.calls.push_numbers.Given as goal
 
 abbrev pub decreases-loop-one : goal.decreases-loop-one

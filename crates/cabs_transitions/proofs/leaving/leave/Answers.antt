@@ -1,9 +1,9 @@
 use Rattle.std.proofs.Common.{◌≡◌, ap, sym, ◌∙◌, ℤ, rules, to_z, of_z, w64}
 use Rattle.std.proofs.Math.Facts.{to_z-of_z}
 use Rattle.cabs_store.specs.View.{reference_of}
-use Rattle.cabs_store.specs.inside.Frames as on
-use Rattle.cabs_store.specs.inside.Steps.{left_by_place, left_by_value, left_initialised}
-use Rattle.cabs_store.specs.inside.Views.{found_of, frame_of}
+use Rattle.cabs_store.specs.layer.Frames as on
+use Rattle.cabs_store.specs.layer.Steps.{left_by_place, left_by_value, left_initialised}
+use Rattle.cabs_store.specs.layer.Views.{found_of, frame_of}
 use Rattle.cabs_transitions.proofs.Left.{found_as, takes_acts}
 use Rattle.cabs_transitions.proofs.leaving.leave.Goals as goal
 

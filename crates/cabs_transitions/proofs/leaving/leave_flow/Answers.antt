@@ -1,5 +1,5 @@
 use Rattle.std.proofs.Common.{ap}
-use Rattle.cabs_store.specs.inside.Views.{flow_of, frame_of}
+use Rattle.cabs_store.specs.layer.Views.{flow_of, frame_of}
 use Rattle.cabs_transitions.proofs.Left.{flow_as}
 use Rattle.cabs_transitions.proofs.leaving.leave_flow.Goals as goal
 

@@ -1,6 +1,6 @@
 use Rattle.std.proofs.Common.{ap}
 use Rattle.cabs_store.specs.View.{reference_of}
-use Rattle.cabs_store.specs.inside.Views.{frame_of}
+use Rattle.cabs_store.specs.layer.Views.{frame_of}
 use Rattle.cabs_transitions.proofs.Left.{place_as}
 use Rattle.cabs_transitions.proofs.leaving.leave_found_place.Goals as goal
 

@@ -1,5 +1,5 @@
 use Rattle.std.proofs.Common.{ap}
-use Rattle.cabs_store.specs.inside.Views.{frame_of}
+use Rattle.cabs_store.specs.layer.Views.{frame_of}
 use Rattle.cabs_transitions.proofs.Left.{first_as}
 use Rattle.cabs_transitions.proofs.leaving.leave_given.Goals as goal
 

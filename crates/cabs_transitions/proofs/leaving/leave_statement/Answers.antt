@@ -1,7 +1,7 @@
 use Rattle.std.proofs.Common.{ap}
 use Rattle.cabs_store.specs.declared.frames.FlowFrame.TheVariants as flows
-use Rattle.cabs_store.specs.inside.Steps.{left_by_flow}
-use Rattle.cabs_store.specs.inside.Views.{flow_frame, flow_of}
+use Rattle.cabs_store.specs.layer.Steps.{left_by_flow}
+use Rattle.cabs_store.specs.layer.Views.{flow_frame, flow_of}
 use Rattle.cabs_transitions.proofs.Left.{flow_as, takes_acts}
 use Rattle.cabs_transitions.proofs.leaving.leave_statement.Goals as goal
 

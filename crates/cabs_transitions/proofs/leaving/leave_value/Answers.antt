@@ -1,6 +1,6 @@
 use Rattle.std.proofs.Common.{ap}
 use Rattle.std.proofs.Math.Facts.{to_z-of_z}
-use Rattle.cabs_store.specs.inside.Views.{frame_of}
+use Rattle.cabs_store.specs.layer.Views.{frame_of}
 use Rattle.cabs_transitions.proofs.Left.{value_as}
 use Rattle.cabs_transitions.proofs.leaving.leave_value.Goals as goal
 

@@ -4,10 +4,10 @@ use Rattle.typing_program.specs.View.{program_of}
 use Rattle.meaning.specs.History.{Left}
 use Rattle.meaning.specs.Meaning.{value_left}
 use Rattle.cabs_store.specs.View.{reference_of}
-use Rattle.cabs_store.specs.inside.Presents.{back_at}
-use Rattle.cabs_store.specs.inside.Steps.{went_back}
-use Rattle.cabs_store.specs.inside.Views.{back_of, flow_of}
-use Rattle.cabs_store.specs.inside.Agrees.{Agrees, frames_of, onto, state_in}
+use Rattle.cabs_store.specs.layer.Presents.{back_at}
+use Rattle.cabs_store.specs.layer.Steps.{went_back}
+use Rattle.cabs_store.specs.layer.Views.{back_of, flow_of}
+use Rattle.cabs_store.specs.layer.Agrees.{Agrees, frames_of, onto, state_in}
 use Rattle.cabs_transitions.proofs.Called.{back_acts}
 use Rattle.cabs_transitions.proofs.returning.come_back.Goals as goal
 

@@ -1,8 +1,8 @@
 use Rattle.std.proofs.Common.{subst, sym}
 use Rattle.cabs_store.specs.declared.frames.Back.{Back}
-use Rattle.cabs_store.specs.inside.Agrees.{Agrees, onto}
-use Rattle.cabs_store.specs.inside.Steps.{went_back}
-use Rattle.cabs_store.specs.inside.Views.{back_of}
+use Rattle.cabs_store.specs.layer.Agrees.{Agrees, onto}
+use Rattle.cabs_store.specs.layer.Steps.{went_back}
+use Rattle.cabs_store.specs.layer.Views.{back_of}
 use Rattle.cabs_transitions.proofs.returning.go_back.Goals as goal
 
 pub returns-in-ToCaller : goal.returns-in-ToCaller

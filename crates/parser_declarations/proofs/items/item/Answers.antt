@@ -2,7 +2,7 @@ use Rattle.std.specs.Prelude.{None}
 use Rattle.std.proofs.Common.{◌+◌, sym, map, IfErr}
 use Rattle.tree.specs.Counts.{sizes_depth}
 use Rattle.tree.specs.View.{option_tree}
-use Rattle.parser_grammar.specs.inside.Answer.{ReadsOf}
+use Rattle.parser_grammar.specs.layer.Answer.{ReadsOf}
 use Rattle.parser_grammar.specs.Declarations.{SpellsBounds}
 use Rattle.parser_declarations.specs.inside.SpecifierAnswers.{EndsBounds}
 use Rattle.parser_declarations.specs.inside.ItemAnswers.{AnswersItem, StandsItem}

@@ -5,7 +5,7 @@ use Rattle.macros.specs.Table.{IsTable}
 use Rattle.macros_substitution.specs.HideSets.{Sets, Extends, NamesBelow}
 use Rattle.pp_expand.specs.Expansion.{Replacement}
 use Rattle.pp_expand.specs.Pulled.{expanding, made_by}
-use Rattle.pp_expand.specs.inside.Meaning.{LevelIn}
+use Rattle.pp_expand.specs.Meaning.{LevelIn}
 use Rattle.pp_expand.specs.inside.Turns.{IsTask}
 use Rattle.pp_expand.specs.inside.Waits.{the_rest, level_behind, weights, WaitingsIn}
 use Rattle.pp_expand.proofs.engine.make.Given as goal

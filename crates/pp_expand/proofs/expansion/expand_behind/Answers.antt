@@ -3,7 +3,7 @@ use Rattle.pp_expand.specs.Expansion.{unhidden}
 use Rattle.pp_expand.specs.Expands.{ending_of}
 use Rattle.pp_expand.specs.Pulled.{expanding}
 use Rattle.pp_expand.specs.Streams.{list_left}
-use Rattle.pp_expand.specs.inside.Meaning.{shown_behind}
+use Rattle.pp_expand.specs.Meaning.{shown_behind}
 use Rattle.pp_expand.proofs.Whole.{expanded_is, goes_on, ends, fails, pulled_as, fails_as, gives_files}
 use Rattle.pp_expand.proofs.expansion.expand_behind.Goals as goal
 

@@ -6,7 +6,7 @@ use Rattle.pp_expand.specs.Expansion.{unhidden}
 use Rattle.pp_expand.specs.Expands.{ending_of}
 use Rattle.pp_expand.specs.Pulled.{expanding}
 use Rattle.pp_expand.specs.Streams.{list_left, Knows, size_left}
-use Rattle.pp_expand.specs.inside.Meaning.{shown_behind}
+use Rattle.pp_expand.specs.Meaning.{shown_behind}
 use Rattle.pp_expand.proofs.expansion.expand_behind.Given as goal
 
 abbrev pub invariant-loop-next : goal.invariant-loop-next

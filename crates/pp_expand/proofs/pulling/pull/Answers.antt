@@ -2,7 +2,7 @@ use Rattle.std.proofs.Common.{sym, ap, ◌∙◌, subst}
 use Rattle.macros_substitution.specs.Meaning.{hidden_all}
 use Rattle.pp_expand.specs.Expands.{ending_of}
 use Rattle.pp_expand.specs.Pulled.{pulled}
-use Rattle.pp_expand.specs.inside.Meaning.{Refuses}
+use Rattle.pp_expand.specs.Meaning.{Refuses}
 use Rattle.pp_expand.proofs.Sets.{extends_both}
 use Rattle.pp_expand.proofs.FirstTokens.{none_left}
 use Rattle.pp_expand.proofs.Pulls.{pulled_none}

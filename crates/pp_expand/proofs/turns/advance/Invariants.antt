@@ -2,7 +2,7 @@ use Rattle.std.proofs.Common.{◌≡◌, ℕ, length}
 use Rattle.macros.specs.Macro.{Macros}
 use Rattle.macros.specs.Table.{IsTable}
 use Rattle.macros_substitution.specs.HideSets.{Sets, Extends, NamesBelow}
-use Rattle.pp_expand.specs.inside.Meaning.{level_meaning, LevelIn}
+use Rattle.pp_expand.specs.Meaning.{level_meaning, LevelIn}
 use Rattle.pp_expand.proofs.turns.advance.Given as goal
 
 abbrev pub invariant-loop-x : goal.invariant-loop-x

@@ -4,8 +4,8 @@ use Rattle.tac_forms.specs.declared.modes.Shape.TheVariants as shape
 use Rattle.meaning.specs.Statements.{labels_of}
 use Rattle.tac_lowering.specs.Values.{waits_in, mode_of}
 use Rattle.tac_lowering.specs.Bodies.{is_within}
-use Rattle.tac_forms.specs.inside.Parts.{plus, shape_of}
-use Rattle.tac_values.specs.inside.Sizes.{value_size}
+use Rattle.tac_forms.specs.layer.Parts.{plus, shape_of}
+use Rattle.tac_values.specs.layer.Sizes.{value_size}
 use Rattle.tac.specs.inside.Scopes.{program_in, function_in}
 use Rattle.tac.specs.inside.Sizes.{statement_size, statements_size, tests_size, effects_size, repeats_size}
 use Rattle.tac.proofs.HeldStatements.{sees_empty, sees_evaluate, sees_declare, sees_define, sees_block, sees_if, sees_ifelse, sees_switch, sees_case, sees_default, sees_while, sees_dowhile, sees_for, sees_break, sees_continue, sees_returnnothing, sees_returnvalue}

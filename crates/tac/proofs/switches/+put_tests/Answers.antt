@@ -2,7 +2,7 @@ use Rattle.std.proofs.Common.{◌≡◌, Some, map, ap, rules, ◌∙◌, w64, t
 use Rattle.std.proofs.Math.Facts.{to_z-of_z}
 use Rattle.meaning.specs.Statements.{labels_at}
 use Rattle.typing_program.specs.View.{statement_of, statements_of}
-use Rattle.tac_forms.specs.inside.Parts.{plus}
+use Rattle.tac_forms.specs.layer.Parts.{plus}
 use Rattle.tac.specs.inside.Scopes.{program_in, function_in}
 use Rattle.tac.specs.inside.Sizes.{statement_size}
 use Rattle.tac.specs.inside.Places.{one_label}

@@ -1,5 +1,5 @@
 use Rattle.std.proofs.Common.{arith}
-use Rattle.tac_forms.specs.inside.Parts.{plus}
+use Rattle.tac_forms.specs.layer.Parts.{plus}
 use Rattle.tac_forms.proofs.form_sizes.plus.Goals as goal
 
 pub returns : goal.returns

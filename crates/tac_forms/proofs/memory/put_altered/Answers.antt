@@ -1,6 +1,6 @@
 use Rattle.std.proofs.Common.{◌||◌, ap, ◌∙◌}
 use Rattle.tac_lowering.specs.Places.{cuts}
-use Rattle.tac_forms.specs.inside.Parts.{meant}
+use Rattle.tac_forms.specs.layer.Parts.{meant}
 use Rattle.tac_forms.proofs.Stored.{altered_wrote}
 use Rattle.tac_forms.proofs.memory.put_altered.Goals as goal
 

@@ -1,7 +1,7 @@
 use Rattle.std.proofs.Common.{◌||◌, ap, ◌∙◌}
 use Rattle.tac_lowering.specs.Values.{Nowhere}
 use Rattle.tac_lowering.specs.Places.{cuts}
-use Rattle.tac_forms.specs.inside.Parts.{meant}
+use Rattle.tac_forms.specs.layer.Parts.{meant}
 use Rattle.tac_forms.proofs.Stored.{aside_wrote}
 use Rattle.tac_forms.proofs.memory.put_altered_aside.Goals as goal
 

@@ -1,5 +1,5 @@
 use Rattle.std.proofs.Common.{ap, ◌∙◌}
-use Rattle.tac_forms.specs.inside.Emitted as emitted
+use Rattle.tac_forms.specs.layer.Emitted as emitted
 use Rattle.tac_forms.proofs.Parts.{two}
 use Rattle.tac_forms.proofs.Operated.{one_as}
 use Rattle.tac_forms.proofs.memory.put_get.Goals as goal

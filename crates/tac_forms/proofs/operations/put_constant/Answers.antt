@@ -4,7 +4,7 @@ use Rattle.ctypes.specs.Types as types
 use Rattle.tac_code.specs.Run.{word_for}
 use Rattle.tac_code.specs.declared.code.Operand.TheVariants as operand
 use Rattle.tac_lowering.specs.Code as relation
-use Rattle.tac_forms.specs.inside.Emitted as emitted
+use Rattle.tac_forms.specs.layer.Emitted as emitted
 use Rattle.tac_forms.proofs.Operated.{one_as}
 use Rattle.tac_forms.proofs.operations.put_constant.Goals as goal
 

@@ -1,7 +1,7 @@
 use Rattle.std.proofs.Common.{◌≡◌, IfOk, ap, sym, ◌∙◌, subst}
 use Rattle.typing_rules.specs.Nodes.{type_of_place, row_type}
 use Rattle.typing_program.specs.View.{place_of, program_of, function_of}
-use Rattle.tac_forms.specs.inside.Rows.{deep_size}
+use Rattle.tac_forms.specs.layer.Rows.{deep_size}
 use Rattle.tac_forms.proofs.Held.{sees_element}
 use Rattle.tac_forms.proofs.Rows.{deep_more}
 use Rattle.tac_forms.proofs.row_sizes.+deep_size.Goals as goal

@@ -1,7 +1,7 @@
 use Rattle.std.proofs.Common.{map, ap, sym, ◌∙◌}
 use Rattle.typing_rules.specs.Nodes.{reference_in}
 use Rattle.typing_program.specs.View.{parameter_type_of}
-use Rattle.tac_forms.specs.inside.Rows.{deep_size}
+use Rattle.tac_forms.specs.layer.Rows.{deep_size}
 use Rattle.tac_forms.proofs.Rows.{deep_none, no_items}
 use Rattle.tac_forms.proofs.row_sizes.+parameter_size.Goals as goal
 

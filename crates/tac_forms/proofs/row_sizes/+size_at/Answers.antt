@@ -1,5 +1,5 @@
 use Rattle.std.proofs.Common.{◌≡◌, IfOk, ap, sym, ◌∙◌, subst, arith}
-use Rattle.tac_forms.specs.inside.Rows.{size_at}
+use Rattle.tac_forms.specs.layer.Rows.{size_at}
 use Rattle.tac_forms.proofs.Rows.{inner_some}
 use Rattle.tac_forms.proofs.row_sizes.+size_at.Goals as goal
 

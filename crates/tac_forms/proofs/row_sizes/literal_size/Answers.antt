@@ -2,7 +2,7 @@ use Rattle.std.proofs.Common.{◌≡◌, arith, refl, ap, sym, false, length, �
 use Rattle.std.proofs.lemmas.Option.{slice_get_past, slice_get_read}
 use Rattle.ctypes.specs.declared.types.IntType.TheVariants as ty
 use Rattle.typing_rules.specs.Nodes.{text_type}
-use Rattle.tac_forms.specs.inside.Rows.{size_at}
+use Rattle.tac_forms.specs.layer.Rows.{size_at}
 use Rattle.tac_forms.proofs.Rows.{looked_none, looked_some, deep_complete}
 use Rattle.tac_forms.proofs.row_sizes.literal_size.Goals as goal
 

@@ -1,5 +1,5 @@
 use Rattle.std.proofs.Common.{◌≡◌, IfOk, ap, sym, ◌∙◌, subst}
-use Rattle.tac_forms.specs.inside.Rows.{size_at}
+use Rattle.tac_forms.specs.layer.Rows.{size_at}
 use Rattle.tac_forms.proofs.Rows.{deep_complete}
 use Rattle.tac_forms.proofs.row_sizes.size_in.Goals as goal
 

@@ -1,7 +1,7 @@
 use Rattle.std.proofs.Common.{◌≡◌, ℕ, false, Option, Some, None, refl}
 use Rattle.typing_program.specs.View.{value_of}
 use Rattle.tac_lowering.specs.Values as values
-use Rattle.tac_forms.specs.inside.Parts.{is_written}
+use Rattle.tac_forms.specs.layer.Parts.{is_written}
 use Rattle.tac_values.proofs.operands.operand_of.Goals as goal
 
 none_written : (o : Option ℕ) → false ≡ is_written o values.writes_none

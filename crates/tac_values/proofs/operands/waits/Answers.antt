@@ -1,7 +1,7 @@
 use Rattle.std.proofs.Common.{ap, sym, ◌∙◌}
 use Rattle.typing_program.specs.View.{value_of}
 use Rattle.tac_lowering.specs.Values as values
-use Rattle.tac_forms.specs.inside.Parts.{is_written}
+use Rattle.tac_forms.specs.layer.Parts.{is_written}
 use Rattle.tac_values.proofs.operands.waits.Goals as goal
 
 pub returns : goal.returns

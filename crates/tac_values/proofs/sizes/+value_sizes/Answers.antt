@@ -1,7 +1,7 @@
 use Rattle.std.proofs.Common.{◌≡◌, ◌∷◌, map, drop, ap, sym, subst, ◌∙◌, rules, arith}
 use Rattle.typing_rules.specs.Program as typed
 use Rattle.typing_program.specs.View.{value_of, place_of, argument_of, moment_of}
-use Rattle.tac_values.specs.inside.Sizes as size
+use Rattle.tac_values.specs.layer.Sizes as size
 use Rattle.tac_values.specs.inside.Ends.{AreEnds}
 use Rattle.tac_forms.proofs.Held.{sees_element}
 use Rattle.tac_values.proofs.Held.{sees_read, sees_assigned, sees_compound, sees_stepped, sees_unary, sees_binary}

@@ -1,8 +1,8 @@
 use Rattle.std.proofs.Common.{◌≡◌, ◌≤◌, ◌+◌, ◌*◌, map, length}
 use Rattle.typing_program.specs.View.{value_of, place_of, arguments_of, argument_of}
 use Rattle.tac_values.proofs.Nodes.{nodes, place_nodes, argument_nodes, given_nodes}
-use Rattle.tac_forms.specs.inside.Parts.{plus}
-use Rattle.tac_values.specs.inside.Sizes.{passes_size}
+use Rattle.tac_forms.specs.layer.Parts.{plus}
+use Rattle.tac_values.specs.layer.Sizes.{passes_size}
 use Rattle.tac_values.specs.inside.Ends.{AreEnds}
 use Rattle.tac_values.proofs.sizes.+value_sizes.Given as goal
 

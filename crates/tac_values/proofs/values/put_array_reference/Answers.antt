@@ -2,8 +2,8 @@ use Rattle.std.proofs.Common.{subst, ap, ◌∙◌}
 use Rattle.typing_program.specs.View.{place_of}
 use Rattle.tac_lowering.specs.Code.{HandsOver}
 use Rattle.tac_lowering.specs.Places.{found}
-use Rattle.tac_forms.specs.inside.FormSizes.{hands_over_size}
-use Rattle.tac_forms.specs.inside.Parts.{Wrote}
+use Rattle.tac_forms.specs.layer.FormSizes.{hands_over_size}
+use Rattle.tac_forms.specs.layer.Parts.{Wrote}
 use Rattle.tac_values.proofs.values.put_array_reference.Goals as goal
 
 pub returns : goal.returns

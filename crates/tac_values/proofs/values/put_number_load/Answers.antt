@@ -1,8 +1,8 @@
 use Rattle.std.proofs.Common.{subst}
 use Rattle.typing_program.specs.View.{value_of}
 use Rattle.tac_lowering.specs.Code.{Loads}
-use Rattle.tac_forms.specs.inside.FormSizes.{loads_size}
-use Rattle.tac_forms.specs.inside.Parts.{Wrote}
+use Rattle.tac_forms.specs.layer.FormSizes.{loads_size}
+use Rattle.tac_forms.specs.layer.Parts.{Wrote}
 use Rattle.tac_lowering.specs.Values.{keeps}
 use Rattle.tac_values.proofs.values.put_number_load.Goals as goal
 

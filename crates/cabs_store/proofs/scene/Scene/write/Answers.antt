@@ -2,7 +2,7 @@ use Rattle.std.proofs.Common.{◌≡◌, arith, rules, to_z, of_z, w64, ap, ◌�
 use Rattle.std.proofs.Math.Facts.{to_z-of_z}
 use Rattle.ctypes.specs.Types.{converted}
 use Rattle.cabs_store.specs.View.{reference_of}
-use Rattle.cabs_store.specs.inside.Agrees.{state_in}
+use Rattle.cabs_store.specs.layer.Agrees.{state_in}
 use Rattle.meaning.specs.Machine.{stored}
 use Rattle.cabs_store.proofs.Scenes.{writes}
 use Rattle.cabs_store.proofs.scene.Scene.write.Goals as goal

@@ -8,9 +8,9 @@ use Rattle.meaning.specs.Machine.{State, Run, Goes, Stops, then_do, tick}
 use Rattle.cabs_store.specs.declared.scene.Scene.{Scene}
 use Rattle.cabs_store.specs.declared.stop.Stop.{Stop}
 use Rattle.cabs_store.specs.declared.stop.Stop.TheVariants as stop
-use Rattle.cabs_store.specs.inside.Frames.{Found}
-use Rattle.cabs_store.specs.inside.Agrees.{state_in}
-use Rattle.cabs_store.specs.inside.Presents.{call_in}
+use Rattle.cabs_store.specs.layer.Frames.{Found}
+use Rattle.cabs_store.specs.layer.Agrees.{state_in}
+use Rattle.cabs_store.specs.layer.Presents.{call_in}
 use Rattle.meaning.specs.Store.{Reference, whole}
 use Rattle.meaning.specs.Expressions.{find, evaluate}
 use Rattle.meaning.specs.Statements.{Flow, Normal, Broken, Continued, Returned, execute, execute_all}

@@ -11,8 +11,8 @@ use Rattle.tac_lowering.specs.Values.{calls, arguments_call, writes, arguments_w
 use Rattle.tac_lowering.specs.Places.{found}
 use Rattle.tac_forms.specs.declared.modes.Shape.{Shape}
 use Rattle.tac_forms.specs.declared.modes.Shape.TheVariants as shape
-use Rattle.tac_forms.specs.inside.Parts.{shape_of, plus}
-use Rattle.tac_forms.specs.inside.FormSizes.{ends_size, then_size, operates_size, changes_size, steps_by_size, loads_size, calls_size, truths_size, converts_size, casts_size, parts_size, gets_size, puts_size, cuts_for, alters_size, alters_by_size, hands_over_size}
+use Rattle.tac_forms.specs.layer.Parts.{shape_of, plus}
+use Rattle.tac_forms.specs.layer.FormSizes.{ends_size, then_size, operates_size, changes_size, steps_by_size, loads_size, calls_size, truths_size, converts_size, casts_size, parts_size, gets_size, puts_size, cuts_for, alters_size, alters_by_size, hands_over_size}
 
 -- ---- expressions
 

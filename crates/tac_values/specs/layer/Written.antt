@@ -12,9 +12,9 @@ use Rattle.tac_lowering.specs.Values.{calls, keeps, operand_of, free_temporary, 
 use Rattle.tac_lowering.specs.Places.{found, free_temporary_at, free_kept_at, cuts}
 use Rattle.tac_lowering.specs.Code.{One, Ends, Converts, Changes, StepsBy, Gets, Puts, Alters, AltersBy, Finds, Into, Passes, Truths}
 use Rattle.tac_forms.specs.declared.modes.Shape.TheVariants as shape
-use Rattle.tac_forms.specs.inside.Parts.{shape_of, plus, Wrote}
-use Rattle.tac_forms.specs.inside.FormSizes.{ends_size, converts_size, changes_size, steps_by_size, gets_size, puts_size, cuts_for, alters_size, alters_by_size, truths_size}
-use Rattle.tac_values.specs.inside.Sizes.{rest_shape, place_size, value_size, passes_size}
+use Rattle.tac_forms.specs.layer.Parts.{shape_of, plus, Wrote}
+use Rattle.tac_forms.specs.layer.FormSizes.{ends_size, converts_size, changes_size, steps_by_size, gets_size, puts_size, cuts_for, alters_size, alters_by_size, truths_size}
+use Rattle.tac_values.specs.layer.Sizes.{rest_shape, place_size, value_size, passes_size}
 
 abbrev pub WroteValue : (size : Place → ℕ) → Value → Mode → (t k : ℕ) → (old new : List Instruction) → Type 0
 WroteValue size e m t k old new = Wrote (λ w p q. Into w size e m t k p q) (value_size e (shape_of m)) old new

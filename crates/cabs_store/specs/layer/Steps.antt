@@ -13,9 +13,9 @@ use Rattle.meaning.specs.Machine.{State, Ended, Run, Goes, Stops, then_do, choos
 use Rattle.meaning.specs.Expressions.{Passed, Number, Referred, call_value, get_byte, put_byte, first_number, position_of, step_operation, step_value, converted_or_none}
 use Rattle.meaning.specs.Statements.{Flow, Normal, Broken, Continued, Returned, zeros, characters, first_length, inner_lengths, text_or_none, own, renewed, all_renewed, after_switch, labels_at, labels_of, same_value}
 use Rattle.meaning.specs.Meaning.{enter, value_left, status_of}
-use Rattle.cabs_store.specs.inside.Frames as on
-use Rattle.cabs_store.specs.inside.Frames.{Found, a_value, a_place, a_flow, initialised, Late, puts_text, puts_zeros, enters_body, Node, Step, enters, leaves, calls, Back, to_caller, to_end, Frame, Moved, moves, halts}
-use Rattle.cabs_store.specs.inside.Presents.{back_at}
+use Rattle.cabs_store.specs.layer.Frames as on
+use Rattle.cabs_store.specs.layer.Frames.{Found, a_value, a_place, a_flow, initialised, Late, puts_text, puts_zeros, enters_body, Node, Step, enters, leaves, calls, Back, to_caller, to_end, Frame, Moved, moves, halts}
+use Rattle.cabs_store.specs.layer.Presents.{back_at}
 
 -- what is given at once
 abbrev pub at_once : {A : Type 0} → (A → Found) → Run A → Moved

@@ -16,9 +16,9 @@ use Rattle.cabs_store.specs.declared.frames.Compound.{Compound}
 use Rattle.cabs_store.specs.declared.frames.Stepping.{Stepping}
 use Rattle.cabs_store.specs.declared.frames.Step.{Step}
 use Rattle.cabs_store.specs.View.{store_of, reference_of}
-use Rattle.cabs_store.specs.inside.Frames as on
-use Rattle.cabs_store.specs.inside.Frames.{Moved, moves, halts}
-use Rattle.cabs_store.specs.inside.Views.{kept_of, step_of}
+use Rattle.cabs_store.specs.layer.Frames as on
+use Rattle.cabs_store.specs.layer.Frames.{Moved, moves, halts}
+use Rattle.cabs_store.specs.layer.Views.{kept_of, step_of}
 
 -- what a state has beside the store: the clock, the input left and the history are not the code's
 pub record Outside : Type 0 where

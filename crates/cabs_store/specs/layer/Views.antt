@@ -34,7 +34,7 @@ use Rattle.cabs_store.specs.declared.kept.Kept.{Kept}
 use Rattle.cabs_store.specs.declared.kept.Kept.TheVariants as kept
 use Rattle.meaning.specs.Store.{whole}
 use Rattle.cabs_store.specs.View.{reference_of}
-use Rattle.cabs_store.specs.inside.Frames as on
+use Rattle.cabs_store.specs.layer.Frames as on
 
 abbrev pub flow_of : Flow → statements.Flow
 flow_of flow.Normal = statements.Normal

@@ -11,8 +11,8 @@ use Rattle.meaning.specs.Machine.{State, Run, Goes, Stops, then_do, choose, tick
 use Rattle.meaning.specs.Expressions.{Passed, Number, Referred, Calling, call_value, call_of, step_operation, step_value, converted_or_none, find, evaluate, pass, evaluate_or}
 use Rattle.meaning.specs.Statements.{Flow, Normal, Returned, zeros, characters, text_or_none, initialise, initialise_all, all_renewed, next_after, after_body, after_switch, turns, label_for, labels_of, execute, execute_all, execute_from}
 use Rattle.meaning.specs.Meaning.{value_left, call_defined, calling, end_with}
-use Rattle.cabs_store.specs.inside.Frames as on
-use Rattle.cabs_store.specs.inside.Frames.{Found, a_value, a_place, a_flow, initialised, Late, puts_text, puts_zeros, enters_body, Node, Step, enters, leaves, calls, Back, to_caller, to_end, Frame, Moved, moves, halts}
+use Rattle.cabs_store.specs.layer.Frames as on
+use Rattle.cabs_store.specs.layer.Frames.{Found, a_value, a_place, a_flow, initialised, Late, puts_text, puts_zeros, enters_body, Node, Step, enters, leaves, calls, Back, to_caller, to_end, Frame, Moved, moves, halts}
 
 -- what is given, as what is found
 abbrev pub given : {A : Type 0} → (A → Found) → Run A → Run Found

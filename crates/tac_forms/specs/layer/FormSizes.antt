@@ -13,7 +13,7 @@ use Rattle.tac_lowering.specs.Asked.{is_wide}
 use Rattle.tac_lowering.specs.Places.{is_truth}
 use Rattle.tac_forms.specs.declared.modes.Shape.{Shape}
 use Rattle.tac_forms.specs.declared.modes.Shape.TheVariants as shape
-use Rattle.tac_forms.specs.inside.Parts.{plus}
+use Rattle.tac_forms.specs.layer.Parts.{plus}
 
 abbrev pub ends_size : Shape → ℕ
 ends_size shape.Nowhere = 0

@@ -1,2 +1,0 @@
--- What only proofs and private functions need: nothing here has to be believed.
-pub mod Segments
