@@ -153,7 +153,7 @@ fn is_string(text: &[u8]) -> bool
 /// The string literal that has this text, quotes among it, at a place. White space does not stand before it.
 ///
 /// Fails with 207 at the place where the text is no string literal, and where memory runs out.
-pub fn string_of<'a>(alloc: Global, text: Vec<u8>, at: Pos) -> Result<PpToken<'a>, Refusal>
+pub fn string_of<'a>(text: Vec<u8>, at: Pos) -> Result<PpToken<'a>, Refusal>
     ensures ok { IfOk result (λ token. string_of text.items at ≡ Ok token) }
     ensures err { IfErr result (IsRefusalOf (string_of text.items at) at) }
 {
@@ -163,8 +163,7 @@ pub fn string_of<'a>(alloc: Global, text: Vec<u8>, at: Pos) -> Result<PpToken<'a
             pos: at,
         });
     }
-    let Ok(token) = PpToken::new(alloc, Kind::StringLiteral, CowSlice::Owned(text), false, at)
-    else {
+    let Ok(token) = PpToken::new(Kind::StringLiteral, CowSlice::Owned(text), false, at) else {
         return Err(Refusal::Memory);
     };
     Ok(token)
@@ -184,7 +183,7 @@ pub fn try_stringize<'a>(
     let Ok(text) = string_text(alloc, argument) else {
         return Err(Refusal::Memory);
     };
-    string_of(alloc, text, at)
+    string_of(text, at)
 }
 
 /// The same, and the fault names the file by `names`.
@@ -236,7 +235,7 @@ pub fn try_paste<'a>(
             pos: at,
         });
     };
-    let Ok(token) = PpToken::new(alloc, kind, CowSlice::Owned(text), left.space_before(), at) else {
+    let Ok(token) = PpToken::new(kind, CowSlice::Owned(text), left.space_before(), at) else {
         return Err(Refusal::Memory);
     };
     Ok(token)

@@ -174,7 +174,6 @@ fn parameter_of(
 
 // A token of a replacement list.
 fn body_token<'a>(
-    alloc: Global,
     token: &PpToken<'a>,
     parameters: &IndexSet<usize>,
     variadic: bool,
@@ -184,7 +183,7 @@ fn body_token<'a>(
 {
     let parameter = parameter_of(token, parameters, variadic, names);
     Ok(BodyToken {
-        token: token.copy(alloc)?,
+        token: token.copy()?,
         parameter,
     })
 }
@@ -201,7 +200,7 @@ pub(crate) fn body_of<'a>(
 {
     let mut body = Vec::new(alloc);
     for token in tokens {
-        body.push(body_token(alloc, token, parameters, variadic, names)?)?;
+        body.push(body_token(token, parameters, variadic, names)?)?;
     }
     Ok(body)
 }

@@ -13,13 +13,10 @@ use srcset::{Pos, Refusal};
 use std::alloc::{AllocError, Global};
 use std::collections::VecDeque;
 
-pub(crate) fn copy_token<'a>(
-    alloc: Global,
-    token: &HiddenToken<'a>,
-) -> Result<HiddenToken<'a>, AllocError>
+pub(crate) fn copy_token<'a>(token: &HiddenToken<'a>) -> Result<HiddenToken<'a>, AllocError>
     ensures { IfOk result (λ copy. copy ≡ token.now) }
 {
-    let copy = token.token.copy(alloc)?;
+    let copy = token.token.copy()?;
     Ok(HiddenToken {
         token: copy,
         hides: token.hides,
@@ -28,13 +25,12 @@ pub(crate) fn copy_token<'a>(
 
 // A copy with this mark.
 pub(crate) fn copy_marked<'a>(
-    alloc: Global,
     token: &HiddenToken<'a>,
     space_before: bool,
 ) -> Result<HiddenToken<'a>, AllocError>
     ensures { IfOk result (λ copy. copy ≡ record { token = record token.now.token { space_before = space_before }; hides = token.now.hides }) }
 {
-    let copy = token.token.copy(alloc)?;
+    let copy = token.token.copy()?;
     Ok(HiddenToken {
         token: copy.with_space(space_before),
         hides: token.hides,
@@ -59,7 +55,7 @@ fn feed_tokens<'a>(
 {
     let mut joining = joining;
     for token in tokens {
-        let copy = copy_token(alloc, token)?;
+        let copy = copy_token(token)?;
         joining = match feed(alloc, joining, Piece::One(copy), at, sets) {
             Ok(fed) => fed,
             Err(refusal) => return Err(refusal),
@@ -88,7 +84,7 @@ fn feed_marked<'a>(
     let Some((first, others)) = tokens.split_first() else {
         return Ok(joining);
     };
-    let copy = copy_marked(alloc, first, space_before)?;
+    let copy = copy_marked(first, space_before)?;
     let joining = match feed(alloc, joining, Piece::One(copy), at, sets) {
         Ok(fed) => fed,
         Err(refusal) => return Err(refusal),

@@ -32,7 +32,7 @@ fn put_copies<'a>(
     ensures err { IfErr result (λ refusal. refusal ≡ Memory) }
 {
     for token in tokens {
-        done.push(copy_token(alloc, token)?)?;
+        done.push(copy_token(token)?)?;
     }
     Ok(())
 }
@@ -50,7 +50,7 @@ fn put_marked<'a>(
     let Some((first, others)) = tokens.split_first() else {
         return Ok(());
     };
-    done.push(copy_marked(alloc, first, space_before)?)?;
+    done.push(copy_marked(first, space_before)?)?;
     put_copies(alloc, done, others)
 }
 
@@ -122,7 +122,7 @@ fn put_piece<'a>(
 {
     match piece {
         Piece::One(token) => {
-            done.push(copy_token(alloc, token)?)?;
+            done.push(copy_token(token)?)?;
             Ok(())
         }
         Piece::Joint => Ok(()),

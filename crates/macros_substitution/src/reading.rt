@@ -145,7 +145,7 @@ fn string_piece<'a>(
     ensures known { IfOk result (PieceIn 0) }
 {
     let text = text_of_argument(alloc, argument)?;
-    let token = match string_of(alloc, text, at) {
+    let token = match string_of(text, at) {
         Ok(token) => token,
         Err(refusal) => return Err(refusal),
     };
@@ -186,12 +186,7 @@ fn is_beside_joint(after: bool, behind: &[BodyToken]) -> bool
 }
 
 // The piece of a token that is no operand of `#`.
-fn token_piece<'a>(
-    alloc: Global,
-    token: &BodyToken<'a>,
-    beside: bool,
-    at: Pos,
-) -> Result<Piece<'a>, AllocError>
+fn token_piece<'a>(token: &BodyToken<'a>, beside: bool, at: Pos) -> Result<Piece<'a>, AllocError>
     ensures ok { IfOk result (λ made. (texts : Texts) (sets : Sets) → piece_as texts sets made ≡ piece_in beside token.now at) }
     ensures known { IfOk result (PieceIn 0) }
 {
@@ -200,7 +195,7 @@ fn token_piece<'a>(
     }
     let space_before = token.token().space_before();
     let Some(index) = token.parameter() else {
-        let placed = token.token().copy_at(alloc, space_before, at)?;
+        let placed = token.token().copy_at(space_before, at)?;
         return Ok(Piece::One(HiddenToken {
             token: placed,
             hides: HideSet::empty(),
@@ -254,7 +249,7 @@ fn next_piece<'a>(
         };
     }
     let beside = is_beside_joint(after, behind);
-    let piece = token_piece(alloc, token, beside, at)?;
+    let piece = token_piece(token, beside, at)?;
     Ok((piece, 1))
 }
 

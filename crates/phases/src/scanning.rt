@@ -112,7 +112,7 @@ impl<'a> Scanner<'a> {
             self.overlong = or_later(self.overlong, pos);
         }
         self.place = next_place(self.place, spelling.as_slice());
-        let token = PpToken::new(alloc, kind, spelling, self.space, pos)?;
+        let token = PpToken::new(kind, spelling, self.space, pos)?;
         self.space = false;
         self.list.push(token)?;
         Ok(())

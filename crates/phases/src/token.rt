@@ -3,10 +3,10 @@ ghost use Rattle.std.specs.Prelude.{◌≡◌, true, IfOk, IfSome, IsOk};
 ghost use Rattle.phases.specs.Spelled.{token_of, is_lent};
 
 use srcset::Pos;
-use std::alloc::{AllocError, Global};
+use std::alloc::AllocError;
 use std::borrow::CowSlice;
-use std::boxed::Box;
 use std::marker::Model;
+use std::rc::RcSlice;
 
 /// The kinds of preprocessing tokens (ISO/IEC 9899:2011 6.4).
 #[derive(Clone, Copy, Debug, PartialEq, Eq)]
@@ -66,20 +66,20 @@ enum Held<'a> {
         file: usize,
         spelling: &'a [u8],
     },
-    /// Owned by the token, behind a box, so that this variant is no larger than the other.
+    /// Owned by the token and its copies together, so that a spelling stands once however often its token is copied.
     Owned {
         kind: Kind,
         space_before: bool,
         line: u32,
         file: usize,
-        spelling: Box<Vec<u8>>,
+        spelling: RcSlice<u8>,
     },
 }
 
 /// A preprocessing token (ISO/IEC 9899:2011 6.4).
 ///
-/// Its spelling has no trigraphs and no splices. It is lent from the bytes of the file, and owned only
-/// where something was rewritten inside it.
+/// Its spelling has no trigraphs and no splices. It is lent from the bytes of the file, and owned, by it and its
+/// copies together, only where something was rewritten inside it.
 #[derive(Drop)]
 pub struct PpToken<'a> {
     held: Held<'a>,
@@ -100,7 +100,6 @@ impl<'a> PpToken<'a> {
     /// can meet.
     #[inline(always)]
     pub fn new(
-        alloc: Global,
         kind: Kind,
         spelling: CowSlice<'a, u8>,
         space_before: bool,
@@ -123,7 +122,7 @@ impl<'a> PpToken<'a> {
                 space_before,
                 line,
                 file,
-                spelling: Box::new(alloc, spelling)?,
+                spelling: RcSlice::from_vec(spelling)?,
             },
         };
         Ok(PpToken { held })
@@ -249,9 +248,10 @@ impl<'a> PpToken<'a> {
         PpToken { held }
     }
 
-    /// The same token once more. Fails only where memory runs out, which only an owned spelling can meet.
+    /// The same token once more, with the same spelling in memory. Fails only where an owned spelling has as many copies as
+    /// can be counted.
     #[inline(always)]
-    pub fn copy(&self, alloc: Global) -> Result<PpToken<'a>, AllocError>
+    pub fn copy(&self) -> Result<PpToken<'a>, AllocError>
         ensures { IfOk result (λ t. t ≡ self.now) }
     {
         let held = match &self.held {
@@ -279,23 +279,17 @@ impl<'a> PpToken<'a> {
                 space_before: *space_before,
                 line: *line,
                 file: *file,
-                spelling: Box::new(alloc, Vec::from_slice(alloc, spelling.as_slice())?)?,
+                spelling: spelling.clone()?,
             },
         };
         Ok(PpToken { held })
     }
 
-    /// The same token once more, with this mark and at this place. Fails only where memory runs out, which only an
-    /// owned spelling can meet.
-    pub fn copy_at(
-        &self,
-        alloc: Global,
-        space_before: bool,
-        pos: Pos,
-    ) -> Result<PpToken<'a>, AllocError>
+    /// The same token once more, with this mark and at this place. Fails as `copy` does.
+    pub fn copy_at(&self, space_before: bool, pos: Pos) -> Result<PpToken<'a>, AllocError>
         ensures { IfOk result (λ t. t ≡ record self.now { space_before = space_before; pos = pos }) }
     {
-        let token = self.copy(alloc)?;
+        let token = self.copy()?;
         Ok(token.with_space(space_before).with_pos(pos))
     }
 }

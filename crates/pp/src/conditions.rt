@@ -21,11 +21,7 @@ use std::alloc::{AllocError, Global};
 use std::borrow::CowSlice;
 
 // The token that takes the place of a `defined` and its operand.
-fn truth_token<'a>(
-    alloc: Global,
-    word: &PpToken<'a>,
-    holds: bool,
-) -> Result<PpToken<'a>, AllocError>
+fn truth_token<'a>(word: &PpToken<'a>, holds: bool) -> Result<PpToken<'a>, AllocError>
     ensures { IfOk result (λ token. token ≡ truth_token holds word.now) }
 {
     let spelling = if holds {
@@ -34,7 +30,6 @@ fn truth_token<'a>(
         b"0".as_slice()
     };
     PpToken::new(
-        alloc,
         Kind::Number,
         CowSlice::Borrowed(spelling),
         word.space_before(),
@@ -104,7 +99,7 @@ fn put_resolved<'a>(
         return Ok(0);
     };
     if !is_defined(first) {
-        list.push(first.copy(alloc)?)?;
+        list.push(first.copy()?)?;
         return Ok(0);
     }
     let Some((name, taken)) = operand_of(further) else {
@@ -113,7 +108,7 @@ fn put_resolved<'a>(
             pos: at,
         });
     };
-    list.push(truth_token(alloc, first, is_macro(state, name, names))?)?;
+    list.push(truth_token(first, is_macro(state, name, names))?)?;
     Ok(taken)
 }
 
@@ -175,7 +170,7 @@ fn condition<'a>(
     ensures given { state.new.given ≡ state.old.given }
 {
     let mut placed = Vec::new(alloc);
-    state.presumed.put(alloc, further, &mut placed)?;
+    state.presumed.put(further, &mut placed)?;
     let list = resolved(state, alloc, &placed, at, names)?;
     let tokens = state.expand_directive(alloc, &list, names)?;
     truth(alloc, &tokens, at)

@@ -179,7 +179,7 @@ pub fn line_done<'a>(
         if !file.conditionals.is_active() {
             return Ok(());
         }
-        return file.run.put_line(alloc, line, state.presumed);
+        return file.run.put_line(line, state.presumed);
     };
     directive_done(alloc, line, index, role, file, state, names)
 }

@@ -214,7 +214,7 @@ fn included<'a>(
         return header_named(alloc, set, room, further, at, state, names);
     }
     let mut placed = Vec::new(alloc);
-    state.presumed.put(alloc, further, &mut placed)?;
+    state.presumed.put(further, &mut placed)?;
     let tokens = state.expand_directive(alloc, &placed, names)?;
     string_named(alloc, set, room, &tokens, at, state, names)
 }

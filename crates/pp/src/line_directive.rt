@@ -183,7 +183,7 @@ pub fn line_done<'a>(
     ensures keeps { KeepsNumbers names.old names.new }
 {
     let mut placed = Vec::new(alloc);
-    state.presumed.put(alloc, further, &mut placed)?;
+    state.presumed.put(further, &mut placed)?;
     let tokens = state.expand_directive(alloc, &placed, names)?;
     let [number, name @ ..] = tokens.as_slice() else {
         return Err(bad_line(at));

@@ -6,7 +6,6 @@ ghost use Rattle.pp.specs.inside.Stepping.{presumed_by, placed};
 
 use phases::PpToken;
 use srcset::{Pos, Refusal};
-use std::alloc::Global;
 
 /// How places are presumed (ISO/IEC 9899:2011 6.10.4): behind the physical line `behind` as `line` and those after it, of
 /// the file with this number of `Names`.
@@ -46,18 +45,13 @@ impl Presumed {
     }
 
     /// Puts the tokens behind others, each at its presumed place.
-    pub fn put<'a>(
-        self,
-        alloc: Global,
-        line: &[PpToken<'a>],
-        tokens: &mut Vec<PpToken<'a>>,
-    ) -> Result<(), Refusal>
+    pub fn put<'a>(self, line: &[PpToken<'a>], tokens: &mut Vec<PpToken<'a>>) -> Result<(), Refusal>
         ensures ok { OnOk result (tokens.new.items ≡ tokens.old.items ++ placed (presumed_of self) line.now) }
         ensures err { IfErr result (λ refusal. refusal ≡ Memory) }
     {
         for token in line {
             let pos = self.place(token.pos())?;
-            tokens.push(token.copy_at(alloc, token.space_before(), pos)?)?;
+            tokens.push(token.copy_at(token.space_before(), pos)?)?;
         }
         Ok(())
     }

@@ -13,7 +13,6 @@ use std::mem;
 
 // Puts the tokens behind others, each at its presumed place.
 fn gather<'a>(
-    alloc: Global,
     line: &[PpToken<'a>],
     presumed: Presumed,
     tokens: &mut Unexpanded<'a>,
@@ -23,7 +22,7 @@ fn gather<'a>(
 {
     for token in line {
         let pos = presumed.place(token.pos())?;
-        tokens.push(token.copy_at(alloc, token.space_before(), pos)?)?;
+        tokens.push(token.copy_at(token.space_before(), pos)?)?;
     }
     Ok(())
 }
@@ -49,12 +48,7 @@ impl<'a> Run<'a> {
     }
 
     /// Puts a line last. A newline between two lines is white space (ISO/IEC 9899:2011 6.10.3p10).
-    pub fn put_line(
-        &mut self,
-        alloc: Global,
-        line: &[PpToken<'a>],
-        presumed: Presumed,
-    ) -> Result<(), Refusal>
+    pub fn put_line(&mut self, line: &[PpToken<'a>], presumed: Presumed) -> Result<(), Refusal>
         ensures begun { self.new.begun ≡ true }
         ensures ok { OnOk result (self.new.tokens ≡ self.old.tokens ++ placed (presumed_of presumed) (behind_line self.old.begun line.now)) }
         ensures err { IfErr result (λ refusal. refusal ≡ Memory) }
@@ -66,8 +60,8 @@ impl<'a> Run<'a> {
         };
         let pos = presumed.place(first.pos())?;
         let space_before = later || first.space_before();
-        self.tokens.push(first.copy_at(alloc, space_before, pos)?)?;
-        gather(alloc, further, presumed, &mut self.tokens)
+        self.tokens.push(first.copy_at(space_before, pos)?)?;
+        gather(further, presumed, &mut self.tokens)
     }
 
     /// Its tokens. It begins anew, with no line.

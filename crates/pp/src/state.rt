@@ -102,7 +102,7 @@ impl<'a> State<'a> {
         ensures given { self.new.given ≡ self.old.given }
     {
         let mut tokens = Vec::new(alloc);
-        self.presumed.put(alloc, line, &mut tokens)?;
+        self.presumed.put(line, &mut tokens)?;
         self.table.try_define(&tokens, at, names)
     }
 

@@ -84,7 +84,7 @@ pub(crate) fn predefined<'a>(
 {
     let pos = x.token.pos();
     let (kind, spelling) = parts(alloc, names, x.token.spelling(), pos)?;
-    let token = PpToken::new(alloc, kind, spelling, x.token.space_before(), pos)?;
+    let token = PpToken::new(kind, spelling, x.token.space_before(), pos)?;
     Ok(HiddenToken {
         token,
         hides: x.hides,

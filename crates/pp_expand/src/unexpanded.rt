@@ -47,7 +47,7 @@ impl<'a> Unexpanded<'a> {
         let mut copy = Unexpanded::new(alloc);
         copy.reserve(list.len())?;
         for token in list {
-            copy.push(token.copy(alloc)?)?;
+            copy.push(token.copy()?)?;
         }
         Ok(copy)
     }

@@ -49,7 +49,7 @@ fn copies<'a>(alloc: Global, list: &[HiddenToken<'a>]) -> Result<VecDeque<Hidden
 {
     let mut copy = VecDeque::new(alloc);
     for x in list {
-        let token = x.token.copy(alloc)?;
+        let token = x.token.copy()?;
         copy.push_back(HiddenToken {
             token,
             hides: x.hides,

@@ -42,7 +42,7 @@ pub fn write_text(alloc: Global, output: &mut Vec<u8>, text: &[u8]) -> Result<()
     for index in 0..lines.len() {
         if let Some(line) = lines.get(index) {
             for token in line {
-                write_token(alloc, output, &token.copy(alloc)?)?;
+                write_token(alloc, output, &token.copy()?)?;
                 output.push(b' ')?;
             }
         }
@@ -63,7 +63,7 @@ pub fn write_lines(alloc: Global, output: &mut Vec<u8>, text: &[u8]) -> Result<(
         return Ok(());
     }
     let pos = Pos { file: 1, line: 2 };
-    let token = PpToken::new(alloc, Kind::Other, CowSlice::Borrowed(b"@"), true, pos)?;
+    let token = PpToken::new(Kind::Other, CowSlice::Borrowed(b"@"), true, pos)?;
     write_token(alloc, output, &token)?;
     let file = token.pos().file;
     let names = file_names(alloc)?;

@@ -1,4 +1,5 @@
--- The token that its parts make, with a spelling that is lent or owned.
+-- The token that its parts make, with a spelling that is lent, or owned by it and its copies.
+use Rattle.std.specs.Rc.{rc_slice_items}
 use Rattle.phases.specs.declared.token.Held.{Held}
 use Rattle.phases.specs.declared.token.Held.TheVariants.{Lent, Owned}
 use Rattle.phases.specs.Token.{Token}
@@ -7,4 +8,4 @@ abbrev pub token_held : Held → Token
 token_held (Lent kind space_before line file spelling) =
     record { kind = kind; spelling = spelling.now; space_before = space_before; pos = record { file = file; line = line } }
 token_held (Owned kind space_before line file spelling) =
-    record { kind = kind; spelling = spelling.value.items; space_before = space_before; pos = record { file = file; line = line } }
+    record { kind = kind; spelling = rc_slice_items spelling; space_before = space_before; pos = record { file = file; line = line } }
