@@ -221,13 +221,13 @@ def reached(roots):
 # ------------------------------------------------------------------ the page
 
 def is_list(path):
-    return path.endswith('/Lib.antt') or path.endswith('/inside.antt')
+    return path.endswith(('/Lib.antt', '/inside.antt', '/layer.antt'))
 
 def definition_files():
-    """Those that stand outside of specs/inside."""
+    """Those that stand outside of specs/inside and specs/layer."""
     for crate in crates():
         for at, folders, names in os.walk('crates/%s/specs' % crate):
-            folders[:] = sorted(it for it in folders if it not in ('inside', 'out'))
+            folders[:] = sorted(it for it in folders if it not in ('inside', 'layer', 'out'))
             yield from (p for p in (os.path.join(at, name) for name in sorted(names)) if p.endswith('.antt') and not is_list(p))
 
 def lines_of(path):
