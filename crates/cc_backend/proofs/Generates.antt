@@ -1,6 +1,6 @@
 -- The file of a program whose flat code is made.
 use Rattle.std.proofs.Common.{◌≡◌, ◌≤◌, ◌<◌, ℕ, suc, ◌+◌, ◌*◌, List, [], ◌∷◌, length, map, Option, Some, None, Ok, refl, sym, ap, ◌∙◌, subst, append_assoc, arith, Bool, true, ◌++◌}
-use Rattle.std.proofs.Math.Nat.{le_trans}
+use Rattle.std.proofs.Math.Nat.{le_trans, suc-mul}
 use Rattle.std.specs.Prelude.{slice_get, sum_by, option_map, IfOk, Result, Err}
 use Rattle.std.proofs.lemmas.Option.{slice_get-map, slice_get_within}
 use Rattle.std.proofs.lemmas.List.{length-map}
@@ -15,6 +15,8 @@ use Rattle.asm.specs.declared.item.Item.{Item}
 use Rattle.asm.specs.Layout.{AllReach, IsLow, size, place, longest}
 use Rattle.asm.specs.Placed.{IsFewest}
 use Rattle.typing_rules.specs.Program as typed
+use Rattle.meaning.specs.History.{trace_of, active, weight_in, greatest_sum}
+use Rattle.meaning.specs.Meaning.{cstep, last_of}
 use Rattle.tac_code.specs.Code as tac
 use Rattle.tac_code.specs.Sound.{data_bytes}
 use Rattle.tac_code.specs.Spans.{span}
@@ -23,7 +25,6 @@ use Rattle.frames_code.specs.Code as flat
 use Rattle.frames_code.specs.Code.{frame_bytes}
 use Rattle.frames_code.specs.declared.code.FlatProgram.{FlatProgram}
 use Rattle.frames.specs.Translated.{flat_program}
-use Rattle.frames.specs.Flattened.{IsFlattened}
 use Rattle.frames.specs.Data.{data_of}
 use Rattle.frames.proofs.Whole.{length_data, data_bytes_are}
 use Rattle.frames_registers.specs.Renumbered.{IsRenumbered}
@@ -33,13 +34,14 @@ use Rattle.select.proofs.Lengths.{code_is_short}
 use Rattle.select_simulation.specs.Reaching.{rows_of}
 use Rattle.select_simulation.proofs.Reaching.{jumps_reach}
 use Rattle.cc_backend.proofs.ShortPrograms.{code_fits, program_is_short}
-use Rattle.select_simulation.specs.Runs.{slack}
 use Rattle.cc_backend.specs.FlatImages.{IsImageOf}
-use Rattle.cc_backend.proofs.TacImages.{flattened_of, none_within}
-use Rattle.cc_backend.proofs.ProgramImages.{flattened_goes_on, flattened_ends}
+use Rattle.cc_backend.specs.Forms.{IsFormOf}
+use Rattle.cc_backend.specs.Simulation.{both}
+use Rattle.cc_backend.specs.Chain.{into_flat, into_file}
+use Rattle.cc_backend.proofs.Forms.{none_within, flat_form}
+use Rattle.cc_backend.proofs.Making.{way_of, form_of}
+use Rattle.cc_backend.proofs.Chain.{file_simulates_program}
 use Rattle.frames_simplified.specs.Simplified.{IsSimplified}
-use Rattle.cc_backend.proofs.Renumbering.{renumbered_is_flattened}
-use Rattle.cc_backend.proofs.Simplifying.{simplified_is_flattened}
 use Rattle.cc_backend.specs.Runs.{RunsAs}
 use Rattle.cc_backend.specs.Made.{IsReady, IsFlatCodeOf, FramesFit, FunctionsFit, most_text, IsFileOf, AreItemsOf}
 use Rattle.cc_backend.proofs.FunctionSizes.{part_within, function_among}
@@ -63,6 +65,9 @@ functions_short k first (f ∷ fs) =
     let both = sum_by-append (size true) (function_items k first f) (functions_items (k + 1) (first + (length f.code + 1)) fs) in
     omega (arith, one, more, both, sum_by-cons rows_of f fs)
 
+past : (n a k : ℕ) → n ≤ a * k → 1 ≤ k → n < (a + 1) * k
+past n a k le some = let whole : (a + 1) * k ≡ a * k + k = suc-mul a k in omega (arith, le, some, whole)
+
 start_short : (main : ℕ) → longest (start_items main) ≡ 24
 start_short main = refl
 
@@ -73,7 +78,7 @@ code_of p q g f made simplified renumbered = record {
   simpler = g;
   simplified = simplified;
   renumbered = renumbered;
-  sound = stays_sound g f renumbered (simplified.sound (flattened_of q (flat_program q) made.sound refl).sound);
+  sound = stays_sound g f renumbered (simplified.sound (flat_form q made.sound).sound);
 }
 
 pub code_in : {E : Type 0} (p : typed.Program) (q : tac.Program) (g : flat.Program) → IsLowered p q → IsSimplified (flat_program q) g → (r : Result FlatProgram E) → IfOk r (λ f. IsRenumbered g (flat.program_of f)) → IfOk r (λ f. IsFlatCodeOf p (flat.program_of f))
@@ -81,25 +86,23 @@ code_in p q g made simplified (Ok f) renumbered = code_of p q g (flat.program_of
 code_in p q g made simplified (Err e) renumbered = tt
 
 module _ (p : typed.Program) (f : flat.Program) (ready : IsReady p) (made : IsFlatCodeOf p f) where
-  flattened : IsFlattened made.code f
-  flattened =
-      let first = flattened_of made.code (flat_program made.code) made.lowered.sound refl in
-      renumbered_is_flattened made.code made.simpler f (simplified_is_flattened made.code (flat_program made.code) made.simpler first made.simplified) made.renumbered
+  form : IsFormOf made.code f
+  form = form_of p f made
 
   pub reach : (base : ℕ) → AllReach base (program_items f)
-  reach base = jumps_reach f base made.sound (program_is_short p made.code f ready.checked made.lowered flattened)
+  reach base = jumps_reach f base made.sound (program_is_short p made.code f ready.checked made.lowered form)
 
   same_count : length f.functions ≡ length p.functions
-  same_count = flattened.count ∙ made.lowered.count
+  same_count = form.count ∙ made.lowered.count
 
   -- ---- frames
 
   frame_fits : (k : ℕ) (g : typed.Function) (b : Option tac.Function) (c : Option flat.Function) (bytes : ℕ) → slice_get p.functions k ≡ Some g → slice_get made.code.functions k ≡ b → slice_get f.functions k ≡ c
       → option_map frame_bytes c ≡ Some bytes → (bytes ≤ g.weight) × (bytes ≤ span g)
   frame_fits k g b None bytes eg eb ec e = absurd (let z : ⊥ = cc in z)
-  frame_fits k g None (Some h) bytes eg eb ec e = absurd (none_within made.code.functions k eb (subst (λ n. k < n) flattened.count (slice_get_within f.functions k h ec)))
+  frame_fits k g None (Some h) bytes eg eb ec e = absurd (none_within made.code.functions k eb (subst (λ n. k < n) form.count (slice_get_within f.functions k h ec)))
   frame_fits k g (Some y) (Some h) bytes eg eb ec e =
-      let one = (flattened.each k y h eb ec).frame in
+      let one = (form.each k y h eb ec).frame in
       let two = (made.lowered.each k g y eg eb).within_weight in
       let three = (made.lowered.each k g y eg eb).within_span in
       let same : frame_bytes h ≡ bytes = cc in
@@ -117,7 +120,7 @@ module _ (p : typed.Program) (f : flat.Program) (ready : IsReady p) (made : IsFl
   text_fits =
       let rows = functions_short 0 (length f.functions) f.functions in
       let nodes = sums_within rows_of (λ g. 128 * g.nodes + 1024) f.functions p.functions same_count
-      (λ k h g eh eg. code_fits p made.code f made.lowered flattened k g h eg eh) in
+      (λ k h g eh eg. code_fits p made.code f made.lowered form k g h eg eh) in
       let both = sum_by-append (size true) (start_items f.main) (functions_items 0 (length f.functions) f.functions) in
       omega (arith, rows, nodes, both, start_short f.main)
 
@@ -130,7 +133,7 @@ module _ (p : typed.Program) (f : flat.Program) (ready : IsReady p) (made : IsFl
       let before = start_items f.main ++ among.0 in
       let all : program_items f ≡ before ++ (own ++ among.1) =
       ap (λ xs. start_items f.main ++ xs) among.4 ∙ sym (append_assoc (start_items f.main) among.0 (own ++ among.1)) in
-      let short : longest own ≤ 128 * g.nodes + 1024 = le_trans (code_is_short h among.2 among.3) (code_fits p made.code f made.lowered flattened k g h eg eh) in
+      let short : longest own ≤ 128 * g.nodes + 1024 = le_trans (code_is_short h among.2 among.3) (code_fits p made.code f made.lowered form k g h eg eh) in
       let part = part_within long text_start before own among.1 in
       let fits : place long text_start (before ++ (own ++ among.1)) (length before + length own) ≤ place long text_start (before ++ (own ++ among.1)) (length before) + (128 * g.nodes + 1024) =
       omega (arith, part, short) in
@@ -141,7 +144,7 @@ module _ (p : typed.Program) (f : flat.Program) (ready : IsReady p) (made : IsFl
   pub data_fits : (parts : Parts) → IsImageOf f parts → length parts.statics ≤ 16 + data_bytes p.literals p.statics
   data_fits parts image =
       let q = made.code in
-      let whole : length parts.statics ≡ length (data_of q) = ap length (image.statics ∙ flattened.statics) in
+      let whole : length parts.statics ≡ length (data_of q) = ap length (image.statics ∙ form.statics) in
       let same : data_bytes q.literals q.statics ≡ data_bytes p.literals p.statics =
       ap (λ l. data_bytes l q.statics) made.lowered.literals ∙ ap (λ o. data_bytes p.literals o) made.lowered.statics in
       omega (arith, whole, length_data q, data_bytes_are q.literals q.statics, same)
@@ -149,7 +152,7 @@ module _ (p : typed.Program) (f : flat.Program) (ready : IsReady p) (made : IsFl
   pub has_room : longest (program_items f) + length f.statics ≤ max_image
   has_room =
       let q = made.code in
-      let whole : length f.statics ≡ length (data_of q) = ap length flattened.statics in
+      let whole : length f.statics ≡ length (data_of q) = ap length form.statics in
       let same : data_bytes q.literals q.statics ≡ data_bytes p.literals p.statics =
       ap (λ l. data_bytes l q.statics) made.lowered.literals ∙ ap (λ o. data_bytes p.literals o) made.lowered.statics in
       room_of p (longest (program_items f)) (length f.statics) ready text_fits (omega (arith, whole, length_data q, data_bytes_are q.literals q.statics, same))
@@ -161,12 +164,16 @@ module _ (p : typed.Program) (f : flat.Program) (ready : IsReady p) (made : IsFl
     image = program_image parts;
     loads = loads;
     ends = λ input bytes n status s over small.
-        let w = flattened_ends p made.code f parts input made.lowered flattened image bytes n status s over small in
-        (w.0, w.1, w.2, (w.3, (w.4, w.5)));
-    slack = slack f;
+        let fits : greatest_sum (weight_in p) (last_of (cstep n p input)).history ≤ parts.stack = subst (λ r. greatest_sum (weight_in p) (last_of r).history ≤ parts.stack) (sym over) small in
+        let x = record { status = status; trace = trace_of s.history; input = s.input } in
+        let w = (file_simulates_program p f parts input (way_of p f made) image bytes).ends n x (s, over, refl, refl) fits in
+        (w.0, w.2.0, omega (arith, w.1), (w.2.1, (w.2.2, w.2.3)));
+    slack = (both into_flat (into_file f)).slack + 1;
     goes_on = λ input bytes n s over small.
-        let w = flattened_goes_on p made.code f parts input made.lowered flattened image bytes n s over small in
-        (w.0, w.1, w.3, (w.2, (w.4, (w.5, w.6), w.7)));
+        let fits : greatest_sum (weight_in p) (last_of (cstep n p input)).history ≤ parts.stack = subst (λ r. greatest_sum (weight_in p) (last_of r).history ≤ parts.stack) (sym over) small in
+        let x = record { trace = trace_of s.history; input = s.input; calls = active s.history } in
+        let w = (file_simulates_program p f parts input (way_of p f made) image bytes).goes_on n x (s, over, refl, refl, refl) fits in
+        (w.0, w.4.0, omega (arith, w.3), (past n (both into_flat (into_file f)).slack w.0 w.1 w.2, (w.4.1, (w.4.2, w.4.3), w.4.4)));
   }
 
   abbrev pub is_file : (stack : ℕ) (parts : Parts) (file frames : List ℕ) → parts.stack ≡ stack → IsImageOf f parts → IsFewest (program_items f) text_start parts.text → length parts.text ≤ longest (program_items f)

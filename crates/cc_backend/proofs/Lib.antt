@@ -4,9 +4,11 @@ pub mod Renumbering
 pub mod Simplifying
 pub mod Generates
 pub mod FlatImages
-pub mod TacImages
+pub mod Forms
+pub mod Simulation
+pub mod Chain
+pub mod Making
 pub mod Known
-pub mod ProgramImages
 pub mod Rows
 pub mod ShortPrograms
 pub mod FunctionSizes

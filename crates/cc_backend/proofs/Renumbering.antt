@@ -1,8 +1,8 @@
--- Flat code that does what three-address code does, does so too with its words under other numbers.
+-- Flat code with its words under other numbers does what it did.
 use Rattle.std.proofs.Common.{◌≡◌, ◌≤◌, ℕ, zero, suc, ◌+◌, max, List, [], ◌∷◌, map, Some, refl, sym, ap, ◌∙◌, subst, arith}
 use Rattle.std.specs.Prelude.{slice_get, sum_by}
 use Rattle.tac_code.specs.Code as tac
-use Rattle.tac_code.specs.Run as tac_run
+use Rattle.meaning.specs.History.{sum_of}
 use Rattle.frames_code.specs.declared.code.Operand.{Operand}
 use Rattle.frames_code.specs.declared.code.Operand.TheVariants as operand
 use Rattle.frames_code.specs.declared.code.Target.{Target}
@@ -15,12 +15,15 @@ use Rattle.frames_code.specs.Code as flat
 use Rattle.frames_code.specs.Code.{frame_bytes}
 use Rattle.frames_code.specs.Run as flat_run
 use Rattle.frames.specs.Costs.{fetch_bytes, keep_bytes, move_bytes, reach_bytes, reference_bytes, scale_bytes, code_bytes, function_bytes}
-use Rattle.frames.specs.Flattened.{IsFlattened, InStep, IsCodeOf, HasItsCalls, CostsNoMore, behind, before}
+use Rattle.frames.specs.Flattened.{IsCodeOf, behind}
 use Rattle.frames.proofs.Elements.{sum_by_map, same_some}
 use Rattle.frames_registers.specs.Renumbered.{renumbered_operand, renumbered_target, renumbered_location, renumbered, IsRenumberedFunction, AreRenumbered, IsRenumbered}
 use Rattle.frames_registers.specs.Laws.{words_of, moved_frame, moved, moved_progress}
 use Rattle.frames_registers.proofs.Whole.{runs_alike, costs_alike}
 use Rattle.frames_registers.proofs.Soundness.{same_count, stays_sound}
+use Rattle.cc_backend.specs.Forms.{IsFormOf}
+use Rattle.cc_backend.specs.Simulation.{Simulates, step_for_step}
+use Rattle.cc_backend.specs.Chain.{of_flat, RenumberedSimulatesFlat}
 
 -- ---- bytes of code
 
@@ -117,53 +120,48 @@ functions_same from (w ∷ ws) = ap (λ (ns : List ℕ). w.function ∷ ns) (fun
 calls_same : (from : ℕ → ℕ → ℕ) (s : flat_run.State) → flat_run.active (moved from s) ≡ flat_run.active s
 calls_same from s = functions_same from (s.frame ∷ s.waiting)
 
-module _ (q : tac.Program) (f g : flat.Program) (same : IsRenumbered f g) (input : List ℕ) where
+module _ (weight : ℕ → ℕ) (limit : ℕ) (f g : flat.Program) (same : IsRenumbered f g) (input : List ℕ) where
   abbrev from : ℕ → ℕ → ℕ
   from = words_of f.functions g.functions same.functions
 
   run_is : (m : ℕ) → behind g input m ≡ moved_progress from (behind f input m)
   run_is m = runs_alike f g same m input
 
-  costs_same : (n m : ℕ) → CostsNoMore q f input n m → CostsNoMore q g input n m
-  costs_same n m le = let e = costs_alike f g same m input in omega (arith, le, e)
+  abbrev Fit : flat.Program → ℕ → Type 0
+  Fit h n = (k : ℕ) (s : flat_run.State) → k ≤ n → behind h input k ≡ flat_run.running s → sum_of weight (flat_run.active s) ≤ limit
 
-  module _ (n m : ℕ) (its : HasItsCalls q f input n m) (j : ℕ) (s : flat_run.State) (le : j ≤ m) (e : behind g input j ≡ flat_run.running s) where
-    abbrev IsOpen : Type 0
-    IsOpen = (i : ℕ) × (i ≤ n) × ((t : tac_run.State) × (before q input i ≡ tac_run.running t) × (flat_run.active s ≡ tac_run.open_calls t))
+  fit_too : (n : ℕ) → Fit f n → Fit g n
+  fit_too n fits k t le e = on (behind f input k) refl (sym (run_is k) ∙ e)
+    where
+      on : (x : flat_run.Progress) → behind f input k ≡ x → moved_progress from (behind f input k) ≡ flat_run.running t → sum_of weight (flat_run.active t) ≤ limit
+      on (flat_run.running u) here there =
+          let state : moved from u ≡ t = ap (state_or t) (sym (ap (moved_progress from) here) ∙ there) in
+          let calls : flat_run.active u ≡ flat_run.active t = sym (calls_same from u) ∙ ap flat_run.active state in
+          subst (λ cs. sum_of weight cs ≤ limit) calls (fits k u le here)
+      on (flat_run.ended status left trace) here there = absurd (subst GoesOn (sym (sym (ap (moved_progress from) here) ∙ there)) tt)
+      on flat_run.stuck here there = absurd (subst GoesOn (sym (sym (ap (moved_progress from) here) ∙ there)) tt)
 
-    open_at : (x : flat_run.Progress) → behind f input j ≡ x → moved_progress from x ≡ flat_run.running s → IsOpen
-    open_at (flat_run.running u) here there =
-        let c = its j u le here in
-        let state : moved from u ≡ s = ap (state_or s) there in
-        (c.0, c.1, (c.2.0, c.2.1, ap flat_run.active (sym state) ∙ (calls_same from u ∙ c.2.2)))
-    open_at (flat_run.ended status left trace) here there = absurd (subst GoesOn (sym there) tt)
-    open_at flat_run.stuck here there = absurd (subst GoesOn (sym there) tt)
-
-    calls_at : IsOpen
-    calls_at = open_at (behind f input j) refl (sym (run_is j) ∙ e)
-
-  in_step : InStep q f input → InStep q g input
-  in_step step = record {
-    goes_on = λ n t over.
-        let c = step.goes_on n t over in
-        let at = c.2.2 in (
-          c.0,
-          c.1,
-          (moved from c.2.0, run_is c.0 ∙ ap (moved_progress from) c.2.1, (at.0, at.1, calls_same from c.2.0 ∙ at.2)),
-          costs_same n c.0 c.3,
-          calls_at n c.0 c.4,
-        );
-    ends = λ n status left history over.
-        let c = step.ends n status left history over in
-        (c.0, run_is c.0 ∙ ap (moved_progress from) c.1, costs_same n c.0 c.2, calls_at n c.0 c.3);
+  simulates : Simulates step_for_step (of_flat weight limit f input) (of_flat weight limit g input)
+  simulates = record {
+    goes_on = λ n x goes fits.
+        let e = costs_alike f g same n input in
+        let stands : behind g input n ≡ flat_run.running (moved from goes.0) = run_is n ∙ ap (moved_progress from) goes.1 in
+        (n, omega arith, omega arith, omega (arith, e), (moved from goes.0, stands, goes.2, goes.3, calls_same from goes.0 ∙ goes.4), fit_too n fits);
+    ends = λ n x ends fits.
+        let e = costs_alike f g same n input in
+        (n, omega (arith, e), run_is n ∙ ap (moved_progress from) ends, fit_too n fits);
   }
 
-pub renumbered_is_flattened : (q : tac.Program) (f g : flat.Program) → IsFlattened q f → IsRenumbered f g → IsFlattened q g
-renumbered_is_flattened q f g flattened same = record {
-  sound = stays_sound f g same flattened.sound;
-  in_step = λ input bytes. in_step q f g same input (flattened.in_step input bytes);
-  statics = same.statics ∙ flattened.statics;
-  main = same.main ∙ flattened.main;
-  count = same_count f.functions g.functions same.functions ∙ flattened.count;
-  each = each_is_code q.functions f.functions g.functions same.functions flattened.each;
+pub renumbered_simulates_flat : RenumberedSimulatesFlat
+renumbered_simulates_flat weight limit f g input same = simulates weight limit f g same input
+
+-- ---- the rest
+
+pub renumbered_form : (q : tac.Program) (f g : flat.Program) → IsFormOf q f → IsRenumbered f g → IsFormOf q g
+renumbered_form q f g form same = record {
+  sound = stays_sound f g same form.sound;
+  statics = same.statics ∙ form.statics;
+  main = same.main ∙ form.main;
+  count = same_count f.functions g.functions same.functions ∙ form.count;
+  each = each_is_code q.functions f.functions g.functions same.functions form.each;
 }

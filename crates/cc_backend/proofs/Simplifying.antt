@@ -1,20 +1,22 @@
--- Flat code that does what three-address code does, does so too when it is made simpler.
+-- Flat code that is made simpler does what it did.
 use Rattle.std.proofs.Common.{◌≡◌, ◌≤◌, ℕ, ◌+◌, ◌-◌, List, length, Option, Some, None, refl, sym, ap, ◌∙◌, subst, arith}
 use Rattle.std.specs.Prelude.{slice_get, sum_by, option_map}
 use Rattle.std.proofs.lemmas.List.{length-map}
 use Rattle.std.proofs.lemmas.Option.{slice_get-map}
 use Rattle.tac_code.specs.Code as tac
-use Rattle.tac_code.specs.Run as tac_run
 use Rattle.frames_code.specs.Code as flat
 use Rattle.frames_code.specs.Code.{frame_bytes}
 use Rattle.frames_code.specs.Run as flat_run
 use Rattle.meaning_events.specs.Events.{Event}
-use Rattle.meaning.specs.History.{trace_of}
+use Rattle.meaning.specs.History.{sum_of}
 use Rattle.frames.specs.Costs.{code_bytes}
 use Rattle.frames.proofs.Elements.{same_some}
 use Rattle.frames_steps.proofs.Runs.{run_both}
-use Rattle.frames.specs.Flattened.{IsFlattened, InStep, IsCodeOf, HasItsCalls, CostsNoMore, behind, before}
+use Rattle.frames.specs.Flattened.{IsCodeOf, behind}
 use Rattle.frames_simplified.specs.Simplified.{IsSimplified, DoesTheSame, IsDefined}
+use Rattle.cc_backend.specs.Forms.{IsFormOf}
+use Rattle.cc_backend.specs.Simulation.{Simulates, step_for_step}
+use Rattle.cc_backend.specs.Chain.{of_flat, SimplerSimulatesFlat}
 
 -- ---- runs
 
@@ -28,7 +30,7 @@ GoesOn (flat_run.running s) = Unit {0}
 GoesOn (flat_run.ended status left trace) = ⊥
 GoesOn flat_run.stuck = ⊥
 
-module _ (q : tac.Program) (f g : flat.Program) (simple : IsSimplified f g) (input : List ℕ) where
+module _ (weight : ℕ → ℕ) (limit : ℕ) (f g : flat.Program) (simple : IsSimplified f g) (input : List ℕ) where
   -- where the one goes on, and where it ends
   pub record Goes (m : ℕ) (s : flat_run.State) : Type 0 where
     pub t : flat_run.State
@@ -50,9 +52,6 @@ module _ (q : tac.Program) (f g : flat.Program) (simple : IsSimplified f g) (inp
   ends_too : (m status : ℕ) (left : List ℕ) (trace : List Event) → behind f input m ≡ flat_run.ended status left trace → behind g input m ≡ flat_run.ended status left trace
   ends_too m status left trace e = subst (λ x. DoesTheSame x (behind g input m)) e (simple.runs m input)
 
-  costs_less : (n m : ℕ) → IsDefined (behind f input m) → CostsNoMore q f input n m → CostsNoMore q g input n m
-  costs_less n m defined le = let less = simple.costs m input defined in omega (arith, le, less)
-
   -- defined after m steps, so after fewer too
   defined_before : (j m : ℕ) → j ≤ m → IsDefined (behind f input m) → IsDefined (behind f input j)
   defined_before j m le defined = on (behind f input j) refl
@@ -68,36 +67,36 @@ module _ (q : tac.Program) (f g : flat.Program) (simple : IsSimplified f g) (inp
       on (flat_run.ended status left trace) e = subst IsDefined (sym e) tt
       on flat_run.stuck e = absurd (subst (λ x. IsDefined (flat_run.goes_on x (flat_run.run f (m - j)))) e (subst IsDefined whole defined))
 
-  calls_too : (n m : ℕ) → IsDefined (behind f input m) → HasItsCalls q f input n m → HasItsCalls q g input n m
-  calls_too n m defined its j s le e = on (behind f input j) refl
-    where
-      on : (x : flat_run.Progress) → behind f input j ≡ x → (i : ℕ) × (i ≤ n) × ((t : tac_run.State) × (before q input i ≡ tac_run.running t) × (flat_run.active s ≡ tac_run.open_calls t))
-      on (flat_run.running u) h =
-          let c = its j u le h in
-          let other = goes j u h in
-          let same : other.t ≡ s = ap (state_or s) (sym other.is ∙ e) in
-          (c.0, c.1, (c.2.0, c.2.1, ap flat_run.active (sym same) ∙ (other.calls ∙ c.2.2)))
-      on (flat_run.ended status left trace) h = absurd (subst GoesOn (sym (sym (ends_too j status left trace h) ∙ e)) tt)
-      on flat_run.stuck h = absurd (subst IsDefined h (defined_before j m le defined))
+  abbrev Fit : flat.Program → ℕ → Type 0
+  Fit h n = (k : ℕ) (s : flat_run.State) → k ≤ n → behind h input k ≡ flat_run.running s → sum_of weight (flat_run.active s) ≤ limit
 
-  in_step : InStep q f input → InStep q g input
-  in_step step = record {
-    goes_on = λ n t over.
-        let c = step.goes_on n t over in
-        let at = c.2.2 in
-        let other = goes c.0 c.2.0 c.2.1 in
-        let defined : IsDefined (behind f input c.0) = subst IsDefined (sym c.2.1) tt in (
-          c.0,
-          c.1,
-          (other.t, other.is, (other.trace ∙ at.0, other.left ∙ at.1, other.calls ∙ at.2)),
-          costs_less n c.0 defined c.3,
-          calls_too n c.0 defined c.4,
-        );
-    ends = λ n status left history over.
-        let c = step.ends n status left history over in
-        let defined : IsDefined (behind f input c.0) = subst IsDefined (sym c.1) tt in
-        (c.0, ends_too c.0 status left (trace_of history) c.1, costs_less n c.0 defined c.2, calls_too n c.0 defined c.3);
+  fit_too : (n : ℕ) → IsDefined (behind f input n) → Fit f n → Fit g n
+  fit_too n defined fits k t le e = on (behind f input k) refl
+    where
+      on : (x : flat_run.Progress) → behind f input k ≡ x → sum_of weight (flat_run.active t) ≤ limit
+      on (flat_run.running u) h =
+          let other = goes k u h in
+          let same : other.t ≡ t = ap (state_or t) (sym other.is ∙ e) in
+          let calls : flat_run.active u ≡ flat_run.active t = sym other.calls ∙ ap flat_run.active same in
+          subst (λ cs. sum_of weight cs ≤ limit) calls (fits k u le h)
+      on (flat_run.ended status left trace) h = absurd (subst GoesOn (sym (sym (ends_too k status left trace h) ∙ e)) tt)
+      on flat_run.stuck h = absurd (subst IsDefined h (defined_before k n le defined))
+
+  simulates : Simulates step_for_step (of_flat weight limit f input) (of_flat weight limit g input)
+  simulates = record {
+    goes_on = λ n x at fits.
+        let other = goes n at.0 at.1 in
+        let defined : IsDefined (behind f input n) = subst IsDefined (sym at.1) tt in
+        let less = simple.costs n input defined in
+        (n, omega arith, omega arith, omega (arith, less), (other.t, other.is, other.trace ∙ at.2, other.left ∙ at.3, other.calls ∙ at.4), fit_too n defined fits);
+    ends = λ n x at fits.
+        let defined : IsDefined (behind f input n) = subst IsDefined (sym at) tt in
+        let less = simple.costs n input defined in
+        (n, omega (arith, less), ends_too n x.status x.input x.trace at, fit_too n defined fits);
   }
+
+pub simpler_simulates_flat : SimplerSimulatesFlat
+simpler_simulates_flat weight limit f g input simple = simulates weight limit f g simple input
 
 -- ---- functions
 
@@ -118,12 +117,11 @@ module _ (q : tac.Program) (f g : flat.Program) (simple : IsSimplified f g) wher
           let less : sum_by code_bytes y.code ≤ sum_by code_bytes x.code = simple.bytes k x y e ey in
           record { frame = omega (arith, same, old.frame); code = (let most = old.code in omega (arith, less, most)) }
 
-pub simplified_is_flattened : (q : tac.Program) (f g : flat.Program) → IsFlattened q f → IsSimplified f g → IsFlattened q g
-simplified_is_flattened q f g flattened simple = record {
-  sound = simple.sound flattened.sound;
-  in_step = λ input bytes. in_step q f g simple input (flattened.in_step input bytes);
-  statics = simple.statics ∙ flattened.statics;
-  main = simple.main ∙ flattened.main;
-  count = sym (length-map g.functions frame_bytes) ∙ (ap length simple.frames ∙ (length-map f.functions frame_bytes ∙ flattened.count));
-  each = code_too q f g simple flattened.each;
+pub simplified_form : (q : tac.Program) (f g : flat.Program) → IsFormOf q f → IsSimplified f g → IsFormOf q g
+simplified_form q f g form simple = record {
+  sound = simple.sound form.sound;
+  statics = simple.statics ∙ form.statics;
+  main = simple.main ∙ form.main;
+  count = sym (length-map g.functions frame_bytes) ∙ (ap length simple.frames ∙ (length-map f.functions frame_bytes ∙ form.count));
+  each = code_too q f g simple form.each;
 }

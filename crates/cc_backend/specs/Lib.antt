@@ -14,5 +14,6 @@ pub mod Made
 pub mod Sizes
 pub mod FlatImages
 pub mod Convention
-pub mod TacImages
-pub mod ProgramImages
+pub mod Forms
+pub mod Simulation
+pub mod Chain

@@ -4,9 +4,9 @@ use Rattle.typing_rules.specs.Program as typed
 use Rattle.tac_code.specs.Code as tac
 use Rattle.tac_code.specs.Lowered.{IsLowered, IsChecked}
 use Rattle.frames_code.specs.Code as flat
-use Rattle.frames.specs.Flattened.{IsFlattened}
 use Rattle.frames.specs.Costs.{function_bytes}
 use Rattle.select_simulation.specs.Reaching.{rows_of, IsShortProgram}
+use Rattle.cc_backend.specs.Forms.{IsFormOf}
 
 -- The rows of `select`, whose sum bounds the items that it emits (`code_is_short`), are within flattening's table; at most twelve words
 -- live in registers, as of each sound program.
@@ -16,10 +16,10 @@ RowsFit = (f : flat.Function) → f.resident ≤ 12 → rows_of f ≤ function_b
 -- at most 128 bytes a node of its definition, and 1024
 abbrev pub CodeFits : Type 0
 CodeFits =
-    (p : typed.Program) (q : tac.Program) (f : flat.Program) → IsLowered p q → IsFlattened q f
+    (p : typed.Program) (q : tac.Program) (f : flat.Program) → IsLowered p q → IsFormOf q f
     → (k : ℕ) (g : typed.Function) (h : flat.Function) → slice_get p.functions k ≡ Some g → slice_get f.functions k ≡ Some h
     → rows_of h ≤ 128 * g.nodes + 1024
 
 -- no function has so much code that a jump does not reach: what `jump_reach` takes
 abbrev pub ProgramIsShort : Type 0
-ProgramIsShort = (p : typed.Program) (q : tac.Program) (f : flat.Program) → IsChecked p → IsLowered p q → IsFlattened q f → IsShortProgram f
+ProgramIsShort = (p : typed.Program) (q : tac.Program) (f : flat.Program) → IsChecked p → IsLowered p q → IsFormOf q f → IsShortProgram f

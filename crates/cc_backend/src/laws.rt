@@ -2,8 +2,7 @@
 //! code of a function is as short as the tables of bytes say.
 ghost use Rattle.cc_backend.specs.FlatImages.{ImageGoesOn, ImageEnds, ImageCallsKeep};
 ghost use Rattle.cc_backend.specs.Convention.{ImageCallsKeepConvention, ImageMainKeepsConvention, FramesAreWeighed};
-ghost use Rattle.cc_backend.specs.TacImages.{TacGoesOn, TacEnds};
-ghost use Rattle.cc_backend.specs.ProgramImages.{FlattenedGoesOn, FlattenedEnds, ProgramGoesOn, ProgramEnds};
+ghost use Rattle.cc_backend.specs.Chain.{TacSimulatesProgram, FlatSimulatesTac, SimplerSimulatesFlat, RenumberedSimulatesFlat, ImageSimulatesFlat, FlatSimulatesProgram, FileSimulatesProgram};
 ghost use Rattle.cc_backend.specs.Sizes.{RowsFit, CodeFits, ProgramIsShort};
 ghost use Rattle.cc_backend.specs.Made.{UnitsAreSmall};
 
@@ -38,36 +37,39 @@ pub fn frames_are_weighed()
     ensures { FramesAreWeighed }
 {}
 
-/// Where three-address code goes on, its image does too, having done the same, and with the same input left.
-pub fn tac_goes_on()
-    ensures { TacGoesOn }
+/// Three-address code does what the program does that it was lowered from.
+pub fn tac_simulates_program()
+    ensures { TacSimulatesProgram }
 {}
 
-/// Where three-address code ends, its image ends with the same status, having done the same, and with the same input left.
-pub fn tac_ends()
-    ensures { TacEnds }
+/// Flat code does what the three-address code does that it was flattened from.
+pub fn flat_simulates_tac()
+    ensures { FlatSimulatesTac }
 {}
 
-/// Where the abstract machine goes on, the image of any flat code that does what the three-address code does goes on too, having done the same, within
-/// 60 n + 64 instructions for n ticks.
-pub fn flattened_goes_on()
-    ensures { FlattenedGoesOn }
+/// Flat code that was made simpler does what it did.
+pub fn simpler_simulates_flat()
+    ensures { SimplerSimulatesFlat }
 {}
 
-/// Where the abstract machine ends, the image of any flat code that does what the three-address code does ends with the same status, having done the
-/// same, within 60 n + 66 instructions for n ticks.
-pub fn flattened_ends()
-    ensures { FlattenedEnds }
+/// Flat code with its words under other numbers does what it did.
+pub fn renumbered_simulates_flat()
+    ensures { RenumberedSimulatesFlat }
 {}
 
-/// Where the abstract machine goes on, the image does too, having done the same, within 60 n + 64 instructions for n ticks.
-pub fn program_goes_on()
-    ensures { ProgramGoesOn }
+/// The machine of the table, from the image of flat code, does what the flat code does.
+pub fn image_simulates_flat()
+    ensures { ImageSimulatesFlat }
 {}
 
-/// Where the abstract machine ends, the image ends with the same status, having done the same, within 60 n + 66 instructions for n ticks.
-pub fn program_ends()
-    ensures { ProgramEnds }
+/// So flat code that is made of a program does what the program does, tick for tick.
+pub fn flat_simulates_program()
+    ensures { FlatSimulatesProgram }
+{}
+
+/// And so does the machine from its image, within 60 n + 64 instructions for n ticks, and 60 n + 66 where the program ends.
+pub fn file_simulates_program()
+    ensures { FileSimulatesProgram }
 {}
 
 /// The rows of a function of flat code, by what `select` emits, sum to no more than its bytes by flattening's table.

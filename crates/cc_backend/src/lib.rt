@@ -10,8 +10,8 @@ mod sizes;
 
 pub use generating::{Generated, generate, items};
 pub use laws::{
-    code_fits, flattened_ends, flattened_goes_on, frames_are_weighed, image_calls_keep,
-    image_calls_keep_convention, image_ends, image_goes_on, image_main_keeps_convention,
-    program_ends, program_goes_on, program_is_short, rows_fit, tac_ends, tac_goes_on,
-    units_are_small,
+    code_fits, file_simulates_program, flat_simulates_program, flat_simulates_tac,
+    frames_are_weighed, image_calls_keep, image_calls_keep_convention, image_ends, image_goes_on,
+    image_main_keeps_convention, image_simulates_flat, program_is_short, renumbered_simulates_flat,
+    rows_fit, simpler_simulates_flat, tac_simulates_program, units_are_small,
 };

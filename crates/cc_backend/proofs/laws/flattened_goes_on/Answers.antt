@@ -1,5 +1,0 @@
-use Rattle.cc_backend.proofs.ProgramImages as laws
-use Rattle.cc_backend.proofs.laws.flattened_goes_on.Goals as goal
-
-pub returns : goal.returns
-returns c = laws.flattened_goes_on

@@ -1,5 +1,0 @@
-use Rattle.cc_backend.proofs.TacImages as laws
-use Rattle.cc_backend.proofs.laws.tac_goes_on.Goals as goal
-
-pub returns : goal.returns
-returns c = laws.tac_goes_on

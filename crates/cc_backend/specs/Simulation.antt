@@ -1,0 +1,50 @@
+-- Forward simulation, with what it costs: that one system does what another does, in one form for each step of the way from a program to its file.
+use Rattle.std.specs.Prelude.{◌≤◌, ℕ, ◌+◌, ◌*◌, List}
+use Rattle.meaning_events.specs.Events.{Event}
+
+-- what a run that goes on has done, the newest first, what it has left of its input, and the calls that are active, the innermost first
+pub record Doing : Type 0 where
+  pub trace : List Event
+  pub input : List ℕ
+  pub calls : List ℕ
+
+-- what a run that has ended did, and with what status
+pub record Done : Type 0 where
+  pub status : ℕ
+  pub trace : List Event
+  pub input : List ℕ
+
+-- A system on one input: whether it goes on so, or has ended so, after a number of steps; whether the calls on the way there fit the stack; and what
+-- these steps cost, in instructions of the machine.
+pub record System : Type 1 where
+  pub Goes : ℕ → Doing → Type 0
+  pub Ends : ℕ → Done → Type 0
+  pub Fits : ℕ → Type 0
+  pub cost : ℕ → ℕ
+
+-- what the second system may take more than the first, where they go on and where they end; how many steps of the first one of the second is at
+-- most, as it makes at least so many
+pub record Terms : Type 0 where
+  pub more : ℕ
+  pub more_at_end : ℕ
+  pub slack : ℕ
+  pub least : ℕ
+
+-- whatever is seen of the first system, while its calls fit the stack, is seen of the second, whose calls fit then too
+pub record Simulates (terms : Terms) (first second : System) : Type 0 where
+  pub goes_on : (n : ℕ) (x : Doing) → first.Goes n x → first.Fits n
+      → (k : ℕ) × (n ≤ terms.slack * k) × (terms.least ≤ k) × (second.cost k ≤ first.cost n + terms.more) × second.Goes k x × second.Fits k
+  pub ends : (n : ℕ) (x : Done) → first.Ends n x → first.Fits n
+      → (k : ℕ) × (second.cost k ≤ first.cost n + terms.more_at_end) × second.Ends k x × second.Fits k
+
+-- step for step, at no more cost
+abbrev pub step_for_step : Terms
+step_for_step = record { more = 0; more_at_end = 0; slack = 1; least = 0 }
+
+-- the terms of two together
+abbrev pub both : Terms → Terms → Terms
+both s t = record { more = s.more + t.more; more_at_end = s.more_at_end + t.more_at_end; slack = s.slack * t.slack; least = t.least }
+
+-- where a second system does what the first does, and a third what the second does, the third does what the first does
+abbrev pub Compose : Type 1
+Compose = (s t : Terms) (first second third : System) → Simulates s first second → Simulates t second third → Simulates (both s t) first third
