@@ -16,3 +16,4 @@ pub mod FlatImages
 pub mod Convention
 pub mod TacImages
 pub mod ProgramImages
+pub mod inside
