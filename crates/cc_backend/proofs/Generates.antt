@@ -1,7 +1,7 @@
 -- The file of a program whose flat code is made.
 use Rattle.std.proofs.Common.{◌≡◌, ◌≤◌, ◌<◌, ℕ, suc, ◌+◌, ◌*◌, List, [], ◌∷◌, length, map, Option, Some, None, Ok, refl, sym, ap, ◌∙◌, subst, append_assoc, arith, Bool, true, ◌++◌}
 use Rattle.std.proofs.Math.Nat.{le_trans, suc-mul}
-use Rattle.std.specs.Prelude.{slice_get, sum_by, option_map, IfOk, Result, Err}
+use Rattle.std.specs.Prelude.{slice_get, sum_by, option_map}
 use Rattle.std.proofs.lemmas.Option.{slice_get-map, slice_get_within}
 use Rattle.std.proofs.lemmas.List.{length-map}
 use Rattle.std.proofs.lemmas.List.Sums.{sum_by-append, sum_by-cons}
@@ -23,7 +23,6 @@ use Rattle.tac_code.specs.Spans.{span}
 use Rattle.tac_code.specs.Lowered.{IsLowered}
 use Rattle.frames_code.specs.Code as flat
 use Rattle.frames_code.specs.Code.{frame_bytes}
-use Rattle.frames_code.specs.declared.code.FlatProgram.{FlatProgram}
 use Rattle.frames.specs.Translated.{flat_program}
 use Rattle.frames.specs.Data.{data_of}
 use Rattle.frames.proofs.Whole.{length_data, data_bytes_are}
@@ -80,10 +79,6 @@ code_of p q g f made simplified renumbered = record {
   renumbered = renumbered;
   sound = stays_sound g f renumbered (simplified.sound (flat_form q made.sound).sound);
 }
-
-pub code_in : {E : Type 0} (p : typed.Program) (q : tac.Program) (g : flat.Program) → IsLowered p q → IsSimplified (flat_program q) g → (r : Result FlatProgram E) → IfOk r (λ f. IsRenumbered g (flat.program_of f)) → IfOk r (λ f. IsFlatCodeOf p (flat.program_of f))
-code_in p q g made simplified (Ok f) renumbered = code_of p q g (flat.program_of f) made simplified renumbered
-code_in p q g made simplified (Err e) renumbered = tt
 
 module _ (p : typed.Program) (f : flat.Program) (ready : IsReady p) (made : IsFlatCodeOf p f) where
   form : IsFormOf made.code f

@@ -1,8 +1,8 @@
 pub mod Images
-pub mod Lowering
 pub mod Renumbering
 pub mod Simplifying
 pub mod Generates
+pub mod FlatFunctions
 pub mod FlatImages
 pub mod Forms
 pub mod Simulation

@@ -17,3 +17,4 @@ pub mod Convention
 pub mod Forms
 pub mod Simulation
 pub mod Chain
+pub mod inside

@@ -1,25 +1,21 @@
-//! From a typed program to flat code.
+//! From a typed program to flat code, a function at a time: its three-address code is given up before the next one is begun.
 
-ghost use Rattle.std.specs.Prelude.{IfOk};
+ghost use Rattle.std.specs.Prelude.{ℕ, ◌≡◌, length, map, slice_get, Some, IfOk};
 ghost use Rattle.srcset.specs.Fault.{IsMemoryFault};
-ghost use Rattle.typing_program.specs.View.{program_of};
-ghost use Rattle.tac_code.specs.Code as three_address;
-ghost use Rattle.tac_code.specs.Lowered.{IsLowered};
-ghost use Rattle.tac_code.specs.Sound as tac_sound;
+ghost use Rattle.typing_program.specs.View.{function_of, program_of};
 ghost use Rattle.frames_code.specs.Code as flat;
-ghost use Rattle.frames.specs.Translated.{flat_program};
-ghost use Rattle.frames_simplified.specs.Simplified.{IsSimplified};
+ghost use Rattle.frames.specs.layer.Alone.{starts_in};
 ghost use Rattle.cc_backend.specs.Made.{IsReady, IsFlatCodeOf};
+ghost use Rattle.cc_backend.specs.inside.FlatFunctions.{IsFlatFunctionOf, AreFlatFunctionsOf};
 
-use frames::flatten;
+use frames::{Starts, data_alone, flatten_function};
 use frames_code::FlatProgram;
-use frames_registers::renumber;
-use frames_simplified::simplify;
+use frames_registers::renumber_function;
+use frames_simplified::simplify_function;
 use srcset::Fault;
 use std::alloc::{AllocError, Global};
-use tac::lower;
-use tac_code::TacProgram;
-use typing_program::Program;
+use tac::lower_function;
+use typing_program::{Function, Program};
 
 /// A fault that is want of memory.
 pub fn want_of_memory(fault: Fault) -> AllocError
@@ -29,25 +25,41 @@ pub fn want_of_memory(fault: Fault) -> AllocError
     AllocError
 }
 
-/// The three-address code of a program.
-fn lowered(alloc: Global, program: &Program) -> Result<TacProgram, AllocError>
-    requires { IsReady (program_of program.now) }
-    ensures { IfOk result (λ q. IsLowered (program_of program.now) (three_address.program_of q)) }
+/// The flat code of a function, with the words in front that are used most.
+fn flat_function(
+    alloc: Global,
+    program: &Program,
+    starts: &Starts,
+    function: &Function,
+    is_main: bool,
+) -> Result<frames_code::Function, AllocError>
+    requires ready { IsReady (program_of program.now) }
+    requires own { (k : ℕ) × (slice_get (program_of program.now).functions k ≡ Some (function_of function.now)) }
+    ensures { IfOk result (λ h. IsFlatFunctionOf (program_of program.now) (starts_in starts.now) is_main (function_of function.now) (flat.function_of h)) }
 {
-    lower(alloc, program)
+    let code = lower_function(alloc, program, function, is_main)?;
+    let long = flatten_function(alloc, starts, &code)?;
+    drop(code);
+    let simple = simplify_function(alloc, long)?;
+    renumber_function(alloc, &simple)
 }
 
-/// The flat code of three-address code, made simpler.
-fn simple_code(alloc: Global, code: TacProgram) -> Result<FlatProgram, AllocError>
-    requires { tac_sound.IsSoundProgram (three_address.program_of code) }
-    ensures { IfOk result (λ g. IsSimplified (flat_program (three_address.program_of code)) (flat.program_of g)) }
+fn flat_functions(
+    alloc: Global,
+    program: &Program,
+    starts: &Starts,
+) -> Result<Vec<frames_code::Function>, AllocError>
+    requires { IsReady (program_of program.now) }
+    ensures { IfOk result (λ hs. AreFlatFunctionsOf (program_of program.now) (starts_in starts.now) (length program.now.functions.items) (map flat.function_of hs.items)) }
 {
-    let flat = match flatten(alloc, &code) {
-        Ok(flat) => flat,
-        Err(fault) => return Err(want_of_memory(fault)),
-    };
-    drop(code);
-    simplify(alloc, flat)
+    let mut list = Vec::with_capacity(alloc, program.functions.len())?;
+    let mut number = 0;
+    for function in &program.functions {
+        let is_main = number == program.main;
+        list.push(flat_function(alloc, program, starts, function, is_main)?)?;
+        number += 1;
+    }
+    Ok(list)
 }
 
 /// The flat code of a program, with the words in front that are used most.
@@ -55,7 +67,12 @@ pub fn flat_code(alloc: Global, program: &Program) -> Result<FlatProgram, AllocE
     requires { IsReady (program_of program.now) }
     ensures { IfOk result (λ f. IsFlatCodeOf (program_of program.now) (flat.program_of f)) }
 {
-    let code = lowered(alloc, program)?;
-    let simple = simple_code(alloc, code)?;
-    renumber(alloc, simple)
+    let starts = Starts::new(alloc, &program.literals, &program.statics)?;
+    let functions = flat_functions(alloc, program, &starts)?;
+    let statics = data_alone(alloc, &program.literals, &program.statics)?;
+    Ok(FlatProgram {
+        functions,
+        statics,
+        main: program.main,
+    })
 }

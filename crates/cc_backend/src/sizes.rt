@@ -13,7 +13,7 @@ pub fn frame_sizes(alloc: Global, program: &FlatProgram) -> Result<Vec<u32>, All
     requires { IsSoundProgram (flat.program_of program.now) }
     ensures { IfOk result (λ sizes. sizes.items ≡ map frame_bytes (flat.program_of program.now).functions) }
 {
-    let mut sizes = Vec::new(alloc);
+    let mut sizes = Vec::with_capacity(alloc, program.functions.len())?;
     put_sizes(&mut sizes, &program.functions)?;
     Ok(sizes)
 }

@@ -5,4 +5,5 @@ pub mod Translated
 pub mod Laws
 pub mod Costs
 pub mod Flattened
+pub mod layer
 pub mod inside

@@ -9,7 +9,8 @@ ghost use Rattle.frames_code.specs.Code as flat;
 ghost use Rattle.frames_code.specs.Sound as flat_sound;
 ghost use Rattle.frames.specs.Flattened.{IsCodeOf};
 ghost use Rattle.frames.specs.Translated.{translated, argument, moves_from, flat_function, flat_program};
-ghost use Rattle.frames.specs.inside.Held.{layout_in, starts_in, InstructionIsNear};
+ghost use Rattle.frames.specs.layer.Alone.{starts_in};
+ghost use Rattle.frames.specs.inside.Held.{layout_in, InstructionIsNear};
 
 use crate::instructions::translate;
 use crate::layout::Layout;
@@ -77,7 +78,8 @@ fn put_code(
     Ok(())
 }
 
-fn flat_code(
+/// The flat code of one function, where literals and static objects begin at `starts`.
+pub fn flatten_function(
     alloc: Global,
     starts: &Starts,
     function: &tac_code::Function,
@@ -113,7 +115,7 @@ fn put_functions(
     ensures { OnOk result (map flat.function_of list.new.items ≡ map flat.function_of list.old.items ++ map (flat_function (starts_in starts.now)) (map three_address.function_of functions.now)) }
 {
     for function in functions {
-        list.push(flat_code(alloc, starts, function)?)?;
+        list.push(flatten_function(alloc, starts, function)?)?;
     }
     Ok(())
 }
@@ -122,7 +124,7 @@ fn flat_code_of(alloc: Global, program: &TacProgram) -> Result<FlatProgram, Allo
     requires { IsSoundProgram (three_address.program_of program.now) }
     ensures { IfOk result (λ f. flat.program_of f ≡ flat_program (three_address.program_of program.now)) }
 {
-    let starts = Starts::new(alloc, program)?;
+    let starts = Starts::new(alloc, &program.literals, &program.statics)?;
     let mut functions = Vec::with_capacity(alloc, program.functions.len())?;
     put_functions(&mut functions, alloc, &starts, &program.functions)?;
     let statics = data(alloc, program)?;

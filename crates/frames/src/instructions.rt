@@ -2,7 +2,8 @@
 
 ghost use Rattle.std.specs.Prelude.{◌≡◌};
 ghost use Rattle.frames.specs.Translated as flat;
-ghost use Rattle.frames.specs.inside.Held.{layout_in, starts_in, OperandIsNear, TargetIsNear, PlaceIsNear, InstructionIsNear};
+ghost use Rattle.frames.specs.layer.Alone.{starts_in};
+ghost use Rattle.frames.specs.inside.Held.{layout_in, OperandIsNear, TargetIsNear, PlaceIsNear, InstructionIsNear};
 
 use crate::layout::Layout;
 use crate::operations::{operation_of, test_of, width_of};

@@ -10,6 +10,7 @@ mod sizes;
 mod starts;
 mod statics;
 
-pub use functions::flatten;
+pub use functions::{flatten, flatten_function};
 pub use laws::{arrays_are_apart, starts_are_apart, words_agree, words_are_apart};
-pub use statics::data;
+pub use starts::Starts;
+pub use statics::{data, data_alone};

@@ -4,15 +4,13 @@ ghost use Rattle.std.specs.Prelude.{ℕ, ◌≡◌, ◌≤◌, ◌<◌, ◌+◌,
 ghost use Rattle.typing_program.specs.View.{object_type_of, static_of};
 ghost use Rattle.typing_rules.specs.Types.{size_of_object};
 ghost use Rattle.typing_rules.specs.Units as units;
-ghost use Rattle.tac_code.specs.Code.{program_of};
 ghost use Rattle.tac_code.specs.Sound.{data_bytes, static_bytes};
 ghost use Rattle.frames.specs.Layout.{starts_from, starts_of, start_in};
-ghost use Rattle.frames.specs.inside.Held.{starts_in};
+ghost use Rattle.frames.specs.layer.Alone.{starts_in, with_data};
 ghost use Rattle.frames.specs.Sizes.{literal_bytes, statics_bytes, literal_sizes, static_sizes};
 
 use crate::sizes::{in_words, object_size};
 use std::alloc::{AllocError, Global};
-use tac_code::TacProgram;
 use typing_program::Static;
 
 /// How many bytes from the start of the statics each begins.
@@ -78,15 +76,15 @@ fn start_at(starts: &[usize], number: usize) -> usize
 }
 
 impl Starts {
-    /// Those of a program.
-    pub fn new(alloc: Global, program: &TacProgram) -> Result<Starts, AllocError>
-        requires { data_bytes (program_of program.now).literals (program_of program.now).statics ≤ 2 ^ 24 }
-        ensures { IfOk result (λ starts. starts_in starts ≡ starts_of (program_of program.now)) }
+    /// Those of a program's string literals and objects with static storage.
+    pub fn new(alloc: Global, texts: &[Vec<u8>], objects: &[Static]) -> Result<Starts, AllocError>
+        requires { data_bytes (map (λ text. text.items) texts.now) (map static_of objects.now) ≤ 2 ^ 24 }
+        ensures { IfOk result (λ starts. starts_in starts ≡ starts_of (with_data (map (λ text. text.items) texts.now) (map static_of objects.now))) }
     {
-        let mut literals = Vec::new(alloc);
-        let mut statics = Vec::new(alloc);
-        let end = put_literal_starts(&mut literals, &program.literals, 16)?;
-        put_static_starts(&mut statics, &program.statics, end)?;
+        let mut literals = Vec::with_capacity(alloc, texts.len())?;
+        let mut statics = Vec::with_capacity(alloc, objects.len())?;
+        let end = put_literal_starts(&mut literals, texts, 16)?;
+        put_static_starts(&mut statics, objects, end)?;
         Ok(Starts { literals, statics })
     }
 

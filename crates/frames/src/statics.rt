@@ -8,6 +8,7 @@ ghost use Rattle.tac_code.specs.Sound.{data_bytes, static_bytes};
 ghost use Rattle.typing_rules.specs.Types.{size_of_object};
 ghost use Rattle.frames.specs.Sizes.{literal_bytes, statics_bytes};
 ghost use Rattle.frames.specs.Data.{low_bytes, filled_up, bytes_of_values, bytes_of_static, bytes_of_statics, bytes_of_literals, data_of};
+ghost use Rattle.frames.specs.layer.Alone.{with_data};
 ghost use Rattle.typing_rules.specs.Units as units;
 
 use crate::sizes::in_words;
@@ -90,15 +91,27 @@ fn put_statics(bytes: &mut Vec<u8>, statics: &[Static]) -> Result<(), AllocError
     Ok(())
 }
 
+/// The bytes of the data as a program with these string literals and objects with static storage begins.
+pub fn data_alone(
+    alloc: Global,
+    literals: &[Vec<u8>],
+    statics: &[Static],
+) -> Result<Vec<u8>, AllocError>
+    requires { data_bytes (map (λ text. text.items) literals.now) (map static_of statics.now) ≤ 2 ^ 24 }
+    ensures { IfOk result (λ bytes. bytes.items ≡ data_of (with_data (map (λ text. text.items) literals.now) (map static_of statics.now))) }
+{
+    let mut bytes = Vec::new(alloc);
+    bytes.resize(16, 0)?;
+    put_literals(&mut bytes, literals)?;
+    put_statics(&mut bytes, statics)?;
+    Ok(bytes)
+}
+
 /// The bytes of the data as a program begins: 16 zeros, its string literals, its objects with static storage, each from a multiple
 /// of 4 on, the lowest byte of a number first.
 pub fn data(alloc: Global, program: &TacProgram) -> Result<Vec<u8>, AllocError>
     requires { data_bytes (program_of program.now).literals (program_of program.now).statics ≤ 2 ^ 24 }
     ensures { IfOk result (λ bytes. bytes.items ≡ data_of (program_of program.now)) }
 {
-    let mut bytes = Vec::new(alloc);
-    bytes.resize(16, 0)?;
-    put_literals(&mut bytes, &program.literals)?;
-    put_statics(&mut bytes, &program.statics)?;
-    Ok(bytes)
+    data_alone(alloc, &program.literals, &program.statics)
 }

@@ -62,7 +62,8 @@ fn put_code(
     Ok(())
 }
 
-fn renumber_function(alloc: Global, function: &Function) -> Result<Function, AllocError>
+/// A function with the words that are used most in front.
+pub fn renumber_function(alloc: Global, function: &Function) -> Result<Function, AllocError>
     ensures { IfOk result (λ g. IsRenumberedFunction (function_of function.now) (function_of g)) }
 {
     let swaps = choose(alloc, function)?;

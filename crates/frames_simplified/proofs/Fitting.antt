@@ -24,7 +24,7 @@ use Rattle.frames_simplified.specs.inside.Facts.{nothing, held, known_of, refere
 use Rattle.frames_simplified.specs.inside.Rules.{constant_or, simpler_operand, location_or, simpler_location, is_constant, commutes, is_product, product, shift, is_power, scaled, multiplied, arranged, compute, within, statics_or, frame_or, numbered, simpler_element, simpler}
 use Rattle.frames_simplified.specs.inside.Unread.{written, is_unread, kept, kept_by}
 use Rattle.frames_simplified.specs.inside.Passes.{is_marked, fresh, forward, near, swept}
-use Rattle.frames_simplified.specs.inside.Functions.{IsImproved, IsSimplerCode, stayed, improved, with_code, IsSimplerFunction}
+use Rattle.frames_simplified.specs.layer.Functions.{IsImproved, IsSimplerCode, stayed, improved, with_code, IsSimplerFunction}
 use Rattle.frames_simplified.proofs.Acts.{not_true}
 use Rattle.frames_simplified.proofs.Stands.{held_in, set_same}
 

@@ -3,7 +3,7 @@ use Rattle.std.proofs.Common.{◌≡◌, List, [], ◌∷◌, ◌++◌, length, 
 use Rattle.std.proofs.lemmas.List.{map-append, append_assoc}
 use Rattle.frames_code.specs.declared.code.Function.{Function as Held}
 use Rattle.frames_code.specs.Code.{Function, function_of}
-use Rattle.frames_simplified.specs.inside.Functions.{IsSimplerFunction, AreSimpler}
+use Rattle.frames_simplified.specs.layer.Functions.{IsSimplerFunction, AreSimpler}
 
 no_more : {A : Type 0} (xs : List A) → xs ++ [] ≡ xs
 no_more [] = refl

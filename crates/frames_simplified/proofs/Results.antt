@@ -6,7 +6,7 @@ use Rattle.frames_code.specs.declared.code.Instruction.{Instruction}
 use Rattle.frames.specs.Costs.{code_bytes}
 use Rattle.frames_simplified.specs.inside.Facts.{nothing}
 use Rattle.frames_simplified.specs.inside.Passes.{jump_of, marked_by, marked, all_marked, AreMarked, forward, swept}
-use Rattle.frames_simplified.specs.inside.Functions.{IsImproved, IsSimplerCode, stayed, improved}
+use Rattle.frames_simplified.specs.layer.Functions.{IsImproved, IsSimplerCode, stayed, improved}
 use Rattle.frames_simplified.proofs.Positions.{all_are_marked}
 
 marked_length : (marks : List Bool) (code : List Instruction) → length (all_marked marks code) ≡ length marks

@@ -10,7 +10,7 @@ use Rattle.frames_simplified.specs.declared.facts.Known.{Known}
 use Rattle.frames.specs.Costs.{code_bytes}
 use Rattle.frames_simplified.specs.Simplified.{IsSimplified}
 use Rattle.frames_simplified.specs.inside.Facts.{nothing}
-use Rattle.frames_simplified.specs.inside.Functions.{IsSimplerCode, stayed, improved, IsSimplerFunction, AreSimpler}
+use Rattle.frames_simplified.specs.layer.Functions.{IsSimplerCode, stayed, improved, IsSimplerFunction, AreSimpler}
 use Rattle.frames_simplified.proofs.Alike.{Sized, with_code}
 use Rattle.frames_simplified.proofs.Runs.{Position, IsSimpler, runs, costs}
 use Rattle.frames_simplified.proofs.Positions.{known_at, middle_of, position, same_position, start_known}

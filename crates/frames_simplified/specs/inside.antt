@@ -3,4 +3,3 @@ pub mod Facts
 pub mod Rules
 pub mod Unread
 pub mod Passes
-pub mod Functions

@@ -5,7 +5,7 @@ ghost use Rattle.frames_code.specs.Code as flat;
 ghost use Rattle.frames_code.specs.Code.{function_of};
 ghost use Rattle.frames.specs.Costs.{code_bytes};
 ghost use Rattle.frames_simplified.specs.Simplified.{IsSimplified};
-ghost use Rattle.frames_simplified.specs.inside.Functions.{IsImproved, IsSimplerCode, IsSimplerFunction, AreSimpler};
+ghost use Rattle.frames_simplified.specs.layer.Functions.{IsImproved, IsSimplerCode, IsSimplerFunction, AreSimpler};
 
 use crate::bytes::is_no_longer;
 use crate::marks::marks_of;
@@ -43,7 +43,8 @@ fn chosen(
     }
 }
 
-fn simplify_function(alloc: Global, function: Function) -> Result<Function, AllocError>
+/// A function made simpler.
+pub fn simplify_function(alloc: Global, function: Function) -> Result<Function, AllocError>
     ensures { IfOk result (λ g. IsSimplerFunction (function_of function) (function_of g)) }
 {
     let code = chosen(alloc, function.area, function.code)?;

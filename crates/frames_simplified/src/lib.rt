@@ -4,10 +4,12 @@
 mod bytes;
 mod facts;
 mod functions;
+mod laws;
 mod marks;
 mod operations;
 mod passes;
 mod rules;
 mod unread;
 
-pub use functions::simplify;
+pub use functions::{simplify, simplify_function};
+pub use laws::functions_are_simplified;

@@ -12,7 +12,8 @@ use Rattle.tac_lowering.specs.Bodies.{Idles, Closes, most, temporaries_of, IsCod
 use Rattle.tac_forms.specs.layer.Parts.{plus, Wrote}
 use Rattle.tac.specs.inside.Sizes.{statement_size}
 use Rattle.tac.specs.inside.Written.{WroteStatement}
-use Rattle.tac.specs.inside.Functions.{closing_size, parameters_if, parameters_at, temporaries_with, IsBodyOf, IsFunctionWith, AreFunctionsOf}
+use Rattle.tac.specs.layer.Functions.{parameters_if, parameters_at, temporaries_with, IsBodyOf, IsFunctionWith, FunctionIsCode, FunctionsAreCode}
+use Rattle.tac.specs.inside.Functions.{closing_size, AreFunctionsOf}
 use Rattle.tac_forms.proofs.Parts.{as_wrote, begins_all, begins_on, reach_one}
 
 -- ---- the most of instructions
@@ -86,7 +87,7 @@ item_in_map f [] i x lt e = absurd (omega (arith, lt))
 item_in_map f (y ∷ xs) zero x lt e = ap (λ z. Some (f z)) (sym e)
 item_in_map f (y ∷ xs) (suc i) x lt e = item_in_map f xs i x (omega (arith, lt)) e
 
-each_snoc : {F G : Type 0} (P : ℕ → F → G → Type 0) (fs : List F) (gs : List G) (f0 : F) (g0 : G) → slice_get fs (length gs) ≡ Some f0 → P (length gs) f0 g0
+pub each_snoc : {F G : Type 0} (P : ℕ → F → G → Type 0) (fs : List F) (gs : List G) (f0 : F) (g0 : G) → slice_get fs (length gs) ≡ Some f0 → P (length gs) f0 g0
     → ((n : ℕ) (f : F) (g : G) → slice_get fs n ≡ Some f → slice_get gs n ≡ Some g → P n f g)
     → (n : ℕ) (f : F) (g : G) → slice_get fs n ≡ Some f → slice_get (gs ++ g0 ∷ []) n ≡ Some g → P n f g
 each_snoc P [] gs f0 g0 there last each n f g e h = absurd (let z : ⊥ = cc in z)
@@ -146,29 +147,33 @@ same_most : (s t : Instruction → ℕ) → ((i : Instruction) → s i ≡ t i) 
 same_most s t h [] = refl
 same_most s t h (i ∷ code) = ap (λ n. max n (most s code)) (h i) ∙ ap (λ n. max (t i) n) (same_most s t h code)
 
-pub program_written : (p : typed.Program) (q : Program) (n : ℕ) → AreFunctionsOf p n q.functions → n ≡ length p.functions
-    → q.literals ≡ p.literals → q.statics ≡ p.statics → q.main ≡ p.main → IsCodeFor p q
-program_written p q n0 all same literals statics main =
+pub function_is_code : FunctionIsCode
+function_is_code p q counts is_main f g x = record {
+  start = x.code.start;
+  end = x.code.end;
+  back = x.code.back;
+  idles = x.code.idles;
+  body = x.code.body;
+  closes = x.code.closes;
+  leaves = x.code.leaves;
+  objects = x.objects;
+  parameters = x.parameters;
+  temporaries = x.temporaries ∙ same_most (temporaries_with (parameters_at p.functions)) (temporaries_of q) (same_temporaries q (parameters_at p.functions) counts) g.code;
+  kept = x.kept;
+}
+
+pub functions_are_code : FunctionsAreCode
+functions_are_code p q literals statics main count each =
     let counts : (f : ℕ) → length (function_at q f).parameters ≡ parameters_at p.functions f =
-    same_at parameters_if (λ g. length (or_no_function g).parameters) refl p.functions q.functions (all.count ∙ same) (λ n f g e h. ap length (all.each n f g e h).parameters ∙ length_map kind_of f.type.parameters) in
+    same_at parameters_if (λ g. length (or_no_function g).parameters) refl p.functions q.functions count (λ n f g e h. ap length (each n f g e h).parameters ∙ length_map kind_of f.type.parameters) in
     record {
       literals = literals;
       statics = statics;
       main = main;
-      count = all.count ∙ same;
-      each = λ n f g e h.
-          let x = all.each n f g e h in
-          record {
-            start = x.code.start;
-            end = x.code.end;
-            back = x.code.back;
-            idles = x.code.idles;
-            body = x.code.body;
-            closes = x.code.closes;
-            leaves = x.code.leaves;
-            objects = x.objects;
-            parameters = x.parameters;
-            temporaries = x.temporaries ∙ same_most (temporaries_with (parameters_at p.functions)) (temporaries_of q) (same_temporaries q (parameters_at p.functions) counts) g.code;
-            kept = x.kept;
-          };
+      count = count;
+      each = λ n f g e h. function_is_code p q counts (nat_eq n p.main) f g (each n f g e h);
     }
+
+pub program_written : (p : typed.Program) (q : Program) (n : ℕ) → AreFunctionsOf p n q.functions → n ≡ length p.functions
+    → q.literals ≡ p.literals → q.statics ≡ p.statics → q.main ≡ p.main → IsCodeFor p q
+program_written p q n0 all same literals statics main = functions_are_code p q literals statics main (all.count ∙ same) all.each

@@ -3,7 +3,7 @@
 ghost use Rattle.std.specs.Prelude.{◌≡◌, suc, max, map, IfOk};
 ghost use Rattle.tac_lowering.specs.Bodies as relation;
 ghost use Rattle.typing_program.specs.View.{function_of};
-ghost use Rattle.tac.specs.inside.Functions.{parameters_at, temporaries_with};
+ghost use Rattle.tac.specs.layer.Functions.{parameters_at, temporaries_with};
 
 use std::alloc::AllocError;
 use tac_code::{Instruction, Operand, Place, Target};

@@ -6,7 +6,8 @@ ghost use Rattle.tac_code.specs.Lowered.{kind_of};
 ghost use Rattle.tac_code.specs.Code as three_address;
 ghost use Rattle.tac_lowering.specs.Bodies as relation;
 ghost use Rattle.tac_forms.specs.layer.Parts.{Wrote};
-ghost use Rattle.tac.specs.inside.Functions.{closing_size, IsBodyOf, IsFunctionWith};
+ghost use Rattle.tac.specs.layer.Functions.{IsBodyOf, IsFunctionWith};
+ghost use Rattle.tac.specs.inside.Functions.{closing_size};
 
 use crate::block_sizes::statement_size;
 use crate::copies::copied_objects;
@@ -109,8 +110,8 @@ fn kinds(alloc: Global, parameters: &[ParameterType]) -> Result<Vec<Parameter>, 
     Ok(list)
 }
 
-/// A function of a program.
-pub(crate) fn lowered_function(
+/// The three-address code of a function of a program.
+pub fn lower_function(
     alloc: Global,
     program: &Program,
     function: &Function,

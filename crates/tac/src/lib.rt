@@ -8,9 +8,12 @@ mod elements;
 mod first_sizes;
 mod functions;
 mod initialisers;
+mod laws;
 mod leaves;
 mod programs;
 mod statements;
 mod switches;
 
+pub use functions::lower_function;
+pub use laws::{function_is_code, functions_are_code};
 pub use programs::lower;

@@ -7,7 +7,7 @@ ghost use Rattle.tac_lowering.specs.Bodies.{IsCodeFor};
 ghost use Rattle.tac.specs.inside.Functions.{AreFunctionsOf};
 
 use crate::copies::{copied_literals, copied_statics};
-use crate::functions::lowered_function;
+use crate::functions::lower_function;
 use std::alloc::{AllocError, Global};
 use tac_code::TacProgram;
 use typing_program::Program;
@@ -22,7 +22,7 @@ fn lowered_functions(
     let mut number = 0;
     for function in &program.functions {
         let is_main = number == program.main;
-        list.push(lowered_function(alloc, program, function, is_main)?)?;
+        list.push(lower_function(alloc, program, function, is_main)?)?;
         number += 1;
     }
     Ok(list)

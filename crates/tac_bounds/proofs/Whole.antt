@@ -1,5 +1,5 @@
 -- The code of a program is sound and within its bounds: all of it.
-use Rattle.std.proofs.Common.{◌≡◌, ℕ, zero, suc, ◌+◌, ◌*◌, ◌-◌, ◌/◌, ◌<◌, ◌≤◌, ◌^◌, max, List, [], ◌∷◌, length, map, Some, true, ◌&&◌, refl, sym, ap, ◌∙◌, subst, arith}
+use Rattle.std.proofs.Common.{◌≡◌, ℕ, zero, suc, ◌+◌, ◌*◌, ◌-◌, ◌/◌, ◌<◌, ◌≤◌, ◌^◌, Bool, max, List, [], ◌∷◌, length, map, Some, true, ◌&&◌, refl, sym, ap, ◌∙◌, subst, arith}
 use Rattle.std.specs.Prelude.{nat_eq, nat_le, nat_lt, slice_get, sum_by}
 use Rattle.std.proofs.Math.Nat.{le-max_left, le-max_right}
 use Rattle.std.proofs.lemmas.Option.{slice_get_within}
@@ -23,7 +23,7 @@ use Rattle.tac_lowering.specs.Bodies.{temporaries_of, slots_of, IsFunctionFor, I
 use Rattle.tac_lowering.proofs.Words.{left_true, right_true}
 use Rattle.tac_lowering.proofs.Program.{code_behaves}
 use Rattle.tac_bounds.specs.inside.Rooms.{before}
-use Rattle.tac_bounds.specs.Laws.{CodeIsSound, CodeIsBounded, CodeIsLowered}
+use Rattle.tac_bounds.specs.Laws.{NamesAreThere, CodeIsSound, FunctionIsSound, CodeIsBounded, CodeIsLowered}
 use Rattle.tac_bounds.proofs.Lists.{same_some, got_below, length_map}
 use Rattle.tac_bounds.proofs.Grounds.{Ground, Fine}
 use Rattle.tac_bounds.proofs.Stretches.{Within}
@@ -69,6 +69,9 @@ counts m s h g = omega (arith, h, g)
 more : (s x t n : ℕ) → s ≡ x + t → x ≤ 256020 → t ≤ 256020 * n → s ≤ 256020 * suc n
 more s x t n e h g = omega (arith, e, h, g)
 
+is_short : (c n : ℕ) → c + (n + 1) ≤ 256020 → c < 2 ^ 32
+is_short c n h = omega (arith, h)
+
 sum_le : (size : Function → ℕ) (fs : List Function) → ((k : ℕ) (g : Function) → slice_get fs k ≡ Some g → size g ≤ 256020) → sum_by size fs ≤ 256020 * length fs
 sum_le size [] each = omega arith
 sum_le size (g ∷ fs) each = more (sum_by size (g ∷ fs)) (size g) (sum_by size fs) (length fs) (sum_by-cons size g fs) (each zero g refl) (sum_le size fs (λ k x e. each (suc k) x e))
@@ -88,7 +91,7 @@ static_typed (x ∷ os) zero o h e =
 static_typed (x ∷ os) (suc n) o h e =
     static_typed os n o (right_true (values_fit x.type.element x.values) (statics_are_typed os) (right_true (nat_le (length x.values) (elements_in x.type.lengths)) (values_fit x.type.element x.values && statics_are_typed os) h)) e
 
-module _ (p : typed.Program) (q : Program) (checked : IsChecked p) (code : IsCodeFor p q) where
+module _ (p : typed.Program) (checked : IsChecked p) where
   parts : (functions_are_typed p p.functions ≡ true) × (statics_are_typed p.statics ≡ true) × (nat_lt p.main (length p.functions) ≡ true)
   parts =
       let h = checked.well_typed in
@@ -98,18 +101,9 @@ module _ (p : typed.Program) (q : Program) (checked : IsChecked p) (code : IsCod
         right_true (statics_are_typed p.statics) (nat_lt p.main (length p.functions)) rest,
       )
 
-  callees : (n : ℕ) (f : typed.Function) → slice_get p.functions n ≡ Some f → (n < length q.functions) × (length (function_at q n).parameters ≡ length f.type.parameters)
-  callees n f e =
-      let lt : n < length q.functions = subst (λ l. n < l) (sym code.count) (slice_get_within p.functions n f e) in
-      let there = got_below q.functions n lt in
-      (lt, ap (λ o. length (or_no_function o).parameters) there.is ∙ (ap length (code.each n f there.element e there.is).parameters ∙ length_map kind_of f.type.parameters))
-
   -- ---- one function
 
-  module _ (k : ℕ) (f : typed.Function) (g : Function) (ef : slice_get p.functions k ≡ Some f) (eg : slice_get q.functions k ≡ Some g) where
-    abbrev made : IsFunctionFor p q (nat_eq k p.main) f g
-    made = code.each k f g ef eg
-
+  module _ (q : Program) (there : NamesAreThere p q) (k : ℕ) (f : typed.Function) (g : Function) (ef : slice_get p.functions k ≡ Some f) (is_main : Bool) (made : IsFunctionFor p q is_main f g) where
     typed_parts : (typed_nodes f ≤ f.nodes) × (f.weight ≤ 16777216) × (parameters_are_first f.type.parameters f.objects ≡ true)
         × (statement_is_typed p f (numbers_in f.type.parameters) (length f.objects) f.body ≡ true)
     typed_parts =
@@ -133,7 +127,7 @@ module _ (p : typed.Program) (q : Program) (checked : IsChecked p) (code : IsCod
       slots = widest f.body + 1;
       fewer = le-max_right 8 (widest f.body + 1);
       registers = le-max_left 8 (widest f.body + 1);
-      callees = callees;
+      callees = there.callees;
       sized = λ at array index h. parts_are_small p k f ef h at array index;
       filled = λ n o e. object_filled o (bytes_of_objects f.objects) ((checked.each k f ef).sized n o e) (in_objects f.objects n o e)
           (objects_small (bytes_of_references f.type.parameters) (bytes_of_objects f.objects) f.nodes f.weight (checked.each k f ef).weight typed_parts.1);
@@ -143,7 +137,7 @@ module _ (p : typed.Program) (q : Program) (checked : IsChecked p) (code : IsCod
     some_registers = le_trans 1 8 (max 8 (widest f.body + 1)) (let e : 1 ≤ 8 = omega arith in e) (le-max_left 8 (widest f.body + 1))
 
     whole : Within ground (Unit {0}) (suc (length f.type.parameters) + (statement_nodes f.body + (1 + 2))) (124 * suc (length f.type.parameters) + (0 + (104 + 84))) 0 (length g.code)
-    whole = all_within ground (suc (length f.type.parameters)) made.start made.end made.back (length g.code) (numbers_in f.type.parameters) (nat_eq k p.main)
+    whole = all_within ground (suc (length f.type.parameters)) made.start made.end made.back (length g.code) (numbers_in f.type.parameters) is_main
         (same_le made.back) typed_parts.3 (checked.each k f ef).defined (same_le (widest f.body + 1))
         some_registers made.idles made.body made.closes made.leaves
 
@@ -183,7 +177,7 @@ module _ (p : typed.Program) (q : Program) (checked : IsChecked p) (code : IsCod
         (length_le g.code) whole.room typed_parts.0 parameters_same (checked.each k f ef).nodes
 
     instruction_fits : types_are_sized p ≡ true → (j : ℕ) (x : Instruction) → slice_get g.code j ≡ Some x → InstructionFits q g x
-    instruction_fits sized j x e = fits ground g made.objects made.parameters code.literals code.statics sized
+    instruction_fits sized j x e = fits ground g made.objects made.parameters there.literals there.statics sized
         (one_on made.back (length g.code) made.leaves.next) x
         (each_fine j x e)
         (subst (λ n. temporaries_of q x ≤ n) (sym made.temporaries) (in_most (temporaries_of q) g.code j x e))
@@ -202,17 +196,27 @@ module _ (p : typed.Program) (q : Program) (checked : IsChecked p) (code : IsCod
       each = instruction_fits sized;
     }
 
-  -- ---- all functions
+-- ---- all functions
+
+module _ (p : typed.Program) (q : Program) (checked : IsChecked p) (code : IsCodeFor p q) where
+  callees : (n : ℕ) (f : typed.Function) → slice_get p.functions n ≡ Some f → (n < length q.functions) × (length (function_at q n).parameters ≡ length f.type.parameters)
+  callees n f e =
+      let lt : n < length q.functions = subst (λ l. n < l) (sym code.count) (slice_get_within p.functions n f e) in
+      let there = got_below q.functions n lt in
+      (lt, ap (λ o. length (or_no_function o).parameters) there.is ∙ (ap length (code.each n f there.element e there.is).parameters ∙ length_map kind_of f.type.parameters))
+
+  there : NamesAreThere p q
+  there = record { literals = code.literals; statics = code.statics; callees = callees }
 
   source_of : (k : ℕ) (g : Function) → slice_get q.functions k ≡ Some g → k < length p.functions
   source_of k g e = subst (λ l. k < l) code.count (slice_get_within q.functions k g e)
 
   main_there : q.main < length q.functions
-  main_there = subst (λ n. q.main < n) (sym code.count) (subst (λ n. n < length p.functions) (sym code.main) (lt_holds p.main (length p.functions) parts.2))
+  main_there = subst (λ n. q.main < n) (sym code.count) (subst (λ n. n < length p.functions) (sym code.main) (lt_holds p.main (length p.functions) (parts p checked).2))
 
   main_bare : (function_at q p.main).parameters ≡ []
   main_bare =
-      let f = got_below p.functions p.main (lt_holds p.main (length p.functions) parts.2) in
+      let f = got_below p.functions p.main (lt_holds p.main (length p.functions) (parts p checked).2) in
       let g = got_below q.functions p.main (callees p.main f.element f.is).0 in
       ap (λ o. (or_no_function o).parameters) g.is ∙ ((code.each p.main f.element g.element f.is g.is).parameters ∙ ap (map kind_of) (checked.main_takes_nothing f.element f.is))
 
@@ -220,19 +224,22 @@ module _ (p : typed.Program) (q : Program) (checked : IsChecked p) (code : IsCod
   sound sized = record {
     has_main = main_there;
     main_takes_nothing = ap (λ n. (function_at q n).parameters) code.main ∙ main_bare;
-    each = λ k g e. let f = got_below p.functions k (source_of k g e) in function_fits k f.element g f.is e sized;
+    each = λ k g e. let f = got_below p.functions k (source_of k g e) in function_fits p checked q there k f.element g f.is (nat_eq k p.main) (code.each k f.element g f.is e) sized;
     literals = λ n text e. checked.literals n text (subst (λ l. slice_get l n ≡ Some text) code.literals e);
-    statics = λ n o e. static_typed p.statics n o parts.1 (subst (λ l. slice_get l n ≡ Some o) code.statics e);
+    statics = λ n o e. static_typed p.statics n o (parts p checked).1 (subst (λ l. slice_get l n ≡ Some o) code.statics e);
     small = subst (λ l. data_bytes l q.statics ≤ 2 ^ 24) (sym code.literals) (subst (λ s. data_bytes p.literals s ≤ 2 ^ 24) (sym code.statics) checked.small);
     countable = counts (length q.functions) (sum_by (λ f. length f.code + (length f.parameters + 1)) q.functions) (subst (λ n. n ≤ 16384) (sym code.count) checked.few)
-        (sum_le (λ f. length f.code + (length f.parameters + 1)) q.functions (λ k g e. let f = got_below p.functions k (source_of k g e) in short k f.element g f.is e));
+        (sum_le (λ f. length f.code + (length f.parameters + 1)) q.functions (λ k g e. let f = got_below p.functions k (source_of k g e) in short p checked q there k f.element g f.is (nat_eq k p.main) (code.each k f.element g f.is e)));
   }
 
 pub code_is_sound : CodeIsSound
 code_is_sound p q checked sized code = sound p q checked code sized
 
+pub function_is_sound : FunctionIsSound
+function_is_sound p q checked sized there k f g ef is_main made = (function_fits p checked q there k f g ef is_main made sized, is_short (length g.code) (length g.parameters) (short p checked q there k f g ef is_main made))
+
 pub code_is_bounded : CodeIsBounded
-code_is_bounded = bounded
+code_is_bounded p q checked code k f g ef eg = bounded p checked q (there p q checked code) k f g ef (nat_eq k p.main) (code.each k f g ef eg)
 
 pub code_is_lowered : CodeIsLowered
 code_is_lowered p q checked asked code = record {
@@ -242,5 +249,5 @@ code_is_lowered p q checked asked code = record {
   statics = code.statics;
   main = code.main;
   count = code.count;
-  each = bounded p q checked code;
+  each = code_is_bounded p q checked code;
 }

@@ -1,4 +1,4 @@
--- The layouts and starts that the code's values hold.
+-- The layouts that the code's values hold.
 use Rattle.std.specs.Prelude.{◌≡◌, ◌<◌, ◌+◌, ◌*◌, ◌^◌, slice_get}
 use Rattle.ctypes.specs.Types.{bytes_of}
 use Rattle.tac_code.specs.Code.{Function}
@@ -11,14 +11,10 @@ use Rattle.tac_code.specs.declared.code.Place.TheVariants as place
 use Rattle.tac_code.specs.declared.code.Instruction.{Instruction}
 use Rattle.tac_code.specs.declared.code.Instruction.TheVariants as instruction
 use Rattle.frames.specs.declared.layout.Layout as held
-use Rattle.frames.specs.declared.starts.Starts as held_starts
-use Rattle.frames.specs.Layout.{Starts, Layout, layout_of, cells_of, bytes_in, offset_in}
+use Rattle.frames.specs.Layout.{Layout, layout_of, cells_of, bytes_in, offset_in}
 
 abbrev pub layout_in : held.Layout → Layout
 layout_in l = record { homes = l.homes.items; references = l.references; slots = l.slots; first = l.first }
-
-abbrev pub starts_in : held_starts.Starts → Starts
-starts_in s = record { literals = s.literals.items; statics = s.statics.items }
 
 pub record IsLayoutOf (l : held.Layout) (f : Function) : Type 0 where
   pub layout : layout_in l ≡ layout_of f

@@ -1,6 +1,7 @@
 use Rattle.std.proofs.Common.{◌≡◌, ◌++◌, drop, map}
 use Rattle.frames.specs.Translated.{translated}
-use Rattle.frames.specs.inside.Held.{layout_in, starts_in}
+use Rattle.frames.specs.layer.Alone.{starts_in}
+use Rattle.frames.specs.inside.Held.{layout_in}
 use Rattle.frames.proofs.functions.put_code.Given as goal
 
 abbrev pub invariant-loop-instruction : goal.invariant-loop-instruction

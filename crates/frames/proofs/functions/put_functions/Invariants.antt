@@ -2,7 +2,7 @@ use Rattle.std.proofs.Common.{◌≡◌, ◌++◌, drop, map}
 use Rattle.tac_code.specs.Code as three_address
 use Rattle.frames_code.specs.Code as flat
 use Rattle.frames.specs.Translated.{flat_function}
-use Rattle.frames.specs.inside.Held.{starts_in}
+use Rattle.frames.specs.layer.Alone.{starts_in}
 use Rattle.frames.proofs.functions.put_functions.Given as goal
 
 abbrev pub invariant-loop-function : goal.invariant-loop-function

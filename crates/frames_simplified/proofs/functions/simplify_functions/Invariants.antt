@@ -1,6 +1,6 @@
 use Rattle.std.proofs.Common.{List, ◌++◌, map}
 use Rattle.frames_code.specs.Code.{Function, function_of}
-use Rattle.frames_simplified.specs.inside.Functions.{AreSimpler}
+use Rattle.frames_simplified.specs.layer.Functions.{AreSimpler}
 use Rattle.frames_simplified.proofs.functions.simplify_functions.Given as goal
 
 abbrev pub invariant-loop-function : goal.invariant-loop-function

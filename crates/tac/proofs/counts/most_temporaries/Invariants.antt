@@ -1,7 +1,7 @@
 use Rattle.std.proofs.Common.{◌≡◌, map, take}
 use Rattle.typing_program.specs.View.{function_of}
 use Rattle.tac_lowering.specs.Bodies as relation
-use Rattle.tac.specs.inside.Functions.{parameters_at, temporaries_with}
+use Rattle.tac.specs.layer.Functions.{parameters_at, temporaries_with}
 use Rattle.tac.proofs.counts.most_temporaries.Given as goal
 
 abbrev pub invariant-loop-instruction : goal.invariant-loop-instruction

@@ -3,7 +3,7 @@ use Rattle.std.specs.Prelude.{slice_get}
 use Rattle.tac_code.specs.Code.{function_of}
 use Rattle.frames.specs.inside.Held.{InstructionIsNear}
 use Rattle.frames.proofs.Near.{few_bytes, few_parameters, is_near}
-use Rattle.frames.proofs.functions.flat_code.Goals as goal
+use Rattle.frames.proofs.functions.flatten_function.Goals as goal
 
 pub new-requires-clause-objects : goal.new-requires-clause-objects
 new-requires-clause-objects c = few_bytes c.requires.fits.0 (function_of c.args.function.now) c.requires.fits.1

@@ -1,26 +1,22 @@
-use Rattle.std.proofs.Common.{◌≡◌, ap, map, length, arith, rules}
+use Rattle.std.proofs.Common.{◌≡◌, map, length, arith, rules}
 use Rattle.std.specs.Prelude.{vec_len}
 use Rattle.typing_program.specs.View.{static_of}
-use Rattle.frames.specs.Sizes.{literal_bytes, statics_bytes}
+use Rattle.frames.specs.Sizes.{literal_bytes}
 use Rattle.frames.specs.Data.{bytes_of_literals}
-use Rattle.tac_code.specs.Code.{program_of}
 use Rattle.frames.proofs.Filling.{longer}
 use Rattle.frames.proofs.Whole.{data_bytes_are, length_literals}
-use Rattle.frames.proofs.statics.data.Goals as goal
+use Rattle.frames.proofs.statics.data_alone.Goals as goal
 
 pub put_literals-requires : goal.put_literals-requires
 put_literals-requires c =
-    let same = ap (λ ts. literal_bytes (map (λ t. t.items) ts)) c.deref.ensures.value in
     let counted : vec_len c.resize.new.self ≡ length c.resize.new.self.items = search rules in
     let first : length c.resize.new.self.items ≡ 16 = omega (arith, counted, c.in_ok-resize.ensures.len) in
-    omega (arith, same, first, data_bytes_are (program_of c.args.program.now).literals (program_of c.args.program.now).statics, c.requires)
+    omega (arith, first, data_bytes_are (map (λ text. text.items) c.args.literals.now) (map static_of c.args.statics.now), c.requires)
 
 pub put_statics-requires : goal.put_statics-requires
 put_statics-requires c =
-    let ts = map (λ t. t.items) c.deref.result.now in
-    let same = ap (λ ts. literal_bytes (map (λ t. t.items) ts)) c.deref.ensures.value in
-    let more = ap (λ os. statics_bytes (map static_of os)) c.deref-2.ensures.value in
+    let ts = map (λ t. t.items) c.args.literals.now in
     let counted : vec_len c.resize.new.self ≡ length c.resize.new.self.items = search rules in
     let first : length c.resize.new.self.items ≡ 16 = omega (arith, counted, c.in_ok-resize.ensures.len) in
     let put = longer c.resize.new.self.items (bytes_of_literals ts) c.put_literals.new.bytes.items (literal_bytes ts) c.in_ok-put_literals.ensures (length_literals ts) in
-    omega (arith, same, more, first, put, data_bytes_are (program_of c.args.program.now).literals (program_of c.args.program.now).statics, c.requires)
+    omega (arith, first, put, data_bytes_are ts (map static_of c.args.statics.now), c.requires)

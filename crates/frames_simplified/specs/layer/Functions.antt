@@ -1,8 +1,9 @@
 -- Functions and programs of simpler code.
 use Rattle.std.specs.Prelude.{◌≡◌, ◌≤◌, ℕ, Bool, List, [], ◌∷◌, sum_by}
 use Rattle.frames_code.specs.declared.code.Instruction.{Instruction}
-use Rattle.frames_code.specs.Code.{Function}
+use Rattle.frames_code.specs.Code.{Function, Program}
 use Rattle.frames.specs.Costs.{code_bytes}
+use Rattle.frames_simplified.specs.Simplified.{IsSimplified}
 use Rattle.frames_simplified.specs.inside.Facts.{nothing}
 use Rattle.frames_simplified.specs.inside.Passes.{AreMarked, forward, swept}
 
@@ -29,3 +30,7 @@ AreSimpler [] [] = Unit {0}
 AreSimpler [] (g ∷ gs) = ⊥
 AreSimpler (f ∷ fs) [] = ⊥
 AreSimpler (f ∷ fs) (g ∷ gs) = IsSimplerFunction f g × AreSimpler fs gs
+
+-- so functions that were made simpler one by one are a program made simpler
+abbrev pub FunctionsAreSimplified : Type 0
+FunctionsAreSimplified = (p q : Program) → AreSimpler p.functions q.functions → q.statics ≡ p.statics → q.main ≡ p.main → IsSimplified p q
