@@ -65,9 +65,8 @@ fn by_phases(alloc: Global, set: &FileSet, main: &str, stack: StackSize) -> Resu
     ensures stops { IfErr result (λ stop. Stops stack set.now main.now stop) }
 {
     let mut names = Names::new(alloc);
-    let checked = checked_unit(alloc, set, main, &mut names, stack)?;
-    drop(checked.unit);
-    build(alloc, &checked.program, &names, stack)
+    let program = checked_unit(alloc, set, main, &mut names, stack)?;
+    build(alloc, &program, &names, stack)
 }
 
 /// The executable file of a program.

@@ -4,6 +4,7 @@ ghost use Rattle.std.specs.Prelude.{◌≡◌, ◌≤◌, ◌⊎◌, ℕ, List, 
 ghost use Rattle.srcset.specs.NameTable.{Texts, KeepsNumbers, NumbersOnce};
 ghost use Rattle.srcset.specs.Fault.{IsMemoryFault};
 ghost use Rattle.parser.specs.Units.{IsTreeWithin, IsOnly, IsFaultOfUnit};
+ghost use Rattle.tree.specs.Tree.{ExternalTree};
 ghost use Rattle.tree.specs.View.{unit_of};
 ghost use Rattle.typing_program.specs.View.{program_of};
 ghost use Rattle.tac_code.specs.Sound.{AreBytes};
@@ -26,33 +27,26 @@ use tree::Unit;
 use typing::check;
 use typing_program::Program;
 
-/// A translation unit that breaks no constraint: its tree, and its typed program.
-#[derive(Drop)]
-pub struct Checked {
-    pub unit: Unit,
-    pub program: Program,
-}
-
-/// The program of a set of files, from the one of this name on, for a stack of this size: the phases in their order (ISO/IEC 9899:2011 5.1.1.2), a
-/// call each.
+/// The typed program of a set of files, from the one of this name on, for a stack of this size: the phases in their order (ISO/IEC 9899:2011 5.1.1.2), a
+/// call each. What a phase leaves is given up in the next.
 pub fn checked_unit(
     alloc: Global,
     set: &FileSet,
     main: &str,
     names: &mut Names,
     stack: StackSize,
-) -> Result<Checked, Stop>
+) -> Result<Program, Stop>
     requires new { names.old ≡ [] }
-    ensures program { IfOk result (λ c. HasProgram stack set.now main.now names.new (unit_of c.unit) (program_of c.program)) }
-    ensures ready { IfOk result (λ c. IsReady (program_of c.program)) }
+    ensures program { IfOk result (λ p. (unit : List ExternalTree) × HasProgram stack set.now main.now names.new unit (program_of p)) }
+    ensures ready { IfOk result (λ p. IsReady (program_of p)) }
     ensures stops { IfErr result (λ stop. Stops stack set.now main.now stop) }
 {
     let tokens = c_tokens(alloc, set, main, names)?;
     let unit = syntax_tree(alloc, tokens.as_slice(), names)?;
     drop(tokens);
-    let program = typed_program(alloc, &unit, names, main, stack)?;
+    let program = typed_program(alloc, unit, names, main, stack)?;
     texts_are_bytes(names);
-    Ok(Checked { unit, program })
+    Ok(program)
 }
 
 /// The preprocessing tokens of a set of files, from the one of this name on: translation phases 1 to 4
@@ -135,14 +129,14 @@ pub fn syntax_tree(alloc: Global, tokens: &[Token], names: &Names) -> Result<Uni
 /// The typed program, of a unit that breaks no constraint for a stack of this size: translation phase 7.
 pub fn typed_program(
     alloc: Global,
-    unit: &Unit,
+    unit: Unit,
     names: &Names,
     main: &str,
     stack: StackSize,
 ) -> Result<Program, Stop>
     requires { (n : ℕ) × (slice_get names.now n ≡ Some main.now) }
-    ensures ok { IfOk result (λ p. IsProgramOf stack main.now names.now (unit_of unit.now) (program_of p)) }
-    ensures stops { IfErr result (IsTold (BreaksConstraint stack main.now names.now (unit_of unit.now))) }
+    ensures ok { IfOk result (λ p. IsProgramOf stack main.now names.now (unit_of unit) (program_of p)) }
+    ensures stops { IfErr result (IsTold (BreaksConstraint stack main.now names.now (unit_of unit))) }
     ensures small { stack ≤ 16777216 }
 {
     let Some(file) = names.find(main.as_bytes()) else {

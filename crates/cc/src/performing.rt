@@ -193,9 +193,8 @@ fn items_of(
     ensures items { IfOk result (HasItems stack set.now main.now) }
     ensures stops { IfErr result (Stops stack set.now main.now) }
 {
-    let checked = checked_unit(alloc, set, main, names, stack)?;
-    drop(checked.unit);
-    match items(alloc, &checked.program, stack) {
+    let program = checked_unit(alloc, set, main, names, stack)?;
+    match items(alloc, &program, stack) {
         Ok(items) => Ok(items),
         Err(_) => Err(Stop::Memory),
     }
@@ -270,9 +269,8 @@ fn interp<P: Port, E: Write>(
 {
     let mut names = Names::new(alloc);
     match checked_unit(alloc, set, main, &mut names, stack) {
-        Ok(checked) => {
-            drop(checked.unit);
-            let done = interpret(alloc, &checked.program, port, max);
+        Ok(program) => {
+            let done = interpret(alloc, &program, port, max);
             run_status(&names, done.run, err)
         }
         Err(stop) => {

@@ -26,8 +26,8 @@ pub fn parsed(alloc: Global, tokens: &[Token], names: &Names) -> Result<Unit, Fa
 }
 
 /// The typed program of a tree, for a stack of 1,048,576 bytes. A fault is of a constraint that does not stand.
-pub fn checked(alloc: Global, unit: &Unit, names: &Names, whole: Pos) -> Result<Program, Fault>
-    ensures { IfErr result (λ fault. IsFaultOfVerdict fault names.now (typed.unit_typed 1048576 names.now whole (unit_of unit.now))) }
+pub fn checked(alloc: Global, unit: Unit, names: &Names, whole: Pos) -> Result<Program, Fault>
+    ensures { IfErr result (λ fault. IsFaultOfVerdict fault names.now (typed.unit_typed 1048576 names.now whole (unit_of unit))) }
 {
     check(alloc, unit, names, whole, 1_048_576)
 }

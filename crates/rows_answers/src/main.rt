@@ -61,5 +61,5 @@ fn program_of(alloc: Global, source: &str) -> Result<Program> {
     let lines = scan(alloc, text, file, &names)?;
     let tokens = lexer::tokens(alloc, lines.tokens(), &mut names)?;
     let unit = parsed(alloc, tokens.as_slice(), &names)?;
-    Ok(checked(alloc, &unit, &names, Pos { file, line: 1 })?)
+    Ok(checked(alloc, unit, &names, Pos { file, line: 1 })?)
 }

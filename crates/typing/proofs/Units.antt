@@ -1,5 +1,5 @@
 -- Functions and external declarations, and what has been looked at before them.
-use Rattle.std.proofs.Common.{◌≡◌, ℕ, List, [], ◌∷◌, ◌++◌, map, refl, sym, ap, ◌∙◌, subst}
+use Rattle.std.proofs.Common.{◌≡◌, ℕ, List, [], ◌∷◌, ◌++◌, map, length, arith, refl, sym, ap, ◌∙◌, subst}
 use Rattle.std.proofs.lemmas.List.{map-append}
 use Rattle.srcset.specs.NameTable.{Texts}
 use Rattle.srcset.specs.Refusal.{IsFaultOfRefusal}
@@ -13,9 +13,11 @@ use Rattle.typing_scopes.specs.Scopes.{with_texts}
 use Rattle.typing_units.specs.declared.first_values.Initial.{Initial}
 use Rattle.typing_units.specs.Views.{initial_of, built_of}
 use Rattle.typing_declarations.specs.Views.{declared_of}
-use Rattle.tree.specs.Tree.{FunctionTree, DeclarationTree, ExternalTree, definition, declaration}
+use Rattle.tree.specs.declared.unit.External.{External}
+use Rattle.tree.specs.View.{external_of}
+use Rattle.tree.specs.Tree.{FunctionTree, DeclarationTree, ExternalTree, declaration}
 use Rattle.typing_rules.specs.Types.{ObjectType, ParameterType, FunctionType}
-use Rattle.typing_rules.specs.Program.{Function, Program}
+use Rattle.typing_rules.specs.Program.{Program}
 use Rattle.typing_rules.specs.Verdict.{Verdict, fine, then_check, provided}
 use Rattle.typing_rules.specs.Scope.{Scope, defined, file_scope}
 use Rattle.typing_rules.specs.Declarators.{Parameters, parameters_in, behind_parameters, function_type}
@@ -23,7 +25,7 @@ use Rattle.typing_rules.specs.Linkage.{file_function}
 use Rattle.typing_rules.specs.Declarations.{Specified, specified, declaration_typed}
 use Rattle.typing_rules.specs.Units.{Built, all_named, body_typed, function_typed, with_declaration, external_typed, externals_typed, definitions_in, whole_program, unit_typed}
 use Rattle.typing_expressions.specs.Refused.{Tells}
-use Rattle.typing_expressions.proofs.Verdicts.{tells_left, tells_right, tells_then}
+use Rattle.typing_expressions.proofs.Verdicts.{tells_then}
 use Rattle.decls_declarators.proofs.Verdicts.{then_fine, then_tells, provided_fine}
 use Rattle.typing.specs.Told.{IsFaultOfVerdict}
 use Rattle.typing.specs.inside.Names.{names_of}
@@ -104,6 +106,17 @@ one_external b new x e xs = then_fine (external_typed b x) new (λ c. externals_
 
 pub one_external_told : (b : Built) (x : ExternalTree) (r : Refusal) → Tells r (external_typed b x) → (xs : List ExternalTree) → Tells r (externals_typed b (x ∷ xs))
 one_external_told b x r h xs = tells_then r (external_typed b x) (λ c. externals_typed c xs) h
+
+-- those that are left, of which the first is looked at
+pub one_left : (b new : Built) (xs left : List External) (x : External) (whole : Verdict Built) → xs ≡ x ∷ left → external_typed b (external_of x) ≡ fine new → externals_typed b (map external_of xs) ≡ whole → externals_typed new (map external_of left) ≡ whole
+one_left b new xs left x whole e h inv = sym (one_external b new (external_of x) h (map external_of left)) ∙ sym (ap (λ l. externals_typed b (map external_of l)) e) ∙ inv
+
+pub one_left_told : (b : Built) (xs left : List External) (x : External) (whole : Verdict Built) (r : Refusal) → xs ≡ x ∷ left → Tells r (external_typed b (external_of x)) → externals_typed b (map external_of xs) ≡ whole → Tells r whole
+one_left_told b xs left x whole r e h inv = subst (λ v. Tells r v) (sym (ap (λ l. externals_typed b (map external_of l)) e) ∙ inv) (one_external_told b (external_of x) r h (map external_of left))
+
+pub none_left : (b : Built) (xs : List External) (whole : Verdict Built) → length xs ≡ 0 → externals_typed b (map external_of xs) ≡ whole → whole ≡ fine b
+none_left b [] whole e inv = sym inv
+none_left b (x ∷ xs) whole e inv = absurd (omega (arith, e))
 
 -- ---- units
 

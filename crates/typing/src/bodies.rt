@@ -66,7 +66,9 @@ fn body_statements(
         in_switch: false,
     };
     let mut labels = Vec::new(alloc);
-    let mut all = Vec::new(alloc);
+    let Ok(mut all) = Vec::with_capacity(alloc, items.len()) else {
+        return Err(Refusal::Memory);
+    };
     match pieces(
         alloc,
         names,

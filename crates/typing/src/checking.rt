@@ -22,21 +22,23 @@ fn unit_typed(
     alloc: Global,
     names: &Names,
     whole: Pos,
-    externals: &[External],
+    externals: Vec<External>,
     stack: u32,
 ) -> Result<Program, Refusal>
-    ensures ok { IfOk result (λ p. typed.unit_typed stack names.now whole (map external_of externals.now) ≡ fine (view.program_of p)) }
-    ensures err { IfErr result (λ r. Tells r (typed.unit_typed stack names.now whole (map external_of externals.now))) }
+    ensures ok { IfOk result (λ p. typed.unit_typed stack names.now whole (map external_of externals.items) ≡ fine (view.program_of p)) }
+    ensures err { IfErr result (λ r. Tells r (typed.unit_typed stack names.now whole (map external_of externals.items))) }
 {
-    let definitions = match definitions_in(alloc, externals) {
+    let definitions = match definitions_in(alloc, externals.as_slice()) {
         Ok(definitions) => definitions,
         Err(_) => return Err(Refusal::Memory),
+    };
+    let Ok(mut functions) = Vec::with_capacity(alloc, definitions.len()) else {
+        return Err(Refusal::Memory);
     };
     let mut scope = match Scope::file(alloc, definitions) {
         Ok(scope) => scope,
         Err(refusal) => return Err(refusal),
     };
-    let mut functions = Vec::new(alloc);
     let mut initial = Vec::new(alloc);
     match externals_typed(
         alloc,
@@ -57,7 +59,8 @@ fn unit_typed(
 }
 
 /// The typed program of a translation unit (6.9), whose names and literals have the texts of `names`, for a stack of so many bytes. What
-/// concerns the whole unit stands at the place `whole`.
+/// concerns the whole unit stands at the place `whole`. Each external declaration is given up as soon as it has been looked at: tree and program
+/// are never both whole in memory.
 ///
 /// Fails
 /// - with what a declaration breaks, as `typing_declarations::declaration_typed` does;
@@ -71,15 +74,15 @@ fn unit_typed(
 /// The fault is of a constraint that stands, at its place. The recursion is as deep as the tree is.
 pub fn check(
     alloc: Global,
-    unit: &Unit,
+    unit: Unit,
     names: &Names,
     whole: Pos,
     stack: u32,
 ) -> Result<Program, Fault>
-    ensures ok { IfOk result (λ p. typed.unit_typed stack names.now whole (unit_of unit.now) ≡ fine (view.program_of p)) }
-    ensures err { IfErr result (λ fault. IsFaultOfVerdict fault names.now (typed.unit_typed stack names.now whole (unit_of unit.now))) }
+    ensures ok { IfOk result (λ p. typed.unit_typed stack names.now whole (unit_of unit) ≡ fine (view.program_of p)) }
+    ensures err { IfErr result (λ fault. IsFaultOfVerdict fault names.now (typed.unit_typed stack names.now whole (unit_of unit))) }
 {
-    match unit_typed(alloc, names, whole, &unit.externals, stack) {
+    match unit_typed(alloc, names, whole, unit.externals, stack) {
         Ok(program) => Ok(program),
         Err(refusal) => Err(refusal.to_fault(alloc, names)),
     }

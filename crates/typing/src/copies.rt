@@ -30,7 +30,9 @@ fn copied_parameters(
     ensures ok { IfOk result (λ ts. map parameter_type_of ts.items ≡ map parameter_type_of parameters.now) }
     ensures err { IfErr result (λ r. r ≡ Memory) }
 {
-    let mut copies = Vec::new(alloc);
+    let Ok(mut copies) = Vec::with_capacity(alloc, parameters.len()) else {
+        return Err(Refusal::Memory);
+    };
     for parameter in parameters {
         let Ok(copy) = copied_parameter(alloc, parameter) else {
             return Err(Refusal::Memory);

@@ -60,21 +60,21 @@ fn external_typed(
     }
 }
 
-/// External declarations in order.
+/// External declarations in order. Each is given up as soon as its typed form is there, so that what is typed next has its memory.
 pub(crate) fn externals_typed(
     alloc: Global,
     names: &Names,
     scope: &mut Scope,
     functions: &mut Vec<Function>,
     initial: &mut Vec<Initial>,
-    externals: &[External],
+    externals: Vec<External>,
     stack: u32,
 ) -> Result<(), Refusal>
-    ensures ok { OnOk result (typed.externals_typed (built_of stack (with_texts names.now scope.old) functions.old.items initial.old.items) (map external_of externals.now) ≡ fine (built_of stack (with_texts names.now scope.new) functions.new.items initial.new.items)) }
-    ensures err { IfErr result (λ r. Tells r (typed.externals_typed (built_of stack (with_texts names.now scope.old) functions.old.items initial.old.items) (map external_of externals.now))) }
+    ensures ok { OnOk result (typed.externals_typed (built_of stack (with_texts names.now scope.old) functions.old.items initial.old.items) (map external_of externals.items) ≡ fine (built_of stack (with_texts names.now scope.new) functions.new.items initial.new.items)) }
+    ensures err { IfErr result (λ r. Tells r (typed.externals_typed (built_of stack (with_texts names.now scope.old) functions.old.items initial.old.items) (map external_of externals.items))) }
 {
     for external in externals {
-        match external_typed(alloc, names, scope, functions, initial, external, stack) {
+        match external_typed(alloc, names, scope, functions, initial, &external, stack) {
             Ok(()) => {}
             Err(refusal) => return Err(refusal),
         }

@@ -41,7 +41,7 @@ returns-clause-program c =
     let texts = c.c_tokens.new.names in
     let unit = unit_of c.in_ok-unit.unit in
     let tree : HasTree set main texts unit = has_tree c.args.stack set main texts c.in_ok-tokens.tokens.items c.as_slice.result.now unit c.as_slice.ensures.value c.in_ok-tokens.ensures.tokens c.in_ok-unit.ensures.ok c.in_ok-unit.ensures.unique in
-    record { has_tree = tree; is_program = c.in_ok-program.ensures.ok }
+    (unit, record { has_tree = tree; is_program = c.in_ok-program.ensures.ok })
 
 pub returns-clause-ready : goal.returns-clause-ready
 returns-clause-ready c =

@@ -16,14 +16,14 @@ pub returns-in-Ok-clause-ok : goal.returns-in-Ok-clause-ok
 returns-in-Ok-clause-ok c = record {
   file = c.in-Some.file;
   named = (c.find.ensures.found c.in-Some.file).0 c.in-Some.is ∙ ap Some c.as_bytes.ensures.value;
-  typed = verdict_at c.args.stack c.args.names.now c.in-Some.file (unit_of c.args.unit.now) (fine (program_of c.in-Ok.program))
-      (subst (λ n. unit_typed n c.args.names.now (record { file = c.in-Some.file; line = 1 }) (unit_of c.args.unit.now) ≡ fine (program_of c.in-Ok.program)) c.get-bytes.ensures.value c.in-Ok.ensures.ok);
+  typed = verdict_at c.args.stack c.args.names.now c.in-Some.file (unit_of c.args.unit) (fine (program_of c.in-Ok.program))
+      (subst (λ n. unit_typed n c.args.names.now (record { file = c.in-Some.file; line = 1 }) (unit_of c.args.unit) ≡ fine (program_of c.in-Ok.program)) c.get-bytes.ensures.value c.in-Ok.ensures.ok);
 }
 
 pub returns-in-Err-clause-stops : goal.returns-in-Err-clause-stops
 returns-in-Err-clause-stops c = record {
   file = c.in-Some.file;
   named = (c.find.ensures.found c.in-Some.file).0 c.in-Some.is ∙ ap Some c.as_bytes.ensures.value;
-  fault_is = fault_at c.args.stack c.args.names.now c.in-Some.file (unit_of c.args.unit.now) c.in-Err.fault
-      (subst (λ n. IsFaultOfVerdict c.in-Err.fault c.args.names.now (unit_typed n c.args.names.now (record { file = c.in-Some.file; line = 1 }) (unit_of c.args.unit.now))) c.get-bytes.ensures.value c.in-Err.ensures.err);
+  fault_is = fault_at c.args.stack c.args.names.now c.in-Some.file (unit_of c.args.unit) c.in-Err.fault
+      (subst (λ n. IsFaultOfVerdict c.in-Err.fault c.args.names.now (unit_typed n c.args.names.now (record { file = c.in-Some.file; line = 1 }) (unit_of c.args.unit))) c.get-bytes.ensures.value c.in-Err.ensures.err);
 }

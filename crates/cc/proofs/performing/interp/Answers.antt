@@ -1,14 +1,13 @@
 use Rattle.std.proofs.Common.{inl, inr, refl}
-use Rattle.tree.specs.View.{unit_of}
 use Rattle.typing_program.specs.View.{program_of}
 use Rattle.cc.proofs.performing.interp.Goals as goal
 
 pub returns-in-Ok : goal.returns-in-Ok
 returns-in-Ok g c = inl (record {
   texts = c.checked_unit.new.names;
-  unit = unit_of c.in-Ok.checked.unit;
-  program = program_of c.in-Ok.checked.program;
-  has_program = c.in-Ok.ensures.program;
+  unit = c.in-Ok.ensures.program.0;
+  program = program_of c.in-Ok.program;
+  has_program = c.in-Ok.ensures.program.1;
   interpreted_as = record {
     run = c.interpret-done.result.run;
     greatest = c.interpret-done.result.greatest;
