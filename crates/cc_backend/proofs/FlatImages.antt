@@ -28,29 +28,29 @@ use Rattle.select_simulation.proofs.Conventions as convention
 use Rattle.cc_backend.specs.FlatImages.{IsImageOf, FitStack, ImageGoesOn, ImageEnds, ImageCallsKeep}
 use Rattle.cc_backend.specs.Convention.{ImageCallsKeepConvention, ImageMainKeepsConvention}
 
-within_low : (start n a : ℕ) → is_within start n a ≡ true → (start ≤ a) × (a < start + n)
+pub within_low : (start n a : ℕ) → is_within start n a ≡ true → (start ≤ a) × (a < start + n)
 within_low start n a e =
     let low = and_left (nat_le start a) (nat_lt a (start + n)) e in
     let high = and_right (nat_le start a) (nat_lt a (start + n)) e in
     (grind (arith, nat_tests), grind (arith, nat_tests))
 
-within_is : (start n a : ℕ) → start ≤ a → a < start + n → is_within start n a ≡ true
+pub within_is : (start n a : ℕ) → start ≤ a → a < start + n → is_within start n a ≡ true
 within_is start n a le lt = grind (arith, nat_tests)
 
-below_not : (start n a : ℕ) → a < start → is_within start n a ≡ false
+pub below_not : (start n a : ℕ) → a < start → is_within start n a ≡ false
 below_not start n a lt = grind (arith, nat_tests)
 
 past_not : (start n a : ℕ) → start + n ≤ a → is_within start n a ≡ false
 past_not start n a le = grind (arith, nat_tests)
 
-or_left : (a b : Bool) → a ≡ true → (a || b) ≡ true
+pub or_left : (a b : Bool) → a ≡ true → (a || b) ≡ true
 or_left a b e = rw e refl
 
-or_right : (a b : Bool) → b ≡ true → (a || b) ≡ true
+pub or_right : (a b : Bool) → b ≡ true → (a || b) ≡ true
 or_right true b e = refl
 or_right false b e = e
 
-or_none : (a b : Bool) → a ≡ false → b ≡ false → (a || b) ≡ false
+pub or_none : (a b : Bool) → a ≡ false → b ≡ false → (a || b) ≡ false
 or_none a b e f = rw (e, f) refl
 
 zero_at : (k : ℕ) → k < 32 → (if k == 0 then 0 else slice_index (replicate 32 0) k) ≡ reg (λ j. 0) k
@@ -68,25 +68,25 @@ pick_small false true x y sx sy = sy
 pick_small false false x y sx sy = omega arith
 
 module _ (p : Program) (parts : Parts) (q : IsImageOf p parts) where
-  abbrev space : Space
+  abbrev pub space : Space
   space = program_space parts
 
-  abbrev permits : Permits
+  abbrev pub permits : Permits
   permits = record { can_read = space.can_read; can_write = space.can_write; can_execute = space.can_execute }
 
-  abbrev F : Fixed
+  abbrev pub F : Fixed
   F = fixed permits space.byte
 
-  abbrev past_text : ℕ
+  abbrev pub past_text : ℕ
   past_text = text_start + length parts.text
 
-  abbrev floor : ℕ
+  abbrev pub floor : ℕ
   floor = stack_start parts.stack
 
-  abbrev data_at : ℕ
+  abbrev pub data_at : ℕ
   data_at = placed.data_start past_text
 
-  low : (a : ℕ) → permits.can_execute a ≡ true → a < 2 ^ 31
+  pub low : (a : ℕ) → permits.can_execute a ≡ true → a < 2 ^ 31
   unfolding program_space
   low a e = omega (arith, within_low text_start (length parts.text) a e, q.size)
 
@@ -104,7 +104,7 @@ module _ (p : Program) (parts : Parts) (q : IsImageOf p parts) where
   unfolding program_space
   writes_stack a le lt = or_right (is_data parts a) (is_stack parts a) (within_is (stack_start parts.stack) parts.stack a le (omega (arith, lt, q.stack.2)))
 
-  count : length parts.statics ≡ length p.statics
+  pub count : length parts.statics ≡ length p.statics
   count = ap length q.statics
 
   reads_data : (a : ℕ) → data_at ≤ a → a < data_at + length p.statics → permits.can_read a ≡ true
@@ -156,7 +156,7 @@ module _ (p : Program) (parts : Parts) (q : IsImageOf p parts) where
   stands : Stands F.text q.assembled.env data_at (program_items p) text_start past_text
   stands = stands_in (text_of space.byte) F.text q.assembled.env data_at (program_items p) text_start past_text refl agree (q.assembled.placed space.byte holds_text)
 
-  laid : Laid p F q.assembled.env floor data_at text_start past_text (λ k. 0) space.byte
+  pub laid : Laid p F q.assembled.env floor data_at text_start past_text (λ k. 0) space.byte
   laid = record {
     sound = q.sound;
     stands = stands;
@@ -174,7 +174,7 @@ module _ (p : Program) (parts : Parts) (q : IsImageOf p parts) where
     statics = holds_data;
   }
 
-  zero_registers : Registers (replicate 32 0) (λ k. 0)
+  pub zero_registers : Registers (replicate 32 0) (λ k. 0)
   zero_registers = record { count = refl; each = λ k kl. zero_at k kl }
 
   room : (x : Progress) → FitStack parts.stack p x → HasRoom (ground_at p F q.assembled.env floor data_at text_start (λ k. 0) space.byte) x

@@ -6,3 +6,6 @@ pub mod Instants
 pub mod Whole
 pub mod Made
 pub mod Conventions
+pub mod Loosening
+pub mod Touching
+pub mod Calls

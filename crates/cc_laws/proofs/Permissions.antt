@@ -109,7 +109,7 @@ world_of (Running w) = w
 world_of (Ended s w) = w
 world_of (Trapped c w) = w
 
-abbrev PermitsIn : Space → Progress → Type 0
+abbrev pub PermitsIn : Space → Progress → Type 0
 PermitsIn s r = Permits s (world_of r).machine.space
 
 if_permits : (s : Space) (t : Bool) (q r : Progress) → PermitsIn s q → PermitsIn s r → PermitsIn s (if t then q else r)
@@ -149,7 +149,7 @@ result_permits w m Went k = k
 result_permits w m Call k = call_permits w
 result_permits w m (Trap c) k = same w.machine.space
 
-tick_permits : (w : World) → PermitsIn w.machine.space (tick_of w)
+pub tick_permits : (w : World) → PermitsIn w.machine.space (tick_of w)
 unfolding tick_of
 tick_permits w = let s = step_of w.machine in result_permits w s.machine s.result (step_kept w.machine)
 

@@ -91,7 +91,7 @@ may_still_store s t store_kind.Byte a k h = sym (k.can_write a) ∙ h
 may_still_store s t store_kind.Half a k h = rw (k.can_write a, k.can_write (a + 1)) at h
 may_still_store s t store_kind.Word a k h = kept_four s.can_write t.can_write k.can_write a h
 
-kept_inside : (s : Space) (m : Machine) → Permits s m.space → IsInside m.space m → IsInside s m
+pub kept_inside : (s : Space) (m : Machine) → Permits s m.space → IsInside m.space m → IsInside s m
 kept_inside s m k h = record {
   fetches = kept_four s.can_execute m.space.can_execute k.can_execute m.pc h.fetches;
   loads = λ kind rd base v e. may_still_load s m.space kind ((register m base + v) % 2 ^ 32) k (h.loads kind rd base v e);

@@ -1,6 +1,6 @@
 -- What is promised of a built file, in the words of what is seen of it: what it does to its outside, whether it traps, with which status it ends
 -- (ISO/IEC 9899:2011 5.1.2.3p6).
-use Rattle.std.specs.Prelude.{◌≡◌, ◌≤◌, ◌<◌, ℕ, ◌+◌, ◌*◌, ◌%◌, ◌^◌, ◌||◌, List, ◌++◌, length, reverse, true, Option, Some, Ok}
+use Rattle.std.specs.Prelude.{◌≡◌, ◌≤◌, ◌<◌, ℕ, ◌+◌, ◌-◌, ◌*◌, ◌%◌, ◌^◌, ◌||◌, List, ◌++◌, length, reverse, true, Option, Some, Ok}
 use Rattle.srcset.specs.declared.refusal.Pos.{Pos}
 use Rattle.tree.specs.Tree.{ExternalTree}
 use Rattle.rv32.specs.declared.instr.Instr.{Instr}
@@ -14,10 +14,11 @@ use Rattle.rv32.specs.Words.{decode_of}
 use Rattle.rv32.specs.Space.{Space, all_four, both, word_at}
 use Rattle.rv32.specs.Step.{Machine, register}
 use Rattle.loader.specs.File.{Image, file_image}
-use Rattle.memory_map.specs.MemoryMap.{text_start, data_start}
+use Rattle.memory_map.specs.MemoryMap.{text_start, data_start, stack_end}
 use Rattle.elf_out.specs.Layout.{Parts}
-use Rattle.elf_out.specs.Program.{is_text, is_data, is_stack}
+use Rattle.elf_out.specs.Program.{is_within, is_text, is_data, is_stack}
 use Rattle.frames_code.specs.Run as flat
+use Rattle.select_simulation.specs.Runs.{StandsWith, slack}
 use Rattle.select_simulation.specs.Convention.{KeepsConvention, ComesToCall, behind_call}
 use Rattle.meaning_events.specs.Events.{Event}
 use Rattle.sim.specs.Runs as sim
@@ -26,8 +27,11 @@ use Rattle.typing_rules.specs.Program.{Program}
 use Rattle.typing_rules.specs.Verdict.{fine}
 use Rattle.typing_rules.specs.Units.{unit_typed}
 use Rattle.meaning.specs.Machine.{Ending, Ended, Undefined, TicksUsed}
-use Rattle.meaning.specs.Meaning.{answer}
+use Rattle.meaning.specs.History.{Entry, active}
+use Rattle.meaning.specs.Laws.{Grows}
+use Rattle.meaning.specs.Meaning.{cstep, answer, last_of}
 use Rattle.cc_backend.specs.Runs.{RunsAs, IsInput}
+use Rattle.cc_backend.specs.FlatImages.{FitStack}
 use Rattle.cc_backend.specs.Made.{IsFileOf}
 
 -- ---- of whom it is said
@@ -151,6 +155,46 @@ FilesKeepConvention =
     (stack : ℕ) (p : Program) (file frames : List ℕ) (made : IsFileOf stack p file frames)
     → HasImage file (λ image. (input : List ℕ) → IsInput input → StaysDefined stack p input
     → CallsAreKept made image input × MainIsKept made image input)
+
+-- ---- how far below the stack's end it goes
+
+-- the data, and the stack from an address on, may be read and written
+abbrev pub space_from : Parts → (low : ℕ) → Space → Space
+space_from parts low s = record {
+  byte = s.byte;
+  can_read = λ a. is_data parts a || is_within low (stack_end - low) a;
+  can_write = λ a. is_data parts a || is_within low (stack_end - low) a;
+  can_execute = s.can_execute;
+}
+
+-- The run of its flat code has come to s in n steps, and on the way the frames of the calls that were active never took more than so many bytes together: the
+-- machine stands there, and no instruction before has loaded or stored in the stack below these bytes. So a function whose frame is the lowest so
+-- far touches nothing below its stack pointer.
+abbrev pub FramesAreAllItTouches : {stack : ℕ} {p : Program} {file frames : List ℕ} → IsFileOf stack p file frames → Image → (input : List ℕ) → Type 0
+FramesAreAllItTouches made image input =
+    (n most : ℕ) (s : flat.State) → most ≤ made.parts.stack → flat.run made.code n (flat.start made.code input) ≡ flat.running s
+    → ((i : ℕ) → i ≤ n → FitStack most made.code (flat.run made.code i (flat.start made.code input)))
+    → (k : ℕ) × (w : World) × (n < slack made.code * k) × (run_of image input k ≡ Running w) × StandsWith made.code (labels made) s w
+    × ((j : ℕ) (v : World) → j < k → run_of image input j ≡ Running v → IsInside (space_from made.parts (stack_end - most) image.space) v.machine)
+
+-- so it is of each file that is made of a program, on every input of bytes
+abbrev pub FilesTouchTheirFrames : Type 0
+FilesTouchTheirFrames =
+    (stack : ℕ) (p : Program) (file frames : List ℕ) (made : IsFileOf stack p file frames)
+    → HasImage file (λ image. (input : List ℕ) → IsInput input → FramesAreAllItTouches made image input)
+
+-- ---- which calls are active
+
+-- what the abstract machine has done at some moment within its first n ticks
+abbrev pub HasComeTo : Program → (input : List ℕ) → (n : ℕ) → List Entry → Type 0
+HasComeTo p input n history = Grows history (last_of (cstep n p input)).history
+
+-- The calls that are active at a step of the flat code, the innermost first, are those that are active at such a moment of the abstract machine's run.
+abbrev pub FilesCallAsMeant : Type 0
+FilesCallAsMeant =
+    (stack : ℕ) (p : Program) (file frames : List ℕ) (made : IsFileOf stack p file frames) (input : List ℕ) → IsInput input → StaysDefined stack p input
+    → (k : ℕ) (s : flat.State) → flat.run made.code k (flat.start made.code input) ≡ flat.running s
+    → (n : ℕ) × (history : List Entry) × HasComeTo p input n history × (flat.active s ≡ active history)
 
 -- ---- how it ends
 

@@ -1,7 +1,7 @@
 //! What is promised of a built file, in the words of what is seen of it. There is nothing to run: each law is the contract of a function without code.
 #![tactic(auto)]
 
-ghost use Rattle.cc_laws.specs.Laws.{DoesAll, DoesNoMore, NeverTraps, StaysInside, FilesAreLaidOut, FilesKeepConvention, EndsOnlySo, UnitsHaveMain, EndsInTime};
+ghost use Rattle.cc_laws.specs.Laws.{DoesAll, DoesNoMore, NeverTraps, StaysInside, FilesAreLaidOut, FilesKeepConvention, FilesTouchTheirFrames, FilesCallAsMeant, EndsOnlySo, UnitsHaveMain, EndsInTime};
 
 /// What the abstract machine has done within any number of ticks, the file has done after some number of instructions.
 pub fn does_all()
@@ -35,6 +35,16 @@ pub fn files_are_laid_out()
 /// runs its frame is below, and where it has returned the stack pointer and s0 to s11 are as they were, and the result is in a0.
 pub fn files_keep_convention()
     ensures { FilesKeepConvention }
+{}
+
+/// In a file that is made of a program no instruction loads or stores in the stack below the lowest frame that its calls have had so far.
+pub fn files_touch_their_frames()
+    ensures { FilesTouchTheirFrames }
+{}
+
+/// In a file that is made of a program the calls that are active at a step of its flat code are those that are active at a moment of the abstract machine's run.
+pub fn files_call_as_meant()
+    ensures { FilesCallAsMeant }
 {}
 
 /// Where the file has ended with a status, the abstract machine ends with this status, having done the same: the file ends nowhere else.

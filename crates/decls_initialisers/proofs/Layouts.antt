@@ -1,6 +1,6 @@
 -- The values of elements, as far as they are laid out.
 use Rattle.std.proofs.Common.{◌≡◌, ℕ, zero, suc, ◌+◌, ◌-◌, ◌<◌, ◌≤◌, List, [], ◌∷◌, ◌++◌, take, drop, get_or, length, map, Option, Some, None, refl, sym, ap, ◌∙◌, subst, arith, append_assoc, append-nil, length-append, ℤ, pos, Ok, Err, OnOk, inl, inr}
-use Rattle.std.specs.Prelude.{Result, slice_get}
+use Rattle.std.specs.Prelude.{Result, slice_get, ◌^◌}
 use Rattle.std.proofs.lemmas.List.{drop_all, take_all, length-take-le}
 use Rattle.std.proofs.lemmas.Bool.{cases_lt}
 use Rattle.srcset.specs.declared.refusal.Refusal.{Refusal}
@@ -155,3 +155,9 @@ padded_ok (Err x) before vs old cut new start count end missing o s e c m n = tt
 pub whole_values : (t : List (List ℕ)) (k : List ℕ) (s : Scope) (u : IntType) (lengths : List ℕ) (i : program.Initialiser) (new empty vs : List ℤ) → empty ≡ [] → new ≡ empty ++ vs → values_with t k u lengths i ≡ fine vs →
     typed.values (seen t k s) u lengths i ≡ fine new
 whole_values t k s u lengths i new empty vs e n h = values_same t k s (file_scope [] []) u lengths i ∙ h ∙ ap fine (sym (n ∙ ap (λ l. l ++ vs) e))
+
+-- ---- counts that no word tells
+
+-- one of an element's parts is one of the whole's
+pub beyond_within : (first : ℕ) (rest lengths : List ℕ) → lengths ≡ first ∷ rest → (k : ℕ) × (2 ^ 64 ≤ elements_in (drop k rest)) → (k : ℕ) × (2 ^ 64 ≤ elements_in (drop k lengths))
+beyond_within first rest lengths e b = (suc b.0, subst (λ xs. 2 ^ 64 ≤ elements_in (drop (suc b.0) xs)) (sym e) b.1)

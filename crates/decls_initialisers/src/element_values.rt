@@ -1,7 +1,7 @@
 //! The values of the elements of an object with static storage (6.7.9).
 #![tactic(auto)]
 
-ghost use Rattle.std.specs.Prelude.{◌≡◌, [], ◌∷◌, ◌++◌, ◌-◌, ℤ, List, length, map, take, slice_get, IfErr, IfOk, IfSome, OnOk};
+ghost use Rattle.std.specs.Prelude.{◌≡◌, ◌≤◌, [], ◌∷◌, ◌++◌, ◌-◌, ◌^◌, ℕ, ℤ, List, drop, length, map, take, slice_get, IfErr, IfNone, IfOk, IfSome, OnOk};
 ghost use Rattle.srcset.specs.declared.refusal.Refusal.TheVariants.{Memory};
 ghost use Rattle.typing_program.specs.View.{initialiser_of, initialisers_of, value_of};
 ghost use Rattle.typing_rules.specs.Verdict.{fine};
@@ -18,9 +18,10 @@ use srcset::{Names, Refusal};
 use std::alloc::Global;
 use typing_program::{Initialiser, Value};
 
-/// How many elements arrays of these lengths have, if a `usize` can tell.
+/// How many elements arrays of these lengths have; none only where no `usize` tells it of the arrays, or of an element of theirs.
 fn element_count(lengths: &[u32]) -> Option<usize>
-    ensures { IfSome result (λ n. n ≡ elements_in lengths.now) }
+    ensures counted { IfSome result (λ n. n ≡ elements_in lengths.now) }
+    ensures beyond { IfNone result ((k : ℕ) × (2 ^ 64 ≤ elements_in (drop k lengths.now))) }
 {
     match lengths.split_first() {
         None => Some(1),

@@ -1,6 +1,6 @@
 //! Code that grows.
 
-ghost use Rattle.std.specs.Prelude.{◌≡◌, ◌<◌, OnOk, length};
+ghost use Rattle.std.specs.Prelude.{◌≡◌, ◌<◌, OnOk, length, nat_lt};
 ghost use Rattle.tac_lowering.specs.Code.{One};
 ghost use Rattle.tac_forms.specs.layer.Parts as parts;
 ghost use Rattle.tac_forms.specs.layer.Parts.{Wrote};
@@ -16,11 +16,18 @@ pub struct Code {
     ghost short: { length list.items < 4611686018427387904 },
 }
 
+/// Whether one more instruction keeps the code so short: this alone is refused beside want of memory.
+fn has_room(code: &Code) -> bool
+    ensures { result ≡ nat_lt (length code.now.list.items) 4611686018427387902 }
+{
+    code.list.len() < 0x3fff_ffff_ffff_fffe
+}
+
 /// One more instruction.
 pub fn put(code: &mut Code, instruction: Instruction) -> Result<(), AllocError>
     ensures { OnOk result (Wrote (λ w p q. One w instruction p q) 1 code.old.list.items code.new.list.items) }
 {
-    if code.list.len() >= 0x3fff_ffff_ffff_fffe {
+    if !has_room(code) {
         return Err(AllocError);
     }
     code.list.push(instruction)?;
