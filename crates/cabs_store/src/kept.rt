@@ -1,8 +1,11 @@
 //! Frames as the stack keeps them: what waits for most parts of an expression, for a turn of a loop or for a call, in 48 bytes, and
-//! the others in memory of their own.
+//! the others in memory of their own. A loop is kept with the parts that it has: what may be left out would take a word more each.
 
-ghost use Rattle.std.specs.Prelude.{◌≡◌, IfErr, IfOk};
+ghost use Rattle.std.specs.Prelude.{◌≡◌, IfErr, IfOk, Some, map, option_map};
+ghost use Rattle.typing_program.specs.View.{object_type_of, statement_of, value_of};
+ghost use Rattle.cabs_store.specs.layer.Frames as on;
 ghost use Rattle.cabs_store.specs.layer.Views.{control_frame, flow_frame, frame_of, initialiser_frame, kept_of, operand_frame, place_frame};
+ghost use Rattle.cabs_store.specs.declared.frames.ControlFrame.TheVariants as controls;
 ghost use Rattle.cabs_store.specs.declared.frames.FlowFrame.TheVariants as flows;
 ghost use Rattle.cabs_store.specs.declared.frames.OperandFrame.TheVariants as operands;
 ghost use Rattle.cabs_store.specs.declared.kept.Kept.TheVariants as kept;
@@ -55,16 +58,29 @@ pub enum Kept<'p> {
     Forgets,
     IfTrue(&'p [ObjectType], &'p Box<Statement>),
     IfElse(&'p [ObjectType], &'p Box<Statement>, &'p Box<Statement>),
-    Tests(Loop<'p>),
-    Loops(Loop<'p>),
+    /// The test of a loop without a step.
+    Tests(&'p [ObjectType], &'p Value, &'p Box<Statement>),
+    /// The test of a loop with a step, which comes last.
+    TestsStepped(&'p [ObjectType], &'p Value, &'p Box<Statement>, &'p Value),
+    /// The step of a loop without a test.
+    Loops(&'p [ObjectType], &'p Box<Statement>, &'p Value),
+    /// The step of a loop with a test.
+    LoopsTested(&'p [ObjectType], &'p Value, &'p Box<Statement>, &'p Value),
     GivesBack(IntType),
     Returns(Call),
     Rest(&'p [ObjectType], &'p [Statement]),
     InSwitch,
-    Turn(Loop<'p>),
+    /// The body of a loop with neither a test nor a step.
+    Turn(&'p [ObjectType], &'p Box<Statement>),
+    TurnTested(&'p [ObjectType], &'p Value, &'p Box<Statement>),
+    TurnStepped(&'p [ObjectType], &'p Box<Statement>, &'p Value),
+    /// The body of a loop with both.
+    TurnOfBoth(&'p [ObjectType], &'p Value, &'p Box<Statement>, &'p Value),
     Defined,
     Other(Box<Frame<'p>>),
 }
+
+const _: () = prove!(size_of::<Kept<'static>>() == 48);
 
 /// A frame in memory of its own.
 ///
@@ -142,6 +158,50 @@ fn keep_operand<'p>(alloc: Global, frame: OperandFrame<'p>) -> Result<Kept<'p>, 
     }
 }
 
+/// The test of a loop. One that has none waits for none, and is kept apart.
+fn keep_test<'p>(alloc: Global, l: Loop<'p>) -> Result<Kept<'p>, Stop>
+    ensures ok { IfOk result (λ kept. kept_of kept ≡ control_frame (controls.Tests l.entry)) }
+    ensures err { IfErr result (λ e. e ≡ Memory) }
+{
+    let Some(test) = l.test else {
+        return apart(alloc, Frame::Control(ControlFrame::Tests(l)));
+    };
+    match l.step {
+        Some(step) => Ok(Kept::TestsStepped(l.objects, test, l.body, step)),
+        None => Ok(Kept::Tests(l.objects, test, l.body)),
+    }
+}
+
+/// The step of a loop. One that has none waits for none, and is kept apart.
+fn keep_step<'p>(alloc: Global, l: Loop<'p>) -> Result<Kept<'p>, Stop>
+    ensures ok { IfOk result (λ kept. kept_of kept ≡ control_frame (controls.Loops l.entry)) }
+    ensures err { IfErr result (λ e. e ≡ Memory) }
+{
+    let Some(step) = l.step else {
+        return apart(alloc, Frame::Control(ControlFrame::Loops(l)));
+    };
+    match l.test {
+        Some(test) => Ok(Kept::LoopsTested(l.objects, test, l.body, step)),
+        None => Ok(Kept::Loops(l.objects, l.body, step)),
+    }
+}
+
+/// The body of a loop.
+fn keep_turn<'p>(l: Loop<'p>) -> Kept<'p>
+    ensures { kept_of result ≡ flow_frame (flows.Turn l.entry) }
+{
+    match l.test {
+        Some(test) => match l.step {
+            Some(step) => Kept::TurnOfBoth(l.objects, test, l.body, step),
+            None => Kept::TurnTested(l.objects, test, l.body),
+        },
+        None => match l.step {
+            Some(step) => Kept::TurnStepped(l.objects, l.body, step),
+            None => Kept::Turn(l.objects, l.body),
+        },
+    }
+}
+
 fn keep_control<'p>(alloc: Global, frame: ControlFrame<'p>) -> Result<Kept<'p>, Stop>
     ensures ok { IfOk result (λ kept. kept_of kept ≡ control_frame frame.entry) }
     ensures err { IfErr result (λ e. e ≡ Memory) }
@@ -155,8 +215,8 @@ fn keep_control<'p>(alloc: Global, frame: ControlFrame<'p>) -> Result<Kept<'p>, 
             alloc,
             Frame::Control(ControlFrame::Switches(ty, block)),
         ),
-        ControlFrame::Tests(l) => Ok(Kept::Tests(l)),
-        ControlFrame::Loops(l) => Ok(Kept::Loops(l)),
+        ControlFrame::Tests(l) => keep_test(alloc, l),
+        ControlFrame::Loops(l) => keep_step(alloc, l),
         ControlFrame::GivesBack(ty) => Ok(Kept::GivesBack(ty)),
     }
 }
@@ -190,7 +250,7 @@ fn keep_flow<'p>(alloc: Global, frame: FlowFrame<'p>) -> Result<Kept<'p>, Stop>
         FlowFrame::Returns(r) => keep_return(alloc, r),
         FlowFrame::Rest(objects, more) => Ok(Kept::Rest(objects, more)),
         FlowFrame::InSwitch => Ok(Kept::InSwitch),
-        FlowFrame::Turn(l) => Ok(Kept::Turn(l)),
+        FlowFrame::Turn(l) => Ok(keep_turn(l)),
         FlowFrame::ForStarts(start, l) => apart(alloc, Frame::Flow(FlowFrame::ForStarts(start, l))),
     }
 }
@@ -269,6 +329,62 @@ fn return_of<'p>(alloc: Global, c: Call) -> Frame<'p>
     }))
 }
 
+/// What waits for the test of a loop.
+fn test_of<'p>(
+    objects: &'p [ObjectType],
+    test: &'p Value,
+    body: &'p Box<Statement>,
+    step: Option<&'p Value>,
+) -> Frame<'p>
+    ensures { frame_of result ≡ on.tests (map object_type_of objects.now) (Some (value_of test.now)) (statement_of body.now.value)
+        (option_map (λ e. value_of e.now) step.entry) }
+{
+    let test = Some(test);
+    Frame::Control(ControlFrame::Tests(Loop {
+        objects,
+        test,
+        body,
+        step,
+    }))
+}
+
+/// What waits for the step of a loop.
+fn step_of<'p>(
+    objects: &'p [ObjectType],
+    test: Option<&'p Value>,
+    body: &'p Box<Statement>,
+    step: &'p Value,
+) -> Frame<'p>
+    ensures { frame_of result ≡ on.loops (map object_type_of objects.now) (option_map (λ e. value_of e.now) test.entry) (statement_of body.now.value)
+        (Some (value_of step.now)) }
+{
+    let step = Some(step);
+    Frame::Control(ControlFrame::Loops(Loop {
+        objects,
+        test,
+        body,
+        step,
+    }))
+}
+
+/// What waits for the body of a loop.
+fn turn_of<'p>(
+    objects: &'p [ObjectType],
+    test: Option<&'p Value>,
+    body: &'p Box<Statement>,
+    step: Option<&'p Value>,
+) -> Frame<'p>
+    ensures { frame_of result ≡ on.turn (map object_type_of objects.now) (option_map (λ e. value_of e.now) test.entry) (statement_of body.now.value)
+        (option_map (λ e. value_of e.now) step.entry) }
+{
+    Frame::Flow(FlowFrame::Turn(Loop {
+        objects,
+        test,
+        body,
+        step,
+    }))
+}
+
 /// The frame that the stack kept.
 pub fn taken<'p>(alloc: Global, kept: Kept<'p>) -> Frame<'p>
     ensures { frame_of result ≡ kept_of kept.entry }
@@ -292,13 +408,20 @@ pub fn taken<'p>(alloc: Global, kept: Kept<'p>) -> Frame<'p>
         Kept::Forgets => control(ControlFrame::Forgets),
         Kept::IfTrue(objects, a) => control(ControlFrame::IfTrue(objects, a)),
         Kept::IfElse(objects, a, b) => control(ControlFrame::IfElse(objects, a, b)),
-        Kept::Tests(l) => control(ControlFrame::Tests(l)),
-        Kept::Loops(l) => control(ControlFrame::Loops(l)),
+        Kept::Tests(objects, test, body) => test_of(objects, test, body, None),
+        Kept::TestsStepped(objects, test, body, step) => test_of(objects, test, body, Some(step)),
+        Kept::Loops(objects, body, step) => step_of(objects, None, body, step),
+        Kept::LoopsTested(objects, test, body, step) => step_of(objects, Some(test), body, step),
         Kept::GivesBack(ty) => control(ControlFrame::GivesBack(ty)),
         Kept::Returns(c) => return_of(alloc, c),
         Kept::Rest(objects, more) => flow(FlowFrame::Rest(objects, more)),
         Kept::InSwitch => flow(FlowFrame::InSwitch),
-        Kept::Turn(l) => flow(FlowFrame::Turn(l)),
+        Kept::Turn(objects, body) => turn_of(objects, None, body, None),
+        Kept::TurnTested(objects, test, body) => turn_of(objects, Some(test), body, None),
+        Kept::TurnStepped(objects, body, step) => turn_of(objects, None, body, Some(step)),
+        Kept::TurnOfBoth(objects, test, body, step) => {
+            turn_of(objects, Some(test), body, Some(step))
+        }
         Kept::Defined => Frame::Initialiser(InitialiserFrame::Defined),
         Kept::Other(frame) => Box::into_inner(frame),
     }

@@ -5,8 +5,8 @@
 
 Each row asks for many objects or many active calls. How many elements it has is read off the source; how many calls are active
 when the ticks are used follows from what takes a tick. The most resident memory is printed beside each row, and that of a program
-which does nothing is taken off it; what is left is held to so many bytes an element or a call. The bounds of an element are what was asked for; those of a call are what was
-measured and some room, so that a run which takes more is seen: 200 was asked for a call of one int.
+which does nothing is taken off it; what is left is held to so many bytes an element or a call. The bounds of an element and that of a
+call of one int are what was asked for; those of the other calls are what was measured and some room, so that a run which takes more is seen.
 The last line is 'N passed, M failed'."""
 import os
 import resource
@@ -29,7 +29,7 @@ LOCAL = 'int f(int n) { int a[16]; a[3] = n; return f(a[3]); }\nint main(void) {
 ROWS = [
     ('statics of 16 MiB', STATICS, 0, 16 * MEBI - 64, 'element', 9),
     ('statics of 16 MiB in rows of one', ROWS_OF_ONE, 0, MEBI, 'element', 12),
-    ('an endless recursion', FOREVER, 124, TICKS // 8, 'call', 240),
+    ('an endless recursion', FOREVER, 124, TICKS // 8, 'call', 200),
     ('an endless recursion that passes an array', ARRAYS, 124, TICKS // 6, 'call', 600),
     ('an endless recursion with an array of 16', LOCAL, 124, TICKS // 15, 'call', 800),
 ]

@@ -1,5 +1,5 @@
 -- The frames, nodes and steps of the definition that the code's values hold.
-use Rattle.std.specs.Prelude.{map, option_map, []}
+use Rattle.std.specs.Prelude.{map, option_map, [], Some, None}
 use Rattle.typing_program.specs.View.{place_of, value_of, statement_of, statements_of, initialiser_of, initialisers_of, argument_of, arguments_of, object_type_of, callee_of, moment_of}
 use Rattle.meaning.specs.Expressions as meaning
 use Rattle.meaning.specs.Statements as statements
@@ -163,12 +163,25 @@ kept_of (kept.ThenValue b) = on.then_value (value_of b.now)
 kept_of kept.Forgets = on.forgets
 kept_of (kept.IfTrue objects a) = on.if_true (map object_type_of objects.now) (statement_of a.now.value)
 kept_of (kept.IfElse objects a b) = on.if_else (map object_type_of objects.now) (statement_of a.now.value) (statement_of b.now.value)
-kept_of (kept.Tests l) = control_frame (control.Tests l)
-kept_of (kept.Loops l) = control_frame (control.Loops l)
+kept_of (kept.Tests objects test body) =
+    control_frame (control.Tests (record { objects = objects; test = Some test; body = body; step = None }))
+kept_of (kept.TestsStepped objects test body step) =
+    control_frame (control.Tests (record { objects = objects; test = Some test; body = body; step = Some step }))
+kept_of (kept.Loops objects body step) =
+    control_frame (control.Loops (record { objects = objects; test = None; body = body; step = Some step }))
+kept_of (kept.LoopsTested objects test body step) =
+    control_frame (control.Loops (record { objects = objects; test = Some test; body = body; step = Some step }))
 kept_of (kept.GivesBack t) = on.gives_back t
 kept_of (kept.Returns c) = call_frame c
 kept_of (kept.Rest objects more) = on.rest (map object_type_of objects.now) (statements_of (map statement_of more.now))
 kept_of kept.InSwitch = on.in_switch
-kept_of (kept.Turn l) = flow_frame (flows.Turn l)
+kept_of (kept.Turn objects body) =
+    flow_frame (flows.Turn (record { objects = objects; test = None; body = body; step = None }))
+kept_of (kept.TurnTested objects test body) =
+    flow_frame (flows.Turn (record { objects = objects; test = Some test; body = body; step = None }))
+kept_of (kept.TurnStepped objects body step) =
+    flow_frame (flows.Turn (record { objects = objects; test = None; body = body; step = Some step }))
+kept_of (kept.TurnOfBoth objects test body step) =
+    flow_frame (flows.Turn (record { objects = objects; test = Some test; body = body; step = Some step }))
 kept_of kept.Defined = on.defined
 kept_of (kept.Other f) = frame_of f.value
