@@ -39,7 +39,7 @@ use Rattle.cc_backend.specs.Simulation.{both}
 use Rattle.cc_backend.specs.Chain.{into_flat, into_file}
 use Rattle.cc_backend.proofs.Forms.{none_within, flat_form}
 use Rattle.cc_backend.proofs.Making.{way_of, form_of}
-use Rattle.cc_backend.proofs.Chain.{file_simulates_program}
+use Rattle.cc_backend.proofs.Chain.{file_simulates_program, calls_are_within}
 use Rattle.frames_simplified.specs.Simplified.{IsSimplified}
 use Rattle.cc_backend.specs.Runs.{RunsAs}
 use Rattle.cc_backend.specs.Made.{IsReady, IsFlatCodeOf, FramesFit, FunctionsFit, most_text, IsFileOf, AreItemsOf}
@@ -159,15 +159,15 @@ module _ (p : typed.Program) (f : flat.Program) (ready : IsReady p) (made : IsFl
     image = program_image parts;
     loads = loads;
     ends = λ input bytes n status s over small.
-        let fits : greatest_sum (weight_in p) (last_of (cstep n p input)).history ≤ parts.stack = subst (λ r. greatest_sum (weight_in p) (last_of r).history ≤ parts.stack) (sym over) small in
+        let fit = calls_are_within p input parts.stack n (subst (λ r. greatest_sum (weight_in p) (last_of r).history ≤ parts.stack) (sym over) small) in
         let x = record { status = status; trace = trace_of s.history; input = s.input } in
-        let w = (file_simulates_program p f parts input (way_of p f made) image bytes).ends n x (s, over, refl, refl) fits in
+        let w = (file_simulates_program p f parts input (way_of p f made) image bytes).ends n x (s, over, refl, refl) fit in
         (w.0, w.2.0, omega (arith, w.1), (w.2.1, (w.2.2, w.2.3)));
     slack = (both into_flat (into_file f)).slack + 1;
     goes_on = λ input bytes n s over small.
-        let fits : greatest_sum (weight_in p) (last_of (cstep n p input)).history ≤ parts.stack = subst (λ r. greatest_sum (weight_in p) (last_of r).history ≤ parts.stack) (sym over) small in
+        let fit = calls_are_within p input parts.stack n (subst (λ r. greatest_sum (weight_in p) (last_of r).history ≤ parts.stack) (sym over) small) in
         let x = record { trace = trace_of s.history; input = s.input; calls = active s.history } in
-        let w = (file_simulates_program p f parts input (way_of p f made) image bytes).goes_on n x (s, over, refl, refl, refl) fits in
+        let w = (file_simulates_program p f parts input (way_of p f made) image bytes).goes_on n x (s, over, refl, refl, refl) fit in
         (w.0, w.4.0, omega (arith, w.3), (past n (both into_flat (into_file f)).slack w.0 w.1 w.2, (w.4.1, (w.4.2, w.4.3), w.4.4)));
   }
 

@@ -2,7 +2,6 @@
 use Rattle.std.proofs.Common.{◌≡◌, ◌≤◌, ℕ, zero, suc, ◌+◌, max, List, [], ◌∷◌, map, Some, refl, sym, ap, ◌∙◌, subst, arith}
 use Rattle.std.specs.Prelude.{slice_get, sum_by}
 use Rattle.tac_code.specs.Code as tac
-use Rattle.meaning.specs.History.{sum_of}
 use Rattle.frames_code.specs.declared.code.Operand.{Operand}
 use Rattle.frames_code.specs.declared.code.Operand.TheVariants as operand
 use Rattle.frames_code.specs.declared.code.Target.{Target}
@@ -120,40 +119,36 @@ functions_same from (w ∷ ws) = ap (λ (ns : List ℕ). w.function ∷ ns) (fun
 calls_same : (from : ℕ → ℕ → ℕ) (s : flat_run.State) → flat_run.active (moved from s) ≡ flat_run.active s
 calls_same from s = functions_same from (s.frame ∷ s.waiting)
 
-module _ (weight : ℕ → ℕ) (limit : ℕ) (f g : flat.Program) (same : IsRenumbered f g) (input : List ℕ) where
+module _ (f g : flat.Program) (same : IsRenumbered f g) (input : List ℕ) where
   abbrev from : ℕ → ℕ → ℕ
   from = words_of f.functions g.functions same.functions
 
   run_is : (m : ℕ) → behind g input m ≡ moved_progress from (behind f input m)
   run_is m = runs_alike f g same m input
 
-  abbrev Fit : flat.Program → ℕ → Type 0
-  Fit h n = (k : ℕ) (s : flat_run.State) → k ≤ n → behind h input k ≡ flat_run.running s → sum_of weight (flat_run.active s) ≤ limit
-
-  fit_too : (n : ℕ) → Fit f n → Fit g n
-  fit_too n fits k t le e = on (behind f input k) refl (sym (run_is k) ∙ e)
+  same_calls : (n : ℕ) (calls : List ℕ) → (of_flat g input).Calls n calls → (of_flat f input).Calls n calls
+  same_calls n calls c = on (behind f input c.0) refl (sym (run_is c.0) ∙ c.3)
     where
-      on : (x : flat_run.Progress) → behind f input k ≡ x → moved_progress from (behind f input k) ≡ flat_run.running t → sum_of weight (flat_run.active t) ≤ limit
+      on : (x : flat_run.Progress) → behind f input c.0 ≡ x → moved_progress from (behind f input c.0) ≡ flat_run.running c.1 → (of_flat f input).Calls n calls
       on (flat_run.running u) here there =
-          let state : moved from u ≡ t = ap (state_or t) (sym (ap (moved_progress from) here) ∙ there) in
-          let calls : flat_run.active u ≡ flat_run.active t = sym (calls_same from u) ∙ ap flat_run.active state in
-          subst (λ cs. sum_of weight cs ≤ limit) calls (fits k u le here)
+          let state : moved from u ≡ c.1 = ap (state_or c.1) (sym (ap (moved_progress from) here) ∙ there) in
+          (c.0, u, c.2, here, sym (calls_same from u) ∙ (ap flat_run.active state ∙ c.4))
       on (flat_run.ended status left trace) here there = absurd (subst GoesOn (sym (sym (ap (moved_progress from) here) ∙ there)) tt)
       on flat_run.stuck here there = absurd (subst GoesOn (sym (sym (ap (moved_progress from) here) ∙ there)) tt)
 
-  simulates : Simulates step_for_step (of_flat weight limit f input) (of_flat weight limit g input)
-  simulates = record {
-    goes_on = λ n x goes fits.
+  pub simulates : (weight : ℕ → ℕ) (limit : ℕ) → Simulates step_for_step weight limit (of_flat f input) (of_flat g input)
+  simulates weight limit = record {
+    goes_on = λ n x goes fit.
         let e = costs_alike f g same n input in
         let stands : behind g input n ≡ flat_run.running (moved from goes.0) = run_is n ∙ ap (moved_progress from) goes.1 in
-        (n, omega arith, omega arith, omega (arith, e), (moved from goes.0, stands, goes.2, goes.3, calls_same from goes.0 ∙ goes.4), fit_too n fits);
-    ends = λ n x ends fits.
+        (n, omega arith, omega arith, omega (arith, e), (moved from goes.0, stands, goes.2, goes.3, calls_same from goes.0 ∙ goes.4), same_calls n);
+    ends = λ n x ends fit.
         let e = costs_alike f g same n input in
-        (n, omega (arith, e), run_is n ∙ ap (moved_progress from) ends, fit_too n fits);
+        (n, omega (arith, e), run_is n ∙ ap (moved_progress from) ends, same_calls n);
   }
 
 pub renumbered_simulates_flat : RenumberedSimulatesFlat
-renumbered_simulates_flat weight limit f g input same = simulates weight limit f g same input
+renumbered_simulates_flat weight limit f g input same = simulates f g same input weight limit
 
 -- ---- the rest
 

@@ -8,7 +8,6 @@ use Rattle.frames_code.specs.Code as flat
 use Rattle.frames_code.specs.Code.{frame_bytes}
 use Rattle.frames_code.specs.Run as flat_run
 use Rattle.meaning_events.specs.Events.{Event}
-use Rattle.meaning.specs.History.{sum_of}
 use Rattle.frames.specs.Costs.{code_bytes}
 use Rattle.frames.proofs.Elements.{same_some}
 use Rattle.frames_steps.proofs.Runs.{run_both}
@@ -30,7 +29,7 @@ GoesOn (flat_run.running s) = Unit {0}
 GoesOn (flat_run.ended status left trace) = ⊥
 GoesOn flat_run.stuck = ⊥
 
-module _ (weight : ℕ → ℕ) (limit : ℕ) (f g : flat.Program) (simple : IsSimplified f g) (input : List ℕ) where
+module _ (f g : flat.Program) (simple : IsSimplified f g) (input : List ℕ) where
   -- where the one goes on, and where it ends
   pub record Goes (m : ℕ) (s : flat_run.State) : Type 0 where
     pub t : flat_run.State
@@ -67,36 +66,32 @@ module _ (weight : ℕ → ℕ) (limit : ℕ) (f g : flat.Program) (simple : IsS
       on (flat_run.ended status left trace) e = subst IsDefined (sym e) tt
       on flat_run.stuck e = absurd (subst (λ x. IsDefined (flat_run.goes_on x (flat_run.run f (m - j)))) e (subst IsDefined whole defined))
 
-  abbrev Fit : flat.Program → ℕ → Type 0
-  Fit h n = (k : ℕ) (s : flat_run.State) → k ≤ n → behind h input k ≡ flat_run.running s → sum_of weight (flat_run.active s) ≤ limit
-
-  fit_too : (n : ℕ) → IsDefined (behind f input n) → Fit f n → Fit g n
-  fit_too n defined fits k t le e = on (behind f input k) refl
+  same_calls : (n : ℕ) → IsDefined (behind f input n) → (calls : List ℕ) → (of_flat g input).Calls n calls → (of_flat f input).Calls n calls
+  same_calls n defined calls c = on (behind f input c.0) refl
     where
-      on : (x : flat_run.Progress) → behind f input k ≡ x → sum_of weight (flat_run.active t) ≤ limit
+      on : (x : flat_run.Progress) → behind f input c.0 ≡ x → (of_flat f input).Calls n calls
       on (flat_run.running u) h =
-          let other = goes k u h in
-          let same : other.t ≡ t = ap (state_or t) (sym other.is ∙ e) in
-          let calls : flat_run.active u ≡ flat_run.active t = sym other.calls ∙ ap flat_run.active same in
-          subst (λ cs. sum_of weight cs ≤ limit) calls (fits k u le h)
-      on (flat_run.ended status left trace) h = absurd (subst GoesOn (sym (sym (ends_too k status left trace h) ∙ e)) tt)
-      on flat_run.stuck h = absurd (subst IsDefined h (defined_before k n le defined))
+          let other = goes c.0 u h in
+          let same : other.t ≡ c.1 = ap (state_or c.1) (sym other.is ∙ c.3) in
+          (c.0, u, c.2, h, sym other.calls ∙ (ap flat_run.active same ∙ c.4))
+      on (flat_run.ended status left trace) h = absurd (subst GoesOn (sym (sym (ends_too c.0 status left trace h) ∙ c.3)) tt)
+      on flat_run.stuck h = absurd (subst IsDefined h (defined_before c.0 n c.2 defined))
 
-  simulates : Simulates step_for_step (of_flat weight limit f input) (of_flat weight limit g input)
-  simulates = record {
-    goes_on = λ n x at fits.
+  pub simulates : (weight : ℕ → ℕ) (limit : ℕ) → Simulates step_for_step weight limit (of_flat f input) (of_flat g input)
+  simulates weight limit = record {
+    goes_on = λ n x at fit.
         let other = goes n at.0 at.1 in
         let defined : IsDefined (behind f input n) = subst IsDefined (sym at.1) tt in
         let less = simple.costs n input defined in
-        (n, omega arith, omega arith, omega (arith, less), (other.t, other.is, other.trace ∙ at.2, other.left ∙ at.3, other.calls ∙ at.4), fit_too n defined fits);
-    ends = λ n x at fits.
+        (n, omega arith, omega arith, omega (arith, less), (other.t, other.is, other.trace ∙ at.2, other.left ∙ at.3, other.calls ∙ at.4), same_calls n defined);
+    ends = λ n x at fit.
         let defined : IsDefined (behind f input n) = subst IsDefined (sym at) tt in
         let less = simple.costs n input defined in
-        (n, omega (arith, less), ends_too n x.status x.input x.trace at, fit_too n defined fits);
+        (n, omega (arith, less), ends_too n x.status x.input x.trace at, same_calls n defined);
   }
 
 pub simpler_simulates_flat : SimplerSimulatesFlat
-simpler_simulates_flat weight limit f g input simple = simulates weight limit f g simple input
+simpler_simulates_flat weight limit f g input simple = simulates f g simple input weight limit
 
 -- ---- functions
 

@@ -9,7 +9,8 @@ use Rattle.elf_out.specs.Program.{program_image}
 use Rattle.sim.specs.Runs as sim
 use Rattle.sim.specs.Runs.{World, rvrun, start_world}
 use Rattle.typing_rules.specs.Program as typed
-use Rattle.meaning.specs.History.{Entry, trace_of, active, weight_in, sum_of, greatest_sum}
+use Rattle.meaning.specs.History.{Entry, trace_of, active, weight_in, sum_of}
+use Rattle.meaning.specs.Laws.{Grows}
 use Rattle.meaning.specs.Machine as machine
 use Rattle.meaning.specs.Machine.{Stops, Ended, TicksUsed}
 use Rattle.meaning.specs.Meaning.{cstep, last_of}
@@ -36,39 +37,40 @@ StandsBelow frames calls w = (register w.machine 2 % 16 ≡ 0) × (register w.ma
 
 -- ---- the systems
 
--- the abstract machine: a step is a tick, which may cost 60 instructions; its calls weigh at most so much at one time
-abbrev pub of_program : (limit : ℕ) → typed.Program → List ℕ → System
-of_program limit p input = record {
+-- the abstract machine: a step is a tick, which may cost 60 instructions
+abbrev pub of_program : typed.Program → List ℕ → System
+of_program p input = record {
   Goes = λ n x. (s : machine.State) × (cstep n p input ≡ Stops TicksUsed s) × (trace_of s.history ≡ x.trace) × (s.input ≡ x.input) × (active s.history ≡ x.calls);
   Ends = λ n x. (s : machine.State) × (cstep n p input ≡ Stops (Ended x.status) s) × (trace_of s.history ≡ x.trace) × (s.input ≡ x.input);
-  Fits = λ n. greatest_sum (weight_in p) (last_of (cstep n p input)).history ≤ limit;
+  Calls = λ n calls. (history : List Entry) × Grows history (last_of (cstep n p input)).history × (active history ≡ calls);
   cost = λ n. 60 * n + 60;
 }
 
--- three-address code; a call of function g weighs `weight g`
-abbrev pub of_tac : (weight : ℕ → ℕ) (limit : ℕ) → tac.Program → List ℕ → System
-of_tac weight limit q input = record {
+-- three-address code
+abbrev pub of_tac : tac.Program → List ℕ → System
+of_tac q input = record {
   Goes = λ n x. (t : tac_run.State) × (before q input n ≡ tac_run.running t) × (trace_of t.history ≡ x.trace) × (t.input ≡ x.input) × (tac_run.open_calls t ≡ x.calls);
   Ends = λ n x. (history : List Entry) × (before q input n ≡ tac_run.ended x.status x.input history) × (trace_of history ≡ x.trace);
-  Fits = λ n. (k : ℕ) (t : tac_run.State) → k ≤ n → before q input k ≡ tac_run.running t → sum_of weight (tac_run.open_calls t) ≤ limit;
+  Calls = λ n calls. (k : ℕ) × (t : tac_run.State) × (k ≤ n) × (before q input k ≡ tac_run.running t) × (tac_run.open_calls t ≡ calls);
   cost = λ n. tac_costs.spent_in_all q n (tac_run.start q input);
 }
 
 -- flat code
-abbrev pub of_flat : (weight : ℕ → ℕ) (limit : ℕ) → flat.Program → List ℕ → System
-of_flat weight limit f input = record {
+abbrev pub of_flat : flat.Program → List ℕ → System
+of_flat f input = record {
   Goes = λ n x. (s : flat_run.State) × (behind f input n ≡ flat_run.running s) × (s.trace ≡ x.trace) × (s.input ≡ x.input) × (flat_run.active s ≡ x.calls);
   Ends = λ n x. behind f input n ≡ flat_run.ended x.status x.input x.trace;
-  Fits = λ n. (k : ℕ) (s : flat_run.State) → k ≤ n → behind f input k ≡ flat_run.running s → sum_of weight (flat_run.active s) ≤ limit;
+  Calls = λ n calls. (k : ℕ) × (s : flat_run.State) × (k ≤ n) × (behind f input k ≡ flat_run.running s) × (flat_run.active s ≡ calls);
   cost = λ n. flat_costs.spent_in_all f n (flat_run.start f input);
 }
 
--- the machine of the table from an image: a step is an instruction; the stack pointer lies below the stack's end by just the frames of the active calls
+-- the machine of the table from an image: a step is an instruction; the stack pointer lies below the stack's end by just the frames of the active calls,
+-- of which nothing is said on the way
 abbrev pub of_image : (frames : List ℕ) → Image → List ℕ → System
 of_image frames image input = record {
   Goes = λ k x. (w : World) × (rvrun k (start_world image input) ≡ sim.Running w) × (w.trace ≡ x.trace) × (w.input ≡ x.input) × StandsBelow frames x.calls w;
   Ends = λ k x. (w : World) × (rvrun k (start_world image input) ≡ sim.Ended x.status w) × (w.trace ≡ x.trace) × (w.input ≡ x.input);
-  Fits = λ k. Unit {0};
+  Calls = λ k calls. ⊥;
   cost = λ k. k;
 }
 
@@ -76,33 +78,34 @@ of_image frames image input = record {
 
 abbrev pub TacSimulatesProgram : Type 0
 TacSimulatesProgram =
-    (limit : ℕ) (p : typed.Program) (q : tac.Program) (input : List ℕ) → IsLowered p q → AreBytes input
-    → Simulates step_for_step (of_program limit p input) (of_tac (weight_in p) limit q input)
+    (weight : ℕ → ℕ) (limit : ℕ) (p : typed.Program) (q : tac.Program) (input : List ℕ) → IsLowered p q → AreBytes input
+    → Simulates step_for_step weight limit (of_program p input) (of_tac q input)
 
 abbrev pub FlatSimulatesTac : Type 0
 FlatSimulatesTac =
     (weight : ℕ → ℕ) (limit : ℕ) (q : tac.Program) (f : flat.Program) (input : List ℕ) → IsFlattened q f → AreBytes input
-    → Simulates step_for_step (of_tac weight limit q input) (of_flat weight limit f input)
+    → Simulates step_for_step weight limit (of_tac q input) (of_flat f input)
 
 abbrev pub SimplerSimulatesFlat : Type 0
 SimplerSimulatesFlat =
     (weight : ℕ → ℕ) (limit : ℕ) (f g : flat.Program) (input : List ℕ) → IsSimplified f g
-    → Simulates step_for_step (of_flat weight limit f input) (of_flat weight limit g input)
+    → Simulates step_for_step weight limit (of_flat f input) (of_flat g input)
 
 abbrev pub RenumberedSimulatesFlat : Type 0
 RenumberedSimulatesFlat =
     (weight : ℕ → ℕ) (limit : ℕ) (f g : flat.Program) (input : List ℕ) → IsRenumbered f g
-    → Simulates step_for_step (of_flat weight limit f input) (of_flat weight limit g input)
+    → Simulates step_for_step weight limit (of_flat f input) (of_flat g input)
 
 -- 4 instructions before main, and 2 behind it; steps without items are no more in a row than the program has places
 abbrev pub into_file : flat.Program → Terms
 into_file f = record { more = 4; more_at_end = 6; slack = slack f; least = 1 }
 
+-- where each frame is within the weight of its function, and the calls within the image's stack
 abbrev pub ImageSimulatesFlat : Type 0
 ImageSimulatesFlat =
     (weight : ℕ → ℕ) (f : flat.Program) (parts : Parts) (input : List ℕ) → IsImageOf f parts → AreBytes input
     → ((g : ℕ) → g < length f.functions → frame_bytes (flat_run.function_at f g) ≤ weight g)
-    → Simulates (into_file f) (of_flat weight parts.stack f input) (of_image (map frame_bytes f.functions) (program_image parts) input)
+    → Simulates (into_file f) weight parts.stack (of_flat f input) (of_image (map frame_bytes f.functions) (program_image parts) input)
 
 -- ---- the way
 
@@ -121,10 +124,10 @@ into_flat = both step_for_step (both step_for_step (both step_for_step step_for_
 
 abbrev pub FlatSimulatesProgram : Type 0
 FlatSimulatesProgram =
-    (limit : ℕ) (p : typed.Program) (f : flat.Program) (input : List ℕ) → IsMadeOf p f → AreBytes input
-    → Simulates into_flat (of_program limit p input) (of_flat (weight_in p) limit f input)
+    (weight : ℕ → ℕ) (limit : ℕ) (p : typed.Program) (f : flat.Program) (input : List ℕ) → IsMadeOf p f → AreBytes input
+    → Simulates into_flat weight limit (of_program p input) (of_flat f input)
 
 abbrev pub FileSimulatesProgram : Type 0
 FileSimulatesProgram =
     (p : typed.Program) (f : flat.Program) (parts : Parts) (input : List ℕ) → IsMadeOf p f → IsImageOf f parts → AreBytes input
-    → Simulates (both into_flat (into_file f)) (of_program parts.stack p input) (of_image (map frame_bytes f.functions) (program_image parts) input)
+    → Simulates (both into_flat (into_file f)) (weight_in p) parts.stack (of_program p input) (of_image (map frame_bytes f.functions) (program_image parts) input)

@@ -1,6 +1,7 @@
 -- Forward simulation, with what it costs: that one system does what another does, in one form for each step of the way from a program to its file.
 use Rattle.std.specs.Prelude.{◌≤◌, ℕ, ◌+◌, ◌*◌, List}
 use Rattle.meaning_events.specs.Events.{Event}
+use Rattle.meaning.specs.History.{sum_of}
 
 -- what a run that goes on has done, the newest first, what it has left of its input, and the calls that are active, the innermost first
 pub record Doing : Type 0 where
@@ -14,13 +15,17 @@ pub record Done : Type 0 where
   pub trace : List Event
   pub input : List ℕ
 
--- A system on one input: whether it goes on so, or has ended so, after a number of steps; whether the calls on the way there fit the stack; and what
--- these steps cost, in instructions of the machine.
+-- A system on one input: whether it goes on so, or has ended so, after a number of steps; whether these calls were active at a moment on the way there;
+-- and what the steps cost, in instructions of the machine.
 pub record System : Type 1 where
   pub Goes : ℕ → Doing → Type 0
   pub Ends : ℕ → Done → Type 0
-  pub Fits : ℕ → Type 0
+  pub Calls : ℕ → List ℕ → Type 0
   pub cost : ℕ → ℕ
+
+-- the calls that were active on the way never weighed more together
+abbrev pub AreWithin : (weight : ℕ → ℕ) (limit : ℕ) → System → ℕ → Type 0
+AreWithin weight limit system n = (calls : List ℕ) → system.Calls n calls → sum_of weight calls ≤ limit
 
 -- what the second system may take more than the first, where they go on and where they end; how many steps of the first one of the second is at
 -- most, as it makes at least so many
@@ -30,12 +35,15 @@ pub record Terms : Type 0 where
   pub slack : ℕ
   pub least : ℕ
 
--- whatever is seen of the first system, while its calls fit the stack, is seen of the second, whose calls fit then too
-pub record Simulates (terms : Terms) (first second : System) : Type 0 where
-  pub goes_on : (n : ℕ) (x : Doing) → first.Goes n x → first.Fits n
-      → (k : ℕ) × (n ≤ terms.slack * k) × (terms.least ≤ k) × (second.cost k ≤ first.cost n + terms.more) × second.Goes k x × second.Fits k
-  pub ends : (n : ℕ) (x : Done) → first.Ends n x → first.Fits n
-      → (k : ℕ) × (second.cost k ≤ first.cost n + terms.more_at_end) × second.Ends k x × second.Fits k
+-- Whatever is seen of the first system, where its calls are within a limit, is seen of the second; and each moment of the second has the calls of a
+-- moment of the first.
+pub record Simulates (terms : Terms) (weight : ℕ → ℕ) (limit : ℕ) (first second : System) : Type 0 where
+  pub goes_on : (n : ℕ) (x : Doing) → first.Goes n x → AreWithin weight limit first n
+      → (k : ℕ) × (n ≤ terms.slack * k) × (terms.least ≤ k) × (second.cost k ≤ first.cost n + terms.more) × second.Goes k x
+      × ((calls : List ℕ) → second.Calls k calls → first.Calls n calls)
+  pub ends : (n : ℕ) (x : Done) → first.Ends n x → AreWithin weight limit first n
+      → (k : ℕ) × (second.cost k ≤ first.cost n + terms.more_at_end) × second.Ends k x
+      × ((calls : List ℕ) → second.Calls k calls → first.Calls n calls)
 
 -- step for step, at no more cost
 abbrev pub step_for_step : Terms
@@ -47,4 +55,6 @@ both s t = record { more = s.more + t.more; more_at_end = s.more_at_end + t.more
 
 -- where a second system does what the first does, and a third what the second does, the third does what the first does
 abbrev pub Compose : Type 1
-Compose = (s t : Terms) (first second third : System) → Simulates s first second → Simulates t second third → Simulates (both s t) first third
+Compose =
+    (s t : Terms) (weight : ℕ → ℕ) (limit : ℕ) (first second third : System) → Simulates s weight limit first second → Simulates t weight limit second third
+    → Simulates (both s t) weight limit first third
