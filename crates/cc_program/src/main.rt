@@ -26,11 +26,22 @@ use std::rt::Files;
 use std::{env, fs, io};
 use words::{Request, read_request, read_stack};
 
+/// Below the greatest size up to which glibc's `malloc` learns to keep what is given back (32 MiB, mallopt(3), M_MMAP_THRESHOLD).
+const KEPT_BYTES: usize = 33_488_896;
+
 fn main(rt: HostRuntime) -> ExitCode {
+    keep_large_blocks(rt.alloc());
     match env::args(&rt) {
         Ok(words) => ExitCode::from(obey(&rt, words)),
         Err(error) => ExitCode::from(unread_words(&rt, &error)),
     }
+}
+
+/// Takes one large block, of which no page is touched, and gives it back. From then on the allocator of the C library takes large lists from its heap, where the
+/// pages of one list serve the next, and not each from the system with fresh ones. Where it is refused, nothing is lost.
+#[inline(never)]
+fn keep_large_blocks(alloc: Global) {
+    let _block = Vec::<u8>::with_capacity(alloc, KEPT_BYTES);
 }
 
 /// The exit status where an argument is no text, or there is no memory for the arguments.
