@@ -4,7 +4,6 @@ use Rattle.std.proofs.lemmas.Bool.{cases_lt}
 use Rattle.typing_rules.specs.Program.{Program}
 use Rattle.meaning.specs.History.{Entry, trace_of, active}
 use Rattle.meaning.specs.Laws.{Grows}
-use Rattle.meaning.specs.Machine as machine
 use Rattle.meaning.specs.Machine.{Ending, Ended, Undefined, TicksUsed, Stops}
 use Rattle.meaning.specs.Meaning.{cstep, ending_of, last_of}
 use Rattle.tac_code.specs.Code as tac
