@@ -38,7 +38,7 @@ module _ (stack : ℕ) (p : Program) (file frames : List ℕ) (made : IsFileOf s
       fit_more (answer k p input).greatest stack code (at k) (fine k).1
       ((frames_are_weighed p code input made.code_is bytes).0 k (last_of (cstep k p input)) stops k (omega arith))
 
-  fits : (k : ℕ) → FitStack made.parts.stack code (at k)
+  pub fits : (k : ℕ) → FitStack made.parts.stack code (at k)
   fits k = subst (λ z. FitStack z code (at k)) (sym made.stack_is) (fits_ending k (ending_of (cstep k p input)) (fine k).0 (run_stops k p input))
 
   calls : CallsAreKept made (program_image made.parts) input

@@ -9,3 +9,4 @@ pub mod Conventions
 pub mod Loosening
 pub mod Touching
 pub mod Calls
+pub mod Following

@@ -1,6 +1,8 @@
 -- A run keeps the permissions with which it began.
-use Rattle.std.proofs.Common.{◌≡◌, ℕ, zero, suc, ◌%◌, ◌^◌, ◌&&◌, List, [], ◌∷◌, Bool, true, false, Option, Some, None, refl, ◌∙◌}
+use Rattle.std.proofs.Common.{◌≡◌, ℕ, zero, suc, ◌%◌, ◌^◌, ◌&&◌, List, [], ◌∷◌, Bool, true, false, Option, Some, None, refl, ap, ◌+◌, ◌∙◌, arith, eqb}
 use Rattle.std.specs.Prelude.{◌==◌, if◌then◌else◌}
+use Rattle.std.proofs.lemmas.Bool.Decides.{nat_tests}
+use Rattle.select_running.proofs.Bridge.{bool_cases, and_left, and_right}
 use Rattle.rv32.specs.declared.instr.Instr.{Instr}
 use Rattle.rv32.specs.declared.instr.Instr.TheVariants.{Lui, Auipc, Jal, Jalr, Branch, Load, Store, Immediate, Shift, Op, Fence, Ecall, Ebreak}
 use Rattle.rv32.specs.declared.instr.LoadKind.{LoadKind}
@@ -11,27 +13,49 @@ use Rattle.rv32.specs.declared.state.Cause.TheVariants as cause
 use Rattle.rv32.specs.declared.state.StepResult.{StepResult}
 use Rattle.rv32.specs.declared.state.StepResult.TheVariants.{Went, Call, Trap}
 use Rattle.rv32.specs.Words.{decode_of}
-use Rattle.rv32.specs.Space.{Space, fetch_of, with_bytes, byte_put}
+use Rattle.rv32.specs.Space.{Space, fetch_of, with_bytes, both, all_four, byte_put, half_put, word_put}
 use Rattle.rv32.specs.Step.{Machine, Stepped, register, step_of, execute_of, decoded, fetched, gives, jumps, links, loaded, load_of, stored, store_of}
 use Rattle.sim.specs.Runs.{World, Progress, Running, Ended, Trapped, answered, with_space, gets, puts, call_of, result_of, tick_of, goes_on, rvrun}
 
--- t has the permissions of s
+-- a byte that may not be written is none that was written
+byte_kept : (w : ℕ → Bool) (a k v x : ℕ) → w a ≡ true → w k ≡ false → byte_put a v k x ≡ x
+byte_kept w a k v x p q =
+    bool_cases (eqb k a)
+    (λ e. let same : k ≡ a = grind (arith, nat_tests) in let t : w k ≡ w a = ap w same in cc)
+    (λ e. rw e refl)
+
+half_kept : (w : ℕ → Bool) (a k v x : ℕ) → both w a ≡ true → w k ≡ false → half_put a v k x ≡ x
+half_kept w a k v x p q = byte_kept w a k _ _ (and_left _ _ p) q ∙ byte_kept w (a + 1) k _ _ (and_right _ _ p) q
+
+word_kept : (w : ℕ → Bool) (a k v x : ℕ) → all_four w a ≡ true → w k ≡ false → word_put a v k x ≡ x
+word_kept w a k v x p q =
+    let p3 = and_right _ _ p in
+    let r = and_left _ _ p in
+    let p2 = and_right _ _ r in
+    let r2 = and_left _ _ r in
+    let p1 = and_right _ _ r2 in
+    let p0 = and_left _ _ r2 in
+    byte_kept w a k _ _ p0 q ∙ (byte_kept w (a + 1) k _ _ p1 q ∙ (byte_kept w (a + 2) k _ _ p2 q ∙ byte_kept w (a + 3) k _ _ p3 q))
+
+-- t has the permissions of s, and the bytes that may not be written
 pub record Permits (s t : Space) : Type 0 where
   pub can_read : (a : ℕ) → t.can_read a ≡ s.can_read a
   pub can_write : (a : ℕ) → t.can_write a ≡ s.can_write a
   pub can_execute : (a : ℕ) → t.can_execute a ≡ s.can_execute a
+  pub bytes : (a : ℕ) → s.can_write a ≡ false → t.byte a ≡ s.byte a
 
 same : (s : Space) → Permits s s
-same s = record { can_read = λ a. refl; can_write = λ a. refl; can_execute = λ a. refl }
+same s = record { can_read = λ a. refl; can_write = λ a. refl; can_execute = λ a. refl; bytes = λ a e. refl }
 
-bytes_alone : (s : Space) (g : ℕ → ℕ → ℕ) → Permits s (with_bytes s g)
-bytes_alone s g = record { can_read = λ a. refl; can_write = λ a. refl; can_execute = λ a. refl }
+bytes_alone : (s : Space) (g : ℕ → ℕ → ℕ) → ((a : ℕ) → s.can_write a ≡ false → g a (s.byte a) ≡ s.byte a) → Permits s (with_bytes s g)
+bytes_alone s g h = record { can_read = λ a. refl; can_write = λ a. refl; can_execute = λ a. refl; bytes = h }
 
 further : (s t u : Space) → Permits s t → Permits t u → Permits s u
 further s t u h g = record {
   can_read = λ a. g.can_read a ∙ h.can_read a;
   can_write = λ a. g.can_write a ∙ h.can_write a;
   can_execute = λ a. g.can_execute a ∙ h.can_execute a;
+  bytes = λ a e. g.bytes a (h.can_write a ∙ e) ∙ h.bytes a e;
 }
 
 -- ---- a step
@@ -55,10 +79,10 @@ links_kept : (m : Machine) (rd a : ℕ) → Kept m (links m rd a)
 unfolding links
 links_kept m rd a = if_kept m (a % 4 == 0) _ _ (same m.space) (same m.space)
 
-stored_kept : (m : Machine) (allowed : Bool) (g : ℕ → ℕ → ℕ) → Kept m (stored m allowed g)
+stored_kept : (m : Machine) (allowed : Bool) (g : ℕ → ℕ → ℕ) → (allowed ≡ true → (a : ℕ) → m.space.can_write a ≡ false → g a (m.space.byte a) ≡ m.space.byte a) → Kept m (stored m allowed g)
 unfolding stored
-stored_kept m true g = bytes_alone m.space g
-stored_kept m false g = same m.space
+stored_kept m true g h = bytes_alone m.space g (h refl)
+stored_kept m false g h = same m.space
 
 loaded_kept : (m : Machine) (rd : ℕ) (v : Option ℕ) → Kept m (loaded m rd v)
 loaded_kept m rd None = same m.space
@@ -72,9 +96,9 @@ load_kept m load_kind.HalfUnsigned rd a = if_kept m (a % 2 == 0) _ _ (loaded_kep
 load_kept m load_kind.Word rd a = if_kept m (a % 4 == 0) _ _ (loaded_kept m rd _) (same m.space)
 
 store_kept : (m : Machine) (kind : StoreKind) (a v : ℕ) → Kept m (store_of m kind a v)
-store_kept m store_kind.Byte a v = stored_kept m _ _
-store_kept m store_kind.Half a v = if_kept m (a % 2 == 0) _ _ (stored_kept m _ _) (same m.space)
-store_kept m store_kind.Word a v = if_kept m (a % 4 == 0) _ _ (stored_kept m _ _) (same m.space)
+store_kept m store_kind.Byte a v = stored_kept m (m.space.can_write a) (byte_put a (v % 2 ^ 8)) (λ e k q. byte_kept m.space.can_write a k (v % 2 ^ 8) _ e q)
+store_kept m store_kind.Half a v = if_kept m (a % 2 == 0) _ _ (stored_kept m (both m.space.can_write a) (half_put a v) (λ e k q. half_kept m.space.can_write a k v _ e q)) (same m.space)
+store_kept m store_kind.Word a v = if_kept m (a % 4 == 0) _ _ (stored_kept m (all_four m.space.can_write a) (word_put a v) (λ e k q. word_kept m.space.can_write a k v _ e q)) (same m.space)
 
 execute_kept : (m : Machine) (i : Instr) → Kept m (execute_of m i)
 execute_kept m (Lui rd v) = gives_kept m rd _
@@ -116,15 +140,19 @@ if_permits : (s : Space) (t : Bool) (q r : Progress) → PermitsIn s q → Permi
 if_permits s true q r a b = a
 if_permits s false q r a b = b
 
+if_may : (s : Space) (t : Bool) (q r : Progress) → (t ≡ true → PermitsIn s q) → PermitsIn s r → PermitsIn s (if t then q else r)
+if_may s true q r a b = a refl
+if_may s false q r a b = b
+
 answered_permits : (m : Machine) (n : ℕ) → Permits m.space (answered m n).space
 unfolding answered
 answered_permits m n = same m.space
 
-gets_permits : (w : World) (xs : List ℕ) (a : ℕ) → PermitsIn w.machine.space (gets w xs a)
-gets_permits w [] a = answered_permits w.machine 0
-gets_permits w (x ∷ xs) a =
+gets_permits : (w : World) (xs : List ℕ) (a : ℕ) → w.machine.space.can_write a ≡ true → PermitsIn w.machine.space (gets w xs a)
+gets_permits w [] a may = answered_permits w.machine 0
+gets_permits w (x ∷ xs) a may =
     let m = with_space w.machine (with_bytes w.machine.space (byte_put a x)) in
-    further w.machine.space m.space (answered m 1).space (bytes_alone w.machine.space (byte_put a x)) (answered_permits m 1)
+    further w.machine.space m.space (answered m 1).space (bytes_alone w.machine.space (byte_put a x) (λ k q. byte_kept w.machine.space.can_write a k x _ may q)) (answered_permits m 1)
 
 call_permits : (w : World) → PermitsIn w.machine.space (call_of w)
 call_permits w =
@@ -139,7 +167,7 @@ call_permits w =
     let last = if is_write then writes else Trapped cause.BadCall w in
     if_permits s (register m 17 == 93) (Ended (register m 10 % 2 ^ 8) w) (if is_read then reads else last) stays
     (if_permits s is_read reads last
-    (if_permits s (s.can_write a) (gets w w.input a) (Trapped cause.StoreFault w) (gets_permits w w.input a) stays)
+    (if_may s (s.can_write a) (gets w w.input a) (Trapped cause.StoreFault w) (gets_permits w w.input a) stays)
     (if_permits s is_write writes (Trapped cause.BadCall w) (if_permits s (s.can_read a) (puts w a) (Trapped cause.LoadFault w) (answered_permits m 1) stays) stays))
 
 -- ---- a run

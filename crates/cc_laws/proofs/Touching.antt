@@ -1,9 +1,8 @@
 -- A run touches the stack no deeper than the frames of its calls: where less of the stack may be read and written it goes the same way.
-use Rattle.std.proofs.Common.{◌≡◌, ℕ, suc, ◌+◌, ◌-◌, ◌*◌, ◌<◌, ◌≤◌, List, [], length, Bool, true, false, ◌||◌, Ok, refl, sym, ap, ◌∙◌, subst, arith}
+use Rattle.std.proofs.Common.{◌≡◌, ℕ, ◌+◌, ◌-◌, ◌*◌, ◌<◌, ◌≤◌, List, [], length, Bool, true, false, ◌||◌, Ok, refl, sym, ap, ◌∙◌, subst, arith}
 use Rattle.std.specs.Prelude.{replicate}
 use Rattle.rv32.specs.declared.state.Cause.{Cause}
 use Rattle.rv32.specs.Space.{Space}
-use Rattle.rv32.specs.Step.{Machine, register}
 use Rattle.memory_map.specs.MemoryMap.{text_start, data_start, stack_end, stack_start}
 use Rattle.loader.specs.File.{file_image}
 use Rattle.elf_out.specs.Layout.{Parts}
@@ -24,20 +23,20 @@ use Rattle.select_simulation.proofs.Real.{goes_on}
 use Rattle.cc_backend.specs.FlatImages.{IsImageOf, FitStack}
 use Rattle.cc_backend.proofs.FlatImages as whole
 use Rattle.cc_backend.proofs.FlatImages.{within_low, within_is, below_not, or_left, or_right, or_none}
-use Rattle.cc_laws.specs.Laws.{IsInside, run_of, labels, space_from, FramesAreAllItTouches, FilesTouchTheirFrames}
+use Rattle.cc_laws.specs.Laws.{IsInside, space_from, FilesTouchTheirFrames}
 use Rattle.cc_laws.proofs.Permissions as kept
 use Rattle.cc_laws.proofs.Permissions.{world_of, run_permits}
 use Rattle.cc_laws.proofs.Steps.{inside_now}
 use Rattle.cc_laws.proofs.Whole.{kept_inside}
 use Rattle.cc_laws.proofs.Loosening.{loose, loose_world, Allows, runs_loosely}
 
-or_more : (a b c : Bool) → (b ≡ true → c ≡ true) → (a || b) ≡ true → (a || c) ≡ true
+pub or_more : (a b c : Bool) → (b ≡ true → c ≡ true) → (a || b) ≡ true → (a || c) ≡ true
 or_more true b c h e = refl
 or_more false b c h e = h e
 
 -- ---- runs that come to where they go on
 
-abbrev GoesOn : sim.Progress → Type 0
+abbrev pub GoesOn : sim.Progress → Type 0
 GoesOn x = (v : World) × (x ≡ Running v)
 
 goes_on_if : (x : sim.Progress) → ((status : ℕ) (v : World) → x ≡ Ended status v → ⊥) → ((c : Cause) (v : World) → x ≡ Trapped c v → ⊥) → GoesOn x
@@ -45,7 +44,7 @@ goes_on_if (Running v) h g = (v, refl)
 goes_on_if (Ended status v) h g = absurd (h status v refl)
 goes_on_if (Trapped c v) h g = absurd (g c v refl)
 
-goes_before : (j k : ℕ) (w v : World) → j ≤ k → rvrun k w ≡ Running v → GoesOn (rvrun j w)
+pub goes_before : (j k : ℕ) (w v : World) → j ≤ k → rvrun k w ≡ Running v → GoesOn (rvrun j w)
 goes_before j k w v le e =
     let sum : j + (k - j) ≡ k = omega (arith, le) in
     let later : rvrun (j + (k - j)) w ≡ Running v = ap (λ n. rvrun n w) sum ∙ e in

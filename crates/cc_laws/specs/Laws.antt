@@ -1,6 +1,6 @@
 -- What is promised of a built file, in the words of what is seen of it: what it does to its outside, whether it traps, with which status it ends
 -- (ISO/IEC 9899:2011 5.1.2.3p6).
-use Rattle.std.specs.Prelude.{◌≡◌, ◌≤◌, ◌<◌, ℕ, ◌+◌, ◌-◌, ◌*◌, ◌%◌, ◌^◌, ◌||◌, List, ◌++◌, length, reverse, true, Option, Some, Ok}
+use Rattle.std.specs.Prelude.{◌≡◌, ◌≤◌, ◌<◌, ℕ, ◌+◌, ◌-◌, ◌*◌, ◌%◌, ◌^◌, ◌||◌, nat_le, if◌then◌else◌, List, ◌++◌, length, reverse, true, Option, Some, Ok}
 use Rattle.srcset.specs.declared.refusal.Pos.{Pos}
 use Rattle.tree.specs.Tree.{ExternalTree}
 use Rattle.rv32.specs.declared.instr.Instr.{Instr}
@@ -182,6 +182,24 @@ abbrev pub FilesTouchTheirFrames : Type 0
 FilesTouchTheirFrames =
     (stack : ℕ) (p : Program) (file frames : List ℕ) (made : IsFileOf stack p file frames)
     → HasImage file (λ image. (input : List ℕ) → IsInput input → FramesAreAllItTouches made image input)
+
+abbrev pub lower : ℕ → ℕ → ℕ
+lower a b = if nat_le a b then a else b
+
+-- A step of its flat code, from s to t, where the run has come to s in n steps: the machine stands with s and then with t, and between the two no instruction loads or
+-- stores in the stack below the stack pointer, that is, below the lower of the two where the step enters or leaves a function.
+abbrev pub StepsStayAbove : {stack : ℕ} {p : Program} {file frames : List ℕ} → IsFileOf stack p file frames → Image → (input : List ℕ) → Type 0
+StepsStayAbove made image input =
+    (n : ℕ) (s t : flat.State) → flat.run made.code n (flat.start made.code input) ≡ flat.running s → flat.step made.code s ≡ flat.running t
+    → (k j : ℕ) × (v w : World) × (run_of image input k ≡ Running v) × StandsWith made.code (labels made) s v × (run_of image input (k + j) ≡ Running w) × StandsWith made.code (labels made) t w
+    × ((i : ℕ) (u : World) → i < j → run_of image input (k + i) ≡ Running u
+    → IsInside (space_from made.parts (lower (register v.machine 2) (register w.machine 2)) image.space) u.machine)
+
+-- so it is on every input on which the program stays defined
+abbrev pub FilesStayAbove : Type 0
+FilesStayAbove =
+    (stack : ℕ) (p : Program) (file frames : List ℕ) (made : IsFileOf stack p file frames)
+    → HasImage file (λ image. (input : List ℕ) → IsInput input → StaysDefined stack p input → StepsStayAbove made image input)
 
 -- ---- which calls are active
 

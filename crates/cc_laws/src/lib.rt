@@ -1,7 +1,7 @@
 //! What is promised of a built file, in the words of what is seen of it. There is nothing to run: each law is the contract of a function without code.
 #![tactic(auto)]
 
-ghost use Rattle.cc_laws.specs.Laws.{DoesAll, DoesNoMore, NeverTraps, StaysInside, FilesAreLaidOut, FilesKeepConvention, FilesTouchTheirFrames, FilesCallAsMeant, EndsOnlySo, UnitsHaveMain, EndsInTime};
+ghost use Rattle.cc_laws.specs.Laws.{DoesAll, DoesNoMore, NeverTraps, StaysInside, FilesAreLaidOut, FilesKeepConvention, FilesTouchTheirFrames, FilesStayAbove, FilesCallAsMeant, EndsOnlySo, UnitsHaveMain, EndsInTime};
 
 /// What the abstract machine has done within any number of ticks, the file has done after some number of instructions.
 pub fn does_all()
@@ -40,6 +40,11 @@ pub fn files_keep_convention()
 /// In a file that is made of a program no instruction loads or stores in the stack below the lowest frame that its calls have had so far.
 pub fn files_touch_their_frames()
     ensures { FilesTouchTheirFrames }
+{}
+
+/// In a file that is made of a program no instruction within a step of its flat code loads or stores in the stack below the stack pointer.
+pub fn files_stay_above()
+    ensures { FilesStayAbove }
 {}
 
 /// In a file that is made of a program the calls that are active at a step of its flat code are those that are active at a moment of the abstract machine's run.
