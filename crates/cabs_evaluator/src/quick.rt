@@ -1,11 +1,18 @@
 //! Which parts are evaluated here: those that call nothing.
 
+ghost use Rattle.std.specs.Prelude.{◌≡◌, map};
+ghost use Rattle.typing_program.specs.View.{initialiser_of, option_value, place_of, statement_of, statements_of, value_of};
+ghost use Rattle.cabs_store.specs.layer.Views.{node_of};
+ghost use Rattle.cabs_evaluator.specs.layer.Quick.{quick, quick_all, quick_control, quick_initialiser, quick_node, quick_or, quick_place, quick_statement};
+
 use cabs_store::frames::Node;
 use typing_program::{Initialiser, Place, Statement, Value};
 
 /// Whether a place calls nothing.
 #[cycle(quick)]
-pub fn is_quick_place(a: &Place) -> bool {
+pub fn is_quick_place(a: &Place) -> bool
+    ensures { result ≡ quick_place (place_of a.now) }
+{
     match a {
         Place::Named(_, _) => true,
         Place::Element(_, array, index) => is_quick_place(array) && is_quick(index),
@@ -14,7 +21,9 @@ pub fn is_quick_place(a: &Place) -> bool {
 
 /// Whether an expression calls nothing.
 #[cycle(quick)]
-pub fn is_quick(e: &Value) -> bool {
+pub fn is_quick(e: &Value) -> bool
+    ensures { result ≡ quick (value_of e.now) }
+{
     match e {
         Value::Constant(_, _) => true,
         Value::Read(_, a) => is_quick_place(a),
@@ -34,15 +43,26 @@ pub fn is_quick(e: &Value) -> bool {
 }
 
 /// Whether an expression that may be left out calls nothing.
-fn is_quick_or(e: Option<&Value>) -> bool {
+fn is_quick_or(e: &Option<Value>) -> bool
+    ensures { result ≡ quick_or (option_value e.now) }
+{
     match e {
         None => true,
         Some(e) => is_quick(e),
     }
 }
 
+/// Whether what controls a `for` calls nothing.
+fn is_quick_control(start: &Option<Value>, test: &Option<Value>, step: &Option<Value>) -> bool
+    ensures { result ≡ quick_control (option_value start.now) (option_value test.now) (option_value step.now) }
+{
+    is_quick_or(start) && is_quick_or(test) && is_quick_or(step)
+}
+
 /// Whether an initialiser is a single value, and calls nothing.
-fn is_quick_initialiser(i: &Initialiser) -> bool {
+fn is_quick_initialiser(i: &Initialiser) -> bool
+    ensures { result ≡ quick_initialiser (initialiser_of i.now) }
+{
     match i {
         Initialiser::One(_, e) => is_quick(e),
         Initialiser::Text(_) => false,
@@ -53,18 +73,24 @@ fn is_quick_initialiser(i: &Initialiser) -> bool {
 
 /// Whether all statements are done here.
 #[cycle(quick_statements)]
-fn are_quick(all: &[Statement]) -> bool {
-    for a in all {
+fn are_quick(all: &[Statement]) -> bool
+    ensures { result ≡ quick_all (statements_of (map statement_of all.now)) }
+{
+    let mut rest = all;
+    while let Some((a, more)) = rest.split_first() {
         if !is_quick_statement(a) {
             return false;
         }
+        rest = more;
     }
     true
 }
 
 /// Whether a statement is done here: it calls nothing, and it has no `switch` and no initialiser but single values.
 #[cycle(quick_statements)]
-pub fn is_quick_statement(a: &Statement) -> bool {
+pub fn is_quick_statement(a: &Statement) -> bool
+    ensures { result ≡ quick_statement (statement_of a.now) }
+{
     match a {
         Statement::Empty => true,
         Statement::Evaluate(e) => is_quick(e),
@@ -79,9 +105,7 @@ pub fn is_quick_statement(a: &Statement) -> bool {
         Statement::While(e, a) => is_quick(e) && is_quick_statement(a),
         Statement::DoWhile(a, e) => is_quick(e) && is_quick_statement(a),
         Statement::For(declared, control, a) => {
-            is_quick_or(control.start.as_ref())
-                && is_quick_or(control.test.as_ref())
-                && is_quick_or(control.step.as_ref())
+            is_quick_control(&control.start, &control.test, &control.step)
                 && are_quick(declared)
                 && is_quick_statement(a)
         }
@@ -93,7 +117,9 @@ pub fn is_quick_statement(a: &Statement) -> bool {
 }
 
 /// Whether what takes the next tick is done here.
-pub fn is_quick_node(node: &Node<'_>) -> bool {
+pub fn is_quick_node(node: &Node<'_>) -> bool
+    ensures { result ≡ quick_node (node_of node.now) }
+{
     match node {
         Node::Value(e) => is_quick(e),
         Node::Place(_) => false,
