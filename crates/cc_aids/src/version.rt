@@ -2,4 +2,4 @@
 
 /// What `cc --version` tells behind the name: the version, the kit that it is proved with, and the digest of what its compiler is built from.
 pub const VERSION: &str =
-    "1.0, proved with the logic dac8208d650f15bf, compiler 164c801dbee60e65ebbcb231d5df454f348bbcc25b71f14a50b7ab363e615a1a";
+    "1.0, proved with the logic dac8208d650f15bf, compiler b830bdfccc5d4f6ce2ea731091e72200729c762e28f29d5ac284b24d5ad5d293";
