@@ -24,14 +24,14 @@ elif [ "${1:-}" != --prove ] && [ -x release/cc ] && [ "$(sh release/digest.sh)"
     mkdir -p bin
     cp release/cc bin/cc
 else
-    mkdir -p bin
     log=$(mktemp)
-    echo 'proving and building cc (the first time takes half an hour and more) ..'
+    echo 'release/cc is of other sources, or was not to be taken: proving and building cc (the first time takes half an hour and more) ..'
     if ! (cd crates/cc_program && rt run -- --help) >"$log" 2>&1; then
         tail -n 40 "$log"
         exit 1
     fi
     rm -f "$log"
+    mkdir -p bin
     cp crates/cc_program/out/cc_program bin/cc
 fi
 

@@ -14,10 +14,14 @@ RECIPES = {
     'statement': (r'DoWhile|do_while|\bDo\b', ()),
     'operator': (r'\b(?:Rem|Percent)\b', ('rv32', 'asm', 'loader', 'sim', 'rows_machine')),
     'fault': (r'\bLabelTwice\b|\b540\b', ()),
-    'built-in': (r'[gG]et_?[bB]yte', ()),
+    'built-in': (r'[gG]et_?[bB]yte|\bGotEnd\b', ()),
     'instruction': (r'MulHighSignedUnsigned|mulhsu', ()),
     'limit': (r'function_node_limit|MAX_FUNCTION_NODES|FunctionNodeLimit|\b710\b', ()),
 }
+
+# tests that name rv_getbyte in a sample program alone
+MERE_PROGRAMS = ['tests/outside/' + name for name in (
+    'boards/lines.py', 'inspecting/check.py', 'mistakes/cases.py', 'refused/bytes.py', 'scalars/generate.py', 'scalars/worked.py', 'streams/check.py')]
 
 def read(path):
     with open(path, encoding='utf-8') as file:
@@ -27,23 +31,25 @@ def files(*roots):
     for root in roots:
         for at, folders, names in os.walk(root):
             folders[:] = sorted(it for it in folders if it not in ('out', 'data', 'must-fail', 'edits'))
-            yield from (os.path.join(at, name) for name in sorted(names) if name.endswith(('.rt', '.antt', '.py', '.sh')))
+            yield from (os.path.join(at, name) for name in sorted(names) if name.endswith(('.rt', '.antt', '.py', '.sh', '.s')))
 
 def flow():
     return [line.split(':')[0].split()[0] for line in read('crates.txt').split('\n') if line.strip() and not line.startswith('#')]
 
-def lists(pattern, without):
+def lists(name, pattern, without):
     """Of each crate the files in which the names stand, and those of the tests from outside."""
     found = {}
-    for path in list(files('crates', 'tests/outside')) + ['docs/FAULTS.md']:
+    for path in list(files('crates', 'tests/outside', 'boards')) + ['docs/FAULTS.md', 'docs/LANGUAGE.md', 'docs/MACHINE.md', 'docs/MEANING.md', 'boards/README.md']:
+        if name == 'built-in' and path in MERE_PROGRAMS:
+            continue
         crate = path.split('/')[1] if path.startswith('crates/') else ''
         if crate not in without and re.search(pattern, read(path)):
             found.setdefault(crate, []).append(path)
     for crate in flow():
         if crate in found:
-            names = [re.sub(r'\.(rt|antt)$', '', path.split('/', 2)[2]) for path in found[crate]]
-            names.sort(key=lambda it: (('src', 'specs', 'proofs').index(it.split('/')[0]), it))
-            yield '- `%s`: %s' % (crate, ', '.join('`%s`' % name for name in names))
+            inside = [re.sub(r'\.(rt|antt)$', '', path.split('/', 2)[2]) for path in found[crate]]
+            inside.sort(key=lambda it: (('src', 'specs', 'proofs').index(it.split('/')[0]), it))
+            yield '- `%s`: %s' % (crate, ', '.join('`%s`' % it for it in inside))
     if '' in found:
         yield '- beside the crates: ' + ', '.join('`%s`' % path for path in found[''])
 
@@ -53,7 +59,7 @@ def written(page):
         head, mark, rest = page.partition(begin)
         if not mark:
             sys.exit('%s has no place for the files of %s' % (PAGE, name))
-        page = head + begin + '\n'.join(lists(pattern, without)) + '\n' + rest[rest.index(end):]
+        page = head + begin + '\n'.join(lists(name, pattern, without)) + '\n' + rest[rest.index(end):]
     return page
 
 def main():
