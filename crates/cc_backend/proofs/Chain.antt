@@ -8,8 +8,6 @@ use Rattle.memory_map.specs.MemoryMap.{stack_end}
 use Rattle.sim.specs.Runs.{World}
 use Rattle.typing_rules.specs.Program as typed
 use Rattle.meaning.specs.History.{Entry, weight_in, sum_of, greatest_sum, trace_of, active}
-use Rattle.meaning.specs.Machine as machine
-use Rattle.meaning.specs.Machine.{Stops, Ended, TicksUsed}
 use Rattle.meaning.specs.Meaning.{cstep, last_of}
 use Rattle.tac_code.specs.Code as tac
 use Rattle.tac_code.specs.Run as tac_run
@@ -24,7 +22,7 @@ use Rattle.select_simulation.specs.Runs.{StandsWith, slack}
 use Rattle.select_simulation.proofs.Table.{spent_is_more}
 use Rattle.cc_backend.specs.Runs.{bytes_or_none}
 use Rattle.cc_backend.specs.Simulation.{AreWithin, both, step_for_step}
-use Rattle.cc_backend.specs.Chain.{StandsBelow, of_program, of_tac, of_flat, of_image, into_file, TacSimulatesProgram, FlatSimulatesTac, ImageSimulatesFlat, FlatSimulatesProgram, FileSimulatesProgram}
+use Rattle.cc_backend.specs.Chain.{StandsBelow, of_program, of_tac, of_flat, into_file, TacSimulatesProgram, FlatSimulatesTac, ImageSimulatesFlat, FlatSimulatesProgram, FileSimulatesProgram}
 use Rattle.cc_backend.proofs.Simulation.{compose}
 use Rattle.cc_backend.proofs.FlatImages.{image_goes_on, image_ends}
 use Rattle.cc_backend.proofs.Known.{AreKnown, Known, run_known}

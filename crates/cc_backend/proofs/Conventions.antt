@@ -15,7 +15,7 @@ use Rattle.cc_backend.specs.FlatImages.{FitStack}
 use Rattle.cc_backend.specs.Made.{IsFlatCodeOf}
 use Rattle.cc_backend.specs.Convention.{FramesAreWeighed}
 use Rattle.cc_backend.proofs.Forms.{frame_within, frames_fit}
-use Rattle.cc_backend.specs.Simulation.{AreWithin}
+use Rattle.cc_backend.specs.Simulation.{Doing, Done, AreWithin}
 use Rattle.cc_backend.specs.Chain.{of_program, of_flat}
 use Rattle.cc_backend.proofs.Chain.{flat_simulates_program, calls_are_within}
 use Rattle.cc_backend.proofs.Making.{way_of, form_of}
@@ -32,7 +32,7 @@ module _ (p : typed.Program) (f : flat.Program) (input : List ℕ) (code : IsFla
   goes n s over k le =
       let most = greatest_sum (weight_in p) s.history in
       let small = calls_are_within p input most n (subst (λ r. greatest_sum (weight_in p) (last_of r).history ≤ most) (sym over) (omega arith)) in
-      let x = record { trace = trace_of s.history; input = s.input; calls = active s.history } in
+      let x : Doing = record { trace = trace_of s.history; input = s.input; calls = active s.history } in
       let c = (flat_simulates_program (weight_in p) most p f input (way_of p f code) bytes).goes_on n x (s, over, refl, refl, refl) small in
       fit n c.0 c.5 most small k (omega (arith, le, c.1))
 
@@ -40,7 +40,7 @@ module _ (p : typed.Program) (f : flat.Program) (input : List ℕ) (code : IsFla
   ends n status s over k =
       let most = greatest_sum (weight_in p) s.history in
       let small = calls_are_within p input most n (subst (λ r. greatest_sum (weight_in p) (last_of r).history ≤ most) (sym over) (omega arith)) in
-      let x = record { status = status; trace = trace_of s.history; input = s.input } in
+      let x : Done = record { status = status; trace = trace_of s.history; input = s.input } in
       let c = (flat_simulates_program (weight_in p) most p f input (way_of p f code) bytes).ends n x (s, over, refl, refl) small in
       ⊎_elim
       (λ lt. fit n c.0 c.3 most small k (omega (arith, lt)))

@@ -16,7 +16,7 @@ use Rattle.asm.specs.Layout.{AllReach, IsLow, size, place, longest}
 use Rattle.asm.specs.Placed.{IsFewest}
 use Rattle.typing_rules.specs.Program as typed
 use Rattle.meaning.specs.History.{trace_of, active, weight_in, greatest_sum}
-use Rattle.meaning.specs.Meaning.{cstep, last_of}
+use Rattle.meaning.specs.Meaning.{last_of}
 use Rattle.tac_code.specs.Code as tac
 use Rattle.tac_code.specs.Sound.{data_bytes}
 use Rattle.tac_code.specs.Spans.{span}
@@ -35,7 +35,7 @@ use Rattle.select_simulation.proofs.Reaching.{jumps_reach}
 use Rattle.cc_backend.proofs.ShortPrograms.{code_fits, program_is_short}
 use Rattle.cc_backend.specs.FlatImages.{IsImageOf}
 use Rattle.cc_backend.specs.Forms.{IsFormOf}
-use Rattle.cc_backend.specs.Simulation.{both}
+use Rattle.cc_backend.specs.Simulation.{Doing, Done, both}
 use Rattle.cc_backend.specs.Chain.{into_flat, into_file}
 use Rattle.cc_backend.proofs.Forms.{none_within, flat_form}
 use Rattle.cc_backend.proofs.Making.{way_of, form_of}
@@ -64,8 +64,8 @@ functions_short k first (f ∷ fs) =
     let both = sum_by-append (size true) (function_items k first f) (functions_items (k + 1) (first + (length f.code + 1)) fs) in
     omega (arith, one, more, both, sum_by-cons rows_of f fs)
 
-past : (n a k : ℕ) → n ≤ a * k → 1 ≤ k → n < (a + 1) * k
-past n a k le some = let whole : (a + 1) * k ≡ a * k + k = suc-mul a k in omega (arith, le, some, whole)
+past : (n a k : ℕ) → n ≤ a * k → 1 ≤ k → n < suc a * k
+past n a k le some = let whole : suc a * k ≡ a * k + k = suc-mul a k in omega (arith, le, some, whole)
 
 start_short : (main : ℕ) → longest (start_items main) ≡ 24
 start_short main = refl
@@ -160,13 +160,13 @@ module _ (p : typed.Program) (f : flat.Program) (ready : IsReady p) (made : IsFl
     loads = loads;
     ends = λ input bytes n status s over small.
         let fit = calls_are_within p input parts.stack n (subst (λ r. greatest_sum (weight_in p) (last_of r).history ≤ parts.stack) (sym over) small) in
-        let x = record { status = status; trace = trace_of s.history; input = s.input } in
+        let x : Done = record { status = status; trace = trace_of s.history; input = s.input } in
         let w = (file_simulates_program p f parts input (way_of p f made) image bytes).ends n x (s, over, refl, refl) fit in
         (w.0, w.2.0, omega (arith, w.1), (w.2.1, (w.2.2, w.2.3)));
-    slack = (both into_flat (into_file f)).slack + 1;
+    slack = suc (both into_flat (into_file f)).slack;
     goes_on = λ input bytes n s over small.
         let fit = calls_are_within p input parts.stack n (subst (λ r. greatest_sum (weight_in p) (last_of r).history ≤ parts.stack) (sym over) small) in
-        let x = record { trace = trace_of s.history; input = s.input; calls = active s.history } in
+        let x : Doing = record { trace = trace_of s.history; input = s.input; calls = active s.history } in
         let w = (file_simulates_program p f parts input (way_of p f made) image bytes).goes_on n x (s, over, refl, refl, refl) fit in
         (w.0, w.4.0, omega (arith, w.3), (past n (both into_flat (into_file f)).slack w.0 w.1 w.2, (w.4.1, (w.4.2, w.4.3), w.4.4)));
   }

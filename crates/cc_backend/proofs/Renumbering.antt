@@ -1,5 +1,5 @@
 -- Flat code with its words under other numbers does what it did.
-use Rattle.std.proofs.Common.{◌≡◌, ◌≤◌, ℕ, zero, suc, ◌+◌, max, List, [], ◌∷◌, map, Some, refl, sym, ap, ◌∙◌, subst, arith}
+use Rattle.std.proofs.Common.{◌≡◌, ℕ, zero, suc, ◌+◌, max, List, [], ◌∷◌, map, Some, refl, sym, ap, ◌∙◌, subst, arith}
 use Rattle.std.specs.Prelude.{slice_get, sum_by}
 use Rattle.tac_code.specs.Code as tac
 use Rattle.frames_code.specs.declared.code.Operand.{Operand}

@@ -1,8 +1,8 @@
 -- Simulations compose.
-use Rattle.std.proofs.Common.{◌≤◌, ℕ, ◌*◌, ◌≡◌, sym, subst, mul_assoc, arith}
+use Rattle.std.proofs.Common.{◌≤◌, ℕ, ◌*◌, sym, subst, mul_assoc, arith}
 use Rattle.std.proofs.Math.Nat.{le_trans}
 use Rattle.std.proofs.lemmas.Nat.{mul-le}
-use Rattle.cc_backend.specs.Simulation.{Doing, Done, System, Terms, Simulates, both, Compose}
+use Rattle.cc_backend.specs.Simulation.{Compose}
 
 further : (n a k b j : ℕ) → n ≤ a * k → k ≤ b * j → n ≤ a * b * j
 further n a k b j one two =

@@ -10,6 +10,7 @@ use Rattle.frames.specs.Flattened.{behind}
 use Rattle.frames_steps.proofs.Runs.{run_both}
 use Rattle.cc_backend.specs.Runs.{IsInput}
 use Rattle.cc_backend.specs.Made.{IsFileOf}
+use Rattle.cc_backend.specs.Simulation.{Doing, Done}
 use Rattle.cc_backend.specs.Chain.{of_program, of_flat}
 use Rattle.cc_backend.proofs.Chain.{flat_simulates_program, calls_are_within}
 use Rattle.cc_backend.proofs.Making.{way_of}
@@ -30,7 +31,7 @@ module _ (stack : ℕ) (p : Program) (file frames : List ℕ) (made : IsFileOf s
   at_ticks n s over e =
       let stop = last_of (cstep n p input) in
       let most = greatest_sum (weight_in p) stop.history in
-      let x = record { trace = trace_of stop.history; input = stop.input; calls = active stop.history } in
+      let x : Doing = record { trace = trace_of stop.history; input = stop.input; calls = active stop.history } in
       let c = (flat_simulates_program (weight_in p) most p made.code input (way_of p made.code made.code_is) bytes).goes_on n x (stop, over, refl, refl, refl) (calls_are_within p input most n (omega arith)) in
       on_the_way n c.0 c.5 n s (omega (arith, c.1)) e
 
@@ -38,7 +39,7 @@ module _ (stack : ℕ) (p : Program) (file frames : List ℕ) (made : IsFileOf s
   at_end n status s over k e =
       let stop = last_of (cstep n p input) in
       let most = greatest_sum (weight_in p) stop.history in
-      let x = record { status = status; trace = trace_of stop.history; input = stop.input } in
+      let x : Done = record { status = status; trace = trace_of stop.history; input = stop.input } in
       let c = (flat_simulates_program (weight_in p) most p made.code input (way_of p made.code made.code_is) bytes).ends n x (stop, over, refl, refl) (calls_are_within p input most n (omega arith)) in
       ⊎_elim
       (λ lt. on_the_way n c.0 c.3 k s (omega (arith, lt)) e)
