@@ -29,6 +29,23 @@ fn takes(lexer: &mut Lexer, fault: &mut Option<Fault>, token: &PpToken, names: &
     true
 }
 
+// Whether a token is the one that is wanted, which the lexer then takes.
+fn takes_wanted(
+    lexer: &mut Lexer,
+    fault: &mut Option<Fault>,
+    token: &PpToken,
+    names: &mut Names,
+    wanted: &PpToken,
+    others: &Names,
+) -> bool
+    ensures { KeepsNumbers names.old names.new }
+{
+    if !is_same_pp(token, names, wanted, others) {
+        return false;
+    }
+    takes(lexer, fault, token, names)
+}
+
 /// Pulls the tokens of a list, and has the lexer take each. Whether the stream gives the list, and the lexer keeps its fault.
 #[tactic(auto, using(pp::proofs::StreamLaws::stream_grows))]
 pub fn pull_list(
@@ -47,7 +64,7 @@ pub fn pull_list(
         let Ok(Some(token)) = pp.next(alloc, names) else {
             return false;
         };
-        if !is_same_pp(&token, names, wanted, others) || !takes(lexer, &mut fault, &token, names) {
+        if !takes_wanted(lexer, &mut fault, &token, names, wanted, others) {
             return false;
         }
     }
