@@ -30,18 +30,10 @@ use words::{Request, read_request, read_stack};
 const KEPT_BYTES: usize = 33_488_896;
 
 fn main(rt: HostRuntime) -> ExitCode {
-    keep_large_blocks(rt.alloc());
     match env::args(&rt) {
         Ok(words) => ExitCode::from(obey(&rt, words)),
         Err(error) => ExitCode::from(unread_words(&rt, &error)),
     }
-}
-
-/// Takes one large block, of which no page is touched, and gives it back. From then on the allocator of the C library takes large lists from its heap, where the
-/// pages of one list serve the next, and not each from the system with fresh ones. Where it is refused, nothing is lost.
-#[inline(never)]
-fn keep_large_blocks(alloc: Global) {
-    let _block = Vec::<u8>::with_capacity(alloc, KEPT_BYTES);
 }
 
 /// The exit status where an argument is no text, or there is no memory for the arguments.
@@ -109,6 +101,13 @@ fn answer(rt: &HostRuntime, matches: &ArgMatches<'_>) -> Result<u8> {
     }
 }
 
+/// Takes one large block, of which no page is touched, and gives it back. From then on the allocator of the C library takes large lists from its heap, where the
+/// pages of one list serve the next, and not each from the system with fresh ones. Where it is refused, nothing is lost.
+#[inline(never)]
+fn keep_large_blocks(alloc: Global) {
+    let _block = Vec::<u8>::with_capacity(alloc, KEPT_BYTES);
+}
+
 /// Compiles the files, and writes the executable file. What was buffered is written before the status is answered.
 fn build(
     rt: &HostRuntime,
@@ -121,6 +120,7 @@ fn build(
         let _said = eprintln!(rt; "error: OUT is one of the files that are read");
         return Ok(2);
     }
+    keep_large_blocks(rt.alloc());
     let mut set = FileSet::new(rt.alloc());
     if let Err(fault) = read_files(rt, request.main, matches, &mut set) {
         return Ok(say(rt, &fault));
