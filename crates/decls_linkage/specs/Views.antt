@@ -1,6 +1,5 @@
 -- What the code's types of linkage stand for.
-use Rattle.std.specs.Prelude.{Bool, false, [], ◌∷◌, Option, Some, None}
-use Rattle.ctypes.specs.declared.types.IntType.TheVariants as ty
+use Rattle.std.specs.Prelude.{Bool, false, Option, Some, None}
 use Rattle.typing_program.specs.declared.types.ObjectType.{ObjectType}
 use Rattle.typing_program.specs.declared.types.DeclaredType.{DeclaredType}
 use Rattle.typing_program.specs.View.{object_type_of, declared_type_of}
@@ -8,11 +7,8 @@ use Rattle.typing_scopes.specs.declared.bindings.Meaning.{Meaning}
 use Rattle.typing_scopes.specs.Scopes.{meaning_of, linkage_of, state_of}
 use Rattle.decls_linkage.specs.declared.rules.StorageClass.{StorageClass}
 use Rattle.decls_linkage.specs.declared.rules.StorageClass.TheVariants as class
-use Rattle.decls_linkage.specs.declared.built_ins.BuiltIn.{BuiltIn}
-use Rattle.decls_linkage.specs.declared.built_ins.BuiltIn.TheVariants as built_in
 use Rattle.decls_linkage.specs.declared.redeclarations.Agreed.{Agreed}
 use Rattle.typing_rules.specs.Types as type
-use Rattle.typing_rules.specs.Program as program
 use Rattle.typing_rules.specs.Scope as scope
 use Rattle.typing_rules.specs.Linkage as typed
 
@@ -43,13 +39,3 @@ has_elements array element = are_elements (type.element_type array) element
 
 abbrev pub agreed_of : Agreed → typed.Agreed
 agreed_of a = record { meaning = meaning_of a.meaning; linkage = linkage_of a.linkage; state = state_of a.state }
-
--- int rv_getbyte(void), void rv_putbyte(int c), void rv_exit(int status)
-abbrev pub built_in_of : BuiltIn → scope.BuiltIn
-built_in_of built_in.GetByte = record { callee = program.get_byte; type = record { result = Some ty.Int; constant = false; parameters = [] } }
-built_in_of built_in.PutByte = record { callee = program.put_byte; type = record { result = None; constant = false; parameters = type.number ty.Int ∷ [] } }
-built_in_of built_in.Exit = record { callee = program.exit; type = record { result = None; constant = false; parameters = type.number ty.Int ∷ [] } }
-
-abbrev pub option_built_in : Option BuiltIn → Option scope.BuiltIn
-option_built_in None = None
-option_built_in (Some b) = Some (built_in_of b)

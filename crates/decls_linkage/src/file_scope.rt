@@ -11,14 +11,14 @@ ghost use Rattle.typing_expressions.specs.Refused.{Tells};
 ghost use Rattle.typing_scopes.specs.Scopes.{with_texts, meaning_of, state_of, option_binding};
 ghost use Rattle.decls_linkage.specs.Views.{class_of, agreed_of};
 
-use crate::built_ins::{as_built_in, built_in};
+use crate::built_ins::as_built_in;
 use crate::composites::completed;
 use crate::redeclarations::{Agreed, redeclared};
 use crate::rules::{StorageClass, is_mentioned, linkage_of_function, linkage_of_object};
 use srcset::{Names, Pos, Refusal};
 use std::alloc::Global;
 use typing_program::{DeclaredType, FunctionType, Storage};
-use typing_scopes::{Binding, Meaning, Scope, State, StaticObject};
+use typing_scopes::{Binding, Meaning, Scope, State, StaticObject, built_in};
 
 /// The object with this number has this type.
 fn put_object(

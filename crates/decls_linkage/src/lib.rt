@@ -10,7 +10,7 @@ mod redeclarations;
 mod rules;
 
 pub use block_scope::{fresh, object_at};
-pub use built_ins::{BuiltIn, as_built_in, built_in};
+pub use built_ins::as_built_in;
 pub use composites::{array_of, completed, composite, copied};
 pub use file_scope::{file_function, file_object};
 pub use redeclarations::Agreed;

@@ -17,12 +17,12 @@ ghost use Rattle.decls_specifiers.specs.inside.Lists.{enumerator_read, behind_en
 use const_expr::constant_value;
 use ctypes::IntType;
 use decls_declarators::past;
-use decls_linkage::{Agreed, as_built_in, built_in, fresh};
+use decls_linkage::{Agreed, as_built_in, fresh};
 use srcset::{Code, Names, Pos, Refusal};
 use std::alloc::Global;
 use tree::{Enumerator, Expr};
 use typing_expressions::broken;
-use typing_scopes::{Linkage, Meaning, Scope, State, Tag};
+use typing_scopes::{Linkage, Meaning, Scope, State, Tag, built_in};
 
 /// The value of an enumerator is an `int` (6.7.2.2p2).
 fn fits_int(pos: Pos, value: i64) -> Result<i64, Refusal>

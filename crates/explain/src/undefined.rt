@@ -209,6 +209,7 @@ fn act_help(act: u32) -> &'static str {
 
 /// What an undefined act is called.
 impl Undefined {
+    /// The words that head the report: `undefined: ` and what the act is.
     pub fn title(&self) -> &'static str {
         match self.act {
             1 => "undefined: signed arithmetic out of range",

@@ -35,6 +35,7 @@ pub struct Open {
 }
 
 impl Open {
+    /// Nothing is open: where an external declaration begins.
     pub fn new() -> Open {
         Open {
             start: 0,

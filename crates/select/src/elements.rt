@@ -95,6 +95,7 @@ fn reach_offset(function: &Function, location: &Location) -> Short
     }
 }
 
+/// Loads what lies at a location, with the width that it has there, and puts it at home.
 pub fn put_load(
     items: &mut Vec<Item>,
     function: &Function,
@@ -119,6 +120,7 @@ pub fn put_load(
     keep(items, home)
 }
 
+/// Stores a source at a location, as much of it as the width has.
 pub fn put_store(
     items: &mut Vec<Item>,
     function: &Function,

@@ -57,6 +57,7 @@ pub fn add_to(rd: Five, left: Five, value: Short) -> Item
     })
 }
 
+/// An operation of two registers.
 pub fn operate_on(op: RegisterOp, rd: Five, left: Five, right: Five) -> Item
     ensures { result ≡ selected.operate_on op rd left right }
 {
@@ -68,6 +69,7 @@ pub fn operate_on(op: RegisterOp, rd: Five, left: Five, right: Five) -> Item
     })
 }
 
+/// A shift by a fixed number of bits, less than 32.
 pub fn shifted(op: ShiftOp, rd: Five, left: Five, amount: u8) -> Item
     requires { amount < 32 }
     ensures { result ≡ selected.shifted op rd left amount }
@@ -127,6 +129,7 @@ pub fn base_of(free: Five, offset: u32) -> Five
     }
 }
 
+/// Loads the word at this offset from the stack pointer.
 pub fn load_word(items: &mut Vec<Item>, rd: Five, offset: u32) -> Result<(), AllocError>
     requires { offset < most_offset }
     ensures { OnOk result (items.new.items ≡ items.old.items ++ selected.load_word rd offset) }
@@ -141,6 +144,7 @@ pub fn load_word(items: &mut Vec<Item>, rd: Five, offset: u32) -> Result<(), All
     put_one(items, Item::Plain(load))
 }
 
+/// Stores a register at this offset from the stack pointer; register 7 is free for the address.
 pub fn store_word(items: &mut Vec<Item>, source: Five, offset: u32) -> Result<(), AllocError>
     requires { offset < most_offset }
     ensures { OnOk result (items.new.items ≡ items.old.items ++ selected.store_word source offset) }

@@ -22,6 +22,7 @@ pub fn plus(a: usize, b: usize) -> usize
     a.saturating_add(b)
 }
 
+/// Of putting a value where it is wanted, once it is in an operand.
 pub fn ends_size(shape: Shape) -> usize
     ensures { result ≡ size.ends_size shape }
 {
@@ -33,6 +34,7 @@ pub fn ends_size(shape: Shape) -> usize
     }
 }
 
+/// Of what comes behind an instruction that has put its value: the jump, where the value is to decide one.
 pub fn follows_size(shape: Shape) -> usize
     ensures { result ≡ size.follows_size shape }
 {
@@ -44,6 +46,7 @@ pub fn follows_size(shape: Shape) -> usize
     }
 }
 
+/// Of an operation.
 pub fn computes_size(op: BinOp) -> usize
     ensures { result ≡ size.computes_size op }
 {
@@ -67,12 +70,14 @@ pub fn computes_size(op: BinOp) -> usize
     }
 }
 
+/// Of an operation and what comes behind it.
 pub fn then_size(op: BinOp, shape: Shape) -> usize
     ensures { result ≡ size.then_size op shape }
 {
     plus(computes_size(op), follows_size(shape))
 }
 
+/// Of an operation whose value decides a jump.
 pub fn compares_size(op: BinOp) -> usize
     ensures { result ≡ size.compares_size op }
 {
@@ -96,6 +101,7 @@ pub fn compares_size(op: BinOp) -> usize
     }
 }
 
+/// Of an operation whose value is wanted so.
 pub fn operates_size(op: BinOp, shape: Shape) -> usize
     ensures { result ≡ size.operates_size op shape }
 {
@@ -107,6 +113,7 @@ pub fn operates_size(op: BinOp, shape: Shape) -> usize
     }
 }
 
+/// Of an operation and the conversion of its value to a type, which a wide one does not need.
 pub fn changes_size(wide: bool, op: BinOp) -> usize
     ensures { result ≡ size.changes_size wide op }
 {
@@ -127,12 +134,14 @@ pub fn step_operation(op: StepOp) -> BinOp
     }
 }
 
+/// Of `x++` of a local object whose old value is kept beside and then put where it is wanted.
 pub fn steps_aside_size(wide: bool, op: BinOp, shape: Shape) -> usize
     ensures { result ≡ size.steps_aside_size wide op shape }
 {
     plus(1, plus(changes_size(wide, op), ends_size(shape)))
 }
 
+/// Of `x++` of a local object (6.5.2.4).
 pub fn steps_after_size(wide: bool, op: BinOp, shape: Shape) -> usize
     ensures { result ≡ size.steps_after_size wide op shape }
 {
@@ -144,6 +153,7 @@ pub fn steps_after_size(wide: bool, op: BinOp, shape: Shape) -> usize
     }
 }
 
+/// Of `++` and `--` of a local object.
 pub fn steps_by_size(moment: Moment, wide: bool, op: BinOp, shape: Shape) -> usize
     ensures { result ≡ size.steps_by_size (moment_of moment) wide op shape }
 {
@@ -153,6 +163,7 @@ pub fn steps_by_size(moment: Moment, wide: bool, op: BinOp, shape: Shape) -> usi
     }
 }
 
+/// Of having an operand in a temporary: none where it may stay where it is, or is in one.
 pub fn loads_size(kept: bool, operand: Operand) -> usize
     ensures { result ≡ size.loads_size kept operand }
 {
@@ -168,6 +179,7 @@ pub fn loads_size(kept: bool, operand: Operand) -> usize
     }
 }
 
+/// Of a call behind its arguments.
 pub fn calls_size(callee: Callee, shape: Shape) -> usize
     ensures { result ≡ size.calls_size (callee_of callee) shape }
 {
@@ -182,6 +194,7 @@ pub fn calls_size(callee: Callee, shape: Shape) -> usize
 
 // ---- what lies in memory
 
+/// Of the reference to an element of an array.
 pub fn parts_size(spot: Spot) -> usize
     ensures { result ≡ size.parts_size spot }
 {
@@ -198,12 +211,14 @@ pub fn parts_size(spot: Spot) -> usize
     }
 }
 
+/// Of reading an element.
 pub fn gets_size(shape: Shape) -> usize
     ensures { result ≡ size.gets_size shape }
 {
     plus(1, follows_size(shape))
 }
 
+/// Of storing an element whose value may be kept as it is, or is converted first.
 pub fn puts_size(kept: bool, shape: Shape) -> usize
     ensures { result ≡ size.puts_size kept shape }
 {
@@ -214,6 +229,7 @@ pub fn puts_size(kept: bool, shape: Shape) -> usize
     }
 }
 
+/// Of a compound assignment to an element, behind its operands.
 pub fn alters_size(op: BinOp, ty: IntType, shape: Shape) -> usize
     ensures { result ≡ size.alters_size op ty shape }
 {
@@ -240,6 +256,7 @@ fn alters_after_size(op: BinOp, ty: IntType, shape: Shape) -> usize
     }
 }
 
+/// Of `++` and `--` of an element.
 pub fn alters_by_size(moment: Moment, op: BinOp, ty: IntType, shape: Shape) -> usize
     ensures { result ≡ size.alters_by_size (moment_of moment) op ty shape }
 {
@@ -249,6 +266,7 @@ pub fn alters_by_size(moment: Moment, op: BinOp, ty: IntType, shape: Shape) -> u
     }
 }
 
+/// Of passing an array.
 pub fn hands_over_size(spot: Spot) -> usize
     ensures { result ≡ size.hands_over_size spot }
 {

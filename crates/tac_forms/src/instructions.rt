@@ -10,18 +10,21 @@ ghost use Rattle.tac_forms.specs.layer.Emitted as emitted;
 use ctypes::{BinOp, IntType};
 use tac_code::{Comparison, Instruction, Operand, Operation, Reading, Target};
 
+/// The source is put into the target.
 pub fn move_to(target: Target, source: Operand) -> Instruction
     ensures { result ≡ emitted.move_to target source }
 {
     Instruction::Move { target, source }
 }
 
+/// The source, converted to a type (6.3.1), is put into the target.
 pub fn convert_to(to: IntType, target: Target, source: Operand) -> Instruction
     ensures { result ≡ emitted.convert_to to target source }
 {
     Instruction::Convert { to, target, source }
 }
 
+/// What an operation of two operands gives is put into the target.
 pub fn compute(
     operation: Operation,
     reading: Reading,
@@ -40,6 +43,7 @@ pub fn compute(
     }
 }
 
+/// A jump to instruction `to` where the comparison holds.
 pub fn branch(
     comparison: Comparison,
     reading: Reading,
@@ -92,6 +96,7 @@ pub fn truth_jump(truth: bool, sense: bool, to: usize) -> Instruction
     }
 }
 
+/// Whether a value counts as true: it is not 0 (6.8.4.1p2).
 pub fn is_true(value: i64) -> bool
     ensures { result ≡ types.truth value }
 {
@@ -152,6 +157,7 @@ pub fn first_of(
     }
 }
 
+/// Whether an operation compares, so that it can decide a jump by itself.
 pub fn is_comparison(op: BinOp) -> bool
     ensures { result ≡ emitted.is_comparison op }
 {

@@ -36,6 +36,7 @@ pub fn mode_of(operand: Operand) -> Mode
     }
 }
 
+/// The shape of `mode_of`.
 pub fn shape_for(operand: Operand) -> Shape
     ensures { result ≡ shape_of (lowered.mode_of operand) }
 {
@@ -59,6 +60,7 @@ pub fn target_of(mode: Mode, temporary: usize) -> Target
     }
 }
 
+/// The shape of a mode: which kind of place it names, and not which one.
 pub fn shape_in(mode: Mode) -> Shape
     ensures { result ≡ shape_of (meant mode) }
 {

@@ -47,6 +47,7 @@ pub fn put_follow(code: &mut Code, mode: Mode, temporary: usize) -> Result<(), A
     }
 }
 
+/// A constant, where it is wanted.
 pub fn put_constant(code: &mut Code, mode: Mode, value: i64) -> Result<(), AllocError>
     ensures { OnOk result (Wrote (λ w p q. relation.Constantly w (meant mode) value p q) 1 code.old.list.items code.new.list.items) }
 {
@@ -174,6 +175,7 @@ fn put_comparison(
     }
 }
 
+/// An operation of two operands, where it is wanted; `temporary` is free.
 pub fn put_operated(
     code: &mut Code,
     op: BinOp,

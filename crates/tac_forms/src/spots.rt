@@ -47,6 +47,7 @@ pub fn found(place: &Place, has_calls: bool, temporary: usize, slot: usize) -> S
     }
 }
 
+/// The first temporary that is free beside a reference.
 pub fn free_temporary_at(spot: Spot, temporary: usize) -> Result<usize, AllocError>
     ensures { IfOk result (λ n. n ≡ places.free_temporary_at spot temporary) }
 {
@@ -63,6 +64,7 @@ pub fn free_temporary_at(spot: Spot, temporary: usize) -> Result<usize, AllocErr
     }
 }
 
+/// The first slot that is free beside a reference.
 pub fn free_slot_at(spot: Spot, slot: usize) -> Result<usize, AllocError>
     ensures { IfOk result (λ n. n ≡ places.free_kept_at spot slot) }
 {
@@ -101,6 +103,7 @@ pub fn cuts(ty: IntType, mode: Mode) -> bool
     }
 }
 
+/// `cuts`, of a shape.
 pub fn cuts_for(ty: IntType, shape: Shape) -> bool
     ensures { result ≡ size.cuts_for ty shape }
 {

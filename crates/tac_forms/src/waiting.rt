@@ -19,6 +19,7 @@ pub fn pending(has_calls: bool, temporary: usize, slot: usize) -> Operand
     }
 }
 
+/// The object itself, or, where it may be written meanwhile, the operand that keeps its value.
 pub fn unless_written(written: bool, object: usize, operand: Operand) -> Operand
     ensures { result ≡ values.unless_written written object operand }
 {
@@ -29,6 +30,7 @@ pub fn unless_written(written: bool, object: usize, operand: Operand) -> Operand
     }
 }
 
+/// The same, of a value that is that of an object or of none.
 pub fn at_rest(object: Option<usize>, written: bool, operand: Operand) -> Operand
     ensures { (w : ℕ → Bool) → written ≡ is_written object w → result ≡ values.at_rest object w operand }
 {
@@ -38,6 +40,7 @@ pub fn at_rest(object: Option<usize>, written: bool, operand: Operand) -> Operan
     }
 }
 
+/// The constant, if the value is one, or else the operand.
 pub fn constant_or(constant: Option<i64>, operand: Operand) -> Operand
     ensures { result ≡ values.constant_or constant operand }
 {
@@ -47,6 +50,7 @@ pub fn constant_or(constant: Option<i64>, operand: Operand) -> Operand
     }
 }
 
+/// The next number. An error where a word does not count so far.
 pub fn next(number: usize) -> Result<usize, AllocError>
     ensures { IfOk result (λ n. n ≡ number + 1) }
 {
@@ -56,6 +60,7 @@ pub fn next(number: usize) -> Result<usize, AllocError>
     }
 }
 
+/// The first temporary that is free beside an operand.
 pub fn free_temporary(operand: Operand, temporary: usize) -> Result<usize, AllocError>
     ensures { IfOk result (λ n. n ≡ values.free_temporary operand temporary) }
 {
@@ -68,6 +73,7 @@ pub fn free_temporary(operand: Operand, temporary: usize) -> Result<usize, Alloc
     }
 }
 
+/// The first slot that is free beside an operand.
 pub fn free_slot(operand: Operand, slot: usize) -> Result<usize, AllocError>
     ensures { IfOk result (λ n. n ≡ values.free_kept operand slot) }
 {

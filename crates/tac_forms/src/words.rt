@@ -29,6 +29,7 @@ pub fn smallest(ty: IntType, value: i64) -> IntType
     }
 }
 
+/// A type that has each value of an operation of this type: a comparison gives 0 or 1 (6.5.8p6, 6.5.9p3).
 pub fn computed_extent(op: BinOp, ty: IntType) -> IntType
     ensures { result ≡ values.computed_extent op ty }
 {
@@ -52,6 +53,7 @@ pub fn computed_extent(op: BinOp, ty: IntType) -> IntType
     }
 }
 
+/// A type that has each value of a sign of this type: `!` gives 0 or 1 (6.5.3.3p5).
 pub fn signed_extent(op: PrefixOp, ty: IntType) -> IntType
     ensures { result ≡ values.signed_extent op ty }
 {
@@ -63,6 +65,7 @@ pub fn signed_extent(op: PrefixOp, ty: IntType) -> IntType
     }
 }
 
+/// The type, or `int` where there is none.
 pub fn or_int(ty: Option<IntType>) -> IntType
     ensures { result ≡ values.or_int ty }
 {
@@ -83,6 +86,7 @@ pub fn is_wide(ty: IntType) -> bool
     }
 }
 
+/// Whether one number is no greater than another.
 pub fn is_at_most(a: i64, b: i64) -> bool
     ensures { result ≡ int_le a b }
 {
@@ -96,6 +100,7 @@ pub fn holds_all(ty: IntType, other: IntType) -> bool
     is_at_most(ty.min(), other.min()) && is_at_most(other.max(), ty.max())
 }
 
+/// How the operations of a type read their words.
 pub fn reading_of(ty: IntType) -> Reading
     ensures { result ≡ values.reading_of ty }
 {

@@ -118,6 +118,7 @@ fn stepped_size(moment: Moment, op: StepOp, ty: IntType, place: &Place, shape: S
     }
 }
 
+/// Of a value that is converted to a type, which one that keeps its value there does not need.
 #[cycle(value_sizes)]
 pub fn converted_size(ty: IntType, e: &Value, shape: Shape) -> usize
     ensures { result ≡ form.converts_size (values.keeps ty (value_of e.now)) (size.value_size (value_of e.now)) (size.rest_shape (value_of e.now)) shape }

@@ -1,7 +1,7 @@
 //! The names of parameters once more, in the scope of a function's body (6.2.1p4).
 #![tactic(auto)]
 
-ghost use Rattle.std.specs.Prelude.{◌≡◌, ◌+◌, ◌∷◌, ℕ, List, map, drop, IfErr, IfOk, OnOk};
+ghost use Rattle.std.specs.Prelude.{◌≡◌, ◌+◌, ◌∷◌, ℕ, List, drop, length, map, nat_lt, IfErr, IfOk, OnOk};
 ghost use Rattle.ctypes.specs.declared.types.IntType.{IntType};
 ghost use Rattle.typing_program.specs.declared.types.ObjectType.{ObjectType};
 ghost use Rattle.typing_rules.specs.Types.{number, elements};
@@ -18,15 +18,23 @@ use tree::Parameter;
 use typing_program::{DeclaredType, ObjectType, ParameterType, Storage};
 use typing_scopes::{Linkage, Meaning, Scope, State};
 
+/// Whether there is an object with this number.
+fn is_there(own: &[ObjectType], place: usize) -> bool
+    ensures { result ≡ nat_lt place (length own.now) }
+{
+    place < own.len()
+}
+
 /// The type of the object with this number once more.
 fn own_copy(alloc: Global, own: &[ObjectType], place: usize) -> Result<ObjectType, Refusal>
     ensures ok { IfOk result (λ t. map object_type_of (drop place own.now) ≡ object_type_of t ∷ map object_type_of (drop (place + 1) own.now)) }
     ensures err { IfErr result (λ r. r ≡ Memory) }
 {
-    if place >= own.len() {
-        return Err(Refusal::Memory);
+    if is_there(own, place) {
+        copied(alloc, &own[place])
+    } else {
+        Err(Refusal::Memory)
     }
-    copied(alloc, &own[place])
 }
 
 /// One more.

@@ -2,7 +2,6 @@
 #![tactic(auto)]
 
 ghost use Rattle.std.specs.Prelude.{◌≡◌, ◌++◌, ◌∷◌, [], ℕ, map, reverse, slice_get, IfErr, IfOk, OnOk};
-ghost use Rattle.std.specs.Str.{bytes_eq};
 ghost use Rattle.srcset.specs.declared.refusal.Refusal.TheVariants.{Memory};
 ghost use Rattle.typing_program.specs.View.{callee_of, arguments_of, argument_of};
 ghost use Rattle.typing_rules.specs.Verdict.{fine};
@@ -17,21 +16,13 @@ ghost use Rattle.typing_scopes.specs.Scopes.{option_binding, meaning_of};
 use crate::forms::{Checked, broken};
 use srcset::{Code, Names, Pos, Refusal};
 use typing_program::{Argument, Callee, FunctionType, Value};
-use typing_scopes::{Binding, Meaning, Scope};
+use typing_scopes::{Binding, Meaning, Scope, built_in};
 
 /// A function that is called, and its type.
 #[derive(Clone, Copy)]
 pub struct Called<'s> {
     pub callee: Callee,
     pub function: &'s FunctionType,
-}
-
-/// Whether this is the text of a name.
-fn is_called(names: &Names, name: usize, text: &[u8]) -> bool
-    ensures { result ≡ bytes_eq (typed.or_empty (slice_get names.now name)) text.now }
-{
-    let known = names.text(name).unwrap_or(&[]);
-    known == text
 }
 
 /// What a function with a definition, or without one, is called by.
@@ -48,16 +39,10 @@ fn defined_callee(scope: &Scope, name: usize) -> Callee
 fn callee(names: &Names, scope: &Scope, name: usize) -> Callee
     ensures { (n : ℕ) → callee_of result ≡ typed.callee_of (numbered names.now n scope.now) name }
 {
-    if is_called(names, name, b"rv_getbyte") {
-        return Callee::GetByte;
+    match built_in(names, name) {
+        Some(function) => function.callee(),
+        None => defined_callee(scope, name),
     }
-    if is_called(names, name, b"rv_putbyte") {
-        return Callee::PutByte;
-    }
-    if is_called(names, name, b"rv_exit") {
-        return Callee::Exit;
-    }
-    defined_callee(scope, name)
 }
 
 fn function_meant<'s>(

@@ -74,6 +74,9 @@ pub(crate) fn elements_in<'s>(object: &'s ObjectType) -> Elements<'s>
     }
 }
 
+/// A value in memory of its own.
+///
+/// Errors: `Memory`.
 pub fn boxed(alloc: Global, value: Value) -> Result<Box<Value>, Refusal>
     ensures ok { IfOk result (λ b. b.value ≡ value) }
     ensures err { IfErr result (λ r. r ≡ Memory) }

@@ -1,2 +1,3 @@
+pub mod BuiltIns
 pub mod NewestNames
 pub mod Scopes

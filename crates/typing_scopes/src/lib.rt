@@ -2,9 +2,11 @@
 #![tactic(auto)]
 
 mod bindings;
+mod built_ins;
 mod first_names;
 mod newest_names;
 mod scopes;
 
 pub use bindings::{Binding, Linkage, Meaning, State, StaticObject, Tag};
+pub use built_ins::{BuiltIn, built_in, is_called};
 pub use scopes::{Block, Scope};

@@ -2,27 +2,17 @@
 #![tactic(auto)]
 
 ghost use Rattle.std.specs.Prelude.{◌≡◌, false, [], Some, map, slice_get};
-ghost use Rattle.std.specs.Str.{bytes_eq};
 ghost use Rattle.ctypes.specs.declared.types.IntType.TheVariants as ty;
 ghost use Rattle.typing_program.specs.View.{parameter_type_of, function_type_of, function_of};
 ghost use Rattle.typing_scopes.specs.Scopes.{option_binding, linkage_of, with_texts};
 ghost use Rattle.typing_rules.specs.Types as type;
 ghost use Rattle.typing_rules.specs.Scope as scope_typed;
-ghost use Rattle.typing_rules.specs.Scope.{or_empty};
 ghost use Rattle.typing_rules.specs.Units as typed;
 
 use ctypes::IntType;
 use srcset::Names;
 use typing_program::{Function, FunctionType, ParameterType};
-use typing_scopes::{Binding, Linkage, Scope};
-
-/// Whether this is the text of a name.
-fn is_called(names: &Names, name: usize, text: &[u8]) -> bool
-    ensures { result ≡ bytes_eq (or_empty (slice_get names.now name)) text.now }
-{
-    let known = names.text(name).unwrap_or(&[]);
-    known == text
-}
+use typing_scopes::{Binding, Linkage, Scope, is_called};
 
 fn is_int(given: Option<IntType>) -> bool
     ensures { result ≡ type.same_result given (Some ty.Int) }

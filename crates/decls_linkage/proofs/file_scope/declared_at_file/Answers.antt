@@ -1,5 +1,6 @@
 use Rattle.typing_scopes.specs.Scopes.{with_texts, option_binding}
-use Rattle.decls_linkage.specs.Views.{agreed_of, option_built_in}
+use Rattle.decls_linkage.specs.Views.{agreed_of}
+use Rattle.typing_scopes.specs.BuiltIns.{option_built_in}
 use Rattle.decls_linkage.proofs.Tellings.{file_left, file_right, file_fine, on_ok}
 use Rattle.decls_linkage.proofs.file_scope.declared_at_file.Goals as goal
 
