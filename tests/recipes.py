@@ -14,14 +14,14 @@ RECIPES = {
     'statement': (r'DoWhile|do_while|\bDo\b', ()),
     'operator': (r'\b(?:Rem|Percent)\b', ('rv32', 'asm', 'loader', 'sim', 'rows_machine')),
     'fault': (r'\bLabelTwice\b|\b540\b', ()),
-    'built-in': (r'[gG]et_?[bB]yte|\bGotEnd\b', ()),
+    'built-in': (r'[gG]et_?[bB]yte|\bGotEnd\b|[gG]et_?[fF]ollows|\bPort for\b|(==|≡) 63\b|\beqb \w+ 63\b|\b63 if\b|li +t1, 63\b|\btrait Port\b', ('phases', 'lexer')),
     'instruction': (r'MulHighSignedUnsigned|mulhsu', ()),
     'limit': (r'function_node_limit|MAX_FUNCTION_NODES|FunctionNodeLimit|\b710\b', ()),
 }
 
 # tests that name rv_getbyte in a sample program alone
 MERE_PROGRAMS = ['tests/outside/' + name for name in (
-    'boards/lines.py', 'inspecting/check.py', 'mistakes/cases.py', 'refused/bytes.py', 'scalars/generate.py', 'scalars/worked.py', 'streams/check.py')]
+    'boards/lines.py', 'check.sh', 'inspecting/check.py', 'mistakes/cases.py', 'refused/bytes.py', 'scalars/generate.py', 'scalars/worked.py', 'streams/check.py')]
 
 def read(path):
     with open(path, encoding='utf-8') as file:
@@ -39,7 +39,7 @@ def flow():
 def lists(name, pattern, without):
     """Of each crate the files in which the names stand, and those of the tests from outside."""
     found = {}
-    for path in list(files('crates', 'tests/outside', 'boards')) + ['docs/FAULTS.md', 'docs/LANGUAGE.md', 'docs/MACHINE.md', 'docs/MEANING.md', 'boards/README.md']:
+    for path in list(files('crates', 'tests/outside', 'boards')) + ['docs/DECISIONS.md', 'docs/FAULTS.md', 'docs/LANGUAGE.md', 'docs/MACHINE.md', 'docs/MEANING.md', 'boards/README.md', 'tests/language.py']:
         if name == 'built-in' and path in MERE_PROGRAMS:
             continue
         crate = path.split('/')[1] if path.startswith('crates/') else ''
