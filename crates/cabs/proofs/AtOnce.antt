@@ -105,6 +105,7 @@ module _ (p : typed.Program) (all : Whole) (o : Option (List ℕ)) (limit k : �
       let same : (limit - spent) + spent ≡ limit = omega (arith, le) in
       ends_so tally (machine.Undefined act at) scene (limit - spent) t (ap all (sym same) ∙ h (limit - spent))
   once_stops tally scene spent why.Memory t room le h = once_given_up tally room
+  once_stops tally scene spent why.Elsewhere t room le h = once_given_up tally room
 
 -- ---- no port was asked
 
@@ -112,6 +113,7 @@ pub calm_stop : (w : Why) → IsCalm (Err (stopped_for w))
 calm_stop why.Ticks = tt
 calm_stop (why.Undefined act at) = tt
 calm_stop why.Memory = tt
+calm_stop why.Elsewhere = tt
 
 pub calm_counts : (r : Result Step Run) (old new : ℕ) → new ≡ old → IsCalm r → CountsUntil r old new
 calm_counts (Ok x) old new e c = e

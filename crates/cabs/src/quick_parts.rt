@@ -1,10 +1,12 @@
 //! Parts of the program that call nothing, each done as a whole.
 
-ghost use Rattle.std.specs.Prelude.{◌≡◌, ◌<◌, ◌≤◌, ◌+◌, ℕ, List, Option, None, true};
+ghost use Rattle.std.specs.Prelude.{◌≡◌, ◌≢◌, ◌<◌, ◌≤◌, ◌+◌, ℕ, List, Option, None, true};
 ghost use Rattle.std.specs.Bool.{OnTrue};
 ghost use Rattle.typing_rules.specs.Program as typed;
 ghost use Rattle.cabs_store.specs.layer.Frames as on;
 ghost use Rattle.cabs_store.specs.layer.Views.{node_of};
+ghost use Rattle.cabs_evaluator.specs.declared.clock.Why.TheVariants.{Elsewhere};
+ghost use Rattle.cabs_evaluator.specs.layer.Quick.{quick_node};
 ghost use Rattle.meaning_ports.specs.Port.{PortView};
 ghost use Rattle.cabs.specs.inside.Standing.{IsCalm, MeetsAt, Spends, Stands, Whole, stopped_for};
 
@@ -14,14 +16,16 @@ use cabs_evaluator::clock::{Clock, Why};
 use cabs_evaluator::parts::done;
 use cabs_store::frames::{Node, Step};
 
-/// How the run stops in a part.
+/// How the run stops in a part that is evaluated.
 fn stopped(why: Why) -> Run
+    requires { why ≢ Elsewhere }
     ensures { result ≡ stopped_for why }
 {
     match why {
         Why::Ticks => Run::TicksUsed,
         Why::Undefined(act, at) => Run::Undefined(act, at),
         Why::Memory => Run::Memory,
+        Why::Elsewhere => unreachable!(),
     }
 }
 
@@ -43,6 +47,7 @@ pub fn at_once<'p>(
     spent: &mut u64,
     limit: u64,
 ) -> Result<Step<'p>, Run>
+    requires quick { quick_node (node_of node.now) ≡ true }
     ensures meets { (p : typed.Program) (all : Whole) (o : Option (List ℕ)) (sent : List ℕ) (port : PortView) → spent.old < limit →
         Stands p (λ n. all (n + spent.old)) o sent interpreter.old (on.enters (node_of node.now)) port → interpreter.old.kept ≡ None →
         MeetsAt p all o limit result spent.new interpreter.new port }

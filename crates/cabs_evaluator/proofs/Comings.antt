@@ -1,8 +1,7 @@
 -- What comes of a part that is done.
-use Rattle.std.proofs.Common.{◌≡◌, ℕ, zero, suc, ◌+◌, Option, Some, None, refl, sym, ap, subst, ◌∙◌, arith}
+use Rattle.std.proofs.Common.{◌≡◌, ℕ, suc, ◌+◌, Option, Some, None, refl, sym, ap, subst, ◌∙◌, arith}
 use Rattle.std.specs.Prelude.{Bool, true, false, Result, Ok, Err}
 use Rattle.std.specs.Bool.{OnTrue, OnFalse}
-use Rattle.meaning.specs.Machine as machine
 use Rattle.meaning.specs.Machine.{State, Run, Goes, Stops, then_do, tick}
 use Rattle.cabs_store.specs.declared.scene.Scene.{Scene}
 use Rattle.cabs_store.specs.declared.stop.Stop.{Stop}
@@ -43,6 +42,7 @@ idles : {A : Type 0} (c : Course) (limit k k2 : ℕ) (scene : Scene) (part : Sta
 idles c limit k k2 scene part rest e h why.Ticks i = (i, (let same : 0 + k ≡ k2 = omega (arith, e) in sym (h.is_left 0 ∙ ap c.whole same)))
 idles c limit k k2 scene part rest e h (why.Undefined act at) i = absurd i
 idles c limit k k2 scene part rest e h why.Memory i = tt
+idles c limit k k2 scene part rest e h why.Elsewhere i = absurd i
 
 -- or none is left
 pub no_tick : {A : Type 0} (c : Course) (limit k : ℕ) (new : Clock) (scene : Scene) (part : State → Run A) (rest : A → State → Run Found) (b : Bool) → b ≡ false →
@@ -127,7 +127,7 @@ pub came : {A B : Type 0} (view : A → B) (c : Course) (limit : ℕ) (rest : B 
 came view c limit rest r s new later e h = let P : Option _ → Type 0 = λ r. Comes view c rest limit r new later in subst P e h
 
 -- nothing is said where the part is left out
-pub left_out : {A B : Type 0} (view : A → B) (c : Course) (limit : ℕ) (rest : B → State → Run Found) (r : Option A) (new : Clock) (later : Scene) → r ≡ None → new.why ≡ why.Memory →
+pub left_out : {A B : Type 0} (view : A → B) (c : Course) (limit : ℕ) (rest : B → State → Run Found) (r : Option A) (new : Clock) (later : Scene) → r ≡ None → new.why ≡ why.Elsewhere →
     Comes view c rest limit r new later
 left_out view c limit rest r new later e w =
     let P : Option _ → Type 0 = λ r. Comes view c rest limit r new later in

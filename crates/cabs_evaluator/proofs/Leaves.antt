@@ -1,20 +1,11 @@
 -- Leaves whose numbers went through a machine word, and what a test chooses.
-use Rattle.std.proofs.Common.{◌≡◌, ℕ, ℤ, pos, Option, Some, None, refl, sym, ap, subst, ◌∙◌}
-use Rattle.std.specs.Prelude.{Bool, true, false, Result, Ok, Err}
-use Rattle.srcset.specs.declared.refusal.Pos.{Pos}
-use Rattle.ctypes.specs.Types.{converted}
-use Rattle.typing_rules.specs.Program as typed
-use Rattle.typing_rules.specs.Operators.{operated}
-use Rattle.typing_program.specs.View.{moment_of}
-use Rattle.meaning.specs.Store.{Reference}
-use Rattle.meaning.specs.Expressions.{step_operation, step_value}
-use Rattle.meaning.specs.Machine.{State, Run, Goes, then_do, choose, read, write, computed_at}
+use Rattle.std.proofs.Common.{◌≡◌, ℕ, Option, ap, subst, ◌∙◌}
+use Rattle.std.specs.Prelude.{Bool, Result}
+use Rattle.meaning.specs.Machine.{State, Run, then_do, choose}
 use Rattle.cabs_store.specs.declared.scene.Scene.{Scene}
 use Rattle.cabs_store.specs.declared.stop.Stop.{Stop}
-use Rattle.cabs_store.specs.declared.frames.Compound.{Compound}
-use Rattle.cabs_store.specs.declared.frames.Stepping.{Stepping}
 use Rattle.cabs_store.specs.layer.Frames.{Found}
-use Rattle.cabs_store.specs.layer.Agrees.{Outside, state_in, Runs, combined, stepped}
+use Rattle.cabs_store.specs.layer.Agrees.{Outside, state_in, Runs}
 use Rattle.cabs_evaluator.specs.declared.clock.Clock.{Clock}
 use Rattle.cabs_evaluator.specs.layer.Comes.{Course, Leads, Comes, Gives}
 use Rattle.cabs_evaluator.proofs.Comings.{gave, leads_as}

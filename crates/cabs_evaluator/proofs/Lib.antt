@@ -1,5 +1,6 @@
 pub mod Comings
 pub mod Flows
+pub mod Here
 pub mod Leaves
 pub mod Work
 pub mod Wholes

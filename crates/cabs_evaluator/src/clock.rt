@@ -1,8 +1,9 @@
 //! The ticks of a run, and why a part of it stopped.
 
-ghost use Rattle.std.specs.Prelude.{◌≡◌, ◌+◌};
+ghost use Rattle.std.specs.Prelude.{◌≡◌, ◌≢◌, ◌+◌, true, false};
 ghost use Rattle.std.specs.Bool.{OnTrue, OnFalse};
-ghost use Rattle.cabs_evaluator.specs.layer.Comes.{Gives, Idles, StoppedBy};
+ghost use Rattle.cabs_evaluator.specs.declared.clock.Why.TheVariants as why;
+ghost use Rattle.cabs_evaluator.specs.layer.Comes.{Gives, Idles, StaysHere, StoppedBy};
 
 use cabs_store::Reference;
 use cabs_store::stop::Stop;
@@ -18,8 +19,10 @@ pub enum Why {
     Ticks,
     /// An act that is undefined, at its place (3.4.3).
     Undefined(Undef, Pos),
-    /// The host's memory ran out, or the part is not one that is evaluated here.
+    /// The host's memory ran out.
     Memory,
+    /// The part is not one that is evaluated here.
+    Elsewhere,
 }
 
 /// The ticks that are spent, and why the run stopped, if it did.
@@ -45,6 +48,7 @@ impl Clock {
         ensures taken { OnTrue result (self.new.spent ≡ self.old.spent + 1) }
         ensures idle { OnFalse result (Idles self.new.why self.new.spent limit) }
         ensures same { OnFalse result (self.new.spent ≡ self.old.spent) }
+        ensures here { result ≡ false → self.new.why ≢ why.Elsewhere }
     {
         if self.spent < limit {
             self.spent += 1;
@@ -59,6 +63,7 @@ impl Clock {
     fn idle(&mut self, limit: u64)
         ensures idle { Idles self.new.why self.new.spent limit }
         ensures same { self.new.spent ≡ self.old.spent }
+        ensures here { self.new.why ≢ why.Elsewhere }
     {
         if self.spent == limit {
             self.why = Why::Ticks;
@@ -72,6 +77,7 @@ impl Clock {
     pub fn given(&mut self, value: Result<i64, Stop>) -> Option<i64>
         ensures gives { Gives value result self.new.why }
         ensures spent { self.new.spent ≡ self.old.spent }
+        ensures here { StaysHere true result self.new.why }
     {
         match value {
             Ok(v) => Some(v),
@@ -87,6 +93,7 @@ impl Clock {
     pub fn found(&mut self, place: Result<Reference, Stop>) -> Option<Reference>
         ensures gives { Gives place result self.new.why }
         ensures spent { self.new.spent ≡ self.old.spent }
+        ensures here { StaysHere true result self.new.why }
     {
         match place {
             Ok(r) => Some(r),
@@ -101,6 +108,7 @@ impl Clock {
     pub fn stop(&mut self, stop: Stop)
         ensures why { StoppedBy stop self.new.why }
         ensures spent { self.new.spent ≡ self.old.spent }
+        ensures here { self.new.why ≢ why.Elsewhere }
     {
         match stop {
             Stop::Undefined(act, at) => self.why = Why::Undefined(act, at),

@@ -10,7 +10,8 @@ ghost use Rattle.cabs_store.specs.View.{reference_of};
 ghost use Rattle.cabs_store.specs.layer.Presents.{call_in};
 ghost use Rattle.cabs_store.specs.layer.Views.{flow_of};
 ghost use Rattle.cabs_evaluator.specs.declared.clock.Why.TheVariants as why;
-ghost use Rattle.cabs_evaluator.specs.layer.Comes.{Does, executed, objects_in, valued};
+ghost use Rattle.cabs_evaluator.specs.layer.Comes.{Does, StaysHere, executed, objects_in, valued};
+ghost use Rattle.cabs_evaluator.specs.layer.Quick.{quick, quick_initialiser};
 
 use crate::clock::{Clock, Scope, Why};
 use crate::expressions::value;
@@ -23,6 +24,15 @@ use typing_program::{Initialiser, Value};
 
 /// A part that is not evaluated here.
 pub fn left_out(clock: &mut Clock) -> Option<Flow>
+    ensures none { result ≡ None }
+    ensures why { clock.new.why ≡ why.Elsewhere }
+{
+    clock.why = Why::Elsewhere;
+    None
+}
+
+/// The host's memory ran out.
+pub fn out_of_memory(clock: &mut Clock) -> Option<Flow>
     ensures none { result ≡ None }
     ensures why { clock.new.why ≡ why.Memory }
 {
@@ -39,8 +49,9 @@ fn first_value(
     ty: IntType,
     e: &Value,
 ) -> Option<Flow>
-    ensures { Does flow_of scope.now (λ p s. then_do (valued (value_of e.now) p s) (λ v s. tick s (λ s. Goes meaning.Normal (stored (reference_of r.now) (converted ty v) s))))
+    ensures does { Does flow_of scope.now (λ p s. then_do (valued (value_of e.now) p s) (λ v s. tick s (λ s. Goes meaning.Normal (stored (reference_of r.now) (converted ty v) s))))
         clock.old scene.old result clock.new scene.new }
+    ensures here { StaysHere (quick (value_of e.now)) result clock.new.why }
 {
     let Some(v) = value(scope, scene, clock, e) else {
         return None;
@@ -50,7 +61,7 @@ fn first_value(
     }
     match scene.set(r, convert(ty, v)) {
         Ok(()) => Some(Flow::Normal),
-        Err(_) => left_out(clock),
+        Err(_) => out_of_memory(clock),
     }
 }
 
@@ -62,14 +73,15 @@ fn initialised(
     n: usize,
     i: &Initialiser,
 ) -> Option<Flow>
-    ensures { Does flow_of scope.now (λ p s. meaning.define_object p (call_in p) (objects_in scope.now) (slice_get (objects_in scope.now) n) n (initialiser_of i.now) s)
+    ensures does { Does flow_of scope.now (λ p s. meaning.define_object p (call_in p) (objects_in scope.now) (slice_get (objects_in scope.now) n) n (initialiser_of i.now) s)
         clock.old scene.old result clock.new scene.new }
+    ensures here { StaysHere (quick_initialiser (initialiser_of i.now)) result clock.new.why }
 {
     let Some(_) = type_of(scope.objects, n) else {
         return Some(Flow::Normal);
     };
     let Ok(r) = scene.own(n) else {
-        return left_out(clock);
+        return out_of_memory(clock);
     };
     match i {
         Initialiser::One(ty, e) => first_value(scope, scene, clock, &r, *ty, e),
@@ -87,13 +99,14 @@ pub fn definition(
     n: usize,
     i: &Initialiser,
 ) -> Option<Flow>
-    ensures { Does flow_of scope.now (executed (objects_in scope.now) (typed.define n (initialiser_of i.now))) clock.old scene.old result clock.new scene.new }
+    ensures does { Does flow_of scope.now (executed (objects_in scope.now) (typed.define n (initialiser_of i.now))) clock.old scene.old result clock.new scene.new }
+    ensures here { StaysHere (quick_initialiser (initialiser_of i.now)) result clock.new.why }
 {
     if !clock.tick(scope.limit) {
         return None;
     }
     match scene.renew(scope.alloc, scope.objects, n) {
         Ok(()) => initialised(scope, scene, clock, n, i),
-        Err(_) => left_out(clock),
+        Err(_) => out_of_memory(clock),
     }
 }

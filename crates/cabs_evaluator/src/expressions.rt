@@ -1,6 +1,6 @@
 //! The values of expressions that call nothing (6.5).
 
-ghost use Rattle.std.specs.Prelude.{◌≡◌, Option};
+ghost use Rattle.std.specs.Prelude.{◌≡◌, ◌&&◌, Option, true};
 ghost use Rattle.ctypes.specs.declared.types.IntType.{IntType};
 ghost use Rattle.ctypes.specs.Types.{truth, of_truth, converted};
 ghost use Rattle.typing_rules.specs.Program as typed;
@@ -10,7 +10,8 @@ ghost use Rattle.meaning.specs.Store.{whole};
 ghost use Rattle.meaning.specs.Expressions as meaning;
 ghost use Rattle.cabs_store.specs.View.{reference_of};
 ghost use Rattle.cabs_store.specs.layer.Agrees.{combined, number, stepped};
-ghost use Rattle.cabs_evaluator.specs.layer.Comes.{Does, found, valued};
+ghost use Rattle.cabs_evaluator.specs.layer.Comes.{Does, StaysHere, found, valued};
+ghost use Rattle.cabs_evaluator.specs.layer.Quick.{quick, quick_place};
 
 use crate::clock::{Clock, Scope, Why};
 use crate::objects::{object_stepped, read_at, read_element, read_object, whole_object};
@@ -42,7 +43,8 @@ pub fn place(
     clock: &mut Clock,
     a: &Place,
 ) -> Option<Reference>
-    ensures { Does reference_of scope.now (found (place_of a.now)) clock.old scene.old result clock.new scene.new }
+    ensures does { Does reference_of scope.now (found (place_of a.now)) clock.old scene.old result clock.new scene.new }
+    ensures here { StaysHere (quick_place (place_of a.now)) result clock.new.why }
 {
     match a {
         Place::Named(at, what) => named(scope, scene, clock, at, *what),
@@ -58,7 +60,8 @@ fn named(
     at: &Pos,
     what: Storage,
 ) -> Option<Reference>
-    ensures { Does reference_of scope.now (found (typed.named at.now (storage_of what))) clock.old scene.now result clock.new scene.now }
+    ensures does { Does reference_of scope.now (found (typed.named at.now (storage_of what))) clock.old scene.now result clock.new scene.now }
+    ensures here { StaysHere true result clock.new.why }
 {
     if !clock.tick(scope.limit) {
         return None;
@@ -75,7 +78,8 @@ fn element(
     array: &Place,
     index: &Value,
 ) -> Option<Reference>
-    ensures { Does reference_of scope.now (found (typed.element at.now (place_of array.now) (value_of index.now))) clock.old scene.old result clock.new scene.new }
+    ensures does { Does reference_of scope.now (found (typed.element at.now (place_of array.now) (value_of index.now))) clock.old scene.old result clock.new scene.new }
+    ensures here { StaysHere (quick_place (place_of array.now) && quick (value_of index.now)) result clock.new.why }
 {
     if !clock.tick(scope.limit) {
         return None;
@@ -92,7 +96,8 @@ fn element(
 /// The value of an expression (6.5).
 #[cycle(evaluate)]
 pub fn value(scope: &Scope<'_>, scene: &mut Scene, clock: &mut Clock, e: &Value) -> Option<i64>
-    ensures { Does number scope.now (valued (value_of e.now)) clock.old scene.old result clock.new scene.new }
+    ensures does { Does number scope.now (valued (value_of e.now)) clock.old scene.old result clock.new scene.new }
+    ensures here { StaysHere (quick (value_of e.now)) result clock.new.why }
 {
     match e {
         Value::Constant(ty, v) => constant(scope, scene, clock, *ty, *v),
@@ -128,7 +133,7 @@ pub fn value(scope: &Scope<'_>, scene: &mut Scene, clock: &mut Clock, e: &Value)
         Value::Cast(ty, e) => cast(scope, scene, clock, *ty, e),
         Value::Discarded(e) => discarded(scope, scene, clock, e),
         Value::Call(_, _, _, _, _) => {
-            clock.why = Why::Memory;
+            clock.why = Why::Elsewhere;
             None
         }
     }
@@ -138,7 +143,8 @@ pub fn value(scope: &Scope<'_>, scene: &mut Scene, clock: &mut Clock, e: &Value)
 #[cycle(evaluate)]
 #[inline(always)]
 pub fn operand(scope: &Scope<'_>, scene: &mut Scene, clock: &mut Clock, e: &Value) -> Option<i64>
-    ensures { Does number scope.now (valued (value_of e.now)) clock.old scene.old result clock.new scene.new }
+    ensures does { Does number scope.now (valued (value_of e.now)) clock.old scene.old result clock.new scene.new }
+    ensures here { StaysHere (quick (value_of e.now)) result clock.new.why }
 {
     match e {
         Value::Constant(ty, v) => constant(scope, scene, clock, *ty, *v),
@@ -160,7 +166,8 @@ pub fn operand(scope: &Scope<'_>, scene: &mut Scene, clock: &mut Clock, e: &Valu
 
 #[inline(always)]
 fn constant(scope: &Scope<'_>, scene: &Scene, clock: &mut Clock, ty: IntType, v: i64) -> Option<i64>
-    ensures { Does number scope.now (valued (typed.constant ty v)) clock.old scene.now result clock.new scene.now }
+    ensures does { Does number scope.now (valued (typed.constant ty v)) clock.old scene.now result clock.new scene.now }
+    ensures here { StaysHere true result clock.new.why }
 {
     if !clock.tick(scope.limit) {
         return None;
@@ -178,7 +185,8 @@ fn read(
     ty: IntType,
     a: &Place,
 ) -> Option<i64>
-    ensures { Does number scope.now (valued (typed.read ty (place_of a.now))) clock.old scene.old result clock.new scene.new }
+    ensures does { Does number scope.now (valued (typed.read ty (place_of a.now))) clock.old scene.old result clock.new scene.new }
+    ensures here { StaysHere (quick_place (place_of a.now)) result clock.new.why }
 {
     match whole_object(scope, scene, a) {
         Some(n) => read_object(scope, scene, clock, position_of(a), n),
@@ -196,7 +204,8 @@ fn read_part(
     ty: IntType,
     a: &Place,
 ) -> Option<i64>
-    ensures { Does number scope.now (valued (typed.read ty (place_of a.now))) clock.old scene.old result clock.new scene.new }
+    ensures does { Does number scope.now (valued (typed.read ty (place_of a.now))) clock.old scene.old result clock.new scene.new }
+    ensures here { StaysHere (quick_place (place_of a.now)) result clock.new.why }
 {
     match a {
         Place::Named(_, _) => read_found(scope, scene, clock, ty, a),
@@ -214,7 +223,8 @@ fn read_found(
     ty: IntType,
     a: &Place,
 ) -> Option<i64>
-    ensures { Does number scope.now (valued (typed.read ty (place_of a.now))) clock.old scene.old result clock.new scene.new }
+    ensures does { Does number scope.now (valued (typed.read ty (place_of a.now))) clock.old scene.old result clock.new scene.new }
+    ensures here { StaysHere (quick_place (place_of a.now)) result clock.new.why }
 {
     let Some(r) = place(scope, scene, clock, a) else {
         return None;
@@ -234,7 +244,8 @@ fn element_read(
     array: &Place,
     index: &Value,
 ) -> Option<i64>
-    ensures { Does number scope.now (valued (typed.read ty (typed.element at.now (place_of array.now) (value_of index.now)))) clock.old scene.old result clock.new scene.new }
+    ensures does { Does number scope.now (valued (typed.read ty (typed.element at.now (place_of array.now) (value_of index.now)))) clock.old scene.old result clock.new scene.new }
+    ensures here { StaysHere (quick_place (place_of array.now) && quick (value_of index.now)) result clock.new.why }
 {
     if !clock.tick(scope.limit) {
         return None;
@@ -256,8 +267,9 @@ fn element_of(
     n: usize,
     index: &Value,
 ) -> Option<i64>
-    ensures { Does number scope.now (λ p s. tick s (λ s. then_do (valued (value_of index.now) p s) (λ v s. then_do (subscripted at.now (whole n) v s) (λ r s. read at.now r s))))
+    ensures does { Does number scope.now (λ p s. tick s (λ s. then_do (valued (value_of index.now) p s) (λ v s. then_do (subscripted at.now (whole n) v s) (λ r s. read at.now r s))))
         clock.old scene.old result clock.new scene.new }
+    ensures here { StaysHere (quick (value_of index.now)) result clock.new.why }
 {
     if !clock.tick(scope.limit) {
         return None;
@@ -279,8 +291,9 @@ fn row_read(
     array: &Place,
     index: &Value,
 ) -> Option<i64>
-    ensures { Does number scope.now (λ p s. then_do (found (place_of array.now) p s) (λ r s. then_do (valued (value_of index.now) p s) (λ v s.
+    ensures does { Does number scope.now (λ p s. then_do (found (place_of array.now) p s) (λ r s. then_do (valued (value_of index.now) p s) (λ v s.
         then_do (subscripted at.now r v s) (λ r s. read at.now r s)))) clock.old scene.old result clock.new scene.new }
+    ensures here { StaysHere (quick_place (place_of array.now) && quick (value_of index.now)) result clock.new.why }
 {
     let Some(r) = place(scope, scene, clock, array) else {
         return None;
@@ -303,7 +316,8 @@ fn assigned(
     a: &Place,
     e: &Value,
 ) -> Option<i64>
-    ensures { Does number scope.now (valued (typed.assigned at.now ty (place_of a.now) (value_of e.now))) clock.old scene.old result clock.new scene.new }
+    ensures does { Does number scope.now (valued (typed.assigned at.now ty (place_of a.now) (value_of e.now))) clock.old scene.old result clock.new scene.new }
+    ensures here { StaysHere (quick_place (place_of a.now) && quick (value_of e.now)) result clock.new.why }
 {
     if !clock.tick(scope.limit) {
         return None;
@@ -326,8 +340,9 @@ fn object_assigned(
     n: usize,
     e: &Value,
 ) -> Option<i64>
-    ensures { Does number scope.now (λ p s. tick s (λ s. then_do (valued (value_of e.now) p s) (λ v s. write p at.now (whole n) (converted ty v) s)))
+    ensures does { Does number scope.now (λ p s. tick s (λ s. then_do (valued (value_of e.now) p s) (λ v s. write p at.now (whole n) (converted ty v) s)))
         clock.old scene.old result clock.new scene.new }
+    ensures here { StaysHere (quick (value_of e.now)) result clock.new.why }
 {
     if !clock.tick(scope.limit) {
         return None;
@@ -350,8 +365,9 @@ fn part_assigned(
     a: &Place,
     e: &Value,
 ) -> Option<i64>
-    ensures { Does number scope.now (λ p s. then_do (found (place_of a.now) p s) (λ r s. then_do (valued (value_of e.now) p s) (λ v s. write p at.now r (converted ty v) s)))
+    ensures does { Does number scope.now (λ p s. then_do (found (place_of a.now) p s) (λ r s. then_do (valued (value_of e.now) p s) (λ v s. write p at.now r (converted ty v) s)))
         clock.old scene.old result clock.new scene.new }
+    ensures here { StaysHere (quick_place (place_of a.now) && quick (value_of e.now)) result clock.new.why }
 {
     let Some(r) = place(scope, scene, clock, a) else {
         return None;
@@ -372,8 +388,9 @@ fn compound(
     a: &Place,
     e: &Value,
 ) -> Option<i64>
-    ensures { c.now.read_at ≡ meaning.position_of (place_of a.now) →
+    ensures does { c.now.read_at ≡ meaning.position_of (place_of a.now) →
         Does number scope.now (valued (typed.compound c.now.at c.now.op c.now.ty c.now.of (place_of a.now) (value_of e.now))) clock.old scene.old result clock.new scene.new }
+    ensures here { StaysHere (quick_place (place_of a.now) && quick (value_of e.now)) result clock.new.why }
 {
     if !clock.tick(scope.limit) {
         return None;
@@ -393,8 +410,9 @@ fn stepped(
     c: &Stepping,
     a: &Place,
 ) -> Option<i64>
-    ensures { c.now.read_at ≡ meaning.position_of (place_of a.now) →
+    ensures does { c.now.read_at ≡ meaning.position_of (place_of a.now) →
         Does number scope.now (valued (typed.stepped c.now.at (moment_of c.now.moment) c.now.op c.now.ty c.now.of (place_of a.now))) clock.old scene.old result clock.new scene.new }
+    ensures here { StaysHere (quick_place (place_of a.now)) result clock.new.why }
 {
     if !clock.tick(scope.limit) {
         return None;
@@ -415,7 +433,8 @@ fn object_combined(
     n: usize,
     e: &Value,
 ) -> Option<i64>
-    ensures { Does number scope.now (λ p s. tick s (λ s. then_do (valued (value_of e.now) p s) (λ v s. combined p c.now (whole n) v s))) clock.old scene.old result clock.new scene.new }
+    ensures does { Does number scope.now (λ p s. tick s (λ s. then_do (valued (value_of e.now) p s) (λ v s. combined p c.now (whole n) v s))) clock.old scene.old result clock.new scene.new }
+    ensures here { StaysHere (quick (value_of e.now)) result clock.new.why }
 {
     if !clock.tick(scope.limit) {
         return None;
@@ -437,8 +456,9 @@ fn part_combined(
     a: &Place,
     e: &Value,
 ) -> Option<i64>
-    ensures { Does number scope.now (λ p s. then_do (found (place_of a.now) p s) (λ r s. then_do (valued (value_of e.now) p s) (λ v s. combined p c.now r v s)))
+    ensures does { Does number scope.now (λ p s. then_do (found (place_of a.now) p s) (λ r s. then_do (valued (value_of e.now) p s) (λ v s. combined p c.now r v s)))
         clock.old scene.old result clock.new scene.new }
+    ensures here { StaysHere (quick_place (place_of a.now) && quick (value_of e.now)) result clock.new.why }
 {
     let Some(r) = place(scope, scene, clock, a) else {
         return None;
@@ -459,7 +479,8 @@ fn part_stepped(
     c: &Stepping,
     a: &Place,
 ) -> Option<i64>
-    ensures { Does number scope.now (λ p s. then_do (found (place_of a.now) p s) (λ r s. stepped p c.now r s)) clock.old scene.old result clock.new scene.new }
+    ensures does { Does number scope.now (λ p s. then_do (found (place_of a.now) p s) (λ r s. stepped p c.now r s)) clock.old scene.old result clock.new scene.new }
+    ensures here { StaysHere (quick_place (place_of a.now)) result clock.new.why }
 {
     let Some(r) = place(scope, scene, clock, a) else {
         return None;
@@ -478,7 +499,8 @@ fn unary(
     ty: IntType,
     e: &Value,
 ) -> Option<i64>
-    ensures { Does number scope.now (valued (typed.unary at.now op ty (value_of e.now))) clock.old scene.old result clock.new scene.new }
+    ensures does { Does number scope.now (valued (typed.unary at.now op ty (value_of e.now))) clock.old scene.old result clock.new scene.new }
+    ensures here { StaysHere (quick (value_of e.now)) result clock.new.why }
 {
     if !clock.tick(scope.limit) {
         return None;
@@ -502,7 +524,8 @@ fn binary(
     a: &Value,
     b: &Value,
 ) -> Option<i64>
-    ensures { Does number scope.now (valued (typed.binary at.now op ty (value_of a.now) (value_of b.now))) clock.old scene.old result clock.new scene.new }
+    ensures does { Does number scope.now (valued (typed.binary at.now op ty (value_of a.now) (value_of b.now))) clock.old scene.old result clock.new scene.new }
+    ensures here { StaysHere (quick (value_of a.now) && quick (value_of b.now)) result clock.new.why }
 {
     if !clock.tick(scope.limit) {
         return None;
@@ -525,7 +548,8 @@ fn both_true(
     a: &Value,
     b: &Value,
 ) -> Option<i64>
-    ensures { Does number scope.now (valued (typed.both_true (value_of a.now) (value_of b.now))) clock.old scene.old result clock.new scene.new }
+    ensures does { Does number scope.now (valued (typed.both_true (value_of a.now) (value_of b.now))) clock.old scene.old result clock.new scene.new }
+    ensures here { StaysHere (quick (value_of a.now) && quick (value_of b.now)) result clock.new.why }
 {
     if !clock.tick(scope.limit) {
         return None;
@@ -549,7 +573,8 @@ fn one_true(
     a: &Value,
     b: &Value,
 ) -> Option<i64>
-    ensures { Does number scope.now (valued (typed.one_true (value_of a.now) (value_of b.now))) clock.old scene.old result clock.new scene.new }
+    ensures does { Does number scope.now (valued (typed.one_true (value_of a.now) (value_of b.now))) clock.old scene.old result clock.new scene.new }
+    ensures here { StaysHere (quick (value_of a.now) && quick (value_of b.now)) result clock.new.why }
 {
     if !clock.tick(scope.limit) {
         return None;
@@ -567,7 +592,8 @@ fn one_true(
 /// Whether an operand counts as true.
 #[cycle(evaluate)]
 fn truth_of(scope: &Scope<'_>, scene: &mut Scene, clock: &mut Clock, b: &Value) -> Option<i64>
-    ensures { Does number scope.now (λ p s. then_do (valued (value_of b.now) p s) (λ w s. Goes (of_truth (truth w)) s)) clock.old scene.old result clock.new scene.new }
+    ensures does { Does number scope.now (λ p s. then_do (valued (value_of b.now) p s) (λ w s. Goes (of_truth (truth w)) s)) clock.old scene.old result clock.new scene.new }
+    ensures here { StaysHere (quick (value_of b.now)) result clock.new.why }
 {
     let Some(w) = value(scope, scene, clock, b) else {
         return None;
@@ -586,7 +612,8 @@ fn chosen(
     a: &Value,
     b: &Value,
 ) -> Option<i64>
-    ensures { Does number scope.now (valued (typed.chosen ty (value_of c.now) (value_of a.now) (value_of b.now))) clock.old scene.old result clock.new scene.new }
+    ensures does { Does number scope.now (valued (typed.chosen ty (value_of c.now) (value_of a.now) (value_of b.now))) clock.old scene.old result clock.new scene.new }
+    ensures here { StaysHere (quick (value_of c.now) && quick (value_of a.now) && quick (value_of b.now)) result clock.new.why }
 {
     if !clock.tick(scope.limit) {
         return None;
@@ -610,7 +637,8 @@ fn conversion(
     ty: Option<IntType>,
     e: &Value,
 ) -> Option<i64>
-    ensures { Does number scope.now (λ p s. then_do (valued (value_of e.now) p s) (λ w s. Goes (meaning.converted_or_none ty w) s)) clock.old scene.old result clock.new scene.new }
+    ensures does { Does number scope.now (λ p s. then_do (valued (value_of e.now) p s) (λ w s. Goes (meaning.converted_or_none ty w) s)) clock.old scene.old result clock.new scene.new }
+    ensures here { StaysHere (quick (value_of e.now)) result clock.new.why }
 {
     let Some(v) = value(scope, scene, clock, e) else {
         return None;
@@ -627,7 +655,8 @@ fn sequence(
     a: &Value,
     b: &Value,
 ) -> Option<i64>
-    ensures { Does number scope.now (valued (typed.sequence (value_of a.now) (value_of b.now))) clock.old scene.old result clock.new scene.new }
+    ensures does { Does number scope.now (valued (typed.sequence (value_of a.now) (value_of b.now))) clock.old scene.old result clock.new scene.new }
+    ensures here { StaysHere (quick (value_of a.now) && quick (value_of b.now)) result clock.new.why }
 {
     if !clock.tick(scope.limit) {
         return None;
@@ -647,7 +676,8 @@ fn cast(
     ty: IntType,
     e: &Value,
 ) -> Option<i64>
-    ensures { Does number scope.now (valued (typed.cast ty (value_of e.now))) clock.old scene.old result clock.new scene.new }
+    ensures does { Does number scope.now (valued (typed.cast ty (value_of e.now))) clock.old scene.old result clock.new scene.new }
+    ensures here { StaysHere (quick (value_of e.now)) result clock.new.why }
 {
     if !clock.tick(scope.limit) {
         return None;
@@ -658,7 +688,8 @@ fn cast(
 /// A cast to `void` (6.3.2.2).
 #[cycle(evaluate)]
 fn discarded(scope: &Scope<'_>, scene: &mut Scene, clock: &mut Clock, e: &Value) -> Option<i64>
-    ensures { Does number scope.now (valued (typed.discarded (value_of e.now))) clock.old scene.old result clock.new scene.new }
+    ensures does { Does number scope.now (valued (typed.discarded (value_of e.now))) clock.old scene.old result clock.new scene.new }
+    ensures here { StaysHere (quick (value_of e.now)) result clock.new.why }
 {
     if !clock.tick(scope.limit) {
         return None;

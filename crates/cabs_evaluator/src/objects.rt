@@ -1,13 +1,13 @@
 //! Whole objects and their elements, without a reference in memory (6.3.2.1, 6.5.1, 6.5.2.1).
 
-ghost use Rattle.std.specs.Prelude.{◌≡◌, ℕ, Some, pos};
+ghost use Rattle.std.specs.Prelude.{◌≡◌, ℕ, Some, pos, true};
 ghost use Rattle.srcset.specs.declared.refusal.Pos.{Pos};
 ghost use Rattle.typing_program.specs.View.{place_of, program_of, storage_of};
 ghost use Rattle.meaning.specs.Store.{whole};
 ghost use Rattle.meaning.specs.Machine.{designated, read, subscripted, then_do, tick};
 ghost use Rattle.cabs_store.specs.View.{reference_of};
 ghost use Rattle.cabs_store.specs.layer.Agrees.{Outside, Runs, number, state_in, stepped};
-ghost use Rattle.cabs_evaluator.specs.layer.Comes.{Does, Designates, IsPart, IsWhole, found};
+ghost use Rattle.cabs_evaluator.specs.layer.Comes.{Does, Designates, IsPart, IsWhole, StaysHere, found};
 
 use crate::clock::{Clock, Scope};
 use cabs_store::Reference;
@@ -52,7 +52,8 @@ pub fn read_object(
     at: Pos,
     n: usize,
 ) -> Option<i64>
-    ensures { Does number scope.now (λ p s. tick s (λ s. read at (whole n) s)) clock.old scene.now result clock.new scene.now }
+    ensures does { Does number scope.now (λ p s. tick s (λ s. read at (whole n) s)) clock.old scene.now result clock.new scene.now }
+    ensures here { StaysHere true result clock.new.why }
 {
     if !clock.tick(scope.limit) {
         return None;
@@ -159,7 +160,8 @@ pub fn object_stepped(
     c: &Stepping,
     n: usize,
 ) -> Option<i64>
-    ensures { Does number scope.now (λ p s. tick s (λ s. stepped p c.now (whole n) s)) clock.old scene.old result clock.new scene.new }
+    ensures does { Does number scope.now (λ p s. tick s (λ s. stepped p c.now (whole n) s)) clock.old scene.old result clock.new scene.new }
+    ensures here { StaysHere true result clock.new.why }
 {
     if !clock.tick(scope.limit) {
         return None;

@@ -6,7 +6,8 @@ ghost use Rattle.cabs_store.specs.layer.Frames as on;
 ghost use Rattle.cabs_store.specs.layer.Presents.{call_in, given, presented};
 ghost use Rattle.cabs_store.specs.layer.Views.{found_of, node_of};
 ghost use Rattle.cabs_evaluator.specs.declared.clock.Why.TheVariants as why;
-ghost use Rattle.cabs_evaluator.specs.layer.Comes.{Does, DoesIn, executed, objects_in, valued};
+ghost use Rattle.cabs_evaluator.specs.layer.Comes.{Does, DoesIn, StaysHere, executed, objects_in, valued};
+ghost use Rattle.cabs_evaluator.specs.layer.Quick.{quick, quick_node, quick_statement};
 
 use crate::clock::{Clock, Scope, Why};
 use crate::expressions::value;
@@ -18,7 +19,8 @@ use typing_program::{Program, Statement, Value};
 
 /// An expression, with what is found.
 fn value_found(scope: &Scope<'_>, scene: &mut Scene, clock: &mut Clock, e: &Value) -> Option<Found>
-    ensures { Does found_of scope.now (λ p s. given on.a_value (valued (value_of e.now) p s)) clock.old scene.old result clock.new scene.new }
+    ensures does { Does found_of scope.now (λ p s. given on.a_value (valued (value_of e.now) p s)) clock.old scene.old result clock.new scene.new }
+    ensures here { StaysHere (quick (value_of e.now)) result clock.new.why }
 {
     match value(scope, scene, clock, e) {
         None => None,
@@ -33,7 +35,8 @@ fn statement_found(
     clock: &mut Clock,
     a: &Statement,
 ) -> Option<Found>
-    ensures { Does found_of scope.now (λ p s. given on.a_flow (executed (objects_in scope.now) (statement_of a.now) p s)) clock.old scene.old result clock.new scene.new }
+    ensures does { Does found_of scope.now (λ p s. given on.a_flow (executed (objects_in scope.now) (statement_of a.now) p s)) clock.old scene.old result clock.new scene.new }
+    ensures here { StaysHere (quick_statement (statement_of a.now)) result clock.new.why }
 {
     match statement(scope, scene, clock, a) {
         None => None,
@@ -44,9 +47,9 @@ fn statement_found(
 /// A node that is not done here.
 fn left_out(clock: &mut Clock) -> Option<Found>
     ensures none { result ≡ None }
-    ensures why { clock.new.why ≡ why.Memory }
+    ensures why { clock.new.why ≡ why.Elsewhere }
 {
-    clock.why = Why::Memory;
+    clock.why = Why::Elsewhere;
     None
 }
 
@@ -59,7 +62,8 @@ pub fn done(
     clock: &mut Clock,
     node: &Node<'_>,
 ) -> Option<Found>
-    ensures { DoesIn found_of limit (program_of program.now) (λ p s. presented p (call_in p) (node_of node.now) s) clock.old scene.old result clock.new scene.new }
+    ensures does { DoesIn found_of limit (program_of program.now) (λ p s. presented p (call_in p) (node_of node.now) s) clock.old scene.old result clock.new scene.new }
+    ensures here { StaysHere (quick_node (node_of node.now)) result clock.new.why }
 {
     match node {
         Node::Value(e) => {

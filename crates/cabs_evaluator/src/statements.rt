@@ -1,6 +1,6 @@
 //! Statements that call nothing (6.8). A `switch` is not among them yet, nor an initialiser that is no single value.
 
-ghost use Rattle.std.specs.Prelude.{◌≡◌, map, option_map};
+ghost use Rattle.std.specs.Prelude.{◌≡◌, ◌&&◌, true, map, option_map};
 ghost use Rattle.typing_rules.specs.Program as typed;
 ghost use Rattle.typing_program.specs.View.{statement_of, statements_of, value_of};
 ghost use Rattle.meaning.specs.Machine.{Goes, tick};
@@ -8,10 +8,11 @@ ghost use Rattle.meaning.specs.Expressions.{evaluate_or};
 ghost use Rattle.cabs_store.specs.layer.Agrees.{number};
 ghost use Rattle.cabs_store.specs.layer.Presents.{call_in, loop};
 ghost use Rattle.cabs_store.specs.layer.Views.{flow_of};
-ghost use Rattle.cabs_evaluator.specs.layer.Comes.{Does, all_executed, executed, objects_in, way_out};
+ghost use Rattle.cabs_evaluator.specs.layer.Comes.{Does, StaysHere, all_executed, executed, objects_in, way_out};
+ghost use Rattle.cabs_evaluator.specs.layer.Quick.{quick, quick_all, quick_control, quick_initialiser, quick_or, quick_statement};
 
 use crate::clock::{Clock, Scope};
-use crate::definitions::{definition, left_out};
+use crate::definitions::{definition, left_out, out_of_memory};
 use crate::expressions::{operand, value};
 use cabs_steps::objects::renew_all;
 use cabs_store::frames::Flow;
@@ -28,7 +29,8 @@ pub fn statement(
     clock: &mut Clock,
     a: &Statement,
 ) -> Option<Flow>
-    ensures { Does flow_of scope.now (executed (objects_in scope.now) (statement_of a.now)) clock.old scene.old result clock.new scene.new }
+    ensures does { Does flow_of scope.now (executed (objects_in scope.now) (statement_of a.now)) clock.old scene.old result clock.new scene.new }
+    ensures here { StaysHere (quick_statement (statement_of a.now)) result clock.new.why }
 {
     match a {
         Statement::Empty | Statement::Case(_) | Statement::Default => {
@@ -59,7 +61,8 @@ pub fn statement(
 /// A statement that does nothing, or jumps (6.8.1, 6.8.3, 6.8.6).
 #[inline(always)]
 fn at_once(scope: &Scope<'_>, scene: &Scene, clock: &mut Clock, flow: Flow) -> Option<Flow>
-    ensures { Does flow_of scope.now (λ p s. tick s (λ s. Goes (flow_of flow) s)) clock.old scene.now result clock.new scene.now }
+    ensures does { Does flow_of scope.now (λ p s. tick s (λ s. Goes (flow_of flow) s)) clock.old scene.now result clock.new scene.now }
+    ensures here { StaysHere true result clock.new.why }
 {
     if !clock.tick(scope.limit) {
         return None;
@@ -69,7 +72,8 @@ fn at_once(scope: &Scope<'_>, scene: &Scene, clock: &mut Clock, flow: Flow) -> O
 
 /// An expression statement (6.8.3).
 fn evaluation(scope: &Scope<'_>, scene: &mut Scene, clock: &mut Clock, e: &Value) -> Option<Flow>
-    ensures { Does flow_of scope.now (executed (objects_in scope.now) (typed.evaluate (value_of e.now))) clock.old scene.old result clock.new scene.new }
+    ensures does { Does flow_of scope.now (executed (objects_in scope.now) (typed.evaluate (value_of e.now))) clock.old scene.old result clock.new scene.new }
+    ensures here { StaysHere (quick (value_of e.now)) result clock.new.why }
 {
     if !clock.tick(scope.limit) {
         return None;
@@ -82,14 +86,15 @@ fn evaluation(scope: &Scope<'_>, scene: &mut Scene, clock: &mut Clock, e: &Value
 
 /// A declarator (6.2.4p6, 6.8p3).
 fn declaration(scope: &Scope<'_>, scene: &mut Scene, clock: &mut Clock, n: usize) -> Option<Flow>
-    ensures { Does flow_of scope.now (executed (objects_in scope.now) (typed.declare n)) clock.old scene.old result clock.new scene.new }
+    ensures does { Does flow_of scope.now (executed (objects_in scope.now) (typed.declare n)) clock.old scene.old result clock.new scene.new }
+    ensures here { StaysHere true result clock.new.why }
 {
     if !clock.tick(scope.limit) {
         return None;
     }
     match scene.renew(scope.alloc, scope.objects, n) {
         Ok(()) => Some(Flow::Normal),
-        Err(_) => left_out(clock),
+        Err(_) => out_of_memory(clock),
     }
 }
 
@@ -103,14 +108,15 @@ fn block(
     count: usize,
     all: &[Statement],
 ) -> Option<Flow>
-    ensures { Does flow_of scope.now (executed (objects_in scope.now) (typed.block first count (statements_of (map statement_of all.now)))) clock.old scene.old result clock.new scene.new }
+    ensures does { Does flow_of scope.now (executed (objects_in scope.now) (typed.block first count (statements_of (map statement_of all.now)))) clock.old scene.old result clock.new scene.new }
+    ensures here { StaysHere (quick_all (statements_of (map statement_of all.now))) result clock.new.why }
 {
     if !clock.tick(scope.limit) {
         return None;
     }
     match renew_all(scene, scope.alloc, scope.objects, first, count) {
         Ok(()) => all_of(scope, scene, clock, all),
-        Err(_) => left_out(clock),
+        Err(_) => out_of_memory(clock),
     }
 }
 
@@ -122,7 +128,8 @@ fn all_of(
     clock: &mut Clock,
     all: &[Statement],
 ) -> Option<Flow>
-    ensures { Does flow_of scope.now (all_executed (objects_in scope.now) (statements_of (map statement_of all.now))) clock.old scene.old result clock.new scene.new }
+    ensures does { Does flow_of scope.now (all_executed (objects_in scope.now) (statements_of (map statement_of all.now))) clock.old scene.old result clock.new scene.new }
+    ensures here { StaysHere (quick_all (statements_of (map statement_of all.now))) result clock.new.why }
 {
     let mut rest = all;
     while let Some((a, more)) = rest.split_first() {
@@ -147,7 +154,8 @@ fn branch(
     e: &Value,
     a: &Statement,
 ) -> Option<Flow>
-    ensures { Does flow_of scope.now (executed (objects_in scope.now) (typed.branch (value_of e.now) (statement_of a.now))) clock.old scene.old result clock.new scene.new }
+    ensures does { Does flow_of scope.now (executed (objects_in scope.now) (typed.branch (value_of e.now) (statement_of a.now))) clock.old scene.old result clock.new scene.new }
+    ensures here { StaysHere (quick (value_of e.now) && quick_statement (statement_of a.now)) result clock.new.why }
 {
     if !clock.tick(scope.limit) {
         return None;
@@ -172,7 +180,8 @@ fn branches(
     a: &Statement,
     b: &Statement,
 ) -> Option<Flow>
-    ensures { Does flow_of scope.now (executed (objects_in scope.now) (typed.branches (value_of e.now) (statement_of a.now) (statement_of b.now))) clock.old scene.old result clock.new scene.new }
+    ensures does { Does flow_of scope.now (executed (objects_in scope.now) (typed.branches (value_of e.now) (statement_of a.now) (statement_of b.now))) clock.old scene.old result clock.new scene.new }
+    ensures here { StaysHere (quick (value_of e.now) && quick_statement (statement_of a.now) && quick_statement (statement_of b.now)) result clock.new.why }
 {
     if !clock.tick(scope.limit) {
         return None;
@@ -196,7 +205,8 @@ fn while_loop(
     e: &Value,
     a: &Statement,
 ) -> Option<Flow>
-    ensures { Does flow_of scope.now (executed (objects_in scope.now) (typed.while (value_of e.now) (statement_of a.now))) clock.old scene.old result clock.new scene.new }
+    ensures does { Does flow_of scope.now (executed (objects_in scope.now) (typed.while (value_of e.now) (statement_of a.now))) clock.old scene.old result clock.new scene.new }
+    ensures here { StaysHere (quick (value_of e.now) && quick_statement (statement_of a.now)) result clock.new.why }
 {
     if !clock.tick(scope.limit) {
         return None;
@@ -213,7 +223,8 @@ fn do_loop(
     a: &Statement,
     e: &Value,
 ) -> Option<Flow>
-    ensures { Does flow_of scope.now (executed (objects_in scope.now) (typed.do_while (statement_of a.now) (value_of e.now))) clock.old scene.old result clock.new scene.new }
+    ensures does { Does flow_of scope.now (executed (objects_in scope.now) (typed.do_while (statement_of a.now) (value_of e.now))) clock.old scene.old result clock.new scene.new }
+    ensures here { StaysHere (quick (value_of e.now) && quick_statement (statement_of a.now)) result clock.new.why }
 {
     if !clock.tick(scope.limit) {
         return None;
@@ -239,9 +250,11 @@ fn for_loop(
     step: Option<&Value>,
     a: &Statement,
 ) -> Option<Flow>
-    ensures { Does flow_of scope.now (executed (objects_in scope.now) (typed.for (statements_of (map statement_of declared.now))
+    ensures does { Does flow_of scope.now (executed (objects_in scope.now) (typed.for (statements_of (map statement_of declared.now))
         (option_map (λ e. value_of e.now) start.entry) (option_map (λ e. value_of e.now) test.entry) (option_map (λ e. value_of e.now) step.entry) (statement_of a.now)))
         clock.old scene.old result clock.new scene.new }
+    ensures here { StaysHere (quick_control (option_map (λ e. value_of e.now) start.entry) (option_map (λ e. value_of e.now) test.entry) (option_map (λ e. value_of e.now) step.entry)
+        && quick_all (statements_of (map statement_of declared.now)) && quick_statement (statement_of a.now)) result clock.new.why }
 {
     if !clock.tick(scope.limit) {
         return None;
@@ -263,7 +276,8 @@ fn value_or(
     clock: &mut Clock,
     e: Option<&Value>,
 ) -> Option<i64>
-    ensures { Does number scope.now (λ p s. evaluate_or p (call_in p) (option_map (λ e. value_of e.now) e.entry) s) clock.old scene.old result clock.new scene.new }
+    ensures does { Does number scope.now (λ p s. evaluate_or p (call_in p) (option_map (λ e. value_of e.now) e.entry) s) clock.old scene.old result clock.new scene.new }
+    ensures here { StaysHere (quick_or (option_map (λ e. value_of e.now) e.entry)) result clock.new.why }
 {
     match e {
         None => Some(1),
@@ -294,8 +308,10 @@ fn turns(
     a: &Statement,
     step: Option<&Value>,
 ) -> Option<Flow>
-    ensures { Does flow_of scope.now (λ p s. loop p (call_in p) (objects_in scope.now) (option_map (λ e. value_of e.now) test.entry) (statement_of a.now)
+    ensures does { Does flow_of scope.now (λ p s. loop p (call_in p) (objects_in scope.now) (option_map (λ e. value_of e.now) test.entry) (statement_of a.now)
         (option_map (λ e. value_of e.now) step.entry) s) clock.old scene.old result clock.new scene.new }
+    ensures here { StaysHere (quick_or (option_map (λ e. value_of e.now) test.entry) && quick_statement (statement_of a.now)
+        && quick_or (option_map (λ e. value_of e.now) step.entry)) result clock.new.why }
 {
     for _ in 0..scope.limit {
         let Some(v) = value_or(scope, scene, clock, test) else {
@@ -314,7 +330,7 @@ fn turns(
             return None;
         };
     }
-    left_out(clock)
+    out_of_memory(clock)
 }
 
 /// `return` with a value (6.8.6.4p3).
@@ -325,7 +341,8 @@ fn return_value(
     ty: IntType,
     e: &Value,
 ) -> Option<Flow>
-    ensures { Does flow_of scope.now (executed (objects_in scope.now) (typed.return_value ty (value_of e.now))) clock.old scene.old result clock.new scene.new }
+    ensures does { Does flow_of scope.now (executed (objects_in scope.now) (typed.return_value ty (value_of e.now))) clock.old scene.old result clock.new scene.new }
+    ensures here { StaysHere (quick (value_of e.now)) result clock.new.why }
 {
     if !clock.tick(scope.limit) {
         return None;

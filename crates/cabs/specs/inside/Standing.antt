@@ -238,6 +238,7 @@ abbrev pub stopped_for : Why → Run
 stopped_for why.Ticks = run.TicksUsed
 stopped_for (why.Undefined act at) = run.Undefined act at
 stopped_for why.Memory = run.Memory
+stopped_for why.Elsewhere = run.Memory
 
 -- the run goes on with so many ticks spent, or it stops where so many are allowed
 abbrev pub MeetsAt : typed.Program → Whole → Option (List ℕ) → ℕ → Result Step Run → ℕ → Interpreter → PortView → Type 0

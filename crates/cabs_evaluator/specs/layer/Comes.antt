@@ -1,5 +1,5 @@
 -- What a part of a program that is evaluated at once comes to: what is left of the run behind it.
-use Rattle.std.specs.Prelude.{◌≡◌, ℕ, ◌+◌, ℤ, List, map, Option, Some, None, Result, Ok, Err, ⊤}
+use Rattle.std.specs.Prelude.{◌≡◌, ◌≢◌, Bool, true, ℕ, ◌+◌, ℤ, List, map, Option, Some, None, Result, Ok, Err, ⊤}
 use Rattle.typing_rules.specs.Program as typed
 use Rattle.typing_program.specs.View.{program_of, object_type_of}
 use Rattle.meaning.specs.History.{Entry}
@@ -39,6 +39,7 @@ abbrev pub StopsBy : Course → ℕ → Why → ℕ → Scene → Type 0
 StopsBy c limit why.Ticks spent scene = (spent ≡ limit) × (c.whole spent ≡ Stops machine.TicksUsed (state_at c scene 0))
 StopsBy c limit (why.Undefined act at) spent scene = (n : ℕ) → c.whole (n + spent) ≡ Stops (machine.Undefined act at) (state_at c scene n)
 StopsBy c limit why.Memory spent scene = ⊤
+StopsBy c limit why.Elsewhere spent scene = ⊤
 
 -- what follows gets the value, or the run stops
 abbrev pub Comes : {A B : Type 0} → (A → B) → Course → (B → State → Run Found) → ℕ → Option A → Clock → Scene → Type 0
@@ -60,6 +61,7 @@ abbrev pub Idles : Why → ℕ → ℕ → Type 0
 Idles why.Ticks spent limit = spent ≡ limit
 Idles (why.Undefined act at) spent limit = ⊥
 Idles why.Memory spent limit = ⊤
+Idles why.Elsewhere spent limit = ⊥
 
 -- what a leaf gives
 abbrev pub Gives : {A : Type 0} → Result A Stop → Option A → Why → Type 0
@@ -72,6 +74,10 @@ abbrev pub StoppedBy : Stop → Why → Type 0
 StoppedBy stop.Memory w = w ≡ why.Memory
 StoppedBy (stop.Ended n) w = w ≡ why.Memory
 StoppedBy (stop.Undefined act at) w = w ≡ why.Undefined act at
+
+-- where the part is quick, it is not left to be evaluated elsewhere
+abbrev pub StaysHere : {A : Type 0} → Bool → Option A → Why → Type 0
+StaysHere quick r w = quick ≡ true → r ≡ None → w ≢ why.Elsewhere
 
 -- ---- parts
 

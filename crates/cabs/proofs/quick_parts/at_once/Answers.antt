@@ -14,7 +14,7 @@ returns-in-Some-clause-meets c p all o sent port room s none =
     let within = on_true ((c.args.spent.now < c.done-found.new.clock.spent) × (c.done-found.new.clock.spent ≤ c.args.limit)) c.is_within.result c.if-not-is_within.false c.is_within.ensures.within in
     once_goes p all o c.args.limit c.args.spent.now sent c.args.interpreter.now (node_of c.args.node.now) port s none _ c.done-found.new.clock c.in-Some.found refl refl refl refl within.0
     (came_as p all o c.args.limit c.args.spent.now sent c.args.interpreter.now (node_of c.args.node.now) port s none c.done-found.result (Some c.in-Some.found) c.done-found.new.clock c.done-found.new.scene
-    c.in-Some.is c.done-found.ensures)
+    c.in-Some.is c.done-found.ensures.does)
 
 pub returns-in-None-clause-meets : goal.returns-in-None-clause-meets
 returns-in-None-clause-meets c p all o sent port room s none =
@@ -24,4 +24,4 @@ returns-in-None-clause-meets c p all o sent port room s none =
     (once_stops p all o c.args.limit c.args.spent.now sent c.args.interpreter.now (node_of c.args.node.now) port s none c.args.interpreter.now.tally c.done-found.new.scene c.done-found.new.clock.spent
     c.done-found.new.clock.why refl room within.1
     (came_as p all o c.args.limit c.args.spent.now sent c.args.interpreter.now (node_of c.args.node.now) port s none c.done-found.result None c.done-found.new.clock c.done-found.new.scene
-    c.in-None.is c.done-found.ensures))
+    c.in-None.is c.done-found.ensures.does))

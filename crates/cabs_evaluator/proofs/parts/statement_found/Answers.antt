@@ -6,14 +6,17 @@ use Rattle.cabs_evaluator.specs.layer.Comes.{executed, objects_in}
 use Rattle.cabs_evaluator.proofs.Comings.{leads_given, came}
 use Rattle.cabs_evaluator.proofs.parts.statement_found.Goals as goal
 
-pub returns-in-None : goal.returns-in-None
-returns-in-None c = λ run rest h.
+pub returns-in-None-clause-does : goal.returns-in-None-clause-does
+returns-in-None-clause-does c = λ run rest h.
     let part = executed (objects_in c.args.scope.now) (statement_of c.args.a.now) (program_of c.args.scope.now.program.now) in
     came flow_of run c.args.scope.now.limit (λ v s. rest (on.a_flow v) s) _ _ c.statement.new.clock c.statement.new.scene c.in-None.is
-    (c.statement.ensures run (λ v s. rest (on.a_flow v) s) (leads_given on.a_flow run c.args.clock.now.spent c.args.scene.now part rest h))
+    (c.statement.ensures.does run (λ v s. rest (on.a_flow v) s) (leads_given on.a_flow run c.args.clock.now.spent c.args.scene.now part rest h))
 
-pub returns-in-Some : goal.returns-in-Some
-returns-in-Some c = λ run rest h.
+pub returns-in-None-clause-here : goal.returns-in-None-clause-here
+returns-in-None-clause-here c = λ q none. c.statement.ensures.here q c.in-None.is
+
+pub returns-in-Some-clause-does : goal.returns-in-Some-clause-does
+returns-in-Some-clause-does c = λ run rest h.
     let part = executed (objects_in c.args.scope.now) (statement_of c.args.a.now) (program_of c.args.scope.now.program.now) in
     came flow_of run c.args.scope.now.limit (λ v s. rest (on.a_flow v) s) _ (Some c.in-Some.flow) c.statement.new.clock c.statement.new.scene c.in-Some.is
-    (c.statement.ensures run (λ v s. rest (on.a_flow v) s) (leads_given on.a_flow run c.args.clock.now.spent c.args.scene.now part rest h))
+    (c.statement.ensures.does run (λ v s. rest (on.a_flow v) s) (leads_given on.a_flow run c.args.clock.now.spent c.args.scene.now part rest h))

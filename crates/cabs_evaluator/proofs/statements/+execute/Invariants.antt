@@ -1,10 +1,12 @@
-use Rattle.std.proofs.Common.{◌+◌, ◌≤◌, ℕ, map, length, option_map}
+use Rattle.std.proofs.Common.{◌≡◌, ◌+◌, ◌≤◌, map, length, option_map}
+use Rattle.std.specs.Prelude.{true}
 use Rattle.typing_program.specs.View.{statement_of, statements_of, value_of, program_of}
 use Rattle.meaning.specs.Machine.{State, Run}
 use Rattle.meaning.specs.Statements.{Flow}
 use Rattle.cabs_store.specs.layer.Frames.{Found}
 use Rattle.cabs_store.specs.layer.Presents.{call_in, loop}
 use Rattle.cabs_evaluator.specs.layer.Comes.{Course, Leads, all_executed, objects_in}
+use Rattle.cabs_evaluator.specs.layer.Quick.{quick_all}
 use Rattle.cabs_evaluator.proofs.Work.{work_statement, work_all}
 use Rattle.cabs_evaluator.proofs.statements.+execute.Given as goal
 
@@ -41,6 +43,7 @@ decreases-all_of-loop-a l = length l.rest
 abbrev pub invariant-all_of-loop-a : goal.invariant-all_of-loop-a
 invariant-all_of-loop-a l = record {
   below : work_all (statements_of (map statement_of l.rest)) ≤ work_all (statements_of (map statement_of l.all));
+  here : quick_all (statements_of (map statement_of l.all)) ≡ true → quick_all (statements_of (map statement_of l.rest)) ≡ true;
   leads : (c : Course) (rest : Flow → State → Run Found) →
       Leads c l.initial.clock.spent l.initial.scene (all_executed (objects_in l.scope) (statements_of (map statement_of l.all)) (program_of l.scope.program.now)) rest →
       Leads c l.clock.spent l.scene (all_executed (objects_in l.scope) (statements_of (map statement_of l.rest)) (program_of l.scope.program.now)) rest;
