@@ -6,7 +6,8 @@ name is skipped, and told too. The last line counts.
 TRIED has a line a crate, its name and a digest, which run.sh writes when all edits of the crate were refused. The digest is
 that of the crate's libraries by crates.txt, its src/, specs/ and edits, and of the contracts of each crate below it: the files
 of specs/ but for specs/inside, and of src/ types, constants and the signatures, with their clauses, of functions that others
-can call; both without comments. So proofs, bodies, private functions, comments and tactics of the crates below are free to change.
+can call; all without comments. So its comments, and proofs, bodies, private functions and tactics of the crates below, are free to
+change.
 """
 import hashlib
 import os
@@ -102,6 +103,11 @@ def contracts(crate):
     return '\n'.join(kept)
 
 
+def without_comments(text):
+    """A source or a definition without the lines that are comments alone."""
+    return '\n'.join(line for line in text.split('\n') if not line.lstrip().startswith(('//', '--')))
+
+
 KEPT = {}
 
 
@@ -115,8 +121,9 @@ def digest(crate, all_of_them):
     taken = hashlib.sha256()
     taken.update(' '.join(sorted(all_of_them[crate])).encode())
     folder = os.path.join(ROOT, 'crates', crate)
-    paths = files(folder + '/src', '.rt') + files(folder + '/specs', '.antt')
-    for path in paths + files(os.path.join(ROOT, 'tests/edits', crate), '.edit'):
+    for path in files(folder + '/src', '.rt') + files(folder + '/specs', '.antt'):
+        taken.update(repr((os.path.relpath(path, ROOT), without_comments(text_of(path)))).encode())
+    for path in files(os.path.join(ROOT, 'tests/edits', crate), '.edit'):
         taken.update(repr((os.path.relpath(path, ROOT), text_of(path))).encode())
     for lower in sorted(below(crate, all_of_them)):
         taken.update((lower + sum_of_contracts(lower)).encode())
