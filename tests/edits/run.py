@@ -17,6 +17,8 @@ import tried
 
 KIT = '/opt/rattle'
 LIBRARIES = os.environ.get('LIBRARIES', '')
+# Whether a run of `rt ci` just proved the crates as they are: then the first check of edits is the first one.
+IS_PROVED = os.environ.get('PROVED') == '1'
 LOCK = threading.Lock()
 
 
@@ -239,7 +241,7 @@ def try_crate(crate, all_of_them):
     edits = tried.files(f'{tried.ROOT}/tests/edits/{crate}', '.edit')
     before = tried.digest(crate, all_of_them)
     with tempfile.TemporaryDirectory(prefix='edits-') as kept:
-        status, lines = check(crate, all_of_them, {}, kept)
+        status, lines = (0, []) if IS_PROVED else check(crate, all_of_them, {}, kept)
         if status:
             say(f'{crate}: NOT PROVED as it is: {" ".join(lines[:4])[:400]}')
             return len(edits), 0
