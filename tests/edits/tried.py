@@ -5,8 +5,8 @@ name is skipped, and told too. The last line counts.
 
 TRIED has a line a crate, its name and a digest, which run.sh writes when all edits of the crate were refused. The digest is
 that of the crate's libraries by crates.txt, its src/, specs/ and edits, and of the contracts of each crate below it: the files
-of specs/ but for specs/inside, and of src/ types, constants and the signatures, with their clauses, of functions that others
-can call; all without comments. So its comments, and proofs, bodies, private functions and tactics of the crates below, are free to
+of specs/ but for specs/inside, and of src/ types, constants, the signatures, with their clauses, of functions that others
+can call, and the imports that these name; all without comments. So its comments, and proofs, bodies, private functions and tactics of the crates below, are free to
 change.
 """
 import hashlib
@@ -90,6 +90,29 @@ def outside_bodies(text):
             head = None
         if is_seen and not bare.startswith('//'):
             kept.append(bare)
+    return named_alone(kept)
+
+
+IMPORT = re.compile(r'(ghost use .*?)(?:\.\{(?P<list>[^}]*)\}| as (?P<name>\S+));$')
+
+
+def named_alone(lines):
+    """The lines, of whose imports of definitions only what the other lines name is left."""
+    said = '\n'.join(line for line in lines if not line.startswith('ghost use '))
+    words = set(re.findall(r"[\w'-]+", said))
+
+    def is_named(name):
+        bare = name.split(' as ')[-1].strip()
+        return bare in words or not re.fullmatch(r"[\w'-]+", bare) and all(part in said for part in bare.split('◌'))
+    kept = []
+    for line in lines:
+        found = IMPORT.match(line)
+        if not found:
+            kept.append(line)
+        elif found['name']:
+            kept += [line] if is_named(found['name']) else []
+        else:
+            kept += [f'{found[1]} {name.strip()}' for name in found['list'].split(',') if is_named(name)]
     return kept
 
 

@@ -31,7 +31,8 @@ moved c k before later change next rest e h = record {
 }
 
 -- one more turn
-pub turned : (c : Course) (k : ℕ) (scene : Scene) (p : typed.Program) (objects : List ObjectType) (test : Option typed.Value) (a : typed.Statement) (step : Option typed.Value) (rest : Flow → State → Run Found) →
+pub turned : (c : Course) (k : ℕ) (scene : Scene) (p : typed.Program) (objects : List ObjectType) (test : Option typed.Value) (a : typed.Statement)
+    (step : Option typed.Value) (rest : Flow → State → Run Found) →
     Leads c k scene (λ s. loop p (call_in p) objects test a step s) rest →
     Leads c k scene (λ s. then_do (evaluate_or p (call_in p) test s) (λ v s. tested p (call_in p) objects test a step v s)) rest
 turned c k scene p objects test a step rest h =
@@ -56,14 +57,16 @@ on c k scene (Returned v) again rest e h = absurd (cc e)
 
 -- ---- statements one after the other
 
-pub headed : (c : Course) (k : ℕ) (scene : Scene) (p : typed.Program) (objects : List ObjectType) (xs : List Statement) (x : Statement) (more : List Statement) (rest : Flow → State → Run Found) → xs ≡ x ∷ more →
+pub headed : (c : Course) (k : ℕ) (scene : Scene) (p : typed.Program) (objects : List ObjectType) (xs : List Statement) (x : Statement)
+    (more : List Statement) (rest : Flow → State → Run Found) → xs ≡ x ∷ more →
     Leads c k scene (all_executed objects (statements_of (map statement_of xs)) p) rest →
     Leads c k scene (λ s. then_do (executed objects (statement_of x) p s) (λ flow s. next_after flow s (all_executed objects (statements_of (map statement_of more)) p))) rest
 headed c k scene p objects xs x more rest e h =
     let P : List Statement → Type 0 = λ xs. Leads c k scene (all_executed objects (statements_of (map statement_of xs)) p) rest in
     subst P e h
 
-pub fewer : (xs : List Statement) (x : Statement) (more : List Statement) (n : ℕ) → xs ≡ x ∷ more → work_all (statements_of (map statement_of xs)) ≤ n → work_all (statements_of (map statement_of more)) ≤ n
+pub fewer : (xs : List Statement) (x : Statement) (more : List Statement) (n : ℕ) → xs ≡ x ∷ more → work_all (statements_of (map statement_of xs)) ≤ n
+    → work_all (statements_of (map statement_of more)) ≤ n
 fewer xs x more n e h =
     let P : List Statement → Type 0 = λ xs. work_all (statements_of (map statement_of xs)) ≤ n in
     let all : work_statement (statement_of x) + work_all (statements_of (map statement_of more)) + 1 ≤ n = subst P e h in
@@ -84,7 +87,8 @@ given_first (Goes v s) u at = tick_then_of s.clock s (λ s. Goes tt (stored at (
 given_first (Stops e s) u at = refl
 
 -- a single value
-pub defines : (c : Course) (k : ℕ) (scene : Scene) (p : typed.Program) (objects : List ObjectType) (n : ℕ) (o : Option ObjectType) (t : ObjectType) (u : IntType) (e : typed.Value) (i : typed.Initialiser) (r : Reference)
+pub defines : (c : Course) (k : ℕ) (scene : Scene) (p : typed.Program) (objects : List ObjectType) (n : ℕ) (o : Option ObjectType) (t : ObjectType)
+    (u : IntType) (e : typed.Value) (i : typed.Initialiser) (r : Reference)
     (rest : Flow → State → Run Found) → o ≡ Some t → i ≡ typed.one_value u e → ((o : Outside) → r ≡ own n (state_in scene o)) →
     Leads c k scene (λ s. define_object p (call_in p) objects o n i s) rest →
     Leads c k scene (λ s. then_do (valued e p s) (λ v s. tick s (λ s. Goes Normal (stored r (converted u v) s)))) rest

@@ -47,14 +47,16 @@ named_whole : (p : typed.Program) (scene : Scene) (at : Pos) (what : typed.Stora
 named_whole p scene at what None h o = tt
 named_whole p scene at what (Some n) h o = named_at p scene at what n h o.clock o.input o.history
 
-pub is_whole : (p : typed.Program) (scene : Scene) (a : Place) (at : Pos) (what : Storage) (x : Option ℕ) → a ≡ P.Named at what → ((o : Outside) → Designates x (designated p (storage_of what) (state_in scene o))) →
+pub is_whole : (p : typed.Program) (scene : Scene) (a : Place) (at : Pos) (what : Storage) (x : Option ℕ) → a ≡ P.Named at what →
+    ((o : Outside) → Designates x (designated p (storage_of what) (state_in scene o))) →
     (o : Outside) → IsWhole x (found (place_of a) p (state_in scene o)) (state_in scene o)
 is_whole p scene a at what x e h o =
     let P : typed.Place → Type 0 = λ a. IsWhole x (found a p (state_in scene o)) (state_in scene o) in
     subst P (sym (ap place_of e ∙ named_is at what)) (named_whole p scene at (storage_of what) x h o)
 
 -- what follows a place that is a whole object
-pub leads_whole : {A : Type 0} (c : Course) (k : ℕ) (scene : Scene) (part : State → Run Reference) (next : Reference → State → Run A) (rest : A → State → Run Found) (x : Option ℕ) (n : ℕ) → x ≡ Some n →
+pub leads_whole : {A : Type 0} (c : Course) (k : ℕ) (scene : Scene) (part : State → Run Reference) (next : Reference → State → Run A)
+    (rest : A → State → Run Found) (x : Option ℕ) (n : ℕ) → x ≡ Some n →
     ((o : Outside) → IsWhole x (part (state_in scene o)) (state_in scene o)) → Leads c k scene (λ s. then_do (part s) next) rest → Leads c k scene (λ s. tick s (λ s. next (whole n) s)) rest
 leads_whole c k scene part next rest x n e is h =
     leads_there c k scene (λ s. then_do (part s) next) (λ s. tick s (λ s. next (whole n) s)) rest
@@ -116,7 +118,8 @@ part_read at scene o n i ts t None h a b e = tt
 part_read at scene o n i ts t (Some w) h a b e =
     part_goes at (state_in scene o) n i (tree_of t) w (ap (λ (ts : List Tree). slice_get (map tree_of ts) n) h ∙ get_map ts n ∙ ap (option_map tree_of) (got ts n t a b)) e
 
-pub by_number : (at : Pos) (scene : Scene) (o : Outside) (n i : ℕ) (v : ℤ) (x : Option ℤ) → v ≡ pos i → IsPart x (then_do (subscripted at (whole n) (pos i) (state_in scene o)) (λ r s. read at r s)) (state_in scene o) →
+pub by_number : (at : Pos) (scene : Scene) (o : Outside) (n i : ℕ) (v : ℤ) (x : Option ℤ) → v ≡ pos i → IsPart x
+    (then_do (subscripted at (whole n) (pos i) (state_in scene o)) (λ r s. read at r s)) (state_in scene o) →
     IsPart x (then_do (subscripted at (whole n) v (state_in scene o)) (λ r s. read at r s)) (state_in scene o)
 by_number at scene o n i v x e h =
     let P : ℤ → Type 0 = λ v. IsPart x (then_do (subscripted at (whole n) v (state_in scene o)) (λ r s. read at r s)) (state_in scene o) in
@@ -135,10 +138,14 @@ module _ (at : Pos) (r : Reference) (v : ℤ) (s : State) where
 
 module _ (c : Course) (k : ℕ) (scene : Scene) (rest : ℤ → State → Run Found) (p : typed.Program) (place : State → Run Reference) (at : Pos) where
   pub combines_found : (a : Compound) (e : State → Run ℤ) → a.read_at ≡ at →
-      Leads c k scene (λ s. then_do (place s) (λ r s. then_do (e s) (λ v s. then_do (read at r s) (λ old s. then_do (computed_at a.at (operated a.op a.of old v) s) (λ w s. write p a.at r (converted a.ty w) s))))) rest →
+      Leads c k scene (λ s. then_do (place s) (λ r s. then_do (e s)
+          (λ v s. then_do (read at r s) (λ old s. then_do (computed_at a.at (operated a.op a.of old v) s)
+          (λ w s. write p a.at r (converted a.ty w) s))))) rest →
       Leads c k scene (λ s. then_do (place s) (λ r s. then_do (e s) (λ v s. combined p a r v s))) rest
   combines_found a e same h = leads_as c k scene _ (λ s. then_do (place s) (λ r s. then_do (e s) (λ v s. combined p a r v s))) rest
-      (λ s. ap (λ at. then_do (place s) (λ r s. then_do (e s) (λ v s. then_do (read at r s) (λ old s. then_do (computed_at a.at (operated a.op a.of old v) s) (λ w s. write p a.at r (converted a.ty w) s))))) (sym same)) h
+      (λ s. ap (λ at. then_do (place s) (λ r s. then_do (e s)
+          (λ v s. then_do (read at r s) (λ old s. then_do (computed_at a.at (operated a.op a.of old v) s)
+          (λ w s. write p a.at r (converted a.ty w) s))))) (sym same)) h
 
   pub steps_found : (a : Stepping) → a.read_at ≡ at →
       Leads c k scene (λ s. then_do (place s) (λ r s. then_do (read at r s) (λ old s. then_do (computed_at a.at (operated (step_operation a.op) a.of old (pos 1)) s) (λ w s.

@@ -163,7 +163,7 @@ pub fn steps_by_size(moment: Moment, wide: bool, op: BinOp, shape: Shape) -> usi
     }
 }
 
-/// Of having an operand in a temporary: none where it may stay where it is, or is in one.
+/// Of having an operand in a temporary: none for one that is in a temporary and is kept as it is.
 pub fn loads_size(kept: bool, operand: Operand) -> usize
     ensures { result ≡ size.loads_size kept operand }
 {

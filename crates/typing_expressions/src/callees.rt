@@ -1,7 +1,7 @@
 //! What a call calls (6.5.2.2), and the built-in functions.
 #![tactic(auto)]
 
-ghost use Rattle.std.specs.Prelude.{◌≡◌, ◌++◌, ◌∷◌, [], ℕ, map, reverse, slice_get, IfErr, IfOk, OnOk};
+ghost use Rattle.std.specs.Prelude.{◌≡◌, ◌++◌, ◌∷◌, [], ℕ, map, reverse, IfErr, IfOk, OnOk};
 ghost use Rattle.srcset.specs.declared.refusal.Refusal.TheVariants.{Memory};
 ghost use Rattle.typing_program.specs.View.{callee_of, arguments_of, argument_of};
 ghost use Rattle.typing_rules.specs.Verdict.{fine};

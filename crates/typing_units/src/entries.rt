@@ -1,7 +1,7 @@
 //! Where a program begins (5.1.2.2.1): `int main(void)`, with external linkage.
 #![tactic(auto)]
 
-ghost use Rattle.std.specs.Prelude.{◌≡◌, false, [], Some, map, slice_get};
+ghost use Rattle.std.specs.Prelude.{◌≡◌, false, [], Some, map};
 ghost use Rattle.ctypes.specs.declared.types.IntType.TheVariants as ty;
 ghost use Rattle.typing_program.specs.View.{parameter_type_of, function_type_of, function_of};
 ghost use Rattle.typing_scopes.specs.Scopes.{option_binding, linkage_of, with_texts};
