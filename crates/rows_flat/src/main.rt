@@ -4,16 +4,13 @@
 mod building;
 mod names;
 mod reader;
-mod trace;
-mod words;
 
 use anyhow::{Context, Result};
-use building::{build, build_text, run_file};
+use building::{build, build_text};
 use frames_code::FlatProgram;
 use reader::{Reader, Row};
+use rows_runs::{number, run_file, with_events};
 use std::{env, fs};
-use trace::ends;
-use words::number;
 
 /// The files that are tried where no words are given.
 const FILES: [&str; 2] = ["programs.txt", "random.txt"];
@@ -97,7 +94,9 @@ fn try_row(rt: &HostRuntime, folder: &str, told: bool, row: &Row) -> Result<()> 
         row.input.as_slice(),
         row.costs,
     )?;
-    let ending = ends(rt.alloc(), done.status, done.trace.as_slice())?;
+    let status = done.status;
+    let head = format!(in rt.alloc(); "ends {status}")?;
+    let ending = with_events(rt.alloc(), head, done.trace.as_slice())?;
     println!(rt; "{program}: {ending}")?;
     if told {
         let instructions = done.instructions;

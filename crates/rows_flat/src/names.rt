@@ -1,8 +1,8 @@
 //! Operands, and the names of what instructions do.
 
-use crate::words::number;
 use anyhow::{Context, Result};
 use frames_code::{Conversion, Location, Operand, Operation, Target, Width};
+use rows_runs::number;
 use rv32::{RegisterOp, Test};
 
 /// `tN`, `cN` or `aN` for a temporary, a word of the frame or an argument; else a constant.

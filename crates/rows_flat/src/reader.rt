@@ -1,9 +1,9 @@
 //! Reads programs, a line each for their parts.
 
 use crate::names::{conversion, location, operand, operation, target, test, width};
-use crate::words::{Words, bytes, number};
 use anyhow::{Context, Result};
 use frames_code::{FlatProgram, Function, Instruction, Location, Operand, Target};
+use rows_runs::{Words, bytes, number};
 use std::alloc::Global;
 
 /// A program, what it is run on, and for how many instructions of the machine at most.

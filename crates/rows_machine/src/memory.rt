@@ -1,8 +1,9 @@
 //! Calls of a state and of its memory, with their answers.
 
-use crate::row::{bytes, file_of, given, hexadecimal, number};
+use crate::row::{file_of, given, hexadecimal, number};
 use anyhow::{Context, Result};
 use loader::load;
+use rows_runs::bytes;
 use rv32::{Five, Memory, Segment, State, is_laid_out, step};
 use std::alloc::Global;
 

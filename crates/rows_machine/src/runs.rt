@@ -1,9 +1,10 @@
 //! Runs of whole programs over memory.
 
-use crate::row::{bytes, file_of, given, number};
+use crate::row::{file_of, given, number};
 use anyhow::{Context, Result};
 use loader::load;
 use meaning_ports::{MemPort, Port};
+use rows_runs::bytes;
 use sim::Machine;
 use std::alloc::Global;
 

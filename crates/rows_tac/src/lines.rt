@@ -1,8 +1,8 @@
 //! What the lines of a function and of an object say.
 
 use crate::names::{comparison, element, operand, operation, parameter, place, reading, target};
-use crate::words::{Words, number};
 use anyhow::{Context, Result};
+use rows_runs::{Words, number};
 use std::alloc::Global;
 use tac_code::{Instruction, Operand, Parameter, Place, Target};
 use typing_program::{ObjectType, Static};

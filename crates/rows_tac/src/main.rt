@@ -5,14 +5,12 @@ mod building;
 mod lines;
 mod names;
 mod reader;
-mod trace;
-mod words;
 
 use anyhow::{Context, Result};
-use building::{build, run_file};
+use building::build;
 use reader::{Reader, Row};
+use rows_runs::{run_file, with_events};
 use std::{env, fs};
-use trace::ends;
 
 /// The files that are tried where no words are given.
 const FILES: [&str; 2] = ["programs.txt", "random.txt"];
@@ -73,7 +71,10 @@ fn try_row(rt: &HostRuntime, folder: &str, told: bool, row: &Row) -> Result<()> 
         row.input.as_slice(),
         row.costs,
     )?;
-    let ending = ends(rt.alloc(), &done)?;
+    let status = done.status;
+    let left = done.left;
+    let head = format!(in rt.alloc(); "ends {status} {left}")?;
+    let ending = with_events(rt.alloc(), head, done.trace.as_slice())?;
     println!(rt; "{program}: {ending}")?;
     if told {
         let instructions = done.instructions;

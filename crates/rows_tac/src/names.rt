@@ -1,8 +1,8 @@
 //! Operands, and the names of what instructions do.
 
-use crate::words::number;
 use anyhow::{Context, Result};
 use ctypes::IntType;
+use rows_runs::number;
 use tac_code::{Comparison, Operand, Operation, Parameter, Place, Reading, Target};
 
 /// `tN`, `kN`, `oN` or `pN` for a temporary, a slot, an object or what an array parameter refers to; else a constant.

@@ -1,8 +1,8 @@
 //! Reads programs, a line each for their parts.
 
 use crate::lines::{instruction, objects_type, parameters, static_object};
-use crate::words::{Words, bytes, number};
 use anyhow::{Context, Result};
+use rows_runs::{Words, bytes, number};
 use std::alloc::Global;
 use tac_code::{Function, TacProgram};
 

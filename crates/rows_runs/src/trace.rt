@@ -1,24 +1,24 @@
 //! What a program does to its outside.
 
-use crate::building::Done;
 use anyhow::Result;
 use std::alloc::Global;
 
 /// A byte that was got or put, or the end of the input that was met.
 #[derive(Clone, Copy, PartialEq, Eq)]
 pub enum Event {
+    /// A byte of the input.
     Got(u8),
+    /// No more input.
     GotEnd,
+    /// A byte of the output.
     Put(u8),
 }
 
-/// `ends STATUS LEFT EVENT ..`: how many bytes of the input are left, and `put:` or `got:` with bytes, or `end`.
-pub fn ends(alloc: Global, done: &Done) -> Result<String> {
-    let status = done.status;
-    let left = done.left;
-    let mut line = format!(in alloc; "ends {status} {left}")?;
+/// A line with the events behind it: ` put:` or ` got:` with the bytes that follow one another, or ` end`.
+pub fn with_events(alloc: Global, line: String, trace: &[Event]) -> Result<String> {
+    let mut line = line;
     let mut before = Event::GotEnd;
-    for event in &done.trace {
+    for event in trace {
         match (*event, before) {
             (Event::GotEnd, _) => line.push_str(" end")?,
             (Event::Got(byte), Event::Got(_)) | (Event::Put(byte), Event::Put(_)) => {
