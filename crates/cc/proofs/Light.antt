@@ -7,10 +7,19 @@ use Rattle.typing_program.specs.View.{function_of}
 use Rattle.typing_rules.specs.Nodes.{typed_nodes}
 use Rattle.typing_rules.specs.Units.{weight_limit, numbers_in}
 use Rattle.typing_rules.specs.WellTyped.{function_is_typed, functions_are_typed, statics_are_typed, parameters_are_first, statement_is_typed}
-use Rattle.tac_lowering.proofs.Words.{left_true, right_true}
-use Rattle.tac_bounds.proofs.Parts.{le_holds}
+use Rattle.std.proofs.lemmas.Bool.{and_parts}
+use Rattle.std.proofs.lemmas.Bool.Decides.{nat_tests}
 use Rattle.cc_backend.specs.Made.{IsReady}
 use Rattle.cc.specs.inside.Light.{AreLight}
+
+le_holds : (a b : ℕ) → nat_le a b ≡ true → a ≤ b
+le_holds a b h = grind (arith, nat_tests)
+
+left_true : (a b : Bool) → (a && b) ≡ true → a ≡ true
+left_true a b h = (and_parts a b h).0
+
+right_true : (a b : Bool) → (a && b) ≡ true → b ≡ true
+right_true a b h = (and_parts a b h).1
 
 function_light : (p : Program) (f : Function) → function_is_typed p f ≡ true → f.weight < 2 ^ 32
 function_light p f h =

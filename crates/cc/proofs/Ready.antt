@@ -10,12 +10,14 @@ use Rattle.typing_rules.specs.Units.{unit_typed}
 use Rattle.parser.specs.Units.{IsTreeWithin, of_function, of_program, IsSmall, AreSmall}
 use Rattle.lexer.specs.declared.token.Token.{Token}
 use Rattle.tac_checked.specs.Laws.{AreTexts, IsWithinNodes}
-use Rattle.tac_checked.proofs.Ground.{same_some}
 use Rattle.tac_checked.proofs.AskedStatements.{program_is_asked}
 use Rattle.tac_units.proofs.Whole.{program_is_checked}
 use Rattle.cc_backend.specs.Made.{IsReady}
 use Rattle.cc_backend.proofs.Bounds.{units_are_small}
 use Rattle.cc.specs.Compiled.{typed_at, IsProgramOf}
+
+same_some : {A : Type 0} (x y : A) → Some x ≡ Some y → x ≡ y
+same_some x y e = cc
 
 within_nodes : (unit : List ExternalTree) → AreSmall unit → IsWithinNodes unit
 within_nodes [] h k f e = absurd (let z : ⊥ = cc in z)

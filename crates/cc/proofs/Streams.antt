@@ -19,7 +19,6 @@ use Rattle.pp.specs.declared.stream.Pp.{Pp}
 use Rattle.pp.specs.Phase4.{Phase4, phase4}
 use Rattle.pp.specs.Preprocessed.{IsRefused, IsPreprocessFault}
 use Rattle.pp.specs.Stream.{IsRest, IsFirst, IsNext, IsAnswer, fault_meant}
-use Rattle.tac_checked.proofs.Ground.{same_some}
 use Rattle.pp.proofs.StreamLaws.{rest_grows}
 use Rattle.cc.specs.Compiled.{Numbers, HasList, HasTokens}
 use Rattle.cc.specs.Refused.{FailsPreprocessing, FailsTokens}
@@ -107,6 +106,9 @@ pub stream_ends : (old before after : Texts) (entry stream next : Pp) (lexer : L
 stream_ends old before after entry stream next lexer refusal s a keeps = ends_by old before after entry stream next lexer refusal s keeps a.next
 
 -- ---- a set of files
+
+same_some : {A : Type 0} (x y : A) → Some x ≡ Some y → x ≡ y
+same_some x y e = cc
 
 -- a table with as many texts as before, each with its number, is the same
 pub same_table : (a b : Texts) → KeepsNumbers a b → length a ≡ length b → b ≡ a

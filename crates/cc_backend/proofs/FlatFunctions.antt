@@ -9,11 +9,11 @@ use Rattle.tac_code.specs.Code.{function_at, or_no_function}
 use Rattle.tac_code.specs.Lowered.{kind_of, IsLowered}
 use Rattle.tac_code.specs.Sound.{FunctionFits}
 use Rattle.tac_checked.specs.Asked.{bodies_are_asked, types_are_sized}
-use Rattle.tac_lowering.proofs.Words.{right_true}
 use Rattle.tac_bounds.specs.Laws.{NamesAreThere}
 use Rattle.tac_bounds.proofs.Whole.{function_is_sound, code_is_lowered}
 use Rattle.tac.specs.layer.Functions.{parameters_if, parameters_at, IsFunctionWith}
-use Rattle.tac.proofs.Whole.{each_snoc, function_is_code, functions_are_code}
+use Rattle.tac.proofs.Whole.{function_is_code, functions_are_code}
+use Rattle.cc_backend.proofs.Plain.{and_right, same_some, each_snoc}
 use Rattle.frames_code.specs.Code as flat
 use Rattle.frames_code.specs.declared.code.Function.{Function as Held}
 use Rattle.frames.specs.Data.{data_of}
@@ -56,7 +56,7 @@ names_are_there p = record {
 pub function_fits : (p : typed.Program) → IsReady p → (k : ℕ) (f : typed.Function) → slice_get p.functions k ≡ Some f → (is_main : Bool) (g : tac.Function) → IsFunctionWith p is_main f g
     → ((q : tac.Program) × FunctionFits q g) × (length g.code < 2 ^ 32)
 function_fits p ready k f e is_main g made =
-    let sized = right_true (bodies_are_asked p) (types_are_sized p) ready.asked in
+    let sized = and_right (bodies_are_asked p) (types_are_sized p) ready.asked in
     let q = unwritten_program p in
     let both = function_is_sound p q ready.checked sized (names_are_there p) k f g e is_main (function_is_code p q (parameters_are p) is_main f g made) in
     ((q, both.0), both.1)
@@ -89,9 +89,6 @@ record Steps (p : typed.Program) (s : Starts) (is_main : ℕ → Bool) (fs : Lis
   pub simpler : List flat.Function
   pub simplified : AreSimpler (map (flat_function s) codes) simpler
   pub renumbered : AreRenumbered simpler hs
-
-same_some : {A : Type 0} (x y : A) → Some x ≡ Some y → x ≡ y
-same_some x y e = cc
 
 each_cons : (P : ℕ → typed.Function → tac.Function → Type 0) (f0 : typed.Function) (g0 : tac.Function) (fs : List typed.Function) (gs : List tac.Function) → P 0 f0 g0
     → ((n : ℕ) (f : typed.Function) (g : tac.Function) → slice_get fs n ≡ Some f → slice_get gs n ≡ Some g → P (suc n) f g)

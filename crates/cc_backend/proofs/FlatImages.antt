@@ -17,7 +17,7 @@ use Rattle.select_running.specs.Whole.{Permits, fixed}
 use Rattle.select_running.specs.Worlds.{Registers}
 use Rattle.select_running.specs.Laws.{AgreeOn}
 use Rattle.select_running.proofs.Placing.{stands_in}
-use Rattle.select_running.proofs.Bridge.{and_left, and_right}
+use Rattle.cc_backend.proofs.Plain.{and_left, and_right}
 use Rattle.select.specs.Program.{program_items}
 use Rattle.select_simulation.specs.Matches.{HasRoom, Holds}
 use Rattle.select_simulation.specs.Laws.{AreBytes}

@@ -2,7 +2,6 @@
 use Rattle.std.proofs.Common.{◌≡◌, ℕ, zero, suc, ◌+◌, ◌*◌, ◌%◌, ◌^◌, ◌<◌, List, [], ◌∷◌, length, Option, Some, None, Bool, true, false, refl, sym, subst, eqb}
 use Rattle.std.specs.Prelude.{if◌then◌else◌}
 use Rattle.rv32.specs.Arithmetic.{compare_of}
-use Rattle.select_running.proofs.Bridge.{bool_cases}
 use Rattle.frames_code.specs.declared.code.Operand.TheVariants as operand
 use Rattle.frames_code.specs.declared.code.Target.{Target}
 use Rattle.frames_code.specs.declared.code.Target.TheVariants as target
@@ -14,7 +13,11 @@ use Rattle.frames_code.specs.Costs.{next_of}
 use Rattle.frames_code.specs.Run.{Value, Bytes, Frame, State, Progress, running, ended, stuck, value, word_at, reference_in, set, next, past, goes_to, place, memory, name_of, changed_among, with_frames, with_memory, with_element, element_in, gives, gives_word, operate, converted, loaded, stored, put, got, returned, act, step, run, goes_on, ◌>>=◌}
 use Rattle.frames_code.specs.Run as flat
 use Rattle.select_simulation.proofs.Fits.{function_fits}
-use Rattle.select_simulation.proofs.Inputs.{step_is}
+use Rattle.cc_backend.proofs.Plain.{bool_cases}
+
+step_is : (p : Program) (s : State) → step p s ≡ (next_of p s >>= act p s)
+unfolding step
+step_is p s = refl
 
 abbrev pub AreKnown : ℕ → List Frame → Type 0
 AreKnown n [] = Unit {0}

@@ -1,3 +1,4 @@
+pub mod Plain
 pub mod Images
 pub mod Renumbering
 pub mod Simplifying

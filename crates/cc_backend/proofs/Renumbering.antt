@@ -1,5 +1,5 @@
 -- Flat code with its words under other numbers does what it did.
-use Rattle.std.proofs.Common.{◌≡◌, ℕ, zero, suc, ◌+◌, max, List, [], ◌∷◌, map, Some, refl, sym, ap, ◌∙◌, subst, arith}
+use Rattle.std.proofs.Common.{◌≡◌, ℕ, zero, suc, ◌+◌, max, List, [], ◌∷◌, length, map, Some, refl, sym, ap, ◌∙◌, subst, arith}
 use Rattle.std.specs.Prelude.{slice_get, sum_by}
 use Rattle.tac_code.specs.Code as tac
 use Rattle.frames_code.specs.declared.code.Operand.{Operand}
@@ -15,11 +15,11 @@ use Rattle.frames_code.specs.Code.{frame_bytes}
 use Rattle.frames_code.specs.Run as flat_run
 use Rattle.frames.specs.Costs.{fetch_bytes, keep_bytes, move_bytes, reach_bytes, reference_bytes, scale_bytes, code_bytes, function_bytes}
 use Rattle.frames.specs.Flattened.{IsCodeOf, behind}
-use Rattle.frames.proofs.Elements.{sum_by_map, same_some}
+use Rattle.cc_backend.proofs.Plain.{sum_by_map, same_some}
 use Rattle.frames_registers.specs.Renumbered.{renumbered_operand, renumbered_target, renumbered_location, renumbered, IsRenumberedFunction, AreRenumbered, IsRenumbered}
 use Rattle.frames_registers.specs.Laws.{words_of, moved_frame, moved, moved_progress}
 use Rattle.frames_registers.proofs.Whole.{runs_alike, costs_alike}
-use Rattle.frames_registers.proofs.Soundness.{same_count, stays_sound}
+use Rattle.frames_registers.proofs.Soundness.{stays_sound}
 use Rattle.cc_backend.specs.Forms.{IsFormOf}
 use Rattle.cc_backend.specs.Simulation.{Simulates, step_for_step}
 use Rattle.cc_backend.specs.Chain.{of_flat, RenumberedSimulatesFlat}
@@ -151,6 +151,12 @@ pub renumbered_simulates_flat : RenumberedSimulatesFlat
 renumbered_simulates_flat weight limit f g input same = simulates f g same input weight limit
 
 -- ---- the rest
+
+same_count : (fs gs : List flat.Function) → AreRenumbered fs gs → length gs ≡ length fs
+same_count [] [] r = refl
+same_count [] (g ∷ gs) r = absurd r
+same_count (f ∷ fs) [] r = absurd r
+same_count (f ∷ fs) (g ∷ gs) r = ap suc (same_count fs gs r.1)
 
 pub renumbered_form : (q : tac.Program) (f g : flat.Program) → IsFormOf q f → IsRenumbered f g → IsFormOf q g
 renumbered_form q f g form same = record {

@@ -9,7 +9,7 @@ use Rattle.frames_code.specs.Code.{frame_bytes}
 use Rattle.frames_code.specs.Run as flat_run
 use Rattle.meaning_events.specs.Events.{Event}
 use Rattle.frames.specs.Costs.{code_bytes}
-use Rattle.frames.proofs.Elements.{same_some}
+use Rattle.cc_backend.proofs.Plain.{same_some}
 use Rattle.frames_steps.proofs.Runs.{run_both}
 use Rattle.frames.specs.Flattened.{IsCodeOf, behind}
 use Rattle.frames_simplified.specs.Simplified.{IsSimplified, DoesTheSame, IsDefined}

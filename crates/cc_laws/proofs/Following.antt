@@ -16,32 +16,27 @@ use Rattle.meaning_events.specs.Events.{Event}
 use Rattle.frames_steps.proofs.Runs.{run_both}
 use Rattle.sim.specs.Runs as sim
 use Rattle.sim.specs.Runs.{World, Running, Trapped, rvrun, start_world, tick_of}
-use Rattle.sim.proofs.Composing.{rvrun_more, rvrun_on}
-use Rattle.select_running.specs.Light.{Fixed, Light, Go, Done, Fell, light_run}
+use Rattle.select_running.specs.Light.{Fixed}
 use Rattle.select_running.specs.Whole.{Permits, fixed}
-use Rattle.select_running.specs.Worlds.{Registers, world, Follows}
-use Rattle.select_running.proofs.Bridge.{bool_cases, and_left, and_right}
+use Rattle.select_running.specs.Worlds.{world}
 use Rattle.select_running.proofs.Placing.{stands_in}
-use Rattle.select_running.proofs.Worlds.{real_follows}
 use Rattle.select.specs.Selected.{return_home}
 use Rattle.select.specs.Program.{program_items}
 use Rattle.select_simulation.specs.Laws.{AreBytes}
-use Rattle.select_simulation.specs.Matches.{Ground, Ready, FrameHolds, Waits, Matched, Matches, HasRoom, address, file_of, file_below, return_at}
+use Rattle.select_simulation.specs.Matches.{Ground, Ready, FrameHolds, Waits, Matched, HasRoom, address, file_of, file_below, return_at}
 use Rattle.select_simulation.specs.Runs.{Laid, StandsWith, ground_at}
-use Rattle.select_simulation.proofs.Frames.{sum_is}
-use Rattle.select_simulation.proofs.Inputs.{Kept, run_keeps}
-use Rattle.select_simulation.proofs.Steps.{BytesLeft, bytes_last, step_follows}
+use Rattle.select_simulation.specs.Standing.{StandsAt}
 use Rattle.select_simulation.proofs.Laying.{is_ready}
-use Rattle.select_simulation.proofs.Standing.{stands_with}
-use Rattle.select_simulation.proofs.Whole.{unwatched, comes_to}
-use Rattle.select_simulation.proofs.Real.{shown}
+use Rattle.select_simulation.proofs.Real.{stands, step_stands}
 use Rattle.cc_backend.specs.FlatImages.{IsImageOf, FitStack}
 use Rattle.cc_backend.proofs.FlatImages as whole
+use Rattle.cc_backend.proofs.Plain.{bool_cases, and_left, and_right}
 use Rattle.cc_backend.proofs.FlatImages.{within_low, within_is, below_not, or_left, or_right, or_none}
 use Rattle.cc_laws.specs.Laws.{IsInside, space_from, lower, FilesStayAbove}
 use Rattle.cc_laws.proofs.Conventions.{fits}
 use Rattle.cc_laws.proofs.Permissions as kept
 use Rattle.cc_laws.proofs.Permissions.{world_of, run_permits}
+use Rattle.cc_laws.proofs.Composed.{rvrun_more, rvrun_on}
 use Rattle.cc_laws.proofs.Steps.{inside_now}
 use Rattle.cc_laws.proofs.Whole.{kept_inside}
 use Rattle.cc_laws.proofs.Loosening.{loose, loose_world, Allows, runs_loosely}
@@ -172,9 +167,6 @@ module _ (p : Program) (parts : Parts) (q : IsImageOf p parts) where
       executes = λ a e. e;
     }
 
-    room : (x : Progress) (t : State) → x ≡ running t → low + bytes_of p (t.frame ∷ t.waiting) ≤ stack_end → HasRoom G1 x
-    room x t e fit = subst (HasRoom G1) (sym e) fit
-
     module _ (list : List ℕ) (at : ℕ) (input : List ℕ) (trace : List Event) where
       abbrev from : World
       from = world tight list at b input trace
@@ -198,34 +190,6 @@ module _ (p : Program) (parts : Parts) (q : IsImageOf p parts) where
 
   -- ---- where the run stands
 
-  record At (s : State) (x : sim.Progress) : Type 0 where
-    list : List ℕ
-    r : ℕ → ℕ
-    b : ℕ → ℕ
-    is : x ≡ Running (world (whole.permits p parts q) list (address G0 s.frame.function s.frame.at) b s.input s.trace)
-    shows : Registers list r
-    small : address G0 s.frame.function s.frame.at < 2 ^ 32
-    matched : Matched G0 s r (address G0 s.frame.function s.frame.at) b
-
-  at_light : (s : State) (m : Light) (x : sim.Progress) → Matches G0 (running s) m → Follows (whole.permits p parts q) m x → At s x
-  at_light s (Go r at b i h) x k f =
-      let P = whole.permits p parts q in
-      let here = address G0 s.frame.function s.frame.at in
-      record {
-        list = f.list;
-        r = r;
-        b = b;
-        is = f.is ∙ ap (λ z. Running (world P f.list z b i h)) k.0.at_is ∙ ap (λ z. Running (world P f.list here b z h)) k.1 ∙ ap (λ z. Running (world P f.list here b s.input z)) k.2;
-        shows = f.shows;
-        small = subst (λ z. z < 2 ^ 32) k.0.at_is f.small;
-        matched = subst (λ z. Matched G0 s r z b) k.0.at_is k.0;
-      }
-  at_light s (Done status h) x k f = absurd k
-  at_light s (Fell h) x k f = absurd k
-
-  ready_whole : Ready G0
-  ready_whole = is_ready p (whole.F p parts q) q.assembled.env (whole.floor p parts q) (whole.data_at p parts q) text_start (whole.past_text p parts q) (λ k. 0) first_bytes (whole.laid p parts q)
-
   room_whole : (x : Progress) → FitStack parts.stack p x → HasRoom G0 x
   room_whole (running s) fit = omega (arith, fit, q.stack.2)
   room_whole (ended status input trace) fit = tt
@@ -235,36 +199,26 @@ module _ (p : Program) (parts : Parts) (q : IsImageOf p parts) where
   begin input = start_world (program_image parts) input
 
   module _ (input : List ℕ) (bytes : AreBytes input) (fit : (k : ℕ) → FitStack parts.stack p (run p k (start p input))) where
-    record Stands (n : ℕ) (s : State) : Type 0 where
-      k : ℕ
-      at : At s (rvrun k (begin input))
-
-    stands : (n : ℕ) (s : State) → run p n (start p input) ≡ running s → Stands n s
-    stands n s over =
-        let first = Go (λ k. 0) text_start first_bytes input [] in
-        let c = comes_to p (whole.F p parts q) q.assembled.env (whole.floor p parts q) (whole.data_at p parts q) text_start (whole.past_text p parts q) (λ k. 0) first_bytes input (whole.laid p parts q) bytes n
-        (λ k le. room_whole (run p k (start p input)) (fit k)) in
-        let real = real_follows (whole.permits p parts q) (whole.low p parts q) text_apart (replicate 32 0) (λ k. 0) text_start first_bytes input [] (whole.zero_registers p parts q) (omega arith) c.j in
-        record {
-          k = c.j;
-          at = at_light s (light_run (whole.F p parts q) c.j first) (rvrun c.j (begin input)) (subst (λ y. Matches G0 y (light_run (whole.F p parts q) c.j first)) over c.good) real;
-        }
+    at : (n : ℕ) (s : State) → run p n (start p input) ≡ running s → (k : ℕ) × StandsAt (whole.permits p parts q) G0 s (rvrun k (begin input))
+    at n s over =
+        stands (whole.permits p parts q) (whole.low p parts q) text_apart p q.assembled.env (whole.floor p parts q) (whole.data_at p parts q) text_start (whole.past_text p parts q) (λ k. 0) first_bytes (replicate 32 0) input
+        (whole.laid p parts q) (whole.zero_registers p parts q) bytes n s over (λ k le. room_whole (run p k (start p input)) (fit k))
 
     above : (n : ℕ) (s t : State) → run p n (start p input) ≡ running s → step p s ≡ running t
         → (k j : ℕ) × (v w : World) × (rvrun k (begin input) ≡ Running v) × StandsWith p q.assembled.env s v × (rvrun (k + j) (begin input) ≡ Running w) × StandsWith p q.assembled.env t w
         × ((i : ℕ) (u : World) → i < j → rvrun (k + i) (begin input) ≡ Running u
         → IsInside (space_from parts (lower (register v.machine 2) (register w.machine 2)) (program_space parts)) u.machine)
     above n s t over e =
-        let z = stands n s over in
-        let k = z.k in
-        let a = z.at in
+        let z = at n s over in
+        let k = z.0 in
+        let a = z.1 in
         let P = whole.permits p parts q in
         let here = address G0 s.frame.function s.frame.at in
         let v = world P a.list here a.b s.input s.trace in
         let m = a.matched in
         let kept_text : kept.Permits (program_space parts) v.machine.space = subst (λ x. kept.Permits (program_space parts) (world_of x).machine.space) a.is (run_permits k (begin input)) in
         let text : (x : ℕ) → (program_space parts).can_execute x ≡ true → a.b x ≡ first_bytes x = λ x yes. kept_text.bytes x (text_apart x yes) in
-        let sum = sum_is G0 ready_whole s a.r here a.b m in
+        let sum = a.sum in
         let next_is : run p (n + 1) (start p input) ≡ running t = run_both p n 1 (start p input) ∙ ap (λ x. goes_on x (run p 1)) over ∙ ap (λ x. goes_on x (run p 0)) e in
         let taken : bytes_of p (t.frame ∷ t.waiting) ≤ parts.stack = subst (FitStack parts.stack p) next_is (fit (n + 1)) in
         let then_sp = stack_end - bytes_of p (t.frame ∷ t.waiting) in
@@ -273,35 +227,28 @@ module _ (p : Program) (parts : Parts) (q : IsImageOf p parts) where
         let right = lower_right m.sp then_sp in
         let hi : stack_start parts.stack ≤ low = lower_both m.sp then_sp (stack_start parts.stack) m.low (omega (arith, taken)) in
         let lt : low ≤ stack_end = omega (arith, left, sum) in
-        let tightened = tight low a.b hi lt text in
-        let m1 = matched_same low a.b hi lt text s a.r here a.b m left in
-        let input_left : AreBytes s.input = subst (Kept BytesLeft) over (run_keeps BytesLeft p bytes_last n (start p input) bytes) in
-        let G = G1 low a.b hi lt text in
         let fits_then : low + bytes_of p (t.frame ∷ t.waiting) ≤ stack_end = omega (arith, right, taken, q.stack.2) in
-        let c = step_follows G s a.r a.b (ready low a.b hi lt text) m1 (unwatched G (omega arith) (omega arith) (running s)) input_left (room low a.b hi lt text (step p s) t e fits_then) in
-        let light = light_run (F1 low a.b hi lt text) c.j (Go a.r here a.b s.input s.trace) in
+        let c = step_stands (tight low a.b hi lt text) (whole.low p parts q) (apart low a.b hi lt text) p q.assembled.env low (whole.data_at p parts q) text_start (λ k. 0) first_bytes a.b (ready low a.b hi lt text)
+        s t a.list a.r a.shows a.small (matched_same low a.b hi lt text s a.r here a.b m left) a.input e fits_then in
         let source = from low a.b hi lt text a.list here s.input s.trace in
-        let real = real_follows tightened (whole.low p parts q) (apart low a.b hi lt text) a.list a.r here a.b s.input s.trace a.shows a.small c.j in
-        let sh = shown tightened G t light (rvrun c.j source) (ready low a.b hi lt text) refl (subst (λ y. Matches G y light) e c.good) real in
-        let st = sh.stands in
-        let w = loose_world (program_space parts) sh.world in
-        let there : rvrun c.j v ≡ Running w = runs_loosely (program_space parts) c.j source sh.world (from_allows low a.b hi lt text a.list here s.input s.trace) sh.is in
-        let stands_v : StandsWith p q.assembled.env s v = stands_with P G0 s a.list a.r here a.b s.input s.trace ready_whole refl m refl refl a.shows in
+        let st = c.3 in
+        let w = loose_world (program_space parts) c.1 in
+        let there : rvrun c.0 v ≡ Running w = runs_loosely (program_space parts) c.0 source c.1 (from_allows low a.b hi lt text a.list here s.input s.trace) c.2 in
         let stands_w : StandsWith p q.assembled.env t w = record { pc = st.pc; sp = st.sp; aligned = st.aligned; registers = st.registers; stack = st.stack; trace = st.trace; input = st.input } in
-        let sp_v : register v.machine 2 ≡ m.sp = omega (arith, stands_v.sp, sum) in
+        let sp_v : register v.machine 2 ≡ m.sp = omega (arith, a.stands.sp, sum) in
         let sp_w : register w.machine 2 ≡ then_sp = omega (arith, stands_w.sp) in
         let both_are : lower (register v.machine 2) (register w.machine 2) ≡ low = ap (λ x. lower x (register w.machine 2)) sp_v ∙ ap (λ x. lower m.sp x) sp_w in (
           k,
-          c.j,
+          c.0,
           v,
           w,
           a.is,
-          stands_v,
-          rvrun_on k c.j (k + c.j) (begin input) v a.is refl ∙ there,
+          a.stands,
+          rvrun_on k c.0 (k + c.0) (begin input) v a.is refl ∙ there,
           stands_w,
           λ i u li f.
               subst (λ x. IsInside (space_from parts x (program_space parts)) u.machine) (sym both_are)
-              (inside_step low a.b hi lt text a.list here s.input s.trace i c.j u sh.world li sh.is (sym (rvrun_on k i (k + i) (begin input) v a.is refl) ∙ f)),
+              (inside_step low a.b hi lt text a.list here s.input s.trace i c.0 u c.1 li c.2 (sym (rvrun_on k i (k + i) (begin input) v a.is refl) ∙ f)),
         )
 
 pub files_stay_above : FilesStayAbove

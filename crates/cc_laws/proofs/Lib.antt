@@ -1,5 +1,6 @@
 pub mod Mains
 pub mod Clock
+pub mod Composed
 pub mod Permissions
 pub mod Steps
 pub mod Instants

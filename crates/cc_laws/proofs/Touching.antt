@@ -12,7 +12,7 @@ use Rattle.frames_code.specs.Code.{Program}
 use Rattle.frames_code.specs.Run.{State, Progress, running, ended, stuck, run, start}
 use Rattle.sim.specs.Runs as sim
 use Rattle.sim.specs.Runs.{World, Running, Ended, Trapped, rvrun, start_world, tick_of}
-use Rattle.sim.proofs.Composing.{rvrun_more}
+use Rattle.cc_laws.proofs.Composed.{rvrun_more}
 use Rattle.select_running.specs.Whole.{Permits, fixed}
 use Rattle.select_running.specs.Worlds.{world}
 use Rattle.select_running.proofs.Keeping.{runs_keep}

@@ -12,7 +12,7 @@ use Rattle.rv32.specs.Step.{Machine, register}
 use Rattle.loader.specs.File.{Image}
 use Rattle.sim.specs.Runs as sim
 use Rattle.sim.specs.Runs.{World, Progress, Running, Trapped, rvrun, start_world, tick_of}
-use Rattle.sim.proofs.Composing.{rvrun_more}
+use Rattle.cc_laws.proofs.Composed.{rvrun_more}
 use Rattle.select_running.specs.Laws.{trace_of}
 use Rattle.select_running.proofs.Keeping.{runs_keep}
 use Rattle.typing_rules.specs.Program.{Program}

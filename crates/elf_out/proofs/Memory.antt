@@ -12,6 +12,7 @@ use Rattle.elf_out.specs.Written.{headers_of, file_of, zeros}
 use Rattle.elf_out.specs.Program.{is_within, is_text, is_data, is_stack, program_space, program_image}
 use Rattle.elf_out.proofs.Pushing.{length-headers_of}
 use Rattle.elf_out.proofs.Reading.{text_load, data_load, stack_load, loads_again, no_fault, e_entry_again}
+use Rattle.elf_out.specs.Laws.{WrittenIsRead}
 
 -- ---- the parts of the file
 
@@ -174,7 +175,7 @@ written_sound p h t =
     let len : length (headers_of (length p.text) (length p.statics) p.stack ++ r.0) ≡ data_offset (length p.text) + (length p.statics) = ap length (sym r.1) ∙ length-file_of p (omega arith) in
     ap (λ f. fault_of f) r.1 ∙ no_fault (length p.text) (length p.statics) p.stack r.0 h t len
 
-pub written_image : (p : Parts) → length p.text + length p.statics ≤ 117440512 → p.stack ≤ 16777216 → file_image (file_of p) ≡ Ok (program_image p)
+pub written_image : WrittenIsRead
 unfolding file_image
 written_image p h t =
     ap (λ o. answer_of o (record { entry = e_entry (file_of p); space = image_space (file_of p) })) (written_sound p h t)

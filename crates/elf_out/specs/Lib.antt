@@ -5,3 +5,4 @@ pub use Rattle.memory_map.specs.MemoryMap
 pub mod Layout
 pub mod Written
 pub mod Program
+pub mod Laws

@@ -2,10 +2,12 @@
 #![tactic(auto)]
 
 mod image;
+mod laws;
 mod stack_size;
 mod writer;
 
 pub use image::Image;
+pub use laws::written_is_read;
 pub use stack_size::StackSize;
 pub use writer::write_elf;
 

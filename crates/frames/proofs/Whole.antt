@@ -41,6 +41,7 @@ use Rattle.frames.specs.Flattened.{IsCodeOf}
 use Rattle.frames.proofs.Elements.{each_in_map, got_in_map, sum_by_map, sum_by_map_le, same_some}
 use Rattle.frames.proofs.Places.{frame_is_call, total, start_within}
 use Rattle.frames.proofs.Sound.{AreNear, length_code, function_fits}
+use Rattle.frames.specs.Laws.{DataBytesAre, DataHaveTheirSize}
 
 -- ---- the data
 
@@ -66,7 +67,7 @@ sum_statics : (os : List Static) → sum_by static_size os ≡ statics_bytes os
 sum_statics [] = refl
 sum_statics (o ∷ os) = sum_by-cons static_size o os ∙ ap (λ n. static_size o + n) (sum_statics os)
 
-pub data_bytes_are : (ls : List (List ℕ)) (os : List Static) → data_bytes ls os ≡ literal_bytes ls + statics_bytes os
+pub data_bytes_are : DataBytesAre
 data_bytes_are ls os = ap (λ n. n + sum_by static_size os) (sum_literals ls) ∙ ap (λ n. literal_bytes ls + n) (sum_statics os)
 
 pub starts_near : (p : Program) → data_bytes p.literals p.statics ≤ 2 ^ 24 → AreNear (starts_of p)
@@ -101,7 +102,7 @@ length_statics (o ∷ os) =
     length-append (bytes_of_static o) (bytes_of_statics os)
     ∙ ap (λ n. n + length (bytes_of_statics os)) (length_static o) ∙ ap (λ n. static_size o + n) (length_statics os)
 
-pub length_data : (p : Program) → length (data_of p) ≡ 16 + (literal_bytes p.literals + statics_bytes p.statics)
+pub length_data : DataHaveTheirSize
 length_data p =
     length-append (zeros 16) (bytes_of_literals p.literals ++ bytes_of_statics p.statics)
     ∙ ap (λ n. 16 + n) (length-append (bytes_of_literals p.literals) (bytes_of_statics p.statics)

@@ -4,7 +4,7 @@ use Rattle.std.specs.Prelude.{◌≡◌, ◌<◌, ◌≤◌, ℕ, ◌+◌, ◌^�
 use Rattle.ctypes.specs.declared.types.IntType.{IntType}
 use Rattle.ctypes.specs.declared.types.IntType.TheVariants as ty
 use Rattle.typing_rules.specs.Types.{ObjectType, size_of_object}
-use Rattle.tac_code.specs.Code.{Function, scalar_type}
+use Rattle.tac_code.specs.Code.{Function, scalar_type, Program}
 use Rattle.tac_code.specs.Costs.{array_parameters}
 use Rattle.tac_code.specs.declared.code.Reading.{Reading}
 use Rattle.tac_code.specs.declared.code.Operation.{Operation}
@@ -16,6 +16,10 @@ use Rattle.rv32.specs.Arithmetic.{compare_of}
 use Rattle.frames_code.specs.Run as flat
 use Rattle.frames.specs.Translated.{operation_of, test_of}
 use Rattle.frames.specs.Layout.{layout_of, cells_of, bytes_in, cell_in, offset_in, starts_from, start_in}
+use Rattle.typing_rules.specs.Program.{Static}
+use Rattle.tac_code.specs.Sound.{data_bytes}
+use Rattle.frames.specs.Data.{data_of}
+use Rattle.frames.specs.Sizes.{literal_bytes, statics_bytes}
 
 -- the word of object n, and the first byte of array n
 abbrev pub cell : Function → ℕ → ℕ
@@ -75,3 +79,11 @@ pub record ConversionsAgree : Type 0 where
   pub to_unsigned_int : (a : ℕ) → a < 2 ^ 32 → word_for (number_of ty.UInt a) ≡ a
   pub to_long : (a : ℕ) → a < 2 ^ 32 → word_for (number_of ty.Long a) ≡ a
   pub to_unsigned_long : (a : ℕ) → a < 2 ^ 32 → word_for (number_of ty.ULong a) ≡ a
+
+-- the bytes of the data are those of the literals and of the statics
+abbrev pub DataBytesAre : Type 0
+DataBytesAre = (ls : List (List ℕ)) (os : List Static) → data_bytes ls os ≡ literal_bytes ls + statics_bytes os
+
+-- the data begin with 16 bytes
+abbrev pub DataHaveTheirSize : Type 0
+DataHaveTheirSize = (p : Program) → length (data_of p) ≡ 16 + (literal_bytes p.literals + statics_bytes p.statics)

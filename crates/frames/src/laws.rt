@@ -1,6 +1,6 @@
 //! Laws of where things lie and of what is computed, each the contract of a function without code.
 
-ghost use Rattle.frames.specs.Laws.{WordsAreApart, WordsComeFirst, ReferencesComeNext, SlotsComeLast, ArraysAreApart, ArraysAreInside, StartsAreApart, OperationsAgree, ComparisonsAgree, ConversionsAgree};
+ghost use Rattle.frames.specs.Laws.{WordsAreApart, WordsComeFirst, ReferencesComeNext, SlotsComeLast, ArraysAreApart, ArraysAreInside, StartsAreApart, OperationsAgree, ComparisonsAgree, ConversionsAgree, DataBytesAre, DataHaveTheirSize};
 
 /// Objects that are no arrays, references and slots have words of their own, within those of the frame.
 pub fn words_are_apart()
@@ -27,4 +27,10 @@ pub fn words_agree()
     ensures operations { OperationsAgree }
     ensures comparisons { ComparisonsAgree }
     ensures conversions { ConversionsAgree }
+{}
+
+/// How many bytes the data have: 16, and those of the literals and of the statics.
+pub fn data_have_their_size()
+    ensures parts { DataBytesAre }
+    ensures whole { DataHaveTheirSize }
 {}

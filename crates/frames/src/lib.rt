@@ -11,6 +11,8 @@ mod starts;
 mod statics;
 
 pub use functions::{flatten, flatten_function};
-pub use laws::{arrays_are_apart, starts_are_apart, words_agree, words_are_apart};
+pub use laws::{
+    arrays_are_apart, data_have_their_size, starts_are_apart, words_agree, words_are_apart,
+};
 pub use starts::Starts;
 pub use statics::{data, data_alone};

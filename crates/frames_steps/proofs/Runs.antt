@@ -14,7 +14,7 @@ use Rattle.frames_steps.specs.Matched.{Matched, Alike}
 use Rattle.frames_steps.proofs.Frames.{functions_same}
 use Rattle.frames_steps.proofs.Ground.{IsMadeOf}
 use Rattle.frames_steps.proofs.Calling.{as_sum}
-use Rattle.frames_steps.specs.Laws.{Comes, Follows}
+use Rattle.frames_steps.specs.Laws.{Comes, Follows, FlatRunsCompose}
 use Rattle.frames_steps.proofs.Steps.{same_running, step_follows}
 
 -- ---- flat runs, one behind the other
@@ -29,7 +29,7 @@ goes_same (flat.running s) go more each = each s
 goes_same (flat.ended status input trace) go more each = refl
 goes_same flat.stuck go more each = refl
 
-pub run_both : (p : flat_code.Program) (k n : ℕ) (s : flat.State) → flat.run p (k + n) s ≡ flat.goes_on (flat.run p k s) (flat.run p n)
+pub run_both : FlatRunsCompose
 run_both p zero n s = ap (λ i. flat.run p i s) (let e : 0 + n ≡ n = omega arith in e)
 run_both p (suc k) n s =
     ap (λ i. flat.run p i s) (let e : suc k + n ≡ suc (k + n) = omega arith in e)

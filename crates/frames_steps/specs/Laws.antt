@@ -1,5 +1,5 @@
 -- What flat code does in step with the three-address code that it was made of.
-use Rattle.std.specs.Prelude.{◌≡◌, ◌⊎◌, ◌≤◌, ◌<◌, ℕ, List}
+use Rattle.std.specs.Prelude.{◌≡◌, ◌⊎◌, ◌≤◌, ◌<◌, ℕ, List, ◌+◌}
 use Rattle.tac_code.specs.Code.{Program}
 use Rattle.tac_code.specs.Costs.{cost_if}
 use Rattle.tac_code.specs.Sound.{IsSoundProgram, AreBytes}
@@ -12,6 +12,8 @@ use Rattle.frames_code.specs.Run.{active}
 use Rattle.frames.specs.Translated.{flat_program}
 use Rattle.frames.specs.Flattened.{InStep, IsFlattened}
 use Rattle.frames_steps.specs.Matched.{Matched, Alike}
+use Rattle.frames_code.specs.Code as flat_code
+use Rattle.frames_code.specs.Run as flat
 
 -- these are the calls that are open behind a step
 abbrev pub AreCallsOf : List ℕ → Progress → Type 0
@@ -49,3 +51,7 @@ FlatIsInStep = (q : Program) → IsSoundProgram q → (input : List ℕ) → Are
 -- and is what flattening is to give
 abbrev pub FlatIsFlattened : Type 0
 FlatIsFlattened = (q : Program) → IsSoundProgram q → IsFlattened q (flat_program q)
+
+-- so many steps of flat code and then so many are a run of both
+abbrev pub FlatRunsCompose : Type 0
+FlatRunsCompose = (p : flat_code.Program) (k n : ℕ) (s : flat.State) → flat.run p (k + n) s ≡ flat.goes_on (flat.run p k s) (flat.run p n)

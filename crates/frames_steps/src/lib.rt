@@ -1,7 +1,7 @@
 //! Flat code follows three-address code: the program that flattening gives is in step with the one that it was made of.
 #![tactic(auto)]
 
-ghost use Rattle.frames_steps.specs.Laws.{StepFollows, StartsMatched, FlatIsInStep, FlatIsFlattened};
+ghost use Rattle.frames_steps.specs.Laws.{StepFollows, StartsMatched, FlatIsInStep, FlatIsFlattened, FlatRunsCompose};
 
 /// One step of three-address code, whatever stands there, is the steps of its translation, at no more cost.
 pub fn step_follows()
@@ -21,4 +21,9 @@ pub fn flat_is_in_step()
 /// It is all that flattening is to give.
 pub fn flat_is_flattened()
     ensures { FlatIsFlattened }
+{}
+
+/// So many steps of flat code and then so many are a run of both.
+pub fn flat_runs_compose()
+    ensures { FlatRunsCompose }
 {}

@@ -12,6 +12,7 @@ use Rattle.pp.specs.Stream.{RestBy, ReadsBy, IsRest, IsStream}
 use Rattle.pp.proofs.IncludeLemmas.{agrees_grows}
 use Rattle.pp.proofs.StackLemmas.{waiting_grows}
 use Rattle.pp.proofs.StateLemmas.{still_files, still_sound}
+use Rattle.pp.specs.Laws.{StreamGrows, RestGrows}
 
 reads_grow : (stage : Stage) (names after : Texts) (pp : Pp) → KeepsNumbers names after → ReadsBy stage names pp → ReadsBy stage after pp
 reads_grow Reads names after pp keeps r = (
@@ -36,7 +37,7 @@ reads_grow Ended names after pp keeps r = tt
 reads_grow (Refused refusal) names after pp keeps r = tt
 
 -- a stream stays one
-pub stream_grows : (names after : Texts) (pp : Pp) → KeepsNumbers names after → IsStream names pp → IsStream after pp
+pub stream_grows : StreamGrows
 stream_grows names after pp keeps s = record { few = s.few; reads = reads_grow pp.stage names after pp keeps s.reads }
 
 by_stage : (stage : Stage) (names after texts : Texts) (pp : Pp) (rest : Phase4) → KeepsNumbers names after → NumbersOnce after → RestBy stage names texts pp rest → RestBy stage after texts pp rest
@@ -82,5 +83,5 @@ by_stage (Refused (At c at)) names after texts pp rest keeps once r = r
 by_stage (Refused (Told c at n)) names after texts pp rest keeps once r = r
 
 -- the same is left
-pub rest_grows : (names after texts : Texts) (pp : Pp) (rest : Phase4) → KeepsNumbers names after → NumbersOnce after → IsRest names texts pp rest → IsRest after texts pp rest
+pub rest_grows : RestGrows
 rest_grows names after texts pp rest keeps once r = by_stage pp.stage names after texts pp rest keeps once r

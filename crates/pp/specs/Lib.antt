@@ -12,3 +12,4 @@ pub mod Preprocessed
 pub mod Stream
 pub mod Printed
 pub mod inside
+pub mod Laws

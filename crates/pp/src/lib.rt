@@ -9,6 +9,7 @@ mod file;
 mod files;
 mod guards;
 mod includes;
+mod laws;
 mod line_directive;
 mod places;
 mod preprocessing;
@@ -20,6 +21,7 @@ mod state;
 mod stream;
 mod words;
 
+pub use laws::{rest_grows, stream_grows};
 pub use preprocessing::{preprocess, try_preprocess};
 pub use printing::print;
 pub use stream::Pp;

@@ -7,13 +7,14 @@ use Rattle.frames_code.specs.Sound.{FunctionFits, IsSoundProgram}
 use Rattle.frames_code.specs.Run.{function_at}
 use Rattle.select.specs.Selected.{return_home}
 use Rattle.select_simulation.proofs.Places.{Lies}
+use Rattle.select_simulation.specs.Laws.{FunctionsFit}
 
 some_fits : (p : Program) → IsSoundProgram p → (k : ℕ) (o : Option Function) → slice_get p.functions k ≡ o → FunctionFits (length p.functions) (function_at p k)
 some_fits p sound k None e = rw e (record { small = omega arith; few = omega arith; all = omega arith; each = λ j x ex. cc })
 some_fits p sound k (Some g) e = rw e (sound.each k g e)
 
 -- each number is that of a function that fits
-pub function_fits : (p : Program) → IsSoundProgram p → (k : ℕ) → FunctionFits (length p.functions) (function_at p k)
+pub function_fits : FunctionsFit
 function_fits p sound k = some_fits p sound k (slice_get p.functions k) refl
 
 -- a frame on the stack, which begins at the address floor

@@ -1,5 +1,5 @@
 -- Jumps reach in functions whose code is short, and in lists made of parts in which they do.
-use Rattle.std.proofs.Common.{◌≡◌, ⊎_elim, ℕ, suc, ◌+◌, ◌-◌, ◌<◌, ◌≤◌, ◌%◌, ◌^◌, Bool, true, false, List, [], ◌∷◌, ◌++◌, length, Some, refl, sym, ap, ◌∙◌, subst, arith}
+use Rattle.std.proofs.Common.{◌≡◌, ⊎_elim, inl, inr, ℕ, zero, suc, ◌+◌, ◌-◌, ◌<◌, ◌≤◌, ◌%◌, ◌^◌, Bool, true, false, List, [], ◌∷◌, ◌++◌, length, Some, refl, sym, ap, ◌∙◌, subst, arith}
 use Rattle.std.specs.Prelude.{if◌then◌else◌, nat_lt, slice_get}
 use Rattle.std.proofs.lemmas.Bool.{cases_lt}
 use Rattle.std.proofs.lemmas.List.{length-append}
@@ -7,9 +7,8 @@ use Rattle.std.proofs.lemmas.List.Sums.{sum_by-append}
 use Rattle.asm.specs.declared.item.Item.{Item}
 use Rattle.asm.specs.declared.item.Item.TheVariants.{Mark, Plain, Branch, Jump, Call, Constant, LabelAddress, DataAddress}
 use Rattle.asm.specs.Layout.{item_at, size, place, all_long, longest, Reach, MissesMark, IsSound}
-use Rattle.asm.proofs.Parts.{item_in_front, item_behind, places_in_parts}
+use Rattle.asm.proofs.Parts.{places_in_parts}
 use Rattle.asm.proofs.Ends.{ends}
-use Rattle.asm.proofs.Grow.{place_rises}
 use Rattle.frames_code.specs.declared.code.Instruction.{Instruction}
 use Rattle.frames_code.specs.Code.{Function, Program, frame_bytes}
 use Rattle.frames_code.specs.Sound.{FunctionFits, IsSoundProgram}
@@ -19,6 +18,28 @@ use Rattle.select.proofs.Lengths.{code_is_short}
 use Rattle.select.proofs.Sound.{is_sound}
 use Rattle.select_simulation.specs.Reaching.{rows_of, IsShortProgram, JumpsReach}
 use Rattle.select_simulation.proofs.Inside.{Names, Inside, named, entry_in, code_in}
+
+item_in_front : (xs ys : List Item) (k : ℕ) → k < length xs → item_at (xs ++ ys) k ≡ item_at xs k
+item_in_front [] ys k lt = absurd (omega (arith, lt))
+item_in_front (x ∷ xs) ys zero lt = refl
+item_in_front (x ∷ xs) ys (suc k) lt = item_in_front xs ys k (omega (arith, lt))
+
+item_behind : (xs ys : List Item) (k : ℕ) → item_at (xs ++ ys) (length xs + k) ≡ item_at ys k
+item_behind [] ys k = ap (item_at ys) (let e : 0 + k ≡ k = omega arith in e)
+item_behind (x ∷ xs) ys k =
+    let e : length (x ∷ xs) + k ≡ suc (length xs + k) = omega arith in
+    ap (item_at (x ∷ (xs ++ ys))) e ∙ item_behind xs ys k
+
+-- later items stand no lower
+place_rises : (L : ℕ → Bool) (base : ℕ) (xs : List Item) (j k : ℕ) → j ≤ k → place L base xs j ≤ place L base xs k
+place_rises L base xs j zero le =
+    let e : j ≡ 0 = omega arith in
+    rw e (omega arith)
+place_rises L base xs j (suc k) le =
+    elim (cases_lt k j) [
+      | inl lt ↦ (let e : j ≡ suc k = omega arith in rw e (omega arith))
+      | inr ge ↦ omega (arith, place_rises L base xs j k ge)
+    ]
 
 -- from a there is a mark of a label within reach
 pub record Lands (base : ℕ) (xs : List Item) (a to : ℕ) : Type 0 where

@@ -1,5 +1,5 @@
 -- What simulation is: each form of instruction, and steps.
-use Rattle.std.specs.Prelude.{◌≡◌, ◌<◌, ℕ, ◌^◌, List, slice_get, Some}
+use Rattle.std.specs.Prelude.{◌≡◌, ◌<◌, ℕ, ◌^◌, List, slice_get, Some, length}
 use Rattle.rv32.specs.declared.instr.Test.{Test}
 use Rattle.frames_code.specs.declared.code.Operand.{Operand}
 use Rattle.frames_code.specs.declared.code.Target.{Target}
@@ -13,6 +13,8 @@ use Rattle.frames_code.specs.Run.{State, running, act, function_at}
 use Rattle.select_running.specs.Light.{Light, Go, Comes}
 use Rattle.select_simulation.specs.Matches.{Ground, Ready, Matched, Matches, HasRoom, IsBelow, address}
 use Rattle.select_simulation.specs.Costs.{least, least_at, most_at, row}
+use Rattle.frames_code.specs.Code.{Program}
+use Rattle.frames_code.specs.Sound.{FunctionFits, IsSoundProgram}
 
 abbrev pub Anything : Light → Type 0
 Anything m = Unit {0}
@@ -77,3 +79,7 @@ CallsFollow = (f : ℕ) → Follows (instruction.Call f)
 
 abbrev pub ReturnsFollow : Type 0
 ReturnsFollow = Follows instruction.Return
+
+-- the functions of a sound program fit what is asked of each
+abbrev pub FunctionsFit : Type 0
+FunctionsFit = (p : Program) → IsSoundProgram p → (k : ℕ) → FunctionFits (length p.functions) (function_at p k)

@@ -2,6 +2,7 @@ pub mod Matches
 pub mod Costs
 pub mod Laws
 pub mod Runs
+pub mod Standing
 pub use Rattle.select.specs.Selected
 pub use Rattle.select.specs.Program
 pub use Rattle.frames_code.specs.Run

@@ -2,9 +2,10 @@
 //! functions are short, each jump reaches.
 #![tactic(auto)]
 
-ghost use Rattle.select_simulation.specs.Laws.{NothingFollows, JumpsFollow, BranchesFollow, MovesFollow, ConversionsFollow, OperationsFollow, ExitFollows, AddressesFollow, ElementsFollow, LoadsFollow, StoresFollow, PutFollows, GetFollows, CallsFollow, ReturnsFollow};
+ghost use Rattle.select_simulation.specs.Laws.{NothingFollows, JumpsFollow, BranchesFollow, MovesFollow, ConversionsFollow, OperationsFollow, ExitFollows, AddressesFollow, ElementsFollow, LoadsFollow, StoresFollow, PutFollows, GetFollows, CallsFollow, ReturnsFollow, FunctionsFit};
 ghost use Rattle.select_simulation.specs.Costs.{RowsAreLengths, RowsAreFew, SpentIsMore};
 ghost use Rattle.select_simulation.specs.Runs.{StepFollows, RunsFollow, Progresses, EachCallKeeps, LaidIsReady, EntriesFollow, ConventionKept, BeginsFollow, EndsFollow, MachineGoesOn, MachineEnds, MachineCallsKeep};
+ghost use Rattle.select_simulation.specs.Standing.{MachineStands, StepStands};
 ghost use Rattle.select_simulation.specs.Convention.{CallsKeepConvention, MainKeepsConvention};
 ghost use Rattle.select_simulation.specs.Reaching.{JumpsReach};
 
@@ -173,4 +174,19 @@ pub fn main_keeps_convention()
 /// Where the rows of no function sum to more than 2^20 bytes, each jump of a sound program's items reaches its label.
 pub fn jumps_reach()
     ensures { JumpsReach }
+{}
+
+/// In the middle of a run: registers and memory of the machine of the table match the flat program's state.
+pub fn machine_stands()
+    ensures { MachineStands }
+{}
+
+/// From where they match, a step of flat code leads to where they match again.
+pub fn step_stands()
+    ensures { StepStands }
+{}
+
+/// The functions of a sound program fit what is asked of each.
+pub fn functions_fit()
+    ensures { FunctionsFit }
 {}

@@ -8,3 +8,4 @@ pub mod Meets
 pub mod Machines
 pub mod inside
 pub mod Ticks
+pub mod Laws

@@ -11,5 +11,8 @@ mod runs;
 mod stretches;
 mod tick;
 
-pub use laws::runs_compose;
+pub use laws::{
+    ends_of_input_go_on, gets_go_on, puts_go_on, refusals_change_nothing, runs_compose, runs_go_on,
+    runs_stop, ticks_are_steps,
+};
 pub use machine::{Machine, Outcome};

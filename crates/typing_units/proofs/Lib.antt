@@ -4,3 +4,4 @@ pub mod Firsts
 pub mod Values
 pub mod Readings
 pub mod Wholes
+pub mod Sums

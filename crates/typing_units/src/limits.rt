@@ -1,5 +1,5 @@
 //! The limits of a program: the bytes of its objects with static storage and of its string literals, and its functions.
-#![tactic(auto, using(tree::proofs::Sums::capped32_none))]
+#![tactic(auto, using(crate::proofs::Sums::capped32_none))]
 
 ghost use Rattle.std.specs.Prelude.{◌≡◌, ℕ, List, map, OnOk, IfErr};
 ghost use Rattle.tree.specs.Capped.{capped32};

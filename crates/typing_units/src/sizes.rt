@@ -1,5 +1,5 @@
 //! The bytes that objects take (6.5.3.4), each in whole words. From 2^32 - 1 on a size is this number.
-#![tactic(auto, using(tree::proofs::Sums::capped32_none, tree::proofs::Sums::capped32_one, crate::proofs::Bytes::in_words_more, crate::proofs::Bytes::in_words_none, crate::proofs::Bytes::capped32_four))]
+#![tactic(auto, using(crate::proofs::Sums::capped32_none, crate::proofs::Sums::capped32_one, crate::proofs::Bytes::in_words_more, crate::proofs::Bytes::in_words_none, crate::proofs::Bytes::capped32_four))]
 
 ghost use Rattle.std.specs.Prelude.{◌≡◌, ◌+◌, ◌*◌, ℕ, map};
 ghost use Rattle.tree.specs.Capped.{capped, capped32};

@@ -2,3 +2,4 @@ pub mod GivenLemmas
 pub mod HandingOut
 pub mod Performing
 pub mod Runs
+pub mod Stores

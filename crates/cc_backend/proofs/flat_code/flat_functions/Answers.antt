@@ -5,7 +5,7 @@ use Rattle.typing_program.specs.declared.units.Function.{Function}
 use Rattle.typing_program.specs.View as view
 use Rattle.frames_code.specs.Code as flat
 use Rattle.frames.specs.layer.Alone.{starts_in}
-use Rattle.tac.proofs.Whole.{item_in_map}
+use Rattle.cc_backend.proofs.Plain.{item_in_map}
 use Rattle.cc_backend.specs.inside.FlatFunctions.{IsFlatFunctionOf, AreFlatFunctionsOf}
 use Rattle.cc_backend.proofs.FlatFunctions.{one_more_function}
 use Rattle.cc_backend.proofs.flat_code.flat_functions.Goals as goal

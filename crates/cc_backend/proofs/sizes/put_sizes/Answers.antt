@@ -1,5 +1,5 @@
 use Rattle.frames_code.specs.Code.{frame_bytes, function_of}
-use Rattle.frames.proofs.Elements.{item_in_map, one_more_held}
+use Rattle.cc_backend.proofs.Plain.{item_in_map, one_more_held}
 use Rattle.cc_backend.proofs.sizes.put_sizes.Goals as goal
 
 pub frame_bytes-requires : goal.frame_bytes-requires

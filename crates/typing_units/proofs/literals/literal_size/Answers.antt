@@ -1,6 +1,6 @@
 use Rattle.std.proofs.Common.{ap, ◌∙◌, arith}
 use Rattle.tree.specs.Capped.{capped32}
-use Rattle.tree.proofs.Sums.{capped32_one}
+use Rattle.typing_units.proofs.Sums.{capped32_one}
 use Rattle.typing_scopes.specs.Scopes.{with_texts}
 use Rattle.typing_units.proofs.Bytes.{literal_is, capped_small}
 use Rattle.typing_units.proofs.literals.literal_size.Goals as goal

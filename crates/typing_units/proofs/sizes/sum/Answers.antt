@@ -1,4 +1,4 @@
-use Rattle.tree.proofs.Sums.{capped32_sum}
+use Rattle.typing_units.proofs.Sums.{capped32_sum}
 use Rattle.typing_units.proofs.sizes.sum.Goals as goal
 
 pub returns : goal.returns
