@@ -6,7 +6,7 @@ use Rattle.std.proofs.lemmas.Option.{none-some}
 use Rattle.srcset.specs.declared.refusal.Pos.{Pos}
 use Rattle.srcset.specs.declared.code.Code.TheVariants as code
 use Rattle.srcset.specs.NameTable.{Texts}
-use Rattle.srcset.proofs.NameLemmas.{same_text}
+use Rattle.pp.proofs.TextLemmas.{same_text}
 use Rattle.phases.specs.declared.token.Place.TheVariants.{Start}
 use Rattle.phases.specs.Text.{logical}
 use Rattle.phases.specs.Lines.{scanned}

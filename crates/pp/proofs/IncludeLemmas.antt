@@ -7,7 +7,7 @@ use Rattle.srcset.specs.declared.code.Code.TheVariants as code
 use Rattle.srcset.specs.Files.{Files, file_of}
 use Rattle.srcset.specs.Headers.{header_of}
 use Rattle.srcset.specs.NameTable.{Texts, KeepsNumbers, NumbersOnce}
-use Rattle.srcset.proofs.NameLemmas.{same_text}
+use Rattle.pp.proofs.TextLemmas.{same_text}
 use Rattle.phases.specs.Characters.{double_quote}
 use Rattle.phases.specs.Token.{Token}
 use Rattle.macros.specs.Macro.{is_identifier, is_spelled, is_hash}

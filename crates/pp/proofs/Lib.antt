@@ -1,4 +1,5 @@
 mod Rows
+pub mod TextLemmas
 pub mod GroupLemmas
 pub mod GuardLemmas
 pub mod StateLemmas

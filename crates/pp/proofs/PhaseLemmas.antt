@@ -10,7 +10,7 @@ use Rattle.srcset.specs.declared.code.Code.{Code}
 use Rattle.srcset.specs.declared.code.Code.TheVariants as code
 use Rattle.srcset.specs.Files.{Files, file_of}
 use Rattle.srcset.specs.NameTable.{Texts, KeepsNumbers, NumbersOnce, utf8_or_empty, shown_text}
-use Rattle.srcset.proofs.NameLemmas.{same_text, equals_itself}
+use Rattle.pp.proofs.TextLemmas.{same_text, equals_itself}
 use Rattle.phases.specs.Token.{Token}
 use Rattle.phases.specs.Text.{logical, phase1, last_line, ends_open, ends_spliced}
 use Rattle.phases.specs.Lines.{scanned, at_end, lines_or_fault, fault_or, found, Found}

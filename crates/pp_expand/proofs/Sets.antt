@@ -2,11 +2,11 @@
 use Rattle.std.specs.Prelude.{Vec}
 use Rattle.std.proofs.Common.{◌≡◌, ℕ, zero, suc, ◌<◌, ◌≤◌, List, [], ◌∷◌, ◌++◌, Some, length, slice_get, refl, sym, ap, ◌∙◌, Bool, true, false, nat_eq, ◌||◌, cond, arith}
 use Rattle.std.proofs.lemmas.Bool.{eqb-true, eq-eqb}
+use Rattle.std.proofs.lemmas.Slice.Eq.{bytes_eq-Decides}
 use Rattle.std.specs.List.{list_any, filter}
 use Rattle.std.specs.Str.{bytes_eq}
 use Rattle.std.specs.declared.alloc.Global.{Global}
 use Rattle.srcset.specs.NameTable.{Texts, NumbersOnce}
-use Rattle.srcset.proofs.NameLemmas.{equals_itself, same_text}
 use Rattle.macros_substitution.specs.declared.piece.HiddenToken.{HiddenToken}
 use Rattle.macros_substitution.specs.declared.piece.Piece.{Piece}
 use Rattle.macros_substitution.specs.declared.piece.Piece.TheVariants.{One, Parameter, Joint, Placemarker}
@@ -17,6 +17,12 @@ use Rattle.pp_expand.specs.declared.level.Level.{Level}
 use Rattle.pp_expand.specs.declared.waiting.Waiting.{Waiting}
 use Rattle.pp_expand.specs.Meaning.{LevelIn}
 use Rattle.pp_expand.specs.inside.Waits.{WaitingIn, WaitingsIn}
+
+equals_itself : (s : List ℕ) → bytes_eq s s ≡ true
+equals_itself s = (bytes_eq-Decides s s).1 refl
+
+same_text : (s t : List ℕ) → bytes_eq s t ≡ true → s ≡ t
+same_text s t e = (bytes_eq-Decides s t).0 e
 
 pub extends_same : (sets : Sets) → Extends sets sets
 extends_same sets = record { longer = omega arith; same = λ n h. refl }
