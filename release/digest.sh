@@ -28,5 +28,5 @@ crates=$(awk -F: -v top="${1:-cc_program}" '
     done | sort
     for crate in $crates; do
         find "crates/$crate/src" "crates/$crate/specs" "crates/$crate/proofs" -type f 2>/dev/null || true
-    done | sort | xargs sha256sum HANDLES
+    done | sort | { sha256sum HANDLES; xargs -n 100 sha256sum; }
 } | sha256sum | cut -d ' ' -f 1

@@ -1,17 +1,19 @@
 //! What `cc explain` tells.
 
-ghost use Rattle.std.specs.Prelude.{◌≤◌, IfOk};
+ghost use Rattle.std.specs.Prelude.{◌≡◌, ◌≤◌, IfOk};
 
 use crate::version::VERSION;
 use cc::StackSize;
-use explain::{Explained, Interpretation, Sources, Stage, Undefined, explain, interpreted};
+use explain::{
+    Explained, Finding, Interpretation, Shown, Sources, Stage, Undefined, explain, interpreted,
+};
 use explain_calls::put_active_calls;
 use explain_shown::{
     Style, put_finding, put_json, put_json_undefined, put_sarif_end, put_sarif_result,
     put_sarif_start, put_undefined,
 };
 use explain_values::put_values;
-use srcset::FileSet;
+use srcset::{Fault, FileSet};
 use std::alloc::{AllocError, Global};
 
 /// The form in which a fault is told.
@@ -73,6 +75,36 @@ pub fn explain_faults(
     })
 }
 
+/// Why a file was not read, which no source explains, told in a form; the status is 1.
+pub fn explain_unread(alloc: Global, fault: Fault, form: Form) -> Result<Said, AllocError>
+    ensures { IfOk result (λ said. said.status ≡ 1) }
+{
+    let told = Explained {
+        first: Finding {
+            fault,
+            shown: Shown {
+                place: None,
+                token: Vec::new(alloc),
+                source: Vec::new(alloc),
+                notes: Vec::new(alloc),
+            },
+        },
+        further: Vec::new(alloc),
+    };
+    let mut out = String::new(alloc);
+    let mut err = String::new(alloc);
+    match form {
+        Form::Sarif => put_log(alloc, Some(&told), &mut out)?,
+        Form::Json => put_objects(alloc, &told, &mut out)?,
+        Form::Text(style) => put_text(alloc, style, &told, &mut err)?,
+    }
+    Ok(Said {
+        out: out.into_bytes(),
+        err: err.into_bytes(),
+        status: 1,
+    })
+}
+
 /// Puts each fault as text.
 fn put_text(
     alloc: Global,
@@ -108,8 +140,8 @@ fn put_log(alloc: Global, told: Option<&Explained>, out: &mut String) -> Result<
     put_sarif_end(out)
 }
 
-/// The program in the file `main` of the set interpreted over an input, for at most `max` ticks: what it wrote, and its undefined act explained, with
-/// the values and the calls behind it. The status is that of `interp`.
+/// The program in the file `main` of the set interpreted over an input, for at most `max` ticks: what it wrote, which only the text tells beside it, and its
+/// undefined act explained, with the values and the calls behind it, or else the line that `interp` says. The status is that of `interp`.
 pub fn explain_run(
     alloc: Global,
     set: &FileSet,
@@ -133,20 +165,25 @@ pub fn explain_run(
         }
         None => String::new(alloc),
     };
-    if !matches!(form, Form::Text(_)) {
+    if matches!(form, Form::Text(_)) {
+        let err = if told.is_empty() {
+            line
+        } else {
+            told.into_bytes()
+        };
         return Ok(Said {
-            out: told.into_bytes(),
-            err: Vec::new(alloc),
+            out: output,
+            err,
             status,
         });
     }
     let err = if told.is_empty() {
         line
     } else {
-        told.into_bytes()
+        Vec::new(alloc)
     };
     Ok(Said {
-        out: output,
+        out: told.into_bytes(),
         err,
         status,
     })

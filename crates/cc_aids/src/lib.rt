@@ -5,6 +5,6 @@ mod answering;
 mod version;
 mod watching;
 
-pub use answering::{Form, Said, explain_faults, explain_run};
+pub use answering::{Form, Said, explain_faults, explain_run, explain_unread};
 pub use version::VERSION;
 pub use watching::Watching;

@@ -6,7 +6,7 @@ use crate::trace_aids::trace;
 use crate::{is_source, read_files, say};
 use anyhow::Result;
 use cc::{Built, StackSize, compile_with};
-use cc_aids::{Form, Said, explain_faults, explain_run};
+use cc_aids::{Form, Said, explain_faults, explain_run, explain_unread};
 use cc_words::{asks_more, asks_trace, further_files};
 use clap::ArgMatches;
 use code_map::{CodeMap, code_map, definitions, frames_table, symbol_file};
@@ -101,9 +101,10 @@ fn explain_what<'a>(
         return Ok(2);
     };
     let main = inner.get_str("MAIN").unwrap_or_default();
+    let form = asked_form(rt, inner);
     let given = match read_given(rt, matches, main) {
         Ok(given) => given,
-        Err(fault) => return Ok(say(rt, &fault)),
+        Err(fault) => return say_unread(rt, fault, form),
     };
     let what = inner.get_str("WHAT").unwrap_or_default();
     let stage = if what == "pp" {
@@ -111,12 +112,20 @@ fn explain_what<'a>(
     } else {
         Stage::Whole
     };
-    let form = asked_form(rt, inner);
     let names = given.names.as_slice();
     let said = explain_faults(rt.alloc(), &given.set, names, main, stage, stack, form)?;
     if what == "interp" && said.status == 0 && form != Form::Sarif {
         return explain_what_runs(rt, inner, &given, stack);
     }
+    Ok(put_said(rt, &said))
+}
+
+/// Tells in a form why a file was not read.
+fn say_unread(rt: &HostRuntime, fault: Fault, form: Form) -> Result<u8> {
+    if matches!(form, Form::Text(_)) {
+        return Ok(say(rt, &fault));
+    }
+    let said = explain_unread(rt.alloc(), fault, form)?;
     Ok(put_said(rt, &said))
 }
 
@@ -241,7 +250,7 @@ fn built(
 fn write_symbols(rt: &HostRuntime, matches: &ArgMatches<'_>, inner: &ArgMatches<'_>) -> Result<u8> {
     let main = inner.get_str("MAIN").unwrap_or_default();
     let out = inner.get_str("OUT").unwrap_or_default();
-    if is_source(out, main, matches) {
+    if is_source(rt, out, main, matches) {
         let _said = eprintln!(rt; "error: OUT is one of the files that are read");
         return Ok(2);
     }

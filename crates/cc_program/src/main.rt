@@ -4,6 +4,7 @@
 mod aids;
 mod late_file;
 mod line;
+mod overwriting;
 mod run_aids;
 mod trace_aids;
 mod words;
@@ -17,6 +18,7 @@ use clap::error::ErrorKind as UsageKind;
 use late_file::LateFile;
 use line::Line;
 use meaning_ports::{IoPort, PortFault};
+use overwriting::is_read;
 use srcset::{Code, Fault, FileSet};
 use std::alloc::Global;
 use std::env::Args;
@@ -116,7 +118,7 @@ fn build(
     matches: &ArgMatches<'_>,
     stack: StackSize,
 ) -> Result<u8> {
-    if is_source(out, request.main, matches) {
+    if is_source(rt, out, request.main, matches) {
         let _said = eprintln!(rt; "error: OUT is one of the files that are read");
         return Ok(2);
     }
@@ -145,15 +147,9 @@ fn build(
     Ok(tell(rt, line, status))
 }
 
-/// Whether the executable file would go to the path of a file that is read.
-fn is_source(out: &str, main: &str, matches: &ArgMatches<'_>) -> bool {
-    if out == main {
-        return true;
-    }
-    match further_files(matches) {
-        None => false,
-        Some(files) => files.iter().any(|name| *name == out),
-    }
+/// Whether the file would be written in place of a source.
+fn is_source(rt: &HostRuntime, out: &str, main: &str, matches: &ArgMatches<'_>) -> bool {
+    is_read(rt, out, main, further_files(matches).unwrap_or_default())
 }
 
 /// Prints the tokens of the files, or the listing of their code. What was buffered is written before the status is answered.

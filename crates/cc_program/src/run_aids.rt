@@ -2,6 +2,8 @@
 
 use crate::aids::stack_of;
 use crate::late_file::LateFile;
+use crate::overwriting::is_read;
+use crate::trace_aids::trace_path;
 use crate::{read_file, say, say_port, unread};
 use anyhow::Result;
 use cc::{StackSize, compile_with};
@@ -24,6 +26,11 @@ pub fn run_more(rt: &HostRuntime, inner: &ArgMatches<'_>) -> Result<u8> {
         return Ok(2);
     };
     let name = inner.get_str("FILE").unwrap_or_default();
+    let further = inner.get_strs("map").unwrap_or_default();
+    if is_read(rt, trace_path(inner), name, further) {
+        let _said = eprintln!(rt; "error: OUT is one of the files that are read");
+        return Ok(2);
+    }
     let file = match fs::read(rt, name) {
         Ok(file) => file,
         Err(error) => return Ok(say(rt, &unread(alloc, name, &error))),
@@ -97,7 +104,10 @@ fn run_over_streams(
         let _said = rt.stderr().write_all(text.as_bytes());
     }
     match end {
-        TraceEnd::Unwritten => Ok(say(rt, &Fault::at(alloc, Code::CannotWrite, "", 0))),
+        TraceEnd::Unwritten => {
+            let path = trace_path(inner);
+            Ok(say(rt, &Fault::at(alloc, Code::CannotWrite, path, 0)))
+        }
         TraceEnd::Stopped(Outcome::Budget) if is_shown => Ok(0),
         TraceEnd::Stopped(outcome) => tell_end(rt, outcome, map),
     }
@@ -122,7 +132,7 @@ fn run_as_asked<P: Port>(
         let end = traced_run(rt.alloc(), state, port, max, map, &mut out)?;
         return Ok(flushed(out.flush().is_ok(), end));
     }
-    let count = inner.get_one::<u64>("at").unwrap_or(max).min(max);
+    let count = inner.get_one::<u64>("at").unwrap_or(max);
     let stopped = run_for(state, port, count);
     Ok(TraceEnd::Stopped(stopped.unwrap_or(Outcome::Budget)))
 }

@@ -19,11 +19,7 @@ pub fn trace<'a>(rt: &HostRuntime, matches: &ArgMatches<'a>, inner: &ArgMatches<
         return Ok(2);
     };
     let main = inner.get_str("MAIN").unwrap_or_default();
-    if is_source(
-        inner.get_str("trace-file").unwrap_or_default(),
-        main,
-        matches,
-    ) {
+    if is_source(rt, trace_path(inner), main, matches) {
         let _said = eprintln!(rt; "error: OUT is one of the files that are read");
         return Ok(2);
     }
@@ -86,8 +82,14 @@ fn run_traced<W: Write + Drop>(
     if traced.is_whole {
         Ok(status)
     } else {
-        Ok(say(rt, &Fault::at(alloc, Code::CannotWrite, "", 0)))
+        let path = trace_path(inner);
+        Ok(say(rt, &Fault::at(alloc, Code::CannotWrite, path, 0)))
     }
+}
+
+/// The path of the file of the trace; empty where it goes to standard error.
+pub fn trace_path<'a>(inner: &ArgMatches<'a>) -> &'a str {
+    inner.get_str("trace-file").unwrap_or_default()
 }
 
 /// Says that the program can't be traced.

@@ -1,8 +1,7 @@
 //! Explained faults as a log of SARIF 2.1.0 (OASIS, sections 3.13 to 3.30).
 
 use crate::json_lines::{put_string, said};
-use crate::text::column_of;
-use explain::{Finding, Note};
+use explain::{Finding, Note, Shown};
 use std::alloc::{AllocError, Global};
 
 /// Puts what stands before the results.
@@ -65,17 +64,40 @@ fn whole_text(alloc: Global, finding: &Finding) -> Result<String, AllocError> {
 
 /// Puts the place of a fault. A region has lines of 1 or more (3.30.5), so that a fault of the whole file has none.
 fn put_location(alloc: Global, finding: &Finding, out: &mut String) -> Result<(), AllocError> {
-    let column = column_of(&finding.shown);
+    let column = point_column(&finding.shown);
     put_file(finding.fault.file.as_str(), out)?;
     put_line(alloc, finding.fault.line, column, out)?;
     if finding.fault.line != 0 {
         if column != 0 {
-            let end = column.saturating_add(finding.shown.token.len());
+            let end = column.saturating_add(points(finding.shown.token.as_slice()));
             out.push_str(format!(in alloc; ",\"endColumn\":{end}")?.as_str())?;
         }
         out.push_str("}")?;
     }
     out.push_str("}}")
+}
+
+/// The column of a token in code points, counted from 1 (3.30.6, `columnKind` above); 0 where it is not known.
+fn point_column(shown: &Shown) -> usize {
+    let Some(place) = shown.place else {
+        return 0;
+    };
+    let before = place.column.saturating_sub(1);
+    match shown.source.as_slice().get(0..before) {
+        Some(bytes) => points(bytes).saturating_add(1),
+        None => place.column,
+    }
+}
+
+/// How many code points begin in these bytes of UTF-8.
+fn points(bytes: &[u8]) -> usize {
+    let mut count: usize = 0;
+    for byte in bytes {
+        if *byte & 0xc0 != 0x80 {
+            count = count.saturating_add(1);
+        }
+    }
+    count
 }
 
 /// Puts the beginning of a location, up to the URI of its file.
@@ -97,7 +119,7 @@ fn put_line(alloc: Global, line: u32, column: usize, out: &mut String) -> Result
     Ok(())
 }
 
-/// Puts the notes that have a place.
+/// Puts the notes that have a place, by its line: what stands before a note's column, in bytes, is not at hand.
 fn put_related(alloc: Global, notes: &[Note], out: &mut String) -> Result<(), AllocError> {
     let mut is_first = true;
     for note in notes {
@@ -109,7 +131,7 @@ fn put_related(alloc: Global, notes: &[Note], out: &mut String) -> Result<(), Al
             })?;
             is_first = false;
             put_file(note.file.as_str(), out)?;
-            put_line(alloc, note.line, note.column, out)?;
+            put_line(alloc, note.line, 0, out)?;
             if note.line != 0 {
                 out.push_str("}")?;
             }

@@ -1,6 +1,7 @@
 #!/usr/bin/env python3
 """check.py CC: what the program says of every source here: those of `rows`, whose codes and lines were written by hand, the programs of
-`accepted`, the sources of generate.py and, with their texts, those of many.py. The last line counts."""
+`accepted`, the sources of generate.py and, with their texts, those of many.py; and that model.py, by which many.py was made, says the
+same of the first two and of the rows that are computed with the definitions. The last line counts."""
 import os
 import subprocess
 import sys
@@ -12,6 +13,8 @@ import asking
 
 # so many there are of each
 COUNTS = {'rows': 763, 'accepted': 263, 'generated': 18, 'many': 19231}
+# and sources that model.py reads
+READ = 1260
 
 
 def listed(name):
@@ -68,6 +71,8 @@ def main():
         for (name, _, wanted), found in zip(asked, told):
             counted.expect(name, found if kind is many else asking.code_and_line(found), wanted)
         counted.expect(f'sources of {kind.__name__}', len(asked), COUNTS[kind.__name__])
+    reading = subprocess.run([sys.executable, os.path.join(HERE, 'model.py')], capture_output=True, text=True)
+    counted.expect('model.py', reading.stdout.split('\n')[-2:-1], [f'{READ} passed, 0 failed'])
     return counted.end()
 
 
