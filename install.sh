@@ -3,8 +3,17 @@
 # for bash, zsh and fish, and the library, its header and the Python module, where the library was built (sh bindings/build.sh
 # bindings/out). PREFIX is /usr/local by default; DESTDIR stands before it.
 set -eu
+prefix=${1:-/usr/local}
+case $prefix in
+    -*)
+        echo 'usage: sh install.sh [PREFIX]' >&2
+        exit 2
+        ;;
+    /*) ;;
+    *) prefix=$(pwd)/$prefix ;;
+esac
 cd "$(dirname "$0")"
-to=${DESTDIR:-}${1:-/usr/local}
+to=${DESTDIR:-}$prefix
 program=bin/cc
 [ -x "$program" ] || program=release/cc
 [ -x "$program" ] || { echo 'no program: run sh run.sh' >&2; exit 1; }

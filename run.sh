@@ -6,16 +6,21 @@
 # The program is that of release/, where this tree is what it was proved and built from, which takes seconds and no kit; else,
 # or with --prove, it is proved and built. With CC it is shown on that program, and bin/cc is left alone.
 set -eu
+cc=bin/cc
+case ${1:-} in
+    '' | --prove) ;;
+    -*)
+        echo 'usage: sh run.sh [--prove | CC]' >&2
+        exit 2
+        ;;
+    /*) cc=$1 ;;
+    *) cc=$(pwd)/$1 ;;
+esac
 cd "$(dirname "$0")"
 
 # What stands at bin/cc is kept where nothing that it was built from is newer.
 is_new() { [ -x bin/cc ] && [ -z "$(find crates crates.txt -name out -prune -o -newer bin/cc -type f -print | head -n 1)" ]; }
 
-cc=bin/cc
-case ${1:-} in
-    '' | --prove) ;;
-    *) cc=$1 ;;
-esac
 if [ "$cc" != bin/cc ]; then
     :
 elif [ "${1:-}" != --prove ] && is_new; then
@@ -28,6 +33,7 @@ else
     echo 'release/cc is of other sources, or was not to be taken: proving and building cc (the first time takes half an hour and more) ..'
     if ! (cd crates/cc_program && rt run -- --help) >"$log" 2>&1; then
         tail -n 40 "$log"
+        rm -f "$log"
         exit 1
     fi
     rm -f "$log"

@@ -86,6 +86,9 @@ def took(command, turns):
 
 
 def main():
+    if sys.argv[1:2] in (['-h'], ['--help']):
+        print(__doc__.rstrip())
+        return
     cc = os.path.abspath(sys.argv[1] if len(sys.argv) > 1 else 'bin/cc')
     turns = int(sys.argv[2]) if len(sys.argv) > 2 else 3
     with tempfile.TemporaryDirectory() as room:

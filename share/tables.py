@@ -32,6 +32,9 @@ def choices(right):
     found = re.search(r'\[possible values: ([^\]]*)\]', right)
     return found[1].split(', ') if found else []
 
+def is_number(value):
+    return value == 'N'
+
 def table(cc):
     text = said(cc)
     about = text.split('\n', 1)[0]
@@ -66,9 +69,12 @@ def bash(commands, options):
            '    if [ "$COMP_CWORD" = 1 ]; then', "        COMPREPLY=($(compgen -W '%s' -- \"$word\"))" % top, '        return', '    fi', '    case ${COMP_WORDS[1]}:$before in']
     for name, _, _, _, own in commands:
         for left, right in own:
-            for o in option(left)[:2]:
+            short, long, value = option(left)
+            for o in (short, long):
                 if o and choices(right):
                     out += ["    %s:%s) COMPREPLY=($(compgen -W '%s' -- \"$word\")); return ;;" % (name, o, ' '.join(choices(right)))]
+                elif o and is_number(value):
+                    out += ["    %s:%s) return ;;" % (name, o)]
     out += ['    esac', '    case ${COMP_WORDS[1]} in']
     for name, _, _, arguments, own in commands:
         words = ' '.join(o for left, _ in own for o in option(left)[:2] if o)
@@ -76,15 +82,17 @@ def bash(commands, options):
         extra = ''
         if first:
             extra = "[ \"$COMP_CWORD\" = 2 ] && { COMPREPLY=($(compgen -W '%s' -- \"$word\")); return; }; " % ' '.join(first)
-        out += ["    %s) %scase $word in -*) COMPREPLY=($(compgen -W '%s' -- \"$word\")) ;; *) COMPREPLY=($(compgen -f -- \"$word\")) ;; esac ;;" % (name, extra, words)]
+        out += ["    %s) %scase $word in -*) COMPREPLY=($(compgen -W '%s' -- \"$word\")) ;; *) mapfile -t COMPREPLY < <(compgen -f -- \"$word\") ;; esac ;;" % (name, extra, words)]
     out += ['    esac', '}', 'complete -o filenames -F _zkc zkc']
     return '\n'.join(out) + '\n'
 
 def zsh(commands, options):
     quote = lambda text: text.replace("'", "'\\''").replace('[', '(').replace(']', ')').replace(':', ',')
-    out = ['#compdef zkc', '# completions of zkc for zsh', '_zkc() {', '    local -a commands', '    commands=(']
+    out = ['#compdef zkc', '# completions of zkc for zsh', '_zkc() {', '    local -a commands options', '    commands=(']
     out += ["        '%s:%s'" % (name, quote(what)) for name, what, *_ in commands]
-    out += ['    )', '    if (( CURRENT == 2 )); then', "        _describe 'command' commands", '        return', '    fi', '    local command=$words[2]', '    (( CURRENT-- ))', '    shift words', '    case $command in']
+    out += ['    )', '    options=(']
+    out += ["        '%s:%s'" % (o, quote(right)) for left, right in options for o in option(left)[:2] if o]
+    out += ['    )', '    if (( CURRENT == 2 )); then', "        _describe 'command' commands", "        _describe -o 'option' options", '        return', '    fi', '    local command=$words[2]', '    (( CURRENT-- ))', '    shift words', '    case $command in']
     for name, _, _, arguments, own in commands:
         specs = []
         for left, right in own:
@@ -93,7 +101,7 @@ def zsh(commands, options):
                 if o:
                     tail = ''
                     if value:
-                        tail = ':%s:%s' % (value, '(%s)' % ' '.join(choices(right)) if choices(right) else '_files')
+                        tail = ':%s:%s' % (value, '(%s)' % ' '.join(choices(right)) if choices(right) else ' ' if is_number(value) else '_files')
                     specs.append("'%s[%s]%s'" % (o, quote(right), tail))
         for left, right in arguments:
             rest = '*' if left.endswith('...') else ''
@@ -105,16 +113,20 @@ def zsh(commands, options):
 def fish(commands, options):
     quote = lambda text: text.replace("'", "\\'")
     out = ['# completions of zkc for fish']
+    for left, right in options:
+        short, long, _ = option(left)
+        out += ["complete -c zkc -f -n __fish_use_subcommand%s%s -d '%s'" % (' -s %s' % short[1:] if short else '', ' -l %s' % long[2:] if long else '', quote(right))]
     for name, what, _, arguments, own in commands:
         out += ["complete -c zkc -f -n __fish_use_subcommand -a %s -d '%s'" % (name, quote(what))]
         for left, right in arguments[:1]:
             if choices(right):
-                out += ["complete -c zkc -n '__fish_seen_subcommand_from %s' -a '%s'" % (name, ' '.join(choices(right)))]
+                given = ' '.join(choices(right))
+                out += ["complete -c zkc -f -n '__fish_seen_subcommand_from %s; and not __fish_seen_subcommand_from %s' -a '%s'" % (name, given, given)]
         for left, right in own:
             short, long, value = option(left)
             flags = (' -s %s' % short[1:] if short else '') + (' -l %s' % long[2:] if long else '')
             if value:
-                flags += ' -x -a \'%s\'' % ' '.join(choices(right)) if choices(right) else ' -r'
+                flags += ' -x -a \'%s\'' % ' '.join(choices(right)) if choices(right) else ' -x' if is_number(value) else ' -r'
             out += ["complete -c zkc -n '__fish_seen_subcommand_from %s'%s -d '%s'" % (name, flags, quote(right))]
     return '\n'.join(out) + '\n'
 

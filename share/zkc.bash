@@ -7,18 +7,29 @@ _zkc() {
         return
     fi
     case ${COMP_WORDS[1]}:$before in
+    build:--stack) return ;;
+    list:--stack) return ;;
+    run:--max) return ;;
+    run:--at) return ;;
+    run:--stack) return ;;
+    interp:--stack) return ;;
+    interp:--max) return ;;
     explain:--color) COMPREPLY=($(compgen -W 'auto always never' -- "$word")); return ;;
+    explain:--stack) return ;;
+    explain:--max) return ;;
+    frames:--stack) return ;;
+    symbols:--stack) return ;;
     esac
     case ${COMP_WORDS[1]} in
-    build) case $word in -*) COMPREPLY=($(compgen -W '--stack -o -h --help' -- "$word")) ;; *) COMPREPLY=($(compgen -f -- "$word")) ;; esac ;;
-    pp) case $word in -*) COMPREPLY=($(compgen -W '-h --help' -- "$word")) ;; *) COMPREPLY=($(compgen -f -- "$word")) ;; esac ;;
-    list) case $word in -*) COMPREPLY=($(compgen -W '--stack -h --help' -- "$word")) ;; *) COMPREPLY=($(compgen -f -- "$word")) ;; esac ;;
-    run) case $word in -*) COMPREPLY=($(compgen -W '--max --trace --trace-file --at --map --stack -h --help' -- "$word")) ;; *) COMPREPLY=($(compgen -f -- "$word")) ;; esac ;;
-    interp) case $word in -*) COMPREPLY=($(compgen -W '--stack --max --trace --trace-file -h --help' -- "$word")) ;; *) COMPREPLY=($(compgen -f -- "$word")) ;; esac ;;
-    explain) [ "$COMP_CWORD" = 2 ] && { COMPREPLY=($(compgen -W 'build interp pp' -- "$word")); return; }; case $word in -*) COMPREPLY=($(compgen -W '--json --sarif --color --stack --max -h --help' -- "$word")) ;; *) COMPREPLY=($(compgen -f -- "$word")) ;; esac ;;
-    frames) case $word in -*) COMPREPLY=($(compgen -W '--stack -h --help' -- "$word")) ;; *) COMPREPLY=($(compgen -f -- "$word")) ;; esac ;;
-    symbols) case $word in -*) COMPREPLY=($(compgen -W '--stack -o -h --help' -- "$word")) ;; *) COMPREPLY=($(compgen -f -- "$word")) ;; esac ;;
-    image) case $word in -*) COMPREPLY=($(compgen -W '--bin --ihex --memh -h --help' -- "$word")) ;; *) COMPREPLY=($(compgen -f -- "$word")) ;; esac ;;
+    build) case $word in -*) COMPREPLY=($(compgen -W '--stack -o -h --help' -- "$word")) ;; *) mapfile -t COMPREPLY < <(compgen -f -- "$word") ;; esac ;;
+    pp) case $word in -*) COMPREPLY=($(compgen -W '-h --help' -- "$word")) ;; *) mapfile -t COMPREPLY < <(compgen -f -- "$word") ;; esac ;;
+    list) case $word in -*) COMPREPLY=($(compgen -W '--stack -h --help' -- "$word")) ;; *) mapfile -t COMPREPLY < <(compgen -f -- "$word") ;; esac ;;
+    run) case $word in -*) COMPREPLY=($(compgen -W '--max --trace --trace-file --at --map --stack -h --help' -- "$word")) ;; *) mapfile -t COMPREPLY < <(compgen -f -- "$word") ;; esac ;;
+    interp) case $word in -*) COMPREPLY=($(compgen -W '--stack --max --trace --trace-file -h --help' -- "$word")) ;; *) mapfile -t COMPREPLY < <(compgen -f -- "$word") ;; esac ;;
+    explain) [ "$COMP_CWORD" = 2 ] && { COMPREPLY=($(compgen -W 'build interp pp' -- "$word")); return; }; case $word in -*) COMPREPLY=($(compgen -W '--json --sarif --color --stack --max -h --help' -- "$word")) ;; *) mapfile -t COMPREPLY < <(compgen -f -- "$word") ;; esac ;;
+    frames) case $word in -*) COMPREPLY=($(compgen -W '--stack -h --help' -- "$word")) ;; *) mapfile -t COMPREPLY < <(compgen -f -- "$word") ;; esac ;;
+    symbols) case $word in -*) COMPREPLY=($(compgen -W '--stack -o -h --help' -- "$word")) ;; *) mapfile -t COMPREPLY < <(compgen -f -- "$word") ;; esac ;;
+    image) case $word in -*) COMPREPLY=($(compgen -W '--bin --ihex --memh -h --help' -- "$word")) ;; *) mapfile -t COMPREPLY < <(compgen -f -- "$word") ;; esac ;;
     esac
 }
 complete -o filenames -F _zkc zkc

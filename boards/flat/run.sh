@@ -28,7 +28,12 @@ trap 'exit 143' TERM HUP
 
 monitor=${MONITOR:-$work/monitor}
 [ "${MONITOR:-}" ] || sh "$here/../build.sh" flat 0x1000 "$monitor"
-if [ $# = 2 ]; then exec 3<"$2"; else exec 3<&0; fi
+if [ $# = 2 ]; then
+    [ ! -d "$2" ] || { echo "$2 is a folder" >&2; exit 2; }
+    exec 3<"$2"
+else
+    exec 3<&0
+fi
 
 # commas NAME: the name as qemu takes it in a list.
 commas() { printf %s "$1" | sed 's/,/,,/g'; }

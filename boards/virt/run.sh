@@ -38,6 +38,7 @@ monitor=${MONITOR:-$work/monitor}
 # standard input of its own, so that is named.)
 counted=1
 if [ $# = 2 ]; then
+    [ ! -d "$2" ] || { echo "$2 is a folder" >&2; exit 2; }
     exec 3<"$2"
     bytes=$(wc -c <"$2")
 elif [ -t 0 ]; then

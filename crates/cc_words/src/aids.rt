@@ -13,7 +13,7 @@ pub fn with_run_aids<'a>(
     command: Result<Command<'a>, AllocError>,
 ) -> Result<Command<'a>, AllocError> {
     let trace = flag(alloc, "trace", "Tells each instruction on standard error");
-    let command = with(command, trace);
+    let command = with_made(command, trace.conflicts_with("trace-file"));
     let command = with(command, trace_file(alloc));
     let command = with_made(command, at(alloc));
     let command = with(command, map(alloc));
@@ -59,7 +59,8 @@ pub fn with_interp_aids<'a>(
         "trace",
         "Tells each statement and what it changes on standard error",
     );
-    with(with(command, trace), trace_file(alloc))
+    let command = with_made(command, trace.conflicts_with("trace-file"));
+    with(command, trace_file(alloc))
 }
 
 /// The command that explains.
@@ -123,7 +124,7 @@ pub fn symbols<'a>(alloc: Global) -> Result<Command<'a>, AllocError> {
 /// The command that writes what an executable file loads.
 pub fn image<'a>(alloc: Global) -> Result<Command<'a>, AllocError> {
     let command = Command::new(alloc, "image").about(
-        "Writes the bytes that an executable file loads to standard output",
+        "Writes the bytes that an executable file loads to standard output, in one of three forms",
     );
     let command = command.arg(executable(alloc));
     let binary = flag(alloc, "bin", "The bytes alone").conflicts_with("ihex");

@@ -245,7 +245,8 @@ def traces():
         check('trap', status == 125 and re.fullmatch(r'cc: trap LoadFault at 0x[0-9A-F]{8}\ncc: in far\+\d+\n', err) is not None, err)
         check('trap as before', cc(work, 'run', 'trap')[2] == err.splitlines()[0] + '\n')
         check('max', cc(work, 'run', 'a', '--max', '5', '--trace')[0] == 124)
-        for words in (['--at', 'x'], ['--at', '1', '--trace'], ['--map']):
+        check('at beyond max', cc(work, 'run', 'a', '--at', '5', '--max', '3') == cc(work, 'run', 'a', '--at', '5'))
+        for words in (['--at', 'x'], ['--at', '1', '--trace'], ['--map'], ['--trace', '--trace-file', 'log']):
             check('run ' + ' '.join(words), cc(work, 'run', 'a', *words)[0:2] == (2, b''))
 
 # A program, and its trace by hand.
@@ -382,6 +383,27 @@ def refused():
                 lines = done[2].splitlines()
                 check('refused: ' + ' '.join(words), done[:2] == (status, b'') and lines and (lines[0].startswith('error: ') if status == 2 else len(lines) == 1) and sorted(os.listdir(work)) == before, done)
 
+def kept():
+    """No file that is read is written over, by whatever path."""
+    with tempfile.TemporaryDirectory() as work:
+        put(work, 'a.c', FACT)
+        put(work, 'b.h', '')
+        cc(work, 'build', 'a.c', '-o', 'a')
+        os.symlink('a.c', os.path.join(work, 'soft.c'))
+        os.link(os.path.join(work, 'b.h'), os.path.join(work, 'hard.h'))
+        os.symlink('a', os.path.join(work, 'soft'))
+        whole = {name: open(os.path.join(work, name), 'rb').read() for name in sorted(os.listdir(work))}
+        paths = ('a.c', './a.c', os.path.join(work, 'a.c'), 'soft.c', 'b.h', './b.h', 'hard.h')
+        rows = [[*words, path] for path in paths for words in (['build', 'a.c', 'b.h', '-o'], ['symbols', 'a.c', 'b.h', '-o'], ['interp', 'a.c', 'b.h', '--trace-file'])]
+        rows += [['run', 'a', '--trace-file', path] for path in ('a', './a', 'soft')] + [['run', 'a', '--map', 'a.c', '--trace-file', './a.c']]
+        for words in rows:
+            done = cc(work, *words)
+            check('kept: ' + ' '.join(words), done == (2, b'', 'error: OUT is one of the files that are read\n'), done)
+            check('kept', {name: open(os.path.join(work, name), 'rb').read() for name in sorted(os.listdir(work))} == whole)
+        check('kept: another file', cc(work, 'build', 'a.c', 'b.h', '-o', 'c')[0] == 0 and cc(work, 'build', 'a.c', 'b.h', '-o', 'c')[0] == 0)
+        for words in (['run', 'a', '--trace-file', 'no/log'], ['interp', 'a.c', '--trace-file', 'no/log']):
+            check(' '.join(words), cc(work, *words)[2] == 'no/log:0: 803 cannot write\n', cc(work, *words))
+
 def terminals():
     """What is told on a pseudo terminal while a run goes on, and nowhere else. `interp` tells nothing within a loop that calls nothing."""
     with tempfile.TemporaryDirectory() as work:
@@ -470,6 +492,7 @@ image()
 traces()
 statements()
 refused()
+kept()
 terminals()
 surroundings()
 print('%d passed, %d failed' % (passed, failed) + (', %d skipped' % skipped if skipped else ''))

@@ -24,7 +24,7 @@ def check(name, holds, *more):
 def run(files, words, text=b'', env=None):
     with tempfile.TemporaryDirectory() as work:
         for name, body in files.items():
-            with open(os.path.join(work, name), 'w', newline='') as file:
+            with open(os.path.join(work, name), 'w', newline='', encoding='utf-8') as file:
                 file.write(body)
         before = sorted(os.listdir(work))
         done = subprocess.run([CC, *words], cwd=work, input=text, stdout=subprocess.PIPE, stderr=subprocess.PIPE, timeout=120, env=env)
@@ -126,6 +126,16 @@ def others():
     check('interp of what is defined', run(good, ['explain', 'interp', 'main.c'])[:3] == (3, 'h', ''))
     status, out, err, _ = run(good, ['explain', 'build', '--sarif', 'main.c'])
     check('empty log', status == 0 and is_sarif(json.loads(out)) and json.loads(out)['runs'][0]['results'] == [], out)
+    log = json.loads(run({}, ['explain', 'build', '--sarif', 'main.c'])[1])
+    check('a log of what cannot be read', is_sarif(log) and [one['ruleId'] for one in log['runs'][0]['results']] == ['802'], log)
+    one = json.loads(run({}, ['explain', 'build', '--json', 'main.c'])[1])
+    check('an object of what cannot be read', (one['file'], one['code'], one['column']) == ('main.c', 802, None), one)
+    wide = {'main.c': 'int main(void) { /* \u00e9\U0001F600 */ return cuont; }\n'}
+    region = json.loads(run(wide, ['explain', 'build', '--sarif', 'main.c'])[1])['runs'][0]['results'][0]['locations'][0]['physicalLocation']['region']
+    check('columns of SARIF', region == dict(startLine=1, startColumn=wide['main.c'].index('cuont') + 1, endColumn=wide['main.c'].index('cuont') + 6), region)
+    endless = {'main.c': 'int f(void) { return 1; }\nint main(void) { while (f()) ; }\n'}
+    for words in (['--json'], []):
+        check('interp within a bound ' + ' '.join(words), run(endless, ['explain', 'interp', 'main.c', '--max', '9', *words])[:3] == (124, '', 'cc: budget used\n'))
     heavy = {'main.c': 'int f(void) { char a[9000]; a[0] = 1; return a[0]; }\nint main(void) { return f(); }\n'}
     check('a small stack', run(heavy, ['explain', 'build', 'main.c', '--stack', '8192'])[2].startswith('main.c:1:5: 714 '))
     check('a stack that serves', run(heavy, ['explain', 'build', 'main.c', '--stack', '12288'])[:3] == (0, '', ''))
