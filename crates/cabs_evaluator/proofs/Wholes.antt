@@ -139,13 +139,13 @@ module _ (at : Pos) (r : Reference) (v : ℤ) (s : State) where
 module _ (c : Course) (k : ℕ) (scene : Scene) (rest : ℤ → State → Run Found) (p : typed.Program) (place : State → Run Reference) (at : Pos) where
   pub combines_found : (a : Compound) (e : State → Run ℤ) → a.read_at ≡ at →
       Leads c k scene (λ s. then_do (place s) (λ r s. then_do (e s)
-          (λ v s. then_do (read at r s) (λ old s. then_do (computed_at a.at (operated a.op a.of old v) s)
-          (λ w s. write p a.at r (converted a.ty w) s))))) rest →
+      (λ v s. then_do (read at r s) (λ old s. then_do (computed_at a.at (operated a.op a.of old v) s)
+      (λ w s. write p a.at r (converted a.ty w) s))))) rest →
       Leads c k scene (λ s. then_do (place s) (λ r s. then_do (e s) (λ v s. combined p a r v s))) rest
   combines_found a e same h = leads_as c k scene _ (λ s. then_do (place s) (λ r s. then_do (e s) (λ v s. combined p a r v s))) rest
       (λ s. ap (λ at. then_do (place s) (λ r s. then_do (e s)
-          (λ v s. then_do (read at r s) (λ old s. then_do (computed_at a.at (operated a.op a.of old v) s)
-          (λ w s. write p a.at r (converted a.ty w) s))))) (sym same)) h
+      (λ v s. then_do (read at r s) (λ old s. then_do (computed_at a.at (operated a.op a.of old v) s)
+      (λ w s. write p a.at r (converted a.ty w) s))))) (sym same)) h
 
   pub steps_found : (a : Stepping) → a.read_at ≡ at →
       Leads c k scene (λ s. then_do (place s) (λ r s. then_do (read at r s) (λ old s. then_do (computed_at a.at (operated (step_operation a.op) a.of old (pos 1)) s) (λ w s.

@@ -4,4 +4,3 @@ pub mod Firsts
 pub mod Values
 pub mod Readings
 pub mod Wholes
-pub mod Sums

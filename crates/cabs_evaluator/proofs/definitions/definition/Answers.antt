@@ -17,11 +17,11 @@ returns-then-not-tick-clause-here c = λ q none. c.tick.ensures.here c.if-not-ti
 pub returns-in-Ok-clause-does : goal.returns-in-Ok-clause-does
 returns-in-Ok-clause-does c = λ run rest h.
     c.initialised.ensures.does run rest (moved run c.tick.new.self.spent c.args.scene.now c.renew.new.self
-        (renewed (objects_in c.args.scope.now) c.args.n)
-        (λ s. define_object (program_of c.args.scope.now.program.now) (call_in (program_of c.args.scope.now.program.now))
-        (objects_in c.args.scope.now) (slice_get (objects_in c.args.scope.now) c.args.n) c.args.n (initialiser_of c.args.i.now) s) rest
-        c.in-Ok.ensures.ok (after_tick run c.args.clock.now.spent c.tick.new.self.spent c.args.scene.now _ _ c.tick.result c.if-not-tick.false
-        c.tick.ensures.taken h))
+    (renewed (objects_in c.args.scope.now) c.args.n)
+    (λ s. define_object (program_of c.args.scope.now.program.now) (call_in (program_of c.args.scope.now.program.now))
+    (objects_in c.args.scope.now) (slice_get (objects_in c.args.scope.now) c.args.n) c.args.n (initialiser_of c.args.i.now) s) rest
+    c.in-Ok.ensures.ok (after_tick run c.args.clock.now.spent c.tick.new.self.spent c.args.scene.now _ _ c.tick.result c.if-not-tick.false
+    c.tick.ensures.taken h))
 
 pub returns-in-Ok-clause-here : goal.returns-in-Ok-clause-here
 returns-in-Ok-clause-here c = λ q. c.initialised.ensures.here q

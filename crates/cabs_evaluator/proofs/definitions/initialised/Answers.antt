@@ -14,13 +14,13 @@ pub returns-in_default-clause-does : goal.returns-in_default-clause-does
 returns-in_default-clause-does c = λ run rest h.
     gave_now flow_of run c.args.scope.now.limit c.args.scene.now Normal rest flow.Normal c.args.clock.now refl
     (defines_none run c.args.clock.now.spent c.args.scene.now (program_of c.args.scope.now.program.now) (objects_in c.args.scope.now) c.args.n _
-        (initialiser_of c.args.i.now) rest (sym c.in_default.ensures) h)
+    (initialiser_of c.args.i.now) rest (sym c.in_default.ensures) h)
 
 pub returns-in-One-clause-does : goal.returns-in-One-clause-does
 returns-in-One-clause-does c = λ run rest h.
     c.first_value.ensures.does run rest (defines run c.args.clock.now.spent c.args.scene.now (program_of c.args.scope.now.program.now)
-        (objects_in c.args.scope.now) c.args.n _ _ c.in-One.ty (value_of c.in-One.e) (initialiser_of c.args.i.now) (reference_of c.in-Ok.r) rest
-        (sym c.in-Some.ensures)
+    (objects_in c.args.scope.now) c.args.n _ _ c.in-One.ty (value_of c.in-One.e) (initialiser_of c.args.i.now) (reference_of c.in-Ok.r) rest
+    (sym c.in-Some.ensures)
     (sees_one c.args.i.now c.in-One.ty c.in-One.e c.in-One.is) (λ o. c.in-Ok.ensures.ok o) h)
 
 pub returns-in-One-clause-here : goal.returns-in-One-clause-here

@@ -17,7 +17,7 @@ returns-then-not-tick-clause-here c = λ q none. c.tick.ensures.here c.if-not-ti
 pub returns-clause-does : goal.returns-clause-does
 returns-clause-does c = λ run rest h.
     gave_with number run c.args.scope.now.limit c.tick.new.self.spent c.args.scene.now c.step_at.new.scene
-        (λ r s. stepped (program_of c.args.scope.now.program.now) c.args.c.now r s) rest c.given.new.self c.given.ensures.spent
+    (λ r s. stepped (program_of c.args.scope.now.program.now) c.args.c.now r s) rest c.given.new.self c.given.ensures.spent
     (reference_of c.whole.result) (whole c.args.n) c.whole.ensures
     (after_tick run c.args.clock.now.spent c.tick.new.self.spent c.args.scene.now _ rest c.tick.result c.if-not-tick.false c.tick.ensures.taken h)
     c.step_at.result c.given.result c.step_at.ensures c.given.ensures.gives

@@ -40,9 +40,9 @@ block-returns-then-not-tick-clause-here t c = λ q none. c.tick.ensures.here c.i
 pub block-returns-in-Ok-clause-does : goal.block-returns-in-Ok-clause-does
 block-returns-in-Ok-clause-does t c = λ run rest h.
     c.all_of.ensures.does run rest (moved run c.tick.new.self.spent c.args.scene.now c.renew_all.new.scene
-        (all_renewed (objects_in c.args.scope.now) c.args.first c.args.count)
-        (λ s. all_executed (objects_in c.args.scope.now) (statements_of (map statement_of c.args.all.now)) (program_of c.args.scope.now.program.now)
-        s) rest c.in-Ok.ensures.ok
+    (all_renewed (objects_in c.args.scope.now) c.args.first c.args.count)
+    (λ s. all_executed (objects_in c.args.scope.now) (statements_of (map statement_of c.args.all.now)) (program_of c.args.scope.now.program.now)
+    s) rest c.in-Ok.ensures.ok
     (after_tick run c.args.clock.now.spent c.tick.new.self.spent c.args.scene.now _ _ c.tick.result c.if-not-tick.false c.tick.ensures.taken h))
 
 pub block-returns-in-Ok-clause-here : goal.block-returns-in-Ok-clause-here
@@ -68,10 +68,10 @@ branch-returns-then-is_true-clause-does t c = λ run rest h.
     let same : to_z w64 (of_z w64 c.in-Some.v) ≡ c.in-Some.v = search (rules, to_z-of_z) in
     let test : truth c.in-Some.v ≡ true = ap truth (sym same) ∙ sym c.is_true.ensures ∙ c.if-is_true.true in
     c.statement.ensures.does run rest (chose run c.operand.new.clock.spent c.operand.new.scene (truth c.in-Some.v) true
-        (λ s. executed (objects_in c.args.scope.now) (statement_of c.args.a.now) (program_of c.args.scope.now.program.now) s) (λ s. Goes Normal s)
-        rest test
+    (λ s. executed (objects_in c.args.scope.now) (statement_of c.args.a.now) (program_of c.args.scope.now.program.now) s) (λ s. Goes Normal s)
+    rest test
     (gone_on number run c.args.scope.now.limit c.tick.new.self.spent c.args.scene.now _ _ rest c.operand.result c.in-Some.v c.operand.new.clock
-        c.operand.new.scene c.in-Some.is (c.operand.ensures.does run)
+    c.operand.new.scene c.in-Some.is (c.operand.ensures.does run)
     (after_tick run c.args.clock.now.spent c.tick.new.self.spent c.args.scene.now _ _ c.tick.result c.if-not-tick.false c.tick.ensures.taken h)))
 
 pub branch-returns-then-is_true-clause-here : goal.branch-returns-then-is_true-clause-here
@@ -83,10 +83,10 @@ branch-returns-else-is_true-clause-does t c = λ run rest h.
     let test : truth c.in-Some.v ≡ false = ap truth (sym same) ∙ sym c.is_true.ensures ∙ c.if-is_true.false in
     gave_now flow_of run c.args.scope.now.limit c.operand.new.scene Normal rest flow.Normal c.operand.new.clock refl
     (chose run c.operand.new.clock.spent c.operand.new.scene (truth c.in-Some.v) false
-        (λ s. executed (objects_in c.args.scope.now) (statement_of c.args.a.now) (program_of c.args.scope.now.program.now) s) (λ s. Goes Normal s)
-        rest test
+    (λ s. executed (objects_in c.args.scope.now) (statement_of c.args.a.now) (program_of c.args.scope.now.program.now) s) (λ s. Goes Normal s)
+    rest test
     (gone_on number run c.args.scope.now.limit c.tick.new.self.spent c.args.scene.now _ _ rest c.operand.result c.in-Some.v c.operand.new.clock
-        c.operand.new.scene c.in-Some.is (c.operand.ensures.does run)
+    c.operand.new.scene c.in-Some.is (c.operand.ensures.does run)
     (after_tick run c.args.clock.now.spent c.tick.new.self.spent c.args.scene.now _ _ c.tick.result c.if-not-tick.false c.tick.ensures.taken h)))
 
 pub branches-returns-then-not-tick-clause-does : goal.branches-returns-then-not-tick-clause-does
@@ -111,10 +111,10 @@ branches-returns-then-is_true-clause-does t c = λ run rest h.
     let same : to_z w64 (of_z w64 c.in-Some.v) ≡ c.in-Some.v = search (rules, to_z-of_z) in
     let test : truth c.in-Some.v ≡ true = ap truth (sym same) ∙ sym c.is_true.ensures ∙ c.if-is_true.true in
     c.statement.ensures.does run rest (chose run c.operand.new.clock.spent c.operand.new.scene (truth c.in-Some.v) true
-        (λ s. executed (objects_in c.args.scope.now) (statement_of c.args.a.now) (program_of c.args.scope.now.program.now) s)
-        (λ s. executed (objects_in c.args.scope.now) (statement_of c.args.b.now) (program_of c.args.scope.now.program.now) s) rest test
+    (λ s. executed (objects_in c.args.scope.now) (statement_of c.args.a.now) (program_of c.args.scope.now.program.now) s)
+    (λ s. executed (objects_in c.args.scope.now) (statement_of c.args.b.now) (program_of c.args.scope.now.program.now) s) rest test
     (gone_on number run c.args.scope.now.limit c.tick.new.self.spent c.args.scene.now _ _ rest c.operand.result c.in-Some.v c.operand.new.clock
-        c.operand.new.scene c.in-Some.is (c.operand.ensures.does run)
+    c.operand.new.scene c.in-Some.is (c.operand.ensures.does run)
     (after_tick run c.args.clock.now.spent c.tick.new.self.spent c.args.scene.now _ _ c.tick.result c.if-not-tick.false c.tick.ensures.taken h)))
 
 pub branches-returns-then-is_true-clause-here : goal.branches-returns-then-is_true-clause-here
@@ -127,11 +127,11 @@ branches-returns-else-is_true-clause-does t c = λ run rest h.
     let same : to_z w64 (of_z w64 c.in-Some.v) ≡ c.in-Some.v = search (rules, to_z-of_z) in
     let test : truth c.in-Some.v ≡ false = ap truth (sym same) ∙ sym c.is_true.ensures ∙ c.if-is_true.false in
     c.statement-else-is_true.ensures.does run rest
-        (chose run c.operand.new.clock.spent c.operand.new.scene (truth c.in-Some.v) false
-        (λ s. executed (objects_in c.args.scope.now) (statement_of c.args.a.now) (program_of c.args.scope.now.program.now) s)
-        (λ s. executed (objects_in c.args.scope.now) (statement_of c.args.b.now) (program_of c.args.scope.now.program.now) s) rest test
+    (chose run c.operand.new.clock.spent c.operand.new.scene (truth c.in-Some.v) false
+    (λ s. executed (objects_in c.args.scope.now) (statement_of c.args.a.now) (program_of c.args.scope.now.program.now) s)
+    (λ s. executed (objects_in c.args.scope.now) (statement_of c.args.b.now) (program_of c.args.scope.now.program.now) s) rest test
     (gone_on number run c.args.scope.now.limit c.tick.new.self.spent c.args.scene.now _ _ rest c.operand.result c.in-Some.v c.operand.new.clock
-        c.operand.new.scene c.in-Some.is (c.operand.ensures.does run)
+    c.operand.new.scene c.in-Some.is (c.operand.ensures.does run)
     (after_tick run c.args.clock.now.spent c.tick.new.self.spent c.args.scene.now _ _ c.tick.result c.if-not-tick.false c.tick.ensures.taken h)))
 
 pub branches-returns-else-is_true-clause-here : goal.branches-returns-else-is_true-clause-here
@@ -162,7 +162,7 @@ do_loop-returns-then-not-tick-clause-here t c = λ q none. c.tick.ensures.here c
 pub do_loop-returns-in-None-clause-does : goal.do_loop-returns-in-None-clause-does
 do_loop-returns-in-None-clause-does t c = λ run rest h.
     gone_none flow_of run c.args.scope.now.limit c.tick.new.self.spent c.args.scene.now _ _ rest c.statement.result c.statement.new.clock
-        c.statement.new.scene c.in-None.is (c.statement.ensures.does run)
+    c.statement.new.scene c.in-None.is (c.statement.ensures.does run)
     (after_tick run c.args.clock.now.spent c.tick.new.self.spent c.args.scene.now _ _ c.tick.result c.if-not-tick.false c.tick.ensures.taken h)
 
 pub do_loop-returns-in-None-clause-here : goal.do_loop-returns-in-None-clause-here
@@ -172,22 +172,22 @@ pub do_loop-returns-in-Some-Broken-clause-does : goal.do_loop-returns-in-Some-Br
 do_loop-returns-in-Some-Broken-clause-does t c = λ run rest h.
     gave_now flow_of run c.args.scope.now.limit c.statement.new.scene Normal rest flow.Normal c.statement.new.clock refl
     (gone_on flow_of run c.args.scope.now.limit c.tick.new.self.spent c.args.scene.now _ _ rest c.statement.result flow.Broken c.statement.new.clock
-        c.statement.new.scene (c.in-Some-Broken.is ∙ ap Some c.in-Some-Broken.field-0-is) (c.statement.ensures.does run)
+    c.statement.new.scene (c.in-Some-Broken.is ∙ ap Some c.in-Some-Broken.field-0-is) (c.statement.ensures.does run)
     (after_tick run c.args.clock.now.spent c.tick.new.self.spent c.args.scene.now _ _ c.tick.result c.if-not-tick.false c.tick.ensures.taken h))
 
 pub do_loop-returns-in-Some-Returned-clause-does : goal.do_loop-returns-in-Some-Returned-clause-does
 do_loop-returns-in-Some-Returned-clause-does t c = λ run rest h.
     gave_now flow_of run c.args.scope.now.limit c.statement.new.scene (Returned c.in-Some-Returned.v) rest (flow.Returned c.in-Some-Returned.v) c.statement.new.clock refl
     (gone_on flow_of run c.args.scope.now.limit c.tick.new.self.spent c.args.scene.now _ _ rest c.statement.result
-        (flow.Returned c.in-Some-Returned.v) c.statement.new.clock c.statement.new.scene
-        (c.in-Some-Returned.is ∙ ap Some c.in-Some-Returned.field-0-is) (c.statement.ensures.does run)
+    (flow.Returned c.in-Some-Returned.v) c.statement.new.clock c.statement.new.scene
+    (c.in-Some-Returned.is ∙ ap Some c.in-Some-Returned.field-0-is) (c.statement.ensures.does run)
     (after_tick run c.args.clock.now.spent c.tick.new.self.spent c.args.scene.now _ _ c.tick.result c.if-not-tick.false c.tick.ensures.taken h))
 
 pub do_loop-returns-in-Some-Normal-clause-does : goal.do_loop-returns-in-Some-Normal-clause-does
 do_loop-returns-in-Some-Normal-clause-does t c = λ run rest h.
     c.turns.ensures.does run rest (gone_on flow_of run c.args.scope.now.limit c.tick.new.self.spent c.args.scene.now _ _ rest c.statement.result
-        flow.Normal c.statement.new.clock c.statement.new.scene (c.in-Some-Normal.is ∙ ap Some c.in-Some-Normal.field-0-is)
-        (c.statement.ensures.does run)
+    flow.Normal c.statement.new.clock c.statement.new.scene (c.in-Some-Normal.is ∙ ap Some c.in-Some-Normal.field-0-is)
+    (c.statement.ensures.does run)
     (after_tick run c.args.clock.now.spent c.tick.new.self.spent c.args.scene.now _ _ c.tick.result c.if-not-tick.false c.tick.ensures.taken h))
 
 pub do_loop-returns-in-Some-Normal-clause-here : goal.do_loop-returns-in-Some-Normal-clause-here
@@ -196,8 +196,8 @@ do_loop-returns-in-Some-Normal-clause-here t c = λ q. c.turns.ensures.here (no_
 pub do_loop-returns-in-Some-Continued-clause-does : goal.do_loop-returns-in-Some-Continued-clause-does
 do_loop-returns-in-Some-Continued-clause-does t c = λ run rest h.
     c.turns-in-Some-Continued.ensures.does run rest
-        (gone_on flow_of run c.args.scope.now.limit c.tick.new.self.spent c.args.scene.now _ _ rest c.statement.result flow.Continued
-        c.statement.new.clock c.statement.new.scene (c.in-Some-Continued.is ∙ ap Some c.in-Some-Continued.field-0-is) (c.statement.ensures.does run)
+    (gone_on flow_of run c.args.scope.now.limit c.tick.new.self.spent c.args.scene.now _ _ rest c.statement.result flow.Continued
+    c.statement.new.clock c.statement.new.scene (c.in-Some-Continued.is ∙ ap Some c.in-Some-Continued.field-0-is) (c.statement.ensures.does run)
     (after_tick run c.args.clock.now.spent c.tick.new.self.spent c.args.scene.now _ _ c.tick.result c.if-not-tick.false c.tick.ensures.taken h))
 
 pub do_loop-returns-in-Some-Continued-clause-here : goal.do_loop-returns-in-Some-Continued-clause-here
@@ -223,9 +223,9 @@ for_loop-returns-in_default-clause-here t c = λ q none.
 pub for_loop-returns-in_default-value_or-clause-does : goal.for_loop-returns-in_default-value_or-clause-does
 for_loop-returns-in_default-value_or-clause-does t c = λ run rest h.
     gone_none number run c.args.scope.now.limit c.all_of.new.clock.spent c.all_of.new.scene _ _ rest c.value_or.result c.value_or.new.clock
-        c.value_or.new.scene c.in_default-value_or.is (c.value_or.ensures.does run)
+    c.value_or.new.scene c.in_default-value_or.is (c.value_or.ensures.does run)
     (gone_on flow_of run c.args.scope.now.limit c.tick.new.self.spent c.args.scene.now _ _ rest c.all_of.result c.in-Some.field-0 c.all_of.new.clock
-        c.all_of.new.scene c.in-Some.is (c.all_of.ensures.does run)
+    c.all_of.new.scene c.in-Some.is (c.all_of.ensures.does run)
     (after_tick run c.args.clock.now.spent c.tick.new.self.spent c.args.scene.now _ _ c.tick.result c.if-not-tick.false c.tick.ensures.taken h))
 
 pub for_loop-returns-in_default-value_or-clause-here : goal.for_loop-returns-in_default-value_or-clause-here
@@ -237,9 +237,9 @@ for_loop-returns-in_default-value_or-clause-here t c = λ q none.
 pub for_loop-returns-clause-does : goal.for_loop-returns-clause-does
 for_loop-returns-clause-does t c = λ run rest h.
     c.turns.ensures.does run rest (gone_on number run c.args.scope.now.limit c.all_of.new.clock.spent c.all_of.new.scene _ _ rest c.value_or.result
-        c.in-Some-value_or.field-0 c.value_or.new.clock c.value_or.new.scene c.in-Some-value_or.is (c.value_or.ensures.does run)
+    c.in-Some-value_or.field-0 c.value_or.new.clock c.value_or.new.scene c.in-Some-value_or.is (c.value_or.ensures.does run)
     (gone_on flow_of run c.args.scope.now.limit c.tick.new.self.spent c.args.scene.now _ _ rest c.all_of.result c.in-Some.field-0 c.all_of.new.clock
-        c.all_of.new.scene c.in-Some.is (c.all_of.ensures.does run)
+    c.all_of.new.scene c.in-Some.is (c.all_of.ensures.does run)
     (after_tick run c.args.clock.now.spent c.tick.new.self.spent c.args.scene.now _ _ c.tick.result c.if-not-tick.false c.tick.ensures.taken h)))
 
 pub for_loop-returns-clause-here : goal.for_loop-returns-clause-here
@@ -251,7 +251,7 @@ pub all_of-returns-in-None-clause-does : goal.all_of-returns-in-None-clause-does
 all_of-returns-in-None-clause-does t c = λ run rest h.
     gone_none flow_of run c.args.scope.now.limit c.loop-a.clock.spent c.loop-a.scene _ _ rest c.statement.result c.statement.new.clock c.statement.new.scene c.in-None.is (c.statement.ensures.does run)
     (headed run c.loop-a.clock.spent c.loop-a.scene (program_of c.args.scope.now.program.now) (objects_in c.args.scope.now) c.loop-a.rest.now
-        c.in-Some.a.now c.in-Some.more.now rest c.in-Some.ensures.cases.0 (c.loop-a.invariant.leads run rest h))
+    c.in-Some.a.now c.in-Some.more.now rest c.in-Some.ensures.cases.0 (c.loop-a.invariant.leads run rest h))
 
 pub all_of-returns-in-None-clause-here : goal.all_of-returns-in-None-clause-here
 all_of-returns-in-None-clause-here t c = λ q none.
@@ -261,25 +261,25 @@ pub all_of-returns-in-Some-Broken-clause-does : goal.all_of-returns-in-Some-Brok
 all_of-returns-in-Some-Broken-clause-does t c = λ run rest h.
     gave_now flow_of run c.args.scope.now.limit c.statement.new.scene Broken rest flow.Broken c.statement.new.clock refl
     (gone_on flow_of run c.args.scope.now.limit c.loop-a.clock.spent c.loop-a.scene _ _ rest c.statement.result flow.Broken c.statement.new.clock
-        c.statement.new.scene (c.in-Some-Broken.is ∙ ap Some c.in-Some-Broken.field-0-is) (c.statement.ensures.does run)
+    c.statement.new.scene (c.in-Some-Broken.is ∙ ap Some c.in-Some-Broken.field-0-is) (c.statement.ensures.does run)
     (headed run c.loop-a.clock.spent c.loop-a.scene (program_of c.args.scope.now.program.now) (objects_in c.args.scope.now) c.loop-a.rest.now
-        c.in-Some.a.now c.in-Some.more.now rest c.in-Some.ensures.cases.0 (c.loop-a.invariant.leads run rest h)))
+    c.in-Some.a.now c.in-Some.more.now rest c.in-Some.ensures.cases.0 (c.loop-a.invariant.leads run rest h)))
 
 pub all_of-returns-in-Some-Continued-clause-does : goal.all_of-returns-in-Some-Continued-clause-does
 all_of-returns-in-Some-Continued-clause-does t c = λ run rest h.
     gave_now flow_of run c.args.scope.now.limit c.statement.new.scene Continued rest flow.Continued c.statement.new.clock refl
     (gone_on flow_of run c.args.scope.now.limit c.loop-a.clock.spent c.loop-a.scene _ _ rest c.statement.result flow.Continued c.statement.new.clock
-        c.statement.new.scene (c.in-Some-Continued.is ∙ ap Some c.in-Some-Continued.field-0-is) (c.statement.ensures.does run)
+    c.statement.new.scene (c.in-Some-Continued.is ∙ ap Some c.in-Some-Continued.field-0-is) (c.statement.ensures.does run)
     (headed run c.loop-a.clock.spent c.loop-a.scene (program_of c.args.scope.now.program.now) (objects_in c.args.scope.now) c.loop-a.rest.now
-        c.in-Some.a.now c.in-Some.more.now rest c.in-Some.ensures.cases.0 (c.loop-a.invariant.leads run rest h)))
+    c.in-Some.a.now c.in-Some.more.now rest c.in-Some.ensures.cases.0 (c.loop-a.invariant.leads run rest h)))
 
 pub all_of-returns-in-Some-Returned-clause-does : goal.all_of-returns-in-Some-Returned-clause-does
 all_of-returns-in-Some-Returned-clause-does t c = λ run rest h.
     gave_now flow_of run c.args.scope.now.limit c.statement.new.scene (Returned c.in-Some-Returned.v) rest (flow.Returned c.in-Some-Returned.v) c.statement.new.clock refl
     (gone_on flow_of run c.args.scope.now.limit c.loop-a.clock.spent c.loop-a.scene _ _ rest c.statement.result (flow.Returned c.in-Some-Returned.v)
-        c.statement.new.clock c.statement.new.scene (c.in-Some-Returned.is ∙ ap Some c.in-Some-Returned.field-0-is) (c.statement.ensures.does run)
+    c.statement.new.clock c.statement.new.scene (c.in-Some-Returned.is ∙ ap Some c.in-Some-Returned.field-0-is) (c.statement.ensures.does run)
     (headed run c.loop-a.clock.spent c.loop-a.scene (program_of c.args.scope.now.program.now) (objects_in c.args.scope.now) c.loop-a.rest.now
-        c.in-Some.a.now c.in-Some.more.now rest c.in-Some.ensures.cases.0 (c.loop-a.invariant.leads run rest h)))
+    c.in-Some.a.now c.in-Some.more.now rest c.in-Some.ensures.cases.0 (c.loop-a.invariant.leads run rest h)))
 
 pub all_of-loop-a-preserved : goal.all_of-loop-a-preserved
 all_of-loop-a-preserved t c = record {
@@ -288,15 +288,15 @@ all_of-loop-a-preserved t c = record {
   leads = λ run rest h. (gone_on flow_of run c.args.scope.now.limit c.loop-a.clock.spent c.loop-a.scene _ _ rest c.statement.result flow.Normal
       c.statement.new.clock c.statement.new.scene (c.in-Some-Normal.is ∙ ap Some c.in-Some-Normal.field-0-is) (c.statement.ensures.does run)
       (headed run c.loop-a.clock.spent c.loop-a.scene (program_of c.args.scope.now.program.now) (objects_in c.args.scope.now) c.loop-a.rest.now
-          c.in-Some.a.now c.in-Some.more.now rest c.in-Some.ensures.cases.0 (c.loop-a.invariant.leads run rest h)));
+      c.in-Some.a.now c.in-Some.more.now rest c.in-Some.ensures.cases.0 (c.loop-a.invariant.leads run rest h)));
 }
 
 pub turns-returns-in_default-clause-does : goal.turns-returns-in_default-clause-does
 turns-returns-in_default-clause-does t c = λ run rest h.
     gone_none number run c.args.scope.now.limit c.loop.clock.spent c.loop.scene _ _ rest c.value_or.result c.value_or.new.clock c.value_or.new.scene c.in_default.is (c.value_or.ensures.does run)
     (turned run c.loop.clock.spent c.loop.scene (program_of c.args.scope.now.program.now) (objects_in c.args.scope.now)
-        (option_map (λ e. value_of e.now) c.args.test) (statement_of c.args.a.now) (option_map (λ e. value_of e.now) c.args.step) rest
-        (c.loop.invariant.leads run rest h))
+    (option_map (λ e. value_of e.now) c.args.test) (statement_of c.args.a.now) (option_map (λ e. value_of e.now) c.args.step) rest
+    (c.loop.invariant.leads run rest h))
 
 pub turns-returns-in_default-clause-here : goal.turns-returns-in_default-clause-here
 turns-returns-in_default-clause-here t c = λ q none.
@@ -309,32 +309,32 @@ turns-returns-then-not-is_true-clause-does t c = λ run rest h.
     let test : truth c.in-Some.v ≡ false = ap truth (sym same) ∙ sym c.is_true.ensures ∙ c.if-not-is_true.true in
     gave_now flow_of run c.args.scope.now.limit c.value_or.new.scene Normal rest flow.Normal c.value_or.new.clock refl
     (chose run c.value_or.new.clock.spent c.value_or.new.scene (truth c.in-Some.v) false
-        (λ s. then_do (executed (objects_in c.args.scope.now) (statement_of c.args.a.now) (program_of c.args.scope.now.program.now) s)
-        (λ flow s. after_body flow s (λ s. stepped (program_of c.args.scope.now.program.now) (call_in (program_of c.args.scope.now.program.now))
-        (objects_in c.args.scope.now) (option_map (λ e. value_of e.now) c.args.test) (statement_of c.args.a.now)
-        (option_map (λ e. value_of e.now) c.args.step) s))) (λ s. Goes Normal s) rest test
+    (λ s. then_do (executed (objects_in c.args.scope.now) (statement_of c.args.a.now) (program_of c.args.scope.now.program.now) s)
+    (λ flow s. after_body flow s (λ s. stepped (program_of c.args.scope.now.program.now) (call_in (program_of c.args.scope.now.program.now))
+    (objects_in c.args.scope.now) (option_map (λ e. value_of e.now) c.args.test) (statement_of c.args.a.now)
+    (option_map (λ e. value_of e.now) c.args.step) s))) (λ s. Goes Normal s) rest test
     (gone_on number run c.args.scope.now.limit c.loop.clock.spent c.loop.scene _ _ rest c.value_or.result c.in-Some.v c.value_or.new.clock
-        c.value_or.new.scene c.in-Some.is (c.value_or.ensures.does run)
+    c.value_or.new.scene c.in-Some.is (c.value_or.ensures.does run)
     (turned run c.loop.clock.spent c.loop.scene (program_of c.args.scope.now.program.now) (objects_in c.args.scope.now)
-        (option_map (λ e. value_of e.now) c.args.test) (statement_of c.args.a.now) (option_map (λ e. value_of e.now) c.args.step) rest
-        (c.loop.invariant.leads run rest h))))
+    (option_map (λ e. value_of e.now) c.args.test) (statement_of c.args.a.now) (option_map (λ e. value_of e.now) c.args.step) rest
+    (c.loop.invariant.leads run rest h))))
 
 pub turns-returns-in_default-statement-clause-does : goal.turns-returns-in_default-statement-clause-does
 turns-returns-in_default-statement-clause-does t c = λ run rest h.
     let same : to_z w64 (of_z w64 c.in-Some.v) ≡ c.in-Some.v = search (rules, to_z-of_z) in
     let test : truth c.in-Some.v ≡ true = ap truth (sym same) ∙ sym c.is_true.ensures ∙ c.if-not-is_true.false in
     gone_none flow_of run c.args.scope.now.limit c.value_or.new.clock.spent c.value_or.new.scene _ _ rest c.statement.result c.statement.new.clock
-        c.statement.new.scene c.in_default-statement.is (c.statement.ensures.does run)
+    c.statement.new.scene c.in_default-statement.is (c.statement.ensures.does run)
     (chose run c.value_or.new.clock.spent c.value_or.new.scene (truth c.in-Some.v) true
-        (λ s. then_do (executed (objects_in c.args.scope.now) (statement_of c.args.a.now) (program_of c.args.scope.now.program.now) s)
-        (λ flow s. after_body flow s (λ s. stepped (program_of c.args.scope.now.program.now) (call_in (program_of c.args.scope.now.program.now))
-        (objects_in c.args.scope.now) (option_map (λ e. value_of e.now) c.args.test) (statement_of c.args.a.now)
-        (option_map (λ e. value_of e.now) c.args.step) s))) (λ s. Goes Normal s) rest test
+    (λ s. then_do (executed (objects_in c.args.scope.now) (statement_of c.args.a.now) (program_of c.args.scope.now.program.now) s)
+    (λ flow s. after_body flow s (λ s. stepped (program_of c.args.scope.now.program.now) (call_in (program_of c.args.scope.now.program.now))
+    (objects_in c.args.scope.now) (option_map (λ e. value_of e.now) c.args.test) (statement_of c.args.a.now)
+    (option_map (λ e. value_of e.now) c.args.step) s))) (λ s. Goes Normal s) rest test
     (gone_on number run c.args.scope.now.limit c.loop.clock.spent c.loop.scene _ _ rest c.value_or.result c.in-Some.v c.value_or.new.clock
-        c.value_or.new.scene c.in-Some.is (c.value_or.ensures.does run)
+    c.value_or.new.scene c.in-Some.is (c.value_or.ensures.does run)
     (turned run c.loop.clock.spent c.loop.scene (program_of c.args.scope.now.program.now) (objects_in c.args.scope.now)
-        (option_map (λ e. value_of e.now) c.args.test) (statement_of c.args.a.now) (option_map (λ e. value_of e.now) c.args.step) rest
-        (c.loop.invariant.leads run rest h))))
+    (option_map (λ e. value_of e.now) c.args.test) (statement_of c.args.a.now) (option_map (λ e. value_of e.now) c.args.step) rest
+    (c.loop.invariant.leads run rest h))))
 
 pub turns-returns-in_default-statement-clause-here : goal.turns-returns-in_default-statement-clause-here
 turns-returns-in_default-statement-clause-here t c = λ q none.
@@ -348,20 +348,20 @@ turns-returns-in-Some-left_by-clause-does t c = λ run rest h.
     let is = sym c.left_by.ensures ∙ ap (option_map flow_of) c.in-Some-left_by.is in
     gave_now flow_of run c.args.scope.now.limit c.statement.new.scene (flow_of c.in-Some-left_by.out) rest c.in-Some-left_by.out c.statement.new.clock refl
     (out run c.statement.new.clock.spent c.statement.new.scene (flow_of c.in-Some-statement.flow) (flow_of c.in-Some-left_by.out)
-        (λ s. stepped (program_of c.args.scope.now.program.now) (call_in (program_of c.args.scope.now.program.now)) (objects_in c.args.scope.now)
-        (option_map (λ e. value_of e.now) c.args.test) (statement_of c.args.a.now) (option_map (λ e. value_of e.now) c.args.step) s) rest is
+    (λ s. stepped (program_of c.args.scope.now.program.now) (call_in (program_of c.args.scope.now.program.now)) (objects_in c.args.scope.now)
+    (option_map (λ e. value_of e.now) c.args.test) (statement_of c.args.a.now) (option_map (λ e. value_of e.now) c.args.step) s) rest is
     (gone_on flow_of run c.args.scope.now.limit c.value_or.new.clock.spent c.value_or.new.scene _ _ rest c.statement.result c.in-Some-statement.flow
-        c.statement.new.clock c.statement.new.scene c.in-Some-statement.is (c.statement.ensures.does run)
+    c.statement.new.clock c.statement.new.scene c.in-Some-statement.is (c.statement.ensures.does run)
     (chose run c.value_or.new.clock.spent c.value_or.new.scene (truth c.in-Some.v) true
-        (λ s. then_do (executed (objects_in c.args.scope.now) (statement_of c.args.a.now) (program_of c.args.scope.now.program.now) s)
-        (λ flow s. after_body flow s (λ s. stepped (program_of c.args.scope.now.program.now) (call_in (program_of c.args.scope.now.program.now))
-        (objects_in c.args.scope.now) (option_map (λ e. value_of e.now) c.args.test) (statement_of c.args.a.now)
-        (option_map (λ e. value_of e.now) c.args.step) s))) (λ s. Goes Normal s) rest test
+    (λ s. then_do (executed (objects_in c.args.scope.now) (statement_of c.args.a.now) (program_of c.args.scope.now.program.now) s)
+    (λ flow s. after_body flow s (λ s. stepped (program_of c.args.scope.now.program.now) (call_in (program_of c.args.scope.now.program.now))
+    (objects_in c.args.scope.now) (option_map (λ e. value_of e.now) c.args.test) (statement_of c.args.a.now)
+    (option_map (λ e. value_of e.now) c.args.step) s))) (λ s. Goes Normal s) rest test
     (gone_on number run c.args.scope.now.limit c.loop.clock.spent c.loop.scene _ _ rest c.value_or.result c.in-Some.v c.value_or.new.clock
-        c.value_or.new.scene c.in-Some.is (c.value_or.ensures.does run)
+    c.value_or.new.scene c.in-Some.is (c.value_or.ensures.does run)
     (turned run c.loop.clock.spent c.loop.scene (program_of c.args.scope.now.program.now) (objects_in c.args.scope.now)
-        (option_map (λ e. value_of e.now) c.args.test) (statement_of c.args.a.now) (option_map (λ e. value_of e.now) c.args.step) rest
-        (c.loop.invariant.leads run rest h))))))
+    (option_map (λ e. value_of e.now) c.args.test) (statement_of c.args.a.now) (option_map (λ e. value_of e.now) c.args.step) rest
+    (c.loop.invariant.leads run rest h))))))
 
 pub turns-returns-in_default-value_or-clause-does : goal.turns-returns-in_default-value_or-clause-does
 turns-returns-in_default-value_or-clause-does t c = λ run rest h.
@@ -369,22 +369,22 @@ turns-returns-in_default-value_or-clause-does t c = λ run rest h.
     let test : truth c.in-Some.v ≡ true = ap truth (sym same) ∙ sym c.is_true.ensures ∙ c.if-not-is_true.false in
     let is = sym c.left_by.ensures ∙ ap (option_map flow_of) c.in_default-left_by.is in
     gone_none number run c.args.scope.now.limit c.statement.new.clock.spent c.statement.new.scene _ _ rest c.value_or-in-loop.result
-        c.value_or-in-loop.new.clock c.value_or-in-loop.new.scene c.in_default-value_or.is (c.value_or-in-loop.ensures.does run)
+    c.value_or-in-loop.new.clock c.value_or-in-loop.new.scene c.in_default-value_or.is (c.value_or-in-loop.ensures.does run)
     (on run c.statement.new.clock.spent c.statement.new.scene (flow_of c.in-Some-statement.flow)
-        (λ s. stepped (program_of c.args.scope.now.program.now) (call_in (program_of c.args.scope.now.program.now)) (objects_in c.args.scope.now)
-        (option_map (λ e. value_of e.now) c.args.test) (statement_of c.args.a.now) (option_map (λ e. value_of e.now) c.args.step) s) rest is
+    (λ s. stepped (program_of c.args.scope.now.program.now) (call_in (program_of c.args.scope.now.program.now)) (objects_in c.args.scope.now)
+    (option_map (λ e. value_of e.now) c.args.test) (statement_of c.args.a.now) (option_map (λ e. value_of e.now) c.args.step) s) rest is
     (gone_on flow_of run c.args.scope.now.limit c.value_or.new.clock.spent c.value_or.new.scene _ _ rest c.statement.result c.in-Some-statement.flow
-        c.statement.new.clock c.statement.new.scene c.in-Some-statement.is (c.statement.ensures.does run)
+    c.statement.new.clock c.statement.new.scene c.in-Some-statement.is (c.statement.ensures.does run)
     (chose run c.value_or.new.clock.spent c.value_or.new.scene (truth c.in-Some.v) true
-        (λ s. then_do (executed (objects_in c.args.scope.now) (statement_of c.args.a.now) (program_of c.args.scope.now.program.now) s)
-        (λ flow s. after_body flow s (λ s. stepped (program_of c.args.scope.now.program.now) (call_in (program_of c.args.scope.now.program.now))
-        (objects_in c.args.scope.now) (option_map (λ e. value_of e.now) c.args.test) (statement_of c.args.a.now)
-        (option_map (λ e. value_of e.now) c.args.step) s))) (λ s. Goes Normal s) rest test
+    (λ s. then_do (executed (objects_in c.args.scope.now) (statement_of c.args.a.now) (program_of c.args.scope.now.program.now) s)
+    (λ flow s. after_body flow s (λ s. stepped (program_of c.args.scope.now.program.now) (call_in (program_of c.args.scope.now.program.now))
+    (objects_in c.args.scope.now) (option_map (λ e. value_of e.now) c.args.test) (statement_of c.args.a.now)
+    (option_map (λ e. value_of e.now) c.args.step) s))) (λ s. Goes Normal s) rest test
     (gone_on number run c.args.scope.now.limit c.loop.clock.spent c.loop.scene _ _ rest c.value_or.result c.in-Some.v c.value_or.new.clock
-        c.value_or.new.scene c.in-Some.is (c.value_or.ensures.does run)
+    c.value_or.new.scene c.in-Some.is (c.value_or.ensures.does run)
     (turned run c.loop.clock.spent c.loop.scene (program_of c.args.scope.now.program.now) (objects_in c.args.scope.now)
-        (option_map (λ e. value_of e.now) c.args.test) (statement_of c.args.a.now) (option_map (λ e. value_of e.now) c.args.step) rest
-        (c.loop.invariant.leads run rest h))))))
+    (option_map (λ e. value_of e.now) c.args.test) (statement_of c.args.a.now) (option_map (λ e. value_of e.now) c.args.step) rest
+    (c.loop.invariant.leads run rest h))))))
 
 pub turns-returns-in_default-value_or-clause-here : goal.turns-returns-in_default-value_or-clause-here
 turns-returns-in_default-value_or-clause-here t c = λ q none.
@@ -401,19 +401,19 @@ turns-loop-preserved t c =
           c.value_or-in-loop.result c.in-Some-value_or.field-0 c.value_or-in-loop.new.clock c.value_or-in-loop.new.scene c.in-Some-value_or.is
           (c.value_or-in-loop.ensures.does run)
           (on run c.statement.new.clock.spent c.statement.new.scene (flow_of c.in-Some-statement.flow)
-              (λ s. stepped (program_of c.args.scope.now.program.now) (call_in (program_of c.args.scope.now.program.now))
-              (objects_in c.args.scope.now) (option_map (λ e. value_of e.now) c.args.test) (statement_of c.args.a.now)
-              (option_map (λ e. value_of e.now) c.args.step) s) rest is
+          (λ s. stepped (program_of c.args.scope.now.program.now) (call_in (program_of c.args.scope.now.program.now))
+          (objects_in c.args.scope.now) (option_map (λ e. value_of e.now) c.args.test) (statement_of c.args.a.now)
+          (option_map (λ e. value_of e.now) c.args.step) s) rest is
           (gone_on flow_of run c.args.scope.now.limit c.value_or.new.clock.spent c.value_or.new.scene _ _ rest c.statement.result
-              c.in-Some-statement.flow c.statement.new.clock c.statement.new.scene c.in-Some-statement.is (c.statement.ensures.does run)
+          c.in-Some-statement.flow c.statement.new.clock c.statement.new.scene c.in-Some-statement.is (c.statement.ensures.does run)
           (chose run c.value_or.new.clock.spent c.value_or.new.scene (truth c.in-Some.v) true
-              (λ s. then_do (executed (objects_in c.args.scope.now) (statement_of c.args.a.now) (program_of c.args.scope.now.program.now) s)
-              (λ flow s. after_body flow s (λ s. stepped (program_of c.args.scope.now.program.now) (call_in (program_of c.args.scope.now.program.now))
-              (objects_in c.args.scope.now) (option_map (λ e. value_of e.now) c.args.test) (statement_of c.args.a.now)
-              (option_map (λ e. value_of e.now) c.args.step) s))) (λ s. Goes Normal s) rest test
+          (λ s. then_do (executed (objects_in c.args.scope.now) (statement_of c.args.a.now) (program_of c.args.scope.now.program.now) s)
+          (λ flow s. after_body flow s (λ s. stepped (program_of c.args.scope.now.program.now) (call_in (program_of c.args.scope.now.program.now))
+          (objects_in c.args.scope.now) (option_map (λ e. value_of e.now) c.args.test) (statement_of c.args.a.now)
+          (option_map (λ e. value_of e.now) c.args.step) s))) (λ s. Goes Normal s) rest test
           (gone_on number run c.args.scope.now.limit c.loop.clock.spent c.loop.scene _ _ rest c.value_or.result c.in-Some.v c.value_or.new.clock
-              c.value_or.new.scene c.in-Some.is (c.value_or.ensures.does run)
+          c.value_or.new.scene c.in-Some.is (c.value_or.ensures.does run)
           (turned run c.loop.clock.spent c.loop.scene (program_of c.args.scope.now.program.now) (objects_in c.args.scope.now)
-              (option_map (λ e. value_of e.now) c.args.test) (statement_of c.args.a.now) (option_map (λ e. value_of e.now) c.args.step) rest
-              (c.loop.invariant.leads run rest h)))))));
+          (option_map (λ e. value_of e.now) c.args.test) (statement_of c.args.a.now) (option_map (λ e. value_of e.now) c.args.step) rest
+          (c.loop.invariant.leads run rest h)))))));
     }

@@ -19,5 +19,5 @@ pub returns-in-Ok-clause-does : goal.returns-in-Ok-clause-does
 returns-in-Ok-clause-does c = λ run rest h.
     gave_now flow_of run c.args.scope.now.limit c.renew.new.self Normal rest flow.Normal c.tick.new.self refl
     (moved run c.tick.new.self.spent c.args.scene.now c.renew.new.self (renewed (objects_in c.args.scope.now) c.args.n) (λ s. Goes Normal s) rest
-        c.in-Ok.ensures.ok (after_tick run c.args.clock.now.spent c.tick.new.self.spent c.args.scene.now _ _ c.tick.result c.if-not-tick.false
-        c.tick.ensures.taken h))
+    c.in-Ok.ensures.ok (after_tick run c.args.clock.now.spent c.tick.new.self.spent c.args.scene.now _ _ c.tick.result c.if-not-tick.false
+    c.tick.ensures.taken h))

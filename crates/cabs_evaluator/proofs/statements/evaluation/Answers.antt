@@ -25,5 +25,5 @@ pub returns-clause-does : goal.returns-clause-does
 returns-clause-does c = λ run rest h.
     gave_now flow_of run c.args.scope.now.limit c.value.new.scene Normal rest flow.Normal c.value.new.clock refl
     (gone_on number run c.args.scope.now.limit c.tick.new.self.spent c.args.scene.now _ _ rest c.value.result c.in-Some.field-0 c.value.new.clock
-        c.value.new.scene c.in-Some.is (c.value.ensures.does run)
+    c.value.new.scene c.in-Some.is (c.value.ensures.does run)
     (after_tick run c.args.clock.now.spent c.tick.new.self.spent c.args.scene.now _ _ c.tick.result c.if-not-tick.false c.tick.ensures.taken h))

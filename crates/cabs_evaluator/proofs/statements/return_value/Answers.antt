@@ -28,8 +28,8 @@ returns-clause-does c = λ run rest h.
     let same : to_z w64 (of_z w64 c.in-Some.v) ≡ c.in-Some.v = search (rules, to_z-of_z) in
     let same2 : to_z w64 (of_z w64 c.convert.result) ≡ c.convert.result = search (rules, to_z-of_z) in
     let is : Returned (Some (converted c.args.ty c.in-Some.v)) ≡ Returned (Some (to_z w64 (of_z w64 c.convert.result))) = ap (λ v. Returned (Some v))
-        (ap (converted c.args.ty) (sym same) ∙ sym c.convert.ensures.value ∙ sym same2) in
+    (ap (converted c.args.ty) (sym same) ∙ sym c.convert.ensures.value ∙ sym same2) in
     gave_now flow_of run c.args.scope.now.limit c.value.new.scene (Returned (Some (converted c.args.ty c.in-Some.v))) rest
-        (flow.Returned (Some (to_z w64 (of_z w64 c.convert.result)))) c.value.new.clock is
+    (flow.Returned (Some (to_z w64 (of_z w64 c.convert.result)))) c.value.new.clock is
     (gone_on number run c.args.scope.now.limit c.tick.new.self.spent c.args.scene.now _ _ rest c.value.result c.in-Some.v c.value.new.clock c.value.new.scene c.in-Some.is (c.value.ensures.does run)
     (after_tick run c.args.clock.now.spent c.tick.new.self.spent c.args.scene.now _ _ c.tick.result c.if-not-tick.false c.tick.ensures.taken h))
