@@ -12,8 +12,6 @@ use Rattle.frames_code.specs.Run.{active}
 use Rattle.frames.specs.Translated.{flat_program}
 use Rattle.frames.specs.Flattened.{InStep, IsFlattened}
 use Rattle.frames_steps.specs.Matched.{Matched, Alike}
-use Rattle.frames_code.specs.Code as flat_code
-use Rattle.frames_code.specs.Run as flat
 
 -- these are the calls that are open behind a step
 abbrev pub AreCallsOf : List ℕ → Progress → Type 0
@@ -54,4 +52,4 @@ FlatIsFlattened = (q : Program) → IsSoundProgram q → IsFlattened q (flat_pro
 
 -- so many steps of flat code and then so many are a run of both
 abbrev pub FlatRunsCompose : Type 0
-FlatRunsCompose = (p : flat_code.Program) (k n : ℕ) (s : flat.State) → flat.run p (k + n) s ≡ flat.goes_on (flat.run p k s) (flat.run p n)
+FlatRunsCompose = (p : flat.Program) (k n : ℕ) (s : flat_run.State) → flat_run.run p (k + n) s ≡ flat_run.goes_on (flat_run.run p k s) (flat_run.run p n)
