@@ -92,7 +92,7 @@ def zsh(commands, options):
     out += ["        '%s:%s'" % (name, quote(what)) for name, what, *_ in commands]
     out += ['    )', '    options=(']
     out += ["        '%s:%s'" % (o, quote(right)) for left, right in options for o in option(left)[:2] if o]
-    out += ['    )', '    if (( CURRENT == 2 )); then', "        _describe 'command' commands", "        _describe -o 'option' options", '        return', '    fi', '    local command=$words[2]', '    (( CURRENT-- ))', '    shift words', '    case $command in']
+    out += ['    )', '    if (( CURRENT == 2 )); then', "        if [[ $words[2] == -* ]]; then _describe -o 'option' options; else _describe 'command' commands; fi", '        return', '    fi', '    local command=$words[2]', '    (( CURRENT-- ))', '    shift words', '    case $command in']
     for name, _, _, arguments, own in commands:
         specs = []
         for left, right in own:

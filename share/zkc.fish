@@ -39,7 +39,7 @@ complete -c zkc -f -n __fish_use_subcommand -a symbols -d 'Writes an ELF file of
 complete -c zkc -n '__fish_seen_subcommand_from symbols' -l stack -x -d 'The bytes of the stack, a multiple of 4096 [default: 1048576]'
 complete -c zkc -n '__fish_seen_subcommand_from symbols' -s o -r -d 'The file to write'
 complete -c zkc -n '__fish_seen_subcommand_from symbols' -s h -l help -d 'Print help'
-complete -c zkc -f -n __fish_use_subcommand -a image -d 'Writes the bytes that an executable file loads to standard output'
+complete -c zkc -f -n __fish_use_subcommand -a image -d 'Writes the bytes that an executable file loads to standard output, in one of three forms'
 complete -c zkc -n '__fish_seen_subcommand_from image' -l bin -d 'The bytes alone'
 complete -c zkc -n '__fish_seen_subcommand_from image' -l ihex -d 'Intel\'s hexadecimal form'
 complete -c zkc -n '__fish_seen_subcommand_from image' -l memh -d 'The form that $readmemh reads, a byte a number'
