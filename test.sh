@@ -38,15 +38,15 @@ const        | python3                                  | python3 tests/outside/
 meaning      | python3                                  | python3 tests/outside/meaning/check.py "$cc"
 sets         | python3                                  | python3 tests/outside/pp/sets.py "$cc"
 commands     | python3                                  | python3 tests/outside/cc/check.py "$cc"
-flat         | python3 crates/rows_flat/out/rows_flat   | python3 tests/outside/flat/check.py crates/rows_flat/out/rows_flat
-tac          | python3 crates/rows_tac/out/rows_tac     | python3 tests/outside/tac/check.py crates/rows_tac/out/rows_tac
-streamed     | python3 crates/rows_stream/out/rows_stream | python3 tests/outside/pp/streamed.py crates/rows_stream/out/rows_stream
-rows_calls   | python3                                  | python3 tests/outside/front/calls.py --check
-rows_answers | python3                                  | python3 tests/outside/meaning/answers.py --check
-rows_machine | python3                                  | python3 tests/outside/machine/rows.py --check
-rows_flat    | python3                                  | python3 tests/outside/flat/rows.py --check
-rows_tac     | python3                                  | python3 tests/outside/tac/rows.py --check
-rows_stream  | python3                                  | python3 tests/outside/pp/stream.py --check
+flat         | python3 crates/test_flat/out/test_flat   | python3 tests/outside/flat/check.py crates/test_flat/out/test_flat
+tac          | python3 crates/test_tac/out/test_tac     | python3 tests/outside/tac/check.py crates/test_tac/out/test_tac
+streamed     | python3 crates/test_stream/out/test_stream | python3 tests/outside/pp/streamed.py crates/test_stream/out/test_stream
+test_calls   | python3                                  | python3 tests/outside/front/calls.py --check
+test_answers | python3                                  | python3 tests/outside/meaning/answers.py --check
+test_machine | python3                                  | python3 tests/outside/machine/rows.py --check
+test_flat    | python3                                  | python3 tests/outside/flat/rows.py --check
+test_tac     | python3                                  | python3 tests/outside/tac/rows.py --check
+test_stream  | python3                                  | python3 tests/outside/pp/stream.py --check
 growths      | python3 gcc                              | python3 tests/outside/refused/growths.py "$cc"
 bytes        | python3 gcc                              | python3 tests/outside/refused/bytes.py "$cc"
 signals      | python3                                  | python3 tests/outside/refused/signals.py "$cc"

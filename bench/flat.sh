@@ -4,13 +4,13 @@
 #
 #   bash bench/flat.sh [FLAT_ROWS [CC]]
 #
-# Called from the repository's root; crates/rows_flat/out/rows_flat and release/cc by default. A gcc program's instructions are the least
+# Called from the repository's root; crates/test_flat/out/test_flat and release/cc by default. A gcc program's instructions are the least
 # budget that is enough for `cc run`, its status is that under qemu-riscv32, and the flat program's has to be the same.
 set -u
 LC_ALL=C
 export LC_ALL
 root=$(pwd)
-rows=$(realpath "${1:-crates/rows_flat/out/rows_flat}")
+rows=$(realpath "${1:-crates/test_flat/out/test_flat}")
 cc=$(realpath "${2:-release/cc}")
 work=$(mktemp -d) || exit 1
 trap 'rm -rf "$work"' EXIT
@@ -100,7 +100,7 @@ PY
 }
 
 echo
-for files in "$root/bench/flat.txt" "$root/crates/rows_flat/data/random.txt"; do
+for files in "$root/bench/flat.txt" "$root/crates/test_flat/data/random.txt"; do
     mix 200000 "$files" >mix.txt
     once=$(least 1)
     often=$(least 31)

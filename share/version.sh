@@ -1,12 +1,12 @@
 #!/bin/sh
-# What `cc --version` tells, written into crates/cc_aids/src/version.rt: the version, the kit that README.md names, and the digest of what
+# What `cc --version` tells, written into crates/explain_cmd/src/version.rt: the version, the kit that README.md names, and the digest of what
 # the compiler, the crate cc, is built from (sh release/digest.sh cc).
 #
 #   sh share/version.sh            writes the file, after a change of the compiler, and before its program is proved
 #   sh share/version.sh --check CC     compares the file, and what CC tells; the last line is 'N passed, M failed'
 set -eu
 cd "$(dirname "$0")/.."
-file=crates/cc_aids/src/version.rt
+file=crates/explain_cmd/src/version.rt
 kit=$(sed -n 's/.*a kit of the logic `\([0-9a-f]*\)`.*/\1/p' README.md | head -n 1)
 version="1.0, proved with the logic $kit, compiler $(sh release/digest.sh cc)"
 text() {

@@ -39,7 +39,7 @@ def cited(layer):
     """Each lemma that is cited of another layer, and by whom."""
     found = {}
     for crate in layer:
-        if crate.startswith('rows_'):
+        if crate.startswith('test_'):
             continue
         for path, text in texts(f'crates/{crate}', ('.antt', '.rt')):
             names = [(of, module, name.strip()) for of, module, those in IMPORT.findall(text) for name in those.split(',')]

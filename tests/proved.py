@@ -46,7 +46,7 @@ def check_promises():
     for row in rows('| Promise |'):
         for path in re.findall(r'`([a-z_0-9]+/specs/\w+)`', row[2]):
             holds('no file %s' % path, os.path.exists('crates/%s.antt' % path))
-        for name in re.findall(r'`(rows_\w+)`', row[3]):
+        for name in re.findall(r'`(test_\w+)`', row[3]):
             holds('no crate %s' % name, os.path.isdir('crates/' + name))
         for path in re.findall(r'`(tests/[\w/.]+)`', row[3]):
             holds('no test %s' % path, os.path.exists(path))

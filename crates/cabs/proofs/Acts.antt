@@ -3,31 +3,31 @@ use Rattle.std.proofs.Common.{◌≡◌, ℕ, ℤ, pos, negsuc, List, [], ◌∷
 use Rattle.std.specs.Prelude.{Ok, Err, Bool, true, false, slice_get}
 use Rattle.std.specs.Io.KnownBytes.{Keeps, Appends}
 use Rattle.srcset.specs.declared.refusal.Pos.{Pos}
-use Rattle.meaning_events.specs.Events.{Got, GotEnd, Put}
+use Rattle.csem_events.specs.Events.{Got, GotEnd, Put}
 use Rattle.ctypes.specs.Types.{modulo}
-use Rattle.typing_rules.specs.Program as typed
-use Rattle.typing_program.specs.declared.units.Program as unit
-use Rattle.typing_program.specs.View.{program_of}
-use Rattle.meaning.specs.History.{Entry, Did}
-use Rattle.meaning.specs.Expressions.{Passed, first_number}
-use Rattle.meaning.specs.Machine as machine
-use Rattle.cabs_store.specs.declared.stop.Stop.{Stop}
-use Rattle.cabs_store.specs.declared.stop.Stop.TheVariants as stop
-use Rattle.cabs_store.specs.declared.machine.Machine.{Machine}
-use Rattle.cabs_store.specs.declared.scene.Scene.{Scene}
-use Rattle.cabs_store.specs.declared.frames.Frame.{Frame}
-use Rattle.cabs_store.specs.declared.frames.Step.{Step}
-use Rattle.cabs_store.specs.layer.Frames as on
-use Rattle.cabs_store.specs.layer.Frames.{moves, halts, leaves, calls, a_value}
-use Rattle.cabs_store.specs.layer.Steps.{left, called}
-use Rattle.cabs_store.specs.layer.Views.{step_of}
-use Rattle.cabs_store.specs.layer.Agrees.{Outside, state_in, onto, frames_of}
-use Rattle.cabs_transitions.specs.declared.tally.Tally.{Tally}
-use Rattle.cabs_transitions.specs.Tallied.{Tells}
-use Rattle.cabs_transitions.specs.Acts.{Acts, outside_behind}
-use Rattle.cabs_transitions.specs.Calls.{IsInside, CallActs}
-use Rattle.cabs_transitions.specs.declared.calling.Called.{Called}
-use Rattle.meaning_ports.specs.Port.{PortView, Gets}
+use Rattle.typing_spec.specs.Program as typed
+use Rattle.typed_ast.specs.declared.units.Program as unit
+use Rattle.typed_ast.specs.View.{program_of}
+use Rattle.csem.specs.History.{Entry, Did}
+use Rattle.csem.specs.Expressions.{Passed, first_number}
+use Rattle.csem.specs.Machine as machine
+use Rattle.interp_store.specs.declared.stop.Stop.{Stop}
+use Rattle.interp_store.specs.declared.stop.Stop.TheVariants as stop
+use Rattle.interp_store.specs.declared.machine.Machine.{Machine}
+use Rattle.interp_store.specs.declared.scene.Scene.{Scene}
+use Rattle.interp_store.specs.declared.frames.Frame.{Frame}
+use Rattle.interp_store.specs.declared.frames.Step.{Step}
+use Rattle.interp_store.specs.layer.Frames as on
+use Rattle.interp_store.specs.layer.Frames.{moves, halts, leaves, calls, a_value}
+use Rattle.interp_store.specs.layer.Steps.{left, called}
+use Rattle.interp_store.specs.layer.Views.{step_of}
+use Rattle.interp_store.specs.layer.Agrees.{Outside, state_in, onto, frames_of}
+use Rattle.interp_transitions.specs.declared.tally.Tally.{Tally}
+use Rattle.interp_transitions.specs.Tallied.{Tells}
+use Rattle.interp_transitions.specs.Acts.{Acts, outside_behind}
+use Rattle.interp_transitions.specs.Calls.{IsInside, CallActs}
+use Rattle.interp_transitions.specs.declared.calling.Called.{Called}
+use Rattle.io_ports.specs.Port.{PortView, Gets}
 use Rattle.cabs.specs.declared.state.Interpreter.{Interpreter}
 use Rattle.cabs.specs.inside.Standing.{Whole, left_of, history_left, history_called, waiting, Stands, Stopping, StoppingBy, Stopped, Rests, is_flow, is_return, left_where, entered_where, bytes_of}
 use Rattle.cabs.proofs.Following.{left_at, called_at, frame_follows, frame_stops, call_follows, call_stops, rests}

@@ -2,27 +2,27 @@
 use Rattle.std.proofs.Common.{◌≡◌, ◌≤◌, ◌<◌, inl, ℕ, ◌+◌, ◌-◌, List, ◌++◌, Option, Some, None, refl, sym, ap, ◌∙◌, subst, arith, Bor}
 use Rattle.std.specs.Prelude.{Result, Ok, Err, Bool, true}
 use Rattle.std.specs.Bool.{OnTrue}
-use Rattle.typing_rules.specs.Program as typed
-use Rattle.typing_program.specs.declared.units.Program as unit
-use Rattle.typing_program.specs.View.{program_of}
-use Rattle.meaning.specs.Machine as machine
-use Rattle.meaning.specs.Machine.{State, Ending, Goes, Stops, then_do}
-use Rattle.cabs_store.specs.declared.scene.Scene.{Scene}
-use Rattle.cabs_store.specs.declared.frames.Found.{Found}
-use Rattle.cabs_store.specs.declared.frames.Step.{Step}
-use Rattle.cabs_store.specs.layer.Frames as on
-use Rattle.cabs_store.specs.layer.Frames.{enters, leaves}
-use Rattle.cabs_store.specs.layer.Presents.{resume, presented, call_in}
-use Rattle.cabs_store.specs.layer.Views.{found_of}
-use Rattle.cabs_store.specs.layer.Agrees.{frames_of}
-use Rattle.cabs_transitions.specs.declared.tally.Tally.{Tally}
-use Rattle.meaning_ports.specs.declared.port.PortFault.{PortFault}
-use Rattle.meaning_ports.specs.Port.{PortView}
-use Rattle.cabs_evaluator.specs.declared.clock.Clock.{Clock}
-use Rattle.cabs_evaluator.specs.declared.clock.Why.{Why}
-use Rattle.cabs_evaluator.specs.declared.clock.Why.TheVariants as why
-use Rattle.cabs_evaluator.specs.layer.Comes as part
-use Rattle.cabs_evaluator.specs.layer.Comes.{Course, state_at, Leads, Comes, DoesIn}
+use Rattle.typing_spec.specs.Program as typed
+use Rattle.typed_ast.specs.declared.units.Program as unit
+use Rattle.typed_ast.specs.View.{program_of}
+use Rattle.csem.specs.Machine as machine
+use Rattle.csem.specs.Machine.{State, Ending, Goes, Stops, then_do}
+use Rattle.interp_store.specs.declared.scene.Scene.{Scene}
+use Rattle.interp_store.specs.declared.frames.Found.{Found}
+use Rattle.interp_store.specs.declared.frames.Step.{Step}
+use Rattle.interp_store.specs.layer.Frames as on
+use Rattle.interp_store.specs.layer.Frames.{enters, leaves}
+use Rattle.interp_store.specs.layer.Presents.{resume, presented, call_in}
+use Rattle.interp_store.specs.layer.Views.{found_of}
+use Rattle.interp_store.specs.layer.Agrees.{frames_of}
+use Rattle.interp_transitions.specs.declared.tally.Tally.{Tally}
+use Rattle.io_ports.specs.declared.port.PortFault.{PortFault}
+use Rattle.io_ports.specs.Port.{PortView}
+use Rattle.interp_eval.specs.declared.clock.Clock.{Clock}
+use Rattle.interp_eval.specs.declared.clock.Why.{Why}
+use Rattle.interp_eval.specs.declared.clock.Why.TheVariants as why
+use Rattle.interp_eval.specs.layer.Comes as part
+use Rattle.interp_eval.specs.layer.Comes.{Course, state_at, Leads, Comes, DoesIn}
 use Rattle.cabs.specs.declared.state.Interpreter.{Interpreter}
 use Rattle.cabs.specs.declared.outcome.Run.{Run}
 use Rattle.cabs.specs.declared.outcome.Run.TheVariants as run

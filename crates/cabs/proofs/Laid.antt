@@ -1,10 +1,10 @@
 -- Objects before the run.
 use Rattle.std.proofs.Common.{◌≡◌, ℕ, ℤ, zero, suc, ◌+◌, ◌*◌, ◌<◌, ◌≤◌, ◌⊎◌, inl, inr, get_or, List, [], ◌∷◌, ◌++◌, length, map, drop, refl, sym, ap, ◌∙◌, arith, pos, drop-cons, Some}
 use Rattle.std.proofs.lemmas.Bool.{cases_lt}
-use Rattle.meaning.specs.Store as machine
-use Rattle.meaning.specs.Store.{first_or_zero}
-use Rattle.typing_rules.specs.Types.{elements_in}
-use Rattle.cabs_store.specs.Cells.{value_in, cell, rows, shaped}
+use Rattle.csem.specs.Store as machine
+use Rattle.csem.specs.Store.{first_or_zero}
+use Rattle.typing_spec.specs.Types.{elements_in}
+use Rattle.interp_store.specs.Cells.{value_in, cell, rows, shaped}
 
 -- ---- one cell more
 

@@ -2,12 +2,12 @@
 use Rattle.std.proofs.Common.{◌≡◌, ◌≤◌, ℕ, ◌+◌, List, [], ◌∷◌, ◌++◌, Option, Some, None, refl, sym, ap, ◌∙◌, subst, append_assoc, arith}
 use Rattle.std.proofs.lemmas.List.{reverse-append}
 use Rattle.std.specs.Io.KnownBytes.{Keeps, Appends, Consumes}
-use Rattle.meaning_events.specs.Events.{Event, Got, GotEnd, Put, written, puts}
-use Rattle.typing_rules.specs.Program as typed
-use Rattle.meaning.specs.History.{Entry, Did, active, weight_in, sum_of, greatest_sum, trace_of}
-use Rattle.cabs_transitions.specs.declared.tally.Tally.{Tally}
-use Rattle.cabs_transitions.specs.Tallied.{Tells}
-use Rattle.meaning_ports.specs.Port.{GivesByte}
+use Rattle.csem_events.specs.Events.{Event, Got, GotEnd, Put, written, puts}
+use Rattle.typing_spec.specs.Program as typed
+use Rattle.csem.specs.History.{Entry, Did, active, weight_in, sum_of, greatest_sum, trace_of}
+use Rattle.interp_transitions.specs.declared.tally.Tally.{Tally}
+use Rattle.interp_transitions.specs.Tallied.{Tells}
+use Rattle.io_ports.specs.Port.{GivesByte}
 use Rattle.cabs.specs.inside.Standing.{bytes_of, waiting}
 
 -- ---- what a port tells

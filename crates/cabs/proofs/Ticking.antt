@@ -2,34 +2,34 @@
 use Rattle.std.proofs.Common.{◌≡◌, ◌≤◌, ◌<◌, inl, inr, ℕ, suc, ◌+◌, ◌-◌, ℤ, List, [], ◌++◌, Option, Some, None, refl, sym, ap, ◌∙◌, subst, arith, Bor}
 use Rattle.std.specs.Prelude.{Result, Ok, Err, false, slice_get}
 use Rattle.std.specs.Io.KnownBytes.{Keeps, Appends}
-use Rattle.typing_rules.specs.Program as typed
-use Rattle.typing_program.specs.declared.units.Program as unit
-use Rattle.typing_program.specs.View.{program_of}
-use Rattle.meaning.specs.History.{Entry, weight_in, greatest_sum}
-use Rattle.meaning.specs.Machine as machine
-use Rattle.meaning.specs.Machine.{State, Ending, Goes, Stops, then_do}
-use Rattle.meaning.specs.Statements.{Returned}
-use Rattle.meaning.specs.Store.{first_store}
-use Rattle.meaning.specs.Meaning.{start, end_with, calling, call_defined, cstep, last_of, ending_of, answer}
-use Rattle.cabs_store.specs.declared.stop.Stop.{Stop}
-use Rattle.cabs_store.specs.declared.stop.Stop.TheVariants as stop
-use Rattle.cabs_store.specs.declared.machine.Machine.{Machine}
-use Rattle.cabs_store.specs.declared.scene.Scene.{Scene}
-use Rattle.cabs_store.specs.declared.frames.Node.{Node}
-use Rattle.cabs_store.specs.declared.frames.Step.{Step}
-use Rattle.cabs_store.specs.declared.frames.Step.TheVariants as step
-use Rattle.cabs_store.specs.layer.Frames as on
-use Rattle.cabs_store.specs.layer.Frames.{moves, halts, enters, to_end, a_flow}
-use Rattle.cabs_store.specs.layer.Presents.{given, resumed, call_in}
-use Rattle.cabs_store.specs.layer.Steps.{entered, entered_call}
-use Rattle.cabs_store.specs.layer.Views.{step_of, node_of}
-use Rattle.cabs_store.specs.layer.Agrees.{Outside, state_in, onto, Agrees, Takes, frames_of}
-use Rattle.cabs_store.proofs.Resumes.{run_begins}
-use Rattle.cabs_store.proofs.Adequate.{real}
-use Rattle.cabs_transitions.specs.declared.tally.Tally.{Tally}
-use Rattle.cabs_transitions.specs.Tallied.{Tells}
-use Rattle.cabs_transitions.specs.Acts.{Acts, outside_behind}
-use Rattle.meaning_ports.specs.Port.{PortView, Flushes}
+use Rattle.typing_spec.specs.Program as typed
+use Rattle.typed_ast.specs.declared.units.Program as unit
+use Rattle.typed_ast.specs.View.{program_of}
+use Rattle.csem.specs.History.{Entry, weight_in, greatest_sum}
+use Rattle.csem.specs.Machine as machine
+use Rattle.csem.specs.Machine.{State, Ending, Goes, Stops, then_do}
+use Rattle.csem.specs.Statements.{Returned}
+use Rattle.csem.specs.Store.{first_store}
+use Rattle.csem.specs.Meaning.{start, end_with, calling, call_defined, cstep, last_of, ending_of, answer}
+use Rattle.interp_store.specs.declared.stop.Stop.{Stop}
+use Rattle.interp_store.specs.declared.stop.Stop.TheVariants as stop
+use Rattle.interp_store.specs.declared.machine.Machine.{Machine}
+use Rattle.interp_store.specs.declared.scene.Scene.{Scene}
+use Rattle.interp_store.specs.declared.frames.Node.{Node}
+use Rattle.interp_store.specs.declared.frames.Step.{Step}
+use Rattle.interp_store.specs.declared.frames.Step.TheVariants as step
+use Rattle.interp_store.specs.layer.Frames as on
+use Rattle.interp_store.specs.layer.Frames.{moves, halts, enters, to_end, a_flow}
+use Rattle.interp_store.specs.layer.Presents.{given, resumed, call_in}
+use Rattle.interp_store.specs.layer.Steps.{entered, entered_call}
+use Rattle.interp_store.specs.layer.Views.{step_of, node_of}
+use Rattle.interp_store.specs.layer.Agrees.{Outside, state_in, onto, Agrees, Takes, frames_of}
+use Rattle.interp_store.proofs.Resumes.{run_begins}
+use Rattle.interp_store.proofs.Adequate.{real}
+use Rattle.interp_transitions.specs.declared.tally.Tally.{Tally}
+use Rattle.interp_transitions.specs.Tallied.{Tells}
+use Rattle.interp_transitions.specs.Acts.{Acts, outside_behind}
+use Rattle.io_ports.specs.Port.{PortView, Flushes}
 use Rattle.cabs.specs.declared.state.Interpreter.{Interpreter}
 use Rattle.cabs.specs.declared.outcome.Run.{Run}
 use Rattle.cabs.specs.declared.outcome.Run.TheVariants as run

@@ -1,11 +1,11 @@
 -- What interpreting a program comes to, over a port that tells its input, and perhaps its output.
 use Rattle.std.specs.Prelude.{◌≡◌, ◌≤◌, ℕ, List, Some, ⊤}
 use Rattle.std.specs.Io.KnownBytes.{Appends}
-use Rattle.typing_rules.specs.Program.{Program}
-use Rattle.meaning.specs.Machine.{Ending, Ended, Undefined, TicksUsed}
-use Rattle.meaning.specs.Meaning.{Answer, answer}
-use Rattle.meaning_ports.specs.declared.port.PortFault.{PortFault}
-use Rattle.meaning_ports.specs.Port.{PortView, Rises}
+use Rattle.typing_spec.specs.Program.{Program}
+use Rattle.csem.specs.Machine.{Ending, Ended, Undefined, TicksUsed}
+use Rattle.csem.specs.Meaning.{Answer, answer}
+use Rattle.io_ports.specs.declared.port.PortFault.{PortFault}
+use Rattle.io_ports.specs.Port.{PortView, Rises}
 use Rattle.cabs.specs.declared.outcome.Run.{Run}
 use Rattle.cabs.specs.declared.outcome.Run.TheVariants as run
 

@@ -3,25 +3,25 @@
 ghost use Rattle.std.specs.Prelude.{◌≡◌, ℕ, Bool, List, IfErr, IfOk, Option, map};
 ghost use Rattle.srcset.specs.declared.refusal.Pos.{Pos};
 ghost use Rattle.ctypes.specs.Types.{modulo};
-ghost use Rattle.typing_program.specs.View.{callee_of};
-ghost use Rattle.meaning.specs.Expressions as meaning;
-ghost use Rattle.meaning_ports.specs.Port.{PortView};
-ghost use Rattle.typing_rules.specs.Program as typed;
-ghost use Rattle.cabs_store.specs.layer.Frames as on;
-ghost use Rattle.cabs_store.specs.layer.Agrees.{frames_of};
-ghost use Rattle.cabs_store.specs.layer.Views.{found_of, passed_of, step_of};
+ghost use Rattle.typed_ast.specs.View.{callee_of};
+ghost use Rattle.csem.specs.Expressions as meaning;
+ghost use Rattle.io_ports.specs.Port.{PortView};
+ghost use Rattle.typing_spec.specs.Program as typed;
+ghost use Rattle.interp_store.specs.layer.Frames as on;
+ghost use Rattle.interp_store.specs.layer.Agrees.{frames_of};
+ghost use Rattle.interp_store.specs.layer.Views.{found_of, passed_of, step_of};
 ghost use Rattle.cabs.specs.Interpreting.{Blames, Counts};
 ghost use Rattle.cabs.specs.inside.Standing.{ActMeets, BlamesUntil, CountsUntil, IsLeft, Nears, NearsFrom, Stands, StoppedBy, StoppingBy, Whole};
 
 use crate::outcome::Run;
 use crate::state::Interpreter;
-use cabs_store::frames::{Found, Passed, Step};
-use cabs_store::stop::Stop;
-use cabs_transitions::calling::{Called, call};
-use cabs_transitions::leaving::leave;
-use meaning_ports::Port;
+use interp_store::frames::{Found, Passed, Step};
+use interp_store::stop::Stop;
+use interp_transitions::calling::{Called, call};
+use interp_transitions::leaving::leave;
+use io_ports::Port;
 use srcset::Pos;
-use typing_program::Callee;
+use typed_ast::Callee;
 
 /// The run stops: the byte that waits is put first.
 pub fn finish<P: Port>(interpreter: &mut Interpreter<'_>, port: &mut P, stop: Stop) -> Run

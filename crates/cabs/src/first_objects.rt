@@ -1,17 +1,17 @@
 //! The objects before the run: string literals, then those with static storage.
 
 ghost use Rattle.std.specs.Prelude.{◌≡◌, ◌<◌, ◌++◌, ◌∷◌, [], ℕ, Some, IfErr, IfOk, OnOk, drop, map, pos};
-ghost use Rattle.cabs_store.specs.Cells.{cell};
-ghost use Rattle.typing_program.specs.View.{program_of, static_of};
-ghost use Rattle.meaning.specs.Store as machine;
-ghost use Rattle.cabs_store.specs.View.{store_of, tree_of};
-ghost use Rattle.cabs_store.specs.declared.stop.Stop.TheVariants.{Memory};
+ghost use Rattle.interp_store.specs.Cells.{cell};
+ghost use Rattle.typed_ast.specs.View.{program_of, static_of};
+ghost use Rattle.csem.specs.Store as machine;
+ghost use Rattle.interp_store.specs.View.{store_of, tree_of};
+ghost use Rattle.interp_store.specs.declared.stop.Stop.TheVariants.{Memory};
 
-use cabs_steps::initialisers::element_count;
-use cabs_store::stop::Stop;
-use cabs_store::{Store, Tree, number_for};
+use interp_steps::initialisers::element_count;
+use interp_store::stop::Stop;
+use interp_store::{Store, Tree, number_for};
 use std::alloc::{AllocError, Global};
-use typing_program::{Program, Static};
+use typed_ast::{Program, Static};
 
 /// The characters of a string literal as cells.
 ///

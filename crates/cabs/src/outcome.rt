@@ -1,7 +1,7 @@
 //! What interpreting a program comes to.
 
 use ctypes::Undef;
-use meaning_ports::PortFault;
+use io_ports::PortFault;
 use srcset::Pos;
 
 /// How the run of a program stopped.

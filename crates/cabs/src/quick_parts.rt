@@ -2,19 +2,19 @@
 
 ghost use Rattle.std.specs.Prelude.{◌≡◌, ◌≢◌, ◌<◌, ◌≤◌, ◌+◌, ℕ, List, Option, None, true};
 ghost use Rattle.std.specs.Bool.{OnTrue};
-ghost use Rattle.typing_rules.specs.Program as typed;
-ghost use Rattle.cabs_store.specs.layer.Frames as on;
-ghost use Rattle.cabs_store.specs.layer.Views.{node_of};
-ghost use Rattle.cabs_evaluator.specs.declared.clock.Why.TheVariants.{Elsewhere};
-ghost use Rattle.cabs_evaluator.specs.layer.Quick.{quick_node};
-ghost use Rattle.meaning_ports.specs.Port.{PortView};
+ghost use Rattle.typing_spec.specs.Program as typed;
+ghost use Rattle.interp_store.specs.layer.Frames as on;
+ghost use Rattle.interp_store.specs.layer.Views.{node_of};
+ghost use Rattle.interp_eval.specs.declared.clock.Why.TheVariants.{Elsewhere};
+ghost use Rattle.interp_eval.specs.layer.Quick.{quick_node};
+ghost use Rattle.io_ports.specs.Port.{PortView};
 ghost use Rattle.cabs.specs.inside.Standing.{IsCalm, MeetsAt, Spends, Stands, Whole, stopped_for};
 
 use crate::outcome::Run;
 use crate::state::Interpreter;
-use cabs_evaluator::clock::{Clock, Why};
-use cabs_evaluator::parts::done;
-use cabs_store::frames::{Node, Step};
+use interp_eval::clock::{Clock, Why};
+use interp_eval::parts::done;
+use interp_store::frames::{Node, Step};
 
 /// How the run stops in a part that is evaluated.
 fn stopped(why: Why) -> Run

@@ -1,10 +1,10 @@
 //! When the port may rest.
 
-ghost use Rattle.meaning_ports.specs.Port.{Flushes};
+ghost use Rattle.io_ports.specs.Port.{Flushes};
 
-use cabs_store::frames::Node;
-use meaning_ports::Port;
-use typing_program::Statement;
+use interp_store::frames::Node;
+use io_ports::Port;
+use typed_ast::Statement;
 
 /// So many ticks after the last time the port may rest.
 pub const PERIOD: u64 = 1 << 22;

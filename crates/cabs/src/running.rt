@@ -1,10 +1,10 @@
 //! Ticks, and the run.
 
 ghost use Rattle.std.specs.Prelude.{◌≡◌, ◌<◌, [], ℕ, List, Option, Some};
-ghost use Rattle.typing_rules.specs.Program as typed;
-ghost use Rattle.typing_program.specs.View.{program_of};
-ghost use Rattle.cabs_store.specs.layer.Frames as on;
-ghost use Rattle.cabs_store.specs.layer.Views.{node_of, step_of};
+ghost use Rattle.typing_spec.specs.Program as typed;
+ghost use Rattle.typed_ast.specs.View.{program_of};
+ghost use Rattle.interp_store.specs.layer.Frames as on;
+ghost use Rattle.interp_store.specs.layer.Views.{node_of, step_of};
 ghost use Rattle.cabs.specs.Interpreting.{Blames, Counts, RunMeets};
 ghost use Rattle.cabs.specs.inside.Standing.{BlamesUntil, CountsUntil, Fresh, MeetsAt, RunStops, Runs, SettleMeets, Spends, Stands, Whole};
 
@@ -13,13 +13,13 @@ use crate::outcome::{Interpreted, Run};
 use crate::quick_parts::at_once;
 use crate::resting::{PERIOD, rest_at, rest_before};
 use crate::state::Interpreter;
-use cabs_evaluator::quick::is_quick_node;
-use cabs_steps::nodes::enter;
-use cabs_store::frames::{Back, Node, Step};
-use cabs_transitions::calls::call_function;
-use meaning_ports::Port;
+use interp_eval::quick::is_quick_node;
+use interp_steps::nodes::enter;
+use interp_store::frames::{Back, Node, Step};
+use interp_transitions::calls::call_function;
+use io_ports::Port;
 use std::alloc::Global;
-use typing_program::{Callee, Program};
+use typed_ast::{Callee, Program};
 
 /// A node is reached: the byte that waits is put before its tick.
 ///

@@ -2,26 +2,26 @@
 
 ghost use Rattle.std.specs.Prelude.{◌≡◌, ◌∷◌, [], Some, None, Ok, List, ℕ, IfErr, IfOk, MatchResult, OnOk};
 ghost use Rattle.std.specs.Io.KnownBytes.{Appends, Keeps};
-ghost use Rattle.typing_rules.specs.Program as typed;
-ghost use Rattle.typing_program.specs.View.{callee_of, program_of};
-ghost use Rattle.meaning.specs.History.{Entry};
-ghost use Rattle.meaning.specs.Store.{first_store};
-ghost use Rattle.cabs_store.specs.declared.stop.Stop.TheVariants.{Memory};
-ghost use Rattle.cabs_store.specs.layer.Agrees.{Outside, frames_of, state_in};
-ghost use Rattle.cabs_store.specs.layer.Views.{flow_frame, found_of, frame_of};
-ghost use Rattle.cabs_transitions.specs.Tallied.{Tells};
-ghost use Rattle.meaning_ports.specs.Port.{Rises};
+ghost use Rattle.typing_spec.specs.Program as typed;
+ghost use Rattle.typed_ast.specs.View.{callee_of, program_of};
+ghost use Rattle.csem.specs.History.{Entry};
+ghost use Rattle.csem.specs.Store.{first_store};
+ghost use Rattle.interp_store.specs.declared.stop.Stop.TheVariants.{Memory};
+ghost use Rattle.interp_store.specs.layer.Agrees.{Outside, frames_of, state_in};
+ghost use Rattle.interp_store.specs.layer.Views.{flow_frame, found_of, frame_of};
+ghost use Rattle.interp_transitions.specs.Tallied.{Tells};
+ghost use Rattle.io_ports.specs.Port.{Rises};
 ghost use Rattle.cabs.specs.inside.Standing.{history_called, history_left, is_flow, is_return, waiting};
 
 use crate::first_objects::first_store;
-use cabs_store::frames::{FlowFrame, Found, Frame};
-use cabs_store::machine::Machine;
-use cabs_store::scene::Scene;
-use cabs_store::stop::Stop;
-use cabs_transitions::tally::Tally;
-use meaning_ports::{Port, PortFault};
+use interp_store::frames::{FlowFrame, Found, Frame};
+use interp_store::machine::Machine;
+use interp_store::scene::Scene;
+use interp_store::stop::Stop;
+use interp_transitions::tally::Tally;
+use io_ports::{Port, PortFault};
 use std::alloc::Global;
-use typing_program::{Callee, Program};
+use typed_ast::{Callee, Program};
 
 /// A run between two steps: the machine, the weights of the calls that are active, and a byte that waits to be put.
 ///

@@ -3,9 +3,9 @@ use Rattle.std.proofs.Common.{◌≡◌, ℕ, List}
 use Rattle.srcset.specs.NameTable.{Texts}
 use Rattle.srcset.specs.declared.fault.Fault.{Fault}
 use Rattle.tree.specs.Tree.{ExternalTree}
-use Rattle.typing_rules.specs.Program.{Program}
-use Rattle.typing_rules.specs.Verdict.{Verdict}
-use Rattle.typing_rules.specs.Units.{unit_typed}
+use Rattle.typing_spec.specs.Program.{Program}
+use Rattle.typing_spec.specs.Verdict.{Verdict}
+use Rattle.typing_spec.specs.Units.{unit_typed}
 use Rattle.typing.specs.Told.{IsFaultOfVerdict}
 use Rattle.cc.specs.Compiled.{typed_at}
 

@@ -5,9 +5,9 @@ use Rattle.std.proofs.lemmas.List.{map-append}
 use Rattle.std.specs.Prelude.{String}
 use Rattle.std.specs.Global.{Global}
 use Rattle.srcset.specs.NameTable.{Texts}
-use Rattle.typing_rules.specs.Program as typed
-use Rattle.typing_program.specs.declared.units.Function.{Function}
-use Rattle.typing_program.specs.View.{function_of}
+use Rattle.typing_spec.specs.Program as typed
+use Rattle.typed_ast.specs.declared.units.Function.{Function}
+use Rattle.typed_ast.specs.View.{function_of}
 use Rattle.cc.specs.Compiled.{shown_entry, entry_of, entries}
 
 drop_past : {A : Type 0} (xs : List A) (k : ℕ) → length xs ≤ k → drop k xs ≡ []

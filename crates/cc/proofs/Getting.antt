@@ -5,8 +5,8 @@ use Rattle.std.specs.Io.KnownBytes.{Keeps, Consumes, IsAtEnd}
 use Rattle.srcset.specs.Files.{max_file_bytes}
 use Rattle.srcset.specs.declared.fault.Fault.{Fault}
 use Rattle.srcset.specs.declared.code.Code.TheVariants.{FileSizeLimit}
-use Rattle.meaning_ports.specs.Port.{PortView, Gets, IsRefused}
-use Rattle.meaning_ports.specs.declared.port.PortFault.{PortFault}
+use Rattle.io_ports.specs.Port.{PortView, Gets, IsRefused}
+use Rattle.io_ports.specs.declared.port.PortFault.{PortFault}
 use Rattle.cc.specs.Sources.{GetsBytes, GivesAll, ReadsAll, FailsReading}
 use Rattle.cc.specs.inside.Stops.{IsToldAs, port_stop}
 use Rattle.cc.specs.declared.stopping.Stop.{Stop}

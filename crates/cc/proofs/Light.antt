@@ -1,12 +1,12 @@
 -- The functions of a typed program weigh no more than the profile lets them.
 use Rattle.std.proofs.Common.{◌≡◌, ◌≤◌, ◌<◌, ℕ, zero, suc, List, [], ◌∷◌, Bool, true, Some, map, get_or, refl, sym, subst, arith}
 use Rattle.std.specs.Prelude.{◌&&◌, ◌^◌, nat_le, nat_lt, slice_get, length}
-use Rattle.typing_rules.specs.Program.{Function, Program}
-use Rattle.typing_program.specs.declared.units.Function as unit
-use Rattle.typing_program.specs.View.{function_of}
-use Rattle.typing_rules.specs.Nodes.{typed_nodes}
-use Rattle.typing_rules.specs.Units.{weight_limit, numbers_in}
-use Rattle.typing_rules.specs.WellTyped.{function_is_typed, functions_are_typed, statics_are_typed, parameters_are_first, statement_is_typed}
+use Rattle.typing_spec.specs.Program.{Function, Program}
+use Rattle.typed_ast.specs.declared.units.Function as unit
+use Rattle.typed_ast.specs.View.{function_of}
+use Rattle.typing_spec.specs.Nodes.{typed_nodes}
+use Rattle.typing_spec.specs.Units.{weight_limit, numbers_in}
+use Rattle.typing_spec.specs.WellTyped.{function_is_typed, functions_are_typed, statics_are_typed, parameters_are_first, statement_is_typed}
 use Rattle.std.proofs.lemmas.Bool.{and_parts}
 use Rattle.std.proofs.lemmas.Bool.Decides.{nat_tests}
 use Rattle.cc_backend.specs.Made.{IsReady}

@@ -7,7 +7,7 @@ use Rattle.memory_map.specs.MemoryMap.{text_start}
 use Rattle.asm.specs.declared.item.Item.{Item}
 use Rattle.asm.specs.Listing.{Lists}
 use Rattle.asm.specs.Refusals.{IsListRefused}
-use Rattle.typing_rules.specs.Program.{Program}
+use Rattle.typing_spec.specs.Program.{Program}
 use Rattle.srcset.specs.NameTable.{Texts}
 use Rattle.tree.specs.Tree.{ExternalTree}
 use Rattle.cc_backend.specs.Made as backend

@@ -6,11 +6,11 @@ use Rattle.loader.specs.File.{Image}
 use Rattle.loader.specs.declared.fault.LoadFault.{LoadFault}
 use Rattle.loader.specs.declared.fault.LoadFault.TheVariants.{Memory}
 use Rattle.loader.specs.Loading.{FailsToLoad}
-use Rattle.meaning_ports.specs.Port.{PortView}
+use Rattle.io_ports.specs.Port.{PortView}
 use Rattle.sim.specs.Runs.{start_of, start_world}
 use Rattle.sim.specs.Meets.{At}
-use Rattle.meaning_ports.specs.declared.port.PortFault.{PortFault}
-use Rattle.meaning_ports.specs.declared.port.PortFault.TheVariants as port_fault
+use Rattle.io_ports.specs.declared.port.PortFault.{PortFault}
+use Rattle.io_ports.specs.declared.port.PortFault.TheVariants as port_fault
 use Rattle.cc.specs.declared.stopping.Stop.{Stop}
 use Rattle.cc.specs.inside.Stops.{IsToldAs, port_stop, load_stop}
 use Rattle.cc.specs.Performed.{FailsLoad}

@@ -4,14 +4,14 @@ use Rattle.std.proofs.Math.Nat.{le_trans}
 use Rattle.std.specs.Prelude.{slice_get}
 use Rattle.srcset.specs.NameTable.{Texts}
 use Rattle.tree.specs.Tree.{FunctionTree, ExternalTree, definition}
-use Rattle.typing_rules.specs.Program.{Program}
-use Rattle.typing_rules.specs.Verdict.{fine}
-use Rattle.typing_rules.specs.Units.{unit_typed}
+use Rattle.typing_spec.specs.Program.{Program}
+use Rattle.typing_spec.specs.Verdict.{fine}
+use Rattle.typing_spec.specs.Units.{unit_typed}
 use Rattle.parser.specs.Units.{IsTreeWithin, of_function, of_program, IsSmall, AreSmall}
 use Rattle.lexer.specs.declared.token.Token.{Token}
-use Rattle.tac_checked.specs.Laws.{AreTexts, IsWithinNodes}
-use Rattle.tac_checked.proofs.AskedStatements.{program_is_asked}
-use Rattle.tac_units.proofs.Whole.{program_is_checked}
+use Rattle.lower_wf.specs.Laws.{AreTexts, IsWithinNodes}
+use Rattle.lower_wf.proofs.AskedStatements.{program_is_asked}
+use Rattle.lower_wf_units.proofs.Whole.{program_is_checked}
 use Rattle.cc_backend.specs.Made.{IsReady}
 use Rattle.cc_backend.proofs.Bounds.{units_are_small}
 use Rattle.cc.specs.Compiled.{typed_at, IsProgramOf}

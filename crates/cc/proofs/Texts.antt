@@ -2,7 +2,7 @@
 use Rattle.std.proofs.Common.{◌≡◌, ◌<◌, ◌≤◌, ℕ, ◌+◌, List, length, Option, Some, None, slice_get, inl, inr, ⊎_elim, ◌⊎◌, refl, sym, ◌∙◌, subst, arith}
 use Rattle.std.proofs.lemmas.Option.{slice_get_within}
 use Rattle.tac_code.specs.Sound.{AreBytes}
-use Rattle.tac_checked.specs.Laws.{AreTexts}
+use Rattle.lower_wf.specs.Laws.{AreTexts}
 use Rattle.std.proofs.lemmas.Bool.{cases_lt}
 
 pub same_bytes : (o : Option (List ℕ)) (bytes text : List ℕ) → o ≡ Some text → o ≡ Some bytes → AreBytes bytes → AreBytes text

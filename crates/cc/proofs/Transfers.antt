@@ -1,7 +1,7 @@
 -- How single calls of a port join.
 use Rattle.std.proofs.Common.{ℕ, ◌<◌, List, [], ◌∷◌, ◌++◌, take, length, Option, Some, None, refl, sym, ap, ◌∙◌, append_assoc, append-nil}
 use Rattle.std.specs.Io.KnownBytes.{Keeps, Appends}
-use Rattle.meaning_ports.specs.Port.{PortView, Puts, IsRefused}
+use Rattle.io_ports.specs.Port.{PortView, Puts, IsRefused}
 use Rattle.cc.specs.Transfer.{PutsAll, PutsSome}
 
 pub keeps_itself : (a : Option (List ℕ)) → Keeps a a

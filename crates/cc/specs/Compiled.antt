@@ -11,9 +11,9 @@ use Rattle.lexer.specs.Numbering.{AreTokensOf}
 use Rattle.lexer.specs.declared.token.Token.{Token}
 use Rattle.tree.specs.Tree.{ExternalTree}
 use Rattle.parser.specs.Units.{IsTreeWithin, IsOnly}
-use Rattle.typing_rules.specs.Program.{Function, Program}
-use Rattle.typing_rules.specs.Verdict.{Verdict, fine}
-use Rattle.typing_rules.specs.Units.{unit_typed}
+use Rattle.typing_spec.specs.Program.{Function, Program}
+use Rattle.typing_spec.specs.Verdict.{Verdict, fine}
+use Rattle.typing_spec.specs.Units.{unit_typed}
 use Rattle.cc_backend.specs.Runs.{RunsAs}
 use Rattle.cc.specs.declared.compiling.Built.{Built}
 

@@ -13,16 +13,16 @@ pub use Rattle.lexer.specs.Numbering
 pub use Rattle.tree.specs.Tree
 pub use Rattle.tree.specs.Counts
 pub use Rattle.parser.specs.Units
-pub use Rattle.typing_rules.specs.Program
-pub use Rattle.typing_rules.specs.Verdict
-pub use Rattle.typing_rules.specs.Units as TypedUnits
+pub use Rattle.typing_spec.specs.Program
+pub use Rattle.typing_spec.specs.Verdict
+pub use Rattle.typing_spec.specs.Units as TypedUnits
 pub use Rattle.typing.specs.Told
-pub use Rattle.meaning.specs.Meaning
+pub use Rattle.csem.specs.Meaning
 pub use Rattle.cabs.specs.Interpreting
 pub use Rattle.rv32.specs.Step
 pub use Rattle.loader.specs.File
 pub use Rattle.memory_map.specs.MemoryMap
-pub use Rattle.meaning_ports.specs.Port
+pub use Rattle.io_ports.specs.Port
 pub use Rattle.sim.specs.Runs
 pub use Rattle.sim.specs.Meets
 pub use Rattle.cc_backend.specs.Runs as RunsOfFiles

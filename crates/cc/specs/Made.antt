@@ -2,7 +2,7 @@
 use Rattle.std.specs.Prelude.{List, ℕ}
 use Rattle.srcset.specs.Files.{Files}
 use Rattle.srcset.specs.NameTable.{Texts}
-use Rattle.typing_rules.specs.Program.{Program}
+use Rattle.typing_spec.specs.Program.{Program}
 use Rattle.cc_backend.specs.Made.{IsFileOf}
 use Rattle.cc.specs.declared.compiling.Built.{Built}
 use Rattle.cc.specs.Compiled.{BuildsProgram, Compiles}

@@ -7,8 +7,8 @@ use Rattle.phases.specs.Token.{Token}
 use Rattle.pp.specs.Printed.{printed, IsPrintRefused}
 use Rattle.rv32.specs.Step.{Machine}
 use Rattle.loader.specs.File.{Image, file_image}
-use Rattle.meaning_ports.specs.Port.{PortView}
-use Rattle.meaning_ports.specs.declared.port.PortFault.{PortFault}
+use Rattle.io_ports.specs.Port.{PortView}
+use Rattle.io_ports.specs.declared.port.PortFault.{PortFault}
 use Rattle.sim.specs.Meets.{RunMeets, Counts, Blames}
 use Rattle.sim.specs.declared.machine.Outcome.{Outcome}
 use Rattle.sim.specs.declared.machine.Outcome.TheVariants as outcome
@@ -27,7 +27,7 @@ use Rattle.cc_backend.specs.Made.{AreItemsOf}
 use Rattle.loader.specs.declared.fault.LoadFault.{LoadFault}
 use Rattle.loader.specs.Fault.{code_of}
 use Rattle.tree.specs.Tree.{ExternalTree}
-use Rattle.typing_rules.specs.Program.{Program}
+use Rattle.typing_spec.specs.Program.{Program}
 use Rattle.cabs.specs.declared.outcome.Run.{Run as Interpreted}
 use Rattle.cabs.specs.declared.outcome.Run.TheVariants as interpreted
 use Rattle.cabs.specs.Interpreting as interpreting

@@ -10,8 +10,8 @@ use Rattle.ctypes.specs.declared.operators.Undef.{Undef}
 use Rattle.ctypes.specs.Arithmetic as arithmetic
 use Rattle.rv32.specs.declared.state.Cause.{Cause}
 use Rattle.rv32.specs.declared.state.Cause.TheVariants as cause
-use Rattle.meaning_ports.specs.Port.{code_of}
-use Rattle.meaning_ports.specs.declared.port.PortFault.{PortFault}
+use Rattle.io_ports.specs.Port.{code_of}
+use Rattle.io_ports.specs.declared.port.PortFault.{PortFault}
 use Rattle.sim.specs.declared.machine.Outcome.{Outcome}
 use Rattle.sim.specs.declared.machine.Outcome.TheVariants as outcome
 use Rattle.cabs.specs.declared.outcome.Run.{Run}
@@ -49,7 +49,7 @@ trap_text pc cause = codes "cc: trap " ++ cause_name cause ++ codes " at 0x" ++ 
 abbrev pub behind_file : (line : ℕ) → Undef → List ℕ
 behind_file line act = codes ":" ++ decimal line ++ codes ": undefined U" ++ decimal (arithmetic.number_of act) ++ codes "\n"
 
--- an undefined act at a line of a file, which is named as in a fault
+-- undefined behaviour at a line of a file, which is named as in a fault
 abbrev pub undefined_text : (file : List ℕ) → (line : ℕ) → Undef → List ℕ
 undefined_text [] line act = codes "cc: undefined U" ++ decimal (arithmetic.number_of act) ++ codes "\n"
 undefined_text (b ∷ bs) line act = (b ∷ bs) ++ behind_file line act

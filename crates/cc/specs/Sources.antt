@@ -5,8 +5,8 @@ use Rattle.srcset.specs.Files.{max_file_bytes}
 use Rattle.srcset.specs.declared.fault.Fault.{Fault}
 use Rattle.srcset.specs.declared.code.Code.TheVariants.{FileSizeLimit}
 use Rattle.srcset.specs.Fault.{IsFaultOrMemory, IsMemoryFault}
-use Rattle.meaning_ports.specs.Port.{PortView, Rises}
-use Rattle.meaning_ports.specs.declared.port.PortFault.{PortFault}
+use Rattle.io_ports.specs.Port.{PortView, Rises}
+use Rattle.io_ports.specs.declared.port.PortFault.{PortFault}
 use Rattle.cc.specs.Transfer.{TellsPort}
 
 -- these bytes were got

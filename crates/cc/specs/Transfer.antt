@@ -4,9 +4,9 @@ use Rattle.std.specs.Io.KnownBytes.{Keeps, Appends}
 use Rattle.srcset.specs.declared.fault.Fault.{Fault}
 use Rattle.srcset.specs.declared.code.Code.TheVariants.{CannotRead, CannotWrite}
 use Rattle.srcset.specs.Fault.{IsFaultOrMemory, IsMemoryFault}
-use Rattle.meaning_ports.specs.Port.{PortView, Rises}
-use Rattle.meaning_ports.specs.declared.port.PortFault.{PortFault}
-use Rattle.meaning_ports.specs.declared.port.PortFault.TheVariants as port_fault
+use Rattle.io_ports.specs.Port.{PortView, Rises}
+use Rattle.io_ports.specs.declared.port.PortFault.{PortFault}
+use Rattle.io_ports.specs.declared.port.PortFault.TheVariants as port_fault
 
 -- all bytes were put
 pub record PutsAll (old new : PortView) (bytes : List ℕ) : Type 0 where

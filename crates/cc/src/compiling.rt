@@ -1,7 +1,7 @@
 //! From source files to an executable file.
 
 ghost use Rattle.std.specs.Prelude.{◌≡◌, ◌<◌, ◌^◌, map, IfOk, IfErr, OnOk, ◌++◌};
-ghost use Rattle.typing_program.specs.View.{program_of, function_of};
+ghost use Rattle.typed_ast.specs.View.{program_of, function_of};
 ghost use Rattle.memory_map.specs.MemoryMap.{usual_stack};
 ghost use Rattle.cc_backend.specs.Made.{IsReady};
 ghost use Rattle.cc.specs.Compiled.{Compiles, BuildsProgram, shown_entry, entry_of, entries};
@@ -16,7 +16,7 @@ use cc_backend::generate;
 use elf_out::StackSize;
 use srcset::{Fault, FileSet, Names};
 use std::alloc::{AllocError, Global};
-use typing_program::{Function, Program};
+use typed_ast::{Function, Program};
 
 /// An executable file, and what each function may take of the stack.
 #[derive(Drop)]

@@ -6,9 +6,9 @@ ghost use Rattle.srcset.specs.Fault.{IsMemoryFault};
 ghost use Rattle.parser.specs.Units.{IsTreeWithin, IsOnly, IsFaultOfUnit};
 ghost use Rattle.tree.specs.Tree.{ExternalTree};
 ghost use Rattle.tree.specs.View.{unit_of};
-ghost use Rattle.typing_program.specs.View.{program_of};
+ghost use Rattle.typed_ast.specs.View.{program_of};
 ghost use Rattle.tac_code.specs.Sound.{AreBytes};
-ghost use Rattle.tac_checked.specs.Laws.{AreTexts};
+ghost use Rattle.lower_wf.specs.Laws.{AreTexts};
 ghost use Rattle.cc_backend.specs.Made.{IsReady};
 ghost use Rattle.cc.specs.Compiled.{HasList, HasProgram, IsProgramOf};
 ghost use Rattle.cc.specs.Refused.{BreaksConstraint, FailsPreprocessing};
@@ -24,8 +24,8 @@ use pp::preprocess;
 use srcset::{FileSet, Names, Pos};
 use std::alloc::Global;
 use tree::Unit;
+use typed_ast::Program;
 use typing::check;
-use typing_program::Program;
 
 /// The typed program of a set of files, from the one of this name on, for a stack of this size: the phases in their order (ISO/IEC 9899:2011 5.1.1.2), a
 /// call each. What a phase leaves is given up in the next.

@@ -14,8 +14,8 @@ use asm::{Items, list};
 use cabs::{Run, interpret};
 use cc_backend::items;
 use elf_out::StackSize;
+use io_ports::Port;
 use loader::{LoadFault, load};
-use meaning_ports::Port;
 use memory_map::TEXT_START;
 use pp::print;
 use sim::{Machine, Outcome};
@@ -48,7 +48,7 @@ pub enum Cmd<'c> {
 /// the port: the program's status, or, each with one line on `err`, 1 where the file is refused or memory runs
 /// out, 124 where it did not end within the instructions allowed, 125 where it trapped, and 126 where the port
 /// refused. `Interp` does what the program of the file `main` of the set means, over the port: the program's status, or, each
-/// with one line on `err`, 1 where the set is refused or memory runs out, 123 at an undefined act, 124 where it did not end within
+/// with one line on `err`, 1 where the set is refused or memory runs out, 123 at undefined behaviour, 124 where it did not end within
 /// the ticks allowed, and 126 where the port refused. No line takes memory to say. What `err` refuses is left out.
 pub fn perform<P: Port, W: Write, E: Write>(
     alloc: Global,

@@ -6,7 +6,7 @@ ghost use Rattle.cc.specs.Sources.{ReadsAll, FailsReading};
 ghost use Rattle.cc.specs.inside.Stops.{IsToldAs};
 
 use crate::stopping::{Stop, port_stop};
-use meaning_ports::Port;
+use io_ports::Port;
 use srcset::{Code, Fault, MAX_FILE_BYTES};
 use std::alloc::Global;
 

@@ -10,8 +10,8 @@ ghost use Rattle.srcset.specs.Writing.{TakesBeginning};
 
 use arrayvec::ArrayString;
 use ctypes::Undef;
+use io_ports::PortFault;
 use itoa::Buffer;
-use meaning_ports::PortFault;
 use rv32::Cause;
 use srcset::{Fault, Names, Pos, message, write_text};
 use std::alloc::{AllocError, Global};
@@ -19,7 +19,7 @@ use std::fmt;
 use std::fmt::Write as _;
 use std::io::Write;
 
-/// The line for want of memory, which takes none.
+/// The line of 801, out of memory, which allocates nothing.
 const OUT_OF_MEMORY: &[u8] = b"cc: 801 out of memory\n";
 
 /// Room for the longest text that names no file.
@@ -121,7 +121,7 @@ fn put_trap(line: &mut ArrayString<ROOM>, pc: u32, cause: Cause) -> fmt::Result
     write!(line, "cc: trap {} at 0x{pc:08X}\n", cause_name(cause))
 }
 
-/// Which undefined act a program did, and where, which takes no memory to say.
+/// Which undefined behaviour a program did, and where, which takes no memory to say.
 pub fn say_undefined<E: Write>(names: &Names, act: Undef, at: Pos, err: &mut E)
     ensures { Says (record { before = E.contents err.old; after = E.contents err.new }) (undefined_text (file_name_of names.now at.file) at.line act) }
 {

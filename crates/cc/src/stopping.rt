@@ -3,7 +3,7 @@
 ghost use Rattle.std.specs.Prelude.{◌≡◌};
 ghost use Rattle.cc.specs.inside.Stops.{IsToldAs, port_stop};
 
-use meaning_ports::PortFault;
+use io_ports::PortFault;
 use srcset::{Code, Fault};
 use std::alloc::Global;
 

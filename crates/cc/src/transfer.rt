@@ -3,7 +3,7 @@
 ghost use Rattle.std.specs.Prelude.{ℕ, MatchResult, IfErr};
 ghost use Rattle.cc.specs.Transfer.{PutsAll, PutsSome};
 
-use meaning_ports::{Port, PortFault};
+use io_ports::{Port, PortFault};
 
 /// Puts all bytes, up to the first that the port refuses.
 pub fn put_all<P: Port>(port: &mut P, bytes: &[u8]) -> Result<(), PortFault>

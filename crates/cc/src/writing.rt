@@ -5,7 +5,7 @@ ghost use Rattle.cc.specs.Transfer.{PutsAll, WritesSome};
 
 use crate::stopping::port_stop;
 use crate::transfer::put_all;
-use meaning_ports::Port;
+use io_ports::Port;
 use srcset::Fault;
 use std::alloc::Global;
 

@@ -6,15 +6,15 @@ use Rattle.memory_map.specs.MemoryMap.{text_start, max_image}
 use Rattle.srcset.specs.declared.refusal.Pos.{Pos}
 use Rattle.tree.specs.Tree.{FunctionTree, ExternalTree, definition, declaration}
 use Rattle.tree.specs.Counts.{function_nodes, declaration_nodes, external_nodes, unit_nodes}
-use Rattle.typing_rules.specs.Program.{Function, Program}
-use Rattle.typing_rules.specs.Scope.{file_scope, defined}
-use Rattle.typing_rules.specs.Verdict.{Verdict, fine, broken, then_check, provided, each, IfFine}
-use Rattle.typing_rules.specs.Declarators.{parameters_in, behind_parameters, function_type}
-use Rattle.typing_rules.specs.Linkage.{file_function}
-use Rattle.typing_rules.specs.Declarations.{specified, declaration_typed}
-use Rattle.typing_rules.specs.Statements.{pieces}
-use Rattle.typing_rules.specs.Uses.{all_defined, uses_in_functions}
-use Rattle.typing_rules.specs.Units.{Built, all_named, body_scope, around_of, function_of, with_function, function_typed, with_declaration, external_typed, externals_typed, definitions_in, main_from, main_or_fault, within_limits, program_of, whole_program}
+use Rattle.typing_spec.specs.Program.{Function, Program}
+use Rattle.typing_spec.specs.Scope.{file_scope, defined}
+use Rattle.typing_spec.specs.Verdict.{Verdict, fine, broken, then_check, provided, each, IfFine}
+use Rattle.typing_spec.specs.Declarators.{parameters_in, behind_parameters, function_type}
+use Rattle.typing_spec.specs.Linkage.{file_function}
+use Rattle.typing_spec.specs.Declarations.{specified, declaration_typed}
+use Rattle.typing_spec.specs.Statements.{pieces}
+use Rattle.typing_spec.specs.Uses.{all_defined, uses_in_functions}
+use Rattle.typing_spec.specs.Units.{Built, all_named, body_scope, around_of, function_of, with_function, function_typed, with_declaration, external_typed, externals_typed, definitions_in, main_from, main_or_fault, within_limits, program_of, whole_program}
 use Rattle.asm.specs.declared.item.Item.{Item}
 use Rattle.asm.specs.Layout.{IsLow, longest}
 use Rattle.asm.proofs.Ends.{ends}

@@ -6,20 +6,20 @@ use Rattle.std.proofs.lemmas.Option.{slice_get-map}
 use Rattle.rv32.specs.Step.{register}
 use Rattle.memory_map.specs.MemoryMap.{stack_end}
 use Rattle.sim.specs.Runs.{World}
-use Rattle.typing_rules.specs.Program as typed
-use Rattle.meaning.specs.History.{Entry, weight_in, sum_of, greatest_sum, trace_of, active}
-use Rattle.meaning.specs.Meaning.{cstep, last_of}
+use Rattle.typing_spec.specs.Program as typed
+use Rattle.csem.specs.History.{Entry, weight_in, sum_of, greatest_sum, trace_of, active}
+use Rattle.csem.specs.Meaning.{cstep, last_of}
 use Rattle.tac_code.specs.Code as tac
 use Rattle.tac_code.specs.Run as tac_run
-use Rattle.meaning.specs.Laws.{Grows}
+use Rattle.csem.specs.Laws.{Grows}
 use Rattle.tac_code.specs.Laws.{ComesOf, HasCalls}
 use Rattle.tac_code.proofs.Growing.{run_grows, calls_are_active}
 use Rattle.frames_code.specs.Code as flat
 use Rattle.frames_code.specs.Run as flat_run
 use Rattle.frames_code.specs.Sound.{IsSoundProgram}
 use Rattle.frames.specs.Flattened.{HasItsCalls, before, behind}
-use Rattle.select_simulation.specs.Runs.{StandsWith, slack}
-use Rattle.select_simulation.proofs.Table.{spent_is_more}
+use Rattle.select_correct.specs.Runs.{StandsWith, slack}
+use Rattle.select_correct.proofs.Table.{spent_is_more}
 use Rattle.cc_backend.specs.Runs.{bytes_or_none}
 use Rattle.cc_backend.specs.Simulation.{AreWithin, both, step_for_step}
 use Rattle.cc_backend.specs.Chain.{StandsBelow, of_program, of_tac, of_flat, into_file, TacSimulatesProgram, FlatSimulatesTac, ImageSimulatesFlat, FlatSimulatesProgram, FileSimulatesProgram}

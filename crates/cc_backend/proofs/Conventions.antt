@@ -1,16 +1,16 @@
 -- All frames of flat code's run fit the stack where the abstract machine's calls do.
 use Rattle.std.proofs.Common.{◌≡◌, ⊎_elim, ℕ, ◌+◌, ◌-◌, ◌≤◌, List, refl, sym, ap, ◌∙◌, subst, arith}
 use Rattle.std.proofs.lemmas.Bool.{cases_lt}
-use Rattle.typing_rules.specs.Program as typed
-use Rattle.meaning.specs.History.{trace_of, active, weight_in, greatest_sum}
-use Rattle.meaning.specs.Machine as machine
-use Rattle.meaning.specs.Machine.{Stops, Ended, TicksUsed}
-use Rattle.meaning.specs.Meaning.{cstep, last_of}
+use Rattle.typing_spec.specs.Program as typed
+use Rattle.csem.specs.History.{trace_of, active, weight_in, greatest_sum}
+use Rattle.csem.specs.Machine as machine
+use Rattle.csem.specs.Machine.{Stops, Ended, TicksUsed}
+use Rattle.csem.specs.Meaning.{cstep, last_of}
 use Rattle.tac_code.specs.Sound.{AreBytes}
 use Rattle.frames_code.specs.Code as flat
 use Rattle.frames_code.specs.Run as flat_run
 use Rattle.frames.specs.Flattened.{behind}
-use Rattle.frames_steps.proofs.Runs.{run_both}
+use Rattle.frames_correct.proofs.Runs.{run_both}
 use Rattle.cc_backend.specs.FlatImages.{FitStack}
 use Rattle.cc_backend.specs.Made.{IsFlatCodeOf}
 use Rattle.cc_backend.specs.Convention.{FramesAreWeighed}

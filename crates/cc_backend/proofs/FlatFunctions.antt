@@ -3,14 +3,14 @@ use Rattle.std.proofs.Common.{◌≡◌, ◌<◌, ℕ, zero, suc, ◌+◌, ◌^�
 use Rattle.std.specs.Prelude.{slice_get, nat_eq, option_map, Result, Ok, Err, IfOk}
 use Rattle.std.proofs.lemmas.Option.{slice_get-map, slice_get_within}
 use Rattle.std.proofs.lemmas.List.{length-map}
-use Rattle.typing_rules.specs.Program as typed
+use Rattle.typing_spec.specs.Program as typed
 use Rattle.tac_code.specs.Code as tac
 use Rattle.tac_code.specs.Code.{function_at, or_no_function}
 use Rattle.tac_code.specs.Lowered.{kind_of, IsLowered}
 use Rattle.tac_code.specs.Sound.{FunctionFits}
-use Rattle.tac_checked.specs.Asked.{bodies_are_asked, types_are_sized}
-use Rattle.tac_bounds.specs.Laws.{NamesAreThere}
-use Rattle.tac_bounds.proofs.Whole.{function_is_sound, code_is_lowered}
+use Rattle.lower_wf.specs.Asked.{bodies_are_asked, types_are_sized}
+use Rattle.lower_bounds.specs.Laws.{NamesAreThere}
+use Rattle.lower_bounds.proofs.Whole.{function_is_sound, code_is_lowered}
 use Rattle.tac.specs.layer.Functions.{parameters_if, parameters_at, IsFunctionWith}
 use Rattle.tac.proofs.Whole.{function_is_code, functions_are_code}
 use Rattle.cc_backend.proofs.Plain.{and_right, same_some, each_snoc}
@@ -20,10 +20,10 @@ use Rattle.frames.specs.Data.{data_of}
 use Rattle.frames.specs.Layout.{Starts, starts_of}
 use Rattle.frames.specs.Translated.{flat_function, flat_program}
 use Rattle.frames.specs.layer.Alone.{with_data}
-use Rattle.frames_simplified.specs.Simplified.{IsSimplified}
-use Rattle.frames_simplified.specs.layer.Functions.{IsSimplerFunction, AreSimpler}
-use Rattle.frames_simplified.proofs.Whole.{is_simplified}
-use Rattle.frames_registers.specs.Renumbered.{IsRenumberedFunction, AreRenumbered, IsRenumbered}
+use Rattle.frames_opt.specs.Simplified.{IsSimplified}
+use Rattle.frames_opt.specs.layer.Functions.{IsSimplerFunction, AreSimpler}
+use Rattle.frames_opt.proofs.Whole.{is_simplified}
+use Rattle.frames_regalloc.specs.Renumbered.{IsRenumberedFunction, AreRenumbered, IsRenumbered}
 use Rattle.cc_backend.specs.Made.{IsReady, IsFlatCodeOf}
 use Rattle.cc_backend.specs.inside.FlatFunctions.{IsFlatFunctionOf, AreFlatFunctionsOf}
 use Rattle.cc_backend.proofs.Generates.{code_of}

@@ -12,19 +12,19 @@ use Rattle.asm.specs.Placed as placed
 use Rattle.asm.specs.Placed.{Stands, text_of}
 use Rattle.frames_code.specs.Code.{Program}
 use Rattle.frames_code.specs.Run.{Progress, running, ended, stuck, entered, run, start}
-use Rattle.select_running.specs.Light.{Fixed, reg}
-use Rattle.select_running.specs.Whole.{Permits, fixed}
-use Rattle.select_running.specs.Worlds.{Registers}
-use Rattle.select_running.specs.Laws.{AgreeOn}
-use Rattle.select_running.proofs.Placing.{stands_in}
+use Rattle.select_exec.specs.Light.{Fixed, reg}
+use Rattle.select_exec.specs.Whole.{Permits, fixed}
+use Rattle.select_exec.specs.Worlds.{Registers}
+use Rattle.select_exec.specs.Laws.{AgreeOn}
+use Rattle.select_exec.proofs.Placing.{stands_in}
 use Rattle.cc_backend.proofs.Plain.{and_left, and_right}
 use Rattle.select.specs.Program.{program_items}
-use Rattle.select_simulation.specs.Matches.{HasRoom, Holds}
-use Rattle.select_simulation.specs.Laws.{AreBytes}
-use Rattle.select_simulation.specs.Runs.{Laid, ground_at}
-use Rattle.select_simulation.proofs.Real.{goes_on, ends_so}
-use Rattle.select_simulation.proofs.Keeping.{calls_keep}
-use Rattle.select_simulation.proofs.Conventions as convention
+use Rattle.select_correct.specs.Matches.{HasRoom, Holds}
+use Rattle.select_correct.specs.Laws.{AreBytes}
+use Rattle.select_correct.specs.Runs.{Laid, ground_at}
+use Rattle.select_correct.proofs.Real.{goes_on, ends_so}
+use Rattle.select_correct.proofs.Keeping.{calls_keep}
+use Rattle.select_correct.proofs.Conventions as convention
 use Rattle.cc_backend.specs.FlatImages.{IsImageOf, FitStack, ImageGoesOn, ImageEnds, ImageCallsKeep}
 use Rattle.cc_backend.specs.Convention.{ImageCallsKeepConvention, ImageMainKeepsConvention}
 

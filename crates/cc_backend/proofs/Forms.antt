@@ -1,8 +1,8 @@
 -- Flat code of three-address code, beside its runs; and what its frames take.
 use Rattle.std.proofs.Common.{◌≡◌, ℕ, zero, suc, ◌<◌, ◌≤◌, List, [], ◌∷◌, length, map, Option, Some, None, refl, subst, arith}
 use Rattle.std.specs.Prelude.{slice_get}
-use Rattle.typing_rules.specs.Program as typed
-use Rattle.meaning.specs.History.{weight_in, sum_of}
+use Rattle.typing_spec.specs.Program as typed
+use Rattle.csem.specs.History.{weight_in, sum_of}
 use Rattle.tac_code.specs.Code as tac
 use Rattle.tac_code.specs.Lowered.{IsLowered}
 use Rattle.tac_code.specs.Sound.{IsSoundProgram}
@@ -11,7 +11,7 @@ use Rattle.frames_code.specs.Run as flat_run
 use Rattle.frames_code.specs.Sound as flat_sound
 use Rattle.frames.specs.Translated.{flat_program}
 use Rattle.frames.specs.Flattened.{IsFlattened, behind}
-use Rattle.frames_steps.proofs.Whole.{flat_is_flattened}
+use Rattle.frames_correct.proofs.Whole.{flat_is_flattened}
 use Rattle.cc_backend.specs.FlatImages.{FitStack}
 use Rattle.cc_backend.specs.Forms.{IsFormOf}
 use Rattle.cc_backend.proofs.Known.{AreKnown, Known, run_known}

@@ -14,9 +14,9 @@ use Rattle.elf_out.proofs.Memory.{written_image}
 use Rattle.asm.specs.declared.item.Item.{Item}
 use Rattle.asm.specs.Layout.{AllReach, IsLow, size, place, longest}
 use Rattle.asm.specs.Placed.{IsFewest}
-use Rattle.typing_rules.specs.Program as typed
-use Rattle.meaning.specs.History.{trace_of, active, weight_in, greatest_sum}
-use Rattle.meaning.specs.Meaning.{last_of}
+use Rattle.typing_spec.specs.Program as typed
+use Rattle.csem.specs.History.{trace_of, active, weight_in, greatest_sum}
+use Rattle.csem.specs.Meaning.{last_of}
 use Rattle.tac_code.specs.Code as tac
 use Rattle.tac_code.specs.Sound.{data_bytes}
 use Rattle.tac_code.specs.Spans.{span}
@@ -26,12 +26,12 @@ use Rattle.frames_code.specs.Code.{frame_bytes}
 use Rattle.frames.specs.Translated.{flat_program}
 use Rattle.frames.specs.Data.{data_of}
 use Rattle.frames.proofs.Whole.{length_data, data_bytes_are}
-use Rattle.frames_registers.specs.Renumbered.{IsRenumbered}
-use Rattle.frames_registers.proofs.Soundness.{stays_sound}
+use Rattle.frames_regalloc.specs.Renumbered.{IsRenumbered}
+use Rattle.frames_regalloc.proofs.Soundness.{stays_sound}
 use Rattle.select.specs.Program.{program_items, start_items, functions_items, function_items}
 use Rattle.select.proofs.Lengths.{code_is_short}
-use Rattle.select_simulation.specs.Reaching.{rows_of}
-use Rattle.select_simulation.proofs.Reaching.{jumps_reach}
+use Rattle.select_correct.specs.Reaching.{rows_of}
+use Rattle.select_correct.proofs.Reaching.{jumps_reach}
 use Rattle.cc_backend.proofs.ShortPrograms.{code_fits, program_is_short}
 use Rattle.cc_backend.specs.FlatImages.{IsImageOf}
 use Rattle.cc_backend.specs.Forms.{IsFormOf}
@@ -40,7 +40,7 @@ use Rattle.cc_backend.specs.Chain.{into_flat, into_file}
 use Rattle.cc_backend.proofs.Forms.{none_within, flat_form}
 use Rattle.cc_backend.proofs.Making.{way_of, form_of}
 use Rattle.cc_backend.proofs.Chain.{file_simulates_program, calls_are_within}
-use Rattle.frames_simplified.specs.Simplified.{IsSimplified}
+use Rattle.frames_opt.specs.Simplified.{IsSimplified}
 use Rattle.cc_backend.specs.Runs.{RunsAs}
 use Rattle.cc_backend.specs.Made.{IsReady, IsFlatCodeOf, FramesFit, FunctionsFit, most_text, IsFileOf, AreItemsOf}
 use Rattle.cc_backend.proofs.FunctionSizes.{part_within, function_among}

@@ -12,7 +12,7 @@ use Rattle.frames_code.specs.Sound.{IsSoundProgram}
 use Rattle.frames_code.specs.Costs.{next_of}
 use Rattle.frames_code.specs.Run.{Value, Bytes, Frame, State, Progress, running, ended, stuck, value, word_at, reference_in, set, next, past, goes_to, place, memory, name_of, changed_among, with_frames, with_memory, with_element, element_in, gives, gives_word, operate, converted, loaded, stored, put, got, returned, act, step, run, goes_on, ◌>>=◌}
 use Rattle.frames_code.specs.Run as flat
-use Rattle.select_simulation.proofs.Fits.{function_fits}
+use Rattle.select_correct.proofs.Fits.{function_fits}
 use Rattle.cc_backend.proofs.Plain.{bool_cases}
 
 step_is : (p : Program) (s : State) → step p s ≡ (next_of p s >>= act p s)

@@ -1,8 +1,8 @@
 -- The flat code of a program, as the way and as the form that it has.
-use Rattle.typing_rules.specs.Program as typed
+use Rattle.typing_spec.specs.Program as typed
 use Rattle.frames_code.specs.Code as flat
 use Rattle.frames.specs.Translated.{flat_program}
-use Rattle.frames_steps.proofs.Whole.{flat_is_flattened}
+use Rattle.frames_correct.proofs.Whole.{flat_is_flattened}
 use Rattle.cc_backend.specs.Made.{IsFlatCodeOf}
 use Rattle.cc_backend.specs.Forms.{IsFormOf}
 use Rattle.cc_backend.specs.Chain.{IsMadeOf}

@@ -16,10 +16,10 @@ use Rattle.frames_code.specs.Run as flat_run
 use Rattle.frames.specs.Costs.{fetch_bytes, keep_bytes, move_bytes, reach_bytes, reference_bytes, scale_bytes, code_bytes, function_bytes}
 use Rattle.frames.specs.Flattened.{IsCodeOf, behind}
 use Rattle.cc_backend.proofs.Plain.{sum_by_map, same_some}
-use Rattle.frames_registers.specs.Renumbered.{renumbered_operand, renumbered_target, renumbered_location, renumbered, IsRenumberedFunction, AreRenumbered, IsRenumbered}
-use Rattle.frames_registers.specs.Laws.{words_of, moved_frame, moved, moved_progress}
-use Rattle.frames_registers.proofs.Whole.{runs_alike, costs_alike}
-use Rattle.frames_registers.proofs.Soundness.{stays_sound}
+use Rattle.frames_regalloc.specs.Renumbered.{renumbered_operand, renumbered_target, renumbered_location, renumbered, IsRenumberedFunction, AreRenumbered, IsRenumbered}
+use Rattle.frames_regalloc.specs.Laws.{words_of, moved_frame, moved, moved_progress}
+use Rattle.frames_regalloc.proofs.Whole.{runs_alike, costs_alike}
+use Rattle.frames_regalloc.proofs.Soundness.{stays_sound}
 use Rattle.cc_backend.specs.Forms.{IsFormOf}
 use Rattle.cc_backend.specs.Simulation.{Simulates, step_for_step}
 use Rattle.cc_backend.specs.Chain.{of_flat, RenumberedSimulatesFlat}

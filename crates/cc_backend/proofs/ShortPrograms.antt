@@ -3,7 +3,7 @@ use Rattle.std.proofs.Common.{◌≡◌, ⊎_elim, ℕ, ◌+◌, ◌*◌, ◌<�
 use Rattle.std.specs.Prelude.{slice_get}
 use Rattle.std.proofs.Math.Nat.{le_trans}
 use Rattle.std.proofs.lemmas.Option.{slice_get_within, slice_get_cases}
-use Rattle.select_simulation.specs.Reaching.{rows_of}
+use Rattle.select_correct.specs.Reaching.{rows_of}
 use Rattle.cc_backend.specs.Sizes.{CodeFits, ProgramIsShort}
 use Rattle.cc_backend.proofs.Rows.{rows_fit}
 

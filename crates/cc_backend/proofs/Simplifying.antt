@@ -7,12 +7,12 @@ use Rattle.tac_code.specs.Code as tac
 use Rattle.frames_code.specs.Code as flat
 use Rattle.frames_code.specs.Code.{frame_bytes}
 use Rattle.frames_code.specs.Run as flat_run
-use Rattle.meaning_events.specs.Events.{Event}
+use Rattle.csem_events.specs.Events.{Event}
 use Rattle.frames.specs.Costs.{code_bytes}
 use Rattle.cc_backend.proofs.Plain.{same_some}
-use Rattle.frames_steps.proofs.Runs.{run_both}
+use Rattle.frames_correct.proofs.Runs.{run_both}
 use Rattle.frames.specs.Flattened.{IsCodeOf, behind}
-use Rattle.frames_simplified.specs.Simplified.{IsSimplified, DoesTheSame, IsDefined}
+use Rattle.frames_opt.specs.Simplified.{IsSimplified, DoesTheSame, IsDefined}
 use Rattle.cc_backend.specs.Forms.{IsFormOf}
 use Rattle.cc_backend.specs.Simulation.{Simulates, step_for_step}
 use Rattle.cc_backend.specs.Chain.{of_flat, SimplerSimulatesFlat}

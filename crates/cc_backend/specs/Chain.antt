@@ -8,12 +8,12 @@ use Rattle.elf_out.specs.Layout.{Parts}
 use Rattle.elf_out.specs.Program.{program_image}
 use Rattle.sim.specs.Runs as sim
 use Rattle.sim.specs.Runs.{World, rvrun, start_world}
-use Rattle.typing_rules.specs.Program as typed
-use Rattle.meaning.specs.History.{Entry, trace_of, active, weight_in, sum_of}
-use Rattle.meaning.specs.Laws.{Grows}
-use Rattle.meaning.specs.Machine as machine
-use Rattle.meaning.specs.Machine.{Stops, Ended, TicksUsed}
-use Rattle.meaning.specs.Meaning.{cstep, last_of}
+use Rattle.typing_spec.specs.Program as typed
+use Rattle.csem.specs.History.{Entry, trace_of, active, weight_in, sum_of}
+use Rattle.csem.specs.Laws.{Grows}
+use Rattle.csem.specs.Machine as machine
+use Rattle.csem.specs.Machine.{Stops, Ended, TicksUsed}
+use Rattle.csem.specs.Meaning.{cstep, last_of}
 use Rattle.tac_code.specs.Code as tac
 use Rattle.tac_code.specs.Run as tac_run
 use Rattle.tac_code.specs.Costs as tac_costs
@@ -24,9 +24,9 @@ use Rattle.frames_code.specs.Code.{frame_bytes}
 use Rattle.frames_code.specs.Run as flat_run
 use Rattle.frames.specs.Costs as flat_costs
 use Rattle.frames.specs.Flattened.{IsFlattened, before, behind}
-use Rattle.frames_simplified.specs.Simplified.{IsSimplified}
-use Rattle.frames_registers.specs.Renumbered.{IsRenumbered}
-use Rattle.select_simulation.specs.Runs.{slack}
+use Rattle.frames_opt.specs.Simplified.{IsSimplified}
+use Rattle.frames_regalloc.specs.Renumbered.{IsRenumbered}
+use Rattle.select_correct.specs.Runs.{slack}
 use Rattle.cc_backend.specs.FlatImages.{IsImageOf}
 use Rattle.cc_backend.specs.Runs.{bytes_or_none}
 use Rattle.cc_backend.specs.Simulation.{System, Terms, Simulates, step_for_step, both}

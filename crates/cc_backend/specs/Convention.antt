@@ -4,15 +4,15 @@ use Rattle.memory_map.specs.MemoryMap.{text_start, data_start}
 use Rattle.elf_out.specs.Layout.{Parts}
 use Rattle.elf_out.specs.Program.{program_image}
 use Rattle.sim.specs.Runs.{rvrun, start_world}
-use Rattle.typing_rules.specs.Program as typed
-use Rattle.meaning.specs.History.{weight_in, greatest_sum}
-use Rattle.meaning.specs.Machine as machine
-use Rattle.meaning.specs.Machine.{Stops, Ended, TicksUsed}
-use Rattle.meaning.specs.Meaning.{cstep}
+use Rattle.typing_spec.specs.Program as typed
+use Rattle.csem.specs.History.{weight_in, greatest_sum}
+use Rattle.csem.specs.Machine as machine
+use Rattle.csem.specs.Machine.{Stops, Ended, TicksUsed}
+use Rattle.csem.specs.Meaning.{cstep}
 use Rattle.frames_code.specs.Code.{Program}
 use Rattle.frames_code.specs.Run.{State, entered, run, start}
-use Rattle.select_simulation.specs.Laws.{AreBytes}
-use Rattle.select_simulation.specs.Convention.{KeepsConvention, ComesToCall, behind_call}
+use Rattle.select_correct.specs.Laws.{AreBytes}
+use Rattle.select_correct.specs.Convention.{KeepsConvention, ComesToCall, behind_call}
 use Rattle.cc_backend.specs.FlatImages.{IsImageOf, FitStack}
 use Rattle.cc_backend.specs.Made.{IsFlatCodeOf}
 

@@ -4,7 +4,7 @@ use Rattle.memory_map.specs.MemoryMap.{text_start, IsStackSize}
 use Rattle.elf_out.specs.Layout.{Parts}
 use Rattle.elf_out.specs.Program.{program_image}
 use Rattle.asm.specs.Placed.{Assembles}
-use Rattle.meaning_events.specs.Events.{Event}
+use Rattle.csem_events.specs.Events.{Event}
 use Rattle.sim.specs.Runs.{World, Running, Ended, rvrun, start_world}
 use Rattle.frames_code.specs.Code.{Program}
 use Rattle.frames_code.specs.Sound.{IsSoundProgram}
@@ -12,10 +12,10 @@ use Rattle.frames_code.specs.declared.code.Instruction.TheVariants as instructio
 use Rattle.frames_code.specs.Costs.{next_of}
 use Rattle.frames_code.specs.Run.{State, Progress, running, ended, stuck, entered, function_at, bytes_of, run, start}
 use Rattle.select.specs.Program.{program_items}
-use Rattle.select_simulation.specs.Costs.{step_cost, most_spent, most_start}
-use Rattle.select_simulation.specs.Laws.{AreBytes}
-use Rattle.select_simulation.specs.Matches.{first_of}
-use Rattle.select_simulation.specs.Runs.{IsWithin, StandsWith, BackFrom, slack}
+use Rattle.select_correct.specs.Costs.{step_cost, most_spent, most_start}
+use Rattle.select_correct.specs.Laws.{AreBytes}
+use Rattle.select_correct.specs.Matches.{first_of}
+use Rattle.select_correct.specs.Runs.{IsWithin, StandsWith, BackFrom, slack}
 
 -- its text assembles a sound program's items, its data are the program's statics, and it has a stack
 pub record IsImageOf (p : Program) (parts : Parts) : Type 0 where

@@ -10,20 +10,20 @@ use Rattle.srcset.specs.declared.refusal.Pos.{Pos}
 use Rattle.tree.specs.Tree.{ExternalTree}
 use Rattle.tree.specs.Counts.{unit_nodes}
 use Rattle.tree.specs.Limits.{program_node_limit}
-use Rattle.typing_rules.specs.Program.{Function, Program}
-use Rattle.typing_rules.specs.Verdict.{fine}
-use Rattle.typing_rules.specs.Units.{unit_typed}
+use Rattle.typing_spec.specs.Program.{Function, Program}
+use Rattle.typing_spec.specs.Verdict.{fine}
+use Rattle.typing_spec.specs.Units.{unit_typed}
 use Rattle.tac_code.specs.Code as tac
 use Rattle.tac_code.specs.Sound.{data_bytes}
 use Rattle.tac_code.specs.Spans.{span}
 use Rattle.tac_code.specs.Lowered.{IsChecked, IsLowered}
-use Rattle.tac_checked.specs.Asked.{is_asked}
+use Rattle.lower_wf.specs.Asked.{is_asked}
 use Rattle.frames_code.specs.Code as flat
 use Rattle.frames_code.specs.Code.{frame_bytes}
 use Rattle.frames_code.specs.Sound as flat_sound
 use Rattle.frames.specs.Translated.{flat_program}
-use Rattle.frames_registers.specs.Renumbered.{IsRenumbered}
-use Rattle.frames_simplified.specs.Simplified.{IsSimplified}
+use Rattle.frames_regalloc.specs.Renumbered.{IsRenumbered}
+use Rattle.frames_opt.specs.Simplified.{IsSimplified}
 use Rattle.select.specs.Program.{program_items, function_items}
 use Rattle.cc_backend.specs.FlatImages.{IsImageOf}
 use Rattle.cc_backend.specs.Runs.{RunsAs}

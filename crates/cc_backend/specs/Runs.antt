@@ -5,10 +5,10 @@ use Rattle.memory_map.specs.MemoryMap.{stack_end}
 use Rattle.loader.specs.File.{Image, file_image}
 use Rattle.sim.specs.Runs as sim
 use Rattle.sim.specs.Runs.{World, rvrun, start_world}
-use Rattle.typing_rules.specs.Program.{Program}
-use Rattle.meaning.specs.History.{Entry, trace_of, active, weight_in, sum_of, greatest_sum}
-use Rattle.meaning.specs.Machine.{State, Stops, Ended, TicksUsed}
-use Rattle.meaning.specs.Meaning.{cstep}
+use Rattle.typing_spec.specs.Program.{Program}
+use Rattle.csem.specs.History.{Entry, trace_of, active, weight_in, sum_of, greatest_sum}
+use Rattle.csem.specs.Machine.{State, Stops, Ended, TicksUsed}
+use Rattle.csem.specs.Meaning.{cstep}
 
 -- an input is a list of bytes
 abbrev pub IsInput : List ℕ → Type 0

@@ -1,7 +1,7 @@
 -- Forward simulation, with what it costs: that one system does what another does, in one form for each step of the way from a program to its file.
 use Rattle.std.specs.Prelude.{◌≤◌, ℕ, ◌+◌, ◌*◌, List}
-use Rattle.meaning_events.specs.Events.{Event}
-use Rattle.meaning.specs.History.{sum_of}
+use Rattle.csem_events.specs.Events.{Event}
+use Rattle.csem.specs.History.{sum_of}
 
 -- what a run that goes on has done, the newest first, what it has left of its input, and the calls that are active, the innermost first
 pub record Doing : Type 0 where

@@ -1,11 +1,11 @@
 -- How many bytes the code of a function takes that was lowered and flattened, by what `select` emits for it.
 use Rattle.std.specs.Prelude.{◌≡◌, ◌≤◌, ℕ, ◌+◌, ◌*◌, slice_get, Some}
-use Rattle.typing_rules.specs.Program as typed
+use Rattle.typing_spec.specs.Program as typed
 use Rattle.tac_code.specs.Code as tac
 use Rattle.tac_code.specs.Lowered.{IsLowered, IsChecked}
 use Rattle.frames_code.specs.Code as flat
 use Rattle.frames.specs.Costs.{function_bytes}
-use Rattle.select_simulation.specs.Reaching.{rows_of, IsShortProgram}
+use Rattle.select_correct.specs.Reaching.{rows_of, IsShortProgram}
 use Rattle.cc_backend.specs.Forms.{IsFormOf}
 
 -- The rows of `select`, whose sum bounds the items that it emits (`code_is_short`), are within flattening's table; at most twelve words

@@ -2,7 +2,7 @@
 
 ghost use Rattle.std.specs.Prelude.{ℕ, ◌≡◌, length, map, slice_get, Some, IfOk};
 ghost use Rattle.srcset.specs.Fault.{IsMemoryFault};
-ghost use Rattle.typing_program.specs.View.{function_of, program_of};
+ghost use Rattle.typed_ast.specs.View.{function_of, program_of};
 ghost use Rattle.frames_code.specs.Code as flat;
 ghost use Rattle.frames.specs.layer.Alone.{starts_in};
 ghost use Rattle.cc_backend.specs.Made.{IsReady, IsFlatCodeOf};
@@ -10,14 +10,14 @@ ghost use Rattle.cc_backend.specs.inside.FlatFunctions.{IsFlatFunctionOf, AreFla
 
 use frames::{Starts, data_alone, flatten_function};
 use frames_code::FlatProgram;
-use frames_registers::renumber_function;
-use frames_simplified::simplify_function;
+use frames_opt::simplify_function;
+use frames_regalloc::renumber_function;
 use srcset::Fault;
 use std::alloc::{AllocError, Global};
 use tac::lower_function;
-use typing_program::{Function, Program};
+use typed_ast::{Function, Program};
 
-/// A fault that is want of memory.
+/// The fault 801, out of memory.
 pub fn want_of_memory(fault: Fault) -> AllocError
     requires { IsMemoryFault fault }
 {

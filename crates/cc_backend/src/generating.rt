@@ -1,7 +1,7 @@
 //! From a typed program to the executable file, and to its listing.
 
 ghost use Rattle.std.specs.Prelude.{IfOk};
-ghost use Rattle.typing_program.specs.View.{program_of};
+ghost use Rattle.typed_ast.specs.View.{program_of};
 ghost use Rattle.frames_code.specs.Code as flat;
 ghost use Rattle.cc_backend.specs.Runs.{RunsAs};
 ghost use Rattle.cc_backend.specs.Made.{IsReady, IsFileOf, AreItemsOf};
@@ -12,7 +12,7 @@ use crate::sizes::frame_sizes;
 use asm::Items;
 use elf_out::{StackSize, write_elf};
 use std::alloc::{AllocError, Global};
-use typing_program::Program;
+use typed_ast::Program;
 
 /// An executable file.
 #[derive(Drop)]

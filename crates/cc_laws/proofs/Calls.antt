@@ -1,13 +1,13 @@
 -- The calls that are active at a step of a file's flat code.
 use Rattle.std.proofs.Common.{◌≡◌, ⊎_elim, ℕ, ◌+◌, ◌-◌, ◌≤◌, List, refl, sym, ap, ◌∙◌, subst, arith}
 use Rattle.std.proofs.lemmas.Bool.{cases_lt}
-use Rattle.typing_rules.specs.Program.{Program}
-use Rattle.meaning.specs.History.{Entry, trace_of, active, weight_in, greatest_sum}
-use Rattle.meaning.specs.Machine.{Ending, Ended, Undefined, TicksUsed, Stops}
-use Rattle.meaning.specs.Meaning.{cstep, ending_of, last_of}
+use Rattle.typing_spec.specs.Program.{Program}
+use Rattle.csem.specs.History.{Entry, trace_of, active, weight_in, greatest_sum}
+use Rattle.csem.specs.Machine.{Ending, Ended, Undefined, TicksUsed, Stops}
+use Rattle.csem.specs.Meaning.{cstep, ending_of, last_of}
 use Rattle.frames_code.specs.Run as flat
 use Rattle.frames.specs.Flattened.{behind}
-use Rattle.frames_steps.proofs.Runs.{run_both}
+use Rattle.frames_correct.proofs.Runs.{run_both}
 use Rattle.cc_backend.specs.Runs.{IsInput}
 use Rattle.cc_backend.specs.Made.{IsFileOf}
 use Rattle.cc_backend.specs.Simulation.{Doing, Done}

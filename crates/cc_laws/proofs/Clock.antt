@@ -1,9 +1,9 @@
 -- What is seen of the abstract machine, from its run.
 use Rattle.std.proofs.Common.{◌≡◌, ℕ, suc, List, [], ℤ, Option, Some, refl, ap}
 use Rattle.std.specs.Prelude.{slice_get}
-use Rattle.typing_rules.specs.Program.{Function, Program}
-use Rattle.meaning.specs.Machine.{Run, Goes, Stops, TicksUsed, then_do}
-use Rattle.meaning.specs.Meaning.{cstep, calling, call_defined, start, end_with, ending_of, last_of, answer}
+use Rattle.typing_spec.specs.Program.{Function, Program}
+use Rattle.csem.specs.Machine.{Run, Goes, Stops, TicksUsed, then_do}
+use Rattle.csem.specs.Meaning.{cstep, calling, call_defined, start, end_with, ending_of, last_of, answer}
 
 stops : (r : Run (Option ℤ)) → then_do r end_with ≡ Stops (ending_of (then_do r end_with)) (last_of (then_do r end_with))
 stops (Goes v s) = refl

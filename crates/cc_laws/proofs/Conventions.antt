@@ -5,10 +5,10 @@ use Rattle.elf_out.specs.Program.{program_image}
 use Rattle.elf_out.proofs.Memory.{written_image}
 use Rattle.frames_code.specs.Code as flat_code
 use Rattle.frames_code.specs.Run as flat
-use Rattle.select_simulation.specs.Convention.{KeepsConvention, behind_call}
-use Rattle.typing_rules.specs.Program.{Program}
-use Rattle.meaning.specs.Machine.{Ending, Ended, Undefined, TicksUsed, Stops}
-use Rattle.meaning.specs.Meaning.{cstep, answer, ending_of, last_of}
+use Rattle.select_correct.specs.Convention.{KeepsConvention, behind_call}
+use Rattle.typing_spec.specs.Program.{Program}
+use Rattle.csem.specs.Machine.{Ending, Ended, Undefined, TicksUsed, Stops}
+use Rattle.csem.specs.Meaning.{cstep, answer, ending_of, last_of}
 use Rattle.cc_backend.specs.Runs.{IsInput}
 use Rattle.cc_backend.specs.Made.{IsFileOf}
 use Rattle.cc_backend.specs.FlatImages.{FitStack}

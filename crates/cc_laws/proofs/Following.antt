@@ -12,22 +12,22 @@ use Rattle.elf_out.specs.Program.{program_space, program_image, is_within, is_da
 use Rattle.elf_out.proofs.Memory.{written_image}
 use Rattle.frames_code.specs.Code.{Function, Program, frame_bytes}
 use Rattle.frames_code.specs.Run.{Values, Bytes, Frame, State, Progress, running, ended, stuck, function_at, bytes_of, goes_on, run, step, start}
-use Rattle.meaning_events.specs.Events.{Event}
-use Rattle.frames_steps.proofs.Runs.{run_both}
+use Rattle.csem_events.specs.Events.{Event}
+use Rattle.frames_correct.proofs.Runs.{run_both}
 use Rattle.sim.specs.Runs as sim
 use Rattle.sim.specs.Runs.{World, Running, Trapped, rvrun, start_world, tick_of}
-use Rattle.select_running.specs.Light.{Fixed}
-use Rattle.select_running.specs.Whole.{Permits, fixed}
-use Rattle.select_running.specs.Worlds.{world}
-use Rattle.select_running.proofs.Placing.{stands_in}
+use Rattle.select_exec.specs.Light.{Fixed}
+use Rattle.select_exec.specs.Whole.{Permits, fixed}
+use Rattle.select_exec.specs.Worlds.{world}
+use Rattle.select_exec.proofs.Placing.{stands_in}
 use Rattle.select.specs.Selected.{return_home}
 use Rattle.select.specs.Program.{program_items}
-use Rattle.select_simulation.specs.Laws.{AreBytes}
-use Rattle.select_simulation.specs.Matches.{Ground, Ready, FrameHolds, Waits, Matched, HasRoom, address, file_of, file_below, return_at}
-use Rattle.select_simulation.specs.Runs.{Laid, StandsWith, ground_at}
-use Rattle.select_simulation.specs.Standing.{StandsAt}
-use Rattle.select_simulation.proofs.Laying.{is_ready}
-use Rattle.select_simulation.proofs.Real.{stands, step_stands}
+use Rattle.select_correct.specs.Laws.{AreBytes}
+use Rattle.select_correct.specs.Matches.{Ground, Ready, FrameHolds, Waits, Matched, HasRoom, address, file_of, file_below, return_at}
+use Rattle.select_correct.specs.Runs.{Laid, StandsWith, ground_at}
+use Rattle.select_correct.specs.Standing.{StandsAt}
+use Rattle.select_correct.proofs.Laying.{is_ready}
+use Rattle.select_correct.proofs.Real.{stands, step_stands}
 use Rattle.cc_backend.specs.FlatImages.{IsImageOf, FitStack}
 use Rattle.cc_backend.proofs.FlatImages as whole
 use Rattle.cc_backend.proofs.Plain.{bool_cases, and_left, and_right}

@@ -3,10 +3,10 @@ use Rattle.std.proofs.Common.{◌≡◌, ◌⊎◌, inl, inr, ◌<◌, ℕ, ◌+
 use Rattle.std.proofs.Math.Nat.{lt_of_mul-lt-mul_left}
 use Rattle.sim.specs.Runs as sim
 use Rattle.sim.specs.Runs.{World, Progress, Running}
-use Rattle.select_running.proofs.Keeping.{runs_keep}
-use Rattle.typing_rules.specs.Program.{Program}
-use Rattle.meaning.specs.Machine.{Ending, Ended, Undefined, TicksUsed, Stops}
-use Rattle.meaning.specs.Meaning.{cstep, answer, ending_of, last_of}
+use Rattle.select_exec.proofs.Keeping.{runs_keep}
+use Rattle.typing_spec.specs.Program.{Program}
+use Rattle.csem.specs.Machine.{Ending, Ended, Undefined, TicksUsed, Stops}
+use Rattle.csem.specs.Meaning.{cstep, answer, ending_of, last_of}
 use Rattle.sim.specs.Runs.{start_world}
 use Rattle.loader.specs.File.{Image}
 use Rattle.cc_backend.specs.Runs.{RunsAs, IsInput}

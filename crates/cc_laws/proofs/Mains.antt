@@ -2,11 +2,11 @@
 use Rattle.std.proofs.Common.{◌<◌, ℕ, suc, ◌+◌, Bool, true, false, List, [], ◌∷◌, length, Option, Some, None, subst, arith}
 use Rattle.std.specs.Prelude.{IfSome, if◌then◌else◌}
 use Rattle.srcset.specs.declared.refusal.Pos.{Pos}
-use Rattle.typing_rules.specs.Scope.{Scope, file_scope}
-use Rattle.typing_rules.specs.Program.{Function}
-use Rattle.typing_rules.specs.Uses.{all_defined, uses_in_functions}
-use Rattle.typing_rules.specs.Verdict.{Verdict, fine, broken, then_check, provided, each, IfFine}
-use Rattle.typing_rules.specs.Units.{Built, is_main, main_from, main_or_fault, within_limits, program_of, whole_program, externals_typed, definitions_in}
+use Rattle.typing_spec.specs.Scope.{Scope, file_scope}
+use Rattle.typing_spec.specs.Program.{Function}
+use Rattle.typing_spec.specs.Uses.{all_defined, uses_in_functions}
+use Rattle.typing_spec.specs.Verdict.{Verdict, fine, broken, then_check, provided, each, IfFine}
+use Rattle.typing_spec.specs.Units.{Built, is_main, main_from, main_or_fault, within_limits, program_of, whole_program, externals_typed, definitions_in}
 use Rattle.cc_laws.specs.Laws.{HasMain, UnitsHaveMain}
 
 then_fine : {A B : Type 0} (P : B → Type 0) (v : Verdict A) (go : A → Verdict B) → ((a : A) → IfFine P (go a)) → IfFine P (then_check v go)

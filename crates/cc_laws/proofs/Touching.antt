@@ -13,13 +13,13 @@ use Rattle.frames_code.specs.Run.{State, Progress, running, ended, stuck, run, s
 use Rattle.sim.specs.Runs as sim
 use Rattle.sim.specs.Runs.{World, Running, Ended, Trapped, rvrun, start_world, tick_of}
 use Rattle.cc_laws.proofs.Composed.{rvrun_more}
-use Rattle.select_running.specs.Whole.{Permits, fixed}
-use Rattle.select_running.specs.Worlds.{world}
-use Rattle.select_running.proofs.Keeping.{runs_keep}
-use Rattle.select_simulation.specs.Laws.{AreBytes}
-use Rattle.select_simulation.specs.Matches.{HasRoom}
-use Rattle.select_simulation.specs.Runs.{Laid, StandsWith, ground_at, slack}
-use Rattle.select_simulation.proofs.Real.{goes_on}
+use Rattle.select_exec.specs.Whole.{Permits, fixed}
+use Rattle.select_exec.specs.Worlds.{world}
+use Rattle.select_exec.proofs.Keeping.{runs_keep}
+use Rattle.select_correct.specs.Laws.{AreBytes}
+use Rattle.select_correct.specs.Matches.{HasRoom}
+use Rattle.select_correct.specs.Runs.{Laid, StandsWith, ground_at, slack}
+use Rattle.select_correct.proofs.Real.{goes_on}
 use Rattle.cc_backend.specs.FlatImages.{IsImageOf, FitStack}
 use Rattle.cc_backend.proofs.FlatImages as whole
 use Rattle.cc_backend.proofs.FlatImages.{within_low, within_is, below_not, or_left, or_right, or_none}

@@ -13,11 +13,11 @@ use Rattle.loader.specs.File.{Image}
 use Rattle.sim.specs.Runs as sim
 use Rattle.sim.specs.Runs.{World, Progress, Running, Trapped, rvrun, start_world, tick_of}
 use Rattle.cc_laws.proofs.Composed.{rvrun_more}
-use Rattle.select_running.specs.Laws.{trace_of}
-use Rattle.select_running.proofs.Keeping.{runs_keep}
-use Rattle.typing_rules.specs.Program.{Program}
-use Rattle.meaning.specs.Machine.{Ended, Stops}
-use Rattle.meaning.specs.Meaning.{cstep, answer, last_of}
+use Rattle.select_exec.specs.Laws.{trace_of}
+use Rattle.select_exec.proofs.Keeping.{runs_keep}
+use Rattle.typing_spec.specs.Program.{Program}
+use Rattle.csem.specs.Machine.{Ended, Stops}
+use Rattle.csem.specs.Meaning.{cstep, answer, last_of}
 use Rattle.cc_backend.specs.Runs.{RunsAs, IsInput}
 use Rattle.cc_laws.specs.Laws.{StaysDefined, OfEachFile, run_of, done_in, DoesAll, IsBeginning, DoesNoMore, NeverTraps, MayLoad, MayStore, IsInside, StaysInside, EndsOnlySo, HasMain, EndsInTime}
 use Rattle.cc_laws.proofs.Clock.{run_stops, no_ticks}

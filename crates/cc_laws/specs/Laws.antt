@@ -18,18 +18,18 @@ use Rattle.memory_map.specs.MemoryMap.{text_start, data_start, stack_end}
 use Rattle.elf_out.specs.Layout.{Parts}
 use Rattle.elf_out.specs.Program.{is_within, is_text, is_data, is_stack}
 use Rattle.frames_code.specs.Run as flat
-use Rattle.select_simulation.specs.Runs.{StandsWith, slack}
-use Rattle.select_simulation.specs.Convention.{KeepsConvention, ComesToCall, behind_call}
-use Rattle.meaning_events.specs.Events.{Event}
+use Rattle.select_correct.specs.Runs.{StandsWith, slack}
+use Rattle.select_correct.specs.Convention.{KeepsConvention, ComesToCall, behind_call}
+use Rattle.csem_events.specs.Events.{Event}
 use Rattle.sim.specs.Runs as sim
 use Rattle.sim.specs.Runs.{World, Progress, Running, Trapped, rvrun, start_world}
-use Rattle.typing_rules.specs.Program.{Program}
-use Rattle.typing_rules.specs.Verdict.{fine}
-use Rattle.typing_rules.specs.Units.{unit_typed}
-use Rattle.meaning.specs.Machine.{Ending, Ended, Undefined, TicksUsed}
-use Rattle.meaning.specs.History.{Entry, active}
-use Rattle.meaning.specs.Laws.{Grows}
-use Rattle.meaning.specs.Meaning.{cstep, answer, last_of}
+use Rattle.typing_spec.specs.Program.{Program}
+use Rattle.typing_spec.specs.Verdict.{fine}
+use Rattle.typing_spec.specs.Units.{unit_typed}
+use Rattle.csem.specs.Machine.{Ending, Ended, Undefined, TicksUsed}
+use Rattle.csem.specs.History.{Entry, active}
+use Rattle.csem.specs.Laws.{Grows}
+use Rattle.csem.specs.Meaning.{cstep, answer, last_of}
 use Rattle.cc_backend.specs.Runs.{RunsAs, IsInput}
 use Rattle.cc_backend.specs.FlatImages.{FitStack}
 use Rattle.cc_backend.specs.Made.{IsFileOf}

@@ -6,19 +6,19 @@ use crate::trace_aids::trace;
 use crate::{is_source, read_files, say};
 use anyhow::Result;
 use cc::{Built, StackSize, compile_with};
-use cc_aids::{Form, Said, explain_faults, explain_run, explain_unread};
-use cc_words::{asks_more, asks_trace, further_files};
 use clap::ArgMatches;
-use code_map::{CodeMap, code_map, definitions, frames_table, symbol_file};
+use cli_args::{asks_more, asks_trace, further_files};
 use explain::Stage;
-use explain_shown::Style;
-use image_forms::{binary, entry, intel_hex, pieces, verilog_memory};
+use explain_cmd::{Form, Said, explain_faults, explain_run, explain_unread};
+use explain_render::Style;
+use image_export::{binary, entry, intel_hex, pieces, verilog_memory};
 use loader::LoadFault;
 use srcset::{Code, Fault, FileSet, write_text};
 use std::alloc::{AllocError, Global};
 use std::io::{BufWriter, IsTerminal, Read, Write};
 use std::rt::Env;
 use std::{env, fs};
+use symbol_table::{CodeMap, definitions, frames_table, symbol_file, symbol_table};
 
 /// The exit status of one of these commands; `None` where the words ask for another.
 pub fn answer(rt: &HostRuntime, matches: &ArgMatches<'_>) -> Result<Option<u8>> {
@@ -91,7 +91,7 @@ fn names_of<'a>(
     Ok(names)
 }
 
-/// Explains what a command comes to: its faults, or the undefined act of a program that is interpreted.
+/// Explains what a command comes to: its faults, or the undefined behaviour of a program that is interpreted.
 fn explain_what<'a>(
     rt: &HostRuntime,
     matches: &ArgMatches<'a>,
@@ -207,7 +207,7 @@ fn show_frames(rt: &HostRuntime, matches: &ArgMatches<'_>, inner: &ArgMatches<'_
         Ok(built) => built,
         Err(fault) => return Ok(say(rt, &fault)),
     };
-    match code_map(rt.alloc(), &built)? {
+    match symbol_table(rt.alloc(), &built)? {
         Some(map) => {
             let table = frames_table(rt.alloc(), &map)?;
             Ok(put_out(rt, table.as_bytes(), 0))
@@ -265,7 +265,7 @@ fn write_symbols(rt: &HostRuntime, matches: &ArgMatches<'_>, inner: &ArgMatches<
         Ok(built) => built,
         Err(fault) => return Ok(say(rt, &fault)),
     };
-    match code_map(rt.alloc(), &built)? {
+    match symbol_table(rt.alloc(), &built)? {
         Some(map) => put_symbols(rt, &map, &set, main, out),
         None => Ok(unknown_code(rt)),
     }

@@ -11,13 +11,13 @@ mod words;
 
 use anyhow::Result;
 use cc::{Cmd, StackSize, perform, read_source};
-use cc_aids::{VERSION, Watching};
-use cc_words::{command, further_files};
 use clap::ArgMatches;
 use clap::error::ErrorKind as UsageKind;
+use cli_args::{command, further_files};
+use explain_cmd::{VERSION, Watching};
+use io_ports::{IoPort, PortFault};
 use late_file::LateFile;
 use line::Line;
-use meaning_ports::{IoPort, PortFault};
 use overwriting::is_read;
 use srcset::{Code, Fault, FileSet};
 use std::alloc::Global;
@@ -47,7 +47,7 @@ fn unread_words(rt: &HostRuntime, error: &io::Error) -> u8 {
     2
 }
 
-/// The exit status of the words. The errors that are handed on are all want of memory: for the words, for the
+/// The exit status of the words. The errors that are handed on are all of memory that ran out: for the words, for the
 /// command line's form, for a buffer.
 fn obey(rt: &HostRuntime, words: Args<Global>) -> u8 {
     match parse(rt, words) {

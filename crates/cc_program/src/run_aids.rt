@@ -8,15 +8,15 @@ use crate::{read_file, say, say_port, unread};
 use anyhow::Result;
 use cc::{StackSize, compile_with};
 use clap::ArgMatches;
-use code_map::{CodeMap, code_map};
+use io_ports::{IoPort, Port};
 use loader::{LoadFault, Loaded, load};
-use meaning_ports::{IoPort, Port};
 use rv32::State;
 use sim::Outcome;
 use srcset::{Code, Fault, FileSet};
 use std::alloc::Global;
 use std::fs;
 use std::io::{BufReader, BufWriter, Write};
+use symbol_table::{CodeMap, symbol_table};
 use traced_run::{TraceEnd, hart, machine_text, place_text, run_for, traced_run};
 
 /// Runs the executable file of the words; answers the exit status.
@@ -76,7 +76,7 @@ fn map_of(
     if built.elf.as_slice() != file {
         return Ok(None);
     }
-    match code_map(rt.alloc(), &built) {
+    match symbol_table(rt.alloc(), &built) {
         Ok(map) => Ok(map),
         Err(_) => Err(Fault::memory(rt.alloc())),
     }

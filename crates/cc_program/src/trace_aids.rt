@@ -7,7 +7,7 @@ use anyhow::Result;
 use cc::{StackSize, compile_with};
 use clap::ArgMatches;
 use explain::Sources;
-use meaning_ports::IoPort;
+use io_ports::IoPort;
 use srcset::{Code, Fault};
 use std::io::{BufReader, BufWriter, Write};
 use traced_interp::{Tracing, interpret_traced, with_probes};

@@ -7,12 +7,12 @@ use Rattle.ctypes.specs.declared.types.IntType.{IntType}
 use Rattle.ctypes.specs.declared.operators.BinOp.{BinOp}
 use Rattle.ctypes.specs.Types.{truth}
 use Rattle.tree.specs.declared.expression.PrefixOp.{PrefixOp}
-use Rattle.typing_program.specs.declared.expressions.Value.{Value, the_lemmas}
-use Rattle.typing_program.specs.declared.expressions.Value as V
-use Rattle.typing_program.specs.View.{value_of}
-use Rattle.typing_rules.specs.Verdict.{Verdict, fine}
-use Rattle.typing_rules.specs.Program as typed
-use Rattle.typing_rules.specs.Constants.{folded, by_truth, truth_of, to_arm}
+use Rattle.typed_ast.specs.declared.expressions.Value.{Value, the_lemmas}
+use Rattle.typed_ast.specs.declared.expressions.Value as V
+use Rattle.typed_ast.specs.View.{value_of}
+use Rattle.typing_spec.specs.Verdict.{Verdict, fine}
+use Rattle.typing_spec.specs.Program as typed
+use Rattle.typing_spec.specs.Constants.{folded, by_truth, truth_of, to_arm}
 use Rattle.typing_expressions.specs.Refused.{IsOf}
 use Rattle.typing_expressions.proofs.Verdicts.{then_left, then_right}
 

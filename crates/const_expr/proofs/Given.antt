@@ -7,15 +7,15 @@ use Rattle.srcset.specs.declared.refusal.Pos.{Pos}
 use Rattle.srcset.specs.declared.refusal.Refusal.{Refusal}
 use Rattle.tree.specs.declared.expression.Expr.{Expr}
 use Rattle.tree.specs.View.{tree_of, trees_of}
-use Rattle.typing_program.specs.declared.types.ParameterType.{ParameterType}
-use Rattle.typing_program.specs.declared.expressions.Argument.{Argument}
-use Rattle.typing_program.specs.View.{parameter_type_of, arguments_of, argument_of, and_given}
-use Rattle.typing_rules.specs.Verdict.{fine, both, then_check}
-use Rattle.typing_rules.specs.Types as types
-use Rattle.typing_rules.specs.Program.{Arguments}
-use Rattle.typing_rules.specs.Scope.{Scope, strings, strings_in, past}
-use Rattle.typing_rules.specs.Expressions as typed
-use Rattle.typing_rules.specs.Expressions.{Checked}
+use Rattle.typed_ast.specs.declared.types.ParameterType.{ParameterType}
+use Rattle.typed_ast.specs.declared.expressions.Argument.{Argument}
+use Rattle.typed_ast.specs.View.{parameter_type_of, arguments_of, argument_of, and_given}
+use Rattle.typing_spec.specs.Verdict.{fine, both, then_check}
+use Rattle.typing_spec.specs.Types as types
+use Rattle.typing_spec.specs.Program.{Arguments}
+use Rattle.typing_spec.specs.Scope.{Scope, strings, strings_in, past}
+use Rattle.typing_spec.specs.Expressions as typed
+use Rattle.typing_spec.specs.Expressions.{Checked}
 use Rattle.typing_expressions.specs.declared.forms.Checked as held
 use Rattle.typing_expressions.specs.Refused.{Tells, refused}
 use Rattle.typing_expressions.specs.Forms.{checked_of}

@@ -4,9 +4,9 @@ use Rattle.srcset.specs.declared.code.Code.TheVariants as code
 use Rattle.srcset.specs.declared.refusal.Pos.{Pos}
 use Rattle.srcset.specs.declared.refusal.Refusal.{Refusal}
 use Rattle.tree.specs.Capped.{capped}
-use Rattle.typing_rules.specs.Types.{ObjectType, size_of_object}
-use Rattle.typing_rules.specs.Verdict.{Verdict, fine, refuse_if, provided}
-use Rattle.typing_rules.specs.Expressions.{too_large}
+use Rattle.typing_spec.specs.Types.{ObjectType, size_of_object}
+use Rattle.typing_spec.specs.Verdict.{Verdict, fine, refuse_if, provided}
+use Rattle.typing_spec.specs.Expressions.{too_large}
 use Rattle.typing_expressions.specs.Refused.{Tells, refused}
 use Rattle.const_expr.proofs.Sizes.{limit_of_capped}
 

@@ -5,9 +5,9 @@ use Rattle.srcset.specs.declared.refusal.Pos.{Pos}
 use Rattle.srcset.specs.declared.refusal.Refusal.{Refusal}
 use Rattle.tree.specs.declared.expression.TypeSpecifier.{TypeSpecifier}
 use Rattle.tree.specs.declared.expression.TypeSpecifier.TheVariants as specifier
-use Rattle.typing_rules.specs.Verdict.{Verdict, fine, broken, each}
-use Rattle.typing_rules.specs.Scope.{Scope}
-use Rattle.typing_rules.specs.Specifiers as typed
+use Rattle.typing_spec.specs.Verdict.{Verdict, fine, broken, each}
+use Rattle.typing_spec.specs.Scope.{Scope}
+use Rattle.typing_spec.specs.Specifiers as typed
 use Rattle.typing_expressions.specs.Refused.{IsOf}
 use Rattle.typing_expressions.proofs.Verdicts.{each_left}
 use Rattle.const_expr.specs.Typings.{tag_of}

@@ -5,15 +5,15 @@ use Rattle.srcset.specs.declared.code.Code.TheVariants as code
 use Rattle.srcset.specs.declared.refusal.Pos.{Pos}
 use Rattle.tree.specs.declared.expression.TypeSpecifier.{TypeSpecifier}
 use Rattle.tree.specs.Tree.{Tree, Trees, TypeTree, hole, identifier, constant, string, paren, call, subscript, after, before, prefix, size_of, size_of_type, cast, binary, conditional, assign, no_trees, one_more, type_name}
-use Rattle.typing_rules.specs.Types.{ParameterType, ObjectType}
-use Rattle.typing_rules.specs.Verdict.{Verdict, fine, broken, then_check, both, each, refuse_if, provided}
-use Rattle.typing_rules.specs.Program as program
-use Rattle.typing_rules.specs.Operators.{assigning}
-use Rattle.typing_rules.specs.Scope.{Scope, Binding, Meaning, an_object, an_array_parameter, a_function, an_enumerator, lookup, tag_in, strings, strings_of_type, past, past_type, literal_of}
-use Rattle.typing_rules.specs.Constants.{constant_form, no_comma}
-use Rattle.typing_rules.specs.Specifiers.{tags_known, tags_of, is_complete, base_type, base_or_fault, is_const, named_type, count, words_of}
-use Rattle.typing_rules.specs.Expressions as typed
-use Rattle.typing_rules.specs.Expressions.{typing, arguments, named_in, lengths_in, string_type, too_large, Checked, Called, function_named, function_meant, subscripted, target, step, valued, signed_value, measured, type_measured, cast_to, operated, arms, chosen_by, assignment, argument, call_of, size_in, and_size, type_of}
+use Rattle.typing_spec.specs.Types.{ParameterType, ObjectType}
+use Rattle.typing_spec.specs.Verdict.{Verdict, fine, broken, then_check, both, each, refuse_if, provided}
+use Rattle.typing_spec.specs.Program as program
+use Rattle.typing_spec.specs.Operators.{assigning}
+use Rattle.typing_spec.specs.Scope.{Scope, Binding, Meaning, an_object, an_array_parameter, a_function, an_enumerator, lookup, tag_in, strings, strings_of_type, past, past_type, literal_of}
+use Rattle.typing_spec.specs.Constants.{constant_form, no_comma}
+use Rattle.typing_spec.specs.Specifiers.{tags_known, tags_of, is_complete, base_type, base_or_fault, is_const, named_type, count, words_of}
+use Rattle.typing_spec.specs.Expressions as typed
+use Rattle.typing_spec.specs.Expressions.{typing, arguments, named_in, lengths_in, string_type, too_large, Checked, Called, function_named, function_meant, subscripted, target, step, valued, signed_value, measured, type_measured, cast_to, operated, arms, chosen_by, assignment, argument, call_of, size_in, and_size, type_of}
 use Rattle.typing_expressions.specs.Forms.{seen}
 
 -- ---- verdicts
@@ -77,7 +77,7 @@ mutual
   typing_same t k l s h (identifier at n) = refl
   typing_same t k l s h (constant at ty v) = refl
   typing_same t k l s h (string at n) =
-      let u = string_type (literal_of (seen t k s) n) in ap (λ m. provided (too_large at u) (fine (typed.array at (Rattle.typing_rules.specs.Types.complete u) (program.named at (program.literal m))))) h
+      let u = string_type (literal_of (seen t k s) n) in ap (λ m. provided (too_large at u) (fine (typed.array at (Rattle.typing_spec.specs.Types.complete u) (program.named at (program.literal m))))) h
   typing_same t k l s h (paren e) = typing_same t k l s h e
   typing_same t k l s h (call at f args) =
       then_same (function_named (seen t k s) at f (lookup s f)) (function_named (seen t l s) at f (lookup s f)) (λ g. then_check (arguments (seen t k s) at g.type.parameters args) (call_of at g))

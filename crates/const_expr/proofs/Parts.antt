@@ -7,11 +7,11 @@ use Rattle.srcset.specs.declared.refusal.Pos.{Pos}
 use Rattle.srcset.specs.declared.refusal.Refusal.{Refusal}
 use Rattle.srcset.specs.declared.refusal.Refusal.TheVariants.{Memory, At, Told}
 use Rattle.tree.specs.Tree.{Tree, Trees, TypeTree, cast, conditional}
-use Rattle.typing_rules.specs.Types.{ObjectType, ParameterType}
-use Rattle.typing_rules.specs.Verdict.{Verdict, fine, broken, then_check, both}
-use Rattle.typing_rules.specs.Scope.{Scope, strings, strings_of_type, past, past_type}
-use Rattle.typing_rules.specs.Expressions as typed
-use Rattle.typing_rules.specs.Expressions.{Checked, Arms, arms}
+use Rattle.typing_spec.specs.Types.{ObjectType, ParameterType}
+use Rattle.typing_spec.specs.Verdict.{Verdict, fine, broken, then_check, both}
+use Rattle.typing_spec.specs.Scope.{Scope, strings, strings_of_type, past, past_type}
+use Rattle.typing_spec.specs.Expressions as typed
+use Rattle.typing_spec.specs.Expressions.{Checked, Arms, arms}
 use Rattle.typing_expressions.specs.Refused.{Tells}
 use Rattle.typing_expressions.specs.Numbered.{numbered, typing_at, operands_at, arguments_at, named_at, lengths_at}
 use Rattle.typing_expressions.proofs.Verdicts.{tells_left, tells_right}

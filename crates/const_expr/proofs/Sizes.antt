@@ -5,9 +5,9 @@ use Rattle.std.proofs.lemmas.List.{drop_more, drop_all}
 use Rattle.std.proofs.Common.{List, [], ◌∷◌, length, drop, get_or, ◌+◌, sym, mul_comm, mul_assoc, ℤ, pos, FitsSigned, to_z, of_z, w64}
 use Rattle.std.proofs.lemmas.Int.{ints, to_z-of_z}
 use Rattle.tree.specs.Capped.{capped}
-use Rattle.typing_rules.specs.Types.{elements_in}
-use Rattle.typing_rules.specs.Verdict.{fine}
-use Rattle.typing_rules.specs.Expressions.{positive}
+use Rattle.typing_spec.specs.Types.{elements_in}
+use Rattle.typing_spec.specs.Verdict.{fine}
+use Rattle.typing_spec.specs.Expressions.{positive}
 use Rattle.srcset.specs.declared.refusal.Pos.{Pos}
 
 -- of a limit M below which a number is itself

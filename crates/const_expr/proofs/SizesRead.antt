@@ -5,9 +5,9 @@ use Rattle.srcset.specs.declared.refusal.Pos.{Pos}
 use Rattle.srcset.specs.declared.refusal.Refusal.{Refusal}
 use Rattle.tree.specs.declared.expression.Expr.{Expr}
 use Rattle.tree.specs.View.{tree_of, trees_of}
-use Rattle.typing_rules.specs.Verdict.{fine, both, then_check}
-use Rattle.typing_rules.specs.Scope.{Scope, strings, strings_in, past}
-use Rattle.typing_rules.specs.Expressions as typed
+use Rattle.typing_spec.specs.Verdict.{fine, both, then_check}
+use Rattle.typing_spec.specs.Scope.{Scope, strings, strings_in, past}
+use Rattle.typing_spec.specs.Expressions as typed
 use Rattle.typing_expressions.specs.Refused.{Tells}
 use Rattle.typing_expressions.specs.Numbered.{numbered, size_at, lengths_at}
 use Rattle.typing_expressions.proofs.Verdicts.{tells_left, tells_right}

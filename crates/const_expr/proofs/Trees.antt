@@ -8,11 +8,11 @@ use Rattle.tree.specs.declared.expression.Expr as E
 use Rattle.tree.specs.declared.expression.TypeName.{TypeName}
 use Rattle.tree.specs.Tree.{string, type_name}
 use Rattle.tree.specs.View.{tree_of, trees_of, type_of}
-use Rattle.typing_rules.specs.Verdict.{Verdict, fine}
-use Rattle.typing_rules.specs.Scope.{Scope}
-use Rattle.typing_rules.specs.Specifiers.{base_type}
-use Rattle.typing_rules.specs.Expressions as typed
-use Rattle.typing_rules.specs.Expressions.{Checked}
+use Rattle.typing_spec.specs.Verdict.{Verdict, fine}
+use Rattle.typing_spec.specs.Scope.{Scope}
+use Rattle.typing_spec.specs.Specifiers.{base_type}
+use Rattle.typing_spec.specs.Expressions as typed
+use Rattle.typing_spec.specs.Expressions.{Checked}
 use Rattle.typing_expressions.specs.declared.forms.Checked as held
 use Rattle.typing_expressions.specs.Refused.{IsOf, Tells}
 use Rattle.typing_expressions.specs.Forms.{checked_of}

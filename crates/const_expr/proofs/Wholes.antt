@@ -7,10 +7,10 @@ use Rattle.srcset.specs.Refusal.{IsFaultOfRefusal}
 use Rattle.srcset.specs.declared.fault.Fault.{Fault}
 use Rattle.srcset.specs.declared.refusal.Refusal.{Refusal}
 use Rattle.tree.specs.Tree.{Tree}
-use Rattle.typing_rules.specs.Verdict.{Verdict, fine, then_check}
-use Rattle.typing_rules.specs.Scope.{Scope}
-use Rattle.typing_rules.specs.Constants.{constant_form}
-use Rattle.typing_rules.specs.Expressions.{Checked, Constant, typing, integer, constant_in, constant_value}
+use Rattle.typing_spec.specs.Verdict.{Verdict, fine, then_check}
+use Rattle.typing_spec.specs.Scope.{Scope}
+use Rattle.typing_spec.specs.Constants.{constant_form}
+use Rattle.typing_spec.specs.Expressions.{Checked, Constant, typing, integer, constant_in, constant_value}
 use Rattle.typing_expressions.specs.Refused.{IsOf, Tells}
 use Rattle.typing_scopes.specs.Scopes.{with_texts}
 use Rattle.const_expr.specs.Told.{IsFaultOfVerdict}

@@ -2,10 +2,10 @@
 use Rattle.std.specs.Prelude.{List, [], ◌∷◌}
 use Rattle.srcset.specs.declared.code.Code.TheVariants as code
 use Rattle.srcset.specs.declared.refusal.Pos.{Pos}
-use Rattle.typing_rules.specs.Types.{ParameterType}
-use Rattle.typing_rules.specs.Program.{Arguments, no_arguments}
-use Rattle.typing_rules.specs.Verdict.{Verdict, fine, breaks, then_check}
-use Rattle.typing_rules.specs.Expressions.{Checked, argument}
+use Rattle.typing_spec.specs.Types.{ParameterType}
+use Rattle.typing_spec.specs.Program.{Arguments, no_arguments}
+use Rattle.typing_spec.specs.Verdict.{Verdict, fine, breaks, then_check}
+use Rattle.typing_spec.specs.Expressions.{Checked, argument}
 
 -- as many as parameters, each assigned to its own
 abbrev pub given_for : Pos → List ParameterType → List Checked → Verdict Arguments

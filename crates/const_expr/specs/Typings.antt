@@ -4,11 +4,11 @@ use Rattle.const_expr.specs.declared.specifiers.BaseType.{BaseType}
 use Rattle.const_expr.specs.declared.specifiers.WordSet.{WordSet}
 use Rattle.const_expr.specs.declared.type_names.NamedType.{NamedType}
 use Rattle.const_expr.specs.declared.constants.Constant.{Constant}
-use Rattle.typing_rules.specs.Types as type
-use Rattle.typing_rules.specs.Expressions as expressions
-use Rattle.typing_rules.specs.Specifiers as typed
-use Rattle.typing_rules.specs.Scope.{Scope, tag_in}
-use Rattle.typing_rules.specs.Verdict.{Verdict, fine, refuse_if}
+use Rattle.typing_spec.specs.Types as type
+use Rattle.typing_spec.specs.Expressions as expressions
+use Rattle.typing_spec.specs.Specifiers as typed
+use Rattle.typing_spec.specs.Scope.{Scope, tag_in}
+use Rattle.typing_spec.specs.Verdict.{Verdict, fine, refuse_if}
 use Rattle.srcset.specs.declared.code.Code.TheVariants as code
 use Rattle.srcset.specs.declared.refusal.Pos.{Pos}
 use Rattle.tree.specs.declared.expression.TypeSpecifier.{TypeSpecifier}

@@ -2,9 +2,9 @@
 #![tactic(auto)]
 
 ghost use Rattle.std.specs.Prelude.{◌≡◌, length, map, reverse, IfErr, IfOk};
-ghost use Rattle.typing_program.specs.View.{parameter_type_of, arguments_of, argument_of};
-ghost use Rattle.typing_rules.specs.Verdict.{fine, then_check};
-ghost use Rattle.typing_rules.specs.Expressions as typed;
+ghost use Rattle.typed_ast.specs.View.{parameter_type_of, arguments_of, argument_of};
+ghost use Rattle.typing_spec.specs.Verdict.{fine, then_check};
+ghost use Rattle.typing_spec.specs.Expressions as typed;
 ghost use Rattle.typing_expressions.specs.Refused.{Tells};
 ghost use Rattle.typing_expressions.specs.Forms.{checked_of};
 ghost use Rattle.typing_expressions.specs.Calls.{called_of};
@@ -12,8 +12,8 @@ ghost use Rattle.const_expr.specs.Given.{given_for};
 
 use srcset::{Code, Pos, Refusal};
 use std::alloc::Global;
+use typed_ast::{Argument, ParameterType};
 use typing_expressions::{Called, Checked, argument, broken, called_value, push_argument};
-use typing_program::{Argument, ParameterType};
 
 /// As many arguments as parameters (6.5.2.2p2), each assigned to its own, the last one first.
 fn assigned_to(

@@ -2,11 +2,11 @@
 #![tactic(auto, using(typing_expressions::proofs::Verdicts::tells_then))]
 
 ghost use Rattle.std.specs.Prelude.{◌≡◌, IfErr, IfOk, None};
-ghost use Rattle.typing_rules.specs.Verdict.{fine};
-ghost use Rattle.typing_rules.specs.Expressions as typed;
-ghost use Rattle.typing_rules.specs.Program as program_typed;
+ghost use Rattle.typing_spec.specs.Verdict.{fine};
+ghost use Rattle.typing_spec.specs.Expressions as typed;
+ghost use Rattle.typing_spec.specs.Program as program_typed;
 ghost use Rattle.srcset.specs.declared.refusal.Refusal.TheVariants.{Memory};
-ghost use Rattle.typing_program.specs.View.{value_of};
+ghost use Rattle.typed_ast.specs.View.{value_of};
 ghost use Rattle.typing_expressions.specs.Refused.{Tells};
 ghost use Rattle.typing_expressions.specs.Forms.{checked_of, worth_of};
 ghost use Rattle.const_expr.specs.Typings.{named_of, option_named};
@@ -15,8 +15,8 @@ use crate::type_names::NamedType;
 use ctypes::IntType;
 use srcset::{Code, Pos, Refusal};
 use std::alloc::Global;
+use typed_ast::Value;
 use typing_expressions::{Checked, Worth, boxed, broken, effect, valued};
-use typing_program::Value;
 
 /// A value as one of another type.
 fn converted(alloc: Global, ty: IntType, x: Worth) -> Result<Value, Refusal>

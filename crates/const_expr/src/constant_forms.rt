@@ -2,8 +2,8 @@
 #![tactic(auto, using(typing_expressions::proofs::Verdicts::each_left, typing_expressions::proofs::Verdicts::each_right, typing_expressions::proofs::Verdicts::each_fine))]
 
 ghost use Rattle.std.specs.Prelude.{◌≡◌, IfErr, OnOk};
-ghost use Rattle.typing_rules.specs.Verdict.{fine};
-ghost use Rattle.typing_rules.specs.Constants as typed;
+ghost use Rattle.typing_spec.specs.Verdict.{fine};
+ghost use Rattle.typing_spec.specs.Constants as typed;
 ghost use Rattle.tree.specs.View.{tree_of};
 ghost use Rattle.typing_expressions.specs.Refused.{IsOf};
 ghost use Rattle.typing_scopes.specs.Scopes.{option_binding};

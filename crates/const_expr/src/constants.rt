@@ -3,9 +3,9 @@
 
 ghost use Rattle.std.specs.Prelude.{◌≡◌, IfErr, IfOk};
 ghost use Rattle.ctypes.specs.Types.{converted};
-ghost use Rattle.typing_rules.specs.Verdict.{fine, then_check};
-ghost use Rattle.typing_rules.specs.Expressions as typed;
-ghost use Rattle.typing_rules.specs.Program as program_typed;
+ghost use Rattle.typing_spec.specs.Verdict.{fine, then_check};
+ghost use Rattle.typing_spec.specs.Expressions as typed;
+ghost use Rattle.typing_spec.specs.Program as program_typed;
 ghost use Rattle.typing_expressions.specs.Refused.{Tells};
 ghost use Rattle.typing_expressions.specs.Forms.{checked_of, worth_of};
 ghost use Rattle.const_expr.specs.Typings.{constant_of, natural};
@@ -15,8 +15,8 @@ use crate::type_names::positive;
 use ctypes::{IntType, convert};
 use srcset::{Code, Pos, Refusal};
 use std::alloc::Global;
+use typed_ast::Value;
 use typing_expressions::{Checked, Worth, valued};
-use typing_program::Value;
 
 /// The type and the value of a constant expression.
 #[derive(Clone, Copy)]

@@ -4,17 +4,17 @@
 ghost use Rattle.std.specs.Prelude.{◌≡◌, ℤ, IfErr, IfOk};
 ghost use Rattle.ctypes.specs.Arithmetic.{RightIsValueOf};
 ghost use Rattle.ctypes.specs.Types as ctype;
-ghost use Rattle.typing_rules.specs.Verdict.{fine, breaks};
+ghost use Rattle.typing_spec.specs.Verdict.{fine, breaks};
 ghost use Rattle.srcset.specs.declared.code.Code.TheVariants as code;
-ghost use Rattle.typing_rules.specs.Constants as typed;
-ghost use Rattle.typing_rules.specs.Operators as operators;
-ghost use Rattle.typing_program.specs.View.{value_of, place_of};
+ghost use Rattle.typing_spec.specs.Constants as typed;
+ghost use Rattle.typing_spec.specs.Operators as operators;
+ghost use Rattle.typed_ast.specs.View.{value_of, place_of};
 ghost use Rattle.typing_expressions.specs.Refused.{IsOf};
 
 use ctypes::{BinOp, IntType, Undef, binary, complement, convert, is_zero, negate};
 use srcset::{Code, Pos, Refusal};
 use tree::PrefixOp;
-use typing_program::{Place, Value};
+use typed_ast::{Place, Value};
 
 /// What a sign makes of a value (6.5.3.3).
 fn sign_of(op: PrefixOp, ty: IntType, value: i64) -> Result<i64, Undef>

@@ -4,9 +4,9 @@
 ghost use Rattle.std.specs.Prelude.{◌≡◌, ◌<◌, ◌≤◌, ◌^◌, ℕ, IfErr, IfNone, IfOk};
 ghost use Rattle.std.specs.Option.{IfSome};
 ghost use Rattle.ctypes.specs.Types.{bytes_of};
-ghost use Rattle.typing_rules.specs.Verdict.{fine};
-ghost use Rattle.typing_rules.specs.Types as type;
-ghost use Rattle.typing_rules.specs.Expressions as typed;
+ghost use Rattle.typing_spec.specs.Verdict.{fine};
+ghost use Rattle.typing_spec.specs.Types as type;
+ghost use Rattle.typing_spec.specs.Expressions as typed;
 ghost use Rattle.tree.specs.Capped.{capped};
 ghost use Rattle.srcset.specs.declared.refusal.Refusal.TheVariants.{Memory};
 ghost use Rattle.typing_expressions.specs.Refused.{Tells};
@@ -16,8 +16,8 @@ ghost use Rattle.const_expr.specs.Typings.{natural, option_named};
 use crate::type_names::{NamedType, bytes_in, elements_within};
 use ctypes::{IntType, size_of};
 use srcset::{Code, Pos, Refusal};
+use typed_ast::Value;
 use typing_expressions::{Checked, Elements, broken};
-use typing_program::Value;
 
 /// The bytes of an array of so many such elements, or 2^64 - 1 where that is less.
 fn bytes_of_array(length: u32, elements: Elements) -> u64

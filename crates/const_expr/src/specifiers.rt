@@ -2,9 +2,9 @@
 #![tactic(auto, using(typing_expressions::proofs::Verdicts::each_left, typing_expressions::proofs::Verdicts::each_right, typing_expressions::proofs::Verdicts::each_fine))]
 
 ghost use Rattle.std.specs.Prelude.{◌≡◌, ◌≤◌, ◌∷◌, [], length, IfErr, IfSome, OnOk, IfOk, nat_eq, not, map};
-ghost use Rattle.typing_rules.specs.Specifiers as typed;
-ghost use Rattle.typing_rules.specs.Verdict.{fine, refuse_if};
-ghost use Rattle.typing_rules.specs.Scope.{tag_in};
+ghost use Rattle.typing_spec.specs.Specifiers as typed;
+ghost use Rattle.typing_spec.specs.Verdict.{fine, refuse_if};
+ghost use Rattle.typing_spec.specs.Scope.{tag_in};
 ghost use Rattle.srcset.specs.declared.code.Code.TheVariants as code;
 ghost use Rattle.typing_expressions.specs.Refused.{IsOf};
 ghost use Rattle.const_expr.specs.Typings.{base_type_of, word_set_of, is_empty, tag_of};

@@ -2,9 +2,9 @@
 #![tactic(auto, using(crate::proofs::Sizes::capped_product, crate::proofs::Sizes::capped_one, crate::proofs::Sizes::limit_of_capped))]
 
 ghost use Rattle.std.specs.Prelude.{◌≡◌, Bool, IfErr, IfOk, OnOk, Some, None};
-ghost use Rattle.typing_rules.specs.Types as type;
-ghost use Rattle.typing_rules.specs.Verdict.{fine};
-ghost use Rattle.typing_rules.specs.Expressions as typed;
+ghost use Rattle.typing_spec.specs.Types as type;
+ghost use Rattle.typing_spec.specs.Verdict.{fine};
+ghost use Rattle.typing_spec.specs.Expressions as typed;
 ghost use Rattle.tree.specs.Capped.{capped};
 ghost use Rattle.typing_expressions.specs.Refused.{Tells};
 ghost use Rattle.const_expr.specs.Typings.{named_of, option_named};

@@ -2,11 +2,11 @@
 #![tactic(auto, using(typing_expressions::proofs::Verdicts::tells_then, crate::proofs::Parts::joined, crate::proofs::Parts::joined_tells))]
 
 ghost use Rattle.std.specs.Prelude.{◌≡◌, ◌+◌, ◌++◌, length, map, IfErr, IfOk, OnOk};
-ghost use Rattle.typing_program.specs.View.{parameter_type_of};
+ghost use Rattle.typed_ast.specs.View.{parameter_type_of};
 ghost use Rattle.tree.specs.Tree.{call, subscript, after, before, prefix, size_of, size_of_type, cast, binary, conditional, assign};
 ghost use Rattle.tree.specs.View.{tree_of, trees_of, type_of};
-ghost use Rattle.typing_rules.specs.Verdict.{fine};
-ghost use Rattle.typing_rules.specs.Scope.{strings, strings_in, strings_of_type};
+ghost use Rattle.typing_spec.specs.Verdict.{fine};
+ghost use Rattle.typing_spec.specs.Scope.{strings, strings_in, strings_of_type};
 ghost use Rattle.typing_expressions.specs.Refused.{Tells};
 ghost use Rattle.typing_expressions.specs.Forms.{checked_of};
 ghost use Rattle.const_expr.specs.Typings.{option_named};
@@ -24,11 +24,11 @@ use crate::type_names::{NamedType, type_of};
 use srcset::{Code, Names, Pos, Refusal};
 use std::alloc::Global;
 use tree::{AssignOp, BinaryOp, Expr, PrefixOp, StepOp, TypeName};
+use typed_ast::{Moment, ParameterType};
 use typing_expressions::{
     Checked, assigned, broken, chosen, function_named, named, next_literal, operated, signed,
     stepped, subscripted, valued,
 };
-use typing_program::{Moment, ParameterType};
 use typing_scopes::Scope;
 
 /// Two operands.

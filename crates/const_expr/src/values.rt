@@ -3,8 +3,8 @@
 
 ghost use Rattle.std.specs.Prelude.{◌≡◌, IfErr, IfOk};
 ghost use Rattle.tree.specs.View.{tree_of};
-ghost use Rattle.typing_rules.specs.Verdict.{fine};
-ghost use Rattle.typing_rules.specs.Expressions as typed;
+ghost use Rattle.typing_spec.specs.Verdict.{fine};
+ghost use Rattle.typing_spec.specs.Expressions as typed;
 ghost use Rattle.typing_expressions.specs.Refused.{Tells};
 ghost use Rattle.typing_scopes.specs.Scopes.{with_texts};
 ghost use Rattle.const_expr.specs.Typings.{constant_of};

@@ -6,11 +6,11 @@ use Rattle.srcset.specs.declared.refusal.Pos.{Pos}
 use Rattle.tree.specs.declared.declaration.Initialiser.{Initialiser}
 use Rattle.tree.specs.Tree.{Tree, hole, identifier, constant, string, paren, call, subscript, after, before, prefix, size_of, size_of_type, cast, binary, conditional, assign, Init, init_hole, one_init, braced_init, Inits, no_inits, and_init}
 use Rattle.tree.specs.View.{init_of, inits_of}
-use Rattle.typing_rules.specs.Types.{ObjectType}
-use Rattle.typing_rules.specs.Verdict.{fine, breaks}
-use Rattle.typing_rules.specs.Scope.{Scope, with_literals, literal_of}
-use Rattle.typing_rules.specs.Initialisers.{strings_of, strings_of_all, text_alone, count_of, has_characters}
-use Rattle.typing_rules.specs.Declarations.{text_or_form, text_or_count, length_from}
+use Rattle.typing_spec.specs.Types.{ObjectType}
+use Rattle.typing_spec.specs.Verdict.{fine, breaks}
+use Rattle.typing_spec.specs.Scope.{Scope, with_literals, literal_of}
+use Rattle.typing_spec.specs.Initialisers.{strings_of, strings_of_all, text_alone, count_of, has_characters}
+use Rattle.typing_spec.specs.Declarations.{text_or_form, text_or_count, length_from}
 use Rattle.decls_declarators.proofs.Strings.{none_more, some_more}
 use Rattle.decls_declarators.proofs.Verdicts.{next_of}
 use Rattle.decls.specs.inside.Sizes.{as_literal, alone_literal, count_of_parts, literal_size, list_size, text_size}

@@ -2,11 +2,11 @@
 use Rattle.std.proofs.Common.{◌≡◌, List, ◌∷◌, refl, sym, ◌∙◌, subst}
 use Rattle.srcset.specs.declared.refusal.Refusal.{Refusal}
 use Rattle.tree.specs.Tree.{ItemTree, object, function}
-use Rattle.typing_rules.specs.Verdict.{Verdict, fine, broken, then_check}
-use Rattle.typing_rules.specs.Scope.{Scope}
-use Rattle.typing_rules.specs.Specifiers.{BaseType}
-use Rattle.typing_rules.specs.Linkage.{StorageClass}
-use Rattle.typing_rules.specs.Declarations.{begun, finished, items_declared}
+use Rattle.typing_spec.specs.Verdict.{Verdict, fine, broken, then_check}
+use Rattle.typing_spec.specs.Scope.{Scope}
+use Rattle.typing_spec.specs.Specifiers.{BaseType}
+use Rattle.typing_spec.specs.Linkage.{StorageClass}
+use Rattle.typing_spec.specs.Declarations.{begun, finished, items_declared}
 use Rattle.typing_expressions.specs.Refused.{Tells}
 use Rattle.typing_expressions.proofs.Verdicts.{tells_then}
 use Rattle.decls_declarators.proofs.Verdicts.{then_fine}

@@ -8,14 +8,14 @@ use Rattle.tree.specs.declared.declaration.Initialiser.{Initialiser}
 use Rattle.tree.specs.Tree.{Tree, Init}
 use Rattle.tree.specs.Capped.{capped}
 use Rattle.tree.specs.View.{option_init}
-use Rattle.typing_rules.specs.Types.{ObjectType, DeclaredType, array_of, size_of_object}
-use Rattle.typing_rules.specs.Verdict.{Verdict, fine, then_check}
-use Rattle.typing_rules.specs.Scope.{Scope, lookup, with_literals}
-use Rattle.typing_rules.specs.Specifiers.{BaseType}
-use Rattle.typing_rules.specs.Initialisers.{past_init}
-use Rattle.typing_rules.specs.Declarators.{declared_type, strings_in_sizes}
-use Rattle.typing_rules.specs.Linkage.{StorageClass}
-use Rattle.typing_rules.specs.Declarations.{Begun, begun, has_init, object_at, type_of_binding, storage_of, sized, length_from}
+use Rattle.typing_spec.specs.Types.{ObjectType, DeclaredType, array_of, size_of_object}
+use Rattle.typing_spec.specs.Verdict.{Verdict, fine, then_check}
+use Rattle.typing_spec.specs.Scope.{Scope, lookup, with_literals}
+use Rattle.typing_spec.specs.Specifiers.{BaseType}
+use Rattle.typing_spec.specs.Initialisers.{past_init}
+use Rattle.typing_spec.specs.Declarators.{declared_type, strings_in_sizes}
+use Rattle.typing_spec.specs.Linkage.{StorageClass}
+use Rattle.typing_spec.specs.Declarations.{Begun, begun, has_init, object_at, type_of_binding, storage_of, sized, length_from}
 use Rattle.typing_expressions.specs.Refused.{Tells}
 use Rattle.typing_expressions.proofs.Verdicts.{tells_then}
 use Rattle.typing_scopes.specs.Scopes.{with_texts}

@@ -1,11 +1,11 @@
 -- What the code's declarators stand for.
 use Rattle.decls_linkage.specs.declared.rules.StorageClass.{StorageClass}
 use Rattle.decls_linkage.specs.Views.{class_of}
-use Rattle.typing_program.specs.View.{storage_of, declared_type_of}
+use Rattle.typed_ast.specs.View.{storage_of, declared_type_of}
 use Rattle.tree.specs.declared.declaration.ObjectDeclarator.{ObjectDeclarator}
 use Rattle.tree.specs.View.{option_init}
-use Rattle.typing_rules.specs.Scope.{Scope}
-use Rattle.typing_rules.specs.Declarations as typed
+use Rattle.typing_spec.specs.Scope.{Scope}
+use Rattle.typing_spec.specs.Declarations as typed
 use Rattle.decls.specs.declared.begun_objects.BegunObject.{BegunObject}
 
 -- an object that has begun with this storage class and this declarator, in this scope

@@ -4,9 +4,9 @@
 ghost use Rattle.std.specs.Prelude.{◌≡◌, map, IfErr, IfOk};
 ghost use Rattle.srcset.specs.declared.refusal.Refusal.TheVariants.{Memory};
 ghost use Rattle.tree.specs.View.{option_tree, option_init};
-ghost use Rattle.typing_program.specs.View.{storage_of, declared_type_of};
-ghost use Rattle.typing_rules.specs.Verdict.{fine};
-ghost use Rattle.typing_rules.specs.Declarations as typed;
+ghost use Rattle.typed_ast.specs.View.{storage_of, declared_type_of};
+ghost use Rattle.typing_spec.specs.Verdict.{fine};
+ghost use Rattle.typing_spec.specs.Declarations as typed;
 ghost use Rattle.typing_expressions.specs.Refused.{Tells};
 ghost use Rattle.const_expr.specs.Typings.{base_type_of};
 ghost use Rattle.typing_scopes.specs.Scopes.{with_texts, meaning_of, option_binding};
@@ -20,7 +20,7 @@ use decls_linkage::{StorageClass, object_at};
 use srcset::{Names, Refusal};
 use std::alloc::Global;
 use tree::ObjectDeclarator;
-use typing_program::{DeclaredType, Storage};
+use typed_ast::{DeclaredType, Storage};
 use typing_scopes::{Binding, Meaning, Scope};
 
 /// An object whose name is in scope: its type, with an earlier declaration the composite type (6.2.7p4), and its storage.

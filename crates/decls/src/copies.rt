@@ -3,12 +3,12 @@
 
 ghost use Rattle.std.specs.Prelude.{◌≡◌, map, IfErr, IfOk};
 ghost use Rattle.srcset.specs.declared.refusal.Refusal.TheVariants.{Memory};
-ghost use Rattle.typing_program.specs.View.{declared_type_of, parameter_type_of, function_type_of};
+ghost use Rattle.typed_ast.specs.View.{declared_type_of, parameter_type_of, function_type_of};
 
 use decls_linkage::copied;
 use srcset::Refusal;
 use std::alloc::Global;
-use typing_program::{DeclaredType, FunctionType, ParameterType};
+use typed_ast::{DeclaredType, FunctionType, ParameterType};
 
 /// The same type once more.
 pub(crate) fn copied_type(alloc: Global, declared: &DeclaredType) -> Result<DeclaredType, Refusal>

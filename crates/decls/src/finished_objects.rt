@@ -5,12 +5,12 @@ ghost use Rattle.std.specs.Prelude.{◌≡◌, ◌∷◌, IfErr, IfOk, OnOk};
 ghost use Rattle.srcset.specs.declared.refusal.Refusal.TheVariants.{Memory};
 ghost use Rattle.srcset.specs.NameTable.{Texts};
 ghost use Rattle.tree.specs.View.{init_of, option_init};
-ghost use Rattle.typing_program.specs.View.{object_type_of, declared_type_of, storage_of};
-ghost use Rattle.typing_rules.specs.Verdict.{fine};
-ghost use Rattle.typing_rules.specs.Types as type;
-ghost use Rattle.typing_rules.specs.Scope as scope_typed;
-ghost use Rattle.typing_rules.specs.Expressions as expressions;
-ghost use Rattle.typing_rules.specs.Declarations as typed;
+ghost use Rattle.typed_ast.specs.View.{object_type_of, declared_type_of, storage_of};
+ghost use Rattle.typing_spec.specs.Verdict.{fine};
+ghost use Rattle.typing_spec.specs.Types as type;
+ghost use Rattle.typing_spec.specs.Scope as scope_typed;
+ghost use Rattle.typing_spec.specs.Expressions as expressions;
+ghost use Rattle.typing_spec.specs.Declarations as typed;
 ghost use Rattle.typing_expressions.specs.Refused.{Tells};
 ghost use Rattle.typing_scopes.specs.Scopes.{with_texts, meaning_of, linkage_of, state_of};
 ghost use Rattle.decls_linkage.specs.Views.{class_of};
@@ -26,8 +26,8 @@ use decls_linkage::{StorageClass, array_of, completed, composite, copied};
 use srcset::{Code, Names, Pos, Refusal};
 use std::alloc::Global;
 use tree::{Initialiser, ObjectDeclarator};
+use typed_ast::{DeclaredType, ObjectType, Storage};
 use typing_expressions::{OBJECT_LIMIT, broken};
-use typing_program::{DeclaredType, ObjectType, Storage};
 use typing_scopes::{Linkage, Meaning, Scope, State, StaticObject};
 
 /// The lengths of an array of so many elements of these lengths.

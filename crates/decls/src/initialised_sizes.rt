@@ -3,11 +3,11 @@
 
 ghost use Rattle.std.specs.Prelude.{◌≡◌, ◌+◌, length, map, IfErr, IfOk};
 ghost use Rattle.tree.specs.View.{tree_of, init_of, inits_of};
-ghost use Rattle.typing_program.specs.View.{object_type_of};
-ghost use Rattle.typing_rules.specs.Verdict.{fine};
-ghost use Rattle.typing_rules.specs.Scope as scope_typed;
-ghost use Rattle.typing_rules.specs.Initialisers as initialisers;
-ghost use Rattle.typing_rules.specs.Declarations as typed;
+ghost use Rattle.typed_ast.specs.View.{object_type_of};
+ghost use Rattle.typing_spec.specs.Verdict.{fine};
+ghost use Rattle.typing_spec.specs.Scope as scope_typed;
+ghost use Rattle.typing_spec.specs.Initialisers as initialisers;
+ghost use Rattle.typing_spec.specs.Declarations as typed;
 ghost use Rattle.typing_expressions.specs.Refused.{Tells};
 ghost use Rattle.typing_scopes.specs.Scopes.{with_texts};
 ghost use Rattle.decls.specs.inside.Sizes.{as_literal, init_literal, alone_literal, count_of_parts, list_size, text_size};
@@ -15,8 +15,8 @@ ghost use Rattle.decls.specs.inside.Sizes.{as_literal, init_literal, alone_liter
 use ctypes::IntType;
 use srcset::{Code, Names, Pos, Refusal};
 use tree::{Expr, Initialiser};
+use typed_ast::ObjectType;
 use typing_expressions::broken;
-use typing_program::ObjectType;
 
 /// A character type (6.2.5p15).
 fn is_character(ty: IntType) -> bool

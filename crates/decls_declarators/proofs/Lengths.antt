@@ -9,10 +9,10 @@ use Rattle.srcset.specs.declared.refusal.Refusal.{Refusal}
 use Rattle.tree.specs.Tree.{Tree}
 use Rattle.tree.specs.declared.expression.Expr.{Expr}
 use Rattle.tree.specs.View.{tree_of, option_tree}
-use Rattle.typing_rules.specs.Verdict.{Verdict, fine, broken, both, then_check}
-use Rattle.typing_rules.specs.Scope.{Scope, with_literals, past}
-use Rattle.typing_rules.specs.Expressions.{positive, Constant, constant_value}
-use Rattle.typing_rules.specs.Declarators.{inner_size, inner_sizes, outer_size, sizes_in, size_of_array, and_length, and_outermost, strings_in_size, strings_in_sizes}
+use Rattle.typing_spec.specs.Verdict.{Verdict, fine, broken, both, then_check}
+use Rattle.typing_spec.specs.Scope.{Scope, with_literals, past}
+use Rattle.typing_spec.specs.Expressions.{positive, Constant, constant_value}
+use Rattle.typing_spec.specs.Declarators.{inner_size, inner_sizes, outer_size, sizes_in, size_of_array, and_length, and_outermost, strings_in_size, strings_in_sizes}
 use Rattle.typing_expressions.specs.Refused.{Tells}
 use Rattle.typing_expressions.proofs.Verdicts.{tells_left, tells_right}
 use Rattle.typing_scopes.specs.Scopes.{with_texts}

@@ -10,9 +10,9 @@ use Rattle.ctypes.specs.declared.types.IntType.{IntType}
 use Rattle.ctypes.specs.declared.types.IntType.TheVariants as ty
 use Rattle.ctypes.specs.Types.{bytes_of}
 use Rattle.tree.specs.Capped.{capped}
-use Rattle.typing_rules.specs.Types.{ObjectType, elements_in, size_of_object}
-use Rattle.typing_rules.specs.Verdict.{fine, refuse_if}
-use Rattle.typing_rules.specs.Expressions.{too_large}
+use Rattle.typing_spec.specs.Types.{ObjectType, elements_in, size_of_object}
+use Rattle.typing_spec.specs.Verdict.{fine, refuse_if}
+use Rattle.typing_spec.specs.Expressions.{too_large}
 use Rattle.typing_expressions.specs.Refused.{Tells, refused}
 use Rattle.const_expr.proofs.Sizes.{limit_of_capped}
 use Rattle.decls_declarators.specs.Views.{Positive}

@@ -3,9 +3,9 @@ use Rattle.std.proofs.Common.{subst}
 use Rattle.srcset.specs.NameTable.{Texts}
 use Rattle.srcset.specs.declared.refusal.Refusal.{Refusal}
 use Rattle.tree.specs.Tree.{ParameterTree}
-use Rattle.typing_rules.specs.Scope.{Scope}
-use Rattle.typing_rules.specs.Specifiers.{base_type}
-use Rattle.typing_rules.specs.Declarators.{sizes_in, parameter_with, parameter_object}
+use Rattle.typing_spec.specs.Scope.{Scope}
+use Rattle.typing_spec.specs.Specifiers.{base_type}
+use Rattle.typing_spec.specs.Declarators.{sizes_in, parameter_with, parameter_object}
 use Rattle.typing_expressions.specs.Refused.{IsOf, Tells}
 use Rattle.typing_expressions.proofs.Verdicts.{tells_left, tells_of}
 use Rattle.const_expr.proofs.Numbered.{base_same}

@@ -6,13 +6,13 @@ use Rattle.srcset.specs.declared.refusal.Refusal.{Refusal}
 use Rattle.tree.specs.Tree.{ParameterTree}
 use Rattle.tree.specs.declared.declaration.Parameter.{Parameter}
 use Rattle.tree.specs.View.{parameter_of}
-use Rattle.typing_program.specs.View.{parameter_type_of}
-use Rattle.typing_program.specs.declared.types.ParameterType as held
-use Rattle.typing_rules.specs.Types.{ParameterType, ObjectType, complete}
-use Rattle.typing_rules.specs.Verdict.{Verdict, fine, broken, then_check}
-use Rattle.typing_rules.specs.Scope.{Scope, Binding, an_object, an_array_parameter, no_linkage, defined, inside, outside}
-use Rattle.typing_rules.specs.Program as typed
-use Rattle.typing_rules.specs.Declarators.{ParameterObject, a_number, a_reference, Parameters, parameters_from, parameters_in, and_parameter, type_of_parameter, references_after, behind_parameters}
+use Rattle.typed_ast.specs.View.{parameter_type_of}
+use Rattle.typed_ast.specs.declared.types.ParameterType as held
+use Rattle.typing_spec.specs.Types.{ParameterType, ObjectType, complete}
+use Rattle.typing_spec.specs.Verdict.{Verdict, fine, broken, then_check}
+use Rattle.typing_spec.specs.Scope.{Scope, Binding, an_object, an_array_parameter, no_linkage, defined, inside, outside}
+use Rattle.typing_spec.specs.Program as typed
+use Rattle.typing_spec.specs.Declarators.{ParameterObject, a_number, a_reference, Parameters, parameters_from, parameters_in, and_parameter, type_of_parameter, references_after, behind_parameters}
 use Rattle.typing_expressions.specs.Refused.{Tells}
 use Rattle.typing_expressions.proofs.Verdicts.{tells_then}
 use Rattle.typing_scopes.specs.Scopes.{with_texts, with_objects}

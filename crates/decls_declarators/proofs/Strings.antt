@@ -3,7 +3,7 @@ use Rattle.std.proofs.Common.{◌≡◌, ℕ, ◌+◌, ◌<◌, ◌≤◌, List,
 use Rattle.std.proofs.lemmas.List.{drop_all}
 use Rattle.tree.specs.declared.expression.Expr.{Expr}
 use Rattle.tree.specs.View.{tree_of, trees_of}
-use Rattle.typing_rules.specs.Scope.{Scope, with_literals, strings, strings_in}
+use Rattle.typing_spec.specs.Scope.{Scope, with_literals, strings, strings_in}
 use Rattle.decls_declarators.proofs.Verdicts.{next_of}
 
 pub none_more : (s : Scope) → with_literals s [] ≡ s

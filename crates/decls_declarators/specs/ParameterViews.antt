@@ -2,11 +2,11 @@
 use Rattle.std.specs.Prelude.{ℕ, []}
 use Rattle.decls_declarators.specs.declared.parameter_objects.ParameterObject.{ParameterObject}
 use Rattle.decls_declarators.specs.declared.parameter_objects.ParameterObject.TheVariants.{Number, Reference}
-use Rattle.typing_program.specs.View.{object_type_of}
+use Rattle.typed_ast.specs.View.{object_type_of}
 use Rattle.tree.specs.Tree.{ParameterTree}
-use Rattle.typing_rules.specs.Verdict.{Verdict, provided}
-use Rattle.typing_rules.specs.Scope.{Scope, with_literals}
-use Rattle.typing_rules.specs.Declarators as typed
+use Rattle.typing_spec.specs.Verdict.{Verdict, provided}
+use Rattle.typing_spec.specs.Scope.{Scope, with_literals}
+use Rattle.typing_spec.specs.Declarators as typed
 
 abbrev pub parameter_object_of : ParameterObject → typed.ParameterObject
 parameter_object_of (Number t k) = typed.a_number (typed.object_type t k [])

@@ -1,7 +1,7 @@
 -- What the code's types of declarators stand for.
 use Rattle.std.specs.Prelude.{ℕ, ◌<◌, Bool, true, false, List, [], ◌∷◌, Option, Some, None}
 use Rattle.decls_declarators.specs.declared.sizes.Sizes.{Sizes}
-use Rattle.typing_rules.specs.Declarators as typed
+use Rattle.typing_spec.specs.Declarators as typed
 
 -- the lengths from the outermost, or an unknown size and the others
 abbrev pub sizes_with : Bool → List ℕ → typed.Sizes

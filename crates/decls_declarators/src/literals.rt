@@ -4,7 +4,7 @@
 ghost use Rattle.std.specs.Prelude.{◌≡◌, map, OnOk, IfErr};
 ghost use Rattle.srcset.specs.declared.refusal.Refusal.TheVariants.{Memory};
 ghost use Rattle.tree.specs.View.{tree_of, trees_of};
-ghost use Rattle.typing_rules.specs.Scope as typed;
+ghost use Rattle.typing_spec.specs.Scope as typed;
 
 use srcset::Refusal;
 use tree::Expr;

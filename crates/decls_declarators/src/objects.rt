@@ -5,11 +5,11 @@ ghost use Rattle.std.specs.Prelude.{◌≡◌, ◌≤◌, map, IfErr, IfOk, OnOk
 ghost use Rattle.std.specs.List.{All};
 ghost use Rattle.srcset.specs.declared.refusal.Refusal.TheVariants.{Memory};
 ghost use Rattle.tree.specs.View.{option_tree};
-ghost use Rattle.typing_program.specs.View.{object_type_of, declared_type_of};
-ghost use Rattle.typing_rules.specs.Verdict.{fine};
-ghost use Rattle.typing_rules.specs.Scope as scope_typed;
-ghost use Rattle.typing_rules.specs.Expressions as expression_typed;
-ghost use Rattle.typing_rules.specs.Declarators as typed;
+ghost use Rattle.typed_ast.specs.View.{object_type_of, declared_type_of};
+ghost use Rattle.typing_spec.specs.Verdict.{fine};
+ghost use Rattle.typing_spec.specs.Scope as scope_typed;
+ghost use Rattle.typing_spec.specs.Expressions as expression_typed;
+ghost use Rattle.typing_spec.specs.Declarators as typed;
 ghost use Rattle.typing_expressions.specs.Refused.{Tells};
 ghost use Rattle.const_expr.specs.Typings.{base_type_of};
 ghost use Rattle.typing_scopes.specs.Scopes.{with_texts};
@@ -21,8 +21,8 @@ use ctypes::IntType;
 use srcset::{Code, Names, Pos, Refusal};
 use std::alloc::Global;
 use tree::Expr;
+use typed_ast::{DeclaredType, ObjectType};
 use typing_expressions::{OBJECT_LIMIT, broken};
-use typing_program::{DeclaredType, ObjectType};
 use typing_scopes::Scope;
 
 /// The lengths of an object within the limit.

@@ -5,11 +5,11 @@ ghost use Rattle.std.specs.Prelude.{◌≡◌, ◌++◌, ◌∷◌, [], List, ma
 ghost use Rattle.srcset.specs.NameTable.{Texts};
 ghost use Rattle.tree.specs.Tree.{ParameterTree};
 ghost use Rattle.tree.specs.View.{parameter_of};
-ghost use Rattle.typing_program.specs.View.{object_type_of, parameter_type_of, function_type_of};
-ghost use Rattle.typing_rules.specs.Verdict.{fine};
-ghost use Rattle.typing_rules.specs.Types as type;
-ghost use Rattle.typing_rules.specs.Scope as scope_typed;
-ghost use Rattle.typing_rules.specs.Declarators as typed;
+ghost use Rattle.typed_ast.specs.View.{object_type_of, parameter_type_of, function_type_of};
+ghost use Rattle.typing_spec.specs.Verdict.{fine};
+ghost use Rattle.typing_spec.specs.Types as type;
+ghost use Rattle.typing_spec.specs.Scope as scope_typed;
+ghost use Rattle.typing_spec.specs.Declarators as typed;
 ghost use Rattle.typing_expressions.specs.Refused.{Tells};
 ghost use Rattle.const_expr.specs.Typings.{base_type_of};
 ghost use Rattle.typing_scopes.specs.Scopes.{with_texts, block_of};
@@ -20,7 +20,7 @@ use const_expr::BaseType;
 use srcset::{Names, Refusal};
 use std::alloc::Global;
 use tree::Parameter;
-use typing_program::{FunctionType, ObjectType, ParameterType};
+use typed_ast::{FunctionType, ObjectType, ParameterType};
 use typing_scopes::{Block, Scope};
 
 /// The types of parameters that are in scope, and what stood there before: the block around them, and the objects of another

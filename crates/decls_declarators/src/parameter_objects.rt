@@ -4,10 +4,10 @@
 ghost use Rattle.std.specs.Prelude.{◌≡◌, [], Some, IfErr, IfOk, OnOk};
 ghost use Rattle.srcset.specs.declared.refusal.Refusal.TheVariants.{Memory};
 ghost use Rattle.tree.specs.View.{parameter_of};
-ghost use Rattle.typing_program.specs.View.{object_type_of, parameter_type_of};
-ghost use Rattle.typing_rules.specs.Verdict.{fine};
-ghost use Rattle.typing_rules.specs.Scope as scope_typed;
-ghost use Rattle.typing_rules.specs.Declarators as typed;
+ghost use Rattle.typed_ast.specs.View.{object_type_of, parameter_type_of};
+ghost use Rattle.typing_spec.specs.Verdict.{fine};
+ghost use Rattle.typing_spec.specs.Scope as scope_typed;
+ghost use Rattle.typing_spec.specs.Declarators as typed;
 ghost use Rattle.typing_expressions.specs.Refused.{Tells};
 ghost use Rattle.const_expr.specs.Typings.{base_type_of};
 ghost use Rattle.typing_scopes.specs.Scopes.{with_texts};
@@ -22,8 +22,8 @@ use decls_linkage::{copied, fresh};
 use srcset::{Code, Names, Pos, Refusal};
 use std::alloc::Global;
 use tree::Parameter;
+use typed_ast::{DeclaredType, ObjectType, ParameterType, Storage};
 use typing_expressions::broken;
-use typing_program::{DeclaredType, ObjectType, ParameterType, Storage};
 use typing_scopes::{Linkage, Meaning, Scope, State};
 
 /// What a parameter is in its function.

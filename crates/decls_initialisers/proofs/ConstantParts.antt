@@ -4,10 +4,10 @@ use Rattle.std.proofs.lemmas.List.{drop_all}
 use Rattle.srcset.specs.declared.refusal.Refusal.{Refusal}
 use Rattle.tree.specs.declared.declaration.Initialiser.{Initialiser}
 use Rattle.tree.specs.View.{init_of, inits_of}
-use Rattle.typing_rules.specs.Verdict.{Verdict, fine, broken, each}
-use Rattle.typing_rules.specs.Scope.{Scope}
+use Rattle.typing_spec.specs.Verdict.{Verdict, fine, broken, each}
+use Rattle.typing_spec.specs.Scope.{Scope}
 use Rattle.ctypes.specs.declared.types.IntType.{IntType}
-use Rattle.typing_rules.specs.Initialisers.{Wanted, constant_parts, all_constant}
+use Rattle.typing_spec.specs.Initialisers.{Wanted, constant_parts, all_constant}
 use Rattle.typing_expressions.specs.Refused.{IsOf}
 use Rattle.typing_expressions.proofs.Verdicts.{each_left}
 use Rattle.decls_declarators.proofs.Verdicts.{next_of}

@@ -6,14 +6,14 @@ use Rattle.std.proofs.lemmas.Bool.{cases_lt}
 use Rattle.srcset.specs.declared.refusal.Refusal.{Refusal}
 use Rattle.ctypes.specs.declared.types.IntType.{IntType}
 use Rattle.ctypes.specs.Types.{converted}
-use Rattle.typing_program.specs.declared.initialisers.Initialiser as held
-use Rattle.typing_program.specs.View.{initialiser_of, initialisers_of}
-use Rattle.typing_rules.specs.Types.{elements_in}
-use Rattle.typing_rules.specs.Verdict.{Verdict, fine, both, then_check}
-use Rattle.typing_rules.specs.Program as program
-use Rattle.typing_rules.specs.Scope.{Scope, file_scope}
-use Rattle.typing_rules.specs.Initialisers as typed
-use Rattle.typing_rules.specs.Initialisers.{characters, zeros, padded, literal_text, and_values}
+use Rattle.typed_ast.specs.declared.initialisers.Initialiser as held
+use Rattle.typed_ast.specs.View.{initialiser_of, initialisers_of}
+use Rattle.typing_spec.specs.Types.{elements_in}
+use Rattle.typing_spec.specs.Verdict.{Verdict, fine, both, then_check}
+use Rattle.typing_spec.specs.Program as program
+use Rattle.typing_spec.specs.Scope.{Scope, file_scope}
+use Rattle.typing_spec.specs.Initialisers as typed
+use Rattle.typing_spec.specs.Initialisers.{characters, zeros, padded, literal_text, and_values}
 use Rattle.typing_expressions.specs.Forms.{seen}
 use Rattle.typing_expressions.specs.Refused.{Tells}
 use Rattle.typing_expressions.proofs.Verdicts.{tells_left, tells_right, tells_then}

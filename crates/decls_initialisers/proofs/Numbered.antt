@@ -6,12 +6,12 @@ use Rattle.srcset.specs.declared.code.Code.TheVariants as code
 use Rattle.srcset.specs.declared.refusal.Pos.{Pos}
 use Rattle.ctypes.specs.declared.types.IntType.{IntType}
 use Rattle.tree.specs.Tree.{Tree, Init, init_hole, one_init, braced_init, Inits, no_inits, and_init, hole, identifier, constant, string, paren, call, subscript, after, before, prefix, size_of, size_of_type, cast, binary, conditional, assign}
-use Rattle.typing_rules.specs.Verdict.{Verdict, fine, breaks, then_check, both, refuse_if, provided}
-use Rattle.typing_rules.specs.Program as program
-use Rattle.typing_rules.specs.Program.{Initialiser}
-use Rattle.typing_rules.specs.Scope.{Scope, literal_of}
-use Rattle.typing_rules.specs.Expressions.{Checked, worth, position}
-use Rattle.typing_rules.specs.Initialisers.{Wanted, one_number, an_array, wanted, exceeds, of_number, number_from, text_from, text_if, array_from, number_in_braces, text_alone, list_or_text, in_list, initialiser, initialisers, past_init, and_part, strings_of, has_characters}
+use Rattle.typing_spec.specs.Verdict.{Verdict, fine, breaks, then_check, both, refuse_if, provided}
+use Rattle.typing_spec.specs.Program as program
+use Rattle.typing_spec.specs.Program.{Initialiser}
+use Rattle.typing_spec.specs.Scope.{Scope, literal_of}
+use Rattle.typing_spec.specs.Expressions.{Checked, worth, position}
+use Rattle.typing_spec.specs.Initialisers.{Wanted, one_number, an_array, wanted, exceeds, of_number, number_from, text_from, text_if, array_from, number_in_braces, text_alone, list_or_text, in_list, initialiser, initialisers, past_init, and_part, strings_of, has_characters}
 use Rattle.typing_scopes.specs.Scopes.{with_texts}
 use Rattle.typing_expressions.specs.Forms.{seen}
 use Rattle.typing_expressions.specs.Numbered.{numbered}

@@ -4,16 +4,16 @@ use Rattle.std.proofs.lemmas.List.{drop_all, map_push}
 use Rattle.srcset.specs.declared.refusal.Pos.{Pos}
 use Rattle.srcset.specs.declared.refusal.Refusal.{Refusal}
 use Rattle.ctypes.specs.declared.types.IntType.{IntType}
-use Rattle.typing_program.specs.declared.initialisers.Initialiser as held
-use Rattle.typing_program.specs.View.{initialiser_of, initialisers_of}
+use Rattle.typed_ast.specs.declared.initialisers.Initialiser as held
+use Rattle.typed_ast.specs.View.{initialiser_of, initialisers_of}
 use Rattle.tree.specs.Tree.{Init, Inits, and_init}
 use Rattle.tree.specs.declared.declaration.Initialiser.{Initialiser}
 use Rattle.tree.specs.View.{init_of, inits_of}
-use Rattle.typing_rules.specs.Verdict.{fine}
-use Rattle.typing_rules.specs.Program as program
-use Rattle.typing_rules.specs.Scope.{Scope}
-use Rattle.typing_rules.specs.Initialisers as typed
-use Rattle.typing_rules.specs.Initialisers.{wanted, past_init, and_part, strings_of, strings_of_all}
+use Rattle.typing_spec.specs.Verdict.{fine}
+use Rattle.typing_spec.specs.Program as program
+use Rattle.typing_spec.specs.Scope.{Scope}
+use Rattle.typing_spec.specs.Initialisers as typed
+use Rattle.typing_spec.specs.Initialisers.{wanted, past_init, and_part, strings_of, strings_of_all}
 use Rattle.typing_expressions.specs.Refused.{Tells}
 use Rattle.typing_expressions.specs.Numbered.{numbered}
 use Rattle.typing_expressions.proofs.Verdicts.{tells_left, tells_right}

@@ -8,18 +8,18 @@ use Rattle.srcset.specs.declared.code.Code.TheVariants as code
 use Rattle.srcset.specs.declared.refusal.Pos.{Pos}
 use Rattle.srcset.specs.declared.refusal.Refusal.{Refusal}
 use Rattle.ctypes.specs.declared.types.IntType.{IntType}
-use Rattle.typing_program.specs.declared.initialisers.Initialiser as held
-use Rattle.typing_program.specs.View.{initialiser_of}
+use Rattle.typed_ast.specs.declared.initialisers.Initialiser as held
+use Rattle.typed_ast.specs.View.{initialiser_of}
 use Rattle.tree.specs.Tree.{Tree, init_hole, one_init, braced_init, Inits, no_inits, and_init, hole, identifier, constant, string, paren, call, subscript, after, before, prefix, size_of, size_of_type, cast, binary, conditional, assign}
 use Rattle.tree.specs.declared.expression.Expr.{Expr}
 use Rattle.tree.specs.declared.declaration.Initialiser.{Initialiser}
 use Rattle.tree.specs.declared.declaration.Initialiser as I
 use Rattle.tree.specs.View.{tree_of, init_of, inits_of}
-use Rattle.typing_rules.specs.Verdict.{Verdict, fine, breaks, then_check, both, each, refuse_if, provided}
-use Rattle.typing_rules.specs.Program as program
-use Rattle.typing_rules.specs.Scope.{Scope, or_empty, strings}
-use Rattle.typing_rules.specs.Initialisers as typed
-use Rattle.typing_rules.specs.Initialisers.{exceeds, array_from, not_braced, text_if, text_from, has_characters, list_or_text, text_alone, strings_of_all}
+use Rattle.typing_spec.specs.Verdict.{Verdict, fine, breaks, then_check, both, each, refuse_if, provided}
+use Rattle.typing_spec.specs.Program as program
+use Rattle.typing_spec.specs.Scope.{Scope, or_empty, strings}
+use Rattle.typing_spec.specs.Initialisers as typed
+use Rattle.typing_spec.specs.Initialisers.{exceeds, array_from, not_braced, text_if, text_from, has_characters, list_or_text, text_alone, strings_of_all}
 use Rattle.typing_expressions.specs.Refused.{Tells, refused}
 use Rattle.typing_expressions.specs.Numbered.{numbered}
 use Rattle.typing_expressions.proofs.Verdicts.{tells_right}

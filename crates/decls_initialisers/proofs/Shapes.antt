@@ -7,7 +7,7 @@ use Rattle.tree.specs.declared.expression.Expr.{Expr}
 use Rattle.tree.specs.declared.declaration.Initialiser.{Initialiser, the_lemmas}
 use Rattle.tree.specs.declared.declaration.Initialiser as I
 use Rattle.tree.specs.View.{tree_of, init_of, inits_of}
-use Rattle.typing_rules.specs.Initialisers.{count_of, text_alone}
+use Rattle.typing_spec.specs.Initialisers.{count_of, text_alone}
 use Rattle.decls_initialisers.specs.Views.{option_string}
 use Rattle.decls_initialisers.specs.inside.Braces.{string_in}
 

@@ -3,8 +3,8 @@ use Rattle.std.proofs.Common.{◌≡◌, ℕ, ◌+◌, ◌<◌, ◌≤◌, List,
 use Rattle.std.proofs.lemmas.List.{drop_all}
 use Rattle.tree.specs.declared.declaration.Initialiser.{Initialiser}
 use Rattle.tree.specs.View.{init_of, inits_of}
-use Rattle.typing_rules.specs.Scope.{Scope, with_literals}
-use Rattle.typing_rules.specs.Initialisers.{strings_of, strings_of_all}
+use Rattle.typing_spec.specs.Scope.{Scope, with_literals}
+use Rattle.typing_spec.specs.Initialisers.{strings_of, strings_of_all}
 use Rattle.decls_declarators.proofs.Verdicts.{next_of}
 
 pub none_more : (s : Scope) → with_literals s [] ≡ s

@@ -1,4 +1,4 @@
 pub mod Views
 pub mod Numbered
 pub mod inside
-pub use Rattle.typing_rules.specs.Initialisers
+pub use Rattle.typing_spec.specs.Initialisers

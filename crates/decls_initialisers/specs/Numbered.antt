@@ -3,10 +3,10 @@ use Rattle.std.specs.Prelude.{ℕ, Bool, List}
 use Rattle.srcset.specs.declared.refusal.Pos.{Pos}
 use Rattle.ctypes.specs.declared.types.IntType.{IntType}
 use Rattle.tree.specs.Tree.{Init}
-use Rattle.typing_rules.specs.Verdict.{Verdict}
-use Rattle.typing_rules.specs.Program.{Initialiser}
-use Rattle.typing_rules.specs.Scope.{Scope}
-use Rattle.typing_rules.specs.Initialisers as typed
+use Rattle.typing_spec.specs.Verdict.{Verdict}
+use Rattle.typing_spec.specs.Program.{Initialiser}
+use Rattle.typing_spec.specs.Scope.{Scope}
+use Rattle.typing_spec.specs.Initialisers as typed
 use Rattle.typing_expressions.specs.Numbered.{numbered}
 
 abbrev pub initialiser_at : List (List ℕ) → ℕ → Scope → Pos → IntType → typed.Wanted → Bool → Init → Verdict Initialiser

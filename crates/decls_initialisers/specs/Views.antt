@@ -2,7 +2,7 @@
 use Rattle.std.specs.Prelude.{ℕ, Option, Some, None}
 use Rattle.srcset.specs.declared.refusal.Pos.{Pos}
 use Rattle.tree.specs.Tree.{Tree, string}
-use Rattle.typing_rules.specs.Initialisers as typed
+use Rattle.typing_spec.specs.Initialisers as typed
 use Rattle.decls_initialisers.specs.declared.forms.Wanted.{Wanted}
 use Rattle.decls_initialisers.specs.declared.forms.Wanted.TheVariants as held
 

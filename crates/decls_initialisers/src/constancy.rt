@@ -2,8 +2,8 @@
 #![tactic(auto)]
 
 ghost use Rattle.std.specs.Prelude.{◌≡◌, ◌&&◌, is_some, map, IfErr, OnOk};
-ghost use Rattle.typing_rules.specs.Verdict.{fine};
-ghost use Rattle.typing_rules.specs.Initialisers as typed;
+ghost use Rattle.typing_spec.specs.Verdict.{fine};
+ghost use Rattle.typing_spec.specs.Initialisers as typed;
 ghost use Rattle.tree.specs.View.{tree_of, init_of, inits_of};
 ghost use Rattle.typing_expressions.specs.Refused.{IsOf};
 ghost use Rattle.decls_initialisers.specs.Views.{wanted_of};

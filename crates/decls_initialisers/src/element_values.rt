@@ -3,11 +3,11 @@
 
 ghost use Rattle.std.specs.Prelude.{◌≡◌, ◌≤◌, [], ◌∷◌, ◌++◌, ◌-◌, ◌^◌, ℕ, ℤ, List, drop, length, map, take, slice_get, IfErr, IfNone, IfOk, IfSome, OnOk};
 ghost use Rattle.srcset.specs.declared.refusal.Refusal.TheVariants.{Memory};
-ghost use Rattle.typing_program.specs.View.{initialiser_of, initialisers_of, value_of};
-ghost use Rattle.typing_rules.specs.Verdict.{fine};
-ghost use Rattle.typing_rules.specs.Types.{elements_in};
-ghost use Rattle.typing_rules.specs.Scope.{Scope};
-ghost use Rattle.typing_rules.specs.Initialisers as typed;
+ghost use Rattle.typed_ast.specs.View.{initialiser_of, initialisers_of, value_of};
+ghost use Rattle.typing_spec.specs.Verdict.{fine};
+ghost use Rattle.typing_spec.specs.Types.{elements_in};
+ghost use Rattle.typing_spec.specs.Scope.{Scope};
+ghost use Rattle.typing_spec.specs.Initialisers as typed;
 ghost use Rattle.typing_expressions.specs.Refused.{Tells};
 ghost use Rattle.typing_expressions.specs.Forms.{seen};
 ghost use Rattle.decls_initialisers.specs.inside.Values.{values_with, all_values_with, value_with, text_with, characters_with};
@@ -16,7 +16,7 @@ use const_expr::folded;
 use ctypes::{IntType, convert};
 use srcset::{Names, Refusal};
 use std::alloc::Global;
-use typing_program::{Initialiser, Value};
+use typed_ast::{Initialiser, Value};
 
 /// How many elements arrays of these lengths have; none only where no `usize` tells it of the arrays, or of an element of theirs.
 fn element_count(lengths: &[u32]) -> Option<usize>

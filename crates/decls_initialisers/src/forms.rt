@@ -3,7 +3,7 @@
 
 ghost use Rattle.std.specs.Prelude.{◌≡◌, map};
 ghost use Rattle.tree.specs.View.{tree_of, init_of, inits_of};
-ghost use Rattle.typing_rules.specs.Initialisers as typed;
+ghost use Rattle.typing_spec.specs.Initialisers as typed;
 ghost use Rattle.decls_initialisers.specs.Views.{wanted_of, option_string};
 ghost use Rattle.decls_initialisers.specs.inside.Braces.{string_in};
 

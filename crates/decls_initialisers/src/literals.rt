@@ -4,8 +4,8 @@
 ghost use Rattle.std.specs.Prelude.{◌≡◌, map, OnOk, IfErr};
 ghost use Rattle.srcset.specs.declared.refusal.Refusal.TheVariants.{Memory};
 ghost use Rattle.tree.specs.View.{init_of, inits_of};
-ghost use Rattle.typing_rules.specs.Scope.{with_literals};
-ghost use Rattle.typing_rules.specs.Initialisers as typed;
+ghost use Rattle.typing_spec.specs.Scope.{with_literals};
+ghost use Rattle.typing_spec.specs.Initialisers as typed;
 
 use decls_declarators::past;
 use srcset::Refusal;

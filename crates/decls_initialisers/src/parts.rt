@@ -3,13 +3,13 @@
 
 ghost use Rattle.std.specs.Prelude.{◌≡◌, ◌+◌, ◌-◌, length, map, slice_get, IfErr, IfOk, OnOk};
 ghost use Rattle.srcset.specs.declared.refusal.Refusal.TheVariants.{Memory};
-ghost use Rattle.typing_program.specs.View.{initialiser_of};
+ghost use Rattle.typed_ast.specs.View.{initialiser_of};
 ghost use Rattle.tree.specs.View.{tree_of, init_of, inits_of};
-ghost use Rattle.typing_rules.specs.Verdict.{fine};
-ghost use Rattle.typing_rules.specs.Scope.{Scope, or_empty, strings};
-ghost use Rattle.typing_rules.specs.Expressions.{position};
-ghost use Rattle.typing_rules.specs.Program as typed_program;
-ghost use Rattle.typing_rules.specs.Initialisers as typed;
+ghost use Rattle.typing_spec.specs.Verdict.{fine};
+ghost use Rattle.typing_spec.specs.Scope.{Scope, or_empty, strings};
+ghost use Rattle.typing_spec.specs.Expressions.{position};
+ghost use Rattle.typing_spec.specs.Program as typed_program;
+ghost use Rattle.typing_spec.specs.Initialisers as typed;
 ghost use Rattle.typing_expressions.specs.Refused.{Tells};
 ghost use Rattle.typing_expressions.specs.Forms.{checked_of};
 ghost use Rattle.typing_expressions.specs.Numbered.{numbered};
@@ -20,8 +20,8 @@ use ctypes::IntType;
 use srcset::{Code, Names, Pos, Refusal};
 use std::alloc::Global;
 use tree::{Expr, Initialiser as Init};
+use typed_ast::Initialiser;
 use typing_expressions::{Checked, broken, valued};
-use typing_program::Initialiser;
 use typing_scopes::Scope;
 
 /// The place of an expression.

@@ -2,13 +2,13 @@
 #![tactic(auto)]
 
 ghost use Rattle.std.specs.Prelude.{◌≡◌, ◌+◌, Bool, length, map, IfErr, IfOk, OnOk};
-ghost use Rattle.typing_program.specs.View.{initialiser_of, initialisers_of};
+ghost use Rattle.typed_ast.specs.View.{initialiser_of, initialisers_of};
 ghost use Rattle.tree.specs.Tree.{braced_init, one_init};
 ghost use Rattle.tree.specs.View.{tree_of, init_of, inits_of};
-ghost use Rattle.typing_rules.specs.Verdict.{fine};
-ghost use Rattle.typing_rules.specs.Scope.{Scope, strings};
-ghost use Rattle.typing_rules.specs.Initialisers as typed;
-ghost use Rattle.typing_rules.specs.Initialisers.{an_array};
+ghost use Rattle.typing_spec.specs.Verdict.{fine};
+ghost use Rattle.typing_spec.specs.Scope.{Scope, strings};
+ghost use Rattle.typing_spec.specs.Initialisers as typed;
+ghost use Rattle.typing_spec.specs.Initialisers.{an_array};
 ghost use Rattle.typing_scopes.specs.Scopes.{with_texts};
 ghost use Rattle.typing_expressions.specs.Refused.{Tells};
 ghost use Rattle.decls_initialisers.specs.Views.{wanted_of, option_string};
@@ -21,8 +21,8 @@ use ctypes::IntType;
 use srcset::{Code, Names, Pos, Refusal};
 use std::alloc::Global;
 use tree::{Expr, Initialiser as Init};
+use typed_ast::Initialiser;
 use typing_expressions::broken;
-use typing_program::Initialiser;
 use typing_scopes::Scope;
 
 /// An initialiser without braces.

@@ -3,13 +3,13 @@ use Rattle.std.proofs.Common.{◌≡◌, ◌≢◌, ℕ, zero, suc, Bool, List, 
 use Rattle.std.specs.Prelude.{Result}
 use Rattle.srcset.specs.declared.refusal.Pos.{Pos}
 use Rattle.srcset.specs.declared.refusal.Refusal.{Refusal}
-use Rattle.typing_rules.specs.Types.{DeclaredType}
-use Rattle.typing_rules.specs.Verdict.{Verdict, fine, provided}
-use Rattle.typing_rules.specs.Scope.{Scope, StaticObject}
-use Rattle.typing_rules.specs.Declarators.{fresh}
-use Rattle.typing_rules.specs.Declarations as typed
-use Rattle.typing_rules.specs.Declarations.{with_automatic, with_static, block_object, object_at}
-use Rattle.typing_rules.specs.Linkage.{StorageClass, no_class, by_static, put_static, file_object, state_of_object}
+use Rattle.typing_spec.specs.Types.{DeclaredType}
+use Rattle.typing_spec.specs.Verdict.{Verdict, fine, provided}
+use Rattle.typing_spec.specs.Scope.{Scope, StaticObject}
+use Rattle.typing_spec.specs.Declarators.{fresh}
+use Rattle.typing_spec.specs.Declarations as typed
+use Rattle.typing_spec.specs.Declarations.{with_automatic, with_static, block_object, object_at}
+use Rattle.typing_spec.specs.Linkage.{StorageClass, no_class, by_static, put_static, file_object, state_of_object}
 use Rattle.typing_expressions.specs.Refused.{IsOf, Tells}
 use Rattle.typing_expressions.proofs.Verdicts.{tells_left, tells_of}
 use Rattle.typing_scopes.specs.Scopes.{with_texts}

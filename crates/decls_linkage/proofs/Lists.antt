@@ -1,9 +1,9 @@
 -- Lists of parameters, as far as they are compared.
 use Rattle.std.proofs.Common.{◌≡◌, ℕ, ◌+◌, ◌<◌, ◌≤◌, Bool, true, false, ◌&&◌, nat_eq, List, [], ◌∷◌, drop, get_or, length, map, sym, ap, ◌∙◌, arith}
 use Rattle.std.proofs.lemmas.List.{drop_more, drop_all, length-drop}
-use Rattle.typing_program.specs.declared.types.ParameterType.{ParameterType}
-use Rattle.typing_program.specs.View.{parameter_type_of}
-use Rattle.typing_rules.specs.Types.{same_parameter, same_parameters}
+use Rattle.typed_ast.specs.declared.types.ParameterType.{ParameterType}
+use Rattle.typed_ast.specs.View.{parameter_type_of}
+use Rattle.typing_spec.specs.Types.{same_parameter, same_parameters}
 
 abbrev pub compared : List ParameterType → List ParameterType → Bool
 compared ps qs = same_parameters (map parameter_type_of ps) (map parameter_type_of qs)

@@ -3,8 +3,8 @@ use Rattle.std.proofs.Common.{◌≡◌, ℕ, zero, suc, Bool, true, false, ◌&
 use Rattle.std.specs.Prelude.{if◌then◌else◌}
 use Rattle.ctypes.specs.declared.types.IntType.{IntType}
 use Rattle.ctypes.specs.declared.types.IntType.TheVariants as ty
-use Rattle.typing_rules.specs.Types.{ObjectType, complete, ParameterType, number, elements, FunctionType, place_of, same_type, same_truth, same_lengths, alike, same_object, same_parameter, same_parameters, same_result, same_function, fits_unknown}
-use Rattle.typing_rules.specs.Scope.{a_function}
+use Rattle.typing_spec.specs.Types.{ObjectType, complete, ParameterType, number, elements, FunctionType, place_of, same_type, same_truth, same_lengths, alike, same_object, same_parameter, same_parameters, same_result, same_function, fits_unknown}
+use Rattle.typing_spec.specs.Scope.{a_function}
 use Rattle.decls_linkage.specs.Views.{are_elements}
 
 at_place : ℕ → IntType

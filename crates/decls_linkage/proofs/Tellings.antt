@@ -5,11 +5,11 @@ use Rattle.srcset.specs.declared.code.Code.TheVariants as code
 use Rattle.srcset.specs.declared.refusal.Pos.{Pos}
 use Rattle.srcset.specs.declared.refusal.Refusal.{Refusal}
 use Rattle.srcset.specs.declared.refusal.Refusal.TheVariants.{Memory}
-use Rattle.typing_rules.specs.Verdict.{Verdict, fine, then_check, each, refuse_if, both}
-use Rattle.typing_rules.specs.Program as program
-use Rattle.typing_rules.specs.Scope.{Scope, Binding, BuiltIn, Meaning, an_object, an_array_parameter, a_function, an_enumerator, State, lookup, built_in, with_name}
-use Rattle.typing_rules.specs.Linkage as typed
-use Rattle.typing_rules.specs.Linkage.{Agreed, agreed_in, as_built_in, declared_at_file, redeclared, with_storage, clash, is_defined, compatible, composite_meaning, agreed, joined}
+use Rattle.typing_spec.specs.Verdict.{Verdict, fine, then_check, each, refuse_if, both}
+use Rattle.typing_spec.specs.Program as program
+use Rattle.typing_spec.specs.Scope.{Scope, Binding, BuiltIn, Meaning, an_object, an_array_parameter, a_function, an_enumerator, State, lookup, built_in, with_name}
+use Rattle.typing_spec.specs.Linkage as typed
+use Rattle.typing_spec.specs.Linkage.{Agreed, agreed_in, as_built_in, declared_at_file, redeclared, with_storage, clash, is_defined, compatible, composite_meaning, agreed, joined}
 use Rattle.typing_expressions.specs.Refused.{IsOf, Tells}
 use Rattle.typing_expressions.proofs.Verdicts.{tells_left, tells_right, tells_then, tells_of}
 use Rattle.typing_scopes.specs.Scopes.{with_texts}

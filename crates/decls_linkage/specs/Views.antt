@@ -1,16 +1,16 @@
 -- What the code's types of linkage stand for.
 use Rattle.std.specs.Prelude.{Bool, false, Option, Some, None}
-use Rattle.typing_program.specs.declared.types.ObjectType.{ObjectType}
-use Rattle.typing_program.specs.declared.types.DeclaredType.{DeclaredType}
-use Rattle.typing_program.specs.View.{object_type_of, declared_type_of}
+use Rattle.typed_ast.specs.declared.types.ObjectType.{ObjectType}
+use Rattle.typed_ast.specs.declared.types.DeclaredType.{DeclaredType}
+use Rattle.typed_ast.specs.View.{object_type_of, declared_type_of}
 use Rattle.typing_scopes.specs.declared.bindings.Meaning.{Meaning}
 use Rattle.typing_scopes.specs.Scopes.{meaning_of, linkage_of, state_of}
 use Rattle.decls_linkage.specs.declared.rules.StorageClass.{StorageClass}
 use Rattle.decls_linkage.specs.declared.rules.StorageClass.TheVariants as class
 use Rattle.decls_linkage.specs.declared.redeclarations.Agreed.{Agreed}
-use Rattle.typing_rules.specs.Types as type
-use Rattle.typing_rules.specs.Scope as scope
-use Rattle.typing_rules.specs.Linkage as typed
+use Rattle.typing_spec.specs.Types as type
+use Rattle.typing_spec.specs.Scope as scope
+use Rattle.typing_spec.specs.Linkage as typed
 
 abbrev pub class_of : StorageClass → typed.StorageClass
 class_of class.None = typed.no_class

@@ -4,10 +4,10 @@
 ghost use Rattle.std.specs.Prelude.{◌≡◌, IfErr, OnOk};
 ghost use Rattle.srcset.specs.NameTable.{Texts};
 ghost use Rattle.srcset.specs.declared.refusal.Refusal.TheVariants.{Memory};
-ghost use Rattle.typing_program.specs.View.{declared_type_of};
-ghost use Rattle.typing_rules.specs.Verdict.{fine};
-ghost use Rattle.typing_rules.specs.Declarators as declarators;
-ghost use Rattle.typing_rules.specs.Declarations as typed;
+ghost use Rattle.typed_ast.specs.View.{declared_type_of};
+ghost use Rattle.typing_spec.specs.Verdict.{fine};
+ghost use Rattle.typing_spec.specs.Declarators as declarators;
+ghost use Rattle.typing_spec.specs.Declarations as typed;
 ghost use Rattle.typing_expressions.specs.Refused.{IsOf, Tells};
 ghost use Rattle.typing_scopes.specs.Scopes.{with_texts};
 ghost use Rattle.decls_linkage.specs.Views.{class_of};
@@ -17,8 +17,8 @@ use crate::file_scope::file_object;
 use crate::rules::{StorageClass, state_of_object};
 use srcset::{Code, Names, Pos, Refusal};
 use std::alloc::Global;
+use typed_ast::{DeclaredType, Storage};
 use typing_expressions::broken;
-use typing_program::{DeclaredType, Storage};
 use typing_scopes::{Linkage, Meaning, Scope, State, StaticObject};
 
 /// A name without linkage is declared once in a scope (6.7p3). Else 514 stands at it.

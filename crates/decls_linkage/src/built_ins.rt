@@ -3,10 +3,10 @@
 #![tactic(auto, using(typing_expressions::proofs::Verdicts::each_left, typing_expressions::proofs::Verdicts::each_right, typing_expressions::proofs::Verdicts::each_fine))]
 
 ghost use Rattle.std.specs.Prelude.{◌≡◌, IfErr, OnOk};
-ghost use Rattle.typing_program.specs.View.{function_type_of};
-ghost use Rattle.typing_rules.specs.Verdict.{fine};
-ghost use Rattle.typing_rules.specs.Types.{same_function};
-ghost use Rattle.typing_rules.specs.Linkage as typed;
+ghost use Rattle.typed_ast.specs.View.{function_type_of};
+ghost use Rattle.typing_spec.specs.Verdict.{fine};
+ghost use Rattle.typing_spec.specs.Types.{same_function};
+ghost use Rattle.typing_spec.specs.Linkage as typed;
 ghost use Rattle.typing_expressions.specs.Refused.{IsOf};
 ghost use Rattle.typing_scopes.specs.Scopes.{meaning_of};
 ghost use Rattle.typing_scopes.specs.BuiltIns.{built_in_of, option_built_in};
@@ -17,8 +17,8 @@ use crate::redeclarations::Agreed;
 use crate::rules::{is_defined, is_internal};
 use ctypes::IntType;
 use srcset::{Code, Pos, Refusal};
+use typed_ast::{FunctionType, ParameterType};
 use typing_expressions::broken;
-use typing_program::{FunctionType, ParameterType};
 use typing_scopes::{BuiltIn, Meaning};
 
 /// Whether this is the type of a built-in function.

@@ -2,12 +2,12 @@
 #![tactic(auto)]
 
 ghost use Rattle.std.specs.Prelude.{◌≡◌, false, map};
-ghost use Rattle.typing_rules.specs.Types as typed;
-ghost use Rattle.typing_program.specs.View.{object_type_of, parameter_type_of, function_type_of};
+ghost use Rattle.typing_spec.specs.Types as typed;
+ghost use Rattle.typed_ast.specs.View.{object_type_of, parameter_type_of, function_type_of};
 ghost use Rattle.decls_linkage.specs.Views.{has_elements};
 
 use ctypes::IntType;
-use typing_program::{FunctionType, ObjectType, ParameterType};
+use typed_ast::{FunctionType, ObjectType, ParameterType};
 
 fn same_lengths(a: &[u32], b: &[u32]) -> bool
     ensures { result ≡ typed.same_lengths a.now b.now }

@@ -3,15 +3,15 @@
 
 ghost use Rattle.std.specs.Prelude.{◌≡◌, if◌then◌else◌, Some, None, IfErr, IfOk};
 ghost use Rattle.srcset.specs.declared.refusal.Refusal.TheVariants.{Memory};
-ghost use Rattle.typing_rules.specs.Types as typed;
-ghost use Rattle.typing_rules.specs.Linkage as linkage_typed;
-ghost use Rattle.typing_program.specs.View.{object_type_of, declared_type_of};
+ghost use Rattle.typing_spec.specs.Types as typed;
+ghost use Rattle.typing_spec.specs.Linkage as linkage_typed;
+ghost use Rattle.typed_ast.specs.View.{object_type_of, declared_type_of};
 ghost use Rattle.decls_linkage.specs.Views.{option_object, option_declared};
 
 use crate::comparisons::{is_array_of, same_object};
 use srcset::Refusal;
 use std::alloc::Global;
-use typing_program::{DeclaredType, ObjectType};
+use typed_ast::{DeclaredType, ObjectType};
 
 /// The same type once more.
 pub fn copied(alloc: Global, object: &ObjectType) -> Result<ObjectType, Refusal>

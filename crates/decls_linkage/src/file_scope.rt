@@ -3,10 +3,10 @@
 
 ghost use Rattle.std.specs.Prelude.{◌≡◌, IfErr, OnOk};
 ghost use Rattle.srcset.specs.declared.refusal.Refusal.TheVariants.{Memory};
-ghost use Rattle.typing_program.specs.View.{storage_of, declared_type_of, function_type_of};
-ghost use Rattle.typing_rules.specs.Verdict.{fine};
-ghost use Rattle.typing_rules.specs.Scope.{an_object};
-ghost use Rattle.typing_rules.specs.Linkage as typed;
+ghost use Rattle.typed_ast.specs.View.{storage_of, declared_type_of, function_type_of};
+ghost use Rattle.typing_spec.specs.Verdict.{fine};
+ghost use Rattle.typing_spec.specs.Scope.{an_object};
+ghost use Rattle.typing_spec.specs.Linkage as typed;
 ghost use Rattle.typing_expressions.specs.Refused.{Tells};
 ghost use Rattle.typing_scopes.specs.Scopes.{with_texts, meaning_of, state_of, option_binding};
 ghost use Rattle.decls_linkage.specs.Views.{class_of, agreed_of};
@@ -17,7 +17,7 @@ use crate::redeclarations::{Agreed, redeclared};
 use crate::rules::{StorageClass, is_mentioned, linkage_of_function, linkage_of_object};
 use srcset::{Names, Pos, Refusal};
 use std::alloc::Global;
-use typing_program::{DeclaredType, FunctionType, Storage};
+use typed_ast::{DeclaredType, FunctionType, Storage};
 use typing_scopes::{Binding, Meaning, Scope, State, StaticObject, built_in};
 
 /// The object with this number has this type.

@@ -4,11 +4,11 @@
 ghost use Rattle.std.specs.Prelude.{◌≡◌, ◌&&◌, IfErr, IfOk, OnOk};
 ghost use Rattle.srcset.specs.declared.code.Code.TheVariants as code;
 ghost use Rattle.srcset.specs.declared.refusal.Refusal.TheVariants.{Memory};
-ghost use Rattle.typing_rules.specs.Verdict.{fine, refuse_if, each};
-ghost use Rattle.typing_rules.specs.Types.{composite};
-ghost use Rattle.typing_rules.specs.Scope.{a_function};
-ghost use Rattle.typing_rules.specs.Linkage as typed;
-ghost use Rattle.typing_program.specs.View.{storage_of, declared_type_of, function_type_of};
+ghost use Rattle.typing_spec.specs.Verdict.{fine, refuse_if, each};
+ghost use Rattle.typing_spec.specs.Types.{composite};
+ghost use Rattle.typing_spec.specs.Scope.{a_function};
+ghost use Rattle.typing_spec.specs.Linkage as typed;
+ghost use Rattle.typed_ast.specs.View.{storage_of, declared_type_of, function_type_of};
 ghost use Rattle.typing_expressions.specs.Refused.{IsOf, Tells};
 ghost use Rattle.typing_scopes.specs.Scopes.{meaning_of, linkage_of, state_of, binding_of, option_binding};
 ghost use Rattle.decls_linkage.specs.Views.{option_meaning, agreed_of};
@@ -18,8 +18,8 @@ use crate::composites::composite;
 use crate::rules::{clash, is_defined, is_linked, joined};
 use srcset::{Code, Pos, Refusal};
 use std::alloc::Global;
+use typed_ast::{DeclaredType, FunctionType, Storage};
 use typing_expressions::broken;
-use typing_program::{DeclaredType, FunctionType, Storage};
 use typing_scopes::{Binding, Linkage, Meaning, State};
 
 /// What a name stands for.

@@ -2,8 +2,8 @@
 #![tactic(auto)]
 
 ghost use Rattle.std.specs.Prelude.{◌≡◌};
-ghost use Rattle.typing_rules.specs.Linkage as typed;
-ghost use Rattle.typing_rules.specs.Scope as typed_scope;
+ghost use Rattle.typing_spec.specs.Linkage as typed;
+ghost use Rattle.typing_spec.specs.Scope as typed_scope;
 ghost use Rattle.typing_scopes.specs.Scopes.{option_binding, linkage_of, state_of};
 ghost use Rattle.decls_linkage.specs.Views.{class_of};
 

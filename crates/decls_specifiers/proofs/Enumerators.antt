@@ -4,11 +4,11 @@ use Rattle.srcset.specs.NameTable.{Texts}
 use Rattle.srcset.specs.declared.refusal.Pos.{Pos}
 use Rattle.srcset.specs.declared.refusal.Refusal.{Refusal}
 use Rattle.tree.specs.Tree.{Tree, EnumeratorTree, SpecifierTree, extern_specifier, static_specifier, plain_specifier, enumerators_specifier}
-use Rattle.typing_rules.specs.Verdict.{Verdict, fine}
+use Rattle.typing_spec.specs.Verdict.{Verdict, fine}
 use Rattle.std.specs.Prelude.{nat_eq, if◌then◌else◌}
-use Rattle.typing_rules.specs.Scope.{Scope, built_in}
-use Rattle.typing_rules.specs.Declarations as typed
-use Rattle.typing_rules.specs.Declarations.{Specified, enumerators, is_fresh_tag, fresh_enumerator, built_in_at_file, value_of_enumerator, base_in}
+use Rattle.typing_spec.specs.Scope.{Scope, built_in}
+use Rattle.typing_spec.specs.Declarations as typed
+use Rattle.typing_spec.specs.Declarations.{Specified, enumerators, is_fresh_tag, fresh_enumerator, built_in_at_file, value_of_enumerator, base_in}
 use Rattle.typing_expressions.specs.Refused.{Tells}
 use Rattle.typing_expressions.proofs.Verdicts.{tells_then}
 use Rattle.typing_scopes.specs.Scopes.{with_texts}

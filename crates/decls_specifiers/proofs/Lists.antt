@@ -7,12 +7,12 @@ use Rattle.srcset.specs.NameTable.{Texts}
 use Rattle.srcset.specs.declared.refusal.Pos.{Pos}
 use Rattle.srcset.specs.declared.refusal.Refusal.{Refusal}
 use Rattle.tree.specs.declared.expression.TypeSpecifier.{TypeSpecifier}
-use Rattle.typing_rules.specs.Verdict.{Verdict, fine, provided}
-use Rattle.typing_rules.specs.Scope.{Scope}
-use Rattle.typing_rules.specs.Linkage.{StorageClass, no_class, by_extern, by_static}
-use Rattle.typing_rules.specs.Specifiers.{BaseType, base_type, base_or_fault, named_type, tags_known, tags_of, words_of, count, is_const}
-use Rattle.typing_rules.specs.Declarations as typed
-use Rattle.typing_rules.specs.Declarations.{base_in}
+use Rattle.typing_spec.specs.Verdict.{Verdict, fine, provided}
+use Rattle.typing_spec.specs.Scope.{Scope}
+use Rattle.typing_spec.specs.Linkage.{StorageClass, no_class, by_extern, by_static}
+use Rattle.typing_spec.specs.Specifiers.{BaseType, base_type, base_or_fault, named_type, tags_known, tags_of, words_of, count, is_const}
+use Rattle.typing_spec.specs.Declarations as typed
+use Rattle.typing_spec.specs.Declarations.{base_in}
 use Rattle.const_expr.proofs.Numbered.{base_same}
 use Rattle.typing_scopes.specs.Scopes.{with_texts}
 use Rattle.decls_specifiers.specs.inside.Lists.{class_before}

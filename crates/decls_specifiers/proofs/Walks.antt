@@ -2,7 +2,7 @@
 use Rattle.std.proofs.Common.{◌≡◌, ℕ, ◌+◌, ◌<◌, ◌≤◌, List, [], ◌∷◌, drop, get_or, length, map, sym, ap, ◌∙◌, subst}
 use Rattle.std.proofs.lemmas.List.{drop_all}
 use Rattle.srcset.specs.declared.refusal.Refusal.{Refusal}
-use Rattle.typing_rules.specs.Verdict.{Verdict}
+use Rattle.typing_spec.specs.Verdict.{Verdict}
 use Rattle.typing_expressions.specs.Refused.{Tells}
 use Rattle.decls_declarators.proofs.Verdicts.{next_of}
 

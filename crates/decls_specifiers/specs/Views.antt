@@ -2,8 +2,8 @@
 use Rattle.decls_specifiers.specs.declared.declaration_specifiers.SpecifiedBase.{SpecifiedBase}
 use Rattle.const_expr.specs.Typings.{base_type_of}
 use Rattle.decls_linkage.specs.Views.{class_of}
-use Rattle.typing_rules.specs.Scope.{Scope}
-use Rattle.typing_rules.specs.Declarations as typed
+use Rattle.typing_spec.specs.Scope.{Scope}
+use Rattle.typing_spec.specs.Declarations as typed
 
 -- with the scope behind them
 abbrev pub specified_of : SpecifiedBase → Scope → typed.Specified

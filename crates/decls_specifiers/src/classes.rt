@@ -4,8 +4,8 @@
 ghost use Rattle.std.specs.Prelude.{◌≡◌, ◌++◌, ◌∷◌, List, map, IfErr, IfOk};
 ghost use Rattle.tree.specs.Tree.{SpecifierTree};
 ghost use Rattle.tree.specs.View.{specifier_of};
-ghost use Rattle.typing_rules.specs.Verdict.{fine};
-ghost use Rattle.typing_rules.specs.Declarations as typed;
+ghost use Rattle.typing_spec.specs.Verdict.{fine};
+ghost use Rattle.typing_spec.specs.Declarations as typed;
 ghost use Rattle.typing_expressions.specs.Refused.{Tells};
 ghost use Rattle.decls_linkage.specs.Views as view;
 ghost use Rattle.decls_specifiers.specs.inside.Lists.{class_before};

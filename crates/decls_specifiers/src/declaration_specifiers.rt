@@ -4,9 +4,9 @@
 ghost use Rattle.std.specs.Prelude.{◌≡◌, ◌∷◌, List, map, IfErr, IfOk, OnOk};
 ghost use Rattle.tree.specs.Tree.{SpecifierTree};
 ghost use Rattle.tree.specs.View.{specifier_of, item_of};
-ghost use Rattle.typing_rules.specs.Scope as scope_typed;
-ghost use Rattle.typing_rules.specs.Verdict.{fine, then_check};
-ghost use Rattle.typing_rules.specs.Declarations as typed;
+ghost use Rattle.typing_spec.specs.Scope as scope_typed;
+ghost use Rattle.typing_spec.specs.Verdict.{fine, then_check};
+ghost use Rattle.typing_spec.specs.Declarations as typed;
 ghost use Rattle.typing_expressions.specs.Refused.{Tells};
 ghost use Rattle.typing_scopes.specs.Scopes.{with_texts};
 ghost use Rattle.decls_specifiers.specs.Views.{specified_of};

@@ -36,7 +36,7 @@ pub struct Explained {
 }
 
 /// Why the program in the file `main` of the set is refused; `None` where it is not, at this stage. `names` are those of
-/// the files of the set, and `stack` is the size of its stack. An error: want of memory.
+/// the files of the set, and `stack` is the size of its stack. An error: out of memory.
 pub fn explain(
     alloc: Global,
     set: &FileSet,

@@ -1,4 +1,4 @@
-//! A program interpreted, and the undefined act that it does.
+//! A program interpreted, and the undefined behaviour that it does.
 
 use crate::finding::{Place, Shown, Topic, show_place};
 use crate::includes::Includes;
@@ -7,12 +7,12 @@ use crate::noting::put_text;
 use crate::sources::Sources;
 use cc::{Cmd, StackSize, perform};
 use explain_places::{Tokens, laid_out};
-use meaning_ports::MemPort;
+use io_ports::MemPort;
 use srcset::FileSet;
 use std::alloc::{AllocError, Global};
 use std::{io, str};
 
-/// An undefined act of a program that was interpreted.
+/// Undefined behaviour of a program that was interpreted.
 #[derive(Drop)]
 pub struct Undefined {
     pub file: String,
@@ -32,7 +32,7 @@ pub struct Interpretation {
     pub output: Vec<u8>,
     /// What `interp` says on standard error.
     pub line: Vec<u8>,
-    /// The undefined act, where it ended with one.
+    /// The undefined behaviour, where it ended with one.
     pub undefined: Option<Undefined>,
 }
 
@@ -44,7 +44,7 @@ struct RunEnd {
     line: Vec<u8>,
 }
 
-/// Where an undefined act stands.
+/// Where undefined behaviour stands.
 #[derive(Drop)]
 struct Site {
     file: String,
@@ -52,7 +52,7 @@ struct Site {
     act: u32,
 }
 
-/// Interprets the program in the file `main` of the set over an input, for at most `max` ticks, and finds the token of an undefined act:
+/// Interprets the program in the file `main` of the set over an input, for at most `max` ticks, and finds the token of undefined behaviour:
 /// its line is laid out anew, a token a line, and the program interpreted again.
 pub fn interpreted(
     alloc: Global,
@@ -154,7 +154,7 @@ fn explain_act(
     })
 }
 
-/// The place of an undefined act, by a run over the file laid out anew.
+/// The place of undefined behaviour, by a run over the file laid out anew.
 fn place_of_act(
     alloc: Global,
     sources: &Sources,
@@ -207,7 +207,7 @@ fn act_help(act: u32) -> &'static str {
     }
 }
 
-/// What an undefined act is called.
+/// What undefined behaviour is called.
 impl Undefined {
     /// The words that head the report: `undefined: ` and what the act is.
     pub fn title(&self) -> &'static str {

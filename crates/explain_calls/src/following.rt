@@ -1,10 +1,10 @@
-//! A run that is followed to its undefined act.
+//! A run that is followed to its undefined behaviour.
 
 use crate::events::{Call, active};
 use crate::probes::{EVENTS, line_of, probed};
 use cc::{Cmd, StackSize, perform};
 use explain::{Note, Sources, Topic, Undefined};
-use meaning_ports::MemPort;
+use io_ports::MemPort;
 use srcset::FileSet;
 use std::alloc::{AllocError, Global};
 use std::io;
@@ -18,7 +18,7 @@ const MAX_TICKS: u64 = 20_000_000;
 /// How many calls are told at most.
 const MAX_CALLS: usize = 20;
 
-/// Puts a note for each call that is active where the program does its undefined act, the innermost first, with the line that it
+/// Puts a note for each call that is active where the program does its undefined behaviour, the innermost first, with the line that it
 /// has come to: the program is interpreted again with probes in its functions. Nothing is put where that run does not end with the same
 /// act at the same line, as where it is longer than 20,000,000 ticks.
 pub fn put_active_calls(

@@ -1,4 +1,4 @@
-//! The calls that are active where a program that is interpreted does an undefined act.
+//! The calls that are active where a program that is interpreted does undefined behaviour.
 #![tactic(auto)]
 
 mod acts;

@@ -3,7 +3,7 @@
 use crate::events::{Seen, seen_in};
 use cc::{Cmd, StackSize, perform};
 use explain::{Sources, Undefined};
-use meaning_ports::MemPort;
+use io_ports::MemPort;
 use std::alloc::{AllocError, Global};
 use std::io;
 

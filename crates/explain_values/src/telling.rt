@@ -1,4 +1,4 @@
-//! The values of an undefined act in words.
+//! The values of undefined behaviour in words.
 
 use crate::events::Value;
 use std::alloc::{AllocError, Global};

@@ -1,11 +1,11 @@
-//! A note with the values of an undefined act.
+//! A note with the values of undefined behaviour.
 
 use crate::asking::{Answer, Asked, Probed, ask};
 use crate::events::{Seen, Value};
 use crate::extent::extent;
 use crate::telling::{negation_text, operands_text, subscript_text};
 use explain::{Note, Sources, Topic, Undefined};
-use explain_probes::{Operation, OperationForm, Words, operation_at, put_operation_probes};
+use instrument::{Operation, OperationForm, Words, operation_at, put_operation_probes};
 use std::alloc::{AllocError, Global};
 
 /// How many ticks the program is run again at most.

@@ -2,8 +2,8 @@
 use Rattle.std.proofs.Common.{◌≡◌, ℕ, zero, suc, ◌+◌, ◌*◌, ◌/◌, ◌<◌, ◌≤◌, List, [], ◌∷◌, length, true, false, Some, None, ap, ◌∙◌, arith}
 use Rattle.std.specs.Prelude.{slice_get}
 use Rattle.ctypes.specs.declared.types.IntType.{IntType}
-use Rattle.typing_rules.specs.Types.{ObjectType, size_of_object}
-use Rattle.typing_rules.specs.Units.{in_words}
+use Rattle.typing_spec.specs.Types.{ObjectType, size_of_object}
+use Rattle.typing_spec.specs.Units.{in_words}
 use Rattle.tac_code.specs.Code.{scalar_type}
 use Rattle.frames.specs.Layout.{is_scalar, home_for, words_for, bytes_for, words_of, bytes_of_array, homes_from, cell_in, offset_in, starts_from, start_in}
 use Rattle.frames.specs.Laws.{WordsAreApart, WordsComeFirst, ReferencesComeNext, SlotsComeLast, ArraysAreApart, ArraysAreInside, StartsAreApart}

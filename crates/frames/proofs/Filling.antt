@@ -6,9 +6,9 @@ use Rattle.std.proofs.lemmas.List.{take-replicate}
 use Rattle.ctypes.specs.declared.types.IntType.{IntType}
 use Rattle.ctypes.specs.Types.{bytes_of, modulo}
 use Rattle.frames.specs.Data.{zeros, filled_up, low_bytes, if_defined, bytes_of_values, bytes_of_static}
-use Rattle.typing_rules.specs.Types.{size_of_object}
-use Rattle.typing_rules.specs.Program.{Static}
-use Rattle.typing_rules.specs.Units.{in_words}
+use Rattle.typing_spec.specs.Types.{size_of_object}
+use Rattle.typing_spec.specs.Program.{Static}
+use Rattle.typing_spec.specs.Units.{in_words}
 use Rattle.tac_code.specs.Sound.{static_bytes}
 
 zeros_are : (n : ℕ) → zeros n ≡ replicate n 0

@@ -1,7 +1,7 @@
 -- What a sound function names is near enough for sums.
 use Rattle.std.proofs.Common.{◌≡◌, ℕ, ◌+◌, ◌-◌, ◌*◌, ◌/◌, ◌^◌, ◌<◌, ◌≤◌, length, Some, arith}
 use Rattle.std.specs.Prelude.{slice_get}
-use Rattle.typing_rules.specs.Units.{bytes_of_objects}
+use Rattle.typing_spec.specs.Units.{bytes_of_objects}
 use Rattle.tac_code.specs.declared.code.Operand.{Operand}
 use Rattle.tac_code.specs.declared.code.Operand.TheVariants as operand
 use Rattle.tac_code.specs.declared.code.Target.{Target}

@@ -4,8 +4,8 @@ use Rattle.std.specs.Prelude.{slice_get}
 use Rattle.ctypes.specs.declared.types.IntType.{IntType}
 use Rattle.ctypes.specs.declared.types.IntType.TheVariants as ty
 use Rattle.ctypes.specs.Types.{bytes_of}
-use Rattle.typing_rules.specs.Types.{ObjectType, elements_in, size_of_object}
-use Rattle.typing_rules.specs.Units.{in_words, bytes_of_objects}
+use Rattle.typing_spec.specs.Types.{ObjectType, elements_in, size_of_object}
+use Rattle.typing_spec.specs.Units.{in_words, bytes_of_objects}
 use Rattle.frames_code.specs.Code.{frame_bytes}
 use Rattle.tac_code.specs.Code.{Function, type_if_scalar, scalar_type}
 use Rattle.tac_code.specs.Costs.{array_parameters, call_bytes}

@@ -3,7 +3,7 @@ use Rattle.std.proofs.Common.{◌≡◌, ℕ, zero, suc, ◌+◌, ◌*◌, ◌<�
 use Rattle.std.specs.Prelude.{min}
 use Rattle.std.proofs.lemmas.Bool.{cases_lt}
 use Rattle.std.proofs.lemmas.List.{take_more}
-use Rattle.typing_rules.specs.Types.{elements_in}
+use Rattle.typing_spec.specs.Types.{elements_in}
 
 elements_snoc : (xs : List ℕ) (y : ℕ) → elements_in (xs ++ y ∷ []) ≡ elements_in xs * y
 elements_snoc [] y = omega arith

@@ -6,8 +6,8 @@ use Rattle.std.proofs.lemmas.List.{length-map}
 use Rattle.ctypes.specs.declared.types.IntType.{IntType}
 use Rattle.ctypes.specs.declared.types.IntType.TheVariants as ty
 use Rattle.ctypes.specs.Types.{bytes_of}
-use Rattle.typing_rules.specs.Types.{ObjectType, elements_in, size_of_object}
-use Rattle.typing_rules.specs.Units.{in_words, bytes_of_objects}
+use Rattle.typing_spec.specs.Types.{ObjectType, elements_in, size_of_object}
+use Rattle.typing_spec.specs.Units.{in_words, bytes_of_objects}
 use Rattle.frames_code.specs.declared.code.Operand as flat_operand
 use Rattle.frames_code.specs.declared.code.Operand.TheVariants as source
 use Rattle.frames_code.specs.declared.code.Target as flat_target

@@ -7,9 +7,9 @@ use Rattle.std.proofs.lemmas.List.Sums.{sum_by-cons, sum_by-append}
 use Rattle.ctypes.specs.declared.types.IntType.{IntType}
 use Rattle.ctypes.specs.declared.types.IntType.TheVariants as ty
 use Rattle.ctypes.specs.Types.{bytes_of}
-use Rattle.typing_rules.specs.Types.{size_of_object}
-use Rattle.typing_rules.specs.Program.{Static}
-use Rattle.typing_rules.specs.Units.{in_words}
+use Rattle.typing_spec.specs.Types.{size_of_object}
+use Rattle.typing_spec.specs.Program.{Static}
+use Rattle.typing_spec.specs.Units.{in_words}
 use Rattle.frames_code.specs.Code as frames
 use Rattle.frames_code.specs.Sound as flat_sound
 use Rattle.frames_code.specs.Sound.{places_of}

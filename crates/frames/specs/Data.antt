@@ -3,9 +3,9 @@
 use Rattle.std.specs.Prelude.{ℕ, zero, suc, ◌/◌, ◌%◌, ◌^◌, Bool, true, false, ℤ, List, [], ◌∷◌, ◌++◌, length, take}
 use Rattle.ctypes.specs.declared.types.IntType.{IntType}
 use Rattle.ctypes.specs.Types.{bytes_of, modulo}
-use Rattle.typing_rules.specs.Types.{size_of_object}
-use Rattle.typing_rules.specs.Program.{Static}
-use Rattle.typing_rules.specs.Units.{in_words}
+use Rattle.typing_spec.specs.Types.{size_of_object}
+use Rattle.typing_spec.specs.Program.{Static}
+use Rattle.typing_spec.specs.Units.{in_words}
 use Rattle.tac_code.specs.Code.{Program}
 
 -- n bytes of a word, the lowest first

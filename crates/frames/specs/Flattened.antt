@@ -1,6 +1,6 @@
 -- What it is for flat code to do what three-address code does: the contract of flattening.
 use Rattle.std.specs.Prelude.{◌≡◌, ◌≤◌, ℕ, List, length, slice_get, Some}
-use Rattle.meaning.specs.History.{Entry, trace_of}
+use Rattle.csem.specs.History.{Entry, trace_of}
 use Rattle.frames_code.specs.Code as flat
 use Rattle.frames_code.specs.Run as flat_run
 use Rattle.frames_code.specs.Sound as flat_sound

@@ -3,7 +3,7 @@
 use Rattle.std.specs.Prelude.{◌≡◌, ◌<◌, ◌≤◌, ℕ, ◌+◌, ◌^◌, List, length, slice_get, Some, None}
 use Rattle.ctypes.specs.declared.types.IntType.{IntType}
 use Rattle.ctypes.specs.declared.types.IntType.TheVariants as ty
-use Rattle.typing_rules.specs.Types.{ObjectType, size_of_object}
+use Rattle.typing_spec.specs.Types.{ObjectType, size_of_object}
 use Rattle.tac_code.specs.Code.{Function, scalar_type, Program}
 use Rattle.tac_code.specs.Costs.{array_parameters}
 use Rattle.tac_code.specs.declared.code.Reading.{Reading}
@@ -16,7 +16,7 @@ use Rattle.rv32.specs.Arithmetic.{compare_of}
 use Rattle.frames_code.specs.Run as flat
 use Rattle.frames.specs.Translated.{operation_of, test_of}
 use Rattle.frames.specs.Layout.{layout_of, cells_of, bytes_in, cell_in, offset_in, starts_from, start_in}
-use Rattle.typing_rules.specs.Program.{Static}
+use Rattle.typing_spec.specs.Program.{Static}
 use Rattle.tac_code.specs.Sound.{data_bytes}
 use Rattle.frames.specs.Data.{data_of}
 use Rattle.frames.specs.Sizes.{literal_bytes, statics_bytes}

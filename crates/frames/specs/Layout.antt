@@ -2,8 +2,8 @@
 -- bytes of the frame's arrays, a reference and a slot in a word behind those of the objects; a string literal and an object
 -- with static storage in the statics.
 use Rattle.std.specs.Prelude.{ℕ, ◌+◌, Bool, true, false, List, [], ◌∷◌, length, Option, Some, None}
-use Rattle.typing_rules.specs.Types.{ObjectType, size_of_object}
-use Rattle.typing_rules.specs.Units.{in_words}
+use Rattle.typing_spec.specs.Types.{ObjectType, size_of_object}
+use Rattle.typing_spec.specs.Units.{in_words}
 use Rattle.tac_code.specs.Code.{Function, Program}
 use Rattle.tac_code.specs.Costs.{array_parameters}
 use Rattle.frames.specs.Sizes.{literal_bytes, literal_sizes, static_sizes}

@@ -1,8 +1,8 @@
 -- How many bytes the string literals and the objects with static storage take, each rounded up to a multiple of 4.
 use Rattle.std.specs.Prelude.{ℕ, ◌+◌, List, [], ◌∷◌, length, map}
-use Rattle.typing_rules.specs.Types.{size_of_object}
-use Rattle.typing_rules.specs.Program.{Static}
-use Rattle.typing_rules.specs.Units.{in_words}
+use Rattle.typing_spec.specs.Types.{size_of_object}
+use Rattle.typing_spec.specs.Program.{Static}
+use Rattle.typing_spec.specs.Units.{in_words}
 use Rattle.tac_code.specs.Sound.{static_bytes}
 
 abbrev pub literal_sizes : List (List ℕ) → List ℕ

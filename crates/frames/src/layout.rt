@@ -1,14 +1,14 @@
 //! What lies where: the objects, references and slots of a function in its frame, the literals and static objects in the statics.
 
 ghost use Rattle.std.specs.Prelude.{◌≡◌, ◌≤◌, ◌<◌, ◌+◌, ◌^◌, ◌++◌, map, length, IfOk};
-ghost use Rattle.typing_program.specs.View.{object_type_of};
+ghost use Rattle.typed_ast.specs.View.{object_type_of};
 ghost use Rattle.tac_code.specs.Costs.{array_parameters};
 ghost use Rattle.frames.specs.Layout.{homes_from, words_in, bytes_in, bytes_of_array};
 
 use crate::sizes::{in_words, object_size};
 use std::alloc::{AllocError, Global};
 use tac_code::Parameter;
-use typing_program::ObjectType;
+use typed_ast::ObjectType;
 
 /// Where an object of a call lies.
 #[derive(Clone, Copy, Debug, PartialEq, Eq)]

@@ -1,4 +1,4 @@
-//! From three-address code to flat code: frames of words and bytes in place of objects and slots.
+//! Flattens three-address code: stack frames of words and bytes in place of objects and slots.
 #![tactic(auto)]
 
 mod functions;

@@ -1,13 +1,13 @@
 //! Sizes of objects (ISO/IEC 9899:2011 6.5.3.4).
 
 ghost use Rattle.std.specs.Prelude.{◌≡◌, ◌<◌, ◌^◌, min, IsTrue};
-ghost use Rattle.typing_program.specs.View.{object_type_of};
-ghost use Rattle.typing_rules.specs.Types.{elements_in, size_of_object};
-ghost use Rattle.typing_rules.specs.Units as units;
+ghost use Rattle.typed_ast.specs.View.{object_type_of};
+ghost use Rattle.typing_spec.specs.Types.{elements_in, size_of_object};
+ghost use Rattle.typing_spec.specs.Units as units;
 ghost use Rattle.frames.specs.Layout.{is_scalar};
 
 use ctypes::size_of;
-use typing_program::ObjectType;
+use typed_ast::ObjectType;
 
 /// Bytes rounded up to a multiple of 4.
 pub fn in_words(bytes: usize) -> usize

@@ -1,9 +1,9 @@
 //! Where string literals and objects with static storage begin in the statics.
 
 ghost use Rattle.std.specs.Prelude.{ℕ, ◌≡◌, ◌≤◌, ◌<◌, ◌+◌, ◌^◌, ◌++◌, map, length, slice_get, OnOk, IfOk};
-ghost use Rattle.typing_program.specs.View.{object_type_of, static_of};
-ghost use Rattle.typing_rules.specs.Types.{size_of_object};
-ghost use Rattle.typing_rules.specs.Units as units;
+ghost use Rattle.typed_ast.specs.View.{object_type_of, static_of};
+ghost use Rattle.typing_spec.specs.Types.{size_of_object};
+ghost use Rattle.typing_spec.specs.Units as units;
 ghost use Rattle.tac_code.specs.Sound.{data_bytes, static_bytes};
 ghost use Rattle.frames.specs.Layout.{starts_from, starts_of, start_in};
 ghost use Rattle.frames.specs.layer.Alone.{starts_in, with_data};
@@ -11,7 +11,7 @@ ghost use Rattle.frames.specs.Sizes.{literal_bytes, statics_bytes, literal_sizes
 
 use crate::sizes::{in_words, object_size};
 use std::alloc::{AllocError, Global};
-use typing_program::Static;
+use typed_ast::Static;
 
 /// How many bytes from the start of the statics each begins.
 #[derive(Drop)]

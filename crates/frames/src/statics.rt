@@ -2,21 +2,21 @@
 
 ghost use Rattle.std.specs.Prelude.{ℕ, ◌≡◌, ◌≤◌, ◌<◌, ◌+◌, ◌^◌, ◌++◌, map, length, vec_len, OnOk, IfOk};
 ghost use Rattle.ctypes.specs.Types as types;
-ghost use Rattle.typing_program.specs.View.{object_type_of, static_of};
+ghost use Rattle.typed_ast.specs.View.{object_type_of, static_of};
 ghost use Rattle.tac_code.specs.Code.{program_of};
 ghost use Rattle.tac_code.specs.Sound.{data_bytes, static_bytes};
-ghost use Rattle.typing_rules.specs.Types.{size_of_object};
+ghost use Rattle.typing_spec.specs.Types.{size_of_object};
 ghost use Rattle.frames.specs.Sizes.{literal_bytes, statics_bytes};
 ghost use Rattle.frames.specs.Data.{low_bytes, filled_up, bytes_of_values, bytes_of_static, bytes_of_statics, bytes_of_literals, data_of};
 ghost use Rattle.frames.specs.layer.Alone.{with_data};
-ghost use Rattle.typing_rules.specs.Units as units;
+ghost use Rattle.typing_spec.specs.Units as units;
 
 use crate::sizes::in_words;
 use crate::starts::static_size;
 use ctypes::{IntType, size_of};
 use std::alloc::{AllocError, Global};
 use tac_code::TacProgram;
-use typing_program::Static;
+use typed_ast::Static;
 
 /// A number modulo 2^32.
 fn word_of(number: i64) -> u32

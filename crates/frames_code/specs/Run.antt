@@ -2,7 +2,7 @@
 use Rattle.std.specs.Prelude.{ℕ, zero, suc, ◌+◌, ◌-◌, ◌*◌, ◌/◌, ◌%◌, ◌^◌, ◌==◌, ◌&&◌, nat_le, nat_lt, Bool, not, if◌then◌else◌, List, [], ◌∷◌, map, length, slice_get, Option, Some, None}
 use Rattle.rv32.specs.Words.{sign_extended}
 use Rattle.rv32.specs.Arithmetic.{compare_of, operate_of, one_if}
-use Rattle.meaning_events.specs.Events.{Event, Got, GotEnd, Put}
+use Rattle.csem_events.specs.Events.{Event, Got, GotEnd, Put}
 use Rattle.frames_code.specs.declared.code.Operand.{Operand}
 use Rattle.frames_code.specs.declared.code.Operand.TheVariants as operand
 use Rattle.frames_code.specs.declared.code.Target.{Target}

@@ -25,7 +25,7 @@ fn marked_first<'a>(token: PpToken<'a>, is_first: bool, space_before: bool) -> P
 }
 
 /// Puts what a replacement made in front of the rest. Its first token gets the mark of the replaced name, and all of
-/// them hide these names too (ISO/IEC 9899:2011 6.10.3.4). After a refusal, which is for want of memory alone, some of
+/// them hide these names too (ISO/IEC 9899:2011 6.10.3.4). After a refusal, which is only when out of memory, some of
 /// the tokens may stand in the rest.
 pub fn put_in_front<'a>(
     new: Vec<HiddenToken<'a>>,

@@ -28,7 +28,7 @@ use std::mem;
 /// How many files may be open at once beside the main one, each included by the one before it.
 pub const MAX_INCLUDES: usize = 32;
 
-/// The most tokens that open files may have before another is opened. Who wants more is refused for want of memory, so that a file
+/// The most tokens that open files may have before another is opened. Who wants more is refused as if out of memory, so that a file
 /// that includes itself does not take all memory of a machine.
 const MAX_OPEN_TOKENS: usize = 2_097_152;
 

@@ -9,7 +9,7 @@ use Rattle.rv32.specs.declared.instr.RegisterOp.TheVariants as op
 use Rattle.rv32.specs.declared.instr.ShiftOp.TheVariants as shift_op
 use Rattle.rv32.specs.declared.instr.StoreKind.TheVariants as store_kind
 use Rattle.rv32.specs.declared.instr.Test.TheVariants as test
-use Rattle.meaning_events.specs.Events.{Event, Got, GotEnd, Put}
+use Rattle.csem_events.specs.Events.{Event, Got, GotEnd, Put}
 use Rattle.asm.specs.declared.item.Item.{Item}
 use Rattle.asm.specs.declared.item.Item.TheVariants as item
 use Rattle.frames_code.specs.declared.code.Operand.TheVariants.{Temporary as temporary, Cell as cell, Constant as constant, Argument as argument}
@@ -23,7 +23,7 @@ use Rattle.frames_code.specs.declared.code.Operand.{Operand}
 use Rattle.frames_code.specs.declared.code.Target.{Target}
 use Rattle.frames_code.specs.declared.code.Instruction.{Instruction}
 use Rattle.frames_code.specs.Code.{Function, Program}
-use Rattle.select_running.specs.Light.{Fixed, Light, Go, Done, light_run, sum32}
+use Rattle.select_exec.specs.Light.{Fixed, Light, Go, Done, light_run, sum32}
 use Rattle.select.specs.Selected.{entry, items_of}
 use Rattle.select.specs.Program.{code_items, program_items}
 

@@ -1,4 +1,4 @@
-//! From flat code to the items that the assembler takes.
+//! Instruction selection: from flat code to the items that the assembler takes.
 #![tactic(auto)]
 
 mod calls;

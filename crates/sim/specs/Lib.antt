@@ -1,5 +1,5 @@
-pub use Rattle.meaning_events.specs.Events
-pub use Rattle.meaning_ports.specs.Port
+pub use Rattle.csem_events.specs.Events
+pub use Rattle.io_ports.specs.Port
 pub use Rattle.rv32.specs.Step
 pub use Rattle.loader.specs.File
 pub use Rattle.loader.specs.Loading

@@ -1,20 +1,20 @@
 -- Parts of statements.
 use Rattle.std.proofs.Common.{◌≡◌, ℕ, ◌+◌, ◌<◌, true, false, List, length, Option, ap, sym, ◌∙◌, subst, inr, arith}
-use Rattle.typing_rules.specs.Program as typed
-use Rattle.typing_rules.specs.Program.{Value, Statement, Statements}
+use Rattle.typing_spec.specs.Program as typed
+use Rattle.typing_spec.specs.Program.{Value, Statement, Statements}
 use Rattle.tac_code.specs.declared.code.Instruction.{Instruction}
 use Rattle.tac_code.specs.declared.code.Instruction.TheVariants as instruction
-use Rattle.tac_lowering.specs.Values.{If}
-use Rattle.tac_lowering.specs.Places.{size_of_place}
-use Rattle.tac_lowering.specs.Code.{One}
-use Rattle.tac_lowering.specs.Bodies.{Effects, Repeats, Leaves}
-use Rattle.tac_forms.specs.layer.Parts.{plus, Wrote}
-use Rattle.tac_forms.specs.declared.modes.Shape.TheVariants as shape
-use Rattle.tac_values.specs.layer.Sizes.{value_size}
+use Rattle.lower_correct.specs.Values.{If}
+use Rattle.lower_correct.specs.Places.{size_of_place}
+use Rattle.lower_correct.specs.Code.{One}
+use Rattle.lower_correct.specs.Bodies.{Effects, Repeats, Leaves}
+use Rattle.lower_ops.specs.layer.Parts.{plus, Wrote}
+use Rattle.lower_ops.specs.declared.modes.Shape.TheVariants as shape
+use Rattle.lower_exprs.specs.layer.Sizes.{value_size}
 use Rattle.tac.specs.inside.Sizes.{effects_size, repeats_size, statement_size, statements_size}
-use Rattle.tac_values.specs.layer.Written.{WroteValue}
+use Rattle.lower_exprs.specs.layer.Written.{WroteValue}
 use Rattle.tac.specs.inside.Written.{WroteStatement, WroteStatements}
-use Rattle.tac_forms.proofs.Parts.{plus_is, sum_two, begins_on, as_wrote, three, five, reach_one, reach_two, reach_three, reach_four, reach_five}
+use Rattle.lower_ops.proofs.Parts.{plus_is, sum_two, begins_on, as_wrote, three, five, reach_one, reach_two, reach_three, reach_four, reach_five}
 
 -- a return jumps, also where it could fall through
 pub leaves_wrote : (back : ℕ) {c0 c1 : List Instruction} → Wrote (λ w pc pc2. One w (instruction.Jump back) pc pc2) 1 c0 c1 → Wrote (λ w pc pc2. Leaves w back pc pc2) 1 c0 c1

@@ -2,10 +2,10 @@
 use Rattle.std.proofs.Common.{◌≡◌, ℕ, zero, suc, ◌+◌, ◌*◌, ◌-◌, ◌<◌, ◌≤◌, true, false, min, nat_lt, List, [], ◌∷◌, length, map, drop, get_or, refl, ap, sym, ◌∙◌, arith}
 use Rattle.std.proofs.lemmas.Nat.{mul-le}
 use Rattle.std.proofs.lemmas.List.{drop_more, drop_all}
-use Rattle.typing_rules.specs.Types.{elements_in}
-use Rattle.typing_rules.specs.Program as typed
-use Rattle.typing_rules.specs.Program.{Initialiser, Initialisers}
-use Rattle.tac_forms.specs.layer.Parts.{plus}
+use Rattle.typing_spec.specs.Types.{elements_in}
+use Rattle.typing_spec.specs.Program as typed
+use Rattle.typing_spec.specs.Program.{Initialiser, Initialisers}
+use Rattle.lower_ops.specs.layer.Parts.{plus}
 use Rattle.tac.specs.inside.FirstSizes.{clears_size, fills_size, fill_all_size}
 use Rattle.tac.proofs.Filled.{plus_assoc}
 

@@ -2,23 +2,23 @@
 use Rattle.std.proofs.Common.{◌≡◌, ℕ, zero, suc, ◌+◌, ◌*◌, ◌-◌, ◌<◌, ◌≤◌, Bool, ◌||◌, List, [], ◌∷◌, map, length, get_or, drop, refl, ap, sym, ◌∙◌, subst, arith}
 use Rattle.std.proofs.lemmas.List.{drop_more, drop_all}
 use Rattle.ctypes.specs.declared.types.IntType.{IntType}
-use Rattle.typing_rules.specs.Types.{elements_in}
-use Rattle.typing_rules.specs.Program as typed
-use Rattle.typing_rules.specs.Program.{Value, Initialiser, Initialisers}
+use Rattle.typing_spec.specs.Types.{elements_in}
+use Rattle.typing_spec.specs.Program as typed
+use Rattle.typing_spec.specs.Program.{Value, Initialiser, Initialisers}
 use Rattle.tac_code.specs.declared.code.Operand.{Operand}
 use Rattle.tac_code.specs.declared.code.Place.{Place as Spot}
 use Rattle.tac_code.specs.declared.code.Place.TheVariants as place
 use Rattle.tac_code.specs.declared.code.Instruction.{Instruction}
-use Rattle.tac_lowering.specs.Values.{keeps, operand_of, mode_of, Nowhere}
-use Rattle.tac_lowering.specs.Places.{size_of_place, cuts}
-use Rattle.tac_lowering.specs.Code.{Puts}
-use Rattle.tac_lowering.specs.Initialisers.{Sets, FillAll}
-use Rattle.tac_forms.specs.declared.modes.Shape.TheVariants as shape
-use Rattle.tac_forms.specs.layer.FormSizes.{puts_size}
-use Rattle.tac_forms.proofs.Stored.{stored_by}
-use Rattle.tac_values.specs.layer.Written.{WroteValue}
-use Rattle.tac_forms.specs.layer.Parts.{plus, Begins, Wrote}
-use Rattle.tac_forms.proofs.Parts.{plus_is, begins_all, begins_on, two}
+use Rattle.lower_correct.specs.Values.{keeps, operand_of, mode_of, Nowhere}
+use Rattle.lower_correct.specs.Places.{size_of_place, cuts}
+use Rattle.lower_correct.specs.Code.{Puts}
+use Rattle.lower_correct.specs.Initialisers.{Sets, FillAll}
+use Rattle.lower_ops.specs.declared.modes.Shape.TheVariants as shape
+use Rattle.lower_ops.specs.layer.FormSizes.{puts_size}
+use Rattle.lower_ops.proofs.Stored.{stored_by}
+use Rattle.lower_exprs.specs.layer.Written.{WroteValue}
+use Rattle.lower_ops.specs.layer.Parts.{plus, Begins, Wrote}
+use Rattle.lower_ops.proofs.Parts.{plus_is, begins_all, begins_on, two}
 use Rattle.tac.specs.declared.elements.Start.{Start}
 use Rattle.tac.specs.inside.FirstSizes.{begins_size, clears_to_size, clears_size, sets_size, fills_size, fill_all_size}
 use Rattle.tac.specs.inside.Starts.{WroteClears}

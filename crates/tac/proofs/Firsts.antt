@@ -3,13 +3,13 @@ use Rattle.std.proofs.Common.{◌≡◌, ℕ, ◌<◌, ◌≤◌, List, [], ◌�
 use Rattle.std.specs.Prelude.{slice_get, option_map}
 use Rattle.std.proofs.lemmas.Option.{slice_get-map}
 use Rattle.ctypes.specs.declared.types.IntType.{IntType}
-use Rattle.typing_rules.specs.Types.{ObjectType}
-use Rattle.typing_rules.specs.Program as typed
-use Rattle.typing_rules.specs.Program.{Initialiser}
+use Rattle.typing_spec.specs.Types.{ObjectType}
+use Rattle.typing_spec.specs.Program as typed
+use Rattle.typing_spec.specs.Program.{Initialiser}
 use Rattle.tac_code.specs.declared.code.Instruction.{Instruction}
-use Rattle.tac_lowering.specs.Bodies.{InitialisesWord, InitialisesObject, Initialises}
-use Rattle.tac_forms.specs.layer.Parts.{Wrote}
-use Rattle.tac_forms.proofs.Parts.{none_wrote}
+use Rattle.lower_correct.specs.Bodies.{InitialisesWord, InitialisesObject, Initialises}
+use Rattle.lower_ops.specs.layer.Parts.{Wrote}
+use Rattle.lower_ops.proofs.Parts.{none_wrote}
 use Rattle.tac.specs.inside.FirstSizes.{word_size, fills_size, first_size}
 use Rattle.tac.specs.inside.Written.{WroteFills, WroteInitialises}
 

@@ -2,14 +2,14 @@
 use Rattle.std.proofs.Common.{◌≡◌, ℕ, ℤ, map, rules, ap, ◌∙◌, Global}
 use Rattle.std.specs.Prelude.{Option, Box, Vec}
 use Rattle.ctypes.specs.declared.types.IntType.{IntType}
-use Rattle.typing_program.specs.declared.expressions.Value.{Value}
-use Rattle.typing_program.specs.declared.initialisers.Initialiser.{Initialiser, the_lemmas as initialiser_lemmas}
-use Rattle.typing_program.specs.declared.initialisers.Initialiser as I
-use Rattle.typing_program.specs.declared.statements.ForControl.{ForControl}
-use Rattle.typing_program.specs.declared.statements.Statement.{Statement, the_lemmas}
-use Rattle.typing_program.specs.declared.statements.Statement as S
-use Rattle.typing_program.specs.View.{value_of, option_value, initialiser_of, initialisers_of, statement_of, statements_of}
-use Rattle.typing_rules.specs.Program as typed
+use Rattle.typed_ast.specs.declared.expressions.Value.{Value}
+use Rattle.typed_ast.specs.declared.initialisers.Initialiser.{Initialiser, the_lemmas as initialiser_lemmas}
+use Rattle.typed_ast.specs.declared.initialisers.Initialiser as I
+use Rattle.typed_ast.specs.declared.statements.ForControl.{ForControl}
+use Rattle.typed_ast.specs.declared.statements.Statement.{Statement, the_lemmas}
+use Rattle.typed_ast.specs.declared.statements.Statement as S
+use Rattle.typed_ast.specs.View.{value_of, option_value, initialiser_of, initialisers_of, statement_of, statements_of}
+use Rattle.typing_spec.specs.Program as typed
 
 empty_is : statement_of S.Empty ≡ typed.empty
 empty_is = search (rules, the_lemmas)

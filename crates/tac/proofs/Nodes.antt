@@ -1,7 +1,7 @@
 -- Measures of statements.
 use Rattle.std.proofs.Common.{ℕ, ◌+◌}
-use Rattle.typing_rules.specs.Program as typed
-use Rattle.typing_rules.specs.Program.{Statement, Statements}
+use Rattle.typing_spec.specs.Program as typed
+use Rattle.typing_spec.specs.Program.{Statement, Statements}
 
 abbrev mutual
   pub statement_nodes : Statement → ℕ

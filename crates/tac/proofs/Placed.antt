@@ -1,9 +1,9 @@
 -- Parts of a switch.
 use Rattle.std.proofs.Common.{◌≡◌, ℕ, ◌<◌, ℤ, false, List, [], ◌++◌, map, length, Option, Some, None, refl, ap, sym, subst, arith}
 use Rattle.ctypes.specs.declared.types.IntType.{IntType}
-use Rattle.typing_rules.specs.Program as typed
-use Rattle.typing_rules.specs.Program.{Value, Statement, Statements}
-use Rattle.meaning.specs.Statements.{labels_at, labels_of}
+use Rattle.typing_spec.specs.Program as typed
+use Rattle.typing_spec.specs.Program.{Value, Statement, Statements}
+use Rattle.csem.specs.Statements.{labels_at, labels_of}
 use Rattle.tac_code.specs.declared.code.Operand.{Operand}
 use Rattle.tac_code.specs.declared.code.Operand.TheVariants as operand
 use Rattle.tac_code.specs.declared.code.Reading.TheVariants as reading
@@ -11,17 +11,17 @@ use Rattle.tac_code.specs.declared.code.Comparison.TheVariants as comparison
 use Rattle.tac_code.specs.declared.code.Instruction.{Instruction}
 use Rattle.tac_code.specs.declared.code.Instruction.TheVariants as instruction
 use Rattle.tac_code.specs.Run.{word_for}
-use Rattle.tac_lowering.specs.Values.{waits_in, mode_of}
-use Rattle.tac_lowering.specs.Places.{size_of_place}
-use Rattle.tac_lowering.specs.Code.{One}
-use Rattle.tac_lowering.specs.Bodies.{is_within, label_places, StandAll, StandAt, Tests}
-use Rattle.tac_forms.specs.layer.Parts.{plus, shape_of, Wrote}
-use Rattle.tac_values.specs.layer.Sizes.{value_size}
+use Rattle.lower_correct.specs.Values.{waits_in, mode_of}
+use Rattle.lower_correct.specs.Places.{size_of_place}
+use Rattle.lower_correct.specs.Code.{One}
+use Rattle.lower_correct.specs.Bodies.{is_within, label_places, StandAll, StandAt, Tests}
+use Rattle.lower_ops.specs.layer.Parts.{plus, shape_of, Wrote}
+use Rattle.lower_exprs.specs.layer.Sizes.{value_size}
 use Rattle.tac.specs.inside.Sizes.{tests_size, statement_size, statements_size}
 use Rattle.tac.specs.inside.Places.{one_label, places_of}
-use Rattle.tac_values.specs.layer.Written.{WroteValue}
+use Rattle.lower_exprs.specs.layer.Written.{WroteValue}
 use Rattle.tac.specs.inside.Written.{WroteStatement, WroteStatements, WrotePlaced, WroteTests}
-use Rattle.tac_forms.proofs.Parts.{begins_on, as_wrote, none_wrote, two, five, reach_one, reach_four, reach_five}
+use Rattle.lower_ops.proofs.Parts.{begins_on, as_wrote, none_wrote, two, five, reach_one, reach_four, reach_five}
 
 -- ---- tests
 

@@ -7,10 +7,10 @@ use Rattle.tac_code.specs.declared.code.Target.TheVariants as target
 use Rattle.tac_code.specs.declared.code.Place.TheVariants as place
 use Rattle.tac_code.specs.declared.code.Instruction.{Instruction}
 use Rattle.tac_code.specs.declared.code.Instruction.TheVariants as instruction
-use Rattle.tac_lowering.specs.Code.{One, zero_word}
-use Rattle.tac_lowering.specs.Initialisers.{GoesOn, ClearsTo, CopiesTo, CopiesFirst, Clears, ClearsRest, Copies}
-use Rattle.tac_forms.specs.layer.Parts.{plus, Wrote}
-use Rattle.tac_forms.proofs.Parts.{as_wrote, none_wrote, two, three, five, reach_one}
+use Rattle.lower_correct.specs.Code.{One, zero_word}
+use Rattle.lower_correct.specs.Initialisers.{GoesOn, ClearsTo, CopiesTo, CopiesFirst, Clears, ClearsRest, Copies}
+use Rattle.lower_ops.specs.layer.Parts.{plus, Wrote}
+use Rattle.lower_ops.proofs.Parts.{as_wrote, none_wrote, two, three, five, reach_one}
 use Rattle.tac.specs.declared.elements.Start.{Start}
 use Rattle.tac.specs.inside.FirstSizes.{goes_on_size, clears_to_size, copies_to_size, clears_rest_size, copies_first_size, copies_size}
 use Rattle.tac.specs.inside.Starts.{element_at, WroteBegins, WroteClears}

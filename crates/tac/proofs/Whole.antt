@@ -2,19 +2,19 @@
 use Rattle.std.proofs.Common.{◌≡◌, ℕ, zero, suc, ◌+◌, ◌<◌, Bool, max, List, [], ◌∷◌, ◌++◌, take, get_or, length, map, Option, Some, None, refl, ap, sym, ◌∙◌, subst, length-append, arith}
 use Rattle.std.specs.Prelude.{slice_get, nat_eq}
 use Rattle.std.proofs.lemmas.List.{take_more}
-use Rattle.typing_rules.specs.Program as typed
+use Rattle.typing_spec.specs.Program as typed
 use Rattle.tac_code.specs.declared.code.Instruction.{Instruction}
 use Rattle.tac_code.specs.declared.code.Instruction.TheVariants as instruction
 use Rattle.tac_code.specs.Code.{Function, Program, function_at, or_no_function}
 use Rattle.tac_code.specs.Lowered.{kind_of}
-use Rattle.tac_lowering.specs.Code.{One}
-use Rattle.tac_lowering.specs.Bodies.{Idles, Closes, most, temporaries_of, IsCodeFor}
-use Rattle.tac_forms.specs.layer.Parts.{plus, Wrote}
+use Rattle.lower_correct.specs.Code.{One}
+use Rattle.lower_correct.specs.Bodies.{Idles, Closes, most, temporaries_of, IsCodeFor}
+use Rattle.lower_ops.specs.layer.Parts.{plus, Wrote}
 use Rattle.tac.specs.inside.Sizes.{statement_size}
 use Rattle.tac.specs.inside.Written.{WroteStatement}
 use Rattle.tac.specs.layer.Functions.{parameters_if, parameters_at, temporaries_with, IsBodyOf, IsFunctionWith, FunctionIsCode, FunctionsAreCode}
 use Rattle.tac.specs.inside.Functions.{closing_size, AreFunctionsOf}
-use Rattle.tac_forms.proofs.Parts.{as_wrote, begins_all, begins_on, reach_one}
+use Rattle.lower_ops.proofs.Parts.{as_wrote, begins_all, begins_on, reach_one}
 
 -- ---- the most of instructions
 

@@ -1,3 +1,3 @@
 pub mod layer
 pub mod inside
-pub use Rattle.tac_lowering.specs.Bodies
+pub use Rattle.lower_correct.specs.Bodies

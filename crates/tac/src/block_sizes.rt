@@ -1,20 +1,20 @@
 //! How many instructions the code of a statement has.
 
 ghost use Rattle.std.specs.Prelude.{◌≡◌, map};
-ghost use Rattle.meaning.specs.Statements.{labels_of};
-ghost use Rattle.typing_program.specs.View.{value_of, option_value, statement_of, statements_of};
-ghost use Rattle.typing_rules.specs.Program as typed;
+ghost use Rattle.csem.specs.Statements.{labels_of};
+ghost use Rattle.typed_ast.specs.View.{value_of, option_value, statement_of, statements_of};
+ghost use Rattle.typing_spec.specs.Program as typed;
 ghost use Rattle.ctypes.specs.declared.types.IntType.{IntType};
 ghost use Rattle.tac.specs.inside.Scopes.{program_in, function_in};
 ghost use Rattle.tac.specs.inside.Sizes as size;
 
 use crate::first_sizes::initialises_size;
-use tac_forms::form_sizes::plus;
-use tac_forms::modes::{Shape, shape_for};
-use tac_forms::row_sizes::Scope;
-use tac_values::operands::waits_for_objects;
-use tac_values::sizes::{converted_size, value_size};
-use typing_program::{Statement, Value};
+use lower_exprs::operands::waits_for_objects;
+use lower_exprs::sizes::{converted_size, value_size};
+use lower_ops::form_sizes::plus;
+use lower_ops::modes::{Shape, shape_for};
+use lower_ops::row_sizes::Scope;
+use typed_ast::{Statement, Value};
 
 pub(crate) fn effects_size(e: &Option<Value>) -> usize
     ensures { result ≡ size.effects_size (option_value e.now) }

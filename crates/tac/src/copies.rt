@@ -1,10 +1,10 @@
 //! Types of objects, string literals and objects with static storage once more.
 
 ghost use Rattle.std.specs.Prelude.{◌≡◌, map, IfOk};
-ghost use Rattle.typing_program.specs.View.{object_type_of, static_of};
+ghost use Rattle.typed_ast.specs.View.{object_type_of, static_of};
 
 use std::alloc::{AllocError, Global};
-use typing_program::{ObjectType, Static};
+use typed_ast::{ObjectType, Static};
 
 fn copied_object(alloc: Global, object: &ObjectType) -> Result<ObjectType, AllocError>
     ensures { IfOk result (λ t. object_type_of t ≡ object_type_of object.now) }

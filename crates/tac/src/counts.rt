@@ -1,13 +1,13 @@
 //! How many temporaries and slots code names.
 
 ghost use Rattle.std.specs.Prelude.{◌≡◌, suc, max, map, IfOk};
-ghost use Rattle.tac_lowering.specs.Bodies as relation;
-ghost use Rattle.typing_program.specs.View.{function_of};
+ghost use Rattle.lower_correct.specs.Bodies as relation;
+ghost use Rattle.typed_ast.specs.View.{function_of};
 ghost use Rattle.tac.specs.layer.Functions.{parameters_at, temporaries_with};
 
 use std::alloc::AllocError;
 use tac_code::{Instruction, Operand, Place, Target};
-use typing_program::Function;
+use typed_ast::Function;
 
 fn greater(a: usize, b: usize) -> usize
     ensures { result ≡ max a b }

@@ -1,16 +1,16 @@
 //! The code of elements of arrays that become zero or characters (6.7.9p14, p21): a turn of a loop for each.
 
 ghost use Rattle.std.specs.Prelude.{◌≡◌, ◌≤◌, ◌^◌, IfOk, IfErr, OnOk};
-ghost use Rattle.tac_lowering.specs.Initialisers as relation;
-ghost use Rattle.tac_forms.specs.layer.Parts.{Wrote};
+ghost use Rattle.lower_correct.specs.Initialisers as relation;
+ghost use Rattle.lower_ops.specs.layer.Parts.{Wrote};
 ghost use Rattle.tac.specs.inside.FirstSizes as size;
 ghost use Rattle.tac.specs.inside.Starts.{element_at, WroteBegins, WroteClears};
 
 use ctypes::IntType;
+use lower_ops::instructions::{branch, compute};
+use lower_ops::writing::{Code, ahead, put};
 use std::alloc::AllocError;
 use tac_code::{Comparison, Instruction, Operand, Operation, Place, Reading, Target};
-use tac_forms::instructions::{branch, compute};
-use tac_forms::writing::{Code, ahead, put};
 
 /// The element of an array that something begins at, and its type.
 #[derive(Clone, Copy)]

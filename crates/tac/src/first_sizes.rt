@@ -2,21 +2,21 @@
 
 ghost use Rattle.std.specs.Prelude.{◌≡◌, ◌*◌, ◌-◌, ◌^◌, min, map, length, slice_get};
 ghost use Rattle.ctypes.specs.declared.types.IntType.{IntType};
-ghost use Rattle.typing_rules.specs.Types as type;
-ghost use Rattle.meaning.specs.Statements as meaning;
-ghost use Rattle.typing_program.specs.View.{value_of, initialiser_of, initialisers_of};
+ghost use Rattle.typing_spec.specs.Types as type;
+ghost use Rattle.csem.specs.Statements as meaning;
+ghost use Rattle.typed_ast.specs.View.{value_of, initialiser_of, initialisers_of};
 ghost use Rattle.tac.specs.inside.Scopes.{program_in, function_in};
 ghost use Rattle.tac.specs.inside.FirstSizes as size;
 
 use ctypes::IntType;
-use tac_forms::bools::either;
-use tac_forms::form_sizes::{plus, puts_size};
-use tac_forms::modes::{Shape, shape_for};
-use tac_forms::row_sizes::Scope;
-use tac_forms::spots::cuts_for;
-use tac_values::operands::{keeps, operand_of};
-use tac_values::sizes::{converted_size, value_size};
-use typing_program::{Initialiser, Value};
+use lower_exprs::operands::{keeps, operand_of};
+use lower_exprs::sizes::{converted_size, value_size};
+use lower_ops::bools::either;
+use lower_ops::form_sizes::{plus, puts_size};
+use lower_ops::modes::{Shape, shape_for};
+use lower_ops::row_sizes::Scope;
+use lower_ops::spots::cuts_for;
+use typed_ast::{Initialiser, Value};
 
 // ---- what the sizes go by
 

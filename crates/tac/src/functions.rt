@@ -1,11 +1,11 @@
 //! The code of functions.
 
 ghost use Rattle.std.specs.Prelude.{suc, ◌≡◌, [], map, length, OnOk, IfOk};
-ghost use Rattle.typing_program.specs.View.{parameter_type_of, function_of, program_of};
+ghost use Rattle.typed_ast.specs.View.{parameter_type_of, function_of, program_of};
 ghost use Rattle.tac_code.specs.Lowered.{kind_of};
 ghost use Rattle.tac_code.specs.Code as three_address;
-ghost use Rattle.tac_lowering.specs.Bodies as relation;
-ghost use Rattle.tac_forms.specs.layer.Parts.{Wrote};
+ghost use Rattle.lower_correct.specs.Bodies as relation;
+ghost use Rattle.lower_ops.specs.layer.Parts.{Wrote};
 ghost use Rattle.tac.specs.layer.Functions.{IsBodyOf, IsFunctionWith};
 ghost use Rattle.tac.specs.inside.Functions.{closing_size};
 
@@ -13,12 +13,12 @@ use crate::block_sizes::statement_size;
 use crate::copies::copied_objects;
 use crate::counts::{most_slots, most_temporaries};
 use crate::statements::put_statement;
+use lower_ops::form_sizes::plus;
+use lower_ops::row_sizes::Scope;
+use lower_ops::writing::{Code, ahead, put};
 use std::alloc::{AllocError, Global};
 use tac_code::{Instruction, Operand, Parameter, Target};
-use tac_forms::form_sizes::plus;
-use tac_forms::row_sizes::Scope;
-use tac_forms::writing::{Code, ahead, put};
-use typing_program::{Function, ParameterType, Program};
+use typed_ast::{Function, ParameterType, Program};
 
 /// The definition and each parameter take a tick.
 fn put_idles(code: &mut Code, parameters: &[ParameterType]) -> Result<(), AllocError>

@@ -1,11 +1,11 @@
 //! The code of initialisers (6.7.9).
 
 ghost use Rattle.std.specs.Prelude.{◌≡◌, ◌+◌, map, Some, slice_get, IfOk, OnOk};
-ghost use Rattle.typing_program.specs.View.{value_of, object_type_of, initialiser_of, initialisers_of};
-ghost use Rattle.tac_lowering.specs.Bodies as relation;
-ghost use Rattle.tac_lowering.specs.Initialisers as stretches;
-ghost use Rattle.tac_forms.specs.layer.Parts.{Wrote};
-ghost use Rattle.tac_forms.specs.layer.Rows as rows;
+ghost use Rattle.typed_ast.specs.View.{value_of, object_type_of, initialiser_of, initialisers_of};
+ghost use Rattle.lower_correct.specs.Bodies as relation;
+ghost use Rattle.lower_correct.specs.Initialisers as stretches;
+ghost use Rattle.lower_ops.specs.layer.Parts.{Wrote};
+ghost use Rattle.lower_ops.specs.layer.Rows as rows;
 ghost use Rattle.tac.specs.inside.Scopes.{program_in, function_in};
 ghost use Rattle.tac.specs.inside.FirstSizes as size;
 ghost use Rattle.tac.specs.inside.Written.{WroteFills, WroteFillAll, WroteInitialises};
@@ -13,18 +13,18 @@ ghost use Rattle.tac.specs.inside.Written.{WroteFills, WroteFillAll, WroteInitia
 use crate::elements::{Start, element_at, put_clears, put_copies};
 use crate::first_sizes::{characters_of, first_length, inner_lengths};
 use ctypes::IntType;
+use lower_exprs::operands::keeps;
+use lower_exprs::places::Free;
+use lower_exprs::values::{put_converted, put_rested};
+use lower_ops::bools::either;
+use lower_ops::memory::put_stored;
+use lower_ops::modes::Mode;
+use lower_ops::row_sizes::{Scope, elements, times};
+use lower_ops::spots::cuts;
+use lower_ops::writing::{Code, put};
 use std::alloc::AllocError;
 use tac_code::{Instruction, Target};
-use tac_forms::bools::either;
-use tac_forms::memory::put_stored;
-use tac_forms::modes::Mode;
-use tac_forms::row_sizes::{Scope, elements, times};
-use tac_forms::spots::cuts;
-use tac_forms::writing::{Code, put};
-use tac_values::operands::keeps;
-use tac_values::places::Free;
-use tac_values::values::{put_converted, put_rested};
-use typing_program::{Initialiser, ObjectType, Value};
+use typed_ast::{Initialiser, ObjectType, Value};
 
 /// Each full expression has all temporaries and slots.
 pub(crate) fn all_free() -> Free

@@ -1,23 +1,23 @@
 //! The code of statements that hold no other, and of a loop's expressions.
 
 ghost use Rattle.std.specs.Prelude.{ℕ, OnOk};
-ghost use Rattle.typing_rules.specs.Program as typed;
-ghost use Rattle.typing_program.specs.View.{value_of, option_value, initialiser_of};
-ghost use Rattle.tac_lowering.specs.Bodies as relation;
-ghost use Rattle.tac_forms.specs.layer.Parts.{Wrote};
+ghost use Rattle.typing_spec.specs.Program as typed;
+ghost use Rattle.typed_ast.specs.View.{value_of, option_value, initialiser_of};
+ghost use Rattle.lower_correct.specs.Bodies as relation;
+ghost use Rattle.lower_ops.specs.layer.Parts.{Wrote};
 ghost use Rattle.tac.specs.inside.Scopes.{program_in, function_in};
 ghost use Rattle.tac.specs.inside.Sizes as size;
 ghost use Rattle.tac.specs.inside.Written.{WroteStatement};
 
 use crate::initialisers::{all_free, put_first};
 use ctypes::IntType;
+use lower_exprs::values::{put_converted, put_value};
+use lower_ops::modes::Mode;
+use lower_ops::row_sizes::Scope;
+use lower_ops::writing::{Code, put};
 use std::alloc::AllocError;
 use tac_code::{Instruction, Target};
-use tac_forms::modes::Mode;
-use tac_forms::row_sizes::Scope;
-use tac_forms::writing::{Code, put};
-use tac_values::values::{put_converted, put_value};
-use typing_program::{Initialiser, Value};
+use typed_ast::{Initialiser, Value};
 
 /// What may be left out: nothing is evaluated.
 pub(crate) fn put_effects(

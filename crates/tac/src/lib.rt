@@ -1,4 +1,4 @@
-//! From typed programs to three-address code (ISO/IEC 9899:2011 6.5, 6.7.9, 6.8).
+//! Lowers typed programs to three-address code (ISO/IEC 9899:2011 6.5, 6.7.9, 6.8).
 #![tactic(auto)]
 
 mod block_sizes;

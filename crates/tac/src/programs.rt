@@ -1,16 +1,16 @@
 //! The code of programs.
 
 ghost use Rattle.std.specs.Prelude.{map, length, IfOk};
-ghost use Rattle.typing_program.specs.View as view;
+ghost use Rattle.typed_ast.specs.View as view;
 ghost use Rattle.tac_code.specs.Code as three_address;
-ghost use Rattle.tac_lowering.specs.Bodies.{IsCodeFor};
+ghost use Rattle.lower_correct.specs.Bodies.{IsCodeFor};
 ghost use Rattle.tac.specs.inside.Functions.{AreFunctionsOf};
 
 use crate::copies::{copied_literals, copied_statics};
 use crate::functions::lower_function;
 use std::alloc::{AllocError, Global};
 use tac_code::TacProgram;
-use typing_program::Program;
+use typed_ast::Program;
 
 fn lowered_functions(
     alloc: Global,

@@ -2,9 +2,9 @@
 
 ghost use Rattle.std.specs.Prelude.{◌≡◌, map, ℕ, OnOk};
 ghost use Rattle.ctypes.specs.declared.types.IntType.{IntType};
-ghost use Rattle.typing_rules.specs.Program as typed;
-ghost use Rattle.typing_program.specs.View.{value_of, option_value, statement_of, statements_of};
-ghost use Rattle.tac_forms.specs.layer.Parts as parts;
+ghost use Rattle.typing_spec.specs.Program as typed;
+ghost use Rattle.typed_ast.specs.View.{value_of, option_value, statement_of, statements_of};
+ghost use Rattle.lower_ops.specs.layer.Parts as parts;
 ghost use Rattle.tac.specs.inside.Scopes.{program_in, function_in};
 ghost use Rattle.tac.specs.inside.Sizes as size;
 ghost use Rattle.tac.specs.inside.Written.{WroteStatement, WrotePlaced};
@@ -15,16 +15,16 @@ use crate::leaves::{
     put_defined, put_effects, put_evaluated, put_repeats, put_return, put_returned,
 };
 use crate::switches::put_tests;
+use lower_exprs::operands::waits_for_objects;
+use lower_exprs::sizes::value_size;
+use lower_exprs::values::put_value;
+use lower_ops::form_sizes::plus;
+use lower_ops::modes::{Mode, Shape, mode_of, shape_for};
+use lower_ops::row_sizes::Scope;
+use lower_ops::writing::{Code, ahead, put};
 use std::alloc::AllocError;
 use tac_code::Instruction;
-use tac_forms::form_sizes::plus;
-use tac_forms::modes::{Mode, Shape, mode_of, shape_for};
-use tac_forms::row_sizes::Scope;
-use tac_forms::writing::{Code, ahead, put};
-use tac_values::operands::waits_for_objects;
-use tac_values::sizes::value_size;
-use tac_values::values::put_value;
-use typing_program::{Statement, Value};
+use typed_ast::{Statement, Value};
 
 #[cycle(statement_code)]
 fn put_block(

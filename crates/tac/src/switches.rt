@@ -1,21 +1,21 @@
 //! The tests of the labels of a `switch` (6.8.4.2).
 
 ghost use Rattle.std.specs.Prelude.{◌≡◌, map, OnOk};
-ghost use Rattle.meaning.specs.Statements.{labels_at};
-ghost use Rattle.typing_program.specs.View.{statement_of, statements_of};
+ghost use Rattle.csem.specs.Statements.{labels_at};
+ghost use Rattle.typed_ast.specs.View.{statement_of, statements_of};
 ghost use Rattle.tac.specs.inside.Scopes.{program_in, function_in};
 ghost use Rattle.tac.specs.inside.Places.{one_label};
 ghost use Rattle.tac.specs.inside.Written.{WroteTests};
 
 use crate::block_sizes::statement_size;
+use lower_ops::form_sizes::plus;
+use lower_ops::instructions::branch;
+use lower_ops::row_sizes::Scope;
+use lower_ops::words::word_of;
+use lower_ops::writing::{Code, put};
 use std::alloc::AllocError;
 use tac_code::{Comparison, Instruction, Operand, Reading};
-use tac_forms::form_sizes::plus;
-use tac_forms::instructions::branch;
-use tac_forms::row_sizes::Scope;
-use tac_forms::words::word_of;
-use tac_forms::writing::{Code, put};
-use typing_program::Statement;
+use typed_ast::Statement;
 
 /// The label that a statement is: the value of a case, none for default.
 fn label_at(statement: &Statement) -> Option<Option<i64>>

@@ -1,9 +1,9 @@
 -- The contract of lowering can be met: it is here, for one program and every clock. int main(void) { return 42; }
 use Rattle.std.proofs.Common.{◌≡◌, ◌≤◌, ℕ, zero, suc, ◌+◌, ◌*◌, List, [], ◌∷◌, ℤ, refl, Option, Bool, true, false, ap, arith}
-use Rattle.typing_rules.specs.Program as typed
-use Rattle.meaning.specs.Machine as machine
-use Rattle.meaning.specs.Machine.{Goes, Stops, Ended, Undefined, TicksUsed, Ending}
-use Rattle.meaning.specs.Meaning.{cstep, last_of}
+use Rattle.typing_spec.specs.Program as typed
+use Rattle.csem.specs.Machine as machine
+use Rattle.csem.specs.Machine.{Goes, Stops, Ended, Undefined, TicksUsed, Ending}
+use Rattle.csem.specs.Meaning.{cstep, last_of}
 use Rattle.tac_code.specs.declared.code.Operand.TheVariants.{Constant as constant}
 use Rattle.tac_code.specs.declared.code.Target.TheVariants.{Temporary as to_temporary}
 use Rattle.tac_code.specs.declared.code.Instruction.TheVariants.{Nothing as nothing, Move as move, Return as return}

@@ -1,11 +1,11 @@
 -- One walk over the instructions: what a step adds to the history, and that the open calls stay those of the history.
 use Rattle.std.proofs.Common.{◌≡◌, ℕ, zero, suc, ◌+◌, Bool, true, false, List, [], ◌∷◌, ◌++◌, map, Option, Some, None, refl, ap, ◌∙◌, subst, sym, arith}
-use Rattle.meaning.specs.Store.{Tree, Reference, into, tree_at}
-use Rattle.meaning.specs.History.{Entry, Did, Entered, Left, active, without_innermost}
-use Rattle.meaning_events.specs.Events.{Got, GotEnd, Put}
+use Rattle.csem.specs.Store.{Tree, Reference, into, tree_at}
+use Rattle.csem.specs.History.{Entry, Did, Entered, Left, active, without_innermost}
+use Rattle.csem_events.specs.Events.{Got, GotEnd, Put}
 use Rattle.std.specs.Prelude.{◌%◌, ◌^◌, ◌*◌, ◌==◌, if◌then◌else◌, slice_get}
 use Rattle.ctypes.specs.Types.{bytes_of}
-use Rattle.meaning.specs.Laws.{Grows}
+use Rattle.csem.specs.Laws.{Grows}
 use Rattle.tac_code.specs.Laws.{ComesOf, RunGrows, HasCalls, CallsAreActive}
 use Rattle.ctypes.specs.declared.types.IntType.{IntType}
 use Rattle.tac_code.specs.declared.code.Target.{Target}

@@ -1,5 +1,5 @@
 -- Programs and their three-address code, both computed: they end in the same way, having done the same; where the program meets an
--- undefined act its code is stuck. The sources stand above; each clock has exactly the ticks that the run takes.
+-- undefined behaviour its code is stuck. The sources stand above; each clock has exactly the ticks that the run takes.
 use Rattle.std.proofs.Common.{◌≡◌, ℕ, ◌+◌, ◌*◌, List, [], ◌∷◌, ℤ, pos, negsuc, refl, Some, None, Option, Bool, true, false}
 use Rattle.std.specs.Prelude.{zero, suc, ◌&&◌, ◌-◌, ◌^◌, nat_le, nat_eq}
 use Rattle.srcset.specs.declared.refusal.Pos.{Pos}
@@ -10,14 +10,14 @@ use Rattle.ctypes.specs.declared.operators.BinOp.TheVariants as op
 use Rattle.ctypes.specs.declared.operators.Undef.TheVariants.{U1, U2, U3}
 use Rattle.tree.specs.declared.expression.PrefixOp.TheVariants as prefix
 use Rattle.tree.specs.Counts.{weight_of}
-use Rattle.meaning_events.specs.Events.{Got, GotEnd, Put}
-use Rattle.typing_rules.specs.Types.{ObjectType, ParameterType, elements, number}
-use Rattle.typing_rules.specs.Program as typed
-use Rattle.typing_rules.specs.WellTyped.{is_typed}
-use Rattle.meaning.specs.History.{Entry, Did, Entered, Left}
-use Rattle.meaning.specs.Machine as machine
-use Rattle.meaning.specs.Machine.{Goes, Stops, Ended, Undefined, TicksUsed, Ending}
-use Rattle.meaning.specs.Meaning.{cstep, ending_of, last_of}
+use Rattle.csem_events.specs.Events.{Got, GotEnd, Put}
+use Rattle.typing_spec.specs.Types.{ObjectType, ParameterType, elements, number}
+use Rattle.typing_spec.specs.Program as typed
+use Rattle.typing_spec.specs.WellTyped.{is_typed}
+use Rattle.csem.specs.History.{Entry, Did, Entered, Left}
+use Rattle.csem.specs.Machine as machine
+use Rattle.csem.specs.Machine.{Goes, Stops, Ended, Undefined, TicksUsed, Ending}
+use Rattle.csem.specs.Meaning.{cstep, ending_of, last_of}
 use Rattle.tac_code.specs.declared.code.Operand.{Operand}
 use Rattle.tac_code.specs.declared.code.Operand.TheVariants as operand
 use Rattle.tac_code.specs.declared.code.Target.{Target}
@@ -306,7 +306,7 @@ elements_and_references : Agree arrays arrays_code [] 36 21 (ended 147 [] (Left 
 unfolding step
 elements_and_references = (refl, refl, refl, refl, refl, refl)
 
--- ---- undefined acts: int main(void) { int x = X; return A x; }
+-- ---- undefined behaviour: int main(void) { int x = X; return A x; }
 
 abbrev computes : ℕ → (typed.Value → typed.Value) → typed.Program
 computes v e = program (function [] (int ∷ []) 8 4 (block 0 1 (first_value 0 (value v) ∷ gives_back (e (get 0)) ∷ [])) ∷ [])

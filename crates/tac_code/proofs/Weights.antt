@@ -1,8 +1,8 @@
 -- The weights of open calls and the greatest sum in the history.
 use Rattle.std.proofs.Common.{◌≡◌, ◌≤◌, ℕ, ◌+◌, List, [], ◌∷◌, ◌++◌, subst, sym, arith}
 use Rattle.std.proofs.Math.Nat.{le-max_left, le-max_right}
-use Rattle.meaning.specs.History.{Entry, active, sum_of, greatest_sum}
-use Rattle.meaning.specs.Laws.{Grows}
+use Rattle.csem.specs.History.{Entry, active, sum_of, greatest_sum}
+use Rattle.csem.specs.Laws.{Grows}
 use Rattle.tac_code.specs.Run.{State, Progress, running, ended, stuck, open_calls, run, start}
 use Rattle.tac_code.specs.Laws.{ComesOf, HasCalls, IsSeen, WeightsAreSeen}
 use Rattle.tac_code.proofs.Growing.{run_grows, calls_are_active}

@@ -1,9 +1,9 @@
 -- Three-address code. Its instructions are those of `src/code.rt`.
 use Rattle.std.specs.Prelude.{ℕ, List, [], ◌∷◌, map, Option, Some, None, slice_get}
 use Rattle.ctypes.specs.declared.types.IntType.{IntType}
-use Rattle.typing_rules.specs.Types.{ObjectType}
-use Rattle.typing_rules.specs.Program.{Static}
-use Rattle.typing_program.specs.View.{object_type_of, static_of}
+use Rattle.typing_spec.specs.Types.{ObjectType}
+use Rattle.typing_spec.specs.Program.{Static}
+use Rattle.typed_ast.specs.View.{object_type_of, static_of}
 use Rattle.tac_code.specs.declared.code.Instruction.{Instruction}
 use Rattle.tac_code.specs.declared.code.Parameter.{Parameter}
 use Rattle.tac_code.specs.declared.code.Function.{Function as Held}

@@ -2,7 +2,7 @@
 -- call takes. A word of the frame takes up to three to read or write, where it lies past the reach of 12 bits; a constant two.
 use Rattle.std.specs.Prelude.{ℕ, zero, suc, ◌+◌, ◌*◌, ◌-◌, ◌/◌, max, nat_lt, if◌then◌else◌, List, [], ◌∷◌, length, sum_by, Option, Some, None}
 use Rattle.ctypes.specs.Types.{bytes_of}
-use Rattle.typing_rules.specs.Units.{bytes_of_objects}
+use Rattle.typing_spec.specs.Units.{bytes_of_objects}
 use Rattle.tac_code.specs.declared.code.Operand.{Operand}
 use Rattle.tac_code.specs.declared.code.Operand.TheVariants as operand
 use Rattle.tac_code.specs.declared.code.Target.{Target}

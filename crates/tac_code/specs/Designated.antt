@@ -1,8 +1,8 @@
 -- Whether each object with static storage that an expression designates is defined (ISO/IEC 9899:2011 6.9p3, p5): one that is only declared
 -- has no bytes, and the operand of sizeof, which may name it, is no part of a typed program.
 use Rattle.std.specs.Prelude.{Bool, true, false, ◌&&◌, Option, Some, None, slice_get}
-use Rattle.typing_rules.specs.Program as typed
-use Rattle.typing_rules.specs.Program.{Static, Storage, Place, Value, Arguments, Initialiser, Initialisers, Statement, Statements, Function, Program}
+use Rattle.typing_spec.specs.Program as typed
+use Rattle.typing_spec.specs.Program.{Static, Storage, Place, Value, Arguments, Initialiser, Initialisers, Statement, Statements, Function, Program}
 
 abbrev pub is_defined : Option Static → Bool
 is_defined None = false

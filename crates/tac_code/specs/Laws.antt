@@ -1,7 +1,7 @@
 -- Laws of runs, which the layers on both sides use.
 use Rattle.std.specs.Prelude.{◌≡◌, ◌≤◌, ℕ, ◌+◌, List}
-use Rattle.meaning.specs.History.{active, sum_of, greatest_sum}
-use Rattle.meaning.specs.Laws.{Grows}
+use Rattle.csem.specs.History.{active, sum_of, greatest_sum}
+use Rattle.csem.specs.Laws.{Grows}
 use Rattle.tac_code.specs.Code.{Program}
 use Rattle.tac_code.specs.Run.{State, Progress, running, ended, stuck, open_calls, run, start}
 

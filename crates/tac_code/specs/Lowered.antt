@@ -2,12 +2,12 @@
 use Rattle.std.specs.Prelude.{◌≡◌, ◌≤◌, ◌<◌, ℕ, ◌+◌, ◌*◌, ◌^◌, true, List, [], map, length, slice_get, Some}
 use Rattle.ctypes.specs.declared.types.IntType.TheVariants as ty
 use Rattle.tree.specs.Counts.{weight_of}
-use Rattle.typing_rules.specs.Types.{ObjectType, ParameterType, number, elements, size_of_object}
-use Rattle.typing_rules.specs.WellTyped.{is_typed}
-use Rattle.typing_rules.specs.Program as typed
-use Rattle.meaning.specs.Machine as machine
-use Rattle.meaning.specs.Machine.{Stops, Ended, TicksUsed}
-use Rattle.meaning.specs.Meaning.{cstep}
+use Rattle.typing_spec.specs.Types.{ObjectType, ParameterType, number, elements, size_of_object}
+use Rattle.typing_spec.specs.WellTyped.{is_typed}
+use Rattle.typing_spec.specs.Program as typed
+use Rattle.csem.specs.Machine as machine
+use Rattle.csem.specs.Machine.{Stops, Ended, TicksUsed}
+use Rattle.csem.specs.Meaning.{cstep}
 use Rattle.tac_code.specs.Code.{Function, Program}
 use Rattle.tac_code.specs.Run.{State, Progress, running, ended, run, start}
 use Rattle.tac_code.specs.Costs.{spent_in_all, function_bytes, call_bytes}
@@ -16,7 +16,7 @@ use Rattle.tac_code.specs.declared.code.Parameter.TheVariants as parameter
 use Rattle.tac_code.specs.Sound.{IsSoundProgram, AreBytes, data_bytes}
 use Rattle.tac_code.specs.Spans.{span, own_bytes}
 use Rattle.tac_code.specs.Designated.{in_function}
-use Rattle.typing_rules.specs.Units.{function_limit}
+use Rattle.typing_spec.specs.Units.{function_limit}
 use Rattle.tree.specs.Limits.{function_node_limit}
 
 -- the run of q on this input, after m steps

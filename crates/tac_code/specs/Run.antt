@@ -1,5 +1,5 @@
 -- What three-address code does, by a count of steps, over the objects of the abstract machine (ISO/IEC 9899:2011 6.2.4). Reading what was
--- never set, an undefined act, a word that is no value of its object's type: the run is stuck, and a stuck run promises nothing.
+-- never set, undefined behaviour, a word that is no value of its object's type: the run is stuck, and a stuck run promises nothing.
 use Rattle.std.specs.Prelude.{ℕ, zero, suc, ◌+◌, ◌*◌, ◌-◌, ◌%◌, ◌^◌, ◌==◌, ◌&&◌, not, nat_lt, Bool, true, false, if◌then◌else◌, ℤ, pos, int_lt, List, [], ◌∷◌, ◌++◌, map, length, take, drop, slice_get, option_map, Option, Some, None, Result, Ok, Err}
 use Rattle.ctypes.specs.declared.types.IntType.{IntType}
 use Rattle.ctypes.specs.declared.types.IntType.TheVariants as ty
@@ -7,12 +7,12 @@ use Rattle.ctypes.specs.declared.operators.BinOp.{BinOp}
 use Rattle.ctypes.specs.declared.operators.BinOp.TheVariants as op
 use Rattle.ctypes.specs.declared.operators.Undef.{Undef}
 use Rattle.ctypes.specs.Types.{modulo, converted, bytes_of}
-use Rattle.meaning_events.specs.Events.{Got, GotEnd, Put}
-use Rattle.typing_rules.specs.Types.{ObjectType, same_type}
-use Rattle.typing_rules.specs.Operators.{operated}
-use Rattle.meaning.specs.Store.{Tree, Element, Array, Row, no_parts, and_part, Store, Reference, whole, into, tree_at, value_at, put, indeterminate, static_object, literal_object}
-use Rattle.meaning.specs.History.{Entry, Did, Entered, Left}
-use Rattle.meaning.specs.Statements.{new_object}
+use Rattle.csem_events.specs.Events.{Got, GotEnd, Put}
+use Rattle.typing_spec.specs.Types.{ObjectType, same_type}
+use Rattle.typing_spec.specs.Operators.{operated}
+use Rattle.csem.specs.Store.{Tree, Element, Array, Row, no_parts, and_part, Store, Reference, whole, into, tree_at, value_at, put, indeterminate, static_object, literal_object}
+use Rattle.csem.specs.History.{Entry, Did, Entered, Left}
+use Rattle.csem.specs.Statements.{new_object}
 use Rattle.tac_code.specs.declared.code.Operand.{Operand}
 use Rattle.tac_code.specs.declared.code.Operand.TheVariants as operand
 use Rattle.tac_code.specs.declared.code.Target.{Target}

@@ -1,9 +1,9 @@
 -- Which three-address programs are sound: each instruction names what there is, and what there is has its place. What the next step takes.
 use Rattle.std.specs.Prelude.{◌≡◌, ◌≤◌, ◌<◌, ℕ, ◌+◌, ◌^◌, Bool, true, false, List, [], ◌∷◌, length, slice_get, sum_by, Some, None}
 use Rattle.ctypes.specs.declared.types.IntType.{IntType}
-use Rattle.typing_rules.specs.Types.{ObjectType, elements_in, size_of_object}
-use Rattle.typing_rules.specs.Program.{Static}
-use Rattle.typing_rules.specs.WellTyped.{values_fit}
+use Rattle.typing_spec.specs.Types.{ObjectType, elements_in, size_of_object}
+use Rattle.typing_spec.specs.Program.{Static}
+use Rattle.typing_spec.specs.WellTyped.{values_fit}
 use Rattle.tac_code.specs.declared.code.Operand.{Operand}
 use Rattle.tac_code.specs.declared.code.Operand.TheVariants as operand
 use Rattle.tac_code.specs.declared.code.Target.{Target}
@@ -15,7 +15,7 @@ use Rattle.tac_code.specs.declared.code.Parameter.TheVariants as parameter
 use Rattle.tac_code.specs.declared.code.Instruction.{Instruction}
 use Rattle.tac_code.specs.declared.code.Instruction.TheVariants as instruction
 use Rattle.tac_code.specs.Code.{Function, Program, function_at, scalar_type}
-use Rattle.typing_rules.specs.Units.{in_words}
+use Rattle.typing_spec.specs.Units.{in_words}
 use Rattle.tac_code.specs.Costs.{array_parameters, call_bytes}
 
 -- object n is no array; it is one

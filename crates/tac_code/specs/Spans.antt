@@ -1,10 +1,10 @@
 -- How many nodes the widest full expression of a function has (ISO/IEC 9899:2011 6.8p4). Temporaries of different full expressions are
 -- never needed at one time, so a call takes no more bytes than the widest needs.
 use Rattle.std.specs.Prelude.{ℕ, ◌+◌, max}
-use Rattle.typing_rules.specs.Program as typed
-use Rattle.typing_rules.specs.Program.{Initialiser, Initialisers, Statement, Statements, Function}
-use Rattle.typing_rules.specs.Nodes.{value_nodes, option_nodes}
-use Rattle.typing_rules.specs.Units.{bytes_of_objects, bytes_of_references}
+use Rattle.typing_spec.specs.Program as typed
+use Rattle.typing_spec.specs.Program.{Initialiser, Initialisers, Statement, Statements, Function}
+use Rattle.typing_spec.specs.Nodes.{value_nodes, option_nodes}
+use Rattle.typing_spec.specs.Units.{bytes_of_objects, bytes_of_references}
 use Rattle.tree.specs.Counts.{weight_of}
 
 abbrev mutual

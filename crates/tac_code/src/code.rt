@@ -1,7 +1,7 @@
 //! Three-address code.
 
 use ctypes::IntType;
-use typing_program::{ObjectType, Static};
+use typed_ast::{ObjectType, Static};
 
 /// What an instruction reads.
 #[derive(Clone, Copy, Debug, PartialEq, Eq)]

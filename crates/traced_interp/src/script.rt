@@ -2,7 +2,7 @@
 
 use crate::events::Event;
 use explain::Sources;
-use explain_probes::Told;
+use instrument::Told;
 use std::alloc::{AllocError, Global};
 
 /// How many lines of a file have numbers of their own.

@@ -4,7 +4,7 @@ ghost use Rattle.std.specs.Prelude.{◌≡◌};
 
 use crate::events::{Coming, Event};
 use crate::script::Script;
-use meaning_ports::{Port, PortFault};
+use io_ports::{Port, PortFault};
 use srcset::write_text;
 use std::alloc::Global;
 use std::io::Write;

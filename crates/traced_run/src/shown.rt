@@ -1,8 +1,8 @@
 //! The state of a hart as text.
 
-use code_map::CodeMap;
 use rv32::state::State;
 use std::alloc::{AllocError, Global};
+use symbol_table::CodeMap;
 
 /// The pc, with its function where the map has it, and the registers, four a line.
 pub fn machine_text(

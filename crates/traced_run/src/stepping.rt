@@ -1,7 +1,7 @@
 //! A hart over a port, a step at a time.
 
+use io_ports::Port;
 use loader::Loaded;
-use meaning_ports::Port;
 use rv32::Five;
 use rv32::state::{Cause, State, StepResult, step};
 use sim::Outcome;

@@ -3,14 +3,14 @@
 use crate::instruction::instruction_line;
 use crate::shown::place_text;
 use crate::stepping::tick;
-use code_map::CodeMap;
-use meaning_ports::Port;
+use io_ports::Port;
 use rv32::state::State;
 use rv32::{Instr, decode};
 use sim::Outcome;
 use srcset::write_text;
 use std::alloc::{AllocError, Global};
 use std::io::Write;
+use symbol_table::CodeMap;
 
 /// The column in which what an instruction did begins.
 const WIDTH: usize = 44;

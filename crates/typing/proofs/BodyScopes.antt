@@ -4,23 +4,23 @@ use Rattle.std.specs.Prelude.{nat_lt}
 use Rattle.srcset.specs.declared.code.Code.TheVariants as code
 use Rattle.srcset.specs.declared.refusal.Pos.{Pos}
 use Rattle.srcset.specs.declared.refusal.Refusal.{Refusal}
-use Rattle.typing_program.specs.declared.units.Function as held
-use Rattle.typing_program.specs.declared.statements.Statement.{Statement}
-use Rattle.typing_program.specs.View as view
+use Rattle.typed_ast.specs.declared.units.Function as held
+use Rattle.typed_ast.specs.declared.statements.Statement.{Statement}
+use Rattle.typed_ast.specs.View as view
 use Rattle.typing_scopes.specs.declared.scopes.Block.{Block}
 use Rattle.typing_scopes.specs.Scopes.{with_texts, block_of, with_objects}
 use Rattle.typing_units.specs.declared.first_values.Initial.{Initial}
 use Rattle.typing_statements.specs.declared.labels.Label.{Label}
 use Rattle.typing_statements.specs.Views.{all_done_of}
 use Rattle.tree.specs.Tree.{FunctionTree, ParameterTree}
-use Rattle.typing_rules.specs.Types.{ObjectType, ParameterType, FunctionType}
-use Rattle.typing_rules.specs.Program as typed
-use Rattle.typing_rules.specs.Verdict.{Verdict, fine, then_check, provided, refuse_if, IfFine}
-use Rattle.typing_rules.specs.Scope.{Scope, StaticObject, Binding, Tag, Meaning, an_object, an_array_parameter, a_function, an_enumerator, State, defined, lookup, with_name, built_in, inside, outside}
-use Rattle.typing_rules.specs.Declarators.{Parameters, parameters_in, behind_parameters}
-use Rattle.typing_rules.specs.Linkage.{StorageClass, Agreed, agreed, linkage_of_function, as_built_in, redeclared, agreed_in, with_storage, declared_at_file, file_function}
-use Rattle.typing_rules.specs.Statements.{AllDone, pieces}
-use Rattle.typing_rules.specs.Units.{Built, around_of, body_scope, newer, weight, function_of, with_function}
+use Rattle.typing_spec.specs.Types.{ObjectType, ParameterType, FunctionType}
+use Rattle.typing_spec.specs.Program as typed
+use Rattle.typing_spec.specs.Verdict.{Verdict, fine, then_check, provided, refuse_if, IfFine}
+use Rattle.typing_spec.specs.Scope.{Scope, StaticObject, Binding, Tag, Meaning, an_object, an_array_parameter, a_function, an_enumerator, State, defined, lookup, with_name, built_in, inside, outside}
+use Rattle.typing_spec.specs.Declarators.{Parameters, parameters_in, behind_parameters}
+use Rattle.typing_spec.specs.Linkage.{StorageClass, Agreed, agreed, linkage_of_function, as_built_in, redeclared, agreed_in, with_storage, declared_at_file, file_function}
+use Rattle.typing_spec.specs.Statements.{AllDone, pieces}
+use Rattle.typing_spec.specs.Units.{Built, around_of, body_scope, newer, weight, function_of, with_function}
 use Rattle.typing_expressions.specs.Refused.{IsOf, Tells}
 use Rattle.typing_expressions.proofs.Verdicts.{tells_left, tells_then, tells_of}
 use Rattle.decls_declarators.proofs.Verdicts.{then_fine, then_tells, provided_fine, provided_left}

@@ -3,19 +3,19 @@ use Rattle.std.proofs.Common.{◌≡◌, ℕ, zero, suc, ◌+◌, ◌+ℤ◌, �
 use Rattle.srcset.specs.declared.code.Code.TheVariants as code
 use Rattle.srcset.specs.declared.refusal.Pos.{Pos}
 use Rattle.tree.specs.Tree.{Tree, Init, EnumeratorTree, SpecifierTree, extern_specifier, static_specifier, plain_specifier, enumerators_specifier, ParameterTree, ItemTree, object, function, DeclarationTree, declared, assertion}
-use Rattle.typing_rules.specs.Types.{ObjectType, DeclaredType, complete, unknown_size, FunctionType, array_of}
-use Rattle.typing_rules.specs.Verdict.{Verdict, fine, broken, then_check, both, provided, refuse_if, IfFine}
-use Rattle.typing_rules.specs.Program as program
-use Rattle.typing_rules.specs.Scope.{Scope, Binding, Tag, Meaning, an_object, an_array_parameter, a_function, an_enumerator, Linkage, State, mentioned, no_linkage, defined, lookup, tag_in, with_name, with_tag, with_literals, past, built_in}
-use Rattle.typing_rules.specs.Specifiers.{BaseType}
+use Rattle.typing_spec.specs.Types.{ObjectType, DeclaredType, complete, unknown_size, FunctionType, array_of}
+use Rattle.typing_spec.specs.Verdict.{Verdict, fine, broken, then_check, both, provided, refuse_if, IfFine}
+use Rattle.typing_spec.specs.Program as program
+use Rattle.typing_spec.specs.Scope.{Scope, Binding, Tag, Meaning, an_object, an_array_parameter, a_function, an_enumerator, Linkage, State, mentioned, no_linkage, defined, lookup, tag_in, with_name, with_tag, with_literals, past, built_in}
+use Rattle.typing_spec.specs.Specifiers.{BaseType}
 use Rattle.ctypes.specs.Types.{truth}
-use Rattle.typing_rules.specs.Expressions.{constant_value, too_large}
-use Rattle.typing_rules.specs.Initialisers.{past_init}
-use Rattle.typing_rules.specs.Declarators.{declared_type, strings_in_sizes, parameters_in, behind_parameters, function_type, fresh, Parameters}
-use Rattle.typing_rules.specs.Linkage.{StorageClass, no_class, by_extern, by_static, state_of_object, Agreed, agreed, storage_before, linkage_of_object, linkage_of_function, as_built_in, redeclared, declared_at_file, file_function, agreed_in, with_storage}
+use Rattle.typing_spec.specs.Expressions.{constant_value, too_large}
+use Rattle.typing_spec.specs.Initialisers.{past_init}
+use Rattle.typing_spec.specs.Declarators.{declared_type, strings_in_sizes, parameters_in, behind_parameters, function_type, fresh, Parameters}
+use Rattle.typing_spec.specs.Linkage.{StorageClass, no_class, by_extern, by_static, state_of_object, Agreed, agreed, storage_before, linkage_of_object, linkage_of_function, as_built_in, redeclared, declared_at_file, file_function, agreed_in, with_storage}
 use Rattle.typing_statements.proofs.Growth.{then_any, then_some, both_any, part, more_of}
-use Rattle.typing_rules.specs.Declarations as typed
-use Rattle.typing_rules.specs.Declarations.{Begun, Specified, Declared, Effects}
+use Rattle.typing_spec.specs.Declarations as typed
+use Rattle.typing_spec.specs.Declarations.{Begun, Specified, Declared, Effects}
 
 -- the definitions of the unit are those of the scope before
 abbrev pub Keeps : (old new : Scope) → Type 0

@@ -5,16 +5,16 @@ use Rattle.std.proofs.lemmas.List.{drop_all}
 use Rattle.tree.specs.Tree.{ParameterTree}
 use Rattle.tree.specs.View.{parameter_of}
 use Rattle.tree.specs.declared.declaration.Parameter.{Parameter}
-use Rattle.typing_program.specs.declared.types.ObjectType as held
-use Rattle.typing_program.specs.declared.types.ParameterType as held_parameter
-use Rattle.typing_program.specs.View.{object_type_of, parameter_type_of}
+use Rattle.typed_ast.specs.declared.types.ObjectType as held
+use Rattle.typed_ast.specs.declared.types.ParameterType as held_parameter
+use Rattle.typed_ast.specs.View.{object_type_of, parameter_type_of}
 use Rattle.ctypes.specs.declared.types.IntType.{IntType}
-use Rattle.typing_rules.specs.Types.{ObjectType, ParameterType, number, elements, complete}
-use Rattle.typing_rules.specs.Program as typed
-use Rattle.typing_rules.specs.Verdict.{Verdict, fine, broken, then_check}
-use Rattle.typing_rules.specs.Scope.{Scope, Binding, inside, an_object, an_array_parameter, no_linkage, defined}
-use Rattle.typing_rules.specs.Declarators.{ParameterObject, a_number, a_reference, Parameters, parameters_from, parameters_in, references_after, type_of_parameter, and_parameter}
-use Rattle.typing_rules.specs.Units.{newer}
+use Rattle.typing_spec.specs.Types.{ObjectType, ParameterType, number, elements, complete}
+use Rattle.typing_spec.specs.Program as typed
+use Rattle.typing_spec.specs.Verdict.{Verdict, fine, broken, then_check}
+use Rattle.typing_spec.specs.Scope.{Scope, Binding, inside, an_object, an_array_parameter, no_linkage, defined}
+use Rattle.typing_spec.specs.Declarators.{ParameterObject, a_number, a_reference, Parameters, parameters_from, parameters_in, references_after, type_of_parameter, and_parameter}
+use Rattle.typing_spec.specs.Units.{newer}
 use Rattle.typing_scopes.specs.Scopes.{with_texts}
 use Rattle.decls_declarators.specs.ParameterViews.{checked_parameter, behind_parameter}
 use Rattle.decls_declarators.proofs.Verdicts.{next_of}

@@ -4,15 +4,15 @@ use Rattle.ctypes.specs.declared.types.IntType.{IntType}
 use Rattle.std.specs.Prelude.{if◌then◌else◌}
 use Rattle.srcset.specs.declared.refusal.Pos.{Pos}
 use Rattle.ctypes.specs.Types.{promoted}
-use Rattle.typing_rules.specs.Program.{Statement}
+use Rattle.typing_spec.specs.Program.{Statement}
 use Rattle.srcset.specs.declared.code.Code.TheVariants as code
 use Rattle.tree.specs.Tree.{Tree, DeclarationTree, StartTree, expression_start, declaration_start, StmtTree, stmt_hole, block_stmt, empty_stmt, expression_stmt, if_stmt, if_else_stmt, switch_stmt, case_stmt, default_stmt, while_stmt, do_while_stmt, for_stmt, break_stmt, continue_stmt, return_stmt, PieceTree, declaration_item, statement_item, Pieces, no_pieces, and_piece}
-use Rattle.typing_rules.specs.Verdict.{Verdict, fine, broken, breaks, then_check, both, IfFine}
-use Rattle.typing_rules.specs.Scope.{Scope, past, inside, outside}
-use Rattle.typing_rules.specs.Expressions.{typing, valued, effect}
-use Rattle.typing_rules.specs.Declarations.{Declared, declaration_typed}
-use Rattle.typing_rules.specs.Statements as typed
-use Rattle.typing_rules.specs.Statements.{Around, Done, AllDone, Start, statement, pieces}
+use Rattle.typing_spec.specs.Verdict.{Verdict, fine, broken, breaks, then_check, both, IfFine}
+use Rattle.typing_spec.specs.Scope.{Scope, past, inside, outside}
+use Rattle.typing_spec.specs.Expressions.{typing, valued, effect}
+use Rattle.typing_spec.specs.Declarations.{Declared, declaration_typed}
+use Rattle.typing_spec.specs.Statements as typed
+use Rattle.typing_spec.specs.Statements.{Around, Done, AllDone, Start, statement, pieces}
 use Rattle.typing_statements.proofs.Growth.{then_any, then_some, both_any, part}
 use Rattle.typing.proofs.Declarations.{Keeps, stays, onwards, same, declaration_keeps}
 

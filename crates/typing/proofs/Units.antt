@@ -6,9 +6,9 @@ use Rattle.srcset.specs.Refusal.{IsFaultOfRefusal}
 use Rattle.srcset.specs.declared.fault.Fault.{Fault}
 use Rattle.srcset.specs.declared.refusal.Pos.{Pos}
 use Rattle.srcset.specs.declared.refusal.Refusal.{Refusal}
-use Rattle.typing_program.specs.declared.units.Function as held
-use Rattle.typing_program.specs.declared.statements.Statement.{Statement}
-use Rattle.typing_program.specs.View as view
+use Rattle.typed_ast.specs.declared.units.Function as held
+use Rattle.typed_ast.specs.declared.statements.Statement.{Statement}
+use Rattle.typed_ast.specs.View as view
 use Rattle.typing_scopes.specs.Scopes.{with_texts}
 use Rattle.typing_units.specs.declared.first_values.Initial.{Initial}
 use Rattle.typing_units.specs.Views.{initial_of, built_of}
@@ -16,14 +16,14 @@ use Rattle.typing_declarations.specs.Views.{declared_of}
 use Rattle.tree.specs.declared.unit.External.{External}
 use Rattle.tree.specs.View.{external_of}
 use Rattle.tree.specs.Tree.{FunctionTree, DeclarationTree, ExternalTree, declaration}
-use Rattle.typing_rules.specs.Types.{ObjectType, ParameterType, FunctionType}
-use Rattle.typing_rules.specs.Program.{Program}
-use Rattle.typing_rules.specs.Verdict.{Verdict, fine, then_check, provided}
-use Rattle.typing_rules.specs.Scope.{Scope, defined, file_scope}
-use Rattle.typing_rules.specs.Declarators.{Parameters, parameters_in, behind_parameters, function_type}
-use Rattle.typing_rules.specs.Linkage.{file_function}
-use Rattle.typing_rules.specs.Declarations.{Specified, specified, declaration_typed}
-use Rattle.typing_rules.specs.Units.{Built, all_named, body_typed, function_typed, with_declaration, external_typed, externals_typed, definitions_in, whole_program, unit_typed}
+use Rattle.typing_spec.specs.Types.{ObjectType, ParameterType, FunctionType}
+use Rattle.typing_spec.specs.Program.{Program}
+use Rattle.typing_spec.specs.Verdict.{Verdict, fine, then_check, provided}
+use Rattle.typing_spec.specs.Scope.{Scope, defined, file_scope}
+use Rattle.typing_spec.specs.Declarators.{Parameters, parameters_in, behind_parameters, function_type}
+use Rattle.typing_spec.specs.Linkage.{file_function}
+use Rattle.typing_spec.specs.Declarations.{Specified, specified, declaration_typed}
+use Rattle.typing_spec.specs.Units.{Built, all_named, body_typed, function_typed, with_declaration, external_typed, externals_typed, definitions_in, whole_program, unit_typed}
 use Rattle.typing_expressions.specs.Refused.{Tells}
 use Rattle.typing_expressions.proofs.Verdicts.{tells_then}
 use Rattle.decls_declarators.proofs.Verdicts.{then_fine, then_tells, provided_fine}

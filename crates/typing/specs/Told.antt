@@ -3,8 +3,8 @@ use Rattle.srcset.specs.NameTable.{Texts}
 use Rattle.srcset.specs.Refusal.{IsFaultOfRefusal}
 use Rattle.srcset.specs.declared.fault.Fault.{Fault}
 use Rattle.srcset.specs.declared.refusal.Refusal.{Refusal}
-use Rattle.typing_rules.specs.Program.{Program}
-use Rattle.typing_rules.specs.Verdict.{Verdict}
+use Rattle.typing_spec.specs.Program.{Program}
+use Rattle.typing_spec.specs.Verdict.{Verdict}
 use Rattle.typing_expressions.specs.Refused.{Tells}
 
 -- a constraint that is broken, at its place under the names of these texts; or out of memory

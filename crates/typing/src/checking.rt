@@ -3,9 +3,9 @@
 
 ghost use Rattle.std.specs.Prelude.{◌≡◌, map, IfErr, IfOk};
 ghost use Rattle.tree.specs.View.{external_of, unit_of};
-ghost use Rattle.typing_program.specs.View as view;
-ghost use Rattle.typing_rules.specs.Verdict.{fine};
-ghost use Rattle.typing_rules.specs.Units as typed;
+ghost use Rattle.typed_ast.specs.View as view;
+ghost use Rattle.typing_spec.specs.Verdict.{fine};
+ghost use Rattle.typing_spec.specs.Units as typed;
 ghost use Rattle.typing_expressions.specs.Refused.{Tells};
 ghost use Rattle.typing.specs.Told.{IsFaultOfVerdict};
 
@@ -13,7 +13,7 @@ use crate::externals::externals_typed;
 use srcset::{Fault, Names, Pos, Refusal};
 use std::alloc::Global;
 use tree::{External, Unit};
-use typing_program::Program;
+use typed_ast::Program;
 use typing_scopes::Scope;
 use typing_units::{definitions_in, unit_program};
 

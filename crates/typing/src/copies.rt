@@ -3,12 +3,12 @@
 
 ghost use Rattle.std.specs.Prelude.{◌≡◌, map, IfErr, IfOk};
 ghost use Rattle.srcset.specs.declared.refusal.Refusal.TheVariants.{Memory};
-ghost use Rattle.typing_program.specs.View.{parameter_type_of, function_type_of};
+ghost use Rattle.typed_ast.specs.View.{parameter_type_of, function_type_of};
 
 use decls_linkage::copied;
 use srcset::Refusal;
 use std::alloc::Global;
-use typing_program::{FunctionType, ParameterType};
+use typed_ast::{FunctionType, ParameterType};
 
 fn copied_parameter(alloc: Global, parameter: &ParameterType) -> Result<ParameterType, Refusal>
     ensures ok { IfOk result (λ t. parameter_type_of t ≡ parameter_type_of parameter.now) }

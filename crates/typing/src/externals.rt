@@ -2,11 +2,11 @@
 #![tactic(auto, using(decls_declarators::proofs::Verdicts::told))]
 
 ghost use Rattle.std.specs.Prelude.{◌≡◌, ℕ, List, map, IfErr, OnOk};
-ghost use Rattle.typing_program.specs.declared.units.Function.{Function};
+ghost use Rattle.typed_ast.specs.declared.units.Function.{Function};
 ghost use Rattle.tree.specs.Tree as tree;
 ghost use Rattle.tree.specs.View.{declaration_of, external_of};
-ghost use Rattle.typing_rules.specs.Verdict.{fine};
-ghost use Rattle.typing_rules.specs.Units as typed;
+ghost use Rattle.typing_spec.specs.Verdict.{fine};
+ghost use Rattle.typing_spec.specs.Units as typed;
 ghost use Rattle.typing_expressions.specs.Refused.{Tells};
 ghost use Rattle.typing_scopes.specs.Scopes.{with_texts};
 ghost use Rattle.typing_units.specs.Views.{built_of};
@@ -15,8 +15,8 @@ use crate::functions::function_typed;
 use srcset::{Names, Refusal};
 use std::alloc::Global;
 use tree::{Declaration, External};
+use typed_ast::Function;
 use typing_declarations::declaration_typed;
-use typing_program::Function;
 use typing_scopes::Scope;
 use typing_units::Initial;
 

@@ -4,13 +4,13 @@
 ghost use Rattle.std.specs.Prelude.{◌≡◌, ◌++◌, List, map, IfErr, IfOk, OnOk};
 ghost use Rattle.tree.specs.View as tree_view;
 ghost use Rattle.tree.specs.View.{parameter_of};
-ghost use Rattle.typing_program.specs.View.{object_type_of, parameter_type_of, function_type_of};
-ghost use Rattle.typing_rules.specs.Verdict.{fine};
-ghost use Rattle.typing_rules.specs.Scope as scope_typed;
-ghost use Rattle.typing_rules.specs.Declarators as declarator;
-ghost use Rattle.typing_rules.specs.Linkage as linkage_typed;
+ghost use Rattle.typed_ast.specs.View.{object_type_of, parameter_type_of, function_type_of};
+ghost use Rattle.typing_spec.specs.Verdict.{fine};
+ghost use Rattle.typing_spec.specs.Scope as scope_typed;
+ghost use Rattle.typing_spec.specs.Declarators as declarator;
+ghost use Rattle.typing_spec.specs.Linkage as linkage_typed;
 ghost use Rattle.decls_linkage.specs.Views.{class_of};
-ghost use Rattle.typing_rules.specs.Units as typed;
+ghost use Rattle.typing_spec.specs.Units as typed;
 ghost use Rattle.typing_expressions.specs.Refused.{Tells};
 ghost use Rattle.const_expr.specs.Typings.{base_type_of};
 ghost use Rattle.decls_specifiers.specs.Views.{specified_of};
@@ -27,7 +27,7 @@ use decls_linkage::file_function;
 use decls_specifiers::{SpecifiedBase, specified};
 use srcset::{Names, Refusal};
 use std::alloc::Global;
-use typing_program::{Function, FunctionType};
+use typed_ast::{Function, FunctionType};
 use typing_scopes::{Scope, State};
 use typing_units::Initial;
 

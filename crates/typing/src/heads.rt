@@ -5,12 +5,12 @@ ghost use Rattle.std.specs.Prelude.{◌≡◌, List, map, IfErr, IfOk};
 ghost use Rattle.srcset.specs.NameTable.{Texts};
 ghost use Rattle.tree.specs.Tree.{ParameterTree};
 ghost use Rattle.tree.specs.View.{parameter_of};
-ghost use Rattle.typing_program.specs.View.{object_type_of, parameter_type_of};
-ghost use Rattle.typing_rules.specs.Verdict.{fine, provided};
-ghost use Rattle.typing_rules.specs.Types as type;
-ghost use Rattle.typing_rules.specs.Scope as scope_typed;
-ghost use Rattle.typing_rules.specs.Declarators as declarator;
-ghost use Rattle.typing_rules.specs.Units as typed;
+ghost use Rattle.typed_ast.specs.View.{object_type_of, parameter_type_of};
+ghost use Rattle.typing_spec.specs.Verdict.{fine, provided};
+ghost use Rattle.typing_spec.specs.Types as type;
+ghost use Rattle.typing_spec.specs.Scope as scope_typed;
+ghost use Rattle.typing_spec.specs.Declarators as declarator;
+ghost use Rattle.typing_spec.specs.Units as typed;
 ghost use Rattle.typing_expressions.specs.Refused.{Tells};
 ghost use Rattle.typing_scopes.specs.Scopes.{with_texts, block_of};
 
@@ -18,7 +18,7 @@ use decls_declarators::{Entered, parameters_in};
 use srcset::{Names, Refusal};
 use std::alloc::Global;
 use tree::Parameter;
-use typing_program::ObjectType;
+use typed_ast::ObjectType;
 use typing_scopes::{Block, Scope};
 use typing_units::all_named;
 

@@ -3,19 +3,19 @@
 
 ghost use Rattle.std.specs.Prelude.{◌≡◌, ◌+◌, ◌∷◌, ℕ, List, drop, length, map, nat_lt, IfErr, IfOk, OnOk};
 ghost use Rattle.ctypes.specs.declared.types.IntType.{IntType};
-ghost use Rattle.typing_program.specs.declared.types.ObjectType.{ObjectType};
-ghost use Rattle.typing_rules.specs.Types.{number, elements};
+ghost use Rattle.typed_ast.specs.declared.types.ObjectType.{ObjectType};
+ghost use Rattle.typing_spec.specs.Types.{number, elements};
 ghost use Rattle.srcset.specs.declared.refusal.Refusal.TheVariants.{Memory};
 ghost use Rattle.tree.specs.View.{parameter_of};
-ghost use Rattle.typing_program.specs.View.{object_type_of, parameter_type_of};
-ghost use Rattle.typing_rules.specs.Declarators.{a_number, a_reference};
+ghost use Rattle.typed_ast.specs.View.{object_type_of, parameter_type_of};
+ghost use Rattle.typing_spec.specs.Declarators.{a_number, a_reference};
 ghost use Rattle.typing.specs.inside.Names.{named, bound, names_of, with_bindings, Again};
 
 use decls_linkage::copied;
 use srcset::Refusal;
 use std::alloc::Global;
 use tree::Parameter;
-use typing_program::{DeclaredType, ObjectType, ParameterType, Storage};
+use typed_ast::{DeclaredType, ObjectType, ParameterType, Storage};
 use typing_scopes::{Linkage, Meaning, Scope, State};
 
 /// Whether there is an object with this number.

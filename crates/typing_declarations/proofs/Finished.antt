@@ -2,14 +2,14 @@
 use Rattle.std.proofs.Common.{◌≡◌, ℕ, zero, suc, List, Option, Some, None, refl, sym, ap, ◌∙◌, subst}
 use Rattle.srcset.specs.declared.refusal.Pos.{Pos}
 use Rattle.tree.specs.Tree.{Init}
-use Rattle.typing_rules.specs.Types.{ObjectType, DeclaredType, complete, unknown_size, array_of}
-use Rattle.typing_rules.specs.Verdict.{Verdict, fine, broken, then_check, provided, IfFine}
-use Rattle.typing_rules.specs.Program as program
-use Rattle.typing_rules.specs.Scope.{Scope, Binding, Meaning, an_object, an_array_parameter, a_function, an_enumerator, lookup, with_name}
-use Rattle.typing_rules.specs.Expressions.{too_large}
-use Rattle.typing_rules.specs.Initialisers.{past_init}
-use Rattle.typing_rules.specs.Linkage.{StorageClass, no_class, by_extern, by_static}
-use Rattle.typing_rules.specs.Declarations.{Begun, finished, finished_with, left_unknown, length_from, sized, retyped, retyped_meaning, with_storage_type}
+use Rattle.typing_spec.specs.Types.{ObjectType, DeclaredType, complete, unknown_size, array_of}
+use Rattle.typing_spec.specs.Verdict.{Verdict, fine, broken, then_check, provided, IfFine}
+use Rattle.typing_spec.specs.Program as program
+use Rattle.typing_spec.specs.Scope.{Scope, Binding, Meaning, an_object, an_array_parameter, a_function, an_enumerator, lookup, with_name}
+use Rattle.typing_spec.specs.Expressions.{too_large}
+use Rattle.typing_spec.specs.Initialisers.{past_init}
+use Rattle.typing_spec.specs.Linkage.{StorageClass, no_class, by_extern, by_static}
+use Rattle.typing_spec.specs.Declarations.{Begun, finished, finished_with, left_unknown, length_from, sized, retyped, retyped_meaning, with_storage_type}
 use Rattle.typing_scopes.specs.Scopes.{with_texts}
 use Rattle.typing_expressions.specs.Forms.{seen}
 use Rattle.typing_declarations.specs.inside.Effects.{behind}

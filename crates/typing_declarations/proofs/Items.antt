@@ -7,15 +7,15 @@ use Rattle.srcset.specs.declared.refusal.Pos.{Pos}
 use Rattle.tree.specs.declared.declaration.Item.{Item}
 use Rattle.tree.specs.Tree.{Tree, ParameterTree, ItemTree, object, function, DeclarationTree, assertion}
 use Rattle.tree.specs.View.{item_of}
-use Rattle.typing_program.specs.declared.statements.Statement.{Statement}
-use Rattle.typing_program.specs.View.{statement_of}
+use Rattle.typed_ast.specs.declared.statements.Statement.{Statement}
+use Rattle.typed_ast.specs.View.{statement_of}
 use Rattle.typing_units.specs.declared.first_values.Initial.{Initial}
 use Rattle.typing_units.specs.Views.{initial_of}
-use Rattle.typing_rules.specs.Verdict.{Verdict, Violations, fine, broken, none, some, both, then_check, violations, IfFine}
-use Rattle.typing_rules.specs.Scope.{Scope}
-use Rattle.typing_rules.specs.Specifiers.{BaseType}
-use Rattle.typing_rules.specs.Linkage.{StorageClass}
-use Rattle.typing_rules.specs.Declarations as typed
+use Rattle.typing_spec.specs.Verdict.{Verdict, Violations, fine, broken, none, some, both, then_check, violations, IfFine}
+use Rattle.typing_spec.specs.Scope.{Scope}
+use Rattle.typing_spec.specs.Specifiers.{BaseType}
+use Rattle.typing_spec.specs.Linkage.{StorageClass}
+use Rattle.typing_spec.specs.Declarations as typed
 use Rattle.typing_expressions.specs.Refused.{Tells}
 use Rattle.typing_expressions.proofs.Verdicts.{tells_then}
 use Rattle.decls_declarators.proofs.Verdicts.{next_of, then_fine}

@@ -4,16 +4,16 @@ use Rattle.srcset.specs.declared.refusal.Pos.{Pos}
 use Rattle.srcset.specs.declared.refusal.Refusal.{Refusal}
 use Rattle.tree.specs.Tree.{Tree, Init, init_hole, one_init, braced_init, Inits, no_inits, and_init}
 use Rattle.ctypes.specs.declared.types.IntType.{IntType}
-use Rattle.typing_program.specs.declared.statements.Statement.{Statement}
-use Rattle.typing_program.specs.declared.initialisers.Initialiser.{Initialiser}
-use Rattle.typing_program.specs.View.{initialiser_of}
+use Rattle.typed_ast.specs.declared.statements.Statement.{Statement}
+use Rattle.typed_ast.specs.declared.initialisers.Initialiser.{Initialiser}
+use Rattle.typed_ast.specs.View.{initialiser_of}
 use Rattle.typing_units.specs.declared.first_values.Initial.{Initial}
-use Rattle.typing_rules.specs.Types.{DeclaredType}
-use Rattle.typing_rules.specs.Verdict.{Verdict, fine, each, then_check}
-use Rattle.typing_rules.specs.Program as program
-use Rattle.typing_rules.specs.Scope.{Scope}
-use Rattle.typing_rules.specs.Initialisers.{Wanted, initialiser, constant_parts, all_constant, is_text, takes_text, part_wanted, text_alone, form_unless, parts_unless, past_init, values}
-use Rattle.typing_rules.specs.Declarations as typed
+use Rattle.typing_spec.specs.Types.{DeclaredType}
+use Rattle.typing_spec.specs.Verdict.{Verdict, fine, each, then_check}
+use Rattle.typing_spec.specs.Program as program
+use Rattle.typing_spec.specs.Scope.{Scope}
+use Rattle.typing_spec.specs.Initialisers.{Wanted, initialiser, constant_parts, all_constant, is_text, takes_text, part_wanted, text_alone, form_unless, parts_unless, past_init, values}
+use Rattle.typing_spec.specs.Declarations as typed
 use Rattle.typing_scopes.specs.Scopes.{with_texts}
 use Rattle.typing_expressions.specs.Forms.{seen}
 use Rattle.typing_expressions.specs.Refused.{IsOf, Tells}

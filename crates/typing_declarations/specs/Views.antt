@@ -1,11 +1,11 @@
 -- What the code's declarations stand for.
 use Rattle.std.specs.Prelude.{List, map}
-use Rattle.typing_program.specs.declared.statements.Statement.{Statement}
-use Rattle.typing_program.specs.View.{statement_of}
+use Rattle.typed_ast.specs.declared.statements.Statement.{Statement}
+use Rattle.typed_ast.specs.View.{statement_of}
 use Rattle.typing_units.specs.declared.first_values.Initial.{Initial}
 use Rattle.typing_units.specs.Views.{initial_of}
-use Rattle.typing_rules.specs.Scope.{Scope}
-use Rattle.typing_rules.specs.Declarations as typed
+use Rattle.typing_spec.specs.Scope.{Scope}
+use Rattle.typing_spec.specs.Declarations as typed
 
 -- statements, and the first values of objects with static storage
 abbrev pub effects_of : List Statement → List Initial → typed.Effects

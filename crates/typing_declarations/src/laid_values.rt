@@ -3,18 +3,18 @@
 
 ghost use Rattle.std.specs.Prelude.{◌≡◌, ◌∷◌, IfErr, IfOk};
 ghost use Rattle.srcset.specs.declared.refusal.Refusal.TheVariants.{Memory};
-ghost use Rattle.typing_program.specs.View.{declared_type_of, initialiser_of};
-ghost use Rattle.typing_rules.specs.Verdict.{fine};
-ghost use Rattle.typing_rules.specs.Scope as scope_typed;
-ghost use Rattle.typing_rules.specs.Initialisers as initialisers;
-ghost use Rattle.typing_rules.specs.Declarations as typed;
+ghost use Rattle.typed_ast.specs.View.{declared_type_of, initialiser_of};
+ghost use Rattle.typing_spec.specs.Verdict.{fine};
+ghost use Rattle.typing_spec.specs.Scope as scope_typed;
+ghost use Rattle.typing_spec.specs.Initialisers as initialisers;
+ghost use Rattle.typing_spec.specs.Declarations as typed;
 ghost use Rattle.typing_expressions.specs.Refused.{Tells};
 ghost use Rattle.typing_expressions.specs.Forms.{seen};
 
 use decls_initialisers::values;
 use srcset::{Names, Refusal};
 use std::alloc::Global;
-use typing_program::{DeclaredType, Initialiser, ObjectType};
+use typed_ast::{DeclaredType, Initialiser, ObjectType};
 
 /// The lengths of an array of one element of these lengths: how many parts the outermost has matters not.
 fn lengths_of_one(alloc: Global, lengths: &[u32]) -> Result<Vec<u32>, Refusal>

@@ -3,11 +3,11 @@
 
 ghost use Rattle.std.specs.Prelude.{◌≡◌, IfErr, IfOk};
 ghost use Rattle.tree.specs.View.{init_of, option_init};
-ghost use Rattle.typing_program.specs.View.{declared_type_of, storage_of};
-ghost use Rattle.typing_rules.specs.Verdict.{fine};
-ghost use Rattle.typing_rules.specs.Program as program;
-ghost use Rattle.typing_rules.specs.Initialisers.{past_init};
-ghost use Rattle.typing_rules.specs.Declarations as typed;
+ghost use Rattle.typed_ast.specs.View.{declared_type_of, storage_of};
+ghost use Rattle.typing_spec.specs.Verdict.{fine};
+ghost use Rattle.typing_spec.specs.Program as program;
+ghost use Rattle.typing_spec.specs.Initialisers.{past_init};
+ghost use Rattle.typing_spec.specs.Declarations as typed;
 ghost use Rattle.typing_expressions.specs.Refused.{Tells};
 ghost use Rattle.typing_scopes.specs.Scopes.{with_texts};
 ghost use Rattle.typing_declarations.specs.inside.Effects.{begun_at, behind, effect_in};
@@ -17,7 +17,7 @@ use decls_initialisers::constant_parts;
 use srcset::{Names, Pos, Refusal};
 use std::alloc::Global;
 use tree::Initialiser as Init;
-use typing_program::{DeclaredType, Initialiser, Storage};
+use typed_ast::{DeclaredType, Initialiser, Storage};
 use typing_scopes::Scope;
 
 /// What a declarator does. The values of an initialiser for static storage are not looked at yet: they want its literals.

@@ -3,10 +3,10 @@
 
 ghost use Rattle.std.specs.Prelude.{◌≡◌, true, IfErr, IfOk};
 ghost use Rattle.tree.specs.View.{init_of};
-ghost use Rattle.typing_program.specs.View.{declared_type_of, initialiser_of};
-ghost use Rattle.typing_rules.specs.Verdict.{fine};
-ghost use Rattle.typing_rules.specs.Initialisers as initialisers;
-ghost use Rattle.typing_rules.specs.Declarations as typed;
+ghost use Rattle.typed_ast.specs.View.{declared_type_of, initialiser_of};
+ghost use Rattle.typing_spec.specs.Verdict.{fine};
+ghost use Rattle.typing_spec.specs.Initialisers as initialisers;
+ghost use Rattle.typing_spec.specs.Declarations as typed;
 ghost use Rattle.typing_expressions.specs.Refused.{Tells};
 ghost use Rattle.typing_scopes.specs.Scopes.{with_texts};
 ghost use Rattle.decls_initialisers.specs.Views.{wanted_of};
@@ -16,7 +16,7 @@ use decls_initialisers::{Wanted, initialiser, wanted_object};
 use srcset::{Names, Pos, Refusal};
 use std::alloc::Global;
 use tree::Initialiser as Init;
-use typing_program::{DeclaredType, Initialiser};
+use typed_ast::{DeclaredType, Initialiser};
 use typing_scopes::Scope;
 
 /// The type of its elements.

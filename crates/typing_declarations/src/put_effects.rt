@@ -3,8 +3,8 @@
 
 ghost use Rattle.std.specs.Prelude.{◌≡◌, [], ◌∷◌, ◌++◌, IfErr, OnOk};
 ghost use Rattle.srcset.specs.declared.refusal.Refusal.TheVariants.{Memory};
-ghost use Rattle.typing_program.specs.View.{declared_type_of};
-ghost use Rattle.typing_rules.specs.Scope as scope_typed;
+ghost use Rattle.typed_ast.specs.View.{declared_type_of};
+ghost use Rattle.typing_spec.specs.Scope as scope_typed;
 ghost use Rattle.typing_expressions.specs.Refused.{Tells};
 ghost use Rattle.typing_expressions.specs.Forms.{seen};
 ghost use Rattle.typing_declarations.specs.inside.Effects.{effect_in, Does};
@@ -13,7 +13,7 @@ use crate::laid_values::object_values;
 use crate::object_effects::ObjectEffect;
 use srcset::{Names, Refusal};
 use std::alloc::Global;
-use typing_program::{DeclaredType, Statement};
+use typed_ast::{DeclaredType, Statement};
 use typing_units::Initial;
 
 /// One more statement.

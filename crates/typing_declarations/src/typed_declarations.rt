@@ -4,10 +4,10 @@
 ghost use Rattle.std.specs.Prelude.{◌≡◌, ◌++◌, List, map, IfErr, OnOk};
 ghost use Rattle.tree.specs.Tree.{declared};
 ghost use Rattle.tree.specs.View.{specifier_of, item_of, declaration_of};
-ghost use Rattle.typing_program.specs.declared.statements.Statement.{Statement};
+ghost use Rattle.typed_ast.specs.declared.statements.Statement.{Statement};
 ghost use Rattle.typing_units.specs.declared.first_values.Initial.{Initial};
-ghost use Rattle.typing_rules.specs.Verdict.{fine};
-ghost use Rattle.typing_rules.specs.Declarations as typed;
+ghost use Rattle.typing_spec.specs.Verdict.{fine};
+ghost use Rattle.typing_spec.specs.Declarations as typed;
 ghost use Rattle.typing_expressions.specs.Refused.{Tells};
 ghost use Rattle.typing_scopes.specs.Scopes.{with_texts};
 ghost use Rattle.typing_declarations.specs.Views.{declared_of};
@@ -19,7 +19,7 @@ use decls_specifiers::specified_for;
 use srcset::{Names, Refusal};
 use std::alloc::Global;
 use tree::{Declaration, Item, Specifiers};
-use typing_program::Statement;
+use typed_ast::Statement;
 use typing_scopes::Scope;
 use typing_units::Initial;
 

@@ -5,7 +5,7 @@ use Rattle.std.proofs.lemmas.Result.{err_from_is_err_and}
 use Rattle.std.proofs.Common.{◌≡◌, ap, ◌∙◌, inl, inr, sym, subst}
 use Rattle.srcset.specs.declared.refusal.Refusal.{Refusal}
 use Rattle.srcset.specs.declared.refusal.Refusal.TheVariants.{Memory, At, Told}
-use Rattle.typing_rules.specs.Verdict.{Verdict, fine, broken, each, both, then_check}
+use Rattle.typing_spec.specs.Verdict.{Verdict, fine, broken, each, both, then_check}
 use Rattle.typing_expressions.specs.Refused.{IsOf, Tells}
 
 pub each_left : (r : Refusal) (a b : Verdict (Unit {0})) → IsOf r a → IsOf r (each a b)

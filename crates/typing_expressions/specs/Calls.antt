@@ -1,7 +1,7 @@
 -- What the code's calls stand for.
-use Rattle.typing_program.specs.View as view
+use Rattle.typed_ast.specs.View as view
 use Rattle.typing_expressions.specs.declared.callees.Called.{Called}
-use Rattle.typing_rules.specs.Expressions as typed
+use Rattle.typing_spec.specs.Expressions as typed
 
 abbrev pub called_of : Called → typed.Called
 called_of c = record { callee = view.callee_of c.callee; type = view.function_type_of c.function.now }

@@ -5,10 +5,10 @@ use Rattle.typing_expressions.specs.declared.forms.Checked as held
 use Rattle.typing_expressions.specs.declared.forms.Checked.TheVariants as checked
 use Rattle.typing_expressions.specs.declared.forms.Worth.{Worth}
 use Rattle.typing_expressions.specs.declared.assignments.Target.{Target}
-use Rattle.typing_program.specs.View.{value_of, place_of}
-use Rattle.typing_rules.specs.Types as type
-use Rattle.typing_rules.specs.Scope.{Scope}
-use Rattle.typing_rules.specs.Expressions as typed
+use Rattle.typed_ast.specs.View.{value_of, place_of}
+use Rattle.typing_spec.specs.Types as type
+use Rattle.typing_spec.specs.Scope.{Scope}
+use Rattle.typing_spec.specs.Expressions as typed
 
 abbrev pub elements_of : Elements → type.ObjectType
 elements_of e = record { element = e.element; constant = e.constant; lengths = e.lengths.now }

@@ -1,12 +1,12 @@
 -- Typing where so many string literals stand before.
 use Rattle.std.specs.Prelude.{ℕ, List, Option, replicate}
 use Rattle.tree.specs.Tree.{Tree, Trees, TypeTree}
-use Rattle.typing_rules.specs.Types.{ObjectType, ParameterType}
-use Rattle.typing_rules.specs.Verdict.{Verdict, both, then_check}
-use Rattle.typing_rules.specs.Program.{Arguments}
-use Rattle.typing_rules.specs.Scope.{Scope, past}
-use Rattle.typing_rules.specs.Constants.{constant_form}
-use Rattle.typing_rules.specs.Expressions as typed
+use Rattle.typing_spec.specs.Types.{ObjectType, ParameterType}
+use Rattle.typing_spec.specs.Verdict.{Verdict, both, then_check}
+use Rattle.typing_spec.specs.Program.{Arguments}
+use Rattle.typing_spec.specs.Scope.{Scope, past}
+use Rattle.typing_spec.specs.Constants.{constant_form}
+use Rattle.typing_spec.specs.Expressions as typed
 use Rattle.typing_expressions.specs.Forms.{seen}
 use Rattle.srcset.specs.declared.refusal.Pos.{Pos}
 

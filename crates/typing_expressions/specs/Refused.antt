@@ -3,7 +3,7 @@ use Rattle.srcset.specs.declared.refusal.Refusal.{Refusal}
 use Rattle.srcset.specs.declared.refusal.Refusal.TheVariants.{Memory, At, Told}
 use Rattle.srcset.specs.declared.code.Code.{Code}
 use Rattle.srcset.specs.declared.refusal.Pos.{Pos}
-use Rattle.typing_rules.specs.Verdict.{Verdict, Stands}
+use Rattle.typing_spec.specs.Verdict.{Verdict, Stands}
 
 -- the constraint that is told is broken there
 abbrev pub IsOf : {A : Type 0} → Refusal → Verdict A → Type 0

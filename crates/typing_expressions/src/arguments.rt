@@ -2,12 +2,12 @@
 #![tactic(auto, using(crate::proofs::Verdicts::tells_then))]
 
 ghost use Rattle.std.specs.Prelude.{◌≡◌, IfErr, IfOk, Some};
-ghost use Rattle.typing_program.specs.View.{place_of, parameter_type_of, object_type_of, argument_of, and_given};
-ghost use Rattle.typing_rules.specs.Verdict.{fine};
-ghost use Rattle.typing_rules.specs.Types as type;
-ghost use Rattle.typing_rules.specs.Program as program_typed;
-ghost use Rattle.typing_rules.specs.Program.{Arguments};
-ghost use Rattle.typing_rules.specs.Expressions as typed;
+ghost use Rattle.typed_ast.specs.View.{place_of, parameter_type_of, object_type_of, argument_of, and_given};
+ghost use Rattle.typing_spec.specs.Verdict.{fine};
+ghost use Rattle.typing_spec.specs.Types as type;
+ghost use Rattle.typing_spec.specs.Program as program_typed;
+ghost use Rattle.typing_spec.specs.Program.{Arguments};
+ghost use Rattle.typing_spec.specs.Expressions as typed;
 ghost use Rattle.typing_expressions.specs.Refused.{Tells};
 ghost use Rattle.typing_expressions.specs.Forms.{checked_of, elements_of};
 
@@ -15,7 +15,7 @@ use crate::forms::{Checked, Elements, broken, elements_in, left_out, valued};
 use ctypes::IntType;
 use srcset::{Code, Pos, Refusal};
 use std::alloc::Global;
-use typing_program::{Argument, ParameterType, Place};
+use typed_ast::{Argument, ParameterType, Place};
 
 fn same_lengths(a: &[u32], b: &[u32]) -> bool
     ensures { result ≡ type.same_lengths a.now b.now }

@@ -2,11 +2,11 @@
 #![tactic(auto, using(crate::proofs::Verdicts::tells_left, crate::proofs::Verdicts::tells_right, crate::proofs::Verdicts::tells_then))]
 
 ghost use Rattle.std.specs.Prelude.{◌≡◌, IfErr, IfOk, Some, None};
-ghost use Rattle.typing_rules.specs.Verdict.{fine, then_check};
-ghost use Rattle.typing_rules.specs.Operators as operators;
-ghost use Rattle.typing_rules.specs.Expressions as typed;
+ghost use Rattle.typing_spec.specs.Verdict.{fine, then_check};
+ghost use Rattle.typing_spec.specs.Operators as operators;
+ghost use Rattle.typing_spec.specs.Expressions as typed;
 ghost use Rattle.srcset.specs.declared.refusal.Refusal.TheVariants.{Memory};
-ghost use Rattle.typing_program.specs.View.{moment_of};
+ghost use Rattle.typed_ast.specs.View.{moment_of};
 ghost use Rattle.typing_expressions.specs.Refused.{Tells};
 ghost use Rattle.typing_expressions.specs.Forms.{checked_of, worth_of, target_of};
 
@@ -16,7 +16,7 @@ use ctypes::{BinOp, IntType, usual};
 use srcset::{Code, Pos, Refusal};
 use std::alloc::Global;
 use tree::{AssignOp, StepOp};
-use typing_program::{Moment, Place, Value};
+use typed_ast::{Moment, Place, Value};
 
 /// What may be assigned to: an element that is not `const` (6.3.2.1p1).
 #[derive(Drop)]

@@ -3,10 +3,10 @@
 
 ghost use Rattle.std.specs.Prelude.{◌≡◌, ◌++◌, ◌∷◌, [], ℕ, map, reverse, IfErr, IfOk, OnOk};
 ghost use Rattle.srcset.specs.declared.refusal.Refusal.TheVariants.{Memory};
-ghost use Rattle.typing_program.specs.View.{callee_of, arguments_of, argument_of};
-ghost use Rattle.typing_rules.specs.Verdict.{fine};
-ghost use Rattle.typing_rules.specs.Scope as typed;
-ghost use Rattle.typing_rules.specs.Expressions as rules;
+ghost use Rattle.typed_ast.specs.View.{callee_of, arguments_of, argument_of};
+ghost use Rattle.typing_spec.specs.Verdict.{fine};
+ghost use Rattle.typing_spec.specs.Scope as typed;
+ghost use Rattle.typing_spec.specs.Expressions as rules;
 ghost use Rattle.typing_expressions.specs.Refused.{Tells};
 ghost use Rattle.typing_expressions.specs.Numbered.{numbered};
 ghost use Rattle.typing_expressions.specs.Calls.{called_of};
@@ -15,7 +15,7 @@ ghost use Rattle.typing_scopes.specs.Scopes.{option_binding, meaning_of};
 
 use crate::forms::{Checked, broken};
 use srcset::{Code, Names, Pos, Refusal};
-use typing_program::{Argument, Callee, FunctionType, Value};
+use typed_ast::{Argument, Callee, FunctionType, Value};
 use typing_scopes::{Binding, Meaning, Scope, built_in};
 
 /// A function that is called, and its type.

@@ -2,19 +2,19 @@
 #![tactic(auto)]
 
 ghost use Rattle.std.specs.Prelude.{◌≡◌, IfErr, IfOk, OnOk};
-ghost use Rattle.typing_rules.specs.Verdict.{fine};
-ghost use Rattle.typing_rules.specs.Expressions as typed;
+ghost use Rattle.typing_spec.specs.Verdict.{fine};
+ghost use Rattle.typing_spec.specs.Expressions as typed;
 ghost use Rattle.srcset.specs.declared.code.Code.TheVariants as code;
-ghost use Rattle.typing_rules.specs.Program as program_value;
+ghost use Rattle.typing_spec.specs.Program as program_value;
 ghost use Rattle.srcset.specs.declared.refusal.Refusal.TheVariants.{Memory};
-ghost use Rattle.typing_program.specs.View.{value_of, place_of, object_type_of};
+ghost use Rattle.typed_ast.specs.View.{value_of, place_of, object_type_of};
 ghost use Rattle.typing_expressions.specs.Refused.{Tells, refused};
 ghost use Rattle.typing_expressions.specs.Forms.{checked_of, worth_of, elements_of};
 
 use ctypes::IntType;
 use srcset::{Code, Pos, Refusal};
 use std::alloc::Global;
-use typing_program::{ObjectType, Place, Value};
+use typed_ast::{ObjectType, Place, Value};
 
 /// The type of the elements of an array.
 #[derive(Clone, Copy)]

@@ -4,11 +4,11 @@
 ghost use Rattle.std.specs.Prelude.{◌≡◌, ◌+◌, ◌-◌, ◌<◌, length, slice_get, IfErr, IfOk, OnOk, [], false};
 ghost use Rattle.srcset.specs.declared.refusal.Refusal.TheVariants.{Memory};
 ghost use Rattle.tree.specs.Tree.{string};
-ghost use Rattle.typing_rules.specs.Verdict.{fine};
-ghost use Rattle.typing_rules.specs.Scope.{Scope, or_empty};
-ghost use Rattle.typing_rules.specs.Types.{complete, array_of};
-ghost use Rattle.typing_rules.specs.Expressions as typed;
-ghost use Rattle.typing_rules.specs.Program as program_typed;
+ghost use Rattle.typing_spec.specs.Verdict.{fine};
+ghost use Rattle.typing_spec.specs.Scope.{Scope, or_empty};
+ghost use Rattle.typing_spec.specs.Types.{complete, array_of};
+ghost use Rattle.typing_spec.specs.Expressions as typed;
+ghost use Rattle.typing_spec.specs.Program as program_typed;
 ghost use Rattle.ctypes.specs.declared.types.IntType.TheVariants as ty;
 ghost use Rattle.typing_expressions.specs.Refused.{Tells};
 ghost use Rattle.typing_expressions.specs.Forms.{checked_of};
@@ -17,7 +17,7 @@ ghost use Rattle.typing_expressions.specs.Numbered.{typing_at};
 use crate::forms::{Checked, Elements, broken};
 use ctypes::IntType;
 use srcset::{Code, Names, Pos, Refusal};
-use typing_program::{Place, Storage};
+use typed_ast::{Place, Storage};
 
 /// The most bytes of an object, of an element of an array, and of an array in a type name (5.2.4.1).
 pub const OBJECT_LIMIT: u64 = 1_048_576;

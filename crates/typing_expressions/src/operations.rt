@@ -2,13 +2,13 @@
 #![tactic(auto, using(crate::proofs::Verdicts::tells_left, crate::proofs::Verdicts::tells_right))]
 
 ghost use Rattle.std.specs.Prelude.{◌≡◌, IfErr, IfOk, None};
-ghost use Rattle.typing_rules.specs.Verdict.{fine, both};
-ghost use Rattle.typing_rules.specs.Expressions as typed;
-ghost use Rattle.typing_rules.specs.Program as program_typed;
+ghost use Rattle.typing_spec.specs.Verdict.{fine, both};
+ghost use Rattle.typing_spec.specs.Expressions as typed;
+ghost use Rattle.typing_spec.specs.Program as program_typed;
 ghost use Rattle.srcset.specs.declared.refusal.Pos.{Pos};
 ghost use Rattle.srcset.specs.declared.refusal.Refusal.TheVariants.{Memory};
 ghost use Rattle.srcset.specs.declared.code.Code.TheVariants as code;
-ghost use Rattle.typing_program.specs.View.{value_of};
+ghost use Rattle.typed_ast.specs.View.{value_of};
 ghost use Rattle.typing_expressions.specs.Refused.{Tells};
 ghost use Rattle.typing_expressions.specs.Forms.{checked_of, worth_of};
 
@@ -18,7 +18,7 @@ use ctypes::BinOp;
 use srcset::{Code, Pos, Refusal};
 use std::alloc::Global;
 use tree::BinaryOp;
-use typing_program::Value;
+use typed_ast::Value;
 
 /// An arithmetic operator, a shift, a comparison or one on bits (6.5.5 to 6.5.12).
 pub(crate) fn arithmetic<'s>(

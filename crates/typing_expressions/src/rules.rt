@@ -3,13 +3,13 @@
 
 ghost use Rattle.std.specs.Prelude.{◌≡◌, IfErr, IfOk};
 ghost use Rattle.std.specs.Prelude.{Some};
-ghost use Rattle.typing_rules.specs.Verdict.{fine, then_check};
-ghost use Rattle.typing_rules.specs.Operators as operators;
-ghost use Rattle.typing_rules.specs.Program as program_typed;
+ghost use Rattle.typing_spec.specs.Verdict.{fine, then_check};
+ghost use Rattle.typing_spec.specs.Operators as operators;
+ghost use Rattle.typing_spec.specs.Program as program_typed;
 ghost use Rattle.srcset.specs.declared.refusal.Refusal.TheVariants.{Memory};
 ghost use Rattle.srcset.specs.declared.code.Code.TheVariants as code;
-ghost use Rattle.typing_rules.specs.Expressions as typed;
-ghost use Rattle.typing_program.specs.View.{value_of, place_of};
+ghost use Rattle.typing_spec.specs.Expressions as typed;
+ghost use Rattle.typed_ast.specs.View.{value_of, place_of};
 ghost use Rattle.typing_expressions.specs.Refused.{Tells};
 ghost use Rattle.typing_scopes.specs.Scopes.{meaning_of, option_binding};
 ghost use Rattle.typing_expressions.specs.Forms.{checked_of, worth_of, elements_of};
@@ -21,7 +21,7 @@ use ctypes::{BinOp, IntType, promote, usual};
 use srcset::{Code, Pos, Refusal};
 use std::alloc::Global;
 use tree::PrefixOp;
-use typing_program::{DeclaredType, Place, Storage, Value};
+use typed_ast::{DeclaredType, Place, Storage, Value};
 use typing_scopes::{Binding, Meaning};
 
 fn meant<'s>(pos: Pos, meaning: &'s Meaning) -> Checked<'s>

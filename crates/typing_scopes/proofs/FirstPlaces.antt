@@ -1,6 +1,6 @@
 -- The first of equal names is the newest of them read from behind.
 use Rattle.std.proofs.Common.{◌≡◌, ℕ, ◌+◌, ◌-◌, ◌<◌, List, [], ◌∷◌, length, Some, None, refl, ap, ◌∙◌, arith, rules, nat_eq, true, false, cond}
-use Rattle.typing_rules.specs.Scope.{place_from}
+use Rattle.typing_spec.specs.Scope.{place_from}
 use Rattle.typing_scopes.specs.NewestNames.{place_of, before, newest_of}
 use Rattle.typing_scopes.proofs.Lookups.{place_within, one_more}
 

@@ -11,7 +11,7 @@ use Rattle.typing_scopes.specs.declared.bindings.Binding.{Binding}
 use Rattle.typing_scopes.specs.declared.bindings.Tag.{Tag}
 use Rattle.typing_scopes.specs.NewestNames.{place_of, before, newest_of}
 use Rattle.typing_scopes.specs.Scopes.{binding_of, tag_of, newest_first, newest_tags, bindings_names, tags_names, seen_binding, seen_tag, option_binding, one_name_less, one_tag_less, names_left, tags_left}
-use Rattle.typing_rules.specs.Scope as typed
+use Rattle.typing_spec.specs.Scope as typed
 
 last_of : {A : Type 0} (xs : List A) (b : A) (k : ℕ) → k ≡ length xs → slice_get (xs ++ b ∷ []) k ≡ Some b
 last_of xs b k e = let l = length-append xs (b ∷ []) in slice_get-get_or (xs ++ b ∷ []) k b (omega (arith, e, l)) ∙ ap Some (ap (λ i. get_or (xs ++ b ∷ []) i b) e ∙ get_or-append_seam xs b [] b)

@@ -2,13 +2,13 @@
 use Rattle.std.proofs.Common.{◌≡◌, ℕ, zero, suc, ◌<◌, ◌≤◌, List, [], ◌∷◌, ◌++◌, length, map, refl, ap, ◌∙◌, arith, set}
 use Rattle.std.proofs.lemmas.List.{map-set, map-append, length-map}
 use Rattle.typing_scopes.specs.declared.bindings.StaticObject.{StaticObject}
-use Rattle.typing_program.specs.declared.types.ObjectType.{ObjectType}
-use Rattle.typing_program.specs.View.{object_type_of}
+use Rattle.typed_ast.specs.declared.types.ObjectType.{ObjectType}
+use Rattle.typed_ast.specs.View.{object_type_of}
 use Rattle.typing_scopes.specs.Scopes.{static_of}
-use Rattle.typing_rules.specs.Types as type
-use Rattle.typing_rules.specs.Scope as typed
-use Rattle.typing_rules.specs.Linkage.{put_static}
-use Rattle.typing_rules.specs.Declarations.{put_object}
+use Rattle.typing_spec.specs.Types as type
+use Rattle.typing_spec.specs.Scope as typed
+use Rattle.typing_spec.specs.Linkage.{put_static}
+use Rattle.typing_spec.specs.Declarations.{put_object}
 
 static_within : (ys : List typed.StaticObject) (n : ℕ) (y : typed.StaticObject) → n < length ys → set ys n y ≡ put_static ys n y
 static_within [] n y h = absurd (omega (arith, h))

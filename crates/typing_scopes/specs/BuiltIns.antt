@@ -1,9 +1,9 @@
 -- The built-in functions that the code's values stand for.
 use Rattle.std.specs.Prelude.{false, [], ◌∷◌, Option, Some, None}
 use Rattle.ctypes.specs.declared.types.IntType.TheVariants as ty
-use Rattle.typing_rules.specs.Types as type
-use Rattle.typing_rules.specs.Program as program
-use Rattle.typing_rules.specs.Scope as scope
+use Rattle.typing_spec.specs.Types as type
+use Rattle.typing_spec.specs.Program as program
+use Rattle.typing_spec.specs.Scope as scope
 use Rattle.typing_scopes.specs.declared.built_ins.BuiltIn.{BuiltIn}
 use Rattle.typing_scopes.specs.declared.built_ins.BuiltIn.TheVariants as built_in
 

@@ -11,9 +11,9 @@ use Rattle.typing_scopes.specs.declared.bindings.Binding.{Binding}
 use Rattle.typing_scopes.specs.declared.bindings.Tag.{Tag}
 use Rattle.typing_scopes.specs.declared.bindings.StaticObject.{StaticObject}
 use Rattle.typing_scopes.specs.declared.scopes.Block.{Block}
-use Rattle.typing_program.specs.View.{storage_of, object_type_of, declared_type_of, function_type_of}
-use Rattle.typing_rules.specs.Types.{ObjectType}
-use Rattle.typing_rules.specs.Scope as typed
+use Rattle.typed_ast.specs.View.{storage_of, object_type_of, declared_type_of, function_type_of}
+use Rattle.typing_spec.specs.Types.{ObjectType}
+use Rattle.typing_spec.specs.Scope as typed
 
 abbrev pub meaning_of : Meaning → typed.Meaning
 meaning_of (meaning.Object what t) = typed.an_object (storage_of what) (declared_type_of t)

@@ -1,6 +1,6 @@
 //! What names and tags stand for (6.2.1 to 6.2.4).
 
-use typing_program::{DeclaredType, FunctionType, ObjectType, Storage};
+use typed_ast::{DeclaredType, FunctionType, ObjectType, Storage};
 
 /// What an ordinary identifier stands for.
 #[derive(Drop)]

@@ -2,13 +2,13 @@
 
 ghost use Rattle.std.specs.Prelude.{◌≡◌, slice_get};
 ghost use Rattle.std.specs.Str.{bytes_eq};
-ghost use Rattle.typing_program.specs.View.{callee_of};
-ghost use Rattle.typing_rules.specs.Scope as typed;
+ghost use Rattle.typed_ast.specs.View.{callee_of};
+ghost use Rattle.typing_spec.specs.Scope as typed;
 ghost use Rattle.typing_scopes.specs.Scopes.{with_texts};
 ghost use Rattle.typing_scopes.specs.BuiltIns.{built_in_of, option_built_in};
 
 use srcset::Names;
-use typing_program::Callee;
+use typed_ast::Callee;
 
 /// A function that no unit defines.
 #[derive(Clone, Copy, PartialEq, Eq, Debug)]

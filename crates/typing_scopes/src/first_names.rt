@@ -1,7 +1,7 @@
 //! Where the first of several equal names stands, in constant time.
 
 ghost use Rattle.std.specs.Prelude.{◌≡◌, IfOk};
-ghost use Rattle.typing_rules.specs.Scope as typed;
+ghost use Rattle.typing_spec.specs.Scope as typed;
 
 use crate::newest_names::NewestNames;
 use std::alloc::{AllocError, Global};

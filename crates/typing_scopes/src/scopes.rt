@@ -1,11 +1,11 @@
 //! Scopes: what each name stands for (6.2.1 to 6.2.4), and what the program so far has declared.
 
 ghost use Rattle.std.specs.Prelude.{◌≡◌, List, [], ◌∷◌, ◌++◌, map, OnOk, OnErr, IfOk, IfErr, drop, length};
-ghost use Rattle.typing_rules.specs.Scope as typed;
+ghost use Rattle.typing_spec.specs.Scope as typed;
 ghost use Rattle.typing_scopes.specs.Scopes.{option_binding, seen_tag, meaning_of, linkage_of, state_of, bindings_names, tags_names, newest_first, newest_tags, static_of, block_of, one_name_less, one_tag_less, names_left, tags_left, with_objects, with_statics};
-ghost use Rattle.typing_rules.specs.Linkage.{put_static};
-ghost use Rattle.typing_rules.specs.Declarations.{put_object};
-ghost use Rattle.typing_program.specs.View.{object_type_of};
+ghost use Rattle.typing_spec.specs.Linkage.{put_static};
+ghost use Rattle.typing_spec.specs.Declarations.{put_object};
+ghost use Rattle.typed_ast.specs.View.{object_type_of};
 ghost use Rattle.srcset.specs.declared.refusal.Refusal.TheVariants.{Memory};
 
 use crate::bindings::{Binding, Linkage, Meaning, State, StaticObject, Tag};
@@ -15,7 +15,7 @@ use srcset::Refusal;
 use std::alloc::Global;
 use std::marker::Model;
 use std::mem::replace;
-use typing_program::ObjectType;
+use typed_ast::ObjectType;
 
 /// Where a block begins: how many names and tags there are, and how deep the block around it is.
 #[derive(Clone, Copy)]

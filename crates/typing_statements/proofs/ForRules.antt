@@ -11,15 +11,15 @@ use Rattle.tree.specs.declared.statement.ForStart.TheVariants as for_start
 use Rattle.tree.specs.Tree.{Tree, StartTree, expression_start, StmtTree, for_stmt}
 use Rattle.tree.specs.View as tree_view
 use Rattle.tree.specs.View.{option_tree}
-use Rattle.typing_program.specs.declared.statements.Statement.{Statement, the_lemmas}
-use Rattle.typing_program.specs.declared.statements.Statement as S
-use Rattle.typing_program.specs.declared.expressions.Value.{Value}
-use Rattle.typing_program.specs.View.{value_of, option_value, statement_of, statements_of}
-use Rattle.typing_rules.specs.Verdict.{Verdict, fine, then_check, both}
-use Rattle.typing_rules.specs.Program as program
-use Rattle.typing_rules.specs.Scope.{Scope, past, inside, outside}
-use Rattle.typing_rules.specs.Statements as typed
-use Rattle.typing_rules.specs.Statements.{statement}
+use Rattle.typed_ast.specs.declared.statements.Statement.{Statement, the_lemmas}
+use Rattle.typed_ast.specs.declared.statements.Statement as S
+use Rattle.typed_ast.specs.declared.expressions.Value.{Value}
+use Rattle.typed_ast.specs.View.{value_of, option_value, statement_of, statements_of}
+use Rattle.typing_spec.specs.Verdict.{Verdict, fine, then_check, both}
+use Rattle.typing_spec.specs.Program as program
+use Rattle.typing_spec.specs.Scope.{Scope, past, inside, outside}
+use Rattle.typing_spec.specs.Statements as typed
+use Rattle.typing_spec.specs.Statements.{statement}
 use Rattle.typing_expressions.specs.Refused.{Tells}
 use Rattle.typing_expressions.proofs.Verdicts.{tells_left, tells_right, tells_then}
 use Rattle.decls_declarators.proofs.Verdicts.{then_fine, then_tells, both_fine}

@@ -8,9 +8,9 @@ use Rattle.std.proofs.lemmas.List.Folds.{list_any-append}
 use Rattle.srcset.specs.declared.code.Code.TheVariants as code
 use Rattle.srcset.specs.declared.refusal.Pos.{Pos}
 use Rattle.srcset.specs.declared.refusal.Refusal.{Refusal}
-use Rattle.typing_rules.specs.Verdict.{Verdict, fine, broken, both, each, refuse_if}
-use Rattle.typing_rules.specs.Statements as typed
-use Rattle.typing_rules.specs.Statements.{same_label, is_among, no_label_twice}
+use Rattle.typing_spec.specs.Verdict.{Verdict, fine, broken, both, each, refuse_if}
+use Rattle.typing_spec.specs.Statements as typed
+use Rattle.typing_spec.specs.Statements.{same_label, is_among, no_label_twice}
 use Rattle.typing_expressions.specs.Refused.{IsOf, Tells, refused}
 use Rattle.typing_expressions.proofs.Verdicts.{tells_left}
 use Rattle.indexmap.specs.IndexSet.{insert_key}

@@ -6,9 +6,9 @@ use Rattle.tree.specs.declared.declaration.Item.TheVariants as item
 use Rattle.tree.specs.declared.declaration.Specifier.{Specifier}
 use Rattle.tree.specs.declared.declaration.Specifier.TheVariants.{Extern, Static, Plain, Enumerators}
 use Rattle.tree.specs.View.{item_of, specifier_of}
-use Rattle.typing_rules.specs.Declarations.{classes_of, lists_in}
-use Rattle.typing_rules.specs.Statements as typed
-use Rattle.typing_rules.specs.Statements.{has_class}
+use Rattle.typing_spec.specs.Declarations.{classes_of, lists_in}
+use Rattle.typing_spec.specs.Statements as typed
+use Rattle.typing_spec.specs.Statements.{has_class}
 use Rattle.typing_statements.specs.inside.Loops.{declares_function, is_kept_out, unfit}
 
 functions_in : (is : List Item) → list_any declares_function is ≡ typed.declares_function (map item_of is)

@@ -9,12 +9,12 @@ use Rattle.tree.specs.declared.statement.BlockItem.{BlockItem, the_lemmas}
 use Rattle.tree.specs.declared.statement.BlockItem as B
 use Rattle.tree.specs.Tree.{Tree, StartTree, StmtTree, Pieces, and_piece, declaration_item, statement_item}
 use Rattle.tree.specs.View.{declaration_of, stmt_of, piece_of}
-use Rattle.typing_program.specs.declared.statements.Statement.{Statement}
-use Rattle.typing_program.specs.declared.expressions.Value.{Value}
-use Rattle.typing_rules.specs.Verdict.{Verdict, fine, then_check}
-use Rattle.typing_rules.specs.Scope.{Scope, Binding, Tag, inside, outside}
-use Rattle.typing_rules.specs.Statements as typed
-use Rattle.typing_rules.specs.Statements.{statement, pieces}
+use Rattle.typed_ast.specs.declared.statements.Statement.{Statement}
+use Rattle.typed_ast.specs.declared.expressions.Value.{Value}
+use Rattle.typing_spec.specs.Verdict.{Verdict, fine, then_check}
+use Rattle.typing_spec.specs.Scope.{Scope, Binding, Tag, inside, outside}
+use Rattle.typing_spec.specs.Statements as typed
+use Rattle.typing_spec.specs.Statements.{statement, pieces}
 use Rattle.typing_expressions.specs.Refused.{Tells}
 use Rattle.typing_scopes.specs.declared.scopes.Block.{Block}
 use Rattle.typing_scopes.specs.Scopes.{with_texts, block_of}

@@ -8,17 +8,17 @@ use Rattle.srcset.specs.declared.refusal.Refusal.{Refusal}
 use Rattle.ctypes.specs.declared.types.IntType.{IntType}
 use Rattle.ctypes.specs.Types.{promoted}
 use Rattle.tree.specs.Tree.{Tree, StartTree, StmtTree, Pieces, stmt_hole, block_stmt, empty_stmt, expression_stmt, if_stmt, if_else_stmt, switch_stmt, case_stmt, default_stmt, while_stmt, do_while_stmt, for_stmt, break_stmt, continue_stmt, return_stmt}
-use Rattle.typing_program.specs.declared.statements.Statement.{Statement, the_lemmas}
-use Rattle.typing_program.specs.declared.statements.Statement as S
-use Rattle.typing_program.specs.declared.expressions.Value.{Value}
-use Rattle.typing_program.specs.View.{value_of, option_value, statement_of, statements_of}
-use Rattle.typing_rules.specs.Verdict.{Verdict, fine, broken, breaks, then_check, both, provided}
-use Rattle.typing_rules.specs.Program as program
-use Rattle.typing_rules.specs.Scope.{Scope, past, inside, outside}
-use Rattle.typing_rules.specs.Expressions as expressions
-use Rattle.typing_rules.specs.Expressions.{typing, valued}
-use Rattle.typing_rules.specs.Statements as typed
-use Rattle.typing_rules.specs.Statements.{statement, pieces}
+use Rattle.typed_ast.specs.declared.statements.Statement.{Statement, the_lemmas}
+use Rattle.typed_ast.specs.declared.statements.Statement as S
+use Rattle.typed_ast.specs.declared.expressions.Value.{Value}
+use Rattle.typed_ast.specs.View.{value_of, option_value, statement_of, statements_of}
+use Rattle.typing_spec.specs.Verdict.{Verdict, fine, broken, breaks, then_check, both, provided}
+use Rattle.typing_spec.specs.Program as program
+use Rattle.typing_spec.specs.Scope.{Scope, past, inside, outside}
+use Rattle.typing_spec.specs.Expressions as expressions
+use Rattle.typing_spec.specs.Expressions.{typing, valued}
+use Rattle.typing_spec.specs.Statements as typed
+use Rattle.typing_spec.specs.Statements.{statement, pieces}
 use Rattle.typing_expressions.specs.declared.forms.Worth.{Worth}
 use Rattle.typing_expressions.specs.Forms.{worth_of}
 use Rattle.typing_expressions.specs.Refused.{IsOf, Tells, refused}

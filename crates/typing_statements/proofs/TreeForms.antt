@@ -11,14 +11,14 @@ use Rattle.tree.specs.declared.statement.Stmt as T
 use Rattle.tree.specs.Tree.{block_stmt, empty_stmt, expression_stmt, if_stmt, if_else_stmt, switch_stmt, case_stmt, default_stmt, while_stmt, do_while_stmt, for_stmt, break_stmt, continue_stmt, return_stmt}
 use Rattle.tree.specs.View.{tree_of, option_tree, start_of, stmt_of, piece_of, pieces_of}
 use Rattle.ctypes.specs.declared.types.IntType.{IntType}
-use Rattle.typing_program.specs.declared.statements.Statement.{Statement}
-use Rattle.typing_program.specs.declared.statements.Statement.{the_lemmas as program_lemmas}
-use Rattle.typing_program.specs.declared.statements.Statement as P
-use Rattle.typing_program.specs.View.{statement_of}
-use Rattle.typing_rules.specs.Program as program
-use Rattle.typing_rules.specs.Verdict.{Verdict, fine}
-use Rattle.typing_rules.specs.Scope.{Scope}
-use Rattle.typing_rules.specs.Statements.{Around, Done, statement}
+use Rattle.typed_ast.specs.declared.statements.Statement.{Statement}
+use Rattle.typed_ast.specs.declared.statements.Statement.{the_lemmas as program_lemmas}
+use Rattle.typed_ast.specs.declared.statements.Statement as P
+use Rattle.typed_ast.specs.View.{statement_of}
+use Rattle.typing_spec.specs.Program as program
+use Rattle.typing_spec.specs.Verdict.{Verdict, fine}
+use Rattle.typing_spec.specs.Scope.{Scope}
+use Rattle.typing_spec.specs.Statements.{Around, Done, statement}
 use Rattle.typing_expressions.specs.Refused.{Tells}
 use Rattle.typing_statements.specs.declared.labels.Label.{Label}
 use Rattle.typing_units.specs.declared.first_values.Initial.{Initial}

@@ -1,16 +1,16 @@
 -- What the code's types of statements stand for.
 use Rattle.std.specs.Prelude.{◌≡◌, ◌++◌, List, [], map, Option}
-use Rattle.typing_program.specs.declared.statements.Statement.{Statement}
-use Rattle.typing_program.specs.declared.expressions.Value.{Value}
-use Rattle.typing_program.specs.View.{statement_of, statements_of, option_value}
+use Rattle.typed_ast.specs.declared.statements.Statement.{Statement}
+use Rattle.typed_ast.specs.declared.expressions.Value.{Value}
+use Rattle.typed_ast.specs.View.{statement_of, statements_of, option_value}
 use Rattle.typing_statements.specs.declared.surroundings.Around.{Around}
 use Rattle.typing_statements.specs.declared.labels.Label.{Label}
 use Rattle.typing_units.specs.declared.first_values.Initial.{Initial}
 pub use Rattle.typing_units.specs.Views.{initial_of}
 pub use Rattle.typing_declarations.specs.Views.{effects_of, declared_of}
-use Rattle.typing_rules.specs.Verdict.{Verdict, fine}
-use Rattle.typing_rules.specs.Scope.{Scope}
-use Rattle.typing_rules.specs.Statements as typed
+use Rattle.typing_spec.specs.Verdict.{Verdict, fine}
+use Rattle.typing_spec.specs.Scope.{Scope}
+use Rattle.typing_spec.specs.Statements as typed
 
 abbrev pub around_of : Around → typed.Around
 around_of a = record { result = a.result; in_loop = a.in_loop; in_switch = a.in_switch }

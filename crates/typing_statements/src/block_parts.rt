@@ -4,11 +4,11 @@
 ghost use Rattle.std.specs.Prelude.{◌≡◌, ◌-◌, ◌++◌, List, [], Option, length, IfErr, IfOk, OnOk};
 ghost use Rattle.srcset.specs.declared.refusal.Refusal.TheVariants.{Memory};
 ghost use Rattle.ctypes.specs.declared.types.IntType.{IntType};
-ghost use Rattle.typing_program.specs.declared.statements.Statement.{Statement};
+ghost use Rattle.typed_ast.specs.declared.statements.Statement.{Statement};
 ghost use Rattle.tree.specs.Tree as tree;
 ghost use Rattle.tree.specs.View.{declaration_of};
-ghost use Rattle.typing_rules.specs.Verdict.{then_check};
-ghost use Rattle.typing_rules.specs.Statements as typed;
+ghost use Rattle.typing_spec.specs.Verdict.{then_check};
+ghost use Rattle.typing_spec.specs.Statements as typed;
 ghost use Rattle.typing_expressions.specs.Refused.{Tells};
 ghost use Rattle.typing_scopes.specs.Scopes.{with_texts};
 ghost use Rattle.typing_units.specs.declared.first_values.Initial.{Initial};
@@ -17,8 +17,8 @@ ghost use Rattle.typing_statements.specs.inside.Pieces.{put_before};
 use srcset::{Names, Refusal};
 use std::alloc::Global;
 use tree::Declaration;
+use typed_ast::Statement;
 use typing_declarations::declaration_typed;
-use typing_program::Statement;
 use typing_scopes::Scope;
 use typing_units::Initial;
 

@@ -3,12 +3,12 @@
 
 ghost use Rattle.std.specs.Prelude.{◌≡◌, IfErr, IfOk, OnOk};
 ghost use Rattle.srcset.specs.declared.refusal.Refusal.TheVariants.{Memory};
-ghost use Rattle.typing_program.specs.View.{value_of, option_value};
+ghost use Rattle.typed_ast.specs.View.{value_of, option_value};
 ghost use Rattle.tree.specs.View.{tree_of, option_tree};
-ghost use Rattle.typing_rules.specs.Verdict.{fine, then_check};
-ghost use Rattle.typing_rules.specs.Scope as scope_typed;
-ghost use Rattle.typing_rules.specs.Expressions as expressions;
-ghost use Rattle.typing_rules.specs.Statements as typed;
+ghost use Rattle.typing_spec.specs.Verdict.{fine, then_check};
+ghost use Rattle.typing_spec.specs.Scope as scope_typed;
+ghost use Rattle.typing_spec.specs.Expressions as expressions;
+ghost use Rattle.typing_spec.specs.Statements as typed;
 ghost use Rattle.typing_expressions.specs.Refused.{Tells};
 ghost use Rattle.typing_expressions.specs.Forms.{checked_of, worth_of};
 ghost use Rattle.typing_scopes.specs.Scopes.{with_texts};
@@ -18,8 +18,8 @@ use decls_declarators::past;
 use srcset::{Code, Names, Pos, Refusal};
 use std::alloc::Global;
 use tree::Expr;
+use typed_ast::Value;
 use typing_expressions::{Checked, Worth, effect, valued};
-use typing_program::Value;
 use typing_scopes::Scope;
 
 /// What an expression is, in the scope as it is.

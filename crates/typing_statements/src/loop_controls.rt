@@ -3,13 +3,13 @@
 
 ghost use Rattle.std.specs.Prelude.{◌≡◌, ◌++◌, List, map, IfErr, IfOk};
 ghost use Rattle.srcset.specs.declared.refusal.Refusal.TheVariants.{Memory};
-ghost use Rattle.typing_program.specs.declared.statements.Statement.{Statement};
-ghost use Rattle.typing_program.specs.View.{option_value, statement_of, statements_of};
-ghost use Rattle.typing_rules.specs.Program as program;
+ghost use Rattle.typed_ast.specs.declared.statements.Statement.{Statement};
+ghost use Rattle.typed_ast.specs.View.{option_value, statement_of, statements_of};
+ghost use Rattle.typing_spec.specs.Program as program;
 ghost use Rattle.tree.specs.View as tree_view;
 ghost use Rattle.tree.specs.View.{option_tree};
-ghost use Rattle.typing_rules.specs.Verdict.{fine, both};
-ghost use Rattle.typing_rules.specs.Statements as typed;
+ghost use Rattle.typing_spec.specs.Verdict.{fine, both};
+ghost use Rattle.typing_spec.specs.Statements as typed;
 ghost use Rattle.typing_expressions.specs.Refused.{Tells};
 ghost use Rattle.typing_scopes.specs.Scopes.{with_texts};
 ghost use Rattle.typing_units.specs.declared.first_values.Initial.{Initial};
@@ -21,8 +21,8 @@ use crate::loop_declarations::fit_for_loop;
 use srcset::{Names, Pos, Refusal};
 use std::alloc::Global;
 use tree::{Expr, ForStart};
+use typed_ast::{ForControl, Statement, Value};
 use typing_declarations::declaration_typed;
-use typing_program::{ForControl, Statement, Value};
 use typing_scopes::Scope;
 use typing_units::Initial;
 

@@ -6,9 +6,9 @@ ghost use Rattle.srcset.specs.declared.refusal.Pos.{Pos};
 ghost use Rattle.ctypes.specs.declared.types.IntType.{IntType};
 ghost use Rattle.tree.specs.Tree as tree;
 ghost use Rattle.tree.specs.View.{tree_of, option_tree};
-ghost use Rattle.typing_rules.specs.Verdict.{fine};
-ghost use Rattle.typing_rules.specs.Scope as scope_typed;
-ghost use Rattle.typing_rules.specs.Statements as typed;
+ghost use Rattle.typing_spec.specs.Verdict.{fine};
+ghost use Rattle.typing_spec.specs.Scope as scope_typed;
+ghost use Rattle.typing_spec.specs.Statements as typed;
 ghost use Rattle.typing_expressions.specs.Refused.{Tells};
 ghost use Rattle.typing_scopes.specs.Scopes.{with_texts};
 ghost use Rattle.typing_statements.specs.Views.{around_of, done_of};
@@ -18,8 +18,8 @@ use crate::surroundings::Around;
 use srcset::{Code, Names, Pos, Refusal};
 use std::alloc::Global;
 use tree::Expr;
+use typed_ast::Statement;
 use typing_expressions::broken;
-use typing_program::Statement;
 use typing_scopes::Scope;
 
 /// An expression statement (6.8.3).

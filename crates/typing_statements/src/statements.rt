@@ -3,15 +3,15 @@
 
 ghost use Rattle.std.specs.Prelude.{◌≡◌, ◌++◌, List, [], Option, None, map, IfErr, IfOk, OnOk};
 ghost use Rattle.ctypes.specs.declared.types.IntType.{IntType};
-ghost use Rattle.typing_program.specs.declared.statements.Statement.{Statement};
+ghost use Rattle.typed_ast.specs.declared.statements.Statement.{Statement};
 ghost use Rattle.tree.specs.Tree as tree;
 ghost use Rattle.tree.specs.View as tree_view;
 ghost use Rattle.tree.specs.View.{tree_of, option_tree, stmt_of, piece_of, pieces_of, declaration_of};
 ghost use Rattle.srcset.specs.declared.code.Code.TheVariants as code;
-ghost use Rattle.typing_rules.specs.Expressions.{typing, valued};
-ghost use Rattle.typing_rules.specs.Verdict.{fine};
-ghost use Rattle.typing_rules.specs.Scope as scope_typed;
-ghost use Rattle.typing_rules.specs.Statements as typed;
+ghost use Rattle.typing_spec.specs.Expressions.{typing, valued};
+ghost use Rattle.typing_spec.specs.Verdict.{fine};
+ghost use Rattle.typing_spec.specs.Scope as scope_typed;
+ghost use Rattle.typing_spec.specs.Statements as typed;
 ghost use Rattle.typing_expressions.specs.Refused.{Tells};
 ghost use Rattle.typing_expressions.specs.Forms.{worth_of};
 ghost use Rattle.typing_scopes.specs.Scopes.{with_texts};
@@ -30,8 +30,8 @@ use ctypes::{IntType, promote};
 use srcset::{Code, Names, Pos, Refusal};
 use std::alloc::Global;
 use tree::{BlockItem, Expr, ForStart, Stmt};
+use typed_ast::Statement;
 use typing_expressions::{Worth, broken};
-use typing_program::Statement;
 use typing_scopes::Scope;
 use typing_units::Initial;
 

@@ -2,7 +2,7 @@
 #![tactic(auto)]
 
 ghost use Rattle.std.specs.Prelude.{◌≡◌};
-ghost use Rattle.typing_rules.specs.Statements as typed;
+ghost use Rattle.typing_spec.specs.Statements as typed;
 ghost use Rattle.typing_statements.specs.Views.{around_of};
 
 use ctypes::IntType;

@@ -10,10 +10,10 @@ use Rattle.srcset.specs.declared.refusal.Pos.{Pos}
 use Rattle.srcset.specs.declared.refusal.Refusal.TheVariants.{At}
 use Rattle.tree.specs.Capped.{capped, capped32}
 use Rattle.tree.specs.Counts.{weight_of}
-use Rattle.typing_rules.specs.Types.{ParameterType, number, elements, elements_in}
-use Rattle.typing_rules.specs.Verdict.{fine, refuse_if}
-use Rattle.typing_rules.specs.Scope.{Scope, literal_of}
-use Rattle.typing_rules.specs.Units.{Built, in_words, bytes_of_references, static_bytes, within_limits}
+use Rattle.typing_spec.specs.Types.{ParameterType, number, elements, elements_in}
+use Rattle.typing_spec.specs.Verdict.{fine, refuse_if}
+use Rattle.typing_spec.specs.Scope.{Scope, literal_of}
+use Rattle.typing_spec.specs.Units.{Built, in_words, bytes_of_references, static_bytes, within_limits}
 use Rattle.typing_expressions.specs.Refused.{IsOf}
 use Rattle.typing_expressions.proofs.Verdicts.{each_left, each_fine}
 use Rattle.typing_units.specs.inside.Parts.{reference_bytes, literal_bytes}

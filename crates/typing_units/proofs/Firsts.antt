@@ -4,11 +4,11 @@ use Rattle.std.proofs.lemmas.List.{take_more}
 use Rattle.srcset.specs.declared.refusal.Pos.{Pos}
 use Rattle.srcset.specs.declared.refusal.Refusal.TheVariants.{At}
 use Rattle.srcset.specs.declared.code.Code.TheVariants as code
-use Rattle.typing_program.specs.View.{Given, number_given, array_given, and_given}
-use Rattle.typing_rules.specs.Program.{Arguments}
-use Rattle.typing_rules.specs.Verdict.{Verdict, fine, refuse_if, each, Stands}
-use Rattle.typing_rules.specs.Scope.{Scope, StaticObject}
-use Rattle.typing_rules.specs.Uses.{Used, an_object, a_function, Use, is_undefined, same_use, is_used_in, all_defined, uses_in_arguments}
+use Rattle.typed_ast.specs.View.{Given, number_given, array_given, and_given}
+use Rattle.typing_spec.specs.Program.{Arguments}
+use Rattle.typing_spec.specs.Verdict.{Verdict, fine, refuse_if, each, Stands}
+use Rattle.typing_spec.specs.Scope.{Scope, StaticObject}
+use Rattle.typing_spec.specs.Uses.{Used, an_object, a_function, Use, is_undefined, same_use, is_used_in, all_defined, uses_in_arguments}
 use Rattle.typing_expressions.proofs.Verdicts.{each_right, each_fine}
 use Rattle.typing_units.specs.inside.Undefined.{has_no_definition, here_or, undefined_in, uses_in_given}
 

@@ -8,12 +8,12 @@ use Rattle.tree.specs.Tree.{ParameterTree, ExternalTree, definition, declaration
 use Rattle.tree.specs.View.{parameter_of, external_of}
 use Rattle.tree.specs.declared.declaration.Parameter.{Parameter}
 use Rattle.tree.specs.declared.unit.External.{External}
-use Rattle.typing_program.specs.declared.types.ParameterType as held
-use Rattle.typing_program.specs.View.{parameter_type_of}
-use Rattle.typing_rules.specs.Types.{ParameterType, number, elements, same_parameters}
-use Rattle.typing_rules.specs.Verdict.{Verdict, fine, refuse_if}
-use Rattle.typing_rules.specs.Scope.{Scope, literal_of}
-use Rattle.typing_rules.specs.Units.{has_name, all_named, definitions_in, numbers_in, literals_of}
+use Rattle.typed_ast.specs.declared.types.ParameterType as held
+use Rattle.typed_ast.specs.View.{parameter_type_of}
+use Rattle.typing_spec.specs.Types.{ParameterType, number, elements, same_parameters}
+use Rattle.typing_spec.specs.Verdict.{Verdict, fine, refuse_if}
+use Rattle.typing_spec.specs.Scope.{Scope, literal_of}
+use Rattle.typing_spec.specs.Units.{has_name, all_named, definitions_in, numbers_in, literals_of}
 use Rattle.typing_expressions.specs.Refused.{IsOf}
 use Rattle.typing_expressions.proofs.Verdicts.{each_left, each_right, each_fine}
 use Rattle.typing_units.specs.inside.Parts.{is_number}

@@ -2,14 +2,14 @@
 use Rattle.std.proofs.Common.{◌≡◌, ℕ, zero, suc, ◌+◌, ◌<◌, ◌≤◌, true, false, nat_eq, List, [], ◌∷◌, ◌++◌, length, map, set, get_or, ℤ, refl, sym, ap, ◌∙◌, append_assoc, append-nil, arith}
 use Rattle.std.specs.Prelude.{if◌then◌else◌}
 use Rattle.std.proofs.lemmas.List.{map-set, map_push, get_or-map, length-map}
-use Rattle.typing_program.specs.declared.units.Static as held
-use Rattle.typing_program.specs.View.{static_of, object_type_of}
+use Rattle.typed_ast.specs.declared.units.Static as held
+use Rattle.typed_ast.specs.View.{static_of, object_type_of}
 use Rattle.typing_scopes.specs.declared.bindings.StaticObject as scopes_held
 use Rattle.typing_scopes.specs.Scopes as scopes
-use Rattle.typing_rules.specs.Scope.{StaticObject}
-use Rattle.typing_rules.specs.Program.{Static}
-use Rattle.typing_rules.specs.Declarations.{Initial}
-use Rattle.typing_rules.specs.Units.{values_for, statics_from}
+use Rattle.typing_spec.specs.Scope.{StaticObject}
+use Rattle.typing_spec.specs.Program.{Static}
+use Rattle.typing_spec.specs.Declarations.{Initial}
+use Rattle.typing_spec.specs.Units.{values_for, statics_from}
 use Rattle.typing_units.specs.declared.first_values.Initial as given
 use Rattle.typing_units.specs.Views.{initial_of}
 

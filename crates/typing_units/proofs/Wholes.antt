@@ -6,20 +6,20 @@ use Rattle.srcset.specs.declared.code.Code.TheVariants as code
 use Rattle.srcset.specs.declared.refusal.Pos.{Pos}
 use Rattle.srcset.specs.declared.refusal.Refusal.{Refusal}
 use Rattle.srcset.specs.declared.refusal.Refusal.TheVariants.{At}
-use Rattle.typing_program.specs.declared.units.Function as held
-use Rattle.typing_program.specs.View as view
+use Rattle.typed_ast.specs.declared.units.Function as held
+use Rattle.typed_ast.specs.View as view
 use Rattle.typing_scopes.specs.declared.bindings.StaticObject as held_object
 use Rattle.typing_scopes.specs.Scopes.{with_texts, with_statics, static_of}
-use Rattle.typing_rules.specs.Verdict.{Verdict, fine, both, then_check, each}
-use Rattle.typing_rules.specs.Scope.{Scope, StaticObject}
-use Rattle.typing_rules.specs.Program as typed
-use Rattle.typing_rules.specs.Program.{Function, Static, Statement, Statements, Program}
-use Rattle.typing_rules.specs.Types.{ObjectType, FunctionType}
-use Rattle.typing_rules.specs.Statements.{AllDone}
+use Rattle.typing_spec.specs.Verdict.{Verdict, fine, both, then_check, each}
+use Rattle.typing_spec.specs.Scope.{Scope, StaticObject}
+use Rattle.typing_spec.specs.Program as typed
+use Rattle.typing_spec.specs.Program.{Function, Static, Statement, Statements, Program}
+use Rattle.typing_spec.specs.Types.{ObjectType, FunctionType}
+use Rattle.typing_spec.specs.Statements.{AllDone}
 use Rattle.tree.specs.Tree.{FunctionTree}
 use Rattle.tree.specs.Counts.{function_nodes}
-use Rattle.typing_rules.specs.Uses.{all_defined, uses_in_functions}
-use Rattle.typing_rules.specs.Units.{Built, is_main, main_from, main_or_fault, within_limits, literals_of, statics_from, program_of, whole_program, numbers_in, weight, function_of}
+use Rattle.typing_spec.specs.Uses.{all_defined, uses_in_functions}
+use Rattle.typing_spec.specs.Units.{Built, is_main, main_from, main_or_fault, within_limits, literals_of, statics_from, program_of, whole_program, numbers_in, weight, function_of}
 use Rattle.typing_expressions.specs.Refused.{IsOf, Tells}
 use Rattle.typing_expressions.proofs.Verdicts.{each_left, each_right, tells_left, tells_right, tells_of}
 use Rattle.typing_units.specs.Views.{unit_scope}

@@ -1,13 +1,13 @@
 -- What the code's parts of a unit stand for.
 use Rattle.std.specs.Prelude.{ℕ, List, map}
-use Rattle.typing_program.specs.declared.units.Function.{Function}
-use Rattle.typing_program.specs.View.{function_of}
+use Rattle.typed_ast.specs.declared.units.Function.{Function}
+use Rattle.typed_ast.specs.View.{function_of}
 use Rattle.typing_scopes.specs.declared.bindings.StaticObject.{StaticObject}
 use Rattle.typing_scopes.specs.Scopes.{static_of}
 use Rattle.typing_units.specs.declared.first_values.Initial.{Initial}
-use Rattle.typing_rules.specs.Scope.{Scope}
-use Rattle.typing_rules.specs.Declarations as declarations
-use Rattle.typing_rules.specs.Units as typed
+use Rattle.typing_spec.specs.Scope.{Scope}
+use Rattle.typing_spec.specs.Declarations as declarations
+use Rattle.typing_spec.specs.Units as typed
 
 abbrev pub initial_of : Initial → declarations.Initial
 initial_of i = record { static = i.static_number; values = i.values.items }

@@ -4,7 +4,7 @@
 ghost use Rattle.std.specs.Prelude.{◌≡◌, ◌++◌, ◌∷◌, [], map, OnOk, IfOk, IfErr};
 ghost use Rattle.srcset.specs.declared.refusal.Refusal.TheVariants.{Memory};
 ghost use Rattle.tree.specs.View.{external_of};
-ghost use Rattle.typing_rules.specs.Units as typed;
+ghost use Rattle.typing_spec.specs.Units as typed;
 
 use srcset::Refusal;
 use std::alloc::Global;

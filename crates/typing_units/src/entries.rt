@@ -3,15 +3,15 @@
 
 ghost use Rattle.std.specs.Prelude.{◌≡◌, false, [], Some, map};
 ghost use Rattle.ctypes.specs.declared.types.IntType.TheVariants as ty;
-ghost use Rattle.typing_program.specs.View.{parameter_type_of, function_type_of, function_of};
+ghost use Rattle.typed_ast.specs.View.{parameter_type_of, function_type_of, function_of};
 ghost use Rattle.typing_scopes.specs.Scopes.{option_binding, linkage_of, with_texts};
-ghost use Rattle.typing_rules.specs.Types as type;
-ghost use Rattle.typing_rules.specs.Scope as scope_typed;
-ghost use Rattle.typing_rules.specs.Units as typed;
+ghost use Rattle.typing_spec.specs.Types as type;
+ghost use Rattle.typing_spec.specs.Scope as scope_typed;
+ghost use Rattle.typing_spec.specs.Units as typed;
 
 use ctypes::IntType;
 use srcset::Names;
-use typing_program::{Function, FunctionType, ParameterType};
+use typed_ast::{Function, FunctionType, ParameterType};
 use typing_scopes::{Binding, Linkage, Scope, is_called};
 
 fn is_int(given: Option<IntType>) -> bool

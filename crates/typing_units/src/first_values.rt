@@ -3,16 +3,16 @@
 
 ghost use Rattle.std.specs.Prelude.{◌≡◌, ◌∷◌, ◌++◌, [], List, map, OnOk, IfOk, IfErr};
 ghost use Rattle.srcset.specs.declared.refusal.Refusal.TheVariants.{Memory};
-ghost use Rattle.typing_program.specs.View as view;
+ghost use Rattle.typed_ast.specs.View as view;
 ghost use Rattle.typing_scopes.specs.Scopes.{static_of};
-ghost use Rattle.typing_rules.specs.Scope as scope_typed;
-ghost use Rattle.typing_rules.specs.Declarations as declarations;
-ghost use Rattle.typing_rules.specs.Units as typed;
+ghost use Rattle.typing_spec.specs.Scope as scope_typed;
+ghost use Rattle.typing_spec.specs.Declarations as declarations;
+ghost use Rattle.typing_spec.specs.Units as typed;
 ghost use Rattle.typing_units.specs.Views.{initial_of};
 
 use srcset::Refusal;
 use std::alloc::Global;
-use typing_program::Static;
+use typed_ast::Static;
 use typing_scopes::StaticObject;
 
 /// What an initialiser gives an object with static storage.

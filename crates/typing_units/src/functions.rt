@@ -4,19 +4,19 @@
 ghost use Rattle.std.specs.Prelude.{◌≡◌, map, not, nat_lt, OnOk, IfOk, IfErr};
 ghost use Rattle.srcset.specs.declared.code.Code.TheVariants as code;
 ghost use Rattle.tree.specs.View.{parameter_of, function_of};
-ghost use Rattle.typing_program.specs.View as view;
-ghost use Rattle.typing_rules.specs.Verdict.{fine, refuse_if};
-ghost use Rattle.typing_rules.specs.Program as program_typed;
-ghost use Rattle.typing_rules.specs.Statements.{AllDone};
-ghost use Rattle.typing_rules.specs.Units as typed;
+ghost use Rattle.typed_ast.specs.View as view;
+ghost use Rattle.typing_spec.specs.Verdict.{fine, refuse_if};
+ghost use Rattle.typing_spec.specs.Program as program_typed;
+ghost use Rattle.typing_spec.specs.Statements.{AllDone};
+ghost use Rattle.typing_spec.specs.Units as typed;
 ghost use Rattle.typing_expressions.specs.Refused.{IsOf};
 ghost use Rattle.typing_units.specs.inside.Parts.{is_number};
 
 use crate::weights::{weight, within_weight};
 use srcset::{Code, Refusal};
 use tree::Parameter;
+use typed_ast::{Function, FunctionType, ObjectType, ParameterType, Statement};
 use typing_expressions::broken;
-use typing_program::{Function, FunctionType, ObjectType, ParameterType, Statement};
 
 fn named(parameter: &Parameter) -> Result<(), Refusal>
     ensures ok { OnOk result (refuse_if (not (typed.has_name (parameter_of parameter.now).name)) code.UnnamedParameter (parameter_of parameter.now).at ≡ fine tt) }

@@ -4,9 +4,9 @@
 ghost use Rattle.std.specs.Prelude.{◌≡◌, ℕ, List, map, OnOk, IfErr};
 ghost use Rattle.tree.specs.Capped.{capped32};
 ghost use Rattle.typing_scopes.specs.Scopes.{static_of};
-ghost use Rattle.typing_rules.specs.Verdict.{fine};
-ghost use Rattle.typing_rules.specs.Scope.{Scope};
-ghost use Rattle.typing_rules.specs.Units as typed;
+ghost use Rattle.typing_spec.specs.Verdict.{fine};
+ghost use Rattle.typing_spec.specs.Scope.{Scope};
+ghost use Rattle.typing_spec.specs.Units as typed;
 ghost use Rattle.typing_expressions.specs.Refused.{IsOf};
 ghost use Rattle.typing_units.specs.declared.first_values.Initial.{Initial};
 ghost use Rattle.typing_units.specs.Views.{unit_scope, built_of};
@@ -15,8 +15,8 @@ ghost use Rattle.typing_units.specs.inside.Parts.{static_bytes};
 use crate::literals::bytes_of_literals;
 use crate::sizes::{in_words, object_size, sum};
 use srcset::{Code, Names, Pos, Refusal};
+use typed_ast::Function;
 use typing_expressions::broken;
-use typing_program::Function;
 use typing_scopes::StaticObject;
 
 /// The bytes that objects with static storage and string literals may take.

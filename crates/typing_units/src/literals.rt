@@ -5,8 +5,8 @@ ghost use Rattle.std.specs.Prelude.{◌≡◌, ◌++◌, ◌∷◌, [], length, 
 ghost use Rattle.srcset.specs.declared.refusal.Refusal.TheVariants.{Memory};
 ghost use Rattle.tree.specs.Capped.{capped32};
 ghost use Rattle.typing_scopes.specs.Scopes.{with_texts};
-ghost use Rattle.typing_rules.specs.Scope.{Scope, literal_of};
-ghost use Rattle.typing_rules.specs.Units as typed;
+ghost use Rattle.typing_spec.specs.Scope.{Scope, literal_of};
+ghost use Rattle.typing_spec.specs.Units as typed;
 ghost use Rattle.typing_units.specs.inside.Parts.{literal_bytes};
 
 use crate::sizes::{in_words, narrowed, sum};

@@ -3,11 +3,11 @@
 
 ghost use Rattle.std.specs.Prelude.{◌≡◌, ℕ, IfOk, IfErr};
 ghost use Rattle.srcset.specs.declared.refusal.Refusal.TheVariants.{Memory};
-ghost use Rattle.typing_program.specs.View as view;
+ghost use Rattle.typed_ast.specs.View as view;
 ghost use Rattle.typing_scopes.specs.Scopes.{with_texts};
-ghost use Rattle.typing_rules.specs.Verdict.{fine};
-ghost use Rattle.typing_rules.specs.Scope as scope_typed;
-ghost use Rattle.typing_rules.specs.Units as typed;
+ghost use Rattle.typing_spec.specs.Verdict.{fine};
+ghost use Rattle.typing_spec.specs.Scope as scope_typed;
+ghost use Rattle.typing_spec.specs.Units as typed;
 ghost use Rattle.typing_expressions.specs.Refused.{Tells};
 ghost use Rattle.typing_units.specs.Views.{unit_scope, built_of};
 
@@ -18,8 +18,8 @@ use crate::literals::literals_of;
 use crate::uses::all_defined;
 use srcset::{Code, Names, Pos, Refusal};
 use std::alloc::Global;
+use typed_ast::{Function, Program};
 use typing_expressions::broken;
-use typing_program::{Function, Program};
 use typing_scopes::{Scope, StaticObject};
 
 /// The program of these string literals, objects with static storage, functions and first values. It fails where memory runs out.

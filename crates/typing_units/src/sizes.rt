@@ -3,13 +3,13 @@
 
 ghost use Rattle.std.specs.Prelude.{◌≡◌, ◌+◌, ◌*◌, ℕ, map};
 ghost use Rattle.tree.specs.Capped.{capped, capped32};
-ghost use Rattle.typing_program.specs.View.{object_type_of, parameter_type_of};
-ghost use Rattle.typing_rules.specs.Types.{elements_in, size_of_object};
-ghost use Rattle.typing_rules.specs.Units as typed;
+ghost use Rattle.typed_ast.specs.View.{object_type_of, parameter_type_of};
+ghost use Rattle.typing_spec.specs.Types.{elements_in, size_of_object};
+ghost use Rattle.typing_spec.specs.Units as typed;
 ghost use Rattle.typing_units.specs.inside.Parts.{reference_bytes};
 
 use ctypes::size_of;
-use typing_program::{ObjectType, ParameterType};
+use typed_ast::{ObjectType, ParameterType};
 
 /// The sum, or 2^32 - 1 where it is greater.
 pub(crate) fn sum(a: u32, b: u32) -> u32

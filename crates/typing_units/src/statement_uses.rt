@@ -2,14 +2,14 @@
 #![tactic(auto)]
 
 ghost use Rattle.std.specs.Prelude.{◌≡◌, ◌++◌, map};
-ghost use Rattle.typing_program.specs.View.{option_value, statement_of, statements_of};
+ghost use Rattle.typed_ast.specs.View.{option_value, statement_of, statements_of};
 ghost use Rattle.typing_scopes.specs.Scopes.{static_of};
-ghost use Rattle.typing_rules.specs.Uses as typed;
+ghost use Rattle.typing_spec.specs.Uses as typed;
 ghost use Rattle.typing_units.specs.inside.Undefined.{undefined_in};
 
 use crate::value_uses::{earlier, in_initialiser, in_option, in_value};
 use srcset::Pos;
-use typing_program::{Statement, Value};
+use typed_ast::{Statement, Value};
 use typing_scopes::StaticObject;
 
 #[cycle(uses_of_statements)]

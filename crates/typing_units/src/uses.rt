@@ -2,19 +2,19 @@
 #![tactic(auto)]
 
 ghost use Rattle.std.specs.Prelude.{◌≡◌, [], map, OnOk, IfErr};
-ghost use Rattle.typing_program.specs.View.{function_of};
+ghost use Rattle.typed_ast.specs.View.{function_of};
 ghost use Rattle.typing_scopes.specs.Scopes.{static_of, with_statics};
-ghost use Rattle.typing_rules.specs.Verdict.{fine};
-ghost use Rattle.typing_rules.specs.Scope as scope_typed;
-ghost use Rattle.typing_rules.specs.Uses as typed;
+ghost use Rattle.typing_spec.specs.Verdict.{fine};
+ghost use Rattle.typing_spec.specs.Scope as scope_typed;
+ghost use Rattle.typing_spec.specs.Uses as typed;
 ghost use Rattle.typing_expressions.specs.Refused.{IsOf};
 ghost use Rattle.typing_units.specs.inside.Undefined.{undefined_in};
 
 use crate::statement_uses::in_statement;
 use crate::value_uses::earlier;
 use srcset::{Code, Pos, Refusal};
+use typed_ast::Function;
 use typing_expressions::broken;
-use typing_program::Function;
 use typing_scopes::StaticObject;
 
 fn in_functions(statics: &[StaticObject], functions: &[Function]) -> Option<Pos>

@@ -2,14 +2,14 @@
 #![tactic(auto, using(crate::proofs::Firsts::found_first, crate::proofs::Firsts::found_later))]
 
 ghost use Rattle.std.specs.Prelude.{◌≡◌, ◌++◌, List, map, slice_get};
-ghost use Rattle.typing_program.specs.View.{storage_of, callee_of, place_of, value_of, argument_of, arguments_of, option_value, initialiser_of, initialisers_of};
+ghost use Rattle.typed_ast.specs.View.{storage_of, callee_of, place_of, value_of, argument_of, arguments_of, option_value, initialiser_of, initialisers_of};
 ghost use Rattle.typing_scopes.specs.Scopes.{static_of};
-ghost use Rattle.typing_rules.specs.Scope as scope_typed;
-ghost use Rattle.typing_rules.specs.Uses as typed;
+ghost use Rattle.typing_spec.specs.Scope as scope_typed;
+ghost use Rattle.typing_spec.specs.Uses as typed;
 ghost use Rattle.typing_units.specs.inside.Undefined.{undefined_in, uses_in_given};
 
 use srcset::Pos;
-use typing_program::{Argument, Callee, Initialiser, Place, Storage, Value};
+use typed_ast::{Argument, Callee, Initialiser, Place, Storage, Value};
 use typing_scopes::StaticObject;
 
 /// The first of two places, of what was found in two parts.

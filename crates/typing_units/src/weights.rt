@@ -4,16 +4,16 @@
 ghost use Rattle.std.specs.Prelude.{◌≡◌, ◌^◌, ℕ, min, map, nat_lt, OnOk, IfErr};
 ghost use Rattle.srcset.specs.declared.code.Code.TheVariants as code;
 ghost use Rattle.tree.specs.View.{function_of};
-ghost use Rattle.typing_program.specs.View.{object_type_of, parameter_type_of};
-ghost use Rattle.typing_rules.specs.Verdict.{fine, refuse_if};
-ghost use Rattle.typing_rules.specs.Units as typed;
+ghost use Rattle.typed_ast.specs.View.{object_type_of, parameter_type_of};
+ghost use Rattle.typing_spec.specs.Verdict.{fine, refuse_if};
+ghost use Rattle.typing_spec.specs.Units as typed;
 ghost use Rattle.typing_expressions.specs.Refused.{IsOf};
 
 use crate::sizes::{bytes_of_objects, bytes_of_references, narrowed, sum};
 use srcset::{Code, Pos, Refusal};
 use tree::Function;
+use typed_ast::{ObjectType, ParameterType};
 use typing_expressions::broken;
-use typing_program::{ObjectType, ParameterType};
 
 /// More bytes than any stack has.
 const PAST_ALL: u64 = 4_294_967_296;

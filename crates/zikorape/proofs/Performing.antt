@@ -1,7 +1,7 @@
 -- What was performed over a port and writers that were new.
 use Rattle.std.proofs.Common.{◌≡◌, ℕ, List, [], Some, subst}
-use Rattle.meaning_ports.specs.Port.{PortView}
-use Rattle.meaning_ports.specs.Memory.{MemoryView, port_of}
+use Rattle.io_ports.specs.Port.{PortView}
+use Rattle.io_ports.specs.Memory.{MemoryView, port_of}
 use Rattle.cc.specs.Reported.{Said}
 use Rattle.zikorape.specs.Answered.{fresh, said}
 

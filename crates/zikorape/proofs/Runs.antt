@@ -3,7 +3,7 @@ use Rattle.std.proofs.Common.{◌≡◌, ◌↔◌, ◌<◌, ◌≤◌, ◌+◌,
 use Rattle.std.proofs.lemmas.Bool.{cases_lt}
 use Rattle.rv32.specs.Step.{Machine}
 use Rattle.loader.specs.File.{Image}
-use Rattle.meaning_ports.specs.Memory.{MemoryView, port_of}
+use Rattle.io_ports.specs.Memory.{MemoryView, port_of}
 use Rattle.sim.specs.Runs.{World, Progress, Running, rvrun, start_of, start_world}
 use Rattle.sim.specs.Meets.{At}
 use Rattle.zikorape.specs.Stepped.{Passes}

@@ -2,10 +2,10 @@
 use Rattle.std.specs.Prelude.{◌≡◌, ◌≢◌, ◌⊎◌, ◌==◌, ℕ, List, [], ◌∷◌, ◌++◌, Some, codes, decimal, length, if◌then◌else◌}
 use Rattle.srcset.specs.Files.{Files}
 use Rattle.srcset.specs.declared.fault.Fault.{Fault}
-use Rattle.meaning_ports.specs.declared.port.PortFault.{PortFault}
-use Rattle.meaning_ports.specs.declared.port.PortFault.TheVariants as port_fault
-use Rattle.meaning_ports.specs.Port.{PortView}
-use Rattle.meaning_ports.specs.Memory.{MemoryView, port_of}
+use Rattle.io_ports.specs.declared.port.PortFault.{PortFault}
+use Rattle.io_ports.specs.declared.port.PortFault.TheVariants as port_fault
+use Rattle.io_ports.specs.Port.{PortView}
+use Rattle.io_ports.specs.Memory.{MemoryView, port_of}
 use Rattle.cc.specs.declared.compiling.Built.{Built}
 use Rattle.cc.specs.MemoryMap.{usual_stack}
 use Rattle.cc.specs.Compiled.{Compiles, frames_of}
@@ -18,7 +18,7 @@ use Rattle.zikorape.specs.declared.files.FileLengths.{FileLengths}
 
 -- ---- lines
 
--- the line of the fault, or that of 801, for want of memory for it
+-- the line of the fault, or that of 801, when memory for it ran out
 abbrev pub IsLineOf : Fault → List ℕ → Type 0
 IsLineOf fault line = (line ≡ fault_text fault) ⊎ (line ≡ memory_text)
 
@@ -26,7 +26,7 @@ IsLineOf fault line = (line ≡ fault_text fault) ⊎ (line ≡ memory_text)
 abbrev pub said : List ℕ → Said
 said text = record { before = Some []; after = Some text }
 
--- 1, for want of memory
+-- 1, when out of memory
 abbrev pub Wants : ℕ → List ℕ → List ℕ → Type 0
 Wants status output line = (status ≡ 1) × (output ≡ []) × (line ≡ memory_text)
 
@@ -79,7 +79,7 @@ frames_text built = entries_text (frames_of built)
 abbrev pub fresh : List ℕ → PortView
 fresh input = record { input = Some input; output = Some []; failures = 0 }
 
--- a port over memory refuses for want of memory alone
+-- a port over memory refuses only when out of memory
 abbrev pub for_memory : PortFault → Type 0
 for_memory fault = fault ≡ port_fault.Memory
 

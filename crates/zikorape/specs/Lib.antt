@@ -1,6 +1,6 @@
 pub use Rattle.srcset.specs.Files
 pub use Rattle.srcset.specs.Fault
-pub use Rattle.meaning_ports.specs.Port
+pub use Rattle.io_ports.specs.Port
 pub use Rattle.sim.specs.Runs
 pub use Rattle.cc.specs.Compiled
 pub use Rattle.cc.specs.Refused

@@ -9,7 +9,7 @@ use Rattle.loader.specs.File.{Image, file_image}
 use Rattle.loader.specs.Fault.{code_of}
 use Rattle.loader.specs.Loading.{FailsToLoad}
 use Rattle.loader.specs.declared.fault.LoadFault.{LoadFault}
-use Rattle.meaning_ports.specs.Memory.{MemoryView, port_of}
+use Rattle.io_ports.specs.Memory.{MemoryView, port_of}
 use Rattle.sim.specs.declared.machine.Outcome.{Outcome}
 use Rattle.sim.specs.declared.machine.Outcome.TheVariants as outcome
 use Rattle.sim.specs.Runs.{Progress, Running, Ended, Trapped, start_world, rvrun}
@@ -35,7 +35,7 @@ cause_number cause.StoreFault = 6
 cause_number cause.Break = 7
 cause_number cause.BadCall = 8
 
--- 0 where it goes on, 1 where it ended, 2 where it trapped, 3 for want of memory
+-- 0 where it goes on, 1 where it ended, 2 where it trapped, 3 when out of memory
 abbrev pub outcome_number : Outcome → ℕ
 outcome_number outcome.Budget = 0
 outcome_number (outcome.Ended status) = 1
@@ -90,7 +90,7 @@ pub record Stands (file input : List ℕ) (count : ℕ) (halt : Halt) (answer : 
   pub output_got : Got out after.output
   pub window_shows : Shows window machine.space
 
--- 4, and the number of why the file is not loaded; or 801, for want of memory for the input; all else stays, and nothing is shown
+-- 4, and the number of why the file is not loaded; or 801, when memory for the input ran out; all else stays, and nothing is shown
 pub record FailsToStand (file : List ℕ) (answer : ℕ) (before standing : Standing) (window : Window) (out : Buffer) : Type 0 where
   pub answer_is : answer ≡ 4
   pub detail_is : ((why : LoadFault) × FailsToLoad file why × (standing.detail ≡ number_of (code_of why))) ⊎ (standing.detail ≡ 801)

@@ -6,7 +6,7 @@ ghost use Rattle.zikorape.specs.Answered.{Writes, Puts, whole};
 
 use crate::giving::{OUT_OF_MEMORY, Sizes, hand_out};
 use cc::{Cmd, StackSize, perform};
-use meaning_ports::MemPort;
+use io_ports::MemPort;
 use srcset::FileSet;
 use std::alloc::Global;
 

@@ -8,7 +8,7 @@ ghost use Rattle.zikorape.specs.Answered.{IsLineOf};
 use srcset::Fault;
 use std::alloc::{AllocError, Global};
 
-/// The line for want of memory, which takes none.
+/// The line of 801, out of memory, which allocates nothing.
 pub const OUT_OF_MEMORY: &[u8] = b"cc: 801 out of memory\n";
 
 /// How many bytes the output and the message of a call have: a buffer of fewer was too small.

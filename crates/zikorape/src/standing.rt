@@ -10,8 +10,8 @@ ghost use Rattle.zikorape.specs.Stepped.{Window, Stands, FailsToStand, cause_num
 
 use crate::giving::give;
 use crate::stepping::{Halt, run_to, show};
+use io_ports::MemPort;
 use loader::{Loaded, load};
-use meaning_ports::MemPort;
 use rv32::state::{Cause, State};
 use sim::Outcome;
 use srcset::Code;

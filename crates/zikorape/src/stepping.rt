@@ -8,7 +8,7 @@ ghost use Rattle.sim.specs.Meets.{At, RunMeets};
 ghost use Rattle.zikorape.specs.Stepped.{Passes, shown_byte};
 
 use crate::ticking::tick;
-use meaning_ports::Port;
+use io_ports::Port;
 use rv32::memory::Memory;
 use rv32::state::State;
 use sim::Outcome;

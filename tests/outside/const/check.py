@@ -4,7 +4,7 @@ and value, or the line of its fault. The last line counts.
 
 A refused row has to be refused with its line. Of another the value, the size and the sign of its type are held by static
 assertions, which have to hold, and one of another value not. `int` and `long` are alike in all of this: the type's name is a row of
-crates/rows_calls.
+crates/test_calls.
 """
 import os
 import re

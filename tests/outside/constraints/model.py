@@ -1,8 +1,8 @@
-"""A second reading of the constraints, written from ISO/IEC 9899:2011 6.2 to 6.9 and the definitions of crates/typing_rules alone.
+"""A second reading of the constraints, written from ISO/IEC 9899:2011 6.2 to 6.9 and the definitions of crates/typing_spec alone.
 
     python3 tests/outside/constraints/model.py
 
-asks it for the sources of rows.txt and accepted.txt, and for those that stand above the rows that crates/typing_rules computes.
+asks it for the sources of rows.txt and accepted.txt, and for those that stand above the rows that crates/typing_spec computes.
 faults(SOURCE) gives the codes and lines that stand in a source, or none. It reads the profile's grammar; a source outside it is an
 error. Of the preprocessor it knows object-like macros and two headers alone.
 """
@@ -988,7 +988,7 @@ def faults(source, stack=USUAL_STACK):
     return []
 
 def computed(path):
-    """The sources above the computed rows of a file of crates/typing_rules/proofs, with the stack and the codes and lines of each."""
+    """The sources above the computed rows of a file of crates/typing_spec/proofs, with the stack and the codes and lines of each."""
     for block in path.read_text().split('\n\n'):
         lines = block.split('\n')
         above = [line[3:] for line in lines if line.startswith('-- ')]
@@ -1001,7 +1001,7 @@ def computed(path):
 def main():
     here = pathlib.Path(__file__).parent
     passed = failed = 0
-    for path in sorted((here / '../../../crates/typing_rules/proofs').glob('*Rows.antt')):
+    for path in sorted((here / '../../../crates/typing_spec/proofs').glob('*Rows.antt')):
         for source, stack, want in computed(path):
             if '{}' in source: continue # a tree that no list of tokens has
             got = [(code, 0 if code in (551, 713, 715) else line) for code, line in faults(source, stack)]

@@ -1,5 +1,5 @@
 #!/usr/bin/env python3
-"""check.py ROWS_FLAT [COUNT [SEED]]: the programs by hand and so many random ones, on the machine by rows_flat, and their files under qemu-riscv32.
+"""check.py ROWS_FLAT [COUNT [SEED]]: the programs by hand and so many random ones, on the machine by test_flat, and their files under qemu-riscv32.
 The last line counts both."""
 import os
 import sys

@@ -1,4 +1,4 @@
-"""Programs on the machine, by rows_flat or rows_tac, and their files under qemu-riscv32."""
+"""Programs on the machine, by test_flat or test_tac, and their files under qemu-riscv32."""
 import os
 import shutil
 import subprocess

@@ -1,5 +1,5 @@
 #!/usr/bin/env python3
-"""Writes the programs of crates/rows_flat and what it must print, from programs.txt and random.txt: `python3 rows.py [--check]`. With --check it
+"""Writes the programs of crates/test_flat and what it must print, from programs.txt and random.txt: `python3 rows.py [--check]`. With --check it
 compares them with what stands there, and the last line counts.
 
 A program's line `ends STATUS EVENTS` is what it comes to. Its costs, the most instructions of the machine that the table of
@@ -9,7 +9,7 @@ import os
 import sys
 
 HERE = os.path.dirname(os.path.abspath(__file__))
-CRATE = os.path.join(HERE, '..', '..', '..', 'crates/rows_flat')
+CRATE = os.path.join(HERE, '..', '..', '..', 'crates/test_flat')
 sys.path.insert(0, os.path.dirname(HERE))
 import asking
 
@@ -102,7 +102,7 @@ def ends(status, trace):
 
 
 def given(row):
-    """The lines of a program for rows_flat, with its costs and without what it comes to."""
+    """The lines of a program for test_flat, with its costs and without what it comes to."""
     run = Run(row.functions, row.statics, row.main, row.data)
     try:
         found = ends(run.run(MOST), joined(run.trace))
@@ -131,7 +131,7 @@ def main():
         counted = asking.Counted()
         for name, text in made().items():
             with open(os.path.join(CRATE, name), encoding='ascii') as file:
-                counted.expect(f'crates/rows_flat/{name} is what the rows make', file.read() == text, True)
+                counted.expect(f'crates/test_flat/{name} is what the rows make', file.read() == text, True)
         return counted.end()
     os.makedirs(os.path.join(CRATE, 'data'), exist_ok=True)
     for name, text in made().items():

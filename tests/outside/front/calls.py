@@ -1,5 +1,5 @@
 #!/usr/bin/env python3
-"""Writes the input of crates/rows_calls and what it must print, from the rows here and of tests/outside/const: `python3 calls.py [--check]`.
+"""Writes the input of crates/test_calls and what it must print, from the rows here and of tests/outside/const: `python3 calls.py [--check]`.
 With --check it compares them with what stands there, and the last line counts.
 
 What is wanted is what the rows say; of each text's tokens the kinds, places and white space are those of plain.py, whose
@@ -11,7 +11,7 @@ import sys
 
 HERE = os.path.dirname(os.path.abspath(__file__))
 ROOT = os.path.join(HERE, '..', '..', '..')
-CRATE = os.path.join(ROOT, 'crates/rows_calls')
+CRATE = os.path.join(ROOT, 'crates/test_calls')
 sys.path[:0] = [os.path.dirname(HERE), os.path.join(HERE, '..', 'const')]
 import asking
 import plain
@@ -19,7 +19,7 @@ import plain
 TYPES = {'_Bool': 'Bool', 'char': 'Char', 'signed char': 'SChar', 'unsigned char': 'UChar', 'short': 'Short', 'unsigned short': 'UShort', 'int': 'Int',
          'unsigned int': 'UInt', 'long': 'Long', 'unsigned long': 'ULong'}
 
-# the names of heads that differ from the common one, as crates/rows_calls has them
+# the names of heads that differ from the common one, as crates/test_calls has them
 OWN = {'char s[3];\n': {'s': 'z'}, 'enum { A = -1, B, C };\n': {'A': 'F', 'B': 'G', 'C': 'H'}, 'enum t { A };\n': {'A': 'G'}, 'enum t { A = -1 };\n': {'A': 'F'}}
 
 
@@ -151,7 +151,7 @@ def main():
         counted = asking.Counted()
         for name, text in files.items():
             with open(os.path.join(CRATE, name), 'rb') as file:
-                counted.expect(f'crates/rows_calls/{name} is what the rows make', file.read() == text, True)
+                counted.expect(f'crates/test_calls/{name} is what the rows make', file.read() == text, True)
         return counted.end()
     for name, text in files.items():
         with open(os.path.join(CRATE, name), 'wb') as file:

@@ -3,7 +3,7 @@
 signs of constants and of operations by what an interpreted program writes, or by static assertions. The last line counts.
 
 The first line of each file says what its rows are and where they come from; README.md says which part of a row is held here, and
-which by crates/rows_calls.
+which by crates/test_calls.
 """
 import os
 import sys
@@ -47,7 +47,7 @@ def undirected(text):
 
 
 def texts(program, row):
-    """The tokens of a text. One with a directive has them behind a name; a header name is none there, so such a text is left to rows_calls."""
+    """The tokens of a text. One with a directive has them behind a name; a header name is none there, so such a text is left to test_calls."""
     text, wanted = row[0], (row[1] if len(row) > 1 else b'').replace(b'\n', b'')
     if undirected(text):
         return [(tokens_of(program, text), wanted.rstrip(b' ') + b'\n')]
@@ -118,7 +118,7 @@ def limits(program, _):
 # ---- tokens of C
 
 def refused_line(program, row):
-    """A line with a faulty token; others, and a directive, are rows of rows_calls alone."""
+    """A line with a faulty token; others, and a directive, are rows of test_calls alone."""
     if not row[1].isdigit() or row[0].startswith(b'#'):
         return []
     return [(fault_of(program, row[0] + b'\n'), row[1].decode() + ' 1')]

@@ -1,5 +1,5 @@
 #!/usr/bin/env python3
-"""Writes the input of crates/rows_machine and what it must print, from the rows here: `python3 rows.py [--check]`. With --check it compares them
+"""Writes the input of crates/test_machine and what it must print, from the rows here: `python3 rows.py [--check]`. With --check it compares them
 with what stands there, and the last line counts. The first lines of each file say what its rows are and where what they want comes from."""
 import os
 import re
@@ -7,7 +7,7 @@ import struct
 import sys
 
 HERE = os.path.dirname(os.path.abspath(__file__))
-CRATE = os.path.join(HERE, '..', '..', '..', 'crates/rows_machine')
+CRATE = os.path.join(HERE, '..', '..', '..', 'crates/test_machine')
 sys.path.insert(0, os.path.dirname(HERE))
 import asking
 
@@ -233,7 +233,7 @@ def main():
         counted = asking.Counted()
         for name, text in files.items():
             with open(os.path.join(CRATE, name), encoding='ascii') as file:
-                counted.expect(f'crates/rows_machine/{name} is what the rows make', file.read() == text, True)
+                counted.expect(f'crates/test_machine/{name} is what the rows make', file.read() == text, True)
         return counted.end()
     for name, text in files.items():
         with open(os.path.join(CRATE, name), 'w', encoding='ascii') as file:

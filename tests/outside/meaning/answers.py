@@ -1,11 +1,11 @@
 #!/usr/bin/env python3
-"""Writes the programs of crates/rows_answers and what it must print, from programs.txt: `python3 answers.py [--check]`. With --check it compares
+"""Writes the programs of crates/test_answers and what it must print, from programs.txt: `python3 answers.py [--check]`. With --check it compares
 them with what stands there, and the last line counts."""
 import os
 import sys
 
 HERE = os.path.dirname(os.path.abspath(__file__))
-CRATE = os.path.join(HERE, '..', '..', '..', 'crates/rows_answers')
+CRATE = os.path.join(HERE, '..', '..', '..', 'crates/test_answers')
 sys.path.insert(0, os.path.dirname(HERE))
 import asking
 
@@ -47,7 +47,7 @@ def main():
         counted = asking.Counted()
         for name, text in files.items():
             with open(os.path.join(CRATE, name), encoding='ascii') as file:
-                counted.expect(f'crates/rows_answers/{name} is what the rows make', file.read() == text, True)
+                counted.expect(f'crates/test_answers/{name} is what the rows make', file.read() == text, True)
         return counted.end()
     for name, text in files.items():
         with open(os.path.join(CRATE, name), 'w', encoding='ascii') as file:

@@ -1,5 +1,5 @@
 #!/usr/bin/env python3
-"""Writes the input of crates/rows_stream and what it must print: `python3 stream.py [--check]`. With --check it compares them with what stands
+"""Writes the input of crates/test_stream and what it must print: `python3 stream.py [--check]`. With --check it compares them with what stands
 there, and the last line counts.
 
 The sources are those of this folder and of tests/outside/front that are one file, and those of BY_HAND. What is wanted is what their rows say:
@@ -13,7 +13,7 @@ import sys
 
 HERE = os.path.dirname(os.path.abspath(__file__))
 FRONT = os.path.join(HERE, '..', 'front')
-CRATE = os.path.join(HERE, '..', '..', '..', 'crates/rows_stream')
+CRATE = os.path.join(HERE, '..', '..', '..', 'crates/test_stream')
 sys.path[:0] = [os.path.dirname(HERE), FRONT]
 import asking
 import model
@@ -252,7 +252,7 @@ def main():
         counted = asking.Counted()
         for name, text in files.items():
             with open(os.path.join(CRATE, name), 'rb') as file:
-                counted.expect(f'crates/rows_stream/{name} is what the rows make', file.read() == text.encode('latin-1'), True)
+                counted.expect(f'crates/test_stream/{name} is what the rows make', file.read() == text.encode('latin-1'), True)
         return counted.end()
     for name, text in files.items():
         with open(os.path.join(CRATE, name), 'wb') as file:

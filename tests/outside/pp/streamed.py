@@ -4,7 +4,7 @@
     python3 tests/outside/pp/streamed.py ROWS_STREAM [COUNT [SEED]]
 
 COUNT sources (3,000) are made of those of this folder and of examples: lines are left out, doubled and swapped, tokens put in and moved between
-sources, bytes changed. ROWS_STREAM (crates/rows_stream, as the gate builds it) has to end with status 0, and to say of each that both were the
+sources, bytes changed. ROWS_STREAM (crates/test_stream, as the gate builds it) has to end with status 0, and to say of each that both were the
 same. The last line is 'N passed, M failed'."""
 import glob
 import os

@@ -1,5 +1,5 @@
 #!/usr/bin/env python3
-"""check.py ROWS_TAC [COUNT [SEED]]: the three-address programs by hand and so many random ones, on the machine by rows_tac, and their files under
+"""check.py ROWS_TAC [COUNT [SEED]]: the three-address programs by hand and so many random ones, on the machine by test_tac, and their files under
 qemu-riscv32; those by hand on the interpreter here as well. The last line counts all."""
 import os
 import re

@@ -1,5 +1,5 @@
 #!/usr/bin/env python3
-"""Writes the programs of crates/rows_tac and what it must print, from programs.txt and random.txt: `python3 rows.py [--check]`. With --check it
+"""Writes the programs of crates/test_tac and what it must print, from programs.txt and random.txt: `python3 rows.py [--check]`. With --check it
 compares them with what stands there, and the last line counts.
 
 A program's lines `costs N` and `ends STATUS LEFT EVENTS` are what it comes to, `frame N` the most bytes of its main's frame. What a
@@ -9,7 +9,7 @@ import os
 import sys
 
 HERE = os.path.dirname(os.path.abspath(__file__))
-CRATE = os.path.join(HERE, '..', '..', '..', 'crates/rows_tac')
+CRATE = os.path.join(HERE, '..', '..', '..', 'crates/test_tac')
 sys.path.insert(0, os.path.dirname(HERE))
 import asking
 
@@ -54,7 +54,7 @@ def of_file(path):
 
 
 def given(row):
-    """The lines of a program for rows_tac, without what it comes to."""
+    """The lines of a program for test_tac, without what it comes to."""
     return '\n'.join(row.lines) + '\n'
 
 
@@ -75,7 +75,7 @@ def main():
         counted = asking.Counted()
         for name, text in made().items():
             with open(os.path.join(CRATE, name), encoding='ascii') as file:
-                counted.expect(f'crates/rows_tac/{name} is what the rows make', file.read() == text, True)
+                counted.expect(f'crates/test_tac/{name} is what the rows make', file.read() == text, True)
         return counted.end()
     os.makedirs(os.path.join(CRATE, 'data'), exist_ok=True)
     for name, text in made().items():

@@ -1,30 +1,30 @@
 -- Where a run stands between two steps, and how it stops, over a port that tells its input.
 use Rattle.std.specs.Prelude.{◌≡◌, ◌≤◌, ◌<◌, ◌⊎◌, ℕ, ◌+◌, ◌*◌, List, [], ◌∷◌, ◌++◌, length, Bool, true, false, Option, Some, None, Result, Ok, Err, ⊤, slice_get}
 use Rattle.std.specs.Io.KnownBytes.{Appends}
-use Rattle.meaning_events.specs.Events.{written}
-use Rattle.typing_rules.specs.Program as typed
-use Rattle.typing_program.specs.View.{program_of}
-use Rattle.meaning.specs.History.{Entry, Entered, Left, trace_of}
-use Rattle.meaning.specs.Machine as machine
-use Rattle.meaning.specs.Machine.{Ending, State, Stops, Goes}
-use Rattle.meaning.specs.Store.{first_store}
-use Rattle.meaning.specs.Meaning.{last_of}
-use Rattle.cabs_store.specs.declared.stop.Stop.{Stop}
-use Rattle.cabs_store.specs.declared.stop.Stop.TheVariants as stop
-use Rattle.cabs_store.specs.declared.scene.Scene.{Scene}
-use Rattle.cabs_store.specs.declared.frames.Node.{Node}
-use Rattle.cabs_store.specs.declared.frames.Step.{Step}
-use Rattle.cabs_store.specs.declared.frames.Step.TheVariants as step
-use Rattle.cabs_store.specs.layer.Frames as on
-use Rattle.cabs_store.specs.layer.Presents.{present, resume, call_in}
-use Rattle.cabs_store.specs.layer.Views.{step_of, node_of}
-use Rattle.cabs_store.specs.layer.Agrees.{Outside, state_in, frames_of}
-use Rattle.cabs_transitions.specs.declared.tally.Tally.{Tally}
-use Rattle.cabs_transitions.specs.Tallied.{Tells}
-use Rattle.meaning_ports.specs.declared.port.PortFault.{PortFault}
-use Rattle.meaning_ports.specs.Port.{PortView}
-use Rattle.cabs_evaluator.specs.declared.clock.Why.{Why}
-use Rattle.cabs_evaluator.specs.declared.clock.Why.TheVariants as why
+use Rattle.csem_events.specs.Events.{written}
+use Rattle.typing_spec.specs.Program as typed
+use Rattle.typed_ast.specs.View.{program_of}
+use Rattle.csem.specs.History.{Entry, Entered, Left, trace_of}
+use Rattle.csem.specs.Machine as machine
+use Rattle.csem.specs.Machine.{Ending, State, Stops, Goes}
+use Rattle.csem.specs.Store.{first_store}
+use Rattle.csem.specs.Meaning.{last_of}
+use Rattle.interp_store.specs.declared.stop.Stop.{Stop}
+use Rattle.interp_store.specs.declared.stop.Stop.TheVariants as stop
+use Rattle.interp_store.specs.declared.scene.Scene.{Scene}
+use Rattle.interp_store.specs.declared.frames.Node.{Node}
+use Rattle.interp_store.specs.declared.frames.Step.{Step}
+use Rattle.interp_store.specs.declared.frames.Step.TheVariants as step
+use Rattle.interp_store.specs.layer.Frames as on
+use Rattle.interp_store.specs.layer.Presents.{present, resume, call_in}
+use Rattle.interp_store.specs.layer.Views.{step_of, node_of}
+use Rattle.interp_store.specs.layer.Agrees.{Outside, state_in, frames_of}
+use Rattle.interp_transitions.specs.declared.tally.Tally.{Tally}
+use Rattle.interp_transitions.specs.Tallied.{Tells}
+use Rattle.io_ports.specs.declared.port.PortFault.{PortFault}
+use Rattle.io_ports.specs.Port.{PortView}
+use Rattle.interp_eval.specs.declared.clock.Why.{Why}
+use Rattle.interp_eval.specs.declared.clock.Why.TheVariants as why
 use Rattle.cabs.specs.declared.outcome.Run.{Run}
 use Rattle.cabs.specs.declared.outcome.Run.TheVariants as run
 use Rattle.cabs.specs.declared.state.Interpreter.{Interpreter}

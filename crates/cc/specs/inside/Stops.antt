@@ -7,11 +7,11 @@ use Rattle.srcset.specs.Fault.{IsFaultOrMemory, IsMemoryFault}
 use Rattle.loader.specs.declared.fault.LoadFault.{LoadFault}
 use Rattle.loader.specs.declared.fault.LoadFault.TheVariants as load_fault
 use Rattle.loader.specs.Fault.{code_of}
-use Rattle.meaning_ports.specs.declared.port.PortFault.{PortFault}
-use Rattle.meaning_ports.specs.declared.port.PortFault.TheVariants as port_fault
+use Rattle.io_ports.specs.declared.port.PortFault.{PortFault}
+use Rattle.io_ports.specs.declared.port.PortFault.TheVariants as port_fault
 use Rattle.cc.specs.declared.stopping.Stop.{Stop}
 use Rattle.cc.specs.declared.stopping.Stop.TheVariants.{Memory, At, Told}
-use Rattle.typing_rules.specs.Program.{Program}
+use Rattle.typing_spec.specs.Program.{Program}
 use Rattle.srcset.specs.NameTable.{Texts}
 use Rattle.tree.specs.Tree.{ExternalTree}
 use Rattle.asm.specs.declared.item.Item.{Item}

@@ -1,13 +1,13 @@
 -- Flat code of the functions of a program, which are made one by one.
 use Rattle.std.specs.Prelude.{◌≡◌, ℕ, Bool, nat_eq, List, length, slice_get, Some}
-use Rattle.typing_rules.specs.Program as typed
+use Rattle.typing_spec.specs.Program as typed
 use Rattle.tac_code.specs.Code as tac
 use Rattle.tac.specs.layer.Functions.{IsFunctionWith}
 use Rattle.frames_code.specs.Code as flat
 use Rattle.frames.specs.Layout.{Starts}
 use Rattle.frames.specs.Translated.{flat_function}
-use Rattle.frames_simplified.specs.layer.Functions.{IsSimplerFunction}
-use Rattle.frames_registers.specs.Renumbered.{IsRenumberedFunction}
+use Rattle.frames_opt.specs.layer.Functions.{IsSimplerFunction}
+use Rattle.frames_regalloc.specs.Renumbered.{IsRenumberedFunction}
 
 -- h is flat code of f, which is main or is not, where literals and static objects begin at s
 pub record IsFlatFunctionOf (p : typed.Program) (s : Starts) (is_main : Bool) (f : typed.Function) (h : flat.Function) : Type 0 where

@@ -2,13 +2,13 @@
 use Rattle.std.specs.Prelude.{ℕ, Option, Some, None}
 use Rattle.srcset.specs.declared.refusal.Pos.{Pos}
 use Rattle.tree.specs.Tree.{Init, ItemTree, object, function}
-use Rattle.typing_rules.specs.Types.{ObjectType}
-use Rattle.typing_rules.specs.Verdict.{Verdict, then_check}
-use Rattle.typing_rules.specs.Scope.{Scope}
-use Rattle.typing_rules.specs.Specifiers.{BaseType}
-use Rattle.typing_rules.specs.Initialisers.{past_init}
-use Rattle.typing_rules.specs.Linkage.{StorageClass}
-use Rattle.typing_rules.specs.Declarations.{length_from, sized, begun, finished, function_at}
+use Rattle.typing_spec.specs.Types.{ObjectType}
+use Rattle.typing_spec.specs.Verdict.{Verdict, then_check}
+use Rattle.typing_spec.specs.Scope.{Scope}
+use Rattle.typing_spec.specs.Specifiers.{BaseType}
+use Rattle.typing_spec.specs.Initialisers.{past_init}
+use Rattle.typing_spec.specs.Linkage.{StorageClass}
+use Rattle.typing_spec.specs.Declarations.{length_from, sized, begun, finished, function_at}
 
 -- the scope behind an initialiser, if there is one
 abbrev pub past_given : Scope → Option Init → Scope

@@ -3,9 +3,9 @@ use Rattle.std.specs.Prelude.{ℕ, zero, suc, ◌+◌, Bool, true, false, length
 use Rattle.srcset.specs.declared.refusal.Pos.{Pos}
 use Rattle.srcset.specs.declared.code.Code.TheVariants as code
 use Rattle.tree.specs.Tree.{Tree, string, Init, init_hole, one_init, braced_init, Inits, no_inits, and_init}
-use Rattle.typing_rules.specs.Verdict.{Verdict, fine, breaks}
-use Rattle.typing_rules.specs.Scope.{Scope, literal_of}
-use Rattle.typing_rules.specs.Initialisers.{count_of}
+use Rattle.typing_spec.specs.Verdict.{Verdict, fine, breaks}
+use Rattle.typing_spec.specs.Scope.{Scope, literal_of}
+use Rattle.typing_spec.specs.Initialisers.{count_of}
 
 -- the string literal that an expression is, an initialiser, the one in braces
 abbrev pub as_literal : Tree → Option ℕ

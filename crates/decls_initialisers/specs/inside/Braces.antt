@@ -3,11 +3,11 @@ use Rattle.std.specs.Prelude.{ℕ, Bool, true, false, List, Option, Some, None}
 use Rattle.srcset.specs.declared.refusal.Pos.{Pos}
 use Rattle.ctypes.specs.declared.types.IntType.{IntType}
 use Rattle.tree.specs.Tree.{Tree, string, Inits}
-use Rattle.typing_rules.specs.Verdict.{Verdict, fine, then_check}
-use Rattle.typing_rules.specs.Program as program
-use Rattle.typing_rules.specs.Program.{Initialiser, Initialisers}
-use Rattle.typing_rules.specs.Scope.{Scope}
-use Rattle.typing_rules.specs.Initialisers as typed
+use Rattle.typing_spec.specs.Verdict.{Verdict, fine, then_check}
+use Rattle.typing_spec.specs.Program as program
+use Rattle.typing_spec.specs.Program.{Initialiser, Initialisers}
+use Rattle.typing_spec.specs.Scope.{Scope}
+use Rattle.typing_spec.specs.Initialisers as typed
 use Rattle.typing_expressions.specs.Numbered.{numbered}
 
 -- a string literal, not in parentheses

@@ -2,11 +2,11 @@
 use Rattle.std.specs.Prelude.{ℕ, ◌-◌, ℤ, List, [], ◌∷◌, length, take, slice_get}
 use Rattle.ctypes.specs.declared.types.IntType.{IntType}
 use Rattle.ctypes.specs.Types.{converted}
-use Rattle.typing_rules.specs.Verdict.{Verdict, fine, then_check}
-use Rattle.typing_rules.specs.Program.{Value, Initialiser, Initialisers}
-use Rattle.typing_rules.specs.Scope.{Scope, file_scope, or_empty}
-use Rattle.typing_rules.specs.Constants.{folded}
-use Rattle.typing_rules.specs.Initialisers as typed
+use Rattle.typing_spec.specs.Verdict.{Verdict, fine, then_check}
+use Rattle.typing_spec.specs.Program.{Value, Initialiser, Initialisers}
+use Rattle.typing_spec.specs.Scope.{Scope, file_scope, or_empty}
+use Rattle.typing_spec.specs.Constants.{folded}
+use Rattle.typing_spec.specs.Initialisers as typed
 use Rattle.typing_expressions.specs.Forms.{seen}
 
 -- a scope that has these alone

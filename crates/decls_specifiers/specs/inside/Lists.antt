@@ -2,10 +2,10 @@
 use Rattle.std.specs.Prelude.{ℕ, false, true, ℤ, pos, List, [], ◌∷◌, Option}
 use Rattle.srcset.specs.declared.refusal.Pos.{Pos}
 use Rattle.tree.specs.Tree.{EnumeratorTree, SpecifierTree, extern_specifier, static_specifier, plain_specifier, enumerators_specifier}
-use Rattle.typing_rules.specs.Verdict.{Verdict, fine, then_check, provided}
-use Rattle.typing_rules.specs.Scope.{Scope, BuiltIn, an_enumerator, no_linkage, mentioned, defined, with_name, with_tag}
-use Rattle.typing_rules.specs.Linkage.{StorageClass, no_class, by_extern, by_static, agreed, as_built_in}
-use Rattle.typing_rules.specs.Declarations as typed
+use Rattle.typing_spec.specs.Verdict.{Verdict, fine, then_check, provided}
+use Rattle.typing_spec.specs.Scope.{Scope, BuiltIn, an_enumerator, no_linkage, mentioned, defined, with_name, with_tag}
+use Rattle.typing_spec.specs.Linkage.{StorageClass, no_class, by_extern, by_static, agreed, as_built_in}
+use Rattle.typing_spec.specs.Declarations as typed
 
 -- the storage-class specifiers before others
 abbrev pub class_before : StorageClass → List StorageClass

@@ -1,6 +1,6 @@
 -- A function, and data, that are flattened by themselves.
 use Rattle.std.specs.Prelude.{ℕ, List, []}
-use Rattle.typing_rules.specs.Program.{Static}
+use Rattle.typing_spec.specs.Program.{Static}
 use Rattle.tac_code.specs.Code.{Program}
 use Rattle.frames.specs.declared.starts.Starts as held
 use Rattle.frames.specs.Layout.{Starts}

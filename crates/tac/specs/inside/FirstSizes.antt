@@ -1,15 +1,15 @@
 -- How many instructions the code of an initialiser has.
 use Rattle.std.specs.Prelude.{ℕ, zero, suc, ◌*◌, ◌-◌, min, nat_lt, Bool, true, false, ◌||◌, List, [], ◌∷◌, length, Option, Some, None, slice_get}
 use Rattle.ctypes.specs.declared.types.IntType.{IntType}
-use Rattle.typing_rules.specs.Types.{ObjectType, elements_in}
-use Rattle.typing_rules.specs.Program as typed
-use Rattle.typing_rules.specs.Program.{Value, Initialiser, Initialisers}
-use Rattle.meaning.specs.Statements.{first_length, inner_lengths, text_or_none}
-use Rattle.tac_lowering.specs.Values.{keeps}
-use Rattle.tac_forms.specs.declared.modes.Shape.TheVariants as shape
-use Rattle.tac_forms.specs.layer.Parts.{plus}
-use Rattle.tac_forms.specs.layer.FormSizes.{converts_size, puts_size, cuts_for}
-use Rattle.tac_values.specs.layer.Sizes.{value_size, rest_shape}
+use Rattle.typing_spec.specs.Types.{ObjectType, elements_in}
+use Rattle.typing_spec.specs.Program as typed
+use Rattle.typing_spec.specs.Program.{Value, Initialiser, Initialisers}
+use Rattle.csem.specs.Statements.{first_length, inner_lengths, text_or_none}
+use Rattle.lower_correct.specs.Values.{keeps}
+use Rattle.lower_ops.specs.declared.modes.Shape.TheVariants as shape
+use Rattle.lower_ops.specs.layer.Parts.{plus}
+use Rattle.lower_ops.specs.layer.FormSizes.{converts_size, puts_size, cuts_for}
+use Rattle.lower_exprs.specs.layer.Sizes.{value_size, rest_shape}
 
 -- of an object that is no array
 abbrev pub word_size : Initialiser → ℕ

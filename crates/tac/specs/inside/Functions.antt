@@ -1,6 +1,6 @@
 -- Functions as they are written, before the program that they are part of is there: so many of them.
 use Rattle.std.specs.Prelude.{◌≡◌, ℕ, Bool, true, false, List, length, Some, slice_get, nat_eq}
-use Rattle.typing_rules.specs.Program as typed
+use Rattle.typing_spec.specs.Program as typed
 use Rattle.tac_code.specs.Code.{Function}
 use Rattle.tac.specs.layer.Functions.{IsFunctionWith}
 

@@ -1,9 +1,9 @@
 -- Where the labels of a switch stand.
 use Rattle.std.specs.Prelude.{ℕ, ℤ, List, [], ◌∷◌, ◌++◌, Option, Some, None}
-use Rattle.typing_rules.specs.Program as typed
-use Rattle.typing_rules.specs.Program.{Statements}
-use Rattle.tac_lowering.specs.Bodies.{label_places}
-use Rattle.tac_forms.specs.layer.Parts.{plus}
+use Rattle.typing_spec.specs.Program as typed
+use Rattle.typing_spec.specs.Program.{Statements}
+use Rattle.lower_correct.specs.Bodies.{label_places}
+use Rattle.lower_ops.specs.layer.Parts.{plus}
 use Rattle.tac.specs.inside.Sizes.{statement_size}
 
 -- the label that a statement is, if it is one

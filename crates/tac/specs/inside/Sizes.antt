@@ -1,14 +1,14 @@
 -- How many instructions the code of statements has.
 use Rattle.std.specs.Prelude.{ℕ, false, ℤ, List, [], ◌∷◌, Option, Some, None, slice_get}
-use Rattle.typing_rules.specs.Program as typed
-use Rattle.typing_rules.specs.Program.{Value, Statement, Statements}
-use Rattle.meaning.specs.Statements.{labels_of}
-use Rattle.tac_lowering.specs.Values.{keeps}
-use Rattle.tac_lowering.specs.Bodies.{is_within}
-use Rattle.tac_forms.specs.declared.modes.Shape.TheVariants as shape
-use Rattle.tac_forms.specs.layer.Parts.{plus}
-use Rattle.tac_forms.specs.layer.FormSizes.{converts_size}
-use Rattle.tac_values.specs.layer.Sizes.{value_size, wait_shape, rest_shape}
+use Rattle.typing_spec.specs.Program as typed
+use Rattle.typing_spec.specs.Program.{Value, Statement, Statements}
+use Rattle.csem.specs.Statements.{labels_of}
+use Rattle.lower_correct.specs.Values.{keeps}
+use Rattle.lower_correct.specs.Bodies.{is_within}
+use Rattle.lower_ops.specs.declared.modes.Shape.TheVariants as shape
+use Rattle.lower_ops.specs.layer.Parts.{plus}
+use Rattle.lower_ops.specs.layer.FormSizes.{converts_size}
+use Rattle.lower_exprs.specs.layer.Sizes.{value_size, wait_shape, rest_shape}
 use Rattle.tac.specs.inside.FirstSizes.{initialises_size}
 
 abbrev pub effects_size : Option Value → ℕ

@@ -5,9 +5,9 @@ use Rattle.tac_code.specs.declared.code.Place.{Place as Spot}
 use Rattle.tac_code.specs.declared.code.Place.TheVariants as place
 use Rattle.tac_code.specs.declared.code.Instruction.{Instruction}
 use Rattle.tac_code.specs.declared.code.Instruction.TheVariants as instruction
-use Rattle.tac_lowering.specs.Code.{One, zero_word}
-use Rattle.tac_lowering.specs.Initialisers.{Clears}
-use Rattle.tac_forms.specs.layer.Parts.{Wrote}
+use Rattle.lower_correct.specs.Code.{One, zero_word}
+use Rattle.lower_correct.specs.Initialisers.{Clears}
+use Rattle.lower_ops.specs.layer.Parts.{Wrote}
 use Rattle.tac.specs.declared.elements.Start.{Start}
 use Rattle.tac.specs.inside.FirstSizes.{begins_size, clears_size}
 

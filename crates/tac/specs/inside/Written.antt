@@ -1,15 +1,15 @@
 -- What it is to write the code of a statement.
 use Rattle.std.specs.Prelude.{ℕ, List, Option}
-use Rattle.typing_rules.specs.Types.{ObjectType}
-use Rattle.typing_rules.specs.Program as typed
-use Rattle.typing_rules.specs.Program.{Initialiser, Initialisers, Statement, Statements}
+use Rattle.typing_spec.specs.Types.{ObjectType}
+use Rattle.typing_spec.specs.Program as typed
+use Rattle.typing_spec.specs.Program.{Initialiser, Initialisers, Statement, Statements}
 use Rattle.tac_code.specs.declared.code.Operand.{Operand}
 use Rattle.tac_code.specs.declared.code.Instruction.{Instruction}
-use Rattle.meaning.specs.Statements.{labels_of}
-use Rattle.tac_lowering.specs.Places.{size_of_place}
-use Rattle.tac_lowering.specs.Initialisers.{Fills, FillAll}
-use Rattle.tac_lowering.specs.Bodies.{Stands, StandAll, StandAt, Tests, Initialises}
-use Rattle.tac_forms.specs.layer.Parts.{Wrote}
+use Rattle.csem.specs.Statements.{labels_of}
+use Rattle.lower_correct.specs.Places.{size_of_place}
+use Rattle.lower_correct.specs.Initialisers.{Fills, FillAll}
+use Rattle.lower_correct.specs.Bodies.{Stands, StandAll, StandAt, Tests, Initialises}
+use Rattle.lower_ops.specs.layer.Parts.{Wrote}
 use Rattle.tac.specs.inside.Places.{places_of}
 use Rattle.tac.specs.declared.elements.Start.{Start}
 use Rattle.tac.specs.inside.FirstSizes.{fills_size, fill_all_size, initialises_size}

@@ -1,12 +1,12 @@
 -- Functions as they are written, before the program that they are part of is there.
 use Rattle.std.specs.Prelude.{◌≡◌, ℕ, suc, Bool, true, false, max, List, length, map, Option, Some, None, slice_get, nat_eq}
-use Rattle.typing_rules.specs.Program as typed
+use Rattle.typing_spec.specs.Program as typed
 use Rattle.tac_code.specs.declared.code.Instruction.{Instruction}
 use Rattle.tac_code.specs.declared.code.Instruction.TheVariants as instruction
 use Rattle.tac_code.specs.Code.{Function, Program, function_at}
 use Rattle.tac_code.specs.Lowered.{kind_of}
-use Rattle.tac_lowering.specs.Code.{One}
-use Rattle.tac_lowering.specs.Bodies.{Stands, Idles, Closes, temporary_in, temporary_to, temporary_at, most, slots_of, IsFunctionFor, IsCodeFor}
+use Rattle.lower_correct.specs.Code.{One}
+use Rattle.lower_correct.specs.Bodies.{Stands, Idles, Closes, temporary_in, temporary_to, temporary_at, most, slots_of, IsFunctionFor, IsCodeFor}
 
 -- how many parameters the function of a number has
 abbrev pub parameters_if : Option typed.Function → ℕ

@@ -1,17 +1,17 @@
 -- Bodies of functions, whose parameters are in scope again.
 use Rattle.std.specs.Prelude.{ℕ, ◌+◌, List, [], ◌∷◌, ◌++◌, Option, None, map}
-use Rattle.typing_program.specs.declared.units.Function as held
-use Rattle.typing_program.specs.View as view
+use Rattle.typed_ast.specs.declared.units.Function as held
+use Rattle.typed_ast.specs.View as view
 use Rattle.typing_units.specs.declared.first_values.Initial.{Initial}
 use Rattle.typing_units.specs.Views.{initial_of}
 use Rattle.tree.specs.Tree.{FunctionTree}
-use Rattle.typing_rules.specs.Types.{ObjectType, ParameterType, FunctionType}
-use Rattle.typing_rules.specs.Verdict.{Verdict, then_check}
-use Rattle.typing_rules.specs.Scope.{Scope}
-use Rattle.typing_rules.specs.Statements.{pieces}
-use Rattle.typing_rules.specs.Declarations.{Specified}
-use Rattle.typing_rules.specs.Declarators.{Parameters, function_type}
-use Rattle.typing_rules.specs.Units.{Built, around_of, with_function, with_type}
+use Rattle.typing_spec.specs.Types.{ObjectType, ParameterType, FunctionType}
+use Rattle.typing_spec.specs.Verdict.{Verdict, then_check}
+use Rattle.typing_spec.specs.Scope.{Scope}
+use Rattle.typing_spec.specs.Statements.{pieces}
+use Rattle.typing_spec.specs.Declarations.{Specified}
+use Rattle.typing_spec.specs.Declarators.{Parameters, function_type}
+use Rattle.typing_spec.specs.Units.{Built, around_of, with_function, with_type}
 use Rattle.typing.specs.inside.Names.{bound}
 
 -- the scope of a body, where parameters of these names and types and with these objects are in scope again

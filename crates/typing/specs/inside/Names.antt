@@ -1,12 +1,12 @@
 -- The names of parameters, by the types of the parameters and by those objects of the function that are parameters.
 use Rattle.std.specs.Prelude.{◌≡◌, ℕ, ◌+◌, List, [], ◌∷◌, Option, Some, None, map, drop}
 use Rattle.tree.specs.Tree.{ParameterTree}
-use Rattle.typing_program.specs.declared.types.ObjectType as held
-use Rattle.typing_program.specs.View.{object_type_of}
-use Rattle.typing_rules.specs.Types.{ObjectType, ParameterType, number, elements, complete}
-use Rattle.typing_rules.specs.Program as typed
-use Rattle.typing_rules.specs.Scope.{Scope, Binding, an_object, an_array_parameter, no_linkage, defined}
-use Rattle.typing_rules.specs.Declarators.{ParameterObject, a_number, a_reference}
+use Rattle.typed_ast.specs.declared.types.ObjectType as held
+use Rattle.typed_ast.specs.View.{object_type_of}
+use Rattle.typing_spec.specs.Types.{ObjectType, ParameterType, number, elements, complete}
+use Rattle.typing_spec.specs.Program as typed
+use Rattle.typing_spec.specs.Scope.{Scope, Binding, an_object, an_array_parameter, no_linkage, defined}
+use Rattle.typing_spec.specs.Declarators.{ParameterObject, a_number, a_reference}
 
 -- a name, if there is one, stands for a parameter, before so many references and numbers
 abbrev pub named : ℕ → ℕ → ℕ → Option ℕ → ParameterObject → List Binding → List Binding

@@ -2,17 +2,17 @@
 use Rattle.std.specs.Prelude.{◌≡◌, ℕ, List, [], ◌∷◌, ◌++◌, ℤ, Option, Some, None}
 use Rattle.srcset.specs.declared.refusal.Pos.{Pos}
 use Rattle.tree.specs.Tree.{Init, ItemTree, object, function}
-use Rattle.typing_program.specs.declared.statements.Statement.{Statement}
-use Rattle.typing_program.specs.View.{initialiser_of}
+use Rattle.typed_ast.specs.declared.statements.Statement.{Statement}
+use Rattle.typed_ast.specs.View.{initialiser_of}
 use Rattle.typing_units.specs.declared.first_values.Initial.{Initial}
-use Rattle.typing_rules.specs.Types.{DeclaredType}
-use Rattle.typing_rules.specs.Verdict.{Verdict, fine, then_check, both}
-use Rattle.typing_rules.specs.Program as program
-use Rattle.typing_rules.specs.Scope.{Scope}
-use Rattle.typing_rules.specs.Specifiers.{BaseType}
-use Rattle.typing_rules.specs.Initialisers.{past_init, values}
-use Rattle.typing_rules.specs.Linkage.{StorageClass, no_class}
-use Rattle.typing_rules.specs.Declarations as typed
+use Rattle.typing_spec.specs.Types.{DeclaredType}
+use Rattle.typing_spec.specs.Verdict.{Verdict, fine, then_check, both}
+use Rattle.typing_spec.specs.Program as program
+use Rattle.typing_spec.specs.Scope.{Scope}
+use Rattle.typing_spec.specs.Specifiers.{BaseType}
+use Rattle.typing_spec.specs.Initialisers.{past_init, values}
+use Rattle.typing_spec.specs.Linkage.{StorageClass, no_class}
+use Rattle.typing_spec.specs.Declarations as typed
 use Rattle.typing_declarations.specs.declared.object_effects.ObjectEffect.{ObjectEffect}
 use Rattle.typing_declarations.specs.declared.object_effects.ObjectEffect.TheVariants as effect
 use Rattle.typing_declarations.specs.Views.{effects_of, declared_of}

@@ -5,9 +5,9 @@ use Rattle.tree.specs.declared.declaration.Item.TheVariants as item
 use Rattle.tree.specs.declared.declaration.Specifier.{Specifier}
 use Rattle.tree.specs.declared.declaration.Specifier.TheVariants.{Extern, Static, Plain, Enumerators}
 use Rattle.tree.specs.Tree.{SpecifierTree, ItemTree}
-use Rattle.typing_rules.specs.Declarations.{classes_of, lists_in}
-use Rattle.typing_rules.specs.Statements as typed
-use Rattle.typing_rules.specs.Statements.{has_class}
+use Rattle.typing_spec.specs.Declarations.{classes_of, lists_in}
+use Rattle.typing_spec.specs.Statements as typed
+use Rattle.typing_spec.specs.Statements.{has_class}
 
 abbrev pub declares_function : Item → Bool
 declares_function (item.Object o) = false

@@ -1,14 +1,14 @@
 -- The items of a block, those that have been looked at put before the others.
 use Rattle.std.specs.Prelude.{◌≡◌, ℕ, ℤ, List, map, ◌++◌, Option, Some, None}
-use Rattle.typing_program.specs.declared.statements.Statement.{Statement}
-use Rattle.typing_program.specs.declared.statements.Statement.TheVariants.{Case, Default}
-use Rattle.typing_program.specs.View.{statement_of}
+use Rattle.typed_ast.specs.declared.statements.Statement.{Statement}
+use Rattle.typed_ast.specs.declared.statements.Statement.TheVariants.{Case, Default}
+use Rattle.typed_ast.specs.View.{statement_of}
 use Rattle.tree.specs.Tree.{StmtTree, Pieces, stmt_hole, block_stmt, empty_stmt, expression_stmt, if_stmt, if_else_stmt, switch_stmt, case_stmt, default_stmt, while_stmt, do_while_stmt, for_stmt, break_stmt, continue_stmt, return_stmt}
 use Rattle.ctypes.specs.Types.{promoted}
-use Rattle.typing_rules.specs.Verdict.{Verdict, fine, then_check}
-use Rattle.typing_rules.specs.Scope.{Scope, inside, outside}
-use Rattle.typing_rules.specs.Expressions.{Worth}
-use Rattle.typing_rules.specs.Statements as typed
+use Rattle.typing_spec.specs.Verdict.{Verdict, fine, then_check}
+use Rattle.typing_spec.specs.Scope.{Scope, inside, outside}
+use Rattle.typing_spec.specs.Expressions.{Worth}
+use Rattle.typing_spec.specs.Statements as typed
 use Rattle.typing_scopes.specs.Scopes.{with_texts}
 use Rattle.typing_statements.specs.declared.labels.Label.{Label}
 use Rattle.typing_units.specs.declared.first_values.Initial.{Initial}

@@ -1,8 +1,8 @@
 -- The parts of the definitions' sums.
 use Rattle.std.specs.Prelude.{ℕ, Bool, true, false, ◌++◌, ◌∷◌, [], length, if◌then◌else◌}
-use Rattle.typing_rules.specs.Types.{ParameterType, number, elements, size_of_object, size_of_parameter}
-use Rattle.typing_rules.specs.Scope.{Scope, StaticObject, literal_of}
-use Rattle.typing_rules.specs.Units.{in_words}
+use Rattle.typing_spec.specs.Types.{ParameterType, number, elements, size_of_object, size_of_parameter}
+use Rattle.typing_spec.specs.Scope.{Scope, StaticObject, literal_of}
+use Rattle.typing_spec.specs.Units.{in_words}
 
 -- the bytes of a parameter that is a reference
 abbrev pub reference_bytes : ParameterType → ℕ

@@ -1,9 +1,9 @@
 -- The first use, in the order of the source, of what has no definition.
 use Rattle.std.specs.Prelude.{Bool, true, false, List, [], ◌∷◌, Option, Some, None, slice_get}
 use Rattle.srcset.specs.declared.refusal.Pos.{Pos}
-use Rattle.typing_program.specs.View.{Given, number_given, array_given}
-use Rattle.typing_rules.specs.Scope.{StaticObject}
-use Rattle.typing_rules.specs.Uses.{Used, an_object, a_function, Use, is_undefined_object, uses, uses_in_place}
+use Rattle.typed_ast.specs.View.{Given, number_given, array_given}
+use Rattle.typing_spec.specs.Scope.{StaticObject}
+use Rattle.typing_spec.specs.Uses.{Used, an_object, a_function, Use, is_undefined_object, uses, uses_in_place}
 
 abbrev pub has_no_definition : List StaticObject → Used → Bool
 has_no_definition os (an_object n) = is_undefined_object (slice_get os n)

@@ -1,10 +1,10 @@
 use Rattle.std.proofs.Common.{◌≡◌, ◌<◌, ◌∙◌, ap, sym, refl, subst, map, []}
-use Rattle.typing_program.specs.View.{program_of, callee_of}
-use Rattle.typing_rules.specs.Program as typed
-use Rattle.cabs_store.specs.declared.machine.Machine.{Machine}
-use Rattle.cabs_store.specs.layer.Frames as on
-use Rattle.cabs_store.specs.layer.Views.{passed_of, step_of}
-use Rattle.cabs_store.specs.layer.Agrees.{frames_of}
+use Rattle.typed_ast.specs.View.{program_of, callee_of}
+use Rattle.typing_spec.specs.Program as typed
+use Rattle.interp_store.specs.declared.machine.Machine.{Machine}
+use Rattle.interp_store.specs.layer.Frames as on
+use Rattle.interp_store.specs.layer.Views.{passed_of, step_of}
+use Rattle.interp_store.specs.layer.Agrees.{frames_of}
 use Rattle.cabs.specs.inside.Standing.{distance}
 use Rattle.cabs.proofs.Following.{outside, call_nears}
 use Rattle.cabs.proofs.Acts.{called_as, tells_at, still_stands, call_stands, call_stopping}

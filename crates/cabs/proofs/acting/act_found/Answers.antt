@@ -1,9 +1,9 @@
 use Rattle.std.proofs.Common.{◌≡◌, ◌<◌, List, [], ◌∷◌, ◌++◌, ap, sym, subst, ◌∙◌}
-use Rattle.typing_program.specs.View.{program_of}
-use Rattle.cabs_store.specs.declared.machine.Machine.{Machine}
-use Rattle.cabs_store.specs.layer.Frames as on
-use Rattle.cabs_store.specs.layer.Views.{found_of, frame_of, step_of}
-use Rattle.cabs_store.specs.layer.Agrees.{frames_of}
+use Rattle.typed_ast.specs.View.{program_of}
+use Rattle.interp_store.specs.declared.machine.Machine.{Machine}
+use Rattle.interp_store.specs.layer.Frames as on
+use Rattle.interp_store.specs.layer.Views.{found_of, frame_of, step_of}
+use Rattle.interp_store.specs.layer.Agrees.{frames_of}
 use Rattle.cabs.specs.inside.Standing.{distance}
 use Rattle.cabs.proofs.Following.{outside, frame_nears}
 use Rattle.cabs.proofs.Acts.{nothing_waits, frame_stands, frame_stopping}

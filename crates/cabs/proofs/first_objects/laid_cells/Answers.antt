@@ -1,6 +1,6 @@
 use Rattle.std.proofs.Common.{◌≡◌, ◌+◌, ◌∙◌, ℤ, List, ap, length, rules, to_z, of_z, w64}
 use Rattle.std.proofs.lemmas.Int.{to_z-of_z}
-use Rattle.cabs_store.specs.Cells.{value_in, cell}
+use Rattle.interp_store.specs.Cells.{value_in, cell}
 use Rattle.cabs.proofs.Laid.{one_laid, size_behind}
 use Rattle.cabs.proofs.first_objects.laid_cells.Goals as goal
 

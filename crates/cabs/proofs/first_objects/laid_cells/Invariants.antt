@@ -1,6 +1,6 @@
 use Rattle.std.proofs.Common.{◌≡◌, ◌<◌, ℕ, length, drop, Some}
-use Rattle.meaning.specs.Store as machine
-use Rattle.cabs_store.specs.Cells.{cell}
+use Rattle.csem.specs.Store as machine
+use Rattle.interp_store.specs.Cells.{cell}
 use Rattle.cabs.proofs.first_objects.laid_cells.Given as goal
 
 abbrev pub invariant-loop-k : goal.invariant-loop-k

@@ -1,6 +1,6 @@
 use Rattle.std.proofs.Common.{◌≡◌, ◌++◌, length, map, ℕ, Vec, Global}
-use Rattle.meaning.specs.Store as machine
-use Rattle.cabs_store.specs.View.{store_of}
+use Rattle.csem.specs.Store as machine
+use Rattle.interp_store.specs.View.{store_of}
 use Rattle.cabs.proofs.first_objects.push_literals.Given as goal
 
 abbrev pub decreases-loop-text : goal.decreases-loop-text

@@ -1,7 +1,7 @@
 use Rattle.std.proofs.Common.{◌≡◌, ◌++◌, length, map}
-use Rattle.typing_program.specs.View.{static_of}
-use Rattle.meaning.specs.Store as machine
-use Rattle.cabs_store.specs.View.{store_of}
+use Rattle.typed_ast.specs.View.{static_of}
+use Rattle.csem.specs.Store as machine
+use Rattle.interp_store.specs.View.{store_of}
 use Rattle.cabs.proofs.first_objects.push_statics.Given as goal
 
 abbrev pub decreases-loop-of : goal.decreases-loop-of

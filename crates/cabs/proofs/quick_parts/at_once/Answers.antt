@@ -1,5 +1,5 @@
 use Rattle.std.proofs.Common.{◌<◌, ◌≤◌, Some, None, refl, sym, subst}
-use Rattle.cabs_store.specs.layer.Views.{node_of}
+use Rattle.interp_store.specs.layer.Views.{node_of}
 use Rattle.cabs.specs.declared.outcome.Run.{Run}
 use Rattle.cabs.specs.inside.Standing.{RunStops}
 use Rattle.cabs.proofs.AtOnce.{came_as, once_goes, once_given_up, once_stops, on_true}

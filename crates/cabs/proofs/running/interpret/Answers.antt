@@ -1,4 +1,4 @@
-use Rattle.typing_program.specs.View.{program_of}
+use Rattle.typed_ast.specs.View.{program_of}
 use Rattle.cabs.proofs.Ticking.{given_up_first, fresh_new, meets_new}
 use Rattle.cabs.proofs.running.interpret.Goals as goal
 

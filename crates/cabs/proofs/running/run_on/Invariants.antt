@@ -1,6 +1,6 @@
 use Rattle.std.proofs.Common.{◌≡◌, ◌≤◌, ◌-◌, ℕ, List, Option}
-use Rattle.typing_rules.specs.Program as typed
-use Rattle.cabs_store.specs.layer.Views.{step_of}
+use Rattle.typing_spec.specs.Program as typed
+use Rattle.interp_store.specs.layer.Views.{step_of}
 use Rattle.cabs.specs.inside.Standing.{Runs, Whole}
 use Rattle.cabs.proofs.running.run_on.Given as goal
 

@@ -1,5 +1,5 @@
 use Rattle.std.proofs.Common.{◌∙◌, ap}
-use Rattle.cabs_store.specs.layer.Views.{step_of}
+use Rattle.interp_store.specs.layer.Views.{step_of}
 use Rattle.cabs.proofs.Ticking.{stands_as, falls}
 use Rattle.cabs.proofs.running.settle.Goals as goal
 

@@ -1,7 +1,7 @@
 use Rattle.std.proofs.Common.{◌≡◌, ℕ, List, Option}
-use Rattle.typing_rules.specs.Program as typed
-use Rattle.cabs_store.specs.layer.Agrees.{frames_of}
-use Rattle.cabs_store.specs.layer.Views.{step_of}
+use Rattle.typing_spec.specs.Program as typed
+use Rattle.interp_store.specs.layer.Agrees.{frames_of}
+use Rattle.interp_store.specs.layer.Views.{step_of}
 use Rattle.cabs.specs.inside.Standing.{Stands, Whole, distance}
 use Rattle.cabs.proofs.running.settle.Given as goal
 

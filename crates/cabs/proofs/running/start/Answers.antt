@@ -1,6 +1,6 @@
 use Rattle.std.proofs.Common.{ap, refl, ◌+◌, ℕ, []}
-use Rattle.typing_program.specs.View.{program_of}
-use Rattle.cabs_store.specs.declared.machine.Machine.{Machine}
+use Rattle.typed_ast.specs.View.{program_of}
+use Rattle.interp_store.specs.declared.machine.Machine.{Machine}
 use Rattle.cabs.specs.declared.state.Interpreter.{Interpreter}
 use Rattle.cabs.proofs.Ticking.{run_of, answered, given_up_first, main_runs, main_stopping, main_stopped}
 use Rattle.cabs.proofs.running.start.Goals as goal

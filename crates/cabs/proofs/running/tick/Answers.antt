@@ -1,5 +1,5 @@
 use Rattle.std.proofs.Common.{◌+◌, ◌≤◌, refl, arith}
-use Rattle.cabs_store.specs.layer.Views.{node_of}
+use Rattle.interp_store.specs.layer.Views.{node_of}
 use Rattle.cabs.proofs.Ticking.{stands_rested, run_stops, stops_by, tick_goes, tick_stopping, tick_stops}
 use Rattle.cabs.proofs.running.tick.Goals as goal
 

@@ -1,6 +1,6 @@
 use Rattle.std.proofs.Common.{List, map, sym, subst}
-use Rattle.typing_program.specs.declared.units.Function as unit
-use Rattle.typing_program.specs.View.{program_of, function_of}
+use Rattle.typed_ast.specs.declared.units.Function as unit
+use Rattle.typed_ast.specs.View.{program_of, function_of}
 use Rattle.cc.specs.inside.Light.{AreLight}
 use Rattle.cc.proofs.Light.{are_light}
 use Rattle.cc.proofs.Entries.{entries_made}

@@ -1,4 +1,4 @@
-use Rattle.typing_program.specs.View.{program_of}
+use Rattle.typed_ast.specs.View.{program_of}
 use Rattle.cc.specs.Compiled.{BuildsProgram, Compiles}
 use Rattle.cc.specs.Made.{MakesProgram, IsMade}
 use Rattle.cc.specs.inside.Stops.{Stops, IsMemory}

@@ -1,5 +1,5 @@
 use Rattle.std.proofs.Common.{◌≡◌, map, drop, ◌++◌, ◌-◌, length}
-use Rattle.typing_program.specs.View.{function_of}
+use Rattle.typed_ast.specs.View.{function_of}
 use Rattle.cc.specs.Compiled.{shown_entry, entries}
 use Rattle.cc.proofs.compiling.put_entries.Given as goal
 

@@ -2,7 +2,7 @@ use Rattle.std.proofs.Common.{sym, subst}
 use Rattle.tree.specs.View.{unit_of}
 use Rattle.cc.specs.Compiled.{HasTokens, HasTree}
 use Rattle.cc.proofs.Refusals.{handed_on, tokens_stop, has_tree, has_number, tree_stops, check_stops}
-use Rattle.typing_program.specs.View.{program_of}
+use Rattle.typed_ast.specs.View.{program_of}
 use Rattle.cc.proofs.Ready.{is_ready}
 use Rattle.cc.proofs.front.checked_unit.Goals as goal
 

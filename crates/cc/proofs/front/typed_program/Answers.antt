@@ -1,9 +1,9 @@
 use Rattle.std.proofs.Common.{◌≡◌, sym, subst, ap, ◌∙◌, Some}
 use Rattle.tree.specs.View.{unit_of}
-use Rattle.typing_rules.specs.Verdict.{fine}
-use Rattle.typing_rules.specs.Units.{unit_typed}
+use Rattle.typing_spec.specs.Verdict.{fine}
+use Rattle.typing_spec.specs.Units.{unit_typed}
 use Rattle.typing.specs.Told.{IsFaultOfVerdict}
-use Rattle.typing_program.specs.View.{program_of}
+use Rattle.typed_ast.specs.View.{program_of}
 use Rattle.cc.proofs.Checks.{verdict_at, fault_at}
 use Rattle.cc.proofs.front.typed_program.Goals as goal
 

@@ -1,5 +1,5 @@
 use Rattle.std.proofs.Common.{inl, inr, refl}
-use Rattle.typing_program.specs.View.{program_of}
+use Rattle.typed_ast.specs.View.{program_of}
 use Rattle.cc.proofs.performing.interp.Goals as goal
 
 pub returns-in-Ok : goal.returns-in-Ok

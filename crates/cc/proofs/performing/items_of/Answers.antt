@@ -1,4 +1,4 @@
-use Rattle.typing_program.specs.View.{program_of}
+use Rattle.typed_ast.specs.View.{program_of}
 use Rattle.cc.specs.declared.stopping.Stop.TheVariants.{Memory}
 use Rattle.cc.proofs.Refusals.{handed_on, memory_stops}
 use Rattle.cc.proofs.Listings.{has_items}

@@ -1,6 +1,6 @@
 use Rattle.std.proofs.Common.{◌≡◌, ◌≤◌, ◌^◌, ◌∙◌, refl, ap, sym, subst, map}
 use Rattle.std.proofs.lemmas.List.{length-map}
-use Rattle.typing_program.specs.View as view
+use Rattle.typed_ast.specs.View as view
 use Rattle.tac_code.specs.Sound.{data_bytes}
 use Rattle.frames_code.specs.Code as flat
 use Rattle.frames.specs.Data.{data_of}

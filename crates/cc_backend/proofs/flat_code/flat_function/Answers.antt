@@ -1,4 +1,4 @@
-use Rattle.typing_program.specs.View as view
+use Rattle.typed_ast.specs.View as view
 use Rattle.tac_code.specs.Code as three_address
 use Rattle.frames_code.specs.Code as flat
 use Rattle.frames.specs.layer.Alone.{starts_in}

@@ -1,8 +1,8 @@
 use Rattle.std.proofs.Common.{◌≡◌, ◌+◌, [], ◌∷◌, ◌++◌, map, ap, sym, subst, ◌∙◌}
 use Rattle.std.specs.Prelude.{nat_eq, List, Some, slice_get}
 use Rattle.std.proofs.lemmas.List.{map-append}
-use Rattle.typing_program.specs.declared.units.Function.{Function}
-use Rattle.typing_program.specs.View as view
+use Rattle.typed_ast.specs.declared.units.Function.{Function}
+use Rattle.typed_ast.specs.View as view
 use Rattle.frames_code.specs.Code as flat
 use Rattle.frames.specs.layer.Alone.{starts_in}
 use Rattle.cc_backend.proofs.Plain.{item_in_map}

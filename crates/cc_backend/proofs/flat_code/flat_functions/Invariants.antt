@@ -1,5 +1,5 @@
 use Rattle.std.proofs.Common.{◌≡◌, map}
-use Rattle.typing_program.specs.View.{program_of}
+use Rattle.typed_ast.specs.View.{program_of}
 use Rattle.frames_code.specs.Code as flat
 use Rattle.frames.specs.layer.Alone.{starts_in}
 use Rattle.cc_backend.specs.inside.FlatFunctions.{AreFlatFunctionsOf}

@@ -1,4 +1,4 @@
-use Rattle.typing_program.specs.View.{program_of}
+use Rattle.typed_ast.specs.View.{program_of}
 use Rattle.memory_map.specs.MemoryMap.{text_start}
 use Rattle.frames_code.specs.Code as flat
 use Rattle.cc_backend.proofs.Generates.{reach, has_room, is_file, runs_with}

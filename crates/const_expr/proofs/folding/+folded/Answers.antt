@@ -1,7 +1,7 @@
 use Rattle.std.proofs.Common.{◌≡◌, subst, arith}
-use Rattle.typing_rules.specs.Verdict.{fine}
-use Rattle.typing_rules.specs.Constants as typed
-use Rattle.typing_program.specs.View.{value_of}
+use Rattle.typing_spec.specs.Verdict.{fine}
+use Rattle.typing_spec.specs.Constants as typed
+use Rattle.typed_ast.specs.View.{value_of}
 use Rattle.typing_expressions.specs.Refused.{IsOf}
 use Rattle.typing_expressions.proofs.Verdicts.{err_passed_on}
 use Rattle.const_expr.proofs.Foldings.{left_of_cast, left_of_unary, left_of_binary, left_of_bothtrue, left_of_onetrue, left_of_chosen, left_of_sequence, right_in_binary, right_in_both, right_in_one, first_in_chosen, second_in_chosen}

@@ -1,4 +1,4 @@
-use Rattle.typing_rules.specs.Types.{size_of_object}
+use Rattle.typing_spec.specs.Types.{size_of_object}
 use Rattle.const_expr.specs.Typings.{named_of}
 use Rattle.const_expr.proofs.measures.type_measured.Goals as goal
 

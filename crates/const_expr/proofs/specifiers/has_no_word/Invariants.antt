@@ -1,5 +1,5 @@
 use Rattle.std.proofs.Common.{◌≡◌, drop}
-use Rattle.typing_rules.specs.Specifiers as typed
+use Rattle.typing_spec.specs.Specifiers as typed
 use Rattle.const_expr.specs.Typings.{is_empty}
 use Rattle.const_expr.proofs.specifiers.has_no_word.Given as goal
 

@@ -1,5 +1,5 @@
 use Rattle.std.proofs.Common.{◌≡◌, ◌+◌, ◌≤◌, drop}
-use Rattle.typing_rules.specs.Specifiers as typed
+use Rattle.typing_spec.specs.Specifiers as typed
 use Rattle.const_expr.proofs.specifiers.times.Given as goal
 
 abbrev pub invariant-loop-first : goal.invariant-loop-first

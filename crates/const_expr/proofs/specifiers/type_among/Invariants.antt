@@ -1,5 +1,5 @@
 use Rattle.std.proofs.Common.{◌≡◌, drop, map}
-use Rattle.typing_rules.specs.Specifiers as typed
+use Rattle.typing_spec.specs.Specifiers as typed
 use Rattle.const_expr.specs.Typings.{word_set_of}
 use Rattle.const_expr.proofs.specifiers.type_among.Given as goal
 

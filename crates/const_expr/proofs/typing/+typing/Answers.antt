@@ -4,8 +4,8 @@ use Rattle.typing_expressions.specs.Forms.{checked_of, worth_of}
 use Rattle.const_expr.specs.Typings.{option_named}
 use Rattle.const_expr.specs.Operands.{operands_of}
 use Rattle.const_expr.proofs.Parts.{operands_fine, operands_right, pair_rule, cast_rule, cast_right, conditional_rule, conditional_test, conditional_arms}
-use Rattle.typing_rules.specs.Operators.{assigning}
-use Rattle.typing_rules.specs.Expressions as typed
+use Rattle.typing_spec.specs.Operators.{assigning}
+use Rattle.typing_spec.specs.Expressions as typed
 use Rattle.const_expr.proofs.Trees.{gives, tells, string_rule, type_base}
 use Rattle.const_expr.proofs.SizesRead.{read_none, read_next, read_stops, read_all, read_count}
 use Rattle.const_expr.proofs.Given as given

@@ -1,6 +1,6 @@
 use Rattle.std.proofs.Common.{◌≡◌, sym, subst, IfOk, IfErr}
 use Rattle.tree.specs.View.{tree_of}
-use Rattle.typing_rules.specs.Verdict.{fine}
+use Rattle.typing_spec.specs.Verdict.{fine}
 use Rattle.typing_expressions.specs.Refused.{Tells}
 use Rattle.typing_expressions.specs.Forms.{checked_of}
 use Rattle.const_expr.specs.Typings.{constant_of}

@@ -1,7 +1,7 @@
 use Rattle.std.proofs.Common.{sym, ap, ◌∙◌, map}
 use Rattle.tree.specs.View.{option_tree, option_init}
-use Rattle.typing_program.specs.View.{declared_type_of}
-use Rattle.typing_rules.specs.Verdict.{fine}
+use Rattle.typed_ast.specs.View.{declared_type_of}
+use Rattle.typing_spec.specs.Verdict.{fine}
 use Rattle.const_expr.specs.Typings.{base_type_of}
 use Rattle.decls_linkage.specs.Views.{class_of}
 use Rattle.decls.proofs.Objects.{begun_object, initialised}

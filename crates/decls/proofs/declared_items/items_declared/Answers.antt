@@ -1,6 +1,6 @@
 use Rattle.std.proofs.Common.{arith}
 use Rattle.tree.specs.View.{item_of}
-use Rattle.typing_rules.specs.Declarations as typed
+use Rattle.typing_spec.specs.Declarations as typed
 use Rattle.const_expr.specs.Typings.{base_type_of}
 use Rattle.typing_scopes.specs.Scopes.{with_texts}
 use Rattle.decls_linkage.specs.Views.{class_of}

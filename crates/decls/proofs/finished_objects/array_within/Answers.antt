@@ -1,6 +1,6 @@
 use Rattle.std.proofs.Common.{◌∷◌, ap, ◌∙◌, arith}
-use Rattle.typing_program.specs.View.{object_type_of}
-use Rattle.typing_rules.specs.Types as type
+use Rattle.typed_ast.specs.View.{object_type_of}
+use Rattle.typing_spec.specs.Types as type
 use Rattle.decls_declarators.proofs.Limits.{over_limit, within_limit}
 use Rattle.decls.proofs.Objects.{sized_bytes}
 use Rattle.decls.proofs.finished_objects.array_within.Goals as goal

@@ -1,7 +1,7 @@
 use Rattle.std.proofs.Common.{sym, ap, ◌∙◌, subst}
 use Rattle.tree.specs.View.{init_of}
-use Rattle.typing_program.specs.View.{object_type_of}
-use Rattle.typing_rules.specs.Declarations as typed
+use Rattle.typed_ast.specs.View.{object_type_of}
+use Rattle.typing_spec.specs.Declarations as typed
 use Rattle.typing_expressions.specs.Refused.{Tells}
 use Rattle.typing_scopes.specs.Scopes.{with_texts}
 use Rattle.decls.proofs.Objects.{size_fine, size_refused}

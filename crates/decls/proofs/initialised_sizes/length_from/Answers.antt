@@ -1,8 +1,8 @@
 use Rattle.std.proofs.Common.{rules, ◌≡◌, IfOk, IfErr, subst}
 use Rattle.tree.specs.declared.declaration.Initialiser.{the_lemmas}
 use Rattle.tree.specs.View.{tree_of, init_of}
-use Rattle.typing_program.specs.View.{object_type_of}
-use Rattle.typing_rules.specs.Verdict.{fine}
+use Rattle.typed_ast.specs.View.{object_type_of}
+use Rattle.typing_spec.specs.Verdict.{fine}
 use Rattle.typing_expressions.specs.Refused.{Tells}
 use Rattle.typing_scopes.specs.Scopes.{with_texts}
 use Rattle.decls.proofs.Initialisers.{length_of_text, length_of_list}

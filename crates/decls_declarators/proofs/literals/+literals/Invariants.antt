@@ -1,5 +1,5 @@
 use Rattle.std.proofs.Common.{◌≡◌, drop}
-use Rattle.typing_rules.specs.Scope.{with_literals}
+use Rattle.typing_spec.specs.Scope.{with_literals}
 use Rattle.decls_declarators.proofs.Strings.{left_of}
 use Rattle.decls_declarators.proofs.literals.+literals.Given as goal
 

@@ -1,5 +1,5 @@
 use Rattle.std.proofs.Common.{arith}
-use Rattle.typing_rules.specs.Declarators as typed
+use Rattle.typing_spec.specs.Declarators as typed
 use Rattle.decls_declarators.proofs.Limits.{over_limit, within_limit, lengths_within}
 use Rattle.decls_declarators.proofs.objects.object_within.Goals as goal
 

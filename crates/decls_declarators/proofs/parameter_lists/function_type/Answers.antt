@@ -1,6 +1,6 @@
 use Rattle.std.proofs.Common.{refl, map}
 use Rattle.tree.specs.View.{parameter_of}
-use Rattle.typing_program.specs.View.{parameter_type_of}
+use Rattle.typed_ast.specs.View.{parameter_type_of}
 use Rattle.decls_declarators.proofs.parameter_lists.function_type.Goals as goal
 
 pub returns-in-Ok-clause-ok : goal.returns-in-Ok-clause-ok

@@ -1,5 +1,5 @@
 use Rattle.std.proofs.Common.{◌≡◌, ◌++◌, drop}
-use Rattle.typing_rules.specs.Initialisers.{characters}
+use Rattle.typing_spec.specs.Initialisers.{characters}
 use Rattle.decls_initialisers.proofs.element_values.push_characters.Given as goal
 
 abbrev pub invariant-loop-byte : goal.invariant-loop-byte

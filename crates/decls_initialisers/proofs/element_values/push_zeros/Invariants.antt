@@ -1,5 +1,5 @@
 use Rattle.std.proofs.Common.{◌≡◌, ◌++◌, ◌-◌}
-use Rattle.typing_rules.specs.Initialisers.{zeros}
+use Rattle.typing_spec.specs.Initialisers.{zeros}
 use Rattle.decls_initialisers.proofs.element_values.push_zeros.Given as goal
 
 abbrev pub invariant-loop : goal.invariant-loop

@@ -1,6 +1,6 @@
 use Rattle.std.proofs.Common.{[], sym, subst}
-use Rattle.typing_program.specs.View.{initialiser_of}
-use Rattle.typing_rules.specs.Scope.{file_scope}
+use Rattle.typed_ast.specs.View.{initialiser_of}
+use Rattle.typing_spec.specs.Scope.{file_scope}
 use Rattle.typing_expressions.specs.Refused.{Tells}
 use Rattle.decls_initialisers.proofs.Layouts.{whole_values, values_same}
 use Rattle.decls_initialisers.proofs.element_values.values.Goals as goal

@@ -1,9 +1,9 @@
 use Rattle.std.proofs.Common.{sym, ap, ◌∙◌, subst}
 use Rattle.tree.specs.View.{tree_of}
-use Rattle.typing_program.specs.View.{initialiser_of}
-use Rattle.typing_rules.specs.Verdict.{fine, then_check}
-use Rattle.typing_rules.specs.Program as program
-use Rattle.typing_rules.specs.Initialisers as typed
+use Rattle.typed_ast.specs.View.{initialiser_of}
+use Rattle.typing_spec.specs.Verdict.{fine, then_check}
+use Rattle.typing_spec.specs.Program as program
+use Rattle.typing_spec.specs.Initialisers as typed
 use Rattle.typing_expressions.specs.Numbered.{numbered}
 use Rattle.typing_expressions.specs.Refused.{Tells}
 use Rattle.typing_expressions.proofs.Verdicts.{tells_then}

@@ -1,5 +1,5 @@
 use Rattle.std.proofs.Common.{ap}
-use Rattle.typing_rules.specs.Initialisers as typed
+use Rattle.typing_spec.specs.Initialisers as typed
 use Rattle.typing_expressions.specs.Numbered.{numbered}
 use Rattle.decls_initialisers.proofs.Rules.{gives, tells}
 use Rattle.decls_initialisers.proofs.parts.text_if.Goals as goal

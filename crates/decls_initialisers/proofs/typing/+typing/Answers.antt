@@ -1,7 +1,7 @@
 use Rattle.std.proofs.Common.{◌≡◌, false, arith, subst, map}
-use Rattle.typing_program.specs.View.{initialiser_of, initialisers_of}
+use Rattle.typed_ast.specs.View.{initialiser_of, initialisers_of}
 use Rattle.tree.specs.View.{init_of, inits_of}
-use Rattle.typing_rules.specs.Verdict.{fine}
+use Rattle.typing_spec.specs.Verdict.{fine}
 use Rattle.typing_expressions.specs.Numbered.{numbered}
 use Rattle.decls_initialisers.specs.Numbered.{initialiser_at}
 use Rattle.decls_initialisers.specs.inside.Braces.{initialisers_at}

@@ -1,8 +1,8 @@
 use Rattle.std.proofs.Common.{ap}
-use Rattle.typing_program.specs.View.{initialiser_of}
-use Rattle.typing_rules.specs.Verdict.{fine, then_check}
-use Rattle.typing_rules.specs.Program as program
-use Rattle.typing_rules.specs.Initialisers as typed
+use Rattle.typed_ast.specs.View.{initialiser_of}
+use Rattle.typing_spec.specs.Verdict.{fine, then_check}
+use Rattle.typing_spec.specs.Program as program
+use Rattle.typing_spec.specs.Initialisers as typed
 use Rattle.typing_expressions.specs.Numbered.{numbered}
 use Rattle.typing_expressions.proofs.Verdicts.{tells_then}
 use Rattle.decls_initialisers.specs.inside.Braces.{braced_text_at}

@@ -1,4 +1,4 @@
-use Rattle.typing_program.specs.View.{declared_type_of}
+use Rattle.typed_ast.specs.View.{declared_type_of}
 use Rattle.decls_linkage.proofs.Blocks.{automatic_left, static_left}
 use Rattle.decls_linkage.proofs.block_scope.block_object.Goals as goal
 

@@ -1,5 +1,5 @@
 use Rattle.std.proofs.Common.{sym, ◌∙◌}
-use Rattle.typing_program.specs.View.{object_type_of}
+use Rattle.typed_ast.specs.View.{object_type_of}
 use Rattle.decls_linkage.proofs.Same.{kept}
 use Rattle.decls_linkage.proofs.composites.agreeing.Goals as goal
 

@@ -1,5 +1,5 @@
 use Rattle.std.proofs.Common.{sym, ◌∙◌}
-use Rattle.typing_program.specs.View.{function_type_of}
+use Rattle.typed_ast.specs.View.{function_type_of}
 use Rattle.decls_linkage.proofs.Same.{kept_function}
 use Rattle.decls_linkage.proofs.redeclarations.agreeing_function.Goals as goal
 

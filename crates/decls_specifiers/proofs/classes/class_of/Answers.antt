@@ -1,7 +1,7 @@
 use Rattle.std.proofs.Common.{◌++◌, arith, ◌∙◌}
 use Rattle.tree.specs.View.{specifier_of}
 use Rattle.decls_linkage.specs.Views as view
-use Rattle.typing_rules.specs.Declarations as typed
+use Rattle.typing_spec.specs.Declarations as typed
 use Rattle.decls_specifiers.specs.inside.Lists.{class_before}
 use Rattle.decls_specifiers.proofs.Lists.{class_alone}
 use Rattle.decls_specifiers.proofs.Walks.{one_read, one_told, all_read}

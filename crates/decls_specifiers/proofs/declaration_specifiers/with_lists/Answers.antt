@@ -1,6 +1,6 @@
 use Rattle.std.proofs.Common.{arith}
 use Rattle.tree.specs.View.{specifier_of}
-use Rattle.typing_rules.specs.Declarations as typed
+use Rattle.typing_spec.specs.Declarations as typed
 use Rattle.typing_scopes.specs.Scopes.{with_texts}
 use Rattle.decls_specifiers.proofs.Enumerators.{list_fine, list_told}
 use Rattle.decls_specifiers.proofs.Walks.{one_read, one_told, all_read}

@@ -1,6 +1,6 @@
 use Rattle.std.proofs.Common.{◌≡◌, map, drop}
 use Rattle.tree.specs.View.{specifier_of}
-use Rattle.typing_rules.specs.Declarations as typed
+use Rattle.typing_spec.specs.Declarations as typed
 use Rattle.typing_scopes.specs.Scopes.{with_texts}
 use Rattle.decls_specifiers.proofs.declaration_specifiers.with_lists.Given as goal
 

@@ -1,5 +1,5 @@
 use Rattle.tree.specs.View.{option_tree}
-use Rattle.typing_rules.specs.Declarations as typed
+use Rattle.typing_spec.specs.Declarations as typed
 use Rattle.typing_scopes.specs.Scopes.{with_texts}
 use Rattle.decls_declarators.proofs.Verdicts.{provided_left}
 use Rattle.decls_specifiers.proofs.enumerator_lists.checked_enumerator.Goals as goal

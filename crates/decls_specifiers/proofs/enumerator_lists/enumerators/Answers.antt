@@ -1,7 +1,7 @@
 use Rattle.std.proofs.Common.{◌≡◌, arith, rules, to_z, of_z, w64, ◌∙◌}
 use Rattle.std.proofs.Math.Facts.{to_z-of_z}
 use Rattle.tree.specs.View.{enumerator_of}
-use Rattle.typing_rules.specs.Declarations as typed
+use Rattle.typing_spec.specs.Declarations as typed
 use Rattle.typing_scopes.specs.Scopes.{with_texts}
 use Rattle.decls_specifiers.proofs.Enumerators.{enumerator_fine, enumerator_told}
 use Rattle.decls_specifiers.proofs.Walks.{one_read, one_told, all_read}

@@ -1,6 +1,6 @@
 use Rattle.std.proofs.Common.{◌≡◌, pos, map, drop}
 use Rattle.tree.specs.View.{enumerator_of}
-use Rattle.typing_rules.specs.Declarations as typed
+use Rattle.typing_spec.specs.Declarations as typed
 use Rattle.typing_scopes.specs.Scopes.{with_texts}
 use Rattle.decls_specifiers.proofs.enumerator_lists.enumerators.Given as goal
 

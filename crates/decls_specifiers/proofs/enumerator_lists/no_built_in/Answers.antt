@@ -1,5 +1,5 @@
 use Rattle.std.proofs.Common.{◌≡◌, OnOk, IfErr, subst, sym, ◌∙◌}
-use Rattle.typing_rules.specs.Verdict.{fine}
+use Rattle.typing_spec.specs.Verdict.{fine}
 use Rattle.typing_expressions.specs.Refused.{IsOf}
 use Rattle.typing_scopes.specs.Scopes.{with_texts}
 use Rattle.decls_specifiers.specs.inside.Lists.{as_enumerator}

@@ -1,6 +1,6 @@
 use Rattle.std.proofs.Common.{ap, sym, ◌∙◌, map}
 use Rattle.tree.specs.View.{specifier_of}
-use Rattle.typing_rules.specs.Declarations as typed
+use Rattle.typing_spec.specs.Declarations as typed
 use Rattle.typing_scopes.specs.Scopes.{with_texts}
 use Rattle.decls_specifiers.proofs.Lists.{base_given}
 use Rattle.decls_specifiers.proofs.plain_specifiers.base_in.Goals as goal

@@ -1,6 +1,6 @@
 use Rattle.std.proofs.Common.{◌≡◌, drop}
-use Rattle.typing_rules.specs.Scope.{Scope}
-use Rattle.typing_rules.specs.Declarations as typed
+use Rattle.typing_spec.specs.Scope.{Scope}
+use Rattle.typing_spec.specs.Declarations as typed
 use Rattle.decls_specifiers.proofs.Lists.{base_with}
 use Rattle.decls_specifiers.proofs.plain_specifiers.enumerated_type.Given as goal
 

@@ -1,6 +1,6 @@
 use Rattle.std.proofs.Common.{◌≡◌, ◌+◌, ◌≤◌, map, drop}
 use Rattle.tree.specs.View.{specifier_of}
-use Rattle.typing_rules.specs.Declarations as typed
+use Rattle.typing_spec.specs.Declarations as typed
 use Rattle.decls_specifiers.proofs.plain_specifiers.lists_in.Given as goal
 
 abbrev pub invariant-loop-specifier : goal.invariant-loop-specifier

@@ -1,6 +1,6 @@
 use Rattle.std.proofs.Common.{◌++◌, arith, sym, ◌∙◌, append-nil}
 use Rattle.tree.specs.View.{specifier_of}
-use Rattle.typing_rules.specs.Declarations as typed
+use Rattle.typing_spec.specs.Declarations as typed
 use Rattle.decls_specifiers.proofs.Walks.{one_read, all_read}
 use Rattle.decls_specifiers.proofs.plain_specifiers.plain_of.Goals as goal
 

@@ -1,6 +1,6 @@
 use Rattle.std.proofs.Common.{◌≤◌, ◌^◌, ◌∙◌, ap, sym, subst, map}
 use Rattle.std.specs.Prelude.{slice_get}
-use Rattle.typing_program.specs.View.{static_of}
+use Rattle.typed_ast.specs.View.{static_of}
 use Rattle.tac_code.specs.Code.{function_of, program_of}
 use Rattle.tac_code.specs.Sound.{data_bytes}
 use Rattle.frames.proofs.Near.{short_code}

@@ -1,5 +1,5 @@
 use Rattle.std.proofs.Common.{◌≡◌, ◌+◌, ◌++◌, drop, map}
-use Rattle.typing_program.specs.View.{object_type_of}
+use Rattle.typed_ast.specs.View.{object_type_of}
 use Rattle.frames.specs.Layout.{homes_from, words_in, bytes_in}
 use Rattle.frames.proofs.layout.put_homes.Given as goal
 

@@ -1,6 +1,6 @@
 use Rattle.std.proofs.Common.{◌≡◌, ◌-◌, ◌^◌, take}
 use Rattle.std.specs.Prelude.{min}
-use Rattle.typing_rules.specs.Types.{elements_in}
+use Rattle.typing_spec.specs.Types.{elements_in}
 use Rattle.frames.proofs.sizes.elements.Given as goal
 
 abbrev pub invariant-loop-length : goal.invariant-loop-length

@@ -1,5 +1,5 @@
 use Rattle.std.proofs.Common.{◌≡◌, ◌+◌, ◌++◌, drop, map}
-use Rattle.typing_program.specs.View.{static_of}
+use Rattle.typed_ast.specs.View.{static_of}
 use Rattle.frames.specs.Layout.{starts_from}
 use Rattle.frames.specs.Sizes.{statics_bytes, static_sizes}
 use Rattle.frames.proofs.starts.put_static_starts.Given as goal

@@ -1,6 +1,6 @@
 use Rattle.std.proofs.Common.{◌≡◌, map, length, arith, rules}
 use Rattle.std.specs.Prelude.{vec_len}
-use Rattle.typing_program.specs.View.{static_of}
+use Rattle.typed_ast.specs.View.{static_of}
 use Rattle.frames.specs.Sizes.{literal_bytes}
 use Rattle.frames.specs.Data.{bytes_of_literals}
 use Rattle.frames.proofs.Filling.{longer}

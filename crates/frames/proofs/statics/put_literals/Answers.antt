@@ -1,5 +1,5 @@
 use Rattle.std.proofs.Common.{◌∙◌, ap, refl, map, length, ◌++◌}
-use Rattle.typing_rules.specs.Units.{in_words}
+use Rattle.typing_spec.specs.Units.{in_words}
 use Rattle.frames.specs.Data.{filled_up, bytes_of_literals}
 use Rattle.frames.specs.Sizes.{literal_bytes}
 use Rattle.frames.proofs.Filling.{one_more_item, one_counted, longer}

@@ -1,7 +1,7 @@
 use Rattle.std.proofs.Common.{◌≡◌, ◌∙◌, ap, ◌++◌, length, rules}
 use Rattle.std.specs.Prelude.{vec_len}
 use Rattle.frames.specs.Data.{bytes_of_values}
-use Rattle.typing_program.specs.View.{static_of}
+use Rattle.typed_ast.specs.View.{static_of}
 use Rattle.frames.proofs.Filling.{put_object}
 use Rattle.frames.proofs.statics.put_static.Goals as goal
 

@@ -1,6 +1,6 @@
 use Rattle.std.proofs.Common.{refl, map, length}
-use Rattle.typing_rules.specs.Types.{size_of_object}
-use Rattle.typing_program.specs.View.{object_type_of, static_of}
+use Rattle.typing_spec.specs.Types.{size_of_object}
+use Rattle.typed_ast.specs.View.{object_type_of, static_of}
 use Rattle.tac_code.specs.Sound.{static_bytes}
 use Rattle.frames.specs.Data.{bytes_of_static, bytes_of_statics}
 use Rattle.frames.specs.Sizes.{statics_bytes}

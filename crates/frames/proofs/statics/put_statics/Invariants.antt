@@ -1,5 +1,5 @@
 use Rattle.std.proofs.Common.{◌≡◌, ◌+◌, ◌++◌, drop, length, map}
-use Rattle.typing_program.specs.View.{static_of}
+use Rattle.typed_ast.specs.View.{static_of}
 use Rattle.frames.specs.Data.{bytes_of_statics}
 use Rattle.frames.specs.Sizes.{statics_bytes}
 use Rattle.frames.proofs.statics.put_statics.Given as goal

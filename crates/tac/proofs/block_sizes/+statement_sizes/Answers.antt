@@ -1,6 +1,6 @@
 use Rattle.std.proofs.Common.{ap, map, sym, ◌∙◌}
-use Rattle.typing_rules.specs.Program as typed
-use Rattle.typing_program.specs.View.{value_of, statement_of, statements_of}
+use Rattle.typing_spec.specs.Program as typed
+use Rattle.typed_ast.specs.View.{value_of, statement_of, statements_of}
 use Rattle.tac.specs.inside.Scopes.{program_in, function_in}
 use Rattle.tac.specs.inside.Sizes as size
 use Rattle.tac.proofs.HeldStatements.{sees_switch}

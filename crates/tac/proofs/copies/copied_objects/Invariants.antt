@@ -1,5 +1,5 @@
 use Rattle.std.proofs.Common.{◌≡◌, ◌++◌, map, drop}
-use Rattle.typing_program.specs.View.{object_type_of}
+use Rattle.typed_ast.specs.View.{object_type_of}
 use Rattle.tac.proofs.copies.copied_objects.Given as goal
 
 abbrev pub invariant-loop-object : goal.invariant-loop-object

@@ -1,5 +1,5 @@
 use Rattle.std.proofs.Common.{◌≡◌, ◌++◌, map, drop}
-use Rattle.typing_program.specs.View.{static_of}
+use Rattle.typed_ast.specs.View.{static_of}
 use Rattle.tac.proofs.copies.copied_statics.Given as goal
 
 abbrev pub invariant-loop-object : goal.invariant-loop-object

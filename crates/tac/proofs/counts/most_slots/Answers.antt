@@ -1,4 +1,4 @@
-use Rattle.tac_lowering.specs.Bodies.{slots_of}
+use Rattle.lower_correct.specs.Bodies.{slots_of}
 use Rattle.tac.proofs.Whole.{most_next}
 use Rattle.tac.proofs.counts.most_slots.Goals as goal
 

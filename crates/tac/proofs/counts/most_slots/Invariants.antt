@@ -1,5 +1,5 @@
 use Rattle.std.proofs.Common.{◌≡◌, take}
-use Rattle.tac_lowering.specs.Bodies as relation
+use Rattle.lower_correct.specs.Bodies as relation
 use Rattle.tac.proofs.counts.most_slots.Given as goal
 
 abbrev pub invariant-loop-instruction : goal.invariant-loop-instruction

@@ -1,6 +1,6 @@
 use Rattle.std.proofs.Common.{◌≡◌, map, take}
-use Rattle.typing_program.specs.View.{function_of}
-use Rattle.tac_lowering.specs.Bodies as relation
+use Rattle.typed_ast.specs.View.{function_of}
+use Rattle.lower_correct.specs.Bodies as relation
 use Rattle.tac.specs.layer.Functions.{parameters_at, temporaries_with}
 use Rattle.tac.proofs.counts.most_temporaries.Given as goal
 

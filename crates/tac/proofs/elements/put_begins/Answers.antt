@@ -1,8 +1,8 @@
 use Rattle.std.proofs.Common.{ap}
 use Rattle.tac_code.specs.declared.code.Target.TheVariants as target
 use Rattle.tac_code.specs.declared.code.Instruction.TheVariants as instruction
-use Rattle.tac_forms.proofs.Parts.{two}
-use Rattle.tac_forms.proofs.Operated.{one_as}
+use Rattle.lower_ops.proofs.Parts.{two}
+use Rattle.lower_ops.proofs.Operated.{one_as}
 use Rattle.tac.proofs.elements.put_begins.Goals as goal
 
 pub returns : goal.returns

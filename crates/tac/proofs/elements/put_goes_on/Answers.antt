@@ -1,5 +1,5 @@
-use Rattle.tac_forms.proofs.Parts.{two}
-use Rattle.tac_forms.proofs.Operated.{one_as}
+use Rattle.lower_ops.proofs.Parts.{two}
+use Rattle.lower_ops.proofs.Operated.{one_as}
 use Rattle.tac.proofs.elements.put_goes_on.Goals as goal
 
 pub returns : goal.returns

@@ -1,5 +1,5 @@
 use Rattle.std.proofs.Common.{map, refl}
-use Rattle.typing_program.specs.View.{initialiser_of, initialisers_of}
+use Rattle.typed_ast.specs.View.{initialiser_of, initialisers_of}
 use Rattle.tac.specs.inside.FirstSizes.{fill_all_size}
 use Rattle.tac.proofs.Filled.{all_counts}
 use Rattle.tac.proofs.Counted.{next_counted}

@@ -1,6 +1,6 @@
 use Rattle.std.proofs.Common.{◌≡◌, map, drop}
-use Rattle.typing_program.specs.View.{initialiser_of, initialisers_of}
-use Rattle.tac_forms.specs.layer.Parts.{plus}
+use Rattle.typed_ast.specs.View.{initialiser_of, initialisers_of}
+use Rattle.lower_ops.specs.layer.Parts.{plus}
 use Rattle.tac.specs.inside.FirstSizes.{fill_all_size}
 use Rattle.tac.proofs.first_sizes.+initialiser_sizes.Given as goal
 

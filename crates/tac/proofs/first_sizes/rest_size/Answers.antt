@@ -1,5 +1,5 @@
 use Rattle.std.proofs.Common.{◌-◌, ◌^◌, ◌∙◌, arith}
-use Rattle.typing_rules.specs.Types.{elements_in}
+use Rattle.typing_spec.specs.Types.{elements_in}
 use Rattle.tac.proofs.Counted.{clears_counted}
 use Rattle.tac.proofs.first_sizes.rest_size.Goals as goal
 

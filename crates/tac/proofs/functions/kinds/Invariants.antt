@@ -1,5 +1,5 @@
 use Rattle.std.proofs.Common.{◌≡◌, ◌++◌, map, drop}
-use Rattle.typing_program.specs.View.{parameter_type_of}
+use Rattle.typed_ast.specs.View.{parameter_type_of}
 use Rattle.tac_code.specs.Lowered.{kind_of}
 use Rattle.tac.proofs.functions.kinds.Given as goal
 

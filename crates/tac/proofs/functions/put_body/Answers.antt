@@ -1,6 +1,6 @@
 use Rattle.std.proofs.Common.{length, map, ap, sym, ◌∙◌}
-use Rattle.typing_program.specs.View.{parameter_type_of, function_of, program_of}
-use Rattle.tac_forms.specs.layer.Parts.{plus}
+use Rattle.typed_ast.specs.View.{parameter_type_of, function_of, program_of}
+use Rattle.lower_ops.specs.layer.Parts.{plus}
 use Rattle.tac.proofs.Whole.{idles_all, length_map, body_written}
 use Rattle.tac.proofs.functions.put_body.Goals as goal
 

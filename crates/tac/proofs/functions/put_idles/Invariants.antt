@@ -1,6 +1,6 @@
 use Rattle.std.proofs.Common.{suc}
-use Rattle.tac_lowering.specs.Bodies.{Idles}
-use Rattle.tac_forms.specs.layer.Parts.{Wrote}
+use Rattle.lower_correct.specs.Bodies.{Idles}
+use Rattle.lower_ops.specs.layer.Parts.{Wrote}
 use Rattle.tac.proofs.functions.put_idles.Given as goal
 
 abbrev pub invariant-loop : goal.invariant-loop

@@ -1,7 +1,7 @@
 use Rattle.std.proofs.Common.{◌*◌, map, length, slice_get, refl, ap, ◌∙◌, arith}
-use Rattle.meaning.specs.Statements.{text_or_none}
-use Rattle.typing_program.specs.View.{initialiser_of, initialisers_of}
-use Rattle.tac_forms.proofs.Parts.{two}
+use Rattle.csem.specs.Statements.{text_or_none}
+use Rattle.typed_ast.specs.View.{initialiser_of, initialisers_of}
+use Rattle.lower_ops.proofs.Parts.{two}
 use Rattle.tac.specs.inside.Scopes.{program_in, function_in}
 use Rattle.tac.proofs.HeldStatements.{sees_one, sees_text, sees_inbraces, sees_list}
 use Rattle.tac.proofs.Filled.{none_filled, next_filled, all_filled}

@@ -1,5 +1,5 @@
 use Rattle.std.proofs.Common.{map, drop}
-use Rattle.typing_program.specs.View.{initialiser_of, initialisers_of}
+use Rattle.typed_ast.specs.View.{initialiser_of, initialisers_of}
 use Rattle.tac.specs.inside.Scopes.{program_in, function_in}
 use Rattle.tac.proofs.Filled.{Filling}
 use Rattle.tac.proofs.initialisers.+fills.Given as goal

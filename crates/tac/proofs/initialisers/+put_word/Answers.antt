@@ -1,4 +1,4 @@
-use Rattle.tac_forms.proofs.Parts.{two}
+use Rattle.lower_ops.proofs.Parts.{two}
 use Rattle.tac.proofs.HeldStatements.{sees_one, sees_inbraces}
 use Rattle.tac.proofs.initialisers.+put_word.Goals as goal
 

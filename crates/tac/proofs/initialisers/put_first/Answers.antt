@@ -1,7 +1,7 @@
 use Rattle.std.proofs.Common.{◌≡◌, map, refl, ap, sym, ◌∙◌, subst}
 use Rattle.std.specs.Prelude.{None, Some, slice_get, option_map}
 use Rattle.std.proofs.lemmas.Option.{slice_get_past, slice_get_read, slice_get-map}
-use Rattle.typing_program.specs.View.{object_type_of, initialiser_of}
+use Rattle.typed_ast.specs.View.{object_type_of, initialiser_of}
 use Rattle.tac.specs.inside.Scopes.{program_in, function_in}
 use Rattle.tac.specs.inside.Written.{WroteInitialises}
 use Rattle.tac.proofs.Firsts.{no_object}

@@ -1,7 +1,7 @@
 use Rattle.std.proofs.Common.{◌||◌, ap, ◌∙◌}
-use Rattle.typing_program.specs.View.{value_of}
-use Rattle.tac_lowering.specs.Values.{Nowhere}
-use Rattle.tac_lowering.specs.Places.{cuts}
+use Rattle.typed_ast.specs.View.{value_of}
+use Rattle.lower_correct.specs.Values.{Nowhere}
+use Rattle.lower_correct.specs.Places.{cuts}
 use Rattle.tac.specs.inside.Scopes.{program_in, function_in}
 use Rattle.tac.proofs.Filled.{sets_wrote}
 use Rattle.tac.proofs.initialisers.put_set.Goals as goal

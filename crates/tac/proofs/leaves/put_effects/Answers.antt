@@ -1,8 +1,8 @@
 use Rattle.std.proofs.Common.{refl}
 use Rattle.std.specs.Prelude.{None}
-use Rattle.tac_lowering.specs.Bodies as relation
+use Rattle.lower_correct.specs.Bodies as relation
 use Rattle.tac.specs.inside.Scopes.{program_in, function_in}
-use Rattle.tac_forms.proofs.Parts.{none_wrote}
+use Rattle.lower_ops.proofs.Parts.{none_wrote}
 use Rattle.tac.proofs.leaves.put_effects.Goals as goal
 
 pub returns-in-None : goal.returns-in-None

@@ -1,4 +1,4 @@
-use Rattle.tac_forms.proofs.Parts.{two}
+use Rattle.lower_ops.proofs.Parts.{two}
 use Rattle.tac.proofs.leaves.put_evaluated.Goals as goal
 
 pub returns : goal.returns

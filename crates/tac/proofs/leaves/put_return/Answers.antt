@@ -1,4 +1,4 @@
-use Rattle.tac_forms.proofs.Parts.{two}
+use Rattle.lower_ops.proofs.Parts.{two}
 use Rattle.tac.proofs.Blocks.{leaves_wrote}
 use Rattle.tac.proofs.leaves.put_return.Goals as goal
 

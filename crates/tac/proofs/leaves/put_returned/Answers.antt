@@ -1,4 +1,4 @@
-use Rattle.tac_forms.proofs.Parts.{three}
+use Rattle.lower_ops.proofs.Parts.{three}
 use Rattle.tac.proofs.Blocks.{leaves_wrote}
 use Rattle.tac.proofs.leaves.put_returned.Goals as goal
 

@@ -1,5 +1,5 @@
 use Rattle.std.proofs.Common.{length, map, ap, sym, refl, ◌∙◌}
-use Rattle.typing_program.specs.View as view
+use Rattle.typed_ast.specs.View as view
 use Rattle.tac.proofs.Whole.{length_map, program_written}
 use Rattle.tac.proofs.programs.lower.Goals as goal
 

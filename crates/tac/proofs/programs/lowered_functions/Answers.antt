@@ -1,8 +1,8 @@
 use Rattle.std.proofs.Common.{◌≡◌, ◌+◌, [], ◌∷◌, ◌++◌, map, ap, sym, subst, ◌∙◌}
 use Rattle.std.specs.Prelude.{nat_eq, List, Some, slice_get}
-use Rattle.typing_program.specs.declared.units.Function.{Function}
+use Rattle.typed_ast.specs.declared.units.Function.{Function}
 use Rattle.std.proofs.lemmas.List.{map-append}
-use Rattle.typing_program.specs.View as view
+use Rattle.typed_ast.specs.View as view
 use Rattle.tac_code.specs.Code as three_address
 use Rattle.tac.specs.layer.Functions.{IsFunctionWith}
 use Rattle.tac.specs.inside.Functions.{AreFunctionsOf}

@@ -1,5 +1,5 @@
 use Rattle.std.proofs.Common.{◌≡◌, map}
-use Rattle.typing_program.specs.View as view
+use Rattle.typed_ast.specs.View as view
 use Rattle.tac_code.specs.Code as three_address
 use Rattle.tac.specs.inside.Functions.{AreFunctionsOf}
 use Rattle.tac.proofs.programs.lowered_functions.Given as goal

@@ -1,15 +1,15 @@
 use Rattle.std.proofs.Common.{◌≡◌, false, ap, map, length, ◌∙◌}
-use Rattle.typing_program.specs.View.{value_of, option_value, statement_of, statements_of}
-use Rattle.tac_forms.specs.declared.modes.Shape.TheVariants as shape
-use Rattle.meaning.specs.Statements.{labels_of}
-use Rattle.tac_lowering.specs.Values.{waits_in, mode_of}
-use Rattle.tac_lowering.specs.Bodies.{is_within}
-use Rattle.tac_forms.specs.layer.Parts.{plus, shape_of}
-use Rattle.tac_values.specs.layer.Sizes.{value_size}
+use Rattle.typed_ast.specs.View.{value_of, option_value, statement_of, statements_of}
+use Rattle.lower_ops.specs.declared.modes.Shape.TheVariants as shape
+use Rattle.csem.specs.Statements.{labels_of}
+use Rattle.lower_correct.specs.Values.{waits_in, mode_of}
+use Rattle.lower_correct.specs.Bodies.{is_within}
+use Rattle.lower_ops.specs.layer.Parts.{plus, shape_of}
+use Rattle.lower_exprs.specs.layer.Sizes.{value_size}
 use Rattle.tac.specs.inside.Scopes.{program_in, function_in}
 use Rattle.tac.specs.inside.Sizes.{statement_size, statements_size, tests_size, effects_size, repeats_size}
 use Rattle.tac.proofs.HeldStatements.{sees_empty, sees_evaluate, sees_declare, sees_define, sees_block, sees_if, sees_ifelse, sees_switch, sees_case, sees_default, sees_while, sees_dowhile, sees_for, sees_break, sees_continue, sees_returnnothing, sees_returnvalue}
-use Rattle.tac_forms.proofs.Parts.{two}
+use Rattle.lower_ops.proofs.Parts.{two}
 use Rattle.tac.proofs.Blocks.{branch_wrote, branches_wrote, while_wrote, do_while_wrote, for_wrote}
 use Rattle.tac.proofs.Placed.{and_placed, placed_all, switch_wrote}
 use Rattle.tac.proofs.statements.+statement_code.Goals as goal

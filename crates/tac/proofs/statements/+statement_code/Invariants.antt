@@ -1,5 +1,5 @@
 use Rattle.std.proofs.Common.{◌+◌, ◌*◌, map}
-use Rattle.typing_program.specs.View.{statement_of, statements_of}
+use Rattle.typed_ast.specs.View.{statement_of, statements_of}
 use Rattle.tac.proofs.Nodes.{statement_nodes, statements_nodes}
 use Rattle.tac.proofs.statements.+statement_code.Given as goal
 

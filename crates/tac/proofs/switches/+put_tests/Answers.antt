@@ -1,8 +1,8 @@
 use Rattle.std.proofs.Common.{◌≡◌, Some, map, ap, rules, ◌∙◌, w64, to_z, of_z}
 use Rattle.std.proofs.Math.Facts.{to_z-of_z}
-use Rattle.meaning.specs.Statements.{labels_at}
-use Rattle.typing_program.specs.View.{statement_of, statements_of}
-use Rattle.tac_forms.specs.layer.Parts.{plus}
+use Rattle.csem.specs.Statements.{labels_at}
+use Rattle.typed_ast.specs.View.{statement_of, statements_of}
+use Rattle.lower_ops.specs.layer.Parts.{plus}
 use Rattle.tac.specs.inside.Scopes.{program_in, function_in}
 use Rattle.tac.specs.inside.Sizes.{statement_size}
 use Rattle.tac.specs.inside.Places.{one_label}

@@ -1,10 +1,10 @@
 use Rattle.std.proofs.Common.{◌≡◌, map, sym, ap, subst, ◌∙◌, refl, None}
 use Rattle.tree.specs.View as tree_view
 use Rattle.tree.specs.View.{parameter_of, piece_of, pieces_of}
-use Rattle.typing_program.specs.View.{object_type_of, parameter_type_of, function_type_of}
-use Rattle.typing_rules.specs.Verdict.{fine}
-use Rattle.typing_rules.specs.Statements.{pieces}
-use Rattle.typing_rules.specs.Units.{around_of}
+use Rattle.typed_ast.specs.View.{object_type_of, parameter_type_of, function_type_of}
+use Rattle.typing_spec.specs.Verdict.{fine}
+use Rattle.typing_spec.specs.Statements.{pieces}
+use Rattle.typing_spec.specs.Units.{around_of}
 use Rattle.typing_expressions.specs.Refused.{Tells}
 use Rattle.typing_scopes.specs.Scopes.{with_texts}
 use Rattle.typing_statements.specs.Views.{all_done_of}

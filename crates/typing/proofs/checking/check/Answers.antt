@@ -1,5 +1,5 @@
 use Rattle.tree.specs.View.{unit_of}
-use Rattle.typing_rules.specs.Units.{unit_typed}
+use Rattle.typing_spec.specs.Units.{unit_typed}
 use Rattle.typing.proofs.Units.{fault_told}
 use Rattle.typing.proofs.checking.check.Goals as goal
 

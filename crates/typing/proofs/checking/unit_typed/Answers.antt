@@ -1,7 +1,7 @@
 use Rattle.std.proofs.Common.{map, ap, ◌∙◌}
 use Rattle.tree.specs.View.{external_of}
-use Rattle.typing_program.specs.View.{program_of}
-use Rattle.typing_rules.specs.Units.{definitions_in}
+use Rattle.typed_ast.specs.View.{program_of}
+use Rattle.typing_spec.specs.Units.{definitions_in}
 use Rattle.typing_scopes.specs.Scopes.{with_texts}
 use Rattle.typing_units.specs.Views.{built_of}
 use Rattle.typing.proofs.Units.{begun_is, externals_told, whole_fine, whole_told}

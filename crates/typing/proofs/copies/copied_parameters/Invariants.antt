@@ -1,5 +1,5 @@
 use Rattle.std.proofs.Common.{◌≡◌, ◌++◌, map, drop}
-use Rattle.typing_program.specs.View.{parameter_type_of}
+use Rattle.typed_ast.specs.View.{parameter_type_of}
 use Rattle.typing.proofs.copies.copied_parameters.Given as goal
 
 abbrev pub invariant-loop-parameter : goal.invariant-loop-parameter

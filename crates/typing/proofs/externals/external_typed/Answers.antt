@@ -1,7 +1,7 @@
 use Rattle.std.proofs.Common.{◌≡◌, OnOk, IfErr, sym, ap, subst}
 use Rattle.tree.specs.View.{external_of}
-use Rattle.typing_rules.specs.Verdict.{fine}
-use Rattle.typing_rules.specs.Units.{external_typed}
+use Rattle.typing_spec.specs.Verdict.{fine}
+use Rattle.typing_spec.specs.Units.{external_typed}
 use Rattle.typing_expressions.specs.Refused.{Tells}
 use Rattle.typing_scopes.specs.Scopes.{with_texts}
 use Rattle.typing_units.specs.Views.{built_of}

@@ -1,6 +1,6 @@
 use Rattle.std.proofs.Common.{◌≡◌, map}
 use Rattle.tree.specs.View.{external_of}
-use Rattle.typing_rules.specs.Units.{externals_typed}
+use Rattle.typing_spec.specs.Units.{externals_typed}
 use Rattle.typing_scopes.specs.Scopes.{with_texts}
 use Rattle.typing_units.specs.Views.{built_of}
 use Rattle.typing.proofs.externals.externals_typed.Given as goal

@@ -1,9 +1,9 @@
 use Rattle.std.proofs.Common.{◌≡◌, refl, sym, subst, ap, ◌∙◌, map}
 use Rattle.tree.specs.View as tree_view
-use Rattle.typing_program.specs.View.{parameter_type_of}
-use Rattle.typing_rules.specs.Verdict.{fine, provided}
-use Rattle.typing_rules.specs.Declarators.{parameters_in}
-use Rattle.typing_rules.specs.Units.{all_named}
+use Rattle.typed_ast.specs.View.{parameter_type_of}
+use Rattle.typing_spec.specs.Verdict.{fine, provided}
+use Rattle.typing_spec.specs.Declarators.{parameters_in}
+use Rattle.typing_spec.specs.Units.{all_named}
 use Rattle.tree.specs.View.{parameter_of}
 use Rattle.typing_expressions.specs.Refused.{Tells}
 use Rattle.decls_specifiers.specs.Views.{specified_of}

@@ -1,7 +1,7 @@
 use Rattle.std.proofs.Common.{refl, map}
 use Rattle.tree.specs.View as tree_view
 use Rattle.tree.specs.View.{parameter_of}
-use Rattle.typing_program.specs.View.{object_type_of, parameter_type_of}
+use Rattle.typed_ast.specs.View.{object_type_of, parameter_type_of}
 use Rattle.decls_specifiers.specs.Views.{specified_of}
 use Rattle.typing_scopes.specs.Scopes.{with_texts}
 use Rattle.decls_declarators.proofs.Verdicts.{told}

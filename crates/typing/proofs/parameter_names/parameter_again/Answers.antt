@@ -1,5 +1,5 @@
 use Rattle.std.proofs.Common.{OnOk, sym, ap, subst}
-use Rattle.typing_program.specs.View.{parameter_type_of}
+use Rattle.typed_ast.specs.View.{parameter_type_of}
 use Rattle.typing.specs.inside.Names.{Again}
 use Rattle.typing.proofs.parameter_names.parameter_again.Goals as goal
 

@@ -1,6 +1,6 @@
 use Rattle.std.proofs.Common.{sym, ◌∙◌, subst}
 use Rattle.tree.specs.View.{init_of}
-use Rattle.typing_program.specs.View.{declared_type_of, initialiser_of}
+use Rattle.typed_ast.specs.View.{declared_type_of, initialiser_of}
 use Rattle.typing_expressions.specs.Refused.{IsOf}
 use Rattle.decls_initialisers.specs.Views.{wanted_of}
 use Rattle.typing_declarations.proofs.Objects.{constant_as, first_read, first_form, first_typing}

@@ -1,5 +1,5 @@
 use Rattle.std.proofs.Common.{refl, ap}
-use Rattle.typing_program.specs.View.{declared_type_of}
+use Rattle.typed_ast.specs.View.{declared_type_of}
 use Rattle.typing_expressions.specs.Forms.{seen}
 use Rattle.typing_declarations.specs.inside.Effects.{effect_in}
 use Rattle.typing_declarations.proofs.Objects.{nothing_done, values_put}

@@ -1,5 +1,5 @@
 use Rattle.std.proofs.Common.{◌≡◌, ℕ, Option, Some, None, sym, ap, ◌∙◌}
-use Rattle.typing_rules.specs.Scope.{built_in, built_in_or, by_definition, place_from}
+use Rattle.typing_spec.specs.Scope.{built_in, built_in_or, by_definition, place_from}
 use Rattle.typing_scopes.specs.BuiltIns.{option_built_in}
 use Rattle.typing_expressions.specs.Numbered.{numbered}
 use Rattle.typing_expressions.proofs.callees.callee.Goals as goal

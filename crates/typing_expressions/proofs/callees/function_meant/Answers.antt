@@ -1,9 +1,9 @@
 use Rattle.std.proofs.Common.{ap, sym}
-use Rattle.typing_program.specs.View.{function_type_of}
-use Rattle.typing_rules.specs.Types.{FunctionType}
-use Rattle.typing_rules.specs.Verdict.{Verdict, fine}
-use Rattle.typing_rules.specs.Expressions.{Called}
-use Rattle.typing_rules.specs.Program.{Callee}
+use Rattle.typed_ast.specs.View.{function_type_of}
+use Rattle.typing_spec.specs.Types.{FunctionType}
+use Rattle.typing_spec.specs.Verdict.{Verdict, fine}
+use Rattle.typing_spec.specs.Expressions.{Called}
+use Rattle.typing_spec.specs.Program.{Callee}
 use Rattle.typing_expressions.proofs.callees.function_meant.Goals as goal
 
 abbrev found : FunctionType → Callee → Verdict Called

@@ -1,5 +1,5 @@
 use Rattle.tree.specs.View.{option_tree}
-use Rattle.typing_rules.specs.Statements as typed
+use Rattle.typing_spec.specs.Statements as typed
 use Rattle.typing_expressions.proofs.Verdicts.{tells_left}
 use Rattle.typing_scopes.specs.Scopes.{with_texts}
 use Rattle.typing_statements.proofs.loop_controls.controlled.Goals as goal

@@ -1,11 +1,11 @@
 use Rattle.std.proofs.Common.{◌≡◌, ◌++◌, ◌∷◌, [], refl, sym, ap, ◌∙◌, subst, map, append-nil, arith, rules, None, Some, Ok, w64, of_z, to_z}
 use Rattle.std.proofs.Math.Facts.{to_z-of_z}
 use Rattle.srcset.specs.declared.code.Code.TheVariants as code
-use Rattle.typing_program.specs.declared.statements.Statement as S
+use Rattle.typed_ast.specs.declared.statements.Statement as S
 use Rattle.tree.specs.View.{tree_of, option_tree, start_of, stmt_of, piece_of, pieces_of}
-use Rattle.typing_rules.specs.Scope.{past}
-use Rattle.typing_rules.specs.Verdict.{breaks}
-use Rattle.typing_rules.specs.Statements.{Done, statement}
+use Rattle.typing_spec.specs.Scope.{past}
+use Rattle.typing_spec.specs.Verdict.{breaks}
+use Rattle.typing_spec.specs.Statements.{Done, statement}
 use Rattle.typing_expressions.specs.Refused.{IsOf, Tells}
 use Rattle.typing_scopes.specs.Scopes.{with_texts}
 use Rattle.typing_statements.specs.Views.{around_of}

@@ -1,6 +1,6 @@
 use Rattle.std.proofs.Common.{map, arith}
 use Rattle.tree.specs.View.{external_of}
-use Rattle.typing_rules.specs.Units.{definitions_in}
+use Rattle.typing_spec.specs.Units.{definitions_in}
 use Rattle.typing_units.proofs.Readings.{definitions_more, definitions_ended}
 use Rattle.typing_units.proofs.definitions.definitions_in.Goals as goal
 

@@ -1,7 +1,7 @@
 use Rattle.std.proofs.Common.{◌≡◌, drop, map}
-use Rattle.typing_program.specs.View.{function_of}
+use Rattle.typed_ast.specs.View.{function_of}
 use Rattle.typing_scopes.specs.Scopes.{with_texts}
-use Rattle.typing_rules.specs.Units.{main_from}
+use Rattle.typing_spec.specs.Units.{main_from}
 use Rattle.typing_units.proofs.entries.main_from.Given as goal
 
 abbrev pub invariant-loop-number : goal.invariant-loop-number

@@ -1,7 +1,7 @@
 use Rattle.std.proofs.Common.{◌≡◌, [], List, map}
-use Rattle.typing_program.specs.View.{static_of}
-use Rattle.typing_rules.specs.Scope.{StaticObject}
-use Rattle.typing_rules.specs.Units.{statics_from}
+use Rattle.typed_ast.specs.View.{static_of}
+use Rattle.typing_spec.specs.Scope.{StaticObject}
+use Rattle.typing_spec.specs.Units.{statics_from}
 use Rattle.typing_units.proofs.Values.{SetSoFar}
 use Rattle.typing_units.proofs.first_values.set_values.Given as goal
 

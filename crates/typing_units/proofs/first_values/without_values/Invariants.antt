@@ -1,5 +1,5 @@
 use Rattle.std.proofs.Common.{◌≡◌, map}
-use Rattle.typing_program.specs.View.{static_of}
+use Rattle.typed_ast.specs.View.{static_of}
 use Rattle.typing_units.proofs.Values.{empty_of}
 use Rattle.typing_units.proofs.first_values.without_values.Given as goal
 

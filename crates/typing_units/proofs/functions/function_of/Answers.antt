@@ -2,8 +2,8 @@ use Rattle.std.proofs.Common.{◌≡◌, ◌≤◌, ◌<◌, ◌+◌, ◌-◌, �
 use Rattle.std.proofs.lemmas.List.{length-map}
 use Rattle.tree.specs.View as tree
 use Rattle.tree.specs.Counts.{function_nodes}
-use Rattle.typing_program.specs.View.{object_type_of, parameter_type_of, function_type_of, statement_of, statements_of}
-use Rattle.typing_rules.specs.Units.{weight, numbers_in, bytes_of_references, bytes_of_objects}
+use Rattle.typed_ast.specs.View.{object_type_of, parameter_type_of, function_type_of, statement_of, statements_of}
+use Rattle.typing_spec.specs.Units.{weight, numbers_in, bytes_of_references, bytes_of_objects}
 use Rattle.typing_units.proofs.Bytes.{light, weight_exact, nodes_exact}
 use Rattle.typing_units.proofs.Wholes.{function_is}
 use Rattle.typing_units.proofs.functions.function_of.Goals as goal

@@ -1,6 +1,6 @@
 use Rattle.std.proofs.Common.{◌≡◌, ◌+◌, ◌≤◌, drop, map}
-use Rattle.typing_program.specs.View.{parameter_type_of}
-use Rattle.typing_rules.specs.Units.{numbers_in}
+use Rattle.typed_ast.specs.View.{parameter_type_of}
+use Rattle.typing_spec.specs.Units.{numbers_in}
 use Rattle.typing_units.proofs.functions.numbers_in.Given as goal
 
 abbrev pub invariant-loop-parameter : goal.invariant-loop-parameter

@@ -1,7 +1,7 @@
 use Rattle.std.proofs.Common.{List, map, refl}
 use Rattle.typing_scopes.specs.declared.bindings.StaticObject.{StaticObject}
 use Rattle.typing_scopes.specs.Scopes.{static_of}
-use Rattle.typing_rules.specs.Units.{bytes_of_statics}
+use Rattle.typing_spec.specs.Units.{bytes_of_statics}
 use Rattle.typing_units.specs.inside.Parts.{static_bytes}
 use Rattle.typing_units.proofs.Sums.{next_sum}
 use Rattle.typing_units.proofs.limits.bytes_of_statics.Goals as goal

@@ -1,7 +1,7 @@
 use Rattle.std.proofs.Common.{sym, subst, length}
 use Rattle.std.proofs.lemmas.List.{length-map}
-use Rattle.typing_program.specs.View.{function_of}
-use Rattle.typing_rules.specs.Units.{within_limits}
+use Rattle.typed_ast.specs.View.{function_of}
+use Rattle.typing_spec.specs.Units.{within_limits}
 use Rattle.typing_expressions.specs.Refused.{IsOf}
 use Rattle.typing_units.specs.Views.{unit_scope, built_of}
 use Rattle.typing_units.proofs.Bytes.{statics_refused, all_within}

@@ -2,7 +2,7 @@ use Rattle.std.proofs.Common.{List, ℕ, get_or, refl}
 use Rattle.std.proofs.lemmas.List.{get_or_default}
 use Rattle.typing_units.proofs.Sums.{capped32_none}
 use Rattle.typing_scopes.specs.Scopes.{with_texts}
-use Rattle.typing_rules.specs.Units.{bytes_of_literals, literals_of}
+use Rattle.typing_spec.specs.Units.{bytes_of_literals, literals_of}
 use Rattle.typing_units.specs.inside.Parts.{literal_bytes}
 use Rattle.typing_units.proofs.Sums.{next_sum}
 use Rattle.typing_units.proofs.literals.bytes_of_literals.Goals as goal

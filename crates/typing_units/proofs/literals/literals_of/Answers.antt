@@ -1,7 +1,7 @@
 use Rattle.std.proofs.Common.{get_or, arith}
 use Rattle.std.proofs.lemmas.List.{get_or_default}
 use Rattle.typing_scopes.specs.Scopes.{with_texts}
-use Rattle.typing_rules.specs.Units.{literals_of}
+use Rattle.typing_spec.specs.Units.{literals_of}
 use Rattle.typing_units.proofs.Readings.{literals_more, literals_ended}
 use Rattle.typing_units.proofs.literals.literals_of.Goals as goal
 

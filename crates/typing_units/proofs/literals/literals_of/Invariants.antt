@@ -1,7 +1,7 @@
 use Rattle.std.proofs.Common.{◌≡◌, ◌++◌, drop, map}
 use Rattle.typing_scopes.specs.Scopes.{with_texts}
-use Rattle.typing_rules.specs.Scope.{Scope}
-use Rattle.typing_rules.specs.Units.{literals_of}
+use Rattle.typing_spec.specs.Scope.{Scope}
+use Rattle.typing_spec.specs.Units.{literals_of}
 use Rattle.typing_units.proofs.literals.literals_of.Given as goal
 
 abbrev pub invariant-loop-name : goal.invariant-loop-name

@@ -1,6 +1,6 @@
 use Rattle.std.proofs.Common.{[], ◌∷◌, ◌++◌}
 use Rattle.typing_scopes.specs.Scopes.{with_texts}
-use Rattle.typing_rules.specs.Scope.{literal_of}
+use Rattle.typing_spec.specs.Scope.{literal_of}
 use Rattle.typing_units.proofs.Readings.{text_more}
 use Rattle.typing_units.proofs.literals.with_text.Goals as goal
 

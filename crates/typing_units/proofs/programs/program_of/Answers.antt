@@ -1,5 +1,5 @@
 use Rattle.std.proofs.Common.{map}
-use Rattle.typing_program.specs.View.{static_of}
+use Rattle.typed_ast.specs.View.{static_of}
 use Rattle.typing_units.specs.Views.{unit_scope, built_of}
 use Rattle.typing_units.proofs.Wholes.{program_is}
 use Rattle.typing_units.proofs.programs.program_of.Goals as goal

@@ -1,9 +1,9 @@
 use Rattle.std.proofs.Common.{◌≡◌, subst}
 use Rattle.std.specs.Prelude.{IfOk, IfErr}
-use Rattle.typing_program.specs.View.{program_of}
+use Rattle.typed_ast.specs.View.{program_of}
 use Rattle.typing_scopes.specs.Scopes.{with_texts}
-use Rattle.typing_rules.specs.Verdict.{fine}
-use Rattle.typing_rules.specs.Units.{whole_program}
+use Rattle.typing_spec.specs.Verdict.{fine}
+use Rattle.typing_spec.specs.Units.{whole_program}
 use Rattle.typing_expressions.specs.Refused.{Tells}
 use Rattle.typing_units.specs.Views.{unit_scope, built_of}
 use Rattle.typing_units.proofs.Wholes.{taken_out}

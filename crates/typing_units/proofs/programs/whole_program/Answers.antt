@@ -1,9 +1,9 @@
 use Rattle.std.proofs.Common.{◌≡◌, [], map, ap, sym, ◌∙◌}
-use Rattle.typing_program.specs.View.{function_of}
+use Rattle.typed_ast.specs.View.{function_of}
 use Rattle.typing_scopes.specs.Scopes.{static_of, with_statics, with_texts}
-use Rattle.typing_rules.specs.Verdict.{fine}
-use Rattle.typing_rules.specs.Units.{within_limits, main_from}
-use Rattle.typing_rules.specs.Uses.{all_defined, uses_in_functions}
+use Rattle.typing_spec.specs.Verdict.{fine}
+use Rattle.typing_spec.specs.Units.{within_limits, main_from}
+use Rattle.typing_spec.specs.Uses.{all_defined, uses_in_functions}
 use Rattle.typing_expressions.specs.Refused.{IsOf}
 use Rattle.typing_units.specs.Views.{unit_scope, built_of}
 use Rattle.typing_units.proofs.Wholes.{at_slices, limits_told, uses_told, main_same, whole_fine, if_ok}

@@ -1,8 +1,8 @@
 use Rattle.std.proofs.Common.{List, map, refl}
-use Rattle.typing_program.specs.declared.types.ObjectType.{ObjectType}
-use Rattle.typing_program.specs.View.{object_type_of}
-use Rattle.typing_rules.specs.Types.{size_of_object}
-use Rattle.typing_rules.specs.Units.{in_words, bytes_of_objects}
+use Rattle.typed_ast.specs.declared.types.ObjectType.{ObjectType}
+use Rattle.typed_ast.specs.View.{object_type_of}
+use Rattle.typing_spec.specs.Types.{size_of_object}
+use Rattle.typing_spec.specs.Units.{in_words, bytes_of_objects}
 use Rattle.typing_units.proofs.Sums.{next_sum}
 use Rattle.typing_units.proofs.sizes.bytes_of_objects.Goals as goal
 

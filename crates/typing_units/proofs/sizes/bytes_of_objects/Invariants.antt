@@ -1,7 +1,7 @@
 use Rattle.std.proofs.Common.{◌≡◌, map, take}
 use Rattle.tree.specs.Capped.{capped32}
-use Rattle.typing_program.specs.View.{object_type_of}
-use Rattle.typing_rules.specs.Units.{bytes_of_objects}
+use Rattle.typed_ast.specs.View.{object_type_of}
+use Rattle.typing_spec.specs.Units.{bytes_of_objects}
 use Rattle.typing_units.proofs.sizes.bytes_of_objects.Given as goal
 
 abbrev pub invariant-loop-object : goal.invariant-loop-object

@@ -1,7 +1,7 @@
 use Rattle.std.proofs.Common.{List, map, refl}
-use Rattle.typing_program.specs.declared.types.ParameterType.{ParameterType}
-use Rattle.typing_program.specs.View.{parameter_type_of}
-use Rattle.typing_rules.specs.Units.{bytes_of_references}
+use Rattle.typed_ast.specs.declared.types.ParameterType.{ParameterType}
+use Rattle.typed_ast.specs.View.{parameter_type_of}
+use Rattle.typing_spec.specs.Units.{bytes_of_references}
 use Rattle.typing_units.specs.inside.Parts.{reference_bytes}
 use Rattle.typing_units.proofs.Sums.{next_sum}
 use Rattle.typing_units.proofs.Bytes.{references_step}

@@ -1,7 +1,7 @@
 use Rattle.std.proofs.Common.{◌≡◌, map, take}
 use Rattle.tree.specs.Capped.{capped32}
-use Rattle.typing_program.specs.View.{parameter_type_of}
-use Rattle.typing_rules.specs.Units.{bytes_of_references}
+use Rattle.typed_ast.specs.View.{parameter_type_of}
+use Rattle.typing_spec.specs.Units.{bytes_of_references}
 use Rattle.typing_units.proofs.sizes.bytes_of_references.Given as goal
 
 abbrev pub invariant-loop-parameter : goal.invariant-loop-parameter

@@ -1,7 +1,7 @@
 use Rattle.std.proofs.Common.{ap, ◌∙◌}
 use Rattle.ctypes.specs.Types.{bytes_of}
 use Rattle.tree.specs.Capped.{capped32}
-use Rattle.typing_rules.specs.Types.{elements_in}
+use Rattle.typing_spec.specs.Types.{elements_in}
 use Rattle.typing_units.proofs.Bytes.{few_bytes, capped32_small}
 use Rattle.typing_units.proofs.sizes.object_size.Goals as goal
 

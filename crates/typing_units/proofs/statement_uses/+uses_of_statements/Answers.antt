@@ -1,8 +1,8 @@
 use Rattle.std.proofs.Common.{List, map, refl}
-use Rattle.typing_program.specs.declared.statements.Statement.{Statement}
-use Rattle.typing_program.specs.View.{statements_of, statement_of}
+use Rattle.typed_ast.specs.declared.statements.Statement.{Statement}
+use Rattle.typed_ast.specs.View.{statements_of, statement_of}
 use Rattle.typing_scopes.specs.Scopes.{static_of}
-use Rattle.typing_rules.specs.Uses.{uses_in_statements, uses_in_statement}
+use Rattle.typing_spec.specs.Uses.{uses_in_statements, uses_in_statement}
 use Rattle.typing_units.proofs.Firsts.{next_use}
 use Rattle.typing_units.proofs.statement_uses.+uses_of_statements.Goals as goal
 

@@ -1,7 +1,7 @@
 use Rattle.std.proofs.Common.{◌≡◌, map, take}
-use Rattle.typing_program.specs.View.{statements_of, statement_of}
+use Rattle.typed_ast.specs.View.{statements_of, statement_of}
 use Rattle.typing_scopes.specs.Scopes.{static_of}
-use Rattle.typing_rules.specs.Uses.{uses_in_statements}
+use Rattle.typing_spec.specs.Uses.{uses_in_statements}
 use Rattle.typing_units.specs.inside.Undefined.{undefined_in}
 use Rattle.typing_units.proofs.statement_uses.+uses_of_statements.Given as goal
 

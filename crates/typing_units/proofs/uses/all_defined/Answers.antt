@@ -1,7 +1,7 @@
 use Rattle.std.proofs.Common.{[], map, sym, subst, refl, ◌∙◌}
-use Rattle.typing_program.specs.View.{function_of}
+use Rattle.typed_ast.specs.View.{function_of}
 use Rattle.typing_scopes.specs.Scopes.{static_of, with_statics}
-use Rattle.typing_rules.specs.Uses.{all_defined, uses_in_functions}
+use Rattle.typing_spec.specs.Uses.{all_defined, uses_in_functions}
 use Rattle.typing_expressions.specs.Refused.{IsOf}
 use Rattle.typing_units.proofs.Firsts.{none_undefined, first_stands}
 use Rattle.typing_units.proofs.uses.all_defined.Goals as goal

@@ -1,7 +1,7 @@
 use Rattle.std.proofs.Common.{◌≡◌, map, take}
-use Rattle.typing_program.specs.View.{function_of}
+use Rattle.typed_ast.specs.View.{function_of}
 use Rattle.typing_scopes.specs.Scopes.{static_of}
-use Rattle.typing_rules.specs.Uses.{uses_in_functions}
+use Rattle.typing_spec.specs.Uses.{uses_in_functions}
 use Rattle.typing_units.specs.inside.Undefined.{undefined_in}
 use Rattle.typing_units.proofs.uses.in_functions.Given as goal
 

@@ -1,8 +1,8 @@
 use Rattle.std.proofs.Common.{List, map, refl}
-use Rattle.typing_program.specs.declared.initialisers.Initialiser.{Initialiser}
-use Rattle.typing_program.specs.View.{initialisers_of, initialiser_of}
+use Rattle.typed_ast.specs.declared.initialisers.Initialiser.{Initialiser}
+use Rattle.typed_ast.specs.View.{initialisers_of, initialiser_of}
 use Rattle.typing_scopes.specs.Scopes.{static_of}
-use Rattle.typing_rules.specs.Uses.{uses_in_initialisers, uses_in_initialiser}
+use Rattle.typing_spec.specs.Uses.{uses_in_initialisers, uses_in_initialiser}
 use Rattle.typing_units.proofs.Firsts.{next_use}
 use Rattle.typing_units.proofs.value_uses.+uses_of_initialisers.Goals as goal
 

@@ -1,7 +1,7 @@
 use Rattle.std.proofs.Common.{◌≡◌, map, take}
-use Rattle.typing_program.specs.View.{initialisers_of, initialiser_of}
+use Rattle.typed_ast.specs.View.{initialisers_of, initialiser_of}
 use Rattle.typing_scopes.specs.Scopes.{static_of}
-use Rattle.typing_rules.specs.Uses.{uses_in_initialisers}
+use Rattle.typing_spec.specs.Uses.{uses_in_initialisers}
 use Rattle.typing_units.specs.inside.Undefined.{undefined_in}
 use Rattle.typing_units.proofs.value_uses.+uses_of_initialisers.Given as goal
 

@@ -1,8 +1,8 @@
 use Rattle.std.proofs.Common.{List, map, refl}
-use Rattle.typing_program.specs.declared.expressions.Argument.{Argument}
-use Rattle.typing_program.specs.View.{arguments_of, argument_of}
+use Rattle.typed_ast.specs.declared.expressions.Argument.{Argument}
+use Rattle.typed_ast.specs.View.{arguments_of, argument_of}
 use Rattle.typing_scopes.specs.Scopes.{static_of}
-use Rattle.typing_rules.specs.Uses.{uses_in_arguments}
+use Rattle.typing_spec.specs.Uses.{uses_in_arguments}
 use Rattle.typing_units.specs.inside.Undefined.{uses_in_given}
 use Rattle.typing_units.proofs.Firsts.{next_use, arguments_step}
 use Rattle.typing_units.proofs.value_uses.+uses_of_values.Goals as goal

@@ -1,7 +1,7 @@
 use Rattle.std.proofs.Common.{◌≡◌, map, take}
-use Rattle.typing_program.specs.View.{arguments_of, argument_of}
+use Rattle.typed_ast.specs.View.{arguments_of, argument_of}
 use Rattle.typing_scopes.specs.Scopes.{static_of}
-use Rattle.typing_rules.specs.Uses.{uses_in_arguments}
+use Rattle.typing_spec.specs.Uses.{uses_in_arguments}
 use Rattle.typing_units.specs.inside.Undefined.{undefined_in}
 use Rattle.typing_units.proofs.value_uses.+uses_of_values.Given as goal
 

@@ -1,6 +1,6 @@
 use Rattle.std.proofs.Common.{rules, ◌≡◌, ℕ, [], Some, ap, refl, subst, ◌∙◌}
-use Rattle.meaning_ports.specs.Port.{PortView}
-use Rattle.meaning_ports.specs.Memory.{port_of}
+use Rattle.io_ports.specs.Port.{PortView}
+use Rattle.io_ports.specs.Memory.{port_of}
 use Rattle.cc.specs.MemoryMap.{usual_stack}
 use Rattle.cc.specs.Performed.{Performs}
 use Rattle.cc.specs.Reported.{Said}

@@ -1,5 +1,5 @@
 use Rattle.std.proofs.Common.{◌≡◌, map, ◌+◌, arith}
-use Rattle.typing_program.specs.View.{static_of}
+use Rattle.typed_ast.specs.View.{static_of}
 use Rattle.frames.specs.Sizes.{literal_bytes}
 use Rattle.frames.proofs.Whole.{data_bytes_are}
 use Rattle.frames.proofs.starts.Starts.new.Goals as goal

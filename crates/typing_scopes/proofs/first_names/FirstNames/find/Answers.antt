@@ -1,6 +1,6 @@
 use Rattle.std.proofs.Common.{◌∙◌, ◌-◌, ap, sym, arith}
 use Rattle.std.specs.Prelude.{Some}
-use Rattle.typing_rules.specs.Scope.{place_from}
+use Rattle.typing_spec.specs.Scope.{place_from}
 use Rattle.typing_scopes.proofs.FirstPlaces.{newest_within, first_place, first_missing}
 use Rattle.typing_scopes.proofs.first_names.FirstNames.find.Goals as goal
 

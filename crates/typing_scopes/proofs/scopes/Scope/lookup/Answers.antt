@@ -1,6 +1,6 @@
 use Rattle.std.proofs.Common.{◌∙◌, ap, sym}
 use Rattle.std.specs.Prelude.{slice_get}
-use Rattle.typing_rules.specs.Scope as typed
+use Rattle.typing_spec.specs.Scope as typed
 use Rattle.typing_scopes.specs.Scopes.{seen_binding}
 use Rattle.typing_scopes.proofs.Lookups.{option_seen, option_read, found_in, not_found}
 use Rattle.typing_scopes.proofs.scopes.Scope.lookup.Goals as goal

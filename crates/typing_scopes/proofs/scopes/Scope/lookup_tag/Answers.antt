@@ -1,6 +1,6 @@
 use Rattle.std.proofs.Common.{◌∙◌, ap, sym}
 use Rattle.std.specs.Prelude.{slice_get}
-use Rattle.typing_rules.specs.Scope as typed
+use Rattle.typing_spec.specs.Scope as typed
 use Rattle.typing_scopes.specs.Scopes.{seen_tag}
 use Rattle.typing_scopes.proofs.Lookups.{option_read, tag_found_in, tag_not_found}
 use Rattle.typing_scopes.proofs.scopes.Scope.lookup_tag.Goals as goal

@@ -1,9 +1,0 @@
-use Rattle.std.proofs.Common.{◌≡◌, ◌+◌, ◌-◌}
-use Rattle.meaning.specs.Statements.{zeros}
-use Rattle.cabs_store.specs.View.{reference_of}
-use Rattle.cabs_store.specs.layer.Agrees.{Outside, state_in}
-use Rattle.cabs_steps.proofs.elements.clear.Given as goal
-
-abbrev pub invariant-loop-i : goal.invariant-loop-i
-invariant-loop-i l = (o : Outside) → zeros (l.count - l.i) (l.first + l.i) l.lengths (reference_of l.r) (state_in l.scene o) ≡
-    zeros l.count l.first l.lengths (reference_of l.r) (state_in l.initial.scene o)

@@ -1,6 +1,0 @@
-use Rattle.std.proofs.Common.{arith}
-use Rattle.cabs_store.proofs.Trees.{element_kept}
-use Rattle.cabs_store.proofs.element_tree.Tree.set.Goals as goal
-
-pub returns-else-is_empty : goal.returns-else-is_empty
-returns-else-is_empty c = element_kept c.args.self.now c.in-Element.field-0 c.args.path.now _ c.in-Element.is (grind arith)

@@ -1,5 +1,0 @@
-use Rattle.cabs_store.proofs.Resumes.{call_acts}
-use Rattle.cabs_store.proofs.laws.call_acts.Goals as goal
-
-pub returns : goal.returns
-returns c = λ p call real. call_acts p call real

@@ -1,5 +1,0 @@
-use Rattle.cabs_store.proofs.Adequate.{real}
-use Rattle.cabs_store.proofs.laws.call_is_real.Goals as goal
-
-pub returns : goal.returns
-returns c = real

@@ -1,8 +1,0 @@
-use Rattle.std.proofs.Common.{◌∙◌, ap, map, List}
-use Rattle.cabs_store.specs.declared.element_tree.Tree.{Tree}
-use Rattle.cabs_store.specs.View.{tree_of}
-use Rattle.cabs_store.proofs.Trees.{map_take}
-use Rattle.cabs_store.proofs.store.Store.truncate.Goals as goal
-
-pub returns : goal.returns
-returns c = ap (λ (ts : List Tree). map tree_of ts) c.truncate.ensures.items ∙ map_take c.args.count _

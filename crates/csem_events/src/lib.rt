@@ -1,0 +1,2 @@
+//! The observable events of a run, for all layers that speak of runs.
+#![tactic(auto)]

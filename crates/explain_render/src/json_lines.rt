@@ -1,0 +1,133 @@
+//! An explained fault as JSON (RFC 8259).
+
+use crate::text::column_of;
+use explain::{Finding, Note, Shown, Topic, Undefined};
+use srcset::message;
+use std::alloc::{AllocError, Global};
+
+/// Puts a fault as one object on a line of its own, with the members file, line, column, end, code, text, token and notes.
+/// Columns are counted in bytes from 1, `end` is that behind the token; both are null where they are not known.
+pub fn put_json(alloc: Global, finding: &Finding, out: &mut String) -> Result<(), AllocError> {
+    let fault = &finding.fault;
+    let code = fault.code;
+    let text = said(alloc, finding)?;
+    put_place(alloc, fault.file.as_str(), fault.line, &finding.shown, out)?;
+    out.push_str(format!(in alloc; ",\"code\":{code}")?.as_str())?;
+    put_rest(alloc, text.as_str(), &finding.shown, out)
+}
+
+/// Puts undefined behaviour in the same form; its code is a string, U1 to U8.
+pub fn put_json_undefined(
+    alloc: Global,
+    undefined: &Undefined,
+    out: &mut String,
+) -> Result<(), AllocError> {
+    let act = undefined.act;
+    put_place(
+        alloc,
+        undefined.file.as_str(),
+        undefined.line,
+        &undefined.shown,
+        out,
+    )?;
+    out.push_str(format!(in alloc; ",\"code\":\"U{act}\"")?.as_str())?;
+    put_rest(alloc, undefined.title(), &undefined.shown, out)
+}
+
+/// Puts the members that tell a place.
+fn put_place(
+    alloc: Global,
+    file: &str,
+    line: u32,
+    shown: &Shown,
+    out: &mut String,
+) -> Result<(), AllocError> {
+    out.push_str("{\"file\":")?;
+    put_string(alloc, file, out)?;
+    out.push_str(format!(in alloc; ",\"line\":{line}")?.as_str())?;
+    put_columns(alloc, shown, out)
+}
+
+/// Puts the members text, token and notes, and the end of the line.
+fn put_rest(alloc: Global, text: &str, shown: &Shown, out: &mut String) -> Result<(), AllocError> {
+    out.push_str(",\"text\":")?;
+    put_string(alloc, text, out)?;
+    out.push_str(",\"token\":")?;
+    let token = String::from_utf8_lossy(alloc, shown.token.as_slice())?;
+    put_string(alloc, token.as_str(), out)?;
+    out.push_str(",\"notes\":[")?;
+    put_notes(alloc, shown.notes.as_slice(), out)?;
+    out.push_str("]}\n")
+}
+
+/// The text of a fault's code, and what the fault adds to it.
+pub(crate) fn said(alloc: Global, finding: &Finding) -> Result<String, AllocError> {
+    let mut text = String::from_str(alloc, message(finding.fault.code))?;
+    text.push_str(finding.fault.text.as_str())?;
+    Ok(text)
+}
+
+/// Puts the members column and end.
+fn put_columns(alloc: Global, shown: &Shown, out: &mut String) -> Result<(), AllocError> {
+    let column = column_of(shown);
+    if column == 0 {
+        return out.push_str(",\"column\":null,\"end\":null");
+    }
+    let end = column.saturating_add(shown.token.len());
+    let members = format!(in alloc; ",\"column\":{column},\"end\":{end}")?;
+    out.push_str(members.as_str())
+}
+
+fn put_notes(alloc: Global, notes: &[Note], out: &mut String) -> Result<(), AllocError> {
+    let mut is_first = true;
+    for note in notes {
+        if !is_first {
+            out.push_str(",")?;
+        }
+        is_first = false;
+        put_note(alloc, note, out)?;
+    }
+    Ok(())
+}
+
+/// Puts a note: its topic, its text, and where it has one its place.
+fn put_note(alloc: Global, note: &Note, out: &mut String) -> Result<(), AllocError> {
+    out.push_str("{\"topic\":\"")?;
+    out.push_str(match note.topic {
+        Topic::Included => "included",
+        Topic::Macro => "macro",
+        Topic::Called => "called",
+        Topic::Value => "value",
+        Topic::Suggestion => "suggestion",
+        Topic::Hint => "hint",
+    })?;
+    out.push_str("\",\"text\":")?;
+    put_string(alloc, note.text.as_str(), out)?;
+    if !note.file.is_empty() {
+        let (line, column) = (note.line, note.column);
+        out.push_str(",\"file\":")?;
+        put_string(alloc, note.file.as_str(), out)?;
+        out.push_str(format!(in alloc; ",\"line\":{line}")?.as_str())?;
+        if column != 0 {
+            out.push_str(format!(in alloc; ",\"column\":{column}")?.as_str())?;
+        }
+    }
+    out.push_str("}")
+}
+
+/// Puts a string with its quotes: `"`, `\` and the characters below U+0020 are escaped (RFC 8259, section 7).
+pub(crate) fn put_string(alloc: Global, text: &str, out: &mut String) -> Result<(), AllocError> {
+    out.push('"')?;
+    for letter in text.chars() {
+        match letter {
+            '"' => out.push_str("\\\"")?,
+            '\\' => out.push_str("\\\\")?,
+            '\0'..='\x1f' | '\x7f' => {
+                let number = letter as u32;
+                out.push_str(format!(in alloc; "\\u{number:04x}")?.as_str())?;
+            }
+            _ => out.push(letter)?,
+        }
+    }
+    out.push('"')
+}

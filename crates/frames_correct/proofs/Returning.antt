@@ -1,0 +1,88 @@
+-- The end of a call.
+use Rattle.std.proofs.Common.{◌≡◌, ◌≢◌, ℕ, zero, suc, ◌+◌, ◌%◌, ◌^◌, ◌≤◌, List, [], ◌∷◌, length, take, map, Some, None, false, refl, sym, ap, ◌∙◌, subst, arith, eqb}
+use Rattle.std.specs.Prelude.{slice_get, option_map}
+use Rattle.std.proofs.lemmas.Bool.Decides.{nat_tests}
+use Rattle.csem.specs.History.{Left}
+use Rattle.tac_code.specs.declared.code.Operand.TheVariants as operand
+use Rattle.tac_code.specs.declared.code.Instruction.TheVariants as instruction
+use Rattle.tac_code.specs.Code.{Program, function_at}
+use Rattle.tac_code.specs.Run as tac
+use Rattle.tac_code.specs.Run.{State, Call, Value, Values, word, word_in, Progress, running, ended, word_at, result_alone, returned, open_calls, ◌>>=◌}
+use Rattle.tac_code.specs.Sound.{OperandFits}
+use Rattle.frames_code.specs.declared.code.Operand.TheVariants as source
+use Rattle.frames_code.specs.Code as flat_code
+use Rattle.frames_code.specs.Code.{frame_bytes}
+use Rattle.frames_code.specs.Run as flat
+use Rattle.frames_code.specs.Run.{Frame, Memory, memory, memory_among, name_of}
+use Rattle.frames.specs.Layout.{Starts, layout_of}
+use Rattle.frames.specs.Translated.{translated}
+use Rattle.frames_correct.specs.Matched.{Spot, FramesHold, Matched, Alike, AllShow, Shows, function_for, stack_bytes, spots, spots_from, own_piece}
+use Rattle.frames_correct.proofs.Lists.{bool_cases, some_below, get_left, get_take, length_take, length_both}
+use Rattle.frames_correct.proofs.Memory.{among_later}
+use Rattle.frames_correct.proofs.Spots.{orderly, frame_some}
+use Rattle.frames_correct.proofs.Frames.{functions_of, frames_stay, lies_by}
+use Rattle.frames_correct.proofs.Values.{gave, word_known, word_shows}
+use Rattle.frames_correct.proofs.Targets.{bound, found}
+use Rattle.frames_correct.proofs.Ground.{IsMadeOf, name_is}
+
+-- all but the result are lost
+pub result_shows : (xs ys : List Spot) (values : Values) (places : flat.Values) → AllShow xs values places → AllShow ys (result_alone (word_in (values 0))) (flat.result_alone (places 0))
+result_shows xs ys values places all k v e =
+    bool_cases (eqb k 0)
+    (λ t.
+    let now : option_map word (word_in (values 0)) ≡ Some v = rw t at e in
+    let g = gave word (word_in (values 0)) v now in
+    let old = all 0 (word g.from) (word_known (values 0) g.from g.from_is) in
+    let there : flat.result_alone (places 0) k ≡ Some (flat.word g.from) = rw t old.1 in
+    subst (λ x. Shows ys x (flat.result_alone (places 0) k)) g.is (old.0, there))
+    (λ t. let none : None ≡ Some v = rw t at e in absurd (let z : ⊥ = cc in z))
+
+-- a list below the frame on top
+pub below_top : (p : flat_code.Program) (s : flat.State) (g : Frame) (gs : List Frame) (t2 : flat.Values) (l : ℕ) → s.waiting ≡ g ∷ gs → l ≢ name_of p s.frame s.waiting
+    → memory p (record s { frame = g; temporaries = t2; arguments = flat.unset; waiting = gs }) l ≡ memory p s l
+below_top p s g gs t2 zero e ne = refl
+below_top p s g gs t2 (suc l) e ne =
+    let other : eqb (name_of p s.frame s.waiting) (suc l) ≡ false = grind (arith, nat_tests) in
+    ap (λ hs. memory_among p hs (suc l)) (sym e) ∙ sym (among_later p s.frame s.waiting (suc l) other)
+
+module _ (q : Program) (f : flat_code.Program) (g : IsMadeOf q f) (t : State) (s : flat.State) (m : Matched q f t s) where
+  to_caller : (c : Call) (cs : List Call) (fr : Frame) (fs : List Frame) → t.waiting ≡ c ∷ cs → s.waiting ≡ fr ∷ fs → FramesHold q (c ∷ cs) (fr ∷ fs) t.store
+      → Matched q f (record t { call = c; temporaries = result_alone (word_in (t.temporaries 0)); waiting = cs; store = take t.call.base t.store; history = Left ∷ t.history }) (record s { frame = fr; temporaries = flat.result_alone (s.temporaries 0); arguments = flat.unset; waiting = fs })
+  to_caller c cs fr fs et es frames =
+      let lower = functions_of (c ∷ cs) in
+      let base : t.call.base ≡ length (spots q lower) = m.frames.0.base ∙ ap (λ ws. length (spots q (functions_of ws))) et in
+      let own = spots_from (stack_bytes q (open_calls t)) (flat_code.area_home (function_for q t.call.function)) (map own_piece (function_at q t.call.function).objects) in
+      let all : length t.store ≡ length (spots q (functions_of t.waiting)) + length own = m.count ∙ length_both (spots q (functions_of t.waiting)) own in
+      let at_least : t.call.base ≤ length t.store = omega (arith, all, m.frames.0.base) in
+      let s2 : flat.State = record s { frame = fr; temporaries = flat.result_alone (s.temporaries 0); arguments = flat.unset; waiting = fs } in
+      let kept : (n : ℕ) (x : Spot) → slice_get (spots q lower) n ≡ Some x → slice_get (take t.call.base t.store) n ≡ slice_get t.store n = λ n x ex. get_take t.call.base t.store n (omega (arith, base, some_below (spots q lower) n x ex)) in
+      record {
+        frames = frames_stay q (c ∷ cs) (fr ∷ fs) t.store (take t.call.base t.store) (λ n x ex out. kept n x ex) frames;
+        temporaries = result_shows (spots q (open_calls t)) (spots q lower) t.temporaries s.temporaries m.temporaries;
+        count = length_take t.call.base t.store at_least ∙ base;
+        in_place = λ n x ex bx.
+            let before : slice_get (spots q (functions_of t.waiting)) n ≡ Some x = ap (λ ws. slice_get (spots q (functions_of ws)) n) et ∙ ex in
+            let low = (orderly q lower).low n x ex in
+            let name = name_is q f g t s m in
+            let more : stack_bytes q (open_calls t) ≡ frame_bytes (function_for q t.call.function) + stack_bytes q lower = ap (λ ws. frame_bytes (function_for q t.call.function) + stack_bytes q (functions_of ws)) et in
+            lies_by x (slice_get t.store n) (slice_get (take t.call.base t.store) n) (memory f s x.list) (memory f s2 x.list) (kept n x ex)
+            (below_top f s fr fs (flat.result_alone (s.temporaries 0)) x.list es (λ e. omega (arith, e, low, name, more, frame_some (function_for q t.call.function))))
+            (m.in_place n x (get_left (spots q (functions_of t.waiting)) own n x before) bx);
+        input = m.input;
+        bytes = m.bytes;
+        trace = m.trace;
+      }
+
+  returns : (cs : List Call) (fs : List Frame) → t.waiting ≡ cs → s.waiting ≡ fs → FramesHold q cs fs t.store → OperandFits (function_at q t.call.function) (operand.Temporary 0) → Alike q f (returned t cs) (flat.returned s fs)
+  returns [] [] et es frames fit =
+      bound q f (word_at t (operand.Temporary 0)) (λ w. ended (w % 2 ^ 8) t.input (Left ∷ t.history)) (flat.returned s []) (λ w ew.
+      let h = word_shows q f t s m (operand.Temporary 0) w fit ew in
+      found q f (ended (w % 2 ^ 8) t.input (Left ∷ t.history)) (flat.word_at s (source.Temporary 0)) w (λ v. flat.ended (v % 2 ^ 8) s.input s.trace) h.is
+      (refl, m.input, m.trace))
+  returns [] (fr ∷ fs) et es frames fit = absurd frames
+  returns (c ∷ cs) [] et es frames fit = absurd frames
+  returns (c ∷ cs) (fr ∷ fs) et es frames fit = to_caller c cs fr fs et es frames
+
+  pub does_return : (u : Starts) → OperandFits (function_at q t.call.function) (operand.Temporary 0)
+      → Alike q f (tac.act q t instruction.Return) (flat.act f s (translated u (layout_of (function_at q t.call.function)) instruction.Return))
+  does_return u fit = returns t.waiting s.waiting refl refl m.frames.1 fit

@@ -1,0 +1,5 @@
+use Rattle.frames_correct.proofs.Whole as laws
+use Rattle.frames_correct.proofs.flat_is_in_step.Goals as goal
+
+pub returns : goal.returns
+returns c = laws.flat_is_in_step

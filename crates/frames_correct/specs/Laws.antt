@@ -1,0 +1,55 @@
+-- What flat code does in step with the three-address code that it was made of.
+use Rattle.std.specs.Prelude.{◌≡◌, ◌⊎◌, ◌≤◌, ◌<◌, ℕ, List, ◌+◌}
+use Rattle.tac_code.specs.Code.{Program}
+use Rattle.tac_code.specs.Costs.{cost_if}
+use Rattle.tac_code.specs.Sound.{IsSoundProgram, AreBytes}
+use Rattle.tac_code.specs.Run as tac_run
+use Rattle.tac_code.specs.Run.{State, Progress, running, ended, stuck, step, instruction_at, open_calls}
+use Rattle.frames_code.specs.Code as flat
+use Rattle.frames_code.specs.Costs.{spent}
+use Rattle.frames_code.specs.Run as flat_run
+use Rattle.frames_code.specs.Run.{active}
+use Rattle.frames.specs.Translated.{flat_program}
+use Rattle.frames.specs.Flattened.{InStep, IsFlattened}
+use Rattle.frames_correct.specs.Matched.{Matched, Alike}
+
+-- these are the calls that are open behind a step
+abbrev pub AreCallsOf : List ℕ → Progress → Type 0
+AreCallsOf fs (running t) = fs ≡ open_calls t
+AreCallsOf fs (ended status input history) = ⊥
+AreCallsOf fs stuck = ⊥
+
+-- flat code comes, in at least one step and within a cost, to what is alike, and has the calls of the one state or of the other
+pub record Comes (q : Program) (f : flat.Program) (t : State) (s : flat_run.State) (cost : ℕ) (r : Progress) : Type 0 where
+  pub count : ℕ
+  pub some : 0 < count
+  pub alike : Alike q f r (flat_run.run f count s)
+  pub costs : spent f count s ≤ cost
+  pub calls : (j : ℕ) (u : flat_run.State) → j ≤ count → flat_run.run f j s ≡ flat_run.running u → (active u ≡ open_calls t) ⊎ AreCallsOf (active u) r
+
+-- a stuck run promises nothing
+abbrev pub Follows : Program → flat.Program → State → flat_run.State → ℕ → Progress → Type 0
+Follows q f t s cost stuck = Unit {0}
+Follows q f t s cost (running u) = Comes q f t s cost (running u)
+Follows q f t s cost (ended status input history) = Comes q f t s cost (ended status input history)
+
+-- one step of three-address code is the steps of its translation: for a call with those that move the arguments
+abbrev pub StepFollows : Type 0
+StepFollows = (q : Program) → IsSoundProgram q → (t : State) (s : flat_run.State) → Matched q (flat_program q) t s
+    → Follows q (flat_program q) t s (cost_if q (instruction_at q t)) (step q t)
+
+-- as they begin, both stand at the same
+abbrev pub StartsMatched : Type 0
+StartsMatched = (q : Program) → IsSoundProgram q → (input : List ℕ) → AreBytes input → Matched q (flat_program q) (tac_run.start q input) (flat_run.start (flat_program q) input)
+
+-- the flat program of each sound program is in step with it
+abbrev pub FlatIsInStep : Type 0
+FlatIsInStep = (q : Program) → IsSoundProgram q → (input : List ℕ) → AreBytes input → InStep q (flat_program q) input
+
+-- and is what flattening is to give
+abbrev pub FlatIsFlattened : Type 0
+FlatIsFlattened = (q : Program) → IsSoundProgram q → IsFlattened q (flat_program q)
+
+-- so many steps of flat code and then so many are a run of both
+abbrev pub FlatRunsCompose : Type 0
+FlatRunsCompose = (p : flat.Program) (k n : ℕ) (s : flat_run.State) → flat_run.run p (k + n) s ≡ flat_run.goes_on (flat_run.run p k s) (flat_run.run p n)

@@ -1,0 +1,240 @@
+-- An instruction that is made simpler does the same where what is known holds.
+use Rattle.std.proofs.Common.{◌≡◌, ◌<◌, ℕ, zero, suc, ◌+◌, ◌*◌, ◌%◌, ◌^◌, List, [], ◌∷◌, Option, Some, None, Bool, true, false, refl, sym, ap, ◌∙◌, subst, arith}
+use Rattle.std.specs.Prelude.{◌==◌, ◌&&◌, nat_lt, not, bit_and, bit_or, bit_xor, if◌then◌else◌}
+use Rattle.std.specs.Int.{w32, trailing_zeros}
+use Rattle.std.proofs.lemmas.Bool.{eqb-true, ltb-true}
+use Rattle.std.proofs.lemmas.Nat.{and_comm, or_comm, xor_comm}
+use Rattle.std.proofs.Math.Nat.{mul_comm}
+use Rattle.rv32.specs.declared.instr.RegisterOp.{RegisterOp}
+use Rattle.rv32.specs.declared.instr.RegisterOp.TheVariants as register_op
+use Rattle.rv32.specs.Arithmetic.{compare_of, operate_of}
+use Rattle.frames_code.specs.declared.code.Operand.{Operand}
+use Rattle.frames_code.specs.declared.code.Operand.TheVariants as operand
+use Rattle.frames_code.specs.declared.code.Target.{Target}
+use Rattle.frames_code.specs.declared.code.Location.{Location}
+use Rattle.frames_code.specs.declared.code.Location.TheVariants as location
+use Rattle.frames_code.specs.declared.code.Operation.{Operation}
+use Rattle.frames_code.specs.declared.code.Operation.TheVariants as operation
+use Rattle.frames_code.specs.declared.code.Instruction.{Instruction}
+use Rattle.frames_code.specs.declared.code.Instruction.TheVariants as instruction
+use Rattle.frames_code.specs.Code.{Program, area_home}
+use Rattle.frames_code.specs.Run.{Value, Values, State, Reference, Progress, running, stuck, word, reference, value, word_at, word_in, reference_in, set, next, past, goes_to, place, gives, gives_word, operate, loaded, stored, act, function_at, name_of, ◌>>=◌}
+use Rattle.frames_opt.specs.declared.facts.Known.{Known}
+use Rattle.frames_opt.specs.declared.facts.Known.TheVariants as known
+use Rattle.frames_opt.specs.inside.Facts.{held, known_of}
+use Rattle.frames_opt.specs.inside.Rules.{constant_or, simpler_operand, location_or, simpler_location, is_constant, commutes, is_product, product, shift, is_power, scaled, multiplied, arranged, compute, within, statics_or, frame_or, numbered, simpler_element, simpler}
+
+-- ---- what is known holds of a value, where the frame has a name and its arrays begin so many bytes above its start
+
+abbrev pub Knows : (name home : ℕ) → Known → Option Value → Type 0
+Knows name home known.Unknown v = Unit {0}
+Knows name home (known.Word w) v = v ≡ Some (word w)
+Knows name home (known.Statics o) v = v ≡ Some (reference 0 o)
+Knows name home (known.Frame o) v = v ≡ Some (reference name (home + o))
+
+abbrev pub Holds : (name home : ℕ) → List Known → Values → Type 0
+Holds name home facts temporaries = (k : ℕ) → Knows name home (held facts k) (temporaries k)
+
+abbrev pub name_in : Program → State → ℕ
+name_in p s = name_of p s.frame s.waiting
+
+abbrev pub home_in : Program → State → ℕ
+home_in p s = area_home (function_at p s.frame.function)
+
+-- ---- both sides of a step
+
+pub bind_same : {A : Type 0} (o : Option A) (f g : A → Progress) → ((x : A) → f x ≡ g x) → (o >>= f) ≡ (o >>= g)
+bind_same None f g e = refl
+bind_same (Some x) f g e = e x
+
+pub binds_same : {A : Type 0} (u o : Option A) (f g : A → Progress) → u ≡ o → ((x : A) → f x ≡ g x) → (u >>= f) ≡ (o >>= g)
+binds_same u o f g e each = ap (λ z. z >>= f) e ∙ bind_same o f g each
+
+-- ---- operations
+
+abbrev IsNo : Bool → Type 0
+IsNo true = ⊥
+IsNo false = Unit {0}
+
+pub not_true : false ≡ true → ⊥
+not_true e = subst IsNo e tt
+
+commuted : (o : Operation) (a b : ℕ) → commutes o ≡ true → operate o a b ≡ operate o b a
+commuted (operation.Machine register_op.Add) a b e = let sum : a + b ≡ b + a = omega arith in ap (λ n. n % 2 ^ 32) sum
+commuted (operation.Machine register_op.Sub) a b e = absurd (not_true e)
+commuted (operation.Machine register_op.ShiftLeft) a b e = absurd (not_true e)
+commuted (operation.Machine register_op.Less) a b e = absurd (not_true e)
+commuted (operation.Machine register_op.LessUnsigned) a b e = absurd (not_true e)
+commuted (operation.Machine register_op.Xor) a b e = xor_comm a b
+commuted (operation.Machine register_op.ShiftRight) a b e = absurd (not_true e)
+commuted (operation.Machine register_op.ShiftRightArithmetic) a b e = absurd (not_true e)
+commuted (operation.Machine register_op.Or) a b e = or_comm a b
+commuted (operation.Machine register_op.And) a b e = and_comm a b
+commuted (operation.Machine register_op.Mul) a b e = ap (λ n. n % 2 ^ 32) (mul_comm a b)
+commuted (operation.Machine register_op.MulHigh) a b e = absurd (not_true e)
+commuted (operation.Machine register_op.MulHighSignedUnsigned) a b e = absurd (not_true e)
+commuted (operation.Machine register_op.MulHighUnsigned) a b e = absurd (not_true e)
+commuted (operation.Machine register_op.Div) a b e = absurd (not_true e)
+commuted (operation.Machine register_op.DivUnsigned) a b e = absurd (not_true e)
+commuted (operation.Machine register_op.Rem) a b e = absurd (not_true e)
+commuted (operation.Machine register_op.RemUnsigned) a b e = absurd (not_true e)
+commuted operation.Equal a b e = absurd (not_true e)
+commuted operation.NotEqual a b e = absurd (not_true e)
+
+power_is : (k v : ℕ) → is_power k v ≡ true → (a : ℕ) → operate_of register_op.ShiftLeft a k ≡ operate_of register_op.Mul a v
+power_is k v e a = on (nat_lt k 32) refl
+  where
+    on : (t : Bool) → nat_lt k 32 ≡ t → operate_of register_op.ShiftLeft a k ≡ operate_of register_op.Mul a v
+    on false u = absurd (not_true (sym (ap (λ t. t && (2 ^ k == v)) u) ∙ e))
+    on true u =
+        let small : k < 32 = ltb-true k 32 u in
+        let same : (2 ^ k == v) ≡ true = ap (λ t. t && (2 ^ k == v)) (sym u) ∙ e in
+        let power : 2 ^ k ≡ v = eqb-true (2 ^ k) v same in
+        let amount : k % 2 ^ 5 ≡ k = omega (arith, small) in
+        ap (λ n. a * 2 ^ n % 2 ^ 32) amount ∙ ap (λ n. a * n % 2 ^ 32) power
+
+module _ (p : Program) (s : State) where
+  abbrev does : Instruction → Progress
+  does = act p s
+
+  scaled_same : (d : Target) (x : Operand) (v : ℕ) → does (scaled d x v) ≡ does (product d x (operand.Constant v))
+  scaled_same d x v = on (trailing_zeros w32 v) (is_power (trailing_zeros w32 v) v) refl
+    where
+      on : (k : ℕ) (t : Bool) → is_power k v ≡ t → does (if t then shift d x k else product d x (operand.Constant v)) ≡ does (product d x (operand.Constant v))
+      on k false e = refl
+      on k true e = bind_same (word_at s x) (λ a. gives_word d s (operate_of register_op.ShiftLeft a k)) (λ a. gives_word d s (operate_of register_op.Mul a v)) (λ a. ap (gives_word d s) (power_is k v e a))
+
+  multiplied_same : (d : Target) (x y : Operand) → does (multiplied d x y) ≡ does (product d x y)
+  multiplied_same d x (operand.Temporary k) = refl
+  multiplied_same d x (operand.Cell c) = refl
+  multiplied_same d x (operand.Constant v) = scaled_same d x v
+  multiplied_same d x (operand.Argument k) = refl
+
+  arranged_same : (o : Operation) (d : Target) (x y : Operand) → does (arranged o d x y) ≡ does (instruction.Compute o d x y)
+  arranged_same (operation.Machine register_op.Add) d x y = refl
+  arranged_same (operation.Machine register_op.Sub) d x y = refl
+  arranged_same (operation.Machine register_op.ShiftLeft) d x y = refl
+  arranged_same (operation.Machine register_op.Less) d x y = refl
+  arranged_same (operation.Machine register_op.LessUnsigned) d x y = refl
+  arranged_same (operation.Machine register_op.Xor) d x y = refl
+  arranged_same (operation.Machine register_op.ShiftRight) d x y = refl
+  arranged_same (operation.Machine register_op.ShiftRightArithmetic) d x y = refl
+  arranged_same (operation.Machine register_op.Or) d x y = refl
+  arranged_same (operation.Machine register_op.And) d x y = refl
+  arranged_same (operation.Machine register_op.Mul) d x y = multiplied_same d x y
+  arranged_same (operation.Machine register_op.MulHigh) d x y = refl
+  arranged_same (operation.Machine register_op.MulHighSignedUnsigned) d x y = refl
+  arranged_same (operation.Machine register_op.MulHighUnsigned) d x y = refl
+  arranged_same (operation.Machine register_op.Div) d x y = refl
+  arranged_same (operation.Machine register_op.DivUnsigned) d x y = refl
+  arranged_same (operation.Machine register_op.Rem) d x y = refl
+  arranged_same (operation.Machine register_op.RemUnsigned) d x y = refl
+  arranged_same operation.Equal d x y = refl
+  arranged_same operation.NotEqual d x y = refl
+
+  swapped_same : (o : Operation) (d : Target) (v : ℕ) (y : Operand) (t : Bool) → commutes o ≡ t
+      → does (if t then arranged o d y (operand.Constant v) else arranged o d (operand.Constant v) y) ≡ does (instruction.Compute o d (operand.Constant v) y)
+  swapped_same o d v y false e = arranged_same o d (operand.Constant v) y
+  swapped_same o d v y true e =
+      arranged_same o d y (operand.Constant v)
+      ∙ bind_same (word_at s y) (λ a. gives_word d s (operate o a v)) (λ b. gives_word d s (operate o v b)) (λ a. ap (gives_word d s) (commuted o a v e))
+
+  compute_same : (o : Operation) (d : Target) (x y : Operand) → does (compute o d x y) ≡ does (instruction.Compute o d x y)
+  compute_same o d (operand.Temporary k) y = arranged_same o d (operand.Temporary k) y
+  compute_same o d (operand.Cell c) y = arranged_same o d (operand.Cell c) y
+  compute_same o d (operand.Argument k) y = arranged_same o d (operand.Argument k) y
+  compute_same o d (operand.Constant v) (operand.Temporary k) = swapped_same o d v (operand.Temporary k) (commutes o) refl
+  compute_same o d (operand.Constant v) (operand.Cell c) = swapped_same o d v (operand.Cell c) (commutes o) refl
+  compute_same o d (operand.Constant v) (operand.Constant w) = arranged_same o d (operand.Constant v) (operand.Constant w)
+  compute_same o d (operand.Constant v) (operand.Argument k) = swapped_same o d v (operand.Argument k) (commutes o) refl
+
+  -- ---- what is known
+
+  abbrev name : ℕ
+  name = name_in p s
+
+  abbrev home : ℕ
+  home = home_in p s
+
+  constant_same : (x : Operand) (k : Known) → Knows name home k (value s x) → value s (constant_or x k) ≡ value s x
+  constant_same x known.Unknown e = refl
+  constant_same x (known.Word w) e = sym e
+  constant_same x (known.Statics o) e = refl
+  constant_same x (known.Frame o) e = refl
+
+  reference_same : (x : Operand) (k : Known) → Knows name home k (value s x) → place p s (location_or x k) ≡ reference_in (value s x)
+  reference_same x known.Unknown e = refl
+  reference_same x (known.Word w) e = refl
+  reference_same x (known.Statics o) e = ap reference_in (sym e)
+  reference_same x (known.Frame o) e = ap reference_in (sym e)
+
+  abbrev addressed : Target → (list offset : ℕ) → Progress
+  addressed d list offset = gives d s (reference list offset)
+
+  statics_same : (d : Target) (x : Operand) (n size o : ℕ) (t : Bool) → value s x ≡ Some (reference 0 o)
+      → does (statics_or (if t then Some (o + n * size) else None) d x n size) ≡ does (instruction.Element d x (operand.Constant n) size)
+  statics_same d x n size o false e = refl
+  statics_same d x n size o true e = ap (λ v. reference_in v >>= λ r. addressed d r.list (r.offset + n * size)) (sym e)
+
+  frame_same : (d : Target) (x : Operand) (n size o : ℕ) (t : Bool) → value s x ≡ Some (reference name (home + o))
+      → does (frame_or (if t then Some (o + n * size) else None) d x n size) ≡ does (instruction.Element d x (operand.Constant n) size)
+  frame_same d x n size o false e = refl
+  frame_same d x n size o true e =
+      let sum : home + (o + n * size) ≡ home + o + n * size = omega arith in
+      ap (addressed d name) sum ∙ ap (λ v. reference_in v >>= λ r. addressed d r.list (r.offset + n * size)) (sym e)
+
+  numbered_same : (area : ℕ) (k : Known) (d : Target) (x : Operand) (n size : ℕ) → Knows name home k (value s x) → does (numbered area k d x n size) ≡ does (instruction.Element d x (operand.Constant n) size)
+  numbered_same area known.Unknown d x n size e = refl
+  numbered_same area (known.Word w) d x n size e = refl
+  numbered_same area (known.Statics o) d x n size e = statics_same d x n size o (nat_lt (o + n * size) 0x10000000) e
+  numbered_same area (known.Frame o) d x n size e = frame_same d x n size o (nat_lt (o + n * size) area) e
+
+  element_same : (area : ℕ) (k : Known) (d : Target) (x y : Operand) (size : ℕ) → Knows name home k (value s x) → does (simpler_element area k d x y size) ≡ does (instruction.Element d x y size)
+  element_same area k d x (operand.Temporary j) size e = refl
+  element_same area k d x (operand.Cell c) size e = refl
+  element_same area k d x (operand.Constant n) size e = numbered_same area k d x n size e
+  element_same area k d x (operand.Argument j) size e = refl
+
+  module _ (facts : List Known) (holds : Holds name home facts s.temporaries) where
+    pub known_holds : (x : Operand) → Knows name home (known_of facts x) (value s x)
+    known_holds (operand.Temporary k) = holds k
+    known_holds (operand.Cell c) = tt
+    known_holds (operand.Constant v) = refl
+    known_holds (operand.Argument k) = tt
+
+    operand_same : (x : Operand) → value s (simpler_operand facts x) ≡ value s x
+    operand_same x = constant_same x (known_of facts x) (known_holds x)
+
+    word_same : (x : Operand) → word_at s (simpler_operand facts x) ≡ word_at s x
+    word_same x = ap word_in (operand_same x)
+
+    place_same : (l : Location) → place p s (simpler_location facts l) ≡ place p s l
+    place_same (location.Statics o) = refl
+    place_same (location.Frame o) = refl
+    place_same (location.At x) = reference_same x (known_of facts x) (known_holds x)
+
+    pub act_same : (area : ℕ) (x : Instruction) → does (simpler area facts x) ≡ does x
+    act_same area instruction.Nothing = refl
+    act_same area (instruction.Move d x) = ap (λ v. v >>= λ u. running (set d u (past s))) (operand_same x)
+    act_same area (instruction.Compute o d x y) =
+        compute_same o d (simpler_operand facts x) (simpler_operand facts y)
+        ∙ (ap (λ v. v >>= λ a. word_at s (simpler_operand facts y) >>= λ b. gives_word d s (operate o a b)) (word_same x)
+        ∙ ap (λ v. word_at s x >>= λ a. v >>= λ b. gives_word d s (operate o a b)) (word_same y))
+    act_same area (instruction.Convert c d x) = refl
+    act_same area (instruction.Load w d l) = ap (λ r. r >>= loaded p s w d) (place_same l)
+    act_same area (instruction.Store w x l) =
+        ap (λ v. v >>= λ a. place p s (simpler_location facts l) >>= stored p s w a) (word_same x)
+        ∙ ap (λ r. word_at s x >>= λ a. r >>= stored p s w a) (place_same l)
+    act_same area (instruction.Address d l) = ap (λ o. o >>= λ r. gives d s (reference r.list r.offset)) (place_same l)
+    act_same area (instruction.Element d x y size) =
+        element_same area (known_of facts x) d x (simpler_operand facts y) size (known_holds x)
+        ∙ ap (λ v. reference_in (value s x) >>= λ r. v >>= λ n. gives d s (reference r.list (r.offset + n * size))) (word_same y)
+    act_same area (instruction.Jump to) = refl
+    act_same area (instruction.Branch t x y to) =
+        ap (λ v. v >>= λ a. word_at s (simpler_operand facts y) >>= λ b. running (if compare_of t a b then goes_to s to else next s)) (word_same x)
+        ∙ ap (λ v. word_at s x >>= λ a. v >>= λ b. running (if compare_of t a b then goes_to s to else next s)) (word_same y)
+    act_same area (instruction.Call f) = refl
+    act_same area instruction.PutByte = refl
+    act_same area instruction.GetByte = refl
+    act_same area instruction.Exit = refl
+    act_same area instruction.Return = refl

@@ -1,0 +1,313 @@
+-- Simpler code is as sound.
+use Rattle.std.proofs.Common.{◌≡◌, ◌≤◌, ◌<◌, ◌⊎◌, inl, inr, ⊎_elim, ℕ, zero, suc, ◌+◌, ◌*◌, ◌^◌, ◌%◌, List, [], ◌∷◌, length, map, Option, Some, None, Bool, true, false, refl, sym, ap, ◌∙◌, subst, arith}
+use Rattle.std.specs.Prelude.{◌==◌, ◌&&◌, slice_get, set, get_or, nat_lt, if◌then◌else◌, replicate}
+use Rattle.std.specs.Int.{w32, trailing_zeros}
+use Rattle.std.proofs.lemmas.Bool.{eqb-true, eqb-false, ltb-true}
+use Rattle.std.proofs.lemmas.List.{get_or-set_other}
+use Rattle.std.proofs.lemmas.List.Sums.{sum_by-cons}
+use Rattle.rv32.specs.declared.instr.RegisterOp.TheVariants as register_op
+use Rattle.frames_code.specs.declared.code.Operand.{Operand}
+use Rattle.frames_code.specs.declared.code.Operand.TheVariants as operand
+use Rattle.frames_code.specs.declared.code.Target.{Target}
+use Rattle.frames_code.specs.declared.code.Target.TheVariants as target
+use Rattle.frames_code.specs.declared.code.Location.{Location}
+use Rattle.frames_code.specs.declared.code.Location.TheVariants as location
+use Rattle.frames_code.specs.declared.code.Operation.{Operation}
+use Rattle.frames_code.specs.declared.code.Operation.TheVariants as operation
+use Rattle.frames_code.specs.declared.code.Instruction.{Instruction}
+use Rattle.frames_code.specs.declared.code.Instruction.TheVariants as instruction
+use Rattle.frames_code.specs.Code.{Function}
+use Rattle.frames_code.specs.Sound.{OperandFits, TargetFits, LocationFits, InstructionFits, FunctionFits, places_of}
+use Rattle.frames_opt.specs.declared.facts.Known.{Known}
+use Rattle.frames_opt.specs.declared.facts.Known.TheVariants as known
+use Rattle.frames_opt.specs.inside.Facts.{nothing, held, known_of, reference_to, learned, result_on, computed, behind}
+use Rattle.frames_opt.specs.inside.Rules.{constant_or, simpler_operand, location_or, simpler_location, is_constant, commutes, is_product, product, shift, is_power, scaled, multiplied, arranged, compute, within, statics_or, frame_or, numbered, simpler_element, simpler}
+use Rattle.frames_opt.specs.inside.Unread.{written, is_unread, kept, kept_by}
+use Rattle.frames_opt.specs.inside.Passes.{is_marked, fresh, forward, near, swept}
+use Rattle.frames_opt.specs.layer.Functions.{IsImproved, IsSimplerCode, stayed, improved, with_code, IsSimplerFunction}
+use Rattle.frames_opt.proofs.Acts.{not_true}
+use Rattle.frames_opt.proofs.Stands.{held_in, set_same}
+
+module _ (n : ℕ) (f : Function) where
+  abbrev KnownFits : Known → Type 0
+  KnownFits known.Unknown = Unit {0}
+  KnownFits (known.Word w) = w < 2 ^ 32
+  KnownFits (known.Statics o) = o < 0x10000000
+  KnownFits (known.Frame o) = o < f.area
+
+  abbrev FactsFit : List Known → Type 0
+  FactsFit facts = (k : ℕ) → KnownFits (held facts k)
+
+  abbrev Fits : Instruction → Type 0
+  Fits x = InstructionFits n f x
+
+  nothing_fits : FactsFit nothing
+  nothing_fits k = subst KnownFits (sym (held_in 8 k)) tt
+
+  fresh_fits : (m : Bool) (facts : List Known) → FactsFit facts → FactsFit (fresh m facts)
+  fresh_fits true facts h = nothing_fits
+  fresh_fits false facts h = h
+
+  put_fits : (facts : List Known) (j : ℕ) (x : Known) → FactsFit facts → KnownFits x → FactsFit (set facts j x)
+  put_fits facts j x h e k = on (k == j) refl
+    where
+      on : (t : Bool) → (k == j) ≡ t → KnownFits (held (set facts j x) k)
+      on true u =
+          subst (λ i. KnownFits (held (set facts j x) i)) (sym (eqb-true k j u))
+          (⊎_elim (λ a. subst KnownFits (sym a) e) (λ a. subst KnownFits (sym a) tt) (set_same facts j x))
+      on false u = subst KnownFits (sym (get_or-set_other facts j k x known.Unknown (eqb-false k j u))) (h k)
+
+  learned_fits : (facts : List Known) (d : Target) (x : Known) → FactsFit facts → KnownFits x → FactsFit (learned facts d x)
+  learned_fits facts (target.Temporary j) x h e = put_fits facts j x h e
+  learned_fits facts (target.Cell c) x h e = h
+
+  known_fits : (facts : List Known) (x : Operand) → FactsFit facts → OperandFits f x → KnownFits (known_of facts x)
+  known_fits facts (operand.Temporary k) h e = h k
+  known_fits facts (operand.Cell c) h e = tt
+  known_fits facts (operand.Constant v) h e = e
+  known_fits facts (operand.Argument k) h e = tt
+
+  reference_fits : (l : Location) → LocationFits f l → KnownFits (reference_to l)
+  reference_fits (location.Statics o) e = e
+  reference_fits (location.Frame o) e = e
+  reference_fits (location.At x) e = tt
+
+  result_fits : (o : Operation) (a b : ℕ) → KnownFits (result_on o a b)
+  result_fits (operation.Machine register_op.Add) a b = omega arith
+  result_fits (operation.Machine register_op.Sub) a b = omega arith
+  result_fits (operation.Machine register_op.ShiftLeft) a b = let lt : a * 2 ^ (b % 2 ^ 5) % 2 ^ 32 < 2 ^ 32 = omega arith in lt
+  result_fits (operation.Machine register_op.Less) a b = tt
+  result_fits (operation.Machine register_op.LessUnsigned) a b = tt
+  result_fits (operation.Machine register_op.Xor) a b = tt
+  result_fits (operation.Machine register_op.ShiftRight) a b = tt
+  result_fits (operation.Machine register_op.ShiftRightArithmetic) a b = tt
+  result_fits (operation.Machine register_op.Or) a b = tt
+  result_fits (operation.Machine register_op.And) a b = tt
+  result_fits (operation.Machine register_op.Mul) a b = let lt : a * b % 2 ^ 32 < 2 ^ 32 = omega arith in lt
+  result_fits (operation.Machine register_op.MulHigh) a b = tt
+  result_fits (operation.Machine register_op.MulHighSignedUnsigned) a b = tt
+  result_fits (operation.Machine register_op.MulHighUnsigned) a b = tt
+  result_fits (operation.Machine register_op.Div) a b = tt
+  result_fits (operation.Machine register_op.DivUnsigned) a b = tt
+  result_fits (operation.Machine register_op.Rem) a b = tt
+  result_fits (operation.Machine register_op.RemUnsigned) a b = tt
+  result_fits operation.Equal a b = tt
+  result_fits operation.NotEqual a b = tt
+
+  computed_fits : (o : Operation) (x y : Operand) → KnownFits (computed o x y)
+  computed_fits o (operand.Temporary k) y = tt
+  computed_fits o (operand.Cell c) y = tt
+  computed_fits o (operand.Argument k) y = tt
+  computed_fits o (operand.Constant a) (operand.Temporary k) = tt
+  computed_fits o (operand.Constant a) (operand.Cell c) = tt
+  computed_fits o (operand.Constant a) (operand.Constant b) = result_fits o a b
+  computed_fits o (operand.Constant a) (operand.Argument k) = tt
+
+  behind_fits : (facts : List Known) (y : Instruction) → FactsFit facts → Fits y → FactsFit (behind facts y)
+  behind_fits facts instruction.Nothing h e = h
+  behind_fits facts (instruction.Move d x) h e = learned_fits facts d (known_of facts x) h (known_fits facts x h e.1)
+  behind_fits facts (instruction.Compute o d x y) h e = learned_fits facts d (computed o x y) h (computed_fits o x y)
+  behind_fits facts (instruction.Convert c d x) h e = learned_fits facts d known.Unknown h tt
+  behind_fits facts (instruction.Load w d l) h e = learned_fits facts d known.Unknown h tt
+  behind_fits facts (instruction.Store w x l) h e = h
+  behind_fits facts (instruction.Address d l) h e = learned_fits facts d (reference_to l) h (reference_fits l e.1)
+  behind_fits facts (instruction.Element d x y size) h e = learned_fits facts d known.Unknown h tt
+  behind_fits facts (instruction.Jump to) h e = nothing_fits
+  behind_fits facts (instruction.Branch t x y to) h e = h
+  behind_fits facts (instruction.Call g) h e = nothing_fits
+  behind_fits facts instruction.PutByte h e = nothing_fits
+  behind_fits facts instruction.GetByte h e = nothing_fits
+  behind_fits facts instruction.Exit h e = nothing_fits
+  behind_fits facts instruction.Return h e = nothing_fits
+
+  -- ---- instructions
+
+  constant_fits : (x : Operand) (k : Known) → KnownFits k → OperandFits f x → OperandFits f (constant_or x k)
+  constant_fits x known.Unknown h e = e
+  constant_fits x (known.Word w) h e = h
+  constant_fits x (known.Statics o) h e = e
+  constant_fits x (known.Frame o) h e = e
+
+  place_fits : (x : Operand) (k : Known) → KnownFits k → OperandFits f x → LocationFits f (location_or x k)
+  place_fits x known.Unknown h e = e
+  place_fits x (known.Word w) h e = e
+  place_fits x (known.Statics o) h e = h
+  place_fits x (known.Frame o) h e = h
+
+  either_fits : (t : Bool) (x y : Instruction) → Fits x → Fits y → Fits (if t then x else y)
+  either_fits true x y a b = a
+  either_fits false x y a b = b
+
+  power_small : (k v : ℕ) → is_power k v ≡ true → k < 2 ^ 32
+  power_small k v e = on (nat_lt k 32) refl
+    where
+      on : (t : Bool) → nat_lt k 32 ≡ t → k < 2 ^ 32
+      on true u = let lt : k < 32 = ltb-true k 32 u in omega (arith, lt)
+      on false u = absurd (not_true (sym (ap (λ t. t && (2 ^ k == v)) u) ∙ e))
+
+  scaled_fits : (d : Target) (x : Operand) (v : ℕ) → TargetFits f d → OperandFits f x → v < 2 ^ 32 → Fits (scaled d x v)
+  scaled_fits d x v hd hx hv = on (trailing_zeros w32 v) (is_power (trailing_zeros w32 v) v) refl
+    where
+      on : (k : ℕ) (t : Bool) → is_power k v ≡ t → Fits (if t then shift d x k else product d x (operand.Constant v))
+      on k true e = (hd, hx, power_small k v e)
+      on k false e = (hd, hx, hv)
+
+  multiplied_fits : (d : Target) (x y : Operand) → TargetFits f d → OperandFits f x → OperandFits f y → Fits (multiplied d x y)
+  multiplied_fits d x (operand.Temporary k) hd hx hy = (hd, hx, hy)
+  multiplied_fits d x (operand.Cell c) hd hx hy = (hd, hx, hy)
+  multiplied_fits d x (operand.Constant v) hd hx hy = scaled_fits d x v hd hx hy
+  multiplied_fits d x (operand.Argument k) hd hx hy = (hd, hx, hy)
+
+  arranged_fits : (o : Operation) (d : Target) (x y : Operand) → TargetFits f d → OperandFits f x → OperandFits f y → Fits (arranged o d x y)
+  arranged_fits o d x y hd hx hy = either_fits (is_product o) (multiplied d x y) (instruction.Compute o d x y) (multiplied_fits d x y hd hx hy) (hd, hx, hy)
+
+  compute_fits : (o : Operation) (d : Target) (x y : Operand) → TargetFits f d → OperandFits f x → OperandFits f y → Fits (compute o d x y)
+  compute_fits o d x y hd hx hy = either_fits _ (arranged o d y x) (arranged o d x y) (arranged_fits o d y x hd hy hx) (arranged_fits o d x y hd hx hy)
+
+  statics_fits : (o m size : ℕ) (d : Target) (x : Operand) → TargetFits f d → OperandFits f x → m < 2 ^ 32 → size < 2 ^ 32 → Fits (statics_or (within o m size 0x10000000) d x m size)
+  statics_fits o m size d x hd hx hm hs = on (nat_lt (o + m * size) 0x10000000) refl
+    where
+      on : (t : Bool) → nat_lt (o + m * size) 0x10000000 ≡ t → Fits (statics_or (if t then Some (o + m * size) else None) d x m size)
+      on true e = (hd, ltb-true (o + m * size) 0x10000000 e)
+      on false e = (hd, hx, hm, hs)
+
+  frame_fits : (o m size : ℕ) (d : Target) (x : Operand) → TargetFits f d → OperandFits f x → m < 2 ^ 32 → size < 2 ^ 32 → Fits (frame_or (within o m size f.area) d x m size)
+  frame_fits o m size d x hd hx hm hs = on (nat_lt (o + m * size) f.area) refl
+    where
+      on : (t : Bool) → nat_lt (o + m * size) f.area ≡ t → Fits (frame_or (if t then Some (o + m * size) else None) d x m size)
+      on true e = (hd, ltb-true (o + m * size) f.area e)
+      on false e = (hd, hx, hm, hs)
+
+  numbered_fits : (k : Known) (d : Target) (x : Operand) (m size : ℕ) → TargetFits f d → OperandFits f x → m < 2 ^ 32 → size < 2 ^ 32 → Fits (numbered f.area k d x m size)
+  numbered_fits known.Unknown d x m size hd hx hm hs = (hd, hx, hm, hs)
+  numbered_fits (known.Word w) d x m size hd hx hm hs = (hd, hx, hm, hs)
+  numbered_fits (known.Statics o) d x m size hd hx hm hs = statics_fits o m size d x hd hx hm hs
+  numbered_fits (known.Frame o) d x m size hd hx hm hs = frame_fits o m size d x hd hx hm hs
+
+  element_fits : (k : Known) (d : Target) (x y : Operand) (size : ℕ) → TargetFits f d → OperandFits f x → OperandFits f y → size < 2 ^ 32 → Fits (simpler_element f.area k d x y size)
+  element_fits k d x (operand.Temporary j) size hd hx hy hs = (hd, hx, hy, hs)
+  element_fits k d x (operand.Cell c) size hd hx hy hs = (hd, hx, hy, hs)
+  element_fits k d x (operand.Constant m) size hd hx hy hs = numbered_fits k d x m size hd hx hy hs
+  element_fits k d x (operand.Argument j) size hd hx hy hs = (hd, hx, hy, hs)
+
+  module _ (facts : List Known) (h : FactsFit facts) where
+    operand_fits : (x : Operand) → OperandFits f x → OperandFits f (simpler_operand facts x)
+    operand_fits x e = constant_fits x (known_of facts x) (known_fits facts x h e) e
+
+    location_fits : (l : Location) → LocationFits f l → LocationFits f (simpler_location facts l)
+    location_fits (location.Statics o) e = e
+    location_fits (location.Frame o) e = e
+    location_fits (location.At x) e = place_fits x (known_of facts x) (known_fits facts x h e) e
+
+    simpler_fits : (x : Instruction) → Fits x → Fits (simpler f.area facts x)
+    simpler_fits instruction.Nothing e = tt
+    simpler_fits (instruction.Move d x) e = (e.0, operand_fits x e.1)
+    simpler_fits (instruction.Compute o d x y) e = compute_fits o d (simpler_operand facts x) (simpler_operand facts y) e.0 (operand_fits x e.1) (operand_fits y e.2)
+    simpler_fits (instruction.Convert c d x) e = e
+    simpler_fits (instruction.Load w d l) e = (e.0, location_fits l e.1)
+    simpler_fits (instruction.Store w x l) e = (operand_fits x e.0, location_fits l e.1)
+    simpler_fits (instruction.Address d l) e = (e.0, location_fits l e.1)
+    simpler_fits (instruction.Element d x y size) e = element_fits (known_of facts x) d x (simpler_operand facts y) size e.0 e.1 (operand_fits y e.2) e.3
+    simpler_fits (instruction.Jump to) e = e
+    simpler_fits (instruction.Branch t x y to) e = (operand_fits x e.0, operand_fits y e.1, e.2)
+    simpler_fits (instruction.Call g) e = e
+    simpler_fits instruction.PutByte e = tt
+    simpler_fits instruction.GetByte e = tt
+    simpler_fits instruction.Exit e = tt
+    simpler_fits instruction.Return e = tt
+
+  -- ---- code
+
+  abbrev AllFit : List Instruction → Type 0
+  AllFit xs = (k : ℕ) (x : Instruction) → slice_get xs k ≡ Some x → Fits x
+
+  forward_fits : (marks : List Bool) (i : ℕ) (facts : List Known) (xs : List Instruction) → FactsFit facts → AllFit xs → AllFit (forward f.area marks i facts xs)
+  forward_fits marks i facts [] h all k y e = absurd (let z : ⊥ = cc in z)
+  forward_fits marks i facts (x ∷ xs) h all zero y e =
+      let same : simpler f.area (fresh (is_marked marks i) facts) x ≡ y = cc in
+      subst Fits same (simpler_fits (fresh (is_marked marks i) facts) (fresh_fits (is_marked marks i) facts h) x (all 0 x refl))
+  forward_fits marks i facts (x ∷ xs) h all (suc k) y e =
+      let here = fresh (is_marked marks i) facts in
+      let fits = fresh_fits (is_marked marks i) facts h in
+      forward_fits marks (i + 1) (behind here (simpler f.area here x)) xs (behind_fits here (simpler f.area here x) fits (simpler_fits here fits x (all 0 x refl))) (λ j. all (suc j)) k y e
+
+  kept_fits : (o : Option ℕ) (x : Instruction) (xs : List Instruction) → Fits x → Fits (kept_by o x xs)
+  kept_fits None x xs e = e
+  kept_fits (Some k) x xs e = either_fits (is_unread k xs) instruction.Nothing x tt e
+
+  swept_fits : (xs : List Instruction) → AllFit xs → AllFit (swept xs)
+  swept_fits [] all k y e = absurd (let z : ⊥ = cc in z)
+  swept_fits (x ∷ xs) all zero y e = let same : kept x (near xs) ≡ y = cc in subst Fits same (kept_fits (written x) x (near xs) (all 0 x refl))
+  swept_fits (x ∷ xs) all (suc k) y e = swept_fits xs (λ j. all (suc j)) k y e
+
+  simpler_code_fits : (new : List Instruction) → IsSimplerCode f.area f.code new → AllFit f.code → AllFit new
+  simpler_code_fits new (stayed e) all = subst AllFit (sym e) all
+  simpler_code_fits new (improved c) all = subst AllFit (sym c.is) (swept_fits (forward f.area c.marks 0 nothing f.code) (forward_fits c.marks 0 nothing f.code nothing_fits all))
+
+-- ---- as many instructions
+
+forward_length : (area : ℕ) (marks : List Bool) (i : ℕ) (facts : List Known) (xs : List Instruction) → length (forward area marks i facts xs) ≡ length xs
+forward_length area marks i facts [] = refl
+forward_length area marks i facts (x ∷ xs) = ap suc (forward_length area marks (i + 1) (behind (fresh (is_marked marks i) facts) (simpler area (fresh (is_marked marks i) facts) x)) xs)
+
+swept_length : (xs : List Instruction) → length (swept xs) ≡ length xs
+swept_length [] = refl
+swept_length (x ∷ xs) = ap suc (swept_length xs)
+
+pub code_length : (area : ℕ) (old new : List Instruction) → IsSimplerCode area old new → length new ≡ length old
+code_length area old new (stayed e) = ap length e
+code_length area old new (improved c) = ap length c.is ∙ (swept_length (forward area c.marks 0 nothing old) ∙ forward_length area c.marks 0 nothing old)
+
+-- ---- functions
+
+-- what an instruction needs of its function but for its count of instructions
+module _ (n : ℕ) (f : Function) (code : List Instruction) (count : length code ≡ length f.code) where
+  abbrev g : Function
+  g = with_code f code
+
+  operand_stays : (x : Operand) → OperandFits f x → OperandFits g x
+  operand_stays (operand.Temporary k) e = e
+  operand_stays (operand.Cell c) e = e
+  operand_stays (operand.Constant v) e = e
+  operand_stays (operand.Argument k) e = e
+
+  target_stays : (d : Target) → TargetFits f d → TargetFits g d
+  target_stays (target.Temporary k) e = e
+  target_stays (target.Cell c) e = e
+
+  location_stays : (l : Location) → LocationFits f l → LocationFits g l
+  location_stays (location.Statics o) e = e
+  location_stays (location.Frame o) e = e
+  location_stays (location.At x) e = operand_stays x e
+
+  jump_stays : (to : ℕ) → to < length f.code → to < length code
+  jump_stays to e = subst (λ m. to < m) (sym count) e
+
+  stays : (x : Instruction) → InstructionFits n f x → InstructionFits n g x
+  stays instruction.Nothing e = tt
+  stays (instruction.Move d x) e = (target_stays d e.0, operand_stays x e.1)
+  stays (instruction.Compute o d x y) e = (target_stays d e.0, operand_stays x e.1, operand_stays y e.2)
+  stays (instruction.Convert c d x) e = (target_stays d e.0, operand_stays x e.1)
+  stays (instruction.Load w d l) e = (target_stays d e.0, location_stays l e.1)
+  stays (instruction.Store w x l) e = (operand_stays x e.0, location_stays l e.1)
+  stays (instruction.Address d l) e = (target_stays d e.0, location_stays l e.1)
+  stays (instruction.Element d x y size) e = (target_stays d e.0, operand_stays x e.1, operand_stays y e.2, e.3)
+  stays (instruction.Jump to) e = jump_stays to e
+  stays (instruction.Branch t x y to) e = (operand_stays x e.0, operand_stays y e.1, jump_stays to e.2)
+  stays (instruction.Call h) e = e
+  stays instruction.PutByte e = tt
+  stays instruction.GetByte e = tt
+  stays instruction.Exit e = tt
+  stays instruction.Return e = tt
+
+pub function_fits : (n : ℕ) (f g : Function) → IsSimplerFunction f g → FunctionFits n f → FunctionFits n g
+function_fits n f g r fits =
+    let count = code_length f.area f.code g.code r.code in
+    let every = simpler_code_fits n f g.code r.code fits.each in
+    let whole : FunctionFits n (with_code f g.code) = record {
+      small = fits.small;
+      few = fits.few;
+      all = fits.all;
+      each = λ k x e. stays n f g.code count x (every k x e);
+    } in
+    subst (FunctionFits n) (sym r.is) whole

@@ -1,0 +1,175 @@
+-- A program that was made simpler runs as the program does, at no more cost.
+use Rattle.std.proofs.Common.{◌≡◌, ◌≤◌, ◌⊎◌, inl, inr, ⊎_elim, ℕ, zero, suc, ◌+◌, List, [], ◌∷◌, drop, Option, Some, None, true, refl, sym, ap, ◌∙◌, subst, arith}
+use Rattle.std.specs.Prelude.{slice_get}
+use Rattle.frames_code.specs.declared.code.Instruction.{Instruction}
+use Rattle.frames_code.specs.declared.code.Instruction.TheVariants as instruction
+use Rattle.frames_code.specs.Code.{Program}
+use Rattle.frames_code.specs.Costs.{cost, cost_if, cost_on, next_of, spent}
+use Rattle.frames_code.specs.Run.{Values, Frame, State, Progress, running, ended, stuck, unset, past, act, step, run, start, goes_on, function_at, ◌>>=◌}
+use Rattle.frames_opt.specs.declared.facts.Known.{Known}
+use Rattle.frames_opt.specs.Simplified.{DoesTheSame, IsDefined}
+use Rattle.frames_opt.specs.inside.Facts.{nothing}
+use Rattle.frames_opt.specs.inside.Rules.{simpler}
+use Rattle.frames_opt.specs.inside.Unread.{written, is_unread}
+use Rattle.frames_opt.proofs.Acts.{Holds, name_in, home_in, act_same}
+use Rattle.frames_opt.proofs.Stands.{Sat, Flow, Stands, act_stands, nothing_holds}
+use Rattle.frames_opt.proofs.Alike.{Sized, over, Agree, Goes, Match}
+use Rattle.frames_opt.proofs.Steps.{act_alike, dropped_alike}
+
+pub record Dropped (y z : Instruction) (xs : List Instruction) : Type 0 where
+  pub is : z ≡ instruction.Nothing
+  pub number : ℕ
+  pub writes : written y ≡ Some number
+  pub dead : is_unread number xs ≡ true
+
+-- instruction i, which is x in the program, by what is known and in the end
+pub record Position (area : ℕ) (kn : ℕ → List Known) (middle new : List Instruction) (i : ℕ) (x : Instruction) : Type 0 where
+  pub half : Instruction
+  pub done : Instruction
+  pub half_is : drop i middle ≡ half ∷ drop (i + 1) middle
+  pub done_is : slice_get new i ≡ Some done
+  pub by : (half ≡ x) ⊎ (half ≡ simpler area (kn i) x)
+  pub flow : Flow kn i half
+  pub out : (done ≡ half) ⊎ Dropped half done (drop (i + 1) middle)
+  pub cheap : cost done ≤ cost x
+
+pub record IsSimpler (p q : Program) (kn : ℕ → ℕ → List Known) (middle : ℕ → List Instruction) : Type 0 where
+  pub sized : Sized p q
+  pub main : q.main ≡ p.main
+  pub starts : (k : ℕ) → kn k 0 ≡ nothing
+  pub each : (k i : ℕ) (x : Instruction) → slice_get (function_at p k).code i ≡ Some x → Position (function_at p k).area (kn k) (middle k) (function_at q k).code i x
+
+module _ (p q : Program) (kn : ℕ → ℕ → List Known) (middle : ℕ → List Instruction) (simple : IsSimpler p q kn middle) where
+  abbrev rest : State → List Instruction
+  rest s = drop s.frame.at (middle s.frame.function)
+
+  module _ (s : State) (u a : Values) (good : Stands p kn s) (agree : Agree (rest s) s u a) where
+    abbrev t : State
+    t = over u a s
+
+    abbrev k : ℕ
+    k = s.frame.function
+
+    abbrev i : ℕ
+    i = s.frame.at
+
+    abbrev xs : List Instruction
+    xs = drop (i + 1) (middle k)
+
+    behind : (s2 : State) → s2.frame.function ≡ k → s2.frame.at ≡ i + 1 → rest s2 ≡ xs
+    behind s2 f e = ap (λ j. drop s2.frame.at (middle j)) f ∙ ap (λ j. drop j (middle k)) e
+
+    module _ (x : Instruction) (is : slice_get (function_at p k).code i ≡ Some x) where
+      abbrev c : Position (function_at p k).area (kn k) (middle k) (function_at q k).code i x
+      c = simple.each k i x is
+
+      same : act p s c.half ≡ act p s x
+      same = ⊎_elim (λ e. ap (act p s) e) (λ e. ap (act p s) e ∙ act_same p s (kn k i) good.0 (function_at p k).area x) c.by
+
+      stands : Sat (Stands p kn) (act p s x)
+      stands = subst (Sat (Stands p kn)) same (act_stands p kn simple.starts s good c.half c.flow)
+
+      before : Agree (c.half ∷ xs) s u a
+      before = subst (λ ys. Agree ys s u a) c.half_is agree
+
+      alike : Match rest (act p s c.half) (act q t c.done)
+      alike =
+          ⊎_elim
+          (λ e. subst (λ w. Match rest (act p s c.half) (act q t w)) (sym e) (act_alike p q simple.sized rest s u a xs behind c.half before))
+          (λ d. subst (λ w. Match rest (act p s c.half) (act q t w)) (sym d.is) (dropped_alike p q simple.sized rest s u a xs behind d.number d.dead c.half before d.writes))
+          c.out
+
+      matches : Match rest (act p s x) (act q t c.done)
+      matches = subst (λ w. Match rest w (act q t c.done)) same alike
+
+      step_first : step p s ≡ act p s x
+      unfolding step
+      step_first = ap (λ o. o >>= act p s) is
+
+      step_second : step q t ≡ act q t c.done
+      unfolding step
+      step_second = ap (λ o. o >>= act q t) c.done_is
+
+      less : cost_if (next_of q t) ≤ cost_if (next_of p s)
+      less =
+          let one : cost_if (next_of p s) ≡ cost x = ap cost_if is in
+          let two : cost_if (next_of q t) ≡ cost c.done = ap cost_if c.done_is in
+          omega (arith, one, two, c.cheap)
+
+    none_first : slice_get (function_at p k).code i ≡ None → step p s ≡ stuck
+    unfolding step
+    none_first e = ap (λ o. o >>= act p s) e
+
+  abbrev Goal : ℕ → Type 0
+  Goal n = (s : State) (u a : Values) → Stands p kn s → Agree (rest s) s u a → DoesTheSame (run p n s) (run q n (over u a s))
+
+  goes_alike : (n : ℕ) (x z : Progress) → Match rest x z → Sat (Stands p kn) x → Goal n → DoesTheSame (goes_on x (run p n)) (goes_on z (run q n))
+  goes_alike n (running s) z m g more = subst (λ w. DoesTheSame (run p n s) (goes_on w (run q n))) (sym m.is) (more s m.others m.given g m.agree)
+  goes_alike n (ended status input trace) z m g more = subst (λ w. DoesTheSame (ended status input trace) (goes_on w (run q n))) (sym m) refl
+  goes_alike n stuck z m g more = tt
+
+  pub run_alike : (n : ℕ) → Goal n
+  run_alike zero s u a good agree = (refl, refl, refl)
+  run_alike (suc n) s u a good agree = on (run_alike n) (slice_get (function_at p s.frame.function).code s.frame.at) refl
+    where
+      on : Goal n → (o : Option Instruction) → slice_get (function_at p s.frame.function).code s.frame.at ≡ o → DoesTheSame (goes_on (step p s) (run p n)) (goes_on (step q (over u a s)) (run q n))
+      on later None e = subst (λ w. DoesTheSame (goes_on w (run p n)) (goes_on (step q (over u a s)) (run q n))) (sym (none_first s u a good agree e)) tt
+      on later (Some x) e =
+          let z = (simple.each s.frame.function s.frame.at x e).done in
+          let here = goes_alike n (act p s x) (act q (over u a s) z) (matches s u a good agree x e) (stands s u a good agree x e) later in
+          let second : DoesTheSame (goes_on (act p s x) (run p n)) (goes_on (step q (over u a s)) (run q n)) =
+          subst (λ w. DoesTheSame (goes_on (act p s x) (run p n)) (goes_on w (run q n))) (sym (step_second s u a good agree x e)) here in
+          subst (λ w. DoesTheSame (goes_on w (run p n)) (goes_on (step q (over u a s)) (run q n))) (sym (step_first s u a good agree x e)) second
+
+  abbrev Less : ℕ → Type 0
+  Less n = (s : State) (u a : Values) → Stands p kn s → Agree (rest s) s u a → IsDefined (run p n s) → spent q n (over u a s) ≤ spent p n s
+
+  goes_less : (n : ℕ) (x z : Progress) → Match rest x z → Sat (Stands p kn) x → Less n → IsDefined (goes_on x (run p n)) → cost_on z (spent q n) ≤ cost_on x (spent p n)
+  goes_less n (running s) z m g more defined = subst (λ w. cost_on w (spent q n) ≤ spent p n s) (sym m.is) (more s m.others m.given g m.agree defined)
+  goes_less n (ended status input trace) z m g more defined = subst (λ w. cost_on w (spent q n) ≤ 0) (sym m) (let le : 0 ≤ 0 = omega arith in le)
+  goes_less n stuck z m g more defined = absurd defined
+
+  pub spent_less : (n : ℕ) → Less n
+  spent_less zero s u a good agree defined = omega arith
+  spent_less (suc n) s u a good agree defined = on (spent_less n) (slice_get (function_at p s.frame.function).code s.frame.at) refl
+    where
+      on : Less n → (o : Option Instruction) → slice_get (function_at p s.frame.function).code s.frame.at ≡ o
+          → cost_if (next_of q (over u a s)) + cost_on (step q (over u a s)) (spent q n) ≤ cost_if (next_of p s) + cost_on (step p s) (spent p n)
+      on later None e = absurd (subst (λ w. IsDefined (goes_on w (run p n))) (none_first s u a good agree e) defined)
+      on later (Some x) e =
+          let z = (simple.each s.frame.function s.frame.at x e).done in
+          let first = step_first s u a good agree x e in
+          let second = step_second s u a good agree x e in
+          let more : cost_on (act q (over u a s) z) (spent q n) ≤ cost_on (act p s x) (spent p n) =
+          goes_less n (act p s x) (act q (over u a s) z) (matches s u a good agree x e) (stands s u a good agree x e) later (subst (λ w. IsDefined (goes_on w (run p n))) first defined) in
+          let one : cost_on (step p s) (spent p n) ≡ cost_on (act p s x) (spent p n) = ap (λ w. cost_on w (spent p n)) first in
+          let two : cost_on (step q (over u a s)) (spent q n) ≡ cost_on (act q (over u a s) z) (spent q n) = ap (λ w. cost_on w (spent q n)) second in
+          omega (arith, more, one, two, less s u a good agree x e)
+
+  abbrev started : ℕ → List ℕ → List ℕ → State
+  started main statics input = record {
+    frame = record { function = main; at = 0; cells = unset; area = unset };
+    temporaries = unset;
+    arguments = unset;
+    waiting = [];
+    statics = slice_get statics;
+    input = input;
+    trace = [];
+  }
+
+  start_same : (input : List ℕ) → start q input ≡ over unset unset (start p input)
+  start_same input = ap (λ m. started m q.statics input) simple.main ∙ ap (λ (xs : List ℕ). started p.main xs input) simple.sized.statics
+
+  start_stands : (input : List ℕ) → Stands p kn (start p input)
+  start_stands input = (subst (λ f. Holds (name_in p (start p input)) (home_in p (start p input)) f unset) (sym (simple.starts p.main)) (nothing_holds (name_in p (start p input)) (home_in p (start p input)) unset), tt)
+
+  start_agrees : (input : List ℕ) → Agree (rest (start p input)) (start p input) unset unset
+  start_agrees input = record { temporaries = λ j. inl refl; arguments = λ j v e. e }
+
+  pub runs : (n : ℕ) (input : List ℕ) → DoesTheSame (run p n (start p input)) (run q n (start q input))
+  runs n input =
+      subst (λ s. DoesTheSame (run p n (start p input)) (run q n s)) (sym (start_same input)) (run_alike n (start p input) unset unset (start_stands input) (start_agrees input))
+
+  pub costs : (n : ℕ) (input : List ℕ) → IsDefined (run p n (start p input)) → spent q n (start q input) ≤ spent p n (start p input)
+  costs n input defined =
+      subst (λ s. spent q n s ≤ spent p n (start p input)) (sym (start_same input)) (spent_less n (start p input) unset unset (start_stands input) (start_agrees input) defined)

@@ -1,0 +1,251 @@
+-- What is known holds all along a run.
+use Rattle.std.proofs.Common.{◌≡◌, ◌⊎◌, inl, inr, ⊎_elim, ℕ, zero, suc, ◌+◌, ◌*◌, ◌%◌, ◌^◌, List, [], ◌∷◌, Option, Some, None, Bool, true, false, refl, sym, ap, ◌∙◌, subst}
+use Rattle.std.specs.Prelude.{◌==◌, if◌then◌else◌, get_or, set, replicate}
+use Rattle.std.proofs.lemmas.Bool.{eqb-true, eqb-false}
+use Rattle.std.proofs.lemmas.List.{get_or-set_other}
+use Rattle.rv32.specs.declared.instr.RegisterOp.TheVariants as register_op
+use Rattle.rv32.specs.Arithmetic.{compare_of}
+use Rattle.frames_code.specs.declared.code.Operand.{Operand}
+use Rattle.frames_code.specs.declared.code.Operand.TheVariants as operand
+use Rattle.frames_code.specs.declared.code.Target.{Target}
+use Rattle.frames_code.specs.declared.code.Target.TheVariants as target
+use Rattle.frames_code.specs.declared.code.Width.{Width}
+use Rattle.frames_code.specs.declared.code.Location.{Location}
+use Rattle.frames_code.specs.declared.code.Location.TheVariants as location
+use Rattle.frames_code.specs.declared.code.Operation.{Operation}
+use Rattle.frames_code.specs.declared.code.Operation.TheVariants as operation
+use Rattle.frames_code.specs.declared.code.Instruction.{Instruction}
+use Rattle.frames_code.specs.declared.code.Instruction.TheVariants as instruction
+use Rattle.frames_code.specs.Code.{Program, frame_bytes}
+use Rattle.frames_code.specs.Run.{Value, Values, Bytes, Frame, State, Reference, Progress, running, ended, stuck, word, reference, value, word_at, word_in, reference_in, set as set_target, with_at, next, past, goes_to, place, memory, with_memory, with_element, element_in, fits, gives, gives_word, operate, converted, loaded, stored, put, got, returned, entered, act, function_at, bytes_of, name_of, changed_among, with_frames, ◌>>=◌}
+use Rattle.frames_opt.specs.declared.facts.Known.{Known}
+use Rattle.frames_opt.specs.declared.facts.Known.TheVariants as known
+use Rattle.frames_opt.specs.inside.Facts.{nothing, held, known_of, reference_to, learned, result_on, computed, behind}
+use Rattle.frames_opt.specs.inside.Passes.{jump_of}
+use Rattle.frames_opt.proofs.Acts.{Knows, Holds, name_in, home_in, known_holds}
+
+-- ---- where a step leads
+
+same_some : {A : Type 0} (x y : A) → Some x ≡ Some y → x ≡ y
+same_some x y e = cc
+
+abbrev spot : (list offset : ℕ) → Reference
+spot list offset = record { list = list; offset = offset }
+
+abbrev pub Sat : (State → Type 0) → Progress → Type 0
+Sat P (running s) = P s
+Sat P (ended status input trace) = Unit {0}
+Sat P stuck = Unit {0}
+
+sat_bind : {A : Type 0} (P : State → Type 0) (o : Option A) (go : A → Progress) → ((x : A) → o ≡ Some x → Sat P (go x)) → Sat P (o >>= go)
+sat_bind P None go each = tt
+sat_bind P (Some x) go each = each x refl
+
+sat_if : (P : State → Type 0) (t : Bool) (x y : Progress) → Sat P x → Sat P y → Sat P (if t then x else y)
+sat_if P true x y a b = a
+sat_if P false x y a b = b
+
+sat_either : (P : State → Type 0) (t : Bool) (x y : State) → P x → P y → P (if t then x else y)
+sat_either P true x y a b = a
+sat_either P false x y a b = b
+
+-- ---- lists of what is known
+
+pub held_in : (n k : ℕ) → held (replicate n known.Unknown) k ≡ known.Unknown
+held_in zero k = refl
+held_in (suc n) zero = refl
+held_in (suc n) (suc k) = held_in n k
+
+pub set_same : (l : List Known) (j : ℕ) (x : Known) → (held (set l j x) j ≡ x) ⊎ (held (set l j x) j ≡ known.Unknown)
+set_same [] j x = inr refl
+set_same (y ∷ ys) zero x = inl refl
+set_same (y ∷ ys) (suc j) x = set_same ys j x
+
+module _ (name home : ℕ) where
+  knows_as : (x y : Known) (m : Option Value) → x ≡ y → Knows name home y m → Knows name home x m
+  knows_as x y m e h = subst (λ z. Knows name home z m) (sym e) h
+
+  pub nothing_holds : (t : Values) → Holds name home nothing t
+  nothing_holds t k = knows_as (held nothing k) known.Unknown (t k) (held_in 8 k) tt
+
+  put_holds : (facts : List Known) (t : Values) (j : ℕ) (x : Known) (v : Value) → Holds name home facts t → Knows name home x (Some v) → Holds name home (set facts j x) (with_at t j v)
+  put_holds facts t j x v h e k = on (k == j) refl
+    where
+      same : k ≡ j → Knows name home (held (set facts j x) k) (Some v)
+      same u =
+          subst (λ i. Knows name home (held (set facts j x) i) (Some v)) (sym u)
+          (⊎_elim (λ a. knows_as (held (set facts j x) j) x (Some v) a e) (λ a. knows_as (held (set facts j x) j) known.Unknown (Some v) a tt) (set_same facts j x))
+
+      on : (t2 : Bool) → (k == j) ≡ t2 → Knows name home (held (set facts j x) k) (if k == j then Some v else t k)
+      on true u = rw u (same (eqb-true k j u))
+      on false u = rw u (knows_as (held (set facts j x) k) (held facts k) (t k) (get_or-set_other facts j k x known.Unknown (eqb-false k j u)) (h k))
+
+  result_knows : (o : Operation) (a b : ℕ) → Knows name home (result_on o a b) (Some (word (operate o a b)))
+  result_knows (operation.Machine register_op.Add) a b = refl
+  result_knows (operation.Machine register_op.Sub) a b = refl
+  result_knows (operation.Machine register_op.ShiftLeft) a b = refl
+  result_knows (operation.Machine register_op.Less) a b = tt
+  result_knows (operation.Machine register_op.LessUnsigned) a b = tt
+  result_knows (operation.Machine register_op.Xor) a b = tt
+  result_knows (operation.Machine register_op.ShiftRight) a b = tt
+  result_knows (operation.Machine register_op.ShiftRightArithmetic) a b = tt
+  result_knows (operation.Machine register_op.Or) a b = tt
+  result_knows (operation.Machine register_op.And) a b = tt
+  result_knows (operation.Machine register_op.Mul) a b = refl
+  result_knows (operation.Machine register_op.MulHigh) a b = tt
+  result_knows (operation.Machine register_op.MulHighSignedUnsigned) a b = tt
+  result_knows (operation.Machine register_op.MulHighUnsigned) a b = tt
+  result_knows (operation.Machine register_op.Div) a b = tt
+  result_knows (operation.Machine register_op.DivUnsigned) a b = tt
+  result_knows (operation.Machine register_op.Rem) a b = tt
+  result_knows (operation.Machine register_op.RemUnsigned) a b = tt
+  result_knows operation.Equal a b = tt
+  result_knows operation.NotEqual a b = tt
+
+  computed_knows : (s : State) (o : Operation) (x y : Operand) (a b : ℕ) → word_at s x ≡ Some a → word_at s y ≡ Some b → Knows name home (computed o x y) (Some (word (operate o a b)))
+  computed_knows s o (operand.Temporary k) y a b ex ey = tt
+  computed_knows s o (operand.Cell c) y a b ex ey = tt
+  computed_knows s o (operand.Argument k) y a b ex ey = tt
+  computed_knows s o (operand.Constant v) (operand.Temporary k) a b ex ey = tt
+  computed_knows s o (operand.Constant v) (operand.Cell c) a b ex ey = tt
+  computed_knows s o (operand.Constant v) (operand.Argument k) a b ex ey = tt
+  computed_knows s o (operand.Constant v) (operand.Constant w) a b ex ey =
+      let one : v ≡ a = cc in
+      let two : w ≡ b = cc in
+      let right : Knows name home (result_on o v w) (Some (word (operate o v b))) = subst (λ m. Knows name home (result_on o v w) (Some (word (operate o v m)))) two (result_knows o v w) in
+      subst (λ m. Knows name home (result_on o v w) (Some (word (operate o m b)))) one right
+
+-- ---- what is known before each instruction of each function
+
+-- behind instruction i, which is y
+pub record Flow (kn : ℕ → List Known) (i : ℕ) (y : Instruction) : Type 0 where
+  pub next : (kn (i + 1) ≡ nothing) ⊎ (kn (i + 1) ≡ behind (kn i) y)
+  pub jumps : (to : ℕ) → jump_of y ≡ Some to → kn to ≡ nothing
+
+abbrev pub Waits : (ℕ → ℕ → List Known) → List Frame → Type 0
+Waits kn [] = Unit {0}
+Waits kn (f ∷ fs) = (kn f.function f.at ≡ nothing) × Waits kn fs
+
+-- what is known holds; nothing is known where calls that wait go on
+abbrev pub Stands : Program → (ℕ → ℕ → List Known) → State → Type 0
+Stands p kn s = Holds (name_in p s) (home_in p s) (kn s.frame.function s.frame.at) s.temporaries × Waits kn s.waiting
+
+module _ (p : Program) (kn : ℕ → ℕ → List Known) where
+  bytes_changed : (fs : List Frame) (l : ℕ) (b : Bytes) → bytes_of p (changed_among p fs l b) ≡ bytes_of p fs
+  bytes_changed [] l b = refl
+  bytes_changed (f ∷ fs) l b = on (bytes_changed fs l b) (name_of p f fs == l)
+    where
+      on : bytes_of p (changed_among p fs l b) ≡ bytes_of p fs → (t : Bool) → bytes_of p (if t then record f { area = b } ∷ fs else f ∷ changed_among p fs l b) ≡ bytes_of p (f ∷ fs)
+      on later true = refl
+      on later false = ap (λ n. frame_bytes (function_at p f.function) + n) later
+
+  waits_changed : (fs : List Frame) (l : ℕ) (b : Bytes) → Waits kn fs → Waits kn (changed_among p fs l b)
+  waits_changed [] l b w = tt
+  waits_changed (f ∷ fs) l b w = on (waits_changed fs l b w.1) (name_of p f fs == l)
+    where
+      on : Waits kn (changed_among p fs l b) → (t : Bool) → Waits kn (if t then record f { area = b } ∷ fs else f ∷ changed_among p fs l b)
+      on later true = w
+      on later false = (w.0, later)
+
+  memory_stands : (r : State) → Stands p kn r → (l : ℕ) (b : Bytes) → Stands p kn (with_memory p r l b)
+  memory_stands r g zero b = g
+  memory_stands r g (suc l) b = on (name_of p r.frame r.waiting == suc l)
+    where
+      on : (t : Bool) → Stands p kn (with_frames r (if t then record r.frame { area = b } ∷ r.waiting else r.frame ∷ changed_among p r.waiting (suc l) b))
+      on true = g
+      on false = (
+        subst (λ n. Holds (frame_bytes (function_at p r.frame.function) + n) (home_in p r) (kn r.frame.function r.frame.at) r.temporaries) (sym (bytes_changed r.waiting (suc l) b)) g.0,
+        waits_changed r.waiting (suc l) b g.1,
+      )
+
+  module _ (starts : (k : ℕ) → kn k 0 ≡ nothing) (s : State) (good : Stands p kn s) where
+    abbrev here : ℕ → List Known
+    here = kn s.frame.function
+
+    abbrev facts : List Known
+    facts = here s.frame.at
+
+    abbrev name : ℕ
+    name = name_in p s
+
+    abbrev home : ℕ
+    home = home_in p s
+
+    empty_holds : (n h : ℕ) (f : List Known) (t : Values) → f ≡ nothing → Holds n h f t
+    empty_holds n h f t e = subst (λ g. Holds n h g t) (sym e) (nothing_holds n h t)
+
+    at_next : (f : List Known) (t : Values) → (here (s.frame.at + 1) ≡ nothing) ⊎ (here (s.frame.at + 1) ≡ f) → Holds name home f t → Holds name home (here (s.frame.at + 1)) t
+    at_next f t flow h = ⊎_elim (λ e. empty_holds name home (here (s.frame.at + 1)) t e) (λ e. subst (λ g. Holds name home g t) (sym e) h) flow
+
+    gives_stands : (d : Target) (v : Value) (told : Known) → (here (s.frame.at + 1) ≡ nothing) ⊎ (here (s.frame.at + 1) ≡ learned facts d told) → Knows name home told (Some v) → Stands p kn (set_target d v (next s))
+    gives_stands (target.Temporary j) v told flow e = (at_next (set facts j told) (with_at s.temporaries j v) flow (put_holds name home facts s.temporaries j told v good.0 e), good.1)
+    gives_stands (target.Cell c) v told flow e = (at_next facts s.temporaries flow good.0, good.1)
+
+    past_stands : (d : Target) (v : Value) → Stands p kn (set_target d v (next s)) → Stands p kn (set_target d v (past s))
+    past_stands (target.Temporary j) v g = g
+    past_stands (target.Cell c) v g = g
+
+    next_stands : (here (s.frame.at + 1) ≡ nothing) ⊎ (here (s.frame.at + 1) ≡ facts) → Stands p kn (next s)
+    next_stands flow = (at_next facts s.temporaries flow good.0, good.1)
+
+    loaded_stands : (w : Width) (d : Target) (r : Reference) → (here (s.frame.at + 1) ≡ nothing) ⊎ (here (s.frame.at + 1) ≡ learned facts d known.Unknown) → Sat (Stands p kn) (loaded p s w d r)
+    loaded_stands w d r flow =
+        sat_bind (Stands p kn) (memory p s r.list) (λ m. if fits w r.offset m then element_in w m.bytes r.offset >>= gives_word d s else stuck)
+        (λ m e. sat_if (Stands p kn) (fits w r.offset m) (element_in w m.bytes r.offset >>= gives_word d s) stuck
+        (sat_bind (Stands p kn) (element_in w m.bytes r.offset) (gives_word d s) (λ v e2. gives_stands d (word v) known.Unknown flow tt)) tt)
+
+    stored_stands : (w : Width) (v : ℕ) (r : Reference) → (here (s.frame.at + 1) ≡ nothing) ⊎ (here (s.frame.at + 1) ≡ facts) → Sat (Stands p kn) (stored p s w v r)
+    stored_stands w v r flow =
+        sat_bind (Stands p kn) (memory p s r.list) (λ m. if fits w r.offset m then running (with_memory p (next s) r.list (with_element w m.bytes r.offset v)) else stuck)
+        (λ m e. sat_if (Stands p kn) (fits w r.offset m) (running (with_memory p (next s) r.list (with_element w m.bytes r.offset v))) stuck
+        (memory_stands (next s) (next_stands flow) r.list (with_element w m.bytes r.offset v)) tt)
+
+    address_knows : (l : Location) (r : Reference) → place p s l ≡ Some r → Knows name home (reference_to l) (Some (reference r.list r.offset))
+    address_knows (location.Statics o) r e = let same : spot 0 o ≡ r = same_some (spot 0 o) r e in ap (λ (z : Reference). Some (reference z.list z.offset)) (sym same)
+    address_knows (location.Frame o) r e = let same : spot name (home + o) ≡ r = same_some (spot name (home + o)) r e in ap (λ (z : Reference). Some (reference z.list z.offset)) (sym same)
+    address_knows (location.At x) r e = tt
+
+    returned_stands : (ws : List Frame) → Waits kn ws → Sat (Stands p kn) (returned s ws)
+    returned_stands [] w = sat_bind (Stands p kn) (word_at s (operand.Temporary 0)) (λ v. ended (v % 2 ^ 8) s.input s.trace) (λ v e. tt)
+    returned_stands (f ∷ fs) w = (empty_holds _ _ (kn f.function f.at) _ w.0, w.1)
+
+    got_stands : here (s.frame.at + 1) ≡ nothing → (input : List ℕ) → Sat (Stands p kn) (got s input)
+    got_stands e [] = (empty_holds _ _ (here (s.frame.at + 1)) _ e, good.1)
+    got_stands e (b ∷ rest) = (empty_holds _ _ (here (s.frame.at + 1)) _ e, good.1)
+
+    emptied : (here (s.frame.at + 1) ≡ nothing) ⊎ (here (s.frame.at + 1) ≡ nothing) → here (s.frame.at + 1) ≡ nothing
+    emptied flow = ⊎_elim (λ e. e) (λ e. e) flow
+
+    pub act_stands : (y : Instruction) → Flow here s.frame.at y → Sat (Stands p kn) (act p s y)
+    act_stands instruction.Nothing flow = next_stands flow.next
+    act_stands (instruction.Move d x) flow =
+        sat_bind (Stands p kn) (value s x) (λ v. running (set_target d v (past s)))
+        (λ v e. past_stands d v (gives_stands d v (known_of facts x) flow.next (subst (Knows name home (known_of facts x)) e (known_holds p s facts good.0 x))))
+    act_stands (instruction.Compute o d x y) flow =
+        sat_bind (Stands p kn) (word_at s x) (λ a. word_at s y >>= λ b. gives_word d s (operate o a b))
+        (λ a ea. sat_bind (Stands p kn) (word_at s y) (λ b. gives_word d s (operate o a b))
+        (λ b eb. gives_stands d (word (operate o a b)) (computed o x y) flow.next (computed_knows name home s o x y a b ea eb)))
+    act_stands (instruction.Convert c d x) flow =
+        sat_bind (Stands p kn) (word_at s x) (λ a. gives_word d s (converted c a)) (λ a e. gives_stands d (word (converted c a)) known.Unknown flow.next tt)
+    act_stands (instruction.Load w d l) flow = sat_bind (Stands p kn) (place p s l) (loaded p s w d) (λ r e. loaded_stands w d r flow.next)
+    act_stands (instruction.Store w x l) flow =
+        sat_bind (Stands p kn) (word_at s x) (λ a. place p s l >>= stored p s w a)
+        (λ a e. sat_bind (Stands p kn) (place p s l) (stored p s w a) (λ r e2. stored_stands w a r flow.next))
+    act_stands (instruction.Address d l) flow =
+        sat_bind (Stands p kn) (place p s l) (λ r. gives d s (reference r.list r.offset))
+        (λ r e. gives_stands d (reference r.list r.offset) (reference_to l) flow.next (address_knows l r e))
+    act_stands (instruction.Element d x y size) flow =
+        sat_bind (Stands p kn) (reference_in (value s x)) (λ r. word_at s y >>= λ n. gives d s (reference r.list (r.offset + n * size)))
+        (λ r e. sat_bind (Stands p kn) (word_at s y) (λ n. gives d s (reference r.list (r.offset + n * size)))
+        (λ n e2. gives_stands d (reference r.list (r.offset + n * size)) known.Unknown flow.next tt))
+    act_stands (instruction.Jump to) flow = (empty_holds _ _ (here to) _ (flow.jumps to refl), good.1)
+    act_stands (instruction.Branch t x y to) flow =
+        sat_bind (Stands p kn) (word_at s x) (λ a. word_at s y >>= λ b. running (if compare_of t a b then goes_to s to else next s))
+        (λ a ea. sat_bind (Stands p kn) (word_at s y) (λ b. running (if compare_of t a b then goes_to s to else next s))
+        (λ b eb. sat_either (Stands p kn) (compare_of t a b) (goes_to s to) (next s) (empty_holds _ _ (here to) _ (flow.jumps to refl), good.1) (next_stands flow.next)))
+    act_stands (instruction.Call f) flow = (empty_holds _ _ (kn f 0) _ (starts f), (emptied flow.next, good.1))
+    act_stands instruction.PutByte flow =
+        sat_bind (Stands p kn) (word_at s (operand.Temporary 0)) (put s) (λ v e. (empty_holds _ _ (here (s.frame.at + 1)) _ (emptied flow.next), good.1))
+    act_stands instruction.GetByte flow = got_stands (emptied flow.next) s.input
+    act_stands instruction.Exit flow = sat_bind (Stands p kn) (word_at s (operand.Temporary 0)) (λ v. ended (v % 2 ^ 8) s.input s.trace) (λ v e. tt)
+    act_stands instruction.Return flow = returned_stands s.waiting good.1

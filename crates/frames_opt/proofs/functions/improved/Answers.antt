@@ -1,0 +1,7 @@
+use Rattle.frames_opt.proofs.Results.{improved_from}
+use Rattle.frames_opt.proofs.functions.improved.Goals as goal
+
+pub returns : goal.returns
+returns c =
+    improved_from (λ v. v.items) c.args.area c.args.code.now c.in_ok-known.known.items c.deref-2.result.now c.in_ok-marks.marks.items c.deref.result.now c.in_ok-marks.ensures c.deref.ensures.value c.in_ok-known.ensures
+    c.deref-2.ensures.value c.swept.result c.swept.ensures

@@ -1,0 +1,8 @@
+use Rattle.std.proofs.Common.{List, ◌++◌, map}
+use Rattle.frames_code.specs.Code.{Function, function_of}
+use Rattle.frames_opt.specs.layer.Functions.{AreSimpler}
+use Rattle.frames_opt.proofs.functions.simplify_functions.Given as goal
+
+abbrev pub invariant-loop-function : goal.invariant-loop-function
+invariant-loop-function l =
+    (more : List Function) → AreSimpler (map function_of l.function-iterator.rest.items) more → AreSimpler (map function_of l.fn.functions.items) (map function_of l.list.items ++ more)

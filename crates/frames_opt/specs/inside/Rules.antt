@@ -1,0 +1,170 @@
+-- What stands in the place of an instruction, by what is known before it.
+use Rattle.std.specs.Prelude.{ℕ, ◌+◌, ◌*◌, ◌^◌, ◌==◌, ◌&&◌, nat_lt, not, Bool, true, false, if◌then◌else◌, List, Option, Some, None}
+use Rattle.std.specs.Int.{w32, trailing_zeros}
+use Rattle.rv32.specs.declared.instr.RegisterOp.{RegisterOp}
+use Rattle.rv32.specs.declared.instr.RegisterOp.TheVariants as register_op
+use Rattle.rv32.specs.Arithmetic.{operate_of}
+use Rattle.frames_code.specs.declared.code.Operand.{Operand}
+use Rattle.frames_code.specs.declared.code.Operand.TheVariants as operand
+use Rattle.frames_code.specs.declared.code.Target.{Target}
+use Rattle.frames_code.specs.declared.code.Location.{Location}
+use Rattle.frames_code.specs.declared.code.Location.TheVariants as location
+use Rattle.frames_code.specs.declared.code.Operation.{Operation}
+use Rattle.frames_code.specs.declared.code.Operation.TheVariants as operation
+use Rattle.frames_code.specs.declared.code.Instruction.{Instruction}
+use Rattle.frames_code.specs.declared.code.Instruction.TheVariants as instruction
+use Rattle.frames_opt.specs.declared.facts.Known.{Known}
+use Rattle.frames_opt.specs.declared.facts.Known.TheVariants as known
+use Rattle.frames_opt.specs.inside.Facts.{known_of}
+
+-- ---- operands, locations
+
+abbrev pub constant_or : Operand → Known → Operand
+constant_or x known.Unknown = x
+constant_or x (known.Word w) = operand.Constant w
+constant_or x (known.Statics o) = x
+constant_or x (known.Frame o) = x
+
+abbrev pub simpler_operand : List Known → Operand → Operand
+simpler_operand facts x = constant_or x (known_of facts x)
+
+abbrev pub location_or : Operand → Known → Location
+location_or x known.Unknown = location.At x
+location_or x (known.Word w) = location.At x
+location_or x (known.Statics o) = location.Statics o
+location_or x (known.Frame o) = location.Frame o
+
+abbrev pub simpler_location : List Known → Location → Location
+simpler_location facts (location.Statics o) = location.Statics o
+simpler_location facts (location.Frame o) = location.Frame o
+simpler_location facts (location.At x) = location_or x (known_of facts x)
+
+-- ---- operations
+
+abbrev pub is_constant : Operand → Bool
+is_constant (operand.Temporary k) = false
+is_constant (operand.Cell c) = false
+is_constant (operand.Constant v) = true
+is_constant (operand.Argument k) = false
+
+abbrev pub commutes_on_machine : RegisterOp → Bool
+commutes_on_machine register_op.Add = true
+commutes_on_machine register_op.Sub = false
+commutes_on_machine register_op.ShiftLeft = false
+commutes_on_machine register_op.Less = false
+commutes_on_machine register_op.LessUnsigned = false
+commutes_on_machine register_op.Xor = true
+commutes_on_machine register_op.ShiftRight = false
+commutes_on_machine register_op.ShiftRightArithmetic = false
+commutes_on_machine register_op.Or = true
+commutes_on_machine register_op.And = true
+commutes_on_machine register_op.Mul = true
+commutes_on_machine register_op.MulHigh = false
+commutes_on_machine register_op.MulHighSignedUnsigned = false
+commutes_on_machine register_op.MulHighUnsigned = false
+commutes_on_machine register_op.Div = false
+commutes_on_machine register_op.DivUnsigned = false
+commutes_on_machine register_op.Rem = false
+commutes_on_machine register_op.RemUnsigned = false
+
+abbrev pub commutes : Operation → Bool
+commutes (operation.Machine o) = commutes_on_machine o
+commutes operation.Equal = false
+commutes operation.NotEqual = false
+
+abbrev pub is_product_on_machine : RegisterOp → Bool
+is_product_on_machine register_op.Add = false
+is_product_on_machine register_op.Sub = false
+is_product_on_machine register_op.ShiftLeft = false
+is_product_on_machine register_op.Less = false
+is_product_on_machine register_op.LessUnsigned = false
+is_product_on_machine register_op.Xor = false
+is_product_on_machine register_op.ShiftRight = false
+is_product_on_machine register_op.ShiftRightArithmetic = false
+is_product_on_machine register_op.Or = false
+is_product_on_machine register_op.And = false
+is_product_on_machine register_op.Mul = true
+is_product_on_machine register_op.MulHigh = false
+is_product_on_machine register_op.MulHighSignedUnsigned = false
+is_product_on_machine register_op.MulHighUnsigned = false
+is_product_on_machine register_op.Div = false
+is_product_on_machine register_op.DivUnsigned = false
+is_product_on_machine register_op.Rem = false
+is_product_on_machine register_op.RemUnsigned = false
+
+abbrev pub is_product : Operation → Bool
+is_product (operation.Machine o) = is_product_on_machine o
+is_product operation.Equal = false
+is_product operation.NotEqual = false
+
+abbrev pub product : Target → Operand → Operand → Instruction
+product d x y = instruction.Compute (operation.Machine register_op.Mul) d x y
+
+abbrev pub shift : Target → Operand → ℕ → Instruction
+shift d x k = instruction.Compute (operation.Machine register_op.ShiftLeft) d x (operand.Constant k)
+
+-- a power of two is its number of zeros' power
+abbrev pub is_power : ℕ → ℕ → Bool
+is_power k v = nat_lt k 32 && (2 ^ k == v)
+
+abbrev pub scaled : Target → Operand → ℕ → Instruction
+scaled d x v = if is_power (trailing_zeros w32 v) v then shift d x (trailing_zeros w32 v) else product d x (operand.Constant v)
+
+abbrev pub multiplied : Target → Operand → Operand → Instruction
+multiplied d x (operand.Temporary k) = product d x (operand.Temporary k)
+multiplied d x (operand.Cell c) = product d x (operand.Cell c)
+multiplied d x (operand.Constant v) = scaled d x v
+multiplied d x (operand.Argument k) = product d x (operand.Argument k)
+
+abbrev pub arranged : Operation → Target → Operand → Operand → Instruction
+arranged o d x y = if is_product o then multiplied d x y else instruction.Compute o d x y
+
+abbrev pub compute : Operation → Target → Operand → Operand → Instruction
+compute o d x y = if is_constant x && (not (is_constant y) && commutes o) then arranged o d y x else arranged o d x y
+
+-- ---- elements
+
+abbrev pub within : (offset index size most : ℕ) → Option ℕ
+within o n size most = if nat_lt (o + n * size) most then Some (o + n * size) else None
+
+abbrev pub element : Target → Operand → Operand → ℕ → Instruction
+element d x y size = instruction.Element d x y size
+
+abbrev pub statics_or : Option ℕ → Target → Operand → ℕ → ℕ → Instruction
+statics_or (Some o) d x n size = instruction.Address d (location.Statics o)
+statics_or None d x n size = instruction.Element d x (operand.Constant n) size
+
+abbrev pub frame_or : Option ℕ → Target → Operand → ℕ → ℕ → Instruction
+frame_or (Some o) d x n size = instruction.Address d (location.Frame o)
+frame_or None d x n size = instruction.Element d x (operand.Constant n) size
+
+abbrev pub numbered : ℕ → Known → Target → Operand → ℕ → ℕ → Instruction
+numbered area known.Unknown d x n size = frame_or None d x n size
+numbered area (known.Word w) d x n size = frame_or None d x n size
+numbered area (known.Statics o) d x n size = statics_or (within o n size 0x10000000) d x n size
+numbered area (known.Frame o) d x n size = frame_or (within o n size area) d x n size
+
+abbrev pub simpler_element : ℕ → Known → Target → Operand → Operand → ℕ → Instruction
+simpler_element area k d x (operand.Temporary j) size = element d x (operand.Temporary j) size
+simpler_element area k d x (operand.Cell c) size = element d x (operand.Cell c) size
+simpler_element area k d x (operand.Constant n) size = numbered area k d x n size
+simpler_element area k d x (operand.Argument j) size = element d x (operand.Argument j) size
+
+-- ---- instructions, in a function whose arrays have so many bytes
+
+abbrev pub simpler : ℕ → List Known → Instruction → Instruction
+simpler area facts instruction.Nothing = instruction.Nothing
+simpler area facts (instruction.Move d x) = instruction.Move d (simpler_operand facts x)
+simpler area facts (instruction.Compute o d x y) = compute o d (simpler_operand facts x) (simpler_operand facts y)
+simpler area facts (instruction.Convert c d x) = instruction.Convert c d x
+simpler area facts (instruction.Load w d l) = instruction.Load w d (simpler_location facts l)
+simpler area facts (instruction.Store w x l) = instruction.Store w (simpler_operand facts x) (simpler_location facts l)
+simpler area facts (instruction.Address d l) = instruction.Address d (simpler_location facts l)
+simpler area facts (instruction.Element d x y size) = simpler_element area (known_of facts x) d x (simpler_operand facts y) size
+simpler area facts (instruction.Jump to) = instruction.Jump to
+simpler area facts (instruction.Branch t x y to) = instruction.Branch t (simpler_operand facts x) (simpler_operand facts y) to
+simpler area facts (instruction.Call f) = instruction.Call f
+simpler area facts instruction.PutByte = instruction.PutByte
+simpler area facts instruction.GetByte = instruction.GetByte
+simpler area facts instruction.Exit = instruction.Exit
+simpler area facts instruction.Return = instruction.Return

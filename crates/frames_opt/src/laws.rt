@@ -1,0 +1,8 @@
+//! A law of functions that are made simpler one by one, the contract of a function without code.
+
+ghost use Rattle.frames_opt.specs.layer.Functions.{FunctionsAreSimplified};
+
+/// A program whose functions were made simpler, one by one, is made simpler.
+pub fn functions_are_simplified()
+    ensures { FunctionsAreSimplified }
+{}

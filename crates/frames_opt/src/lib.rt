@@ -1,0 +1,15 @@
+//! Optimises flat code (an intermediate representation, IR): constant propagation by a dataflow analysis, strength reduction and elimination of dead stores.
+#![tactic(auto)]
+
+mod bytes;
+mod facts;
+mod functions;
+mod laws;
+mod marks;
+mod operations;
+mod passes;
+mod rules;
+mod unread;
+
+pub use functions::{simplify, simplify_function};
+pub use laws::functions_are_simplified;

@@ -1,0 +1,208 @@
+//! Operations on words that are known.
+
+ghost use Rattle.std.specs.Prelude.{◌≡◌};
+ghost use Rattle.frames_opt.specs.inside.Facts as facts_in;
+ghost use Rattle.frames_opt.specs.inside.Rules as rules;
+
+use crate::facts::Known;
+use frames_code::{Instruction, Operand, Operation, Target};
+use rv32::RegisterOp;
+use rv32::alu::operate;
+
+fn result_of(op: RegisterOp, left: u32, right: u32) -> Known
+    ensures { result ≡ facts_in.result_of op left right }
+{
+    match op {
+        RegisterOp::Add => Known::Word(operate(op, left, right)),
+        RegisterOp::Sub => Known::Word(operate(op, left, right)),
+        RegisterOp::ShiftLeft => Known::Word(operate(op, left, right)),
+        RegisterOp::Less => Known::Unknown,
+        RegisterOp::LessUnsigned => Known::Unknown,
+        RegisterOp::Xor => Known::Unknown,
+        RegisterOp::ShiftRight => Known::Unknown,
+        RegisterOp::ShiftRightArithmetic => Known::Unknown,
+        RegisterOp::Or => Known::Unknown,
+        RegisterOp::And => Known::Unknown,
+        RegisterOp::Mul => Known::Word(operate(op, left, right)),
+        RegisterOp::MulHigh => Known::Unknown,
+        RegisterOp::MulHighSignedUnsigned => Known::Unknown,
+        RegisterOp::MulHighUnsigned => Known::Unknown,
+        RegisterOp::Div => Known::Unknown,
+        RegisterOp::DivUnsigned => Known::Unknown,
+        RegisterOp::Rem => Known::Unknown,
+        RegisterOp::RemUnsigned => Known::Unknown,
+    }
+}
+
+fn result_on(operation: Operation, left: u32, right: u32) -> Known
+    ensures { result ≡ facts_in.result_on operation left right }
+{
+    match operation {
+        Operation::Machine(op) => result_of(op, left, right),
+        Operation::Equal => Known::Unknown,
+        Operation::NotEqual => Known::Unknown,
+    }
+}
+
+fn result_with(operation: Operation, left: u32, right: Operand) -> Known
+    ensures { result ≡ facts_in.result_with operation left right }
+{
+    match right {
+        Operand::Temporary(_) => Known::Unknown,
+        Operand::Cell(_) => Known::Unknown,
+        Operand::Constant(word) => result_on(operation, left, word),
+        Operand::Argument(_) => Known::Unknown,
+    }
+}
+
+/// What an operation gives, where it is known.
+pub fn computed(operation: Operation, left: Operand, right: Operand) -> Known
+    ensures { result ≡ facts_in.computed operation left right }
+{
+    match left {
+        Operand::Temporary(_) => Known::Unknown,
+        Operand::Cell(_) => Known::Unknown,
+        Operand::Constant(word) => result_with(operation, word, right),
+        Operand::Argument(_) => Known::Unknown,
+    }
+}
+
+/// Whether the two words may change places.
+fn commutes(operation: Operation) -> bool
+    ensures { result ≡ rules.commutes operation }
+{
+    match operation {
+        Operation::Machine(op) => match op {
+            RegisterOp::Add => true,
+            RegisterOp::Sub => false,
+            RegisterOp::ShiftLeft => false,
+            RegisterOp::Less => false,
+            RegisterOp::LessUnsigned => false,
+            RegisterOp::Xor => true,
+            RegisterOp::ShiftRight => false,
+            RegisterOp::ShiftRightArithmetic => false,
+            RegisterOp::Or => true,
+            RegisterOp::And => true,
+            RegisterOp::Mul => true,
+            RegisterOp::MulHigh => false,
+            RegisterOp::MulHighSignedUnsigned => false,
+            RegisterOp::MulHighUnsigned => false,
+            RegisterOp::Div => false,
+            RegisterOp::DivUnsigned => false,
+            RegisterOp::Rem => false,
+            RegisterOp::RemUnsigned => false,
+        },
+        Operation::Equal => false,
+        Operation::NotEqual => false,
+    }
+}
+
+fn is_constant(operand: Operand) -> bool
+    ensures { result ≡ rules.is_constant operand }
+{
+    match operand {
+        Operand::Temporary(_) => false,
+        Operand::Cell(_) => false,
+        Operand::Constant(_) => true,
+        Operand::Argument(_) => false,
+    }
+}
+
+/// The operation that multiplies by a power of two, where this word is one.
+fn scaled(target: Target, left: Operand, word: u32) -> Instruction
+    ensures { result ≡ rules.scaled target left word }
+{
+    let power = word.trailing_zeros();
+    if power < 32 && 1u32 << power == word {
+        Instruction::Compute {
+            operation: Operation::Machine(RegisterOp::ShiftLeft),
+            target,
+            left,
+            right: Operand::Constant(power),
+        }
+    } else {
+        Instruction::Compute {
+            operation: Operation::Machine(RegisterOp::Mul),
+            target,
+            left,
+            right: Operand::Constant(word),
+        }
+    }
+}
+
+fn product(target: Target, left: Operand, right: Operand) -> Instruction
+    ensures { result ≡ rules.product target left right }
+{
+    Instruction::Compute {
+        operation: Operation::Machine(RegisterOp::Mul),
+        target,
+        left,
+        right,
+    }
+}
+
+fn multiplied(target: Target, left: Operand, right: Operand) -> Instruction
+    ensures { result ≡ rules.multiplied target left right }
+{
+    match right {
+        Operand::Temporary(number) => product(target, left, Operand::Temporary(number)),
+        Operand::Cell(number) => product(target, left, Operand::Cell(number)),
+        Operand::Constant(word) => scaled(target, left, word),
+        Operand::Argument(number) => product(target, left, Operand::Argument(number)),
+    }
+}
+
+fn is_product(operation: Operation) -> bool
+    ensures { result ≡ rules.is_product operation }
+{
+    match operation {
+        Operation::Machine(op) => match op {
+            RegisterOp::Add => false,
+            RegisterOp::Sub => false,
+            RegisterOp::ShiftLeft => false,
+            RegisterOp::Less => false,
+            RegisterOp::LessUnsigned => false,
+            RegisterOp::Xor => false,
+            RegisterOp::ShiftRight => false,
+            RegisterOp::ShiftRightArithmetic => false,
+            RegisterOp::Or => false,
+            RegisterOp::And => false,
+            RegisterOp::Mul => true,
+            RegisterOp::MulHigh => false,
+            RegisterOp::MulHighSignedUnsigned => false,
+            RegisterOp::MulHighUnsigned => false,
+            RegisterOp::Div => false,
+            RegisterOp::DivUnsigned => false,
+            RegisterOp::Rem => false,
+            RegisterOp::RemUnsigned => false,
+        },
+        Operation::Equal => false,
+        Operation::NotEqual => false,
+    }
+}
+
+fn arranged(operation: Operation, target: Target, left: Operand, right: Operand) -> Instruction
+    ensures { result ≡ rules.arranged operation target left right }
+{
+    if is_product(operation) {
+        multiplied(target, left, right)
+    } else {
+        Instruction::Compute {
+            operation,
+            target,
+            left,
+            right,
+        }
+    }
+}
+
+/// An operation with a constant behind the other operand, where they may change places, and with a shift in place of a product.
+pub fn compute(operation: Operation, target: Target, left: Operand, right: Operand) -> Instruction
+    ensures { result ≡ rules.compute operation target left right }
+{
+    if is_constant(left) && !is_constant(right) && commutes(operation) {
+        arranged(operation, target, right, left)
+    } else {
+        arranged(operation, target, left, right)
+    }
+}

@@ -1,0 +1,11 @@
+//! Register allocation: renumbers the words of frames by their use counts, so that those used most live in callee-saved registers.
+#![tactic(auto)]
+
+mod functions;
+mod instructions;
+mod laws;
+mod swaps;
+mod weights;
+
+pub use functions::{renumber, renumber_function};
+pub use laws::{costs_alike, frames_alike, runs_alike, stays_sound};

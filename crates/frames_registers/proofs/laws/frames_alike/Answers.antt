@@ -1,5 +1,0 @@
-use Rattle.frames_registers.proofs.Whole as laws
-use Rattle.frames_registers.proofs.laws.frames_alike.Goals as goal
-
-pub returns : goal.returns
-returns c = laws.frames_alike

@@ -1,5 +1,0 @@
-use Rattle.frames_simplified.proofs.Whole.{is_simplified}
-use Rattle.frames_simplified.proofs.laws.functions_are_simplified.Goals as goal
-
-pub returns : goal.returns
-returns c = is_simplified

@@ -1,7 +1,0 @@
-use Rattle.std.proofs.Common.{◌≡◌, ◌++◌, drop}
-use Rattle.frames_simplified.specs.inside.Facts.{nothing}
-use Rattle.frames_simplified.specs.inside.Passes as passes
-use Rattle.frames_simplified.proofs.passes.forward.Given as goal
-
-abbrev pub invariant-loop-number : goal.invariant-loop-number
-invariant-loop-number l = l.made.items ++ passes.forward l.area l.marks l.number l.facts (drop l.number l.code) ≡ passes.forward l.area l.marks 0 nothing l.code

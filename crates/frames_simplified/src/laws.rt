@@ -1,8 +1,0 @@
-//! A law of functions that are made simpler one by one, the contract of a function without code.
-
-ghost use Rattle.frames_simplified.specs.layer.Functions.{FunctionsAreSimplified};
-
-/// A program whose functions were made simpler, one by one, is made simpler.
-pub fn functions_are_simplified()
-    ensures { FunctionsAreSimplified }
-{}

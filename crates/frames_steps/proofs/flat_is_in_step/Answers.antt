@@ -1,5 +1,0 @@
-use Rattle.frames_steps.proofs.Whole as laws
-use Rattle.frames_steps.proofs.flat_is_in_step.Goals as goal
-
-pub returns : goal.returns
-returns c = laws.flat_is_in_step

@@ -1,5 +1,0 @@
-use Rattle.frames_steps.proofs.Runs.{run_both}
-use Rattle.frames_steps.proofs.flat_runs_compose.Goals as goal
-
-pub returns : goal.returns
-returns c = run_both

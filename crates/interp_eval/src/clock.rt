@@ -1,0 +1,119 @@
+//! The ticks of a run, and why a part of it stopped.
+
+ghost use Rattle.std.specs.Prelude.{◌≡◌, ◌≢◌, ◌+◌, true, false};
+ghost use Rattle.std.specs.Bool.{OnTrue, OnFalse};
+ghost use Rattle.interp_eval.specs.declared.clock.Why.TheVariants as why;
+ghost use Rattle.interp_eval.specs.layer.Comes.{Gives, Idles, StaysHere, StoppedBy};
+
+use ctypes::Undef;
+use interp_store::Reference;
+use interp_store::stop::Stop;
+use srcset::Pos;
+use std::alloc::Global;
+use typed_ast::{ObjectType, Program};
+
+/// Why a part of a run stopped.
+#[derive(Clone, Copy)]
+pub enum Why {
+    /// All ticks that were allowed are taken.
+    Ticks,
+    /// An act that is undefined, at its place (3.4.3).
+    Undefined(Undef, Pos),
+    /// The host's memory ran out.
+    Memory,
+    /// The part is not one that is evaluated here.
+    Elsewhere,
+}
+
+/// The ticks that are spent, and why the run stopped, if it did.
+#[derive(Drop)]
+pub struct Clock {
+    pub spent: u64,
+    pub why: Why,
+}
+
+/// What stays the same while a part of a call is evaluated: the program, the objects of the function, and how many ticks are allowed.
+#[derive(Clone, Copy)]
+pub struct Scope<'p> {
+    pub alloc: Global,
+    pub program: &'p Program,
+    pub objects: &'p [ObjectType],
+    pub limit: u64,
+}
+
+impl Clock {
+    /// One tick, if one is left.
+    #[inline(always)]
+    pub fn tick(&mut self, limit: u64) -> bool
+        ensures taken { OnTrue result (self.new.spent ≡ self.old.spent + 1) }
+        ensures idle { OnFalse result (Idles self.new.why self.new.spent limit) }
+        ensures same { OnFalse result (self.new.spent ≡ self.old.spent) }
+        ensures here { result ≡ false → self.new.why ≢ why.Elsewhere }
+    {
+        if self.spent < limit {
+            self.spent += 1;
+            true
+        } else {
+            self.idle(limit);
+            false
+        }
+    }
+
+    /// No tick is left.
+    fn idle(&mut self, limit: u64)
+        ensures idle { Idles self.new.why self.new.spent limit }
+        ensures same { self.new.spent ≡ self.old.spent }
+        ensures here { self.new.why ≢ why.Elsewhere }
+    {
+        if self.spent == limit {
+            self.why = Why::Ticks;
+        } else {
+            self.why = Why::Memory;
+        }
+    }
+
+    /// What a leaf gave.
+    #[inline(always)]
+    pub fn given(&mut self, value: Result<i64, Stop>) -> Option<i64>
+        ensures gives { Gives value result self.new.why }
+        ensures spent { self.new.spent ≡ self.old.spent }
+        ensures here { StaysHere true result self.new.why }
+    {
+        match value {
+            Ok(v) => Some(v),
+            Err(stop) => {
+                self.stop(stop);
+                None
+            }
+        }
+    }
+
+    /// The reference that a leaf gave.
+    #[inline(always)]
+    pub fn found(&mut self, place: Result<Reference, Stop>) -> Option<Reference>
+        ensures gives { Gives place result self.new.why }
+        ensures spent { self.new.spent ≡ self.old.spent }
+        ensures here { StaysHere true result self.new.why }
+    {
+        match place {
+            Ok(r) => Some(r),
+            Err(stop) => {
+                self.stop(stop);
+                None
+            }
+        }
+    }
+
+    /// The run stops.
+    pub fn stop(&mut self, stop: Stop)
+        ensures why { StoppedBy stop self.new.why }
+        ensures spent { self.new.spent ≡ self.old.spent }
+        ensures here { self.new.why ≢ why.Elsewhere }
+    {
+        match stop {
+            Stop::Undefined(act, at) => self.why = Why::Undefined(act, at),
+            Stop::Ended(_) => self.why = Why::Memory,
+            Stop::Memory => self.why = Why::Memory,
+        }
+    }
+}

@@ -1,0 +1,112 @@
+//! Definitions of automatic objects with one value (6.7.9p11).
+
+ghost use Rattle.std.specs.Prelude.{◌≡◌, None, slice_get};
+ghost use Rattle.typing_spec.specs.Program as typed;
+ghost use Rattle.typed_ast.specs.View.{initialiser_of, value_of};
+ghost use Rattle.csem.specs.Machine.{Goes, then_do, tick, stored};
+ghost use Rattle.csem.specs.Statements as meaning;
+ghost use Rattle.ctypes.specs.Types.{converted};
+ghost use Rattle.interp_store.specs.View.{reference_of};
+ghost use Rattle.interp_store.specs.layer.Presents.{call_in};
+ghost use Rattle.interp_store.specs.layer.Views.{flow_of};
+ghost use Rattle.interp_eval.specs.declared.clock.Why.TheVariants as why;
+ghost use Rattle.interp_eval.specs.layer.Comes.{Does, StaysHere, executed, objects_in, valued};
+ghost use Rattle.interp_eval.specs.layer.Quick.{quick, quick_initialiser};
+
+use crate::clock::{Clock, Scope, Why};
+use crate::expressions::value;
+use ctypes::{IntType, convert};
+use interp_steps::objects::type_of;
+use interp_store::Reference;
+use interp_store::frames::Flow;
+use interp_store::scene::Scene;
+use typed_ast::{Initialiser, Value};
+
+/// A part that is not evaluated here.
+pub fn left_out(clock: &mut Clock) -> Option<Flow>
+    ensures none { result ≡ None }
+    ensures why { clock.new.why ≡ why.Elsewhere }
+{
+    clock.why = Why::Elsewhere;
+    None
+}
+
+/// The host's memory ran out.
+pub fn out_of_memory(clock: &mut Clock) -> Option<Flow>
+    ensures none { result ≡ None }
+    ensures why { clock.new.why ≡ why.Memory }
+{
+    clock.why = Why::Memory;
+    None
+}
+
+/// The element at `r` gets its first value.
+fn first_value(
+    scope: &Scope<'_>,
+    scene: &mut Scene,
+    clock: &mut Clock,
+    r: &Reference,
+    ty: IntType,
+    e: &Value,
+) -> Option<Flow>
+    ensures does { Does flow_of scope.now (λ p s. then_do (valued (value_of e.now) p s) (λ v s. tick s (λ s. Goes meaning.Normal (stored (reference_of r.now) (converted ty v) s))))
+        clock.old scene.old result clock.new scene.new }
+    ensures here { StaysHere (quick (value_of e.now)) result clock.new.why }
+{
+    let Some(v) = value(scope, scene, clock, e) else {
+        return None;
+    };
+    if !clock.tick(scope.limit) {
+        return None;
+    }
+    match scene.set(r, convert(ty, v)) {
+        Ok(()) => Some(Flow::Normal),
+        Err(_) => out_of_memory(clock),
+    }
+}
+
+/// An automatic object that has just begun gets its first value (6.7.9).
+fn initialised(
+    scope: &Scope<'_>,
+    scene: &mut Scene,
+    clock: &mut Clock,
+    n: usize,
+    i: &Initialiser,
+) -> Option<Flow>
+    ensures does { Does flow_of scope.now (λ p s. meaning.define_object p (call_in p) (objects_in scope.now) (slice_get (objects_in scope.now) n) n (initialiser_of i.now) s)
+        clock.old scene.old result clock.new scene.new }
+    ensures here { StaysHere (quick_initialiser (initialiser_of i.now)) result clock.new.why }
+{
+    let Some(_) = type_of(scope.objects, n) else {
+        return Some(Flow::Normal);
+    };
+    let Ok(r) = scene.own(n) else {
+        return out_of_memory(clock);
+    };
+    match i {
+        Initialiser::One(ty, e) => first_value(scope, scene, clock, &r, *ty, e),
+        Initialiser::Text(_) => left_out(clock),
+        Initialiser::InBraces(_) => left_out(clock),
+        Initialiser::List(_) => left_out(clock),
+    }
+}
+
+/// A declarator with an initialiser (6.2.4p6, 6.7.9).
+pub fn definition(
+    scope: &Scope<'_>,
+    scene: &mut Scene,
+    clock: &mut Clock,
+    n: usize,
+    i: &Initialiser,
+) -> Option<Flow>
+    ensures does { Does flow_of scope.now (executed (objects_in scope.now) (typed.define n (initialiser_of i.now))) clock.old scene.old result clock.new scene.new }
+    ensures here { StaysHere (quick_initialiser (initialiser_of i.now)) result clock.new.why }
+{
+    if !clock.tick(scope.limit) {
+        return None;
+    }
+    match scene.renew(scope.alloc, scope.objects, n) {
+        Ok(()) => initialised(scope, scene, clock, n, i),
+        Err(_) => out_of_memory(clock),
+    }
+}

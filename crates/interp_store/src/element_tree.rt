@@ -1,0 +1,126 @@
+//! Objects as their elements.
+
+ghost use Rattle.std.specs.Prelude.{◌≡◌, Some, IfOk, IfSome, OnOk};
+ghost use Rattle.csem.specs.Store.{at_path, put_at, length_of, value_of, filled};
+ghost use Rattle.csem.specs.Store as machine;
+ghost use Rattle.interp_store.specs.Cells.{shaped};
+ghost use Rattle.interp_store.specs.View.{tree_of};
+
+use crate::grid::{Grid, count, number_for};
+use std::alloc::{AllocError, Global};
+
+/// An object (6.2.4, 6.2.5p20).
+#[derive(Drop)]
+pub enum Tree {
+    /// An element's value, none while it is indeterminate (3.19.2).
+    Element(Option<i64>),
+    /// An array with its elements in order.
+    Array(Box<Grid>),
+}
+
+impl Tree {
+    /// The value of the element behind these subscripts, none where it is indeterminate or none stands there.
+    #[inline(always)]
+    pub fn value(&self, path: &[usize]) -> Option<i64>
+        ensures { result ≡ value_of (at_path (Some (tree_of self.now)) path.now) }
+    {
+        match self {
+            Tree::Element(value) => { if path.is_empty() { *value } else { None } }
+            Tree::Array(grid) => grid.value(path),
+        }
+    }
+
+    /// How many elements or rows stand behind these subscripts, 0 where no array does.
+    pub fn len(&self, path: &[usize]) -> usize
+        ensures { result ≡ length_of (at_path (Some (tree_of self.now)) path.now) }
+    {
+        match self {
+            Tree::Element(_) => 0,
+            Tree::Array(grid) => grid.count(path),
+        }
+    }
+
+    /// The value of element `i` of an array of elements, if it has one.
+    #[inline(always)]
+    pub fn part_value(&self, i: usize) -> Option<i64>
+        ensures { IfSome result (λ v. value_of (machine.part_in (Some (tree_of self.now)) i) ≡ Some v) }
+    {
+        match self {
+            Tree::Element(_) => None,
+            Tree::Array(grid) => grid.part_value(i),
+        }
+    }
+
+    /// The element behind these subscripts, if something stands there, becomes `v`.
+    ///
+    /// Errors: an array stands there, or `v` is the least number, neither of which is of a typed program.
+    pub fn set(&mut self, path: &[usize], v: i64) -> Result<(), AllocError>
+        ensures { OnOk result (tree_of self.new ≡ put_at path.now (machine.Element (Some v)) (tree_of self.old)) }
+    {
+        match self {
+            Tree::Array(grid) => return grid.set(path, v),
+            Tree::Element(_) => {}
+        }
+        if path.is_empty() {
+            *self = Tree::Element(Some(v));
+        }
+        Ok(())
+    }
+
+    /// Each element of what stands behind these subscripts, which has these lengths, becomes `v`.
+    ///
+    /// Errors: what stands there has other lengths, or `v` is the least number, neither of which is of a typed program.
+    pub fn fill(&mut self, path: &[usize], lengths: &[u32], v: i64) -> Result<(), AllocError>
+        ensures { OnOk result (tree_of self.new ≡ put_at path.now (filled (Some v) lengths.now) (tree_of self.old)) }
+    {
+        match self {
+            Tree::Array(grid) => return grid.fill(path, lengths, v),
+            Tree::Element(_) => {}
+        }
+        if !path.is_empty() {
+            return Ok(());
+        }
+        if !lengths.is_empty() {
+            return Err(AllocError);
+        }
+        *self = Tree::Element(Some(v));
+        Ok(())
+    }
+
+    /// An object of these lengths with each element alike (6.2.4p6, 6.7.9p10).
+    ///
+    /// Errors: memory ran out.
+    pub fn filled(alloc: Global, value: Option<i64>, lengths: &[u32]) -> Result<Tree, AllocError>
+        ensures { IfOk result (λ t. tree_of t ≡ filled value lengths.now) }
+    {
+        if lengths.is_empty() {
+            return Ok(Tree::Element(value));
+        }
+        let Some(number) = number_for(value) else {
+            return Err(AllocError);
+        };
+        let Some(n) = count(lengths) else {
+            return Err(AllocError);
+        };
+        match Vec::from_elem(alloc, number, n) {
+            Ok(cells) => Tree::array(alloc, lengths, cells),
+            Err(e) => Err(e),
+        }
+    }
+
+    /// An array of these lengths with these cells.
+    ///
+    /// Errors: memory ran out.
+    pub fn array(alloc: Global, lengths: &[u32], cells: Vec<i64>) -> Result<Tree, AllocError>
+        ensures { IfOk result (λ t. tree_of t ≡ shaped lengths.now cells.items 0) }
+    {
+        let lengths = match Vec::from_slice(alloc, lengths) {
+            Ok(lengths) => lengths,
+            Err(e) => return Err(e),
+        };
+        match Box::new(alloc, Grid { lengths, cells }) {
+            Ok(grid) => Ok(Tree::Array(grid)),
+            Err(_) => Err(AllocError),
+        }
+    }
+}

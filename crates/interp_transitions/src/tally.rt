@@ -1,0 +1,67 @@
+//! The weights of the calls that are active.
+
+ghost use Rattle.std.specs.Prelude.{◌≡◌, ◌∷◌, [], ℕ, List, IfErr, OnOk, max};
+ghost use Rattle.typing_spec.specs.Program as typed;
+ghost use Rattle.csem.specs.History.{Entered, Entry, Left, weight_in};
+ghost use Rattle.interp_store.specs.declared.stop.Stop.TheVariants.{Memory};
+ghost use Rattle.interp_transitions.specs.Tallied.{Tells};
+
+use interp_store::stop::Stop;
+use std::alloc::Global;
+
+/// The weights of the calls that are active, the innermost last, their sum, and the greatest sum that there was.
+#[derive(Drop)]
+pub struct Tally {
+    pub weights: Vec<u64>,
+    pub sum: u64,
+    pub greatest: u64,
+}
+
+impl Tally {
+    /// Before the first call.
+    pub fn new(alloc: Global) -> Tally
+        ensures { (p : typed.Program) → Tells p [] result }
+    {
+        Tally {
+            weights: Vec::new(alloc),
+            sum: 0,
+            greatest: 0,
+        }
+    }
+
+    /// A call begins.
+    ///
+    /// Errors: memory ran out.
+    pub fn begin(&mut self, weight: u64) -> Result<(), Stop>
+        ensures ok { (p : typed.Program) (h : List Entry) (f : ℕ) → weight_in p f ≡ weight → Tells p h self.old → OnOk result (Tells p (Entered f ∷ h) self.new) }
+        ensures err { IfErr result (λ e. e ≡ Memory) }
+    {
+        let Some(sum) = self.sum.checked_add(weight) else {
+            return Err(Stop::Memory);
+        };
+        match self.weights.push(weight) {
+            Ok(()) => {
+                self.sum = sum;
+                self.greatest = greater(self.greatest, sum);
+                Ok(())
+            }
+            Err(_) => Err(Stop::Memory),
+        }
+    }
+
+    /// The innermost call ends.
+    pub fn end(&mut self)
+        ensures { (p : typed.Program) (h : List Entry) → Tells p h self.old → Tells p (Left ∷ h) self.new }
+    {
+        if let Some(weight) = self.weights.pop() {
+            self.sum = self.sum.saturating_sub(weight);
+        }
+    }
+}
+
+/// The greater one of two numbers.
+fn greater(a: u64, b: u64) -> u64
+    ensures { result ≡ max b a }
+{
+    if a < b { b } else { a }
+}

@@ -1,0 +1,10 @@
+use Rattle.std.proofs.Common.{◌≡◌, IfOk, ap, sym, ◌∙◌, subst, arith}
+use Rattle.lower_ops.specs.layer.Rows.{size_at}
+use Rattle.lower_ops.proofs.Rows.{inner_some}
+use Rattle.lower_ops.proofs.row_sizes.+size_at.Goals as goal
+
+pub returns-in-Some : goal.returns-in-Some
+returns-in-Some t c =
+    let e = inner_some c.args.depth c.args.element c.in-Some.field-0-0.now c.in-Some.rest.now (omega (arith, c.if-depth-eq0.false))
+    ∙ sym (ap (λ lengths. size_at c.args.depth c.args.element lengths) c.in-Some.ensures.cases.0) in
+    subst (λ k. IfOk c.size_at.result (λ n. n ≡ k)) e c.size_at.ensures

@@ -1,0 +1,3 @@
+pub use Rattle.lower_correct.specs.Values
+pub use Rattle.lower_correct.specs.Code
+pub mod layer

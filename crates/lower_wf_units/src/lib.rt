@@ -1,0 +1,37 @@
+//! What the checker's definition gives: the program of a unit that breaks no constraint is typed, its objects have bytes, and what is used of them is
+//! defined.
+#![tactic(auto)]
+
+ghost use Rattle.lower_wf_units.specs.Objects.{DesignatedAreDefined, ObjectsAreSized, TypedIsChecked, UsesArePresent};
+ghost use Rattle.lower_wf_units.specs.Laws.{ProgramIsChecked, ProgramIsTyped};
+
+/// No object of a function is without bytes.
+pub fn objects_are_sized()
+    ensures { ObjectsAreSized }
+{}
+
+/// What a function uses has a definition.
+pub fn uses_are_present()
+    ensures { UsesArePresent }
+{}
+
+/// What a function of a typed program designates is defined.
+pub fn designated_are_defined()
+    ensures { DesignatedAreDefined }
+{}
+
+/// A unit that breaks no constraint, within the limit of nodes and with texts of bytes, has a program that is all that lowering asks for
+/// as soon as it is typed.
+pub fn typed_is_checked()
+    ensures { TypedIsChecked }
+{}
+
+/// The program of a unit that breaks no constraint is typed.
+pub fn program_is_typed()
+    ensures { ProgramIsTyped }
+{}
+
+/// It is all that lowering asks for.
+pub fn program_is_checked()
+    ensures { ProgramIsChecked }
+{}

@@ -1,6 +1,0 @@
-use Rattle.meaning.proofs.Histories.{history_grows}
-use Rattle.meaning.proofs.history_grows.Goals as goal
-
--- src/lib.rt
-pub returns : goal.returns
-returns c = history_grows

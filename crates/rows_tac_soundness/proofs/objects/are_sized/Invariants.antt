@@ -1,7 +1,0 @@
-use Rattle.std.proofs.Common.{map}
-use Rattle.typing_program.specs.View.{object_type_of}
-use Rattle.rows_tac_soundness.specs.inside.Parts.{AreSized}
-use Rattle.rows_tac_soundness.proofs.objects.are_sized.Given as goal
-
-abbrev pub invariant-loop-number : goal.invariant-loop-number
-invariant-loop-number l = AreSized (map object_type_of l.objects) l.number

@@ -1,7 +1,0 @@
-use Rattle.std.proofs.Common.{◌≡◌, take}
-use Rattle.std.specs.Prelude.{min}
-use Rattle.typing_rules.specs.Types.{elements_in}
-use Rattle.rows_tac_soundness.proofs.objects.elements.Given as goal
-
-abbrev pub invariant-loop-length : goal.invariant-loop-length
-invariant-loop-length l = l.count ≡ min (elements_in (take l.length-index l.lengths)) 16777217

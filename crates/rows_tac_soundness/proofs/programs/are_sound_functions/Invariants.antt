@@ -1,7 +1,0 @@
-use Rattle.std.proofs.Common.{map}
-use Rattle.tac_code.specs.Code.{function_of, program_of}
-use Rattle.rows_tac_soundness.specs.inside.Parts.{FunctionsFit}
-use Rattle.rows_tac_soundness.proofs.programs.are_sound_functions.Given as goal
-
-abbrev pub invariant-loop-number : goal.invariant-loop-number
-invariant-loop-number l = FunctionsFit (program_of l.program) (map function_of l.functions) l.number

@@ -1,0 +1,178 @@
+-- The machine follows flat code: references so many elements on.
+use Rattle.std.proofs.Common.{◌≡◌, ◌≢◌, ℕ, zero, suc, ◌+◌, ◌*◌, ◌%◌, ◌^◌, ◌<◌, ◌≤◌, List, [], ◌∷◌, ◌++◌, Some, refl, sym, ap, ◌∙◌, subst, arith, eqb}
+use Rattle.std.specs.Prelude.{slice_get}
+use Rattle.std.proofs.lemmas.Bool.Decides.{nat_tests}
+use Rattle.rv32.specs.declared.instr.RegisterOp.TheVariants as register_op
+use Rattle.rv32.specs.declared.instr.ShiftOp.TheVariants as shift_op
+use Rattle.rv32.specs.Arithmetic.{operate_of, shift_by}
+use Rattle.asm.specs.declared.item.Item.TheVariants as item
+use Rattle.asm.specs.Placed.{Stands}
+use Rattle.csem_events.specs.Events.{Event}
+use Rattle.frames_code.specs.declared.code.Operand.{Operand}
+use Rattle.frames_code.specs.declared.code.Target.{Target}
+use Rattle.frames_code.specs.declared.code.Instruction.TheVariants as instruction
+use Rattle.frames_code.specs.Sound.{TargetFits}
+use Rattle.frames_code.specs.Run.{Value, word, reference, reference_in, unset, State, Progress, stuck, value, word_at, gives, act, ◌>>=◌}
+use Rattle.select_exec.specs.Light.{Fixed, Light, Go, reg, with_reg, Comes}
+use Rattle.select_exec.proofs.Bridge.{bool_cases}
+use Rattle.select_exec.proofs.Words.{reg_is, with_same, with_other}
+use Rattle.select_exec.proofs.Steps.{comes_by, on_shift, on_op}
+use Rattle.select_exec.proofs.ItemSteps.{on_loads}
+use Rattle.select_exec.proofs.Placing.{stands_parts}
+use Rattle.select.specs.declared.places.Source.{Source}
+use Rattle.select.specs.declared.places.Source.TheVariants as source
+use Rattle.select.specs.declared.places.Home.{Home}
+use Rattle.select.specs.Selected.{source_of, home_of, fetch, register_of, made_in, keep, operate_on, shifted, scale, scaled_in, element}
+use Rattle.select_correct.specs.Matches.{Ground, Matched, Matches, Ready, address, shown}
+use Rattle.select_correct.specs.Costs.{fetch_cost, keep_cost, scale_cost, row}
+use Rattle.select_correct.specs.Laws.{Anything, Follows}
+use Rattle.select_correct.proofs.Registers.{Off, off_last, only_reg, only_one}
+use Rattle.select_correct.proofs.Places.{SourceHolds, source_stays, onward, fetches_two}
+use Rattle.select_correct.proofs.Frames.{operand_holds}
+use Rattle.select_correct.proofs.Forms.{used, word_some, fn, open_stack, fits, no_more, made_above, finishes}
+use Rattle.select_correct.proofs.References.{reference_some}
+
+-- an offset more, modulo 2^32
+shown_plus : (G : Ground) (l o k : ℕ) → shown G (reference l (o + k)) ≡ (shown G (reference l o) + k % 2 ^ 32) % 2 ^ 32
+shown_plus G zero o k = omega arith
+shown_plus G (suc l) o k = omega arith
+
+shown_small : (G : Ground) (l o : ℕ) → shown G (reference l o) < 2 ^ 32
+shown_small G zero o = omega arith
+shown_small G (suc l) o = omega arith
+
+-- registers that agree but for x6 and x7
+pub record Scaled (r r2 : ℕ → ℕ) : Type 0 where
+  pub each : (k : ℕ) → k ≢ 6 → k ≢ 7 → r2 k ≡ r k
+
+scaled_off : (r r1 r2 : ℕ → ℕ) → Off 5 r r1 → Scaled r1 r2 → Off 5 r r2
+scaled_off r r1 r2 o q = record { each = λ k e5 e6 e7 ed. q.each k e6 e7 ∙ o.each k e5 e6 e7 ed }
+
+scaled_reg : (q : ℕ) (r r2 : ℕ → ℕ) → Scaled r r2 → q ≢ 6 → q ≢ 7 → reg r2 q ≡ reg r q
+scaled_reg q r r2 o e6 e7 = bool_cases (eqb q 0) (λ t. rw t refl) (λ t. rw t (o.each q e6 e7))
+
+one_scaled : (w : ℕ) (r : ℕ → ℕ) → Scaled r (with_reg r 6 w)
+one_scaled w r = record { each = λ k e6 e7. with_other r 6 w k e6 }
+
+two_scaled : (v w : ℕ) (r : ℕ → ℕ) → Scaled r (with_reg (with_reg r 7 v) 6 w)
+two_scaled v w r = record { each = λ k e6 e7. with_other (with_reg r 7 v) 6 w k e6 ∙ with_other r 7 v k e7 }
+
+module _ (F : Fixed) (env : ℕ → ℕ) (seg : ℕ) (i : List ℕ) (h : List Event) (Q : Light → Type 0) (r b : ℕ → ℕ) where
+  -- by a shift
+  shifts_one : (n q x k size here mid : ℕ) → reg r q ≡ x → x * 2 ^ k % 2 ^ 32 ≡ x * size % 2 ^ 32 → scaled_in q size ≡ 6 → Stands F.text env seg (shifted shift_op.Left 6 q k ∷ []) here mid
+      → ((r2 : ℕ → ℕ) → Scaled r r2 → reg r2 (scaled_in q size) ≡ x * size % 2 ^ 32 → Comes F Anything 1 n (Go r2 mid b i h) Q) → Comes F Anything 1 (suc n) (Go r here b i h) Q
+  shifts_one n q x k size here mid ex ew in_six st next =
+      let w = x * size % 2 ^ 32 in
+      let r2 = with_reg r 6 w in
+      let is : shift_by shift_op.Left (reg r q) k ≡ w = ap (λ y. y * 2 ^ k % 2 ^ 32) ex ∙ ew in
+      let held : reg r2 (scaled_in q size) ≡ w = ap (reg r2) in_six in
+      let there : here + 4 ≡ mid = sym st.1.1 ∙ st.2 in
+      let c : Comes F Anything 1 n (Go r2 (here + 4) b i h) Q = onward F env seg i h Q {a0 = 1} n (here + 4) mid r2 b there (next r2 (one_scaled w r) held) in
+      on_shift F Anything Q n r here b i h tt shift_op.Left 6 q k st.1.0 (subst (λ z. Comes F Anything 1 n (Go (with_reg r 6 z) (here + 4) b i h) Q) (sym is) c)
+
+  -- the index times the size
+  scales : (n q x size here mid : ℕ) → q ≢ 7 → x < 2 ^ 32 → size < 2 ^ 32 → reg r q ≡ x → Stands F.text env seg (scale q size) here mid
+      → ((r2 : ℕ → ℕ) → Scaled r r2 → reg r2 (scaled_in q size) ≡ x * size % 2 ^ 32 → Comes F Anything 1 n (Go r2 mid b i h) Q) → Comes F Anything 1 (scale_cost size + n) (Go r here b i h) Q
+  scales n q x size here mid ne small fit ex st next =
+      bool_cases (eqb size 1)
+      (λ t.
+      let one : size ≡ 1 = grind (arith, nat_tests) in
+      let now : here ≡ mid = rw t at st in
+      let product : x * size % 2 ^ 32 ≡ x = ap (λ y. x * y % 2 ^ 32) one ∙ omega (arith, small) in
+      let held : reg r (scaled_in q size) ≡ x * size % 2 ^ 32 = rw t (ex ∙ sym product) in
+      comes_by F Anything n (scale_cost size + n) (Go r here b i h) Q (omega arith) (onward F env seg i h Q {a0 = 1} n here mid r b now (next r (record { each = λ k e6 e7. refl }) held)))
+      (λ t1. bool_cases (eqb size 2)
+      (λ t.
+      let two : size ≡ 2 = grind (arith, nat_tests) in
+      let st1 : Stands F.text env seg (shifted shift_op.Left 6 q 1 ∷ []) here mid = rw (t1, t) at st in
+      let count : scale_cost size ≡ 1 = rw (t1, t) refl in
+      comes_by F Anything (suc n) (scale_cost size + n) (Go r here b i h) Q (omega (arith, count))
+      (shifts_one n q x 1 size here mid ex (ap (λ y. x * y % 2 ^ 32) (sym two)) (rw t1 refl) st1 next))
+      (λ t2. bool_cases (eqb size 4)
+      (λ t.
+      let four : size ≡ 4 = grind (arith, nat_tests) in
+      let st1 : Stands F.text env seg (shifted shift_op.Left 6 q 2 ∷ []) here mid = rw (t1, t2, t) at st in
+      let count : scale_cost size ≡ 1 = rw (t1, t2, t) refl in
+      comes_by F Anything (suc n) (scale_cost size + n) (Go r here b i h) Q (omega (arith, count))
+      (shifts_one n q x 2 size here mid ex (ap (λ y. x * y % 2 ^ 32) (sym four)) (rw t1 refl) st1 next))
+      (λ t3.
+      let v = size % 2 ^ 32 in
+      let st1 : Stands F.text env seg (item.Constant 7 v ∷ operate_on register_op.Mul 6 q 7 ∷ []) here mid = rw (t1, t2, t3) at st in
+      let w = x * size % 2 ^ 32 in
+      let r1 = with_reg r 7 v in
+      let r2 = with_reg r1 6 w in
+      let left : reg r1 q ≡ x = only_reg 7 q r r1 (only_one 7 v r) ne ∙ ex in
+      let same : v ≡ size = omega (arith, fit) in
+      let is : operate_of register_op.Mul (reg r1 q) (reg r1 7) ≡ w = ap (λ y. y * reg r1 7 % 2 ^ 32) left ∙ ap (λ y. x * y % 2 ^ 32) same in
+      let in_six : scaled_in q size ≡ 6 = rw t1 refl in
+      let held : reg r2 (scaled_in q size) ≡ w = ap (reg r2) in_six in
+      let there : st1.0 + 4 ≡ mid = sym st1.2.1.1 ∙ st1.2.2 in
+      let c : Comes F Anything 1 n (Go r2 (st1.0 + 4) b i h) Q = onward F env seg i h Q {a0 = 1} n (st1.0 + 4) mid r2 b there (next r2 (two_scaled v w r) held) in
+      let count : scale_cost size ≡ 3 = rw (t1, t2, t3) refl in
+      comes_by F Anything (suc (suc (suc n))) (scale_cost size + n) (Go r here b i h) Q (omega (arith, count))
+      (on_loads F Anything Q (suc n) r here b i h tt 7 v st1.0 refl st1.1 tt
+      (on_op F Anything Q n r1 st1.0 b i h tt register_op.Mul 6 q 7 st1.2.1.0
+      (subst (λ z. Comes F Anything 1 n (Go (with_reg r1 6 z) (st1.0 + 4) b i h) Q) (sym is) c))))))
+
+module _ (G : Ground) (s : State) (r b : ℕ → ℕ) (ready : Ready G) (m : Matched G s r (address G s.frame.function s.frame.at) b) where
+  abbrev start : ℕ
+  start = address G s.frame.function s.frame.at
+
+  abbrev end : ℕ
+  end = address G s.frame.function (s.frame.at + 1)
+
+  none_left : (k : ℕ) (v : Value) → unset k ≡ Some v → s.arguments k ≡ Some v
+  none_left k v e = cc
+
+  second_free : (y : Source) (w : ℕ) → SourceHolds r b m.sp y w → register_of 6 y ≢ 7
+  second_free (source.Register q) w p = p.3
+  second_free (source.Frame o) w p = λ e. omega (arith, e)
+  second_free (source.Constant v) w p = λ e. omega (arith, e)
+
+  elements_at : (d : Target) (x y : Source) (l o k size : ℕ) → TargetFits (fn G s r b ready m) d → size < 2 ^ 32 → k < 2 ^ 32 → SourceHolds r b m.sp x (shown G (reference l o)) → SourceHolds r b m.sp y k → (hm : Home) → home_of (fn G s r b ready m) d ≡ hm
+      → Stands G.machine.text G.env G.data_at (element hm x y size) start end → Comes G.machine Anything 1 (fetch_cost x + (fetch_cost y + (scale_cost size + (1 + keep_cost hm)))) (Go r start b s.input s.trace) (Matches G (gives d s (reference l (o + k * size))))
+  elements_at d x y l o k size fit ss sk hx hy hm eh st =
+      let v = reference l (o + k * size) in
+      let w = shown G v in
+      let a = shown G (reference l o) in
+      let Q : Light → Type 0 = Matches G (gives d s v) in
+      let rd = made_in hm in
+      let above : 5 ≤ rd = made_above G s r b ready m d hm eh in
+      let pos : 0 < rd = omega (arith, above) in
+      let p = register_of 5 x in
+      let q = register_of 6 y in
+      let add = operate_on register_op.Add rd p (scaled_in q size) in
+      let one = stands_parts G.machine.text G.env G.data_at (fetch 5 x) (fetch 6 y ++ (scale q size ++ (add ∷ keep hm))) start end st in
+      let two = stands_parts G.machine.text G.env G.data_at (fetch 6 y) (scale q size ++ (add ∷ keep hm)) one.0 end one.2 in
+      let three = stands_parts G.machine.text G.env G.data_at (scale q size) (add ∷ keep hm) two.0 end two.2 in
+      let last = three.2 in
+      fetches_two G.machine G.env G.data_at s.input s.trace Q m.sp (open_stack G s r b ready m) r b m.sp_is (scale_cost size + (1 + keep_cost hm)) x y a k start one.0 two.0 hx hy one.1 two.1 (λ r2 off e5 e6.
+      scales G.machine G.env G.data_at s.input s.trace Q r2 b (1 + keep_cost hm) q k size two.0 three.0 (second_free y k hy) sk ss e6 three.1 (λ r3 sc held.
+      let stays = source_stays r b m.sp a x hx in
+      let left : reg r3 p ≡ a = scaled_reg p r2 r3 sc stays.0 stays.1 ∙ e5 in
+      let is : operate_of register_op.Add (reg r3 p) (reg r3 (scaled_in q size)) ≡ w = ap (λ z. (z + reg r3 (scaled_in q size)) % 2 ^ 32) left ∙ (ap (λ z. (a + z) % 2 ^ 32) held ∙ sym (shown_plus G l o (k * size))) in
+      let r4 = with_reg r3 rd w in
+      let done : Comes G.machine Anything 0 (keep_cost hm) (Go r4 last.0 b s.input s.trace) Q =
+      finishes G s r b ready m unset none_left d v fit (shown_small G l (o + k * size)) hm eh r4 (off_last rd r r3 r4 (scaled_off r r2 r3 off sc) (only_one rd w r3)) (reg_is r4 rd pos ∙ with_same r3 rd w pos) last.0 last.2 in
+      let c : Comes G.machine Anything 0 (keep_cost hm) (Go r4 (three.0 + 4) b s.input s.trace) Q = onward G.machine G.env G.data_at s.input s.trace Q {a0 = 0} (keep_cost hm) (three.0 + 4) last.0 r4 b (sym last.1.1) done in
+      comes_by G.machine Anything (suc (keep_cost hm)) (1 + keep_cost hm) (Go r3 three.0 b s.input s.trace) Q (omega arith)
+      (on_op G.machine Anything Q (keep_cost hm) r3 three.0 b s.input s.trace tt register_op.Add rd p (scaled_in q size) last.1.0
+      (subst (λ z. Comes G.machine Anything 0 (keep_cost hm) (Go (with_reg r3 rd z) (three.0 + 4) b s.input s.trace) Q) (sym is) c))))
+
+  does_element : (d : Target) (x y : Operand) (size : ℕ) → slice_get (fn G s r b ready m).code s.frame.at ≡ Some (instruction.Element d x y size)
+      → Comes G.machine Anything 1 (row (fn G s r b ready m) (instruction.Element d x y size)) (Go r start b s.input s.trace) (Matches G (act G.program s (instruction.Element d x y size)))
+  does_element d x y size e =
+      let R : Progress → Type 0 = λ p. Comes G.machine Anything 1 (row (fn G s r b ready m) (instruction.Element d x y size)) (Go r start b s.input s.trace) (Matches G p) in
+      let f = fn G s r b ready m in
+      let fit = fits G s r b ready m (instruction.Element d x y size) e in
+      let none : R stuck = no_more G s r b ready m 1 (row (fn G s r b ready m) (instruction.Element d x y size)) (Go r start b s.input s.trace) (omega arith) in
+      used (reference_in (value s x)) (λ v. word_at s y >>= λ k. gives d s (reference v.list (v.offset + k * size))) R none (λ v ev.
+      used (word_at s y) (λ k. gives d s (reference v.list (v.offset + k * size))) R none (λ k ek.
+      let hx = operand_holds G ready s r start b m x (reference v.list v.offset) fit.1 (reference_some (value s x) v ev) in
+      let hy = operand_holds G ready s r start b m y (word k) fit.2 (word_some (value s y) k ek) in
+      elements_at d (source_of f x) (source_of f y) v.list v.offset k size fit.0 fit.3 hy.1 hx.0 hy.0 (home_of f d) refl (ready.stands s.frame.function s.frame.at (instruction.Element d x y size) e)))
+
+-- ---- as laws
+
+pub element_follows : (d : Target) (x y : Operand) (size : ℕ) → Follows (instruction.Element d x y size)
+element_follows d x y size G s r b ready m under e room = does_element G s r b ready m d x y size e

@@ -1,0 +1,121 @@
+-- The machine follows flat code: references to locations and to elements.
+use Rattle.std.proofs.Common.{◌≡◌, ℕ, zero, suc, ◌+◌, ◌-◌, ◌%◌, ◌^◌, ◌<◌, ◌≤◌, ◌∷◌, ◌++◌, Option, Some, None, false, refl, sym, ap, ◌∙◌, arith, eqb}
+use Rattle.std.proofs.lemmas.Bool.Decides.{nat_tests}
+use Rattle.std.specs.Prelude.{slice_get}
+use Rattle.asm.specs.declared.item.Item.TheVariants as item
+use Rattle.asm.specs.Placed.{Stands}
+use Rattle.frames_code.specs.declared.code.Target.{Target}
+use Rattle.frames_code.specs.declared.code.Location.{Location}
+use Rattle.frames_code.specs.declared.code.Location.TheVariants as location
+use Rattle.frames_code.specs.declared.code.Instruction.TheVariants as instruction
+use Rattle.frames_code.specs.Code.{area_home, frame_bytes}
+use Rattle.frames_code.specs.Sound.{TargetFits}
+use Rattle.frames_code.specs.Run.{Value, word, reference, Reference, reference_in, unset, State, Progress, value, gives, name_of, act}
+use Rattle.select_exec.specs.Light.{Light, Go, reg, with_reg, Comes}
+use Rattle.select_exec.proofs.Words.{reg_is, with_same}
+use Rattle.select_exec.proofs.Steps.{comes_by}
+use Rattle.select_exec.proofs.ItemSteps.{on_loads}
+use Rattle.select_exec.proofs.Placing.{stands_parts}
+use Rattle.select.specs.declared.places.Home.{Home}
+use Rattle.select.specs.Selected.{source_of, home_of, made_in, keep, address_of}
+use Rattle.select_correct.specs.Matches.{Ground, Matched, Matches, Ready, address, shown}
+use Rattle.select_correct.specs.Costs.{word_cost, keep_cost, move_cost, row}
+use Rattle.select_correct.specs.Laws.{Anything, Follows}
+use Rattle.select_correct.proofs.Registers.{off_none, off_last, only_one}
+use Rattle.select_correct.proofs.Places.{addresses}
+use Rattle.select_correct.proofs.Fits.{frame_room}
+use Rattle.select_correct.proofs.Frames.{sum_is, within, operand_holds}
+use Rattle.select_correct.proofs.Forms.{used, fn, fits, no_more, made_above, finishes, move_some, moves_at}
+
+pub reference_some : (o : Option Value) (x : Reference) → reference_in o ≡ Some x → o ≡ Some (reference x.list x.offset)
+reference_some None x e = cc
+reference_some (Some (word w)) x e = cc
+reference_some (Some (reference l k)) x e =
+    let held : Reference = record { list = l; offset = k } in
+    let same : held ≡ x = cc in
+    ap (λ y. Some (reference y.list y.offset)) same
+
+-- a frame's name is never that of the statics
+pub shown_frame : (G : Ground) (l o sp : ℕ) → 0 < l → G.sp - l ≡ sp → sp + o < 2 ^ 32 → shown G (reference l o) ≡ sp + o
+shown_frame G zero o sp pos e small = absurd (omega (arith, pos))
+shown_frame G (suc l) o sp pos e small = ap (λ x. (x + o) % 2 ^ 32) e ∙ omega (arith, small)
+
+module _ (G : Ground) (s : State) (r b : ℕ → ℕ) (ready : Ready G) (m : Matched G s r (address G s.frame.function s.frame.at) b) where
+  abbrev start : ℕ
+  start = address G s.frame.function s.frame.at
+
+  abbrev end : ℕ
+  end = address G s.frame.function (s.frame.at + 1)
+
+  none_left : (k : ℕ) (v : Value) → unset k ≡ Some v → s.arguments k ≡ Some v
+  none_left k v e = cc
+
+  -- where the frame lies that is named
+  pub frame_shown : (o : ℕ) → o < frame_bytes (fn G s r b ready m) → shown G (reference (name_of G.program s.frame s.waiting) o) ≡ m.sp + o
+  frame_shown o lt =
+      let sum = sum_is G ready s r start b m in
+      let win = within G ready s r start b m in
+      let room = frame_room (fn G s r b ready m) in
+      let pos : 0 < name_of G.program s.frame s.waiting = omega (arith, room) in
+      let at : G.sp - name_of G.program s.frame s.waiting ≡ m.sp = omega (arith, sum) in
+      shown_frame G (name_of G.program s.frame s.waiting) o m.sp pos at (omega (arith, win.top, lt))
+
+  -- the address of a place of the frame's arrays
+  frame_at : (d : Target) (o : ℕ) → TargetFits (fn G s r b ready m) d → o < (fn G s r b ready m).area → (hm : Home) → home_of (fn G s r b ready m) d ≡ hm
+      → Stands G.machine.text G.env G.data_at (address_of (made_in hm) (area_home (fn G s r b ready m) + o) ++ keep hm) start end
+      → Comes G.machine Anything 1 (word_cost (area_home (fn G s r b ready m) + o) + keep_cost hm) (Go r start b s.input s.trace) (Matches G (gives d s (reference (name_of G.program s.frame s.waiting) (area_home (fn G s r b ready m) + o))))
+  frame_at d o fit lt hm eh st =
+      let f = fn G s r b ready m in
+      let p = area_home f + o in
+      let v = reference (name_of G.program s.frame s.waiting) p in
+      let Q : Light → Type 0 = Matches G (gives d s v) in
+      let rd = made_in hm in
+      let above : 5 ≤ rd = made_above G s r b ready m d hm eh in
+      let pos : 0 < rd = omega (arith, above) in
+      let win = within G ready s r start b m in
+      let inside : p < frame_bytes f = omega (arith, lt, frame_room f) in
+      let is : shown G v ≡ m.sp + p = frame_shown p inside in
+      let small : shown G v < 2 ^ 32 = omega (arith, is, win.top, inside) in
+      let one = stands_parts G.machine.text G.env G.data_at (address_of rd p) (keep hm) start end st in
+      addresses G.machine G.env G.data_at s.input s.trace Q {a0 = 0} (keep_cost hm) rd p m.sp start one.0 r b pos (λ x. omega (arith, x, above)) m.sp_is (omega (arith, win.top, inside)) one.1 (λ r2 only held.
+      finishes G s r b ready m unset none_left d v fit small hm eh r2 (off_last rd r r r2 (off_none 5 r) only) (reg_is r2 rd pos ∙ (held ∙ sym is)) one.0 one.2)
+
+  -- an address in the statics
+  statics_at : (d : Target) (o : ℕ) → TargetFits (fn G s r b ready m) d → (hm : Home) → home_of (fn G s r b ready m) d ≡ hm → Stands G.machine.text G.env G.data_at (item.DataAddress (made_in hm) o ∷ keep hm) start end
+      → Comes G.machine Anything 1 (2 + keep_cost hm) (Go r start b s.input s.trace) (Matches G (gives d s (reference 0 o)))
+  statics_at d o fit hm eh st =
+      let v = reference 0 o in
+      let Q : Light → Type 0 = Matches G (gives d s v) in
+      let rd = made_in hm in
+      let above : 5 ≤ rd = made_above G s r b ready m d hm eh in
+      let pos : 0 < rd = omega (arith, above) in
+      let w = G.data_at + o in
+      let q = st.1 in
+      let small : w < 2 ^ 32 = omega (arith, q.value) in
+      let is : shown G v ≡ w = omega (arith, small) in
+      let r2 = with_reg r rd w in
+      let held : reg r2 rd ≡ shown G v = reg_is r2 rd pos ∙ (with_same r rd w pos ∙ sym is) in
+      let none : eqb rd 0 ≡ false = grind (arith, nat_tests) in
+      comes_by G.machine Anything (suc (suc (keep_cost hm))) (2 + keep_cost hm) (Go r start b s.input s.trace) Q (omega arith)
+      (on_loads G.machine Anything Q (keep_cost hm) r start b s.input s.trace tt rd w st.0 none q tt
+      (finishes G s r b ready m unset none_left d v fit (omega (arith, is, small)) hm eh r2 (off_last rd r r r2 (off_none 5 r) (only_one rd w r)) held st.0 st.2))
+
+  does_address : (d : Target) (l : Location) → slice_get (fn G s r b ready m).code s.frame.at ≡ Some (instruction.Address d l) → Comes G.machine Anything 1 (row (fn G s r b ready m) (instruction.Address d l)) (Go r start b s.input s.trace) (Matches G (act G.program s (instruction.Address d l)))
+  does_address d (location.Statics o) e =
+      statics_at d o (fits G s r b ready m (instruction.Address d (location.Statics o)) e).0 (home_of (fn G s r b ready m) d) refl (ready.stands s.frame.function s.frame.at (instruction.Address d (location.Statics o)) e)
+  does_address d (location.Frame o) e =
+      let fit = fits G s r b ready m (instruction.Address d (location.Frame o)) e in
+      frame_at d o fit.0 fit.1 (home_of (fn G s r b ready m) d) refl (ready.stands s.frame.function s.frame.at (instruction.Address d (location.Frame o)) e)
+  does_address d (location.At x) e =
+      let R : Progress → Type 0 = λ p. Comes G.machine Anything 1 (move_cost (home_of (fn G s r b ready m) d) (source_of (fn G s r b ready m) x)) (Go r start b s.input s.trace) (Matches G p) in
+      let f = fn G s r b ready m in
+      let fit = fits G s r b ready m (instruction.Address d (location.At x)) e in
+      used (reference_in (value s x)) (λ y. gives d s (reference y.list y.offset)) R (no_more G s r b ready m 1 (move_cost (home_of (fn G s r b ready m) d) (source_of (fn G s r b ready m) x)) (Go r start b s.input s.trace) (move_some (home_of (fn G s r b ready m) d) (source_of (fn G s r b ready m) x))) (λ y ey.
+      let v = reference y.list y.offset in
+      let hx = operand_holds G ready s r start b m x v fit.1 (reference_some (value s x) y ey) in
+      moves_at G s r b ready m unset none_left d v (source_of f x) fit.0 hx.1 hx.0 (home_of f d) refl (ready.stands s.frame.function s.frame.at (instruction.Address d (location.At x)) e))
+
+-- ---- as laws
+
+pub address_follows : (d : Target) (l : Location) → Follows (instruction.Address d l)
+address_follows d l G s r b ready m under e room = does_address G s r b ready m d l e

@@ -1,0 +1,230 @@
+-- What the table of costs comes to: never more than the table of `frames`, and few where nothing is far.
+use Rattle.std.proofs.Common.{◌≡◌, ℕ, zero, suc, ◌+◌, ◌*◌, ◌-◌, ◌%◌, ◌^◌, ◌≤◌, Option, Some, None, Bool, true, false, arith}
+use Rattle.std.specs.Prelude.{if◌then◌else◌, ◌==◌, nat_lt}
+use Rattle.rv32.specs.declared.instr.Instr.{Instr}
+use Rattle.frames_code.specs.declared.code.Location.{Location}
+use Rattle.frames_code.specs.declared.code.Location.TheVariants as location
+use Rattle.frames_code.specs.declared.code.Operation.{Operation}
+use Rattle.frames_code.specs.declared.code.Operation.TheVariants as operation
+use Rattle.frames_code.specs.declared.code.Conversion.{Conversion}
+use Rattle.frames_code.specs.declared.code.Conversion.TheVariants as conversion
+use Rattle.frames_code.specs.declared.code.Instruction.{Instruction}
+use Rattle.frames_code.specs.declared.code.Instruction.TheVariants as instruction
+use Rattle.frames_code.specs.Code.{Function, Program, cell_home, area_home, frame_bytes}
+use Rattle.frames_code.specs.Sound.{IsSoundProgram}
+use Rattle.frames_code.specs.Run.{State, Progress, running, ended, stuck, function_at, step}
+use Rattle.frames_code.specs.Costs.{cost, cost_if, next_of, cost_on, spent}
+use Rattle.select.specs.declared.places.Source.{Source}
+use Rattle.select.specs.declared.places.Source.TheVariants as source
+use Rattle.select.specs.declared.places.Home.{Home}
+use Rattle.select.specs.declared.places.Home.TheVariants as home
+use Rattle.select.specs.Selected.{source_of, home_of, register_of, made_in, machine_of, constant_form, byte_home, return_home, calls, is_same}
+use Rattle.select_correct.specs.Costs.{far_cost, word_cost, set_cost, fetch_cost, keep_cost, into_cost, move_cost, form_cost, second_cost, ending_cost, compute_cost, narrow_cost, reach_cost, reference_cost, scale_cost, far_frame, saved_cost, opening_cost, step_cost, most_at, most_if, most_next, most_spent, SpentIsMore, far_source, far_home, far_location, far_saved, RowsAreFew}
+use Rattle.select_correct.proofs.Fits.{function_fits}
+
+choice_most : (t : Bool) (n : ℕ) → (if t then 0 else n) ≤ n
+choice_most true n = omega arith
+choice_most false n = omega arith
+
+set_most : (v : ℕ) → set_cost v ≤ 2
+set_most v = omega (arith, choice_most (nat_lt ((v + 0x800) % 2 ^ 32) 0x1000) 1)
+
+return_near : (t : Bool) (o : ℕ) → (if t then word_cost o else 0) ≤ 1 + far_cost o
+return_near true o = omega arith
+return_near false o = omega arith
+
+scaled_most : (t u v : Bool) → (if t then 0 else if u then 1 else if v then 1 else 3) ≤ 3
+scaled_most true u v = omega arith
+scaled_most false true v = omega arith
+scaled_most false false true = omega arith
+scaled_most false false false = omega arith
+
+scale_most : (size : ℕ) → scale_cost size ≤ 3
+scale_most size = scaled_most (size == 1) (size == 2) (size == 4)
+
+form_most : (t : Option Instr) (n : ℕ) → form_cost t n ≤ n
+form_most (Some i) n = omega arith
+form_most None n = omega arith
+
+ending_most : (o : Operation) → ending_cost o ≤ 1
+ending_most (operation.Machine o) = omega arith
+ending_most operation.Equal = omega arith
+ending_most operation.NotEqual = omega arith
+
+narrow_most : (c : Conversion) → narrow_cost c ≤ 2
+narrow_most conversion.ToByte = omega arith
+narrow_most conversion.ToSignedByte = omega arith
+narrow_most conversion.ToHalf = omega arith
+narrow_most conversion.ToSignedHalf = omega arith
+narrow_most conversion.ToTruth = omega arith
+
+-- ---- where nothing is far
+
+fetch_near : (x : Source) → fetch_cost x ≤ 2 + far_source x
+fetch_near (source.Register r) = omega arith
+fetch_near (source.Frame o) = omega arith
+fetch_near (source.Constant v) = omega (arith, set_most v)
+
+into_near : (x : Source) → into_cost x ≤ 2 + far_source x
+into_near (source.Register r) = omega arith
+into_near (source.Frame o) = omega arith
+into_near (source.Constant v) = omega (arith, set_most v)
+
+keep_near : (d : Home) → keep_cost d ≤ 1 + far_home d
+keep_near (home.Register r) = omega arith
+keep_near (home.Frame o) = omega arith
+
+second_near : (o : Operation) (rd a : ℕ) (y : Source) → second_cost o rd a y ≤ 2 + far_source y
+second_near o rd a (source.Register r) = omega arith
+second_near o rd a (source.Frame p) = omega arith
+second_near o rd a (source.Constant v) = omega (arith, form_most (constant_form (machine_of o) rd a v) (set_cost v), set_most v)
+
+compute_near : (o : Operation) (d : Home) (x y : Source) → compute_cost o d x y ≤ 7 + (far_source x + far_source y + far_home d)
+compute_near o d x y = omega (arith, fetch_near x, second_near o (made_in d) (register_of 5 x) y, ending_most o, keep_near d)
+
+move_near : (d : Home) (x : Source) → move_cost d x ≤ 3 + (far_source x + far_home d)
+move_near (home.Register r) x = omega (arith, into_near x)
+move_near (home.Frame o) x = omega (arith, fetch_near x)
+
+reach_near : (f : Function) (l : Location) → reach_cost f l ≤ 2 + far_location f l
+reach_near f (location.Statics o) = omega arith
+reach_near f (location.Frame o) = omega arith
+reach_near f (location.At x) = fetch_near (source_of f x)
+
+reference_near : (f : Function) (d : Home) (l : Location) → reference_cost f d l ≤ 3 + (far_location f l + far_home d)
+reference_near f d (location.Statics o) = omega (arith, keep_near d)
+reference_near f d (location.Frame o) = omega (arith, keep_near d)
+reference_near f d (location.At x) = move_near d (source_of f x)
+
+saved_near : (f : Function) (n : ℕ) → saved_cost f n ≡ n + far_saved f n
+saved_near f zero = omega arith
+saved_near f (suc n) = omega (arith, saved_near f n)
+
+pub rows_are_few : RowsAreFew
+rows_are_few p f instruction.Nothing = omega arith
+rows_are_few p f (instruction.Move d x) = omega (arith, move_near (home_of f d) (source_of f x))
+rows_are_few p f (instruction.Compute o d x y) = omega (arith, compute_near o (home_of f d) (source_of f x) (source_of f y))
+rows_are_few p f (instruction.Convert c d x) = omega (arith, narrow_most c, fetch_near (source_of f x), keep_near (home_of f d))
+rows_are_few p f (instruction.Load w d l) = omega (arith, reach_near f l, keep_near (home_of f d))
+rows_are_few p f (instruction.Store w x l) = omega (arith, fetch_near (source_of f x), reach_near f l)
+rows_are_few p f (instruction.Address d l) = omega (arith, reference_near f (home_of f d) l)
+rows_are_few p f (instruction.Element d x y size) = omega (arith, fetch_near (source_of f x), fetch_near (source_of f y), scale_most size, keep_near (home_of f d))
+rows_are_few p f (instruction.Jump to) = omega arith
+rows_are_few p f (instruction.Branch t x y to) = omega (arith, fetch_near (source_of f x), fetch_near (source_of f y))
+rows_are_few p f (instruction.Call g) = omega (arith, return_near (calls (function_at p g).code) (return_home (function_at p g)), saved_near (function_at p g) (function_at p g).resident)
+rows_are_few p f instruction.PutByte = omega arith
+rows_are_few p f instruction.GetByte = omega arith
+rows_are_few p f instruction.Exit = omega arith
+rows_are_few p f instruction.Return = omega (arith, return_near (calls f.code) (return_home f), saved_near f f.resident)
+
+-- ---- where all is far
+
+far_most : (o : ℕ) → far_cost o ≤ 2
+far_most o = choice_most (nat_lt o 0x800) 2
+
+frame_most : (by : ℕ) → far_frame by ≤ 2
+frame_most by = choice_most (nat_lt ((by + 0x800) % 2 ^ 32) 0x1000) 2
+
+fetch_most : (x : Source) → fetch_cost x ≤ 3
+fetch_most (source.Register r) = omega arith
+fetch_most (source.Frame o) = omega (arith, far_most o)
+fetch_most (source.Constant v) = omega (arith, set_most v)
+
+into_most : (x : Source) → into_cost x ≤ 3
+into_most (source.Register r) = omega arith
+into_most (source.Frame o) = omega (arith, far_most o)
+into_most (source.Constant v) = omega (arith, set_most v)
+
+keep_most : (d : Home) → keep_cost d ≤ 3
+keep_most (home.Register r) = omega arith
+keep_most (home.Frame o) = omega (arith, far_most o)
+
+second_most : (o : Operation) (rd a : ℕ) (y : Source) → second_cost o rd a y ≤ 3
+second_most o rd a (source.Register r) = omega arith
+second_most o rd a (source.Frame p) = omega (arith, far_most p)
+second_most o rd a (source.Constant v) = omega (arith, form_most (constant_form (machine_of o) rd a v) (set_cost v), set_most v)
+
+compute_most : (o : Operation) (d : Home) (x y : Source) → compute_cost o d x y ≤ 11
+compute_most o d x y = omega (arith, fetch_most x, second_most o (made_in d) (register_of 5 x) y, ending_most o, keep_most d)
+
+move_most : (d : Home) (x : Source) → move_cost d x ≤ 6
+move_most (home.Register r) x = omega (arith, into_most x)
+move_most (home.Frame o) x = omega (arith, fetch_most x, far_most o)
+
+reach_most : (f : Function) (l : Location) → reach_cost f l ≤ 3
+reach_most f (location.Statics o) = omega arith
+reach_most f (location.Frame o) = omega (arith, far_most (area_home f + o))
+reach_most f (location.At x) = fetch_most (source_of f x)
+
+reference_most : (f : Function) (d : Home) (l : Location) → reference_cost f d l ≤ 6
+reference_most f d (location.Statics o) = omega (arith, keep_most d)
+reference_most f d (location.Frame o) = omega (arith, keep_most d, far_most (area_home f + o))
+reference_most f d (location.At x) = move_most d (source_of f x)
+
+saved_most : (f : Function) (n : ℕ) → saved_cost f n ≤ 3 * n
+saved_most f zero = omega arith
+saved_most f (suc n) = omega (arith, saved_most f n, far_most (cell_home f n))
+
+opening_most : (f : Function) → f.resident ≤ 12 → opening_cost f ≤ 42
+opening_most f few = omega (arith, few, return_near (calls f.code) (return_home f), frame_most (2 ^ 32 - frame_bytes f), far_most (return_home f), saved_most f f.resident)
+
+module _ (p : Program) (sound : IsSoundProgram p) where
+  few : (k : ℕ) → (function_at p k).resident ≤ 12
+  few k = (function_fits p sound k).few
+
+  step_is_more : (f : Function) → f.resident ≤ 12 → (x : Instruction) → step_cost p f x ≤ cost x
+  step_is_more f le instruction.Nothing = omega arith
+  step_is_more f le (instruction.Move d x) = move_most (home_of f d) (source_of f x)
+  step_is_more f le (instruction.Compute o d x y) = compute_most o (home_of f d) (source_of f x) (source_of f y)
+  step_is_more f le (instruction.Convert c d x) = omega (arith, narrow_most c, fetch_most (source_of f x), keep_most (home_of f d))
+  step_is_more f le (instruction.Load w d l) = omega (arith, reach_most f l, keep_most (home_of f d))
+  step_is_more f le (instruction.Store w x l) = omega (arith, fetch_most (source_of f x), reach_most f l)
+  step_is_more f le (instruction.Address d l) = reference_most f (home_of f d) l
+  step_is_more f le (instruction.Element d x y size) = omega (arith, fetch_most (source_of f x), fetch_most (source_of f y), scale_most size, keep_most (home_of f d))
+  step_is_more f le (instruction.Jump to) = omega arith
+  step_is_more f le (instruction.Branch t x y to) = omega (arith, fetch_most (source_of f x), fetch_most (source_of f y))
+  step_is_more f le (instruction.Call g) = omega (arith, opening_most (function_at p g) (few g))
+  step_is_more f le instruction.PutByte = omega (arith, far_most (byte_home f))
+  step_is_more f le instruction.GetByte = omega (arith, far_most (byte_home f))
+  step_is_more f le instruction.Exit = omega arith
+  step_is_more f le instruction.Return = omega (arith, le, return_near (calls f.code) (return_home f), saved_most f f.resident, far_most (return_home f), frame_most (frame_bytes f))
+
+  chosen_is_more : (f : Function) → f.resident ≤ 12 → (x : Instruction) (t : Bool) → step_cost p f (if t then instruction.Nothing else x) ≤ cost x
+  chosen_is_more f le x true = omega arith
+  chosen_is_more f le x false = step_is_more f le x
+
+  at_is_more : (f : Function) → f.resident ≤ 12 → (k : ℕ) (x : Instruction) → most_at p f k x ≤ cost x
+  at_is_more f le k instruction.Nothing = step_is_more f le instruction.Nothing
+  at_is_more f le k (instruction.Move d x) = chosen_is_more f le (instruction.Move d x) (is_same d x)
+  at_is_more f le k (instruction.Compute o d x y) = step_is_more f le (instruction.Compute o d x y)
+  at_is_more f le k (instruction.Convert c d x) = step_is_more f le (instruction.Convert c d x)
+  at_is_more f le k (instruction.Load w d l) = step_is_more f le (instruction.Load w d l)
+  at_is_more f le k (instruction.Store w x l) = step_is_more f le (instruction.Store w x l)
+  at_is_more f le k (instruction.Address d l) = step_is_more f le (instruction.Address d l)
+  at_is_more f le k (instruction.Element d x y size) = step_is_more f le (instruction.Element d x y size)
+  at_is_more f le k (instruction.Jump to) = chosen_is_more f le (instruction.Jump to) (to == k + 1)
+  at_is_more f le k (instruction.Branch t x y to) = step_is_more f le (instruction.Branch t x y to)
+  at_is_more f le k (instruction.Call g) = step_is_more f le (instruction.Call g)
+  at_is_more f le k instruction.PutByte = step_is_more f le instruction.PutByte
+  at_is_more f le k instruction.GetByte = step_is_more f le instruction.GetByte
+  at_is_more f le k instruction.Exit = step_is_more f le instruction.Exit
+  at_is_more f le k instruction.Return = step_is_more f le instruction.Return
+
+  if_is_more : (f : Function) → f.resident ≤ 12 → (k : ℕ) (o : Option Instruction) → most_if p f k o ≤ cost_if o
+  if_is_more f le k None = omega arith
+  if_is_more f le k (Some x) = at_is_more f le k x
+
+  rest_is_more : (n : ℕ) → ((s : State) → most_spent p n s ≤ spent p n s) → (x : Progress) → cost_on x (most_spent p n) ≤ cost_on x (spent p n)
+  rest_is_more n more (running s) = more s
+  rest_is_more n more (ended status input trace) = omega arith
+  rest_is_more n more stuck = omega arith
+
+  all_is_more : (n : ℕ) (s : State) → most_spent p n s ≤ spent p n s
+  all_is_more zero s = omega arith
+  all_is_more (suc n) s =
+      let now : most_next p s ≤ cost_if (next_of p s) = if_is_more (function_at p s.frame.function) (few s.frame.function) s.frame.at (next_of p s) in
+      let later : cost_on (step p s) (most_spent p n) ≤ cost_on (step p s) (spent p n) = rest_is_more n (all_is_more n) (step p s) in
+      omega (arith, now, later)
+
+pub spent_is_more : SpentIsMore
+spent_is_more p sound = (omega (arith, opening_most (function_at p p.main) (few p sound p.main)), all_is_more p sound)

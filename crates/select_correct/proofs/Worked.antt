@@ -1,0 +1,134 @@
+-- Rows: the table of costs on worked examples. Items but a branch in its long form have no way round, so a run takes a quarter of their bytes.
+use Rattle.std.proofs.Common.{◌≡◌, ℕ, ◌+◌, ◌*◌, [], ◌∷◌, refl}
+use Rattle.rv32.specs.declared.instr.RegisterOp.TheVariants as register_op
+use Rattle.rv32.specs.declared.instr.Test.TheVariants as test
+use Rattle.asm.specs.Layout.{longest}
+use Rattle.frames_code.specs.declared.code.Operand.TheVariants as operand
+use Rattle.frames_code.specs.declared.code.Target.TheVariants as target
+use Rattle.frames_code.specs.declared.code.Location.TheVariants as location
+use Rattle.frames_code.specs.declared.code.Width.TheVariants as width
+use Rattle.frames_code.specs.declared.code.Operation.TheVariants as operation
+use Rattle.frames_code.specs.declared.code.Conversion.TheVariants as conversion
+use Rattle.frames_code.specs.declared.code.Instruction.{Instruction}
+use Rattle.frames_code.specs.declared.code.Instruction.TheVariants as instruction
+use Rattle.frames_code.specs.Code.{Function, Program}
+use Rattle.select.specs.Selected.{entry, items_of}
+use Rattle.select_correct.specs.Costs.{opening_cost, row, step_cost, most_at, most_start}
+
+-- three resident words, and calls
+abbrev near : Function
+near = record { code = instruction.Call 1 ∷ instruction.Return ∷ []; cells = 5; resident = 3; area = 16; outgoing = 2 }
+
+-- none
+abbrev plain : Function
+plain = record { code = instruction.Call 0 ∷ instruction.Return ∷ []; cells = 0; resident = 0; area = 0; outgoing = 0 }
+
+-- words on both sides of the reach of 12 bits
+abbrev wide : Function
+wide = record { code = instruction.Call 0 ∷ instruction.Return ∷ []; cells = 700; resident = 2; area = 16; outgoing = 600 }
+
+abbrev program : Program
+program = record { functions = plain ∷ near ∷ wide ∷ []; statics = []; main = 0 }
+
+abbrev items : Function → Instruction → ℕ
+items f x = longest (items_of f 0 x)
+
+-- ---- what is near
+
+element_by_a_shift : row near (instruction.Element (target.Temporary 0) (operand.Temporary 1) (operand.Cell 2) 4) ≡ 2
+element_by_a_shift = refl
+
+element_by_a_product : row near (instruction.Element (target.Cell 4) (operand.Cell 3) (operand.Cell 4) 12) ≡ 7
+element_by_a_product = refl
+
+element_attained : items near (instruction.Element (target.Cell 4) (operand.Cell 3) (operand.Cell 4) 12) ≡ 4 * 7
+element_attained = refl
+
+sum_of_registers : row near (instruction.Compute (operation.Machine register_op.Add) (target.Cell 0) (operand.Cell 1) (operand.Temporary 7)) ≡ 1
+sum_of_registers = refl
+
+sum_with_a_constant : row near (instruction.Compute (operation.Machine register_op.Add) (target.Cell 0) (operand.Cell 1) (operand.Constant 2047)) ≡ 1
+sum_with_a_constant = refl
+
+product_with_a_constant : row near (instruction.Compute (operation.Machine register_op.Mul) (target.Cell 0) (operand.Cell 1) (operand.Constant 4000)) ≡ 3
+product_with_a_constant = refl
+
+equality_of_words : row near (instruction.Compute operation.Equal (target.Cell 4) (operand.Cell 3) (operand.Cell 4)) ≡ 5
+equality_of_words = refl
+
+equality_attained : items near (instruction.Compute operation.Equal (target.Cell 4) (operand.Cell 3) (operand.Cell 4)) ≡ 4 * 5
+equality_attained = refl
+
+byte_of_a_word : row near (instruction.Convert conversion.ToByte (target.Cell 0) (operand.Cell 0)) ≡ 1
+byte_of_a_word = refl
+
+load_by_a_register : row near (instruction.Load width.Word (target.Cell 0) (location.At (operand.Cell 1))) ≡ 1
+load_by_a_register = refl
+
+store_in_the_frame : row near (instruction.Store width.Byte (operand.Constant 7) (location.Frame 3)) ≡ 2
+store_in_the_frame = refl
+
+-- ---- calls: 4 and the residents, and returns: 3 and the residents
+
+call_with_three : step_cost program plain (instruction.Call 1) ≡ 7
+call_with_three = refl
+
+call_attained : items plain (instruction.Call 1) + longest (entry near) ≡ 4 * 7
+call_attained = refl
+
+return_with_three : row near instruction.Return ≡ 6
+return_with_three = refl
+
+return_attained : items near instruction.Return ≡ 4 * 6
+return_attained = refl
+
+call_with_none : step_cost program near (instruction.Call 0) ≡ 4
+call_with_none = refl
+
+return_with_none : row plain instruction.Return ≡ 3
+return_with_none = refl
+
+starts_with_none : most_start program ≡ 6
+starts_with_none = refl
+
+-- one less where the function calls none
+abbrev leaf : Function
+leaf = record { code = instruction.Return ∷ []; cells = 1; resident = 1; area = 0; outgoing = 0 }
+
+leaf_opens : opening_cost leaf ≡ 2
+leaf_opens = refl
+
+leaf_entry_attained : longest (entry leaf) ≡ 4 * 2
+leaf_entry_attained = refl
+
+leaf_returns : row leaf instruction.Return ≡ 3
+leaf_returns = refl
+
+leaf_return_attained : items leaf instruction.Return ≡ 4 * 3
+leaf_return_attained = refl
+
+-- ---- two more for each operand that is far
+
+far_target : row wide (instruction.Move (target.Temporary 600) (operand.Temporary 0)) ≡ row wide (instruction.Move (target.Temporary 8) (operand.Temporary 0)) + 2
+far_target = refl
+
+far_operands : row wide (instruction.Branch test.Less (operand.Cell 5) (operand.Cell 6) 0) ≡ 2 + (1 + 2) + (1 + 2)
+far_operands = refl
+
+-- both residents, the address to return to, and the frame
+far_entry : opening_cost wide ≡ 2 + 2 + 4 * 2
+far_entry = refl
+
+far_return : row wide instruction.Return ≡ 3 + 2 + 4 * 2
+far_return = refl
+
+-- ---- what only goes on to the next instruction
+
+jump_to_the_next : most_at program near 4 (instruction.Jump 5) ≡ 0
+jump_to_the_next = refl
+
+jump_elsewhere : most_at program near 4 (instruction.Jump 6) ≡ 1
+jump_elsewhere = refl
+
+move_to_itself : most_at program near 4 (instruction.Move (target.Temporary 3) (operand.Temporary 3)) ≡ 0
+move_to_itself = refl

@@ -1,0 +1,5 @@
+use Rattle.select_correct.proofs.Forms as laws
+use Rattle.select_correct.proofs.conversions_follow.Goals as goal
+
+pub returns : goal.returns
+returns c = laws.convert_follows

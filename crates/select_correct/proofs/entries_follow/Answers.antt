@@ -1,0 +1,5 @@
+use Rattle.select_correct.proofs.Whole as laws
+use Rattle.select_correct.proofs.entries_follow.Goals as goal
+
+pub returns : goal.returns
+returns c = laws.entries

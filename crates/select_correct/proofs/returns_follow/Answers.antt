@@ -1,0 +1,5 @@
+use Rattle.select_correct.proofs.Calls as laws
+use Rattle.select_correct.proofs.returns_follow.Goals as goal
+
+pub returns : goal.returns
+returns c = laws.return_follows

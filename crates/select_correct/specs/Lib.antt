@@ -1,0 +1,13 @@
+pub mod Matches
+pub mod Costs
+pub mod Laws
+pub mod Runs
+pub mod Standing
+pub use Rattle.select.specs.Selected
+pub use Rattle.select.specs.Program
+pub use Rattle.frames_code.specs.Run
+pub use Rattle.frames_code.specs.Sound
+pub use Rattle.select_exec.specs.Light
+pub mod Convention
+pub mod Reaching
+pub use Rattle.select.specs.Bytes

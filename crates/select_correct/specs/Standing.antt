@@ -1,0 +1,44 @@
+-- Where the machine of the table stands in the middle of a run, in the words of the symbolic machine, so that another may go on from there.
+use Rattle.std.specs.Prelude.{◌≡◌, ◌≤◌, ◌<◌, ℕ, ◌+◌, ◌^◌, List, [], ◌∷◌, true, false}
+use Rattle.frames_code.specs.Code.{Program}
+use Rattle.frames_code.specs.Run.{State, Progress, running, run, step, start, bytes_of}
+use Rattle.sim.specs.Runs as machine
+use Rattle.sim.specs.Runs.{World, Running, rvrun}
+use Rattle.select_exec.specs.Whole.{Permits, fixed}
+use Rattle.select_exec.specs.Worlds.{Registers, world}
+use Rattle.select_correct.specs.Laws.{AreBytes}
+use Rattle.select_correct.specs.Matches.{Ground, Ready, Matched, HasRoom, address}
+use Rattle.select_correct.specs.Runs.{Laid, StandsWith, ground_at}
+
+-- the run has come to a world of registers r and memory b, which match the state
+pub record StandsAt (P : Permits) (G : Ground) (s : State) (x : machine.Progress) : Type 0 where
+  pub list : List ℕ
+  pub r : ℕ → ℕ
+  pub b : ℕ → ℕ
+  pub is : x ≡ Running (world P list (address G s.frame.function s.frame.at) b s.input s.trace)
+  pub shows : Registers list r
+  pub small : address G s.frame.function s.frame.at < 2 ^ 32
+  pub matched : Matched G s r (address G s.frame.function s.frame.at) b
+  pub sum : matched.sp + bytes_of G.program (s.frame ∷ s.waiting) ≡ G.sp
+  pub stands : StandsWith G.program G.env s (world P list (address G s.frame.function s.frame.at) b s.input s.trace)
+  pub input : AreBytes s.input
+
+-- so it does where the flat program goes on
+abbrev pub MachineStands : Type 0
+MachineStands =
+    (P : Permits) → ((a : ℕ) → P.can_execute a ≡ true → a < 2 ^ 31) → ((a : ℕ) → P.can_execute a ≡ true → P.can_write a ≡ false)
+    → (p : Program) (env : ℕ → ℕ) (floor data_at base e : ℕ) (r b : ℕ → ℕ) (list input : List ℕ) → Laid p (fixed P b) env floor data_at base e r b → Registers list r → AreBytes input
+    → (n : ℕ) (s : State) → run p n (start p input) ≡ running s
+    → ((k : ℕ) → k ≤ n → HasRoom (ground_at p (fixed P b) env floor data_at base r b) (run p k (start p input)))
+    → (k : ℕ) × StandsAt P (ground_at p (fixed P b) env floor data_at base r b) s (rvrun k (world P list base b input []))
+
+-- From a world of registers r and memory b that match a state, one step of flat code: the machine comes to stand where that leads. Permissions and floor
+-- may be others than the run began with.
+abbrev pub StepStands : Type 0
+StepStands =
+    (P : Permits) → ((a : ℕ) → P.can_execute a ≡ true → a < 2 ^ 31) → ((a : ℕ) → P.can_execute a ≡ true → P.can_write a ≡ false)
+    → (p : Program) (env : ℕ → ℕ) (floor data_at base : ℕ) (r0 b0 b : ℕ → ℕ) → Ready (ground_at p (fixed P b) env floor data_at base r0 b0)
+    → (s t : State) (list : List ℕ) (r : ℕ → ℕ) → Registers list r → address (ground_at p (fixed P b) env floor data_at base r0 b0) s.frame.function s.frame.at < 2 ^ 32
+    → Matched (ground_at p (fixed P b) env floor data_at base r0 b0) s r (address (ground_at p (fixed P b) env floor data_at base r0 b0) s.frame.function s.frame.at) b
+    → AreBytes s.input → step p s ≡ running t → HasRoom (ground_at p (fixed P b) env floor data_at base r0 b0) (running t)
+    → (j : ℕ) × (w : World) × (rvrun j (world P list (address (ground_at p (fixed P b) env floor data_at base r0 b0) s.frame.function s.frame.at) b s.input s.trace) ≡ Running w) × StandsWith p env t w

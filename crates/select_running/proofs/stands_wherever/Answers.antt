@@ -1,5 +1,0 @@
-use Rattle.select_running.proofs.Placing.{stands_in}
-use Rattle.select_running.proofs.stands_wherever.Goals as goal
-
-pub returns : goal.returns
-returns c = stands_in

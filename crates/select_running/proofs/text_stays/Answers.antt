@@ -1,5 +1,0 @@
-use Rattle.select_running.proofs.Worlds.{real_follows}
-use Rattle.select_running.proofs.text_stays.Goals as goal
-
-pub returns : goal.returns
-returns c = real_follows

@@ -1,5 +1,0 @@
-use Rattle.select_simulation.proofs.Watching as laws
-use Rattle.select_simulation.proofs.each_call_keeps.Goals as goal
-
-pub returns : goal.returns
-returns c = laws.each_call_keeps

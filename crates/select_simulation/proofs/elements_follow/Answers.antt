@@ -1,5 +1,0 @@
-use Rattle.select_simulation.proofs.Elements as laws
-use Rattle.select_simulation.proofs.elements_follow.Goals as goal
-
-pub returns : goal.returns
-returns c = laws.element_follows

@@ -1,5 +1,0 @@
-use Rattle.select_simulation.proofs.Whole as laws
-use Rattle.select_simulation.proofs.entries_follow.Goals as goal
-
-pub returns : goal.returns
-returns c = laws.entries

@@ -1,5 +1,0 @@
-use Rattle.select_simulation.proofs.Fits.{function_fits}
-use Rattle.select_simulation.proofs.functions_fit.Goals as goal
-
-pub returns : goal.returns
-returns c = function_fits

@@ -1,5 +1,0 @@
-use Rattle.select_simulation.proofs.Environment as laws
-use Rattle.select_simulation.proofs.get_follows.Goals as goal
-
-pub returns : goal.returns
-returns c = laws.get_follows

@@ -1,5 +1,0 @@
-use Rattle.select_simulation.proofs.Reaching as laws
-use Rattle.select_simulation.proofs.jumps_reach.Goals as goal
-
-pub returns : goal.returns
-returns c = laws.jumps_reach

@@ -1,5 +1,0 @@
-use Rattle.select_simulation.proofs.Conventions as laws
-use Rattle.select_simulation.proofs.main_keeps_convention.Goals as goal
-
-pub returns : goal.returns
-returns c = laws.main_keeps

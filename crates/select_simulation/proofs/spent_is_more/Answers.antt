@@ -1,5 +1,0 @@
-use Rattle.select_simulation.proofs.Table as laws
-use Rattle.select_simulation.proofs.spent_is_more.Goals as goal
-
-pub returns : goal.returns
-returns c = laws.spent_is_more

@@ -1,5 +1,0 @@
-use Rattle.select_simulation.proofs.Accesses as laws
-use Rattle.select_simulation.proofs.stores_follow.Goals as goal
-
-pub returns : goal.returns
-returns c = laws.store_follows

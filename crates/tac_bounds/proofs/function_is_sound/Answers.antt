@@ -1,5 +1,0 @@
-use Rattle.tac_bounds.proofs.Whole as laws
-use Rattle.tac_bounds.proofs.function_is_sound.Goals as goal
-
-pub returns : goal.returns
-returns c = laws.function_is_sound

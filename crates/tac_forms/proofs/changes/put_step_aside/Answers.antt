@@ -1,6 +1,0 @@
-use Rattle.tac_forms.proofs.Parts.{three}
-use Rattle.tac_forms.proofs.Operated.{one_as}
-use Rattle.tac_forms.proofs.changes.put_step_aside.Goals as goal
-
-pub returns : goal.returns
-returns c = three (one_as c.move_to.ensures c.in_ok-put.ensures) (rw c.in_ok-free.ensures at c.in_ok-put_step.ensures) c.in_ok-put_end.ensures

@@ -1,6 +1,0 @@
-use Rattle.tac_forms.proofs.Parts.{two}
-use Rattle.tac_forms.proofs.Operated.{one_as}
-use Rattle.tac_forms.proofs.changes.put_step_behind.Goals as goal
-
-pub returns : goal.returns
-returns c = two (one_as c.move_to.ensures c.in_ok-put.ensures) c.in_ok-put_step.ensures

@@ -1,5 +1,0 @@
-use Rattle.tac_forms.proofs.Parts.{two}
-use Rattle.tac_forms.proofs.changes.put_stepped.Goals as goal
-
-pub returns-in_ok-put_end-in-Before : goal.returns-in_ok-put_end-in-Before
-returns-in_ok-put_end-in-Before c = rw c.in-Before.is (two c.in_ok-put_step-in-Before.ensures c.in_ok-put_end-in-Before.ensures)

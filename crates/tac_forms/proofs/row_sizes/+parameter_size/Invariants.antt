@@ -1,5 +1,0 @@
-use Rattle.std.proofs.Common.{length}
-use Rattle.tac_forms.proofs.row_sizes.+parameter_size.Given as goal
-
-abbrev pub decreases-parameter_size : goal.decreases-parameter_size
-decreases-parameter_size l = length l.parameters.now

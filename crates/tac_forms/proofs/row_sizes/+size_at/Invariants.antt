@@ -1,5 +1,0 @@
-use Rattle.std.proofs.Common.{length}
-use Rattle.tac_forms.proofs.row_sizes.+size_at.Given as goal
-
-abbrev pub decreases-size_at : goal.decreases-size_at
-decreases-size_at l = length l.lengths.now

@@ -1,9 +1,0 @@
-use Rattle.std.proofs.Common.{◌≡◌, IfOk, subst, arith}
-use Rattle.typing_program.specs.View.{object_type_of}
-use Rattle.tac_forms.proofs.Rows.{unknown_some}
-use Rattle.tac_forms.proofs.row_sizes.unknown_size.Goals as goal
-
-pub returns : goal.returns
-returns c =
-    let e = unknown_some c.args.depth (object_type_of c.args.object.now) (omega (arith, c.if-depth-eq0.false)) in
-    subst (λ k. IfOk c.size_in.result (λ n. n ≡ k)) e c.size_in.ensures

@@ -1,3 +1,0 @@
-pub use Rattle.tac_lowering.specs.Values
-pub use Rattle.tac_lowering.specs.Code
-pub mod layer

@@ -1,7 +1,0 @@
-pub use Rattle.tac_checked.specs.Asked
-pub mod Values
-pub mod Places
-pub mod Code
-pub mod Initialisers
-pub mod Bodies
-pub mod Laws

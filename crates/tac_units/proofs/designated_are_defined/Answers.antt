@@ -1,5 +1,0 @@
-use Rattle.tac_units.proofs.Present as laws
-use Rattle.tac_units.proofs.designated_are_defined.Goals as goal
-
-pub returns : goal.returns
-returns c = laws.designated_are_defined

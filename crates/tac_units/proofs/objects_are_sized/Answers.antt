@@ -1,5 +1,0 @@
-use Rattle.tac_units.proofs.Sized as laws
-use Rattle.tac_units.proofs.objects_are_sized.Goals as goal
-
-pub returns : goal.returns
-returns c = laws.objects_are_sized

@@ -1,5 +1,0 @@
-use Rattle.tac_units.proofs.Whole as laws
-use Rattle.tac_units.proofs.program_is_checked.Goals as goal
-
-pub returns : goal.returns
-returns c = laws.program_is_checked

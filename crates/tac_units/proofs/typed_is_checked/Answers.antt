@@ -1,5 +1,0 @@
-use Rattle.tac_units.proofs.Joined as laws
-use Rattle.tac_units.proofs.typed_is_checked.Goals as goal
-
-pub returns : goal.returns
-returns c = laws.typed_is_checked

@@ -1,5 +1,0 @@
-use Rattle.tac_lowering.specs.Bodies as bodies
-use Rattle.tac_values.proofs.operands.waits_for_objects.Goals as goal
-
-pub returns : goal.returns
-returns c = c.waits.ensures (bodies.is_within c.args.first c.args.count) c.rests_within.ensures

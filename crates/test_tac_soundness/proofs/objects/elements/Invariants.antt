@@ -1,0 +1,7 @@
+use Rattle.std.proofs.Common.{◌≡◌, take}
+use Rattle.std.specs.Prelude.{min}
+use Rattle.typing_spec.specs.Types.{elements_in}
+use Rattle.test_tac_soundness.proofs.objects.elements.Given as goal
+
+abbrev pub invariant-loop-length : goal.invariant-loop-length
+invariant-loop-length l = l.count ≡ min (elements_in (take l.length-index l.lengths)) 16777217
