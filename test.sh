@@ -91,6 +91,7 @@ signals      | python3                                  | python3 tests/outside/
 variadic     | python3 gcc                              | python3 tests/outside/pp/variadic.py "$cc"
 streams      | python3                                  | python3 tests/outside/streams/check.py "$cc"
 stack        | python3                                  | python3 tests/outside/stack/check.py "$cc"
+beyond       | python3                                  | python3 tests/outside/stack/beyond.py "$cc"
 mistakes     | python3                                  | python3 tests/outside/mistakes/check.py "$cc"
 inspecting   | python3                                  | python3 tests/outside/inspecting/check.py "$cc"
 tables       | python3                                  | python3 share/tables.py "$cc" --check
