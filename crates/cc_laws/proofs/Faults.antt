@@ -20,58 +20,60 @@ use Rattle.cc_laws.proofs.Loosening.{loose, loose_world, loosened, found_if, NoT
 abbrev pub IsFault : Cause → Type 0
 IsFault c = (c ≡ cause.LoadFault) ⊎ (c ≡ cause.StoreFault)
 
--- the first traps and the second does not only because of such a fault
-abbrev Only : Stepped → Stepped → Type 0
-Only s u = (c : Cause) → s.result ≡ Trap c → NoTrap u → IsFault c
+-- the first traps and a step with the other result does not only because of such a fault
+abbrev Only : Stepped → StepResult → Type 0
+Only s r = (c : Cause) → s.result ≡ Trap c → ((d : Cause) → r ≡ Trap d → ⊥) → IsFault c
 
-if_only : (t : Bool) (s s2 u u2 : Stepped) → Only s u → Only s2 u2 → Only (if t then s else s2) (if t then u else u2)
+if_only : (t : Bool) (s s2 u u2 : Stepped) → Only s u.result → Only s2 u2.result → Only (if t then s else s2) (if t then u else u2).result
 if_only true s s2 u u2 h g = h
 if_only false s s2 u u2 h g = g
 
-same_only : (m m2 : Machine) (c0 : Cause) → Only (trapped m c0) (trapped m2 c0)
+same_only : (m m2 : Machine) (c0 : Cause) → Only (trapped m c0) (trapped m2 c0).result
 same_only m m2 c0 c e h = absurd (h c0 refl)
 
-gives_only : (m : Machine) (rd v : ℕ) (u : Stepped) → Only (gives m rd v) u
+gives_only : (m : Machine) (rd v : ℕ) (r : StepResult) → Only (gives m rd v) r
 unfolding gives
-gives_only m rd v u c e h = cc
+gives_only m rd v r c e h = cc
 
-went_only : (m : Machine) (u : Stepped) → Only (record { machine = m; result = Went }) u
-went_only m u c e h = cc
+goes_only : (t : Bool) (m m2 n n2 : Machine)
+    → Only (if t then record { machine = n; result = Went } else trapped m cause.Target) (if t then record { machine = n2; result = Went } else trapped m2 cause.Target).result
+goes_only true m m2 n n2 = λ c e h. cc
+goes_only false m m2 n n2 = same_only m m2 cause.Target
 
-jumps_only : (m m2 : Machine) (a : ℕ) → Only (jumps m a) (jumps m2 a)
+jumps_only : (m m2 : Machine) (a : ℕ) → Only (jumps m a) (jumps m2 a).result
 unfolding jumps
-jumps_only m m2 a = if_only (a % 4 == 0) _ _ _ _ (went_only _ _) (same_only m m2 cause.Target)
+jumps_only m m2 a = goes_only (a % 4 == 0) m m2 _ _
 
-links_only : (m m2 : Machine) (rd a : ℕ) → Only (links m rd a) (links m2 rd a)
+links_only : (m m2 : Machine) (rd a : ℕ) → Only (links m rd a) (links m2 rd a).result
 unfolding links
-links_only m m2 rd a = if_only (a % 4 == 0) _ _ _ _ (went_only _ _) (same_only m m2 cause.Target)
+links_only m m2 rd a = goes_only (a % 4 == 0) m m2 _ _
 
-loaded_only : (m : Machine) (rd : ℕ) (o : Option ℕ) (u : Stepped) → Only (loaded m rd o) u
-loaded_only m rd None u c e h = let same : cause.LoadFault ≡ c = cc in inl (sym same)
-loaded_only m rd (Some v) u = gives_only m rd v u
+loaded_only : (m : Machine) (rd : ℕ) (o : Option ℕ) (r : StepResult) → Only (loaded m rd o) r
+loaded_only m rd None r = λ c e h. let same : cause.LoadFault ≡ c = cc in inl (sym same)
+loaded_only m rd (Some v) r = gives_only m rd v r
 
-stored_only : (m : Machine) (allowed : Bool) (g : ℕ → ℕ → ℕ) (u : Stepped) → Only (stored m allowed g) u
+stored_only : (m : Machine) (allowed : Bool) (g : ℕ → ℕ → ℕ) (r : StepResult) → Only (stored m allowed g) r
 unfolding stored
-stored_only m true g u = went_only _ u
-stored_only m false g u c e h = let same : cause.StoreFault ≡ c = cc in inr (sym same)
+stored_only m true g r = λ c e h. cc
+stored_only m false g r = λ c e h. let same : cause.StoreFault ≡ c = cc in inr (sym same)
 
 module _ (t : Space) (m : Machine) (executes : (a : ℕ) → t.can_execute a ≡ m.space.can_execute a) where
   abbrev there : Machine
   there = loose t m
 
-  load_only : (kind : LoadKind) (rd a : ℕ) → Only (load_of m kind rd a) (load_of there kind rd a)
+  load_only : (kind : LoadKind) (rd a : ℕ) → Only (load_of m kind rd a) (load_of there kind rd a).result
   load_only load_kind.Byte rd a = loaded_only m rd _ _
   load_only load_kind.ByteUnsigned rd a = loaded_only m rd _ _
   load_only load_kind.Half rd a = if_only (a % 2 == 0) _ _ _ _ (loaded_only m rd _ _) (same_only m there cause.Misaligned)
   load_only load_kind.HalfUnsigned rd a = if_only (a % 2 == 0) _ _ _ _ (loaded_only m rd _ _) (same_only m there cause.Misaligned)
   load_only load_kind.Word rd a = if_only (a % 4 == 0) _ _ _ _ (loaded_only m rd _ _) (same_only m there cause.Misaligned)
 
-  store_only : (kind : StoreKind) (a v : ℕ) → Only (store_of m kind a v) (store_of there kind a v)
+  store_only : (kind : StoreKind) (a v : ℕ) → Only (store_of m kind a v) (store_of there kind a v).result
   store_only store_kind.Byte a v = stored_only m _ _ _
   store_only store_kind.Half a v = if_only (a % 2 == 0) _ _ _ _ (stored_only m _ _ _) (same_only m there cause.Misaligned)
   store_only store_kind.Word a v = if_only (a % 4 == 0) _ _ _ _ (stored_only m _ _ _) (same_only m there cause.Misaligned)
 
-  execute_only : (i : Instr) → Only (execute_of m i) (execute_of there i)
+  execute_only : (i : Instr) → Only (execute_of m i) (execute_of there i).result
   execute_only (Lui rd v) = gives_only m rd _ _
   execute_only (Auipc rd v) = gives_only m rd _ _
   execute_only (Jal rd v) = links_only m there rd _
@@ -82,22 +84,22 @@ module _ (t : Space) (m : Machine) (executes : (a : ℕ) → t.can_execute a ≡
   execute_only (Immediate o rd l v) = gives_only m rd _ _
   execute_only (Shift o rd l k) = gives_only m rd _ _
   execute_only (Op o rd l r) = gives_only m rd _ _
-  execute_only (Fence rd s v) = went_only _ _
-  execute_only Ecall c e h = cc
+  execute_only (Fence rd s v) = λ c e h. cc
+  execute_only Ecall = λ c e h. cc
   execute_only Ebreak = same_only m there cause.Break
 
-  decoded_only : (i : Option Instr) → Only (decoded m i) (decoded there i)
+  decoded_only : (i : Option Instr) → Only (decoded m i) (decoded there i).result
   decoded_only None = same_only m there cause.Illegal
   decoded_only (Some i) = execute_only i
 
-  fetched_only : (x : ℕ) (a b : Bool) → b ≡ a → Only (fetched m (found_if a x)) (fetched there (found_if b x))
+  fetched_only : (x : ℕ) (a b : Bool) → b ≡ a → Only (fetched m (found_if a x)) (fetched there (found_if b x)).result
   fetched_only x true b e = rw e (decoded_only (decode_of x))
   fetched_only x false b e = rw e (same_only m there cause.FetchFault)
 
   executes_four : (a : ℕ) → all_four t.can_execute a ≡ all_four m.space.can_execute a
   executes_four a = rw (executes a, executes (a + 1), executes (a + 2), executes (a + 3)) refl
 
-  step_only : Only (step_of m) (step_of there)
+  step_only : Only (step_of m) (step_of there).result
   step_only =
       if_only (m.pc % 4 == 0) _ _ _ _ (fetched_only (word_at m.space.byte m.pc) (all_four m.space.can_execute m.pc) (all_four t.can_execute m.pc) (executes_four m.pc))
       (same_only m there cause.Target)
@@ -123,7 +125,7 @@ gets_only w (x ∷ xs) a y = running_only w _ y
 
 may_only : (t : Bool) (w : World) (c0 : Cause) (x y : Progress) → IsFault c0 → OnlySo w x y → OnlySo w (if t then x else Trapped c0 w) y
 may_only true w c0 x y f h = h
-may_only false w c0 x y f h c v e k = let same : c0 ≡ c = cc in let stays : w ≡ v = cc in (subst IsFault same f, sym stays)
+may_only false w c0 x y f h = λ c v e k. let same : c0 ≡ c = cc in let stays : w ≡ v = cc in (subst IsFault same f, sym stays)
 
 bad_only : (w w2 : World) (c0 : Cause) → OnlySo w (Trapped c0 w) (Trapped c0 w2)
 bad_only w w2 c0 c v e h = absurd (h c0 w2 refl)

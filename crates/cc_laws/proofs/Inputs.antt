@@ -1,14 +1,15 @@
 -- What a file does before undefined behaviour, and on inputs that begin alike.
-use Rattle.std.proofs.Common.{◌≡◌, ◌⊎◌, inl, inr, ◌≤◌, ℕ, zero, suc, ◌+◌, ◌-◌, ◌&&◌, List, [], ◌∷◌, ◌++◌, length, reverse, Bool, true, false, refl, sym, ap, ◌∙◌, subst, arith}
+use Rattle.std.proofs.Common.{◌≡◌, ◌⊎◌, inl, inr, ◌≤◌, ℕ, zero, suc, ◌+◌, ◌-◌, ◌%◌, ◌^◌, ◌&&◌, List, [], ◌∷◌, ◌++◌, length, reverse, Bool, true, false, refl, sym, ap, ◌∙◌, subst, arith}
 use Rattle.std.specs.Prelude.{◌==◌, if◌then◌else◌}
 use Rattle.csem_events.specs.Events.{Event, Got, GotEnd, Put}
 use Rattle.rv32.specs.declared.state.Cause.TheVariants as cause
 use Rattle.rv32.specs.declared.state.StepResult.{StepResult}
 use Rattle.rv32.specs.declared.state.StepResult.TheVariants.{Went, Call, Trap}
+use Rattle.rv32.specs.Space.{with_bytes, byte_put}
 use Rattle.rv32.specs.Step.{Machine, register, step_of}
 use Rattle.loader.specs.File.{Image}
 use Rattle.sim.specs.Runs as sim
-use Rattle.sim.specs.Runs.{World, Progress, Running, Trapped, gets, puts, call_of, result_of, tick_of, goes_on, rvrun, start_world}
+use Rattle.sim.specs.Runs.{World, Progress, Running, Trapped, answered, with_space, gets, puts, call_of, result_of, tick_of, goes_on, rvrun, start_world}
 use Rattle.select_exec.specs.Laws.{IsEndOf}
 use Rattle.select_exec.specs.Laws as machine
 use Rattle.select_exec.proofs.Keeping.{runs_keep}
@@ -100,7 +101,8 @@ reads_more (Put b ∷ x) y = reads_more x y
 reads_grow : (k : ℕ) (w : World) → reads w.trace ≤ reads (trace_in (rvrun k w))
 reads_grow k w =
     let kept = (runs_keep 0 k w).0 in
-    let whole : trace_in (rvrun k w) ≡ kept.0 ++ w.trace = same_trace (rvrun k w) ∙ kept.1 in
+    let none : k ≡ 0 + k = omega arith in
+    let whole : trace_in (rvrun k w) ≡ kept.0 ++ w.trace = same_trace (rvrun k w) ∙ (ap (λ j. machine.trace_of (rvrun j w)) none ∙ kept.1) in
     subst (λ h. reads w.trace ≤ reads h) (sym whole) (reads_more kept.0 w.trace)
   where
     same_trace : (x : Progress) → trace_in x ≡ machine.trace_of x
@@ -127,9 +129,16 @@ module _ (b c : List ℕ) where
   reading k w at [] each le = absurd (past_end k w at b le)
     where
       past_end : (k : ℕ) (w : World) (at : ℕ) (xs : List ℕ) → reads (trace_in (goes_on (gets (leaving xs w) xs at) (rvrun k))) ≤ reads w.trace + 0 → ⊥
-      past_end k w at [] le = omega (arith, le, reads_grow k _)
-      past_end k w at (x ∷ xs) le = omega (arith, le, reads_grow k _)
-  reading k w at (x ∷ a) each le = each a (record { machine = _; input = []; trace = Got x ∷ w.trace }) (omega (arith, le))
+      past_end k w at [] le =
+          let more = reads_grow k (record { machine = answered w.machine 0; input = []; trace = GotEnd ∷ w.trace }) in
+          omega (arith, le, more)
+      past_end k w at (x ∷ xs) le =
+          let m = answered (with_space w.machine (with_bytes w.machine.space (byte_put at x))) 1 in
+          let more = reads_grow k (record { machine = m; input = xs; trace = Got x ∷ w.trace }) in
+          omega (arith, le, more)
+  reading k w at (x ∷ a) each le =
+      let m = answered (with_space w.machine (with_bytes w.machine.space (byte_put at x))) 1 in
+      each a (record { machine = m; input = []; trace = Got x ∷ w.trace }) (omega (arith, le))
 
   alike : (k : ℕ) (a : List ℕ) (w : World) → reads (trace_in (rvrun k (leaving (a ++ b) w))) ≤ reads w.trace + length a → Alike b c (rvrun k (leaving (a ++ b) w)) (rvrun k (leaving (a ++ c) w))
   alike zero a w le = (a, Running w, refl, refl)

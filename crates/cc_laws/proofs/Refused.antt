@@ -1,5 +1,5 @@
 -- A run beside the run from the same machine where more may be read and written: they do the same until a load or a store is refused.
-use Rattle.std.proofs.Common.{◌≡◌, ◌⊎◌, inl, inr, ℕ, zero, suc, ◌+◌, refl, sym, ap, ◌∙◌, subst}
+use Rattle.std.proofs.Common.{◌≡◌, ◌⊎◌, inl, inr, ℕ, zero, suc, ◌+◌, refl, sym, ap, ◌∙◌, subst, arith}
 use Rattle.rv32.specs.declared.state.Cause.{Cause}
 use Rattle.rv32.specs.Space.{Space}
 use Rattle.sim.specs.Runs.{World, Progress, Running, Ended, Trapped, tick_of, goes_on, rvrun}
@@ -43,6 +43,7 @@ module _ (t : Space) where
       let found = tick_only t w al.allows al.executes c v e goes in
       let now : IsInside wide.machine.space wide.machine = inside_now wide goes in
       let inside : IsInside t w.machine = record { fetches = now.fetches; loads = now.loads; stores = now.stores; gets = now.gets; puts = now.puts } in
+      let none : 0 + suc k ≡ suc k = omega arith in
       let traps : rvrun (suc k) w ≡ Trapped c w = ap (λ x. goes_on x (rvrun k)) e ∙ ap (Trapped c) found.1 in
       record {
         reason = c;
@@ -50,7 +51,7 @@ module _ (t : Space) where
         traps = traps;
         fault = found.0;
         inside = inside;
-        before = (runs_keep 0 (suc k) wide).0;
+        before = subst (λ j. IsEndOf wide.trace (trace_of (rvrun j wide))) none (runs_keep 0 (suc k) wide).0;
       }
 
   mutual_step : (k : ℕ) (w : World) (x : Progress) → tick_of w ≡ x → Widens w.machine.space t → NeverTrapped (rvrun (suc k) (loose_world t w))
