@@ -7,6 +7,17 @@
 # CC is the program; by default that of release/, where this tree is what it was proved and built from, else bin/cc as it
 # was built. The last line counts all checks; the exit status is 0 where none failed and some passed. JOBS=N: so many checks
 # side by side (a processor each, by default). As root on Debian, sh tests/outside/tools.sh installs the tools of others.
+usage='usage: [JOBS=N] sh test.sh [CC], where CC is a program as release/cc'
+case ${1:-} in
+    -h | --help)
+        echo "$usage"
+        exit 0
+        ;;
+    -*)
+        echo "$usage" >&2
+        exit 2
+        ;;
+esac
 cd "$(dirname "$0")" || exit 1
 jobs=${JOBS:-$(getconf _NPROCESSORS_ONLN 2>/dev/null || echo 1)}
 
