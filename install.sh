@@ -1,20 +1,24 @@
 #!/bin/sh
 # sh install.sh [PREFIX]: puts the program as PREFIX/bin/zkc (the name cc on a PATH would hide the system's), its man page and its completions
 # for bash, zsh and fish, and the library, its header and the Python module, where the library was built (sh bindings/build.sh
-# bindings/out). PREFIX is /usr/local by default; DESTDIR stands before it.
+# bindings/out). PREFIX is /usr/local by default; DESTDIR stands before it. PROGRAM=FILE: that program, in place of bin/cc or release/cc.
 set -eu
-prefix=${1:-/usr/local}
+prefix=${1-/usr/local}
 case $prefix in
+    -h | --help)
+        echo 'usage: sh install.sh [PREFIX]'
+        exit 0
+        ;;
     -*)
         echo 'usage: sh install.sh [PREFIX]' >&2
         exit 2
         ;;
-    /*) ;;
+    '' | /*) ;;
     *) prefix=$(pwd)/$prefix ;;
 esac
 cd "$(dirname "$0")"
 to=${DESTDIR:-}$prefix
-program=bin/cc
+program=${PROGRAM:-bin/cc}
 [ -x "$program" ] || program=release/cc
 [ -x "$program" ] || { echo 'no program: run sh run.sh' >&2; exit 1; }
 mkdir -p "$to/bin"
@@ -39,8 +43,11 @@ for out in bindings/out release; do
         ${CC:-gcc} -shared -o "$to/lib/libzikorape.so" -Wl,--whole-archive "$out/libzikorape.a" -Wl,--no-whole-archive
         cp include/zikorape.h "$to/include/"
         cp bindings/python/zikorape.py "$to/share/zikorape/"
-        chmod 644 "$to/lib/libzikorape.a" "$to/include/zikorape.h" "$to/share/zikorape/zikorape.py"
-        printf '%s\n' "$to/lib/libzikorape.a" "$to/lib/libzikorape.so" "$to/include/zikorape.h" "$to/share/zikorape/zikorape.py"
+        mkdir -p "$to/lib/pkgconfig"
+        printf '%s\n' "prefix=$prefix" 'Name: zikorape' 'Description: the compiler zkc as a library' "Version: $("$program" --version | sed 's/^[a-z]* //; s/,.*//')" \
+            'Cflags: -I${prefix}/include' 'Libs: -L${prefix}/lib -lzikorape' >"$to/lib/pkgconfig/zikorape.pc"
+        chmod 644 "$to/lib/libzikorape.a" "$to/include/zikorape.h" "$to/share/zikorape/zikorape.py" "$to/lib/pkgconfig/zikorape.pc"
+        printf '%s\n' "$to/lib/libzikorape.a" "$to/lib/libzikorape.so" "$to/include/zikorape.h" "$to/share/zikorape/zikorape.py" "$to/lib/pkgconfig/zikorape.pc"
         exit 0
     fi
 done

@@ -2,6 +2,18 @@
 # The gate: `rt ci` proves every crate from nothing, tries the wrong bodies of crates/NAME/must-fail, and runs the programs;
 # then the program that this built is compared with release/cc, what tests/edits/TRIED says was tried is compared with this
 # tree, and sh test.sh checks the built program and the documents from outside. The last line counts all. It needs the kit.
+usage='usage: [ALLOW_SKIPPED=1] sh prove.sh, which takes no words'
+case ${1:-} in
+    '') ;;
+    -h | --help)
+        echo "$usage"
+        exit 0
+        ;;
+    *)
+        echo "$usage" >&2
+        exit 2
+        ;;
+esac
 cd "$(dirname "$0")" || exit 1
 logs=$(mktemp -d) || exit 1
 trap 'rm -rf "$logs"' EXIT

@@ -76,6 +76,7 @@ const        | python3                                  | python3 tests/outside/
 meaning      | python3                                  | python3 tests/outside/meaning/check.py "$cc"
 sets         | python3                                  | python3 tests/outside/pp/sets.py "$cc"
 commands     | python3                                  | python3 tests/outside/cc/check.py "$cc"
+people       | python3                                  | python3 tests/outside/cc/people.py "$cc"
 flat         | python3 crates/test_flat/out/test_flat   | python3 tests/outside/flat/check.py crates/test_flat/out/test_flat
 tac          | python3 crates/test_tac/out/test_tac     | python3 tests/outside/tac/check.py crates/test_tac/out/test_tac
 streamed     | python3 crates/test_stream/out/test_stream | python3 tests/outside/pp/streamed.py crates/test_stream/out/test_stream

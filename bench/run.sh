@@ -174,7 +174,7 @@ building() {
     show 'riscv64-unknown-elf-gcc -O0 -c' riscv64-unknown-elf-gcc "$best_gcc"
 }
 
-cp "$root/examples/hello.c" hello.c
+cp "$root/examples/tour.c" tour.c
 # 5,000 lines: 2,498 statements over two lines each.
 awk 'BEGIN {
     print "void rv_putbyte(int c);"
@@ -183,5 +183,5 @@ awk 'BEGIN {
     print "    return 0;"
     print "}"
 }' </dev/null >lines.c
-building hello.c
+building tour.c
 building lines.c

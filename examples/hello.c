@@ -1,6 +1,8 @@
-void rv_putbyte(int c);
+#include <rvio.h>
 
 int main(void) {
-    rv_putbyte(70 + 2);
-    return 44 - 2;
+    char text[] = "hello\n";
+    for (int i = 0; text[i] != '\0'; i++)
+        rv_putbyte(text[i]);
+    return 0;
 }

@@ -5,8 +5,63 @@
     python3 share/tables.py CC --check    compares those of share/ with what it would write; the last line is 'N passed, M failed'
     python3 share/tables.py CC --list     the commands with their options, a line each
 
-The table is that of `cc --help` and `cc COMMAND --help`: nothing stands here a second time."""
+The table is that of `zkc --help` and `zkc COMMAND --help`: nothing stands here a second time."""
 import os, re, subprocess, sys
+
+# What the man page says beside the table. A line that begins with a dot is one of man's own.
+DESCRIPTION = """MAIN is the source file that is translated; FILES are the others that it may include, each by its path as it stands in the command.
+A program is one unit: where it has several C files, MAIN includes the others.
+.PP
+With -I DIR the program reads what is included itself: each name in quotes in an #include line of a file that is read, also in groups that are skipped, is looked for beside the including file and then in each DIR, in their order; the file that is found is read under the name as it stands there.
+A name that is found nowhere is fault 232 where it is included. Two different files that would have one name are fault 101. -I . finds what lies beside the including file. A name that a macro makes is not found: give that file among FILES.
+.PP
+-D and -U hold for the whole program; a macro that has both is not defined, whatever their order. A fault in a macro names the word: -D SIZE:1: 202. One level of includes fewer is left.
+.PP
+A fault is one line on standard error, FILE:LINE: CODE TEXT; one that no file is to blame for, and how a run stopped, begins with cc: in place of a file.
+.PP
+Words that other compilers take are taken where they change nothing: -W.., -w, -O.., -g.., -f.., -m.., -pedantic, -pipe, -static, -nostdlib and its like, and -std= of C99, C11 and C17. -MD, -MMD, -MF, -MT, -MQ and -MP stand for --depend and its like, -isystem and -iquote for -I. Other words of theirs (-c, -l, -L, -shared, -M, -x, -include, -fsanitize, -march of another machine) are refused in a line that says what to write. Where no command stands first, it is build."""
+
+BEHIND = """.SH EXIT STATUS
+.TP
+0
+done
+.TP
+1
+a fault
+.TP
+2
+the command line is wrong
+.PP
+A program that is run or interpreted ends with its own status, or with 123 (undefined act), 124 (budget used), 125 (trap) or 126 (port fault).
+.SH EXAMPLES
+.TP
+.B zkc build -I include src/main.c -o main.elf
+builds a program of several files in two folders.
+.TP
+.B zkc -O2 -Wall -I include -MD src/main.c -o main.elf
+does the same, and writes main.d for make.
+.TP
+.B echo 27 | zkc run main.elf
+runs it; so does qemu-riscv32 main.elf.
+.TP
+.B zkc interp -I include src/main.c
+does what the source means, and tells an undefined act at its line.
+.TP
+.B zkc explain build -I include src/main.c
+tells a fault with its line, its column and a hint.
+.TP
+.B zkc list --labels --abi -I include src/main.c
+prints the code with the names of functions.
+.TP
+.B zkc image main.elf --ihex
+prints what a flash tool loads.
+.SH SEE ALSO
+.BR gcc (1),
+.BR make (1),
+.BR qemu-user (1),
+.BR objdump (1)
+.PP
+The project's docs/USE.md, docs/LANGUAGE.md, docs/FAULTS.md and docs/INSPECT.md."""
 
 def said(cc, *words):
     done = subprocess.run([cc, *words, '--help'], stdout=subprocess.PIPE, check=True)
@@ -22,10 +77,10 @@ def section(text, title):
     return rows
 
 def option(left):
-    """(short, long, value) of an option as it is shown: `-o <OUT>`, `--max <N>`, `-h, --help`."""
+    """(short, long, value) of an option as it is shown: `-o <OUT>`, `--max <N>`, `-D <NAME[=VALUE]>`, `-h, --help`."""
     short = re.search(r'(?:^|\s)(-\w)\b', left)
     long = re.search(r'--[\w-]+', left)
-    value = re.search(r'<(\w+)>', left)
+    value = re.search(r'<([^>]+)>', left)
     return (short[1] if short else '', long[0] if long else '', value[1] if value else '')
 
 def choices(right):
@@ -41,7 +96,7 @@ def table(cc):
     commands = []
     for name, what in section(text, 'Commands'):
         inner = said(cc, name)
-        usage = re.search(r'^Usage: cc (.*)$', inner, re.M)[1]
+        usage = re.search(r'^Usage: zkc (.*)$', inner, re.M)[1]
         commands.append((name, what, usage, section(inner, 'Arguments'), section(inner, 'Options')))
     return about, commands, section(text, 'Options')
 
@@ -50,8 +105,7 @@ def manual(about, commands, options):
     out = ['.TH ZKC 1', '.SH NAME', 'zkc \\- %s' % escape(about[0].lower() + about[1:]), '.SH SYNOPSIS']
     for name, _, usage, _, _ in commands:
         out += ['.B zkc', escape(usage), '.br']
-    out += ['.SH DESCRIPTION', 'MAIN is the source file that is translated; FILES are the others that it may include, by their paths as they stand in the command.',
-            'A fault is one line on standard error, FILE:LINE: CODE TEXT.']
+    out += ['.SH DESCRIPTION'] + [escape(line) if not line.startswith('.') else line for line in DESCRIPTION.splitlines()]
     for name, what, usage, arguments, own in commands:
         out += ['.SS zkc %s' % escape(usage), escape(what) + '.']
         for left, right in arguments + own:
@@ -59,8 +113,8 @@ def manual(about, commands, options):
     out += ['.SH OPTIONS']
     for left, right in options:
         out += ['.TP', '.B %s' % escape(left), escape(right)]
-    out += ['.SH EXIT STATUS', '.TP', '0', 'done', '.TP', '1', 'a fault', '.TP', '2', 'the command line is wrong', '.PP',
-            'A program that is run or interpreted ends with its own status, or with 123 (undefined act), 124 (budget used), 125 (trap) or 126 (port fault).']
+    for line in BEHIND.splitlines():
+        out += [line if line.startswith('.') else escape(line)]
     return '\n'.join(out) + '\n'
 
 def bash(commands, options):

@@ -4,7 +4,7 @@ and on standard error, with the lines shown under them; a line `..` stands for a
 
     python3 tests/transcripts.py CC FILE..
 
-Called from the repository's root; `bin/cc` in a command is CC. A command whose program is missing (qemu-riscv32) is left
+Called from the repository's root; `bin/cc` in a command is CC, and so is `zkc`. A command whose program is missing (qemu-riscv32) is left
 out and told. The last line counts the checks."""
 import os, re, shutil, subprocess, sys, tempfile
 
@@ -25,12 +25,14 @@ def main():
         shutil.copytree('examples', work + '/examples')
         os.mkdir(work + '/bin')
         os.symlink(cc, work + '/bin/cc')
+        os.symlink(cc, work + '/bin/zkc')
+        path = {**os.environ, 'PATH': work + '/bin:' + os.environ.get('PATH', '')}
         for name, text in pages:
             for command, shown in commands(text):
                 if 'qemu-riscv32' in command and not shutil.which('qemu-riscv32'):
                     print('left out, since qemu-riscv32 is missing:', command)
                     continue
-                done = subprocess.run(['sh', '-c', command], cwd=work, stdout=subprocess.PIPE, stderr=subprocess.STDOUT, stdin=subprocess.DEVNULL)
+                done = subprocess.run(['sh', '-c', command], cwd=work, env=path, stdout=subprocess.PIPE, stderr=subprocess.STDOUT, stdin=subprocess.DEVNULL)
                 said = done.stdout.decode('latin-1')
                 if fits(shown, said):
                     passed += 1

@@ -196,7 +196,8 @@ built() {
     headers "$1, readelf" program
 }
 
-built examples/hello.c "$root/examples/hello.c" 48 42
+built examples/tour.c "$root/examples/tour.c" 48 42
+built examples/hello.c "$root/examples/hello.c" 68656c6c6f0a 0
 built examples/sums.c "$root/examples/sums.c" 342b333d370a4869210a 7
 built examples/nested.c "$root/examples/nested.c" 320a 4
 built examples/collatz.c "$root/examples/collatz.c" 300a 0
@@ -289,18 +290,18 @@ echo 'int main(void) { return 2147483647 + 1; }' >main.c
 go "$cc" build main.c -o past_int
 expect 'a sum past int' 0 - ''
 
-# The listing of examples/hello.c, instruction by instruction.
+# The listing of examples/tour.c, instruction by instruction.
 if [ -n "$objdump" ]; then
-    go "$cc" build "$root/examples/hello.c" -o program
+    go "$cc" build "$root/examples/tour.c" -o program
     text=$(od -An -tu4 -j68 -N4 program) # the file size in the first header
     "$objdump" -D -b binary -m riscv:rv32 -M no-aliases \
         --start-address=0x1000 --stop-address=$((0x1000 + text)) program 2>err |
         awk -F '\t' 'NF > 2 { sub(/ *[#<].*/, "", $4); print $3 (NF > 3 ? " " $4 : "") }' >listing
-    sed '/^#/d; /^$/d' "$here/hello.listing" >listing.want
+    sed '/^#/d; /^$/d' "$here/tour.listing" >listing.want
     if cmp -s listing.want listing; then
         pass
     else
-        fail "hello.c's listing: $(diff listing.want listing | sed -n '/^[<>]/p' | head -n 4 | tr '\n' ' ')"
+        fail "tour.c's listing: $(diff listing.want listing | sed -n '/^[<>]/p' | head -n 4 | tr '\n' ' ')"
     fi
 else
     skip 1
@@ -330,8 +331,8 @@ holds "refused.txt has $count sources, not 68" [ "$count" = 68 ]
 
 : >main.c
 refused 'an empty source' 'main.c:1: 551 no int main(void)' main.c
-cp "$root/examples/hello.c" other.c
-cp "$root/examples/hello.c" main.c
+cp "$root/examples/tour.c" other.c
+cp "$root/examples/tour.c" main.c
 echo '/* nothing */' >rest.c
 refused 'a refused main file, another name' 'rest.c:1: 551 no int main(void)' rest.c main.c
 
@@ -552,8 +553,8 @@ status=$?; : >out
 expect 'output to nowhere' 42 - ''
 
 # ------------------------------------------------------------ interpreting
-go "$cc" interp "$root/examples/hello.c"
-expect 'interp of hello.c' 42 48 ''
+go "$cc" interp "$root/examples/tour.c"
+expect 'interp of tour.c' 42 48 ''
 printf '#include <rvio.h>\nint main(void) { int c; while ((c = rv_getbyte()) != -1) rv_putbyte(c); return 7; }\n' >echoes.c
 awk 'BEGIN { for (k = 0; k < 256; k++) printf "\\%03o", k }' >octal
 printf "$(cat octal)" >bytes
@@ -582,7 +583,7 @@ expect 'interp of a refused source' 1 - 'refused.c:1: 528 undeclared name'
 go "$cc" interp none.c
 expect 'interp of a missing file' 1 - 'none.c:0: 802 cannot read'
 if [ -c /dev/full ]; then
-    $limit "$cc" interp "$root/examples/hello.c" 2>err </dev/null >/dev/full
+    $limit "$cc" interp "$root/examples/tour.c" 2>err </dev/null >/dev/full
     status=$?; : >out
     expect 'interp to a full device' 126 - 'cc: port fault 803'
 else

@@ -1,71 +1,80 @@
-//! The commands that compile and run.
+//! The form of the command line, made from the table.
 
-use crate::aids::{explain, frames, image, symbols, with_interp_aids, with_run_aids};
-use crate::parts::{executable, files, main_file, most, out, stack, with, with_command};
-use clap::Command;
+use crate::forms::FORMS;
+use crate::table::{Form, Kind, Row};
+use clap::{Arg, ArgAction, Command, value_parser};
 use std::alloc::{AllocError, Global};
 
 /// The command line's form, of a program of this version.
 pub fn command<'a>(alloc: Global, version: &'a str) -> Result<Command<'a>, AllocError> {
-    let command = compiling(alloc, Ok(whole(alloc, version)));
-    let command = with_command(command, explain(alloc));
-    let command = with_command(command, frames(alloc));
-    let command = with_command(command, symbols(alloc));
-    with_command(command, image(alloc))
+    with_forms(alloc, whole(alloc, version))
 }
 
+/// What stands above the commands.
 fn whole<'a>(alloc: Global, version: &'a str) -> Command<'a> {
-    Command::new(alloc, "cc")
+    Command::new(alloc, "zkc")
         .about("Compiles C11 programs for RV32IM, and runs them")
         .version(version)
         .subcommand_required(true)
         .disable_help_subcommand(true)
 }
 
-fn compiling<'a>(
-    alloc: Global,
-    command: Result<Command<'a>, AllocError>,
-) -> Result<Command<'a>, AllocError> {
-    let command = with_command(command, build(alloc));
-    let command = with_command(command, pp(alloc));
-    let command = with_command(command, list(alloc));
-    let command = with_command(command, run(alloc));
-    with_command(command, interp(alloc))
+/// The command with all commands below it.
+fn with_forms<'a>(alloc: Global, whole: Command<'a>) -> Result<Command<'a>, AllocError> {
+    let mut command = whole;
+    for form in FORMS {
+        command = command.subcommand(below(alloc, form)?)?;
+    }
+    Ok(command)
 }
 
-fn build<'a>(alloc: Global) -> Result<Command<'a>, AllocError> {
-    let command = Command::new(alloc, "build").about("Compiles a program to an executable file");
-    let command = with(command.arg(main_file(alloc)), files(alloc));
-    let command = with(command, stack(alloc));
-    with(command, out(alloc, "The executable file to write"))
+/// One command with its arguments.
+fn below<'a>(alloc: Global, form: &Form) -> Result<Command<'a>, AllocError> {
+    let mut command = Command::new(alloc, form.name).about(form.about);
+    for row in form.rows {
+        command = command.arg(argument(alloc, row)?)?;
+    }
+    Ok(command)
 }
 
-fn pp<'a>(alloc: Global) -> Result<Command<'a>, AllocError> {
-    let command = Command::new(alloc, "pp").about("Prints a program's tokens after preprocessing");
-    with(command.arg(main_file(alloc)), files(alloc))
+/// One argument.
+fn argument<'a>(alloc: Global, row: &Row) -> Result<Arg<'a>, AllocError> {
+    named(
+        read_as(Arg::new(alloc, row.id).help(row.help), row.kind),
+        row,
+    )
+    .conflicts_with_all(row.apart)
 }
 
-fn list<'a>(alloc: Global) -> Result<Command<'a>, AllocError> {
-    let command = Command::new(alloc, "list").about("Prints a listing of a program's code");
-    let command = with(command.arg(main_file(alloc)), stack(alloc));
-    with(command, files(alloc))
+/// The argument with its names and its default.
+fn named<'a>(arg: Arg<'a>, row: &Row) -> Arg<'a> {
+    let mut arg = arg;
+    if let Some(short) = row.short {
+        arg = arg.short(short);
+    }
+    if let Some(long) = row.long {
+        arg = arg.long(long);
+    }
+    if let Some(value) = row.value {
+        arg = arg.value_name(value);
+    }
+    if let Some(default) = row.default {
+        arg = arg.default_value(default);
+    }
+    arg
 }
 
-fn run<'a>(alloc: Global) -> Result<Command<'a>, AllocError> {
-    let command = Command::new(alloc, "run").about(
-        "Runs an executable file over standard input and output",
-    );
-    let command = command.arg(executable(alloc));
-    let command = with(command, most(alloc, "At most this many instructions"));
-    with_run_aids(alloc, command)
-}
-
-fn interp<'a>(alloc: Global) -> Result<Command<'a>, AllocError> {
-    let command = Command::new(alloc, "interp").about(
-        "Interprets a program over standard input and output",
-    );
-    let command = with(command.arg(main_file(alloc)), stack(alloc));
-    let command = with(command, files(alloc));
-    let command = with(command, most(alloc, "At most this many ticks"));
-    with_interp_aids(alloc, command)
+/// The argument, read as its kind says.
+fn read_as<'a>(arg: Arg<'a>, kind: Kind) -> Arg<'a> {
+    match kind {
+        Kind::Place => arg.required(true),
+        Kind::Places => arg.action(ArgAction::Append).num_args(0..),
+        Kind::Choice(values) => arg.value_parser(values).required(true),
+        Kind::Flag => arg.action(ArgAction::SetTrue),
+        Kind::Text => arg,
+        Kind::Texts => arg.action(ArgAction::Append),
+        Kind::List => arg.action(ArgAction::Append).num_args(1..),
+        Kind::Number(least, most) => arg.value_parser(value_parser!(u64).range(least..=most)),
+        Kind::One(values) => arg.value_parser(values),
+    }
 }

@@ -1,10 +1,18 @@
-//! The form of the command line of `cc`.
+//! The words of the command line of `zkc`: their form, and the request that they make.
 #![tactic(auto)]
 
-mod aids;
-mod asked;
+mod asking;
 mod commands;
-mod parts;
+mod forms;
+mod habits;
+mod reading;
+mod request;
+mod rows;
+mod table;
 
-pub use asked::{asks_more, asks_trace, further_files};
-pub use commands::command;
+pub use asking::{Asked, ask};
+pub use habits::{Refused, plain_words};
+pub use reading::{Reading, macro_name};
+pub use request::{
+    Colours, Command, ImageForm, Program, Request, Role, Rule, Stage, Telling, Trace, Word,
+};

@@ -76,3 +76,53 @@ fn number(file: &[u8], at: usize, size: usize) -> u32 {
     }
     sum
 }
+
+/// How many bytes the parts of a file have in memory.
+#[derive(Clone, Copy, Debug)]
+pub struct Sizes {
+    /// What can be executed.
+    pub text: u32,
+    /// What is loaded from the file, and cannot be executed.
+    pub data: u32,
+    /// What is loaded as zeros behind such data.
+    pub zeros: u32,
+    /// What is loaded as zeros alone.
+    pub stack: u32,
+}
+
+/// `PF_X` (System V gABI, chapter 5).
+const EXECUTES: u32 = 1;
+
+/// How many bytes the parts of a file have that can be loaded.
+pub fn sizes(file: &[u8]) -> Sizes {
+    let table = number(file, 28, 4) as usize;
+    let mut all = Sizes {
+        text: 0,
+        data: 0,
+        zeros: 0,
+        stack: 0,
+    };
+    for header in 0..number(file, 44, 2) as usize {
+        let at = table.saturating_add(header.saturating_mul(32));
+        if number(file, at, 4) == LOAD {
+            all = with_header(all, file, at);
+        }
+    }
+    all
+}
+
+/// The sums with the part whose program header is at `at`.
+fn with_header(all: Sizes, file: &[u8], at: usize) -> Sizes {
+    let stored = number(file, at.saturating_add(16), 4);
+    let whole = number(file, at.saturating_add(20), 4);
+    let mut all = all;
+    if number(file, at.saturating_add(24), 4) % 2 == EXECUTES {
+        all.text = all.text.wrapping_add(whole);
+    } else if stored == 0 {
+        all.stack = all.stack.wrapping_add(whole);
+    } else {
+        all.data = all.data.wrapping_add(stored);
+        all.zeros = all.zeros.wrapping_add(whole.wrapping_sub(stored));
+    }
+    all
+}

@@ -12,4 +12,4 @@ pub use depth::{Chain, Cost, deepest};
 pub use functions::{CodeMap, Function, symbol_table};
 pub use sources::{Definition, definitions};
 pub use symbols::symbol_file;
-pub use table::frames_table;
+pub use table::{frames_table, sizes_table};

@@ -17,7 +17,7 @@ pub struct Definition {
 }
 
 /// The definitions of a program's functions, in their order. The sources are read again up to their tree; `None` where they
-/// have a fault, or memory runs out for one.
+/// have a fault, or memory runs out while they are read.
 pub fn definitions(
     alloc: Global,
     set: &FileSet,

@@ -10,12 +10,27 @@ const NAME_WIDTH: usize = 8;
 /// A line for each function: its name, the bytes of its frame, its weight, the bytes of its code, and what it calls; behind them
 /// the greatest sums along the calls from `main` on, or a circle of calls, for which there is none.
 pub fn frames_table(alloc: Global, map: &CodeMap) -> Result<String, AllocError> {
+    table(alloc, map, false)
+}
+
+/// The same, with the address of each function behind its name.
+pub fn sizes_table(alloc: Global, map: &CodeMap) -> Result<String, AllocError> {
+    table(alloc, map, true)
+}
+
+fn table(alloc: Global, map: &CodeMap, has_addresses: bool) -> Result<String, AllocError> {
     let width = name_width(map.functions.as_slice());
     let mut out = String::new(alloc);
     put_padded("function", width, &mut out)?;
+    out.push_str(if has_addresses { "   address" } else { "" })?;
     out.push_str("     frame    weight      code  calls\n")?;
     for function in &map.functions {
-        put_function(alloc, map, function, width, &mut out)?;
+        put_padded(function.name.as_str(), width, &mut out)?;
+        if has_addresses {
+            let start = function.start;
+            out.push_str(format!(in alloc; "  {start:08X}")?.as_str())?;
+        }
+        put_function(alloc, map, function, &mut out)?;
     }
     if let Some(main) = map.number("main") {
         let functions = map.functions.as_slice();
@@ -55,15 +70,14 @@ fn put_padded(text: &str, width: usize, out: &mut String) -> Result<(), AllocErr
     Ok(())
 }
 
+/// Puts what a function takes, and what it calls.
 fn put_function(
     alloc: Global,
     map: &CodeMap,
     function: &Function,
-    width: usize,
     out: &mut String,
 ) -> Result<(), AllocError> {
     let (frame, weight, size) = (function.frame, function.weight, function.size);
-    put_padded(function.name.as_str(), width, out)?;
     let numbers = format!(in alloc; "{frame:10}{weight:10}{size:10}")?;
     out.push_str(numbers.as_str())?;
     for (place, callee) in function.calls.iter().enumerate() {

@@ -18,6 +18,7 @@ pub struct TracePort<P: Port + Drop, W: Write + Drop> {
     script: Script,
     coming: Coming,
     is_whole: bool,
+    has_memory: bool,
 }
 
 impl<P: Port + Drop, W: Write + Drop> TracePort<P, W> {
@@ -30,11 +31,12 @@ impl<P: Port + Drop, W: Write + Drop> TracePort<P, W> {
             script,
             coming: Coming::new(),
             is_whole: true,
+            has_memory: true,
         }
     }
 
-    /// The inner port, and whether the whole trace was written. The writer is flushed.
-    pub fn finish(self) -> (P, bool) {
+    /// The inner port, whether the whole trace was written, and whether there was memory for all of it. The writer is flushed.
+    pub fn finish(self) -> (P, bool, bool) {
         let TracePort {
             alloc: _,
             inner,
@@ -42,10 +44,11 @@ impl<P: Port + Drop, W: Write + Drop> TracePort<P, W> {
             script: _script,
             coming: _,
             is_whole,
+            has_memory,
         } = self;
         let mut out = out;
         let is_flushed = out.flush().is_ok();
-        (inner, is_whole && is_flushed)
+        (inner, is_whole && is_flushed, has_memory)
     }
 
     /// Writes what an event is shown as. What cannot be written is left out, and then the trace is not whole.
@@ -58,7 +61,10 @@ impl<P: Port + Drop, W: Write + Drop> TracePort<P, W> {
                     self.is_whole = false;
                 }
             }
-            Err(_) => self.is_whole = false,
+            Err(_) => {
+                self.is_whole = false;
+                self.has_memory = false;
+            }
         }
     }
 }

@@ -6,7 +6,7 @@ use cc::{Cmd, StackSize, perform};
 use explain::Sources;
 use instrument::{Told, Words, put_statement_probes};
 use io_ports::Port;
-use srcset::FileSet;
+use srcset::{Code, FileSet};
 use std::alloc::{AllocError, Global};
 use std::io;
 use std::io::Write;
@@ -45,6 +45,8 @@ pub struct Traced<P: Port + Drop> {
     pub port: P,
     /// Whether the whole trace was written.
     pub is_whole: bool,
+    /// Whether there was memory for the whole trace.
+    pub has_memory: bool,
 }
 
 /// The program of these files, the main one of this name, with probes. `None` where a file's tokens have no places, or a set does not
@@ -61,28 +63,37 @@ pub fn with_probes(
             return Ok(None);
         };
         let text = put_statement_probes(alloc, &words, number, &mut told)?;
-        if set.add(file.name.as_str(), text).is_err() {
+        if !is_added(&mut set, file.name.as_str(), text)? {
             return Ok(None);
         }
     }
     let mut first = String::from_str(alloc, PROBES)?;
     first.push_str(format!(in alloc; "#include \"{main}\"\n")?.as_str())?;
-    if set.add(TRACING, first.into_bytes()).is_err() {
+    if !is_added(&mut set, TRACING, first.into_bytes())? {
         return Ok(None);
     }
     let script = Script::new(alloc, sources, told)?;
     Ok(Some(Tracing { set, script }))
 }
 
+/// Adds a file to a set; answers whether the set takes it.
+fn is_added(set: &mut FileSet, name: &str, text: Vec<u8>) -> Result<bool, AllocError> {
+    match set.add(name, text) {
+        Ok(()) => Ok(true),
+        Err(fault) if fault.code == Code::OutOfMemory.number() => Err(AllocError),
+        Err(_) => Ok(false),
+    }
+}
+
 /// Interprets a program with probes for at most so many ticks; its own bytes come from the port and go there, and its trace goes to the writer. What
 /// `interp` says goes to `line`; where that speaks of a fault, the probes do not fit into the program.
-pub fn interpret_traced<P: Port + Drop, W: Write + Drop>(
+pub fn interpret_traced<P: Port + Drop, W: Write + Drop, E: Write>(
     alloc: Global,
     tracing: Tracing,
     port: P,
     out: W,
     max: u64,
-    line: &mut Vec<u8>,
+    line: &mut E,
 ) -> Traced<P> {
     let Tracing { set, script } = tracing;
     let mut probed = TracePort::new(alloc, port, out, script);
@@ -97,11 +108,12 @@ pub fn interpret_traced<P: Port + Drop, W: Write + Drop>(
         line,
         widest(),
     );
-    let (port, is_whole) = probed.finish();
+    let (port, is_whole, has_memory) = probed.finish();
     Traced {
         status,
         port,
         is_whole,
+        has_memory,
     }
 }
 

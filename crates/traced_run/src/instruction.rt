@@ -2,6 +2,7 @@
 
 use asm::{Item, Items, list};
 use rv32::{Instr, decode};
+use srcset::Code;
 use std::alloc::{AllocError, Global};
 
 /// An instruction with its address and its word, as the listing has it: `00011000 00100093  addi x1,x0,1`.
@@ -31,6 +32,7 @@ fn listed(alloc: Global, pc: u32, instr: Instr) -> Result<Option<Vec<u8>>, Alloc
             let _newline = line.pop();
             Ok(Some(line))
         }
+        Err(fault) if fault.code == Code::OutOfMemory.number() => Err(AllocError),
         Err(_) => Ok(None),
     }
 }

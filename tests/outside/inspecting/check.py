@@ -1,5 +1,5 @@
 #!/usr/bin/env python3
-"""What `cc frames`, `symbols`, `image` and `run` with a trace show, held against other tools and against the file itself.
+"""What `cc list` with labels, `frames`, `size`, `symbols`, `image` and `run` with a trace show, held against other tools and against the file itself.
 
     python3 tests/outside/inspecting/check.py CC
 
@@ -97,6 +97,78 @@ def frames():
         put(work, 'bad.c', 'int main(void) { return x; }\n')
         check('frames of no program', cc(work, 'frames', 'bad.c') == (1, b'', 'bad.c:1: 528 undeclared name\n'))
         check('frames of nothing', cc(work, 'frames')[0] == 2)
+
+# the integer registers by the RISC-V psABI
+ABI = 'zero ra sp gp tp t0 t1 t2 s0 s1 a0 a1 a2 a3 a4 a5 a6 a7 s2 s3 s4 s5 s6 s7 s8 s9 s10 s11 t3 t4 t5 t6'.split()
+
+def distance(word):
+    """How far a branch or a jump leads, by its word (RISC-V, immediates of formats B and J); None for other instructions."""
+    bits = lambda low, count: word >> low & (1 << count) - 1
+    if word & 127 == 0x63:
+        far, width = bits(8, 4) << 1 | bits(25, 6) << 5 | bits(7, 1) << 11 | bits(31, 1) << 12, 13
+    elif word & 127 == 0x6F:
+        far, width = bits(21, 10) << 1 | bits(20, 1) << 11 | bits(12, 8) << 12 | bits(31, 1) << 20, 21
+    else:
+        return None
+    return far - (1 << width) if far >> (width - 1) else far
+
+def labels():
+    """Labels and names of registers, held against the plain listing."""
+    source = CHAIN.replace('return a[x & 7];', 'while (x > 3) { if (x == 9) break; x = x - 2; } return a[x & 7];')
+    with tempfile.TemporaryDirectory() as work:
+        put(work, 'a.c', source)
+        rows = listing(work, 'a.c')
+        starts = dict(zip((start for start, _, _ in functions(rows)), ('deep', 'middle', 'main')))
+        targets = {a + distance(w) for a, w, _ in rows if distance(w) is not None}
+        status, out, err = cc(work, 'list', 'a.c', '--labels')
+        check('labels', status == 0 and err == '' and len(targets) > 3, out[-300:])
+        at, said, names, calls = None, [], [], []
+        for line in out.decode().splitlines():
+            if line.endswith(':'):
+                names.append(line[:-1])
+            elif line:
+                row = (int(line[:8], 16), int(line[9:17], 16), line[19:])
+                label = starts.get(row[0]) or ('.L%X' % row[0] if row[0] in targets else None)
+                check('label at %X' % row[0], names == ([label] if label else []), names)
+                said.append(row)
+                names = []
+        check('labels: addresses and words', [row[:2] for row in said] == [row[:2] for row in rows])
+        for (address, word, plain), (_, _, text) in zip(rows, said):
+            if distance(word) is not None:
+                check('labels: ' + plain, text == plain[:plain.rfind(',') + 1] + '.L%X' % (address + distance(word)), text)
+            elif '  # ' in text:
+                calls.append(text.split('  # ')[1])
+                check('labels: a call', text.startswith(plain + '  # ') and plain.startswith('jalr x1,'), text)
+            else:
+                check('labels: ' + plain, text == plain, text)
+        check('labels: calls', calls == ['main', 'deep', 'deep', 'middle'], calls)
+        wanted = [(a, w, re.sub(r'\bx(\d+)\b', lambda r: ABI[int(r[1])], text)) for a, w, text in rows]
+        status, out, err = cc(work, 'list', 'a.c', '--abi')
+        check('abi', (status, err) == (0, '') and [(int(r[:8], 16), int(r[9:17], 16), r[19:]) for r in out.decode().splitlines()] == wanted, out[:200])
+        check('abi and labels', b'main:\n' in cc(work, 'list', 'a.c', '--abi', '--labels')[1])
+
+def sizes():
+    """`size` and `frames --sizes`, held against the program headers and the listing."""
+    with tempfile.TemporaryDirectory() as work:
+        put(work, 'a.c', CHAIN + 'int many[1000];\n')
+        cc(work, 'build', 'a.c', '-o', 'a', '--stack', '8192')
+        file = open(os.path.join(work, 'a'), 'rb').read()
+        loads = [struct.unpack_from('<8I', file, 52 + 32 * k) for k in range(struct.unpack_from('<H', file, 44)[0])]
+        text = sum(h[5] for h in loads if h[6] & 1)
+        data = sum(h[4] for h in loads if not h[6] & 1)
+        stack = sum(h[5] for h in loads if not h[4])
+        zeros = sum(h[5] - h[4] for h in loads if h[4] and not h[6] & 1)
+        status, out, err = cc(work, 'size', 'a')
+        lines = out.decode().splitlines()
+        check('size', (status, err, [line.split() for line in lines]) == (0, '', ['text data bss stack filename'.split(), [str(text), str(data), str(zeros), str(stack), 'a']]) and stack == 8192, out)
+        check('size of no executable file', cc(work, 'size', 'a.c') == (1, b'', 'a.c:0: 902 not ELF32 little endian\n'))
+        status, out, err = cc(work, 'frames', 'a.c', '--sizes', '--stack', '8K')
+        plain = cc(work, 'frames', 'a.c')[1].decode().splitlines()
+        said = out.decode().splitlines()
+        starts = ['%08X' % start for start, _, _ in functions(listing(work, 'a.c'))]
+        check('frames --sizes: addresses', status == 0 and [line.split()[1] for line in said[1:4]] == starts, out)
+        check('frames --sizes: the table', [re.sub(r'^(\w+) +[0-9A-F]{8}|^(function) +address', lambda r: (r[1] or r[2]).ljust(8), line) for line in said[:-1]] == plain, said)
+        check('frames --sizes: in all', said[-1] == 'in all: %d bytes of code, %d of data, %d of zeros, %d of stack' % (text, data, zeros, stack), said[-1])
 
 def symbols():
     with tempfile.TemporaryDirectory() as work:
@@ -467,7 +539,7 @@ def on_terminal(shell, setup, keys, wanted):
 
 def surroundings():
     status, out, err = cc(ROOT, '--version')
-    check('version', status == 0 and re.fullmatch(rb'cc \d+\.\d+, proved with the logic [0-9a-f]{16}, compiler [0-9a-f]{64}\n', out) is not None, out)
+    check('version', status == 0 and re.fullmatch(rb'zkc \d+\.\d+, proved with the logic [0-9a-f]{16}, compiler [0-9a-f]{64}\n', out) is not None, out)
     wanted = (('exp', 'zkc explain '), ('explain int', 'zkc explain interp '), ('image a --me', 'zkc image a --memh '), ('explain build --color al', 'zkc explain build --color always '))
     shells = (('bash', ['bash', '--norc', '-i'], 'source share/zkc.bash'), ('zsh', ['zsh', '-f', '-i'], 'fpath=(share $fpath); autoload -Uz compinit; compinit -u -D'))
     for name, words, setup in shells:
@@ -481,12 +553,14 @@ def surroundings():
     if there('man'):
         done = subprocess.run(['man', '--warnings', '-l', 'share/zkc.1'], cwd=ROOT, stdout=subprocess.PIPE, stderr=subprocess.PIPE, env={**os.environ, 'MANWIDTH': '100'})
         said = re.sub('.\b', '', done.stdout.decode())
-        check('man', done.returncode == 0 and done.stderr == b'' and all('zkc %s ' % name in said for name in ('build', 'explain', 'frames', 'symbols', 'image')), done.stderr, said[:300])
+        check('man', done.returncode == 0 and done.stderr == b'' and all('zkc %s ' % name in said for name in ('build', 'explain', 'frames', 'symbols', 'image', 'size')), done.stderr, said[:300])
     with tempfile.TemporaryDirectory() as work:
         done = subprocess.run(['sh', os.path.join(ROOT, 'install.sh'), work], cwd=ROOT, stdout=subprocess.PIPE, stderr=subprocess.PIPE)
         check('install', done.returncode == 0 and all(os.path.exists(os.path.join(work, p)) for p in ('bin/zkc', 'share/man/man1/zkc.1', 'share/bash-completion/completions/zkc')), done.stdout, done.stderr)
 
 frames()
+labels()
+sizes()
 symbols()
 image()
 traces()

@@ -40,6 +40,7 @@ class Command:
     def ask(self, at=0, on=False, count=False):
         with tempfile.TemporaryDirectory() as folder:
             for name, data in self.files.items():
+                os.makedirs(os.path.dirname(os.path.join(folder, name)), exist_ok=True)
                 with open(os.path.join(folder, name), 'wb') as file:
                     file.write(data)
             env = {'PATH': os.environ.get('PATH', ''), 'LD_PRELOAD': self.preload}
@@ -102,6 +103,20 @@ def commands(cc, preload):
     yield plain('a missing file', ['build', 'main.c', 'a.h', '-o', 'out'], {'main.c': b'\n'}, 'out')
     yield plain('a fault', ['interp', 'main.c'], {'main.c': b'#error ' + b'long ' * 800 + b'\n'})
     yield plain('help', ['--help'], {})
+    files = {'main.c': SOURCES['calls'].encode()}
+    yield plain('symbols', ['symbols', 'main.c', '-o', 'out'], files, 'out')
+    yield plain('frames', ['frames', 'main.c', '--sizes'], files)
+    yield plain('list with labels', ['list', 'main.c', '--labels', '--abi'], files)
+    yield plain('pp with lines', ['pp', 'main.c', '--lines'], files)
+    yield plain('interp told', ['interp', 'main.c', '--trace-file', 'out'], files, 'out')
+    two = {'main.c': b'#include "a.h"\nint main(void) { return N; }\n', 'inc/a.h': b'#define A 1\n'}
+    yield plain('includes', ['build', '-I', 'inc', '-DN=A', 'main.c', '-o', 'out', '-MF', 'd'], two, 'out')
+    yield plain('the files of a program', ['build', '-I', 'inc', '-DN=A', 'main.c', '--list-files'], two)
+    built = plain('', ['build', 'main.c', '-o', 'out'], files, 'out').ask()[0][3]
+    yield plain('run told', ['run', 'out', '--trace-file', 'told'], {'out': built}, 'told')
+    yield plain('run shown', ['run', 'out', '--map', 'main.c', '--at', '3'], {'out': built, **files})
+    yield plain('size', ['size', 'out'], {'out': built})
+    yield plain('image', ['image', 'out', '--ihex'], {'out': built})
 
 
 def numbers(calls):

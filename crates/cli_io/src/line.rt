@@ -30,9 +30,30 @@ impl Line {
         self.bytes.is_empty()
     }
 
+    /// Whether it begins with these bytes.
+    pub fn begins_with(&self, bytes: &[u8]) -> bool {
+        self.bytes.starts_with(bytes)
+    }
+
     /// Whether there was no memory for all that was said.
     pub fn is_cut(&self) -> bool {
         self.is_cut
+    }
+
+    /// Names another file in a fault at line 1 of the file `old`. Where there is no memory for that, the line stays.
+    pub fn rename(&mut self, alloc: Global, old: &str, new: &str) {
+        let Some(behind) = self.bytes.strip_prefix(old.as_bytes()) else {
+            return;
+        };
+        if old == new || !behind.starts_with(b":1: ".as_slice()) {
+            return;
+        }
+        let mut renamed = Vec::new(alloc);
+        let is_whole = renamed.extend_from_slice(new.as_bytes()).is_ok()
+            && renamed.extend_from_slice(behind).is_ok();
+        if is_whole {
+            self.bytes = renamed;
+        }
     }
 
     /// The line with its newline. In place of a byte of a file's name that is no printable character stands `?`.

@@ -1,10 +1,9 @@
 //! A file that is made at the first write to it.
 
-use std::fs::OpenOptions;
+use std::fs::{File, OpenOptions};
 use std::io;
 use std::io::Write;
 use std::os::unix::fs::OpenOptionsExt;
-use std::rt::Files;
 
 /// Who may do what with a file that is made: all may read, write and execute it, less what the user's mask takes away.
 const EXECUTABLE: u32 = 0o777;
@@ -12,19 +11,22 @@ const EXECUTABLE: u32 = 0o777;
 /// The same, but that none may execute it.
 const PLAIN: u32 = 0o666;
 
-/// The file at a path, which is made, or emptied, once something is written to it.
+/// The path that stands for standard output.
+const STANDARD: &str = "-";
+
+/// The file at a path, which is made, or emptied, once something is written to it; standard output where the path is `-`.
 #[derive(Drop)]
-pub struct LateFile<'a, R: Files> {
-    rt: &'a R,
+pub struct OutFile<'a> {
+    rt: &'a HostRuntime,
     path: &'a str,
     mode: u32,
-    file: Option<R::File>,
+    file: Option<File>,
 }
 
-impl<'a, R: Files> LateFile<'a, R> {
+impl<'a> OutFile<'a> {
     /// An executable file.
-    pub fn new(rt: &'a R, path: &'a str) -> Self {
-        LateFile {
+    pub fn executable(rt: &'a HostRuntime, path: &'a str) -> Self {
+        OutFile {
             rt,
             path,
             mode: EXECUTABLE,
@@ -33,28 +35,36 @@ impl<'a, R: Files> LateFile<'a, R> {
     }
 
     /// A file that is not executable.
-    pub fn plain(rt: &'a R, path: &'a str) -> Self {
-        LateFile {
+    pub fn plain(rt: &'a HostRuntime, path: &'a str) -> Self {
+        OutFile {
             rt,
             path,
             mode: PLAIN,
             file: None,
         }
     }
-}
 
-impl<'a, R: Files> Write for LateFile<'a, R> {
-    fn write(&mut self, buf: &[u8]) -> io::Result<usize> {
-        if let Some(file) = &mut self.file {
-            return file.write(buf);
-        }
+    /// Makes the file, or empties it.
+    fn open(&self) -> io::Result<File> {
         let mut options = OpenOptions::new();
         options
             .write(true)
             .create(true)
             .truncate(true)
             .mode(self.mode);
-        let mut file = options.open(self.rt, self.path)?;
+        options.open(self.rt, self.path)
+    }
+}
+
+impl<'a> Write for OutFile<'a> {
+    fn write(&mut self, buf: &[u8]) -> io::Result<usize> {
+        if self.path == STANDARD {
+            return self.rt.stdout().write(buf);
+        }
+        if let Some(file) = &mut self.file {
+            return file.write(buf);
+        }
+        let mut file = self.open()?;
         let count = file.write(buf)?;
         self.file = Some(file);
         Ok(count)

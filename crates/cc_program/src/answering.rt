@@ -1,0 +1,81 @@
+//! What is done for a request.
+
+use cc::Cmd;
+use cli_args::{Command, Program, Request, Role, Trace};
+use cmd_build::{build, interp, list_files, print_lines, print_text, run};
+use cmd_explain::{Told, explain};
+use cmd_inspect::{ListForm, list_code, show_frames, show_image, show_size, write_symbols};
+use cmd_trace::{RunForm, interp_traced, run_traced};
+
+/// Does what is asked; answers the exit status.
+pub fn answer(rt: &HostRuntime, request: &Request<'_>) -> u8 {
+    let program = &request.program;
+    match request.command {
+        Command::Build { out, rule } => build(rt, program, out, rule),
+        Command::ListFiles => list_files(rt, program),
+        Command::Pp {
+            out,
+            has_lines: true,
+        } => print_lines(rt, program, out),
+        Command::Pp {
+            out,
+            has_lines: false,
+        } => print_text(rt, program, Cmd::Pp, out),
+        Command::List {
+            out,
+            has_labels,
+            has_abi_names,
+        } => list(
+            rt,
+            program,
+            out,
+            ListForm {
+                has_labels,
+                has_abi_names,
+            },
+        ),
+        Command::Run { max, at, trace } => run_told(rt, program, RunForm { max, at, trace }),
+        Command::Interp {
+            max,
+            trace: Trace::None,
+        } => interp(rt, program, max),
+        Command::Interp { max, trace } => interp_traced(rt, program, max, trace),
+        Command::Explain {
+            stage,
+            max,
+            telling,
+            colours,
+        } => explain(
+            rt,
+            program,
+            Told {
+                stage,
+                max,
+                telling,
+                colours,
+            },
+        ),
+        Command::Frames { has_sizes } => show_frames(rt, program, has_sizes),
+        Command::Symbols(out) => write_symbols(rt, program, out),
+        Command::Image(form) => show_image(rt, program.main, form),
+        Command::Size => show_size(rt, program.main),
+    }
+}
+
+/// A listing: the plain one, or one with more.
+fn list(rt: &HostRuntime, program: &Program<'_>, out: &str, form: ListForm) -> u8 {
+    if form.has_labels || form.has_abi_names {
+        list_code(rt, program, out, form)
+    } else {
+        print_text(rt, program, Cmd::List, out)
+    }
+}
+
+/// A run: the plain one, or one that is told.
+fn run_told(rt: &HostRuntime, program: &Program<'_>, form: RunForm<'_>) -> u8 {
+    if form.at.is_some() || form.trace != Trace::None || program.has(Role::File) {
+        run_traced(rt, program, form)
+    } else {
+        run(rt, program, form.max)
+    }
+}

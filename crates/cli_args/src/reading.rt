@@ -1,0 +1,302 @@
+//! What a parse found, as a request. All words are read here, once.
+
+use crate::request::{
+    Colours, Command, ImageForm, Program, Request, Role, Rule, Stage, Telling, Trace, Word,
+};
+use clap::ArgMatches;
+use std::alloc::{AllocError, Global};
+
+/// How many instructions or ticks a run may take where the words do not say.
+const USUAL_MAX: u64 = 1_000_000_000;
+
+/// The bytes of the usual stack.
+const USUAL_STACK: u32 = 0x10_0000;
+
+const NO_COMMAND: &str = "there is no such command";
+
+const NO_OUT: &str = "the file to write is missing: -o OUT";
+
+const NO_FORM: &str = "one of --bin, --ihex and --memh is needed";
+
+const BAD_STACK: &str =
+    "the bytes of the stack are no multiple of 4096 from 4096 to 16777216, as 65536, 64K or 1M";
+
+const BAD_MACRO: &str = "a macro is written -D NAME, -D NAME=VALUE or -U NAME, on one line";
+
+const NEEDS_MAP: &str = "--stack, -I, -D and -U are for --map here";
+
+/// What the words ask for, or what is wrong with them.
+#[derive(Drop)]
+pub enum Reading<'a> {
+    Request(Request<'a>),
+    Wrong(&'static str),
+}
+
+/// What the words that a parse took ask for.
+pub fn read<'a>(alloc: Global, matches: &ArgMatches<'a>) -> Result<Reading<'a>, AllocError> {
+    let Some((name, inner)) = matches.subcommand() else {
+        return Ok(Reading::Wrong(NO_COMMAND));
+    };
+    let found = match name {
+        "build" => build(inner),
+        "pp" => Ok(pp(inner)),
+        "list" => Ok(list(inner)),
+        "run" => run(inner),
+        "interp" => Ok(interp(inner)),
+        "explain" => Ok(explain(inner)),
+        "frames" => Ok(Command::Frames {
+            has_sizes: inner.get_flag("sizes"),
+        }),
+        "symbols" => symbols(inner),
+        "image" => image(inner),
+        "size" => Ok(Command::Size),
+        _ => Err(NO_COMMAND),
+    };
+    match found {
+        Ok(command) => request(alloc, inner, command),
+        Err(why) => Ok(Reading::Wrong(why)),
+    }
+}
+
+/// The request of a command, with its program.
+fn request<'a>(
+    alloc: Global,
+    inner: &ArgMatches<'a>,
+    command: Command<'a>,
+) -> Result<Reading<'a>, AllocError> {
+    let Some(stack) = stack_of(inner) else {
+        return Ok(Reading::Wrong(BAD_STACK));
+    };
+    if !has_macros(inner) {
+        return Ok(Reading::Wrong(BAD_MACRO));
+    }
+    let main = match inner.get_str("MAIN") {
+        Some(main) => main,
+        None => inner.get_str("FILE").unwrap_or_default(),
+    };
+    let words = words_of(alloc, inner)?;
+    Ok(Reading::Request(Request {
+        program: Program { main, words, stack },
+        command,
+    }))
+}
+
+/// The words that belong to the program.
+fn words_of<'a>(alloc: Global, inner: &ArgMatches<'a>) -> Result<Vec<Word<'a>>, AllocError> {
+    let mut words = Vec::new(alloc);
+    put_words(inner, "FILES", Role::File, &mut words)?;
+    put_words(inner, "map", Role::File, &mut words)?;
+    put_words(inner, "folder", Role::Folder, &mut words)?;
+    put_words(inner, "define", Role::Define, &mut words)?;
+    put_words(inner, "undefine", Role::Undefine, &mut words)?;
+    Ok(words)
+}
+
+fn put_words<'a>(
+    inner: &ArgMatches<'a>,
+    id: &str,
+    role: Role,
+    words: &mut Vec<Word<'a>>,
+) -> Result<(), AllocError> {
+    for text in inner.get_strs(id).unwrap_or_default() {
+        words.push(Word { role, text: *text })?;
+    }
+    Ok(())
+}
+
+/// The bytes of the stack; `None` where the word is no such number.
+fn stack_of(inner: &ArgMatches<'_>) -> Option<u32> {
+    match inner.get_str("stack") {
+        Some(word) => stack_bytes(word),
+        None => Some(USUAL_STACK),
+    }
+}
+
+/// A number of bytes as it is written: in decimal, with K behind it for 1024 of them or M for 1048576; a multiple of 4096 from 4096 to 16777216.
+fn stack_bytes(word: &str) -> Option<u32> {
+    let (digits, unit) = match word.strip_suffix("K") {
+        Some(digits) => (digits, 0x400),
+        None => match word.strip_suffix("M") {
+            Some(digits) => (digits, 0x10_0000),
+            None => (word, 1),
+        },
+    };
+    let count = digits.parse::<u32>().ok()?;
+    let bytes = count.checked_mul(unit)?;
+    if bytes % 0x1000 == 0 && (0x1000..=0x100_0000).contains(&bytes) {
+        Some(bytes)
+    } else {
+        None
+    }
+}
+
+/// Whether each macro of the words is written as one.
+fn has_macros(inner: &ArgMatches<'_>) -> bool {
+    for text in inner.get_strs("define").unwrap_or_default() {
+        if !is_definition(text) {
+            return false;
+        }
+    }
+    for text in inner.get_strs("undefine").unwrap_or_default() {
+        if macro_name(text).len() != text.len() || text.is_empty() {
+            return false;
+        }
+    }
+    true
+}
+
+/// Whether a text is a name, with parameters or without, and a value behind `=` or none, on one line.
+fn is_definition(text: &str) -> bool {
+    let name = macro_name(text);
+    let behind = text.get(name.len()..).unwrap_or_default();
+    !name.is_empty()
+        && (behind.is_empty() || behind.starts_with("=") || behind.starts_with("("))
+        && !text.contains('\n')
+        && !text.contains('\r')
+}
+
+/// The name at the beginning of a macro.
+pub fn macro_name(text: &str) -> &str {
+    match text.find(|c: char| !(c.is_ascii_alphanumeric() || c == '_')) {
+        Some(end) => text.get(..end).unwrap_or_default(),
+        None => text,
+    }
+}
+
+fn build<'a>(inner: &ArgMatches<'a>) -> Result<Command<'a>, &'static str> {
+    if inner.get_flag("list-files") {
+        return Ok(Command::ListFiles);
+    }
+    if inner.get_flag("S") {
+        return Ok(list(inner));
+    }
+    if inner.get_flag("E") {
+        return Ok(Command::Pp {
+            out: text_out(inner),
+            has_lines: true,
+        });
+    }
+    match inner.get_str("OUT") {
+        Some(out) => Ok(Command::Build {
+            out,
+            rule: rule(inner),
+        }),
+        None => Err(NO_OUT),
+    }
+}
+
+/// The rule that the words ask for.
+fn rule<'a>(inner: &ArgMatches<'a>) -> Option<Rule<'a>> {
+    if inner.get_flag("depend") || inner.get_str("depend-file").is_some() {
+        Some(Rule {
+            file: inner.get_str("depend-file"),
+            target: inner.get_str("depend-target"),
+            has_phony: inner.get_flag("depend-phony"),
+        })
+    } else {
+        None
+    }
+}
+
+/// Where a text goes.
+fn text_out<'a>(inner: &ArgMatches<'a>) -> &'a str {
+    inner.get_str("OUT").unwrap_or("-")
+}
+
+fn pp<'a>(inner: &ArgMatches<'a>) -> Command<'a> {
+    if inner.get_flag("list-files") {
+        return Command::ListFiles;
+    }
+    Command::Pp {
+        out: text_out(inner),
+        has_lines: inner.get_flag("lines"),
+    }
+}
+
+fn list<'a>(inner: &ArgMatches<'a>) -> Command<'a> {
+    Command::List {
+        out: text_out(inner),
+        has_labels: inner.get_flag("labels"),
+        has_abi_names: inner.get_flag("abi"),
+    }
+}
+
+fn run<'a>(inner: &ArgMatches<'a>) -> Result<Command<'a>, &'static str> {
+    let is_built = inner.contains_id("stack")
+        || inner.contains_id("folder")
+        || inner.contains_id("define")
+        || inner.contains_id("undefine");
+    if is_built && !inner.contains_id("map") {
+        return Err(NEEDS_MAP);
+    }
+    Ok(Command::Run {
+        max: max(inner),
+        at: inner.get_one::<u64>("at"),
+        trace: trace(inner),
+    })
+}
+
+fn interp<'a>(inner: &ArgMatches<'a>) -> Command<'a> {
+    Command::Interp {
+        max: max(inner),
+        trace: trace(inner),
+    }
+}
+
+fn max(inner: &ArgMatches<'_>) -> u64 {
+    inner.get_one::<u64>("max").unwrap_or(USUAL_MAX)
+}
+
+fn trace<'a>(inner: &ArgMatches<'a>) -> Trace<'a> {
+    match inner.get_str("trace-file") {
+        Some(path) => Trace::File(path),
+        None if inner.get_flag("trace") => Trace::Shown,
+        None => Trace::None,
+    }
+}
+
+fn explain<'a>(inner: &ArgMatches<'a>) -> Command<'a> {
+    Command::Explain {
+        stage: match inner.get_str("WHAT") {
+            Some("interp") => Stage::Interp,
+            Some("pp") => Stage::Pp,
+            _ => Stage::Build,
+        },
+        max: max(inner),
+        telling: telling(inner),
+        colours: match inner.get_str("color") {
+            Some("always") => Colours::Always,
+            Some("never") => Colours::Never,
+            _ => Colours::Auto,
+        },
+    }
+}
+
+fn telling(inner: &ArgMatches<'_>) -> Telling {
+    if inner.get_flag("sarif") {
+        Telling::Sarif
+    } else if inner.get_flag("json") {
+        Telling::Json
+    } else {
+        Telling::Text
+    }
+}
+
+fn symbols<'a>(inner: &ArgMatches<'a>) -> Result<Command<'a>, &'static str> {
+    match inner.get_str("OUT") {
+        Some(out) => Ok(Command::Symbols(out)),
+        None => Err(NO_OUT),
+    }
+}
+
+fn image<'a>(inner: &ArgMatches<'a>) -> Result<Command<'a>, &'static str> {
+    if inner.get_flag("bin") {
+        Ok(Command::Image(ImageForm::Binary))
+    } else if inner.get_flag("ihex") {
+        Ok(Command::Image(ImageForm::Intel))
+    } else if inner.get_flag("memh") {
+        Ok(Command::Image(ImageForm::Verilog))
+    } else {
+        Err(NO_FORM)
+    }
+}

@@ -1,0 +1,159 @@
+//! What the words of a command line ask for.
+
+/// What a word names that belongs to the program.
+#[derive(Clone, Copy, Debug, PartialEq, Eq)]
+pub enum Role {
+    /// A further file of the set.
+    File,
+    /// A folder in which included files are looked for.
+    Folder,
+    /// A macro that is defined, as NAME or NAME=VALUE.
+    Define,
+    /// A macro that is not defined.
+    Undefine,
+}
+
+/// A word that belongs to the program.
+#[derive(Clone, Copy)]
+pub struct Word<'a> {
+    pub role: Role,
+    pub text: &'a str,
+}
+
+/// The program of the words.
+#[derive(Drop)]
+pub struct Program<'a> {
+    /// The path of the main file; `-` is standard input. Of a command that takes an executable file, that file.
+    pub main: &'a str,
+    /// The further files, folders and macros, in the order of the words of each role.
+    pub words: Vec<Word<'a>>,
+    /// The bytes of the stack: a multiple of 4096 from 4096 to 16777216.
+    pub stack: u32,
+}
+
+impl<'a> Program<'a> {
+    /// Whether a word has this role.
+    pub fn has(&self, role: Role) -> bool {
+        for word in &self.words {
+            if word.role == role {
+                return true;
+            }
+        }
+        false
+    }
+}
+
+/// Where a trace goes.
+#[derive(Clone, Copy, Debug, PartialEq, Eq)]
+pub enum Trace<'a> {
+    /// There is none.
+    None,
+    /// To standard error.
+    Shown,
+    /// To the file at a path.
+    File(&'a str),
+}
+
+/// The form in which a fault is told.
+#[derive(Clone, Copy, Debug, PartialEq, Eq)]
+pub enum Telling {
+    Text,
+    Json,
+    Sarif,
+}
+
+/// When a text has colours.
+#[derive(Clone, Copy, Debug, PartialEq, Eq)]
+pub enum Colours {
+    /// On a terminal.
+    Auto,
+    Always,
+    Never,
+}
+
+/// Whose faults are explained.
+#[derive(Clone, Copy, Debug, PartialEq, Eq)]
+pub enum Stage {
+    Build,
+    Interp,
+    Pp,
+}
+
+/// The form of an image.
+#[derive(Clone, Copy, Debug, PartialEq, Eq)]
+pub enum ImageForm {
+    /// The bytes alone.
+    Binary,
+    /// Intel's hexadecimal form.
+    Intel,
+    /// The form that `$readmemh` reads.
+    Verilog,
+}
+
+/// The rule of a Makefile that says what a file is built from.
+#[derive(Clone, Copy)]
+pub struct Rule<'a> {
+    /// The path of the file that has the rule; where there is none, that of the output with `d` as extension.
+    pub file: Option<&'a str>,
+    /// What the rule is about; where that is not said, the output.
+    pub target: Option<&'a str>,
+    /// Whether each included file is a target of its own too, without a recipe, so that one that is removed stops no build.
+    pub has_phony: bool,
+}
+
+/// The command of the words, with what belongs to it alone.
+#[derive(Clone, Copy)]
+pub enum Command<'a> {
+    /// Compile to the file at a path, and write the rule.
+    Build {
+        out: &'a str,
+        rule: Option<Rule<'a>>,
+    },
+    /// Print the names of the set's files with their paths.
+    ListFiles,
+    /// Print the tokens after preprocessing to the file at a path, with the lines on which they stand or without.
+    Pp {
+        out: &'a str,
+        has_lines: bool,
+    },
+    /// Print a listing to the file at a path, with labels and the names that registers have in calls, or without.
+    List {
+        out: &'a str,
+        has_labels: bool,
+        has_abi_names: bool,
+    },
+    /// Run an executable file for at most so many instructions.
+    Run {
+        max: u64,
+        at: Option<u64>,
+        trace: Trace<'a>,
+    },
+    /// Interpret for at most so many ticks.
+    Interp {
+        max: u64,
+        trace: Trace<'a>,
+    },
+    Explain {
+        stage: Stage,
+        max: u64,
+        telling: Telling,
+        colours: Colours,
+    },
+    /// Print what each function takes, with addresses and sizes or without.
+    Frames {
+        has_sizes: bool,
+    },
+    /// Write the symbols to the file at a path.
+    Symbols(&'a str),
+    /// Print what an executable file loads.
+    Image(ImageForm),
+    /// Print how large the parts of an executable file are.
+    Size,
+}
+
+/// What the words of a command line ask for.
+#[derive(Drop)]
+pub struct Request<'a> {
+    pub program: Program<'a>,
+    pub command: Command<'a>,
+}

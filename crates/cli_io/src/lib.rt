@@ -1,0 +1,16 @@
+//! What each command needs of files and streams: the line that it says, the file that it writes, and which files it must not write over.
+#![tactic(auto)]
+
+mod line;
+mod out_file;
+mod overwriting;
+mod saying;
+mod watching;
+
+pub use line::Line;
+pub use out_file::OutFile;
+pub use overwriting::{is_same, leads_to};
+pub use saying::{
+    TAKEN, put_file, put_out, say, say_memory, say_port, say_unwritten, say_usage, tell, unread,
+};
+pub use watching::Watching;

@@ -1,0 +1,95 @@
+//! What a command says, and the exit status that goes with it.
+
+use crate::line::Line;
+use crate::out_file::OutFile;
+use io_ports::PortFault;
+use srcset::{Code, Fault, write_text};
+use std::alloc::Global;
+use std::io;
+use std::io::{BufWriter, ErrorKind, Write};
+
+/// What is said where a command would write over a file that it reads.
+pub const TAKEN: &str = "OUT is one of the files that are read";
+
+/// Says what is wrong with the words; answers the exit status.
+pub fn say_usage(rt: &HostRuntime, text: &str) -> u8 {
+    let _said = eprintln!(rt; "error: {text}");
+    2
+}
+
+/// Says what a command said, and answers its status; or that there was no memory for it.
+pub fn tell(rt: &HostRuntime, line: &mut Line, status: u8) -> u8 {
+    if line.is_cut() {
+        return say_memory(rt);
+    }
+    let _said = rt.stderr().write_all(line.printable());
+    status
+}
+
+/// Says that the output was refused at last; answers the exit status.
+pub fn say_port(rt: &HostRuntime, fault: PortFault) -> u8 {
+    let _said = eprintln!(rt; "cc: port fault {}", fault.code().number());
+    126
+}
+
+/// Says a fault in one line; answers the exit status.
+pub fn say(rt: &HostRuntime, fault: &Fault) -> u8 {
+    let is_said = match fault.to_line(rt.alloc()) {
+        Ok(text) => say_line(rt, text.as_slice()),
+        Err(_) => false,
+    };
+    if !is_said {
+        let _said = eprintln!(rt; "{}", Fault::memory(rt.alloc()));
+    }
+    1
+}
+
+/// Says a line; answers whether there was memory for it.
+fn say_line(rt: &HostRuntime, text: &[u8]) -> bool {
+    let Ok(mut line) = Line::new(rt.alloc()) else {
+        return false;
+    };
+    let is_whole = write_text(&mut line, text) && write_text(&mut line, b"\n".as_slice());
+    if is_whole {
+        let _said = rt.stderr().write_all(line.printable());
+    }
+    is_whole
+}
+
+/// Writes a text to the file at a path, or to standard output where that is `-`; answers the exit status.
+pub fn put_file(rt: &HostRuntime, path: &str, bytes: &[u8]) -> u8 {
+    let Ok(mut writer) = BufWriter::new(rt.alloc(), OutFile::plain(rt, path)) else {
+        return say_memory(rt);
+    };
+    let is_whole = write_text(&mut writer, bytes) && writer.flush().is_ok();
+    if is_whole { 0 } else { say_unwritten(rt, path) }
+}
+
+/// Says that a file, or standard output where the path is `-` or empty, cannot be written; answers the exit status.
+pub fn say_unwritten(rt: &HostRuntime, path: &str) -> u8 {
+    let shown = if path == "-" { "" } else { path };
+    say(rt, &Fault::at(rt.alloc(), Code::CannotWrite, shown, 0))
+}
+
+/// Says that memory ran out; answers the exit status.
+pub fn say_memory(rt: &HostRuntime) -> u8 {
+    say(rt, &Fault::memory(rt.alloc()))
+}
+
+/// Writes a text to standard output: the exit status where the whole command is then done.
+pub fn put_out(rt: &HostRuntime, bytes: &[u8], status: u8) -> u8 {
+    if write_text(&mut rt.stdout(), bytes) {
+        status
+    } else {
+        say_unwritten(rt, "")
+    }
+}
+
+/// Why a file was not read: it can't be, or there is no memory for it.
+pub fn unread(alloc: Global, name: &str, error: &io::Error) -> Fault {
+    if error.kind() == ErrorKind::OutOfMemory {
+        Fault::memory(alloc)
+    } else {
+        Fault::at(alloc, Code::CannotRead, name, 0)
+    }
+}

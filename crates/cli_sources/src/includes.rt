@@ -1,0 +1,46 @@
+//! Which files a file names in its `#include` lines.
+
+use phases::{Kind, PpToken, try_scan};
+use srcset::Refusal;
+use std::alloc::{AllocError, Global};
+
+/// The names that stand in quotes in `#include` lines (ISO/IEC 9899:2011 6.10.2), also in groups that are skipped. Of a file without token lines there are none:
+/// its fault is told where it is included.
+pub fn included_names(alloc: Global, bytes: &[u8]) -> Result<Vec<String>, AllocError>
+    requires { length bytes.now ≤ max_file_bytes }
+{
+    let mut names = Vec::new(alloc);
+    let lines = match try_scan(alloc, bytes, 0) {
+        Ok(lines) => lines,
+        Err(Refusal::Memory) => return Err(AllocError),
+        Err(_) => return Ok(names),
+    };
+    for at in 0..lines.len() {
+        if let Some(name) = included_name(lines.get(at).unwrap_or_default()) {
+            names.push(String::from_str(alloc, name)?)?;
+        }
+    }
+    Ok(names)
+}
+
+/// The name in quotes that a line includes.
+fn included_name<'t>(line: &'t [PpToken<'_>]) -> Option<&'t str> {
+    let hash = line.first()?.spelling();
+    let word = line.get(1)?.spelling();
+    let name = line.get(2)?;
+    let is_include = (hash == b"#".as_slice() || hash == b"%:".as_slice())
+        && word == b"include".as_slice();
+    if is_include && name.kind() == Kind::HeaderName {
+        quoted(name.spelling())
+    } else {
+        None
+    }
+}
+
+/// What stands between quotes.
+fn quoted(spelling: &[u8]) -> Option<&str> {
+    let Ok(text) = str::from_utf8(spelling) else {
+        return None;
+    };
+    text.strip_prefix("\"")?.strip_suffix("\"")
+}

@@ -1,0 +1,76 @@
+//! The macros that the words define.
+
+use crate::sources::{MACROS, Sources};
+use cli_args::{Program, Role, Word, macro_name};
+use srcset::Fault;
+use std::alloc::{AllocError, Global};
+
+/// Whether the words define a macro, or leave one out.
+pub fn has_macros(program: &Program<'_>) -> bool {
+    program.has(Role::Define) || program.has(Role::Undefine)
+}
+
+/// Adds a file that defines the macros and then includes the main file; that is what is translated from now on. Its first line is empty, so that a fault
+/// there is one of the whole unit.
+pub fn put_macros(
+    alloc: Global,
+    program: &Program<'_>,
+    sources: &mut Sources<'_>,
+) -> Result<(), Fault> {
+    match macro_text(alloc, program, sources.given) {
+        Ok(text) => sources.set.add(MACROS, text.into_bytes())?,
+        Err(_) => return Err(Fault::memory(alloc)),
+    }
+    sources.note(alloc, MACROS, "")?;
+    sources.main = MACROS;
+    Ok(())
+}
+
+/// The text of that file. A macro that is both defined and left out is left out.
+fn macro_text(alloc: Global, program: &Program<'_>, main: &str) -> Result<String, AllocError> {
+    let mut text = String::from_str(alloc, "\n")?;
+    for word in &program.words {
+        put_definition(*word, &mut text)?;
+    }
+    for word in &program.words {
+        if word.role == Role::Undefine {
+            put_texts(
+                &["#line 1 \"-U ", word.text, "\"\n#undef ", word.text, "\n"],
+                &mut text,
+            )?;
+        }
+    }
+    put_texts(&["#include \"", main, "\"\n"], &mut text)?;
+    Ok(text)
+}
+
+/// Puts the definition of a macro; faults in it name the word.
+fn put_definition(word: Word<'_>, text: &mut String) -> Result<(), AllocError> {
+    if word.role != Role::Define {
+        return Ok(());
+    }
+    let (defined, value) = match word.text.split_once('=') {
+        Some(parts) => parts,
+        None => (word.text, "1"),
+    };
+    let name = macro_name(word.text);
+    put_texts(
+        &[
+            "#line 1 \"-D ",
+            name,
+            "\"\n#define ",
+            defined,
+            " ",
+            value,
+            "\n",
+        ],
+        text,
+    )
+}
+
+fn put_texts(texts: &[&str], to: &mut String) -> Result<(), AllocError> {
+    for text in texts {
+        to.push_str(text)?;
+    }
+    Ok(())
+}

@@ -1,0 +1,133 @@
+//! `build`: an executable file, and the rule of a Makefile.
+
+use cc::{Cmd, StackSize, perform};
+use cli_args::{Program, Role, Rule};
+use cli_io::{Line, OutFile, TAKEN, put_file, say, say_memory, say_unwritten, say_usage, tell};
+use cli_sources::{Sources, is_taken, read_sources, rule_path, rule_text, stack_size};
+use io_ports::IoPort;
+use std::alloc::Global;
+use std::io;
+use std::io::{BufReader, BufWriter};
+
+/// Below the greatest size up to which glibc's `malloc` learns to keep what is given back (32 MiB, mallopt(3), M_MMAP_THRESHOLD).
+const KEPT_BYTES: usize = 33_488_896;
+
+/// Compiles a program, and writes the executable file at a path, and its rule where there is one; answers the exit status.
+pub fn build(rt: &HostRuntime, program: &Program<'_>, out: &str, rule: Option<Rule<'_>>) -> u8 {
+    if is_taken(rt, program, out) {
+        return say_usage(rt, TAKEN);
+    }
+    keep_large_blocks(rt.alloc());
+    let sources = match read_sources(rt, program) {
+        Ok(sources) => sources,
+        Err(fault) => return say(rt, &fault),
+    };
+    if sources.are_at(rt, out) {
+        return say_usage(rt, TAKEN);
+    }
+    if program.has(Role::Folder) {
+        say_alone(rt, program, &sources);
+    }
+    let status = build_set(rt, &sources, out, stack_size(program));
+    match rule {
+        Some(rule) if status == 0 => write_rule(rt, rule, out, &sources),
+        _ => status,
+    }
+}
+
+/// Takes one large block, of which no page is touched, and gives it back. From then on the allocator of the C library takes large lists from its heap, where the
+/// pages of one list serve the next, and not each from the system with fresh ones. Where it is refused, nothing is lost.
+#[inline(never)]
+fn keep_large_blocks(alloc: Global) {
+    let _block = Vec::<u8>::with_capacity(alloc, KEPT_BYTES);
+}
+
+/// Says of each further file that is a C file and that no file includes that it is not compiled: a program is one unit.
+fn say_alone(rt: &HostRuntime, program: &Program<'_>, sources: &Sources<'_>) {
+    for word in &program.words {
+        if word.role == Role::File
+            && word.text.ends_with(".c")
+            && !is_included(rt, sources, word.text)
+        {
+            let name = word.text;
+            let _said = eprintln!(rt;
+                "note: no file includes {name}, so it is no part of the program, which is one unit: write #include \"{name}\" in MAIN"
+            );
+        }
+    }
+}
+
+/// Whether a file of the set includes that of this name; where there is no memory to tell, it may.
+fn is_included(rt: &HostRuntime, sources: &Sources<'_>, name: &str) -> bool {
+    for number in 0..sources.files.len() {
+        let Ok(names) = sources.included(rt.alloc(), number) else {
+            return true;
+        };
+        if has_name(names.as_slice(), name) {
+            return true;
+        }
+    }
+    false
+}
+
+fn has_name(names: &[String], wanted: &str) -> bool {
+    for name in names {
+        if name.as_str() == wanted {
+            return true;
+        }
+    }
+    false
+}
+
+/// Compiles the files, and writes the executable file. What was buffered is written before the status is answered.
+fn build_set(rt: &HostRuntime, sources: &Sources<'_>, out: &str, stack: StackSize) -> u8 {
+    let Ok(mut line) = Line::new(rt.alloc()) else {
+        return say_memory(rt);
+    };
+    let Ok(mut port) = file_port(rt, out) else {
+        return say_memory(rt);
+    };
+    let status = perform(
+        rt.alloc(),
+        Cmd::Build(out),
+        &sources.set,
+        sources.main,
+        b"",
+        &mut port,
+        &mut io::sink(),
+        &mut line,
+        stack,
+    );
+    if status == 0 && port.finish().is_err() {
+        return say_unwritten(rt, out);
+    }
+    line.rename(rt.alloc(), sources.main, sources.given);
+    tell(rt, &mut line, status)
+}
+
+/// A port without input over the file at a path.
+fn file_port<'a>(
+    rt: &'a HostRuntime,
+    out: &'a str,
+) -> io::Result<IoPort<io::Empty, BufWriter<OutFile<'a>>>> {
+    let writer = BufWriter::new(rt.alloc(), OutFile::executable(rt, out))?;
+    match BufReader::with_capacity(rt.alloc(), 0, io::empty()) {
+        Ok(reader) => Ok(IoPort::new(reader, writer)),
+        Err(error) => Err(error),
+    }
+}
+
+/// Writes the rule of what was built.
+fn write_rule(rt: &HostRuntime, rule: Rule<'_>, out: &str, sources: &Sources<'_>) -> u8 {
+    let built = if out == "-" { sources.given } else { out };
+    let Ok(path) = rule_path(rt.alloc(), rule, built) else {
+        return say_memory(rt);
+    };
+    if sources.are_at(rt, path.as_str()) {
+        return say_usage(rt, TAKEN);
+    }
+    match rule_text(rt.alloc(), rule, built, sources) {
+        Ok(text) => put_file(rt, path.as_str(), text.as_bytes()),
+        Err(_) => say_memory(rt),
+    }
+}

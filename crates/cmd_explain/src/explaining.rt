@@ -1,0 +1,153 @@
+//! `explain`.
+
+use cli_args::{Colours, Program, Stage, Telling};
+use cli_io::{put_out, say, say_memory};
+use cli_sources::{Sources, read_sources, stack_size};
+use explain_cmd::{Form, Said, explain_faults, explain_run, explain_unread};
+use explain_render::Style;
+use srcset::{Code, Fault};
+use std::alloc::{AllocError, Global};
+use std::env;
+use std::io::{IsTerminal, Read, Write};
+
+/// How a command explains.
+#[derive(Clone, Copy)]
+pub struct Told {
+    pub stage: Stage,
+    /// At most so many ticks of the interpreter.
+    pub max: u64,
+    pub telling: Telling,
+    pub colours: Colours,
+}
+
+/// Explains what a command comes to: its faults, or the undefined behaviour of a program that is interpreted; answers the exit status.
+pub fn explain(rt: &HostRuntime, program: &Program<'_>, told: Told) -> u8 {
+    let form = form(rt, told);
+    let sources = match read_sources(rt, program) {
+        Ok(sources) => sources,
+        Err(fault) => return say_unread(rt, fault, form),
+    };
+    let Ok(said) = said(rt.alloc(), program, &sources, told.stage, form) else {
+        return say_memory(rt);
+    };
+    if told.stage == Stage::Interp && said.status == 0 && form != Form::Sarif {
+        return explain_interp(rt, program, &sources, told.max, form);
+    }
+    put_said(rt, &said)
+}
+
+/// What is said of the faults of a program.
+fn said(
+    alloc: Global,
+    program: &Program<'_>,
+    sources: &Sources<'_>,
+    stage: Stage,
+    form: Form,
+) -> Result<Said, AllocError> {
+    let names = sources.names(alloc)?;
+    let stage = match stage {
+        Stage::Pp => explain::Stage::Preprocessing,
+        Stage::Build | Stage::Interp => explain::Stage::Whole,
+    };
+    explain_faults(
+        alloc,
+        &sources.set,
+        names.as_slice(),
+        sources.main,
+        stage,
+        stack_size(program),
+        form,
+    )
+}
+
+/// Tells in a form why a file was not read.
+fn say_unread(rt: &HostRuntime, fault: Fault, form: Form) -> u8 {
+    if matches!(form, Form::Text(_)) {
+        return say(rt, &fault);
+    }
+    match explain_unread(rt.alloc(), fault, form) {
+        Ok(said) => put_said(rt, &said),
+        Err(_) => say_memory(rt),
+    }
+}
+
+/// Interprets the program over standard input, which is read to its end first; writes what it wrote, and explains its undefined
+/// act. The exit status is that of `interp`.
+fn explain_interp(
+    rt: &HostRuntime,
+    program: &Program<'_>,
+    sources: &Sources<'_>,
+    max: u64,
+    form: Form,
+) -> u8 {
+    let mut input = Vec::new(rt.alloc());
+    if rt.stdin().read_to_end(&mut input).is_err() {
+        return say(rt, &Fault::at(rt.alloc(), Code::CannotRead, "", 0));
+    }
+    match run_said(rt.alloc(), program, sources, input.as_slice(), max, form) {
+        Ok(said) => put_said(rt, &said),
+        Err(_) => say_memory(rt),
+    }
+}
+
+/// What is said of a run over an input.
+fn run_said(
+    alloc: Global,
+    program: &Program<'_>,
+    sources: &Sources<'_>,
+    input: &[u8],
+    max: u64,
+    form: Form,
+) -> Result<Said, AllocError> {
+    let names = sources.names(alloc)?;
+    explain_run(
+        alloc,
+        &sources.set,
+        names.as_slice(),
+        sources.main,
+        input,
+        max,
+        stack_size(program),
+        form,
+    )
+}
+
+/// Writes what a command tells; answers the exit status.
+fn put_said(rt: &HostRuntime, said: &Said) -> u8 {
+    let status = put_out(rt, said.out.as_slice(), said.status);
+    if status == said.status {
+        let _said = rt.stderr().write_all(said.err.as_slice());
+    }
+    status
+}
+
+/// The form of the words.
+fn form(rt: &HostRuntime, told: Told) -> Form {
+    match told.telling {
+        Telling::Sarif => Form::Sarif,
+        Telling::Json => Form::Json,
+        Telling::Text => Form::Text(style(rt, told.colours)),
+    }
+}
+
+/// Whether the text on standard error has colours.
+fn style(rt: &HostRuntime, colours: Colours) -> Style {
+    let is_coloured = match colours {
+        Colours::Always => true,
+        Colours::Never => false,
+        Colours::Auto => rt.stderr().is_terminal() && !is_set(rt, "NO_COLOR"),
+    };
+    if is_coloured {
+        Style::Coloured
+    } else {
+        Style::Plain
+    }
+}
+
+/// Whether a variable of the environment is there, and not empty.
+fn is_set(rt: &HostRuntime, name: &str) -> bool {
+    match env::var(rt, name) {
+        Ok(value) => !value.is_empty(),
+        Err(_) => false,
+    }
+}

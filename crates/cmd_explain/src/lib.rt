@@ -1,0 +1,6 @@
+//! `explain`: faults, or an undefined act, told for people and for tools.
+#![tactic(auto)]
+
+mod explaining;
+
+pub use explaining::{Told, explain};

@@ -1,0 +1,57 @@
+//! `frames`: what each function takes.
+
+use crate::building::{Mapped, built, mapped, say_unknown};
+use cc::Built;
+use cli_args::Program;
+use cli_io::{put_out, say, say_memory};
+use cli_sources::read_sources;
+use image_export::{Sizes, sizes};
+use std::alloc::{AllocError, Global};
+use symbol_table::{CodeMap, frames_table, sizes_table};
+
+/// Builds a program, and prints what each function takes, with addresses and sizes or without; answers the exit status.
+pub fn show_frames(rt: &HostRuntime, program: &Program<'_>, has_sizes: bool) -> u8 {
+    let sources = match read_sources(rt, program) {
+        Ok(sources) => sources,
+        Err(fault) => return say(rt, &fault),
+    };
+    match built(rt, program, &sources) {
+        Ok(built) => show_built(rt, &built, has_sizes),
+        Err(status) => status,
+    }
+}
+
+fn show_built(rt: &HostRuntime, built: &Built, has_sizes: bool) -> u8 {
+    match mapped(rt.alloc(), built) {
+        Mapped::Known(map) => match table(rt.alloc(), built, &map, has_sizes) {
+            Ok(text) => put_out(rt, text.as_bytes(), 0),
+            Err(_) => say_memory(rt),
+        },
+        Mapped::Unknown => say_unknown(rt),
+        Mapped::Memory => say_memory(rt),
+    }
+}
+
+/// The table of the functions, and behind it, where sizes are shown, what the whole file takes.
+fn table(
+    alloc: Global,
+    built: &Built,
+    map: &CodeMap,
+    has_sizes: bool,
+) -> Result<String, AllocError> {
+    if !has_sizes {
+        return frames_table(alloc, map);
+    }
+    let mut text = sizes_table(alloc, map)?;
+    put_sizes(alloc, sizes(built.elf.as_slice()), &mut text)?;
+    Ok(text)
+}
+
+/// Puts what the whole file takes.
+fn put_sizes(alloc: Global, all: Sizes, text: &mut String) -> Result<(), AllocError> {
+    let (code, data, zeros, stack) = (all.text, all.data, all.zeros, all.stack);
+    let line = format!(in alloc;
+        "in all: {code} bytes of code, {data} of data, {zeros} of zeros, {stack} of stack\n"
+    )?;
+    text.push_str(line.as_str())
+}

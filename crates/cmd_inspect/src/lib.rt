@@ -1,0 +1,16 @@
+//! The commands that show a built program from inside: a listing with labels, frames, symbols, images and sizes.
+#![tactic(auto)]
+
+mod building;
+mod frames;
+mod images;
+mod listing;
+mod listing_text;
+mod sizes;
+mod symbols;
+
+pub use frames::show_frames;
+pub use images::show_image;
+pub use listing::{ListForm, list_code};
+pub use sizes::show_size;
+pub use symbols::write_symbols;

@@ -1,0 +1,199 @@
+//! A listing with labels, and with the names that registers have in calls.
+
+use crate::listing::ListForm;
+use std::alloc::{AllocError, Global};
+use symbol_table::CodeMap;
+
+/// How many letters stand before an instruction: its address, its word, and the spaces behind them.
+const HEAD: usize = 19;
+
+/// The names of registers (RISC-V ELF psABI, integer register convention), from x0 on.
+const NAMES: [&str; 32] = [
+    "zero", "ra", "sp", "gp", "tp", "t0", "t1", "t2", "s0", "s1", "a0", "a1", "a2", "a3", "a4",
+    "a5", "a6", "a7", "s2", "s3", "s4", "s5", "s6", "s7", "s8", "s9", "s10", "s11", "t3", "t4",
+    "t5", "t6",
+];
+
+/// The instructions that lead to a place which they name by how far it is.
+const BRANCHES: [&str; 7] = ["beq", "bne", "blt", "bge", "bltu", "bgeu", "jal"];
+
+/// A line of a listing.
+#[derive(Clone, Copy)]
+struct Row<'l> {
+    address: u32,
+    word: u32,
+    head: &'l str,
+    code: &'l str,
+}
+
+/// The listing in a form.
+pub fn listing_text(
+    alloc: Global,
+    listing: &[u8],
+    map: &CodeMap,
+    form: ListForm,
+) -> Result<Vec<u8>, AllocError> {
+    let Ok(plain) = str::from_utf8(listing) else {
+        return Ok(Vec::new(alloc));
+    };
+    let mut text = String::new(alloc);
+    let targets = targets(alloc, plain)?;
+    let mut before = None;
+    for line in plain.lines() {
+        if let Some(row) = row_of(line) {
+            if form.has_labels {
+                put_label(alloc, row.address, map, targets.as_slice(), &mut text)?;
+            }
+            put_row(alloc, row, before, map, form, &mut text)?;
+            before = Some(row);
+        }
+    }
+    Ok(text.into_bytes())
+}
+
+fn row_of(line: &str) -> Option<Row<'_>> {
+    let head = line.get(..HEAD)?;
+    let code = line.get(HEAD..)?;
+    Some(Row {
+        address: u32::from_str_radix(line.get(..8)?, 16).ok()?,
+        word: u32::from_str_radix(line.get(9..17)?, 16).ok()?,
+        head,
+        code,
+    })
+}
+
+/// The addresses that branches lead to, by rising addresses.
+fn targets(alloc: Global, plain: &str) -> Result<Vec<u32>, AllocError> {
+    let mut found = Vec::new(alloc);
+    for line in plain.lines() {
+        if let Some(row) = row_of(line) {
+            if let Some((_, target)) = branch(row) {
+                found.push(target)?;
+            }
+        }
+    }
+    found.sort()?;
+    Ok(found)
+}
+
+/// What stands before the place that a branch leads to, and the address of that place.
+fn branch<'l>(row: Row<'l>) -> Option<(&'l str, u32)> {
+    let (name, _) = row.code.split_once(' ')?;
+    if !BRANCHES.contains(&name) {
+        return None;
+    }
+    let comma = row.code.rfind(',')?;
+    let end = comma.checked_add(1)?;
+    let distance = row.code.get(end..)?.parse::<i32>().ok()?;
+    Some((
+        row.code.get(..end)?,
+        row.address.wrapping_add_signed(distance),
+    ))
+}
+
+/// Puts the name of the function that begins at an address, or a label where a branch leads there.
+fn put_label(
+    alloc: Global,
+    address: u32,
+    map: &CodeMap,
+    targets: &[u32],
+    text: &mut String,
+) -> Result<(), AllocError> {
+    if let Some(name) = function_at(map, address) {
+        put_all(&["\n", name, ":\n"], text)
+    } else if targets.binary_search(&address).is_ok() {
+        text.push_str(format!(in alloc; ".L{address:X}:\n")?.as_str())
+    } else {
+        Ok(())
+    }
+}
+
+fn put_all(parts: &[&str], text: &mut String) -> Result<(), AllocError> {
+    for part in parts {
+        text.push_str(part)?;
+    }
+    Ok(())
+}
+
+/// The name of the function that begins at an address.
+fn function_at(map: &CodeMap, address: u32) -> Option<&str> {
+    match map.at(address) {
+        Some(function) if function.start == address => Some(function.name.as_str()),
+        _ => None,
+    }
+}
+
+/// Puts a line, with the label that it leads to, and behind a call the function that it calls.
+fn put_row(
+    alloc: Global,
+    row: Row<'_>,
+    before: Option<Row<'_>>,
+    map: &CodeMap,
+    form: ListForm,
+    text: &mut String,
+) -> Result<(), AllocError> {
+    text.push_str(row.head)?;
+    match branch(row) {
+        Some((code, target)) if form.has_labels => {
+            put_code(code, form, text)?;
+            text.push_str(format!(in alloc; ".L{target:X}")?.as_str())?;
+        }
+        _ => put_code(row.code, form, text)?,
+    }
+    if form.has_labels {
+        if let Some(name) = called(row, before, map) {
+            put_all(&["  # ", name], text)?;
+        }
+    }
+    text.push_str("\n")
+}
+
+/// The function that a pair of AUIPC and JALR with x1 calls.
+fn called<'m>(row: Row<'_>, before: Option<Row<'_>>, map: &'m CodeMap) -> Option<&'m str> {
+    let before = before?;
+    if before.word % 0x1000 != 0x097 || row.word % 0x10_0000 != 0x0_80E7 {
+        return None;
+    }
+    let upper = before.word - before.word % 0x1000;
+    let low = row.word / 0x10_0000;
+    let lower = if low >= 0x800 {
+        low.wrapping_sub(0x1000)
+    } else {
+        low
+    };
+    function_at(map, before.address.wrapping_add(upper).wrapping_add(lower))
+}
+
+/// Puts an instruction, with the names that registers have in calls where the form has them.
+fn put_code(code: &str, form: ListForm, text: &mut String) -> Result<(), AllocError> {
+    if !form.has_abi_names {
+        return text.push_str(code);
+    }
+    let mut rest = code;
+    for _ in 0..code.len() {
+        let Some((plain, name, behind)) = register(rest) else {
+            break;
+        };
+        put_all(&[plain, name], text)?;
+        rest = behind;
+    }
+    text.push_str(rest)
+}
+
+/// The first register of a text: what stands before it, its name, and what stands behind it.
+fn register(text: &str) -> Option<(&str, &'static str, &str)> {
+    let at = text.find(|c: char| c == 'x')?;
+    let digits = text.get(at.checked_add(1)?..)?;
+    let length = match digits.find(|c: char| !c.is_ascii_digit()) {
+        Some(length) => length,
+        None => digits.len(),
+    };
+    let number = digits.get(..length)?.parse::<usize>().ok()?;
+    let is_own = !text.get(..at)?.ends_with("0");
+    let name = NAMES.get(number)?;
+    if is_own {
+        Some((text.get(..at)?, name, digits.get(length..)?))
+    } else {
+        None
+    }
+}

@@ -1,0 +1,8 @@
+//! A run that is told: instruction by instruction, or statement by statement.
+#![tactic(auto)]
+
+mod interpreting;
+mod running;
+
+pub use interpreting::interp_traced;
+pub use running::{RunForm, run_traced};

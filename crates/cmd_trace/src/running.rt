@@ -1,0 +1,234 @@
+//! `run` with a trace, with the machine shown after so many instructions, or with the names of functions.
+
+use crate::interpreting::trace_path;
+use cc::compile_with;
+use cli_args::{Program, Role, Trace};
+use cli_io::{OutFile, TAKEN, say, say_memory, say_port, say_unwritten, say_usage, unread};
+use cli_sources::{is_taken, read_sources, stack_size};
+use io_ports::{IoPort, Port};
+use loader::{LoadFault, Loaded, load};
+use rv32::State;
+use sim::Outcome;
+use srcset::Fault;
+use std::alloc::{AllocError, Global};
+use std::io::{BufReader, BufWriter, Stdin, Stdout, Write};
+use std::{fs, io};
+use symbol_table::{CodeMap, symbol_table};
+use traced_run::{TraceEnd, hart, machine_text, place_text, run_for, traced_run};
+
+/// How a run is told.
+#[derive(Clone, Copy)]
+pub struct RunForm<'a> {
+    /// At most so many instructions.
+    pub max: u64,
+    /// After how many the machine is shown.
+    pub at: Option<u64>,
+    pub trace: Trace<'a>,
+}
+
+/// Runs the executable file of the words, and tells of it; answers the exit status.
+pub fn run_traced(rt: &HostRuntime, program: &Program<'_>, form: RunForm<'_>) -> u8 {
+    if is_taken(rt, program, trace_path(form.trace)) {
+        return say_usage(rt, TAKEN);
+    }
+    let file = match fs::read(rt, program.main) {
+        Ok(file) => file,
+        Err(error) => return say(rt, &unread(rt.alloc(), program.main, &error)),
+    };
+    match load(rt.alloc(), file.as_slice()) {
+        Ok(loaded) => run_loaded(rt, program, file.as_slice(), loaded, form),
+        Err(fault) => say(rt, &load_fault(rt.alloc(), fault, program.main)),
+    }
+}
+
+fn load_fault(alloc: Global, fault: LoadFault, name: &str) -> Fault {
+    match fault {
+        LoadFault::Memory => Fault::memory(alloc),
+        _ => Fault::at(alloc, fault.code(), name, 0),
+    }
+}
+
+/// Runs a program that was loaded, with the names of functions where the words have sources.
+fn run_loaded(
+    rt: &HostRuntime,
+    program: &Program<'_>,
+    file: &[u8],
+    loaded: Loaded,
+    form: RunForm<'_>,
+) -> u8 {
+    if !program.has(Role::File) {
+        return run_over_streams(rt, loaded, form, None);
+    }
+    match map_of(rt, program, file) {
+        Ok(Some(map)) => run_over_streams(rt, loaded, form, Some(&map)),
+        Ok(None) => say_usage(rt, "FILE is not what the sources of --map build"),
+        Err(fault) => say(rt, &fault),
+    }
+}
+
+/// The functions of the file that the sources of the words build, the main one first; `None` where that is not this file.
+fn map_of(rt: &HostRuntime, program: &Program<'_>, file: &[u8]) -> Result<Option<CodeMap>, Fault> {
+    let Some(built_from) = sources_of(rt.alloc(), program) else {
+        return Err(Fault::memory(rt.alloc()));
+    };
+    let sources = read_sources(rt, &built_from)?;
+    let built = match compile_with(rt.alloc(), &sources.set, sources.main, stack_size(program)) {
+        Ok(built) => built,
+        Err(fault) => return Err(sources.told(rt.alloc(), fault)),
+    };
+    if built.elf.as_slice() != file {
+        return Ok(None);
+    }
+    match symbol_table(rt.alloc(), &built) {
+        Ok(map) => Ok(map),
+        Err(_) => Err(Fault::memory(rt.alloc())),
+    }
+}
+
+/// The program of the sources: the first is the main file. `None` where memory runs out.
+fn sources_of<'a>(alloc: Global, program: &Program<'a>) -> Option<Program<'a>> {
+    let mut main = "";
+    let mut words = Vec::new(alloc);
+    for word in &program.words {
+        if word.role == Role::File && main.is_empty() {
+            main = word.text;
+        } else if words.push(*word).is_err() {
+            return None;
+        }
+    }
+    Some(Program {
+        main,
+        words,
+        stack: program.stack,
+    })
+}
+
+/// Runs the program over standard input and output, as the words ask.
+fn run_over_streams(
+    rt: &HostRuntime,
+    loaded: Loaded,
+    form: RunForm<'_>,
+    map: Option<&CodeMap>,
+) -> u8 {
+    let Ok(mut port) = streams(rt) else {
+        return say_memory(rt);
+    };
+    let mut state = hart(loaded);
+    let end = run_as_asked(rt, &mut state, &mut port, form, map);
+    if let Err(fault) = port.finish() {
+        return say_port(rt, fault);
+    }
+    if form.at.is_some() && !show_machine(rt, &state, map) {
+        return say_memory(rt);
+    }
+    match end {
+        End::Memory => say_memory(rt),
+        End::Told(TraceEnd::Unwritten) => say_unwritten(rt, trace_path(form.trace)),
+        End::Told(TraceEnd::Stopped(Outcome::Budget)) if form.at.is_some() => 0,
+        End::Told(TraceEnd::Stopped(outcome)) => tell_end(rt, outcome, map),
+    }
+}
+
+/// A port over standard input and output.
+fn streams(rt: &HostRuntime) -> io::Result<IoPort<Stdin, BufWriter<Stdout>>> {
+    let input = BufReader::new(rt.alloc(), rt.stdin())?;
+    match BufWriter::new(rt.alloc(), rt.stdout()) {
+        Ok(output) => Ok(IoPort::new(input, output)),
+        Err(error) => Err(error),
+    }
+}
+
+/// How a run that is told ended.
+#[derive(Clone, Copy)]
+enum End {
+    Told(TraceEnd),
+    /// Memory ran out.
+    Memory,
+}
+
+/// Shows the machine; answers whether there was memory for that.
+fn show_machine(rt: &HostRuntime, state: &State, map: Option<&CodeMap>) -> bool {
+    match machine_text(rt.alloc(), state, map) {
+        Ok(text) => {
+            let _said = rt.stderr().write_all(text.as_bytes());
+            true
+        }
+        Err(_) => false,
+    }
+}
+
+/// A run of so many instructions as the words allow, with its trace where they ask for one.
+fn run_as_asked<P: Port>(
+    rt: &HostRuntime,
+    state: &mut State,
+    port: &mut P,
+    form: RunForm<'_>,
+    map: Option<&CodeMap>,
+) -> End {
+    match form.trace {
+        Trace::File(path) => match BufWriter::new(rt.alloc(), OutFile::plain(rt, path)) {
+            Ok(mut out) => run_to(rt.alloc(), state, port, form.max, map, &mut out),
+            Err(_) => End::Memory,
+        },
+        Trace::Shown => match BufWriter::new(rt.alloc(), rt.stderr()) {
+            Ok(mut out) => run_to(rt.alloc(), state, port, form.max, map, &mut out),
+            Err(_) => End::Memory,
+        },
+        Trace::None => {
+            let count = form.at.unwrap_or(form.max);
+            let stopped = run_for(state, port, count);
+            End::Told(TraceEnd::Stopped(stopped.unwrap_or(Outcome::Budget)))
+        }
+    }
+}
+
+/// A run with its trace to a writer, whose last lines are handed on.
+fn run_to<P: Port, W: Write>(
+    alloc: Global,
+    state: &mut State,
+    port: &mut P,
+    max: u64,
+    map: Option<&CodeMap>,
+    out: &mut W,
+) -> End {
+    match traced_run(alloc, state, port, max, map, out) {
+        Ok(end) => {
+            if out.flush().is_ok() {
+                End::Told(end)
+            } else {
+                End::Told(TraceEnd::Unwritten)
+            }
+        }
+        Err(_) => End::Memory,
+    }
+}
+
+/// Says how a run stopped, as `run` does, with the function where the map has it; answers the exit status.
+fn tell_end(rt: &HostRuntime, outcome: Outcome, map: Option<&CodeMap>) -> u8 {
+    match outcome {
+        Outcome::Ended(status) => status,
+        Outcome::Budget => {
+            let _said = eprintln!(rt; "cc: budget used");
+            124
+        }
+        Outcome::Trapped(pc, cause) => {
+            let _said = eprintln!(rt; "cc: trap {cause:?} at 0x{pc:08X}");
+            match map {
+                Some(map) => say_place(rt, map, pc),
+                None => 125,
+            }
+        }
+        Outcome::Port(fault) => say_port(rt, fault),
+    }
+}
+
+/// Says in which function a run trapped; answers the exit status.
+fn say_place(rt: &HostRuntime, map: &CodeMap, pc: u32) -> u8 {
+    match place_text(rt.alloc(), map, pc) {
+        Ok(place) => {
+            let _where = eprintln!(rt; "cc: in {place}");
+            125
+        }
+        Err(_) => say_memory(rt),
+    }
+}
