@@ -28,10 +28,6 @@ use std::mem;
 /// How many files may be open at once beside the main one, each included by the one before it.
 pub const MAX_INCLUDES: usize = 32;
 
-/// The most tokens that open files may have before another is opened. Who wants more is refused as if out of memory, so that a file
-/// that includes itself does not take all memory of a machine.
-const MAX_OPEN_TOKENS: usize = 2_097_152;
-
 /// A file, the lines of which are done one after another.
 #[derive(Drop)]
 pub struct Reading<'a> {
@@ -165,15 +161,6 @@ impl<'a> Files<'a> {
         MAX_INCLUDES.saturating_sub(self.includers.len())
     }
 
-    // Whether the open files have too many tokens for a further one.
-    fn is_full(&self) -> bool {
-        let mut count = self.innermost.lines.tokens();
-        for includer in self.includers.iter() {
-            count = count.saturating_add(includer.reading.lines.tokens());
-        }
-        count > MAX_OPEN_TOKENS
-    }
-
     // Opens a file that the innermost one includes, which waits.
     fn enter(
         &mut self,
@@ -215,9 +202,6 @@ impl<'a> Files<'a> {
     {
         if self.scans.passes_over(source, state, names) {
             return Ok(());
-        }
-        if self.is_full() {
-            return Err(Refusal::Memory);
         }
         self.enter(alloc, source, state)
     }

@@ -8,7 +8,6 @@ ghost use Rattle.pp_expand.specs.Expansion.{expanded};
 ghost use Rattle.pp_expand.specs.Expands.{HaveFiles, IsExpansion, IsExpansionBehind, IsToldExpansion, ending_of, put_behind};
 
 use crate::budget::Budget;
-use crate::room::MAX_HELD;
 use crate::run_end::RunEnd;
 use crate::streaming::Expander;
 use crate::unexpanded::Unexpanded;
@@ -84,15 +83,12 @@ pub fn try_expand<'a>(
     ensures files { (macros : Macros) → IsTable names.now table.now macros → IfOk result (λ v. HaveFiles names.now v.items) }
 {
     let list = Unexpanded::copy_of(alloc, list)?;
-    let before = budget.left();
     let mut given = Vec::new(alloc);
-    let most = MAX_HELD + 1;
+    let most = usize::MAX;
     match expand_behind(alloc, table, list, end, budget, names, most, &mut given) {
         Ok(()) => {
-            if given.len() > MAX_HELD {
-                *budget = Budget::new(before);
-                return Err(Refusal::Memory);
-            }
+            let is_whole = given.len() < most;
+            prove!(is_whole);
             Ok(given)
         }
         Err(refusal) => Err(refusal),
