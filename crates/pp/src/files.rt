@@ -1,5 +1,5 @@
 //! The files that include one another.
-ghost use Rattle.std.specs.Prelude.{◌≡◌, ◌≤◌, ◌<◌, ◌+◌, ℕ, [], suc, true, false, length, slice_get, Err, IfOk, IfErr, IfSome, OnOk, ◌⊎◌};
+ghost use Rattle.std.specs.Prelude.{◌≡◌, ◌≤◌, ◌<◌, ◌+◌, ℕ, [], suc, true, false, length, slice_get, Ok, Err, IfOk, IfErr, IfSome, OnOk, ◌⊎◌};
 ghost use Rattle.srcset.specs.Files.{Files as Set};
 ghost use Rattle.srcset.specs.NameTable.{Texts, KeepsNumbers};
 ghost use Rattle.srcset.specs.declared.refusal.Refusal.TheVariants.{Memory};
@@ -57,6 +57,24 @@ pub struct Files<'a> {
     pub scans: Scans<'a>,
 }
 
+// A file with these lines, at the first one.
+fn begun<'a>(alloc: Global, source: &Source<'a>, lines: Scanned<'a>) -> Reading<'a>
+    requires small { length source.now.bytes.now ≤ 1048576 }
+    requires lines { scanned source.now.name source.now.bytes.now ≡ Ok lines }
+    ensures { IsOpened source.now result }
+{
+    Reading {
+        end: lines.len(),
+        next: 0,
+        file: OpenFile {
+            run: Run::new(alloc),
+            conditionals: Conditionals::new(alloc),
+            ends: LineEnds::new(source.bytes),
+        },
+        lines,
+    }
+}
+
 /// A file at its first line. It is scanned whole, so that the faults of phases 1 to 3 come here.
 pub fn opened<'a>(
     alloc: Global,
@@ -68,16 +86,25 @@ pub fn opened<'a>(
     ensures err { IfErr result (λ refusal. (refusal ≡ Memory) ⊎ (scanned source.now.name source.now.bytes.now ≡ Err refusal)) }
 {
     let lines = scans.take(alloc, source)?;
-    Ok(Reading {
-        end: lines.len(),
-        next: 0,
-        file: OpenFile {
-            run: Run::new(alloc),
-            conditionals: Conditionals::new(alloc),
-            ends: LineEnds::new(source.bytes),
-        },
-        lines,
-    })
+    Ok(begun(alloc, source, lines))
+}
+
+// The same, where the file may be open already, with these lines: then it is not scanned again.
+fn opened_again<'a>(
+    alloc: Global,
+    source: &Source<'a>,
+    shared: Option<Scanned<'a>>,
+    scans: &mut Scans<'a>,
+) -> Result<Reading<'a>, Refusal>
+    requires small { length source.now.bytes.now ≤ 1048576 }
+    requires lines { IfSome shared (λ lines. scanned source.now.name source.now.bytes.now ≡ Ok lines) }
+    ensures ok { IfOk result (IsOpened source.now) }
+    ensures err { IfErr result (λ refusal. (refusal ≡ Memory) ⊎ (scanned source.now.name source.now.bytes.now ≡ Err refusal)) }
+{
+    match shared {
+        Some(lines) => Ok(begun(alloc, source, lines)),
+        None => opened(alloc, source, scans),
+    }
 }
 
 impl<'a> Reading<'a> {
@@ -161,6 +188,21 @@ impl<'a> Files<'a> {
         MAX_INCLUDES.saturating_sub(self.includers.len())
     }
 
+    // The lines of a file that is open.
+    fn open_lines(&self, source: &Source<'a>) -> Option<Scanned<'a>>
+        ensures { IfSome result (λ lines. scanned source.now.name source.now.bytes.now ≡ Ok lines) }
+    {
+        if self.innermost.lines.is_named(source.name) {
+            return self.innermost.lines.shared_as(source);
+        }
+        let index = self
+            .includers
+            .iter()
+            .position(|includer| includer.reading.lines.is_named(source.name))?;
+        let includer = self.includers.get(index)?;
+        includer.reading.lines.shared_as(source)
+    }
+
     // Opens a file that the innermost one includes, which waits.
     fn enter(
         &mut self,
@@ -175,7 +217,8 @@ impl<'a> Files<'a> {
         ensures given { state.new.given ≡ state.old.given }
         ensures less { (further : ℕ) → room_of self.old.includers.items ≡ suc further → OnOk result (size_of self.new.innermost self.new.includers.items < size_of self.old.innermost self.old.includers.items + weight (room_of self.old.includers.items)) }
     {
-        let reading = opened(alloc, source, &mut self.scans)?;
+        let shared = self.open_lines(source);
+        let reading = opened_again(alloc, source, shared, &mut self.scans)?;
         let includer = Includer {
             reading: mem::replace(&mut self.innermost, reading),
             presumed: state.presumed,

@@ -102,9 +102,10 @@ pub fn try_expand<'a>(
 /// Each replacement takes one of `budget`, which stays as it was where the list is refused.
 ///
 /// Fails at the first of these, in the order in which the list is scanned, at the name that is replaced: 211 where the
-/// arguments are not closed; 705 where they are more than 127; 212 where they are not as many as the parameters; 213
-/// where a function-like name ends a run; 706 where no replacement is left; 207 where `#` makes no string literal; what
-/// is wrong with an argument; 206 where `##` makes no token. Fails with 801 where memory runs out.
+/// arguments are not closed; 705 where they are more than 127; 212 where they are not as many as the parameters, or 214
+/// where they are for the named ones alone; 213 where a function-like name ends a run; 706 where no replacement is left;
+/// 207 where `#` makes no string literal; what is wrong with an argument; 206 where `##` makes no token. Fails with 801
+/// where memory runs out.
 pub fn expand<'a>(
     alloc: Global,
     table: &MacroTable<'a>,

@@ -75,11 +75,7 @@ fn take_argument<'a>(
 }
 
 // What a replacement becomes whose arguments are expanded, in front of the list that it stands in.
-fn finish<'a>(
-    alloc: Global,
-    at: Waiting<'a>,
-    sets: &mut HideSets,
-) -> Result<Level<'a>, Refusal>
+fn finish<'a>(alloc: Global, at: Waiting<'a>, sets: &mut HideSets) -> Result<Level<'a>, Refusal>
     requires known { WaitingIn (length sets.old) at }
     requires all { length at.arguments.items ≤ length at.full.items }
     ensures finishes { (known : Known) (later : Sets) → NumbersOnce known.texts → NamesBelow (length known.texts) sets.old → Extends sets.new later → ProceedIs known later [] at.entry result [] }
