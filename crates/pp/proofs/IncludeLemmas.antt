@@ -26,7 +26,7 @@ use Rattle.pp.specs.inside.Including.{is_include, Means, Enters, EntersOrStops, 
 use Rattle.pp.specs.inside.Pending.{run_ended}
 use Rattle.pp.specs.Rest.{is_active, rest_done}
 use Rattle.pp.specs.Held.{presumed_of, Agrees}
-use Rattle.pp.specs.inside.Stepping.{presumed_by, placed, line_with, Goes, Gives, GivesFirst, Stops, StopsAs}
+use Rattle.pp.specs.inside.Stepping.{presumed_by, placed, line_with, Goes, GivesFirst, Stops, StopsAs}
 use Rattle.pp.proofs.BranchLemmas.{alone_skipped}
 use Rattle.pp.proofs.FileLemmas.{directive_is, directive_stands, stops_all, ends_with}
 use Rattle.pp.proofs.PhaseLemmas.{number_kept}

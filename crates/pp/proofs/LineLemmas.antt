@@ -15,7 +15,7 @@ use Rattle.macros.proofs.TableLemmas.{table_grows}
 use Rattle.pp.specs.declared.state.State.{State as Held}
 use Rattle.pp.specs.Phase4.{State, ◌>>=◌, expand, presume, line_done, goes, stops, fails, is_line_number, is_file_text, inside, numbered, number_in, line_made}
 use Rattle.pp.specs.Held.{presumed_of, IsGiven, Agrees}
-use Rattle.pp.specs.inside.Stepping.{placed, Goes, Gives, GivesFirst, Stops, StopsAs, Answers, Does, IsNextDigit, IsLineNumber}
+use Rattle.pp.specs.inside.Stepping.{placed, Goes, GivesFirst, Stops, StopsAs, Answers, Does, IsNextDigit, IsLineNumber}
 use Rattle.srcset.specs.declared.refusal.Refusal.{Refusal}
 use Rattle.srcset.specs.declared.refusal.Refusal.TheVariants.{At}
 use Rattle.pp_expand.specs.Expansion.{of_directive}
