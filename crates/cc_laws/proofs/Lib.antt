@@ -18,3 +18,4 @@ pub mod Wide
 pub mod Overflowing
 pub mod ByFrames
 pub mod Inputs
+pub mod Reserved

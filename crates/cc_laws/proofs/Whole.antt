@@ -76,7 +76,7 @@ pub never_traps : NeverTraps
 never_traps = of_each TrapsNowhere traps_nowhere
 
 -- the permissions are those of the image
-kept_four : (f g : ℕ → Bool) → ((a : ℕ) → g a ≡ f a) → (a : ℕ) → all_four g a ≡ true → all_four f a ≡ true
+pub kept_four : (f g : ℕ → Bool) → ((a : ℕ) → g a ≡ f a) → (a : ℕ) → all_four g a ≡ true → all_four f a ≡ true
 kept_four f g each a h = rw (each a, each (a + 1), each (a + 2), each (a + 3)) at h
 
 may_still_load : (s t : Space) (kind : LoadKind) (a : ℕ) → Permits s t → MayLoad t kind a → MayLoad s kind a

@@ -8,3 +8,4 @@ pub mod Laws
 pub mod Overflow
 pub mod Frames
 pub mod Inputs
+pub mod Reserved

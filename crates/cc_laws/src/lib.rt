@@ -5,6 +5,7 @@ ghost use Rattle.cc_laws.specs.Laws.{DoesAll, DoesNoMore, NeverTraps, StaysInsid
 ghost use Rattle.cc_laws.specs.Overflow.{FilesGoUpToOverflow};
 ghost use Rattle.cc_laws.specs.Frames.{FilesRunWithinFrames};
 ghost use Rattle.cc_laws.specs.Inputs.{DoesAllSoFar, ReadsAsItGoes};
+ghost use Rattle.cc_laws.specs.Reserved.{FilesLeaveReserved};
 
 /// What the abstract machine has done within any number of ticks, the file has done after some number of instructions.
 pub fn does_all()
@@ -91,4 +92,9 @@ pub fn does_all_so_far()
 /// What an image's run has done depends on the bytes alone that it has read so far: so what is said of each finite input is said of a terminal.
 pub fn reads_as_it_goes()
     ensures { ReadsAsItGoes }
+{}
+
+/// A file that is made of a program never writes gp and tp (RISC-V ELF psABI, "Integer Register Convention"): they stay 0, whatever the program does.
+pub fn files_leave_reserved()
+    ensures { FilesLeaveReserved }
 {}
