@@ -21,11 +21,33 @@ fn whole<'a>(alloc: Global, version: &'a str) -> Command<'a> {
 
 /// The command with all commands below it.
 fn with_forms<'a>(alloc: Global, whole: Command<'a>) -> Result<Command<'a>, AllocError> {
-    let mut command = whole;
+    let mut command = Ok(whole);
     for form in FORMS {
-        command = command.subcommand(below(alloc, form)?)?;
+        command = with(command, below(alloc, form));
     }
-    Ok(command)
+    command
+}
+
+/// The command with one more below it, where there was memory for both. A call joins the steps and not `?`, at each of which both would be let go, and that
+/// would be proved there.
+fn with<'a>(
+    command: Result<Command<'a>, AllocError>,
+    below: Result<Command<'a>, AllocError>,
+) -> Result<Command<'a>, AllocError> {
+    match below {
+        Ok(below) => above(command, below),
+        Err(error) => Err(error),
+    }
+}
+
+fn above<'a>(
+    command: Result<Command<'a>, AllocError>,
+    below: Command<'a>,
+) -> Result<Command<'a>, AllocError> {
+    match command {
+        Ok(command) => command.subcommand(below),
+        Err(error) => Err(error),
+    }
 }
 
 /// One command with its arguments.
