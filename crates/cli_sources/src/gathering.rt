@@ -1,6 +1,6 @@
 //! The files of the words, and those that they include.
 
-use crate::macros::{has_macros, put_macros};
+use crate::definitions::{has_macros, put_macros};
 use crate::paths::{folder_of, joined};
 use crate::sources::Sources;
 use cli_args::{Program, Role};
