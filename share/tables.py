@@ -155,7 +155,7 @@ def zsh(commands, options):
                 if o:
                     tail = ''
                     if value:
-                        tail = ':%s:%s' % (value, '(%s)' % ' '.join(choices(right)) if choices(right) else ' ' if is_number(value) else '_files')
+                        tail = ':%s:%s' % (re.sub(r'\W.*', '', value), '(%s)' % ' '.join(choices(right)) if choices(right) else ' ' if is_number(value) else '_files')
                     specs.append("'%s[%s]%s'" % (o, quote(right), tail))
         for left, right in arguments:
             rest = '*' if left.endswith('...') else ''

@@ -1,14 +1,17 @@
-//! The commands, with the arguments of each.
+//! The commands, with the arguments of each. Each has a function, so that none is about all tables together.
 
+use crate::making::form;
 use crate::rows::{
     ABI, ASSEMBLY, AT, BINARY, BUILT_STACK, COLOR, DEFINES, DEPEND, DEPEND_FILE, DEPEND_PHONY,
     DEPEND_TARGET, EXECUTABLE, FILES, FOLDERS, INTEL, JSON, LABELS, LINES, LIST_FILES, MAIN, MAP,
     MAX_EXPLAINED, MAX_RUN, MAX_TICKS, OUT, PREPROCESSED, SARIF, SIZES, STACK, SYMBOLS_OUT,
     TEXT_OUT, TRACE_FILE, TRACE_INTERP, TRACE_RUN, UNDEFINES, VERILOG, WHAT,
 };
-use crate::table::{Form, Row};
+use crate::table::Row;
+use clap::Command;
+use std::alloc::{AllocError, Global};
 
-const BUILD: &[Row] = &[
+const BUILD_ROWS: &[Row] = &[
     MAIN,
     FILES,
     STACK,
@@ -25,15 +28,15 @@ const BUILD: &[Row] = &[
     LIST_FILES,
 ];
 
-const PP: &[Row] = &[
+const PP_ROWS: &[Row] = &[
     MAIN, FILES, LINES, TEXT_OUT, FOLDERS, DEFINES, UNDEFINES, LIST_FILES,
 ];
 
-const LIST: &[Row] = &[
+const LIST_ROWS: &[Row] = &[
     MAIN, FILES, STACK, LABELS, ABI, TEXT_OUT, FOLDERS, DEFINES, UNDEFINES,
 ];
 
-const RUN: &[Row] = &[
+const RUN_ROWS: &[Row] = &[
     EXECUTABLE,
     MAX_RUN,
     TRACE_RUN,
@@ -46,7 +49,7 @@ const RUN: &[Row] = &[
     UNDEFINES,
 ];
 
-const INTERP: &[Row] = &[
+const INTERP_ROWS: &[Row] = &[
     MAIN,
     FILES,
     STACK,
@@ -58,7 +61,7 @@ const INTERP: &[Row] = &[
     UNDEFINES,
 ];
 
-const EXPLAIN: &[Row] = &[
+const EXPLAIN_ROWS: &[Row] = &[
     WHAT,
     MAIN,
     FILES,
@@ -72,64 +75,110 @@ const EXPLAIN: &[Row] = &[
     UNDEFINES,
 ];
 
-const FRAMES: &[Row] = &[MAIN, FILES, STACK, SIZES, FOLDERS, DEFINES, UNDEFINES];
+const FRAMES_ROWS: &[Row] = &[MAIN, FILES, STACK, SIZES, FOLDERS, DEFINES, UNDEFINES];
 
-const SYMBOLS: &[Row] = &[MAIN, FILES, STACK, SYMBOLS_OUT, FOLDERS, DEFINES, UNDEFINES];
+const SYMBOLS_ROWS: &[Row] = &[MAIN, FILES, STACK, SYMBOLS_OUT, FOLDERS, DEFINES, UNDEFINES];
 
-const IMAGE: &[Row] = &[EXECUTABLE, BINARY, INTEL, VERILOG];
+const IMAGE_ROWS: &[Row] = &[EXECUTABLE, BINARY, INTEL, VERILOG];
 
-const SIZE: &[Row] = &[EXECUTABLE];
+const SIZE_ROWS: &[Row] = &[EXECUTABLE];
 
-/// The commands, in the order in which help shows them.
-pub const FORMS: &[Form] = &[
-    Form {
-        name: "build",
-        about: "Compiles a program to an executable file",
-        rows: BUILD,
-    },
-    Form {
-        name: "pp",
-        about: "Prints a program's tokens after preprocessing",
-        rows: PP,
-    },
-    Form {
-        name: "list",
-        about: "Prints a listing of a program's code",
-        rows: LIST,
-    },
-    Form {
-        name: "run",
-        about: "Runs an executable file over standard input and output",
-        rows: RUN,
-    },
-    Form {
-        name: "interp",
-        about: "Interprets a program over standard input and output",
-        rows: INTERP,
-    },
-    Form {
-        name: "explain",
-        about: "Explains why a program is refused, or what is undefined in its run",
-        rows: EXPLAIN,
-    },
-    Form {
-        name: "frames",
-        about: "Prints what each function takes of the stack, and what it calls",
-        rows: FRAMES,
-    },
-    Form {
-        name: "symbols",
-        about: "Writes an ELF file of a program's symbols",
-        rows: SYMBOLS,
-    },
-    Form {
-        name: "image",
-        about: "Writes the bytes that an executable file loads to standard output, in one of three forms",
-        rows: IMAGE,
-    },
-    Form {
-        name: "size",
-        about: "Prints how many bytes of code, data and stack an executable file has",
-        rows: SIZE,
-    },
-];
+/// The form of `build`.
+pub fn build<'a>(alloc: Global) -> Result<Command<'a>, AllocError> {
+    form(
+        alloc,
+        "build",
+        "Compiles a program to an executable file",
+        BUILD_ROWS,
+    )
+}
+
+/// The form of `pp`.
+pub fn pp<'a>(alloc: Global) -> Result<Command<'a>, AllocError> {
+    form(
+        alloc,
+        "pp",
+        "Prints a program's tokens after preprocessing",
+        PP_ROWS,
+    )
+}
+
+/// The form of `list`.
+pub fn list<'a>(alloc: Global) -> Result<Command<'a>, AllocError> {
+    form(
+        alloc,
+        "list",
+        "Prints a listing of a program's code",
+        LIST_ROWS,
+    )
+}
+
+/// The form of `run`.
+pub fn run<'a>(alloc: Global) -> Result<Command<'a>, AllocError> {
+    form(
+        alloc,
+        "run",
+        "Runs an executable file over standard input and output",
+        RUN_ROWS,
+    )
+}
+
+/// The form of `interp`.
+pub fn interp<'a>(alloc: Global) -> Result<Command<'a>, AllocError> {
+    form(
+        alloc,
+        "interp",
+        "Interprets a program over standard input and output",
+        INTERP_ROWS,
+    )
+}
+
+/// The form of `explain`.
+pub fn explain<'a>(alloc: Global) -> Result<Command<'a>, AllocError> {
+    form(
+        alloc,
+        "explain",
+        "Explains why a program is refused, or what is undefined in its run",
+        EXPLAIN_ROWS,
+    )
+}
+
+/// The form of `frames`.
+pub fn frames<'a>(alloc: Global) -> Result<Command<'a>, AllocError> {
+    form(
+        alloc,
+        "frames",
+        "Prints what each function takes of the stack, and what it calls",
+        FRAMES_ROWS,
+    )
+}
+
+/// The form of `symbols`.
+pub fn symbols<'a>(alloc: Global) -> Result<Command<'a>, AllocError> {
+    form(
+        alloc,
+        "symbols",
+        "Writes an ELF file of a program's symbols",
+        SYMBOLS_ROWS,
+    )
+}
+
+/// The form of `image`.
+pub fn image<'a>(alloc: Global) -> Result<Command<'a>, AllocError> {
+    form(
+        alloc,
+        "image",
+        "Writes the bytes that an executable file loads to standard output, in one of three forms",
+        IMAGE_ROWS,
+    )
+}
+
+/// The form of `size`.
+pub fn size<'a>(alloc: Global) -> Result<Command<'a>, AllocError> {
+    form(
+        alloc,
+        "size",
+        "Prints how many bytes of code, data and stack an executable file has",
+        SIZE_ROWS,
+    )
+}

@@ -5,6 +5,7 @@ mod asking;
 mod commands;
 mod forms;
 mod habits;
+mod making;
 mod reading;
 mod request;
 mod rows;

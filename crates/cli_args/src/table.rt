@@ -39,11 +39,3 @@ pub struct Row {
     /// The arguments that do not go with it.
     pub apart: &'static [&'static str],
 }
-
-/// One command: its name, what it does, and its arguments in the order in which help shows them.
-#[derive(Clone, Copy)]
-pub struct Form {
-    pub name: &'static str,
-    pub about: &'static str,
-    pub rows: &'static [Row],
-}

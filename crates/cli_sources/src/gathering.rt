@@ -1,6 +1,6 @@
 //! The files of the words, and those that they include.
 
-use crate::macros::{has_macros, put_macros};
+use crate::definitions::{has_macros, put_macros};
 use crate::paths::{folder_of, joined};
 use crate::sources::Sources;
 use cli_args::{Program, Role};
@@ -34,7 +34,8 @@ fn read_all(
     program: &Program<'_>,
     sources: &mut Sources<'_>,
 ) -> Result<(), Fault> {
-    sources.read(rt, sources.given, program.main)?;
+    let given = sources.given;
+    sources.read(rt, given, program.main)?;
     read_further(rt, program, sources)?;
     if program.has(Role::Folder) {
         read_included(rt, program, sources)?;
@@ -103,10 +104,15 @@ fn read_found(
     path: &str,
     sources: &mut Sources<'_>,
 ) -> Result<(), Fault> {
-    match sources.path_of(name) {
-        None => sources.read(rt, name, path),
-        Some(known) if is_same(rt, known, path) => Ok(()),
-        Some(known) => Err(twice(rt.alloc(), name, known, path)),
+    let is_new = sources.path_of(name).is_none();
+    if is_new {
+        return sources.read(rt, name, path);
+    }
+    let known = sources.path_of(name).unwrap_or_default();
+    if is_same(rt, known, path) {
+        Ok(())
+    } else {
+        Err(twice(rt.alloc(), name, known, path))
     }
 }
 

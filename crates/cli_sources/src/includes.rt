@@ -1,5 +1,8 @@
 //! Which files a file names in its `#include` lines.
 
+ghost use Rattle.std.specs.Prelude.{◌≤◌, length};
+ghost use Rattle.srcset.specs.Files.{max_file_bytes};
+
 use phases::{Kind, PpToken, try_scan};
 use srcset::Refusal;
 use std::alloc::{AllocError, Global};

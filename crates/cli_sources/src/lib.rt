@@ -2,9 +2,9 @@
 #![tactic(auto)]
 
 mod asked;
+mod definitions;
 mod gathering;
 mod includes;
-mod macros;
 mod paths;
 mod reading;
 mod rule;

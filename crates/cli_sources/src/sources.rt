@@ -49,7 +49,7 @@ impl<'a> Sources<'a> {
 
     /// Notes where a file of the set was found.
     pub fn note(&mut self, alloc: Global, name: &str, path: &str) -> Result<(), Fault> {
-        let is_noted = match source(alloc, name, path) {
+        let is_noted = match noted(alloc, name, path) {
             Ok(source) => self.files.push(source).is_ok(),
             Err(_) => false,
         };
@@ -114,7 +114,7 @@ impl<'a> Sources<'a> {
     }
 }
 
-fn source(alloc: Global, name: &str, path: &str) -> Result<Source, AllocError> {
+fn noted(alloc: Global, name: &str, path: &str) -> Result<Source, AllocError> {
     Ok(Source {
         name: String::from_str(alloc, name)?,
         path: String::from_str(alloc, path)?,

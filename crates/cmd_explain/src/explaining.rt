@@ -21,7 +21,7 @@ pub struct Told {
 }
 
 /// Explains what a command comes to: its faults, or the undefined behaviour of a program that is interpreted; answers the exit status.
-pub fn explain(rt: &HostRuntime, program: &Program<'_>, told: Told) -> u8 {
+pub fn explain_program(rt: &HostRuntime, program: &Program<'_>, told: Told) -> u8 {
     let form = form(rt, told);
     let sources = match read_sources(rt, program) {
         Ok(sources) => sources,

@@ -2,15 +2,15 @@
 #![tactic(auto)]
 
 mod building;
-mod frames;
 mod images;
 mod listing;
 mod listing_text;
 mod sizes;
+mod stack_table;
 mod symbols;
 
-pub use frames::show_frames;
 pub use images::show_image;
 pub use listing::{ListForm, list_code};
 pub use sizes::show_size;
+pub use stack_table::show_frames;
 pub use symbols::write_symbols;

@@ -1,7 +1,7 @@
 //! `size`: how large the parts of an executable file are.
 
 use cli_io::{put_out, say, say_memory, unread};
-use image_export::{Sizes, sizes};
+use image_export::{Sizes, sizes_of};
 use loader::{LoadFault, load};
 use srcset::Fault;
 use std::alloc::{AllocError, Global};
@@ -17,7 +17,7 @@ pub fn show_size(rt: &HostRuntime, path: &str) -> u8 {
 
 fn show_file(rt: &HostRuntime, path: &str, file: &[u8]) -> u8 {
     match load(rt.alloc(), file) {
-        Ok(_) => match text_of(rt.alloc(), sizes(file), path) {
+        Ok(_) => match text_of(rt.alloc(), sizes_of(file), path) {
             Ok(text) => put_out(rt, text.as_bytes(), 0),
             Err(_) => say_memory(rt),
         },

@@ -94,7 +94,7 @@ pub struct Sizes {
 const EXECUTES: u32 = 1;
 
 /// How many bytes the parts of a file have that can be loaded.
-pub fn sizes(file: &[u8]) -> Sizes {
+pub fn sizes_of(file: &[u8]) -> Sizes {
     let table = number(file, 28, 4) as usize;
     let mut all = Sizes {
         text: 0,

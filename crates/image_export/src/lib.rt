@@ -7,7 +7,7 @@ mod intel;
 mod raw;
 mod verilog;
 
-pub use headers::{Piece, Sizes, entry, pieces, sizes};
+pub use headers::{Piece, Sizes, entry, pieces, sizes_of};
 pub use intel::intel_hex;
 pub use raw::binary;
 pub use verilog::verilog_memory;

@@ -122,7 +122,7 @@ def texts():
         put(work, gap_c='int a;\n' + '\n' * 20 + 'int b;\n#line 5 "made.y"\nint c; int d;\n')
         counted.expect('-E of gaps', zkc(work, '-E', 'gap.c')[1], '# 1 "gap.c"\nint a ;\n# 22 "gap.c"\nint b ;\n# 5 "made.y"\nint c ; int d ;\n')
         put(work, bad_c='#error no\n')
-        counted.expect('-E of a fault', zkc(work, '-E', 'bad.c', '-o', 'bad.i'), (1, '', 'bad.c:1: 234 #error: no\n'))
+        counted.expect('-E of a fault', zkc(work, '-E', 'bad.c', '-o', 'bad.i'), (1, '', 'bad.c:1: 234 #error no\n'))
         counted.expect('-E of a fault: no file', read(work, 'bad.i'), None)
         put(work, main_c=MAIN)
         plain = zkc(work, 'list', 'main.c')
@@ -140,8 +140,8 @@ def includes():
             src__mid__one_h='#include "two.h"\n#define ONE TWO\n', src__mid__two_h='#define TWO 2\n', lib__off_h='\n')
         files = 'src/main.c\tsrc/main.c\nmid/one.h\tsrc/mid/one.h\noff.h\tlib/off.h\ntwo.h\tsrc/mid/two.h\n'
         counted.expect('--list-files', zkc(work, 'build', '-Ilib', 'src/main.c', '--list-files'), (0, files, ''))
-        counted.expect('not found', zkc(work, 'build', '-Ilib', 'src/main.c', '-o', 'out'), (1, '', 'src/main.c:7: 232 cannot include\n'))
-        counted.expect('as before without -I', zkc(work, 'build', 'src/main.c', '-o', 'out'), (1, '', 'src/main.c:1: 232 cannot include\n'))
+        counted.expect('not found', zkc(work, 'build', '-Ilib', 'src/main.c', '-o', 'out'), (1, '', 'src/main.c:7: 232 include file not found\n'))
+        counted.expect('as before without -I', zkc(work, 'build', 'src/main.c', '-o', 'out'), (1, '', 'src/main.c:1: 232 include file not found\n'))
         put(work, lib__gone_h='\n')
         counted.expect('found', zkc(work, 'build', '-Ilib', 'src/main.c', '-o', 'out'), (0, '', ''))
         counted.expect('found: run', zkc(work, 'run', 'out')[0], 2)
@@ -159,7 +159,7 @@ def includes():
         counted.expect('two names of one file', zkc(work, 'build', '-Ilib', 'src/main.c', '-o', 'out')[0], 0)
         # a file without token lines is told where it is included
         put(work, src__main_c='#include "open.h"\nint main(void) { return 0; }\n', lib__open_h='/* open\n')
-        counted.expect('an open comment', zkc(work, 'build', '-Ilib', 'src/main.c', '-o', 'out'), (1, '', 'open.h:1: 113 unterminated comment\n'))
+        counted.expect('an open comment', zkc(work, 'build', '-Ilib', 'src/main.c', '-o', 'out'), (1, '', 'open.h:1: 113 comment not closed\n'))
         # a C file among FILES that nothing includes is no part of the program
         put(work, src__main_c='int f(void);\nint main(void) { return f(); }\n', f_c='int f(void) { return 1; }\n')
         status, out, err = zkc(work, 'build', '-I.', 'src/main.c', 'f.c', '-o', 'out')

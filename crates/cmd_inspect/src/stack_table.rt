@@ -5,7 +5,7 @@ use cc::Built;
 use cli_args::Program;
 use cli_io::{put_out, say, say_memory};
 use cli_sources::read_sources;
-use image_export::{Sizes, sizes};
+use image_export::{Sizes, sizes_of};
 use std::alloc::{AllocError, Global};
 use symbol_table::{CodeMap, frames_table, sizes_table};
 
@@ -43,7 +43,7 @@ fn table(
         return frames_table(alloc, map);
     }
     let mut text = sizes_table(alloc, map)?;
-    put_sizes(alloc, sizes(built.elf.as_slice()), &mut text)?;
+    put_sizes(alloc, sizes_of(built.elf.as_slice()), &mut text)?;
     Ok(text)
 }
 
