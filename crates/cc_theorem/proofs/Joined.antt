@@ -20,6 +20,7 @@ use Rattle.cc_laws.proofs.Conventions.{files_keep_convention}
 use Rattle.cc_laws.proofs.Overflowing.{files_go_up_to_overflow}
 use Rattle.cc_laws.proofs.ByFrames.{files_run_within_frames}
 use Rattle.cc_laws.proofs.Inputs.{does_all_so_far}
+use Rattle.cc_laws.proofs.Reserved.{files_leave_reserved}
 use Rattle.cc_theorem.specs.Theorem.{OnInput, TheTheorem}
 
 -- a file has one image
@@ -46,23 +47,26 @@ theorem stack set name built made =
     let loads = out.1 in (
       image,
       loads,
-      out.2.0,
-      out.2.1,
-      λ input bytes. record {
-        within_stack = λ fine.
-            let convention = of_one file _ (files_keep_convention stack p file frames made.file) image loads input bytes fine in
-            record {
-              does_all = of_one file _ (whole.does_all stack p frames file runs) image loads input bytes fine;
-              does_no_more = of_one file _ (whole.does_no_more stack p frames file runs) image loads input bytes fine;
-              ends_only_so = of_one file _ (whole.ends_only_so stack p frames file runs) image loads input bytes fine;
-              never_traps = of_one file _ (whole.never_traps stack p frames file runs) image loads input bytes fine;
-              stays_inside = of_one file _ (whole.stays_inside stack p frames file runs) image loads input bytes fine;
-              calls_are_kept = convention.0;
-              main_is_kept = convention.1;
-            };
-        beyond_stack = λ fine. of_one file _ (files_go_up_to_overflow stack p file frames made.file) image loads input bytes fine;
-        by_frames = of_one file _ (files_run_within_frames stack p file frames made.file) image loads input bytes;
-        so_far = of_one file _ (does_all_so_far stack p frames file runs) image loads input bytes;
-        in_time = of_one file _ (whole.ends_in_time stack p frames file runs main) image loads input bytes;
-      },
+      (
+        out.2.0,
+        out.2.1,
+        λ input bytes. record {
+          within_stack = λ fine.
+              let convention = of_one file _ (files_keep_convention stack p file frames made.file) image loads input bytes fine in
+              record {
+                does_all = of_one file _ (whole.does_all stack p frames file runs) image loads input bytes fine;
+                does_no_more = of_one file _ (whole.does_no_more stack p frames file runs) image loads input bytes fine;
+                ends_only_so = of_one file _ (whole.ends_only_so stack p frames file runs) image loads input bytes fine;
+                never_traps = of_one file _ (whole.never_traps stack p frames file runs) image loads input bytes fine;
+                stays_inside = of_one file _ (whole.stays_inside stack p frames file runs) image loads input bytes fine;
+                calls_are_kept = convention.0;
+                main_is_kept = convention.1;
+              };
+          beyond_stack = λ fine. of_one file _ (files_go_up_to_overflow stack p file frames made.file) image loads input bytes fine;
+          by_frames = of_one file _ (files_run_within_frames stack p file frames made.file) image loads input bytes;
+          so_far = of_one file _ (does_all_so_far stack p frames file runs) image loads input bytes;
+          in_time = of_one file _ (whole.ends_in_time stack p frames file runs main) image loads input bytes;
+          reserved = of_one file _ (files_leave_reserved stack p file frames made.file) image loads input;
+        },
+      ),
     )

@@ -1,6 +1,7 @@
 -- The theorem about the compiler in one statement: what is promised of each file that it answers.
 use Rattle.std.specs.Prelude.{◌≡◌, ◌≤◌, ℕ, ◌+◌, ◌*◌, List, reverse}
 use Rattle.rv32.specs.declared.state.Cause.{Cause}
+use Rattle.rv32.specs.Step.{register}
 use Rattle.srcset.specs.Files.{Files}
 use Rattle.loader.specs.File.{Image}
 use Rattle.sim.specs.Runs as sim
@@ -37,6 +38,8 @@ pub record OnInput {stack : ℕ} {p : Program} {file frames : List ℕ} (made : 
       → (k : ℕ) × (done_in (run_of image input k) ≡ (answer n p input).trace) × ((j : ℕ) → j ≤ k → IsBeginning (done_in (run_of image input j)) (answer n p input).trace)
   pub in_time : (n status : ℕ) → (answer n p input).ending ≡ Ended status → (answer n p input).greatest ≤ stack
       → (k : ℕ) × (w : World) × (k ≤ 64 * n + 64) × (run_of image input k ≡ sim.Ended status w) × (reverse w.trace ≡ (answer n p input).trace)
+  -- gp and tp stay 0, whatever the program does
+  pub reserved : (k : ℕ) (w : World) → run_of image input k ≡ Running w → (register w.machine 3 ≡ 0) × (register w.machine 4 ≡ 0)
 
 -- for each file that the compiler answers; `compiles` of `IsMade` says of which program
 abbrev pub TheTheorem : Type 0
