@@ -6,10 +6,12 @@
     answer = zk.build({'main.c': b'int main(void) { return 42; }\n'}, 'main.c')      # files by name, or a list of pairs
     zk.run(answer.output).status                     # 42
 
-A file's text is bytes or str (UTF-8). The library is shared: `gcc -shared -o libzikorape.so -Wl,--whole-archive libzikorape.a`, which
+A text (of a file, an input, a built file) is bytes, str (UTF-8), or a path (pathlib.Path), whose file is read; anything else is a TypeError.
+The library is shared: `gcc -shared -o libzikorape.so -Wl,--whole-archive libzikorape.a`, which
 `sh install.sh` does. Calls release the interpreter's lock, and each thread may make
 them; a thread needs a stack of 2.25 MiB (`threading.stack_size(8 << 20)`), and the main thread has it."""
 import ctypes
+import os
 from dataclasses import dataclass
 
 MAX = 1_000_000_000
@@ -49,7 +51,20 @@ class Machine:
 
 
 def _bytes(text):
-    return text.encode() if isinstance(text, str) else bytes(text)
+    """The bytes of a text: a path (os.PathLike) stands for what its file holds. A number is none, for which `bytes` would make zeros."""
+    if isinstance(text, str):
+        return text.encode()
+    if isinstance(text, (bytes, bytearray, memoryview)):
+        return bytes(text)
+    if isinstance(text, os.PathLike):
+        with open(text, 'rb') as file:
+            return file.read()
+    raise TypeError('a text is bytes, str or a path, and not %s' % type(text).__name__)
+
+
+def _name(name):
+    name = os.fspath(name)
+    return name.encode('utf-8', 'surrogateescape') if isinstance(name, str) else name
 
 
 def _slice(data):
@@ -80,12 +95,12 @@ class Library:
         return self._over(self._c.zk_interpret, files, main, *_slice(_bytes(input)), ctypes.c_uint64(max))
 
     def run(self, file, input=b'', max=MAX, name='a.out'):
-        return self._call(self._c.zk_run, *_slice(file), *_slice(_bytes(name)), *_slice(_bytes(input)), ctypes.c_uint64(max))
+        return self._call(self._c.zk_run, *_slice(_bytes(file)), *_slice(_name(name)), *_slice(_bytes(input)), ctypes.c_uint64(max))
 
     def step(self, file, count, input=b'', after=0, halt=1, start=0, length=0):
         """The machine after `count` instructions, or, once it has done `after`, where the one at the address `halt` is next; with `length`
         bytes of its memory from the address `start` on."""
-        room, window = 1 << 16, ctypes.create_string_buffer(max(length, 1))
+        file, room, window = _bytes(file), 1 << 16, ctypes.create_string_buffer(max(length, 1))
         while True:
             out, seen = ctypes.create_string_buffer(room), Seen()
             outcome = self._c.zk_step(*_slice(file), *_slice(_bytes(input)), ctypes.c_uint64(count), ctypes.c_uint64(after), ctypes.c_uint32(halt),
@@ -101,10 +116,10 @@ class Library:
         return self._text(self._c.zk_version)
 
     def _over(self, call, files, main, *more):
-        names = [(_bytes(name), _bytes(text)) for name, text in (files.items() if hasattr(files, 'items') else files)]
+        names = [(_name(name), _bytes(text)) for name, text in (files.items() if hasattr(files, 'items') else files)]
         lengths = (File * max(len(names), 1))(*[File(len(name), len(text)) for name, text in names])
         texts = b''.join(name + text for name, text in names)
-        return self._call(call, *_slice(texts), lengths, ctypes.c_size_t(len(names)), *_slice(_bytes(main)), *more)
+        return self._call(call, *_slice(texts), lengths, ctypes.c_size_t(len(names)), *_slice(_name(main)), *more)
 
     def _call(self, call, *arguments):
         room, lines, sizes = 1 << 16, 1 << 12, Sizes()

@@ -7,6 +7,7 @@ The last line counts; what needs a tool that is not there is left out with a wor
 import concurrent.futures
 import ctypes
 import os
+import pathlib
 import re
 import shutil
 import subprocess
@@ -159,6 +160,31 @@ def no_calls(counted, zk):
         counted.holds(what, (answer.status, answer.output) == (1, b'') and answer.message.endswith(wanted.split(':', 1)[1]), answer)
 
 
+def kinds_of_texts(counted, zk):
+    """bytes, str, bytearray and a path are one text; a number, or nothing, is none."""
+    wanted = zk.build([('main.c', HELLO)], 'main.c')
+    counted.holds('bytes are built', (wanted.status, wanted.message, bytes(wanted.output[:4])) == (0, '', b'\x7fELF'), wanted)
+    with tempfile.TemporaryDirectory() as folder:
+        path = pathlib.Path(folder, 'main.c')
+        path.write_bytes(HELLO)
+        for text in (HELLO.decode(), bytearray(HELLO), memoryview(HELLO), path):
+            counted.holds('a text as %s' % type(text).__name__, zk.build({'main.c': text}, pathlib.PurePath('main.c')) == wanted)
+        path.write_bytes(wanted.output)
+        counted.holds('a file by its path', zk.run(path).status == 42 and zk.step(path, 1).outcome == 0)
+        for missing in (lambda: zk.build({'main.c': path.with_name('none.c')}, 'main.c'), lambda: zk.run(path.with_name('none'))):
+            counted.holds('a path at which nothing is', raises(FileNotFoundError, missing))
+    for text in (5, None, [72, 105]):
+        counted.holds('no text: %r' % (text,), raises(TypeError, lambda: zk.build({'main.c': text}, 'main.c')) and raises(TypeError, lambda: zk.run(text)))
+
+
+def raises(wanted, call):
+    try:
+        call()
+    except wanted:
+        return True
+    return False
+
+
 def texts(counted, zk):
     """The text of each code as docs/FAULTS.md has it."""
     with open(os.path.join(ROOT, 'docs', 'FAULTS.md'), encoding='utf-8') as file:
@@ -293,6 +319,7 @@ def check(counted, cc, out):
     same(counted, 'Python', wanted, lambda files, input: by_python(zk, files, input))
     buffers(counted, zk)
     no_calls(counted, zk)
+    kinds_of_texts(counted, zk)
     texts(counted, zk)
     frames(counted, zk)
     machine(counted, zk)
