@@ -2,24 +2,51 @@
 # What can be checked without a prover: the program from outside, and the documents. It takes minutes, needs no kit, and
 # tells each check that it leaves out, and why.
 #
-#   sh test.sh [CC]
+#   sh test.sh [-k WORD].. [--quick] [--junit FILE] [CC]
+#   sh test.sh --list
 #
 # CC is the program; by default that of release/, where this tree is what it was proved and built from, else bin/cc as it
-# was built. The last line counts all checks; the exit status is 0 where none failed and some passed. JOBS=N: so many checks
-# side by side (a processor each, by default). As root on Debian, sh tests/outside/tools.sh installs the tools of others.
-usage='usage: [JOBS=N] sh test.sh [CC], where CC is a program as release/cc'
-case ${1:-} in
-    -h | --help)
-        echo "$usage"
-        exit 0
-        ;;
-    -*)
-        echo "$usage" >&2
-        exit 2
-        ;;
-esac
+# was built. -k: only the checks whose name has the word, which may be given more than once. --quick: only those that take
+# seconds. --junit: writes the results to FILE too, as JUnit's XML. --list prints the names and needs of all checks.
+# The last line counts all checks; the exit status is 0 where none failed and some passed, 2 for words that are no use.
+# JOBS=N: so many checks side by side (a processor each, by default). As root on Debian, sh tests/outside/tools.sh installs
+# the tools of others.
 cd "$(dirname "$0")" || exit 1
 jobs=${JOBS:-$(getconf _NPROCESSORS_ONLN 2>/dev/null || echo 1)}
+usage='usage: sh test.sh [-k WORD].. [--quick] [--junit FILE] [CC]
+       sh test.sh --list'
+# Those that take seconds.
+quick=' conditions macros variadic stack tables version shown rows_calls rows_answers rows_machine rows_flat rows_tac rows_stream const mistakes '
+words=
+junit=
+listed=
+chosen=
+cc=
+while [ $# -gt 0 ]; do
+    case $1 in
+        -k | --junit) [ $# -gt 1 ] || { echo "$usage" >&2; exit 2; } ;;
+    esac
+    case $1 in
+        -k) words="$words $2"; shift ;;
+        --junit) junit=$2; shift ;;
+        --quick) chosen=$quick ;;
+        --list) listed=1 ;;
+        -h | --help) echo "$usage"; exit 0 ;;
+        -*) echo "$usage" >&2; exit 2 ;;
+        *) [ -z "$cc" ] || { echo "$usage" >&2; exit 2; }; cc=$1 ;;
+    esac
+    shift
+done
+
+# is_wanted NAME: whether the check is one of those asked for.
+is_wanted() {
+    case $chosen in '') ;; *" $1 "*) ;; *) return 1 ;; esac
+    [ -z "$words" ] && return 0
+    for word in $words; do
+        case $1 in *"$word"*) return 0 ;; esac
+    done
+    return 1
+}
 
 # A check a line, the longest first: its name | what it needs (tools, files) | its command, whose last line is
 # 'N passed, M failed' or 'N passed, M failed, K skipped'. A further check is a further line here.
@@ -65,6 +92,7 @@ signals      | python3                                  | python3 tests/outside/
 variadic     | python3 gcc                              | python3 tests/outside/pp/variadic.py "$cc"
 streams      | python3                                  | python3 tests/outside/streams/check.py "$cc"
 stack        | python3                                  | python3 tests/outside/stack/check.py "$cc"
+beyond       | python3                                  | python3 tests/outside/stack/beyond.py "$cc"
 mistakes     | python3                                  | python3 tests/outside/mistakes/check.py "$cc"
 inspecting   | python3                                  | python3 tests/outside/inspecting/check.py "$cc"
 tables       | python3                                  | python3 share/tables.py "$cc" --check
@@ -74,8 +102,12 @@ shown        |                                          | sh run.sh "$cc"
 END
 }
 
+if [ -n "$listed" ]; then
+    checks | grep -v '^ *$' | while IFS='|' read -r name needs command; do echo $name: $needs; done
+    exit
+fi
+
 # The program: the one given, that of release/, or the one that was built.
-cc=${1:-}
 if [ -z "$cc" ]; then
     if [ -x release/cc ] && [ "$(sh release/digest.sh)" = "$(cat release/SOURCES)" ]; then
         cc=release/cc
@@ -109,7 +141,13 @@ missing() {
 }
 
 # What cannot be tried is told now, and the others are written down, a file each.
-checks | grep -v '^ *$' >"$logs/checks"
+checks | grep -v '^ *$' | while IFS='|' read -r name needs command; do
+    if is_wanted $name; then printf '%s|%s|%s\n' "$name" "$needs" "$command"; fi
+done >"$logs/checks"
+if [ ! -s "$logs/checks" ]; then
+    echo "no check has such a name; sh test.sh --list prints them" >&2
+    exit 2
+fi
 while IFS='|' read -r name needs command; do
     name=$(echo $name)
     lacking=$(missing $needs)
@@ -147,6 +185,26 @@ grep -v '^SKIPPED ' "$logs/told" | xargs -n 1 -P "$jobs" sh -c '
     } >"$logs/$1.told"
     cat "$logs/$1.told"
 ' check
+
+# A test case a check, which fails with what was said (https://github.com/testmoapp/junitxml).
+if [ -n "$junit" ]; then
+    escaped() { sed -e 's/&/\&amp;/g; s/</\&lt;/g; s/>/\&gt;/g' -e 's/[^[:print:][:space:]]/?/g' "$1"; }
+    {
+        echo '<?xml version="1.0" encoding="UTF-8"?>'
+        echo '<testsuite name="zikorape">'
+        for file in "$logs"/*.verdict; do
+            name=$(basename "$file" .verdict)
+            echo "<testcase name=\"$name\">"
+            case $(cat "$file") in
+                '0 passed, 0 failed, 1 skipped') echo '<skipped/>' ;;
+                *' 0 failed'*) ;;
+                *) echo '<failure>'; escaped "$logs/$name.told"; echo '</failure>' ;;
+            esac
+            echo '</testcase>'
+        done
+        echo '</testsuite>'
+    } >"$junit" || echo "cannot write $junit" >&2
+fi
 
 # count WORD: the sum of the numbers before WORD in the verdicts. A check without a verdict was not made.
 count() { cat "$logs"/*.verdict | sed -n "s/.*\b\([0-9][0-9]*\) $1.*/\1/p" | awk '{ n += $1 } END { print n + 0 }'; }

@@ -1,6 +1,6 @@
 #!/usr/bin/env python3
 """Writes the part of docs/ARCHITECTURE.md that tells the crates: under each heading of crates.txt, of each crate the first
-paragraph of its README, which says in one to three sentences what it takes, gives and promises.
+paragraph of its README: one sentence on what the crate is, before what it takes, gives and promises; or these at once.
 
     python3 tests/architecture.py            writes the page
     python3 tests/architecture.py --check    only compares; also each README's title, and the paths that documents name
@@ -56,14 +56,19 @@ def made():
 def sentences(text):
     return len(re.findall(r'[.:!?](?: (?=[A-Z`])|$)', text)) - len(re.findall(r': (?=[A-Z`])', text))
 
+CONTRACT = r'Takes |A program for tests: takes '
+
 def check_readmes():
+    """A README says what the crate is in a sentence, and then, in one to three, what it takes, gives and promises; the first may be left out."""
     for crate in crates():
-        title, text = first_paragraph(crate)
-        holds('crates/%s/README.md has the title %r' % (crate, title), title == '# ' + crate)
-        holds('crates/%s/README.md begins with %d sentences, %d characters: %s' % (crate, sentences(text), len(text), text[:60]),
-            1 <= sentences(text) <= 3 and len(text) <= 500 and re.match(r'Takes |A program for tests: takes ', text) is not None)
-    there = sorted(os.path.basename(os.path.dirname(path)) for path in glob.glob('crates/*/src'))
-    holds('crates.txt has other crates than crates/', sorted(crates()) == there)
+        parts = [' '.join(part.split()) for part in read('crates/%s/README.md' % crate).split('\n\n')]
+        holds('crates/%s/README.md has the title %r' % (crate, parts[0]), parts[0] == '# ' + crate)
+        if len(parts) > 2 and not re.match(CONTRACT, parts[1]):
+            holds('crates/%s/README.md begins with %d characters: %s' % (crate, len(parts[1]), parts[1][:60]), len(parts[1]) <= 250)
+            del parts[1]
+        text = parts[1] if len(parts) > 1 else ''
+        holds('crates/%s/README.md tells its contract in %d sentences, %d characters: %s' % (crate, sentences(text), len(text), text[:60]),
+            1 <= sentences(text) <= 3 and len(text) <= 500 and re.match(CONTRACT, text) is not None)
 
 def stands(path, crate):
     """Whether what a document names is there: a path from the root, of a crate, or of the crate whose document it is."""

@@ -1,5 +1,5 @@
 -- What the compiler promises of a file that it answers: the sources are a program, and the file runs as that program does.
-use Rattle.std.specs.Prelude.{◌≡◌, ℕ, List, [], ◌∷◌, String, Some, None, map, slice_get}
+use Rattle.std.specs.Prelude.{◌≡◌, ℕ, List, [], ◌∷◌, String, Some, None, length, map, slice_get}
 use Rattle.std.specs.String.{string_bytes}
 use Rattle.std.specs.Global.{Global}
 use Rattle.srcset.specs.Files.{Files}
@@ -84,6 +84,7 @@ entries texts (f ∷ fs) (n ∷ ns) = entry_of texts f n ∷ entries texts fs ns
 -- a file that runs as a typed program does on a stack of so many bytes, and an entry for each of its functions
 pub record BuildsProgram (stack : ℕ) (texts : Texts) (program : Program) (built : Built) : Type 0 where
   pub frames : List ℕ
+  pub each : length frames ≡ length program.functions
   pub runs : RunsAs stack program frames built.elf.items
   pub entries_are : frames_of built ≡ entries texts program.functions frames
 

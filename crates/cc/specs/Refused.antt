@@ -15,7 +15,7 @@ use Rattle.parser.specs.Units.{IsFaultOfUnit}
 use Rattle.typing.specs.Told.{IsFaultOfVerdict}
 use Rattle.cc.specs.Compiled.{Numbers, HasList, HasTokens, HasTree, typed_at}
 
--- the fault of phases 1 to 4: 103; 111 to 113, 703; 201 to 213, 704 to 706, 708; 221 to 223, 231 to 235, 707
+-- the fault of phases 1 to 4: 103; 111 to 113, 703; 201 to 214, 704 to 706, 708; 221 to 223, 231 to 235, 707
 pub record FailsPreprocessing (set : Files) (name : List ℕ) (fault : Fault) : Type 0 where
   pub texts : Texts
   pub numbers : Numbers texts name

@@ -111,7 +111,7 @@ module _ (f : flat.Program) where
   abbrev frame_in : ℕ → ℕ
   frame_in g = bytes_or_none (slice_get frames g)
 
-  frame_known : (g : ℕ) (c : Option flat.Function) → slice_get f.functions g ≡ c → g < length f.functions → flat.frame_bytes (flat_run.function_at f g) ≡ frame_in g
+  pub frame_known : (g : ℕ) (c : Option flat.Function) → slice_get f.functions g ≡ c → g < length f.functions → flat.frame_bytes (flat_run.function_at f g) ≡ frame_in g
   frame_known g None e lt = absurd (none_within f.functions g e lt)
   frame_known g (Some h) e lt =
       let there : slice_get frames g ≡ Some (flat.frame_bytes h) = slice_get-map flat.frame_bytes f.functions g ∙ ap (option_map flat.frame_bytes) e in
@@ -168,6 +168,9 @@ file_simulates_program p f parts input made image bytes =
     (image_simulates_flat (weight_in p) f parts input image bytes (frame_within p made.code f made.lowered form))
 
 -- the calls of a moment of the abstract machine weigh no more than its greatest sum
+pub calls_weigh_within : (weight : ℕ → ℕ) (p : typed.Program) (input : List ℕ) (limit n : ℕ) → greatest_sum weight (last_of (cstep n p input)).history ≤ limit → AreWithin weight limit (of_program p input) n
+calls_weigh_within weight p input limit n small calls c =
+    le_trans (subst (λ cs. sum_of weight cs ≤ greatest_sum weight (last_of (cstep n p input)).history) c.2 (grown weight c.0 (last_of (cstep n p input)).history c.1)) small
+
 pub calls_are_within : (p : typed.Program) (input : List ℕ) (limit n : ℕ) → greatest_sum (weight_in p) (last_of (cstep n p input)).history ≤ limit → AreWithin (weight_in p) limit (of_program p input) n
-calls_are_within p input limit n small calls c =
-    le_trans (subst (λ cs. sum_of (weight_in p) cs ≤ greatest_sum (weight_in p) (last_of (cstep n p input)).history) c.2 (grown (weight_in p) c.0 (last_of (cstep n p input)).history c.1)) small
+calls_are_within p = calls_weigh_within (weight_in p) p

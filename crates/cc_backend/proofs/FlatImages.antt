@@ -7,11 +7,13 @@ use Rattle.std.proofs.lemmas.Option.{get_or_from_slice_get, slice_get_within}
 use Rattle.rv32.specs.Space.{Space}
 use Rattle.memory_map.specs.MemoryMap.{data_start, text_start, stack_start}
 use Rattle.elf_out.specs.Layout.{Parts}
-use Rattle.elf_out.specs.Program.{program_space, is_within, is_text, is_data, is_stack}
+use Rattle.elf_out.specs.Program.{program_space, program_image, is_within, is_text, is_data, is_stack}
 use Rattle.asm.specs.Placed as placed
 use Rattle.asm.specs.Placed.{Stands, text_of}
 use Rattle.frames_code.specs.Code.{Program}
-use Rattle.frames_code.specs.Run.{Progress, running, ended, stuck, entered, run, start}
+use Rattle.frames_code.specs.Run.{State, Progress, running, ended, stuck, entered, run, start}
+use Rattle.sim.specs.Runs as sim
+use Rattle.sim.specs.Runs.{rvrun, start_world}
 use Rattle.select_exec.specs.Light.{Fixed, reg}
 use Rattle.select_exec.specs.Whole.{Permits, fixed}
 use Rattle.select_exec.specs.Worlds.{Registers}
@@ -21,12 +23,13 @@ use Rattle.cc_backend.proofs.Plain.{and_left, and_right}
 use Rattle.select.specs.Program.{program_items}
 use Rattle.select_correct.specs.Matches.{HasRoom, Holds}
 use Rattle.select_correct.specs.Laws.{AreBytes}
+use Rattle.select_correct.specs.Convention.{KeepsConvention, HasRoomFor, behind_call}
 use Rattle.select_correct.specs.Runs.{Laid, ground_at}
 use Rattle.select_correct.proofs.Real.{goes_on, ends_so}
 use Rattle.select_correct.proofs.Keeping.{calls_keep}
 use Rattle.select_correct.proofs.Conventions as convention
 use Rattle.cc_backend.specs.FlatImages.{IsImageOf, FitStack, ImageGoesOn, ImageEnds, ImageCallsKeep}
-use Rattle.cc_backend.specs.Convention.{ImageCallsKeepConvention, ImageMainKeepsConvention}
+use Rattle.cc_backend.specs.Convention.{FitsFor, ImageCallsKeepConvention, ImageMainKeepsConvention}
 
 pub within_low : (start n a : ℕ) → is_within start n a ≡ true → (start ≤ a) × (a < start + n)
 within_low start n a e =
@@ -197,12 +200,30 @@ image_calls_keep p parts input q bytes n m f s t over es later et same rooms inn
     calls_keep (permits p parts q) (low p parts q) (apart p parts q) p q.assembled.env (floor p parts q) (data_at p parts q) text_start (past_text p parts q) (λ k. 0) (space p parts q).byte (replicate 32 0) input (laid p parts q) (zero_registers p parts q) bytes n m f s t over es later et same
     (λ k le. room p parts q (run p k (start p input)) (rooms k le)) (λ k le. room p parts q (run p k (entered s f)) (inner k le)) within
 
+-- what is kept while the stack serves one way is kept while it serves another that gives the first
+pub serves_more : (p : Program) (env : ℕ → ℕ) (data_at : ℕ) (at : ℕ → sim.Progress) (entry back : ℕ) (c : State) (S T : ℕ → Type 0) → ((m : ℕ) → T m → S m) → KeepsConvention p env data_at at entry back c S
+    → KeepsConvention p env data_at at entry back c T
+serves_more p env data_at at entry back c S T gives keeps = record {
+  k = keeps.k;
+  v = keeps.v;
+  runs = keeps.runs;
+  enters = keeps.enters;
+  has_frame = λ m t serves inner. keeps.has_frame m t (gives m serves) inner;
+  leaves = λ m t serves inner e. keeps.leaves m t (gives m serves) inner e;
+}
+
 pub calls_keep_convention : ImageCallsKeepConvention
-calls_keep_convention p parts input q bytes last rooms =
-    convention.calls_keep (permits p parts q) (low p parts q) (apart p parts q) p q.assembled.env (floor p parts q) (data_at p parts q) text_start (past_text p parts q) (λ k. 0) (space p parts q).byte (replicate 32 0) input (laid p parts q) (zero_registers p parts q) bytes last
-    (λ k le. room p parts q (run p k (start p input)) (rooms k le))
+calls_keep_convention p parts input q bytes n f s c rooms =
+    let G = ground_at p (F p parts q) q.assembled.env (floor p parts q) (data_at p parts q) text_start (λ k. 0) (space p parts q).byte in
+    serves_more p q.assembled.env (data_at p parts q) (λ k. rvrun k (start_world (program_image parts) input)) (q.assembled.env f) (behind_call p q.assembled.env s) (entered s f) (HasRoomFor G (entered s f)) (FitsFor parts.stack p (entered s f))
+    (λ m fits j le. room p parts q (run p j (entered s f)) (fits j le))
+    (convention.calls_keep (permits p parts q) (low p parts q) (apart p parts q) p q.assembled.env (floor p parts q) (data_at p parts q) text_start (past_text p parts q) (λ k. 0) (space p parts q).byte (replicate 32 0) input (laid p parts q) (zero_registers p parts q) bytes n f s c
+    (λ k le. room p parts q (run p k (start p input)) (rooms k le)))
 
 pub main_keeps_convention : ImageMainKeepsConvention
-main_keeps_convention p parts input q bytes last rooms =
-    convention.main_keeps (permits p parts q) (low p parts q) (apart p parts q) p q.assembled.env (floor p parts q) (data_at p parts q) text_start (past_text p parts q) (λ k. 0) (space p parts q).byte (replicate 32 0) input (laid p parts q) (zero_registers p parts q) bytes last
-    (λ k le. room p parts q (run p k (start p input)) (rooms k le))
+main_keeps_convention p parts input q bytes fits =
+    let G = ground_at p (F p parts q) q.assembled.env (floor p parts q) (data_at p parts q) text_start (λ k. 0) (space p parts q).byte in
+    serves_more p q.assembled.env (data_at p parts q) (λ k. rvrun k (start_world (program_image parts) input)) (q.assembled.env p.main) (text_start + 16) (start p input) (HasRoomFor G (start p input)) (FitsFor parts.stack p (start p input))
+    (λ m each j le. room p parts q (run p j (start p input)) (each j le))
+    (convention.main_keeps (permits p parts q) (low p parts q) (apart p parts q) p q.assembled.env (floor p parts q) (data_at p parts q) text_start (past_text p parts q) (λ k. 0) (space p parts q).byte (replicate 32 0) input (laid p parts q) (zero_registers p parts q) bytes
+    (room p parts q (running (start p input)) fits))

@@ -10,29 +10,32 @@ use Rattle.csem.specs.Machine as machine
 use Rattle.csem.specs.Machine.{Stops, Ended, TicksUsed}
 use Rattle.csem.specs.Meaning.{cstep}
 use Rattle.frames_code.specs.Code.{Program}
-use Rattle.frames_code.specs.Run.{State, entered, run, start}
+use Rattle.frames_code.specs.Run.{State, running, entered, run, start}
 use Rattle.select_correct.specs.Laws.{AreBytes}
 use Rattle.select_correct.specs.Convention.{KeepsConvention, ComesToCall, behind_call}
 use Rattle.cc_backend.specs.FlatImages.{IsImageOf, FitStack}
 use Rattle.cc_backend.specs.Made.{IsFlatCodeOf}
 
--- Each call that a flat program's run comes to keeps the calling convention on the machine that runs its image, for as many steps as all frames fit
--- the stack ..
+-- all frames of m steps from c fit the stack
+abbrev pub FitsFor : (stack : ℕ) → Program → (c : State) → ℕ → Type 0
+FitsFor stack p c m = (j : ℕ) → j ≤ m → FitStack stack p (run p j c)
+
+-- Each call that a flat program's run comes to, with the stack fitting up to there, keeps the calling convention on the machine that runs its image, as long as all
+-- frames fit the stack ..
 abbrev pub ImageCallsKeepConvention : Type 0
 ImageCallsKeepConvention =
     (p : Program) (parts : Parts) (input : List ℕ) → (q : IsImageOf p parts) → AreBytes input
-    → (last : ℕ) → ((k : ℕ) → k ≤ last → FitStack parts.stack p (run p k (start p input)))
-    → (n f : ℕ) (s : State) → ComesToCall p input n f s → n < last
+    → (n f : ℕ) (s : State) → ComesToCall p input n f s → FitsFor parts.stack p (start p input) (suc n)
     → KeepsConvention p q.assembled.env (data_start (length parts.text)) (λ k. rvrun k (start_world (program_image parts) input))
-    (q.assembled.env f) (behind_call p q.assembled.env s) (entered s f) (last - suc n)
+    (q.assembled.env f) (behind_call p q.assembled.env s) (entered s f) (FitsFor parts.stack p (entered s f))
 
 -- .. and so does main, which the program's first 16 bytes call
 abbrev pub ImageMainKeepsConvention : Type 0
 ImageMainKeepsConvention =
     (p : Program) (parts : Parts) (input : List ℕ) → (q : IsImageOf p parts) → AreBytes input
-    → (last : ℕ) → ((k : ℕ) → k ≤ last → FitStack parts.stack p (run p k (start p input)))
+    → FitStack parts.stack p (running (start p input))
     → KeepsConvention p q.assembled.env (data_start (length parts.text)) (λ k. rvrun k (start_world (program_image parts) input))
-    (q.assembled.env p.main) (text_start + 16) (start p input) last
+    (q.assembled.env p.main) (text_start + 16) (start p input) (FitsFor parts.stack p (start p input))
 
 -- The frames of the calls that are active in a run of a program's flat code are never more than the greatest sum of weights that the abstract machine
 -- tells: not in its first n steps, where that has used n ticks, and not at all, where that has ended.

@@ -58,7 +58,7 @@ module _ (p : Program) (parts : Parts) (q : IsImageOf p parts) where
   abbrev G0 : Ground
   G0 = ground_at p (whole.F p parts q) q.assembled.env (whole.floor p parts q) (whole.data_at p parts q) text_start (λ k. 0) first_bytes
 
-  text_apart : (a : ℕ) → (program_space parts).can_execute a ≡ true → (program_space parts).can_write a ≡ false
+  pub text_apart : (a : ℕ) → (program_space parts).can_execute a ≡ true → (program_space parts).can_write a ≡ false
   unfolding program_space
   text_apart a e =
       let r = within_low text_start (length parts.text) a e in

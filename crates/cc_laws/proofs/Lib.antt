@@ -11,3 +11,11 @@ pub mod Loosening
 pub mod Touching
 pub mod Calls
 pub mod Following
+pub mod Faults
+pub mod Refused
+pub mod Callers
+pub mod Wide
+pub mod Overflowing
+pub mod ByFrames
+pub mod Inputs
+pub mod Reserved

@@ -58,13 +58,13 @@ four_more f g each a h =
 
 -- ---- a step
 
-abbrev loosened : Space → Stepped → Stepped
+abbrev pub loosened : Space → Stepped → Stepped
 loosened t s = record { machine = loose t s.machine; result = s.result }
 
-abbrev NoTrap : Stepped → Type 0
+abbrev pub NoTrap : Stepped → Type 0
 NoTrap s = (c : Cause) → s.result ≡ Trap c → ⊥
 
-abbrev found_if : (allowed : Bool) → ℕ → Option ℕ
+abbrev pub found_if : (allowed : Bool) → ℕ → Option ℕ
 found_if allowed x = if allowed then Some x else None
 
 gives_loose : (t : Space) (m : Machine) (rd v : ℕ) → gives (loose t m) rd v ≡ loosened t (gives m rd v)
@@ -144,18 +144,18 @@ module _ (t : Space) (m : Machine) (al : Allows m.space t) where
   fetched_loose x true b more h = let e = more refl in rw e (decoded_loose (decode_of x) h)
   fetched_loose x false b more h = absurd (h cause.FetchFault refl)
 
-  step_loose : NoTrap (step_of m) → step_of (loose t m) ≡ loosened t (step_of m)
+  pub step_loose : NoTrap (step_of m) → step_of (loose t m) ≡ loosened t (step_of m)
   step_loose h = aligned_loose t m cause.Target (m.pc % 4 == 0) _ _
       (fetched_loose (word_at m.space.byte m.pc) (all_four m.space.can_execute m.pc) (all_four t.can_execute m.pc) (four_more m.space.can_execute t.can_execute al.executes m.pc)) h
 
 -- ---- a call of the environment
 
-abbrev loose_progress : Space → Progress → Progress
+abbrev pub loose_progress : Space → Progress → Progress
 loose_progress t (Running w) = Running (loose_world t w)
 loose_progress t (Ended status w) = Ended status (loose_world t w)
 loose_progress t (Trapped c w) = Trapped c (loose_world t w)
 
-abbrev NeverTrapped : Progress → Type 0
+abbrev pub NeverTrapped : Progress → Type 0
 NeverTrapped r = (c : Cause) (v : World) → r ≡ Trapped c v → ⊥
 
 if_goes : (t : Space) (b : Bool) (p q p2 q2 : Progress) → (NeverTrapped p → p2 ≡ loose_progress t p) → (NeverTrapped q → q2 ≡ loose_progress t q) → NeverTrapped (if b then p else q)
@@ -195,14 +195,14 @@ result_loose t w m Went al h = refl
 result_loose t w m Call al h = call_loose t w al h
 result_loose t w m (Trap c) al h = refl
 
-tick_loose : (t : Space) (w : World) → Allows w.machine.space t → NeverTrapped (tick_of w) → tick_of (loose_world t w) ≡ loose_progress t (tick_of w)
+pub tick_loose : (t : Space) (w : World) → Allows w.machine.space t → NeverTrapped (tick_of w) → tick_of (loose_world t w) ≡ loose_progress t (tick_of w)
 unfolding tick_of
 tick_loose t w al h =
     let s = step_of w.machine in
     let fine : NoTrap s = λ c e. h c w (ap (result_of w s.machine) e) in
     ap (λ (x : Stepped). result_of (loose_world t w) x.machine x.result) (step_loose t w.machine al fine) ∙ result_loose t w s.machine s.result al h
 
-permits_further : (s u t : Space) → Permits s u → Allows s t → Allows u t
+pub permits_further : (s u t : Space) → Permits s u → Allows s t → Allows u t
 permits_further s u t k al = record {
   reads = λ a e. al.reads a (sym (k.can_read a) ∙ e);
   writes = λ a e. al.writes a (sym (k.can_write a) ∙ e);

@@ -23,7 +23,7 @@ NoTrap s = (c : Cause) → s.result ≡ Trap c → ⊥
 abbrev NeverTrapped : Progress → Type 0
 NeverTrapped r = (c : Cause) (v : World) → r ≡ Trapped c v → ⊥
 
-step_traps_not : (w : World) → NeverTrapped (tick_of w) → NoTrap (step_of w.machine)
+pub step_traps_not : (w : World) → NeverTrapped (tick_of w) → NoTrap (step_of w.machine)
 unfolding tick_of
 step_traps_not w h c e = h c w (ap (result_of w (step_of w.machine).machine) e)
 

@@ -26,7 +26,7 @@ use Rattle.cc_laws.proofs.Steps.{inside_now}
 use Rattle.cc_laws.proofs.Instants.{Stands, same_at, at_some, at_later}
 
 -- it is enough to say it of the image that the file is known to run from
-of_each : (Promise : Program → Image → List ℕ → Type 0)
+pub of_each : (Promise : Program → Image → List ℕ → Type 0)
     → ((stack : ℕ) (p : Program) (frames file : List ℕ) (r : RunsAs stack p frames file) (input : List ℕ) → IsInput input → StaysDefined stack p input → Promise p r.image input)
     → OfEachFile Promise
 of_each Promise holds stack p frames file r = (r.image, r.loads, holds stack p frames file r)
@@ -39,12 +39,12 @@ does_all = of_each (λ p image input. (n : ℕ) → (k : ℕ) × (done_in (run_o
     let found = at_some stack p frames file r input bytes fine n in
     (found.0, same_at r.image p input n found.0 found.1))
 
-done_is : (r : Progress) → done_in r ≡ reverse (trace_of r)
+pub done_is : (r : Progress) → done_in r ≡ reverse (trace_of r)
 done_is (Running w) = refl
 done_is (sim.Ended status w) = refl
 done_is (Trapped c w) = refl
 
-begins : (image : Image) (input : List ℕ) (k j : ℕ) → IsBeginning (done_in (run_of image input k)) (done_in (run_of image input (k + j)))
+pub begins : (image : Image) (input : List ℕ) (k j : ℕ) → IsBeginning (done_in (run_of image input k)) (done_in (run_of image input (k + j)))
 begins image input k j =
     let first = run_of image input k in
     let kept = (runs_keep k j (start_world image input)).0 in
@@ -76,7 +76,7 @@ pub never_traps : NeverTraps
 never_traps = of_each TrapsNowhere traps_nowhere
 
 -- the permissions are those of the image
-kept_four : (f g : ℕ → Bool) → ((a : ℕ) → g a ≡ f a) → (a : ℕ) → all_four g a ≡ true → all_four f a ≡ true
+pub kept_four : (f g : ℕ → Bool) → ((a : ℕ) → g a ≡ f a) → (a : ℕ) → all_four g a ≡ true → all_four f a ≡ true
 kept_four f g each a h = rw (each a, each (a + 1), each (a + 2), each (a + 3)) at h
 
 may_still_load : (s t : Space) (kind : LoadKind) (a : ℕ) → Permits s t → MayLoad t kind a → MayLoad s kind a

@@ -136,18 +136,22 @@ labels made = made.image_is.assembled.env
 abbrev pub data_of : {stack : ℕ} {p : Program} {file frames : List ℕ} → IsFileOf stack p file frames → ℕ
 data_of made = data_start (length made.parts.text)
 
--- each call that the run of its flat code comes to keeps the calling convention, for any number of steps ..
+-- whatever the number of steps
+abbrev pub Always : ℕ → Type 0
+Always m = Unit {0}
+
+-- each call that the run of its flat code comes to keeps the calling convention, from one entry on and for any number of steps ..
 abbrev pub CallsAreKept : {stack : ℕ} {p : Program} {file frames : List ℕ} → IsFileOf stack p file frames → Image → (input : List ℕ) → Type 0
 CallsAreKept made image input =
-    (n f : ℕ) (s : flat.State) → ComesToCall made.code input n f s → (steps : ℕ)
+    (n f : ℕ) (s : flat.State) → ComesToCall made.code input n f s
     → KeepsConvention made.code (labels made) (data_of made) (λ k. run_of image input k)
-    (labels made f) (behind_call made.code (labels made) s) (flat.entered s f) steps
+    (labels made f) (behind_call made.code (labels made) s) (flat.entered s f) Always
 
 -- .. and main does, which returns to the 16th byte of the text
 abbrev pub MainIsKept : {stack : ℕ} {p : Program} {file frames : List ℕ} → IsFileOf stack p file frames → Image → (input : List ℕ) → Type 0
 MainIsKept made image input =
-    (steps : ℕ) → KeepsConvention made.code (labels made) (data_of made) (λ k. run_of image input k)
-    (labels made made.code.main) (text_start + 16) (flat.start made.code input) steps
+    KeepsConvention made.code (labels made) (data_of made) (λ k. run_of image input k)
+    (labels made made.code.main) (text_start + 16) (flat.start made.code input) Always
 
 -- so it is of each file that is made of a program, on every input on which the program stays defined
 abbrev pub FilesKeepConvention : Type 0

@@ -2,6 +2,10 @@
 #![tactic(auto)]
 
 ghost use Rattle.cc_laws.specs.Laws.{DoesAll, DoesNoMore, NeverTraps, StaysInside, FilesAreLaidOut, FilesKeepConvention, FilesTouchTheirFrames, FilesStayAbove, FilesCallAsMeant, EndsOnlySo, UnitsHaveMain, EndsInTime};
+ghost use Rattle.cc_laws.specs.Overflow.{FilesGoUpToOverflow};
+ghost use Rattle.cc_laws.specs.Frames.{FilesRunWithinFrames};
+ghost use Rattle.cc_laws.specs.Inputs.{DoesAllSoFar, ReadsAsItGoes};
+ghost use Rattle.cc_laws.specs.Reserved.{FilesLeaveReserved};
 
 /// What the abstract machine has done within any number of ticks, the file has done after some number of instructions.
 pub fn does_all()
@@ -65,4 +69,32 @@ pub fn units_have_main()
 /// Where the abstract machine ends within n ticks, the file ends with the same status after at most 64 n + 64 instructions, having done the same.
 pub fn ends_in_time()
     ensures { EndsInTime }
+{}
+
+/// A file that is made of a program, on each input on which the program meets no undefined behaviour, however much stack its calls want: it does what the abstract
+/// machine does, and ends where that ends, until a load or a store below the stack traps. Nothing else is ever stored to: the data lie apart from the stack, and what is between
+/// them is no memory.
+pub fn files_go_up_to_overflow()
+    ensures { FilesGoUpToOverflow }
+{}
+
+/// The same as the headline, with the stack that the file's frames take in place of weights: where the frames of the calls that are active at one time never take
+/// more than the stack together, the file does what the abstract machine does.
+pub fn files_run_within_frames()
+    ensures { FilesRunWithinFrames }
+{}
+
+/// What the abstract machine does before it meets undefined behaviour, the file does too, up to the last tick before; and until then nothing else.
+pub fn does_all_so_far()
+    ensures { DoesAllSoFar }
+{}
+
+/// What an image's run has done depends on the bytes alone that it has read so far: so what is said of each finite input is said of a terminal.
+pub fn reads_as_it_goes()
+    ensures { ReadsAsItGoes }
+{}
+
+/// A file that is made of a program never writes gp and tp (RISC-V ELF psABI, "Integer Register Convention"): they stay 0, whatever the program does.
+pub fn files_leave_reserved()
+    ensures { FilesLeaveReserved }
 {}

@@ -66,9 +66,6 @@ pub struct HideSets {
 // So many names of a set are looked at before the least number of the name's nodes is asked for.
 const NEAR_NAMES: usize = 4;
 
-// The most nodes of a table. One that wants more is refused as where memory runs out.
-const MAX_NODES: usize = 1_048_576;
-
 impl Model for HideSets {
     ghost use Rattle.macros_substitution.specs.HideSets.{Sets};
     ghost use Rattle.macros_substitution.specs.inside.Nodes.{sets_of};
@@ -265,10 +262,6 @@ impl HideSets {
         Ok(made)
     }
 
-    fn is_full(&self) -> bool {
-        self.nodes.len() >= MAX_NODES
-    }
-
     /// The set with this name before the others.
     pub fn with(&mut self, set: HideSet, name: usize) -> Result<HideSet, Refusal>
         requires { set ≤ length self.old }
@@ -277,9 +270,6 @@ impl HideSets {
         ensures names { (count : ℕ) → name < count → NamesBelow count self.old → NamesBelow count self.new }
         ensures err { IfErr result (λ refusal. refusal ≡ Memory) }
     {
-        if self.is_full() {
-            return Err(Refusal::Memory);
-        }
         if let Err(refusal) = self.firsts.note(name, self.nodes.len()) {
             return Err(refusal);
         }

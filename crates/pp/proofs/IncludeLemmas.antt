@@ -26,7 +26,7 @@ use Rattle.pp.specs.inside.Including.{is_include, Means, Enters, EntersOrStops, 
 use Rattle.pp.specs.inside.Pending.{run_ended}
 use Rattle.pp.specs.Rest.{is_active, rest_done}
 use Rattle.pp.specs.Held.{presumed_of, Agrees}
-use Rattle.pp.specs.inside.Stepping.{presumed_by, placed, line_with, Goes, Gives, Stops, StopsAs}
+use Rattle.pp.specs.inside.Stepping.{presumed_by, placed, line_with, Goes, GivesFirst, Stops, StopsAs}
 use Rattle.pp.proofs.BranchLemmas.{alone_skipped}
 use Rattle.pp.proofs.FileLemmas.{directive_is, directive_stands, stops_all, ends_with}
 use Rattle.pp.proofs.PhaseLemmas.{number_kept}
@@ -176,13 +176,25 @@ pub made_stops : (r : Refusal) (texts names after : Texts) (enter : Enter) (at :
 made_stops r texts names after enter at held xs tokens rest x s a t e k st =
     stops_all s.given after r (expand texts tokens of_directive s) (include_done texts enter at (presume s xs) s) (include_made enter at) (made_is texts names enter at held xs tokens rest x s a t e k) st
 
+include_first : (enter : Enter) (at : Pos) (whole : List Token) (s : State) → include_made enter at (whole, s) ≡ include_made enter at (take 2 whole, s)
+include_first enter at [] s = refl
+include_first enter at (x ∷ []) s = refl
+include_first enter at (x ∷ y ∷ rest) s = refl
+
+-- what it includes is told by the first two tokens
+include_made_first : (texts names : Texts) (enter : Enter) (at : Pos) (new : Held) (tokens list : List Token) (s : State) (g : GivesFirst 2 list names new (expand texts tokens of_directive s))
+    → (expand texts tokens of_directive s >>= include_made enter at) ≡ include_made enter at (list, g.gives.after)
+include_made_first texts names enter at new tokens list s g =
+    ap (λ o. o >>= include_made enter at) g.gives.gives_is ∙ include_first enter at g.whole g.gives.after
+    ∙ ap (λ (l : List Token). include_made enter at (l, g.gives.after)) (sym g.first_is)
+
 pub made_includes : (result : Result Source Refusal) (texts names after : Texts) (enter : Enter) (at : Pos) (held new : Held) (files : Files) (room : ℕ) (xs tokens rest list : List Token) (x : Token) (s : State) → Agrees names held s → tokens ≡ placed (presumed_of held.presumed) xs
-    → xs ≡ x ∷ rest → is_header_kind x.kind ≡ false → (g : Gives list names new (expand texts tokens of_directive s))
-    → IncludesOrStops g.after.given result after new files texts room (include_made enter at (list, g.after))
+    → xs ≡ x ∷ rest → is_header_kind x.kind ≡ false → (g : GivesFirst 2 list names new (expand texts tokens of_directive s))
+    → IncludesOrStops g.gives.after.given result after new files texts room (include_made enter at (list, g.gives.after))
     → IncludesOrStops s.given result after new files texts room (include_done texts enter at (presume s xs) s)
 made_includes result texts names after enter at held new files room xs tokens rest list x s a t e k g h =
-    subst (IncludesOrStops s.given result after new files texts room) (sym (made_is texts names enter at held xs tokens rest x s a t e k ∙ ap (λ o. o >>= include_made enter at) g.gives_is))
-    (subst (λ l. IncludesOrStops l result after new files texts room (include_made enter at (list, g.after))) (expand_given texts tokens of_directive s (list, g.after) g.gives_is) h)
+    subst (IncludesOrStops s.given result after new files texts room) (sym (made_is texts names enter at held xs tokens rest x s a t e k ∙ include_made_first texts names enter at new tokens list s g))
+    (subst (λ l. IncludesOrStops l result after new files texts room (include_made enter at (list, g.gives.after))) (expand_given texts tokens of_directive s (g.whole, g.gives.after) g.gives.gives_is) h)
 
 -- ---- the line
 

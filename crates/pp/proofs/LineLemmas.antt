@@ -15,7 +15,7 @@ use Rattle.macros.proofs.TableLemmas.{table_grows}
 use Rattle.pp.specs.declared.state.State.{State as Held}
 use Rattle.pp.specs.Phase4.{State, ◌>>=◌, expand, presume, line_done, goes, stops, fails, is_line_number, is_file_text, inside, numbered, number_in, line_made}
 use Rattle.pp.specs.Held.{presumed_of, IsGiven, Agrees}
-use Rattle.pp.specs.inside.Stepping.{placed, Goes, Gives, Stops, StopsAs, Answers, Does, IsNextDigit, IsLineNumber}
+use Rattle.pp.specs.inside.Stepping.{placed, Goes, GivesFirst, Stops, StopsAs, Answers, Does, IsNextDigit, IsLineNumber}
 use Rattle.srcset.specs.declared.refusal.Refusal.{Refusal}
 use Rattle.srcset.specs.declared.refusal.Refusal.TheVariants.{At}
 use Rattle.pp_expand.specs.Expansion.{of_directive}
@@ -152,22 +152,35 @@ pub line_stops : (r : Refusal) (texts names : Texts) (held : Held) (raw tokens :
 line_stops r texts names held raw tokens end at s a e st =
     stops_all s.given names r (expand texts tokens of_directive s) (line_done texts end at (presume s raw) s) (line_made texts end at) (line_is texts names held raw tokens end at s a e) st
 
+line_first : (texts : Texts) (end : ℕ) (at : Pos) (whole : List Token) (s : State) → line_made texts end at (whole, s) ≡ line_made texts end at (take 3 whole, s)
+line_first texts end at [] s = refl
+line_first texts end at (n ∷ []) s = refl
+line_first texts end at (n ∷ f ∷ []) s = refl
+line_first texts end at (n ∷ f ∷ x ∷ rest) s = refl
+
+-- what it does is told by the first three tokens
+line_made_first : (texts names : Texts) (new : Held) (raw tokens list : List Token) (end : ℕ) (at : Pos) (s : State) (g : GivesFirst 3 list names new (expand texts tokens of_directive s))
+    → (expand texts tokens of_directive s >>= line_made texts end at) ≡ line_made texts end at (list, g.gives.after)
+line_made_first texts names new raw tokens list end at s g =
+    ap (λ k. k >>= line_made texts end at) g.gives.gives_is ∙ line_first texts end at g.whole g.gives.after
+    ∙ ap (λ (l : List Token). line_made texts end at (l, g.gives.after)) (sym g.first_is)
+
 pub line_bad : (r : Refusal) (texts names : Texts) (held new : Held) (raw tokens list : List Token) (end : ℕ) (at : Pos) (s : State) → Agrees names held s → tokens ≡ placed (presumed_of held.presumed) raw
-    → r ≡ At code.BadLineDirective at → Gives list names new (expand texts tokens of_directive s) → ((s : State) → Stops s.given code.BadLineDirective at [] (line_made texts end at (list, s)))
+    → r ≡ At code.BadLineDirective at → GivesFirst 3 list names new (expand texts tokens of_directive s) → ((s : State) → Stops s.given code.BadLineDirective at [] (line_made texts end at (list, s)))
     → StopsAs s.given names r (line_done texts end at (presume s raw) s)
 line_bad r texts names held new raw tokens list end at s a e is g bad =
     subst (λ r. StopsAs s.given names r (line_done texts end at (presume s raw) s)) (sym is)
     (record {
-      stops_is = line_is texts names held raw tokens end at s a e ∙ ap (λ k. k >>= line_made texts end at) g.gives_is ∙ (bad g.after).stops_is
-          ∙ ap (λ (l : List Token). stops l (record { code = code.BadLineDirective; at = at; text = [] })) (expand_given texts tokens of_directive s (list, g.after) g.gives_is);
+      stops_is = line_is texts names held raw tokens end at s a e ∙ line_made_first texts names new raw tokens list end at s g ∙ (bad g.gives.after).stops_is
+          ∙ ap (λ (l : List Token). stops l (record { code = code.BadLineDirective; at = at; text = [] })) (expand_given texts tokens of_directive s (g.whole, g.gives.after) g.gives.gives_is);
     })
 
 pub line_answers : {A : Type 0} (result : Result A Refusal) (texts names after : Texts) (held mid new : Held) (raw tokens list : List Token) (end : ℕ) (at : Pos) (s : State) → Agrees names held s → tokens ≡ placed (presumed_of held.presumed) raw
-    → Gives list names mid (expand texts tokens of_directive s) → Does result names mid after new (λ s. line_made texts end at (list, s))
+    → GivesFirst 3 list names mid (expand texts tokens of_directive s) → Does result names mid after new (λ s. line_made texts end at (list, s))
     → Answers s.given result after new (line_done texts end at (presume s raw) s)
 line_answers result texts names after held mid new raw tokens list end at s a e g does =
-    subst (Answers s.given result after new) (sym (line_is texts names held raw tokens end at s a e ∙ ap (λ k. k >>= line_made texts end at) g.gives_is))
-    (subst (λ l. Answers l result after new (line_made texts end at (list, g.after))) (expand_given texts tokens of_directive s (list, g.after) g.gives_is) (does g.after g.agrees))
+    subst (Answers s.given result after new) (sym (line_is texts names held raw tokens end at s a e ∙ line_made_first texts names mid raw tokens list end at s g))
+    (subst (λ l. Answers l result after new (line_made texts end at (list, g.gives.after))) (expand_given texts tokens of_directive s (g.whole, g.gives.after) g.gives.gives_is) (does g.gives.after g.gives.agrees))
 
 pub whole_list : (ts list : List Token) (x : Token) → ts ≡ list → 1 ≤ length ts → x ≡ slice_index_or ts 0 x → list ≡ x ∷ take (length ts - 1) (drop 1 ts)
 whole_list ts list x e n p = sym e ∙ first_rest ts x n p ∙ ap (λ l. x ∷ l) (sym (rest_one ts))

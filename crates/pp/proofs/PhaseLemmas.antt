@@ -19,7 +19,7 @@ use Rattle.phases.specs.LineEnds.{line_ends}
 use Rattle.pp.specs.Lines.{Line, lines_with, lines_or_refusal, lines_of}
 use Rattle.pp.specs.Groups.{groups}
 use Rattle.pp.specs.Phase4.{State, Fault, Around, start, max_includes, number_in, lines_done, file_done, main_done, ending_of, phase4, group_done}
-use Rattle.pp.specs.Preprocessed.{IsStopped, IsRefused}
+use Rattle.pp.specs.Preprocessed.{IsStopped, IsRefused, IsUnread, IsUnbegun}
 use Rattle.pp.specs.Left.{around_with}
 use Rattle.pp.specs.Rest.{nowhere}
 use Rattle.pp.specs.inside.Stepping.{Stops, StopsAs}
@@ -162,3 +162,17 @@ no_main_is files texts main file given numbered = record {
   stops = ap (λ o. (ending_of (main_done files texts main o)).fault) given
       ∙ ap (λ (n : ℕ). Some (no_main n)) numbered;
 }
+
+-- ---- where it does not begin
+
+pub absent_main : (files : Files) (texts : Texts) (main : List ℕ) (file : ℕ) → file_of files main ≡ None → number_in texts main ≡ file
+    → IsUnbegun files texts main (At code.NoMainFile (record { file = file; line = 0 }))
+absent_main files texts main file given numbered =
+    inr (subst (λ o. IsUnread texts main o (At code.NoMainFile (record { file = file; line = 0 }))) (sym given)
+    (ap (λ (n : ℕ). At code.NoMainFile (record { file = n; line = 0 })) (sym numbered)))
+
+pub unread_main : (r : Refusal) (files : Files) (texts : Texts) (main bytes : List ℕ) (file : ℕ) → file_of files main ≡ Some bytes → number_in texts main ≡ file
+    → (r ≡ Memory) ⊎ (scanned file bytes ≡ Err r) → IsUnbegun files texts main r
+unread_main r files texts main bytes file given numbered (inl m) = inl m
+unread_main r files texts main bytes file given numbered (inr e) =
+    inr (subst (λ o. IsUnread texts main o r) (sym given) (ap (λ n. scanned n bytes) numbered ∙ e))

@@ -1,8 +1,7 @@
 -- What ends of runs and directives do to the state.
 use Rattle.std.proofs.Common.{◌≡◌, ◌≤◌, ◌<◌, ℕ, zero, suc, List, [], ◌∷◌, ◌++◌, length, Bool, true, false, Result, Ok, Err, OnOk, IfErr, get_or, drop, take, ◌-◌, arith, slice_index_or, refl, sym, ap, subst, ◌∙◌}
-use Rattle.std.specs.Prelude.{codes, if◌then◌else◌, map, ◌&&◌, Vec}
+use Rattle.std.specs.Prelude.{codes, if◌then◌else◌, map, ◌&&◌}
 use Rattle.std.specs.List.{flat_map}
-use Rattle.std.specs.declared.alloc.Global.{Global}
 use Rattle.std.proofs.lemmas.List.{take_all, length-drop}
 use Rattle.std.proofs.lemmas.Option.{slice_get_within, slice_get-get_or}
 use Rattle.srcset.specs.declared.refusal.Pos.{Pos}
@@ -17,13 +16,13 @@ use Rattle.macros.specs.Definition.{define, undefine}
 use Rattle.macros.specs.Table.{IsTable, Defines, IsDefineRefusal, Undefines, IsUndefineRefusal}
 use Rattle.pp_expand.specs.Expansion as expansion
 use Rattle.pp_expand.specs.Expansion.{Ending, Known, of_run, of_directive, expanded}
-use Rattle.pp_expand.specs.Expands.{HaveFiles, IsExpansion}
+use Rattle.pp_expand.specs.Expands.{HaveFiles, IsExpansion, put_behind}
 use Rattle.pp.specs.declared.state.State.{State as Held}
 use Rattle.pp.specs.Phase4.{Presumed, printable, State, Outcome, goes, stops, Enter, presume, with_macros, undefined, fails, of_expansion, expand, include_done, line_done, named, directive_by, directive_done, max_tokens}
 use Rattle.pp.specs.inside.Including.{is_include}
 use Rattle.pp.specs.inside.Pending.{is_directive}
 use Rattle.pp.specs.Held.{presumed_of, IsGiven, Agrees, IsSound}
-use Rattle.pp.specs.inside.Stepping.{presumed_by, placed, line_with, spaced_out, error_fault, error_done, Gives, Goes, Stops, StopsAs, Answers, Does}
+use Rattle.pp.specs.inside.Stepping.{presumed_by, placed, line_with, spaced_out, error_fault, error_done, Gives, GivesFirst, Goes, Stops, StopsAs, Answers, Does}
 
 pub on_ok : {A : Type 0} {P : Type 0} → (result : Result A Refusal) → P → OnOk result P
 on_ok (Ok u) p = p
@@ -309,10 +308,10 @@ expand_is texts names xs held s r a e =
     let known : Known = record { macros = s.macros; texts = texts } in
     ap (λ r. of_expansion s r) (ap (λ n. expanded known xs of_directive n) a.left_is ∙ e)
 
-pub expand_gives : (texts names : Texts) (xs : List Token) (list : Vec Token Global) (held new : Held) (s : State)
-    → Agrees names held s → expanded (record { macros = s.macros; texts = texts }) xs of_directive held.budget ≡ Ok (list.items, new.budget)
+pub expand_gives : (texts names : Texts) (xs list : List Token) (held new : Held) (s : State)
+    → Agrees names held s → expanded (record { macros = s.macros; texts = texts }) xs of_directive held.budget ≡ Ok (list, new.budget)
     → new.table ≡ held.table → new.given ≡ held.given → new.presumed ≡ held.presumed
-    → Gives list.items names new (expand texts xs of_directive s)
+    → Gives list names new (expand texts xs of_directive s)
 expand_gives texts names xs list held new s a e t g p = record {
   after = record s { left = new.budget };
   agrees = record {
@@ -321,7 +320,24 @@ expand_gives texts names xs list held new s a e t g p = record {
     given_is = subst (λ v. IsGiven v s.given) (sym g) a.given_is;
     presumed_is = a.presumed_is ∙ ap presumed_of (sym p);
   };
-  gives_is = expand_is texts names xs held s (Ok (list.items, new.budget)) a e;
+  gives_is = expand_is texts names xs held s (Ok (list, new.budget)) a e;
+}
+
+first_of : (most : ℕ) (before list : List Token) → before ≡ [] → put_behind most before list ≡ take most list
+first_of most before list none =
+    ap (λ b. put_behind most b list) none ∙ ap (λ n. take n list) (less_none most)
+  where
+    less_none : (n : ℕ) → n - 0 ≡ n
+    less_none n = omega arith
+
+pub expand_gives_first : (texts names : Texts) (xs : List Token) (most : ℕ) (before first list : List Token) (held new : Held) (s : State)
+    → Agrees names held s → expanded (record { macros = s.macros; texts = texts }) xs of_directive held.budget ≡ Ok (list, new.budget)
+    → before ≡ [] → first ≡ put_behind most before list → new.table ≡ held.table → new.given ≡ held.given → new.presumed ≡ held.presumed
+    → GivesFirst most first names new (expand texts xs of_directive s)
+expand_gives_first texts names xs most before first list held new s a e none f t g p = record {
+  whole = list;
+  gives = expand_gives texts names xs list held new s a e t g p;
+  first_is = f ∙ first_of most before list none;
 }
 
 pub expand_stops : (refusal : Refusal) (texts names : Texts) (xs : List Token) (held : Held) (left : ℕ) (s : State)

@@ -1,5 +1,5 @@
 //! The files that include one another.
-ghost use Rattle.std.specs.Prelude.{◌≡◌, ◌≤◌, ◌<◌, ◌+◌, ℕ, [], suc, true, false, length, slice_get, Err, IfOk, IfErr, IfSome, OnOk, ◌⊎◌};
+ghost use Rattle.std.specs.Prelude.{◌≡◌, ◌≤◌, ◌<◌, ◌+◌, ℕ, [], suc, true, false, length, slice_get, Ok, Err, IfOk, IfErr, IfSome, OnOk, ◌⊎◌};
 ghost use Rattle.srcset.specs.Files.{Files as Set};
 ghost use Rattle.srcset.specs.NameTable.{Texts, KeepsNumbers};
 ghost use Rattle.srcset.specs.declared.refusal.Refusal.TheVariants.{Memory};
@@ -27,10 +27,6 @@ use std::mem;
 
 /// How many files may be open at once beside the main one, each included by the one before it.
 pub const MAX_INCLUDES: usize = 32;
-
-/// The most tokens that open files may have before another is opened. Who wants more is refused as if out of memory, so that a file
-/// that includes itself does not take all memory of a machine.
-const MAX_OPEN_TOKENS: usize = 2_097_152;
 
 /// A file, the lines of which are done one after another.
 #[derive(Drop)]
@@ -61,6 +57,24 @@ pub struct Files<'a> {
     pub scans: Scans<'a>,
 }
 
+// A file with these lines, at the first one.
+fn begun<'a>(alloc: Global, source: &Source<'a>, lines: Scanned<'a>) -> Reading<'a>
+    requires small { length source.now.bytes.now ≤ 1048576 }
+    requires lines { scanned source.now.name source.now.bytes.now ≡ Ok lines }
+    ensures { IsOpened source.now result }
+{
+    Reading {
+        end: lines.len(),
+        next: 0,
+        file: OpenFile {
+            run: Run::new(alloc),
+            conditionals: Conditionals::new(alloc),
+            ends: LineEnds::new(source.bytes),
+        },
+        lines,
+    }
+}
+
 /// A file at its first line. It is scanned whole, so that the faults of phases 1 to 3 come here.
 pub fn opened<'a>(
     alloc: Global,
@@ -72,16 +86,25 @@ pub fn opened<'a>(
     ensures err { IfErr result (λ refusal. (refusal ≡ Memory) ⊎ (scanned source.now.name source.now.bytes.now ≡ Err refusal)) }
 {
     let lines = scans.take(alloc, source)?;
-    Ok(Reading {
-        end: lines.len(),
-        next: 0,
-        file: OpenFile {
-            run: Run::new(alloc),
-            conditionals: Conditionals::new(alloc),
-            ends: LineEnds::new(source.bytes),
-        },
-        lines,
-    })
+    Ok(begun(alloc, source, lines))
+}
+
+// The same, where the file may be open already, with these lines: then it is not scanned again.
+fn opened_again<'a>(
+    alloc: Global,
+    source: &Source<'a>,
+    shared: Option<Scanned<'a>>,
+    scans: &mut Scans<'a>,
+) -> Result<Reading<'a>, Refusal>
+    requires small { length source.now.bytes.now ≤ 1048576 }
+    requires lines { IfSome shared (λ lines. scanned source.now.name source.now.bytes.now ≡ Ok lines) }
+    ensures ok { IfOk result (IsOpened source.now) }
+    ensures err { IfErr result (λ refusal. (refusal ≡ Memory) ⊎ (scanned source.now.name source.now.bytes.now ≡ Err refusal)) }
+{
+    match shared {
+        Some(lines) => Ok(begun(alloc, source, lines)),
+        None => opened(alloc, source, scans),
+    }
 }
 
 impl<'a> Reading<'a> {
@@ -165,13 +188,19 @@ impl<'a> Files<'a> {
         MAX_INCLUDES.saturating_sub(self.includers.len())
     }
 
-    // Whether the open files have too many tokens for a further one.
-    fn is_full(&self) -> bool {
-        let mut count = self.innermost.lines.tokens();
-        for includer in self.includers.iter() {
-            count = count.saturating_add(includer.reading.lines.tokens());
+    // The lines of a file that is open.
+    fn open_lines(&self, source: &Source<'a>) -> Option<Scanned<'a>>
+        ensures { IfSome result (λ lines. scanned source.now.name source.now.bytes.now ≡ Ok lines) }
+    {
+        if self.innermost.lines.is_named(source.name) {
+            return self.innermost.lines.shared_as(source);
         }
-        count > MAX_OPEN_TOKENS
+        let index = self
+            .includers
+            .iter()
+            .position(|includer| includer.reading.lines.is_named(source.name))?;
+        let includer = self.includers.get(index)?;
+        includer.reading.lines.shared_as(source)
     }
 
     // Opens a file that the innermost one includes, which waits.
@@ -188,7 +217,8 @@ impl<'a> Files<'a> {
         ensures given { state.new.given ≡ state.old.given }
         ensures less { (further : ℕ) → room_of self.old.includers.items ≡ suc further → OnOk result (size_of self.new.innermost self.new.includers.items < size_of self.old.innermost self.old.includers.items + weight (room_of self.old.includers.items)) }
     {
-        let reading = opened(alloc, source, &mut self.scans)?;
+        let shared = self.open_lines(source);
+        let reading = opened_again(alloc, source, shared, &mut self.scans)?;
         let includer = Includer {
             reading: mem::replace(&mut self.innermost, reading),
             presumed: state.presumed,
@@ -215,9 +245,6 @@ impl<'a> Files<'a> {
     {
         if self.scans.passes_over(source, state, names) {
             return Ok(());
-        }
-        if self.is_full() {
-            return Err(Refusal::Memory);
         }
         self.enter(alloc, source, state)
     }

@@ -21,6 +21,9 @@ use phases::{Kind, PpToken};
 use srcset::{Code, FileSet, Names, Pos, Refusal, find_builtin};
 use std::alloc::Global;
 
+/// An `#include` has one token: with a second one it is wrong, whatever follows.
+const MOST_TOKENS: usize = 2;
+
 /// A file that is to be read.
 #[derive(Clone, Copy)]
 pub struct Source<'a> {
@@ -215,7 +218,7 @@ fn included<'a>(
     }
     let mut placed = Vec::new(alloc);
     state.presumed.put(further, &mut placed)?;
-    let tokens = state.expand_directive(alloc, &placed, names)?;
+    let tokens = state.expand_first(alloc, &placed, MOST_TOKENS, names)?;
     string_named(alloc, set, room, &tokens, at, state, names)
 }
 

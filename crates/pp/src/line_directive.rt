@@ -15,6 +15,9 @@ use phases::{Kind, PpToken};
 use srcset::{Code, Names, Pos, Refusal};
 use std::alloc::Global;
 
+/// A `#line` has a number and the name of a file: with one token more it is wrong, whatever follows.
+const MOST_TOKENS: usize = 3;
+
 /// The greatest line that a `#line` may give.
 const MAX_LINE: u64 = 2147483647;
 
@@ -184,7 +187,7 @@ pub fn line_done<'a>(
 {
     let mut placed = Vec::new(alloc);
     state.presumed.put(further, &mut placed)?;
-    let tokens = state.expand_directive(alloc, &placed, names)?;
+    let tokens = state.expand_first(alloc, &placed, MOST_TOKENS, names)?;
     let [number, name @ ..] = tokens.as_slice() else {
         return Err(bad_line(at));
     };

@@ -15,16 +15,17 @@ use srcset::{Names, Refusal};
 use std::alloc::Global;
 use std::collections::VecDeque;
 use std::marker::Model;
+use std::rc::Rc;
 
 /// How many tokens of files that are not open are kept.
 const MAX_KEPT_TOKENS: usize = 1_048_576;
 
-/// The token lines of a file, which are those of its bytes.
+/// The token lines of a file, which are those of its bytes. Where the file is open more than once, they are shared.
 #[derive(Drop)]
 pub struct Scanned<'a> {
     name: usize,
     bytes: &'a [u8],
-    lines: Lines<'a>,
+    lines: Rc<Lines<'a>>,
 }
 
 impl<'a> Model for Scanned<'a> {
@@ -34,9 +35,9 @@ impl<'a> Model for Scanned<'a> {
 
     ghost Value = { List (List Token) };
 
-    ghost view = { λ s. s.lines };
+    ghost view = { λ s. s.lines.value };
 
-    ghost invariant = { λ s. scanned s.name s.bytes.now ≡ Ok s.lines };
+    ghost invariant = { λ s. scanned s.name s.bytes.now ≡ Ok s.lines.value };
 }
 
 impl<'a> Scanned<'a> {
@@ -47,6 +48,9 @@ impl<'a> Scanned<'a> {
         ensures err { IfErr result (λ refusal. (refusal ≡ Memory) ⊎ (scanned source.now.name source.now.bytes.now ≡ Err refusal)) }
     {
         let lines = try_scan(alloc, source.bytes, source.name)?;
+        let Ok(lines) = Rc::new(alloc, lines) else {
+            return Err(Refusal::Memory);
+        };
         Ok(Scanned {
             name: source.name,
             bytes: source.bytes,
@@ -78,6 +82,33 @@ impl<'a> Scanned<'a> {
         ensures { result ≡ true → scanned source.now.name source.now.bytes.now ≡ Ok self.now }
     {
         self.name == source.name && self.bytes == source.bytes
+    }
+
+    /// Whether the file has a name with this number.
+    pub fn is_named(&self, name: usize) -> bool {
+        self.name == name
+    }
+
+    /// The same lines once more, where they are those of this file.
+    pub fn shared_as(&self, source: &Source<'a>) -> Option<Scanned<'a>>
+        ensures { IfSome result (λ lines. scanned source.now.name source.now.bytes.now ≡ Ok lines) }
+    {
+        if !self.is_of(source) {
+            return None;
+        }
+        let Ok(lines) = self.lines.clone() else {
+            return None;
+        };
+        Some(Scanned {
+            name: self.name,
+            bytes: self.bytes,
+            lines,
+        })
+    }
+
+    // Whether the file is open elsewhere too.
+    fn is_shared(&self) -> bool {
+        Rc::strong_count(&self.lines) > 1
     }
 }
 
@@ -204,8 +235,11 @@ impl<'a> Scans<'a> {
         self.guarded.push_back(known).is_ok()
     }
 
-    /// Keeps a file that has no guard, as long as that is not too many tokens. One that is not kept is scanned again.
+    /// Keeps a file that is open no more and has no guard, as long as that is not too many tokens. One that is not kept is scanned again.
     pub fn keep(&mut self, alloc: Global, scanned: Scanned<'a>) {
+        if scanned.is_shared() {
+            return;
+        }
         if self.keeps_guard(alloc, &scanned) {
             return;
         }

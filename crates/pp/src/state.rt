@@ -12,7 +12,7 @@ ghost use Rattle.pp.specs.Phase4.{State as Done, Enter, start, expand, presume, 
 ghost use Rattle.pp.specs.inside.Including.{is_include};
 ghost use Rattle.pp.specs.inside.Pending.{is_directive};
 ghost use Rattle.pp.specs.Held.{Agrees, IsSound};
-ghost use Rattle.pp.specs.inside.Stepping.{line_with, Gives, StopsAs, Does};
+ghost use Rattle.pp.specs.inside.Stepping.{line_with, Gives, GivesFirst, StopsAs, Does};
 
 use crate::ends::LineEnds;
 use crate::error_directive::refusal_of;
@@ -21,7 +21,7 @@ use crate::places::Presumed;
 use crate::words::is_spelled;
 use macros::{MacroTable, is_identifier};
 use phases::PpToken;
-use pp_expand::{Budget, RunEnd, try_expand};
+use pp_expand::{Budget, RunEnd, Unexpanded, expand_behind, try_expand};
 use srcset::{Code, Names, Pos, Refusal};
 use std::alloc::Global;
 
@@ -85,6 +85,36 @@ impl<'a> State<'a> {
             names,
         )?;
         Ok(list)
+    }
+
+    /// The first of these tokens, so many at the most: no more are kept, however many come.
+    pub fn expand_first(
+        &mut self,
+        alloc: Global,
+        tokens: &[PpToken<'a>],
+        most: usize,
+        names: &Names,
+    ) -> Result<Vec<PpToken<'a>>, Refusal>
+        requires sound { IsSound names.now self.old }
+        requires files { HaveFiles names.now tokens.now }
+        ensures ok { IfOk result (λ first. (texts : Texts) (s : Done) → KeepsNumbers names.now texts → Agrees names.now self.old s → GivesFirst most first.items names.now self.new (expand texts tokens.now of_directive s)) }
+        ensures err { IfErr result (λ refusal. (texts : Texts) (s : Done) → KeepsNumbers names.now texts → Agrees names.now self.old s → StopsAs s.given names.now refusal (expand texts tokens.now of_directive s)) }
+        ensures sound { OnOk result (IsSound names.now self.new) }
+        ensures given { self.new.given ≡ self.old.given }
+    {
+        let list = Unexpanded::copy_of(alloc, tokens)?;
+        let mut first = Vec::new(alloc);
+        expand_behind(
+            alloc,
+            &self.table,
+            list,
+            RunEnd::Directive,
+            &mut self.budget,
+            names,
+            most,
+            &mut first,
+        )?;
+        Ok(first)
     }
 
     // `#define` (ISO/IEC 9899:2011 6.10.3), by the tokens behind the name of the directive.

@@ -2,7 +2,7 @@
 ghost use Rattle.std.specs.Prelude.{◌≡◌, ◌≤◌, ◌<◌, true, false, None, IfOk, IfErr};
 ghost use Rattle.srcset.specs.NameTable.{Texts, KeepsNumbers};
 ghost use Rattle.pp.specs.Phase4.{Phase4, phase4, max_tokens};
-ghost use Rattle.pp.specs.Preprocessed.{IsRefused, IsPreprocessFault};
+ghost use Rattle.pp.specs.Preprocessed.{IsRefused, IsPreprocessFault, IsUnbegun, IsUnbegunFault};
 ghost use Rattle.pp.specs.Stream.{taken_of, IsRest, IsStream, IsAnswer, IsToldAnswer};
 ghost use Rattle.pp.specs.inside.Reading.{stage_after, is_reading, is_pulling, run_ends, end_of, size_by, OpenBy, IsPulled};
 
@@ -97,6 +97,7 @@ impl<'a> Pp<'a> {
         ensures stream { IfOk result (IsStream names.new) }
         ensures none { IfOk result (λ pp. taken_of pp ≡ 0) }
         ensures err { IfErr result (λ refusal. (texts : Texts) → KeepsNumbers names.new texts → IsRefused set.now texts main.now refusal) }
+        ensures unbegun { IfErr result (λ refusal. (texts : Texts) → KeepsNumbers names.new texts → IsUnbegun set.now texts main.now refusal) }
         ensures keeps { KeepsNumbers names.old names.new }
     {
         let Ok(file) = names.intern(main.as_bytes()) else {
@@ -133,6 +134,7 @@ impl<'a> Pp<'a> {
         ensures stream { IfOk result (IsStream names.new) }
         ensures none { IfOk result (λ pp. taken_of pp ≡ 0) }
         ensures err { IfErr result (λ fault. IsPreprocessFault fault set.now names.new main.now) }
+        ensures unbegun { IfErr result (λ fault. IsUnbegunFault fault set.now names.new main.now) }
         ensures keeps { KeepsNumbers names.old names.new }
     {
         match Pp::try_new(alloc, set, names, main) {

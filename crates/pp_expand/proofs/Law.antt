@@ -130,7 +130,7 @@ by_any (suc d) m known l e =
     plus : (m d : ℕ) → suc (d + m) ≡ suc d + m
     plus m d = omega arith
 
-by_enough : (k m : ℕ) (known : Known) (l : List Hidden) (e : Ending) → m ≤ k → expanded_by k known l e m ≡ expanding known l e m
+pub by_enough : (k m : ℕ) (known : Known) (l : List Hidden) (e : Ending) → m ≤ k → expanded_by k known l e m ≡ expanding known l e m
 by_enough k m known l e h =
     let q : (k - m) + m ≡ k = omega (arith, h) in subst (λ n. expanded_by n known l e m ≡ expanding known l e m) q (by_any (k - m) m known l e)
 

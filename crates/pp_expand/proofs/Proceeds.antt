@@ -99,7 +99,7 @@ let_argument old i true e v empty h g list l n = let z : ⊥ = cc in absurd z
 let_argument old i false e v empty h g list l n = (v, at_index old i v h g, l, (empty, (n, refl)))
 
 -- a replacement whose next argument is to be expanded
-module _ (known : Known) (later : Sets) (w0 w w2 : Waiting) (used : Use) (list : List HiddenToken) (same : (onward : Onward) (left : ℕ) → waiting_going known onward later w0 left ≡ waiting_going known onward later w left) (used_is : used ≡ use_of (length w.full.items) (pieces_as known.texts later w.pieces.items)) (takes : TakesArgument w.arguments.items (length w.full.items) used.beside list w2.arguments.items) (like : w2 ≡ record w { arguments = w2.arguments; held = w2.held }) where
+module _ (known : Known) (later : Sets) (w0 w w2 : Waiting) (used : Use) (list : List HiddenToken) (same : (onward : Onward) (left : ℕ) → waiting_going known onward later w0 left ≡ waiting_going known onward later w left) (used_is : used ≡ use_of (length w.full.items) (pieces_as known.texts later w.pieces.items)) (takes : TakesArgument w.arguments.items (length w.full.items) used.beside list w2.arguments.items) (like : w2 ≡ record w { arguments = w2.arguments }) where
   abbrev i : ℕ
   i = length w.full.items
 
@@ -223,8 +223,8 @@ taken_lists count old i true list new h t =
 taken_lists count old i false list new h t =
     (subst (λ l. AreIn count l) (sym t.2) (argument_in count old i t.0 t.1 h), subst (λ vs. ListsIn count vs) (sym t.3.1.1) (set_in count old i t.3.0 t.3.1.0 h), ap length t.3.1.1 ∙ length-set old i t.3.0)
 
-pub taken_in : (count : ℕ) (w : Waiting) → WaitingIn count w → (i : ℕ) (keeps : Bool) (list : List HiddenToken) (new : Vec (Vec HiddenToken Global) Global) (held : ℕ) → TakesArgument w.arguments.items i keeps list new.items → AreIn count list × WaitingIn count (record w { arguments = new; held = held })
-taken_in count w known i keeps list new held t =
+pub taken_in : (count : ℕ) (w : Waiting) → WaitingIn count w → (i : ℕ) (keeps : Bool) (list : List HiddenToken) (new : Vec (Vec HiddenToken Global) Global) → TakesArgument w.arguments.items i keeps list new.items → AreIn count list × WaitingIn count (record w { arguments = new })
+taken_in count w known i keeps list new t =
     let k = taken_lists count w.arguments.items i keeps list new.items known.arguments_in t in (
       k.0,
       record {
@@ -283,7 +283,7 @@ join_weight w argument full e old new (Ok l) h k =
     ⊎_elim (λ (lt : length full.items < length w.arguments.items). omega (arith, h, lt, m)) (λ (le : length w.arguments.items ≤ length full.items). omega (arith, k le)) (cases_lt (length full.items) (length w.arguments.items))
 join_weight w argument full e old new (Err f) h k = tt
 
-pub begun_in : (count : ℕ) (level : Level) (k : Task) (uses : Vec Use Global) (pieces : Vec HeldPiece Global) (full : Vec (Vec HiddenToken Global) Global) (seen : List HeldPiece) → LevelIn count level → TaskIn count k → PiecesIn 0 pieces.items → full.items ≡ [] → length uses.items ≡ length k.arguments.items → seen ≡ pieces.items → ((texts : Texts) (sets : Sets) (i : ℕ) → i < length k.arguments.items → slice_get uses.items i ≡ Some (use_of i (pieces_as texts sets seen))) → WaitingIn count (record { level = level; space_before = k.space_before; at = k.at; hides = k.hides; arguments = k.arguments; uses = uses; pieces = pieces; full = full; held = 0 })
+pub begun_in : (count : ℕ) (level : Level) (k : Task) (uses : Vec Use Global) (pieces : Vec HeldPiece Global) (full : Vec (Vec HiddenToken Global) Global) (seen : List HeldPiece) → LevelIn count level → TaskIn count k → PiecesIn 0 pieces.items → full.items ≡ [] → length uses.items ≡ length k.arguments.items → seen ≡ pieces.items → ((texts : Texts) (sets : Sets) (i : ℕ) → i < length k.arguments.items → slice_get uses.items i ≡ Some (use_of i (pieces_as texts sets seen))) → WaitingIn count (record { level = level; space_before = k.space_before; at = k.at; hides = k.hides; arguments = k.arguments; uses = uses; pieces = pieces; full = full })
 begun_in count level k uses pieces full seen l t p none n e each = record {
   level_in = l;
   hides_in = t.hides_in;

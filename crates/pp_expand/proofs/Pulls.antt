@@ -69,7 +69,7 @@ by_any (suc d) m known ending xs =
     plus : (m d : ℕ) → suc (d + m) ≡ suc d + m
     plus m d = omega arith
 
-by_enough : (k m : ℕ) (known : Known) (ending : Ending) (xs : List Hidden) → m ≤ k → pulled_by k known xs ending m ≡ pulled known xs ending m
+pub by_enough : (k m : ℕ) (known : Known) (ending : Ending) (xs : List Hidden) → m ≤ k → pulled_by k known xs ending m ≡ pulled known xs ending m
 by_enough k m known ending xs h =
     let q : (k - m) + m ≡ k = omega (arith, h) in
     subst (λ n. pulled_by n known xs ending m ≡ pulled known xs ending m) q (by_any (k - m) m known ending xs)

@@ -8,7 +8,6 @@ ghost use Rattle.pp_expand.specs.Expansion.{expanded};
 ghost use Rattle.pp_expand.specs.Expands.{HaveFiles, IsExpansion, IsExpansionBehind, IsToldExpansion, ending_of, put_behind};
 
 use crate::budget::Budget;
-use crate::room::MAX_HELD;
 use crate::run_end::RunEnd;
 use crate::streaming::Expander;
 use crate::unexpanded::Unexpanded;
@@ -84,15 +83,12 @@ pub fn try_expand<'a>(
     ensures files { (macros : Macros) → IsTable names.now table.now macros → IfOk result (λ v. HaveFiles names.now v.items) }
 {
     let list = Unexpanded::copy_of(alloc, list)?;
-    let before = budget.left();
     let mut given = Vec::new(alloc);
-    let most = MAX_HELD + 1;
+    let most = usize::MAX;
     match expand_behind(alloc, table, list, end, budget, names, most, &mut given) {
         Ok(()) => {
-            if given.len() > MAX_HELD {
-                *budget = Budget::new(before);
-                return Err(Refusal::Memory);
-            }
+            let is_whole = given.len() < most;
+            prove!(is_whole);
             Ok(given)
         }
         Err(refusal) => Err(refusal),
@@ -106,9 +102,10 @@ pub fn try_expand<'a>(
 /// Each replacement takes one of `budget`, which stays as it was where the list is refused.
 ///
 /// Fails at the first of these, in the order in which the list is scanned, at the name that is replaced: 211 where the
-/// arguments are not closed; 705 where they are more than 127; 212 where they are not as many as the parameters; 213
-/// where a function-like name ends a run; 706 where no replacement is left; 207 where `#` makes no string literal; what
-/// is wrong with an argument; 206 where `##` makes no token. Fails with 801 where memory runs out.
+/// arguments are not closed; 705 where they are more than 127; 212 where they are not as many as the parameters, or 214
+/// where they are for the named ones alone; 213 where a function-like name ends a run; 706 where no replacement is left;
+/// 207 where `#` makes no string literal; what is wrong with an argument; 206 where `##` makes no token. Fails with 801
+/// where memory runs out.
 pub fn expand<'a>(
     alloc: Global,
     table: &MacroTable<'a>,

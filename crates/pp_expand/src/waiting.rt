@@ -10,7 +10,6 @@ ghost use Rattle.pp_expand.specs.inside.Turns.{IsTask, TaskIn};
 ghost use Rattle.pp_expand.specs.inside.Waits.{WaitingIn, WaitingsIn, ProceedIs, BeginIs, JoinIs, TakesArgument, weight, weights};
 
 use crate::level::Level;
-use crate::room::{count_made, held_by, held_with, is_beyond};
 use crate::run_end::RunEnd;
 use crate::task::Task;
 use macros_substitution::{
@@ -38,8 +37,6 @@ pub(crate) struct Waiting<'a> {
     pub(crate) pieces: Vec<Piece<'a>>,
     /// The expansions of the first arguments; those that are not wanted are empty.
     pub(crate) full: Vec<Vec<HiddenToken<'a>>>,
-    /// How many tokens it holds, with those that wait before it; set while it waits.
-    pub(crate) held: usize,
 }
 
 // The tokens once more.
@@ -77,13 +74,8 @@ fn take_argument<'a>(
     Ok(VecDeque::from(argument))
 }
 
-// What a replacement becomes whose arguments are expanded, in front of the list that it stands in, beside so many tokens held.
-fn finish<'a>(
-    alloc: Global,
-    at: Waiting<'a>,
-    held: usize,
-    sets: &mut HideSets,
-) -> Result<Level<'a>, Refusal>
+// What a replacement becomes whose arguments are expanded, in front of the list that it stands in.
+fn finish<'a>(alloc: Global, at: Waiting<'a>, sets: &mut HideSets) -> Result<Level<'a>, Refusal>
     requires known { WaitingIn (length sets.old) at }
     requires all { length at.arguments.items ≤ length at.full.items }
     ensures finishes { (known : Known) (later : Sets) → NumbersOnce known.texts → NamesBelow (length known.texts) sets.old → Extends sets.new later → ProceedIs known later [] at.entry result [] }
@@ -91,9 +83,6 @@ fn finish<'a>(
     ensures keeps { Extends sets.old sets.new }
     ensures names { (count : ℕ) → NamesBelow count sets.old → NamesBelow count sets.new }
 {
-    if is_beyond(held, count_made(&at)) {
-        return Err(Refusal::Memory);
-    }
     let Waiting {
         mut level,
         space_before,
@@ -103,7 +92,6 @@ fn finish<'a>(
         uses: _,
         pieces,
         full,
-        held: _,
     } = at;
     let new = substitute(alloc, pieces, arguments, full, pos, sets)?;
     put_in_front(new, space_before, hides, sets, &mut level.rest)?;
@@ -131,11 +119,6 @@ fn proceed<'a>(
         let used = at.uses[index];
         if used.expanded {
             let rest = take_argument(alloc, &mut at.arguments, index, used.beside)?;
-            let held = held_with(waiting.as_slice(), &at);
-            if is_beyond(held, rest.len()) {
-                return Err(Refusal::Memory);
-            }
-            at.held = held;
             waiting.push(at)?;
             return Ok(Level {
                 rest,
@@ -145,7 +128,7 @@ fn proceed<'a>(
         }
         at.full.push(Vec::new(alloc))?;
     }
-    finish(alloc, at, held_by(waiting.as_slice()), sets)
+    finish(alloc, at, sets)
 }
 
 /// Begins a replacement.
@@ -183,7 +166,6 @@ pub(crate) fn begin<'a>(
         uses,
         pieces,
         full: Vec::new(alloc),
-        held: 0,
     };
     proceed(alloc, replacement, waiting, sets)
 }

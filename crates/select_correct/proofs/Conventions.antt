@@ -25,7 +25,7 @@ use Rattle.select_correct.specs.Matches.{Ground, Ready, Waits, Matched, Matches,
 use Rattle.select_correct.specs.Laws.{Anything, AreBytes}
 use Rattle.select_correct.specs.Costs.{opening_cost, row, most_spent}
 use Rattle.select_correct.specs.Runs.{Laid, Entered, IsWithin, IsBack, ground_at}
-use Rattle.select_correct.specs.Convention.{passed, IsInside, IsInCallee, AtReturn, KeepsConvention, ComesToCall, behind_call, CallsKeepConvention, MainKeepsConvention}
+use Rattle.select_correct.specs.Convention.{passed, IsInside, IsInCallee, AtReturn, KeepsConvention, ComesToCall, behind_call, CallsKeepConvention, MainKeepsConvention, HasRoomFor}
 use Rattle.select_correct.proofs.Registers.{kept_above}
 use Rattle.select_correct.proofs.Fits.{frame_room}
 use Rattle.select_correct.proofs.Frames.{sum_is}
@@ -149,7 +149,7 @@ module _ (P : Permits) (low : (a : ℕ) → P.can_execute a ≡ true → a < 2 ^
   passed_is (reference (suc l) o) = refl
 
   -- the light machine enters function f, which is returned to at back, in state c, after k instructions
-  record Begun (f back : ℕ) (c : State) (steps : ℕ) : Type 0 where
+  record Begun (f back : ℕ) (c : State) : Type 0 where
     pub k : ℕ
     pub r1 : ℕ → ℕ
     pub b1 : ℕ → ℕ
@@ -161,7 +161,7 @@ module _ (P : Permits) (low : (a : ℕ) → P.can_execute a ≡ true → a < 2 ^
     pub further : (j : ℕ) (x : Value) → c.arguments (8 + j) ≡ Some x → word_at b1 (r1 2 + 4 * j) ≡ shown G x
     pub most : ℕ
     pub opened : Comes F Anything 1 most (Go r1 (env f) b1 c.input c.trace) (Matches G (running c))
-    pub returns : (m : ℕ) (t : State) → m ≤ steps → IsInCallee p c m t → next_of p t ≡ Some instruction.Return → (j : ℕ) × IsBack G r1 t back (light_run F j (Go r1 (env f) b1 c.input c.trace))
+    pub returns : (m : ℕ) (t : State) → HasRoomFor G c m → IsInCallee p c m t → next_of p t ≡ Some instruction.Return → (j : ℕ) × IsBack G r1 t back (light_run F j (Go r1 (env f) b1 c.input c.trace))
 
   -- the world where the light machine is, behind the return
   came_back : (r1 : ℕ → ℕ) (back : ℕ) (t : State) (v : machine.World) (m : Light) (y : machine.Progress) → register v.machine 1 ≡ back → register v.machine 2 ≡ r1 2 → ((j : ℕ) → j < 12 → register v.machine (kept j) ≡ r1 (kept j))
@@ -183,8 +183,8 @@ module _ (P : Permits) (low : (a : ℕ) → P.can_execute a ≡ true → a < 2 ^
   came_back r1 back t v (Done x h) y e1 e2 ek d g = absurd d
   came_back r1 back t v (Fell h) y e1 e2 ek d g = absurd d
 
-  keeps : (f back : ℕ) (c : State) (steps : ℕ) → Begun f back c steps → AreBytes c.input → ((k : ℕ) → k ≤ steps → HasRoom G (run p k c)) → KeepsConvention p env data_at real (env f) back c steps
-  keeps f back c steps g bytes rooms =
+  keeps : (f back : ℕ) (c : State) → Begun f back c → AreBytes c.input → KeepsConvention p env data_at real (env f) back c (HasRoomFor G c)
+  keeps f back c g bytes =
       let here : Light = Go g.r1 (env f) g.b1 c.input c.trace in
       let now : Follows P here (real g.k) = subst (λ x. Follows P x (real g.k)) g.at (really g.k) in
       let v = world P now.list (env f) g.b1 c.input c.trace in
@@ -205,13 +205,13 @@ module _ (P : Permits) (low : (a : ℕ) → P.can_execute a ≡ true → a < 2 ^
           trace = refl;
           input = refl;
         };
-        has_frame = λ m t le inner.
+        has_frame = λ m t rooms inner.
             let d = comes_then F Anything g.most (most_spent p m c) here (Matches G (running c)) (Matches G (run p m c)) g.opened
-            (λ m2 x. matched_steps G ready m c m2 x bytes (λ j lj. rooms j (omega (arith, lj, le))) (λ j lt. unwatched G (omega arith) (omega arith) (run p j c))) in
+            (λ m2 x. matched_steps G ready m c m2 x bytes rooms (λ j lt. unwatched G (omega arith) (omega arith) (run p j c))) in
             let z = standing P G t (light_run F d.j here) (real (g.k + d.j)) ready refl (subst (λ x. Matches G x (light_run F d.j here)) inner.runs d.good) (later d.j) in
             (d.j, z.world, z.is, z.stands, record { sp = omega (arith, z.stands.sp, g.sp, sp, own_bytes p c m t inner, own_frame p c m t inner); aligned = z.stands.aligned });
-        leaves = λ m t le inner et.
-            let d = g.returns m t le inner et in
+        leaves = λ m t rooms inner et.
+            let d = g.returns m t rooms inner et in
             let w = came_back g.r1 back t v (light_run F d.0 here) (real (g.k + d.0)) (ra ∙ g.ra) sp (λ j lt. held (kept j) (omega (arith, kept_above j)) (kept_low j lt)) d.1 (later d.0) in
             (d.0, w.0, w.1, w.2);
       }
@@ -224,9 +224,9 @@ module _ (P : Permits) (low : (a : ℕ) → P.can_execute a ≡ true → a < 2 ^
   backed r1 end t (Done x3 h3) d = absurd d
   backed r1 end t (Fell h3) d = absurd d
 
-  begun_call : (k steps f : ℕ) (s : State) (m : Light) → light_run F k begin ≡ m → Matches G (running s) m → AreBytes s.input → next_of p s ≡ Some (instruction.Call f) → ((j : ℕ) → j ≤ steps → HasRoom G (run p j (entered s f)))
-      → Begun f (behind_call p env s) (entered s f) steps
-  begun_call k steps f s (Go r1 at b1 i h) em w bytes es rooms =
+  begun_call : (k f : ℕ) (s : State) (m : Light) → light_run F k begin ≡ m → Matches G (running s) m → AreBytes s.input → next_of p s ≡ Some (instruction.Call f) → HasRoom G (running (entered s f))
+      → Begun f (behind_call p env s) (entered s f)
+  begun_call k f s (Go r1 at b1 i h) em w bytes es room =
       let here = address G s.frame.function s.frame.at in
       let end = address G s.frame.function (s.frame.at + 1) in
       let m1 = subst (λ x. Matched G s r1 x b1) w.0.at_is w.0 in
@@ -236,7 +236,6 @@ module _ (P : Permits) (low : (a : ℕ) → P.can_execute a ≡ true → a < 2 ^
       let stays : (j : ℕ) → 1 < j → r2 j ≡ r1 j = λ j lt. with_other r1 1 end j (λ x. omega (arith, x, lt)) in
       let sum = sum_is G ready s r1 here b1 m1 in
       let sp : r2 2 ≡ m1.sp = stays 2 (omega arith) ∙ m1.sp_is in
-      let room = rooms 0 (omega arith) in
       let seen : m1.sp ≡ G.watch_sp → (end ≡ G.watch_ra) × ((j : ℕ) → file_of r1 j ≡ G.watch_file j) = λ x. absurd (omega (arith, x, sum)) in
       record {
         k = k + c.j;
@@ -259,17 +258,17 @@ module _ (P : Permits) (low : (a : ℕ) → P.can_execute a ≡ true → a < 2 ^
             ap (word_at b1) place ∙ (sym (on_stack r1 b1 m1.sp (8 + j) (omega arith)) ∙ (m1.temporaries (8 + j) x before).2);
         most = opening_cost (function_at p f);
         opened = opens G s r1 b1 ready m1 f seen es room;
-        returns = λ m t le inner et.
-            let d = each_entry_keeps G s t f m r1 b1 ready m1 bytes es inner.runs et (own_bytes p (entered s f) m t inner) (λ j lj. rooms j (omega (arith, lj, le))) (λ j lj. is_within p s f (run p j (entered s f)) (inner.inside j lj)) in
+        returns = λ m t rooms inner et.
+            let d = each_entry_keeps G s t f m r1 b1 ready m1 bytes es inner.runs et (own_bytes p (entered s f) m t inner) rooms (λ j lj. is_within p s f (run p j (entered s f)) (inner.inside j lj)) in
             (d.j, backed r1 end t (light_run F d.j (Go r2 (env f) b1 s.input s.trace)) d.good);
       }
-  begun_call k steps f s (Done status h) em w bytes es rooms = absurd w
-  begun_call k steps f s (Fell h) em w bytes es rooms = absurd w
+  begun_call k f s (Done status h) em w bytes es room = absurd w
+  begun_call k f s (Fell h) em w bytes es room = absurd w
 
   -- ---- main
 
-  begun_main : (steps : ℕ) → AreBytes input → ((j : ℕ) → j ≤ steps → HasRoom G (run p j (start p input))) → Begun p.main (base + 16) (start p input) steps
-  begun_main steps bytes rooms =
+  begun_main : AreBytes input → HasRoom G (running (start p input)) → Begun p.main (base + 16) (start p input)
+  begun_main bytes room =
       let st = q.stands in
       let one = st.1 in
       let call = st.2.1 in
@@ -298,7 +297,7 @@ module _ (P : Permits) (low : (a : ℕ) → P.can_execute a ≡ true → a < 2 ^
         unwatched = omega arith;
       } in
       let opened : Comes F Anything 1 (opening_cost (function_at p p.main)) here (Matches G (running (start p input))) =
-      entries G p.main unset unset (slice_get p.statics) input [] r2 (env p.main) b ready ready.sound.has_main main_entered (rooms 0 (omega arith)) in
+      entries G p.main unset unset (slice_get p.statics) input [] r2 (env p.main) b ready ready.sound.has_main main_entered room in
       record {
         k = c.j;
         r1 = r2;
@@ -311,27 +310,27 @@ module _ (P : Permits) (low : (a : ℕ) → P.can_execute a ≡ true → a < 2 ^
         further = λ j x ex. cc;
         most = opening_cost (function_at p p.main);
         opened = opened;
-        returns = λ m t le inner et.
+        returns = λ m t rooms inner et.
             let s = start p input in
             let d = comes_then F Anything (opening_cost (function_at p p.main)) (most_spent p m s) here (Matches G (running s)) (Matches G (run p m s)) opened
-            (λ m2 x. matched_steps G ready m s m2 x bytes (λ j lj. rooms j (omega (arith, lj, le))) (λ j lt. unwatched G (omega arith) (omega arith) (run p j s))) in
+            (λ m2 x. matched_steps G ready m s m2 x bytes rooms (λ j lt. unwatched G (omega arith) (omega arith) (run p j s))) in
             let out = comes_then F Anything (opening_cost (function_at p p.main) + most_spent p m s) (row (function_at p t.frame.function) instruction.Return) here (Matches G (run p m s)) (IsBack G r2 t (base + 16)) d
             (λ m2 x. returns_out G ready r2 refl file t (own_bytes p (start p input) m t inner) et m2 (subst (λ y. Matches G y m2) inner.runs x)) in
             (out.j, out.good);
       }
 
 pub calls_keep : CallsKeepConvention
-calls_keep P low apart p env floor data_at base e r b list input q shows bytes last rooms n f s c lt =
+calls_keep P low apart p env floor data_at base e r b list input q shows bytes n f s c rooms =
     let F = fixed P b in
     let G = ground_at p F env floor data_at base r b in
-    let d = comes_to p F env floor data_at base e r b input q bytes n (λ k le. rooms k (omega (arith, le, lt))) in
+    let d = comes_to p F env floor data_at base e r b input q bytes n (λ k le. rooms k (omega (arith, le))) in
     let m = light_run F d.j (Go r base b input []) in
     let left : AreBytes s.input = subst (Kept BytesLeft) c.runs (run_keeps BytesLeft p bytes_last n (start p input) bytes) in
-    let inner : (k : ℕ) → k ≤ last - suc n → HasRoom G (run p k (entered s f)) = λ k le. subst (HasRoom G) (behind_entry p input n f s c k) (rooms (suc n + k) (omega (arith, le, lt))) in
-    keeps P low apart p env floor data_at base e r b list input q shows f (behind_call p env s) (entered s f) (last - suc n)
-    (begun_call P low apart p env floor data_at base e r b list input q shows d.j (last - suc n) f s m refl (subst (λ x. Matches G x m) c.runs d.good) left c.next inner) left inner
+    let room : HasRoom G (running (entered s f)) = subst (HasRoom G) (behind_entry p input n f s c 0) (rooms (suc n + 0) (omega arith)) in
+    keeps P low apart p env floor data_at base e r b list input q shows f (behind_call p env s) (entered s f)
+    (begun_call P low apart p env floor data_at base e r b list input q shows d.j f s m refl (subst (λ x. Matches G x m) c.runs d.good) left c.next room) left
 
 pub main_keeps : MainKeepsConvention
-main_keeps P low apart p env floor data_at base e r b list input q shows bytes last rooms =
-    keeps P low apart p env floor data_at base e r b list input q shows p.main (base + 16) (start p input) last
-    (begun_main P low apart p env floor data_at base e r b list input q shows last bytes rooms) bytes rooms
+main_keeps P low apart p env floor data_at base e r b list input q shows bytes room =
+    keeps P low apart p env floor data_at base e r b list input q shows p.main (base + 16) (start p input)
+    (begun_main P low apart p env floor data_at base e r b list input q shows bytes room) bytes

@@ -13,7 +13,7 @@ use Rattle.sim.specs.Runs.{World, Running, rvrun}
 use Rattle.select_exec.specs.Whole.{Permits, fixed}
 use Rattle.select_exec.specs.Worlds.{Registers, world}
 use Rattle.select.specs.Selected.{kept}
-use Rattle.select_correct.specs.Matches.{HasRoom, first_of}
+use Rattle.select_correct.specs.Matches.{Ground, HasRoom, first_of}
 use Rattle.select_correct.specs.Laws.{AreBytes}
 use Rattle.select_correct.specs.Runs.{Laid, StandsWith, ground_at}
 
@@ -61,16 +61,16 @@ pub record AtReturn (data_at : ℕ) (t : State) (v w : World) : Type 0 where
   pub trace : w.trace ≡ t.trace
   pub input : w.input ≡ t.input
 
--- The machine, which is at `at k` after k instructions, enters the function; wherever the function itself then runs, within so many steps, its frame
--- is below; and from wherever it returns, it returns so.
-pub record KeepsConvention (p : Program) (env : ℕ → ℕ) (data_at : ℕ) (at : ℕ → sim.Progress) (entry back : ℕ) (c : State) (steps : ℕ) : Type 0 where
+-- The machine, which is at `at k` after k instructions, enters the function; wherever the function itself then runs, as far as the stack serves, its frame
+-- is below; and from wherever it returns, it returns so. It is one entry from which all this holds. The stack serves m steps from there where it fits each state up to there.
+pub record KeepsConvention (p : Program) (env : ℕ → ℕ) (data_at : ℕ) (at : ℕ → sim.Progress) (entry back : ℕ) (c : State) (Serves : ℕ → Type 0) : Type 0 where
   pub k : ℕ
   pub v : World
   pub runs : at k ≡ Running v
   pub enters : AtEntry data_at entry back c v
-  pub has_frame : (m : ℕ) (t : State) → m ≤ steps → IsInCallee p c m t
+  pub has_frame : (m : ℕ) (t : State) → Serves m → IsInCallee p c m t
       → (j : ℕ) × (u : World) × (at (k + j) ≡ Running u) × StandsWith p env t u × HasFrame (frame_bytes (function_at p c.frame.function)) v u
-  pub leaves : (m : ℕ) (t : State) → m ≤ steps → IsInCallee p c m t → next_of p t ≡ Some instruction.Return
+  pub leaves : (m : ℕ) (t : State) → Serves m → IsInCallee p c m t → next_of p t ≡ Some instruction.Return
       → (j : ℕ) × (w : World) × (at (k + j) ≡ Running w) × AtReturn data_at t v w
 
 -- after n steps of the program's run function f is about to be called
@@ -82,20 +82,23 @@ pub record ComesToCall (p : Program) (input : List ℕ) (n f : ℕ) (s : State) 
 abbrev pub behind_call : Program → (env : ℕ → ℕ) → State → ℕ
 behind_call p env s = env (first_of p s.frame.function + (s.frame.at + 1))
 
--- So it is of each call of a program's run, for as many steps as all frames fit the stack, and of main, which is called from the program's entry.
+-- all frames of m steps from c fit the stack
+abbrev pub HasRoomFor : Ground → (c : State) → ℕ → Type 0
+HasRoomFor G c m = (j : ℕ) → j ≤ m → HasRoom G (run G.program j c)
+
+-- So it is of each call of a program's run that the stack serves up to the call, and of main, which is called from the program's entry.
 abbrev pub CallsKeepConvention : Type 0
 CallsKeepConvention =
     (P : Permits) → ((a : ℕ) → P.can_execute a ≡ true → a < 2 ^ 31) → ((a : ℕ) → P.can_execute a ≡ true → P.can_write a ≡ false)
     → (p : Program) (env : ℕ → ℕ) (floor data_at base e : ℕ) (r b : ℕ → ℕ) (list input : List ℕ)
     → Laid p (fixed P b) env floor data_at base e r b → Registers list r → AreBytes input
-    → (last : ℕ) → ((k : ℕ) → k ≤ last → HasRoom (ground_at p (fixed P b) env floor data_at base r b) (run p k (start p input)))
-    → (n f : ℕ) (s : State) → ComesToCall p input n f s → n < last
-    → KeepsConvention p env data_at (λ k. rvrun k (world P list base b input [])) (env f) (behind_call p env s) (entered s f) (last - suc n)
+    → (n f : ℕ) (s : State) → ComesToCall p input n f s → HasRoomFor (ground_at p (fixed P b) env floor data_at base r b) (start p input) (suc n)
+    → KeepsConvention p env data_at (λ k. rvrun k (world P list base b input [])) (env f) (behind_call p env s) (entered s f) (HasRoomFor (ground_at p (fixed P b) env floor data_at base r b) (entered s f))
 
 abbrev pub MainKeepsConvention : Type 0
 MainKeepsConvention =
     (P : Permits) → ((a : ℕ) → P.can_execute a ≡ true → a < 2 ^ 31) → ((a : ℕ) → P.can_execute a ≡ true → P.can_write a ≡ false)
     → (p : Program) (env : ℕ → ℕ) (floor data_at base e : ℕ) (r b : ℕ → ℕ) (list input : List ℕ)
     → Laid p (fixed P b) env floor data_at base e r b → Registers list r → AreBytes input
-    → (last : ℕ) → ((k : ℕ) → k ≤ last → HasRoom (ground_at p (fixed P b) env floor data_at base r b) (run p k (start p input)))
-    → KeepsConvention p env data_at (λ k. rvrun k (world P list base b input [])) (env p.main) (base + 16) (start p input) last
+    → HasRoom (ground_at p (fixed P b) env floor data_at base r b) (running (start p input))
+    → KeepsConvention p env data_at (λ k. rvrun k (world P list base b input [])) (env p.main) (base + 16) (start p input) (HasRoomFor (ground_at p (fixed P b) env floor data_at base r b) (start p input))

@@ -27,8 +27,12 @@ INTEGER = re.compile(r'(0[xX][0-9a-fA-F]+|0[0-7]*|[1-9][0-9]*)([uU]?(?:ll?|LL?)?
 ESCAPE = re.compile(r'\\(?:([0-7]{1,3})|x([0-9a-fA-F]+)|([\'"?\\abfnrtv])|([uU])|(.?))', re.S)
 
 # So many sources of each kind are taken.
-COUNTS = {'by hand': 22, 'standard': 11, 'random': 300, 'zlib': 1, 'lua': 1, 'musl': 1, 'rules': 33, 'faults': 92, 'variadic': 118, 'sets': 93, 'conditions': 261,
+COUNTS = {'by hand': 28, 'standard': 11, 'random': 300, 'zlib': 1, 'lua': 1, 'musl': 1, 'rules': 33, 'faults': 92, 'variadic': 118, 'sets': 93, 'conditions': 261,
           'front': 1093}
+
+# 1,048,576 tokens of `f`, as many as there may be
+MILLION = '#define a ' + ';' * 32 + '\n' + ''.join(f'#define {name} ' + f'{of} ' * 7 + of + '\n' for of, name in zip('abcde', 'bcdef'))
+POWERS = ''.join(f'#define c{i} ' + ' '.join([f'c{i - 1}' if i > 1 else 'x'] * 16) + '\n' for i in range(1, 6))
 
 # Sources by hand, with what is wanted of each.
 BY_HAND = [
@@ -58,6 +62,13 @@ BY_HAND = [
     # a conditional is open at the end, once all is done
     ('#if 1\nint x;\n', 'same, fault 231 at 1'),
     ('int x;\n#endif\n', 'same, fault 231 at 2'),
+    # far more tokens stand in between than may come of it
+    (MILLION + '#define h(x)x\nh(f f f)\n', 'same, fault 708 at 8'),
+    (MILLION + '#line f f f\n', 'same, fault 235 at 7'),
+    (MILLION + '#include f f f\n', 'same, fault 233 at 7'),
+    (MILLION + '#if f f f\n#endif\n', 'same, fault 221 at 7'),
+    (POWERS + '#define nop(x)\n#define use(x) nop(x)\nuse(c5 c5 c5)\nint main(void) { return 0; }\n', 'same, 10 tokens, 10 C tokens'),
+    ('#define snd(x,y) y\n#define app(x) snd(x,)\n#define d(x) x x\napp(' + 'd(' * 21 + 'q' + ')' * 21 + ') done\n', 'same, 1 tokens, 1 C tokens'),
 ]
 
 

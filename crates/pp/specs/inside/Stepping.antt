@@ -1,6 +1,6 @@
 -- What the state of the code is to that of the definition, and what a step of the code answers, where the definition's step is
 -- this one.
-use Rattle.std.specs.Prelude.{◌≡◌, ◌⊎◌, ◌≤◌, ◌<◌, ◌||◌, ◌-◌, ◌+◌, ◌*◌, ◌++◌, ℕ, List, [], ◌∷◌, map, drop, slice_get, Bool, true, false, Option, Some, None, Result, Ok, Err}
+use Rattle.std.specs.Prelude.{◌≡◌, ◌⊎◌, ◌≤◌, ◌<◌, ◌||◌, ◌-◌, ◌+◌, ◌*◌, ◌++◌, ℕ, List, [], ◌∷◌, map, take, drop, slice_get, Bool, true, false, Option, Some, None, Result, Ok, Err}
 use Rattle.std.specs.Borrow.{Bor}
 use Rattle.std.specs.Str.{byte, is_utf8}
 use Rattle.srcset.specs.declared.refusal.Pos.{Pos}
@@ -84,6 +84,12 @@ pub record StopsTold {A : Type 0} (given : List Token) (names : Texts) (c : Code
   pub number_is : slice_get names n ≡ Some text
   pub utf8 : is_utf8 text ≡ true
   pub fault_is : Stops given c at text o
+
+-- it goes on so with a list of which these are the first tokens, so many at the most
+pub record GivesFirst (most : ℕ) (list : List Token) (names : Texts) (held : Held) (o : Outcome (List Token × State)) : Type 0 where
+  pub whole : List Token
+  pub gives : Gives whole names held o
+  pub first_is : list ≡ take most whole
 
 abbrev pub StopsAs : {A : Type 0} → List Token → Texts → Refusal → Outcome A → Type 0
 StopsAs given names Memory o = Unit {0}

@@ -13,6 +13,7 @@ pub returns-in-Ok-put_entries-clause-made : goal.returns-in-Ok-put_entries-claus
 returns-in-Ok-put_entries-clause-made c = record {
   builds = record {
     frames = c.in-Ok.generated.frames.items;
+    each = c.in-Ok.ensures.file.frames_fit.0;
     runs = c.in-Ok.ensures.runs;
     entries_are = entries_made c.args.names.now c.new-frames.result.items c.put_entries.new.list.items _ _ _ _ c.new-frames.ensures.items c.deref.ensures.value c.as_slice.ensures.value c.in-Ok-put_entries.ensures;
   };

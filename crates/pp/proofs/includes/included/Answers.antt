@@ -28,8 +28,8 @@ pub returns-then-is_header_kind-clause-sound : goal.returns-then-is_header_kind-
 returns-then-is_header_kind-clause-sound c =
     on_ok c.header_named.result (still_sound c.args.names.now c.header_named.new.names c.args.state.now c.args.state.now c.header_named.ensures.keeps c.requires refl refl)
 
-pub expand_directive-requires-clause-files : goal.expand_directive-requires-clause-files
-expand_directive-requires-clause-files c =
+pub expand_first-requires-clause-files : goal.expand_first-requires-clause-files
+expand_first-requires-clause-files c =
     let p = presumed_of c.args.state.now.presumed in
     let e = c.deref.ensures.value ∙ c.in_ok-put.ensures.ok ∙ ap (λ l. l ++ placed p c.args.further.now) c.new-placed.ensures.items in
     subst (HaveFiles c.args.names.now) (sym e) (placed_files c.args.names.now p c.args.further.now c.requires.has_file)
@@ -52,11 +52,11 @@ returns-clause-includes c texts s keeps a =
     let before = keeps_through c.args.names.now c.string_named.new.names texts c.string_named.ensures.keeps keeps in
     let g = c.in_ok-tokens.ensures.ok texts s before a in
     let enter = entered c.args.room c.args.set.now texts in
-    made_includes c.string_named.result texts c.args.names.now c.string_named.new.names enter c.args.at c.args.state.now c.expand_directive.new.self c.args.set.now c.args.room c.args.further.now c.deref.result.now
+    made_includes c.string_named.result texts c.args.names.now c.string_named.new.names enter c.args.at c.args.state.now c.expand_first.new.self c.args.set.now c.args.room c.args.further.now c.deref.result.now
     (take (length c.args.further.now - 1) (drop 1 c.args.further.now)) c.in_ok-tokens.tokens.items c.first-item.result s a t e (ap is_header_kind (sym c.kind.ensures) ∙ sym c.is_header_kind.ensures ∙ c.if-is_header_kind.false) g
-    (subst (λ l. IncludesOrStops g.after.given c.string_named.result c.string_named.new.names c.expand_directive.new.self c.args.set.now texts c.args.room (include_made enter c.args.at (l, g.after))) c.deref-2.ensures.value
-    (c.string_named.ensures.includes texts g.after keeps g.agrees))
+    (subst (λ l. IncludesOrStops g.gives.after.given c.string_named.result c.string_named.new.names c.expand_first.new.self c.args.set.now texts c.args.room (include_made enter c.args.at (l, g.gives.after))) c.deref-2.ensures.value
+    (c.string_named.ensures.includes texts g.gives.after keeps g.gives.agrees))
 
 pub returns-clause-sound : goal.returns-clause-sound
 returns-clause-sound c =
-    on_ok c.string_named.result (still_sound c.args.names.now c.string_named.new.names c.expand_directive.new.self c.expand_directive.new.self c.string_named.ensures.keeps c.in_ok-tokens.ensures.sound refl refl)
+    on_ok c.string_named.result (still_sound c.args.names.now c.string_named.new.names c.expand_first.new.self c.expand_first.new.self c.string_named.ensures.keeps c.in_ok-tokens.ensures.sound refl refl)

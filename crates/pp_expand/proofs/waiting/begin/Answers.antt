@@ -15,4 +15,4 @@ proceed-requires-clause-known c =
 
 pub returns-clause-begins : goal.returns-clause-begins
 returns-clause-begins c = λ known later r task once below grown.
-    begin_is known later c.args.waiting.now.items c.proceed.new.waiting.items c.args.level c.args.task r task (record { level = c.args.level; space_before = c.args.task.space_before; at = c.args.task.at; hides = c.args.task.hides; arguments = c.args.task.arguments; uses = c.in_ok-uses.uses; pieces = c.in_ok-pieces.pieces; full = c.new.result; held = 0 }) refl refl refl refl refl c.new.ensures.items (sym (pieces_same known later c.args.waiting.now.items c.proceed.new.waiting.items c.args.level c.args.task r task c.as_slice.result.now c.as_slice.ensures.value) ∙ c.in_ok-pieces.ensures.value known.texts later r.call.macro task.macro_is) c.proceed.result (c.proceed.ensures.proceeds known later once below grown)
+    begin_is known later c.args.waiting.now.items c.proceed.new.waiting.items c.args.level c.args.task r task (record { level = c.args.level; space_before = c.args.task.space_before; at = c.args.task.at; hides = c.args.task.hides; arguments = c.args.task.arguments; uses = c.in_ok-uses.uses; pieces = c.in_ok-pieces.pieces; full = c.new.result }) refl refl refl refl refl c.new.ensures.items (sym (pieces_same known later c.args.waiting.now.items c.proceed.new.waiting.items c.args.level c.args.task r task c.as_slice.result.now c.as_slice.ensures.value) ∙ c.in_ok-pieces.ensures.value known.texts later r.call.macro task.macro_is) c.proceed.result (c.proceed.ensures.proceeds known later once below grown)

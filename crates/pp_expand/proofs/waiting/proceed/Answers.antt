@@ -13,21 +13,21 @@ returns-then-used-clause-proceeds c = λ known later once below grown onward lef
     let inside : length q.full.items < length q.arguments.items = omega arith in
     let u = used_as (length c.args.sets.now) q i.known c.len-index.result n inside c.index-used.result.now c.index-used.ensures known.texts later in
     let t = subst (λ m. TakesArgument q.arguments.items m c.index-used.result.now.beside c.in_ok-rest.rest.items c.take_argument.new.arguments.items) n c.in_ok-rest.ensures.ok in
-    takes_is known later c.args.at q (record q { arguments = c.take_argument.new.arguments; held = c.held_with-held.result }) c.index-used.result.now c.in_ok-rest.rest.items (i.same known later) u t refl c.args.waiting.now.items c.push.new.self.items (record { rest = c.in_ok-rest.rest; out = c.new.result; end = _ }) c.if-used.true refl c.new.ensures.items refl (c.in_ok-push.ensures.items ∙ ap (λ l. l ++ record q { arguments = c.take_argument.new.arguments; held = c.held_with-held.result } ∷ []) i.waiting) onward left
+    takes_is known later c.args.at q (record q { arguments = c.take_argument.new.arguments }) c.index-used.result.now c.in_ok-rest.rest.items (i.same known later) u t refl c.args.waiting.now.items c.push.new.self.items (record { rest = c.in_ok-rest.rest; out = c.new.result; end = _ }) c.if-used.true refl c.new.ensures.items refl (c.in_ok-push.ensures.items ∙ ap (λ l. l ++ record q { arguments = c.take_argument.new.arguments } ∷ []) i.waiting) onward left
 
 pub returns-then-used-clause-known : goal.returns-then-used-clause-known
 returns-then-used-clause-known c =
     let q = c.loop-at.at in
     let i = c.loop-at.invariant in
-    let k = taken_in (length c.args.sets.now) q i.known c.len-index.result c.index-used.result.now.beside c.in_ok-rest.rest.items c.take_argument.new.arguments c.held_with-held.result c.in_ok-rest.ensures.ok in
-    let e = c.in_ok-push.ensures.items ∙ ap (λ l. l ++ record q { arguments = c.take_argument.new.arguments; held = c.held_with-held.result } ∷ []) i.waiting in
+    let k = taken_in (length c.args.sets.now) q i.known c.len-index.result c.index-used.result.now.beside c.in_ok-rest.rest.items c.take_argument.new.arguments c.in_ok-rest.ensures.ok in
+    let e = c.in_ok-push.ensures.items ∙ ap (λ l. l ++ record q { arguments = c.take_argument.new.arguments } ∷ []) i.waiting in
     ((k.0, rw c.new.ensures.items tt), rw e (waitings_in_append (length c.args.sets.now) c.args.waiting.now.items _ c.requires.others (k.1, tt)))
 
 pub returns-then-used-clause-bound : goal.returns-then-used-clause-bound
 returns-then-used-clause-bound c =
     let q = c.loop-at.at in
     let i = c.loop-at.invariant in
-    let e = ap weights (c.in_ok-push.ensures.items ∙ ap (λ l. l ++ record q { arguments = c.take_argument.new.arguments; held = c.held_with-held.result } ∷ []) i.waiting) ∙ weights_push c.args.waiting.now.items (record q { arguments = c.take_argument.new.arguments; held = c.held_with-held.result }) in
+    let e = ap weights (c.in_ok-push.ensures.items ∙ ap (λ l. l ++ record q { arguments = c.take_argument.new.arguments } ∷ []) i.waiting) ∙ weights_push c.args.waiting.now.items (record q { arguments = c.take_argument.new.arguments }) in
     let n = taken_length (length c.args.sets.now) q i.known c.len-index.result c.index-used.result.now.beside c.in_ok-rest.rest.items c.take_argument.new.arguments c.in_ok-rest.ensures.ok in
     omega (arith, e, n, i.count, i.more)
 

@@ -11,4 +11,4 @@ returns-in_err-list-clause-err c =
 pub returns-clause-ok : goal.returns-clause-ok
 returns-clause-ok c texts s keeps a =
     let new = record c.args.self.now { budget = c.try_expand.new.budget } in
-    expand_gives texts c.args.names.now c.args.tokens.now c.in_ok-list.list c.args.self.now new s a (c.in_ok-list.ensures.expansion s.macros texts a.table_is keeps) refl refl refl
+    expand_gives texts c.args.names.now c.args.tokens.now c.in_ok-list.list.items c.args.self.now new s a (c.in_ok-list.ensures.expansion s.macros texts a.table_is keeps) refl refl refl

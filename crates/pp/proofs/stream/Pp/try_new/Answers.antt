@@ -6,7 +6,7 @@ use Rattle.pp.specs.declared.includes.Source.{Source}
 use Rattle.pp.specs.Phase4.{ending_of, file_done, start, max_includes}
 use Rattle.pp.specs.Stream.{left_behind}
 use Rattle.pp.specs.Left.{around_with, is_text_line}
-use Rattle.pp.proofs.PhaseLemmas.{number_kept, no_main_is, main_is, scan_stops, stopped_is}
+use Rattle.pp.proofs.PhaseLemmas.{number_kept, no_main_is, main_is, scan_stops, stopped_is, absent_main, unread_main}
 use Rattle.pp.proofs.StackLemmas.{main_left, main_open}
 use Rattle.pp.proofs.stream.Pp.try_new.Goals as goal
 
@@ -48,3 +48,15 @@ returns-clause-stream c =
         ap (λ b. b && not (is_text_line (slice_get files.innermost.lines files.innermost.next))) c.in_ok-files.ensures.ok.0.fresh.begun,
       );
     }
+
+pub returns-in_default-get-clause-unbegun : goal.returns-in_default-get-clause-unbegun
+returns-in_default-get-clause-unbegun c texts keeps =
+    let number = number_kept c.intern.new.self texts c.args.main.now c.in-Ok.file c.intern.ensures.once keeps (c.in-Ok.ensures.text ∙ ap Some c.as_bytes.ensures.value) in
+    absent_main c.args.set.now texts c.args.main.now c.in-Ok.file (sym c.in_default-get.ensures.bytes) number
+
+pub returns-in_err-files-clause-unbegun : goal.returns-in_err-files-clause-unbegun
+returns-in_err-files-clause-unbegun c =
+    let p = err_from_is_err_and c.from_residual.result c.from_residual.ensures.1 in
+    rw (p.1, p.2) (λ texts keeps.
+    let number = number_kept c.intern.new.self texts c.args.main.now c.in-Ok.file c.intern.ensures.once keeps (c.in-Ok.ensures.text ∙ ap Some c.as_bytes.ensures.value) in
+    unread_main c.in_err-files.field-0.0 c.args.set.now texts c.args.main.now c.in-Some.bytes.now c.in-Ok.file (sym c.in-Some.ensures.bytes) number c.in_err-files.ensures.err)

@@ -1,0 +1,29 @@
+-- How a built file runs by the frames that are reported of it: the premise of its stack in bytes, not in weights.
+use Rattle.std.specs.Prelude.{◌≡◌, ◌≤◌, ◌<◌, ℕ, ◌+◌, ◌*◌, List, slice_get}
+use Rattle.loader.specs.File.{Image}
+use Rattle.typing_spec.specs.Program.{Program}
+use Rattle.csem.specs.History.{greatest_sum}
+use Rattle.csem.specs.Machine.{State, Stops, Ended, TicksUsed}
+use Rattle.csem.specs.Meaning.{cstep}
+use Rattle.cc_backend.specs.Runs.{IsInput, bytes_or_none, Reaches, EndsWith, GoesOnWith}
+use Rattle.cc_backend.specs.Made.{IsFileOf}
+use Rattle.cc_laws.specs.Laws.{HasImage}
+
+-- the bytes of the frame of a function by its number
+abbrev pub frame_in : (frames : List ℕ) → ℕ → ℕ
+frame_in frames f = bytes_or_none (slice_get frames f)
+
+-- Where the frames of the calls that are active at one time never take more than the stack, together, the file does what the abstract machine does: it ends
+-- with its status, or goes on as it does, in at most so many instructions.
+pub record RunsWithinFrames (stack : ℕ) (p : Program) (frames : List ℕ) (image : Image) (input : List ℕ) : Type 0 where
+  pub ends : (n status : ℕ) (s : State) → cstep n p input ≡ Stops (Ended status) s → greatest_sum (frame_in frames) s.history ≤ stack
+      → Reaches image input (60 * n + 66) (EndsWith image input status s)
+  pub slack : ℕ
+  pub goes_on : (n : ℕ) (s : State) → cstep n p input ≡ Stops TicksUsed s → greatest_sum (frame_in frames) s.history ≤ stack
+      → Reaches image input (60 * n + 64) (λ k w. (n < slack * k) × GoesOnWith image input frames s k w)
+
+-- so it is of each file that is made of a program
+abbrev pub FilesRunWithinFrames : Type 0
+FilesRunWithinFrames =
+    (stack : ℕ) (p : Program) (file frames : List ℕ) → IsFileOf stack p file frames
+    → HasImage file (λ image. (input : List ℕ) → IsInput input → RunsWithinFrames stack p frames image input)

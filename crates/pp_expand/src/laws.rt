@@ -1,0 +1,29 @@
+//! Laws of expansions, each the contract of a function without code.
+
+ghost use Rattle.pp_expand.specs.Laws.{PullsFirst, KnowsGrows, LeftGrows, BoundSuffices, PullBoundSuffices};
+
+/// A token that is pulled, followed by the expansion of the list left behind it, is the expansion of the list, replacements
+/// counted on; and where none is pulled, that expansion is empty.
+pub fn pulls_first()
+    ensures { PullsFirst }
+{}
+
+/// What is known of a list left stays known, where names get further numbers.
+pub fn knows_grows()
+    ensures { KnowsGrows }
+{}
+
+/// And the list left is the same.
+pub fn left_grows()
+    ensures { LeftGrows }
+{}
+
+/// A greater bound of the definition's recursion than that of the replacements left changes no expansion.
+pub fn bound_suffices()
+    ensures { BoundSuffices }
+{}
+
+/// Nor what is pulled.
+pub fn pull_bound_suffices()
+    ensures { PullBoundSuffices }
+{}
