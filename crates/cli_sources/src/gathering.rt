@@ -84,11 +84,7 @@ fn read_names(
     sources: &mut Sources<'_>,
 ) -> Result<(), Fault> {
     for name in names {
-        let includer = match sources.files.get(number) {
-            Some(file) => file.path.as_str(),
-            None => "",
-        };
-        match found(rt, program, includer, name.as_str()) {
+        match found(rt, program, sources.path_at(number), name.as_str()) {
             Ok(Some(path)) => read_found(rt, name.as_str(), path.as_str(), sources)?,
             Ok(None) => {}
             Err(_) => return Err(Fault::memory(rt.alloc())),

@@ -70,6 +70,14 @@ impl<'a> Sources<'a> {
         None
     }
 
+    /// The path of the file with this number.
+    pub fn path_at(&self, number: usize) -> &str {
+        match self.files.get(number) {
+            Some(file) => file.path.as_str(),
+            None => "",
+        }
+    }
+
     /// Whether a path leads to one of the files.
     pub fn are_at(&self, rt: &HostRuntime, path: &str) -> bool {
         for file in &self.files {

@@ -190,7 +190,7 @@ fn register(text: &str) -> Option<(&str, &'static str, &str)> {
     };
     let number = digits.get(..length)?.parse::<usize>().ok()?;
     let is_own = !text.get(..at)?.ends_with("0");
-    let name = NAMES.get(number)?;
+    let name = *NAMES.get(number)?;
     if is_own {
         Some((text.get(..at)?, name, digits.get(length..)?))
     } else {
