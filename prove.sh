@@ -61,6 +61,7 @@ built=crates/cc_program/out/cc_program
 if [ -x $built ]; then
     mkdir -p bin
     cp $built bin/cc
+    ln -sf cc bin/zkc
 fi
 cmp $built release/cc && [ "$(sh release/digest.sh)" = "$(cat release/SOURCES)" ]
 told 'release/cc is not what this tree builds: sh release/take.sh takes over what was built; then commit release/' $? |

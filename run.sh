@@ -1,5 +1,5 @@
 #!/bin/sh
-# Leaves the program cc at bin/cc, and shows the first program built and run.
+# Leaves the program at bin/zkc, by its old name bin/cc, and shows the first program built and run.
 #
 #   sh run.sh [--prove | CC]
 #
@@ -49,6 +49,9 @@ else
     mkdir -p bin
     cp crates/cc_program/out/cc_program bin/cc
 fi
+
+# The same file by the name that people meet.
+if [ "$cc" = bin/cc ]; then ln -sf cc bin/zkc 2>/dev/null || :; fi
 
 work=$(mktemp -d)
 trap 'rm -rf "$work"' EXIT

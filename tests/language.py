@@ -102,8 +102,8 @@ def by_compiler(cc):
     for name, text in files.items():
         put(name, text)
     for command, output in commands:
-        for way in ['run', 'interp'] if ' run ' in command or command.startswith('bin/cc run') else ['build']:
-            asked = command.replace('bin/cc', cc)
+        for way in ['run', 'interp'] if ' run ' in command or command.startswith('zkc run') else ['build']:
+            asked = re.sub(r'\bzkc\b', lambda _: cc, command)
             if way == 'interp':
                 asked = re.sub(r' run ([a-z]+)', lambda m: ' interp ' + sources(m.group(1), commands), asked)
             _, said, wrong = run('sh', '-c', asked)
@@ -111,7 +111,7 @@ def by_compiler(cc):
 
 def sources(program, commands):
     """The files that the page builds a program from."""
-    return next(re.match(r'bin/cc build (.*) -o', c).group(1) for c, _ in commands if c.endswith('-o ' + program))
+    return next(re.match(r'zkc build (.*) -o', c).group(1) for c, _ in commands if c.endswith('-o ' + program))
 
 # -------------------------------------------------------------- the limits
 
@@ -215,12 +215,12 @@ def by_host():
     for name, text in files.items():
         put(name, text)
     for command, output in commands:
-        built = re.match(r'bin/cc build ([a-z]+\.c)( .*)? -o ([a-z]+)$', command)
+        built = re.match(r'zkc build ([a-z]+\.c)( .*)? -o ([a-z]+)$', command)
         if built:
             wrong = run(*HOST, built.group(1), 'host/rvio.c', '-o', built.group(3))[2]
             holds('%s: %s' % (command, wrong), wrong == '')
         else:
-            _, said, wrong = run('sh', '-c', command.replace('bin/cc run ', './'))
+            _, said, wrong = run('sh', '-c', command.replace('zkc run ', './'))
             holds('%s: %r, %r' % (command, said, wrong), said == output and wrong == '')
     for source, _ in left_out():
         put('main.c', source)
