@@ -197,7 +197,10 @@ built() {
 }
 
 built examples/tour.c "$root/examples/tour.c" 48 42
-built examples/hello.c "$root/examples/hello.c" 68656c6c6f0a 0
+go "$cc" build "$root/examples/hello.c" -o program
+expect 'examples/hello.c, build' 0 - ''
+go "$cc" run program
+expect 'examples/hello.c, cc run' 0 68656c6c6f0a ''
 built examples/sums.c "$root/examples/sums.c" 342b333d370a4869210a 7
 built examples/nested.c "$root/examples/nested.c" 320a 4
 built examples/collatz.c "$root/examples/collatz.c" 300a 0

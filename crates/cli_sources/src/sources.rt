@@ -81,7 +81,7 @@ impl<'a> Sources<'a> {
     /// Whether a path leads to one of the files.
     pub fn are_at(&self, rt: &HostRuntime, path: &str) -> bool {
         for file in &self.files {
-            if is_same(rt, path, file.path.as_str()) {
+            if !file.path.is_empty() && is_same(rt, path, file.path.as_str()) {
                 return true;
             }
         }
@@ -118,6 +118,19 @@ impl<'a> Sources<'a> {
             }
         } else {
             fault
+        }
+    }
+
+    /// What stands behind the file's name in a text that begins with a fault of the whole unit; `None` where it does not, or names the main file of the words.
+    pub fn behind_unit<'t>(&self, text: &'t [u8]) -> Option<&'t [u8]> {
+        if self.main == self.given {
+            return None;
+        }
+        let behind = text.strip_prefix(self.main.as_bytes())?;
+        if behind.starts_with(b":1: ".as_slice()) {
+            Some(behind)
+        } else {
+            None
         }
     }
 }

@@ -33,7 +33,7 @@ pub fn explain_program(rt: &HostRuntime, program: &Program<'_>, told: Told) -> u
     if told.stage == Stage::Interp && said.status == 0 && form != Form::Sarif {
         return explain_interp(rt, program, &sources, told.max, form);
     }
-    put_said(rt, &said)
+    put_named(rt, &sources, &said)
 }
 
 /// What is said of the faults of a program.
@@ -110,6 +110,18 @@ fn run_said(
         stack_size(program),
         form,
     )
+}
+
+/// Writes what a command tells of a program, in which a fault of the whole unit names the main file of the words; answers the exit status.
+fn put_named(rt: &HostRuntime, sources: &Sources<'_>, said: &Said) -> u8 {
+    match sources.behind_unit(said.err.as_slice()) {
+        Some(behind) => {
+            let _named = rt.stderr().write_all(sources.given.as_bytes());
+            let _said = rt.stderr().write_all(behind);
+            said.status
+        }
+        None => put_said(rt, said),
+    }
 }
 
 /// Writes what a command tells; answers the exit status.

@@ -78,7 +78,7 @@ def habits():
         ('-include near.h main.c -o out', 'error: write the #include in MAIN\n'), ('main.c', 'error: the file to write is missing: -o OUT\n'),
         ('build main.c --stack 5000 -o out', 'error: the bytes of the stack are no multiple of 4096 from 4096 to 16777216, as 65536, 64K or 1M\n'),
         ('build main.c --stack 32M -o out', 'error: the bytes of the stack are no multiple of 4096 from 4096 to 16777216, as 65536, 64K or 1M\n'),
-        ('build main.c -D 1=2 -o out', 'error: a macro is written -D NAME, -D NAME=VALUE or -U NAME, on one line\n'),
+        ('build main.c -D +=2 -o out', 'error: a macro is written -D NAME, -D NAME=VALUE or -U NAME, on one line\n'),
         ('build main.c -U A=2 -o out', 'error: a macro is written -D NAME, -D NAME=VALUE or -U NAME, on one line\n'),
         ('run out -I include', 'error: --stack, -I, -D and -U are for --map here\n'),
     ]
@@ -170,6 +170,7 @@ def macros():
     with tempfile.TemporaryDirectory() as work:
         put(work, m_c='int main(void) { return N; }\n', none_c='int f(void) { return N; }\n', line_c='int main(void) {\n    return x + N;\n}\n', deep_c='#include <rvio.h>\nint main(void) { return 1 / (N - 1); }\n')
         counted.expect('a fault in a macro', zkc(work, 'build', 'm.c', '-D', 'N(=1', '-o', 'out'), (1, '', '-D N:1: 202 bad macro definition\n'))
+        counted.expect('no name of a macro', zkc(work, 'build', 'm.c', '-D', '1=2', '-o', 'out'), (1, '', '-D 1:1: 202 bad macro definition\n'))
         counted.expect('the second macro', zkc(work, 'build', 'm.c', '-DN', '-D', 'M(a', '-o', 'out'), (1, '', '-D M:1: 202 bad macro definition\n'))
         counted.expect('a fault in the file', zkc(work, 'build', 'line.c', '-DN', '-o', 'out'), (1, '', 'line.c:2: 528 undeclared name\n'))
         counted.expect('a fault of the whole', zkc(work, 'build', 'none.c', '-DN', '-o', 'out'), (1, '', 'none.c:1: 551 no int main(void)\n'))
@@ -179,6 +180,9 @@ def macros():
         counted.expect('-E', zkc(work, '-E', 'm.c', '-DN=1'), (0, '# 1 "m.c"\nint main ( void ) { return 1 ; }\n', ''))
         counted.expect('interp', zkc(work, 'interp', 'm.c', '-DN=6')[0], 6)
         counted.expect('a newline', zkc(work, 'pp', 'm.c', '-DN=1\n#error'), (2, '', 'error: a macro is written -D NAME, -D NAME=VALUE or -U NAME, on one line\n'))
+        counted.expect('explain: a fault of the whole', zkc(work, 'explain', 'build', 'none.c', '-DN')[2].splitlines()[0], 'none.c:1: 551 no int main(void)')
+        counted.expect('interp with a trace', zkc(work, 'interp', '--trace', 'm.c', '-DN=6'), (6, '', 'enter main\nm.c:1: int main(void) { return N; }\nleave main: 6\n'))
+        counted.expect('run --map with macros', (zkc(work, 'build', 'm.c', '-DN=6', '-o', 'six')[0], zkc(work, 'run', 'six', '--map', 'm.c', '-DN=6', '--at', '9000')[0]), (0, 6))
         counted.expect('list-files', zkc(work, 'build', 'm.c', '-DN', '--list-files'), (0, 'm.c\tm.c\n', ''))
         put(work, file_c='#define S(x) #x\nint main(void) { const char *none; return 0; }\n')
         counted.expect('explain', zkc(work, 'explain', 'build', 'line.c', '-DN')[0], 1)
