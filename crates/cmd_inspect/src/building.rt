@@ -26,7 +26,7 @@ pub enum Mapped {
 }
 
 /// Where the functions of a file lie that was built.
-pub fn mapped(alloc: Global, built: &Built) -> Mapped {
+pub fn functions_of(alloc: Global, built: &Built) -> Mapped {
     match symbol_table(alloc, built) {
         Ok(Some(map)) => Mapped::Known(map),
         Ok(None) => Mapped::Unknown,

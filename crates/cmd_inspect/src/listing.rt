@@ -1,6 +1,6 @@
 //! `list` with labels or with the names that registers have in calls.
 
-use crate::building::{Mapped, built, mapped, say_unknown};
+use crate::building::{Mapped, built, functions_of, say_unknown};
 use crate::listing_text::listing_text;
 use cc::{Built, Cmd, perform};
 use cli_args::Program;
@@ -48,7 +48,7 @@ fn list_built(
     let Some(plain) = plain_listing(rt.alloc(), program, sources) else {
         return say_memory(rt);
     };
-    match mapped(rt.alloc(), built) {
+    match functions_of(rt.alloc(), built) {
         Mapped::Known(map) => match listing_text(rt.alloc(), plain.as_slice(), &map, form) {
             Ok(text) => put_file(rt, out, text.as_slice()),
             Err(_) => say_memory(rt),

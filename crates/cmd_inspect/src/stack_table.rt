@@ -1,6 +1,6 @@
 //! `frames`: what each function takes.
 
-use crate::building::{Mapped, built, mapped, say_unknown};
+use crate::building::{Mapped, built, functions_of, say_unknown};
 use cc::Built;
 use cli_args::Program;
 use cli_io::{put_out, say, say_memory};
@@ -22,7 +22,7 @@ pub fn show_frames(rt: &HostRuntime, program: &Program<'_>, has_sizes: bool) -> 
 }
 
 fn show_built(rt: &HostRuntime, built: &Built, has_sizes: bool) -> u8 {
-    match mapped(rt.alloc(), built) {
+    match functions_of(rt.alloc(), built) {
         Mapped::Known(map) => match table(rt.alloc(), built, &map, has_sizes) {
             Ok(text) => put_out(rt, text.as_bytes(), 0),
             Err(_) => say_memory(rt),

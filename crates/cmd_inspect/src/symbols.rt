@@ -1,6 +1,6 @@
 //! `symbols`: an ELF file of symbols.
 
-use crate::building::{Mapped, built, mapped, say_unknown};
+use crate::building::{Mapped, built, functions_of, say_unknown};
 use cc::Built;
 use cli_args::Program;
 use cli_io::{TAKEN, put_file, say, say_memory, say_usage};
@@ -27,7 +27,7 @@ pub fn write_symbols(rt: &HostRuntime, program: &Program<'_>, out: &str) -> u8 {
 }
 
 fn write_built(rt: &HostRuntime, built: &Built, sources: &Sources<'_>, out: &str) -> u8 {
-    match mapped(rt.alloc(), built) {
+    match functions_of(rt.alloc(), built) {
         Mapped::Known(map) => match symbols(rt.alloc(), &map, sources) {
             Ok(bytes) => put_file(rt, out, bytes.as_slice()),
             Err(_) => say_memory(rt),
