@@ -174,7 +174,8 @@ fn put_code(code: &str, form: ListForm, text: &mut String) -> Result<(), AllocEr
         let Some((plain, name, behind)) = register(rest) else {
             break;
         };
-        put_all(&[plain, name], text)?;
+        text.push_str(plain)?;
+        text.push_str(name)?;
         rest = behind;
     }
     text.push_str(rest)
