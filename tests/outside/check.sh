@@ -687,7 +687,7 @@ else
 fi
 
 # So many checks there are; a loop that ends early, or rows that are lost, do not go unseen.
-checks=825
+checks=827
 made=$((passed + failed + skipped))
 [ $made = $checks ] || fail "$made checks were made, not $checks"
 if [ $skipped = 0 ]; then
