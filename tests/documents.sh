@@ -1,6 +1,6 @@
 #!/bin/sh
 # Compares the documents with what they speak of: the table of faults with the compiler's codes, and builds its sources;
-# the commands that are shown, the language, the crates, the promises and the definitions that have to be believed.
+# the commands that are shown, the language, the crates, the promises, the decisions and the definitions that have to be believed.
 #
 #   sh tests/documents.sh [CC]
 #
