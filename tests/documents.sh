@@ -1,6 +1,6 @@
 #!/bin/sh
 # Compares the documents with what they speak of: the table of faults with the compiler's codes, and builds its sources;
-# the commands that are shown, the language, the crates, the promises and the definitions that have to be believed.
+# the commands that are shown, the language, the crates, the promises, the decisions and the definitions that have to be believed.
 #
 #   sh tests/documents.sh [CC]
 #
@@ -73,11 +73,12 @@ script python3 tests/architecture.py --check
 script python3 tests/trust.py --check
 script python3 tests/proved.py
 script python3 tests/recipes.py --check
+script python3 tests/decisions.py
 script python3 tests/doc_comments.py
 script python3 tests/laws.py
 
 # documents tell what is, not what was or will be; README may say what is there at its date
-if grep -nwiE 'today|so far|to come|not yet|at the moment|699' $(ls docs/*.md | grep -v TRUST) bench/README.md crates/*/README.md >"$work/diary"; then
+if grep -nwiE 'today|so far|to come|not yet|at the moment|699' $(ls docs/*.md docs/decisions/*.md | grep -v TRUST) bench/README.md crates/*/README.md >"$work/diary"; then
     fail "a document speaks of its day: $(head -n 3 "$work/diary")"
 else
     pass

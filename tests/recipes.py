@@ -6,7 +6,7 @@ which is there already, by its names in the code, in the definitions and in the 
     python3 tests/recipes.py --check    only says whether it is as it would be written
 
 Called from the repository's root. With --check the last line counts the checks."""
-import os, re, sys
+import glob, os, re, sys
 
 PAGE = 'docs/HACKING.md'
 # of each recipe: the names of what is there already, and the crates that have another thing of that name
@@ -39,7 +39,7 @@ def flow():
 def lists(name, pattern, without):
     """Of each crate the files in which the names stand, and those of the tests from outside."""
     found = {}
-    for path in list(files('crates', 'tests/outside', 'boards')) + ['docs/DECISIONS.md', 'docs/FAULTS.md', 'docs/LANGUAGE.md', 'docs/MACHINE.md', 'docs/MEANING.md', 'boards/README.md', 'tests/language.py']:
+    for path in list(files('crates', 'tests/outside', 'boards')) + sorted(glob.glob('docs/decisions/*.md')) + ['docs/FAULTS.md', 'docs/LANGUAGE.md', 'docs/MACHINE.md', 'docs/MEANING.md', 'boards/README.md', 'tests/language.py']:
         if name == 'built-in' and path in MERE_PROGRAMS:
             continue
         crate = path.split('/')[1] if path.startswith('crates/') else ''
