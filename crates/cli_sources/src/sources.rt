@@ -78,8 +78,11 @@ impl<'a> Sources<'a> {
         }
     }
 
-    /// Whether a path leads to one of the files.
+    /// Whether a path leads to one of the files; `-` is standard output, which none is.
     pub fn are_at(&self, rt: &HostRuntime, path: &str) -> bool {
+        if path == "-" {
+            return false;
+        }
         for file in &self.files {
             if !file.path.is_empty() && is_same(rt, path, file.path.as_str()) {
                 return true;
