@@ -39,7 +39,7 @@ def programs():
             continue
         used = [name, *(header for header in re.findall(r'#include "([^"]+)"', source) if header in files)]
         stem = name[:-2]
-        command = re.search(r'^    \$ (?:(printf|echo) (\'[^\']*\'|\S+) \| )?bin/cc run %s(?:;.*)?$' % stem, PAGE, re.M)
+        command = re.search(r'^    \$ (?:(printf|echo) (\'[^\']*\'|\S+) \| )?zkc run %s(?:;.*)?$' % stem, PAGE, re.M)
         given = command.group(2).strip("'") if command.group(1) else ''
         yield {'name': stem, 'files': [[one, files[one]] for one in used], 'input': given + ('\\n' if command.group(1) == 'echo' else '')}
 
