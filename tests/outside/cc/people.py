@@ -107,6 +107,10 @@ def habits():
         zkc(work, 'build', 'main.c', '-o', 'out')
         status, out, err = zkc(work, 'build', 'main.c', '-o', '-')
         counted.expect('standard output', (status, out, err), (0, read(work, 'out'), ''))
+        for command in ('build', 'pp', 'list'):
+            plain = zkc(work, command, 'main.c', '-o', '-')
+            counted.expect(command + ' from standard input to standard output', zkc(work, command, '-', '-o', '-', given=read(work, 'main.c').encode('latin-1')), plain)
+            counted.expect(command + ' writes there', (plain[0], plain[1] != '', plain[2]), (0, True, ''))
         counted.expect('no file -', os.path.exists(os.path.join(work, '-')), False)
 
 
