@@ -78,7 +78,7 @@ def commands(compiler):
         for command, below in list(shown()):
             if 'run.sh' not in command and 'echo $?' not in command:
                 wanted = ''.join(line + '\n' for line in below).encode()
-                counted.expect('CONSOLE.md, ' + command, boards.run(['sh', '-c', command], folder=folder), (0, wanted, b''))
+                counted.expect('CONSOLE.md, ' + command, boards.run(['sh', '-c', re.sub(r'\bzkc\b', 'release/cc', command)], folder=folder), (0, wanted, b''))
     return counted
 
 
@@ -199,7 +199,7 @@ def stack(compiler):
         with open(console, 'rb') as file:
             counted.expect('CONSOLE.md, frames', [row[2] for row in table.values()], frames_of(file.read()))
     counted.expect('CONSOLE.md, calls', {name: row[3] for name, row in table.items()}, {name: calls_of(name) for name in table})
-    sums = re.search(r'the weights come to (\d+) bytes, the frames to (\d+)', page).groups()
+    sums = tuple(re.search(r'deepest by %s: (\d+) bytes' % what, page).group(1) for what in ('weights', 'frames'))
     counted.expect('CONSOLE.md, the heaviest path', sums, (str(heaviest(table, 1)), '80'))
     path = ['main', 'answer', 'set_cell', 'is_number', 'skip_spaces']
     counted.expect('CONSOLE.md, its weights and frames', [sum(table[name][k] for name in path) for k in (1, 2)], [int(n) for n in sums])
