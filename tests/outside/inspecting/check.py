@@ -539,7 +539,7 @@ def on_terminal(shell, setup, keys, wanted):
 
 def surroundings():
     status, out, err = cc(ROOT, '--version')
-    check('version', status == 0 and re.fullmatch(rb'zkc \d+\.\d+, proved with the logic [0-9a-f]{16}, compiler [0-9a-f]{64}\n', out) is not None, out)
+    check('version', status == 0 and re.fullmatch(rb'zkc \d+\.\d+, proved with the logic [0-9a-f]{16}\n', out) is not None, out)
     wanted = (('exp', 'zkc explain '), ('explain int', 'zkc explain interp '), ('image a --me', 'zkc image a --memh '), ('explain build --color al', 'zkc explain build --color always '))
     shells = (('bash', ['bash', '--norc', '-i'], 'source share/zkc.bash'), ('zsh', ['zsh', '-f', '-i'], 'fpath=(share $fpath); autoload -Uz compinit; compinit -u -D'))
     for name, words, setup in shells:
