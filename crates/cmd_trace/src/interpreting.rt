@@ -82,13 +82,14 @@ fn run_probed<W: Write + Drop>(
     if status == 1 && !line.is_empty() && !line.begins_with(NO_MEMORY) {
         return untraced(rt);
     }
+    if !traced.has_memory {
+        return say_memory(rt);
+    }
     let status = tell(rt, &mut line, status);
     if traced.is_whole {
         status
-    } else if traced.has_memory {
-        say_unwritten(rt, path)
     } else {
-        say_memory(rt)
+        say_unwritten(rt, path)
     }
 }
 

@@ -51,10 +51,13 @@ impl<P: Port + Drop, W: Write + Drop> TracePort<P, W> {
         (inner, is_whole && is_flushed, has_memory)
     }
 
-    /// Writes what an event is shown as. What cannot be written is left out, and then the trace is not whole.
+    /// Writes what an event is shown as. At the first event that cannot be written the trace ends, and is not whole.
     fn tell(&mut self, event: Event)
         ensures { self.new.inner ≡ self.old.inner }
     {
+        if !self.is_whole {
+            return;
+        }
         match self.script.shown(self.alloc, event) {
             Ok(text) => {
                 if !write_text(&mut self.out, text.as_bytes()) {

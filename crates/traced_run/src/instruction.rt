@@ -16,6 +16,11 @@ pub fn instruction_line(alloc: Global, pc: u32, word: u32) -> Result<Vec<u8>, Al
     Ok(plain.into_bytes())
 }
 
+/// Whether a listing was refused for want of memory: the line that it is written to refuses for nothing else.
+fn is_for_memory(code: u16) -> bool {
+    code == Code::OutOfMemory.number() || code == Code::CannotWrite.number()
+}
+
 /// The line of an instruction by the assembler; `None` where it lists none at this address.
 fn listed(alloc: Global, pc: u32, instr: Instr) -> Result<Option<Vec<u8>>, AllocError> {
     let mut code = Vec::new(alloc);
@@ -32,7 +37,7 @@ fn listed(alloc: Global, pc: u32, instr: Instr) -> Result<Option<Vec<u8>>, Alloc
             let _newline = line.pop();
             Ok(Some(line))
         }
-        Err(fault) if fault.code == Code::OutOfMemory.number() => Err(AllocError),
+        Err(fault) if is_for_memory(fault.code) => Err(AllocError),
         Err(_) => Ok(None),
     }
 }
