@@ -2,7 +2,7 @@
 # sh tests/outside/boards/check.sh PROGRAM: runs built programs on the boards of boards/, with PROGRAM as the compiler.
 # Where qemu-system-misc or binutils-riscv64-unknown-elf is not installed, it says so and leaves everything out. The last
 # line counts the checks.
-checks=1301
+checks=1302
 for tool in qemu-system-riscv32 riscv64-unknown-elf-as riscv64-unknown-elf-ld riscv64-unknown-elf-objcopy python3; do
     if ! command -v $tool >/dev/null 2>&1; then
         echo "no $tool: the boards are left out"
