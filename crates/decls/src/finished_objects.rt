@@ -107,6 +107,7 @@ fn retyped_meaning(
 fn put_type(
     alloc: Global,
     scope: &mut Scope,
+    name: usize,
     what: Storage,
     declared: &DeclaredType,
 ) -> Result<(), Refusal>
@@ -118,6 +119,7 @@ fn put_type(
             Ok(object_type) => scope.put_static(
                 place,
                 StaticObject {
+                    name,
                     object_type,
                     defined: true,
                 },
@@ -134,12 +136,17 @@ fn put_type(
 }
 
 /// An object has the type that is now known.
-fn with_storage_type(alloc: Global, scope: &mut Scope, meaning: &Meaning) -> Result<(), Refusal>
+fn with_storage_type(
+    alloc: Global,
+    scope: &mut Scope,
+    name: usize,
+    meaning: &Meaning,
+) -> Result<(), Refusal>
     ensures ok { OnOk result (scope.new ≡ typed.with_storage_type scope.old (meaning_of meaning.now)) }
     ensures err { IfErr result (λ r. r ≡ Memory) }
 {
     match meaning {
-        Meaning::Object(what, declared) => put_type(alloc, scope, *what, declared),
+        Meaning::Object(what, declared) => put_type(alloc, scope, name, *what, declared),
         Meaning::ArrayParameter(_, _) => Ok(()),
         Meaning::Function(_) => Ok(()),
         Meaning::Enumerator(_) => Ok(()),
@@ -158,7 +165,7 @@ fn with_meaning(
     ensures ok { OnOk result (scope.new ≡ typed.with_storage_type (scope_typed.with_name scope.old name (meaning_of meaning) (linkage_of linkage) (state_of state)) (meaning_of meaning)) }
     ensures err { IfErr result (λ r. r ≡ Memory) }
 {
-    match with_storage_type(alloc, scope, &meaning) {
+    match with_storage_type(alloc, scope, name, &meaning) {
         Ok(()) => scope.with_name(name, meaning, linkage, state),
         Err(refusal) => Err(refusal),
     }

@@ -76,6 +76,7 @@ fn with_static(
     let place = scope.static_count();
     let meaning = Meaning::Object(Storage::Static(place), declared);
     let object = StaticObject {
+        name,
         object_type,
         defined: true,
     };

@@ -24,6 +24,7 @@ use typing_scopes::{Binding, Meaning, Scope, State, StaticObject, built_in};
 fn put_object(
     alloc: Global,
     scope: &mut Scope,
+    name: usize,
     state: State,
     what: Storage,
     declared: &DeclaredType,
@@ -36,6 +37,7 @@ fn put_object(
             Ok(object_type) => scope.put_static(
                 place,
                 StaticObject {
+                    name,
                     object_type,
                     defined: !is_mentioned(state),
                 },
@@ -52,6 +54,7 @@ fn put_object(
 fn with_storage(
     alloc: Global,
     scope: &mut Scope,
+    name: usize,
     state: State,
     meaning: &Meaning,
 ) -> Result<(), Refusal>
@@ -59,7 +62,7 @@ fn with_storage(
     ensures err { IfErr result (λ r. r ≡ Memory) }
 {
     match meaning {
-        Meaning::Object(what, declared) => put_object(alloc, scope, state, *what, declared),
+        Meaning::Object(what, declared) => put_object(alloc, scope, name, state, *what, declared),
         Meaning::ArrayParameter(_, _) => Ok(()),
         Meaning::Function(_) => Ok(()),
         Meaning::Enumerator(_) => Ok(()),
@@ -71,7 +74,7 @@ fn agreed_in(alloc: Global, scope: &mut Scope, name: usize, agreed: Agreed) -> R
     ensures ok { OnOk result (typed.agreed_in scope.old name (agreed_of agreed) ≡ fine scope.new) }
     ensures err { IfErr result (λ r. r ≡ Memory) }
 {
-    match with_storage(alloc, scope, agreed.state, &agreed.meaning) {
+    match with_storage(alloc, scope, name, agreed.state, &agreed.meaning) {
         Ok(()) => scope.with_name(name, agreed.meaning, agreed.linkage, agreed.state),
         Err(refusal) => Err(refusal),
     }

@@ -92,27 +92,27 @@ pub fn is_quick_statement(a: &Statement) -> bool
     ensures { result ≡ quick_statement (statement_of a.now) }
 {
     match a {
-        Statement::Empty => true,
-        Statement::Evaluate(e) => is_quick(e),
-        Statement::Declare(_) => true,
-        Statement::Define(_, i) => is_quick_initialiser(i),
-        Statement::Block(_, _, all) => are_quick(all),
-        Statement::If(e, a) => is_quick(e) && is_quick_statement(a),
-        Statement::IfElse(e, a, b) => is_quick(e) && is_quick_statement(a) && is_quick_statement(b),
-        Statement::Switch(_, _, _, _, _) => false,
-        Statement::Case(_) => true,
-        Statement::Default => true,
-        Statement::While(e, a) => is_quick(e) && is_quick_statement(a),
-        Statement::DoWhile(a, e) => is_quick(e) && is_quick_statement(a),
-        Statement::For(declared, control, a) => {
+        Statement::Empty(_) => true,
+        Statement::Evaluate(_, e) => is_quick(e),
+        Statement::Declare(_, _) => true,
+        Statement::Define(_, _, i) => is_quick_initialiser(i),
+        Statement::Block(_, _, _, all) => are_quick(all),
+        Statement::If(_, e, a) => is_quick(e) && is_quick_statement(a),
+        Statement::IfElse(_, e, a, b) => is_quick(e) && is_quick_statement(a) && is_quick_statement(b),
+        Statement::Switch(_, _, _, _, _, _) => false,
+        Statement::Case(_, _) => true,
+        Statement::Default(_) => true,
+        Statement::While(_, e, a) => is_quick(e) && is_quick_statement(a),
+        Statement::DoWhile(_, a, e) => is_quick(e) && is_quick_statement(a),
+        Statement::For(_, declared, control, a) => {
             is_quick_control(&control.start, &control.test, &control.step)
                 && are_quick(declared)
                 && is_quick_statement(a)
         }
-        Statement::Break => true,
-        Statement::Continue => true,
-        Statement::ReturnNothing => true,
-        Statement::ReturnValue(_, e) => is_quick(e),
+        Statement::Break(_) => true,
+        Statement::Continue(_) => true,
+        Statement::ReturnNothing(_) => true,
+        Statement::ReturnValue(_, _, e) => is_quick(e),
     }
 }
 

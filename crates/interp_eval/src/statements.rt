@@ -33,28 +33,28 @@ pub fn statement(
     ensures here { StaysHere (quick_statement (statement_of a.now)) result clock.new.why }
 {
     match a {
-        Statement::Empty | Statement::Case(_) | Statement::Default => {
+        Statement::Empty(_) | Statement::Case(_, _) | Statement::Default(_) => {
             at_once(scope, scene, clock, Flow::Normal)
         }
-        Statement::Evaluate(e) => evaluation(scope, scene, clock, e),
-        Statement::Declare(n) => declaration(scope, scene, clock, *n),
-        Statement::Define(n, i) => definition(scope, scene, clock, *n, i),
-        Statement::Block(first, count, all) => block(scope, scene, clock, *first, *count, all),
-        Statement::If(e, a) => branch(scope, scene, clock, e, a),
-        Statement::IfElse(e, a, b) => branches(scope, scene, clock, e, a, b),
-        Statement::Switch(_, _, _, _, _) => left_out(clock),
-        Statement::While(e, a) => while_loop(scope, scene, clock, e, a),
-        Statement::DoWhile(a, e) => do_loop(scope, scene, clock, a, e),
-        Statement::For(declared, control, a) => {
+        Statement::Evaluate(_, e) => evaluation(scope, scene, clock, e),
+        Statement::Declare(_, n) => declaration(scope, scene, clock, *n),
+        Statement::Define(_, n, i) => definition(scope, scene, clock, *n, i),
+        Statement::Block(_, first, count, all) => block(scope, scene, clock, *first, *count, all),
+        Statement::If(_, e, a) => branch(scope, scene, clock, e, a),
+        Statement::IfElse(_, e, a, b) => branches(scope, scene, clock, e, a, b),
+        Statement::Switch(_, _, _, _, _, _) => left_out(clock),
+        Statement::While(_, e, a) => while_loop(scope, scene, clock, e, a),
+        Statement::DoWhile(_, a, e) => do_loop(scope, scene, clock, a, e),
+        Statement::For(_, declared, control, a) => {
             let start = control.start.as_ref();
             let test = control.test.as_ref();
             let step = control.step.as_ref();
             for_loop(scope, scene, clock, declared, start, test, step, a)
         }
-        Statement::Break => at_once(scope, scene, clock, Flow::Broken),
-        Statement::Continue => at_once(scope, scene, clock, Flow::Continued),
-        Statement::ReturnNothing => at_once(scope, scene, clock, Flow::Returned(None)),
-        Statement::ReturnValue(ty, e) => return_value(scope, scene, clock, *ty, e),
+        Statement::Break(_) => at_once(scope, scene, clock, Flow::Broken),
+        Statement::Continue(_) => at_once(scope, scene, clock, Flow::Continued),
+        Statement::ReturnNothing(_) => at_once(scope, scene, clock, Flow::Returned(None)),
+        Statement::ReturnValue(_, ty, e) => return_value(scope, scene, clock, *ty, e),
     }
 }
 

@@ -2,6 +2,7 @@
 use Rattle.std.proofs.Common.{Bor, refl, sym, ◌≡◌, ℕ, List, map, rules, ap, ◌∙◌, Global}
 use Rattle.std.specs.Option.{option_copied}
 use Rattle.std.specs.Prelude.{option_map, Some, None, Option, Box, Vec}
+use Rattle.srcset.specs.declared.refusal.Pos.{Pos}
 use Rattle.ctypes.specs.declared.types.IntType.{IntType}
 use Rattle.typed_ast.specs.declared.expressions.Value.{Value}
 use Rattle.typed_ast.specs.declared.initialisers.Initialiser.{Initialiser}
@@ -11,35 +12,35 @@ use Rattle.typed_ast.specs.declared.statements.Statement as S
 use Rattle.typed_ast.specs.View.{value_of, option_value, initialiser_of, statement_of, statements_of}
 use Rattle.typing_spec.specs.Program as typed
 
-define_is : (n : ℕ) (i : Initialiser) → statement_of (S.Define n i) ≡ typed.define n (initialiser_of i)
-define_is n i = search (rules, the_lemmas)
+define_is : (at : Pos) (n : ℕ) (i : Initialiser) → statement_of (S.Define at n i) ≡ typed.define n (initialiser_of i)
+define_is at n i = search (rules, the_lemmas)
 
-pub sees_define : (x : Statement) (n : ℕ) (i : Initialiser) → x ≡ S.Define n i → statement_of x ≡ typed.define n (initialiser_of i)
-sees_define x n i e = ap statement_of e ∙ define_is n i
+pub sees_define : (x : Statement) (at : Pos) (n : ℕ) (i : Initialiser) → x ≡ S.Define at n i → statement_of x ≡ typed.define n (initialiser_of i)
+sees_define x at n i e = ap statement_of e ∙ define_is at n i
 
-block_is : (first count : ℕ) (all : Vec Statement Global) → statement_of (S.Block first count all) ≡ typed.block first count (statements_of (map statement_of all.items))
-block_is first count all = search (rules, the_lemmas)
+block_is : (at : Pos) (first count : ℕ) (all : Vec Statement Global) → statement_of (S.Block at first count all) ≡ typed.block first count (statements_of (map statement_of all.items))
+block_is at first count all = search (rules, the_lemmas)
 
-pub sees_block : (x : Statement) (first count : ℕ) (all : Vec Statement Global) → x ≡ S.Block first count all →
+pub sees_block : (x : Statement) (at : Pos) (first count : ℕ) (all : Vec Statement Global) → x ≡ S.Block at first count all →
     statement_of x ≡ typed.block first count (statements_of (map statement_of all.items))
-sees_block x first count all e = ap statement_of e ∙ block_is first count all
+sees_block x at first count all e = ap statement_of e ∙ block_is at first count all
 
-switch_is : (t : IntType) (v : Value) (first count : ℕ) (all : Vec Statement Global) →
-    statement_of (S.Switch t v first count all) ≡ typed.switch t (value_of v) first count (statements_of (map statement_of all.items))
-switch_is t v first count all = search (rules, the_lemmas)
+switch_is : (at : Pos) (t : IntType) (v : Value) (first count : ℕ) (all : Vec Statement Global) →
+    statement_of (S.Switch at t v first count all) ≡ typed.switch t (value_of v) first count (statements_of (map statement_of all.items))
+switch_is at t v first count all = search (rules, the_lemmas)
 
-pub sees_switch : (x : Statement) (t : IntType) (v : Value) (first count : ℕ) (all : Vec Statement Global) → x ≡ S.Switch t v first count all →
+pub sees_switch : (x : Statement) (at : Pos) (t : IntType) (v : Value) (first count : ℕ) (all : Vec Statement Global) → x ≡ S.Switch at t v first count all →
     statement_of x ≡ typed.switch t (value_of v) first count (statements_of (map statement_of all.items))
-sees_switch x t v first count all e = ap statement_of e ∙ switch_is t v first count all
+sees_switch x at t v first count all e = ap statement_of e ∙ switch_is at t v first count all
 
-for_is : (declared : Vec Statement Global) (control : Box ForControl Global) (a : Box Statement Global) →
-    statement_of (S.For declared control a) ≡
+for_is : (at : Pos) (declared : Vec Statement Global) (control : Box ForControl Global) (a : Box Statement Global) →
+    statement_of (S.For at declared control a) ≡
     typed.for (statements_of (map statement_of declared.items)) (option_value control.value.start) (option_value control.value.test) (option_value control.value.step) (statement_of a.value)
-for_is declared control a = search (rules, the_lemmas)
+for_is at declared control a = search (rules, the_lemmas)
 
-pub sees_for : (x : Statement) (declared : Vec Statement Global) (control : Box ForControl Global) (a : Box Statement Global) → x ≡ S.For declared control a →
+pub sees_for : (x : Statement) (at : Pos) (declared : Vec Statement Global) (control : Box ForControl Global) (a : Box Statement Global) → x ≡ S.For at declared control a →
     statement_of x ≡ typed.for (statements_of (map statement_of declared.items)) (option_value control.value.start) (option_value control.value.test) (option_value control.value.step) (statement_of a.value)
-sees_for x declared control a e = ap statement_of e ∙ for_is declared control a
+sees_for x at declared control a e = ap statement_of e ∙ for_is at declared control a
 
 lent_value : (o : Option (Bor Value)) → option_value (option_copied o) ≡ option_map (λ (e : Bor Value). value_of e.now) o
 lent_value None = refl
@@ -49,15 +50,15 @@ lent : (o : Option (Bor Value)) (v : Option Value) → option_copied o ≡ v →
 lent o v e = ap option_value (sym e) ∙ lent_value o
 
 -- what is lent of a `for`
-pub lends_for : (x : Statement) (declared : Vec Statement Global) (control : Box ForControl Global) (a : Box Statement Global) (all : List Statement) (o p q : Option (Bor Value)) →
-    x ≡ S.For declared control a → all ≡ declared.items → option_copied o ≡ control.value.start → option_copied p ≡ control.value.test → option_copied q ≡ control.value.step →
+pub lends_for : (x : Statement) (at : Pos) (declared : Vec Statement Global) (control : Box ForControl Global) (a : Box Statement Global) (all : List Statement) (o p q : Option (Bor Value)) →
+    x ≡ S.For at declared control a → all ≡ declared.items → option_copied o ≡ control.value.start → option_copied p ≡ control.value.test → option_copied q ≡ control.value.step →
     statement_of x ≡ typed.for (statements_of (map statement_of all)) (option_map (λ (e : Bor Value). value_of e.now) o) (option_map (λ (e : Bor Value). value_of e.now) p)
     (option_map (λ (e : Bor Value). value_of e.now) q) (statement_of a.value)
-lends_for x declared control a all o p q e f g h i =
+lends_for x at declared control a all o p q e f g h i =
     let start = control.value.start in
     let test = control.value.test in
     let step = control.value.step in
-    sees_for x declared control a e
+    sees_for x at declared control a e
     ∙ ap (λ all. typed.for (statements_of (map statement_of all)) (option_value start) (option_value test) (option_value step) (statement_of a.value)) (sym f)
     ∙ ap (λ start. typed.for (statements_of (map statement_of all)) start (option_value test) (option_value step) (statement_of a.value)) (lent o start g)
     ∙ ap (λ test. typed.for (statements_of (map statement_of all)) (option_map (λ (e : Bor Value). value_of e.now) o) test (option_value step) (statement_of a.value)) (lent p test h)

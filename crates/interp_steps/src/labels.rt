@@ -34,14 +34,14 @@ pub fn label_of(a: &Statement) -> Label
     ensures { labels_at (statement_of a.now) ≡ label_kind result }
 {
     match a {
-        Statement::Case(v) => Label::Case(*v),
-        Statement::Default => Label::Default,
-        Statement::Empty | Statement::Evaluate(_) | Statement::Declare(_) => Label::None,
-        Statement::Define(_, _) | Statement::Block(_, _, _) | Statement::If(_, _) => Label::None,
-        Statement::IfElse(_, _, _) | Statement::Switch(_, _, _, _, _) => Label::None,
-        Statement::While(_, _) | Statement::DoWhile(_, _) => Label::None,
-        Statement::For(_, _, _) | Statement::Break | Statement::Continue => Label::None,
-        Statement::ReturnNothing | Statement::ReturnValue(_, _) => Label::None,
+        Statement::Case(_, v) => Label::Case(*v),
+        Statement::Default(_) => Label::Default,
+        Statement::Empty(_) | Statement::Evaluate(_, _) | Statement::Declare(_, _) => Label::None,
+        Statement::Define(_, _, _) | Statement::Block(_, _, _, _) | Statement::If(_, _, _) => Label::None,
+        Statement::IfElse(_, _, _, _) | Statement::Switch(_, _, _, _, _, _) => Label::None,
+        Statement::While(_, _, _) | Statement::DoWhile(_, _, _) => Label::None,
+        Statement::For(_, _, _, _) | Statement::Break(_) | Statement::Continue(_) => Label::None,
+        Statement::ReturnNothing(_) | Statement::ReturnValue(_, _, _) => Label::None,
     }
 }
 

@@ -158,14 +158,14 @@ pub fn enter_statement<'p>(
     ensures program { machine.new.program ≡ machine.old.program }
 {
     match a {
-        Statement::Empty | Statement::Case(_) | Statement::Default => left(Flow::Normal),
-        Statement::Evaluate(e) => control(machine, ControlFrame::Forgets, e),
-        Statement::Declare(n) => declare(machine, objects, *n),
-        Statement::Define(n, i) => define(machine, objects, *n, i),
-        Statement::Block(first, count, all) => open_block(machine, objects, *first, *count, all),
-        Statement::If(e, a) => control(machine, ControlFrame::IfTrue(objects, a), e),
-        Statement::IfElse(e, a, b) => control(machine, ControlFrame::IfElse(objects, a, b), e),
-        Statement::Switch(ty, e, first, count, all) => {
+        Statement::Empty(_) | Statement::Case(_, _) | Statement::Default(_) => left(Flow::Normal),
+        Statement::Evaluate(_, e) => control(machine, ControlFrame::Forgets, e),
+        Statement::Declare(_, n) => declare(machine, objects, *n),
+        Statement::Define(_, n, i) => define(machine, objects, *n, i),
+        Statement::Block(_, first, count, all) => open_block(machine, objects, *first, *count, all),
+        Statement::If(_, e, a) => control(machine, ControlFrame::IfTrue(objects, a), e),
+        Statement::IfElse(_, e, a, b) => control(machine, ControlFrame::IfElse(objects, a, b), e),
+        Statement::Switch(_, ty, e, first, count, all) => {
             let block = SwitchBlock {
                 objects,
                 first: *first,
@@ -174,7 +174,7 @@ pub fn enter_statement<'p>(
             };
             control(machine, ControlFrame::Switches(*ty, block), e)
         }
-        Statement::While(e, body) => look(
+        Statement::While(_, e, body) => look(
             machine,
             Loop {
                 objects,
@@ -183,7 +183,7 @@ pub fn enter_statement<'p>(
                 step: None,
             },
         ),
-        Statement::DoWhile(body, e) => turn(
+        Statement::DoWhile(_, body, e) => turn(
             machine,
             Loop {
                 objects,
@@ -192,7 +192,7 @@ pub fn enter_statement<'p>(
                 step: None,
             },
         ),
-        Statement::For(declared, control, body) => {
+        Statement::For(_, declared, control, body) => {
             let l = Loop {
                 objects,
                 test: control.test.as_ref(),
@@ -201,9 +201,9 @@ pub fn enter_statement<'p>(
             };
             start_for(machine, declared, control.start.as_ref(), l)
         }
-        Statement::Break => left(Flow::Broken),
-        Statement::Continue => left(Flow::Continued),
-        Statement::ReturnNothing => left(Flow::Returned(None)),
-        Statement::ReturnValue(ty, e) => control(machine, ControlFrame::GivesBack(*ty), e),
+        Statement::Break(_) => left(Flow::Broken),
+        Statement::Continue(_) => left(Flow::Continued),
+        Statement::ReturnNothing(_) => left(Flow::Returned(None)),
+        Statement::ReturnValue(_, ty, e) => control(machine, ControlFrame::GivesBack(*ty), e),
     }
 }

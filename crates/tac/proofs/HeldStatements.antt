@@ -1,6 +1,7 @@
 -- The statements that a value of the code holds, level by level.
 use Rattle.std.proofs.Common.{◌≡◌, ℕ, ℤ, map, rules, ap, ◌∙◌, Global}
 use Rattle.std.specs.Prelude.{Option, Box, Vec}
+use Rattle.srcset.specs.declared.refusal.Pos.{Pos}
 use Rattle.ctypes.specs.declared.types.IntType.{IntType}
 use Rattle.typed_ast.specs.declared.expressions.Value.{Value}
 use Rattle.typed_ast.specs.declared.initialisers.Initialiser.{Initialiser, the_lemmas as initialiser_lemmas}
@@ -11,107 +12,107 @@ use Rattle.typed_ast.specs.declared.statements.Statement as S
 use Rattle.typed_ast.specs.View.{value_of, option_value, initialiser_of, initialisers_of, statement_of, statements_of}
 use Rattle.typing_spec.specs.Program as typed
 
-empty_is : statement_of S.Empty ≡ typed.empty
-empty_is = search (rules, the_lemmas)
+empty_is : (at : Pos) → statement_of (S.Empty at) ≡ typed.empty
+empty_is at = search (rules, the_lemmas)
 
-pub sees_empty : (x : Statement) → x ≡ S.Empty → statement_of x ≡ typed.empty
-sees_empty x h = ap statement_of h ∙ empty_is
+pub sees_empty : (x : Statement) (at : Pos) → x ≡ S.Empty at → statement_of x ≡ typed.empty
+sees_empty x at h = ap statement_of h ∙ empty_is at
 
-evaluate_is : (e : Value) → statement_of (S.Evaluate e) ≡ typed.evaluate (value_of e)
-evaluate_is e = search (rules, the_lemmas)
+evaluate_is : (at : Pos) (e : Value) → statement_of (S.Evaluate at e) ≡ typed.evaluate (value_of e)
+evaluate_is at e = search (rules, the_lemmas)
 
-pub sees_evaluate : (x : Statement) (e : Value) → x ≡ S.Evaluate e → statement_of x ≡ typed.evaluate (value_of e)
-sees_evaluate x e h = ap statement_of h ∙ evaluate_is e
+pub sees_evaluate : (x : Statement) (at : Pos) (e : Value) → x ≡ S.Evaluate at e → statement_of x ≡ typed.evaluate (value_of e)
+sees_evaluate x at e h = ap statement_of h ∙ evaluate_is at e
 
-declare_is : (n : ℕ) → statement_of (S.Declare n) ≡ typed.declare n
-declare_is n = search (rules, the_lemmas)
+declare_is : (at : Pos) (n : ℕ) → statement_of (S.Declare at n) ≡ typed.declare n
+declare_is at n = search (rules, the_lemmas)
 
-pub sees_declare : (x : Statement) (n : ℕ) → x ≡ S.Declare n → statement_of x ≡ typed.declare n
-sees_declare x n h = ap statement_of h ∙ declare_is n
+pub sees_declare : (x : Statement) (at : Pos) (n : ℕ) → x ≡ S.Declare at n → statement_of x ≡ typed.declare n
+sees_declare x at n h = ap statement_of h ∙ declare_is at n
 
-define_is : (n : ℕ) (i : Initialiser) → statement_of (S.Define n i) ≡ typed.define n (initialiser_of i)
-define_is n i = search (rules, the_lemmas)
+define_is : (at : Pos) (n : ℕ) (i : Initialiser) → statement_of (S.Define at n i) ≡ typed.define n (initialiser_of i)
+define_is at n i = search (rules, the_lemmas)
 
-pub sees_define : (x : Statement) (n : ℕ) (i : Initialiser) → x ≡ S.Define n i → statement_of x ≡ typed.define n (initialiser_of i)
-sees_define x n i h = ap statement_of h ∙ define_is n i
+pub sees_define : (x : Statement) (at : Pos) (n : ℕ) (i : Initialiser) → x ≡ S.Define at n i → statement_of x ≡ typed.define n (initialiser_of i)
+sees_define x at n i h = ap statement_of h ∙ define_is at n i
 
-block_is : (first count : ℕ) (all : Vec Statement Global) → statement_of (S.Block first count all) ≡ typed.block first count (statements_of (map statement_of all.items))
-block_is first count all = search (rules, the_lemmas)
+block_is : (at : Pos) (first count : ℕ) (all : Vec Statement Global) → statement_of (S.Block at first count all) ≡ typed.block first count (statements_of (map statement_of all.items))
+block_is at first count all = search (rules, the_lemmas)
 
-pub sees_block : (x : Statement) (first count : ℕ) (all : Vec Statement Global) → x ≡ S.Block first count all → statement_of x ≡ typed.block first count (statements_of (map statement_of all.items))
-sees_block x first count all h = ap statement_of h ∙ block_is first count all
+pub sees_block : (x : Statement) (at : Pos) (first count : ℕ) (all : Vec Statement Global) → x ≡ S.Block at first count all → statement_of x ≡ typed.block first count (statements_of (map statement_of all.items))
+sees_block x at first count all h = ap statement_of h ∙ block_is at first count all
 
-if_is : (e : Value) (a : Box Statement Global) → statement_of (S.If e a) ≡ typed.branch (value_of e) (statement_of a.value)
-if_is e a = search (rules, the_lemmas)
+if_is : (at : Pos) (e : Value) (a : Box Statement Global) → statement_of (S.If at e a) ≡ typed.branch (value_of e) (statement_of a.value)
+if_is at e a = search (rules, the_lemmas)
 
-pub sees_if : (x : Statement) (e : Value) (a : Box Statement Global) → x ≡ S.If e a → statement_of x ≡ typed.branch (value_of e) (statement_of a.value)
-sees_if x e a h = ap statement_of h ∙ if_is e a
+pub sees_if : (x : Statement) (at : Pos) (e : Value) (a : Box Statement Global) → x ≡ S.If at e a → statement_of x ≡ typed.branch (value_of e) (statement_of a.value)
+sees_if x at e a h = ap statement_of h ∙ if_is at e a
 
-ifelse_is : (e : Value) (a b : Box Statement Global) → statement_of (S.IfElse e a b) ≡ typed.branches (value_of e) (statement_of a.value) (statement_of b.value)
-ifelse_is e a b = search (rules, the_lemmas)
+ifelse_is : (at : Pos) (e : Value) (a b : Box Statement Global) → statement_of (S.IfElse at e a b) ≡ typed.branches (value_of e) (statement_of a.value) (statement_of b.value)
+ifelse_is at e a b = search (rules, the_lemmas)
 
-pub sees_ifelse : (x : Statement) (e : Value) (a b : Box Statement Global) → x ≡ S.IfElse e a b → statement_of x ≡ typed.branches (value_of e) (statement_of a.value) (statement_of b.value)
-sees_ifelse x e a b h = ap statement_of h ∙ ifelse_is e a b
+pub sees_ifelse : (x : Statement) (at : Pos) (e : Value) (a b : Box Statement Global) → x ≡ S.IfElse at e a b → statement_of x ≡ typed.branches (value_of e) (statement_of a.value) (statement_of b.value)
+sees_ifelse x at e a b h = ap statement_of h ∙ ifelse_is at e a b
 
-switch_is : (u : IntType) (e : Value) (first count : ℕ) (all : Vec Statement Global) → statement_of (S.Switch u e first count all) ≡ typed.switch u (value_of e) first count (statements_of (map statement_of all.items))
-switch_is u e first count all = search (rules, the_lemmas)
+switch_is : (at : Pos) (u : IntType) (e : Value) (first count : ℕ) (all : Vec Statement Global) → statement_of (S.Switch at u e first count all) ≡ typed.switch u (value_of e) first count (statements_of (map statement_of all.items))
+switch_is at u e first count all = search (rules, the_lemmas)
 
-pub sees_switch : (x : Statement) (u : IntType) (e : Value) (first count : ℕ) (all : Vec Statement Global) → x ≡ S.Switch u e first count all → statement_of x ≡ typed.switch u (value_of e) first count (statements_of (map statement_of all.items))
-sees_switch x u e first count all h = ap statement_of h ∙ switch_is u e first count all
+pub sees_switch : (x : Statement) (at : Pos) (u : IntType) (e : Value) (first count : ℕ) (all : Vec Statement Global) → x ≡ S.Switch at u e first count all → statement_of x ≡ typed.switch u (value_of e) first count (statements_of (map statement_of all.items))
+sees_switch x at u e first count all h = ap statement_of h ∙ switch_is at u e first count all
 
-case_is : (v : ℤ) → statement_of (S.Case v) ≡ typed.case v
-case_is v = search (rules, the_lemmas)
+case_is : (at : Pos) (v : ℤ) → statement_of (S.Case at v) ≡ typed.case v
+case_is at v = search (rules, the_lemmas)
 
-pub sees_case : (x : Statement) (v : ℤ) → x ≡ S.Case v → statement_of x ≡ typed.case v
-sees_case x v h = ap statement_of h ∙ case_is v
+pub sees_case : (x : Statement) (at : Pos) (v : ℤ) → x ≡ S.Case at v → statement_of x ≡ typed.case v
+sees_case x at v h = ap statement_of h ∙ case_is at v
 
-default_is : statement_of S.Default ≡ typed.default
-default_is = search (rules, the_lemmas)
+default_is : (at : Pos) → statement_of (S.Default at) ≡ typed.default
+default_is at = search (rules, the_lemmas)
 
-pub sees_default : (x : Statement) → x ≡ S.Default → statement_of x ≡ typed.default
-sees_default x h = ap statement_of h ∙ default_is
+pub sees_default : (x : Statement) (at : Pos) → x ≡ S.Default at → statement_of x ≡ typed.default
+sees_default x at h = ap statement_of h ∙ default_is at
 
-while_is : (e : Value) (a : Box Statement Global) → statement_of (S.While e a) ≡ typed.while (value_of e) (statement_of a.value)
-while_is e a = search (rules, the_lemmas)
+while_is : (at : Pos) (e : Value) (a : Box Statement Global) → statement_of (S.While at e a) ≡ typed.while (value_of e) (statement_of a.value)
+while_is at e a = search (rules, the_lemmas)
 
-pub sees_while : (x : Statement) (e : Value) (a : Box Statement Global) → x ≡ S.While e a → statement_of x ≡ typed.while (value_of e) (statement_of a.value)
-sees_while x e a h = ap statement_of h ∙ while_is e a
+pub sees_while : (x : Statement) (at : Pos) (e : Value) (a : Box Statement Global) → x ≡ S.While at e a → statement_of x ≡ typed.while (value_of e) (statement_of a.value)
+sees_while x at e a h = ap statement_of h ∙ while_is at e a
 
-dowhile_is : (a : Box Statement Global) (e : Value) → statement_of (S.DoWhile a e) ≡ typed.do_while (statement_of a.value) (value_of e)
-dowhile_is a e = search (rules, the_lemmas)
+dowhile_is : (at : Pos) (a : Box Statement Global) (e : Value) → statement_of (S.DoWhile at a e) ≡ typed.do_while (statement_of a.value) (value_of e)
+dowhile_is at a e = search (rules, the_lemmas)
 
-pub sees_dowhile : (x : Statement) (a : Box Statement Global) (e : Value) → x ≡ S.DoWhile a e → statement_of x ≡ typed.do_while (statement_of a.value) (value_of e)
-sees_dowhile x a e h = ap statement_of h ∙ dowhile_is a e
+pub sees_dowhile : (x : Statement) (at : Pos) (a : Box Statement Global) (e : Value) → x ≡ S.DoWhile at a e → statement_of x ≡ typed.do_while (statement_of a.value) (value_of e)
+sees_dowhile x at a e h = ap statement_of h ∙ dowhile_is at a e
 
-for_is : (declared : Vec Statement Global) (control : Box ForControl Global) (a : Box Statement Global) → statement_of (S.For declared control a) ≡ typed.for (statements_of (map statement_of declared.items)) (option_value control.value.start) (option_value control.value.test) (option_value control.value.step) (statement_of a.value)
-for_is declared control a = search (rules, the_lemmas)
+for_is : (at : Pos) (declared : Vec Statement Global) (control : Box ForControl Global) (a : Box Statement Global) → statement_of (S.For at declared control a) ≡ typed.for (statements_of (map statement_of declared.items)) (option_value control.value.start) (option_value control.value.test) (option_value control.value.step) (statement_of a.value)
+for_is at declared control a = search (rules, the_lemmas)
 
-pub sees_for : (x : Statement) (declared : Vec Statement Global) (control : Box ForControl Global) (a : Box Statement Global) → x ≡ S.For declared control a → statement_of x ≡ typed.for (statements_of (map statement_of declared.items)) (option_value control.value.start) (option_value control.value.test) (option_value control.value.step) (statement_of a.value)
-sees_for x declared control a h = ap statement_of h ∙ for_is declared control a
+pub sees_for : (x : Statement) (at : Pos) (declared : Vec Statement Global) (control : Box ForControl Global) (a : Box Statement Global) → x ≡ S.For at declared control a → statement_of x ≡ typed.for (statements_of (map statement_of declared.items)) (option_value control.value.start) (option_value control.value.test) (option_value control.value.step) (statement_of a.value)
+sees_for x at declared control a h = ap statement_of h ∙ for_is at declared control a
 
-break_is : statement_of S.Break ≡ typed.break
-break_is = search (rules, the_lemmas)
+break_is : (at : Pos) → statement_of (S.Break at) ≡ typed.break
+break_is at = search (rules, the_lemmas)
 
-pub sees_break : (x : Statement) → x ≡ S.Break → statement_of x ≡ typed.break
-sees_break x h = ap statement_of h ∙ break_is
+pub sees_break : (x : Statement) (at : Pos) → x ≡ S.Break at → statement_of x ≡ typed.break
+sees_break x at h = ap statement_of h ∙ break_is at
 
-continue_is : statement_of S.Continue ≡ typed.continue
-continue_is = search (rules, the_lemmas)
+continue_is : (at : Pos) → statement_of (S.Continue at) ≡ typed.continue
+continue_is at = search (rules, the_lemmas)
 
-pub sees_continue : (x : Statement) → x ≡ S.Continue → statement_of x ≡ typed.continue
-sees_continue x h = ap statement_of h ∙ continue_is
+pub sees_continue : (x : Statement) (at : Pos) → x ≡ S.Continue at → statement_of x ≡ typed.continue
+sees_continue x at h = ap statement_of h ∙ continue_is at
 
-returnnothing_is : statement_of S.ReturnNothing ≡ typed.return_nothing
-returnnothing_is = search (rules, the_lemmas)
+returnnothing_is : (at : Pos) → statement_of (S.ReturnNothing at) ≡ typed.return_nothing
+returnnothing_is at = search (rules, the_lemmas)
 
-pub sees_returnnothing : (x : Statement) → x ≡ S.ReturnNothing → statement_of x ≡ typed.return_nothing
-sees_returnnothing x h = ap statement_of h ∙ returnnothing_is
+pub sees_returnnothing : (x : Statement) (at : Pos) → x ≡ S.ReturnNothing at → statement_of x ≡ typed.return_nothing
+sees_returnnothing x at h = ap statement_of h ∙ returnnothing_is at
 
-returnvalue_is : (u : IntType) (e : Value) → statement_of (S.ReturnValue u e) ≡ typed.return_value u (value_of e)
-returnvalue_is u e = search (rules, the_lemmas)
+returnvalue_is : (at : Pos) (u : IntType) (e : Value) → statement_of (S.ReturnValue at u e) ≡ typed.return_value u (value_of e)
+returnvalue_is at u e = search (rules, the_lemmas)
 
-pub sees_returnvalue : (x : Statement) (u : IntType) (e : Value) → x ≡ S.ReturnValue u e → statement_of x ≡ typed.return_value u (value_of e)
-sees_returnvalue x u e h = ap statement_of h ∙ returnvalue_is u e
+pub sees_returnvalue : (x : Statement) (at : Pos) (u : IntType) (e : Value) → x ≡ S.ReturnValue at u e → statement_of x ≡ typed.return_value u (value_of e)
+sees_returnvalue x at u e h = ap statement_of h ∙ returnvalue_is at u e
 
 -- ---- initialisers
 

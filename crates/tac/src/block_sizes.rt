@@ -40,7 +40,7 @@ pub(crate) fn tests_size(all: &[Statement]) -> usize
 {
     match all.split_first() {
         None => 1,
-        Some((Statement::Case(_), more)) => plus(1, tests_size(more)),
+        Some((Statement::Case(_, _), more)) => plus(1, tests_size(more)),
         Some((_, more)) => tests_size(more),
     }
 }
@@ -102,36 +102,36 @@ pub(crate) fn statement_size(scope: &Scope<'_>, statement: &Statement) -> usize
     ensures { result ≡ size.statement_size (program_in scope.now) (function_in scope.now) (statement_of statement.now) }
 {
     match statement {
-        Statement::Empty => 1,
-        Statement::Evaluate(e) => plus(1, value_size(e, Shape::Nowhere)),
-        Statement::Declare(_) => 1,
-        Statement::Define(object, initialiser) => {
+        Statement::Empty(_) => 1,
+        Statement::Evaluate(_, e) => plus(1, value_size(e, Shape::Nowhere)),
+        Statement::Declare(_, _) => 1,
+        Statement::Define(_, object, initialiser) => {
             plus(1, initialises_size(scope, *object, initialiser))
         }
-        Statement::Block(_, _, all) => plus(1, statements_size(scope, all)),
-        Statement::If(e, a) => plus(
+        Statement::Block(_, _, _, all) => plus(1, statements_size(scope, all)),
+        Statement::If(_, e, a) => plus(
             1,
             plus(value_size(e, Shape::Jump), statement_size(scope, a)),
         ),
-        Statement::IfElse(e, a, b) => plus(
+        Statement::IfElse(_, e, a, b) => plus(
             1,
             plus(
                 value_size(e, Shape::Jump),
                 plus(statement_size(scope, a), plus(1, statement_size(scope, b))),
             ),
         ),
-        Statement::Switch(_, e, first, count, all) => switch_size(scope, e, *first, *count, all),
-        Statement::Case(_) => 1,
-        Statement::Default => 1,
-        Statement::While(e, a) => plus(
+        Statement::Switch(_, _, e, first, count, all) => switch_size(scope, e, *first, *count, all),
+        Statement::Case(_, _) => 1,
+        Statement::Default(_) => 1,
+        Statement::While(_, e, a) => plus(
             1,
             plus(statement_size(scope, a), value_size(e, Shape::Jump)),
         ),
-        Statement::DoWhile(a, e) => plus(
+        Statement::DoWhile(_, a, e) => plus(
             1,
             plus(statement_size(scope, a), value_size(e, Shape::Jump)),
         ),
-        Statement::For(declared, control, a) => for_size(
+        Statement::For(_, declared, control, a) => for_size(
             scope,
             declared,
             &control.start,
@@ -139,9 +139,9 @@ pub(crate) fn statement_size(scope: &Scope<'_>, statement: &Statement) -> usize
             &control.step,
             a,
         ),
-        Statement::Break => 1,
-        Statement::Continue => 1,
-        Statement::ReturnNothing => plus(1, 1),
-        Statement::ReturnValue(ty, e) => plus(1, plus(converted_size(*ty, e, Shape::Local), 1)),
+        Statement::Break(_) => 1,
+        Statement::Continue(_) => 1,
+        Statement::ReturnNothing(_) => plus(1, 1),
+        Statement::ReturnValue(_, ty, e) => plus(1, plus(converted_size(*ty, e, Shape::Local), 1)),
     }
 }

@@ -38,6 +38,7 @@ fn copied_static(alloc: Global, object: &Static) -> Result<Static, AllocError>
     let mut values = Vec::new(alloc);
     values.extend_from_slice(&object.values)?;
     Ok(Static {
+        name: object.name,
         object_type: copied_object(alloc, &object.object_type)?,
         defined: object.defined,
         values,

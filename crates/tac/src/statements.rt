@@ -245,15 +245,15 @@ pub(crate) fn put_statement(
     ensures { OnOk result (WroteStatement (program_in scope.now) (function_in scope.now) (statement_of statement.now) out again back code.old.list.items code.new.list.items) }
 {
     match statement {
-        Statement::Empty => {
+        Statement::Empty(_) => {
             put(code, Instruction::Nothing)?;
             Ok(())
         }
-        Statement::Evaluate(e) => {
+        Statement::Evaluate(_, e) => {
             put_evaluated(scope, code, e)?;
             Ok(())
         }
-        Statement::Declare(object) => {
+        Statement::Declare(_, object) => {
             put(
                 code,
                 Instruction::Forget {
@@ -263,43 +263,43 @@ pub(crate) fn put_statement(
             )?;
             Ok(())
         }
-        Statement::Define(object, initialiser) => {
+        Statement::Define(_, object, initialiser) => {
             put_defined(scope, code, *object, initialiser)?;
             Ok(())
         }
-        Statement::Block(first, count, all) => {
+        Statement::Block(_, first, count, all) => {
             put_block(scope, code, *first, *count, all, out, again, back)?;
             Ok(())
         }
-        Statement::If(e, a) => {
+        Statement::If(_, e, a) => {
             put_if(scope, code, e, a, out, again, back)?;
             Ok(())
         }
-        Statement::IfElse(e, a, b) => {
+        Statement::IfElse(_, e, a, b) => {
             put_if_else(scope, code, e, a, b, out, again, back)?;
             Ok(())
         }
-        Statement::Switch(_, e, first, count, all) => {
+        Statement::Switch(_, _, e, first, count, all) => {
             put_switch(scope, code, e, *first, *count, all, again, back)?;
             Ok(())
         }
-        Statement::Case(_) => {
+        Statement::Case(_, _) => {
             put(code, Instruction::Nothing)?;
             Ok(())
         }
-        Statement::Default => {
+        Statement::Default(_) => {
             put(code, Instruction::Nothing)?;
             Ok(())
         }
-        Statement::While(e, a) => {
+        Statement::While(_, e, a) => {
             put_while(scope, code, e, a, back)?;
             Ok(())
         }
-        Statement::DoWhile(a, e) => {
+        Statement::DoWhile(_, a, e) => {
             put_do_while(scope, code, a, e, back)?;
             Ok(())
         }
-        Statement::For(declared, control, a) => {
+        Statement::For(_, declared, control, a) => {
             put_for(
                 scope,
                 code,
@@ -312,19 +312,19 @@ pub(crate) fn put_statement(
             )?;
             Ok(())
         }
-        Statement::Break => {
+        Statement::Break(_) => {
             put(code, Instruction::Jump(out))?;
             Ok(())
         }
-        Statement::Continue => {
+        Statement::Continue(_) => {
             put(code, Instruction::Jump(again))?;
             Ok(())
         }
-        Statement::ReturnNothing => {
+        Statement::ReturnNothing(_) => {
             put_return(scope, code, back)?;
             Ok(())
         }
-        Statement::ReturnValue(ty, e) => {
+        Statement::ReturnValue(_, ty, e) => {
             put_returned(scope, code, *ty, e, back)?;
             Ok(())
         }

@@ -22,8 +22,8 @@ fn label_at(statement: &Statement) -> Option<Option<i64>>
     ensures { labels_at (statement_of statement.now) ≡ one_label result }
 {
     match statement {
-        Statement::Case(value) => Some(Some(*value)),
-        Statement::Default => Some(None),
+        Statement::Case(_, value) => Some(Some(*value)),
+        Statement::Default(_) => Some(None),
         _ => None,
     }
 }

@@ -58,6 +58,7 @@ pub fn static_object(alloc: Global, defined: bool, words: &mut Words<'_>) -> Res
         word = words.part();
     }
     Ok(Static {
+        name: 0,
         object_type,
         defined,
         values,

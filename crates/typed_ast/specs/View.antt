@@ -135,24 +135,24 @@ statements_of [] = typed.no_statements
 statements_of (s ∷ ss) = typed.and_statement s (statements_of ss)
 
 abbrev pub statement_step : Statement-F typed.Statement → typed.Statement
-statement_step Statement-F.Empty = typed.empty
-statement_step (Statement-F.Evaluate e) = typed.evaluate (value_of e)
-statement_step (Statement-F.Declare n) = typed.declare n
-statement_step (Statement-F.Define n i) = typed.define n (initialiser_of i)
-statement_step (Statement-F.Block first count all) = typed.block first count (statements_of all.items)
-statement_step (Statement-F.If e a) = typed.branch (value_of e) a.value
-statement_step (Statement-F.IfElse e a b) = typed.branches (value_of e) a.value b.value
-statement_step (Statement-F.Switch ty e first count all) = typed.switch ty (value_of e) first count (statements_of all.items)
-statement_step (Statement-F.Case v) = typed.case v
-statement_step Statement-F.Default = typed.default
-statement_step (Statement-F.While e a) = typed.while (value_of e) a.value
-statement_step (Statement-F.DoWhile a e) = typed.do_while a.value (value_of e)
-statement_step (Statement-F.For declared control a) =
+statement_step (Statement-F.Empty at) = typed.empty
+statement_step (Statement-F.Evaluate at e) = typed.evaluate (value_of e)
+statement_step (Statement-F.Declare at n) = typed.declare n
+statement_step (Statement-F.Define at n i) = typed.define n (initialiser_of i)
+statement_step (Statement-F.Block at first count all) = typed.block first count (statements_of all.items)
+statement_step (Statement-F.If at e a) = typed.branch (value_of e) a.value
+statement_step (Statement-F.IfElse at e a b) = typed.branches (value_of e) a.value b.value
+statement_step (Statement-F.Switch at ty e first count all) = typed.switch ty (value_of e) first count (statements_of all.items)
+statement_step (Statement-F.Case at v) = typed.case v
+statement_step (Statement-F.Default at) = typed.default
+statement_step (Statement-F.While at e a) = typed.while (value_of e) a.value
+statement_step (Statement-F.DoWhile at a e) = typed.do_while a.value (value_of e)
+statement_step (Statement-F.For at declared control a) =
     typed.for (statements_of declared.items) (option_value control.value.start) (option_value control.value.test) (option_value control.value.step) a.value
-statement_step Statement-F.Break = typed.break
-statement_step Statement-F.Continue = typed.continue
-statement_step Statement-F.ReturnNothing = typed.return_nothing
-statement_step (Statement-F.ReturnValue ty e) = typed.return_value ty (value_of e)
+statement_step (Statement-F.Break at) = typed.break
+statement_step (Statement-F.Continue at) = typed.continue
+statement_step (Statement-F.ReturnNothing at) = typed.return_nothing
+statement_step (Statement-F.ReturnValue at ty e) = typed.return_value ty (value_of e)
 
 abbrev pub statement_of : Statement → typed.Statement
 statement_of = fold-Statement typed.Statement statement_step

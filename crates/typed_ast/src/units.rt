@@ -18,9 +18,11 @@ pub struct Function {
 }
 
 /// An object with static storage (6.2.4p3): the values of its first elements, those behind them being zero. One that is only
-/// declared takes no bytes.
+/// declared takes no bytes. Its name is for tools, and nothing that a program does depends on it.
 #[derive(Drop)]
 pub struct Static {
+    /// The number of its name.
+    pub name: usize,
     pub object_type: ObjectType,
     pub defined: bool,
     pub values: Vec<i64>,

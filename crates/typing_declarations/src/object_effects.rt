@@ -20,13 +20,13 @@ use tree::Initialiser as Init;
 use typed_ast::{DeclaredType, Initialiser, Storage};
 use typing_scopes::Scope;
 
-/// What a declarator does. The values of an initialiser for static storage are not looked at yet: they want its literals.
+/// What a declarator does, with its place. The values of an initialiser for static storage are not looked at yet: they want its literals.
 #[derive(Drop)]
 pub(crate) enum ObjectEffect {
     Nothing,
     /// The object begins, by its number.
-    Declared(usize),
-    Defined(usize, Initialiser),
+    Declared(Pos, usize),
+    Defined(Pos, usize, Initialiser),
     /// The object with static storage has first values.
     First(usize, Initialiser),
 }
@@ -87,9 +87,9 @@ fn automatic_effect(
     ensures err { IfErr result (λ r. Tells r (typed.initialised_as (begun_at (with_texts names.now scope.now) pos (declared_type_of declared.now)) (program.automatic number) (option_init initialiser.now))) }
 {
     match initialiser {
-        None => Ok(ObjectEffect::Declared(number)),
+        None => Ok(ObjectEffect::Declared(pos, number)),
         Some(init) => match object_initialiser(alloc, names, scope, pos, declared, init) {
-            Ok(initialiser) => Ok(ObjectEffect::Defined(number, initialiser)),
+            Ok(initialiser) => Ok(ObjectEffect::Defined(pos, number, initialiser)),
             Err(refusal) => Err(refusal),
         },
     }

@@ -53,9 +53,9 @@ pub(crate) fn put_effect(
 {
     match effect {
         ObjectEffect::Nothing => Ok(()),
-        ObjectEffect::Declared(n) => push_statement(Statement::Declare(n), statements),
-        ObjectEffect::Defined(n, initialiser) => {
-            push_statement(Statement::Define(n, initialiser), statements)
+        ObjectEffect::Declared(at, n) => push_statement(Statement::Declare(at, n), statements),
+        ObjectEffect::Defined(at, n, initialiser) => {
+            push_statement(Statement::Define(at, n, initialiser), statements)
         }
         ObjectEffect::First(n, initialiser) => {
             let values = match object_values(alloc, names, literals, declared, &initialiser) {

@@ -47,9 +47,10 @@ pub struct Tag {
     pub complete: bool,
 }
 
-/// An object with static storage: its type as declared so far, where a size still unknown is 1 (6.9.2p5).
+/// An object with static storage: its name, which is for tools, and its type as declared so far, where a size still unknown is 1 (6.9.2p5).
 #[derive(Drop)]
 pub struct StaticObject {
+    pub name: usize,
     pub object_type: ObjectType,
     pub defined: bool,
 }

@@ -36,15 +36,15 @@ use Rattle.typing_statements.proofs.ForRules.{followed}
 
 -- ---- the code's statements
 
-sees_block : (n k : ℕ) (xs : Vec Statement Global) → statement_of (S.Block n k xs) ≡ program.block n k (statements_of (map statement_of xs.items))
-sees_block n k xs = search (rules, the_lemmas)
+sees_block : (at : Pos) (n k : ℕ) (xs : Vec Statement Global) → statement_of (S.Block at n k xs) ≡ program.block n k (statements_of (map statement_of xs.items))
+sees_block at n k xs = search (rules, the_lemmas)
 
-sees_switch : (t : IntType) (e : Value) (n k : ℕ) (xs : Vec Statement Global) → statement_of (S.Switch t e n k xs) ≡ program.switch t (value_of e) n k (statements_of (map statement_of xs.items))
-sees_switch t e n k xs = search (rules, the_lemmas)
+sees_switch : (at : Pos) (t : IntType) (e : Value) (n k : ℕ) (xs : Vec Statement Global) → statement_of (S.Switch at t e n k xs) ≡ program.switch t (value_of e) n k (statements_of (map statement_of xs.items))
+sees_switch at t e n k xs = search (rules, the_lemmas)
 
-sees_label : (v : Option ℤ) → statement_of (label_with v) ≡ typed.label_statement v
-sees_label None = search (rules, the_lemmas)
-sees_label (Some v) = search (rules, the_lemmas)
+sees_label : (at : Pos) (v : Option ℤ) → statement_of (label_with at v) ≡ typed.label_statement v
+sees_label at None = search (rules, the_lemmas)
+sees_label at (Some v) = search (rules, the_lemmas)
 
 -- ---- blocks (6.8.2)
 
@@ -53,15 +53,15 @@ block_count s s1 s2 first n2 count f o g h = h ∙ ap (λ k. k - first) (g ∙ a
 
 pub block_fine : (A : typed.Around) (d : Option IntType) (t : List (List ℕ)) (s s2 : Scope) (at : Pos) (ps : Pieces) (first count : ℕ) (labels new_labels : List Label) (before after : List Initial) (xs : Vec Statement Global) →
     first ≡ length s.objects → count ≡ length s2.objects - first → Scoped (pieces A None (with_texts t (inside s)) ps) labels new_labels before after t s s2 xs.items →
-    Unlabelled (statement A d (with_texts t s) (block_stmt at ps)) before after (with_texts t s2) (S.Block first count xs)
+    Unlabelled (statement A d (with_texts t s) (block_stmt at ps)) before after (with_texts t s2) (S.Block at first count xs)
 block_fine A d t s s2 at ps first count labels new_labels before after xs f h p = (
   p.1,
   p.4,
   then_fine (pieces A None (inside (with_texts t s)) ps) (all_done_of (with_texts t p.2) p.0 p.1 xs.items) (typed.block_of (with_texts t s)) p.5
       ∙ ap (λ k. fine (record { labels = []; statement = k; scope = with_texts t (outside s p.2); initial = map initial_of p.1 }))
       (ap (λ k. program.block k (length p.2.objects - length s.objects) (statements_of (map statement_of xs.items))) (sym f)
-      ∙ ap (λ k. program.block first k (statements_of (map statement_of xs.items))) (sym (block_count s p.2 s2 first (length s2.objects) count f p.6 refl h)) ∙ sym (sees_block first count xs))
-      ∙ ap (λ k. fine (record { labels = []; statement = statement_of (S.Block first count xs); scope = with_texts t k; initial = map initial_of p.1 })) (sym p.6),
+      ∙ ap (λ k. program.block first k (statements_of (map statement_of xs.items))) (sym (block_count s p.2 s2 first (length s2.objects) count f p.6 refl h)) ∙ sym (sees_block at first count xs))
+      ∙ ap (λ k. fine (record { labels = []; statement = statement_of (S.Block at first count xs); scope = with_texts t k; initial = map initial_of p.1 })) (sym p.6),
 )
 
 pub block_tells : (A : typed.Around) (d : Option IntType) (t : List (List ℕ)) (s : Scope) (at : Pos) (ps : Pieces) (r : Refusal) → Tells r (pieces A None (with_texts t (inside s)) ps) → Tells r (statement A d (with_texts t s) (block_stmt at ps))
@@ -69,11 +69,11 @@ block_tells A d t s at ps r h = tells_then r (pieces A None (inside (with_texts 
 
 -- ---- switch (6.8.4.2)
 
-pub switch_fine : (A B : typed.Around) (t : List (List ℕ)) (s s2 : Scope) (w : Worth) (ty : IntType) (ps : Pieces) (first count : ℕ) (empty labels read : List Label) (before after : List Initial) (xs : Vec Statement Global) → read ≡ labels →
+pub switch_fine : (A B : typed.Around) (t : List (List ℕ)) (s s2 : Scope) (at : Pos) (w : Worth) (ty : IntType) (ps : Pieces) (first count : ℕ) (empty labels read : List Label) (before after : List Initial) (xs : Vec Statement Global) → read ≡ labels →
     B ≡ typed.in_a_switch A → ty ≡ promoted w.ty → empty ≡ [] → first ≡ length s.objects → count ≡ length s2.objects - first →
     Scoped (pieces B (Some ty) (with_texts t (inside s)) ps) empty labels before after t s s2 xs.items → typed.no_label_twice [] (map label_of read) ≡ fine tt →
-    Unlabelled (switch_on A (worth_of w) (with_texts t s) ps) before after (with_texts t s2) (S.Switch ty w.value first count xs)
-switch_fine A B t s s2 w ty ps first count empty labels read before after xs o l y z f h p n =
+    Unlabelled (switch_on A (worth_of w) (with_texts t s) ps) before after (with_texts t s2) (S.Switch at ty w.value first count xs)
+switch_fine A B t s s2 at w ty ps first count empty labels read before after xs o l y z f h p n =
     let all = all_done_of (with_texts t p.2) p.0 p.1 xs.items in
     let same : read ≡ p.0 = o ∙ p.3 ∙ ap (λ k. k ++ p.0) z in (
       p.1,
@@ -87,8 +87,8 @@ switch_fine A B t s s2 w ty ps first count empty labels read before after xs o l
           (ap (λ k. typed.no_label_twice [] (map label_of k)) (sym same) ∙ n) refl
           ∙ ap (λ k. fine (record { labels = []; statement = k; scope = with_texts t (outside s p.2); initial = map initial_of p.1 }))
           (ap (λ k. program.switch ty (value_of w.value) k (length p.2.objects - length s.objects) (statements_of (map statement_of xs.items))) (sym f)
-          ∙ ap (λ k. program.switch ty (value_of w.value) first k (statements_of (map statement_of xs.items))) (sym (block_count s p.2 s2 first (length s2.objects) count f p.6 refl h)) ∙ sym (sees_switch ty w.value first count xs))
-          ∙ ap (λ k. fine (record { labels = []; statement = statement_of (S.Switch ty w.value first count xs); scope = with_texts t k; initial = map initial_of p.1 })) (sym p.6),
+          ∙ ap (λ k. program.switch ty (value_of w.value) first k (statements_of (map statement_of xs.items))) (sym (block_count s p.2 s2 first (length s2.objects) count f p.6 refl h)) ∙ sym (sees_switch at ty w.value first count xs))
+          ∙ ap (λ k. fine (record { labels = []; statement = statement_of (S.Switch at ty w.value first count xs); scope = with_texts t k; initial = map initial_of p.1 })) (sym p.6),
     )
 
 pub switch_pieces : (A B : typed.Around) (t : List (List ℕ)) (s : Scope) (w : Worth) (ty : IntType) (ps : Pieces) (r : Refusal) → B ≡ typed.in_a_switch A → ty ≡ promoted w.ty →
@@ -245,7 +245,7 @@ default_misplaced A d s at a r i h = subst (λ k. Tells r (statement A k s (defa
 labelled_is : (ms : List Label) (y : Statement) (more : program.Statements) → typed.followed_by (map statement_of (map label_statement ms ++ y ∷ [])) more ≡ typed.labelled (map label_of ms) (program.and_statement (statement_of y) more)
 labelled_is [] y more = refl
 labelled_is (l ∷ ls) y more =
-    ap (λ k. program.and_statement k (typed.followed_by (map statement_of (map label_statement ls ++ y ∷ [])) more)) (sees_label l.value) ∙ ap (λ k. program.and_statement (typed.label_statement l.value) k) (labelled_is ls y more)
+    ap (λ k. program.and_statement k (typed.followed_by (map statement_of (map label_statement ls ++ y ∷ [])) more)) (sees_label l.pos l.value) ∙ ap (λ k. program.and_statement (typed.label_statement l.value) k) (labelled_is ls y more)
 
 statements_put : (s : Scope) (ms : List Label) (js : List Initial) (y : Statement) (more : typed.AllDone) → typed.and_statements (done_of s ms js y) more ≡ put_before ms js (map label_statement ms ++ y ∷ []) more
 statements_put s ms js y more =

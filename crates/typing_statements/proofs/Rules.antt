@@ -35,17 +35,17 @@ use Rattle.typing_statements.specs.inside.Controls.{control_of}
 
 -- ---- the code's statements
 
-sees_if : (e : Value) (a : Box Statement Global) → statement_of (S.If e a) ≡ program.branch (value_of e) (statement_of a.value)
-sees_if e a = search (rules, the_lemmas)
+sees_if : (at : Pos) (e : Value) (a : Box Statement Global) → statement_of (S.If at e a) ≡ program.branch (value_of e) (statement_of a.value)
+sees_if at e a = search (rules, the_lemmas)
 
-sees_if_else : (e : Value) (a b : Box Statement Global) → statement_of (S.IfElse e a b) ≡ program.branches (value_of e) (statement_of a.value) (statement_of b.value)
-sees_if_else e a b = search (rules, the_lemmas)
+sees_if_else : (at : Pos) (e : Value) (a b : Box Statement Global) → statement_of (S.IfElse at e a b) ≡ program.branches (value_of e) (statement_of a.value) (statement_of b.value)
+sees_if_else at e a b = search (rules, the_lemmas)
 
-sees_while : (e : Value) (a : Box Statement Global) → statement_of (S.While e a) ≡ program.while (value_of e) (statement_of a.value)
-sees_while e a = search (rules, the_lemmas)
+sees_while : (at : Pos) (e : Value) (a : Box Statement Global) → statement_of (S.While at e a) ≡ program.while (value_of e) (statement_of a.value)
+sees_while at e a = search (rules, the_lemmas)
 
-sees_do_while : (a : Box Statement Global) (e : Value) → statement_of (S.DoWhile a e) ≡ program.do_while (statement_of a.value) (value_of e)
-sees_do_while a e = search (rules, the_lemmas)
+sees_do_while : (at : Pos) (a : Box Statement Global) (e : Value) → statement_of (S.DoWhile at a e) ≡ program.do_while (statement_of a.value) (value_of e)
+sees_do_while at a e = search (rules, the_lemmas)
 
 -- ---- first values, one part behind another
 
@@ -56,13 +56,13 @@ joined before mid after js ks e f = f ∙ ap (λ l. l ++ ks) e ∙ append_assoc 
 
 pub if_fine : (A : typed.Around) (d : Option IntType) (t : List (List ℕ)) (s s1 s2 : Scope) (at : Pos) (e : Tree) (a : StmtTree) (w : Worth) (before after : List Initial) (b : Box Statement Global) →
     valued code.VoidControl at (typing (with_texts t s) e) ≡ fine (worth_of w) → s1 ≡ past s e → Inner (statement A None (with_texts t s1) a) before after (with_texts t s2) b.value →
-    Unlabelled (statement A d (with_texts t s) (if_stmt at e a)) before after (with_texts t s2) (S.If w.value b)
+    Unlabelled (statement A d (with_texts t s) (if_stmt at e a)) before after (with_texts t s2) (S.If at w.value b)
 if_fine A d t s s1 s2 at e a w before after b v h p = (
   p.1,
   p.2,
   both_fine (valued code.VoidControl at (typing (with_texts t s) e)) (statement A None (past (with_texts t s) e) a) (worth_of w) (done_of (with_texts t s2) p.0 p.1 b.value)
       (λ c x. typed.done_with x.scope x.initial (program.branch c.e x.statement)) v (ap (λ k. statement A None (with_texts t k) a) (sym h) ∙ p.3)
-      ∙ ap (λ k. fine (record { labels = []; statement = k; scope = with_texts t s2; initial = map initial_of p.1 })) (sym (sees_if w.value b)),
+      ∙ ap (λ k. fine (record { labels = []; statement = k; scope = with_texts t s2; initial = map initial_of p.1 })) (sym (sees_if at w.value b)),
 )
 
 pub if_left : (A : typed.Around) (d : Option IntType) (t : List (List ℕ)) (s : Scope) (at : Pos) (e : Tree) (a : StmtTree) (r : Refusal) →
@@ -82,7 +82,7 @@ else_of A b c x = then_check (statement A None x.scope b) (λ y. typed.done_with
 pub if_else_fine : (A : typed.Around) (d : Option IntType) (t : List (List ℕ)) (s s1 s2 s3 : Scope) (at : Pos) (e : Tree) (a b : StmtTree) (w : Worth) (before mid after : List Initial) (x y : Box Statement Global) →
     valued code.VoidControl at (typing (with_texts t s) e) ≡ fine (worth_of w) → s1 ≡ past s e → Inner (statement A None (with_texts t s1) a) before mid (with_texts t s2) x.value →
     Inner (statement A None (with_texts t s2) b) mid after (with_texts t s3) y.value →
-    Unlabelled (statement A d (with_texts t s) (if_else_stmt at e a b)) before after (with_texts t s3) (S.IfElse w.value x y)
+    Unlabelled (statement A d (with_texts t s) (if_else_stmt at e a b)) before after (with_texts t s3) (S.IfElse at w.value x y)
 if_else_fine A d t s s1 s2 s3 at e a b w before mid after x y v h p q = (
   p.1 ++ q.1,
   joined before mid after p.1 q.1 p.2 q.2,
@@ -91,7 +91,7 @@ if_else_fine A d t s s1 s2 s3 at e a b w before mid after x y v h p q = (
       ∙ then_fine (statement A None (with_texts t s2) b) (done_of (with_texts t s3) q.0 q.1 y.value)
       (λ z. typed.done_with z.scope (map initial_of p.1 ++ z.initial) (program.branches (value_of w.value) (statement_of x.value) z.statement)) q.3
       ∙ ap (λ k. fine (record { labels = []; statement = program.branches (value_of w.value) (statement_of x.value) (statement_of y.value); scope = with_texts t s3; initial = k })) (sym (map-append initial_of p.1 q.1))
-      ∙ ap (λ k. fine (record { labels = []; statement = k; scope = with_texts t s3; initial = map initial_of (p.1 ++ q.1) })) (sym (sees_if_else w.value x y)),
+      ∙ ap (λ k. fine (record { labels = []; statement = k; scope = with_texts t s3; initial = map initial_of (p.1 ++ q.1) })) (sym (sees_if_else at w.value x y)),
 )
 
 pub if_else_left : (A : typed.Around) (d : Option IntType) (t : List (List ℕ)) (s : Scope) (at : Pos) (e : Tree) (a b : StmtTree) (r : Refusal) →
@@ -117,13 +117,13 @@ if_else_second A d t s s1 s2 at e a b w before mid x r v h p q =
 
 pub while_fine : (A B : typed.Around) (d : Option IntType) (t : List (List ℕ)) (s s1 s2 : Scope) (at : Pos) (e : Tree) (a : StmtTree) (w : Worth) (before after : List Initial) (b : Box Statement Global) → B ≡ typed.in_a_loop A →
     valued code.VoidControl at (typing (with_texts t s) e) ≡ fine (worth_of w) → s1 ≡ past s e → Inner (statement B None (with_texts t s1) a) before after (with_texts t s2) b.value →
-    Unlabelled (statement A d (with_texts t s) (while_stmt at e a)) before after (with_texts t s2) (S.While w.value b)
+    Unlabelled (statement A d (with_texts t s) (while_stmt at e a)) before after (with_texts t s2) (S.While at w.value b)
 while_fine A B d t s s1 s2 at e a w before after b l v h p = (
   p.1,
   p.2,
   both_fine (valued code.VoidControl at (typing (with_texts t s) e)) (statement (typed.in_a_loop A) None (past (with_texts t s) e) a) (worth_of w) (done_of (with_texts t s2) p.0 p.1 b.value)
       (λ c x. typed.done_with x.scope x.initial (program.while c.e x.statement)) v (ap (λ k. statement (typed.in_a_loop A) None (with_texts t k) a) (sym h) ∙ ap (λ k. statement k None (with_texts t s1) a) (sym l) ∙ p.3)
-      ∙ ap (λ k. fine (record { labels = []; statement = k; scope = with_texts t s2; initial = map initial_of p.1 })) (sym (sees_while w.value b)),
+      ∙ ap (λ k. fine (record { labels = []; statement = k; scope = with_texts t s2; initial = map initial_of p.1 })) (sym (sees_while at w.value b)),
 )
 
 pub while_left : (A : typed.Around) (d : Option IntType) (t : List (List ℕ)) (s : Scope) (at : Pos) (e : Tree) (a : StmtTree) (r : Refusal) →
@@ -142,14 +142,14 @@ test_of at e x = then_check (valued code.VoidControl at (typing x.scope e)) (λ 
 
 pub do_fine : (A B : typed.Around) (d : Option IntType) (t : List (List ℕ)) (s s1 s2 : Scope) (at : Pos) (a : StmtTree) (e : Tree) (w : Worth) (before after : List Initial) (b : Box Statement Global) → B ≡ typed.in_a_loop A →
     Inner (statement B None (with_texts t s) a) before after (with_texts t s1) b.value → valued code.VoidControl at (typing (with_texts t s1) e) ≡ fine (worth_of w) → s2 ≡ past s1 e →
-    Unlabelled (statement A d (with_texts t s) (do_while_stmt at a e)) before after (with_texts t s2) (S.DoWhile b w.value)
+    Unlabelled (statement A d (with_texts t s) (do_while_stmt at a e)) before after (with_texts t s2) (S.DoWhile at b w.value)
 do_fine A B d t s s1 s2 at a e w before after b l p v h = (
   p.1,
   p.2,
   then_fine (statement (typed.in_a_loop A) None (with_texts t s) a) (done_of (with_texts t s1) p.0 p.1 b.value) (test_of at e) (ap (λ k. statement k None (with_texts t s) a) (sym l) ∙ p.3)
       ∙ then_fine (valued code.VoidControl at (typing (with_texts t s1) e)) (worth_of w) (λ c. typed.done_with (past (with_texts t s1) e) (map initial_of p.1) (program.do_while (statement_of b.value) c.e)) v
       ∙ ap (λ k. fine (record { labels = []; statement = program.do_while (statement_of b.value) (value_of w.value); scope = with_texts t k; initial = map initial_of p.1 })) (sym h)
-      ∙ ap (λ k. fine (record { labels = []; statement = k; scope = with_texts t s2; initial = map initial_of p.1 })) (sym (sees_do_while b w.value)),
+      ∙ ap (λ k. fine (record { labels = []; statement = k; scope = with_texts t s2; initial = map initial_of p.1 })) (sym (sees_do_while at b w.value)),
 )
 
 pub do_left : (A B : typed.Around) (d : Option IntType) (t : List (List ℕ)) (s : Scope) (at : Pos) (a : StmtTree) (e : Tree) (r : Refusal) → B ≡ typed.in_a_loop A →
@@ -171,7 +171,7 @@ head_inner A t s s1 s2 e a before after b h p = (p.0, p.1, p.2, ap (λ k. statem
 pub else_labelled : (A : typed.Around) (d : Option IntType) (t : List (List ℕ)) (s s2 s3 : Scope) (at : Pos) (e : Tree) (a b : StmtTree) (w : Worth) (labels : List Label) (before mid after : List Initial) (x y : Box Statement Global) →
     valued code.VoidControl at (typing (with_texts t s) e) ≡ fine (worth_of w) → Inner (statement A None (past (with_texts t s) e) a) before mid (with_texts t s2) x.value →
     Inner (statement A None (with_texts t s2) b) mid after (with_texts t s3) y.value →
-    Labelled (statement A d (with_texts t s) (if_else_stmt at e a b)) labels labels before after (with_texts t s3) (S.IfElse w.value x y)
+    Labelled (statement A d (with_texts t s) (if_else_stmt at e a b)) labels labels before after (with_texts t s3) (S.IfElse at w.value x y)
 else_labelled A d t s s2 s3 at e a b w labels before mid after x y v p q =
     let k = if_else_fine A d t s (past s e) s2 s3 at e a b w before mid after x y v refl p q in
     ([], k.0, sym (append-nil labels), k.1, k.2)

@@ -135,8 +135,8 @@ sees_return at e = search (rules, the_lemmas)
 pub return_tree : (s : Stmt) (at : Pos) (e : Option Expr) → s ≡ T.Return at e → stmt_of s ≡ return_stmt at (option_tree e)
 return_tree s at e is = ap stmt_of is ∙ sees_return at e
 
-sees_nothing : statement_of P.Empty ≡ program.empty
-sees_nothing = search (rules, program_lemmas)
+sees_nothing : (at : Pos) → statement_of (P.Empty at) ≡ program.empty
+sees_nothing at = search (rules, program_lemmas)
 
-pub empty_done : (A : Around) (d : Option IntType) (s : Scope) (at : Pos) → statement A d s (empty_stmt at) ≡ fine (done_of s [] [] P.Empty)
-empty_done A d s at = ap (λ k. fine (record { labels = []; statement = k; scope = s; initial = [] })) (sym sees_nothing)
+pub empty_done : (A : Around) (d : Option IntType) (s : Scope) (at : Pos) → statement A d s (empty_stmt at) ≡ fine (done_of s [] [] (P.Empty at))
+empty_done A d s at = ap (λ k. fine (record { labels = []; statement = k; scope = s; initial = [] })) (sym (sees_nothing at))

@@ -83,8 +83,8 @@ fn label_statement(label: &Label) -> Statement
     ensures { result ≡ label_statement label.now }
 {
     match label.value {
-        None => Statement::Default,
-        Some(value) => Statement::Case(value),
+        None => Statement::Default(label.pos),
+        Some(value) => Statement::Case(label.pos, value),
     }
 }
 

@@ -91,6 +91,7 @@ pub(crate) fn started(
 #[inline(never)]
 pub(crate) fn for_statement(
     alloc: Global,
+    pos: Pos,
     declared: Vec<Statement>,
     start: Option<Value>,
     control: Control,
@@ -101,5 +102,5 @@ pub(crate) fn for_statement(
 {
     let Control { test, step } = control;
     let control = Box::new(alloc, ForControl { start, test, step })?;
-    Ok(Statement::For(declared, control, a))
+    Ok(Statement::For(pos, declared, control, a))
 }

@@ -28,13 +28,14 @@ pub(crate) fn expression_typed(
     alloc: Global,
     names: &Names,
     scope: &mut Scope,
+    pos: Pos,
     e: &Expr,
 ) -> Result<Statement, Refusal>
-    ensures ok { (around : typed.Around) (d : Option IntType) (pos : Pos) → IfOk result (λ x. typed.statement around d (with_texts names.now scope.old) (tree.expression_stmt pos (tree_of e.now)) ≡ fine (done_of (with_texts names.now scope.new) [] [] x)) }
-    ensures err { (around : typed.Around) (d : Option IntType) (pos : Pos) → IfErr result (λ r. Tells r (typed.statement around d (with_texts names.now scope.old) (tree.expression_stmt pos (tree_of e.now)))) }
+    ensures ok { (around : typed.Around) (d : Option IntType) → IfOk result (λ x. typed.statement around d (with_texts names.now scope.old) (tree.expression_stmt pos (tree_of e.now)) ≡ fine (done_of (with_texts names.now scope.new) [] [] x)) }
+    ensures err { (around : typed.Around) (d : Option IntType) → IfErr result (λ r. Tells r (typed.statement around d (with_texts names.now scope.old) (tree.expression_stmt pos (tree_of e.now)))) }
 {
     match effect_past(alloc, names, scope, e) {
-        Ok(value) => Ok(Statement::Evaluate(value)),
+        Ok(value) => Ok(Statement::Evaluate(pos, value)),
         Err(refusal) => Err(refusal),
     }
 }
@@ -46,7 +47,7 @@ pub(crate) fn break_typed(around: Around, pos: Pos) -> Result<Statement, Refusal
     ensures err { (d : Option IntType) (s : scope_typed.Scope) → IfErr result (λ r. Tells r (typed.statement (around_of around) d s (tree.break_stmt pos))) }
 {
     if around.in_loop || around.in_switch {
-        return Ok(Statement::Break);
+        return Ok(Statement::Break(pos));
     }
     Err(broken(Code::JumpOutside, pos))
 }
@@ -58,7 +59,7 @@ pub(crate) fn continue_typed(around: Around, pos: Pos) -> Result<Statement, Refu
     ensures err { (d : Option IntType) (s : scope_typed.Scope) → IfErr result (λ r. Tells r (typed.statement (around_of around) d s (tree.continue_stmt pos))) }
 {
     if around.in_loop {
-        return Ok(Statement::Continue);
+        return Ok(Statement::Continue(pos));
     }
     Err(broken(Code::JumpOutside, pos))
 }
@@ -77,12 +78,12 @@ pub(crate) fn return_typed(
     ensures err { (d : Option IntType) → IfErr result (λ r. Tells r (typed.statement (around_of around) d (with_texts names.now scope.old) (tree.return_stmt pos (option_tree e.now)))) }
 {
     match (around.result, e) {
-        (None, None) => Ok(Statement::ReturnNothing),
+        (None, None) => Ok(Statement::ReturnNothing(pos)),
         (None, Some(_)) => Err(broken(Code::ReturnMismatch, pos)),
         (Some(_), None) => Err(broken(Code::ReturnMismatch, pos)),
         (Some(ty), Some(e)) => {
             match worth_past(alloc, names, scope, Code::VoidAssigned, pos, e) {
-                Ok(worth) => Ok(Statement::ReturnValue(ty, worth.value)),
+                Ok(worth) => Ok(Statement::ReturnValue(pos, ty, worth.value)),
                 Err(refusal) => Err(refusal),
             }
         }

@@ -81,7 +81,7 @@ fn if_typed(
         Err(refusal) => return Err(refusal),
     };
     match inner_statement(alloc, names, around, a, scope, initial) {
-        Ok(a) => Ok(Statement::If(test.value, a)),
+        Ok(a) => Ok(Statement::If(pos, test.value, a)),
         Err(refusal) => Err(refusal),
     }
 }
@@ -140,7 +140,7 @@ fn while_typed(
         Err(refusal) => return Err(refusal),
     };
     match inner_statement(alloc, names, around.in_a_loop(), a, scope, initial) {
-        Ok(a) => Ok(Statement::While(test.value, a)),
+        Ok(a) => Ok(Statement::While(pos, test.value, a)),
         Err(refusal) => Err(refusal),
     }
 }
@@ -166,7 +166,7 @@ fn do_while_typed(
         Err(refusal) => return Err(refusal),
     };
     match worth_past(alloc, names, scope, Code::VoidControl, pos, e) {
-        Ok(test) => Ok(Statement::DoWhile(a, test.value)),
+        Ok(test) => Ok(Statement::DoWhile(pos, a, test.value)),
         Err(refusal) => Err(refusal),
     }
 }
@@ -209,7 +209,7 @@ fn for_typed(
         Err(refusal) => return Err(refusal),
     };
     scope.outside(block);
-    match for_statement(alloc, declared, first, control, a) {
+    match for_statement(alloc, pos, declared, first, control, a) {
         Ok(done) => Ok(done),
         Err(refusal) => Err(refusal),
     }
@@ -255,9 +255,10 @@ fn block_typed(
     items: &[BlockItem],
     scope: &mut Scope,
     initial: &mut Vec<Initial>,
+    pos: Pos,
 ) -> Result<Statement, Refusal>
-    ensures ok { (d : Option IntType) (pos : Pos) → IfOk result (λ x. Unlabelled (typed.statement (around_of around) d (with_texts names.now scope.old) (tree.block_stmt pos (pieces_of (map piece_of items.now)))) initial.old.items initial.new.items (with_texts names.now scope.new) x) }
-    ensures err { (d : Option IntType) (pos : Pos) → IfErr result (λ r. Tells r (typed.statement (around_of around) d (with_texts names.now scope.old) (tree.block_stmt pos (pieces_of (map piece_of items.now))))) }
+    ensures ok { (d : Option IntType) → IfOk result (λ x. Unlabelled (typed.statement (around_of around) d (with_texts names.now scope.old) (tree.block_stmt pos (pieces_of (map piece_of items.now)))) initial.old.items initial.new.items (with_texts names.now scope.new) x) }
+    ensures err { (d : Option IntType) → IfErr result (λ r. Tells r (typed.statement (around_of around) d (with_texts names.now scope.old) (tree.block_stmt pos (pieces_of (map piece_of items.now))))) }
 {
     let first = scope.object_count();
     let mut labels = Vec::new(alloc);
@@ -273,7 +274,7 @@ fn block_typed(
     ) {
         Ok(all) => {
             let count = objects_since(scope, first);
-            Ok(Statement::Block(first, count, all))
+            Ok(Statement::Block(pos, first, count, all))
         }
         Err(refusal) => Err(refusal),
     }
@@ -289,6 +290,7 @@ fn switch_block(
     items: &[BlockItem],
     scope: &mut Scope,
     initial: &mut Vec<Initial>,
+    pos: Pos,
     worth: Worth,
 ) -> Result<Statement, Refusal>
     ensures ok { IfOk result (λ x. Unlabelled (switch_on (around_of around) (worth_of worth) (with_texts names.now scope.old) (pieces_of (map piece_of items.now))) initial.old.items initial.new.items (with_texts names.now scope.new) x) }
@@ -312,7 +314,7 @@ fn switch_block(
     };
     let count = objects_since(scope, first);
     match no_label_twice(alloc, &labels) {
-        Ok(()) => Ok(Statement::Switch(ty, worth.value, first, count, all)),
+        Ok(()) => Ok(Statement::Switch(pos, ty, worth.value, first, count, all)),
         Err(refusal) => Err(refusal),
     }
 }
@@ -339,7 +341,9 @@ fn switch_typed(
     };
     let left_out = broken(Code::LeftOutLabel, pos);
     match body {
-        Stmt::Block(_, items) => switch_block(alloc, names, around, items, scope, initial, worth),
+        Stmt::Block(_, items) => switch_block(
+            alloc, names, around, items, scope, initial, pos, worth,
+        ),
         Stmt::Empty(_) => Err(left_out),
         Stmt::Expression(_, _) => Err(left_out),
         Stmt::If(_, _, _) => Err(left_out),
@@ -434,9 +438,11 @@ fn statement(
     ensures err { IfErr result (λ r. Tells r (typed.statement (around_of around) direct (with_texts names.now scope.old) (stmt_of s.now))) }
 {
     match s {
-        Stmt::Block(_, items) => block_typed(alloc, names, around, items, scope, initial),
-        Stmt::Empty(_) => Ok(Statement::Empty),
-        Stmt::Expression(_, e) => expression_typed(alloc, names, scope, e),
+        Stmt::Block(pos, items) => {
+            block_typed(alloc, names, around, items, scope, initial, *pos)
+        }
+        Stmt::Empty(pos) => Ok(Statement::Empty(*pos)),
+        Stmt::Expression(pos, e) => expression_typed(alloc, names, scope, *pos, e),
         Stmt::If(pos, e, a) => if_typed(alloc, names, around, a, scope, initial, *pos, e),
         Stmt::IfElse(pos, e, a, b) => {
             let head = match if_head(alloc, names, around, a, scope, initial, *pos, e) {
@@ -444,7 +450,7 @@ fn statement(
                 Err(refusal) => return Err(refusal),
             };
             match inner_statement(alloc, names, around, b, scope, initial) {
-                Ok(b) => Ok(Statement::IfElse(head.test.value, head.a, b)),
+                Ok(b) => Ok(Statement::IfElse(*pos, head.test.value, head.a, b)),
                 Err(refusal) => Err(refusal),
             }
         }

@@ -43,6 +43,7 @@ fn without_values(alloc: Global, statics: Vec<StaticObject>) -> Result<Vec<Stati
     let mut all = Vec::new(alloc);
     for object in statics {
         let empty = Static {
+            name: object.name,
             object_type: object.object_type,
             defined: object.defined,
             values: Vec::new(alloc),

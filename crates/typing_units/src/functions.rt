@@ -13,7 +13,7 @@ ghost use Rattle.typing_expressions.specs.Refused.{IsOf};
 ghost use Rattle.typing_units.specs.inside.Parts.{is_number};
 
 use crate::weights::{weight, within_weight};
-use srcset::{Code, Refusal};
+use srcset::{Code, Pos, Refusal};
 use tree::Parameter;
 use typed_ast::{Function, FunctionType, ObjectType, ParameterType, Statement};
 use typing_expressions::broken;
@@ -65,10 +65,10 @@ pub fn numbers_in(parameters: &[ParameterType]) -> usize
 }
 
 /// A body with these statements.
-fn block(first: usize, count: usize, statements: Vec<Statement>) -> Statement
+fn block(at: Pos, first: usize, count: usize, statements: Vec<Statement>) -> Statement
     ensures { view.statement_of result ≡ program_typed.block first count (view.statements_of (map view.statement_of statements.items)) }
 {
-    Statement::Block(first, count, statements)
+    Statement::Block(at, first, count, statements)
 }
 
 /// A function of this type, whose definition has these objects and whose body these statements. Where it weighs more than the bytes of the
@@ -95,7 +95,7 @@ pub fn function_of(
         name: function.declarator.name,
         function_type,
         objects,
-        body: block(numbers, others, statements),
+        body: block(function.declarator.pos, numbers, others, statements),
         nodes: function.nodes(),
         weight,
     })

@@ -47,24 +47,24 @@ pub(crate) fn in_statement(statics: &[StaticObject], statement: &Statement) -> O
     ensures { result ≡ undefined_in (map static_of statics.now) (typed.uses_in_statement (statement_of statement.now)) }
 {
     match statement {
-        Statement::Empty => None,
-        Statement::Evaluate(e) => in_value(statics, e),
-        Statement::Declare(_) => None,
-        Statement::Define(_, initialiser) => in_initialiser(statics, initialiser),
-        Statement::Block(_, _, all) => in_statements(statics, all),
-        Statement::If(e, a) => earlier(in_value(statics, e), in_statement(statics, a)),
-        Statement::IfElse(e, a, b) => earlier(
+        Statement::Empty(_) => None,
+        Statement::Evaluate(_, e) => in_value(statics, e),
+        Statement::Declare(_, _) => None,
+        Statement::Define(_, _, initialiser) => in_initialiser(statics, initialiser),
+        Statement::Block(_, _, _, all) => in_statements(statics, all),
+        Statement::If(_, e, a) => earlier(in_value(statics, e), in_statement(statics, a)),
+        Statement::IfElse(_, e, a, b) => earlier(
             earlier(in_value(statics, e), in_statement(statics, a)),
             in_statement(statics, b),
         ),
-        Statement::Switch(_, e, _, _, all) => {
+        Statement::Switch(_, _, e, _, _, all) => {
             earlier(in_value(statics, e), in_statements(statics, all))
         }
-        Statement::Case(_) => None,
-        Statement::Default => None,
-        Statement::While(e, a) => earlier(in_value(statics, e), in_statement(statics, a)),
-        Statement::DoWhile(a, e) => earlier(in_statement(statics, a), in_value(statics, e)),
-        Statement::For(declared, control, a) => earlier(
+        Statement::Case(_, _) => None,
+        Statement::Default(_) => None,
+        Statement::While(_, e, a) => earlier(in_value(statics, e), in_statement(statics, a)),
+        Statement::DoWhile(_, a, e) => earlier(in_statement(statics, a), in_value(statics, e)),
+        Statement::For(_, declared, control, a) => earlier(
             in_head(
                 statics,
                 declared,
@@ -74,9 +74,9 @@ pub(crate) fn in_statement(statics: &[StaticObject], statement: &Statement) -> O
             ),
             in_statement(statics, a),
         ),
-        Statement::Break => None,
-        Statement::Continue => None,
-        Statement::ReturnNothing => None,
-        Statement::ReturnValue(_, e) => in_value(statics, e),
+        Statement::Break(_) => None,
+        Statement::Continue(_) => None,
+        Statement::ReturnNothing(_) => None,
+        Statement::ReturnValue(_, _, e) => in_value(statics, e),
     }
 }

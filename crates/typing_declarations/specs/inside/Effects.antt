@@ -33,8 +33,8 @@ first_values n vs = fine (record { statements = []; initial = record { static = 
 -- what a declarator does whose initialiser has its type, in a scope with its literals
 abbrev pub effect_in : Scope → DeclaredType → ObjectEffect → Verdict typed.Effects
 effect_in s t effect.Nothing = fine typed.no_effects
-effect_in s t (effect.Declared n) = fine (record { statements = program.declare n ∷ []; initial = [] })
-effect_in s t (effect.Defined n x) = typed.definition_of n (initialiser_of x)
+effect_in s t (effect.Declared at n) = fine (record { statements = program.declare n ∷ []; initial = [] })
+effect_in s t (effect.Defined at n x) = typed.definition_of n (initialiser_of x)
 effect_in s t (effect.First n x) = then_check (values s (typed.element_of t) (typed.lengths_of t) (initialiser_of x)) (first_values n)
 
 -- one declarator

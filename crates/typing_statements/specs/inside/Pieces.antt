@@ -1,5 +1,6 @@
 -- The items of a block, those that have been looked at put before the others.
 use Rattle.std.specs.Prelude.{◌≡◌, ℕ, ℤ, List, map, ◌++◌, Option, Some, None}
+use Rattle.srcset.specs.declared.refusal.Pos.{Pos}
 use Rattle.typed_ast.specs.declared.statements.Statement.{Statement}
 use Rattle.typed_ast.specs.declared.statements.Statement.TheVariants.{Case, Default}
 use Rattle.typed_ast.specs.View.{statement_of}
@@ -23,13 +24,13 @@ put_before ms js xs more = fine (record {
   initial = map initial_of js ++ more.initial;
 })
 
-abbrev pub label_with : Option ℤ → Statement
-label_with None = Default
-label_with (Some v) = Case v
+abbrev pub label_with : Pos → Option ℤ → Statement
+label_with at None = Default at
+label_with at (Some v) = Case at v
 
 -- a label as a statement
 abbrev pub label_statement : Label → Statement
-label_statement l = label_with l.value
+label_statement l = label_with l.pos l.value
 
 -- the items of a block, none of another statement
 abbrev pub block_items : StmtTree → Option Pieces

@@ -23,7 +23,7 @@ use Rattle.interp_eval.proofs.statements.+execute.Goals as goal
 
 pub statement-returns-in-For-clause-here : goal.statement-returns-in-For-clause-here
 statement-returns-in-For-clause-here t c = λ q. let i = c.in-For in
-    let same = lends_for c.args.a.now i.declared i.control i.a c.deref-in-For-4.result.now c.as_ref-start.result c.as_ref-test.result c.as_ref-step.result
+    let same = lends_for c.args.a.now i.field-0 i.declared i.control i.a c.deref-in-For-4.result.now c.as_ref-start.result c.as_ref-test.result c.as_ref-step.result
     i.is c.deref-in-For-4.ensures.value (c.as_ref-start.ensures.value ∙ ap (λ (k : ForControl). k.start) c.deref-in-For.ensures)
     (c.as_ref-test.ensures.value ∙ ap (λ (k : ForControl). k.test) c.deref-in-For-2.ensures) (c.as_ref-step.ensures.value ∙ ap (λ (k : ForControl). k.step) c.deref-in-For-3.ensures) in
     let P : Statement → Type 0 = λ a. (quick_control (option_map (λ e. value_of e.now) c.as_ref-start.result) (option_map (λ e. value_of e.now) c.as_ref-test.result)

@@ -9,6 +9,6 @@ use Rattle.tac.proofs.block_sizes.+statement_sizes.Goals as goal
 pub statement_size-returns-in-Switch : goal.statement_size-returns-in-Switch
 statement_size-returns-in-Switch t c =
     let s = c.in-Switch in
-    c.switch_size.ensures s.field-0
-    ∙ ap (λ xs. size.statement_size (program_in c.args.scope.now) (function_in c.args.scope.now) (typed.switch s.field-0 (value_of s.e) s.first s.count (statements_of (map statement_of xs)))) c.deref-in-Switch.ensures.value
-    ∙ ap (size.statement_size (program_in c.args.scope.now) (function_in c.args.scope.now)) (sym (sees_switch c.args.statement.now s.field-0 s.e s.first s.count s.all s.is))
+    c.switch_size.ensures s.field-1
+    ∙ ap (λ xs. size.statement_size (program_in c.args.scope.now) (function_in c.args.scope.now) (typed.switch s.field-1 (value_of s.e) s.first s.count (statements_of (map statement_of xs)))) c.deref-in-Switch.ensures.value
+    ∙ ap (size.statement_size (program_in c.args.scope.now) (function_in c.args.scope.now)) (sym (sees_switch c.args.statement.now s.field-0 s.field-1 s.e s.first s.count s.all s.is))

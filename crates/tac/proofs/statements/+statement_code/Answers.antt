@@ -77,82 +77,82 @@ put_for-returns t c =
 pub put_statement-returns-in_ok-put-in-Empty : goal.put_statement-returns-in_ok-put-in-Empty
 put_statement-returns-in_ok-put-in-Empty t c =
     let s = c.in-Empty in
-    rw (sees_empty c.args.statement.now s.is) (c.in_ok-put-in-Empty.ensures)
+    rw (sees_empty c.args.statement.now s.field-0 s.is) (c.in_ok-put-in-Empty.ensures)
 
 pub put_statement-returns-in_ok-put_evaluated-in-Evaluate : goal.put_statement-returns-in_ok-put_evaluated-in-Evaluate
 put_statement-returns-in_ok-put_evaluated-in-Evaluate t c =
     let s = c.in-Evaluate in
-    rw (sees_evaluate c.args.statement.now s.e s.is) (c.in_ok-put_evaluated-in-Evaluate.ensures c.args.out c.args.again c.args.back)
+    rw (sees_evaluate c.args.statement.now s.field-0 s.e s.is) (c.in_ok-put_evaluated-in-Evaluate.ensures c.args.out c.args.again c.args.back)
 
 pub put_statement-returns-in_ok-put-in-Declare : goal.put_statement-returns-in_ok-put-in-Declare
 put_statement-returns-in_ok-put-in-Declare t c =
     let s = c.in-Declare in
-    rw (sees_declare c.args.statement.now s.object s.is) (c.in_ok-put-in-Declare.ensures)
+    rw (sees_declare c.args.statement.now s.field-0 s.object s.is) (c.in_ok-put-in-Declare.ensures)
 
 pub put_statement-returns-in_ok-put_defined-in-Define : goal.put_statement-returns-in_ok-put_defined-in-Define
 put_statement-returns-in_ok-put_defined-in-Define t c =
     let s = c.in-Define in
-    rw (sees_define c.args.statement.now s.object s.initialiser s.is) (c.in_ok-put_defined-in-Define.ensures c.args.out c.args.again c.args.back)
+    rw (sees_define c.args.statement.now s.field-0 s.object s.initialiser s.is) (c.in_ok-put_defined-in-Define.ensures c.args.out c.args.again c.args.back)
 
 pub put_statement-returns-in_ok-put_block-in-Block : goal.put_statement-returns-in_ok-put_block-in-Block
 put_statement-returns-in_ok-put_block-in-Block t c =
     let s = c.in-Block in
-    rw (sees_block c.args.statement.now s.first s.count s.all s.is) (rw c.deref.ensures.value at (c.in_ok-put_block-in-Block.ensures))
+    rw (sees_block c.args.statement.now s.field-0 s.first s.count s.all s.is) (rw c.deref.ensures.value at (c.in_ok-put_block-in-Block.ensures))
 
 pub put_statement-returns-in_ok-put_if-in-If : goal.put_statement-returns-in_ok-put_if-in-If
 put_statement-returns-in_ok-put_if-in-If t c =
     let s = c.in-If in
-    rw (sees_if c.args.statement.now s.e s.a s.is) (rw c.deref-in-If.ensures at (c.in_ok-put_if-in-If.ensures))
+    rw (sees_if c.args.statement.now s.field-0 s.e s.a s.is) (rw c.deref-in-If.ensures at (c.in_ok-put_if-in-If.ensures))
 
 pub put_statement-returns-in_ok-put_if_else-in-IfElse : goal.put_statement-returns-in_ok-put_if_else-in-IfElse
 put_statement-returns-in_ok-put_if_else-in-IfElse t c =
     let s = c.in-IfElse in
-    rw (sees_ifelse c.args.statement.now s.e s.a s.b s.is) (rw (c.deref-in-IfElse.ensures, c.deref-in-IfElse-2.ensures) at (c.in_ok-put_if_else-in-IfElse.ensures))
+    rw (sees_ifelse c.args.statement.now s.field-0 s.e s.a s.b s.is) (rw (c.deref-in-IfElse.ensures, c.deref-in-IfElse-2.ensures) at (c.in_ok-put_if_else-in-IfElse.ensures))
 
 pub put_statement-returns-in_ok-put-in-Case : goal.put_statement-returns-in_ok-put-in-Case
 put_statement-returns-in_ok-put-in-Case t c =
     let s = c.in-Case in
-    rw (sees_case c.args.statement.now s.field-0 s.is) (c.in_ok-put-in-Case.ensures)
+    rw (sees_case c.args.statement.now s.field-0 s.field-1 s.is) (c.in_ok-put-in-Case.ensures)
 
 pub put_statement-returns-in_ok-put-in-Default : goal.put_statement-returns-in_ok-put-in-Default
 put_statement-returns-in_ok-put-in-Default t c =
     let s = c.in-Default in
-    rw (sees_default c.args.statement.now s.is) (c.in_ok-put-in-Default.ensures)
+    rw (sees_default c.args.statement.now s.field-0 s.is) (c.in_ok-put-in-Default.ensures)
 
 pub put_statement-returns-in_ok-put_while-in-While : goal.put_statement-returns-in_ok-put_while-in-While
 put_statement-returns-in_ok-put_while-in-While t c =
     let s = c.in-While in
-    rw (sees_while c.args.statement.now s.e s.a s.is) (rw c.deref-in-While.ensures at (c.in_ok-put_while-in-While.ensures c.args.out c.args.again))
+    rw (sees_while c.args.statement.now s.field-0 s.e s.a s.is) (rw c.deref-in-While.ensures at (c.in_ok-put_while-in-While.ensures c.args.out c.args.again))
 
 pub put_statement-returns-in_ok-put_do_while-in-DoWhile : goal.put_statement-returns-in_ok-put_do_while-in-DoWhile
 put_statement-returns-in_ok-put_do_while-in-DoWhile t c =
     let s = c.in-DoWhile in
-    rw (sees_dowhile c.args.statement.now s.a s.e s.is) (rw c.deref-in-DoWhile.ensures at (c.in_ok-put_do_while-in-DoWhile.ensures c.args.out c.args.again))
+    rw (sees_dowhile c.args.statement.now s.field-0 s.a s.e s.is) (rw c.deref-in-DoWhile.ensures at (c.in_ok-put_do_while-in-DoWhile.ensures c.args.out c.args.again))
 
 pub put_statement-returns-in_ok-put_for-in-For : goal.put_statement-returns-in_ok-put_for-in-For
 put_statement-returns-in_ok-put_for-in-For t c =
     let s = c.in-For in
-    rw (sees_for c.args.statement.now s.declared s.control s.a s.is) (rw (c.deref-in-For.ensures.value, c.deref-in-For-2.ensures, c.deref-in-For-3.ensures, c.deref-in-For-4.ensures, c.deref-in-For-5.ensures) at (c.in_ok-put_for-in-For.ensures c.args.out c.args.again))
+    rw (sees_for c.args.statement.now s.field-0 s.declared s.control s.a s.is) (rw (c.deref-in-For.ensures.value, c.deref-in-For-2.ensures, c.deref-in-For-3.ensures, c.deref-in-For-4.ensures, c.deref-in-For-5.ensures) at (c.in_ok-put_for-in-For.ensures c.args.out c.args.again))
 
 pub put_statement-returns-in_ok-put-in-Break : goal.put_statement-returns-in_ok-put-in-Break
 put_statement-returns-in_ok-put-in-Break t c =
     let s = c.in-Break in
-    rw (sees_break c.args.statement.now s.is) (c.in_ok-put-in-Break.ensures)
+    rw (sees_break c.args.statement.now s.field-0 s.is) (c.in_ok-put-in-Break.ensures)
 
 pub put_statement-returns-in_ok-put-in-Continue : goal.put_statement-returns-in_ok-put-in-Continue
 put_statement-returns-in_ok-put-in-Continue t c =
     let s = c.in-Continue in
-    rw (sees_continue c.args.statement.now s.is) (c.in_ok-put-in-Continue.ensures)
+    rw (sees_continue c.args.statement.now s.field-0 s.is) (c.in_ok-put-in-Continue.ensures)
 
 pub put_statement-returns-in_ok-put_return-in-ReturnNothing : goal.put_statement-returns-in_ok-put_return-in-ReturnNothing
 put_statement-returns-in_ok-put_return-in-ReturnNothing t c =
     let s = c.in-ReturnNothing in
-    rw (sees_returnnothing c.args.statement.now s.is) (c.in_ok-put_return-in-ReturnNothing.ensures c.args.out c.args.again)
+    rw (sees_returnnothing c.args.statement.now s.field-0 s.is) (c.in_ok-put_return-in-ReturnNothing.ensures c.args.out c.args.again)
 
 pub put_statement-returns-in_ok-put_returned-in-ReturnValue : goal.put_statement-returns-in_ok-put_returned-in-ReturnValue
 put_statement-returns-in_ok-put_returned-in-ReturnValue t c =
     let s = c.in-ReturnValue in
-    rw (sees_returnvalue c.args.statement.now s.ty s.e s.is) (c.in_ok-put_returned-in-ReturnValue.ensures c.args.out c.args.again)
+    rw (sees_returnvalue c.args.statement.now s.field-0 s.ty s.e s.is) (c.in_ok-put_returned-in-ReturnValue.ensures c.args.out c.args.again)
 
 pub put_statements-returns-in_ok-put_statements-in-Some : goal.put_statements-returns-in_ok-put_statements-in-Some
 put_statements-returns-in_ok-put_statements-in-Some t c =
@@ -181,4 +181,4 @@ put_switch-returns t c =
 pub put_statement-returns-in_ok-put_switch-in-Switch : goal.put_statement-returns-in_ok-put_switch-in-Switch
 put_statement-returns-in_ok-put_switch-in-Switch t c =
     let s = c.in-Switch in
-    rw (sees_switch c.args.statement.now s.field-0 s.e s.first s.count s.all s.is) (rw c.deref-in-Switch.ensures.value at (c.in_ok-put_switch-in-Switch.ensures s.field-0 c.args.out))
+    rw (sees_switch c.args.statement.now s.field-0 s.field-1 s.e s.first s.count s.all s.is) (rw c.deref-in-Switch.ensures.value at (c.in_ok-put_switch-in-Switch.ensures s.field-1 c.args.out))

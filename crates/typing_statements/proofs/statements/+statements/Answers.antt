@@ -19,11 +19,11 @@ use Rattle.typing_statements.proofs.statements.+statements.Goals as goal
 
 pub block_typed-returns-in-Ok-clause-ok : goal.block_typed-returns-in-Ok-clause-ok
 block_typed-returns-in-Ok-clause-ok t c =
-    λ d at. block_fine (around_of c.args.around) d c.args.names.now c.args.scope.now c.scoped_items.new.scope at (pieces_of (map piece_of c.args.items.now)) c.object_count-first.result c.objects_since-count.result c.new-labels.result.items c.scoped_items.new.labels.items c.args.initial.now.items c.scoped_items.new.initial.items c.in-Ok.all c.object_count-first.ensures c.objects_since-count.ensures c.in-Ok.ensures.ok
+    λ d. block_fine (around_of c.args.around) d c.args.names.now c.args.scope.now c.scoped_items.new.scope c.args.pos (pieces_of (map piece_of c.args.items.now)) c.object_count-first.result c.objects_since-count.result c.new-labels.result.items c.scoped_items.new.labels.items c.args.initial.now.items c.scoped_items.new.initial.items c.in-Ok.all c.object_count-first.ensures c.objects_since-count.ensures c.in-Ok.ensures.ok
 
 pub block_typed-returns-clause-err : goal.block_typed-returns-clause-err
 block_typed-returns-clause-err t c =
-    λ d at. block_tells (around_of c.args.around) d c.args.names.now c.args.scope.now at (pieces_of (map piece_of c.args.items.now)) c.in-Err.refusal c.in-Err.ensures.err
+    λ d. block_tells (around_of c.args.around) d c.args.names.now c.args.scope.now c.args.pos (pieces_of (map piece_of c.args.items.now)) c.in-Err.refusal c.in-Err.ensures.err
 
 pub case_typed-returns-in_default-clause-err : goal.case_typed-returns-in_default-clause-err
 case_typed-returns-in_default-clause-err t c =
@@ -157,23 +157,23 @@ scoped_items-returns-clause-ok t c =
 
 pub statement-returns-in-Block-clause-ok : goal.statement-returns-in-Block-clause-ok
 statement-returns-in-Block-clause-ok t c =
-    unlabelled_as c.block_typed.result _ _ c.args.labels.now.items c.args.initial.now.items c.block_typed.new.initial.items (with_texts c.args.names.now c.block_typed.new.scope) (ap (statement (around_of c.args.around) c.args.direct (with_texts c.args.names.now c.args.scope.now)) (block_tree c.args.s.now c.in-Block.field-0 c.in-Block.items _ c.in-Block.is c.deref.ensures.value)) (c.block_typed.ensures.ok c.args.direct c.in-Block.field-0)
+    unlabelled_as c.block_typed.result _ _ c.args.labels.now.items c.args.initial.now.items c.block_typed.new.initial.items (with_texts c.args.names.now c.block_typed.new.scope) (ap (statement (around_of c.args.around) c.args.direct (with_texts c.args.names.now c.args.scope.now)) (block_tree c.args.s.now c.in-Block.pos c.in-Block.items _ c.in-Block.is c.deref.ensures.value)) (c.block_typed.ensures.ok c.args.direct)
 
 pub statement-returns-in-Block-clause-err : goal.statement-returns-in-Block-clause-err
 statement-returns-in-Block-clause-err t c =
-    told_as c.block_typed.result _ _ (ap (statement (around_of c.args.around) c.args.direct (with_texts c.args.names.now c.args.scope.now)) (block_tree c.args.s.now c.in-Block.field-0 c.in-Block.items _ c.in-Block.is c.deref.ensures.value)) (c.block_typed.ensures.err c.args.direct c.in-Block.field-0)
+    told_as c.block_typed.result _ _ (ap (statement (around_of c.args.around) c.args.direct (with_texts c.args.names.now c.args.scope.now)) (block_tree c.args.s.now c.in-Block.pos c.in-Block.items _ c.in-Block.is c.deref.ensures.value)) (c.block_typed.ensures.err c.args.direct)
 
 pub statement-returns-in-Empty-clause-ok : goal.statement-returns-in-Empty-clause-ok
 statement-returns-in-Empty-clause-ok t c =
-    ([], [], sym (append-nil c.args.labels.now.items), sym (append-nil c.args.initial.now.items), ap (statement (around_of c.args.around) c.args.direct (with_texts c.args.names.now c.args.scope.now)) (empty_tree c.args.s.now c.in-Empty.field-0 c.in-Empty.is) ∙ empty_done (around_of c.args.around) c.args.direct (with_texts c.args.names.now c.args.scope.now) c.in-Empty.field-0)
+    ([], [], sym (append-nil c.args.labels.now.items), sym (append-nil c.args.initial.now.items), ap (statement (around_of c.args.around) c.args.direct (with_texts c.args.names.now c.args.scope.now)) (empty_tree c.args.s.now c.in-Empty.pos c.in-Empty.is) ∙ empty_done (around_of c.args.around) c.args.direct (with_texts c.args.names.now c.args.scope.now) c.in-Empty.pos)
 
 pub statement-returns-in-Expression-clause-ok : goal.statement-returns-in-Expression-clause-ok
 statement-returns-in-Expression-clause-ok t c =
-    alone_as c.expression_typed.result _ _ c.args.labels.now.items c.args.initial.now.items (with_texts c.args.names.now c.expression_typed.new.scope) (ap (statement (around_of c.args.around) c.args.direct (with_texts c.args.names.now c.args.scope.now)) (expression_tree c.args.s.now c.in-Expression.field-0 c.in-Expression.e c.in-Expression.is)) (c.expression_typed.ensures.ok (around_of c.args.around) c.args.direct c.in-Expression.field-0)
+    alone_as c.expression_typed.result _ _ c.args.labels.now.items c.args.initial.now.items (with_texts c.args.names.now c.expression_typed.new.scope) (ap (statement (around_of c.args.around) c.args.direct (with_texts c.args.names.now c.args.scope.now)) (expression_tree c.args.s.now c.in-Expression.pos c.in-Expression.e c.in-Expression.is)) (c.expression_typed.ensures.ok (around_of c.args.around) c.args.direct)
 
 pub statement-returns-in-Expression-clause-err : goal.statement-returns-in-Expression-clause-err
 statement-returns-in-Expression-clause-err t c =
-    told_as c.expression_typed.result _ _ (ap (statement (around_of c.args.around) c.args.direct (with_texts c.args.names.now c.args.scope.now)) (expression_tree c.args.s.now c.in-Expression.field-0 c.in-Expression.e c.in-Expression.is)) (c.expression_typed.ensures.err (around_of c.args.around) c.args.direct c.in-Expression.field-0)
+    told_as c.expression_typed.result _ _ (ap (statement (around_of c.args.around) c.args.direct (with_texts c.args.names.now c.args.scope.now)) (expression_tree c.args.s.now c.in-Expression.pos c.in-Expression.e c.in-Expression.is)) (c.expression_typed.ensures.err (around_of c.args.around) c.args.direct)
 
 pub statement-returns-in-If-clause-ok : goal.statement-returns-in-If-clause-ok
 statement-returns-in-If-clause-ok t c =
@@ -269,7 +269,7 @@ switch_block-returns-in-Err-clause-err t c =
 
 pub switch_block-returns-in-Ok-no_label_twice-clause-ok : goal.switch_block-returns-in-Ok-no_label_twice-clause-ok
 switch_block-returns-in-Ok-no_label_twice-clause-ok t c =
-    switch_fine (around_of c.args.around) (around_of c.in_a_switch.result) c.args.names.now c.args.scope.now c.scoped_items.new.scope c.args.worth c.promote-ty.result (pieces_of (map piece_of c.args.items.now)) c.object_count-first.result c.objects_since-count.result c.new-labels.result.items c.scoped_items.new.labels.items c.deref.result.now c.args.initial.now.items c.scoped_items.new.initial.items c.in-Ok.all c.deref.ensures.value c.in_a_switch.ensures c.promote-ty.ensures c.new-labels.ensures.items c.object_count-first.ensures c.objects_since-count.ensures c.in-Ok.ensures.ok c.in-Ok-no_label_twice.ensures.ok
+    switch_fine (around_of c.args.around) (around_of c.in_a_switch.result) c.args.names.now c.args.scope.now c.scoped_items.new.scope c.args.pos c.args.worth c.promote-ty.result (pieces_of (map piece_of c.args.items.now)) c.object_count-first.result c.objects_since-count.result c.new-labels.result.items c.scoped_items.new.labels.items c.deref.result.now c.args.initial.now.items c.scoped_items.new.initial.items c.in-Ok.all c.deref.ensures.value c.in_a_switch.ensures c.promote-ty.ensures c.new-labels.ensures.items c.object_count-first.ensures c.objects_since-count.ensures c.in-Ok.ensures.ok c.in-Ok-no_label_twice.ensures.ok
 
 pub switch_block-returns-in-Err-no_label_twice-clause-err : goal.switch_block-returns-in-Err-no_label_twice-clause-err
 switch_block-returns-in-Err-no_label_twice-clause-err t c =
@@ -297,7 +297,7 @@ statement-returns-in-Err-clause-err t c =
 
 pub statement-returns-in-Ok-inner_statement-clause-ok : goal.statement-returns-in-Ok-inner_statement-clause-ok
 statement-returns-in-Ok-inner_statement-clause-ok t c =
-    labelled_as (Ok (S.IfElse c.in-Ok.head.test.value c.in-Ok.head.a c.in-Ok-inner_statement.b)) _ _ c.args.labels.now.items c.args.labels.now.items c.args.initial.now.items c.inner_statement.new.initial.items (with_texts c.args.names.now c.inner_statement.new.scope) (ap (statement (around_of c.args.around) c.args.direct (with_texts c.args.names.now c.args.scope.now)) (if_else_tree c.args.s.now c.in-IfElse.pos c.in-IfElse.e c.in-IfElse.a c.in-IfElse.b _ _ c.in-IfElse.is c.deref-in-IfElse.ensures c.deref-in-IfElse-2.ensures)) (else_labelled (around_of c.args.around) c.args.direct c.args.names.now c.args.scope.now c.if_head.new.scope c.inner_statement.new.scope c.in-IfElse.pos (tree_of c.in-IfElse.e) (stmt_of c.deref-in-IfElse.result.now) (stmt_of c.deref-in-IfElse-2.result.now) c.in-Ok.head.test c.args.labels.now.items c.args.initial.now.items c.if_head.new.initial.items c.inner_statement.new.initial.items c.in-Ok.head.a c.in-Ok-inner_statement.b c.in-Ok.ensures.ok.0 c.in-Ok.ensures.ok.1 c.in-Ok-inner_statement.ensures.ok)
+    labelled_as (Ok (S.IfElse c.in-IfElse.pos c.in-Ok.head.test.value c.in-Ok.head.a c.in-Ok-inner_statement.b)) _ _ c.args.labels.now.items c.args.labels.now.items c.args.initial.now.items c.inner_statement.new.initial.items (with_texts c.args.names.now c.inner_statement.new.scope) (ap (statement (around_of c.args.around) c.args.direct (with_texts c.args.names.now c.args.scope.now)) (if_else_tree c.args.s.now c.in-IfElse.pos c.in-IfElse.e c.in-IfElse.a c.in-IfElse.b _ _ c.in-IfElse.is c.deref-in-IfElse.ensures c.deref-in-IfElse-2.ensures)) (else_labelled (around_of c.args.around) c.args.direct c.args.names.now c.args.scope.now c.if_head.new.scope c.inner_statement.new.scope c.in-IfElse.pos (tree_of c.in-IfElse.e) (stmt_of c.deref-in-IfElse.result.now) (stmt_of c.deref-in-IfElse-2.result.now) c.in-Ok.head.test c.args.labels.now.items c.args.initial.now.items c.if_head.new.initial.items c.inner_statement.new.initial.items c.in-Ok.head.a c.in-Ok-inner_statement.b c.in-Ok.ensures.ok.0 c.in-Ok.ensures.ok.1 c.in-Ok-inner_statement.ensures.ok)
 
 pub statement-returns-in-Err-inner_statement-clause-err : goal.statement-returns-in-Err-inner_statement-clause-err
 statement-returns-in-Err-inner_statement-clause-err t c =
