@@ -1,5 +1,6 @@
 pub mod Layout
 pub mod Placed
+pub mod Addresses
 pub mod Text
 pub mod Listing
 pub mod Refusals

@@ -1,6 +1,7 @@
 //! The assembler: items with labels become machine code at an address, or a listing of it.
 #![tactic(auto)]
 
+mod addresses;
 mod assembling;
 mod check;
 mod emit;
@@ -14,6 +15,7 @@ mod offset;
 mod refusal;
 mod text;
 
+pub use addresses::item_addresses;
 pub use assembling::assemble;
 pub use item::{Item, Label};
 pub use items::{Items, ItemsBuilder};
