@@ -3,6 +3,7 @@
 
 mod compiling;
 mod front;
+mod mapping;
 mod performing;
 mod reading;
 mod reporting;
@@ -12,7 +13,9 @@ mod transfer;
 mod writing;
 
 pub use compiling::{Built, compile, compile_with};
+pub use cc_backend::{CodeMap, CodeRow, DataObject, FunctionCode, Reference};
 pub use elf_out::StackSize;
+pub use mapping::map_of;
 pub use performing::{Cmd, perform};
 pub use reading::read_source;
 pub use writing::write_out;

@@ -2,12 +2,14 @@
 #![tactic(auto)]
 
 mod bytes;
+mod code_map;
 mod flat_code;
 mod generating;
 mod image;
 mod laws;
 mod sizes;
 
+pub use code_map::{CodeMap, CodeRow, DataObject, FunctionCode, Reference, code_map};
 pub use generating::{Generated, generate, items};
 pub use laws::{
     code_fits, file_simulates_program, flat_simulates_program, flat_simulates_tac,

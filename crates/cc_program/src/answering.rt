@@ -25,6 +25,7 @@ pub fn answer(rt: &HostRuntime, request: &Request<'_>) -> u8 {
             out,
             has_labels,
             has_abi_names,
+            has_lines,
         } => list(
             rt,
             program,
@@ -32,6 +33,7 @@ pub fn answer(rt: &HostRuntime, request: &Request<'_>) -> u8 {
             ListForm {
                 has_labels,
                 has_abi_names,
+                has_lines,
             },
         ),
         Command::Run { max, at, trace } => run_told(rt, program, RunForm { max, at, trace }),
@@ -64,7 +66,7 @@ pub fn answer(rt: &HostRuntime, request: &Request<'_>) -> u8 {
 
 /// A listing: the plain one, or one with more.
 fn list(rt: &HostRuntime, program: &Program<'_>, out: &str, form: ListForm) -> u8 {
-    if form.has_labels || form.has_abi_names {
+    if form.has_labels || form.has_abi_names || form.has_lines {
         list_code(rt, program, out, form)
     } else {
         print_text(rt, program, Cmd::List, out)

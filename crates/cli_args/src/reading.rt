@@ -218,6 +218,7 @@ fn list<'a>(inner: &ArgMatches<'a>) -> Command<'a> {
         out: text_out(inner),
         has_labels: inner.get_flag("labels"),
         has_abi_names: inner.get_flag("abi"),
+        has_lines: inner.get_flag("source"),
     }
 }
 

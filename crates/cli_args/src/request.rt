@@ -116,11 +116,13 @@ pub enum Command<'a> {
         out: &'a str,
         has_lines: bool,
     },
-    /// Print a listing to the file at a path, with labels and the names that registers have in calls, or without.
+    /// Print a listing to the file at a path, with labels, the names that registers have in calls and the lines of the sources, or
+    /// without.
     List {
         out: &'a str,
         has_labels: bool,
         has_abi_names: bool,
+        has_lines: bool,
     },
     /// Run an executable file for at most so many instructions.
     Run {

@@ -250,7 +250,7 @@ pub const LABELS: Row = Row {
     value: None,
     kind: Kind::Flag,
     default: None,
-    help: "Names functions, and the places that branches lead to",
+    help: "Names functions and objects, and the places that branches lead to",
     apart: &[],
 };
 
@@ -263,6 +263,18 @@ pub const ABI: Row = Row {
     kind: Kind::Flag,
     default: None,
     help: "Names registers as calls do: sp, a0, t0",
+    apart: &[],
+};
+
+/// Whether the listing has the lines of the sources.
+pub const SOURCE: Row = Row {
+    id: "source",
+    short: None,
+    long: Some("source"),
+    value: None,
+    kind: Kind::Flag,
+    default: None,
+    help: "Puts the lines of the sources between the instructions",
     apart: &[],
 };
 

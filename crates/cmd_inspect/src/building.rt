@@ -4,38 +4,33 @@ use cc::{Built, compile_with};
 use cli_args::Program;
 use cli_io::say;
 use cli_sources::{Sources, stack_size};
-use std::alloc::Global;
-use symbol_table::{CodeMap, symbol_table};
+use symbol_table::{SymbolTable, symbol_table};
 
-/// The executable file of a program; or the exit status, where the fault is said.
-pub fn built(rt: &HostRuntime, program: &Program<'_>, sources: &Sources<'_>) -> Result<Built, u8> {
-    match compile_with(rt.alloc(), &sources.set, sources.main, stack_size(program)) {
-        Ok(built) => Ok(built),
+/// An executable file, and what is told of it.
+#[derive(Drop)]
+pub struct Seen {
+    pub built: Built,
+    pub table: SymbolTable,
+}
+
+/// The executable file of a program, looked into; or the exit status, where the fault is said.
+pub fn seen(rt: &HostRuntime, program: &Program<'_>, sources: &Sources<'_>) -> Result<Seen, u8> {
+    let stack = stack_size(program);
+    match compile_with(rt.alloc(), &sources.set, sources.main, stack) {
+        Ok(built) => looked_into(rt, program, sources, built),
         Err(fault) => Err(say(rt, &sources.told(rt.alloc(), fault))),
     }
 }
 
-/// Where the functions of a file lie.
-#[derive(Drop)]
-pub enum Mapped {
-    Known(CodeMap),
-    /// The code has not as many stretches as functions.
-    Unknown,
-    /// Memory ran out.
-    Memory,
-}
-
-/// Where the functions of a file lie that was built.
-pub fn functions_of(alloc: Global, built: &Built) -> Mapped {
-    match symbol_table(alloc, built) {
-        Ok(Some(map)) => Mapped::Known(map),
-        Ok(None) => Mapped::Unknown,
-        Err(_) => Mapped::Memory,
+fn looked_into(
+    rt: &HostRuntime,
+    program: &Program<'_>,
+    sources: &Sources<'_>,
+    built: Built,
+) -> Result<Seen, u8> {
+    let stack = stack_size(program);
+    match symbol_table(rt.alloc(), &sources.set, sources.main, stack, &built) {
+        Ok(table) => Ok(Seen { built, table }),
+        Err(fault) => Err(say(rt, &sources.told(rt.alloc(), fault))),
     }
-}
-
-/// Says that the code has not as many stretches as functions; answers the exit status.
-pub fn say_unknown(rt: &HostRuntime) -> u8 {
-    let _said = eprintln!(rt; "cc: the functions are not found in the code");
-    1
 }

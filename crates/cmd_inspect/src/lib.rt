@@ -1,4 +1,4 @@
-//! The commands that show a built program from inside: a listing with labels, frames, symbols, images and sizes.
+//! The commands that show a built program from inside: a listing with labels and lines, frames, symbols, images and sizes.
 #![tactic(auto)]
 
 mod building;
@@ -6,6 +6,7 @@ mod images;
 mod listing;
 mod listing_text;
 mod sizes;
+mod source_lines;
 mod stack_table;
 mod symbols;
 

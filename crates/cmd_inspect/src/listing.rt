@@ -1,22 +1,25 @@
-//! `list` with labels or with the names that registers have in calls.
+//! `list` with labels, with the names that registers have in calls, or with lines of the sources.
 
-use crate::building::{Mapped, built, functions_of, say_unknown};
+use crate::building::seen;
 use crate::listing_text::listing_text;
-use cc::{Built, Cmd, perform};
+use cc::{Cmd, perform};
 use cli_args::Program;
 use cli_io::{TAKEN, put_file, say, say_memory, say_usage};
 use cli_sources::{Sources, is_taken, read_sources, stack_size};
 use io_ports::MemPort;
 use std::alloc::Global;
 use std::io;
+use symbol_table::SymbolTable;
 
 /// What a listing shows beside the instructions.
 #[derive(Clone, Copy, Debug, PartialEq, Eq)]
 pub struct ListForm {
-    /// The names of functions, and labels where branches lead to.
+    /// The names of functions and of objects, and labels where branches lead to.
     pub has_labels: bool,
     /// The names that registers have in calls.
     pub has_abi_names: bool,
+    /// The lines of the sources, each before the code of what stands in it.
+    pub has_lines: bool,
 }
 
 /// Prints the listing of a program's code in a form to the file at a path; answers the exit status.
@@ -31,30 +34,26 @@ pub fn list_code(rt: &HostRuntime, program: &Program<'_>, out: &str, form: ListF
     if sources.are_at(rt, out) {
         return say_usage(rt, TAKEN);
     }
-    match built(rt, program, &sources) {
-        Ok(built) => list_built(rt, program, &sources, &built, out, form),
+    match seen(rt, program, &sources) {
+        Ok(seen) => list_seen(rt, program, &sources, &seen.table, out, form),
         Err(status) => status,
     }
 }
 
-fn list_built(
+fn list_seen(
     rt: &HostRuntime,
     program: &Program<'_>,
     sources: &Sources<'_>,
-    built: &Built,
+    table: &SymbolTable,
     out: &str,
     form: ListForm,
 ) -> u8 {
     let Some(plain) = plain_listing(rt.alloc(), program, sources) else {
         return say_memory(rt);
     };
-    match functions_of(rt.alloc(), built) {
-        Mapped::Known(map) => match listing_text(rt.alloc(), plain.as_slice(), &map, form) {
-            Ok(text) => put_file(rt, out, text.as_slice()),
-            Err(_) => say_memory(rt),
-        },
-        Mapped::Unknown => say_unknown(rt),
-        Mapped::Memory => say_memory(rt),
+    match listing_text(rt.alloc(), plain.as_slice(), table, &sources.set, form) {
+        Ok(text) => put_file(rt, out, text.as_slice()),
+        Err(_) => say_memory(rt),
     }
 }
 

@@ -1,8 +1,10 @@
-//! A listing with labels, and with the names that registers have in calls.
+//! A listing with labels, with the names that registers have in calls, and with lines of the sources.
 
 use crate::listing::ListForm;
+use crate::source_lines::SourceLines;
+use srcset::FileSet;
 use std::alloc::{AllocError, Global};
-use symbol_table::CodeMap;
+use symbol_table::{DataLoad, SymbolTable};
 
 /// How many letters stand before an instruction: its address, its word, and the spaces behind them.
 const HEAD: usize = 19;
@@ -26,29 +28,128 @@ struct Row<'l> {
     code: &'l str,
 }
 
+/// What a listing is made of.
+#[derive(Drop)]
+struct Listing<'l> {
+    table: &'l SymbolTable,
+    form: ListForm,
+    /// The addresses that branches lead to, by rising addresses.
+    targets: Vec<u32>,
+    lines: SourceLines<'l>,
+    /// How many of the loads of addresses in the data stand before the row.
+    loads: usize,
+    text: String,
+}
+
 /// The listing in a form.
 pub fn listing_text(
     alloc: Global,
     listing: &[u8],
-    map: &CodeMap,
+    table: &SymbolTable,
+    set: &FileSet,
     form: ListForm,
 ) -> Result<Vec<u8>, AllocError> {
     let Ok(plain) = str::from_utf8(listing) else {
         return Ok(Vec::new(alloc));
     };
-    let mut text = String::new(alloc);
-    let targets = targets(alloc, plain)?;
-    let mut before = None;
-    for line in plain.lines() {
-        if let Some(row) = row_of(line) {
-            if form.has_labels {
-                put_label(alloc, row.address, map, targets.as_slice(), &mut text)?;
+    let mut listing = Listing {
+        table,
+        form,
+        targets: targets(alloc, plain)?,
+        lines: SourceLines::new(alloc, table, set)?,
+        loads: 0,
+        text: String::new(alloc),
+    };
+    listing.put_lines(alloc, plain)?;
+    Ok(listing.text.into_bytes())
+}
+
+impl Listing<'_> {
+    fn put_lines(&mut self, alloc: Global, plain: &str) -> Result<(), AllocError> {
+        let mut before = None;
+        for line in plain.lines() {
+            if let Some(row) = row_of(line) {
+                self.put_heads(alloc, row.address)?;
+                self.put_row(alloc, row, before)?;
+                before = Some(row);
             }
-            put_row(alloc, row, before, map, form, &mut text)?;
-            before = Some(row);
+        }
+        Ok(())
+    }
+
+    /// Puts what stands before the instruction at an address: a label, and the lines of the sources.
+    fn put_heads(&mut self, alloc: Global, address: u32) -> Result<(), AllocError> {
+        if self.form.has_labels {
+            put_label(alloc, address, self.table, self.targets.as_slice(), &mut self.text)?;
+        }
+        if self.form.has_lines {
+            self.lines.put_at(alloc, address, &mut self.text)?;
+        }
+        Ok(())
+    }
+
+    /// Puts a line, with the label that it leads to; behind a call the function that it calls, and behind the load of an address what
+    /// stands there.
+    fn put_row(
+        &mut self,
+        alloc: Global,
+        row: Row<'_>,
+        before: Option<Row<'_>>,
+    ) -> Result<(), AllocError> {
+        self.text.push_str(row.head)?;
+        self.put_instruction(alloc, row)?;
+        if self.form.has_labels {
+            if let Some(name) = called(row, before, self.table) {
+                put_all(&["  # ", name], &mut self.text)?;
+            }
+            if let Some(load) = self.loaded(row.address) {
+                put_object(alloc, self.table, load.address, &mut self.text)?;
+            }
+        }
+        self.text.push_str("\n")
+    }
+
+    fn put_instruction(&mut self, alloc: Global, row: Row<'_>) -> Result<(), AllocError> {
+        match branch(row) {
+            Some((code, target)) if self.form.has_labels => {
+                put_code(code, self.form, &mut self.text)?;
+                self.text
+                    .push_str(format!(in alloc; ".L{target:X}")?.as_str())
+            }
+            _ => put_code(row.code, self.form, &mut self.text),
         }
     }
-    Ok(text.into_bytes())
+
+    /// The load of an address in the data whose second instruction stands here. Loads are asked for by rising addresses.
+    fn loaded(&mut self, address: u32) -> Option<DataLoad> {
+        let load = self.table.loads.get(self.loads).copied()?;
+        if load.at.wrapping_add(4) != address {
+            return None;
+        }
+        self.loads = self.loads.saturating_add(1);
+        Some(load)
+    }
+}
+
+/// Puts the name of the object in which an address of the data lies, and how far behind its begin it is.
+fn put_object(
+    alloc: Global,
+    table: &SymbolTable,
+    address: u32,
+    text: &mut String,
+) -> Result<(), AllocError> {
+    let Some(object) = table.object_at(address) else {
+        return Ok(());
+    };
+    match &object.name {
+        Some(name) => put_all(&["  # ", name.as_str()], text)?,
+        None => text.push_str("  # string literal")?,
+    }
+    let offset = address.wrapping_sub(object.address);
+    if offset == 0 {
+        return Ok(());
+    }
+    text.push_str(format!(in alloc; "+{offset}")?.as_str())
 }
 
 fn row_of(line: &str) -> Option<Row<'_>> {
@@ -95,7 +196,7 @@ fn branch<'l>(row: Row<'l>) -> Option<(&'l str, u32)> {
 fn put_label(
     alloc: Global,
     address: u32,
-    map: &CodeMap,
+    map: &SymbolTable,
     targets: &[u32],
     text: &mut String,
 ) -> Result<(), AllocError> {
@@ -116,40 +217,15 @@ fn put_all(parts: &[&str], text: &mut String) -> Result<(), AllocError> {
 }
 
 /// The name of the function that begins at an address.
-fn function_at(map: &CodeMap, address: u32) -> Option<&str> {
+fn function_at(map: &SymbolTable, address: u32) -> Option<&str> {
     match map.at(address) {
         Some(function) if function.start == address => Some(function.name.as_str()),
         _ => None,
     }
 }
 
-/// Puts a line, with the label that it leads to, and behind a call the function that it calls.
-fn put_row(
-    alloc: Global,
-    row: Row<'_>,
-    before: Option<Row<'_>>,
-    map: &CodeMap,
-    form: ListForm,
-    text: &mut String,
-) -> Result<(), AllocError> {
-    text.push_str(row.head)?;
-    match branch(row) {
-        Some((code, target)) if form.has_labels => {
-            put_code(code, form, text)?;
-            text.push_str(format!(in alloc; ".L{target:X}")?.as_str())?;
-        }
-        _ => put_code(row.code, form, text)?,
-    }
-    if form.has_labels {
-        if let Some(name) = called(row, before, map) {
-            put_all(&["  # ", name], text)?;
-        }
-    }
-    text.push_str("\n")
-}
-
 /// The function that a pair of AUIPC and JALR with x1 calls.
-fn called<'m>(row: Row<'_>, before: Option<Row<'_>>, map: &'m CodeMap) -> Option<&'m str> {
+fn called<'m>(row: Row<'_>, before: Option<Row<'_>>, map: &'m SymbolTable) -> Option<&'m str> {
     let before = before?;
     if before.word % 0x1000 != 0x097 || row.word % 0x10_0000 != 0x0_80E7 {
         return None;

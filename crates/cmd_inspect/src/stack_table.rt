@@ -1,13 +1,12 @@
 //! `frames`: what each function takes.
 
-use crate::building::{Mapped, built, functions_of, say_unknown};
-use cc::Built;
+use crate::building::{Seen, seen};
 use cli_args::Program;
 use cli_io::{put_out, say, say_memory};
 use cli_sources::read_sources;
 use image_export::{Sizes, sizes_of};
 use std::alloc::{AllocError, Global};
-use symbol_table::{CodeMap, frames_table, sizes_table};
+use symbol_table::{frames_table, sizes_table};
 
 /// Builds a program, and prints what each function takes, with addresses and sizes or without; answers the exit status.
 pub fn show_frames(rt: &HostRuntime, program: &Program<'_>, has_sizes: bool) -> u8 {
@@ -15,35 +14,26 @@ pub fn show_frames(rt: &HostRuntime, program: &Program<'_>, has_sizes: bool) -> 
         Ok(sources) => sources,
         Err(fault) => return say(rt, &fault),
     };
-    match built(rt, program, &sources) {
-        Ok(built) => show_built(rt, &built, has_sizes),
+    match seen(rt, program, &sources) {
+        Ok(seen) => show_seen(rt, &seen, has_sizes),
         Err(status) => status,
     }
 }
 
-fn show_built(rt: &HostRuntime, built: &Built, has_sizes: bool) -> u8 {
-    match functions_of(rt.alloc(), built) {
-        Mapped::Known(map) => match table(rt.alloc(), built, &map, has_sizes) {
-            Ok(text) => put_out(rt, text.as_bytes(), 0),
-            Err(_) => say_memory(rt),
-        },
-        Mapped::Unknown => say_unknown(rt),
-        Mapped::Memory => say_memory(rt),
+fn show_seen(rt: &HostRuntime, seen: &Seen, has_sizes: bool) -> u8 {
+    match table(rt.alloc(), seen, has_sizes) {
+        Ok(text) => put_out(rt, text.as_bytes(), 0),
+        Err(_) => say_memory(rt),
     }
 }
 
 /// The table of the functions, and behind it, where sizes are shown, what the whole file takes.
-fn table(
-    alloc: Global,
-    built: &Built,
-    map: &CodeMap,
-    has_sizes: bool,
-) -> Result<String, AllocError> {
+fn table(alloc: Global, seen: &Seen, has_sizes: bool) -> Result<String, AllocError> {
     if !has_sizes {
-        return frames_table(alloc, map);
+        return frames_table(alloc, &seen.table);
     }
-    let mut text = sizes_table(alloc, map)?;
-    put_sizes(alloc, sizes_of(built.elf.as_slice()), &mut text)?;
+    let mut text = sizes_table(alloc, &seen.table)?;
+    put_sizes(alloc, sizes_of(seen.built.elf.as_slice()), &mut text)?;
     Ok(text)
 }
 

@@ -1,10 +1,10 @@
 //! `run` with a trace, with the machine shown after so many instructions, or with the names of functions.
 
 use crate::interpreting::trace_path;
-use cc::compile_with;
+use cc::{StackSize, compile_with};
 use cli_args::{Program, Role, Trace};
 use cli_io::{OutFile, TAKEN, say, say_memory, say_port, say_unwritten, say_usage, unread};
-use cli_sources::{is_taken, read_sources, stack_size};
+use cli_sources::{Sources, is_taken, read_sources, stack_size};
 use io_ports::{IoPort, Port};
 use loader::{LoadFault, Loaded, load};
 use rv32::State;
@@ -13,7 +13,7 @@ use srcset::Fault;
 use std::alloc::{AllocError, Global};
 use std::io::{BufReader, BufWriter, Stdin, Stdout, Write};
 use std::{fs, io};
-use symbol_table::{CodeMap, symbol_table};
+use symbol_table::{SymbolTable, symbol_table};
 use traced_run::{TraceEnd, hart, machine_text, place_text, run_for, traced_run};
 
 /// How a run is told.
@@ -67,21 +67,30 @@ fn run_loaded(
 }
 
 /// The functions of the file that the sources of the words build, the main one first; `None` where that is not this file.
-fn map_of(rt: &HostRuntime, program: &Program<'_>, file: &[u8]) -> Result<Option<CodeMap>, Fault> {
+fn map_of(rt: &HostRuntime, program: &Program<'_>, file: &[u8]) -> Result<Option<SymbolTable>, Fault> {
     let Some(built_from) = sources_of(rt.alloc(), program) else {
         return Err(Fault::memory(rt.alloc()));
     };
     let sources = read_sources(rt, &built_from)?;
-    let built = match compile_with(rt.alloc(), &sources.set, sources.main, stack_size(program)) {
-        Ok(built) => built,
-        Err(fault) => return Err(sources.told(rt.alloc(), fault)),
-    };
+    match table_of(rt.alloc(), &sources, stack_size(program), file) {
+        Ok(table) => Ok(table),
+        Err(fault) => Err(sources.told(rt.alloc(), fault)),
+    }
+}
+
+fn table_of(
+    alloc: Global,
+    sources: &Sources<'_>,
+    stack: StackSize,
+    file: &[u8],
+) -> Result<Option<SymbolTable>, Fault> {
+    let built = compile_with(alloc, &sources.set, sources.main, stack)?;
     if built.elf.as_slice() != file {
         return Ok(None);
     }
-    match symbol_table(rt.alloc(), &built) {
-        Ok(map) => Ok(map),
-        Err(_) => Err(Fault::memory(rt.alloc())),
+    match symbol_table(alloc, &sources.set, sources.main, stack, &built) {
+        Ok(table) => Ok(Some(table)),
+        Err(fault) => Err(fault),
     }
 }
 
@@ -108,7 +117,7 @@ fn run_over_streams(
     rt: &HostRuntime,
     loaded: Loaded,
     form: RunForm<'_>,
-    map: Option<&CodeMap>,
+    map: Option<&SymbolTable>,
 ) -> u8 {
     let Ok(mut port) = streams(rt) else {
         return say_memory(rt);
@@ -147,7 +156,7 @@ enum End {
 }
 
 /// Shows the machine; answers whether there was memory for that.
-fn show_machine(rt: &HostRuntime, state: &State, map: Option<&CodeMap>) -> bool {
+fn show_machine(rt: &HostRuntime, state: &State, map: Option<&SymbolTable>) -> bool {
     match machine_text(rt.alloc(), state, map) {
         Ok(text) => {
             let _said = rt.stderr().write_all(text.as_bytes());
@@ -163,7 +172,7 @@ fn run_as_asked<P: Port>(
     state: &mut State,
     port: &mut P,
     form: RunForm<'_>,
-    map: Option<&CodeMap>,
+    map: Option<&SymbolTable>,
 ) -> End {
     match form.trace {
         Trace::File(path) => match BufWriter::new(rt.alloc(), OutFile::plain(rt, path)) {
@@ -188,7 +197,7 @@ fn run_to<P: Port, W: Write>(
     state: &mut State,
     port: &mut P,
     max: u64,
-    map: Option<&CodeMap>,
+    map: Option<&SymbolTable>,
     out: &mut W,
 ) -> End {
     match traced_run(alloc, state, port, max, map, out) {
@@ -204,7 +213,7 @@ fn run_to<P: Port, W: Write>(
 }
 
 /// Says how a run stopped, as `run` does, with the function where the map has it; answers the exit status.
-fn tell_end(rt: &HostRuntime, outcome: Outcome, map: Option<&CodeMap>) -> u8 {
+fn tell_end(rt: &HostRuntime, outcome: Outcome, map: Option<&SymbolTable>) -> u8 {
     match outcome {
         Outcome::Ended(status) => status,
         Outcome::Budget => {
@@ -223,7 +232,7 @@ fn tell_end(rt: &HostRuntime, outcome: Outcome, map: Option<&CodeMap>) -> u8 {
 }
 
 /// Says in which function a run trapped; answers the exit status.
-fn say_place(rt: &HostRuntime, map: &CodeMap, pc: u32) -> u8 {
+fn say_place(rt: &HostRuntime, map: &SymbolTable, pc: u32) -> u8 {
     match place_text(rt.alloc(), map, pc) {
         Ok(place) => {
             let _where = eprintln!(rt; "cc: in {place}");

@@ -1,7 +1,6 @@
-//! Lines for debuggers: the three sections of DWARF, version 2, that say in which line each function is defined.
+//! Lines for debuggers: the three sections of DWARF, version 2, that say in which line each statement stands.
 
-use crate::functions::{CodeMap, Function};
-use crate::sources::Definition;
+use crate::functions::{Function, Line, SymbolTable};
 use std::alloc::{AllocError, Global};
 
 /// The shapes of the two entries of `.debug_info` (DWARF 2, 7.5.3): number 1, a unit with children, has a name, the place of its
@@ -35,12 +34,8 @@ pub(crate) struct LineTable {
     pub(crate) lines: Vec<u8>,
 }
 
-/// The line table of functions that are defined so. There is nothing in it where there are not as many definitions as functions.
-pub(crate) fn line_table(
-    alloc: Global,
-    map: &CodeMap,
-    definitions: &[Definition],
-) -> Result<LineTable, AllocError> {
+/// The line table of the functions.
+pub(crate) fn line_table(alloc: Global, map: &SymbolTable) -> Result<LineTable, AllocError> {
     let mut table = LineTable {
         info: Vec::new(alloc),
         lines: Vec::new(alloc),
@@ -48,76 +43,78 @@ pub(crate) fn line_table(
     let (Some(first), Some(last)) = (map.functions.first(), map.functions.last()) else {
         return Ok(table);
     };
-    if map.functions.len() != definitions.len() {
-        return Ok(table);
-    }
-    let mut files = Vec::new(alloc);
     let mut entries = Vec::new(alloc);
     let mut rows = Vec::new(alloc);
-    for (function, definition) in map.functions.iter().zip(definitions.iter()) {
-        let file = file_number(alloc, &mut files, definition.file.as_str())?;
-        put_entry(&mut entries, function, file, definition.line)?;
-        put_rows(&mut rows, function, file, definition.line)?;
+    for function in &map.functions {
+        put_entry(&mut entries, function)?;
+        put_rows(&mut rows, function)?;
     }
     let past = last.start.wrapping_add(last.size);
-    put_info(
-        &mut table.info,
-        files.as_slice(),
-        first.start,
-        past,
-        entries.as_slice(),
-    )?;
-    put_lines(alloc, &mut table.lines, files.as_slice(), rows.as_slice())?;
+    let files = map.files.as_slice();
+    put_info(&mut table.info, files, first.start, past, entries.as_slice())?;
+    put_lines(alloc, &mut table.lines, files, rows.as_slice())?;
     Ok(table)
 }
 
-/// The number of a file among those so far, counted from 1; behind them where it is new.
-fn file_number(alloc: Global, files: &mut Vec<String>, name: &str) -> Result<u32, AllocError> {
-    let found = files.iter().position(|file| file.as_str() == name);
-    let number = match found {
-        Some(number) => number,
-        None => {
-            files.push(String::from_str(alloc, name)?)?;
-            files.len().saturating_sub(1)
-        }
-    };
-    Ok(low_word(number).wrapping_add(1))
+/// The number of a file in the line table, counted from 1.
+fn file_number(line: Line) -> u32 {
+    low_word(line.file).wrapping_add(1)
 }
 
-/// A function's entry.
-fn put_entry(
-    entries: &mut Vec<u8>,
-    function: &Function,
-    file: u32,
-    line: u32,
-) -> Result<(), AllocError> {
+/// A function's entry, at the line of its name.
+fn put_entry(entries: &mut Vec<u8>, function: &Function) -> Result<(), AllocError> {
+    let Some(place) = function.lines.first().copied() else {
+        return Ok(());
+    };
     entries.push(2)?;
     put_text(entries, function.name.as_str())?;
-    put_number(entries, file)?;
-    put_number(entries, line)?;
+    put_number(entries, file_number(place))?;
+    put_number(entries, place.line)?;
     put_word(entries, function.start)?;
     put_word(entries, function.start.wrapping_add(function.size))?;
     entries.push(1)?;
     Ok(())
 }
 
-/// The rows of a function: one at its first instruction, and the end of the sequence behind its last.
-fn put_rows(
-    rows: &mut Vec<u8>,
-    function: &Function,
-    file: u32,
-    line: u32,
-) -> Result<(), AllocError> {
+/// The rows of a function, from its first instruction on, and the end of the sequence behind its last.
+fn put_rows(rows: &mut Vec<u8>, function: &Function) -> Result<(), AllocError> {
     rows.extend_from_slice(&[0, 5, 2])?;
     put_word(rows, function.start)?;
-    rows.push(SET_FILE)?;
-    put_number(rows, file)?;
-    rows.push(ADVANCE_LINE)?;
-    put_signed(rows, line.saturating_sub(1))?;
-    rows.push(COPY)?;
+    let mut before = Line {
+        file: 0,
+        line: 1,
+        address: function.start,
+    };
+    for (number, line) in function.lines.iter().enumerate() {
+        if is_last_at(function.lines.as_slice(), number, *line) {
+            put_row(rows, before, *line)?;
+            before = *line;
+        }
+    }
     rows.push(ADVANCE_ADDRESS)?;
-    put_number(rows, function.size)?;
+    let end = function.start.wrapping_add(function.size);
+    put_number(rows, end.wrapping_sub(before.address))?;
     rows.extend_from_slice(&[0, 1, 1])
+}
+
+/// Whether no line follows at the same address. Of several statements there, those before the last have no code.
+fn is_last_at(lines: &[Line], number: usize, line: Line) -> bool {
+    match lines.get(number.saturating_add(1)) {
+        Some(next) => next.address != line.address,
+        None => true,
+    }
+}
+
+/// One row behind another.
+fn put_row(rows: &mut Vec<u8>, before: Line, line: Line) -> Result<(), AllocError> {
+    rows.push(SET_FILE)?;
+    put_number(rows, file_number(line))?;
+    rows.push(ADVANCE_ADDRESS)?;
+    put_number(rows, line.address.wrapping_sub(before.address))?;
+    rows.push(ADVANCE_LINE)?;
+    put_signed(rows, line.line.wrapping_sub(before.line))?;
+    rows.push(COPY)?;
+    Ok(())
 }
 
 /// `.debug_info`: one unit, named by the first file, with these entries.
@@ -188,24 +185,30 @@ fn put_word(bytes: &mut Vec<u8>, word: u32) -> Result<(), AllocError> {
 
 /// A number in groups of seven bits, the lowest first, of which all but the last have their high bit set (7.6, LEB128).
 fn put_number(bytes: &mut Vec<u8>, number: u32) -> Result<(), AllocError> {
-    put_groups(bytes, number, 0x80)
-}
-
-/// The same where the second highest bit of the last group is a sign.
-fn put_signed(bytes: &mut Vec<u8>, number: u32) -> Result<(), AllocError> {
-    put_groups(bytes, number, 0x40)
-}
-
-/// Groups up to the first number that is below this bound.
-fn put_groups(bytes: &mut Vec<u8>, number: u32, bound: u32) -> Result<(), AllocError> {
     let mut left = number;
     for _ in 0..4 {
-        if left < bound {
+        if left < 0x80 {
             break;
         }
         bytes.push((left % 0x80) as u8 | 0x80)?;
         left /= 0x80;
     }
     bytes.push((left % 0x80) as u8)?;
+    Ok(())
+}
+
+/// A number with a sign in such groups: the second highest bit of the last is the sign.
+fn put_signed(bytes: &mut Vec<u8>, number: u32) -> Result<(), AllocError> {
+    let sign = if number < 0x8000_0000 { 0 } else { 0xFE00_0000 };
+    let mut left = number;
+    for _ in 0..5 {
+        let low = (left % 0x80) as u8;
+        left = (left / 0x80).wrapping_add(sign);
+        let is_end = (left == 0 && low < 0x40) || (left == 0xFFFF_FFFF && low >= 0x40);
+        bytes.push(if is_end { low } else { low | 0x80 })?;
+        if is_end {
+            break;
+        }
+    }
     Ok(())
 }

@@ -1,22 +1,20 @@
-//! The functions of a built file.
+//! The functions and the objects of a built file, as the compiler tells them.
 
-use cc::Built;
+use crate::files::Files;
+use cc::{Built, CodeMap, DataObject, FunctionCode, Reference, StackSize, map_of};
+use memory_map::{TEXT_OFFSET, TEXT_START};
+use srcset::{Fault, FileSet, Names};
 use std::alloc::{AllocError, Global};
 
-/// The address of the text, where the program begins.
-const TEXT_START: u32 = 0x1_1000;
-
-/// Where the text begins in the file.
-const TEXT_OFFSET: usize = 0x1000;
-
-/// Where the file tells the size of its text: in its first program header.
-const TEXT_SIZE_AT: usize = 68;
-
-/// ECALL, with which the code before the first function ends.
-const ECALL: u32 = 0x0000_0073;
-
-/// JALR with x0 and x1: the last instruction of a function.
-const RETURN: u32 = 0x0000_8067;
+/// The line of a source in which a statement stands, and the address at which its code begins.
+#[derive(Clone, Copy, Debug, PartialEq, Eq)]
+pub struct Line {
+    /// The number of the file in `SymbolTable::files`.
+    pub file: usize,
+    /// Counted from 1.
+    pub line: u32,
+    pub address: u32,
+}
 
 /// A function of a built file.
 #[derive(Drop)]
@@ -32,130 +30,178 @@ pub struct Function {
     pub size: u32,
     /// The numbers of the functions that it calls, each once.
     pub calls: Vec<usize>,
+    /// The line of its name, and then those of its statements, in the order of their code.
+    pub lines: Vec<Line>,
 }
 
-/// The functions of a built file, in the order of their definitions.
+/// An object with static storage, or a string literal.
 #[derive(Drop)]
-pub struct CodeMap {
+pub struct Object {
+    /// None of a string literal.
+    pub name: Option<String>,
+    pub address: u32,
+    /// In bytes.
+    pub size: u32,
+}
+
+/// An instruction that loads the address of a byte in the data, and that address.
+#[derive(Clone, Copy, Debug, PartialEq, Eq)]
+pub struct DataLoad {
+    pub at: u32,
+    pub address: u32,
+}
+
+/// What is told of a built file.
+#[derive(Drop)]
+pub struct SymbolTable {
+    /// In the order of their definitions, which is that of their addresses.
     pub functions: Vec<Function>,
-    /// The words of the text.
-    pub words: Vec<u32>,
+    /// In the order of their addresses.
+    pub objects: Vec<Object>,
+    /// In the order of the instructions.
+    pub loads: Vec<DataLoad>,
+    /// The names of the files in which statements stand, as `#line` and includes name them.
+    pub files: Vec<String>,
+    /// The bytes of the code.
+    pub text: Vec<u8>,
 }
 
-/// A stretch of code: the numbers of its first word and of the word behind it.
-#[derive(Clone, Copy)]
-struct Stretch {
-    first: usize,
-    past: usize,
-}
-
-/// The functions of a file that was built: each ends with the only return of its code. `None` where the code has not as many
-/// stretches as functions were told.
-pub fn symbol_table(alloc: Global, built: &Built) -> Result<Option<CodeMap>, AllocError> {
-    let words = text_words(alloc, built.elf.as_slice())?;
-    let stretches = stretches(alloc, words.as_slice())?;
-    if stretches.len() != built.frames.len() {
-        return Ok(None);
+/// What the compiler tells of the file that it makes of the program in the file `main` of the set.
+///
+/// Refuses as `compile_with` does.
+pub fn symbol_table(
+    alloc: Global,
+    set: &FileSet,
+    main: &str,
+    stack: StackSize,
+    built: &Built,
+) -> Result<SymbolTable, Fault> {
+    let mut names = Names::new(alloc);
+    match map_of(alloc, set, main, &mut names, stack) {
+        Ok(map) => match table_of(alloc, &names, &map, built) {
+            Ok(table) => Ok(table),
+            Err(_) => Err(Fault::memory(alloc)),
+        },
+        Err(fault) => Err(fault),
     }
-    let mut functions = Vec::new(alloc);
-    let mut marks = vec![in alloc; 0; stretches.len()]?;
-    for (number, (entry, stretch)) in built.frames.iter().zip(stretches.iter()).enumerate() {
-        let (name, frame, weight) = entry;
-        let code = words.get(stretch.first..stretch.past).unwrap_or_default();
+}
+
+fn table_of(
+    alloc: Global,
+    names: &Names,
+    map: &CodeMap,
+    built: &Built,
+) -> Result<SymbolTable, AllocError> {
+    let mut files = Files::new(alloc, names)?;
+    let mut functions = functions(alloc, names, map, built, &mut files)?;
+    put_calls(alloc, &mut functions, map.references.as_slice())?;
+    Ok(SymbolTable {
+        functions,
+        objects: objects(alloc, names, map.objects.as_slice())?,
+        loads: loads(alloc, map.references.as_slice())?,
+        files: files.list,
+        text: text_of(alloc, map.functions.as_slice(), built.elf.as_slice())?,
+    })
+}
+
+fn functions(
+    alloc: Global,
+    names: &Names,
+    map: &CodeMap,
+    built: &Built,
+    files: &mut Files<'_>,
+) -> Result<Vec<Function>, AllocError> {
+    let mut functions = Vec::with_capacity(alloc, map.functions.len())?;
+    for (code, (_, frame, weight)) in map.functions.iter().zip(built.frames.iter()) {
         functions.push(Function {
-            name: String::from_str(alloc, name.as_str())?,
+            name: String::from_str(alloc, names.shown_text(code.name))?,
             frame: *frame,
             weight: *weight,
-            start: address_of(stretch.first),
-            size: address_of(stretch.past).wrapping_sub(address_of(stretch.first)),
-            calls: calls(
-                alloc,
-                code,
-                *stretch,
-                stretches.as_slice(),
-                &mut marks,
-                number.saturating_add(1),
-            )?,
+            start: code.start,
+            size: code.end.wrapping_sub(code.start),
+            calls: Vec::new(alloc),
+            lines: lines(alloc, code, files)?,
         })?;
     }
-    Ok(Some(CodeMap { functions, words }))
+    Ok(functions)
 }
 
-impl CodeMap {
-    /// The function in whose code an address lies.
-    pub fn at(&self, address: u32) -> Option<&Function> {
-        self.functions.iter().find(|function| address.wrapping_sub(function.start) < function.size)
+/// The lines of a function. The first statement is its body, which has the place of its name.
+fn lines(
+    alloc: Global,
+    code: &FunctionCode,
+    files: &mut Files<'_>,
+) -> Result<Vec<Line>, AllocError> {
+    let mut lines = Vec::with_capacity(alloc, code.rows.len())?;
+    if let Some(first) = code.rows.first() {
+        lines.push(Line {
+            file: files.number(alloc, first.place.file)?,
+            line: first.place.line,
+            address: code.start,
+        })?;
     }
-
-    /// The number of the function of this name.
-    pub fn number(&self, name: &str) -> Option<usize> {
-        self.functions
-            .iter()
-            .position(|function| function.name.as_str() == name)
+    for row in &code.rows {
+        lines.push(Line {
+            file: files.number(alloc, row.place.file)?,
+            line: row.place.line,
+            address: row.address,
+        })?;
     }
+    Ok(lines)
 }
 
-/// The address of the word with this number.
-fn address_of(number: usize) -> u32 {
-    let offset = (number % 0x4000_0000) as u32;
-    TEXT_START.wrapping_add(offset.wrapping_mul(4))
-}
-
-/// The number in the four bytes from `at` on, the lowest first; 0 where they are not there.
-fn word(file: &[u8], at: usize) -> u32 {
-    match file.get(at..at.saturating_add(4)) {
-        Some([a, b, c, d]) => u32::from_le_bytes([*a, *b, *c, *d]),
-        _ => 0,
-    }
-}
-
-/// The words of the text of a file.
-fn text_words(alloc: Global, file: &[u8]) -> Result<Vec<u32>, AllocError> {
-    let mut words = Vec::new(alloc);
-    for number in 0..word(file, TEXT_SIZE_AT) as usize / 4 {
-        words.push(word(file, TEXT_OFFSET.saturating_add(number.saturating_mul(4))))?;
-    }
-    Ok(words)
-}
-
-/// The stretches of code behind the first ECALL, each through a return.
-fn stretches(alloc: Global, words: &[u32]) -> Result<Vec<Stretch>, AllocError> {
-    let mut found = Vec::new(alloc);
-    let mut first = match words.iter().position(|word| *word == ECALL) {
-        Some(number) => number.saturating_add(1),
-        None => words.len(),
-    };
-    for (number, word) in words.iter().enumerate() {
-        if *word == RETURN && number >= first {
-            let past = number.saturating_add(1);
-            found.push(Stretch { first, past })?;
-            first = past;
+/// The number of the function in whose code an address lies. They rise.
+fn index_at(functions: &[Function], address: u32) -> Option<usize> {
+    let mut low = 0;
+    let mut high = functions.len();
+    for _ in 0..64 {
+        if low >= high {
+            break;
+        }
+        let middle = low + (high - low) / 2;
+        let Some(function) = functions.get(middle) else {
+            break;
+        };
+        if address < function.start {
+            high = middle;
+        } else if address.wrapping_sub(function.start) < function.size {
+            return Some(middle);
+        } else {
+            low = middle.saturating_add(1);
         }
     }
-    Ok(found)
+    None
 }
 
-/// The functions that a stretch of code calls. A function is put where its mark is another than this one.
-fn calls(
+/// Notes the callees of each function. A function is a new callee where its mark is another than the caller's number and one.
+fn put_calls(
     alloc: Global,
-    code: &[u32],
-    at: Stretch,
-    stretches: &[Stretch],
-    marks: &mut [usize],
-    mark: usize,
-) -> Result<Vec<usize>, AllocError> {
-    let mut found = Vec::new(alloc);
-    for (number, pair) in code.windows(2).enumerate() {
-        if let Some(offset) = call_offset(pair) {
-            let target = address_of(at.first.saturating_add(number)).wrapping_add(offset);
-            if let Some(callee) = begins_at(stretches, target) {
-                if is_new(marks, callee, mark) {
-                    found.push(callee)?;
-                }
+    functions: &mut [Function],
+    references: &[Reference],
+) -> Result<(), AllocError> {
+    let mut marks = vec![in alloc; 0; functions.len()]?;
+    for reference in references {
+        if let Reference::Call(at, callee) = *reference {
+            if let Some(caller) = index_at(functions, at) {
+                put_call(functions, &mut marks, caller, callee)?;
             }
         }
     }
-    Ok(found)
+    Ok(())
+}
+
+fn put_call(
+    functions: &mut [Function],
+    marks: &mut [usize],
+    caller: usize,
+    callee: usize,
+) -> Result<(), AllocError> {
+    if is_new(marks, callee, caller.saturating_add(1)) {
+        if let Some(function) = functions.get_mut(caller) {
+            function.calls.push(callee)?;
+        }
+    }
+    Ok(())
 }
 
 /// Marks a function; answers whether it had another mark.
@@ -170,48 +216,72 @@ fn is_new(marks: &mut [usize], number: usize, mark: usize) -> bool {
     }
 }
 
-/// How far a call leads from its first word, where the words are AUIPC and JALR with x1.
-fn call_offset(pair: &[u32]) -> Option<u32> {
-    match pair {
-        [first, second] if *first % 0x1000 == 0x097 && *second % 0x10_0000 == 0x0_80E7 => {
-            let upper = *first - *first % 0x1000;
-            Some(upper.wrapping_add(lower_offset(*second)))
+/// The objects that take bytes.
+fn objects(alloc: Global, names: &Names, all: &[DataObject]) -> Result<Vec<Object>, AllocError> {
+    let mut objects = Vec::with_capacity(alloc, all.len())?;
+    for object in all {
+        if object.size != 0 {
+            objects.push(Object {
+                name: object_name(alloc, names, object.name)?,
+                address: object.address,
+                size: object.size,
+            })?;
         }
-        _ => None,
+    }
+    Ok(objects)
+}
+
+fn object_name(
+    alloc: Global,
+    names: &Names,
+    number: Option<usize>,
+) -> Result<Option<String>, AllocError> {
+    match number {
+        Some(number) => {
+            let name = String::from_str(alloc, names.shown_text(number))?;
+            Ok(Some(name))
+        }
+        None => Ok(None),
     }
 }
 
-/// The sign-extended I-immediate of a word.
-fn lower_offset(word: u32) -> u32 {
-    let bits = word / 0x10_0000;
-    if bits >= 0x800 {
-        bits.wrapping_sub(0x1000)
-    } else {
-        bits
+fn loads(alloc: Global, references: &[Reference]) -> Result<Vec<DataLoad>, AllocError> {
+    let mut loads = Vec::new(alloc);
+    for reference in references {
+        if let Reference::Data(at, address) = *reference {
+            loads.push(DataLoad { at, address })?;
+        }
     }
+    Ok(loads)
 }
 
-/// The number of the stretch that begins at an address; they rise.
-fn begins_at(stretches: &[Stretch], address: u32) -> Option<usize> {
-    let mut low = 0;
-    let mut high = stretches.len();
-    for _ in 0..64 {
-        if low >= high {
-            break;
-        }
-        let middle = low + (high - low) / 2;
-        let Some(stretch) = stretches.get(middle) else {
-            break;
-        };
-        let begin = address_of(stretch.first);
-        if begin == address {
-            return Some(middle);
-        }
-        if begin < address {
-            low = middle.saturating_add(1);
-        } else {
-            high = middle;
-        }
+/// The bytes of the code of a file, up to the end of the last function.
+fn text_of(alloc: Global, functions: &[FunctionCode], file: &[u8]) -> Result<Vec<u8>, AllocError> {
+    let bytes = match functions.last() {
+        Some(function) => function.end.wrapping_sub(TEXT_START) as usize,
+        None => 0,
+    };
+    let start = TEXT_OFFSET as usize;
+    Vec::from_slice(alloc, file.get(start..start.saturating_add(bytes)).unwrap_or_default())
+}
+
+impl SymbolTable {
+    /// The function in whose code an address lies.
+    pub fn at(&self, address: u32) -> Option<&Function> {
+        self.functions.get(index_at(self.functions.as_slice(), address)?)
     }
-    None
+
+    /// The number of the function of this name.
+    pub fn number(&self, name: &str) -> Option<usize> {
+        self.functions
+            .iter()
+            .position(|function| function.name.as_str() == name)
+    }
+
+    /// The object in whose bytes an address lies.
+    pub fn object_at(&self, address: u32) -> Option<&Object> {
+        self.objects
+            .iter()
+            .find(|object| address.wrapping_sub(object.address) < object.size)
+    }
 }

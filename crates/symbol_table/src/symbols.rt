@@ -1,8 +1,7 @@
 //! An ELF file of symbols beside an executable file, for debuggers and disassemblers.
 
 use crate::debug_lines::{ABBREVIATIONS, line_table};
-use crate::functions::CodeMap;
-use crate::sources::Definition;
+use crate::functions::{Object, SymbolTable};
 use std::alloc::{AllocError, Global};
 
 /// The sizes of the ELF header, of a section header and of a symbol (System V gABI, chapter 4).
@@ -14,7 +13,12 @@ const SYMBOL_SIZE: u32 = 16;
 
 /// The names of the sections, each behind a zero byte.
 const SECTION_NAMES: &[u8] =
-    b"\0.text\0.symtab\0.strtab\0.debug_abbrev\0.debug_info\0.debug_line\0.shstrtab\0";
+    b"\0.text\0.symtab\0.strtab\0.debug_abbrev\0.debug_info\0.debug_line\0.shstrtab\0.data\0";
+
+/// The numbers of the section of the code and of that of the data.
+const TEXT_SECTION: u16 = 1;
+
+const DATA_SECTION: u16 = 8;
 
 /// The address of the text.
 const TEXT_START: u32 = 0x1_1000;
@@ -44,24 +48,16 @@ struct Symbol {
     section: u16,
 }
 
-/// An ELF32 file with the text of a program and a symbol for each of its functions, and for `_start`, where it begins: for
-/// `objdump -d`, and for a debugger beside the executable file, whose addresses it has. Where the definitions of all functions are
-/// given, each function has the line of its definition.
-pub fn symbol_file(
-    alloc: Global,
-    map: &CodeMap,
-    definitions: &[Definition],
-) -> Result<Vec<u8>, AllocError> {
+/// An ELF32 file with the code of a program, and a symbol for each of its functions and of its objects with static storage, and for
+/// `_start`, where it begins: for `objdump -d`, and for a debugger beside the executable file, whose addresses it has. Its line table
+/// has the line of each statement. Its section of data has no bytes.
+pub fn symbol_file(alloc: Global, map: &SymbolTable) -> Result<Vec<u8>, AllocError> {
     let mut names = Vec::new(alloc);
     let mut symbols = Vec::new(alloc);
     put_symbols(map, &mut names, &mut symbols)?;
-    let lines = line_table(alloc, map, definitions)?;
-    let mut text = Vec::new(alloc);
-    for word in &map.words {
-        put_word(&mut text, *word)?;
-    }
+    let lines = line_table(alloc, map)?;
     let contents = [
-        text.as_slice(),
+        map.text.as_slice(),
         symbols.as_slice(),
         names.as_slice(),
         ABBREVIATIONS,
@@ -75,6 +71,7 @@ pub fn symbol_file(
         file.extend_from_slice(content)?;
     }
     put_sections(&mut file, &contents)?;
+    put_section(&mut file, &data_section(map.objects.as_slice()))?;
     Ok(file)
 }
 
@@ -92,9 +89,9 @@ fn size(count: usize) -> u32 {
     (count % 0x1_0000_0000) as u32
 }
 
-/// Puts the symbols and their names: the empty one, `_start`, and the functions.
+/// Puts the symbols and their names: the empty one, `_start`, the functions, and the objects that have names.
 fn put_symbols(
-    map: &CodeMap,
+    map: &SymbolTable,
     names: &mut Vec<u8>,
     symbols: &mut Vec<u8>,
 ) -> Result<(), AllocError> {
@@ -113,41 +110,54 @@ fn put_symbols(
             section: 0,
         },
     )?;
-    put_function(
-        names,
-        symbols,
-        "_start",
-        TEXT_START,
-        first.wrapping_sub(TEXT_START),
-    )?;
+    let start = first.wrapping_sub(TEXT_START);
+    put_named(names, symbols, "_start", &function_symbol(TEXT_START, start))?;
     for function in &map.functions {
-        put_function(
-            names,
-            symbols,
-            function.name.as_str(),
-            function.start,
-            function.size,
-        )?;
+        let symbol = function_symbol(function.start, function.size);
+        put_named(names, symbols, function.name.as_str(), &symbol)?;
+    }
+    for object in &map.objects {
+        if let Some(name) = &object.name {
+            put_named(names, symbols, name.as_str(), &object_symbol(object))?;
+        }
     }
     Ok(())
 }
 
-/// Puts a symbol of the type `STT_FUNC` with the binding `STB_GLOBAL`, and its name.
-fn put_function(
+/// A symbol of the type `STT_FUNC` with the binding `STB_GLOBAL`.
+fn function_symbol(value: u32, size: u32) -> Symbol {
+    Symbol {
+        name: 0,
+        value,
+        size,
+        kind: 0x12,
+        section: TEXT_SECTION,
+    }
+}
+
+/// A symbol of the type `STT_OBJECT` with the binding `STB_GLOBAL`.
+fn object_symbol(object: &Object) -> Symbol {
+    Symbol {
+        name: 0,
+        value: object.address,
+        size: object.size,
+        kind: 0x11,
+        section: DATA_SECTION,
+    }
+}
+
+/// Puts a symbol and its name.
+fn put_named(
     names: &mut Vec<u8>,
     symbols: &mut Vec<u8>,
     name: &str,
-    value: u32,
-    bytes: u32,
+    symbol: &Symbol,
 ) -> Result<(), AllocError> {
     put_symbol(
         symbols,
         &Symbol {
             name: size(names.len()),
-            value,
-            size: bytes,
-            kind: 0x12,
-            section: 1,
+            ..*symbol
         },
     )?;
     names.extend_from_slice(name.as_bytes())?;
@@ -164,7 +174,7 @@ fn put_symbol(symbols: &mut Vec<u8>, symbol: &Symbol) -> Result<(), AllocError> 
     put_half(symbols, symbol.section)
 }
 
-/// Puts the ELF header of an executable file for RISC-V without program headers, with eight sections.
+/// Puts the ELF header of an executable file for RISC-V without program headers, with nine sections.
 fn put_header(file: &mut Vec<u8>, table_at: u32) -> Result<(), AllocError> {
     file.extend_from_slice(&[0x7F, 0x45, 0x4C, 0x46, 1, 1, 1, 0, 0, 0, 0, 0, 0, 0, 0, 0])?;
     put_half(file, 2)?;
@@ -172,7 +182,7 @@ fn put_header(file: &mut Vec<u8>, table_at: u32) -> Result<(), AllocError> {
     for word in [1, TEXT_START, 0, table_at, 0] {
         put_word(file, word)?;
     }
-    for half in [HEADER_SIZE as u16, 0, 0, SECTION_SIZE as u16, 8, 7] {
+    for half in [HEADER_SIZE as u16, 0, 0, SECTION_SIZE as u16, 9, 7] {
         put_half(file, half)?;
     }
     Ok(())
@@ -213,6 +223,24 @@ fn content_section(number: usize, offset: u32, bytes: u32) -> Section {
         4 => plain_section(37, 1, offset, bytes),
         5 => plain_section(49, 1, offset, bytes),
         _ => plain_section(61, 3, offset, bytes),
+    }
+}
+
+/// The header of the section of the data (`SHT_NOBITS`, `SHF_WRITE` and `SHF_ALLOC`), from the first object to the end of the last.
+fn data_section(objects: &[Object]) -> Section {
+    let first = match objects.first() {
+        Some(object) => object.address,
+        None => 0,
+    };
+    let end = match objects.last() {
+        Some(object) => object.address.wrapping_add(object.size),
+        None => 0,
+    };
+    Section {
+        flags: 3,
+        address: first,
+        alignment: 4,
+        ..plain_section(71, 8, 0, end.wrapping_sub(first))
     }
 }
 

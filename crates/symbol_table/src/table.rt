@@ -1,7 +1,7 @@
 //! What each function takes, as a table.
 
 use crate::depth::{Chain, Cost, deepest};
-use crate::functions::{CodeMap, Function};
+use crate::functions::{SymbolTable, Function};
 use std::alloc::{AllocError, Global};
 
 /// The fewest letters of the column of names.
@@ -9,16 +9,16 @@ const NAME_WIDTH: usize = 8;
 
 /// A line for each function: its name, the bytes of its frame, its weight, the bytes of its code, and what it calls; behind them
 /// the greatest sums along the calls from `main` on, or a circle of calls, for which there is none.
-pub fn frames_table(alloc: Global, map: &CodeMap) -> Result<String, AllocError> {
+pub fn frames_table(alloc: Global, map: &SymbolTable) -> Result<String, AllocError> {
     table(alloc, map, false)
 }
 
 /// The same, with the address of each function behind its name.
-pub fn sizes_table(alloc: Global, map: &CodeMap) -> Result<String, AllocError> {
+pub fn sizes_table(alloc: Global, map: &SymbolTable) -> Result<String, AllocError> {
     table(alloc, map, true)
 }
 
-fn table(alloc: Global, map: &CodeMap, has_addresses: bool) -> Result<String, AllocError> {
+fn table(alloc: Global, map: &SymbolTable, has_addresses: bool) -> Result<String, AllocError> {
     let width = name_width(map.functions.as_slice());
     let mut out = String::new(alloc);
     put_padded("function", width, &mut out)?;
@@ -73,7 +73,7 @@ fn put_padded(text: &str, width: usize, out: &mut String) -> Result<(), AllocErr
 /// Puts what a function takes, and what it calls.
 fn put_function(
     alloc: Global,
-    map: &CodeMap,
+    map: &SymbolTable,
     function: &Function,
     out: &mut String,
 ) -> Result<(), AllocError> {
@@ -88,7 +88,7 @@ fn put_function(
 }
 
 /// The name of the function of this number.
-fn name_of(map: &CodeMap, number: usize) -> &str {
+fn name_of(map: &SymbolTable, number: usize) -> &str {
     match map.functions.get(number) {
         Some(function) => function.name.as_str(),
         None => "",
@@ -97,7 +97,7 @@ fn name_of(map: &CodeMap, number: usize) -> &str {
 
 fn put_chain(
     alloc: Global,
-    map: &CodeMap,
+    map: &SymbolTable,
     what: &str,
     chain: &Chain,
     out: &mut String,
@@ -115,7 +115,7 @@ fn put_chain(
 }
 
 /// Puts names with ` > ` between them.
-fn put_names(map: &CodeMap, numbers: &[usize], out: &mut String) -> Result<(), AllocError> {
+fn put_names(map: &SymbolTable, numbers: &[usize], out: &mut String) -> Result<(), AllocError> {
     for (place, number) in numbers.iter().enumerate() {
         out.push_str(if place == 0 { " " } else { " > " })?;
         out.push_str(name_of(map, *number))?;

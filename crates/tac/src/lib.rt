@@ -2,6 +2,7 @@
 #![tactic(auto)]
 
 mod block_sizes;
+mod code_starts;
 mod copies;
 mod counts;
 mod elements;
@@ -14,6 +15,7 @@ mod programs;
 mod statements;
 mod switches;
 
+pub use code_starts::{CodeStart, code_starts};
 pub use functions::lower_function;
 pub use laws::{function_is_code, functions_are_code};
 pub use programs::lower;

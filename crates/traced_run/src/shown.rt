@@ -2,13 +2,13 @@
 
 use rv32::state::State;
 use std::alloc::{AllocError, Global};
-use symbol_table::CodeMap;
+use symbol_table::SymbolTable;
 
 /// The pc, with its function where the map has it, and the registers, four a line.
 pub fn machine_text(
     alloc: Global,
     state: &State,
-    map: Option<&CodeMap>,
+    map: Option<&SymbolTable>,
 ) -> Result<String, AllocError> {
     let pc = state.pc;
     let mut out = format!(in alloc; "pc {pc:08X}")?;
@@ -26,7 +26,7 @@ pub fn machine_text(
 }
 
 /// The function in which an address lies, and how many bytes behind its start: `fact+24`; `?` where it lies in none.
-pub fn place_text(alloc: Global, map: &CodeMap, address: u32) -> Result<String, AllocError> {
+pub fn place_text(alloc: Global, map: &SymbolTable, address: u32) -> Result<String, AllocError> {
     match map.at(address) {
         Some(function) => {
             let name = function.name.as_str();

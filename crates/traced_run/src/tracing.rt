@@ -10,7 +10,7 @@ use sim::Outcome;
 use srcset::write_text;
 use std::alloc::{AllocError, Global};
 use std::io::Write;
-use symbol_table::CodeMap;
+use symbol_table::SymbolTable;
 
 /// The column in which what an instruction did begins.
 const WIDTH: usize = 44;
@@ -30,7 +30,7 @@ pub fn traced_run<P: Port, W: Write>(
     state: &mut State,
     port: &mut P,
     max: u64,
-    map: Option<&CodeMap>,
+    map: Option<&SymbolTable>,
     out: &mut W,
 ) -> Result<TraceEnd, AllocError> {
     let mut start = 0;
@@ -59,7 +59,7 @@ pub fn traced_run<P: Port, W: Write>(
 /// Puts where the run is, where its function is another than that which starts at `start`; answers where its function starts.
 fn put_function(
     alloc: Global,
-    map: &CodeMap,
+    map: &SymbolTable,
     pc: u32,
     start: u32,
     line: &mut Vec<u8>,
