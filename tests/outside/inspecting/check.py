@@ -122,7 +122,7 @@ def labels():
         targets = {a + distance(w) for a, w, _ in rows if distance(w) is not None}
         status, out, err = cc(work, 'list', 'a.c', '--labels')
         check('labels', status == 0 and err == '' and len(targets) > 3, out[-300:])
-        at, said, names, calls = None, [], [], []
+        said, names, calls, objects = [], [], [], []
         for line in out.decode().splitlines():
             if line.endswith(':'):
                 names.append(line[:-1])
@@ -137,15 +137,144 @@ def labels():
             if distance(word) is not None:
                 check('labels: ' + plain, text == plain[:plain.rfind(',') + 1] + '.L%X' % (address + distance(word)), text)
             elif '  # ' in text:
-                calls.append(text.split('  # ')[1])
-                check('labels: a call', text.startswith(plain + '  # ') and plain.startswith('jalr x1,'), text)
+                (calls if plain.startswith('jalr x1,') else objects).append(text.split('  # ')[1])
+                check('labels: a call or an object', text.startswith(plain + '  # ') and plain.startswith(('jalr x1,', 'addi ')), text)
             else:
                 check('labels: ' + plain, text == plain, text)
         check('labels: calls', calls == ['main', 'deep', 'deep', 'middle'], calls)
+        check('labels: objects', [name.split('+')[0] for name in objects] == ['table'], objects)
         wanted = [(a, w, re.sub(r'\bx(\d+)\b', lambda r: ABI[int(r[1])], text)) for a, w, text in rows]
         status, out, err = cc(work, 'list', 'a.c', '--abi')
         check('abi', (status, err) == (0, '') and [(int(r[:8], 16), int(r[9:17], 16), r[19:]) for r in out.decode().splitlines()] == wanted, out[:200])
         check('abi and labels', b'main:\n' in cc(work, 'list', 'a.c', '--abi', '--labels')[1])
+
+STATICS = '''int first = 5;
+static char text[10] = "ab";
+int grid[3][4];
+extern int late;
+int next(void) { static unsigned short calls = 7; calls++; return calls; }
+int main(void) { char own[3] = "xy"; grid[1][2] = first + text[1]; late = grid[2][3]; first = next() + own[0]; return late; }
+int late = 9;
+'''
+
+def loaded(rows, number):
+    """The address that a pair of LUI and ADDI loads, of which this row is the second."""
+    high, low = rows[number - 1][1], rows[number][1]
+    check('a pair', high & 127 == 0x37 and low & 0x707F == 0x13 and high >> 7 & 31 == low >> 7 & 31 == low >> 15 & 31, rows[number])
+    low >>= 20
+    return (high & 0xFFFFF000) + (low - 4096 if low >= 2048 else low) & 0xFFFFFFFF
+
+def objects():
+    """Objects with static storage, in a listing with labels and among the symbols."""
+    with tempfile.TemporaryDirectory() as work:
+        put(work, 's.c', STATICS)
+        check('objects: symbols', cc(work, 'symbols', 's.c', '-o', 's.sym.elf')[0] == 0)
+        found = read_symbols(open(os.path.join(work, 's.sym.elf'), 'rb').read(), 1)
+        # sizes by the types; each begins at a word, in the order of the declarations, and is apart from the next
+        sizes = {'first': 4, 'text': 10, 'grid': 48, 'late': 4, 'calls': 2}
+        check('objects: sizes', {name: size for name, (_, size) in found.items()} == sizes, found)
+        starts = [found[name][0] for name in sizes]
+        check('objects: places', all(at % 4 == 0 for at in starts) and all(at + sizes[name] <= after for name, at, after in zip(sizes, starts, starts[1:])), found)
+        rows = listing(work, 's.c')
+        said = [line for line in cc(work, 'list', 's.c', '--labels')[1].decode().splitlines() if line and not line.endswith(':')]
+        seen = set()
+        for number, line in enumerate(said):
+            row = re.search(r'addi .*  # (.*)$', line)
+            if row:
+                named = re.fullmatch(r'(\w+)(?:\+(\d+))?', row[1])
+                at = loaded(rows, number)
+                check('objects: ' + line, named and at == found[named[1]][0] + int(named[2] or 0) and int(named[2] or 0) < sizes[named[1]], found)
+                seen.add(named and named[1])
+        check('objects: named', seen == set(sizes), seen)
+        file = open(os.path.join(work, 's.sym.elf'), 'rb').read()
+        cc(work, 'build', 's.c', '-o', 's')
+        image = open(os.path.join(work, 's'), 'rb').read()
+        loads = [struct.unpack_from('<8I', image, 52 + 32 * k) for k in range(struct.unpack_from('<H', image, 44)[0])]
+        data = next(h for h in loads if h[4] and not h[6] & 1)
+        at = lambda name: image[data[1] + found[name][0] - data[2]:][:4]
+        check('objects: first values', (at('first'), at('text')[:3], at('late'), at('calls')[:2]) == (b'\5\0\0\0', b'ab\0', b'\x09\0\0\0', b'\7\0'), found)
+        check('objects: no text is a file of symbols', file[:4] == b'\x7fELF')
+
+STEPS = '''int total;
+int add(int n)
+{
+    total = total + n;
+    return total;
+}
+
+int main(void)
+{
+    int i;
+    for (i = 0; i < 2; i = i + 1)
+        add(i);
+    while (total < 3)
+        total++;
+    do
+        total = total - 1;
+    while (total > 1);
+    switch (total) {
+    case 1:
+        total = 7;
+        break;
+    default:
+        total = 8;
+    }
+    if (total == 7)
+        return total;
+    return 0;
+}
+'''
+# the lines at which a statement with code begins, and those that a debugger comes to from the begin of main on, by C
+STEP_LINES = {2, 4, 5, 8, 11, 12, 13, 14, 16, 17, 18, 20, 21, 23, 25, 26, 27}
+STEP_ORDER = [11, 12, 4, 5, 11, 12, 4, 5, 11, 13, 14, 13, 14, 13, 16, 17, 16, 17, 18, 20, 21, 25, 26]
+
+def lines():
+    """Lines of statements, in a listing with the sources' lines and in the table for debuggers."""
+    with tempfile.TemporaryDirectory() as work:
+        put(work, 's.c', STEPS)
+        cc(work, 'build', 's.c', '-o', 's')
+        cc(work, 'symbols', 's.c', '-o', 's.sym.elf')
+        check('lines: of statements', {line for _, line in read_lines(work, 's.sym.elf').values()} <= STEP_LINES, read_lines(work, 's.sym.elf'))
+        rows = listing(work, 's.c')
+        status, out, err = cc(work, 'list', 's.c', '--source')
+        said = out.decode().splitlines()
+        check('source: the listing', (status, err) == (0, '') and [line for line in said if not line.startswith('#')] == cc(work, 'list', 's.c')[1].decode().splitlines(), said[:5])
+        texts = STEPS.splitlines()
+        for line in said:
+            if line.startswith('#'):
+                row = re.fullmatch(r'# s\.c:(\d+)  (.*)', line)
+                check('source: ' + line, row and int(row[1]) in STEP_LINES and texts[int(row[1]) - 1] == row[2])
+        # behind a line stands the code of its statement: the only call of `add` behind line 12, the return value 0 behind line 27
+        def behind(number):
+            start = next(k for k, line in enumerate(said) if line.startswith('# s.c:%d ' % number)) + 1
+            return [line[19:] for line in said[start:next((k for k in range(start, len(said)) if said[k].startswith('#')), len(said))]]
+        check('source: the call', any(code.startswith('jalr x1,') for code in behind(12)) and sum(line[19:].startswith('jalr x1,') for line in said) == 2, behind(12))
+        check('source: a value', any(re.match(r'addi x10,x0,0$', code) for code in behind(27)), behind(27))
+        check('source: with labels', b'main:\n# s.c:8  int main(void)\n' in cc(work, 'list', 's.c', '--source', '--labels')[1])
+        put(work, 'far.h', '#line 7 "made.y"\nint far(int x) { return x + 1; }\n')
+        put(work, 'b.c', '#include "far.h"\nint main(void) { return far(1); }\n')
+        said = cc(work, 'list', 'b.c', 'far.h', '--source')[1].decode().splitlines()
+        check('source: a file that is not in the set', [line for line in said if line.startswith('#')] == ['# made.y:7', '# b.c:2  int main(void) { return far(1); }'], said)
+        if there('gdb-multiarch') and there('qemu-riscv32'):
+            check('gdb: steps', stepped(work, len(STEP_ORDER) - 1) == STEP_ORDER, stepped(work, len(STEP_ORDER) - 1))
+            said = told(work, 17347, ['break s.c:21', 'continue', 'print (int)total', 'bt 1'])
+            check('gdb: a line and an object', '$1 = 7' in said and 'main () at s.c:21' in said, said)
+
+def told(work, port, words):
+    """What gdb tells of the program under qemu."""
+    server = subprocess.Popen(['qemu-riscv32', '-g', str(port), './s'], cwd=work, stdout=subprocess.DEVNULL, stderr=subprocess.DEVNULL)
+    try:
+        asked = ['set architecture riscv:rv32', 'symbol-file s.sym.elf', 'target remote :%d' % port, *words, 'kill']
+        return subprocess.run(['gdb-multiarch', '-batch', *[word for line in asked for word in ('-ex', line)]],
+                              cwd=work, stdin=subprocess.DEVNULL, stdout=subprocess.PIPE, stderr=subprocess.STDOUT, timeout=120).stdout.decode()
+    finally:
+        server.kill()
+        server.wait()
+
+def stepped(work, count):
+    """The lines that a debugger comes to by `step` from the begin of main on."""
+    said = told(work, 17346, ['break main', 'continue'] + ['step'] * count)
+    return [int(row) for row in re.findall(r'^(?:\d+\t|.* at s\.c:)(\d+)?', said, re.M) if row] or said
 
 def sizes():
     """`size` and `frames --sizes`, held against the program headers and the listing."""
@@ -190,7 +319,9 @@ def symbols():
             check('objdump', '<twice>:' in said and 'ret' in said and '<main>:' not in said, said)
         # each function's first address has the line of its definition
         lines = {start: ('a.c', {'fact': 1, 'twice': 2, 'main': 3}[name]) for name, (start, _) in wanted.items() if name != '_start'}
-        check('lines: by readelf', read_lines(work, 'a.sym.elf') == lines, read_lines(work, 'a.sym.elf'))
+        found = read_lines(work, 'a.sym.elf')
+        check('lines: by readelf', lines.items() <= found.items(), found)
+        check('lines: within functions', all(line == ('a.c', {'fact': 1, 'twice': 2, 'main': 3}[name]) for name, (start, size) in wanted.items() for at, line in found.items() if name != '_start' and start <= at < start + size), found)
         if there('riscv64-unknown-elf-objdump'):
             said = subprocess.run(['riscv64-unknown-elf-objdump', '-dl', '--disassemble=twice', 'a.sym.elf'], cwd=work, stdout=subprocess.PIPE, stderr=subprocess.STDOUT).stdout.decode()
             check('lines: by objdump', 'a.c:2' in said and 'a.c:1' not in said and 'a.c:3' not in said, said)
@@ -202,7 +333,7 @@ def symbols():
         put(work, 'far.h', 'int far(int x)\n{\n    return x + 1;\n}\n')
         put(work, 'b.c', '#include "far.h"\n\nint main(void)\n{\n    return far(1);\n}\n#line 1000000 "made.y"\nint last(void) { return 3; }\n')
         check('symbols of several files', cc(work, 'symbols', 'b.c', 'far.h', '-o', 'b.sym.elf')[0] == 0)
-        check('lines of several files', sorted(read_lines(work, 'b.sym.elf').values()) == [('b.c', 3), ('far.h', 1), ('made.y', 1000000)], read_lines(work, 'b.sym.elf'))
+        check('lines of several files', sorted(read_lines(work, 'b.sym.elf').values()) == [('b.c', 3), ('b.c', 5), ('far.h', 1), ('far.h', 3), ('made.y', 1000000), ('made.y', 1000000)], read_lines(work, 'b.sym.elf'))
         check('OUT is a source', cc(work, 'symbols', 'a.c', '-o', 'a.c')[0] == 2 and open(os.path.join(work, 'a.c')).read() == FACT)
         put(work, 'bad.c', 'int main(void) { return x; }\n')
         check('symbols of no program', cc(work, 'symbols', 'bad.c', '-o', 'none')[0] == 1 and not os.path.exists(os.path.join(work, 'none')))
@@ -213,8 +344,8 @@ def read_lines(work, name):
     rows = re.findall(r'^(\S+) +(\d+) +(0x[0-9a-f]+) +\d* *x', said, re.M)
     return {int(address, 16): (file, int(line)) for file, line, address in rows}
 
-def read_symbols(file):
-    """The functions of an ELF32 file by its section headers."""
+def read_symbols(file, kind=2):
+    """The symbols of a kind (2: functions, 1: objects) of an ELF32 file by its section headers."""
     at, size, count, names = struct.unpack_from('<I10xHHH', file, 32)
     headers = [struct.unpack_from('<10I', file, at + size * k) for k in range(count)]
     found = {}
@@ -223,7 +354,7 @@ def read_symbols(file):
             texts = headers[header[6]]
             for place in range(header[4], header[4] + header[5], 16):
                 name, value, bytes_, info, _, section = struct.unpack_from('<IIIBBH', file, place)
-                if info & 15 == 2:
+                if info & 15 == kind:
                     start = texts[4] + name
                     found[file[start:file.index(b'\0', start)].decode()] = (value, bytes_)
     return found
@@ -561,6 +692,8 @@ def surroundings():
 frames()
 labels()
 sizes()
+objects()
+lines()
 symbols()
 image()
 traces()
