@@ -62,8 +62,8 @@ code_bytes (instruction.Element d x y size) = fetch_bytes x + (fetch_bytes y + (
 code_bytes (instruction.Jump to) = 4
 code_bytes (instruction.Branch t x y to) = fetch_bytes x + (fetch_bytes y + 8)
 code_bytes (instruction.Call f) = 8
-code_bytes instruction.PutByte = 32
-code_bytes instruction.GetByte = 40
+code_bytes instruction.PutByte = 52
+code_bytes instruction.GetByte = 48
 code_bytes instruction.Exit = 8
 code_bytes instruction.Return = 172
 

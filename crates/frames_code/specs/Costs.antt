@@ -21,8 +21,8 @@ cost (instruction.Element d x y size) = 13
 cost (instruction.Jump to) = 1
 cost (instruction.Branch t x y to) = 8
 cost (instruction.Call f) = 2 + entry_cost
-cost instruction.PutByte = 8
-cost instruction.GetByte = 10
+cost instruction.PutByte = 10
+cost instruction.GetByte = 12
 cost instruction.Exit = 2
 cost instruction.Return = 43
 

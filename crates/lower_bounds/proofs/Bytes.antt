@@ -106,8 +106,8 @@ bytes_within (instruction.Forget n k) = omega arith
 bytes_within (instruction.Jump to) = same_le 4
 bytes_within (instruction.Branch c r x y to) = branch_le (fetch_bytes x) (fetch_bytes y) (fetch_le x) (fetch_le y)
 bytes_within (instruction.Call f) = same_le 8
-bytes_within instruction.PutByte = same_le 32
-bytes_within instruction.GetByte = same_le 40
+bytes_within instruction.PutByte = same_le 52
+bytes_within instruction.GetByte = same_le 48
 bytes_within instruction.Exit = same_le 8
 bytes_within instruction.Return = same_le 172
 

@@ -186,8 +186,8 @@ items_short f first (instruction.Jump to) = omega arith
 items_short f first (instruction.Branch t x y to) =
     both (fetch 5 (source_of f x)) _ _ _ (fetch_short 5 (source_of f x)) (both (fetch 6 (source_of f y)) _ _ 8 (fetch_short 6 (source_of f y)) (omega arith))
 items_short f first (instruction.Call g) = omega arith
-items_short f first instruction.PutByte = both (address_of 11 (byte_home f)) _ 12 20 (address_short 11 (byte_home f)) (omega arith)
-items_short f first instruction.GetByte = both (address_of 11 (byte_home f)) _ 12 28 (address_short 11 (byte_home f)) (omega arith)
+items_short f first instruction.PutByte = both (address_of 11 (byte_home f)) _ 12 40 (address_short 11 (byte_home f)) (omega arith)
+items_short f first instruction.GetByte = both (address_of 11 (byte_home f)) _ 12 36 (address_short 11 (byte_home f)) (omega arith)
 items_short f first instruction.Exit = omega arith
 items_short f first instruction.Return = leave_short f
 

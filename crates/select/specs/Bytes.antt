@@ -69,8 +69,8 @@ instruction_bytes f (instruction.Element d x y size) = fetch_bytes (source_of f 
 instruction_bytes f (instruction.Jump to) = 4
 instruction_bytes f (instruction.Branch t x y to) = fetch_bytes (source_of f x) + (fetch_bytes (source_of f y) + 8)
 instruction_bytes f (instruction.Call g) = 8
-instruction_bytes f instruction.PutByte = 32
-instruction_bytes f instruction.GetByte = 40
+instruction_bytes f instruction.PutByte = 52
+instruction_bytes f instruction.GetByte = 48
 instruction_bytes f instruction.Exit = 8
 instruction_bytes f instruction.Return = saved_bytes f f.resident + (word_bytes (return_home f) + 16)
 

@@ -8,6 +8,7 @@ use Rattle.rv32.specs.declared.instr.ImmediateOp.TheVariants as immediate_op
 use Rattle.rv32.specs.declared.instr.RegisterOp.{RegisterOp}
 use Rattle.rv32.specs.declared.instr.RegisterOp.TheVariants as register_op
 use Rattle.rv32.specs.declared.instr.Test.{Test}
+use Rattle.rv32.specs.declared.instr.Test.TheVariants as test
 use Rattle.rv32.specs.declared.instr.ShiftOp.{ShiftOp}
 use Rattle.rv32.specs.declared.instr.ShiftOp.TheVariants as shift_op
 use Rattle.rv32.specs.declared.instr.LoadKind.{LoadKind}
@@ -266,17 +267,21 @@ branch t x y to = fetch 5 x ++ (fetch 6 y ++ (item.Branch t (register_of 5 x) (r
 abbrev pub byte_home : Function → ℕ
 byte_home f = 4 * f.outgoing
 
+-- a0 is then 1; with any other answer, which the machine never gives, the program ends with the status 126
 abbrev pub put_byte : Function → List Item
 put_byte f =
     address_of 11 (byte_home f) ++ (
-    item.Plain (instr.Store store_kind.Byte 10 11 0) ∷ add_to 10 0 1 ∷ add_to 12 0 1 ∷ add_to 17 0 64 ∷ item.Plain instr.Ecall ∷ [])
+    item.Plain (instr.Store store_kind.Byte 10 11 0) ∷ add_to 10 0 1 ∷ add_to 12 0 1 ∷ add_to 17 0 64 ∷ item.Plain instr.Ecall ∷
+    add_to 10 10 (2 ^ 32 - 1) ∷ item.Plain (instr.Branch test.Equal 10 0 16) ∷ add_to 10 0 126 ∷ add_to 17 0 93 ∷ item.Plain instr.Ecall ∷ [])
 
--- a0 is then 1 and a byte was got, or 0 at the input's end: with 1 taken from it, it is 0, or has all bits set
+-- a0 is then 1 and a byte was got, or 0 at the input's end, or another answer, which the machine never gives. With 1 taken from it, a0 is 0 or not;
+-- whether it is 0, with 1 taken from that, is 0, or has all bits set
 abbrev pub get_byte : Function → List Item
 get_byte f =
     address_of 11 (byte_home f) ++ (
     add_to 10 0 0 ∷ add_to 12 0 1 ∷ add_to 17 0 63 ∷ item.Plain instr.Ecall ∷
-    item.Plain (instr.Load load_kind.ByteUnsigned 11 11 0) ∷ add_to 10 10 (2 ^ 32 - 1) ∷ operate_on register_op.Or 10 10 11 ∷ [])
+    item.Plain (instr.Load load_kind.ByteUnsigned 11 11 0) ∷ add_to 10 10 (2 ^ 32 - 1) ∷ item.Plain (instr.Immediate immediate_op.LessUnsigned 10 10 1) ∷
+    add_to 10 10 (2 ^ 32 - 1) ∷ operate_on register_op.Or 10 10 11 ∷ [])
 
 -- with the status in a0
 abbrev pub exit : List Item

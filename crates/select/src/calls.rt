@@ -4,6 +4,10 @@ ghost use Rattle.std.specs.Prelude.{◌≡◌, ◌≤◌, ◌<◌, ◌-◌, ◌^
 ghost use Rattle.frames_code.specs.Code as flat;
 ghost use Rattle.frames_code.specs.Code.{function_of};
 ghost use Rattle.frames_code.specs.Sound.{most_bytes};
+ghost use Rattle.asm.specs.declared.item.Item.TheVariants as item;
+ghost use Rattle.rv32.specs.declared.instr.Instr.TheVariants as instr;
+ghost use Rattle.rv32.specs.declared.instr.ImmediateOp.TheVariants as immediate_op;
+ghost use Rattle.rv32.specs.declared.instr.Test.TheVariants as test;
 ghost use Rattle.select.specs.Selected as selected;
 
 use crate::places::kept;
@@ -12,7 +16,7 @@ use crate::words::{
 };
 use asm::Item;
 use frames_code::{Function, Instruction};
-use rv32::{Five, Instr, LoadKind, RegisterOp, Short, StoreKind};
+use rv32::{BranchOffset, Five, ImmediateOp, Instr, LoadKind, RegisterOp, Short, StoreKind, Test};
 use std::alloc::AllocError;
 
 /// x1, the return address (RISC-V ELF psABI, "Integer Register Convention").
@@ -184,7 +188,8 @@ fn byte_home(function: &Function) -> u32
     (4 * function.outgoing) as u32
 }
 
-/// Environment call 64, which writes the low byte of a0.
+/// Environment call 64, which writes the low byte of a0. Where it answers that it did not write just one byte, the program ends with the
+/// status 126.
 pub fn put_put_byte(items: &mut Vec<Item>, function: &Function) -> Result<(), AllocError>
     requires { flat.frame_bytes (function_of function.now) ≤ most_bytes }
     ensures { OnOk result (items.new.items ≡ items.old.items ++ selected.put_byte (function_of function.now)) }
@@ -203,11 +208,41 @@ pub fn put_put_byte(items: &mut Vec<Item>, function: &Function) -> Result<(), Al
             set_argument(2, 1),
             set_argument(7, 64),
             Item::Plain(Instr::Ecall),
+            add_to(argument(0), argument(0), Short::new(u32::MAX)),
+            over_three(),
+            set_argument(0, 126),
+            set_argument(7, 93),
+            Item::Plain(Instr::Ecall),
         ],
     )
 }
 
-/// Environment call 63, which reads a byte; -1 at the end of the input.
+/// Goes on behind the next three instructions where a0 is 0.
+fn over_three() -> Item
+    ensures { result ≡ item.Plain (instr.Branch test.Equal 10 0 16) }
+{
+    Item::Plain(Instr::Branch {
+        test: Test::Equal,
+        left: argument(0),
+        right: zero(),
+        offset: BranchOffset::new(16),
+    })
+}
+
+/// A register of an argument is 1 where it was 0, and else 0.
+fn is_zero(number: u8) -> Item
+    requires { number < 8 }
+    ensures { result ≡ item.Plain (instr.Immediate immediate_op.LessUnsigned (selected.argument number) (selected.argument number) 1) }
+{
+    Item::Plain(Instr::Immediate {
+        op: ImmediateOp::LessUnsigned,
+        rd: argument(number),
+        left: argument(number),
+        right: Short::new(1),
+    })
+}
+
+/// Environment call 63, which reads a byte; -1 at the end of the input, and where it answers that it did not read just one byte.
 pub fn put_get_byte(items: &mut Vec<Item>, function: &Function) -> Result<(), AllocError>
     requires { flat.frame_bytes (function_of function.now) ≤ most_bytes }
     ensures { OnOk result (items.new.items ≡ items.old.items ++ selected.get_byte (function_of function.now)) }
@@ -226,6 +261,8 @@ pub fn put_get_byte(items: &mut Vec<Item>, function: &Function) -> Result<(), Al
                 base: argument(1),
                 offset: Short::new(0),
             }),
+            add_to(argument(0), argument(0), Short::new(u32::MAX)),
+            is_zero(0),
             add_to(argument(0), argument(0), Short::new(u32::MAX)),
             operate_on(RegisterOp::Or, argument(0), argument(0), argument(1)),
         ],

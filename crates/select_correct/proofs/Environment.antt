@@ -1,19 +1,21 @@
 -- The machine follows flat code: a byte is put, and a byte is got.
-use Rattle.std.proofs.Common.{◌≡◌, ◌≢◌, ⊎_elim, ℕ, suc, ◌+◌, ◌-◌, ◌%◌, ◌^◌, ◌<◌, ◌≤◌, List, [], ◌∷◌, Some, None, refl, sym, ap, ◌∙◌, subst, arith, eqb}
+use Rattle.std.proofs.Common.{◌≡◌, ◌≢◌, ⊎_elim, ℕ, suc, ◌+◌, ◌-◌, ◌%◌, ◌^◌, ◌<◌, ◌≤◌, List, [], ◌∷◌, Option, Some, None, refl, sym, ap, ◌∙◌, subst, arith, eqb}
 use Rattle.std.specs.Prelude.{nat_lt, slice_get, bit_and, bit_or}
 use Rattle.std.specs.Int.Bits.{or_add_and}
 use Rattle.std.proofs.lemmas.Nat.{and_mask, and_comm}
 use Rattle.std.proofs.lemmas.Bool.Decides.{nat_tests}
+use Rattle.rv32.specs.declared.instr.Instr.{Instr}
 use Rattle.rv32.specs.declared.instr.Instr.TheVariants as instr
 use Rattle.rv32.specs.declared.instr.ImmediateOp.TheVariants as immediate_op
 use Rattle.rv32.specs.declared.instr.RegisterOp.TheVariants as register_op
+use Rattle.rv32.specs.declared.instr.Test.TheVariants as test
 use Rattle.rv32.specs.declared.instr.LoadKind.TheVariants as load_kind
 use Rattle.rv32.specs.declared.instr.StoreKind.TheVariants as store_kind
-use Rattle.rv32.specs.Arithmetic.{operate_of}
+use Rattle.rv32.specs.Arithmetic.{operate_of, one_if}
 use Rattle.rv32.specs.Space.{word_at}
 use Rattle.asm.specs.declared.item.Item.{Item}
 use Rattle.asm.specs.declared.item.Item.TheVariants as item
-use Rattle.asm.specs.Placed.{Stands}
+use Rattle.asm.specs.Placed.{Stands, sum32}
 use Rattle.csem_events.specs.Events.{Event, Got, GotEnd, Put}
 use Rattle.frames_code.specs.declared.code.Operand.TheVariants as operand
 use Rattle.frames_code.specs.declared.code.Instruction.TheVariants as instruction
@@ -22,8 +24,8 @@ use Rattle.frames_code.specs.Run.{Value, word, Values, unset, State, Progress, v
 use Rattle.select_exec.specs.Light.{Fixed, Light, Go, reg, with_reg, with_byte, gets, Comes}
 use Rattle.select_exec.proofs.Bridge.{bool_cases}
 use Rattle.select_exec.proofs.Words.{with_other, byte_off, byte_back, byte_bytes, word_same}
-use Rattle.select_exec.proofs.Steps.{comes_now, on_immediate, on_op, on_load_byte, on_store_byte, on_put, on_get}
-use Rattle.select_exec.proofs.Placing.{stands_parts}
+use Rattle.select_exec.proofs.Steps.{comes_now, on_immediate, on_op, on_load_byte, on_store_byte, on_branch, on_put, on_get}
+use Rattle.select_exec.proofs.Placing.{stands_parts, after_items}
 use Rattle.select.specs.Selected.{add_to, operate_on, kept, address_of, byte_home}
 use Rattle.select_correct.specs.Matches.{Ground, Ready, Shows, Matched, Matches, address, shown, temporary_at}
 use Rattle.select_correct.specs.Costs.{row}
@@ -63,7 +65,16 @@ pub record Calling (r r2 : ℕ → ℕ) : Type 0 where
 
 -- what reads the byte and makes the result
 abbrev get_tail : List Item
-get_tail = item.Plain (instr.Load load_kind.ByteUnsigned 11 11 0) ∷ add_to 10 10 (2 ^ 32 - 1) ∷ operate_on register_op.Or 10 10 11 ∷ []
+get_tail =
+    item.Plain (instr.Load load_kind.ByteUnsigned 11 11 0) ∷ add_to 10 10 (2 ^ 32 - 1) ∷ item.Plain (instr.Immediate immediate_op.LessUnsigned 10 10 1) ∷
+    add_to 10 10 (2 ^ 32 - 1) ∷ operate_on register_op.Or 10 10 11 ∷ []
+
+-- the address of a byte of the frame takes at most three instructions
+address_near : (T : ℕ → Option Instr) (env : ℕ → ℕ) (seg rd o here mid : ℕ) → Stands T env seg (address_of rd o) here mid → mid ≤ here + 12
+address_near T env seg rd o here mid st =
+    bool_cases (nat_lt o 0x800)
+    (λ t. let one : Stands T env seg (add_to rd 2 o ∷ []) here mid = rw t at st in omega (arith, one.1.1, one.2))
+    (λ t. let two : Stands T env seg (item.Constant rd o ∷ operate_on register_op.Add rd rd 2 ∷ []) here mid = rw t at st in omega (arith, two.1.next_is, two.2.1.1, two.2.2))
 
 module _ (F : Fixed) (env : ℕ → ℕ) (seg : ℕ) (i : List ℕ) (h : List Event) (Q : Light → Type 0) where
   -- an addition that stands up to where the next item does
@@ -114,7 +125,7 @@ module _ (G : Ground) (s : State) (r b : ℕ → ℕ) (ready : Ready G) (m : Mat
       let o = byte_home f in
       let a = byte_at in
       let low = byte_low in
-      let tail = add_to 10 0 1 ∷ add_to 12 0 1 ∷ add_to 17 0 64 ∷ item.Plain instr.Ecall ∷ [] in
+      let tail = add_to 10 0 1 ∷ add_to 12 0 1 ∷ add_to 17 0 64 ∷ item.Plain instr.Ecall ∷ add_to 10 10 (2 ^ 32 - 1) ∷ item.Plain (instr.Branch test.Equal 10 0 16) ∷ add_to 10 0 126 ∷ add_to 17 0 93 ∷ item.Plain instr.Ecall ∷ [] in
       let st = ready.stands s.frame.function s.frame.at instruction.PutByte e in
       let one = stands_parts F.text G.env G.data_at (address_of 11 o) (item.Plain (instr.Store store_kind.Byte 10 11 0) ∷ tail) start end st in
       let st1 = one.2 in
@@ -122,27 +133,41 @@ module _ (G : Ground) (s : State) (r b : ℕ → ℕ) (ready : Ready G) (m : Mat
       let st3 = st2.2 in
       let st4 = st3.2 in
       let st5 = st4.2 in
+      let st6 = st5.2 in
+      let st7 = st6.2 in
+      let st8 = st7.2 in
+      let st9 = st8.2 in
+      let st10 = st9.2 in
+      let here = ready.aligned s.frame.function s.frame.at instruction.PutByte e in
+      let begun = after_items F.text G.env G.data_at (address_of 11 o) start one.0 here.0 one.1 in
+      let near : one.0 ≤ start + 12 = address_near F.text G.env G.data_at 11 o start one.0 one.1 in
+      let over : end ≡ st6.0 + 16 = omega (arith, st7.1.1, st8.1.1, st9.1.1, st10.1.1, st10.2) in
+      let after : st6.0 ≡ one.0 + 24 = omega (arith, st1.1.1, st2.1.1, st3.1.1, st4.1.1, st5.1.1, st6.1.1) in
+      let even : end % 4 ≡ 0 = omega (arith, over, after, begun.aligned) in
+      let to : sum32 st6.0 16 ≡ end = omega (arith, over, after, near, here.1) in
       let b1 = with_byte b a (v % 2 ^ 8) in
-      addresses F G.env G.data_at s.input s.trace Q {a0 = 1} 5 11 o m.sp start one.0 r b (omega arith) (λ x. omega (arith, x)) m.sp_is (omega (arith, low.1)) one.1 (λ r1 only e11.
+      addresses F G.env G.data_at s.input s.trace Q {a0 = 1} 7 11 o m.sp start one.0 r b (omega arith) (λ x. omega (arith, x)) m.sp_is (omega (arith, low.1)) one.1 (λ r1 only e11.
       let r2 = with_reg r1 10 1 in
       let r3 = with_reg r2 12 1 in
       let r4 = with_reg r3 17 64 in
       let r5 = with_reg r4 10 1 in
-      let done : Matched G (record (next s) { temporaries = unset }) r5 end b1 = called unset r5 b1
-      (record { each = λ k n0 n1 n2 n7. with_other r4 10 1 k n0 ∙ (with_other r3 17 64 k n7 ∙ (with_other r2 12 1 k n2 ∙ (with_other r1 10 1 k n0 ∙ only.each k n1))) })
+      let r6 = with_reg r5 10 0 in
+      let done : Matched G (record (next s) { temporaries = unset }) r6 end b1 = called unset r6 b1
+      (record { each = λ k n0 n1 n2 n7. with_other r5 10 0 k n0 ∙ (with_other r4 10 1 k n0 ∙ (with_other r3 17 64 k n7 ∙ (with_other r2 12 1 k n2 ∙ (with_other r1 10 1 k n0 ∙ only.each k n1)))) })
       (byte_bytes b a (v % 2 ^ 8) (omega arith) m.bytes) (λ k ne. byte_off b a (v % 2 ^ 8) k ne) (λ k x ek. cc) in
       let held1 : reg r1 10 ≡ v = only.each 10 (λ x. omega (arith, x)) ∙ held in
       let trace = Put (v % 2 ^ 8) ∷ s.trace in
-      let last : st4.0 + 4 ≡ end = sym st5.1.1 ∙ st5.2 in
-      on_store_byte F Anything Q 4 r1 one.0 b s.input s.trace tt {a0 = 1} 10 11 0 a v st1.1.0 (omega (arith, e11, low.1)) (ready.stack_written a low.0 low.1) held1
-      (onward F G.env G.data_at s.input s.trace Q {a0 = 1} 4 (one.0 + 4) st1.0 r1 b1 (sym st1.1.1)
-      (adds F G.env G.data_at s.input s.trace Q {a0 = 1} 3 10 0 1 1 st1.0 st2.0 r1 b1 st2.1 refl
-      (adds F G.env G.data_at s.input s.trace Q {a0 = 1} 2 12 0 1 1 st2.0 st3.0 r2 b1 st3.1 refl
-      (adds F G.env G.data_at s.input s.trace Q {a0 = 1} 1 17 0 64 64 st3.0 st4.0 r3 b1 st4.1 refl
-      (on_put F Anything Q 0 r4 st4.0 b1 s.input s.trace tt {a0 = 0} a st5.1.0 refl refl refl e11 (ready.stack_read a low.0 low.1)
-      (onward F G.env G.data_at s.input (Put (b1 a) ∷ s.trace) Q {a0 = 0} 0 (st4.0 + 4) end r5 b1 last
+      on_store_byte F Anything Q 6 r1 one.0 b s.input s.trace tt {a0 = 1} 10 11 0 a v st1.1.0 (omega (arith, e11, low.1)) (ready.stack_written a low.0 low.1) held1
+      (onward F G.env G.data_at s.input s.trace Q {a0 = 1} 6 (one.0 + 4) st1.0 r1 b1 (sym st1.1.1)
+      (adds F G.env G.data_at s.input s.trace Q {a0 = 1} 5 10 0 1 1 st1.0 st2.0 r1 b1 st2.1 refl
+      (adds F G.env G.data_at s.input s.trace Q {a0 = 1} 4 12 0 1 1 st2.0 st3.0 r2 b1 st3.1 refl
+      (adds F G.env G.data_at s.input s.trace Q {a0 = 1} 3 17 0 64 64 st3.0 st4.0 r3 b1 st4.1 refl
+      (on_put F Anything Q 2 r4 st4.0 b1 s.input s.trace tt {a0 = 1} a st5.1.0 refl refl refl e11 (ready.stack_read a low.0 low.1)
+      (onward F G.env G.data_at s.input (Put (b1 a) ∷ s.trace) Q {a0 = 1} 2 (st4.0 + 4) st5.0 r5 b1 (sym st5.1.1)
+      (adds F G.env G.data_at s.input (Put (b1 a) ∷ s.trace) Q {a0 = 1} 1 10 10 (2 ^ 32 - 1) 0 st5.0 st6.0 r5 b1 st6.1 refl
+      (on_branch F Anything Q 0 r6 st6.0 b1 s.input (Put (b1 a) ∷ s.trace) tt {a0 = 0} test.Equal 10 0 16 end true st7.1.0 refl to even
       (comes_now F Anything 0 _ Q tt
-      (retraced G (record (next s) { temporaries = unset }) r5 end b1 s.input trace done, refl, ap (λ x. Put x ∷ s.trace) (byte_back b a (v % 2 ^ 8)))))))))))
+      (retraced G (record (next s) { temporaries = unset }) r6 end b1 s.input trace done, refl, ap (λ x. Put x ∷ s.trace) (byte_back b a (v % 2 ^ 8)))))))))))))
 
   does_put : slice_get (fn G s r b ready m).code s.frame.at ≡ Some instruction.PutByte → Comes G.machine Anything 1 (row (fn G s r b ready m) instruction.PutByte) (Go r start b s.input s.trace) (Matches G (act G.program s instruction.PutByte))
   does_put e =
@@ -163,25 +188,32 @@ module _ (G : Ground) (s : State) (r b : ℕ → ℕ) (ready : Ready G) (m : Mat
       (λ t. let no : None ≡ Some v = rw t at ek in cc)
 
   -- behind the call: t is what it answered, c the byte in memory
-  takes : (Q : Light → Type 0) (i : List ℕ) (h : List Event) (t c y x here : ℕ) (r5 b1 : ℕ → ℕ) → Stands G.machine.text G.env G.data_at get_tail here end → r5 11 ≡ byte_at → b1 byte_at ≡ c → r5 10 ≡ t → (t + (2 ^ 32 - 1)) % 2 ^ 32 ≡ y → bit_or y c ≡ x
-      → ((r2 : ℕ → ℕ) → r2 10 ≡ x → ((k : ℕ) → k ≢ 10 → k ≢ 11 → r2 k ≡ r5 k) → Comes G.machine Anything 0 0 (Go r2 end b1 i h) Q) → Comes G.machine Anything 1 3 (Go r5 here b1 i h) Q
-  takes Q i h t c y x here r5 b1 st e11 ec e10 ey ex next_to =
+  takes : (Q : Light → Type 0) (i : List ℕ) (h : List Event) (t c y z w x here : ℕ) (r5 b1 : ℕ → ℕ) → Stands G.machine.text G.env G.data_at get_tail here end → r5 11 ≡ byte_at → b1 byte_at ≡ c → r5 10 ≡ t → (t + (2 ^ 32 - 1)) % 2 ^ 32 ≡ y → one_if (nat_lt y 1) ≡ z → (z + (2 ^ 32 - 1)) % 2 ^ 32 ≡ w → bit_or w c ≡ x
+      → ((r2 : ℕ → ℕ) → r2 10 ≡ x → ((k : ℕ) → k ≢ 10 → k ≢ 11 → r2 k ≡ r5 k) → Comes G.machine Anything 0 0 (Go r2 end b1 i h) Q) → Comes G.machine Anything 1 5 (Go r5 here b1 i h) Q
+  takes Q i h t c y z w x here r5 b1 st e11 ec e10 ey ez ew ex next_to =
       let F = G.machine in
       let low = byte_low in
       let st2 = st.2 in
       let st3 = st2.2 in
+      let st4 = st3.2 in
+      let st5 = st4.2 in
       let r6 = with_reg r5 11 c in
       let r7 = with_reg r6 10 y in
-      let r8 = with_reg r7 10 x in
-      let sum : (reg r6 10 + (2 ^ 32 - 1)) % 2 ^ 32 ≡ y = ap (λ z. (z + (2 ^ 32 - 1)) % 2 ^ 32) e10 ∙ ey in
-      let is : operate_of register_op.Or (reg r7 10) (reg r7 11) ≡ x = ex in
-      let done : Comes F Anything 0 0 (Go r8 (st2.0 + 4) b1 i h) Q = onward F G.env G.data_at i h Q {a0 = 0} 0 (st2.0 + 4) end r8 b1 (sym st3.1.1 ∙ st3.2)
-      (next_to r8 refl (λ k n0 n1. with_other r7 10 x k n0 ∙ (with_other r6 10 y k n0 ∙ with_other r5 11 c k n1))) in
-      on_load_byte F Anything Q 2 r5 here b1 i h tt {a0 = 1} 11 11 0 byte_at c st.1.0 (omega (arith, e11, low.1)) (ready.stack_read byte_at low.0 low.1) ec
-      (onward F G.env G.data_at i h Q {a0 = 1} 2 (here + 4) st.0 r6 b1 (sym st.1.1)
-      (adds F G.env G.data_at i h Q {a0 = 1} 1 10 10 (2 ^ 32 - 1) y st.0 st2.0 r6 b1 st2.1 sum
-      (on_op F Anything Q 0 r7 st2.0 b1 i h tt {a0 = 0} register_op.Or 10 10 11 st3.1.0
-      (subst (λ z. Comes F Anything 0 0 (Go (with_reg r7 10 z) (st2.0 + 4) b1 i h) Q) (sym is) done))))
+      let r8 = with_reg r7 10 z in
+      let r9 = with_reg r8 10 w in
+      let r10 = with_reg r9 10 x in
+      let sum : (reg r6 10 + (2 ^ 32 - 1)) % 2 ^ 32 ≡ y = ap (λ k. (k + (2 ^ 32 - 1)) % 2 ^ 32) e10 ∙ ey in
+      let is : operate_of register_op.Or (reg r9 10) (reg r9 11) ≡ x = ex in
+      let done : Comes F Anything 0 0 (Go r10 (st4.0 + 4) b1 i h) Q = onward F G.env G.data_at i h Q {a0 = 0} 0 (st4.0 + 4) end r10 b1 (sym st5.1.1 ∙ st5.2)
+      (next_to r10 refl (λ k n0 n1. with_other r9 10 x k n0 ∙ (with_other r8 10 w k n0 ∙ (with_other r7 10 z k n0 ∙ (with_other r6 10 y k n0 ∙ with_other r5 11 c k n1))))) in
+      on_load_byte F Anything Q 4 r5 here b1 i h tt {a0 = 1} 11 11 0 byte_at c st.1.0 (omega (arith, e11, low.1)) (ready.stack_read byte_at low.0 low.1) ec
+      (onward F G.env G.data_at i h Q {a0 = 1} 4 (here + 4) st.0 r6 b1 (sym st.1.1)
+      (adds F G.env G.data_at i h Q {a0 = 1} 3 10 10 (2 ^ 32 - 1) y st.0 st2.0 r6 b1 st2.1 sum
+      (on_immediate F Anything Q 2 r7 st2.0 b1 i h tt {a0 = 1} immediate_op.LessUnsigned 10 10 1 z st3.1.0 ez
+      (onward F G.env G.data_at i h Q {a0 = 1} 2 (st2.0 + 4) st3.0 r8 b1 (sym st3.1.1)
+      (adds F G.env G.data_at i h Q {a0 = 1} 1 10 10 (2 ^ 32 - 1) w st3.0 st4.0 r8 b1 st4.1 ew
+      (on_op F Anything Q 0 r9 st4.0 b1 i h tt {a0 = 0} register_op.Or 10 10 11 st5.1.0
+      (subst (λ k. Comes F Anything 0 0 (Go (with_reg r9 10 k) (st4.0 + 4) b1 i h) Q) (sym is) done))))))
 
   calling_four : (t u v : ℕ) (r1 r2 : ℕ → ℕ) → Only 11 r r1 → ((k : ℕ) → k ≢ 10 → k ≢ 11 → r2 k ≡ with_reg (with_reg (with_reg (with_reg r1 10 0) 12 t) 17 u) 10 v k) → Calling r r2
   calling_four t u v r1 r2 only same = record {
@@ -191,13 +223,13 @@ module _ (G : Ground) (s : State) (r b : ℕ → ℕ) (ready : Ready G) (m : Mat
 
   -- what the call answers
   answered : (input : List ℕ) → s.input ≡ input → AreBytes input → (r1 : ℕ → ℕ) → Only 11 r r1 → r1 11 ≡ byte_at → (pc mid : ℕ) → mid ≡ pc + 4 → Stands G.machine.text G.env G.data_at get_tail mid end
-      → Comes G.machine Anything 1 3 (gets (with_reg (with_reg (with_reg r1 10 0) 12 1) 17 63) pc b input byte_at s.trace) (Matches G (got s input))
+      → Comes G.machine Anything 1 5 (gets (with_reg (with_reg (with_reg r1 10 0) 12 1) 17 63) pc b input byte_at s.trace) (Matches G (got s input))
   answered [] ei bytes r1 only e11 pc mid em st =
       let Q : Light → Type 0 = Matches G (got s []) in
       let r5 = with_reg (with_reg (with_reg (with_reg r1 10 0) 12 1) 17 63) 10 0 in
       let x = 2 ^ 32 - 1 in
-      onward G.machine G.env G.data_at [] (GotEnd ∷ s.trace) Q {a0 = 1} 3 (pc + 4) mid r5 b (sym em)
-      (takes Q [] (GotEnd ∷ s.trace) 0 (b byte_at) x x mid r5 b st e11 refl refl refl (byte_or (b byte_at) (m.bytes byte_at)) (λ r2 e10 same.
+      onward G.machine G.env G.data_at [] (GotEnd ∷ s.trace) Q {a0 = 1} 5 (pc + 4) mid r5 b (sym em)
+      (takes Q [] (GotEnd ∷ s.trace) 0 (b byte_at) x 0 x x mid r5 b st e11 refl refl refl refl refl (byte_or (b byte_at) (m.bytes byte_at)) (λ r2 e10 same.
       let done = called (result_alone (Some (word x))) r2 b (calling_four 1 63 0 r1 r2 only same) m.bytes (λ k ne. refl) (result_shows x r2 b (omega arith) e10) in
       comes_now G.machine Anything 0 _ Q tt
       (retraced G (record (next s) { temporaries = result_alone (Some (word x)) }) r2 end b s.input (GotEnd ∷ s.trace) done, sym ei, refl)))
@@ -206,8 +238,8 @@ module _ (G : Ground) (s : State) (r b : ℕ → ℕ) (ready : Ready G) (m : Mat
       let r5 = with_reg (with_reg (with_reg (with_reg r1 10 0) 12 1) 17 63) 10 1 in
       let b1 = with_byte b byte_at c in
       let small : c < 2 ^ 8 = bytes 0 c refl in
-      onward G.machine G.env G.data_at rest (Got c ∷ s.trace) Q {a0 = 1} 3 (pc + 4) mid r5 b1 (sym em)
-      (takes Q rest (Got c ∷ s.trace) 1 c 0 c mid r5 b1 st e11 (byte_back b byte_at c) refl refl refl (λ r2 e10 same.
+      onward G.machine G.env G.data_at rest (Got c ∷ s.trace) Q {a0 = 1} 5 (pc + 4) mid r5 b1 (sym em)
+      (takes Q rest (Got c ∷ s.trace) 1 c 0 1 0 c mid r5 b1 st e11 (byte_back b byte_at c) refl refl refl refl refl (λ r2 e10 same.
       let done = called (result_alone (Some (word c))) r2 b1 (calling_four 1 63 1 r1 r2 only same) (byte_bytes b byte_at c small m.bytes) (λ k ne. byte_off b byte_at c k ne) (result_shows c r2 b1 (omega (arith, small)) e10) in
       comes_now G.machine Anything 0 _ Q tt
       (retraced G (record (next s) { temporaries = result_alone (Some (word c)) }) r2 end b1 rest (Got c ∷ s.trace) done, refl, refl)))
@@ -225,14 +257,14 @@ module _ (G : Ground) (s : State) (r b : ℕ → ℕ) (ready : Ready G) (m : Mat
       let st2 = st1.2 in
       let st3 = st2.2 in
       let st4 = st3.2 in
-      addresses F G.env G.data_at input s.trace Q {a0 = 1} 7 11 o m.sp start one.0 r b (omega arith) (λ x. omega (arith, x)) m.sp_is (omega (arith, low.1)) one.1 (λ r1 only e11.
+      addresses F G.env G.data_at input s.trace Q {a0 = 1} 9 11 o m.sp start one.0 r b (omega arith) (λ x. omega (arith, x)) m.sp_is (omega (arith, low.1)) one.1 (λ r1 only e11.
       let r2 = with_reg r1 10 0 in
       let r3 = with_reg r2 12 1 in
       let r4 = with_reg r3 17 63 in
-      adds F G.env G.data_at input s.trace Q {a0 = 1} 6 10 0 0 0 one.0 st1.0 r1 b st1.1 refl
-      (adds F G.env G.data_at input s.trace Q {a0 = 1} 5 12 0 1 1 st1.0 st2.0 r2 b st2.1 refl
-      (adds F G.env G.data_at input s.trace Q {a0 = 1} 4 17 0 63 63 st2.0 st3.0 r3 b st3.1 refl
-      (on_get F Anything Q 3 r4 st3.0 b input s.trace tt {a0 = 1} a st4.1.0 refl refl refl e11 (ready.stack_written a low.0 low.1)
+      adds F G.env G.data_at input s.trace Q {a0 = 1} 8 10 0 0 0 one.0 st1.0 r1 b st1.1 refl
+      (adds F G.env G.data_at input s.trace Q {a0 = 1} 7 12 0 1 1 st1.0 st2.0 r2 b st2.1 refl
+      (adds F G.env G.data_at input s.trace Q {a0 = 1} 6 17 0 63 63 st2.0 st3.0 r3 b st3.1 refl
+      (on_get F Anything Q 5 r4 st3.0 b input s.trace tt {a0 = 1} a st4.1.0 refl refl refl e11 (ready.stack_written a low.0 low.1)
       (answered input ei bytes r1 only e11 st3.0 st4.0 st4.1.1 st4.2)))))
 
 -- ---- as laws

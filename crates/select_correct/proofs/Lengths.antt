@@ -173,8 +173,8 @@ items_long f first (instruction.Jump to) = refl
 items_long f first (instruction.Branch t x y to) =
     both (fetch 5 (source_of f x)) _ _ _ (fetch_long 5 (source_of f x)) (both (fetch 6 (source_of f y)) _ _ 2 (fetch_long 6 (source_of f y)) refl)
 items_long f first (instruction.Call g) = refl
-items_long f first instruction.PutByte = both (address_of 11 (byte_home f)) _ _ 5 (address_long 11 (byte_home f)) refl
-items_long f first instruction.GetByte = both (address_of 11 (byte_home f)) _ _ 7 (address_long 11 (byte_home f)) refl
+items_long f first instruction.PutByte = both (address_of 11 (byte_home f)) _ _ 10 (address_long 11 (byte_home f)) refl
+items_long f first instruction.GetByte = both (address_of 11 (byte_home f)) _ _ 9 (address_long 11 (byte_home f)) refl
 items_long f first instruction.Exit = refl
 items_long f first instruction.Return = leave_long f
 

@@ -71,11 +71,12 @@ elements_thirteen = refl
 branches_eight : bytes_of (instruction.Branch test.Less far_operand far_operand 0) ≡ 4 * cost (instruction.Branch test.Less far_operand far_operand 0)
 branches_eight = refl
 
-puts_eight : bytes_of instruction.PutByte ≡ 4 * cost instruction.PutByte
-puts_eight = refl
+-- behind the call the three that end the program are passed over
+puts_ten : bytes_of instruction.PutByte ≡ 4 * (cost instruction.PutByte + 3)
+puts_ten = refl
 
-gets_ten : bytes_of instruction.GetByte ≡ 4 * cost instruction.GetByte
-gets_ten = refl
+gets_twelve : bytes_of instruction.GetByte ≡ 4 * cost instruction.GetByte
+gets_twelve = refl
 
 exits_two : bytes_of instruction.Exit ≡ 4 * cost instruction.Exit
 exits_two = refl

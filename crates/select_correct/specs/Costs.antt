@@ -156,8 +156,8 @@ row f (instruction.Element d x y size) = fetch_cost (source_of f x) + (fetch_cos
 row f (instruction.Jump to) = 1
 row f (instruction.Branch t x y to) = fetch_cost (source_of f x) + (fetch_cost (source_of f y) + 2)
 row f (instruction.Call g) = 2
-row f instruction.PutByte = word_cost (byte_home f) + 5
-row f instruction.GetByte = word_cost (byte_home f) + 7
+row f instruction.PutByte = word_cost (byte_home f) + 7
+row f instruction.GetByte = word_cost (byte_home f) + 9
 row f instruction.Exit = 2
 row f instruction.Return = saved_cost f f.resident + (return_cost f + (frame_cost (frame_bytes f) + 1))
 
