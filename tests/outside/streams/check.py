@@ -8,6 +8,7 @@ import os
 import pty
 import random
 import select
+import shutil
 import signal
 import subprocess
 import sys
@@ -227,6 +228,35 @@ def over_a_folder(checks, programs, command):
     os.close(folder)
 
 
+def under_an_emulator(checks, programs):
+    """A built file where the system's own calls fail: a read is the input's end, a write ends the program with 126."""
+    program = programs.place('failing')
+    with open(program + '.c', 'w') as file:
+        file.write(NAMES + 'int main(void) { int n = 0; while (rv_getbyte() >= 0) n++; if (n != 0) text("some"); return n == 0 ? 40 : 50; }')
+    subprocess.run([programs.program, 'build', 'failing.c', '-o', 'failing'], cwd=programs.folder, check=True)
+    run = ['qemu-riscv32', program]
+    closed = ['sh', '-c', 'exec qemu-riscv32 "$0" <&-', program]
+    checks.holds('emulator: no input', finished(run, stdin=subprocess.DEVNULL, stdout=subprocess.PIPE), (40, b'', None))
+    checks.holds('emulator: a closed input', finished(closed, stdin=subprocess.DEVNULL, stdout=subprocess.PIPE), (40, b'', None))
+    folder = os.open('/', os.O_RDONLY)
+    checks.holds('emulator: a folder as input', finished(run, stdin=folder, stdout=subprocess.PIPE), (40, b'', None))
+    os.close(folder)
+    ours, theirs = os.pipe()
+    os.set_blocking(ours, False)
+    checks.holds('emulator: an input that has nothing yet', finished(run, stdin=ours, stdout=subprocess.PIPE), (40, b'', None))
+    os.write(theirs, bytes(range(256)))
+    checks.holds('emulator: an input with bytes, and nothing more yet', finished(run, stdin=ours, stdout=subprocess.PIPE), (50, b'some', None))
+    os.write(theirs, b'x')
+    full = os.open('/dev/full', os.O_WRONLY)
+    checks.holds('emulator: a full device', finished(run, stdin=ours, stdout=full)[0], 126)
+    os.close(full)
+    os.write(theirs, b'x')
+    broken = ['sh', '-c', 'exec qemu-riscv32 "$0" >&-', program]
+    checks.holds('emulator: a closed output', finished(broken, stdin=ours, stdout=subprocess.PIPE)[0], 126)
+    os.close(ours)
+    os.close(theirs)
+
+
 def copies(checks, programs, command, size):
     """Bytes of a file are copied as they are, from a file and from a pipe."""
     data = random.Random(20261126).randbytes(size)
@@ -257,7 +287,12 @@ def main():
             over_refusals(checks, programs, command)
             over_a_folder(checks, programs, command)
             copies(checks, programs, command, (16 if command == 'run' else 1) * 2 ** 20)
-    print('%d passed, %d failed' % (checks.passed, checks.failed))
+        if shutil.which('qemu-riscv32'):
+            under_an_emulator(checks, programs)
+        else:
+            print('SKIPPED under an emulator: there is no qemu-riscv32')
+    skipped = '' if shutil.which('qemu-riscv32') else ', 1 skipped'
+    print('%d passed, %d failed%s' % (checks.passed, checks.failed, skipped))
     return checks.failed
 
 
