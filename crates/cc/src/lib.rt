@@ -15,7 +15,7 @@ mod writing;
 pub use compiling::{Built, compile, compile_with};
 pub use cc_backend::{CodeMap, CodeRow, DataObject, FunctionCode, Reference};
 pub use elf_out::StackSize;
-pub use mapping::map_of;
+pub use mapping::{checked_program, map_of};
 pub use performing::{Cmd, perform};
 pub use reading::read_source;
 pub use writing::write_out;

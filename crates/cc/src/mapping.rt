@@ -1,6 +1,10 @@
-//! From source files to where the parts of the program lie in its executable file.
+//! From source files to the typed program, and to where its parts lie in the executable file.
 
-ghost use Rattle.std.specs.Prelude.{◌≡◌, [], IfErr};
+ghost use Rattle.std.specs.Prelude.{◌≡◌, List, [], IfOk, IfErr};
+ghost use Rattle.tree.specs.Tree.{ExternalTree};
+ghost use Rattle.typed_ast.specs.View.{program_of};
+ghost use Rattle.cc_backend.specs.Made.{IsReady};
+ghost use Rattle.cc.specs.Compiled.{HasProgram};
 ghost use Rattle.cc.specs.Refused.{IsRefused};
 ghost use Rattle.cc.specs.inside.Stops.{Stops};
 
@@ -10,6 +14,7 @@ use cc_backend::{CodeMap, code_map};
 use elf_out::StackSize;
 use srcset::{Fault, FileSet, Names};
 use std::alloc::Global;
+use typed_ast::Program;
 
 /// Where the functions, the statements and the objects of the program in the file `main` of the set lie in the file that `compile_with`
 /// makes of it. The names are numbered in `names`, which is to have none. It refuses as `compile_with` does.
@@ -25,6 +30,26 @@ pub fn map_of(
 {
     match mapped(alloc, set, main, names, stack) {
         Ok(map) => Ok(map),
+        Err(stop) => Err(stop.to_fault(alloc, main)),
+    }
+}
+
+/// The typed program of the file `main` of the set, for a stack of this size. The names are numbered in `names`, which is to have none. It
+/// refuses as `compile_with` does.
+pub fn checked_program(
+    alloc: Global,
+    set: &FileSet,
+    main: &str,
+    names: &mut Names,
+    stack: StackSize,
+) -> Result<Program, Fault>
+    requires new { names.old ≡ [] }
+    ensures program { IfOk result (λ p. (unit : List ExternalTree) × HasProgram stack set.now main.now names.new unit (program_of p)) }
+    ensures ready { IfOk result (λ p. IsReady (program_of p)) }
+    ensures refused { IfErr result (λ fault. IsRefused stack set.now main.now fault) }
+{
+    match checked_unit(alloc, set, main, names, stack) {
+        Ok(program) => Ok(program),
         Err(stop) => Err(stop.to_fault(alloc, main)),
     }
 }
