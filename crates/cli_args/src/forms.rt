@@ -3,9 +3,10 @@
 use crate::making::form;
 use crate::rows::{
     ABI, ASSEMBLY, AT, BINARY, BUILT_STACK, COLOR, DEFINES, DEPEND, DEPEND_FILE, DEPEND_PHONY,
-    DEPEND_TARGET, EXECUTABLE, FILES, FOLDERS, INTEL, JSON, LABELS, LINES, LIST_FILES, MAIN, MAP,
-    MAX_EXPLAINED, MAX_RUN, MAX_TICKS, OUT, PREPROCESSED, SARIF, SIZES, SOURCE, STACK,
-    SYMBOLS_OUT, TEXT_OUT, TRACE_FILE, TRACE_INTERP, TRACE_RUN, UNDEFINES, VERILOG, WHAT,
+    DEPEND_TARGET, EXECUTABLE, FILES, FOLDERS, FORM, FORM_JSON, INTEL, JSON, LABELS, LINES,
+    LIST_FILES, MAIN, MAP, MAX_EXPLAINED, MAX_RUN, MAX_TICKS, OUT, PREPROCESSED, SARIF, SIZES,
+    SOURCE, STACK, SYMBOLS_OUT, TEXT_OUT, TRACE_FILE, TRACE_INTERP, TRACE_RUN, UNDEFINES, VERILOG,
+    WHAT,
 };
 use crate::table::Row;
 use clap::Command;
@@ -59,6 +60,10 @@ const INTERP_ROWS: &[Row] = &[
     FOLDERS,
     DEFINES,
     UNDEFINES,
+];
+
+const SHOW_ROWS: &[Row] = &[
+    FORM, MAIN, FILES, FORM_JSON, STACK, TEXT_OUT, FOLDERS, DEFINES, UNDEFINES,
 ];
 
 const EXPLAIN_ROWS: &[Row] = &[
@@ -130,6 +135,16 @@ pub fn interp<'a>(alloc: Global) -> Result<Command<'a>, AllocError> {
         "interp",
         "Interprets a program over standard input and output",
         INTERP_ROWS,
+    )
+}
+
+/// The form of `show`.
+pub fn show<'a>(alloc: Global) -> Result<Command<'a>, AllocError> {
+    form(
+        alloc,
+        "show",
+        "Shows a form that the compiler makes of a program between its phases",
+        SHOW_ROWS,
     )
 }
 

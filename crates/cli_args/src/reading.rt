@@ -1,7 +1,8 @@
 //! What a parse found, as a request. All words are read here, once.
 
 use crate::request::{
-    Colours, Command, ImageForm, Program, Request, Role, Rule, Stage, Telling, Trace, Word,
+    Colours, Command, ImageForm, Program, Request, Role, Rule, ShownForm, Stage, Telling, Trace,
+    Word,
 };
 use clap::ArgMatches;
 use std::alloc::{AllocError, Global};
@@ -44,6 +45,7 @@ pub fn read<'a>(alloc: Global, matches: &ArgMatches<'a>) -> Result<Reading<'a>, 
         "run" => run(inner),
         "interp" => Ok(interp(inner)),
         "explain" => Ok(explain(inner)),
+        "show" => Ok(show(inner)),
         "frames" => Ok(Command::Frames {
             has_sizes: inner.get_flag("sizes"),
         }),
@@ -270,6 +272,20 @@ fn explain<'a>(inner: &ArgMatches<'a>) -> Command<'a> {
             Some("never") => Colours::Never,
             _ => Colours::Auto,
         },
+    }
+}
+
+fn show<'a>(inner: &ArgMatches<'a>) -> Command<'a> {
+    Command::Show {
+        form: match inner.get_str("FORM") {
+            Some("tree") => ShownForm::Tree,
+            Some("typed") => ShownForm::Typed,
+            Some("tac") => ShownForm::Tac,
+            Some("flat") => ShownForm::Flat,
+            _ => ShownForm::Tokens,
+        },
+        is_json: inner.get_flag("json"),
+        out: text_out(inner),
     }
 }
 

@@ -79,6 +79,16 @@ pub enum Stage {
     Pp,
 }
 
+/// A form that the compiler makes of a program between its phases.
+#[derive(Clone, Copy, Debug, PartialEq, Eq)]
+pub enum ShownForm {
+    Tokens,
+    Tree,
+    Typed,
+    Tac,
+    Flat,
+}
+
 /// The form of an image.
 #[derive(Clone, Copy, Debug, PartialEq, Eq)]
 pub enum ImageForm {
@@ -140,6 +150,12 @@ pub enum Command<'a> {
         max: u64,
         telling: Telling,
         colours: Colours,
+    },
+    /// Print a form of a program to the file at a path, as JSON or as text.
+    Show {
+        form: ShownForm,
+        is_json: bool,
+        out: &'a str,
     },
     /// Print what each function takes, with addresses and sizes or without.
     Frames {

@@ -50,6 +50,30 @@ pub const WHAT: Row = Row {
     apart: &[],
 };
 
+/// Which form of a program is shown.
+pub const FORM: Row = Row {
+    id: "FORM",
+    short: None,
+    long: None,
+    value: None,
+    kind: Kind::Choice(&["tokens", "tree", "typed", "tac", "flat"]),
+    default: None,
+    help: "Which form: the tokens after preprocessing, the syntax tree, the typed program, three-address code, or flat code",
+    apart: &[],
+};
+
+/// Whether a form is shown as JSON.
+pub const FORM_JSON: Row = Row {
+    id: "json",
+    short: None,
+    long: Some("json"),
+    value: None,
+    kind: Kind::Flag,
+    default: None,
+    help: "JSON, a node an object, in place of text",
+    apart: &[],
+};
+
 /// How many bytes the stack has.
 pub const STACK: Row = Row {
     id: "stack",

@@ -5,6 +5,7 @@ mod building;
 mod images;
 mod listing;
 mod listing_text;
+mod showing;
 mod sizes;
 mod source_lines;
 mod stack_table;
@@ -12,6 +13,7 @@ mod symbols;
 
 pub use images::show_image;
 pub use listing::{ListForm, list_code};
+pub use showing::show_form;
 pub use sizes::show_size;
 pub use stack_table::show_frames;
 pub use symbols::write_symbols;
