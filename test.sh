@@ -95,6 +95,7 @@ stack        | python3                                  | python3 tests/outside/
 beyond       | python3                                  | python3 tests/outside/stack/beyond.py "$cc"
 mistakes     | python3                                  | python3 tests/outside/mistakes/check.py "$cc"
 inspecting   | python3                                  | python3 tests/outside/inspecting/check.py "$cc"
+forms        | python3                                  | python3 tests/outside/forms/check.py "$cc"
 tables       | python3                                  | python3 share/tables.py "$cc" --check
 version      |                                          | sh share/version.sh --check "$cc"
 documents    |                                          | sh tests/documents.sh "$cc"

@@ -12,6 +12,11 @@ pub enum Style {
     Json,
 }
 
+/// What stands in a text without its key, since what it is can be seen.
+const PLAIN: [&str; 10] = [
+    "type", "op", "name", "specifier", "function", "value", "number", "code", "text", "static",
+];
+
 /// Nodes that are being written, from the outermost on.
 #[derive(Drop)]
 pub(crate) struct Writer<'n> {
@@ -150,13 +155,22 @@ impl<'n> Writer<'n> {
 
     fn put_key(&mut self, key: &str) -> Result<(), AllocError> {
         match self.style {
-            Style::Text => self.text.push_str(" "),
+            Style::Text => self.put_plain_key(key),
             Style::Json => {
                 self.text.push_str(",\"")?;
                 self.text.push_str(key)?;
                 self.text.push_str("\":")
             }
         }
+    }
+
+    fn put_plain_key(&mut self, key: &str) -> Result<(), AllocError> {
+        self.text.push_str(" ")?;
+        if PLAIN.contains(&key) {
+            return Ok(());
+        }
+        self.text.push_str(key)?;
+        self.text.push_str("=")
     }
 
     /// Bytes in quotes; all but printable ASCII as JSON escapes them.
