@@ -8,12 +8,13 @@ use typed_ast::{
     ForControl, Function, Initialiser, ObjectType, ParameterType, Program, Statement, Static, Value,
 };
 
+/// The type of an object: that of its elements, and the length of each array, from the outermost.
 fn put_object_type(out: &mut Writer<'_>, ty: &ObjectType) -> Result<(), AllocError> {
-    out.word("type", type_word(ty.element))?;
+    let mut text = String::from_str(out.alloc, type_word(ty.element))?;
     for length in &ty.lengths {
-        out.number("length", i64::from(*length))?;
+        text.push_str(format!(in out.alloc; "[{length}]")?.as_str())?;
     }
-    Ok(())
+    out.word("type", text.as_str())
 }
 
 #[cycle(typed_initialisers)]

@@ -20,7 +20,7 @@ const PLAIN: [&str; 10] = [
 /// Nodes that are being written, from the outermost on.
 #[derive(Drop)]
 pub(crate) struct Writer<'n> {
-    alloc: Global,
+    pub(crate) alloc: Global,
     names: &'n Names,
     style: Style,
     /// For each node that is open, whether it has parts.

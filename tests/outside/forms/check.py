@@ -109,7 +109,7 @@ TYPED = '''program
             object automatic=0 [s.c:3]
           constant int 2
   function main int
-    automatic 0 int length=3
+    automatic 0 int[3]
     block [s.c:4]
       define [s.c:6] automatic=0
         list
