@@ -12,8 +12,8 @@ mod token_stream;
 mod transfer;
 mod writing;
 
-pub use compiling::{Built, compile, compile_with};
 pub use cc_backend::{CodeMap, CodeRow, DataObject, FunctionCode, Reference};
+pub use compiling::{Built, compile, compile_with};
 pub use elf_out::StackSize;
 pub use mapping::{checked_program, map_of};
 pub use performing::{Cmd, perform};

@@ -1,8 +1,6 @@
 //! The form of the command line, made from the table.
 
-use crate::forms::{
-    build, explain, frames, image, interp, list, pp, run, show, size, symbols,
-};
+use crate::forms::{build, explain, frames, image, interp, list, pp, run, show, size, symbols};
 use clap::Command;
 use std::alloc::{AllocError, Global};
 

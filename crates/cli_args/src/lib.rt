@@ -15,5 +15,6 @@ pub use asking::{Asked, ask};
 pub use habits::{Refused, plain_words};
 pub use reading::{Reading, macro_name};
 pub use request::{
-    Colours, Command, ImageForm, Program, Request, Role, Rule, ShownForm, Stage, Telling, Trace, Word,
+    Colours, Command, ImageForm, Program, Request, Role, Rule, ShownForm, Stage, Telling, Trace,
+    Word,
 };

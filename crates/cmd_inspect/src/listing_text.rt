@@ -80,7 +80,13 @@ impl Listing<'_> {
     /// Puts what stands before the instruction at an address: a label, and the lines of the sources.
     fn put_heads(&mut self, alloc: Global, address: u32) -> Result<(), AllocError> {
         if self.form.has_labels {
-            put_label(alloc, address, self.table, self.targets.as_slice(), &mut self.text)?;
+            put_label(
+                alloc,
+                address,
+                self.table,
+                self.targets.as_slice(),
+                &mut self.text,
+            )?;
         }
         if self.form.has_lines {
             self.lines.put_at(alloc, address, &mut self.text)?;

@@ -25,7 +25,14 @@ pub fn show_form(
     }
     let stack = stack_size(program);
     let style = if is_json { Style::Json } else { Style::Text };
-    match show(rt.alloc(), &sources.set, sources.main, stack, form_of(form), style) {
+    match show(
+        rt.alloc(),
+        &sources.set,
+        sources.main,
+        stack,
+        form_of(form),
+        style,
+    ) {
         Ok(text) => put_file(rt, out, text.as_bytes()),
         Err(fault) => say(rt, &sources.told(rt.alloc(), fault)),
     }

@@ -67,7 +67,11 @@ fn run_loaded(
 }
 
 /// The functions of the file that the sources of the words build, the main one first; `None` where that is not this file.
-fn map_of(rt: &HostRuntime, program: &Program<'_>, file: &[u8]) -> Result<Option<SymbolTable>, Fault> {
+fn map_of(
+    rt: &HostRuntime,
+    program: &Program<'_>,
+    file: &[u8],
+) -> Result<Option<SymbolTable>, Fault> {
     let Some(built_from) = sources_of(rt.alloc(), program) else {
         return Err(Fault::memory(rt.alloc()));
     };

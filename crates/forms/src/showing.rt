@@ -58,12 +58,7 @@ fn told(alloc: Global, written: Result<String, AllocError>) -> Result<String, Fa
     }
 }
 
-fn show_tokens(
-    alloc: Global,
-    set: &FileSet,
-    main: &str,
-    style: Style,
-) -> Result<String, Fault> {
+fn show_tokens(alloc: Global, set: &FileSet, main: &str, style: Style) -> Result<String, Fault> {
     let mut names = Names::new(alloc);
     let list = preprocess(alloc, set, &mut names, main)?;
     let mut out = Writer::new(alloc, &names, style);

@@ -6,8 +6,8 @@ use srcset::Pos;
 use std::alloc::AllocError;
 use tree::{
     BlockItem, Declaration, Enumerator, Expr, External, ForHead, ForStart, Function,
-    FunctionDeclarator, Initialiser, Item, ObjectDeclarator, Parameter, Specifier, Specifiers, Stmt,
-    Unit,
+    FunctionDeclarator, Initialiser, Item, ObjectDeclarator, Parameter, Specifier, Specifiers,
+    Stmt, Unit,
 };
 
 fn put_option(out: &mut Writer<'_>, e: &Option<Expr>) -> Result<(), AllocError> {
@@ -206,13 +206,7 @@ fn put_pieces(out: &mut Writer<'_>, items: &[BlockItem]) -> Result<(), AllocErro
 }
 
 #[cycle(statement_forms)]
-fn put_else(
-    out: &mut Writer<'_>,
-    at: Pos,
-    e: &Expr,
-    a: &Stmt,
-    b: &Stmt,
-) -> Result<(), AllocError> {
+fn put_else(out: &mut Writer<'_>, at: Pos, e: &Expr, a: &Stmt, b: &Stmt) -> Result<(), AllocError> {
     out.begin_at("if", at)?;
     put_expression(out, e)?;
     put_statement(out, a)?;

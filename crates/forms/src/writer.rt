@@ -14,7 +14,16 @@ pub enum Style {
 
 /// What stands in a text without its key, since what it is can be seen.
 const PLAIN: [&str; 10] = [
-    "type", "op", "name", "specifier", "function", "value", "number", "code", "text", "static",
+    "type",
+    "op",
+    "name",
+    "specifier",
+    "function",
+    "value",
+    "number",
+    "code",
+    "text",
+    "static",
 ];
 
 /// Nodes that are being written, from the outermost on.

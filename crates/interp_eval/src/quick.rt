@@ -98,7 +98,9 @@ pub fn is_quick_statement(a: &Statement) -> bool
         Statement::Define(_, _, i) => is_quick_initialiser(i),
         Statement::Block(_, _, _, all) => are_quick(all),
         Statement::If(_, e, a) => is_quick(e) && is_quick_statement(a),
-        Statement::IfElse(_, e, a, b) => is_quick(e) && is_quick_statement(a) && is_quick_statement(b),
+        Statement::IfElse(_, e, a, b) => is_quick(e)
+            && is_quick_statement(a)
+            && is_quick_statement(b),
         Statement::Switch(_, _, _, _, _, _) => false,
         Statement::Case(_, _) => true,
         Statement::Default(_) => true,

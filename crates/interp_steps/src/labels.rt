@@ -37,7 +37,8 @@ pub fn label_of(a: &Statement) -> Label
         Statement::Case(_, v) => Label::Case(*v),
         Statement::Default(_) => Label::Default,
         Statement::Empty(_) | Statement::Evaluate(_, _) | Statement::Declare(_, _) => Label::None,
-        Statement::Define(_, _, _) | Statement::Block(_, _, _, _) | Statement::If(_, _, _) => Label::None,
+        Statement::Define(_, _, _) | Statement::Block(_, _, _, _) | Statement::If(_, _, _) =>
+            Label::None,
         Statement::IfElse(_, _, _, _) | Statement::Switch(_, _, _, _, _, _) => Label::None,
         Statement::While(_, _, _) | Statement::DoWhile(_, _, _) => Label::None,
         Statement::For(_, _, _, _) | Statement::Break(_) | Statement::Continue(_) => Label::None,

@@ -51,7 +51,13 @@ pub(crate) fn line_table(alloc: Global, map: &SymbolTable) -> Result<LineTable, 
     }
     let past = last.start.wrapping_add(last.size);
     let files = map.files.as_slice();
-    put_info(&mut table.info, files, first.start, past, entries.as_slice())?;
+    put_info(
+        &mut table.info,
+        files,
+        first.start,
+        past,
+        entries.as_slice(),
+    )?;
     put_lines(alloc, &mut table.lines, files, rows.as_slice())?;
     Ok(table)
 }

@@ -262,13 +262,18 @@ fn text_of(alloc: Global, functions: &[FunctionCode], file: &[u8]) -> Result<Vec
         None => 0,
     };
     let start = TEXT_OFFSET as usize;
-    Vec::from_slice(alloc, file.get(start..start.saturating_add(bytes)).unwrap_or_default())
+    Vec::from_slice(
+        alloc,
+        file.get(start..start.saturating_add(bytes))
+            .unwrap_or_default(),
+    )
 }
 
 impl SymbolTable {
     /// The function in whose code an address lies.
     pub fn at(&self, address: u32) -> Option<&Function> {
-        self.functions.get(index_at(self.functions.as_slice(), address)?)
+        self.functions
+            .get(index_at(self.functions.as_slice(), address)?)
     }
 
     /// The number of the function of this name.
@@ -280,8 +285,6 @@ impl SymbolTable {
 
     /// The object in whose bytes an address lies.
     pub fn object_at(&self, address: u32) -> Option<&Object> {
-        self.objects
-            .iter()
-            .find(|object| address.wrapping_sub(object.address) < object.size)
+        self.objects.iter().find(|object| address.wrapping_sub(object.address) < object.size)
     }
 }

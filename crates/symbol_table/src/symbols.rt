@@ -111,7 +111,12 @@ fn put_symbols(
         },
     )?;
     let start = first.wrapping_sub(TEXT_START);
-    put_named(names, symbols, "_start", &function_symbol(TEXT_START, start))?;
+    put_named(
+        names,
+        symbols,
+        "_start",
+        &function_symbol(TEXT_START, start),
+    )?;
     for function in &map.functions {
         let symbol = function_symbol(function.start, function.size);
         put_named(names, symbols, function.name.as_str(), &symbol)?;

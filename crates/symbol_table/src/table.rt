@@ -1,7 +1,7 @@
 //! What each function takes, as a table.
 
 use crate::depth::{Chain, Cost, deepest};
-use crate::functions::{SymbolTable, Function};
+use crate::functions::{Function, SymbolTable};
 use std::alloc::{AllocError, Global};
 
 /// The fewest letters of the column of names.

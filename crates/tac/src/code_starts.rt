@@ -17,11 +17,7 @@ pub struct CodeStart {
     pub number: usize,
 }
 
-fn put_start(
-    starts: &mut Vec<CodeStart>,
-    place: Pos,
-    number: usize,
-) -> Result<(), AllocError> {
+fn put_start(starts: &mut Vec<CodeStart>, place: Pos, number: usize) -> Result<(), AllocError> {
     starts.push(CodeStart { place, number })?;
     Ok(())
 }
