@@ -213,7 +213,7 @@ module _ (G : Ground) (s : State) (r b : ℕ → ℕ) (ready : Ready G) (m : Mat
       (onward F G.env G.data_at i h Q {a0 = 1} 2 (st2.0 + 4) st3.0 r8 b1 (sym st3.1.1)
       (adds F G.env G.data_at i h Q {a0 = 1} 1 10 10 (2 ^ 32 - 1) w st3.0 st4.0 r8 b1 st4.1 ew
       (on_op F Anything Q 0 r9 st4.0 b1 i h tt {a0 = 0} register_op.Or 10 10 11 st5.1.0
-      (subst (λ k. Comes F Anything 0 0 (Go (with_reg r9 10 k) (st4.0 + 4) b1 i h) Q) (sym is) done))))))
+      (subst (λ k. Comes F Anything 0 0 (Go (with_reg r9 10 k) (st4.0 + 4) b1 i h) Q) (sym is) done)))))))
 
   calling_four : (t u v : ℕ) (r1 r2 : ℕ → ℕ) → Only 11 r r1 → ((k : ℕ) → k ≢ 10 → k ≢ 11 → r2 k ≡ with_reg (with_reg (with_reg (with_reg r1 10 0) 12 t) 17 u) 10 v k) → Calling r r2
   calling_four t u v r1 r2 only same = record {
