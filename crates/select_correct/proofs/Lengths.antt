@@ -22,7 +22,7 @@ use Rattle.select.specs.declared.places.Source.TheVariants as source
 use Rattle.select.specs.declared.places.Home.{Home}
 use Rattle.select.specs.declared.places.Home.TheVariants as home
 use Rattle.select.specs.Selected.{source_of, home_of, kept, machine_of, constant_form, fetch, into, keep, made_in, register_of, far, load_word, store_word, address_of, move, ending, operate, form_or, combine, narrow, operate_on, reach, reach_base, reach_offset, load_of, reference, scale, scaled_in, change_sp, saves, restores, calls, keep_return, take_return, entry, leave, return_home, byte_home, items_of, set_to}
-use Rattle.select_correct.specs.Costs.{far_cost, word_cost, set_cost, fetch_cost, keep_cost, into_cost, move_cost, form_cost, second_cost, ending_cost, compute_cost, narrow_cost, reach_cost, reference_cost, scale_cost, frame_cost, saved_cost, return_cost, opening_cost, row, RowsAreLengths}
+use Rattle.select_correct.specs.Costs.{far_cost, word_cost, set_cost, fetch_cost, keep_cost, into_cost, move_cost, form_cost, second_cost, ending_cost, compute_cost, narrow_cost, reach_cost, reference_cost, scale_cost, frame_cost, saved_cost, return_cost, opening_cost, row, RowsAreLengths, item_count}
 
 both : (xs ys : List Item) (a b : ℕ) → longest xs ≡ 4 * a → longest ys ≡ 4 * b → longest (xs ++ ys) ≡ 4 * (a + b)
 both xs ys a b p q = let sum : longest (xs ++ ys) ≡ longest xs + longest ys = sum_by-append (size true) xs ys in omega (arith, p, q, sum)
@@ -151,7 +151,7 @@ leave_long f =
     (both (take_return f) _ _ _ (take_return_long f)
     (both (change_sp (frame_bytes f)) _ _ 1 (change_long (frame_bytes f)) refl))
 
-items_long : (f : Function) (first : ℕ) (x : Instruction) → longest (items_of f first x) ≡ 4 * row f x
+items_long : (f : Function) (first : ℕ) (x : Instruction) → longest (items_of f first x) ≡ 4 * item_count f x
 items_long f first instruction.Nothing = refl
 items_long f first (instruction.Move d x) = move_long (home_of f d) (source_of f x)
 items_long f first (instruction.Compute o d x y) = compute_long o (home_of f d) (source_of f x) (source_of f y)
@@ -173,7 +173,8 @@ items_long f first (instruction.Jump to) = refl
 items_long f first (instruction.Branch t x y to) =
     both (fetch 5 (source_of f x)) _ _ _ (fetch_long 5 (source_of f x)) (both (fetch 6 (source_of f y)) _ _ 2 (fetch_long 6 (source_of f y)) refl)
 items_long f first (instruction.Call g) = refl
-items_long f first instruction.PutByte = both (address_of 11 (byte_home f)) _ _ 10 (address_long 11 (byte_home f)) refl
+items_long f first instruction.PutByte =
+    let all : longest (put_byte f) ≡ 4 * (word_cost (byte_home f) + 10) = both (address_of 11 (byte_home f)) _ _ 10 (address_long 11 (byte_home f)) refl in omega (arith, all)
 items_long f first instruction.GetByte = both (address_of 11 (byte_home f)) _ _ 9 (address_long 11 (byte_home f)) refl
 items_long f first instruction.Exit = refl
 items_long f first instruction.Return = leave_long f

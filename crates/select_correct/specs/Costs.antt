@@ -161,9 +161,14 @@ row f instruction.GetByte = word_cost (byte_home f) + 9
 row f instruction.Exit = 2
 row f instruction.Return = saved_cost f f.resident + (return_cost f + (frame_cost (frame_bytes f) + 1))
 
--- a row is how many instructions the items are, with all branches long
+-- how many instructions the items are: behind a byte that is put stand three more, which no run comes to where each call answers 1
+abbrev pub item_count : Function → Instruction → ℕ
+item_count f instruction.PutByte = row f instruction.PutByte + 3
+item_count f x = row f x
+
+-- with all branches long
 abbrev pub RowsAreLengths : Type 0
-RowsAreLengths = (f : Function) (first : ℕ) → (longest (entry f) ≡ 4 * opening_cost f) × ((x : Instruction) → longest (items_of f first x) ≡ 4 * row f x)
+RowsAreLengths = (f : Function) (first : ℕ) → (longest (entry f) ≡ 4 * opening_cost f) × ((x : Instruction) → longest (items_of f first x) ≡ 4 * item_count f x)
 
 -- with the entry of a function that is called
 abbrev pub step_cost : Program → Function → Instruction → ℕ
