@@ -21,7 +21,7 @@ use Rattle.select.specs.declared.places.Source.{Source}
 use Rattle.select.specs.declared.places.Source.TheVariants as source
 use Rattle.select.specs.declared.places.Home.{Home}
 use Rattle.select.specs.declared.places.Home.TheVariants as home
-use Rattle.select.specs.Selected.{source_of, home_of, kept, machine_of, constant_form, fetch, into, keep, made_in, register_of, far, load_word, store_word, address_of, move, ending, operate, form_or, combine, narrow, operate_on, reach, reach_base, reach_offset, load_of, reference, scale, scaled_in, change_sp, saves, restores, calls, keep_return, take_return, entry, leave, return_home, byte_home, items_of, set_to}
+use Rattle.select.specs.Selected.{source_of, home_of, kept, machine_of, constant_form, fetch, into, keep, made_in, register_of, far, load_word, store_word, address_of, move, ending, operate, form_or, combine, narrow, operate_on, reach, reach_base, reach_offset, load_of, reference, scale, scaled_in, put_byte, change_sp, saves, restores, calls, keep_return, take_return, entry, leave, return_home, byte_home, items_of, set_to}
 use Rattle.select_correct.specs.Costs.{far_cost, word_cost, set_cost, fetch_cost, keep_cost, into_cost, move_cost, form_cost, second_cost, ending_cost, compute_cost, narrow_cost, reach_cost, reference_cost, scale_cost, frame_cost, saved_cost, return_cost, opening_cost, row, RowsAreLengths, item_count}
 
 both : (xs ys : List Item) (a b : ℕ) → longest xs ≡ 4 * a → longest ys ≡ 4 * b → longest (xs ++ ys) ≡ 4 * (a + b)
