@@ -12,7 +12,7 @@
    ANSWERS. A call fills `out` and `message` as far as there is room, leaves what is behind, and tells in `sizes` how long
    the output and the message are: a buffer of fewer bytes was too small, and one of so many is large enough. A message is
    one line with a newline, or empty; neither has a zero at its end.
-   After status 1 or 256 of zk_build, zk_frames, zk_preprocess and zk_list the output is empty, and `out` is as it was. The output of
+   After status 1 or 256 of zk_build, zk_frames, zk_preprocess, zk_list and zk_form the output is empty, and `out` is as it was. The output of
    zk_interpret and zk_run is what the program has put, whatever the status: nothing, where it did not begin.
 
    STATUS, as of the program zkc:
@@ -22,7 +22,7 @@
      124  zk_interpret, zk_run: the program goes on after so many ticks or instructions
      125  zk_run: a trap; the message tells which, and where
      126  zk_interpret, zk_run: memory ran out for the output
-     256  the lengths of `files` do not add up to that of `texts`
+     256  the lengths of `files` do not add up to that of `texts`; zk_form: there is no such form
    A program can end with any status from 0 to 255; where it ended by itself, the message is empty.
 
    STACK. A call takes up to 2.25 MiB of its thread's stack, for a source of depth 256. A thread of glibc has 8 MiB by default; those
@@ -60,6 +60,13 @@ uint32_t zk_preprocess(const uint8_t *texts, size_t texts_length, const struct z
 /* A line for each word of the program's code: its address, the word, the instruction. */
 uint32_t zk_list(const uint8_t *texts, size_t texts_length, const struct zk_file *files, size_t files_length,
                  const uint8_t *main, size_t main_length,
+                 uint8_t *out, size_t out_length, uint8_t *message, size_t message_length, struct zk_sizes *sizes);
+
+/* A form that the compiler makes of the program between its phases, as JSON: a node is an object with `node` (its kind), attributes, `file` and `line`
+   where it has a place, and `parts`. `form`: 0 the tokens after preprocessing, 1 the syntax tree, 2 the typed program, 3 three-address code,
+   4 flat code; with another number the status is 256. */
+uint32_t zk_form(const uint8_t *texts, size_t texts_length, const struct zk_file *files, size_t files_length,
+                 const uint8_t *main, size_t main_length, uint32_t form,
                  uint8_t *out, size_t out_length, uint8_t *message, size_t message_length, struct zk_sizes *sizes);
 
 /* What the program means, over this input, for at most `max` ticks of the abstract machine; the output is what it has put. */

@@ -4,6 +4,7 @@ import { ask, load, stop } from './asking.js';
 import { examples } from './examples.js';
 import * as sources from './sources.js';
 import * as tabs from './tabs.js';
+import * as forms from './forms.js';
 import * as listing from './listing.js';
 import * as traces from './traces.js';
 import { WINDOW, showFrames, showMachine, showMemory, state, windowFrom } from './machine.js';
@@ -47,6 +48,7 @@ async function build() {
   if (tokens.answer) $('token-text').textContent = beginning(tokens.answer.output);
   if (built.failed) return tooDeep(built.failed);
   sources.showFault(built.answer.message);
+  if (!$('forms').hidden) await forms.show();
   if (built.answer.status !== 0) return say(built.answer.message.trim());
   session.file = built.answer.output;
   await showCode(turn);
@@ -99,6 +101,7 @@ function breakAt(address) {
 function shown(tab) {
   if (session.seen) showMachine();
   if (session.file && tab.id === 'tab-both') traces.measure();
+  if (tab.id === 'tab-forms') forms.show();
 }
 
 // ---- beginning
@@ -165,6 +168,7 @@ async function begin() {
   $('examples').replaceChildren(new Option('choose one', ''), ...examples.map(({ name }, k) => new Option(name, k)));
   listen();
   tabs.begin(shown);
+  forms.begin();
   listing.begin({ runTo: goTo, breakAt });
   traces.begin();
   enable();

@@ -86,6 +86,18 @@ export function toFault() {
   $('source').scrollTop = Math.max(0, LINE * (at - 4));
 }
 
+// Shows a line of a file, and selects it; says whether there is such a file.
+export function mark(name, line) {
+  const index = kept.findIndex(([other]) => other === name);
+  if (index < 0) return false;
+  if (index !== shown) choose(index);
+  const lines = $('source').value.split('\n'), begin = lines.slice(0, line - 1).reduce((sum, one) => sum + one.length + 1, 0);
+  $('source').focus();
+  $('source').setSelectionRange(begin, begin + (lines[line - 1] ?? '').length);
+  $('source').scrollTop = Math.max(0, LINE * (line - 4));
+  return true;
+}
+
 // ---- the fragment: the files and the input
 
 const toBase64 = bytes => btoa(Array.from(bytes, b => String.fromCharCode(b)).join('')).replaceAll('+', '-').replaceAll('/', '_').replaceAll('=', '');

@@ -51,7 +51,7 @@ export function open(module) {
   function over(call, files, main, ...more) {
     const { texts, lengths, count } = given(files);
     return answer(({ put, slice }, rooms) => {
-      const others = more.flatMap(part => typeof part === 'bigint' ? [part] : slice(part));
+      const others = more.flatMap(part => typeof part === 'bigint' || typeof part === 'number' ? [part] : slice(part));
       return call(...slice(texts), put(lengths), size(count), ...slice(main), ...others, ...rooms);
     });
   }
@@ -82,6 +82,7 @@ export function open(module) {
     frames: (files, main) => over(c.zk_frames, files, main),
     preprocess: (files, main) => over(c.zk_preprocess, files, main),
     list: (files, main) => over(c.zk_list, files, main),
+    form: (files, main, form) => over(c.zk_form, files, main, form),
     interpret: (files, main, input = '', max = 1e9) => over(c.zk_interpret, files, main, input, BigInt(max)),
     run: (file, name, input = '', max = 1e9) =>
       answer(({ slice }, rooms) => c.zk_run(...slice(file), ...slice(name), ...slice(input), BigInt(max), ...rooms)),

@@ -1,4 +1,4 @@
-"""Zikorape from Python, by ctypes: `build`, `frames`, `preprocess`, `listing`, `interpret`, `run`, `step`, `message`,
+"""Zikorape from Python, by ctypes: `build`, `frames`, `preprocess`, `listing`, `form`, `interpret`, `run`, `step`, `message`,
 `version`.
 
     import zikorape
@@ -15,6 +15,7 @@ import os
 from dataclasses import dataclass
 
 MAX = 1_000_000_000
+FORMS = ('tokens', 'tree', 'typed', 'tac', 'flat')
 
 
 class File(ctypes.Structure):
@@ -74,7 +75,7 @@ def _slice(data):
 class Library:
     def __init__(self, path='libzikorape.so'):
         self._c = ctypes.CDLL(path)
-        for name in ('build', 'frames', 'preprocess', 'list', 'interpret', 'run', 'step'):
+        for name in ('build', 'frames', 'preprocess', 'list', 'form', 'interpret', 'run', 'step'):
             getattr(self._c, 'zk_' + name).restype = ctypes.c_uint32
         for name in ('message', 'version'):
             getattr(self._c, 'zk_' + name).restype = ctypes.c_uint64
@@ -90,6 +91,10 @@ class Library:
 
     def listing(self, files, main):
         return self._over(self._c.zk_list, files, main)
+
+    def form(self, files, main, form):
+        """A form of the program as JSON: one of FORMS."""
+        return self._over(self._c.zk_form, files, main, ctypes.c_uint32(FORMS.index(form)))
 
     def interpret(self, files, main, input=b'', max=MAX):
         return self._over(self._c.zk_interpret, files, main, *_slice(_bytes(input)), ctypes.c_uint64(max))

@@ -42,6 +42,9 @@ extern "C" {
         texts: In, n: usize, files: *const File, k: usize, main: In, m: usize, out: Out, o: usize, message: Out, l: usize, sizes: *mut Sizes,
     ) -> u32;
     fn zk_list(texts: In, n: usize, files: *const File, k: usize, main: In, m: usize, out: Out, o: usize, message: Out, l: usize, sizes: *mut Sizes) -> u32;
+    fn zk_form(
+        texts: In, n: usize, files: *const File, k: usize, main: In, m: usize, form: u32, out: Out, o: usize, message: Out, l: usize, sizes: *mut Sizes,
+    ) -> u32;
     fn zk_interpret(
         texts: In, n: usize, files: *const File, k: usize, main: In, m: usize, input: In, i: usize, max: u64,
         out: Out, o: usize, message: Out, l: usize, sizes: *mut Sizes,
@@ -110,6 +113,25 @@ pub fn preprocess(files: &[(&str, &[u8])], main: &str) -> Answer {
 /// The listing of the code.
 pub fn list(files: &[(&str, &[u8])], main: &str) -> Answer {
     over(zk_list, files, main)
+}
+
+/// A form that the compiler makes of a program between its phases.
+#[derive(Clone, Copy, Debug, PartialEq, Eq)]
+pub enum Form {
+    Tokens,
+    Tree,
+    Typed,
+    Tac,
+    Flat,
+}
+
+/// A form of the program as JSON.
+pub fn form(files: &[(&str, &[u8])], main: &str, form: Form) -> Answer {
+    let (texts, lengths) = given(files);
+    with_room(|out, message, sizes| unsafe {
+        zk_form(texts.as_ptr(), texts.len(), lengths.as_ptr(), lengths.len(), main.as_ptr(), main.len(), form as u32,
+            out.as_mut_ptr(), out.len(), message.as_mut_ptr(), message.len(), sizes)
+    })
 }
 
 /// What the program means over this input, for at most `max` ticks.

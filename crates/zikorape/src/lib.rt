@@ -9,6 +9,7 @@ mod commands;
 mod files;
 mod giving;
 mod refusing;
+mod showing;
 mod standing;
 mod stepping;
 mod ticking;
@@ -22,8 +23,9 @@ ghost use Rattle.zikorape.specs.Stepped.{Window, Stands, FailsToStand};
 
 use cc::Cmd;
 use files::{FileLengths, text_or_empty};
-use giving::{Sizes, give};
-use refusing::{given, refuse};
+use giving::{Sizes, give, hand_out};
+use refusing::{NO_FILES, given, refuse};
+use showing::{form_of, show_form};
 use srcset::{FileSet, message};
 use standing::{Standing, stand};
 use std::alloc::Global;
@@ -128,6 +130,29 @@ pub extern "C" fn zk_list(
             message,
             sizes,
         ),
+        Err(refusal) => refuse(alloc, &refusal, out, message, sizes),
+    }
+}
+
+/// A form of the program in the file `main`, as JSON: 0 its tokens after preprocessing, 1 its syntax tree, 2 its typed program, 3 its
+/// three-address code, 4 its flat code. For another number it answers 256. It has no clause but that it is safe.
+#[unsafe(no_mangle)]
+pub extern "C" fn zk_form(
+    alloc: Global,
+    texts: &[u8],
+    files: &[FileLengths],
+    main: &[u8],
+    form: u32,
+    out: &mut [u8],
+    message: &mut [u8],
+    sizes: &mut Sizes,
+) -> u32 {
+    let Some(form) = form_of(form) else {
+        hand_out(b"", b"", out, message, sizes);
+        return NO_FILES;
+    };
+    match given(alloc, texts, files) {
+        Ok(set) => show_form(alloc, &set, text_or_empty(main), form, out, message, sizes),
         Err(refusal) => refuse(alloc, &refusal, out, message, sizes),
     }
 }
