@@ -88,6 +88,25 @@ async function listing() {
   await shot('stack');
 }
 
+async function trees() {
+  await page.click('tab-forms');
+  const nodes = `document.querySelectorAll('#form-nodes li').length`;
+  check('the syntax tree has nodes', await page.until(`${nodes} > 5`), await page.told('form-rest'));
+  check('its root is the unit', await page.run(`document.querySelector('#form-nodes summary b').textContent`) === 'unit');
+  for (const [form, root] of [['2', 'program'], ['3', 'program'], ['4', 'program'], ['0', 'tokens'], ['1', 'unit']]) {
+    await page.run(`{ const form = document.getElementById('form'); form.value = '${form}'; form.dispatchEvent(new Event('change')); }`);
+    check(`form ${form} begins with ${root}`, await page.until(`document.querySelector('#form-nodes summary b')?.textContent === '${root}'`));
+  }
+  await page.run(`document.querySelector('#form-nodes .place').click()`);
+  const marked = `(() => { const s = document.getElementById('source'); return s.value.slice(s.selectionStart, s.selectionEnd); })()`;
+  check('a place marks its line in the source', (await page.run(marked)).length > 0 && !(await page.run(marked)).includes('\n'), await page.run(marked));
+  await page.click('form-open');
+  check('all nodes open', await page.run(`[...document.querySelectorAll('#form-nodes details')].every(one => one.open)`));
+  await page.click('form-close');
+  check('and close, but the root', await page.run(`[...document.querySelectorAll('#form-nodes details details')].every(one => !one.open)`));
+  await shot('forms');
+}
+
 async function traces() {
   await example('calculator');
   await page.click('tab-both');
@@ -106,7 +125,7 @@ async function traces() {
 async function keyboard() {
   await page.run(`document.getElementById('tab-tokens').click(); document.getElementById('tab-tokens').focus()`);
   await page.key('ArrowRight', 39);
-  check('an arrow moves to the next tab', await page.run(`document.activeElement.id === 'tab-listing'`) && await isOpen('listing') && !await isOpen('tokens'));
+  check('an arrow moves to the next tab', await page.run(`document.activeElement.id === 'tab-forms'`) && await isOpen('forms') && !await isOpen('tokens'));
   await page.key('End', 35);
   check('End moves to the last', await page.run(`document.activeElement.id === 'tab-both'`));
   await page.type('int main(void) { return 6; }\n');
@@ -177,7 +196,7 @@ async function withoutWorker() {
 }
 
 async function looks() {
-  for (const tab of ['tokens', 'listing', 'machine', 'frames', 'both']) {
+  for (const tab of ['tokens', 'forms', 'listing', 'machine', 'frames', 'both']) {
     await page.click('tab-' + tab);
     if (tab === 'listing') await page.run(`document.querySelectorAll('#listing-lines button')[2].click()`);
     await page.width(360);
@@ -205,7 +224,7 @@ async function names() {
   check('nothing is thrown', page.thrown.length === 0, page.thrown.join('; '));
 }
 
-for (const part of [load, faults, running, listing, traces, keyboard, endless, deep, several, sharing, withoutWorker, looks, names]) {
+for (const part of [load, faults, running, listing, trees, traces, keyboard, endless, deep, several, sharing, withoutWorker, looks, names]) {
   try { await part(); } catch (error) { check(part.name, false, String(error)); }
 }
 console.log(`${passed} passed, ${failed} failed`);
