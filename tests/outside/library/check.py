@@ -220,6 +220,23 @@ STANDS = [(0, 0x11000, {}), (1, 0x11004, {2: 0x80000000}), (2, 0x11008, {2: 0x80
           (9, 0x1102C, {1: 0x11010, 2: 0x7FFFFFF0, 5: 70, 10: 72, 11: 0x7FFFFFF0})]
 
 
+def forms(counted, zk, program, given):
+    """Each form of some sources against what `show --json` prints."""
+    def shown(files, form):
+        with tempfile.TemporaryDirectory() as folder:
+            for name, text in files:
+                with open(os.path.join(folder, name), 'wb') as file:
+                    file.write(text)
+            done = subprocess.run([program, 'show', form, *[name for name, _ in files], '--json'], cwd=folder, capture_output=True, timeout=120)
+            return done.returncode, done.stdout if done.returncode == 0 else b'', done.stderr
+    some = [one for one in given if not one[0].startswith('nested')][::9]
+    for name, files, _ in some:
+        for form in zikorape.FORMS:
+            answer, want = zk.form(files, files[0][0], form), shown(files, form)
+            counted.holds('form %s of %s' % (form, name), (answer.status, answer.output, answer.message.encode()) == want, (answer.status, answer.message, want))
+    counted.holds('no such form', zk._over(zk._c.zk_form, [('a.c', b'')], 'a.c', ctypes.c_uint32(5)).status == 256)
+
+
 def machine(counted, zk):
     file = zk.build([('main.c', TOUR)], 'main.c').output
     for count, pc, registers in STANDS:
@@ -322,6 +339,7 @@ def check(counted, cc, out):
     kinds_of_texts(counted, zk)
     texts(counted, zk)
     frames(counted, zk)
+    forms(counted, zk, cc.path, given)
     machine(counted, zk)
     threads(counted, zk, wanted)
     fewer = [one for one in wanted if one[0].startswith(OTHERS)]
