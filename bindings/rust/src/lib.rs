@@ -1,7 +1,7 @@
 //! Zikorape from Rust: the calls of `zikorape.h` over slices, with answers that own their bytes.
 //!
 //! ```no_run
-//! let answer = zikorape::build(&[("main.c", b"int main(void) { return 42; }\n")], "main.c");
+//! let answer = zikorape::build(&[("main.c", b"int main(void) { return 42; }\n")], "main.c").check().unwrap();
 //! assert_eq!(zikorape::run(&answer.output, "a.out", b"", 1_000_000).status, 42);
 //! ```
 //!
@@ -63,6 +63,48 @@ pub struct Answer {
     pub status: u32,
     pub output: Vec<u8>,
     pub message: String,
+}
+
+/// Why a program was refused.
+#[derive(Clone, Debug, PartialEq, Eq)]
+pub enum Error {
+    /// A fault in a file, at a line counted from 1, or 0 where it concerns the whole file.
+    Fault { file: String, line: u32, code: u16, text: String },
+    /// Memory ran out.
+    OutOfMemory,
+    /// The files are none, or there is no such form.
+    NoFiles,
+}
+
+impl std::fmt::Display for Error {
+    fn fmt(&self, f: &mut std::fmt::Formatter<'_>) -> std::fmt::Result {
+        match self {
+            Error::Fault { file, line, code, text } => write!(f, "{file}:{line}: {code} {text}"),
+            Error::OutOfMemory => write!(f, "801 out of memory"),
+            Error::NoFiles => write!(f, "no such files"),
+        }
+    }
+}
+
+impl std::error::Error for Error {}
+
+/// The parts of `FILE:LINE: CODE TEXT`.
+fn fault(message: &str) -> Option<Error> {
+    let (place, rest) = message.trim_end().split_once(": ")?;
+    let (file, line) = place.rsplit_once(':')?;
+    let (code, text) = rest.split_once(' ')?;
+    Some(Error::Fault { file: file.to_string(), line: line.parse().ok()?, code: code.parse().ok()?, text: text.to_string() })
+}
+
+impl Answer {
+    /// The same answer, or why the program was refused.
+    pub fn check(self) -> Result<Answer, Error> {
+        match self.status {
+            256 => Err(Error::NoFiles),
+            1 if !self.message.is_empty() => Err(fault(&self.message).unwrap_or(Error::OutOfMemory)),
+            _ => Ok(self),
+        }
+    }
 }
 
 /// Calls with buffers, and again with larger ones where they were too small.

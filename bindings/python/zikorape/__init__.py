@@ -2,9 +2,9 @@
 `version`.
 
     import zikorape
-    zk = zikorape.Library('libzikorape.so')
+    zk = zikorape.Library()
     answer = zk.build({'main.c': b'int main(void) { return 42; }\n'}, 'main.c')      # files by name, or a list of pairs
-    zk.run(answer.output).status                     # 42
+    zk.run(answer.check().output).status             # 42; check() raises a Fault where the program is refused
 
 A text (of a file, an input, a built file) is bytes, str (UTF-8), or a path (pathlib.Path), whose file is read; anything else is a TypeError.
 The library is shared: `gcc -shared -o libzikorape.so -Wl,--whole-archive libzikorape.a`, which
@@ -12,6 +12,7 @@ The library is shared: `gcc -shared -o libzikorape.so -Wl,--whole-archive libzik
 them; a thread needs a stack of 2.25 MiB (`threading.stack_size(8 << 20)`), and the main thread has it."""
 import ctypes
 import os
+import re
 from dataclasses import dataclass
 
 MAX = 1_000_000_000
@@ -30,12 +31,29 @@ class Seen(ctypes.Structure):
     _fields_ = [('detail', ctypes.c_uint32), ('pc', ctypes.c_uint32), ('registers', ctypes.c_uint32 * 32), ('steps', ctypes.c_uint64), ('output', ctypes.c_uint64)]
 
 
+class Fault(Exception):
+    """A fault of a program: `file`, `line`, `code` (docs/FAULTS.md) and `text`. Where memory ran out, the file is empty and the code 801."""
+
+    def __init__(self, message: str):
+        super().__init__(message.strip())
+        found = re.fullmatch(r'(?:(.*):(\d+)|cc): (\d+) (.*)\n', message)
+        self.file, self.line, self.code, self.text = (found[1] or '', int(found[2] or 0), int(found[3]), found[4]) if found else ('', 0, 0, message.strip())
+
+
 @dataclass
 class Answer:
     """`status` as the program zkc has it (256: no files), the output, and the line of a fault or of why a program stopped."""
     status: int
     output: bytes
     message: str
+
+    def check(self) -> 'Answer':
+        """The same answer; a `Fault` where a program was refused, and a ValueError where the files are none."""
+        if self.status == 256:
+            raise ValueError('no such files, or no such form')
+        if self.status == 1 and self.message:
+            raise Fault(self.message)
+        return self
 
 
 @dataclass
@@ -72,9 +90,15 @@ def _slice(data):
     return (ctypes.c_char_p(data), ctypes.c_size_t(len(data)))
 
 
+def _beside() -> str:
+    """The library beside this module, as a wheel has it; else the system's."""
+    path = os.path.join(os.path.dirname(os.path.abspath(__file__)), 'libzikorape.so')
+    return path if os.path.exists(path) else 'libzikorape.so'
+
+
 class Library:
-    def __init__(self, path='libzikorape.so'):
-        self._c = ctypes.CDLL(path)
+    def __init__(self, path=None):
+        self._c = ctypes.CDLL(os.fspath(path) if path is not None else _beside())
         for name in ('build', 'frames', 'preprocess', 'list', 'form', 'interpret', 'run', 'step'):
             getattr(self._c, 'zk_' + name).restype = ctypes.c_uint32
         for name in ('message', 'version'):

@@ -1,0 +1,177 @@
+#!/usr/bin/env python3
+"""The packages of the library, each built and used as its language has it: `packages.py [OUT]`. OUT is where `sh bindings/build.sh OUT` left the
+library, by default bindings/out. What needs a tool that is not there is left out with a word, and counted as skipped.
+"""
+import os
+import shutil
+import subprocess
+import sys
+import tempfile
+
+ROOT = os.path.abspath(os.path.join(os.path.dirname(os.path.abspath(__file__)), '..', '..', '..'))
+OUT = os.path.abspath(sys.argv[1] if len(sys.argv) > 1 else os.path.join(ROOT, 'bindings', 'out'))
+passed = failed = skipped = 0
+
+RIGHT = 'int main(void) { return 42; }\n'
+WRONG = 'int main(void)\n{\n    return x;\n}\n'
+
+
+def check(name, holds, *more):
+    global passed, failed
+    if holds:
+        passed += 1
+    else:
+        failed += 1
+        print('FAIL', name, *[str(one)[-600:] for one in more])
+
+
+def leave_out(what):
+    global skipped
+    skipped += 1
+    print('left out: ' + what)
+
+
+def call(words, work, **more):
+    env = {**os.environ, 'ZIKORAPE_LIB': OUT, 'PIP_NO_INDEX': '1', 'npm_config_offline': 'true', 'CARGO_NET_OFFLINE': 'true', **more}
+    done = subprocess.run(words, cwd=work, env=env, stdin=subprocess.DEVNULL, capture_output=True, text=True, timeout=600)
+    return done.returncode, done.stdout, done.stderr
+
+
+PYTHON = """
+import zikorape
+zk = zikorape.Library()
+answer = zk.build({'main.c': %r}, 'main.c').check()
+assert zk.run(answer.output).status == 42
+try:
+    zk.build({'w.c': %r}, 'w.c').check()
+    raise SystemExit('no fault')
+except zikorape.Fault as fault:
+    assert (fault.file, fault.line, fault.code) == ('w.c', 3, 528), fault
+print(zikorape.__file__)
+""" % (RIGHT, WRONG)
+
+
+def python(work):
+    wheels = os.path.join(work, 'wheels')
+    status, out, err = call([sys.executable, '-m', 'pip', 'wheel', os.path.join(ROOT, 'bindings', 'python'), '-w', wheels, '--no-deps'], work)
+    check('pip wheel', status == 0, out, err)
+    found = os.listdir(wheels) if os.path.isdir(wheels) else []
+    check('one wheel', len(found) == 1 and found[0].startswith('zikorape-'), found)
+    if len(found) != 1:
+        return
+    place = os.path.join(work, 'venv')
+    check('a venv', call([sys.executable, '-m', 'venv', place], work)[0] == 0)
+    own = os.path.join(place, 'bin', 'python')
+    status, out, err = call([own, '-m', 'pip', 'install', os.path.join(wheels, found[0])], work)
+    check('pip install', status == 0, out, err)
+    status, out, err = call([own, '-c', PYTHON], work, PYTHONPATH='')
+    check('python: ten lines', status == 0 and out.startswith(place), out, err)
+
+
+NODE = """
+import { load } from 'zikorape';
+const zk = await load();
+const built = zk.build([['main.c', %s]], 'main.c');
+if (built.status !== 0 || zk.run(built.output, 'a.out').status !== 42) throw new Error('status');
+const wrong = zk.build([['w.c', %s]], 'w.c');
+if (!wrong.message.startsWith('w.c:3: 528 ')) throw new Error(wrong.message);
+const tree = JSON.parse(new TextDecoder().decode(zk.form([['main.c', %s]], 'main.c', 1).output));
+if (tree.node !== 'unit') throw new Error('tree');
+""" % tuple(repr(text) for text in (RIGHT, WRONG, RIGHT))
+
+
+def node(work):
+    if not shutil.which('npm') or not shutil.which('node'):
+        return leave_out('the npm package: no npm')
+    status, out, err = call(['sh', os.path.join(ROOT, 'bindings', 'npm', 'pack.sh'), work], work)
+    check('npm pack', status == 0, out, err)
+    packed = [name for name in os.listdir(work) if name.endswith('.tgz')]
+    check('one package', packed == ['zikorape-1.1.0.tgz'], packed)
+    if not packed:
+        return
+    with open(os.path.join(work, 'package.json'), 'w') as file:
+        file.write('{ "name": "user", "version": "1.0.0", "type": "module", "private": true }')
+    with open(os.path.join(work, 'use.mjs'), 'w') as file:
+        file.write(NODE)
+    status, out, err = call(['npm', 'install', '--offline', './' + packed[0]], work)
+    check('npm install', status == 0, out, err)
+    status, out, err = call(['node', 'use.mjs'], work)
+    check('node: ten lines', status == 0, out, err)
+
+
+RUST = """fn main() {
+    let built = zikorape::build(&[("main.c", %s.as_bytes())], "main.c").check().unwrap();
+    assert_eq!(zikorape::run(&built.output, "a.out", b"", 1_000_000).status, 42);
+    match zikorape::build(&[("w.c", %s.as_bytes())], "w.c").check() {
+        Err(zikorape::Error::Fault { file, line, code, .. }) => assert_eq!((file.as_str(), line, code), ("w.c", 3, 528)),
+        other => panic!("{other:?}"),
+    }
+}
+""" % tuple('"%s"' % text.replace('\n', '\\n') for text in (RIGHT, WRONG))
+
+
+def rust(work):
+    if not shutil.which('cargo'):
+        return leave_out('the Rust crate: no cargo')
+    crate = os.path.join(work, 'crate')
+    shutil.copytree(os.path.join(ROOT, 'bindings', 'rust'), crate, ignore=shutil.ignore_patterns('target'))
+    os.mkdir(os.path.join(crate, 'lib'))
+    shutil.copy(os.path.join(OUT, 'libzikorape.a'), os.path.join(crate, 'lib'))
+    target = {'CARGO_TARGET_DIR': os.path.join(work, 'target'), 'ZIKORAPE_LIB': ''}
+    status, out, err = call(['cargo', 'package', '--offline', '--allow-dirty'], crate, **target)
+    check('cargo package', status == 0, out, err)
+    user = os.path.join(work, 'user')
+    os.makedirs(os.path.join(user, 'src'))
+    with open(os.path.join(user, 'Cargo.toml'), 'w') as file:
+        file.write('[package]\nname = "user"\nversion = "1.0.0"\nedition = "2021"\n[dependencies]\nzikorape = { path = "%s" }\n' % crate)
+    with open(os.path.join(user, 'src', 'main.rs'), 'w') as file:
+        file.write(RUST)
+    status, out, err = call(['cargo', 'run', '--offline', '--quiet'], user, **target)
+    check('rust: ten lines', status == 0, out, err)
+
+
+C = """#include <string.h>
+#include <zikorape.h>
+int main(void) {
+    static unsigned char out[65536], line[256];
+    const char text[] = "main.cint main(void) { return 42; }\\n";
+    struct zk_file file = { 6, sizeof text - 1 - 6 };
+    struct zk_sizes sizes;
+    if (zk_build((const uint8_t *)text, sizeof text - 1, &file, 1, (const uint8_t *)"main.c", 6, out, sizeof out, line, sizeof line, &sizes) != 0) return 1;
+    return (int)zk_run(out, sizes.output, (const uint8_t *)"a.out", 5, line, 0, 1000000, line, 0, line, sizeof line, &sizes) - 42;
+}
+"""
+
+
+def c_user(work):
+    prefix = os.path.join(work, 'usr')
+    own = os.path.join(ROOT, 'bindings', 'out')
+    if OUT != own or not os.path.exists(os.path.join(own, 'libzikorape.a')):
+        return leave_out('what install.sh puts: the library is not at bindings/out')
+    status, out, err = call(['sh', os.path.join(ROOT, 'install.sh'), prefix], work)
+    check('install.sh', status == 0 and os.path.exists(os.path.join(prefix, 'lib', 'libzikorape.a')), out, err)
+    with open(os.path.join(work, 'use.c'), 'w') as file:
+        file.write(C)
+    if shutil.which('pkg-config') and shutil.which('gcc'):
+        where = {'PKG_CONFIG_PATH': os.path.join(prefix, 'lib', 'pkgconfig')}
+        status, out, err = call(['sh', '-c', 'gcc use.c $(pkg-config --cflags --libs --static zikorape) -o use && LD_LIBRARY_PATH=%s/lib ./use' % prefix], work, **where)
+        check('pkg-config: ten lines', status == 0, out, err)
+    else:
+        leave_out('pkg-config')
+    if shutil.which('cmake'):
+        with open(os.path.join(work, 'CMakeLists.txt'), 'w') as file:
+            file.write('cmake_minimum_required(VERSION 3.13)\nproject(user C)\nfind_package(zikorape REQUIRED)\nadd_executable(with_cmake use.c)\ntarget_link_libraries(with_cmake zikorape::zikorape)\n')
+        status, out, err = call(['sh', '-c', 'cmake -S . -B made -DCMAKE_PREFIX_PATH=%s >said 2>&1 && cmake --build made >>said 2>&1 && made/with_cmake || { cat said; exit 1; }' % prefix], work)
+        check('cmake: ten lines', status == 0, out, err)
+    else:
+        leave_out('CMake')
+
+
+if not os.path.exists(os.path.join(OUT, 'libzikorape.so')):
+    leave_out('the packages: there is no library at %s: sh bindings/build.sh bindings/out' % OUT)
+else:
+    for part in (python, node, rust, c_user):
+        with tempfile.TemporaryDirectory() as work:
+            part(work)
+print('%d passed, %d failed%s' % (passed, failed, ', %d skipped' % skipped if skipped else ''))
+sys.exit(failed != 0)
