@@ -86,12 +86,12 @@ fn put_call(
     program: &Program,
     at: Pos,
     callee: Callee,
-    result: Option<IntType>,
+    ty: Option<IntType>,
     arguments: &[Argument],
 ) -> Result<(), AllocError> {
     out.begin("call")?;
     put_callee(out, program, callee)?;
-    out.word("type", result_word(result))?;
+    out.word("type", result_word(ty))?;
     out.place(at)?;
     for argument in arguments {
         put_argument(out, program, argument)?;
@@ -240,8 +240,8 @@ pub(crate) fn put_value(
         Value::Sequence(a, b) => put_both(out, program, "comma", a, b),
         Value::Cast(ty, a) => put_converted(out, program, "cast", Some(*ty), a),
         Value::Discarded(a) => put_converted(out, program, "cast", None, a),
-        Value::Call(at, callee, result, _, arguments) => {
-            put_call(out, program, *at, *callee, *result, arguments.as_slice())
+        Value::Call(at, callee, ty, _, arguments) => {
+            put_call(out, program, *at, *callee, *ty, arguments.as_slice())
         }
         _ => put_operation(out, program, e),
     }
