@@ -2,14 +2,14 @@
 #![tactic(auto)]
 
 mod bytes;
-mod code_map;
+mod describing;
 mod flat_code;
 mod generating;
 mod image;
 mod laws;
 mod sizes;
 
-pub use code_map::{CodeMap, CodeRow, DataObject, FunctionCode, Reference, code_map};
+pub use describing::{CodeMap, CodeRow, DataObject, FunctionCode, Reference, code_map};
 pub use flat_code::flat_code;
 pub use generating::{Generated, generate, items};
 pub use laws::{

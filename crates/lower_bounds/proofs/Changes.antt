@@ -92,14 +92,14 @@ module _ (z : Ground) where
   CalleeFine (typed.missing name) = Unit {0}
 
   pub calls_within : (callee : Callee) (m : Mode) (t k pc pc2 : ℕ) → CalleeFine callee → ModeLands z m t k → Free z t k → 0 < z.bound → Calls z.code callee m pc pc2
-      → Within z (Aims z m pc2) 1 56 pc pc2
+      → Within z (Aims z m pc2) 1 44 pc pc2
   calls_within (typed.function f) m t k pc pc2 c l fr b i =
-      settle z 1 56 (omega arith) (join z (one z _ 120 pc i.0 i.1 (omega arith) (λ a. c)) (ends_within z m (operand.Temporary 0) t k i.0 pc2 l fr b i.2))
+      settle z 1 44 (omega arith) (join z (one z _ 120 pc i.0 i.1 (omega arith) (λ a. c)) (ends_within z m (operand.Temporary 0) t k i.0 pc2 l fr b i.2))
   calls_within typed.get_byte m t k pc pc2 c l fr b i =
-      settle z 1 56 (omega arith) (join z (one z _ 88 pc i.0 i.1 (omega arith) (λ a. tt)) (ends_within z m (operand.Temporary 0) t k i.0 pc2 l fr b i.2))
+      settle z 1 44 (omega arith) (join z (one z _ 80 pc i.0 i.1 (omega arith) (λ a. tt)) (ends_within z m (operand.Temporary 0) t k i.0 pc2 l fr b i.2))
   calls_within typed.put_byte m t k pc pc2 c l fr b i =
-      settle z 1 56 (omega arith) (join z (one z _ 96 pc i.0 i.1 (omega arith) (λ a. tt)) (ends_within z m zero_word t k i.0 pc2 l fr zero_small i.2))
-  calls_within typed.exit m t k pc pc2 c l fr b i = one z _ 56 pc pc2 i (omega arith) (λ a. tt)
+      settle z 1 44 (omega arith) (join z (one z _ 76 pc i.0 i.1 (omega arith) (λ a. tt)) (ends_within z m zero_word t k i.0 pc2 l fr zero_small i.2))
+  calls_within typed.exit m t k pc pc2 c l fr b i = one z _ 44 pc pc2 i (omega arith) (λ a. tt)
   calls_within (typed.missing name) m t k pc pc2 c l fr b i = absurd i
 
   -- ---- truths

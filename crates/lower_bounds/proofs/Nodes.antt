@@ -64,7 +64,7 @@ cast_room e = omega arith
 discarded_room : (e : ℕ) → 128 * (1 + (e + 1)) + 32 ≤ 128 * (e + 1) + (124 + (32 + 96))
 discarded_room e = omega arith
 
-call_room : (a : ℕ) → 128 * (1 + (a + 1)) + 32 ≤ 128 * (a + 1) + (124 + (0 + 56))
+call_room : (a : ℕ) → 128 * (1 + (a + 1)) + 32 ≤ 128 * (a + 1) + (124 + (0 + 44))
 call_room a = omega arith
 
 -- ---- positions

@@ -90,8 +90,8 @@ module _ (p : typed.Program) (call : Calling) (q : Program) (deep f : ℕ) where
           let l = given typed.get_byte n p3 pc2 (60 * s3.clock + 22) s now now2 temporaries ws (negsuc 0) s2 s3 hr refl refl refl fine.input end_fits refl k1
           fine
           a1 i2 (let le : 60 * s3.clock + 22 ≤ 60 * s3.clock + 22 = omega arith in le) in
-          goes q 14 (Result2 (negsuc 0)) (60 * s2.clock + (60 + 6 * count args)) s2.clock (1 + l.j) (10 + l.c) (here f p2 now2 ws s2) l.u s3
-          (reaches_on q (here f p2 now2 ws s2) (here f p3 now3 ws s3) 1 10 l.j l.c (running l.u)
+          goes q 14 (Result2 (negsuc 0)) (60 * s2.clock + (60 + 6 * count args)) s2.clock (1 + l.j) (12 + l.c) (here f p2 now2 ws s2) l.u s3
+          (reaches_on q (here f p2 now2 ws s2) (here f p3 now3 ws s3) 1 12 l.j l.c (running l.u)
           (does_one q f instruction.GetByte p2 p3 now2 ws s2 (running (here f p3 now3 ws s3)) i1
           (ap (got (here f p2 now2 ws s2)) e ∙ ap (λ n. running (here f n now3 ws s3)) i1.next)) l.reaches)
           (omega (arith, l.within)) (omega arith) l.good
@@ -104,8 +104,8 @@ module _ (p : typed.Program) (call : Calling) (q : Program) (deep f : ℕ) where
           let rest : AreBytes more = λ j c h. fine.input (suc j) c (ap (λ l. slice_get l (suc j)) e ∙ h) in
           let l = given typed.get_byte n p3 pc2 (60 * s3.clock + 22) s now now2 temporaries ws (pos b) s2 s3 hr refl refl refl rest (byte_fits b small)
           (ap (λ w. Some (word w)) (small_word b small)) k1 fine a1 i2 (let le : 60 * s3.clock + 22 ≤ 60 * s3.clock + 22 = omega arith in le) in
-          goes q 14 (Result2 (pos b)) (60 * s2.clock + (60 + 6 * count args)) s2.clock (1 + l.j) (10 + l.c) (here f p2 now2 ws s2) l.u s3
-          (reaches_on q (here f p2 now2 ws s2) (here f p3 now3 ws s3) 1 10 l.j l.c (running l.u)
+          goes q 14 (Result2 (pos b)) (60 * s2.clock + (60 + 6 * count args)) s2.clock (1 + l.j) (12 + l.c) (here f p2 now2 ws s2) l.u s3
+          (reaches_on q (here f p2 now2 ws s2) (here f p3 now3 ws s3) 1 12 l.j l.c (running l.u)
           (does_one q f instruction.GetByte p2 p3 now2 ws s2 (running (here f p3 now3 ws s3)) i1
           (ap (got (here f p2 now2 ws s2)) e ∙ ap (λ n. running (here f n now3 ws s3)) i1.next)) l.reaches)
           (omega (arith, l.within)) (omega arith) l.good
@@ -140,8 +140,8 @@ module _ (p : typed.Program) (call : Calling) (q : Program) (deep f : ℕ) where
           (called_known p call q deep f at typed.put_byte result used args m t k fr su ws n s now now2 now3 (pos 0) s2 s3 a1 k1
           (after_alike writes_none s2 s2 s3 refl refl refl (after_none writes_none s2))
           (fine_alike (world p q f ws) s2 s3 refl refl refl fine.input fine) (λ j. refl) hz) in
-          goes q 14 (Result2 (pos 0)) (60 * s2.clock + (60 + 6 * count args)) s2.clock (1 + l.j) (8 + l.c) (here f p2 now2 ws s2) l.u s3
-          (reaches_on q (here f p2 now2 ws s2) (here f p3 now3 ws s3) 1 8 l.j l.c (running l.u)
+          goes q 14 (Result2 (pos 0)) (60 * s2.clock + (60 + 6 * count args)) s2.clock (1 + l.j) (10 + l.c) (here f p2 now2 ws s2) l.u s3
+          (reaches_on q (here f p2 now2 ws s2) (here f p3 now3 ws s3) 1 10 l.j l.c (running l.u)
           (does_one q f instruction.PutByte p2 p3 now2 ws s2 (running (here f p3 now3 ws s3)) i1 step) l.reaches)
           (omega (arith, l.within)) (omega arith) l.good
 

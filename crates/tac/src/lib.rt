@@ -2,7 +2,6 @@
 #![tactic(auto)]
 
 mod block_sizes;
-mod code_starts;
 mod copies;
 mod counts;
 mod elements;
@@ -12,10 +11,11 @@ mod initialisers;
 mod laws;
 mod leaves;
 mod programs;
+mod statement_starts;
 mod statements;
 mod switches;
 
-pub use code_starts::{CodeStart, code_starts};
 pub use functions::lower_function;
 pub use laws::{function_is_code, functions_are_code};
 pub use programs::lower;
+pub use statement_starts::{CodeStart, code_starts};

@@ -36,8 +36,8 @@ cost p (instruction.Forget n k) = 0
 cost p (instruction.Jump to) = 1
 cost p (instruction.Branch c r x y to) = 8
 cost p (instruction.Call f) = 2 + entry_cost (function_at p f)
-cost p instruction.PutByte = 8
-cost p instruction.GetByte = 10
+cost p instruction.PutByte = 10
+cost p instruction.GetByte = 12
 cost p instruction.Exit = 2
 cost p instruction.Return = 43
 
@@ -113,8 +113,8 @@ code_bytes (instruction.Forget n k) = 0
 code_bytes (instruction.Jump to) = 4
 code_bytes (instruction.Branch c r x y to) = fetch_bytes x + (fetch_bytes y + 8)
 code_bytes (instruction.Call f) = 8
-code_bytes instruction.PutByte = 32
-code_bytes instruction.GetByte = 40
+code_bytes instruction.PutByte = 52
+code_bytes instruction.GetByte = 48
 code_bytes instruction.Exit = 8
 code_bytes instruction.Return = 172
 

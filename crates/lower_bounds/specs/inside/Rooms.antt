@@ -22,8 +22,8 @@ coarse_of (instruction.Forget n k) = 4
 coarse_of (instruction.Jump to) = 4
 coarse_of (instruction.Branch c r x y to) = 32
 coarse_of (instruction.Call f) = 8
-coarse_of instruction.PutByte = 32
-coarse_of instruction.GetByte = 40
+coarse_of instruction.PutByte = 52
+coarse_of instruction.GetByte = 48
 coarse_of instruction.Exit = 8
 coarse_of instruction.Return = 172
 
