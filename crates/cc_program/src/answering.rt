@@ -3,6 +3,7 @@
 use cc::Cmd;
 use cli_args::{Command, Program, Request, Role, Trace};
 use cmd_build::{build, interp, list_files, print_lines, print_text, run};
+use cmd_check::{Warned, check_program};
 use cmd_explain::{Told, explain_program};
 use cmd_inspect::{ListForm, list_code, show_frames, show_image, show_size, write_symbols};
 use cmd_trace::{RunForm, interp_traced, run_traced};
@@ -53,6 +54,19 @@ pub fn answer(rt: &HostRuntime, request: &Request<'_>) -> u8 {
                 max,
                 telling,
                 colours,
+            },
+        ),
+        Command::Check {
+            words,
+            are_errors,
+            telling,
+        } => check_program(
+            rt,
+            program,
+            Warned {
+                words,
+                are_errors,
+                telling,
             },
         ),
         Command::Frames { has_sizes } => show_frames(rt, program, has_sizes),

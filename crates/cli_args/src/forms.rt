@@ -5,7 +5,7 @@ use crate::rows::{
     ABI, ASSEMBLY, AT, BINARY, BUILT_STACK, COLOR, DEFINES, DEPEND, DEPEND_FILE, DEPEND_PHONY,
     DEPEND_TARGET, EXECUTABLE, FILES, FOLDERS, INTEL, JSON, LABELS, LINES, LIST_FILES, MAIN, MAP,
     MAX_EXPLAINED, MAX_RUN, MAX_TICKS, OUT, PREPROCESSED, SARIF, SIZES, STACK, SYMBOLS_OUT,
-    TEXT_OUT, TRACE_FILE, TRACE_INTERP, TRACE_RUN, UNDEFINES, VERILOG, WHAT,
+    TEXT_OUT, TRACE_FILE, TRACE_INTERP, TRACE_RUN, UNDEFINES, VERILOG, WARN, WARN_ERRORS, WHAT,
 };
 use crate::table::Row;
 use clap::Command;
@@ -70,6 +70,19 @@ const EXPLAIN_ROWS: &[Row] = &[
     COLOR,
     STACK,
     MAX_EXPLAINED,
+    FOLDERS,
+    DEFINES,
+    UNDEFINES,
+];
+
+const CHECK_ROWS: &[Row] = &[
+    MAIN,
+    FILES,
+    WARN,
+    WARN_ERRORS,
+    JSON,
+    SARIF,
+    STACK,
     FOLDERS,
     DEFINES,
     UNDEFINES,
@@ -140,6 +153,16 @@ pub fn explain<'a>(alloc: Global) -> Result<Command<'a>, AllocError> {
         "explain",
         "Explains why a program is refused, or what is undefined in its run",
         EXPLAIN_ROWS,
+    )
+}
+
+/// The form of `check`.
+pub fn check<'a>(alloc: Global) -> Result<Command<'a>, AllocError> {
+    form(
+        alloc,
+        "check",
+        "Warns of what a right program may have by mistake",
+        CHECK_ROWS,
     )
 }
 

@@ -44,6 +44,7 @@ pub fn read<'a>(alloc: Global, matches: &ArgMatches<'a>) -> Result<Reading<'a>, 
         "run" => run(inner),
         "interp" => Ok(interp(inner)),
         "explain" => Ok(explain(inner)),
+        "check" => Ok(check(inner)),
         "frames" => Ok(Command::Frames {
             has_sizes: inner.get_flag("sizes"),
         }),
@@ -269,6 +270,14 @@ fn explain<'a>(inner: &ArgMatches<'a>) -> Command<'a> {
             Some("never") => Colours::Never,
             _ => Colours::Auto,
         },
+    }
+}
+
+fn check<'a>(inner: &ArgMatches<'a>) -> Command<'a> {
+    Command::Check {
+        words: inner.get_str("warn").unwrap_or("all"),
+        are_errors: inner.get_flag("werror"),
+        telling: telling(inner),
     }
 }
 

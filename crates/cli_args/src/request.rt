@@ -139,6 +139,12 @@ pub enum Command<'a> {
         telling: Telling,
         colours: Colours,
     },
+    /// Tell of these warnings, as errors or not.
+    Check {
+        words: &'a str,
+        are_errors: bool,
+        telling: Telling,
+    },
     /// Print what each function takes, with addresses and sizes or without.
     Frames {
         has_sizes: bool,
