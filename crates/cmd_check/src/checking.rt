@@ -6,7 +6,8 @@ use cli_io::{put_out, say, say_memory, say_usage};
 use cli_sources::{Sources, read_sources, stack_size};
 use explain_cmd::VERSION;
 use lint::unknown_word;
-use lint_report::{Asked, Form, Said, warn_of_sources};
+use lint_report::{Asked, Form, Said};
+use lint_unit::warn_of_sources;
 use std::alloc::{AllocError, Global};
 use std::io::Write;
 

@@ -95,10 +95,7 @@ fn object_lengths(alloc: Global, objects: &[ObjectType]) -> Result<Vec<Vec<u32>>
 }
 
 /// Those of the elements of array parameters, which are numbered apart.
-fn row_lengths(
-    alloc: Global,
-    parameters: &[ParameterType],
-) -> Result<Vec<Vec<u32>>, AllocError> {
+fn row_lengths(alloc: Global, parameters: &[ParameterType]) -> Result<Vec<Vec<u32>>, AllocError> {
     let mut lengths = Vec::new(alloc);
     for parameter in parameters {
         if let ParameterType::Elements(row) = parameter {

@@ -1,14 +1,13 @@
 //! What `zkc check` tells.
 
 use crate::files::Files;
-use crate::gathering::gathered;
 use crate::json::put_json;
-use crate::placing::placed;
+use crate::placing::in_order;
 use crate::sarif::put_sarif;
 use crate::shown::Told;
 use crate::text::put_text;
 use lint::Warning;
-use srcset::{FileSet, Names};
+use srcset::Names;
 use std::alloc::{AllocError, Global};
 
 /// The form in which warnings are told.
@@ -41,6 +40,17 @@ pub struct Asked<'a> {
     pub version: &'a str,
 }
 
+impl<'a> Asked<'a> {
+    /// The name of the file that no person wrote; empty where there is none.
+    pub fn made_file(self) -> &'a str {
+        if self.main == self.given {
+            ""
+        } else {
+            self.main
+        }
+    }
+}
+
 /// What a command tells.
 #[derive(Drop)]
 pub struct Said {
@@ -52,58 +62,24 @@ pub struct Said {
     pub count: usize,
 }
 
-/// The name of the file that no person wrote; empty where there is none.
-fn made_file<'a>(asked: Asked<'a>) -> &'a str {
-    if asked.main == asked.given {
-        ""
-    } else {
-        asked.main
-    }
-}
-
-/// The warnings of a program that the compiler does not refuse.
-pub fn warn_of_sources(
+/// What is told of the warnings of these files, whose names are numbered so.
+pub fn report<'a>(
     alloc: Global,
-    set: &FileSet,
+    files: Files<'a>,
+    names: Names,
+    warnings: &[Warning],
     asked: Asked<'_>,
 ) -> Result<Said, AllocError> {
-    let made = made_file(asked);
-    let mut files = Files::of(alloc, set, asked.names, made)?;
-    let mut names = Names::new(alloc);
-    let warnings = warnings_of(alloc, set, asked, &mut files, &mut names)?;
-    let list = placed(
+    let list = in_order(
         alloc,
         &files,
         &names,
-        warnings.as_slice(),
+        warnings,
         asked.words,
-        made,
+        asked.made_file(),
     )?;
     let told = Told { names, files, list };
     rendered(alloc, &told, asked)
-}
-
-/// The warnings of the files as they are laid out, or, where that cannot be, as they are.
-fn warnings_of(
-    alloc: Global,
-    set: &FileSet,
-    asked: Asked<'_>,
-    files: &mut Files<'_>,
-    names: &mut Names,
-) -> Result<Vec<Warning>, AllocError> {
-    if files.is_laid {
-        if let Some(laid) = files.laid_set(alloc) {
-            if let Some(found) = gathered(alloc, &laid, asked.main, asked.stack, names)? {
-                return Ok(found);
-            }
-        }
-    }
-    files.is_laid = false;
-    *names = Names::new(alloc);
-    match gathered(alloc, set, asked.main, asked.stack, names)? {
-        Some(found) => Ok(found),
-        None => Err(AllocError),
-    }
 }
 
 /// The warnings in the form that is asked for.

@@ -7,37 +7,37 @@ use std::alloc::{AllocError, Global};
 
 /// A file, with the places of its tokens.
 #[derive(Drop)]
-pub(crate) struct File<'a> {
-    pub(crate) name: &'a str,
-    pub(crate) bytes: &'a [u8],
-    // None where it breaks a rule of phases 1 to 3, as one that no file includes may.
-    pub(crate) tokens: Option<Tokens<'a>>,
+pub struct File<'a> {
+    pub name: &'a str,
+    pub bytes: &'a [u8],
+    /// None where it breaks a rule of phases 1 to 3, as one that no file includes may.
+    pub tokens: Option<Tokens<'a>>,
     laid: Option<LaidFile>,
 }
 
 /// The files of a program.
 #[derive(Drop)]
-pub(crate) struct Files<'a> {
-    pub(crate) list: Vec<File<'a>>,
+pub struct Files<'a> {
+    pub list: Vec<File<'a>>,
     /// Whether lines are those of the files as they are laid out.
-    pub(crate) is_laid: bool,
+    pub is_laid: bool,
 }
 
 /// Where a token stands.
 #[derive(Clone, Copy, Debug, PartialEq, Eq)]
-pub(crate) struct Place {
+pub struct Place {
     /// The number of its file; past all of them where that is not known.
-    pub(crate) file: usize,
+    pub file: usize,
     /// The line, counted from 1.
-    pub(crate) line: u32,
+    pub line: u32,
     /// How many bytes of the file stand before it, and before its end; both 0 where the token is not known.
-    pub(crate) start: usize,
-    pub(crate) end: usize,
+    pub start: usize,
+    pub end: usize,
 }
 
 impl<'a> Files<'a> {
     /// The files of a set that have these names. The file `made` is one that no person wrote.
-    pub(crate) fn of(
+    pub fn of(
         alloc: Global,
         set: &'a FileSet,
         names: &'a [&'a str],
@@ -55,7 +55,7 @@ impl<'a> Files<'a> {
     }
 
     /// The set of the files as they are laid out; `None` where a set does not take one of them.
-    pub(crate) fn laid_set(&self, alloc: Global) -> Option<FileSet> {
+    pub fn laid_set(&self, alloc: Global) -> Option<FileSet> {
         let mut set = FileSet::new(alloc);
         for file in &self.list {
             if !add(alloc, &mut set, file.name, file.laid_bytes()) {

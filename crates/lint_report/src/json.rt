@@ -34,7 +34,11 @@ fn put_object(
     out.push_str("\",\"text\":")?;
     put_string(alloc, told.message(alloc, placed)?.as_str(), out)?;
     out.push_str(",\"token\":")?;
-    put_string(alloc, shown_bytes(alloc, told.token(placed.place))?.as_str(), out)?;
+    put_string(
+        alloc,
+        shown_bytes(alloc, told.token(placed.place))?.as_str(),
+        out,
+    )?;
     out.push_str(",\"notes\":[{\"topic\":\"hint\",\"text\":")?;
     put_string(alloc, placed.kind.help(), out)?;
     out.push_str("}")?;

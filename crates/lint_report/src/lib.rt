@@ -3,11 +3,11 @@
 
 mod answering;
 mod files;
-mod gathering;
 mod json;
 mod placing;
 mod sarif;
 mod shown;
 mod text;
 
-pub use answering::{Asked, Form, Said, warn_of_sources};
+pub use answering::{Asked, Form, Said, report};
+pub use files::{File, Files, Place};

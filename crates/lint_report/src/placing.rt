@@ -18,7 +18,7 @@ pub(crate) struct Placed {
 }
 
 /// The warnings that the words ask for, in the order of the files and of their lines, each once.
-pub(crate) fn placed(
+pub(crate) fn in_order(
     alloc: Global,
     files: &Files<'_>,
     names: &Names,

@@ -15,11 +15,7 @@ pub struct LaidFile {
 }
 
 /// A file with a newline before each token of its text that is not the first of its line. Nothing but lines changes by that.
-pub fn laid_file(
-    alloc: Global,
-    bytes: &[u8],
-    tokens: &Tokens<'_>,
-) -> Result<LaidFile, AllocError> {
+pub fn laid_file(alloc: Global, bytes: &[u8], tokens: &Tokens<'_>) -> Result<LaidFile, AllocError> {
     let mut laid = LaidFile {
         text: Vec::new(alloc),
         lines: Vec::new(alloc),

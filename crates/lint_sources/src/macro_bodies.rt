@@ -90,7 +90,9 @@ fn list_end(all: &[PpToken<'_>], name: usize, past: usize) -> Option<usize> {
         return None;
     }
     let rest = all.get(behind..past)?;
-    let count = rest.iter().position(|token| matches!(token.spelling(), b")"))?;
+    let count = rest
+        .iter()
+        .position(|token| matches!(token.spelling(), b")"))?;
     Some(behind.saturating_add(count))
 }
 

@@ -27,14 +27,21 @@ pub(crate) fn is_sign(spelling: &[u8]) -> bool {
 /// Whether it is a word of a type.
 pub(crate) fn is_type_word(spelling: &[u8]) -> bool {
     matches!(spelling, b"int" | b"char" | b"short" | b"long" | b"signed")
-        || matches!(spelling, b"unsigned" | b"_Bool" | b"bool" | b"void" | b"const")
+        || matches!(
+            spelling,
+            b"unsigned" | b"_Bool" | b"bool" | b"void" | b"const"
+        )
 }
 
 /// Whether it begins or ends a statement, assigns, or separates what stands in a list: the body is then no expression.
 pub(crate) fn is_of_statement(spelling: &[u8]) -> bool {
-    matches!(spelling, b";" | b"{" | b"}" | b"," | b"return" | b"if" | b"else")
-        || matches!(spelling, b"for" | b"while" | b"do" | b"switch" | b"case" | b"default")
-        || matches!(spelling, b"break" | b"continue" | b"static" | b"enum")
+    matches!(
+        spelling,
+        b";" | b"{" | b"}" | b"," | b"return" | b"if" | b"else"
+    ) || matches!(
+        spelling,
+        b"for" | b"while" | b"do" | b"switch" | b"case" | b"default"
+    ) || matches!(spelling, b"break" | b"continue" | b"static" | b"enum")
         || is_type_word(spelling)
         || is_assignment(spelling)
 }

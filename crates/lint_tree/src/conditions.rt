@@ -99,13 +99,7 @@ pub(crate) fn idle(expression: &Expr) -> Option<Pos> {
         Expr::After(_, _, _) | Expr::Before(_, _, _) => None,
         Expr::Assign(_, _, _, _) => None,
         Expr::Paren(inner) => idle(inner),
-        Expr::Cast(pos, name, _) => {
-            if is_void(name) {
-                None
-            } else {
-                Some(*pos)
-            }
-        }
+        Expr::Cast(pos, name, _) => { if is_void(name) { None } else { Some(*pos) } }
         Expr::Binary(pos, op, _, right) => {
             if matches!(op, BinaryOp::Comma | BinaryOp::And | BinaryOp::Or) {
                 idle(right)

@@ -14,7 +14,10 @@ use tree::{
 
 impl Walker {
     /// Walks a declaration in a block.
-    pub(crate) fn inner_declaration(&mut self, declaration: &Declaration) -> Result<(), AllocError> {
+    pub(crate) fn inner_declaration(
+        &mut self,
+        declaration: &Declaration,
+    ) -> Result<(), AllocError> {
         match declaration {
             Declaration::Declared(specifiers, items) => {
                 self.enumerators_in(specifiers.list.as_slice())?;
@@ -60,7 +63,11 @@ impl Walker {
     }
 
     /// Walks the declarator of an object at file scope.
-    fn file_object(&mut self, object: &ObjectDeclarator, is_static: bool) -> Result<(), AllocError> {
+    fn file_object(
+        &mut self,
+        object: &ObjectDeclarator,
+        is_static: bool,
+    ) -> Result<(), AllocError> {
         self.sizes(object.sizes.as_slice())?;
         if is_static && object.initialiser.is_none() {
             self.note_two_files(object)?;
@@ -80,13 +87,8 @@ impl Walker {
     /// Warns where a static object is declared without a value in another file too (6.9.2p2).
     fn note_two_files(&mut self, object: &ObjectDeclarator) -> Result<(), AllocError> {
         match self.scopes.find(object.name) {
-            Some(known) if known.is_tentative && known.pos.file != object.pos.file => self
-                .warn_other(
-                    Kind::StaticInTwoFiles,
-                    object.pos,
-                    object.name,
-                    known.pos,
-                ),
+            Some(known) if known.is_tentative && known.pos.file != object.pos.file =>
+                self.warn_other(Kind::StaticInTwoFiles, object.pos, object.name, known.pos),
             _ => Ok(()),
         }
     }
@@ -109,7 +111,8 @@ impl Walker {
         } else {
             Sort::SharedFunction
         };
-        self.scopes.declare_again(declarator.name, declarator.pos, sort)?;
+        self.scopes
+            .declare_again(declarator.name, declarator.pos, sort)?;
         self.walk_in(Some(declarator.name));
         let mark = self.scopes.mark();
         self.parameters(declarator.parameters.as_slice())?;

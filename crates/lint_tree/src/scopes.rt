@@ -117,7 +117,12 @@ impl Scopes {
 
     /// An object at file scope was declared without a value.
     pub(crate) fn mark_tentative(&mut self, name: usize) {
-        let number = self.current.get(name).copied().flatten().unwrap_or(usize::MAX);
+        let number = self
+            .current
+            .get(name)
+            .copied()
+            .flatten()
+            .unwrap_or(usize::MAX);
         if let Some(symbol) = self.symbols.get_mut(number) {
             symbol.is_tentative = true;
         }
@@ -125,7 +130,12 @@ impl Scopes {
 
     /// The value of a name is used.
     pub(crate) fn read(&mut self, name: usize) {
-        let number = self.current.get(name).copied().flatten().unwrap_or(usize::MAX);
+        let number = self
+            .current
+            .get(name)
+            .copied()
+            .flatten()
+            .unwrap_or(usize::MAX);
         if let Some(symbol) = self.symbols.get_mut(number) {
             symbol.is_read = true;
         }
@@ -133,7 +143,12 @@ impl Scopes {
 
     /// A name is given a value.
     pub(crate) fn set(&mut self, name: usize) {
-        let number = self.current.get(name).copied().flatten().unwrap_or(usize::MAX);
+        let number = self
+            .current
+            .get(name)
+            .copied()
+            .flatten()
+            .unwrap_or(usize::MAX);
         if let Some(symbol) = self.symbols.get_mut(number) {
             symbol.is_set = true;
         }

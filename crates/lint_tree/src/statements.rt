@@ -170,7 +170,10 @@ impl Walker {
     /// Warns of a block directly behind a loop with an empty body.
     fn note_loop(&mut self, is_loop: bool, item: &BlockItem) -> Result<(), AllocError> {
         match item {
-            BlockItem::Statement(Stmt::Block(pos, _)) if is_loop => self.warn(Kind::EmptyBody, *pos),
+            BlockItem::Statement(Stmt::Block(pos, _)) if is_loop => self.warn(
+                Kind::EmptyBody,
+                *pos,
+            ),
             _ => Ok(()),
         }
     }

@@ -51,13 +51,7 @@ fn unit_of(alloc: Global, set: &FileSet, main: &str, names: &mut Names) -> Optio
 }
 
 /// The typed program of a tree.
-fn program_of(
-    alloc: Global,
-    unit: Unit,
-    main: &str,
-    stack: u32,
-    names: &Names,
-) -> Option<Program> {
+fn program_of(alloc: Global, unit: Unit, main: &str, stack: u32, names: &Names) -> Option<Program> {
     let file = names.find(main.as_bytes()).unwrap_or_default();
     check(alloc, unit, names, Pos { file, line: 1 }, stack).ok()
 }
