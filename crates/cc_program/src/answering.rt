@@ -3,6 +3,7 @@
 use cc::Cmd;
 use cli_args::{Command, Program, Request, Role, Trace};
 use cmd_build::{build, interp, list_files, print_lines, print_text, run};
+use cmd_check::{Warned, check_program};
 use cmd_explain::{Told, explain_program};
 use cmd_inspect::{
     ListForm, list_code, show_form, show_frames, show_image, show_size, write_symbols,
@@ -60,6 +61,19 @@ pub fn answer(rt: &HostRuntime, request: &Request<'_>) -> u8 {
             },
         ),
         Command::Show { form, is_json, out } => show_form(rt, program, out, form, is_json),
+        Command::Check {
+            words,
+            are_errors,
+            telling,
+        } => check_program(
+            rt,
+            program,
+            Warned {
+                words,
+                are_errors,
+                telling,
+            },
+        ),
         Command::Frames { has_sizes } => show_frames(rt, program, has_sizes),
         Command::Symbols(out) => write_symbols(rt, program, out),
         Command::Image(form) => show_image(rt, program.main, form),

@@ -6,7 +6,7 @@ use crate::rows::{
     DEPEND_TARGET, EXECUTABLE, FILES, FOLDERS, FORM, FORM_JSON, INTEL, JSON, LABELS, LINES,
     LIST_FILES, MAIN, MAP, MAX_EXPLAINED, MAX_RUN, MAX_TICKS, OUT, PREPROCESSED, SARIF, SIZES,
     SOURCE, STACK, SYMBOLS_OUT, TEXT_OUT, TRACE_FILE, TRACE_INTERP, TRACE_RUN, UNDEFINES, VERILOG,
-    WHAT,
+    WARN, WARN_ERRORS, WHAT,
 };
 use crate::table::Row;
 use clap::Command;
@@ -75,6 +75,19 @@ const EXPLAIN_ROWS: &[Row] = &[
     COLOR,
     STACK,
     MAX_EXPLAINED,
+    FOLDERS,
+    DEFINES,
+    UNDEFINES,
+];
+
+const CHECK_ROWS: &[Row] = &[
+    MAIN,
+    FILES,
+    WARN,
+    WARN_ERRORS,
+    JSON,
+    SARIF,
+    STACK,
     FOLDERS,
     DEFINES,
     UNDEFINES,
@@ -155,6 +168,16 @@ pub fn explain<'a>(alloc: Global) -> Result<Command<'a>, AllocError> {
         "explain",
         "Explains why a program is refused, or what is undefined in its run",
         EXPLAIN_ROWS,
+    )
+}
+
+/// The form of `check`.
+pub fn check<'a>(alloc: Global) -> Result<Command<'a>, AllocError> {
+    form(
+        alloc,
+        "check",
+        "Warns of what a right program may have by mistake",
+        CHECK_ROWS,
     )
 }
 

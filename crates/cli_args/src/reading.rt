@@ -46,6 +46,7 @@ pub fn read<'a>(alloc: Global, matches: &ArgMatches<'a>) -> Result<Reading<'a>, 
         "interp" => Ok(interp(inner)),
         "explain" => Ok(explain(inner)),
         "show" => Ok(show(inner)),
+        "check" => Ok(check(inner)),
         "frames" => Ok(Command::Frames {
             has_sizes: inner.get_flag("sizes"),
         }),
@@ -286,6 +287,14 @@ fn show<'a>(inner: &ArgMatches<'a>) -> Command<'a> {
         },
         is_json: inner.get_flag("json"),
         out: text_out(inner),
+    }
+}
+
+fn check<'a>(inner: &ArgMatches<'a>) -> Command<'a> {
+    Command::Check {
+        words: inner.get_str("warn").unwrap_or("all"),
+        are_errors: inner.get_flag("werror"),
+        telling: telling(inner),
     }
 }
 

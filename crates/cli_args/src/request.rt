@@ -157,6 +157,12 @@ pub enum Command<'a> {
         is_json: bool,
         out: &'a str,
     },
+    /// Tell of these warnings, as errors or not.
+    Check {
+        words: &'a str,
+        are_errors: bool,
+        telling: Telling,
+    },
     /// Print what each function takes, with addresses and sizes or without.
     Frames {
         has_sizes: bool,

@@ -422,6 +422,30 @@ pub const SARIF: Row = Row {
     apart: &[],
 };
 
+/// Which warnings are told.
+pub const WARN: Row = Row {
+    id: "warn",
+    short: None,
+    long: Some("warn"),
+    value: Some("NAMES"),
+    kind: Kind::Text,
+    default: Some("all"),
+    help: "Which warnings: all, none, or names with commas between",
+    apart: &[],
+};
+
+/// Whether warnings are errors.
+pub const WARN_ERRORS: Row = Row {
+    id: "werror",
+    short: None,
+    long: Some("werror"),
+    value: None,
+    kind: Kind::Flag,
+    default: None,
+    help: "Ends with 1 where there is a warning",
+    apart: &[],
+};
+
 /// When a text has colours.
 pub const COLOR: Row = Row {
     id: "color",

@@ -1,0 +1,98 @@
+//! `check`.
+
+use cc::compile_with;
+use cli_args::{Program, Telling};
+use cli_io::{put_out, say, say_memory, say_usage};
+use cli_sources::{Sources, read_sources, stack_size};
+use explain_cmd::VERSION;
+use lint::unknown_word;
+use lint_report::{Asked, Form, Said};
+use lint_unit::warn_of_sources;
+use std::alloc::{AllocError, Global};
+use std::io::Write;
+
+const NO_WARNING: &str = "--warn takes all, none, or names of warnings with commas between";
+
+/// Of what a command warns, and how.
+#[derive(Clone, Copy)]
+pub struct Warned<'a> {
+    /// The warnings that are asked for, with commas between.
+    pub words: &'a str,
+    /// Whether a warning is an error.
+    pub are_errors: bool,
+    pub telling: Telling,
+}
+
+/// Tells the warnings of a program, or the fault for which it is refused; answers the exit status: 1 where it is refused, or has a warning and warnings are errors.
+pub fn check_program(rt: &HostRuntime, program: &Program<'_>, warned: Warned<'_>) -> u8 {
+    if unknown_word(warned.words) {
+        return say_usage(rt, NO_WARNING);
+    }
+    let sources = match read_sources(rt, program) {
+        Ok(sources) => sources,
+        Err(fault) => return say(rt, &fault),
+    };
+    match compile_with(rt.alloc(), &sources.set, sources.main, stack_size(program)) {
+        Ok(_) => check_sources(rt, program, &sources, warned),
+        Err(fault) => say(rt, &sources.told(rt.alloc(), fault)),
+    }
+}
+
+/// Tells the warnings of a program that is not refused.
+fn check_sources(
+    rt: &HostRuntime,
+    program: &Program<'_>,
+    sources: &Sources<'_>,
+    warned: Warned<'_>,
+) -> u8 {
+    match said(rt.alloc(), program, sources, warned) {
+        Ok(said) => put_said(rt, &said, warned.are_errors),
+        Err(_) => say_memory(rt),
+    }
+}
+
+fn said(
+    alloc: Global,
+    program: &Program<'_>,
+    sources: &Sources<'_>,
+    warned: Warned<'_>,
+) -> Result<Said, AllocError> {
+    let names = sources.names(alloc)?;
+    let asked = Asked {
+        names: names.as_slice(),
+        main: sources.main,
+        given: sources.given,
+        stack: program.stack,
+        words: warned.words,
+        are_errors: warned.are_errors,
+        form: form(warned.telling),
+        version: plain_version(),
+    };
+    warn_of_sources(alloc, &sources.set, asked)
+}
+
+/// Writes what is told; answers the exit status.
+fn put_said(rt: &HostRuntime, said: &Said, are_errors: bool) -> u8 {
+    let status = if are_errors && said.count != 0 { 1 } else { 0 };
+    let written = put_out(rt, said.out.as_bytes(), status);
+    if written == status {
+        let _said = rt.stderr().write_all(said.err.as_bytes());
+    }
+    written
+}
+
+fn form(telling: Telling) -> Form {
+    match telling {
+        Telling::Text => Form::Text,
+        Telling::Json => Form::Json,
+        Telling::Sarif => Form::Sarif,
+    }
+}
+
+/// The version without the kit.
+fn plain_version() -> &'static str {
+    match VERSION.find(',') {
+        Some(end) => VERSION.get(..end).unwrap_or_default(),
+        None => VERSION,
+    }
+}

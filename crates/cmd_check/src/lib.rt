@@ -1,0 +1,6 @@
+//! `check`: warnings.
+#![tactic(auto)]
+
+mod checking;
+
+pub use checking::{Warned, check_program};

@@ -1,0 +1,36 @@
+//! Comments before labels.
+
+use explain_places::Tokens;
+
+/// Whether a comment directly before the token with this number says that what stands before it falls through: it has the letters `fall` in it, in either case.
+pub fn falls_by_comment(bytes: &[u8], tokens: &Tokens<'_>, number: usize) -> bool {
+    let Some(spot) = tokens.spot(number) else {
+        return false;
+    };
+    let before = match number.checked_sub(1) {
+        Some(last) => match tokens.spot(last) {
+            Some(last) => last.end,
+            None => 0,
+        },
+        None => 0,
+    };
+    let gap = bytes.get(before..spot.start).unwrap_or_default();
+    gap.windows(4).any(is_fall)
+}
+
+fn is_fall(letters: &[u8]) -> bool {
+    matches!(
+        letters,
+        [b'f' | b'F', b'a' | b'A', b'l' | b'L', b'l' | b'L']
+    )
+}
+
+/// The number of the first token on a line that begins a label.
+pub fn label_on(tokens: &Tokens<'_>, line: u32) -> Option<usize> {
+    for (number, spot) in tokens.spots.iter().enumerate() {
+        if spot.line == line && matches!(tokens.spelling(number), b"case" | b"default") {
+            return Some(number);
+        }
+    }
+    None
+}

@@ -1,0 +1,3 @@
+static int count;
+
+void one(void) { count++; }

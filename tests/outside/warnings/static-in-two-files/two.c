@@ -1,0 +1,3 @@
+static int count;
+
+void two(void) { count += 2; }

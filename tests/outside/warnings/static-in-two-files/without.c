@@ -1,0 +1,9 @@
+#include "one.c"
+
+static int again;
+static int again;
+
+int main(void) {
+    one();
+    return again;
+}
