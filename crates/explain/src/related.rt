@@ -4,8 +4,9 @@ use crate::advising::token_point;
 use crate::finding::{Noted, Place, Topic};
 use crate::sources::Sources;
 use declaration_places::{
-    Declared, argument_at, call_at, function_around, is_array, is_const, is_identifier, last_named,
-    parameter_at, parameter_count, same_label_before, specifiers, visible,
+    Declared, argument_at, call_at, close_behind, function_around, is_array, is_const,
+    is_identifier, last_named, parameter_at, parameter_count, same_label_before, specifiers,
+    visible,
 };
 use instrument::{Span, Words};
 use std::alloc::{AllocError, Global};
@@ -39,6 +40,7 @@ pub fn put_related(
         514..=517 | 552 => put_earlier(alloc, &words, spot, code, noted),
         529 | 533 => put_object(alloc, &words, spot, code, noted),
         530 | 620 => put_named(alloc, &words, spot, code, noted),
+        518 => put_sizes(alloc, &words, spot, noted),
         531 => put_count(alloc, sources, &words, spot, noted),
         532 => put_argument(alloc, &words, spot, noted),
         540 => put_label(alloc, &words, spot, noted),
@@ -305,6 +307,27 @@ fn put_argument(
         text.as_str(),
         noted,
     )
+}
+
+/// Puts which size of an array is wanted, where one behind the first is left out.
+fn put_sizes(
+    alloc: Global,
+    words: &Words<'_>,
+    spot: Spot<'_>,
+    noted: &mut Noted,
+) -> Result<(), AllocError> {
+    let Some(close) = close_behind(words, spot.number.saturating_add(1)) else {
+        return Ok(());
+    };
+    let open = close.saturating_add(1);
+    if matches!(words.at(open), b"[") && matches!(words.at(open.saturating_add(1)), b"]") {
+        return noted.put_text(
+            alloc,
+            Topic::Hint,
+            "only the first size of an array may be left out: int a[][3]",
+        );
+    }
+    Ok(())
 }
 
 /// Puts the label that is the same.

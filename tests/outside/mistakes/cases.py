@@ -95,6 +95,7 @@ UNDEFINED = [
     ('step out of range', 1, 'int a[2];\nint main(void) { a[1] = 2147483647; int i = 1; return a[i]«++»; }\n', b'', '', '2147483647 + 1 is 2147483648' + INT),
     ('step down out of range', 1, 'int main(void) { int i = -2147483647; for (;;) «--»i; }\n', b'', '', '-2147483648 - 1 is -2147483649' + INT),
     ('compound out of range', 1, 'int main(void) { int s = 1; for (int i = 1; i < 20; i++) s «*=» i; return s; }\n', b'', '', '479001600 * 13 is 6227020800' + INT),
+    ('a product with a call of the same function', 1, 'int fact(int n) {\n    if (n < 2)\n        return 1;\n    return n «*» fact(n - 1);\n}\nint main(void) { return fact(13); }\n', b'', '', '13 * 479001600 is 6227020800' + INT),
     ('division by zero', 2, 'int main(void) { int z = 0; return 7 «/» z; }\n', b'', '', '7 / 0'),
     ('unsigned remainder by zero', 2, 'int main(void) { unsigned n = 3000000000u; unsigned z = 0; return n «%» z; }\n', b'', '', '3000000000 % 0'),
     ('shift count', 3, 'int main(void) { int n = 40; return 1 «<<» n; }\n', b'', '', 'shift by 40 of a 32-bit int'),
