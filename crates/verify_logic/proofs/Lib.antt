@@ -4,3 +4,6 @@ pub mod Rules
 pub mod Splits
 pub mod StatementRules
 pub mod Begun
+pub mod Compares
+pub mod Calls
+pub mod Whole

@@ -50,7 +50,7 @@ tree_entails a b [] e (Array row) h = absurd h
 tree_entails a b (n ∷ lengths) e (Element v) h = absurd h
 tree_entails a b (n ∷ lengths) e (Array row) h = (h.0, each_part (TreeIs a lengths) (TreeIs b lengths) (tree_entails a b lengths e) row h.1)
 
-objects_entail : (xs ys : List AbsValue) (shapes : List (List ℕ)) (store : Store) → EachEntails xs ys → ObjectsAre xs shapes store → ObjectsAre ys shapes store
+pub objects_entail : (xs ys : List AbsValue) (shapes : List (List ℕ)) (store : Store) → EachEntails xs ys → ObjectsAre xs shapes store → ObjectsAre ys shapes store
 objects_entail [] [] shapes store h g = g
 objects_entail [] (b ∷ bs) shapes store h g = absurd h
 objects_entail (a ∷ rest) [] shapes store h g = absurd h
@@ -60,11 +60,11 @@ objects_entail (a ∷ rest) (b ∷ bs) (l ∷ shapes) (t ∷ store) h g = (tree_
 
 -- with other objects
 pub with_objects : (fr : Frame) (xs ys : List AbsValue) (base : ℕ) (arrays : List Reference) (store store2 : Store) (input : List ℕ) → Holds fr xs base arrays store input → ObjectsAre ys (shapes_of fr) store2 → Holds fr ys base arrays store2 input
-with_objects fr xs ys base arrays store store2 input h g = record { covers = record { based = h.covers.based; objects_are = g; bytes = h.covers.bytes }; referred = h.referred; sound = h.sound }
+with_objects fr xs ys base arrays store store2 input h g = record { based = h.based; referred = h.referred; objects_are = g; bytes = h.bytes; sound = h.sound }
 
 pub implies_each : (xs ys : List AbsValue) → EachEntails xs ys → Implies (Some xs) (Some ys)
 implies_each xs ys h = record {
-  is = λ fr s c. with_objects fr xs ys s.base s.arrays s.store s.store s.input c (objects_entail xs ys (shapes_of fr) s.store h c.covers.objects_are);
+  is = λ fr s c. with_objects fr xs ys s.base s.arrays s.store s.store s.input c (objects_entail xs ys (shapes_of fr) s.store h c.objects_are);
 }
 
 pub implies_same : (o : Option (List AbsValue)) → Implies o o
@@ -89,7 +89,7 @@ pub none_contents : (fr : Frame) (x : ℕ) (k : AbsValue) → Contents fr None x
 none_contents fr x k = record { is = λ s h. absurd h }
 
 pub some_contents : (fr : Frame) (xs : List AbsValue) (x : ℕ) (k : AbsValue) → slice_get xs x ≡ Some k → Contents fr (Some xs) x k
-some_contents fr xs x k e = record { is = λ s h. object_at xs (shapes_of fr) s.store x k h.covers.objects_are e }
+some_contents fr xs x k e = record { is = λ s h. object_at xs (shapes_of fr) s.store x k h.objects_are e }
 
 -- ---- the element at a reference
 
@@ -144,7 +144,7 @@ none_replaces fr x k o = record { is = λ s new h m. absurd h }
 
 some_replaces : (fr : Frame) (xs : List AbsValue) (x : ℕ) (k : AbsValue) → Replaces fr (Some xs) x k (Some (slice_set xs x k))
 some_replaces fr xs x k = record {
-  is = λ s new h m. with_objects fr xs (slice_set xs x k) s.base s.arrays s.store (put_in s.store x [] new) s.input h (put_objects xs (shapes_of fr) s.store x [] k new (λ t e. m) h.covers.objects_are);
+  is = λ s new h m. with_objects fr xs (slice_set xs x k) s.base s.arrays s.store (put_in s.store x [] new) s.input h (put_objects xs (shapes_of fr) s.store x [] k new (λ t e. m) h.objects_are);
 }
 
 pub set_replaces : (fr : Frame) (xs ys : List AbsValue) (x : ℕ) (k : AbsValue) → ys ≡ slice_set xs x k → Replaces fr (Some xs) x k (Some ys)
@@ -165,7 +165,7 @@ scalar_writes fr xs ys x k i e f d = let Q : List AbsValue → Type 0 = λ ys. W
   is = λ s r v h g m.
       let P : ℕ → Type 0 = λ y. ObjectsAre (slice_set xs x k) (shapes_of fr) (put_in s.store y r.path (Element (Some v))) in
       with_objects fr xs (slice_set xs x k) s.base s.arrays s.store (put_in s.store r.object r.path (Element (Some v))) s.input h
-      (subst P (sym g.object) (put_objects xs (shapes_of fr) s.store x r.path k (Element (Some v)) (λ t q. scalar_put (shape_of fr x) r.path k i v t e g.path f m) h.covers.objects_are));
+      (subst P (sym g.object) (put_objects xs (shapes_of fr) s.store x r.path k (Element (Some v)) (λ t q. scalar_put (shape_of fr x) r.path k i v t e g.path f m) h.objects_are));
 })
 
 -- an element of an array is what it was, or has the new value
@@ -175,7 +175,7 @@ array_writes fr xs ys x old k i eo f g d = let Q : List AbsValue → Type 0 = λ
   is = λ s r v h q m.
       let P : ℕ → Type 0 = λ y. ObjectsAre (slice_set xs x k) (shapes_of fr) (put_in s.store y r.path (Element (Some v))) in
       with_objects fr xs (slice_set xs x k) s.base s.arrays s.store (put_in s.store r.object r.path (Element (Some v))) s.input h
-      (subst P (sym q.object) (put_objects xs (shapes_of fr) s.store x r.path k (Element (Some v)) (λ t e. at s r v t q.path m e (object_at xs (shapes_of fr) s.store x old h.covers.objects_are eo)) h.covers.objects_are));
+      (subst P (sym q.object) (put_objects xs (shapes_of fr) s.store x r.path k (Element (Some v)) (λ t e. at s r v t q.path m e (object_at xs (shapes_of fr) s.store x old h.objects_are eo)) h.objects_are));
 })
   where
     at : (s : State) (r : Reference) (v : ℤ) (t : Tree) → Along (shape_of fr x) r.path [] → In i v → slice_get s.store x ≡ Some t → ObjectIs old (shape_of fr x) (slice_get s.store x) →

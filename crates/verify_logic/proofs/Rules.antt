@@ -49,7 +49,7 @@ place_then fr d place o x rest o2 s go post h c next =
 
 pub based : (fr : Frame) (o : Option (List AbsValue)) (s : State) → Reaches fr o s → s.base ≡ length fr.outer
 based fr None s h = absurd h
-based fr (Some k) s h = h.covers.based
+based fr (Some k) s h = h.based
 
 pub referred : (fr : Frame) (o : Option (List AbsValue)) (s : State) → Reaches fr o s → s.arrays ≡ fr.arrays
 referred fr None s h = absurd h
@@ -364,7 +364,7 @@ arguments_then fr d arguments o is o2 s go post h c next = tick_ends fr.listed s
 
 less_input : (fr : Frame) (o : Option (List AbsValue)) (base : ℕ) (arrays : List Reference) (store : Store) (b : ℕ) (more : List ℕ) → ReachesAt fr o base arrays store (b ∷ more) → (b < 256) × ReachesAt fr o base arrays store more
 less_input fr None base arrays store b more h = absurd h
-less_input fr (Some k) base arrays store b more h = (h.covers.bytes.0, record { covers = record { based = h.covers.based; objects_are = h.covers.objects_are; bytes = h.covers.bytes.1 }; referred = h.referred; sound = h.sound })
+less_input fr (Some k) base arrays store b more h = (h.bytes.0, record { based = h.based; referred = h.referred; objects_are = h.objects_are; bytes = h.bytes.1; sound = h.sound })
 
 got_byte : (fr : Frame) (o : Option (List AbsValue)) (s : State) (input : List ℕ) → ReachesAt fr o s.base s.arrays s.store input → Reaches fr o s → Ends fr.listed (get_byte input s) (Both got fr o)
 got_byte fr o s [] h c = ((omega (arith, ints), omega (arith, ints)), c)

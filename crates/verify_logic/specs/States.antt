@@ -89,16 +89,17 @@ abbrev pub AreBytes : List ℕ → Type 0
 AreBytes [] = Unit {0}
 AreBytes (b ∷ more) = (b < 256) × AreBytes more
 
--- the objects are such values, those of the call behind the others, and the input left is of bytes
-pub record Covers (outer : List (List ℕ)) (objects : List ObjectType) (known : List AbsValue) (base : ℕ) (store : Store) (input : List ℕ) : Type 0 where
+-- the objects are such values, those of the call behind the others, no array is passed, and the input left is of bytes
+pub record Covers (outer : List (List ℕ)) (objects : List ObjectType) (known : List AbsValue) (base : ℕ) (arrays : List Reference) (store : Store) (input : List ℕ) : Type 0 where
   pub based : base ≡ length outer
+  pub referred : arrays ≡ []
   pub objects_are : ObjectsAre known (outer ++ map lengths_in objects) store
   pub bytes : AreBytes input
 
 -- where nothing is said of the objects, no run comes here
 abbrev pub CoversState : (outer : List (List ℕ)) → (objects : List ObjectType) → Option (List AbsValue) → State → Type 0
 CoversState outer objects None s = ⊥
-CoversState outer objects (Some known) s = Covers outer objects known s.base s.store s.input
+CoversState outer objects (Some known) s = Covers outer objects known s.base s.arrays s.store s.input
 
 -- a part of a run goes on as said, ends, or uses its ticks; undefined behaviour it meets only at one of the places
 abbrev pub Ends : {A : Type 0} → List Pos → Run A → (A → State → Type 0) → Type 0
@@ -122,8 +123,10 @@ AreSound p listed (a ∷ more) = IsSound p listed a × AreSound p listed more
 
 -- the objects are such values, the call is that of the frame, and what the frame knows of calls is so
 pub record Holds (fr : Frame) (known : List AbsValue) (base : ℕ) (arrays : List Reference) (store : Store) (input : List ℕ) : Type 0 where
-  pub covers : Covers fr.outer fr.objects known base store input
+  pub based : base ≡ length fr.outer
   pub referred : arrays ≡ fr.arrays
+  pub objects_are : ObjectsAre known (shapes_of fr) store
+  pub bytes : AreBytes input
   pub sound : AreSound fr.program fr.listed fr.summaries
 
 -- where nothing is said of the objects, no run comes here
