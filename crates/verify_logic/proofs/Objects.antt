@@ -182,3 +182,11 @@ array_writes fr xs ys x old k i eo f g d = let Q : List AbsValue → Type 0 = λ
         TreeIs k (shape_of fr x) (put_at r.path (Element (Some v)) t)
     at s r v t a m e h = let P : Option Tree → Type 0 = λ o. ObjectIs old (shape_of fr x) o in
         put_is k (shape_of fr x) r.path [] (Element (Some v)) a (g.is (Some v) m) t (tree_entails old k (shape_of fr x) f t (subst P e h))
+
+-- one that surely has a value lets no other have none, and its values lie in the other's interval
+pub entails_rule : (a b : AbsValue) → (a.initialised ≡ false → b.initialised ≡ false) → Below a.interval b.interval → Entails a b
+entails_rule a b e l = record { is = λ v h. by v h }
+  where
+    by : (v : Option ℤ) → ValueIs a v → ValueIs b v
+    by None h = e h
+    by (Some v) h = below a.interval b.interval v l h
