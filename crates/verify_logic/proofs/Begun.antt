@@ -47,7 +47,7 @@ own_shape (l ∷ outer) objects n (suc x) t q e = let f : suc x ≡ suc (length 
 pub shape_at : (fr : Frame) (n x : ℕ) (t : ObjectType) → x ≡ length fr.outer + n → slice_get fr.objects n ≡ Some t → shape_of fr x ≡ t.lengths
 shape_at fr n x t e h = own_shape fr.outer fr.objects n x t e h
 
-pub renew_rule : (fr : Frame) (n x : ℕ) (t : ObjectType) (k : AbsValue) (o o2 : Option (List AbsValue)) → x ≡ length fr.outer + n → slice_get fr.objects n ≡ Some t → k.initialised ≡ false → Replaces fr o x k o2 → RenewsOne fr n o o2
+pub renew_rule : (fr : Frame) (n x : ℕ) (t : ObjectType) (k : AbsValue) (o o2 : Option (List AbsValue)) → x ≡ length fr.outer + n → slice_get fr.objects n ≡ Some t → k.initialised ≡ false → Replaces o x k o2 → RenewsOne fr n o o2
 renew_rule fr n x t k o o2 e h i r = record {
   is = λ s c.
       let P : ℕ → Type 0 = λ y. Reaches fr o2 (record s { store = put s.store (whole y) (new_object (slice_get fr.objects n)) }) in
@@ -55,7 +55,7 @@ renew_rule fr n x t k o o2 e h i r = record {
       let L : List ℕ → Type 0 = λ l. TreeIs k l (indeterminate t) in
       let new : TreeIs k (shape_of fr x) (new_object (slice_get fr.objects n)) = subst Q (sym h) (subst L (sym (shape_at fr n x t e h)) (new_is k i t.lengths)) in
       let b : s.base ≡ length fr.outer = based fr o s c in
-      let q : x ≡ s.base + n = omega (arith, e, b) in subst P q (r.is s (new_object (slice_get fr.objects n)) c new);
+      let q : x ≡ s.base + n = omega (arith, e, b) in subst P q (r.is fr s (new_object (slice_get fr.objects n)) c new);
 }
 
 pub none_renewed : (fr : Frame) (first count : ℕ) (o : Option (List AbsValue)) → count ≡ 0 → Renews fr first count o o

@@ -138,7 +138,7 @@ whole_path lengths [] e a = refl
 whole_path [] (i ∷ path) e a = absurd a
 whole_path (n ∷ lengths) (i ∷ path) e a = absurd (cc e)
 
-pub read_looks : (fr : Frame) (t : IntType) (place : Place) (x : ℕ) (o : Option (List AbsValue)) (k : AbsValue) → FindsAt fr place x [] → shape_of fr x ≡ [] → Contents fr o x k → k.initialised ≡ true → Looks fr (typed.read t place) o (Object x) k.interval
+pub read_looks : (fr : Frame) (t : IntType) (place : Place) (x : ℕ) (o : Option (List AbsValue)) (k : AbsValue) → FindsAt fr place x [] → shape_of fr x ≡ [] → Contents o x k → k.initialised ≡ true → Looks fr (typed.read t place) o (Object x) k.interval
 read_looks fr t place x o k f e g i = record {
   runs = λ d s c.
       then_ends fr.listed (find fr.program (calling fr.program d) place s) _ (λ r s2. Refers fr x [] r × Reaches fr o s2 × (s2.store ≡ s.store)) (Seen k.interval (Object x) fr o s.store) (f.runs d o s c) (λ r s2 m.

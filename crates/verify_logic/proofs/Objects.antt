@@ -85,11 +85,11 @@ object_at (a ∷ ks) (l ∷ shapes) [] x k h e = absurd h
 object_at (a ∷ ks) (l ∷ shapes) (t ∷ store) zero k h e = let q : a ≡ k = cc e in let P : AbsValue → Type 0 = λ k. TreeIs k l t in subst P q h.0
 object_at (a ∷ ks) (l ∷ shapes) (t ∷ store) (suc x) k h e = object_at ks shapes store x k h.1 e
 
-pub none_contents : (fr : Frame) (x : ℕ) (k : AbsValue) → Contents fr None x k
-none_contents fr x k = record { is = λ s h. absurd h }
+pub none_contents : (x : ℕ) (k : AbsValue) → Contents None x k
+none_contents x k = record { is = λ fr s h. absurd h }
 
-pub some_contents : (fr : Frame) (xs : List AbsValue) (x : ℕ) (k : AbsValue) → slice_get xs x ≡ Some k → Contents fr (Some xs) x k
-some_contents fr xs x k e = record { is = λ s h. object_at xs (shapes_of fr) s.store x k h.objects_are e }
+pub some_contents : (xs : List AbsValue) (x : ℕ) (k : AbsValue) → slice_get xs x ≡ Some k → Contents (Some xs) x k
+some_contents xs x k e = record { is = λ fr s h. object_at xs (shapes_of fr) s.store x k h.objects_are e }
 
 -- ---- the element at a reference
 
@@ -139,16 +139,16 @@ put_objects (a ∷ ks) (l ∷ shapes) [] x path k new f h = absurd h
 put_objects (a ∷ ks) (l ∷ shapes) (t ∷ store) zero path k new f h = (f t refl, h.1)
 put_objects (a ∷ ks) (l ∷ shapes) (t ∷ store) (suc x) path k new f h = (h.0, put_objects ks shapes store x path k new f h.1)
 
-pub none_replaces : (fr : Frame) (x : ℕ) (k : AbsValue) (o : Option (List AbsValue)) → Replaces fr None x k o
-none_replaces fr x k o = record { is = λ s new h m. absurd h }
+pub none_replaces : (x : ℕ) (k : AbsValue) (o : Option (List AbsValue)) → Replaces None x k o
+none_replaces x k o = record { is = λ fr s new h m. absurd h }
 
-some_replaces : (fr : Frame) (xs : List AbsValue) (x : ℕ) (k : AbsValue) → Replaces fr (Some xs) x k (Some (slice_set xs x k))
-some_replaces fr xs x k = record {
-  is = λ s new h m. with_objects fr xs (slice_set xs x k) s.base s.arrays s.store (put_in s.store x [] new) s.input h (put_objects xs (shapes_of fr) s.store x [] k new (λ t e. m) h.objects_are);
+some_replaces : (xs : List AbsValue) (x : ℕ) (k : AbsValue) → Replaces (Some xs) x k (Some (slice_set xs x k))
+some_replaces xs x k = record {
+  is = λ fr s new h m. with_objects fr xs (slice_set xs x k) s.base s.arrays s.store (put_in s.store x [] new) s.input h (put_objects xs (shapes_of fr) s.store x [] k new (λ t e. m) h.objects_are);
 }
 
-pub set_replaces : (fr : Frame) (xs ys : List AbsValue) (x : ℕ) (k : AbsValue) → ys ≡ slice_set xs x k → Replaces fr (Some xs) x k (Some ys)
-set_replaces fr xs ys x k d = let Q : List AbsValue → Type 0 = λ ys. Replaces fr (Some xs) x k (Some ys) in subst Q (sym d) (some_replaces fr xs x k)
+pub set_replaces : (xs ys : List AbsValue) (x : ℕ) (k : AbsValue) → ys ≡ slice_set xs x k → Replaces (Some xs) x k (Some ys)
+set_replaces xs ys x k d = let Q : List AbsValue → Type 0 = λ ys. Replaces (Some xs) x k (Some ys) in subst Q (sym d) (some_replaces xs x k)
 
 pub none_writes : (fr : Frame) (x : ℕ) (i : Interval) (o : Option (List AbsValue)) → Writes fr None x i o
 none_writes fr x i o = record { is = λ s r v h f m. absurd h }

@@ -79,10 +79,10 @@ element_of k (Element v) h = h
 element_of k (Array row) h = absurd h
 
 -- the value at a reference to an element
-pub value_is : (fr : Frame) (o : Option (List AbsValue)) (x : ℕ) (k : AbsValue) (r : Reference) (s : State) → Contents fr o x k → Refers fr x [] r → Reaches fr o s → ValueIs k (value_at s.store r)
+pub value_is : (fr : Frame) (o : Option (List AbsValue)) (x : ℕ) (k : AbsValue) (r : Reference) (s : State) → Contents o x k → Refers fr x [] r → Reaches fr o s → ValueIs k (value_at s.store r)
 value_is fr o x k r s f g h =
     let P : ℕ → Type 0 = λ y. ValueIs k (value_of (at_path (slice_get s.store y) r.path)) in
-    subst P (sym g.object) (at (slice_get s.store x) (f.is s h))
+    subst P (sym g.object) (at (slice_get s.store x) (f.is fr s h))
   where
     at : (t : Option Tree) → ObjectIs k (shape_of fr x) t → ValueIs k (value_of (at_path t r.path))
     at None q = absurd q
@@ -105,7 +105,7 @@ listed_value fr at k e = record { is = λ v h. by v h }
     by None h = e
     by (Some v) h = h
 
-pub read_ends : (fr : Frame) (at : Pos) (o : Option (List AbsValue)) (x : ℕ) (k : AbsValue) (r : Reference) (s : State) → Contents fr o x k → MayRead fr at k → Refers fr x [] r → Reaches fr o s →
+pub read_ends : (fr : Frame) (at : Pos) (o : Option (List AbsValue)) (x : ℕ) (k : AbsValue) (r : Reference) (s : State) → Contents o x k → MayRead fr at k → Refers fr x [] r → Reaches fr o s →
     Ends fr.listed (read at r s) (Both k.interval fr o)
 read_ends fr at o x k r s f m g h = read_element fr.listed at k.interval (value_at s.store r) s (λ s2. Reaches fr o s2) (m.is (value_at s.store r) (value_is fr o x k r s f g h)) h
 
@@ -141,10 +141,10 @@ row_length k n rest (Array row) h = h.0
 pub into_refers : (fr : Frame) (x n i : ℕ) (rest : List ℕ) (r : Reference) → i < n → Refers fr x (n ∷ rest) r → Refers fr x rest (into r i)
 into_refers fr x n i rest r lt f = record { object = f.object; path = along_more (shape_of fr x) r.path n rest i lt f.path }
 
-pub length_is : (fr : Frame) (o : Option (List AbsValue)) (x : ℕ) (k : AbsValue) (n : ℕ) (rest : List ℕ) (r : Reference) (s : State) → Contents fr o x k → Refers fr x (n ∷ rest) r → Reaches fr o s → length_of (tree_at s.store r) ≡ n
+pub length_is : (fr : Frame) (o : Option (List AbsValue)) (x : ℕ) (k : AbsValue) (n : ℕ) (rest : List ℕ) (r : Reference) (s : State) → Contents o x k → Refers fr x (n ∷ rest) r → Reaches fr o s → length_of (tree_at s.store r) ≡ n
 length_is fr o x k n rest r s f g h =
     let P : ℕ → Type 0 = λ y. length_of (at_path (slice_get s.store y) r.path) ≡ n in
-    subst P (sym g.object) (at (slice_get s.store x) (f.is s h))
+    subst P (sym g.object) (at (slice_get s.store x) (f.is fr s h))
   where
     at : (t : Option Tree) → ObjectIs k (shape_of fr x) t → length_of (at_path t r.path) ≡ n
     at None q = absurd q
@@ -183,7 +183,7 @@ pub listed_subscript : (fr : Frame) (at : Pos) (i : Interval) (n : ℕ) → Cont
 listed_subscript fr at i n al = record { is = λ x rest r v s o m e f h. listed_ends fr at x n rest r v s o al e f h }
 
 pub element_rule : (fr : Frame) (at : Pos) (array : Place) (index : Value) (o : Option (List AbsValue)) (x n : ℕ) (rest : List ℕ) (o2 : Option (List AbsValue)) (i : Interval) (o3 : Option (List AbsValue)) (k : AbsValue) →
-    Finds fr array o x (n ∷ rest) o2 → Evaluates fr index o2 i o3 → Contents fr o3 x k → Subscripts fr at i n → Finds fr (typed.element at array index) o x rest o3
+    Finds fr array o x (n ∷ rest) o2 → Evaluates fr index o2 i o3 → Contents o3 x k → Subscripts fr at i n → Finds fr (typed.element at array index) o x rest o3
 element_rule fr at array index o x n rest o2 i o3 k f h g q = record {
   runs = λ d s c.
       let post : Reference → State → Type 0 = λ r2 s2. Refers fr x rest r2 × Reaches fr o3 s2 in
@@ -198,7 +198,7 @@ element_rule fr at array index o x n rest o2 i o3 k f h g q = record {
 pub constant_rule : (fr : Frame) (t : IntType) (v : ℤ) (o : Option (List AbsValue)) (i : Interval) → In i v → Evaluates fr (typed.constant t v) o i o
 constant_rule fr t v o i h = record { runs = λ d s c. tick_ends fr.listed s (λ s. Goes v s) (Both i fr o) (λ n. (h, c)) }
 
-pub read_rule : (fr : Frame) (t : IntType) (place : Place) (o : Option (List AbsValue)) (x : ℕ) (o2 : Option (List AbsValue)) (k : AbsValue) → Finds fr place o x [] o2 → Contents fr o2 x k → MayRead fr (position_of place) k →
+pub read_rule : (fr : Frame) (t : IntType) (place : Place) (o : Option (List AbsValue)) (x : ℕ) (o2 : Option (List AbsValue)) (k : AbsValue) → Finds fr place o x [] o2 → Contents o2 x k → MayRead fr (position_of place) k →
     Evaluates fr (typed.read t place) o k.interval o2
 read_rule fr t place o x o2 k f g m = record {
   runs = λ d s c.
@@ -216,7 +216,7 @@ assigned_rule fr at t place e o x o2 i o3 r o4 f above h g w = record {
 }
 
 pub compound_rule : (fr : Frame) (at : Pos) (op : BinOp) (t of : IntType) (place : Place) (e : Value) (o : Option (List AbsValue)) (x : ℕ) (o2 : Option (List AbsValue)) (j : Interval) (o3 : Option (List AbsValue)) (old : AbsValue) (k r : Interval)
-    (o4 : Option (List AbsValue)) → Finds fr place o x [] o2 → length fr.program.literals ≤ x → Evaluates fr e o2 j o3 → Contents fr o3 x old → MayRead fr (position_of place) old → OperatesAt fr at op of old.interval j k → Converts t k r →
+    (o4 : Option (List AbsValue)) → Finds fr place o x [] o2 → length fr.program.literals ≤ x → Evaluates fr e o2 j o3 → Contents o3 x old → MayRead fr (position_of place) old → OperatesAt fr at op of old.interval j k → Converts t k r →
     Writes fr o3 x r o4 → Evaluates fr (typed.compound at op t of place e) o r o4
 compound_rule fr at op t of place e o x o2 j o3 old k r o4 f above h rd mr g cv w = record {
   runs = λ d s c.
@@ -233,7 +233,7 @@ step_in typed.after i r old new h k = h
 step_in typed.before i r old new h k = k
 
 pub stepped_rule : (fr : Frame) (at : Pos) (moment : Moment) (op : StepOp) (t of : IntType) (place : Place) (o : Option (List AbsValue)) (x : ℕ) (o2 : Option (List AbsValue)) (old : AbsValue) (k r : Interval)
-    (o3 : Option (List AbsValue)) → Finds fr place o x [] o2 → length fr.program.literals ≤ x → Contents fr o2 x old → MayRead fr (position_of place) old → OperatesAt fr at (step_operation op) of old.interval (just (pos 1)) k → Converts t k r →
+    (o3 : Option (List AbsValue)) → Finds fr place o x [] o2 → length fr.program.literals ≤ x → Contents o2 x old → MayRead fr (position_of place) old → OperatesAt fr at (step_operation op) of old.interval (just (pos 1)) k → Converts t k r →
     Writes fr o2 x r o3 → Evaluates fr (typed.stepped at moment op t of place) o (step_interval moment old.interval r) o3
 stepped_rule fr at moment op t of place o x o2 old k r o3 f above rd mr g cv w = let q = step_interval moment old.interval r in record {
   runs = λ d s c.

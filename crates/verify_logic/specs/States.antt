@@ -173,12 +173,12 @@ ObjectIs k lengths None = ⊥
 ObjectIs k lengths (Some t) = TreeIs k lengths t
 
 -- the elements of object x are such values
-pub record Contents (fr : Frame) (o : Option (List AbsValue)) (x : ℕ) (k : AbsValue) : Type 0 where
-  pub is : (s : State) → Reaches fr o s → ObjectIs k (shape_of fr x) (slice_get s.store x)
+pub record Contents (o : Option (List AbsValue)) (x : ℕ) (k : AbsValue) : Type 0 where
+  pub is : (fr : Frame) (s : State) → Reaches fr o s → ObjectIs k (shape_of fr x) (slice_get s.store x)
 
 -- an object becomes another of its lengths
-pub record Replaces (fr : Frame) (o : Option (List AbsValue)) (x : ℕ) (k : AbsValue) (o2 : Option (List AbsValue)) : Type 0 where
-  pub is : (s : State) (new : Tree) → Reaches fr o s → TreeIs k (shape_of fr x) new → Reaches fr o2 (record s { store = put s.store (whole x) new })
+pub record Replaces (o : Option (List AbsValue)) (x : ℕ) (k : AbsValue) (o2 : Option (List AbsValue)) : Type 0 where
+  pub is : (fr : Frame) (s : State) (new : Tree) → Reaches fr o s → TreeIs k (shape_of fr x) new → Reaches fr o2 (record s { store = put s.store (whole x) new })
 
 -- a value in the interval is written to an element of object x
 pub record Writes (fr : Frame) (o : Option (List AbsValue)) (x : ℕ) (i : Interval) (o2 : Option (List AbsValue)) : Type 0 where
