@@ -24,7 +24,7 @@ use ctypes::{BinOp, IntType};
 use srcset::Pos;
 use tree::{PrefixOp, StepOp};
 use typed_ast::{Argument, Callee, Moment, Place, Storage, Value};
-use verify_intervals::{conversion, hull, single, truths};
+use verify_intervals::{add_usize, conversion, hull, single, truths};
 use verify_logic::Interval;
 
 /// The interval of a value, and what is known behind it.
@@ -74,9 +74,12 @@ fn element(
         return Err(Stop::Unfollowed(Some(*at)));
     };
     subscript_at(scope, *at, i.interval, n)?;
+    let Some(depth) = add_usize(found.depth, 1) else {
+        return Err(Stop::Unfollowed(Some(*at)));
+    };
     Ok(Placed {
         object: found.object,
-        depth: found.depth + 1,
+        depth,
         state: i.state,
     })
 }
@@ -399,19 +402,19 @@ fn passed(scope: &Scope<'_>, state: AbsState, arguments: &[Argument]) -> Result<
     ensures { IfOk result (λ r. PassesAll (frame_of scope.now) arguments.now (state_of state) r.intervals.items (state_of r.state)) }
 {
     let mut intervals = Vec::new(scope.alloc);
-    let mut now = state;
+    let mut current = state;
     let mut rest = arguments;
     while let Some((a, more)) = rest.split_first() {
-        let v = argument(scope, now, a)?;
+        let v = argument(scope, current, a)?;
         let Ok(()) = intervals.push(v.interval) else {
             return Err(Stop::Memory);
         };
-        now = v.state;
+        current = v.state;
         rest = more;
     }
     Ok(Passed {
         intervals,
-        state: now,
+        state: current,
     })
 }
 

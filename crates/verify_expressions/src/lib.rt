@@ -18,7 +18,7 @@ mod stop;
 pub use conditions::Tested;
 pub use expressions::{Evaluated, evaluate, test};
 pub use objects::{copied, imply, joined, replaced, written};
-pub use places::{literal_count, shape};
+pub use places::{is_scalar, literal_count, shape};
 pub use scope::{Scope, Summary};
 pub use state::{AbsState, unreachable};
 pub use stop::{Alarm, Stop, Wanted};

@@ -199,61 +199,45 @@ pub fn replaced(state: AbsState, x: usize, k: AbsValue) -> Result<AbsState, Stop
 
 fn scalar_written(
     scope: &Scope<'_>,
-    xs: Vec<AbsValue>,
+    state: AbsState,
     x: usize,
     i: Interval,
 ) -> Result<AbsState, Stop>
     requires { shape_of (frame_of scope.now) x ≡ [] }
-    ensures { IfOk result (λ r. Writes (frame_of scope.now) (Some xs.items) x i (state_of r)) }
+    ensures { IfOk result (λ r. Writes (frame_of scope.now) (state_of state) x i (state_of r)) }
 {
     let new = initialised(i);
-    if x < xs.len() {
-        let ys = set(xs, x, new);
-        Ok(AbsState { objects: Some(ys) })
-    } else {
-        Err(Stop::Unfollowed(None))
-    }
+    let state2 = replaced(state, x, new)?;
+    Ok(state2)
 }
 
 fn array_written(
     scope: &Scope<'_>,
-    xs: Vec<AbsValue>,
+    state: AbsState,
     x: usize,
     i: Interval,
 ) -> Result<AbsState, Stop>
-    ensures { IfOk result (λ r. Writes (frame_of scope.now) (Some xs.items) x i (state_of r)) }
+    ensures { IfOk result (λ r. Writes (frame_of scope.now) (state_of state) x i (state_of r)) }
 {
-    let Some(old) = value_in(&xs, x) else {
+    let Some(old) = content_at(&state, x) else {
         return Err(Stop::Unfollowed(None));
     };
     let new = initialised(i);
     let k = either(old, new);
-    if x < xs.len() {
-        let ys = set(xs, x, k);
-        Ok(AbsState { objects: Some(ys) })
-    } else {
-        Err(Stop::Unfollowed(None))
-    }
+    let state2 = replaced(state, x, k)?;
+    Ok(state2)
 }
 
-fn written_in(scope: &Scope<'_>, xs: Vec<AbsValue>, x: usize, i: Interval) -> Result<AbsState, Stop>
-    ensures { IfOk result (λ r. Writes (frame_of scope.now) (Some xs.items) x i (state_of r)) }
-{
-    let scalar = is_scalar(scope, x);
-    if scalar {
-        scalar_written(scope, xs, x, i)
-    } else {
-        array_written(scope, xs, x, i)
-    }
-}
-
-/// The state with a value in an element of object `x`.
-#[tactic(auto, using(verify_logic::proofs::Objects::none_writes))]
+/// The state with a value in an element of object `x`. An element of an array may also be what it was.
+///
+/// Errors: there is no such object.
 pub fn written(scope: &Scope<'_>, state: AbsState, x: usize, i: Interval) -> Result<AbsState, Stop>
     ensures { IfOk result (λ r. Writes (frame_of scope.now) (state_of state) x i (state_of r)) }
 {
-    match state.objects {
-        None => Ok(AbsState { objects: None }),
-        Some(xs) => written_in(scope, xs, x, i),
+    let scalar = is_scalar(scope, x);
+    if scalar {
+        scalar_written(scope, state, x, i)
+    } else {
+        array_written(scope, state, x, i)
     }
 }

@@ -194,7 +194,7 @@ to_covers : (fr : Frame) (o : Option (List AbsValue)) (s : State) → fr.arrays 
 to_covers fr None s e h = absurd h
 to_covers fr (Some known) s e h = record { based = h.based; referred = h.referred ∙ e; objects_are = h.objects_are; bytes = h.bytes }
 
-ticks_end : (fr : Frame) (k : ℕ) (s : State) (o : Option (List AbsValue)) → Reaches fr o s → Ends fr.listed (ticks k s) (λ u s2. Reaches fr o s2)
+pub ticks_end : (fr : Frame) (k : ℕ) (s : State) (o : Option (List AbsValue)) → Reaches fr o s → Ends fr.listed (ticks k s) (λ u s2. Reaches fr o s2)
 ticks_end fr zero s o h = h
 ticks_end fr (suc k) s o h = tick_ends fr.listed s _ (λ u s2. Reaches fr o s2) (λ n. ticks_end fr k (record s { clock = n }) o h)
 

@@ -133,7 +133,7 @@ look_value al at None s k rest i h f = absurd (let q : true ≡ false = sym i �
 look_value al at (Some v) s k rest i h f = f v refl h
 
 -- a reference to a scalar object is to the whole of it
-whole_path : (lengths path : List ℕ) → lengths ≡ [] → Along lengths path [] → path ≡ []
+pub whole_path : (lengths path : List ℕ) → lengths ≡ [] → Along lengths path [] → path ≡ []
 whole_path lengths [] e a = refl
 whole_path [] (i ∷ path) e a = absurd a
 whole_path (n ∷ lengths) (i ∷ path) e a = absurd (cc e)
@@ -223,14 +223,14 @@ other_narrows i j left right f g = record { is = λ v w m n h. (f.is v w m n h, 
 pub both_restrict : (a : Operand) (i : Interval) (b : Operand) (j : Interval) (o o2 o3 : Option (List AbsValue)) → Restricts a i o o2 → Restricts b j o2 o3 → RestrictsBoth a i b j o o3
 both_restrict a i b j o o2 o3 f g = record { is = λ fr s v w ox oy m n h. g.is fr s w oy n (f.is fr s v ox m h) }
 
-learns_straight : (op : BinOp) (b : Bool) (r : Relation) (x y : Operand) (i j i2 j2 : Interval) (o o3 : Option (List AbsValue)) → Tells op b false r → Narrows r i j i2 j2 → RestrictsBoth x i2 y j2 o o3 → Learns op b x i y j o o3
+pub learns_straight : (op : BinOp) (b : Bool) (r : Relation) (x y : Operand) (i j i2 j2 : Interval) (o o3 : Option (List AbsValue)) → Tells op b false r → Narrows r i j i2 j2 → RestrictsBoth x i2 y j2 o o3 → Learns op b x i y j o o3
 learns_straight op b r x y i j i2 j2 o o3 t n f = record {
   is = λ fr s ty v w res m q ox oy ce te h. let k = n.is v w m q (t.is ty v w res ce te) in f.is fr s v w ox oy k.0 k.1 h;
   has = t.has;
   right = t.right;
 }
 
-learns_swapped : (op : BinOp) (b : Bool) (r : Relation) (x y : Operand) (i j i2 j2 : Interval) (o o3 : Option (List AbsValue)) → Tells op b true r → Narrows r j i j2 i2 → RestrictsBoth y j2 x i2 o o3 → Learns op b x i y j o o3
+pub learns_swapped : (op : BinOp) (b : Bool) (r : Relation) (x y : Operand) (i j i2 j2 : Interval) (o o3 : Option (List AbsValue)) → Tells op b true r → Narrows r j i j2 i2 → RestrictsBoth y j2 x i2 o o3 → Learns op b x i y j o o3
 learns_swapped op b r x y i j i2 j2 o o3 t n f = record {
   is = λ fr s ty v w res m q ox oy ce te h. let k = n.is w v q m (t.is ty v w res ce te) in f.is fr s w v oy ox k.0 k.1 h;
   has = t.has;

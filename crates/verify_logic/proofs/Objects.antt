@@ -44,7 +44,7 @@ each_part : (P Q : Tree → Type 0) → ((t : Tree) → P t → Q t) → (row : 
 each_part P Q f no_parts h = tt
 each_part P Q f (and_part t row) h = (f t h.0, each_part P Q f row h.1)
 
-tree_entails : (a b : AbsValue) (lengths : List ℕ) → Entails a b → (t : Tree) → TreeIs a lengths t → TreeIs b lengths t
+pub tree_entails : (a b : AbsValue) (lengths : List ℕ) → Entails a b → (t : Tree) → TreeIs a lengths t → TreeIs b lengths t
 tree_entails a b [] e (Element v) h = e.is v h
 tree_entails a b [] e (Array row) h = absurd h
 tree_entails a b (n ∷ lengths) e (Element v) h = absurd h
@@ -121,7 +121,7 @@ each_change P (and_part t row) zero f g h = (g t h.0, h.1)
 each_change P (and_part t row) (suc i) f g h = (h.0, each_change P row i f g h.1)
 
 -- a tree that fits in the place of a part keeps the whole
-put_is : (k : AbsValue) (lengths path rest : List ℕ) (new : Tree) → Along lengths path rest → TreeIs k rest new → (t : Tree) → TreeIs k lengths t → TreeIs k lengths (put_at path new t)
+pub put_is : (k : AbsValue) (lengths path rest : List ℕ) (new : Tree) → Along lengths path rest → TreeIs k rest new → (t : Tree) → TreeIs k lengths t → TreeIs k lengths (put_at path new t)
 put_is k lengths [] rest new a n t h = let P : List ℕ → Type 0 = λ l. TreeIs k l new in subst P (sym a) n
 put_is k [] (i ∷ path) rest new a n t h = absurd a
 put_is k (m ∷ lengths) (i ∷ path) rest new a n (Element v) h = absurd h
