@@ -1,0 +1,148 @@
+-- Rules as the functions have them.
+use Rattle.std.proofs.Common.{◌≡◌, ◌≤◌, ◌<◌, ◌+◌, ℕ, zero, suc, ℤ, pos, ◌≤ℤ◌, List, [], ◌∷◌, ◌++◌, map, take, length, get_or, refl, ap, sym, subst, ◌∙◌, arith, add-one}
+use Rattle.std.proofs.lemmas.Int.{ints}
+use Rattle.std.proofs.lemmas.List.{take_all}
+use Rattle.std.proofs.Math.Seq.{take-suc}
+use Rattle.std.specs.Prelude.{Option, Some, None, true, false, nat_eq, slice_get, Contains}
+use Rattle.srcset.specs.declared.refusal.Pos.{Pos}
+use Rattle.std.specs.declared.vec.Vec.{Vec}
+use Rattle.std.specs.declared.alloc.Global.{Global}
+use Rattle.typing_spec.specs.Types.{ObjectType}
+use Rattle.typing_spec.specs.Program.{Function, Program}
+use Rattle.typed_ast.specs.declared.units.Static as held
+use Rattle.typed_ast.specs.View.{static_of}
+use Rattle.csem.specs.Store.{Tree, Store, literal_object, static_object, first_store}
+use Rattle.csem.specs.Machine.{State, Ended, Undefined, TicksUsed, Run, Goes, Stops, then_do, ticks}
+use Rattle.csem.specs.Statements.{Flow, execute}
+use Rattle.csem.specs.Meaning.{enter, leave, value_left, body_of, call_defined, calling, start, end_with, ending_of}
+use Rattle.verify_logic.specs.declared.abstract_values.Interval.{Interval}
+use Rattle.verify_logic.specs.declared.abstract_values.AbsValue.{AbsValue}
+use Rattle.verify_logic.specs.States.{Frame, In, TreeIs, ObjectsAre, AreBytes, lengths_in, AreSound, Reaches, Ends}
+use Rattle.verify_logic.specs.Statements.{Ways, Leaves, Executes}
+use Rattle.verify_logic.specs.Calls.{Entered, Begins, EachIn}
+use Rattle.verify_logic.specs.Whole.{UndefinedOnlyAt, IsDefinedBut}
+use Rattle.verify_logic.proofs.Runs.{then_ends, tick_ends}
+use Rattle.verify_logic.proofs.Calls.{both_are, as_long, new_objects, ticks_end}
+use Rattle.verify_logic.proofs.Whole.{static_is, literal_is, one_more_object}
+use Rattle.verify_expressions.specs.Views.{shapes_in, items_of}
+use Rattle.verify.specs.Says.{AreFresh, Fresh, EntersMain, frame_in, texts_of, FirstAre}
+
+-- ---- the run of main's body
+
+only_at : (listed : List Pos) (fr : Frame) (w : Ways) (r : Run Flow) (value : Flow → Option ℤ) (caller : State) → Ends listed r (Leaves fr w) → UndefinedOnlyAt listed (ending_of (then_do (then_do r (λ flow s. Goes (value flow) (leave caller s))) end_with))
+only_at listed fr w (Goes flow s) value caller h = tt
+only_at listed fr w (Stops (Ended n) s) value caller h = tt
+only_at listed fr w (Stops (Undefined act at) s) value caller h = h
+only_at listed fr w (Stops TicksUsed s) value caller h = tt
+
+entered_fresh : (objects : List ObjectType) (ks : List AbsValue) → length ks ≡ length objects → AreFresh ks → Entered [] objects ks
+entered_fresh [] [] e h = tt
+entered_fresh [] (k ∷ ks) e h = absurd (cc e)
+entered_fresh (t ∷ objects) [] e h = absurd (cc e)
+entered_fresh (t ∷ objects) (k ∷ ks) e h = (h.0, entered_fresh objects ks (let q : suc (length ks) ≡ suc (length objects) = e in omega (arith, q)) h.1)
+
+pub main_body : (p : Program) (listed : List Pos) (outer : List (Vec ℕ Global)) (g : Function) (first : List AbsValue) (count : ℕ) (entry : List AbsValue) (w : Ways) → slice_get p.functions p.main ≡ Some g → Begins p (shapes_in outer) first → count ≡ length g.objects →
+    EntersMain first count entry → Executes (frame_in p listed outer g) g.body (Some entry) w → IsDefinedBut p listed
+main_body p listed outer g first count entry w eg hb ec en h n input bytes =
+    let fr : Frame = frame_in p listed outer g in
+    let s : State = start n p input in
+    let s1 : State = enter p.main g [] s in
+    let P : Option Function → Type 0 = λ o. UndefinedOnlyAt listed (ending_of (then_do (call_defined p (calling p n) o p.main [] s) end_with)) in
+    let K : List AbsValue → Type 0 = λ known. Reaches fr (Some known) s1 in
+    let c0 : Reaches fr (Some (first ++ en.own)) s1 = record {
+      based = as_long first (shapes_in outer) (first_store p) hb;
+      referred = refl;
+      objects_are = both_are first (shapes_in outer) (first_store p) en.own (map lengths_in g.objects) _ hb (new_objects g.objects en.own (entered_fresh g.objects en.own (en.fresh.0 ∙ ec) en.fresh.1));
+      bytes = bytes;
+      sound = tt;
+    } in
+    let c1 : Reaches fr (Some entry) s1 = subst K (sym en.all) c0 in
+    subst P (sym eg) (only_at listed fr w (body_of p (calling p n) g s1) (value_left (nat_eq p.main p.main)) s
+    (then_ends listed (ticks (suc (length g.type.parameters)) s1) (λ u s. execute p (calling p n) g.objects g.body s) (λ u s2. Reaches fr (Some entry) s2) (Leaves fr w) (ticks_end fr (suc (length g.type.parameters)) s1 (Some entry) c1) (λ u s2 c2. h.runs n s2 c2)))
+
+-- ---- new objects
+
+pub one_more_fresh : (n : ℕ) (ks ks2 : List AbsValue) (k : AbsValue) → Fresh n ks → k.initialised ≡ false → ks2 ≡ ks ++ k ∷ [] → Fresh (n + 1) ks2
+one_more_fresh n ks ks2 k h e d = let P : List AbsValue → Type 0 = Fresh (n + 1) in subst P (sym d) (long ks k ∙ (let q : length ks ≡ n = h.0 in ap (λ m. m + 1) q), each ks k h.1 e)
+  where
+    long : (ks : List AbsValue) (k : AbsValue) → length (ks ++ k ∷ []) ≡ length ks + 1
+    long [] k = refl
+    long (j ∷ ks) k = let q : length (ks ++ k ∷ []) ≡ length ks + 1 = long ks k in let r : suc (length (ks ++ k ∷ [])) ≡ suc (length ks) + 1 = omega (arith, q) in r
+
+    each : (ks : List AbsValue) (k : AbsValue) → AreFresh ks → k.initialised ≡ false → AreFresh (ks ++ k ∷ [])
+    each [] k h e = (e, tt)
+    each (j ∷ ks) k h e = (h.0, each ks k h.1 e)
+
+-- ---- values
+
+each_wider : (i j : Interval) (vs : List ℤ) → j.low ≤ℤ i.low → i.high ≤ℤ j.high → EachIn i vs → EachIn j vs
+each_wider i j [] l h e = tt
+each_wider i j (v ∷ vs) l h e = ((omega (arith, ints, l, e.0.0), omega (arith, ints, h, e.0.1)), each_wider i j vs l h e.1)
+
+each_more : (i : Interval) (vs : List ℤ) (v : ℤ) → EachIn i vs → In i v → EachIn i (vs ++ v ∷ [])
+each_more i [] v h m = (m, tt)
+each_more i (w ∷ vs) v h m = (h.0, each_more i vs v h.1 m)
+
+-- one step of a loop over them
+pub value_step : (i j : Interval) (vs : List ℤ) (n : ℕ) (d : ℤ) → n < length vs → EachIn i (take n vs) → j.low ≤ℤ i.low → i.high ≤ℤ j.high → In j (get_or vs n d) → EachIn j (take (n + 1) vs)
+value_step i j vs n d lt h l g m = let P : List ℤ → Type 0 = EachIn j in
+    let e : take (suc n) vs ≡ take (n + 1) vs = ap (λ m. take m vs) (sym (add-one n)) in
+    subst P (sym (take-suc vs n d lt) ∙ e) (each_more j (take n vs) (get_or vs n d) (each_wider i j (take n vs) l g h) m)
+
+pub whole_values : (i : Interval) (vs : List ℤ) (n : ℕ) → length vs ≤ n → EachIn i (take n vs) → EachIn i vs
+whole_values i vs n le h = let P : List ℤ → Type 0 = EachIn i in subst P (take_all n vs le) h
+
+pub text_step : (i j : Interval) (text : List ℕ) (n d : ℕ) → n < length text → EachIn i (map (λ c. pos c) (take n text)) → j.low ≤ℤ i.low → i.high ≤ℤ j.high → In j (pos (get_or text n d)) → EachIn j (map (λ c. pos c) (take (n + 1) text))
+text_step i j text n d lt h l g m = let P : List ℕ → Type 0 = λ text. EachIn j (map (λ c. pos c) text) in
+    let e : take (suc n) text ≡ take (n + 1) text = ap (λ m. take m text) (sym (add-one n)) in
+    subst P (sym (take-suc text n d lt) ∙ e) (map_more (take n text) (get_or text n d) (each_more j (map (λ c. pos c) (take n text)) (pos (get_or text n d)) (each_wider i j (map (λ c. pos c) (take n text)) l g h) m))
+  where
+    map_more : (xs : List ℕ) (x : ℕ) → EachIn j (map (λ c. pos c) xs ++ pos x ∷ []) → EachIn j (map (λ c. pos c) (xs ++ x ∷ []))
+    map_more [] x h = h
+    map_more (y ∷ xs) x h = (h.0, map_more xs x h.1)
+
+pub whole_text : (i : Interval) (text : List ℕ) (n : ℕ) → length text ≤ n → EachIn i (map (λ c. pos c) (take n text)) → EachIn i (map (λ c. pos c) text)
+whole_text i text n le h = let P : List ℕ → Type 0 = λ text. EachIn i (map (λ c. pos c) text) in subst P (take_all n text le) h
+
+-- ---- objects before the run
+
+pub known_static : (k : AbsValue) (i : Interval) (o : held.Static) (values : List ℤ) → values ≡ o.values.items → k ≡ record { initialised = true; interval = i } → EachIn i values → In i (pos 0) → TreeIs k (static_of o).type.lengths (static_object (static_of o))
+known_static k i o values ev ek h z = let P : AbsValue → Type 0 = λ k. TreeIs k (static_of o).type.lengths (static_object (static_of o)) in let Q : List ℤ → Type 0 = EachIn i in
+    subst P (sym ek) (static_is (record { initialised = true; interval = i }) (static_of o) z (subst Q ev h))
+
+pub known_text : (k : AbsValue) (i : Interval) (text : List ℕ) → k ≡ record { initialised = true; interval = i } → EachIn i (map (λ c. pos c) text) → TreeIs k (length text ∷ []) (literal_object text)
+known_text k i text ek h = let P : AbsValue → Type 0 = λ k. TreeIs k (length text ∷ []) (literal_object text) in subst P (sym ek) (literal_is (record { initialised = true; interval = i }) text h)
+
+pub more_known : (ks ks2 : List AbsValue) (outer outer2 : List (Vec ℕ Global)) (store store2 : Store) (k : AbsValue) (lengths : Vec ℕ Global) (l : List ℕ) (t : Tree) → ObjectsAre ks (shapes_in outer) store → ks2 ≡ ks ++ k ∷ [] → outer2 ≡ outer ++ lengths ∷ [] →
+    lengths.items ≡ l → TreeIs k l t → store2 ≡ store ++ t ∷ [] → ObjectsAre ks2 (shapes_in outer2) store2
+more_known ks ks2 outer outer2 store store2 k lengths l t h ek eo el m es =
+    let K : List AbsValue → Type 0 = λ ks2. ObjectsAre ks2 (shapes_in outer2) store2 in
+    let O : List (Vec ℕ Global) → Type 0 = λ outer2. ObjectsAre (ks ++ k ∷ []) (shapes_in outer2) store2 in
+    let S : Store → Type 0 = λ store2. ObjectsAre (ks ++ k ∷ []) (shapes_in (outer ++ lengths ∷ [])) store2 in
+    let M : List (List ℕ) → Type 0 = λ shapes. ObjectsAre (ks ++ k ∷ []) shapes (store ++ t ∷ []) in
+    let L : List ℕ → Type 0 = λ l. TreeIs k l t in
+    subst K (sym ek) (subst O (sym eo) (subst S (sym es) (subst M (sym (shapes_more outer lengths)) (one_more_object ks (shapes_in outer) store k lengths.items t h (subst L (sym el) m)))))
+  where
+    shapes_more : (outer : List (Vec ℕ Global)) (lengths : Vec ℕ Global) → shapes_in (outer ++ lengths ∷ []) ≡ shapes_in outer ++ lengths.items ∷ []
+    shapes_more [] lengths = refl
+    shapes_more (x ∷ outer) lengths = ap (λ rest. x.items ∷ rest) (shapes_more outer lengths)
+
+pub text_objects : (texts : List (Vec ℕ Global)) (n : ℕ) (d : Vec ℕ Global) → n < length texts →
+    map literal_object (texts_of (take (n + 1) texts)) ≡ map literal_object (texts_of (take n texts)) ++ literal_object (get_or texts n d).items ∷ []
+text_objects [] n d h = absurd (omega (arith, h))
+text_objects (x ∷ texts) zero d h = refl
+text_objects (x ∷ texts) (suc n) d h = ap (λ rest. literal_object x.items ∷ rest) (text_objects texts n d (let q : suc n < suc (length texts) = h in omega (arith, q)))
+
+pub static_objects : (before : Store) (objects : List held.Static) (n : ℕ) (d : held.Static) → n < length objects →
+    before ++ map static_object (map static_of (take (n + 1) objects)) ≡ (before ++ map static_object (map static_of (take n objects))) ++ static_object (static_of (get_or objects n d)) ∷ []
+static_objects [] objects n d h = own objects n d h
+  where
+    own : (objects : List held.Static) (n : ℕ) (d : held.Static) → n < length objects → map static_object (map static_of (take (n + 1) objects)) ≡ map static_object (map static_of (take n objects)) ++ static_object (static_of (get_or objects n d)) ∷ []
+    own [] n d h = absurd (omega (arith, h))
+    own (x ∷ objects) zero d h = refl
+    own (x ∷ objects) (suc n) d h = ap (λ rest. static_object (static_of x) ∷ rest) (own objects n d (let q : suc n < suc (length objects) = h in omega (arith, q)))
+static_objects (t ∷ before) objects n d h = ap (λ rest. t ∷ rest) (static_objects before objects n d h)
+
+pub no_statics : (before : Store) → before ++ [] ≡ before
+no_statics [] = refl
+no_statics (t ∷ before) = ap (λ rest. t ∷ rest) (no_statics before)

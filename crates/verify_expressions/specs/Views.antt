@@ -1,0 +1,46 @@
+-- What the code's values stand for.
+use Rattle.std.specs.Prelude.{ℕ, List, [], ◌++◌, map, Option, Some, None, slice_get}
+use Rattle.std.specs.declared.vec.Vec.{Vec}
+use Rattle.std.specs.declared.alloc.Global.{Global}
+use Rattle.typed_ast.specs.declared.types.ObjectType as held
+use Rattle.typed_ast.specs.View.{object_type_of, program_of}
+use Rattle.verify_logic.specs.declared.abstract_values.AbsValue.{AbsValue}
+use Rattle.verify_logic.specs.States as logic
+use Rattle.verify_logic.specs.States.{Frame, lengths_in, or_scalar}
+use Rattle.verify_expressions.specs.declared.state.AbsState.{AbsState}
+use Rattle.verify_expressions.specs.declared.scope.Summary.{Summary}
+use Rattle.verify_expressions.specs.declared.scope.Scope.{Scope}
+
+abbrev pub objects_or_none : Option (Vec AbsValue Global) → Option (List AbsValue)
+objects_or_none None = None
+objects_or_none (Some xs) = Some xs.items
+
+abbrev pub state_of : AbsState → Option (List AbsValue)
+state_of s = objects_or_none s.objects
+
+abbrev pub items_of : Vec ℕ Global → List ℕ
+items_of xs = xs.items
+
+abbrev pub shapes_in : List (Vec ℕ Global) → List (List ℕ)
+shapes_in outer = map items_of outer
+
+abbrev pub summary_of : Summary → logic.Summary
+summary_of a = record { function = a.function; outer = shapes_in a.outer.items; entry = a.entry.items; value = a.value; left = objects_or_none a.left }
+
+abbrev pub frame_of : Scope → Frame
+frame_of sc = record {
+  program = program_of sc.program.now;
+  listed = sc.listed.now;
+  summaries = map summary_of sc.summaries.now;
+  outer = shapes_in sc.outer.now;
+  objects = map object_type_of sc.objects.now;
+  arrays = [];
+}
+
+-- the lengths of object x
+abbrev pub shape_in : List (Vec ℕ Global) → List held.ObjectType → ℕ → List ℕ
+shape_in outer objects x = or_scalar (slice_get (shapes_in outer ++ map lengths_in (map object_type_of objects)) x)
+
+-- of object n of the call
+abbrev pub own_shape_in : List held.ObjectType → ℕ → List ℕ
+own_shape_in objects n = or_scalar (slice_get (map lengths_in (map object_type_of objects)) n)

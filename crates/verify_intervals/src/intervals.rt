@@ -1,0 +1,103 @@
+//! Intervals as sets that lie in one another, and checked arithmetic on their bounds.
+
+ghost use Rattle.std.specs.Prelude.{◌≡◌, ◌≤ℤ◌, ◌<ℤ◌, ◌+◌, ◌+ℤ◌, ◌-ℤ◌, ◌*ℤ◌, ◌⊎◌, pos, IfSome, IsTrue};
+ghost use Rattle.verify_logic.specs.States.{Below, just};
+
+use verify_logic::Interval;
+
+/// The lesser of two numbers.
+pub fn lesser(a: i64, b: i64) -> i64
+    ensures first { result ≤ℤ a }
+    ensures second { result ≤ℤ b }
+{
+    if a < b { a } else { b }
+}
+
+/// The greater of two numbers.
+pub fn greater(a: i64, b: i64) -> i64
+    ensures first { a ≤ℤ result }
+    ensures second { b ≤ℤ result }
+{
+    if a < b { b } else { a }
+}
+
+/// An interval that holds both.
+pub fn hull(i: Interval, j: Interval) -> Interval
+    ensures first { Below i result }
+    ensures second { Below j result }
+{
+    let low = lesser(i.low, j.low);
+    let high = greater(i.high, j.high);
+    Interval { low, high }
+}
+
+/// Tests whether the one lies in the other.
+pub fn lies_in(i: Interval, j: Interval) -> bool
+    ensures { IsTrue result → Below i j }
+{
+    j.low <= i.low && i.high <= j.high
+}
+
+/// The interval of one number.
+pub fn single(v: i64) -> Interval
+    ensures { result ≡ just v }
+{
+    Interval { low: v, high: v }
+}
+
+/// The interval without a number, whose hull with another is the other.
+pub fn nothing() -> Interval {
+    Interval {
+        low: i64::MAX,
+        high: i64::MIN,
+    }
+}
+
+/// Tests whether no number lies in the interval.
+pub fn is_empty(i: Interval) -> bool
+    ensures { IsTrue result → i.high <ℤ i.low }
+{
+    i.high < i.low
+}
+
+/// Tests whether 0 alone lies in the interval.
+pub fn is_zero(i: Interval) -> bool
+    ensures { IsTrue result → (i.low ≡ pos 0) × (i.high ≡ pos 0) }
+{
+    i.low == 0 && i.high == 0
+}
+
+/// Tests whether 0 lies outside the interval.
+pub fn is_nonzero(i: Interval) -> bool
+    ensures { IsTrue result → (pos 0 <ℤ i.low) ⊎ (i.high <ℤ pos 0) }
+{
+    0 < i.low || i.high < 0
+}
+
+/// The sum, where it fits.
+pub fn add(a: i64, b: i64) -> Option<i64>
+    ensures { IfSome result (λ r. r ≡ a +ℤ b) }
+{
+    a.checked_add(b)
+}
+
+/// The difference, where it fits.
+pub fn subtract(a: i64, b: i64) -> Option<i64>
+    ensures { IfSome result (λ r. r ≡ a -ℤ b) }
+{
+    a.checked_sub(b)
+}
+
+/// The product, where it fits.
+pub fn multiply(a: i64, b: i64) -> Option<i64>
+    ensures { IfSome result (λ r. r ≡ a *ℤ b) }
+{
+    a.checked_mul(b)
+}
+
+/// The sum of two sizes, where it fits.
+pub fn add_usize(a: usize, b: usize) -> Option<usize>
+    ensures { IfSome result (λ r. r ≡ a + b) }
+{
+    a.checked_add(b)
+}

@@ -1,0 +1,9 @@
+pub mod Runs
+pub mod Objects
+pub mod Rules
+pub mod Splits
+pub mod StatementRules
+pub mod Begun
+pub mod Compares
+pub mod Calls
+pub mod Whole

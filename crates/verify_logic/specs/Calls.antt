@@ -1,0 +1,57 @@
+-- What is shown of calls of functions (ISO/IEC 9899:2011 6.5.2.2, 6.9.1).
+use Rattle.std.specs.Prelude.{◌≡◌, ℕ, ℤ, pos, List, [], ◌∷◌, take, length, Option, Some, None, Bool, true, false, Contains, nat_eq, slice_get}
+use Rattle.srcset.specs.declared.refusal.Pos.{Pos}
+use Rattle.typing_spec.specs.Types.{ObjectType}
+use Rattle.typing_spec.specs.Program.{Function, Program}
+use Rattle.csem.specs.Store.{first_store}
+use Rattle.csem.specs.Machine.{State}
+use Rattle.csem.specs.Expressions.{Passed}
+use Rattle.csem.specs.Meaning.{value_at_end, calling}
+use Rattle.verify_logic.specs.declared.abstract_values.Interval.{Interval}
+use Rattle.verify_logic.specs.declared.abstract_values.AbsValue.{AbsValue}
+use Rattle.verify_logic.specs.States.{Frame, In, ValueIs, ObjectsAre, Reaches, Ends, Entails}
+use Rattle.verify_logic.specs.Places.{Are}
+use Rattle.verify_logic.specs.Statements.{Ways}
+
+-- the objects of a call that passes numbers in these intervals: its parameters, which are scalars, then the others
+abbrev pub Entered : List Interval → List ObjectType → List AbsValue → Type 0
+Entered [] [] [] = Unit {0}
+Entered [] [] (k ∷ ks) = ⊥
+Entered [] (t ∷ objects) [] = ⊥
+Entered [] (t ∷ objects) (k ∷ ks) = (k.initialised ≡ false) × Entered [] objects ks
+Entered (i ∷ is) [] ks = ⊥
+Entered (i ∷ is) (t ∷ objects) [] = ⊥
+Entered (i ∷ is) (t ∷ objects) (k ∷ ks) = (t.lengths ≡ []) × Entails (record { initialised = true; interval = i }) k × Entered is objects ks
+
+-- a call of function f from this frame, with numbers in these intervals, ends with such a value and leaves the objects as said
+pub record CallGives (fr : Frame) (f : ℕ) (is : List Interval) (before : Option (List AbsValue)) (value : AbsValue) (after : Option (List AbsValue)) : Type 0 where
+  pub runs : (d : ℕ) (passed : List Passed) (s : State) → Are is passed → Reaches fr before s → Ends fr.listed (calling fr.program d f passed s) (λ v s2. ValueIs value v × Reaches fr after s2)
+
+-- the first n objects
+abbrev pub cut : ℕ → Option (List AbsValue) → Option (List AbsValue)
+cut n None = None
+cut n (Some known) = Some (take n known)
+
+-- 6.9.1p12: the value of a call, whose use where there is none is undefined, at a place that is listed
+abbrev pub CallOr : List Pos → Pos → (used : Bool) → Interval → Option ℤ → Type 0
+CallOr al at used r (Some v) = In r v
+CallOr al at true r None = Contains al at
+CallOr al at false r None = In r (pos 0)
+
+pub record CallValue (fr : Frame) (at : Pos) (used : Bool) (value : AbsValue) (r : Interval) : Type 0 where
+  pub is : (v : Option ℤ) → ValueIs value v → CallOr fr.listed at used r v
+
+-- how the body of function f may be left, its value, and the objects then
+pub record FunctionEnds (p : Program) (f : ℕ) (w : Ways) (value : AbsValue) (left : Option (List AbsValue)) : Type 0 where
+  pub normal : (fr : Frame) (s : State) → Reaches fr w.normal s → ValueIs value (value_at_end (nat_eq f p.main)) × Reaches fr left s
+  pub broken : (fr : Frame) (s : State) → Reaches fr w.broken s → ValueIs value (value_at_end (nat_eq f p.main)) × Reaches fr left s
+  pub continued : (fr : Frame) (s : State) → Reaches fr w.continued s → ValueIs value (value_at_end (nat_eq f p.main)) × Reaches fr left s
+  pub returned : (fr : Frame) (v : Option ℤ) (s : State) → ValueIs w.value v → Reaches fr w.returned s → ValueIs value v × Reaches fr left s
+
+-- the objects before the run (6.2.4p3)
+abbrev pub Begins : Program → List (List ℕ) → List AbsValue → Type 0
+Begins p outer known = ObjectsAre known outer (first_store p)
+
+abbrev pub EachIn : Interval → List ℤ → Type 0
+EachIn i [] = Unit {0}
+EachIn i (v ∷ vs) = In i v × EachIn i vs

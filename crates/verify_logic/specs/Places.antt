@@ -1,0 +1,61 @@
+-- What is shown of places and of the parts of expressions.
+use Rattle.std.specs.Prelude.{◌≡◌, ◌≤◌, ℕ, ℤ, pos, negsuc, List, [], ◌∷◌, length, Option, true, false}
+use Rattle.ctypes.specs.declared.types.IntType.{IntType}
+use Rattle.ctypes.specs.Types.{truth}
+use Rattle.typing_spec.specs.Program as typed
+use Rattle.typing_spec.specs.Program.{Moment, Storage, Place, Arguments}
+use Rattle.csem.specs.Store.{Reference}
+use Rattle.csem.specs.Machine.{State, designated}
+use Rattle.csem.specs.Expressions.{Passed, Number, Referred, find, pass, converted_or_none}
+use Rattle.csem.specs.Meaning.{calling}
+use Rattle.verify_logic.specs.declared.abstract_values.Interval.{Interval}
+use Rattle.verify_logic.specs.declared.abstract_values.AbsValue.{AbsValue}
+use Rattle.verify_logic.specs.States.{Frame, In, Reaches, Ends, Refers, shape_of}
+use Rattle.verify_logic.specs.Judgements.{either_way}
+
+-- a name designates object x
+pub record Designates (fr : Frame) (what : Storage) (x : ℕ) : Type 0 where
+  pub is : (s : State) → s.base ≡ length fr.outer → s.arrays ≡ fr.arrays → Refers fr x (shape_of fr x) (designated fr.program what s)
+
+-- a place lies in object x: an array of these lengths, or an element
+pub record Finds (fr : Frame) (place : Place) (before : Option (List AbsValue)) (x : ℕ) (rest : List ℕ) (after : Option (List AbsValue)) : Type 0 where
+  pub runs : (d : ℕ) (s : State) → Reaches fr before s → Ends fr.listed (find fr.program (calling fr.program d) place s) (λ r s2. Refers fr x rest r × Reaches fr after s2)
+
+-- one that does not change the objects
+pub record FindsAt (fr : Frame) (place : Place) (x : ℕ) (rest : List ℕ) : Type 0 where
+  pub runs : (d : ℕ) (o : Option (List AbsValue)) (s : State) → Reaches fr o s → Ends fr.listed (find fr.program (calling fr.program d) place s) (λ r s2. Refers fr x rest r × Reaches fr o s2 × (s2.store ≡ s.store))
+
+-- numbers that are passed
+abbrev pub Are : List Interval → List Passed → Type 0
+Are [] [] = Unit {0}
+Are [] (x ∷ more) = ⊥
+Are (i ∷ is) [] = ⊥
+Are (i ∷ is) (Number v ∷ more) = In i v × Are is more
+Are (i ∷ is) (Referred r ∷ more) = ⊥
+
+-- arguments are numbers in the intervals
+pub record Passes (fr : Frame) (arguments : Arguments) (before : Option (List AbsValue)) (is : List Interval) (after : Option (List AbsValue)) : Type 0 where
+  pub runs : (d : ℕ) (s : State) → Reaches fr before s → Ends fr.listed (pass fr.program (calling fr.program d) arguments s) (λ passed s2. Are is passed × Reaches fr after s2)
+
+-- the value of `++` or `--` (6.5.2.4, 6.5.3.1)
+abbrev pub step_interval : Moment → (old new : Interval) → Interval
+step_interval typed.after old new = old
+step_interval typed.before old new = new
+
+-- of `?:`
+pub record ConvertsOr (t : Option IntType) (i r : Interval) : Type 0 where
+  pub gives : (v : ℤ) → In i v → In r (converted_or_none t v)
+
+-- what `rv_getbyte` gives
+abbrev pub got : Interval
+got = record { low = negsuc 0; high = pos 255 }
+
+-- what is known where a value in the interval is not zero, and where it is
+pub record Splits (i : Interval) (o on off : Option (List AbsValue)) : Type 0 where
+  pub is : (fr : Frame) (s : State) (v : ℤ) → In i v → Reaches fr o s → Reaches fr (either_way (truth v) on off) s
+
+pub record NonZero (i : Interval) (o on : Option (List AbsValue)) : Type 0 where
+  pub is : (fr : Frame) (s : State) (v : ℤ) → In i v → truth v ≡ true → Reaches fr o s → Reaches fr on s
+
+pub record Zero (i : Interval) (o off : Option (List AbsValue)) : Type 0 where
+  pub is : (fr : Frame) (s : State) (v : ℤ) → In i v → truth v ≡ false → Reaches fr o s → Reaches fr off s

@@ -1,0 +1,185 @@
+-- What is known of a state of the abstract machine, and what it means.
+use Rattle.std.specs.Prelude.{◌≡◌, ◌<◌, ℕ, zero, suc, ℤ, ◌≤ℤ◌, List, [], ◌∷◌, ◌++◌, map, length, Option, Some, None, Bool, true, false, Contains, nat_eq, slice_get, Result, Ok, Err}
+use Rattle.srcset.specs.declared.refusal.Pos.{Pos}
+use Rattle.ctypes.specs.declared.types.IntType.{IntType}
+use Rattle.ctypes.specs.Types.{least, greatest}
+use Rattle.typing_spec.specs.Types.{ObjectType}
+use Rattle.typing_spec.specs.Program.{Function, Program}
+use Rattle.csem.specs.Store.{Tree, Element, Array, Row, no_parts, and_part, parts, Store, Reference, whole, put}
+use Rattle.csem.specs.Machine.{State, Ended, Undefined, TicksUsed, Run, Goes, Stops, then_do, stored}
+use Rattle.csem.specs.Meaning.{body_of, value_left, calling}
+use Rattle.verify_logic.specs.declared.abstract_values.Interval.{Interval}
+use Rattle.verify_logic.specs.declared.abstract_values.AbsValue.{AbsValue}
+
+-- what was shown of a function's body: entered with these values of all objects, of which those before the call have these lengths,
+-- it ends with such a value and leaves the objects as said
+pub record Summary : Type 0 where
+  pub function : ℕ
+  pub outer : List (List ℕ)
+  pub entry : List AbsValue
+  pub value : AbsValue
+  pub left : Option (List AbsValue)
+
+-- in which call of which program an expression is evaluated: the places at which undefined behaviour is admitted, what is known of
+-- calls, the lengths of each object that lived before the call (none for a scalar), the objects of the call, and what its array
+-- parameters refer to
+pub record Frame : Type 0 where
+  pub program : Program
+  pub listed : List Pos
+  pub summaries : List Summary
+  pub outer : List (List ℕ)
+  pub objects : List ObjectType
+  pub arrays : List Reference
+
+abbrev pub lengths_in : ObjectType → List ℕ
+lengths_in t = t.lengths
+
+-- the lengths of all objects
+abbrev pub shapes_of : Frame → List (List ℕ)
+shapes_of fr = fr.outer ++ map lengths_in fr.objects
+
+-- ---- values
+
+abbrev pub In : Interval → ℤ → Type 0
+In i v = (i.low ≤ℤ v) × (v ≤ℤ i.high)
+
+abbrev pub just : ℤ → Interval
+just v = record { low = v; high = v }
+
+abbrev pub range_of : IntType → Interval
+range_of t = record { low = least t; high = greatest t }
+
+-- an element that may be indeterminate
+abbrev pub ValueIs : AbsValue → Option ℤ → Type 0
+ValueIs k None = k.initialised ≡ false
+ValueIs k (Some v) = In k.interval v
+
+-- ---- objects
+
+abbrev pub EachPart : (Tree → Type 0) → Row → Type 0
+EachPart P no_parts = Unit {0}
+EachPart P (and_part t row) = P t × EachPart P row
+
+-- a tree of these lengths, each of whose elements is such a value
+abbrev pub TreeIs : AbsValue → List ℕ → Tree → Type 0
+TreeIs k [] (Element v) = ValueIs k v
+TreeIs k [] (Array row) = ⊥
+TreeIs k (n ∷ lengths) (Element v) = ⊥
+TreeIs k (n ∷ lengths) (Array row) = (parts row ≡ n) × EachPart (TreeIs k lengths) row
+
+abbrev pub ObjectsAre : List AbsValue → List (List ℕ) → Store → Type 0
+ObjectsAre [] [] [] = Unit {0}
+ObjectsAre [] [] (t ∷ store) = ⊥
+ObjectsAre [] (lengths ∷ shapes) store = ⊥
+ObjectsAre (k ∷ ks) [] store = ⊥
+ObjectsAre (k ∷ ks) (lengths ∷ shapes) [] = ⊥
+ObjectsAre (k ∷ ks) (lengths ∷ shapes) (t ∷ store) = TreeIs k lengths t × ObjectsAre ks shapes store
+
+abbrev pub or_scalar : Option (List ℕ) → List ℕ
+or_scalar None = []
+or_scalar (Some lengths) = lengths
+
+-- the lengths of object x
+abbrev pub shape_of : Frame → ℕ → List ℕ
+shape_of fr x = or_scalar (slice_get (shapes_of fr) x)
+
+-- ---- states
+
+abbrev pub AreBytes : List ℕ → Type 0
+AreBytes [] = Unit {0}
+AreBytes (b ∷ more) = (b < 256) × AreBytes more
+
+-- the objects are such values, those of the call behind the others, no array is passed, and the input left is of bytes
+pub record Covers (outer : List (List ℕ)) (objects : List ObjectType) (known : List AbsValue) (base : ℕ) (arrays : List Reference) (store : Store) (input : List ℕ) : Type 0 where
+  pub based : base ≡ length outer
+  pub referred : arrays ≡ []
+  pub objects_are : ObjectsAre known (outer ++ map lengths_in objects) store
+  pub bytes : AreBytes input
+
+-- where nothing is said of the objects, no run comes here
+abbrev pub CoversState : (outer : List (List ℕ)) → (objects : List ObjectType) → Option (List AbsValue) → State → Type 0
+CoversState outer objects None s = ⊥
+CoversState outer objects (Some known) s = Covers outer objects known s.base s.arrays s.store s.input
+
+-- a part of a run goes on as said, ends, or uses its ticks; undefined behaviour it meets only at one of the places
+abbrev pub Ends : {A : Type 0} → List Pos → Run A → (A → State → Type 0) → Type 0
+Ends listed (Goes a s) post = post a s
+Ends listed (Stops (Ended n) s) post = Unit {0}
+Ends listed (Stops (Undefined act at) s) post = Contains listed at
+Ends listed (Stops TicksUsed s) post = Unit {0}
+
+-- a function's body, before its objects end
+abbrev pub body_and_value : Program → (f d : ℕ) → Function → State → Run (Option ℤ)
+body_and_value p f d g s = then_do (body_of p (calling p d) g s) (λ flow s2. Goes (value_left (nat_eq f p.main) flow) s2)
+
+-- what the summary says is so, with calls at most d deep
+abbrev pub IsSound : Program → List Pos → Summary → Type 0
+IsSound p listed a = (g : Function) → slice_get p.functions a.function ≡ Some g → (d : ℕ) (s : State) → CoversState a.outer g.objects (Some a.entry) s →
+    Ends listed (body_and_value p a.function d g s) (λ v s2. ValueIs a.value v × CoversState a.outer g.objects a.left s2)
+
+abbrev pub AreSound : Program → List Pos → List Summary → Type 0
+AreSound p listed [] = Unit {0}
+AreSound p listed (a ∷ more) = IsSound p listed a × AreSound p listed more
+
+-- the objects are such values, the call is that of the frame, and what the frame knows of calls is so
+pub record Holds (fr : Frame) (known : List AbsValue) (base : ℕ) (arrays : List Reference) (store : Store) (input : List ℕ) : Type 0 where
+  pub based : base ≡ length fr.outer
+  pub referred : arrays ≡ fr.arrays
+  pub objects_are : ObjectsAre known (shapes_of fr) store
+  pub bytes : AreBytes input
+  pub sound : AreSound fr.program fr.listed fr.summaries
+
+-- where nothing is said of the objects, no run comes here
+abbrev pub ReachesAt : Frame → Option (List AbsValue) → (base : ℕ) → (arrays : List Reference) → Store → (input : List ℕ) → Type 0
+ReachesAt fr None base arrays store input = ⊥
+ReachesAt fr (Some known) base arrays store input = Holds fr known base arrays store input
+
+-- a run that is in state s within the frame is where these values of objects are known
+abbrev pub Reaches : Frame → Option (List AbsValue) → State → Type 0
+Reaches fr o s = ReachesAt fr o s.base s.arrays s.store s.input
+
+-- ---- what implies what
+
+abbrev pub Below : Interval → Interval → Type 0
+Below i j = (j.low ≤ℤ i.low) × (i.high ≤ℤ j.high)
+
+pub record Entails (a b : AbsValue) : Type 0 where
+  pub is : (v : Option ℤ) → ValueIs a v → ValueIs b v
+
+abbrev pub EachEntails : List AbsValue → List AbsValue → Type 0
+EachEntails [] [] = Unit {0}
+EachEntails [] (b ∷ bs) = ⊥
+EachEntails (a ∷ rest) [] = ⊥
+EachEntails (a ∷ rest) (b ∷ bs) = Entails a b × EachEntails rest bs
+
+pub record Implies (o o2 : Option (List AbsValue)) : Type 0 where
+  pub is : (fr : Frame) (s : State) → Reaches fr o s → Reaches fr o2 s
+
+-- ---- references (6.5.2.1)
+
+-- subscripts that lie within these lengths lead to a row or an element of the rest of them
+abbrev pub Along : List ℕ → (path : List ℕ) → (rest : List ℕ) → Type 0
+Along lengths [] rest = lengths ≡ rest
+Along [] (i ∷ path) rest = ⊥
+Along (n ∷ lengths) (i ∷ path) rest = (i < n) × Along lengths path rest
+
+-- a reference into object x, to an array of these lengths or an element
+pub record Refers (fr : Frame) (x : ℕ) (rest : List ℕ) (r : Reference) : Type 0 where
+  pub object : r.object ≡ x
+  pub path : Along (shape_of fr x) r.path rest
+
+abbrev pub ObjectIs : AbsValue → List ℕ → Option Tree → Type 0
+ObjectIs k lengths None = ⊥
+ObjectIs k lengths (Some t) = TreeIs k lengths t
+
+-- the elements of object x are such values
+pub record Contents (o : Option (List AbsValue)) (x : ℕ) (k : AbsValue) : Type 0 where
+  pub is : (fr : Frame) (s : State) → Reaches fr o s → ObjectIs k (shape_of fr x) (slice_get s.store x)
+
+-- an object becomes another of its lengths
+pub record Replaces (o : Option (List AbsValue)) (x : ℕ) (k : AbsValue) (o2 : Option (List AbsValue)) : Type 0 where
+  pub is : (fr : Frame) (s : State) (new : Tree) → Reaches fr o s → TreeIs k (shape_of fr x) new → Reaches fr o2 (record s { store = put s.store (whole x) new })
+
+-- a value in the interval is written to an element of object x
+pub record Writes (fr : Frame) (o : Option (List AbsValue)) (x : ℕ) (i : Interval) (o2 : Option (List AbsValue)) : Type 0 where
+  pub is : (s : State) (r : Reference) (v : ℤ) → Reaches fr o s → Refers fr x [] r → In i v → Reaches fr o2 (stored r v s)

@@ -1,0 +1,3 @@
+pub mod Work
+pub mod Loops
+pub mod Steps

@@ -1,0 +1,41 @@
+use Rattle.std.proofs.Common.{refl}
+use Rattle.verify_logic.proofs.StatementRules.{branch_rule}
+use Rattle.verify_statements.proofs.Loops.{whole_while, loops_rule, while_as, do_as, for_as}
+use Rattle.verify_statements.proofs.Steps.{begun_some, follows_some, branches_some, fewer, one_less, none_left, begins_as, evaluates_more}
+use Rattle.verify_statements.proofs.statements.+execute.Goals as goal
+
+pub block-returns : goal.block-returns
+block-returns t c = begun_some _ _ _ _ _ _ c.statements.result c.in_ok-state2.ensures c.statements.ensures
+
+pub followed-returns : goal.followed-returns
+followed-returns t c = follows_some _ _ _ _ _ c.joined_ways.result refl c.in_ok-next.ensures c.joined_ways.ensures.first c.joined_ways.ensures.second
+
+pub branch-returns : goal.branch-returns
+branch-returns t c = branch_rule _ _ _ _ _ _ _ _ c.in_ok-tested.ensures c.in_ok-left.ensures c.in_ok-normal.ensures.first c.in_ok-normal.ensures.second
+
+pub branches-returns : goal.branches-returns
+branches-returns t c = branches_some _ _ _ _ _ _ _ _ _ c.joined_ways.result c.in_ok-tested.ensures c.in_ok-left.ensures c.in_ok-right.ensures c.joined_ways.ensures.first c.joined_ways.ensures.second
+
+pub looped-returns : goal.looped-returns
+looped-returns t c = whole_while _ _ _ _ _ _ _ _ _ _ (c.imply-starts.ensures c.if-not-starts.false) c.in_ok-again.ensures c.in_ok-tested.ensures c.in_ok-left.ensures (c.imply-ends.ensures c.if-not-ends.false) (c.imply-continues.ensures c.if-not-continues.false) c.in_ok-out.ensures.first c.in_ok-out.ensures.second
+
+pub while_loop-returns : goal.while_loop-returns
+while_loop-returns t c = while_as _ _ _ _ _ c.in_ok-left.ensures
+
+pub do_loop-returns : goal.do_loop-returns
+do_loop-returns t c = do_as _ _ _ _ _ _ _ _ c.in_ok-first.ensures c.in_ok-kept.ensures.first c.in_ok-kept.ensures.second c.in_ok-again.ensures c.in_ok-left.ensures.first c.in_ok-left.ensures.second
+
+pub looped_for-returns : goal.looped_for-returns
+looped_for-returns t c = loops_rule _ _ _ _ _ _ _ _ _ _ _ _ (c.imply-starts.ensures c.if-not-starts.false) c.in_ok-again.ensures c.in_ok-tested.ensures c.in_ok-left.ensures c.in_ok-behind.ensures.first c.in_ok-behind.ensures.second (evaluates_more _ _ _ _ _ c.in_ok-next.ensures (c.imply-holds.ensures c.if-not-holds.false)) c.in_ok-out.ensures.first c.in_ok-out.ensures.second
+
+pub for_loop-returns : goal.for_loop-returns
+for_loop-returns t c = for_as _ _ _ _ _ _ _ _ _ _ c.in_ok-before.ensures (c.imply-breaks.ensures c.if-not-breaks.false) (c.imply-continues.ensures c.if-not-continues.false) (c.imply-returns.ensures c.if-not-returns.false) c.in_ok-started.ensures c.in_ok-left.ensures
+
+pub statements-loop-a-preserved : goal.statements-loop-a-preserved
+statements-loop-a-preserved t c = record {
+  below = fewer c.loop-a.rest.now c.in-Some.a.now c.in-Some.more.now _ c.in-Some.ensures.cases.0 c.loop-a.invariant.below;
+  leads = λ out k. c.loop-a.invariant.leads out (one_less _ c.loop-a.rest.now c.in-Some.a.now c.in-Some.more.now _ _ out c.in-Some.ensures.cases.0 c.in_ok-next.ensures k);
+}
+
+pub statements-returns : goal.statements-returns
+statements-returns t c = begins_as _ _ _ _ _ refl (c.loop-a.invariant.leads _ (none_left _ c.loop-a.rest.now _ c.in_default.ensures.cases))

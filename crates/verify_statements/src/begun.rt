@@ -1,0 +1,117 @@
+//! Objects of a block begin, and get their first values (6.2.4p6, 6.7.9).
+
+ghost use Rattle.std.specs.Prelude.{◌≡◌, length, map, IfOk, IsTrue, Some, slice_get};
+ghost use Rattle.typing_spec.specs.Types as types;
+ghost use Rattle.typing_spec.specs.Program as typed;
+ghost use Rattle.typed_ast.specs.View.{initialiser_of, object_type_of, value_of};
+ghost use Rattle.verify_logic.specs.Statements.{Executes, Renews, RenewsOne};
+ghost use Rattle.verify_expressions.specs.Views.{frame_of, state_of};
+ghost use Rattle.verify_statements.specs.Ways.{ways_of};
+
+use crate::ways::{Left, only};
+use ctypes::IntType;
+use typed_ast::{Initialiser, ObjectType, Value};
+use verify_expressions::{AbsState, Scope, Stop, evaluate, is_scalar, replaced, written};
+use verify_intervals::{add_usize, conversion, uninitialised};
+
+fn base(scope: &Scope<'_>) -> usize
+    ensures { result ≡ length (frame_of scope.now).outer }
+{
+    scope.outer.len()
+}
+
+fn has_object(objects: &[ObjectType], n: usize) -> bool
+    ensures { IsTrue result → (t : types.ObjectType) × (slice_get (map object_type_of objects.now) n ≡ Some t) }
+{
+    if n < objects.len() { true } else { false }
+}
+
+/// An object of the call becomes indeterminate.
+///
+/// Errors: the call has no such object.
+fn renewed(scope: &Scope<'_>, state: AbsState, n: usize) -> Result<AbsState, Stop>
+    ensures { IfOk result (λ r. RenewsOne (frame_of scope.now) n (state_of state) (state_of r)) }
+{
+    let Some(x) = add_usize(base(scope), n) else {
+        return Err(Stop::Unfollowed(None));
+    };
+    let there = has_object(scope.objects, n);
+    if !there {
+        return Err(Stop::Unfollowed(None));
+    }
+    let k = uninitialised();
+    let state2 = replaced(state, x, k)?;
+    Ok(state2)
+}
+
+/// So do `count` objects from number `first` on.
+pub fn all_renewed(
+    scope: &Scope<'_>,
+    state: AbsState,
+    first: usize,
+    count: usize,
+) -> Result<AbsState, Stop>
+    ensures { IfOk result (λ r. Renews (frame_of scope.now) first count (state_of state) (state_of r)) }
+{
+    let mut current = state;
+    let mut next = first;
+    let mut left = count;
+    while left != 0 {
+        let state2 = renewed(scope, current, next)?;
+        let Some(second) = add_usize(next, 1) else {
+            return Err(Stop::Unfollowed(None));
+        };
+        current = state2;
+        next = second;
+        left -= 1;
+    }
+    Ok(current)
+}
+
+/// A declarator without a first value.
+pub fn declared(scope: &Scope<'_>, state: AbsState, n: usize) -> Result<Left, Stop>
+    ensures { IfOk result (λ r. Executes (frame_of scope.now) (typed.declare n) (state_of state) (ways_of r)) }
+{
+    let state2 = renewed(scope, state, n)?;
+    Ok(only(state2))
+}
+
+/// One value for the object (6.7.9p11).
+fn defined_by(
+    scope: &Scope<'_>,
+    state: AbsState,
+    n: usize,
+    ty: IntType,
+    e: &Value,
+) -> Result<Left, Stop>
+    ensures { IfOk result (λ r. Executes (frame_of scope.now) (typed.define n (typed.one_value ty (value_of e.now))) (state_of state) (ways_of r)) }
+{
+    let Some(x) = add_usize(base(scope), n) else {
+        return Err(Stop::Unfollowed(None));
+    };
+    let there = has_object(scope.objects, n);
+    if !there {
+        return Err(Stop::Unfollowed(None));
+    }
+    let scalar = is_scalar(scope, x);
+    if !scalar {
+        return Err(Stop::Unfollowed(None));
+    }
+    let state2 = renewed(scope, state, n)?;
+    let v = evaluate(scope, state2, e)?;
+    let interval = conversion(ty, v.interval);
+    let state3 = written(scope, v.state, x, interval)?;
+    Ok(only(state3))
+}
+
+/// A declarator with a first value.
+pub fn defined(scope: &Scope<'_>, state: AbsState, n: usize, i: &Initialiser) -> Result<Left, Stop>
+    ensures { IfOk result (λ r. Executes (frame_of scope.now) (typed.define n (initialiser_of i.now)) (state_of state) (ways_of r)) }
+{
+    match i {
+        Initialiser::One(ty, e) => defined_by(scope, state, n, *ty, e),
+        Initialiser::Text(_) => Err(Stop::Unfollowed(None)),
+        Initialiser::InBraces(_) => Err(Stop::Unfollowed(None)),
+        Initialiser::List(_) => Err(Stop::Unfollowed(None)),
+    }
+}

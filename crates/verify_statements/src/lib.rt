@@ -1,0 +1,11 @@
+//! The analysis of statements: how each may be left, and what is known then. Loops are shown by an invariant that is guessed and then
+//! tested.
+#![tactic(auto)]
+
+mod begun;
+mod statements;
+mod ways;
+mod widening;
+
+pub use statements::statement;
+pub use ways::{Left, joined_ways};
