@@ -10,25 +10,25 @@ impl Walker {
     #[cycle(statements)]
     pub(crate) fn statement(&mut self, statement: &Statement) -> Result<(), AllocError> {
         match statement {
-            Statement::Empty => Ok(()),
-            Statement::Evaluate(value) => self.alone(value),
-            Statement::Declare(object) => {
+            Statement::Empty(_) => Ok(()),
+            Statement::Evaluate(_, value) => self.alone(value),
+            Statement::Declare(_, object) => {
                 self.paths.note(self.now, *object, false);
                 Ok(())
             }
-            Statement::Define(object, initialiser) => {
+            Statement::Define(_, object, initialiser) => {
                 self.initialiser(initialiser)?;
                 self.paths.note(self.now, *object, true);
                 Ok(())
             }
-            Statement::Block(_, _, inner) => self.statements(inner.as_slice()),
-            Statement::If(test, body) => {
+            Statement::Block(_, _, _, inner) => self.statements(inner.as_slice()),
+            Statement::If(_, test, body) => {
                 let no = self.value(test, true)?;
                 self.statement(body)?;
                 self.meet(no);
                 Ok(())
             }
-            Statement::IfElse(test, yes, no) => {
+            Statement::IfElse(_, test, yes, no) => {
                 let other = self.value(test, true)?;
                 self.statement(yes)?;
                 let end = self.go_to(other);
@@ -36,16 +36,16 @@ impl Walker {
                 self.meet(end);
                 Ok(())
             }
-            Statement::Switch(_, value, _, _, inner) => {
+            Statement::Switch(_, _, value, _, _, inner) => {
                 self.value(value, false)?;
                 self.open_choice()?;
                 self.statements(inner.as_slice())?;
                 self.close_choice();
                 Ok(())
             }
-            Statement::Case(_) => self.label(false),
-            Statement::Default => self.label(true),
-            Statement::While(test, body) => {
+            Statement::Case(_, _) => self.label(false),
+            Statement::Default(_) => self.label(true),
+            Statement::While(_, test, body) => {
                 self.open_loop()?;
                 let no = self.value(test, true)?;
                 self.statement(body)?;
@@ -53,7 +53,7 @@ impl Walker {
                 self.leave_loop(no);
                 Ok(())
             }
-            Statement::DoWhile(body, test) => {
+            Statement::DoWhile(_, body, test) => {
                 self.open_loop()?;
                 self.statement(body)?;
                 self.close_loop();
@@ -61,7 +61,7 @@ impl Walker {
                 self.leave_loop(no);
                 Ok(())
             }
-            Statement::For(declared, control, body) => {
+            Statement::For(_, declared, control, body) => {
                 self.statements(declared.as_slice())?;
                 self.optional(&control.start)?;
                 self.open_loop()?;
@@ -72,10 +72,10 @@ impl Walker {
                 self.leave_loop(no);
                 Ok(())
             }
-            Statement::Break => self.leave_for_break(),
-            Statement::Continue => self.leave_for_continue(),
-            Statement::ReturnNothing => self.stop(),
-            Statement::ReturnValue(_, value) => {
+            Statement::Break(_) => self.leave_for_break(),
+            Statement::Continue(_) => self.leave_for_continue(),
+            Statement::ReturnNothing(_) => self.stop(),
+            Statement::ReturnValue(_, _, value) => {
                 self.value(value, false)?;
                 self.stop()
             }
