@@ -7,6 +7,7 @@ pub fn is_opening(token: &[u8]) -> bool {
     matches!(token, b"(" | b"[" | b"{")
 }
 
+/// Whether a token closes a bracket.
 pub fn is_closing(token: &[u8]) -> bool {
     matches!(token, b")" | b"]" | b"}")
 }

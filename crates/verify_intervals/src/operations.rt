@@ -116,6 +116,7 @@ fn quotient(ty: IntType, i: Interval, j: Interval) -> Option<Interval>
     )
 }
 
+/// What a truth value may be: 0 or 1.
 pub fn truths() -> Interval
     ensures { result ≡ range_of IntType.Bool }
 {
