@@ -3,4 +3,4 @@
 
 mod explaining;
 
-pub use explaining::{Told, explain_program, show_line};
+pub use explaining::{Told, explain_program};

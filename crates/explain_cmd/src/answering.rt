@@ -10,7 +10,7 @@ use explain::{
 use explain_calls::put_active_calls;
 use explain_render::{
     Style, put_finding, put_json, put_json_undefined, put_sarif_end, put_sarif_result,
-    put_sarif_start, put_sarif_undefined, put_source, put_undefined,
+    put_sarif_start, put_undefined,
 };
 use explain_values::put_values;
 use srcset::{Fault, FileSet};
@@ -38,30 +38,20 @@ pub struct Said {
     pub status: u8,
 }
 
-/// The program that is explained.
-#[derive(Clone, Copy)]
-pub struct Subject<'a> {
-    pub set: &'a FileSet,
-    /// The names of the files of the set.
-    pub names: &'a [&'a str],
-    /// The name of the main file in the set.
-    pub main: &'a str,
-    /// The name by which the main file is told, where a file stands for it in the set.
-    pub given: &'a str,
-    pub stack: StackSize,
-}
-
-/// The faults of a program, told in a form, so many at most; the status is 1 where there are some, else 0.
+/// The faults of the program in the file `main` of the set, told in a form; the status is 1 where there are some, else 0. `names` are
+/// those of the files of the set.
 pub fn explain_faults(
     alloc: Global,
-    subject: Subject<'_>,
+    set: &FileSet,
+    names: &[&str],
+    main: &str,
     stage: Stage,
-    most: usize,
+    stack: StackSize,
     form: Form,
 ) -> Result<Said, AllocError>
     ensures { IfOk result (λ said. said.status ≤ 1) }
 {
-    let told = named(alloc, subject, stage, most)?;
+    let told = explain(alloc, set, names, main, stage, stack)?;
     let status = if told.is_some() { 1 } else { 0 };
     let mut out = String::new(alloc);
     let mut err = String::new(alloc);
@@ -85,62 +75,6 @@ pub fn explain_faults(
     })
 }
 
-/// The faults of a program, in which the main file has the name by which it is told.
-fn named(
-    alloc: Global,
-    subject: Subject<'_>,
-    stage: Stage,
-    most: usize,
-) -> Result<Option<Explained>, AllocError> {
-    let told = explain(
-        alloc,
-        subject.set,
-        subject.names,
-        subject.main,
-        stage,
-        subject.stack,
-        most,
-    )?;
-    match told {
-        Some(told) => {
-            let mut told = told;
-            put_name(alloc, subject, &mut told.first)?;
-            for finding in told.further.iter_mut() {
-                put_name(alloc, subject, finding)?;
-            }
-            Ok(Some(told))
-        }
-        None => Ok(None),
-    }
-}
-
-/// Puts the name by which the main file is told in place of the one that it has in the set.
-fn put_name(alloc: Global, subject: Subject<'_>, finding: &mut Finding) -> Result<(), AllocError> {
-    if finding.fault.file.as_str() == subject.main && finding.fault.line <= 1 {
-        finding.fault.file = String::from_str(alloc, subject.given)?;
-    }
-    Ok(())
-}
-
-/// The source line of the fault of a program, with a caret under its token; empty where there is none.
-pub fn fault_source(
-    alloc: Global,
-    subject: Subject<'_>,
-    style: Style,
-) -> Result<Vec<u8>, AllocError> {
-    let mut text = String::new(alloc);
-    if let Some(told) = named(alloc, subject, Stage::Whole, 1)? {
-        put_source(
-            alloc,
-            style,
-            told.first.fault.line,
-            &told.first.shown,
-            &mut text,
-        )?;
-    }
-    Ok(text.into_bytes())
-}
-
 /// Why a file was not read, which no source explains, told in a form; the status is 1.
 pub fn explain_unread(alloc: Global, fault: Fault, form: Form) -> Result<Said, AllocError>
     ensures { IfOk result (λ said. said.status ≡ 1) }
@@ -153,7 +87,6 @@ pub fn explain_unread(alloc: Global, fault: Fault, form: Form) -> Result<Said, A
                 token: Vec::new(alloc),
                 source: Vec::new(alloc),
                 notes: Vec::new(alloc),
-                fixes: Vec::new(alloc),
             },
         },
         further: Vec::new(alloc),
@@ -197,11 +130,7 @@ fn put_objects(alloc: Global, told: &Explained, out: &mut String) -> Result<(), 
 
 /// Puts a log with a result for each fault.
 fn put_log(alloc: Global, told: Option<&Explained>, out: &mut String) -> Result<(), AllocError> {
-    let codes = match told {
-        Some(told) => codes(alloc, told)?,
-        None => Vec::new(alloc),
-    };
-    put_sarif_start(alloc, VERSION, codes.as_slice(), &[], out)?;
+    put_sarif_start(alloc, VERSION, out)?;
     if let Some(told) = told {
         put_sarif_result(alloc, &told.first, true, out)?;
         for finding in &told.further {
@@ -211,25 +140,16 @@ fn put_log(alloc: Global, told: Option<&Explained>, out: &mut String) -> Result<
     put_sarif_end(out)
 }
 
-/// The codes of the faults, each once.
-fn codes(alloc: Global, told: &Explained) -> Result<Vec<u16>, AllocError> {
-    let mut codes = vec![in alloc; told.first.fault.code]?;
-    for finding in &told.further {
-        let code = finding.fault.code;
-        if !codes.as_slice().contains(&code) {
-            codes.push(code)?;
-        }
-    }
-    Ok(codes)
-}
-
-/// A program interpreted over an input, for at most `max` ticks: what it wrote, which only the text tells beside it, and its undefined
-/// behaviour explained, with the values and the calls behind it, or else the line that `interp` says. The status is that of `interp`.
+/// The program in the file `main` of the set interpreted over an input, for at most `max` ticks: what it wrote, which only the text tells beside it, and its
+/// undefined behaviour explained, with the values and the calls behind it, or else the line that `interp` says. The status is that of `interp`.
 pub fn explain_run(
     alloc: Global,
-    subject: Subject<'_>,
+    set: &FileSet,
+    names: &[&str],
+    main: &str,
     input: &[u8],
     max: u64,
+    stack: StackSize,
     form: Form,
 ) -> Result<Said, AllocError> {
     let Interpretation {
@@ -237,26 +157,31 @@ pub fn explain_run(
         output,
         line,
         undefined,
-    } = interpreted(
-        alloc,
-        subject.set,
-        subject.names,
-        subject.main,
-        input,
-        max,
-        subject.stack,
-    )?;
-    let is_undefined = undefined.is_some();
-    let told = told_run(alloc, subject, input, form, undefined)?;
-    let err = if is_undefined { Vec::new(alloc) } else { line };
+    } = interpreted(alloc, set, names, main, input, max, stack)?;
+    let told = match undefined {
+        Some(act) => {
+            let sources = Sources::of(alloc, set, names, stack)?;
+            explained_act(alloc, set, &sources, names, main, input, form, act)?
+        }
+        None => String::new(alloc),
+    };
     if matches!(form, Form::Text(_)) {
-        let err = if is_undefined { told.into_bytes() } else { err };
+        let err = if told.is_empty() {
+            line
+        } else {
+            told.into_bytes()
+        };
         return Ok(Said {
             out: output,
             err,
             status,
         });
     }
+    let err = if told.is_empty() {
+        line
+    } else {
+        Vec::new(alloc)
+    };
     Ok(Said {
         out: told.into_bytes(),
         err,
@@ -264,59 +189,24 @@ pub fn explain_run(
     })
 }
 
-/// What is told of a run in a form: its undefined behaviour, or nothing, which as SARIF is a log without results.
-fn told_run(
+/// Undefined behaviour in a form, with its values and the calls behind it.
+fn explained_act(
     alloc: Global,
-    subject: Subject<'_>,
+    set: &FileSet,
+    sources: &Sources,
+    names: &[&str],
+    main: &str,
     input: &[u8],
     form: Form,
-    undefined: Option<Undefined>,
+    act: Undefined,
 ) -> Result<String, AllocError> {
+    let mut act = act;
+    put_values(alloc, sources, main, input, &mut act)?;
+    put_active_calls(alloc, set, names, main, input, &mut act)?;
     let mut told = String::new(alloc);
-    match undefined {
-        Some(act) => {
-            let act = act_known(alloc, subject, input, act)?;
-            put_act(alloc, form, &act, &mut told)?;
-        }
-        None => {
-            if form == Form::Sarif {
-                put_log(alloc, None, &mut told)?;
-            }
-        }
+    match form {
+        Form::Text(style) => put_undefined(alloc, style, &act, &mut told)?,
+        Form::Json | Form::Sarif => put_json_undefined(alloc, &act, &mut told)?,
     }
     Ok(told)
-}
-
-/// Undefined behaviour with its values and the calls behind it.
-fn act_known(
-    alloc: Global,
-    subject: Subject<'_>,
-    input: &[u8],
-    act: Undefined,
-) -> Result<Undefined, AllocError> {
-    let mut act = act;
-    let sources = Sources::of(alloc, subject.set, subject.names, subject.stack)?;
-    put_values(alloc, &sources, subject.main, input, &mut act)?;
-    put_active_calls(
-        alloc,
-        subject.set,
-        subject.names,
-        subject.main,
-        input,
-        &mut act,
-    )?;
-    Ok(act)
-}
-
-/// Puts undefined behaviour in a form.
-fn put_act(alloc: Global, form: Form, act: &Undefined, out: &mut String) -> Result<(), AllocError> {
-    match form {
-        Form::Text(style) => put_undefined(alloc, style, act, out),
-        Form::Json => put_json_undefined(alloc, act, out),
-        Form::Sarif => {
-            put_sarif_start(alloc, VERSION, &[], &[act.act], out)?;
-            put_sarif_undefined(alloc, act, out)?;
-            put_sarif_end(out)
-        }
-    }
 }

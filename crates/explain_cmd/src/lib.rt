@@ -5,8 +5,6 @@ mod answering;
 mod version;
 mod watching;
 
-pub use answering::{
-    Form, Said, Subject, explain_faults, explain_run, explain_unread, fault_source,
-};
+pub use answering::{Form, Said, explain_faults, explain_run, explain_unread};
 pub use version::VERSION;
 pub use watching::Watching;
