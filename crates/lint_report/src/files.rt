@@ -5,6 +5,9 @@ use lint_sources::{LaidFile, keeps_lines, laid_file};
 use srcset::FileSet;
 use std::alloc::{AllocError, Global};
 
+/// The most bytes of a line that is shown, and in which columns are counted: so a warning takes no more time in a file of one long line.
+const MAX_SHOWN: usize = 4096;
+
 /// A file, with the places of its tokens.
 #[derive(Drop)]
 pub struct File<'a> {
@@ -13,6 +16,8 @@ pub struct File<'a> {
     /// None where it breaks a rule of phases 1 to 3, as one that no file includes may.
     pub tokens: Option<Tokens<'a>>,
     laid: Option<LaidFile>,
+    // How many bytes stand before each line.
+    starts: Vec<usize>,
 }
 
 /// The files of a program.
@@ -120,6 +125,24 @@ impl<'a> File<'a> {
         }
     }
 
+    /// How many bytes stand before a line, and its bytes without their end; `None` where there is no such line, or it is too long to be shown.
+    pub(crate) fn line(&self, line: u32) -> Option<(usize, &[u8])> {
+        let number = (line as usize).checked_sub(1)?;
+        let start = self.starts.get(number).copied()?;
+        let end = match self.starts.get(number.saturating_add(1)) {
+            Some(next) => next.saturating_sub(1),
+            None => self.bytes.len(),
+        };
+        let bytes = self.bytes.get(start..end)?;
+        if bytes.len() > MAX_SHOWN {
+            return None;
+        }
+        match bytes.strip_suffix(b"\r") {
+            Some(shown) => Some((start, shown)),
+            None => Some((start, bytes)),
+        }
+    }
+
     /// The place of the token with this number.
     pub(crate) fn spot(&self, number: usize) -> Option<Spot> {
         match &self.tokens {
@@ -163,7 +186,19 @@ fn file_of<'a>(
         bytes,
         tokens,
         laid,
+        starts: line_starts(alloc, bytes)?,
     })
+}
+
+/// How many bytes stand before each line.
+fn line_starts(alloc: Global, bytes: &[u8]) -> Result<Vec<usize>, AllocError> {
+    let mut starts = vec![in alloc; 0]?;
+    for (number, byte) in bytes.iter().enumerate() {
+        if *byte == b'\n' {
+            starts.push(number.saturating_add(1))?;
+        }
+    }
+    Ok(starts)
 }
 
 /// A file laid out, where its lines mean nothing.

@@ -4,7 +4,6 @@ use crate::files::Place;
 use crate::json::put_string;
 use crate::placing::Placed;
 use crate::shown::Told;
-use explain_places::source_line;
 use lint::Kind;
 use std::alloc::{AllocError, Global};
 
@@ -114,7 +113,7 @@ fn put_columns(
     if column == 0 {
         return Ok(());
     }
-    let source = source_line(told.files.bytes(place.file), place.line);
+    let source = told.source(place);
     let before = source.get(..column.saturating_sub(1)).unwrap_or_default();
     let start = points(before).saturating_add(1);
     let end = start.saturating_add(points(told.token(place)));

@@ -2,7 +2,6 @@
 
 use crate::files::{Files, Place};
 use crate::placing::Placed;
-use explain_places::column;
 use lint::Detail;
 use srcset::Names;
 use std::alloc::{AllocError, Global};
@@ -37,7 +36,23 @@ impl<'a> Told<'a> {
         if place.end == 0 {
             return 0;
         }
-        column(self.files.bytes(place.file), place.start)
+        match self.line(place) {
+            Some((before, _)) => place.start.saturating_sub(before).saturating_add(1),
+            None => 0,
+        }
+    }
+
+    /// The source line of a place; empty where it is not shown.
+    pub(crate) fn source(&self, place: Place) -> &[u8] {
+        match self.line(place) {
+            Some((_, bytes)) => bytes,
+            None => &[],
+        }
+    }
+
+    /// How many bytes stand before the line of a place, and its bytes.
+    fn line(&self, place: Place) -> Option<(usize, &[u8])> {
+        self.files.list.get(place.file)?.line(place.line)
     }
 
     /// The token of a place; empty where it is not known.

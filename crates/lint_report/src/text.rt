@@ -3,7 +3,6 @@
 use crate::files::Place;
 use crate::placing::Placed;
 use crate::shown::{Told, shown_bytes};
-use explain_places::source_line;
 use std::alloc::{AllocError, Global};
 
 /// Puts each warning: `FILE:LINE:COLUMN: warning: TEXT 'NAME' [KIND]`, the source line with a caret, the other declaration, and what to write.
@@ -74,7 +73,7 @@ fn put_source(
     if column == 0 {
         return Ok(());
     }
-    let bytes = source_line(told.files.bytes(place.file), line);
+    let bytes = told.source(place);
     out.push_str(format!(in alloc; "{line:5} | ")?.as_str())?;
     put_shown(shown_bytes(alloc, bytes)?.as_str(), out)?;
     out.push_str("\n      | ")?;

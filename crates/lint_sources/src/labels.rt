@@ -27,10 +27,36 @@ fn is_fall(letters: &[u8]) -> bool {
 
 /// The number of the first token on a line that begins a label.
 pub fn label_on(tokens: &Tokens<'_>, line: u32) -> Option<usize> {
-    for (number, spot) in tokens.spots.iter().enumerate() {
-        if spot.line == line && matches!(tokens.spelling(number), b"case" | b"default") {
+    for number in first_on(tokens, line)..tokens.spots.len() {
+        match tokens.spot(number) {
+            Some(spot) if spot.line == line => {}
+            _ => return None,
+        }
+        if matches!(tokens.spelling(number), b"case" | b"default") {
             return Some(number);
         }
     }
     None
+}
+
+/// The number of the first token that stands on no line before this one; their lines do not fall.
+fn first_on(tokens: &Tokens<'_>, line: u32) -> usize {
+    let mut low = 0;
+    let mut high = tokens.spots.len();
+    for _ in 0..64 {
+        if low >= high {
+            break;
+        }
+        let middle = low + (high - low) / 2;
+        let is_before = match tokens.spot(middle) {
+            Some(spot) => spot.line < line,
+            None => false,
+        };
+        if is_before {
+            low = middle.saturating_add(1);
+        } else {
+            high = middle;
+        }
+    }
+    low
 }

@@ -1,7 +1,7 @@
 //! Which expressions do nothing, and which compare a comparison.
 
 use srcset::Pos;
-use tree::{AssignOp, BinaryOp, Expr, PrefixOp, TypeName, TypeSpecifier, Word};
+use tree::{BinaryOp, Expr, PrefixOp, TypeName, TypeSpecifier, Word};
 
 /// For what the value of an expression is used.
 #[derive(Clone, Copy, Debug, PartialEq, Eq)]
@@ -36,21 +36,12 @@ impl Use {
         }
     }
 
-    /// The use of an operand that is given another value: its old one counts where the new one is used.
+    /// The use of an operand that is given another value: it counts as used where that value is.
     pub(crate) fn of_changed(self) -> Use {
         if self == Use::Nothing {
             Use::Place
         } else {
             Use::Value
-        }
-    }
-
-    /// The use of an assignment's left operand.
-    pub(crate) fn of_assigned(self, op: AssignOp) -> Use {
-        if op == AssignOp::Plain {
-            Use::Place
-        } else {
-            self.of_changed()
         }
     }
 

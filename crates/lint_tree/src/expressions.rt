@@ -54,7 +54,7 @@ impl Walker {
             }
             Expr::Assign(pos, op, place, value) => {
                 self.note_assignment(*pos, *op, used)?;
-                self.expression(place, used.of_assigned(*op))?;
+                self.expression(place, used.of_changed())?;
                 self.expression(value, Use::Value)
             }
         }

@@ -9,6 +9,7 @@ import os
 import re
 import subprocess
 import sys
+import tempfile
 
 here = os.path.dirname(os.path.abspath(__file__))
 top = os.path.dirname(os.path.dirname(os.path.dirname(here)))
@@ -100,27 +101,32 @@ folders = sorted(it for it in os.listdir(here) if os.path.isdir(os.path.join(her
 check("folders", folders == sorted(WANTED), folders)
 check("rules", sorted(it["id"] for it in log["tool"]["driver"]["rules"]) == sorted(WANTED))
 
-# no warning on the ten programs of docs/LANGUAGE.md: of each, the code between its heading and its output
+# no warning on the ten programs of docs/LANGUAGE.md, whose files stand there each behind its name
 with open(os.path.join(top, "docs/LANGUAGE.md")) as document:
-    programs = re.findall(r"```c\n(.*?)```", document.read().split("## Ten programs")[1], re.S)
-check("ten programs", len(programs) == 10, len(programs))
-for number, text in enumerate(programs):
-    ran = subprocess.run([cc, "check", "-", "--werror"], input=text, capture_output=True, text=True, timeout=60)
-    check(f"program {number + 1} of LANGUAGE", (ran.returncode, ran.stdout, ran.stderr) == (0, "", ""), ran.stderr[:400])
+    shown = dict(re.findall(r"\*\*([a-z]+\.[ch])\*\*\n\n```c\n(.*?)```\n", document.read(), re.S))
+programs = [name for name in shown if name.endswith(".c")]
+check("ten programs", len(programs) == 10, programs)
+with tempfile.TemporaryDirectory() as work:
+    for name, text in shown.items():
+        with open(os.path.join(work, name), "w") as file:
+            file.write(text)
+    for name in programs:
+        ran = subprocess.run([cc, "check", name, "-I", ".", "--werror"], cwd=work, capture_output=True, text=True, timeout=60)
+        check(f"{name} of LANGUAGE", (ran.returncode, ran.stdout, ran.stderr) == (0, "", ""), ran.stderr[:400])
 
 # a refused program has the line of build; words that name no warning are not taken
 ran = subprocess.run([cc, "check", "-"], input="int main(void) { return x; }\n", capture_output=True, text=True, timeout=60)
 built = subprocess.run([cc, "build", "-", "-o", os.devnull], input="int main(void) { return x; }\n", capture_output=True, text=True, timeout=60)
-check("refused", (ran.returncode, ran.stdout, ran.stderr) == (1, "", "-:1: 528 undeclared name\n") and ran.stderr == built.stderr, ran)
+check("refused", (ran.returncode, ran.stdout, ran.stderr) == (1, "", "stdin.c:1: 528 undeclared name\n") and ran.stderr == built.stderr, ran)
 ran = subprocess.run([cc, "check", "-", "--warn=shadow,nonsense"], input="int main(void) { }\n", capture_output=True, text=True, timeout=60)
 check("no such warning", ran.returncode == 2 and ran.stdout == "", ran)
 # where lines mean something there is no column, and the line is right
 text = "#include <rvio.h>\nint main(void) {\n    int unused = __LINE__;\n    return 0;\n}\n"
 ran = subprocess.run([cc, "check", "-"], input=text, capture_output=True, text=True, timeout=60)
-check("__LINE__", ran.stderr.startswith("-:3: warning: ") and "'unused' [unused-variable]" in ran.stderr, ran.stderr)
+check("__LINE__", ran.stderr.startswith("stdin.c:3: warning: ") and "'unused' [unused-variable]" in ran.stderr, ran.stderr)
 # with a macro of the command line there are columns
 ran = subprocess.run([cc, "check", "-", "-D", "N=4 + 1"], input="int main(void) {\n    int unused = N;\n    return 0;\n}\n", capture_output=True, text=True, timeout=60)
-check("-D", ran.stderr.startswith("-:2:9: warning: ") and ran.stderr.count("warning") == 1, ran.stderr)
+check("-D", ran.stderr.startswith("stdin.c:2:9: warning: ") and ran.stderr.count("warning") == 1, ran.stderr)
 
 print(f"{passed} passed, {failed} failed")
 sys.exit(failed != 0)
