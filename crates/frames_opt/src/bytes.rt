@@ -107,8 +107,8 @@ fn code_bytes(instruction: Instruction) -> u64
         Instruction::Jump(_) => 4,
         Instruction::Branch { left, right, .. } => fetch_bytes(left) + (fetch_bytes(right) + 8),
         Instruction::Call(_) => 8,
-        Instruction::PutByte => 32,
-        Instruction::GetByte => 40,
+        Instruction::PutByte => 52,
+        Instruction::GetByte => 48,
         Instruction::Exit => 8,
         Instruction::Return => 172,
     }
