@@ -19,7 +19,7 @@ COUNTS = {'programs.txt': 69, 'random.txt': 100}
 # frames_code/specs/Costs: the most instructions of each; a call's beginning; the program's beginning, with the entry of main, and its end
 ENTRY = 42
 AROUND = 4 + ENTRY + 2
-COSTS = {'nothing': 0, 'move': 6, 'load': 7, 'store': 7, 'address': 6, 'element': 13, 'jump': 1, 'branch': 8, 'call': 2 + ENTRY, 'put': 8, 'get': 10,
+COSTS = {'nothing': 0, 'move': 6, 'load': 7, 'store': 7, 'address': 6, 'element': 13, 'jump': 1, 'branch': 8, 'call': 2 + ENTRY, 'put': 10, 'get': 12,
          'exit': 2, 'return': 43, **{name: 8 for name in generate.CONVERSIONS}, **{name: 11 for name in generate.OPERATIONS}}
 MOST = 1000000
 

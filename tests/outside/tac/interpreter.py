@@ -12,7 +12,7 @@ SIZES = {'bool': 1, 'char': 1, 'schar': 1, 'uchar': 1, 'short': 2, 'ushort': 2, 
 SIGNED = {'schar', 'short', 'int', 'long'}
 OPERATIONS = ['multiply', 'divide', 'remainder', 'add', 'subtract', 'shift_left', 'shift_right', 'and', 'exclusive_or', 'or', 'less', 'equal', 'not_equal']
 COMPARISONS = ['equal', 'not_equal', 'less', 'greater_equal']
-COSTS = {'nothing': 0, 'move': 6, 'convert': 8, 'load': 7, 'store': 7, 'address': 6, 'part': 13, 'element': 13, 'forget': 0, 'jump': 1, 'branch': 8, 'put': 8, 'get': 10, 'exit': 2, 'return': 43}
+COSTS = {'nothing': 0, 'move': 6, 'convert': 8, 'load': 7, 'store': 7, 'address': 6, 'part': 13, 'element': 13, 'forget': 0, 'jump': 1, 'branch': 8, 'put': 10, 'get': 12, 'exit': 2, 'return': 43}
 STACK = 2 ** 20
 
 
