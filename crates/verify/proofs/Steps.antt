@@ -3,7 +3,7 @@ use Rattle.std.proofs.Common.{◌≡◌, ◌≤◌, ◌<◌, ◌+◌, ℕ, zero,
 use Rattle.std.proofs.lemmas.Int.{ints}
 use Rattle.std.proofs.lemmas.List.{take_all}
 use Rattle.std.proofs.Math.Seq.{take-suc}
-use Rattle.std.specs.Prelude.{Option, Some, None, true, false, nat_eq, slice_get, Contains}
+use Rattle.std.specs.Prelude.{Option, Some, None, Bool, true, false, nat_eq, slice_get, slice_index_or, Contains, Result, Ok, Err, IfOk}
 use Rattle.srcset.specs.declared.refusal.Pos.{Pos}
 use Rattle.std.specs.declared.vec.Vec.{Vec}
 use Rattle.std.specs.declared.alloc.Global.{Global}
@@ -14,18 +14,22 @@ use Rattle.typed_ast.specs.View.{static_of}
 use Rattle.csem.specs.Store.{Tree, Store, literal_object, static_object, first_store}
 use Rattle.csem.specs.Machine.{State, Ended, Undefined, TicksUsed, Run, Goes, Stops, then_do, ticks}
 use Rattle.csem.specs.Statements.{Flow, execute}
-use Rattle.csem.specs.Meaning.{enter, leave, value_left, body_of, call_defined, calling, start, end_with, ending_of}
+use Rattle.csem.specs.Meaning.{enter, leave, value_at_end, value_left, body_of, call_defined, calling, start, end_with, ending_of}
 use Rattle.verify_logic.specs.declared.abstract_values.Interval.{Interval}
 use Rattle.verify_logic.specs.declared.abstract_values.AbsValue.{AbsValue}
-use Rattle.verify_logic.specs.States.{Frame, In, TreeIs, ObjectsAre, AreBytes, lengths_in, AreSound, Reaches, Ends}
+use Rattle.verify_logic.specs.States.{Frame, In, TreeIs, ObjectsAre, AreBytes, Summary, lengths_in, IsSound, AreSound, ValueIs, Entails, Implies, Reaches, Ends}
 use Rattle.verify_logic.specs.Statements.{Ways, Leaves, Executes}
-use Rattle.verify_logic.specs.Calls.{Entered, Begins, EachIn}
+use Rattle.verify_logic.specs.Calls.{Entered, FunctionEnds, Begins, EachIn}
 use Rattle.verify_logic.specs.Whole.{UndefinedOnlyAt, IsDefinedBut}
 use Rattle.verify_logic.proofs.Runs.{then_ends, tick_ends}
-use Rattle.verify_logic.proofs.Calls.{both_are, as_long, new_objects, ticks_end}
-use Rattle.verify_logic.proofs.Whole.{static_is, literal_is, one_more_object}
-use Rattle.verify_expressions.specs.Views.{shapes_in, items_of}
-use Rattle.verify.specs.Says.{AreFresh, Fresh, EntersMain, frame_in, texts_of, FirstAre}
+use Rattle.verify_logic.proofs.Calls.{both_are, as_long, new_objects, ticks_end, body_rule}
+use Rattle.verify_logic.proofs.Whole.{static_is, literal_is, one_more_object, sound_more, one_more_sound}
+use Rattle.verify_expressions.specs.Views.{shapes_in, items_of, state_of, summary_of}
+use Rattle.verify_expressions.specs.declared.scope.Summary as code
+use Rattle.verify_expressions.specs.declared.stop.Stop.{Stop}
+use Rattle.verify.specs.Says.{AreFresh, Fresh, EntersMain, IsSoundWork, OnlyReturns, frame_in, texts_of, Adds, FirstAre}
+use Rattle.verify.specs.declared.first_objects.FirstObjects.{FirstObjects}
+use Rattle.verify.specs.declared.work.Work.{Work}
 
 -- ---- the run of main's body
 
@@ -41,10 +45,11 @@ entered_fresh [] (k ∷ ks) e h = absurd (cc e)
 entered_fresh (t ∷ objects) [] e h = absurd (cc e)
 entered_fresh (t ∷ objects) (k ∷ ks) e h = (h.0, entered_fresh objects ks (let q : suc (length ks) ≡ suc (length objects) = e in omega (arith, q)) h.1)
 
-pub main_body : (p : Program) (listed : List Pos) (outer : List (Vec ℕ Global)) (g : Function) (first : List AbsValue) (count : ℕ) (entry : List AbsValue) (w : Ways) → slice_get p.functions p.main ≡ Some g → Begins p (shapes_in outer) first → count ≡ length g.objects →
-    EntersMain first count entry → Executes (frame_in p listed outer g) g.body (Some entry) w → IsDefinedBut p listed
-main_body p listed outer g first count entry w eg hb ec en h n input bytes =
-    let fr : Frame = frame_in p listed outer g in
+pub main_body : (p : Program) (wk : Work) (outer : List (Vec ℕ Global)) (g : Function) (first : List AbsValue) (count : ℕ) (entry : List AbsValue) (w : Ways) → IsSoundWork p wk → slice_get p.functions p.main ≡ Some g → Begins p (shapes_in outer) first → count ≡ length g.objects →
+    EntersMain first count entry → Executes (frame_in p wk outer g) g.body (Some entry) w → IsDefinedBut p wk.listed.items
+main_body p wk outer g first count entry w sound eg hb ec en h n input bytes =
+    let listed : List Pos = wk.listed.items in
+    let fr : Frame = frame_in p wk outer g in
     let s : State = start n p input in
     let s1 : State = enter p.main g [] s in
     let P : Option Function → Type 0 = λ o. UndefinedOnlyAt listed (ending_of (then_do (call_defined p (calling p n) o p.main [] s) end_with)) in
@@ -54,7 +59,7 @@ main_body p listed outer g first count entry w eg hb ec en h n input bytes =
       referred = refl;
       objects_are = both_are first (shapes_in outer) (first_store p) en.own (map lengths_in g.objects) _ hb (new_objects g.objects en.own (entered_fresh g.objects en.own (en.fresh.0 ∙ ec) en.fresh.1));
       bytes = bytes;
-      sound = tt;
+      sound = sound;
     } in
     let c1 : Reaches fr (Some entry) s1 = subst K (sym en.all) c0 in
     subst P (sym eg) (only_at listed fr w (body_of p (calling p n) g s1) (value_left (nat_eq p.main p.main)) s
@@ -146,3 +151,85 @@ static_objects (t ∷ before) objects n d h = ap (λ rest. t ∷ rest) (static_o
 pub no_statics : (before : Store) → before ++ [] ≡ before
 no_statics [] = refl
 no_statics (t ∷ before) = ap (λ rest. t ∷ rest) (no_statics before)
+
+-- ---- the ends of a body
+
+pub only_returns : (w : Ways) → w.normal ≡ None → w.broken ≡ None → w.continued ≡ None → OnlyReturns w
+only_returns w a b c = record { normal = a; broken = b; continued = c }
+
+never : {A : Type 0} (fr : Frame) (o : Option (List AbsValue)) (s : State) → o ≡ None → Reaches fr o s → A
+never fr o s e h = let P : Option (List AbsValue) → Type 0 = λ o. Reaches fr o s in absurd (let q : ⊥ = subst P e h in q)
+
+pub returns_end : (p : Program) (f : ℕ) (w : Ways) → OnlyReturns w → FunctionEnds p f w w.value w.returned
+returns_end p f w h = record {
+  normal = λ fr s c. never fr w.normal s h.normal c;
+  broken = λ fr s c. never fr w.broken s h.broken c;
+  continued = λ fr s c. never fr w.continued s h.continued c;
+  returned = λ fr v s m c. (m, c);
+}
+
+pub all_end : (p : Program) (f : ℕ) (b : Bool) (w : Ways) (end value : AbsValue) (two three o : Option (List AbsValue)) → b ≡ nat_eq f p.main → ValueIs end (value_at_end b) → Entails w.value value → Entails end value → Implies w.normal two → Implies w.broken two →
+    Implies two three → Implies w.continued three → Implies three o → Implies w.returned o → FunctionEnds p f w value o
+all_end p f b w end value two three o eb m ev ee n2 b2 t3 c3 o3 r3 =
+    let P : Bool → Type 0 = λ b. ValueIs value (value_at_end b) in
+    let k : ValueIs value (value_at_end (nat_eq f p.main)) = subst P eb (ee.is (value_at_end b) m) in record {
+      normal = λ fr s c. (k, o3.is fr s (t3.is fr s (n2.is fr s c)));
+      broken = λ fr s c. (k, o3.is fr s (t3.is fr s (b2.is fr s c)));
+      continued = λ fr s c. (k, o3.is fr s (c3.is fr s c));
+      returned = λ fr v s h c. (ev.is v h, r3.is fr s c);
+    }
+
+-- ---- summaries
+
+pub summary_sound : (p : Program) (wk : Work) (outer : List (Vec ℕ Global)) (g : Function) (f : ℕ) (entry given : List AbsValue) (w : Ways) (value : AbsValue) (left : Option (List AbsValue)) → IsSoundWork p wk → slice_get p.functions f ≡ Some g →
+    entry ≡ given → Executes (frame_in p wk outer g) g.body (Some entry) w → FunctionEnds p f w value left → IsSound p wk.listed.items (record { function = f; outer = shapes_in outer; entry = given; value = value; left = left })
+summary_sound p wk outer g f entry given w value left sound eg e h ends =
+    let Q : List AbsValue → Type 0 = λ known. IsSound p wk.listed.items (record { function = f; outer = shapes_in outer; entry = known; value = value; left = left }) in
+    subst Q e (body_rule (frame_in p wk outer g) f g entry w value left refl refl sound eg h ends)
+
+-- ---- more places
+
+pub listed_more : (p : Program) (al al2 : List Pos) (at : Pos) (summaries : List Summary) → al2 ≡ al ++ at ∷ [] → AreSound p al summaries → AreSound p al2 summaries
+listed_more p al al2 at summaries e h = let P : List Pos → Type 0 = λ al. AreSound p al summaries in subst P (sym e) (sound_more p al (al ++ at ∷ []) summaries (λ x c. behind al x c) h)
+  where
+    index : (al : List Pos) (k : ℕ) (x : Pos) → k < length al → slice_index_or al k x ≡ x → (k < length (al ++ at ∷ [])) × (slice_index_or (al ++ at ∷ []) k x ≡ x)
+    index [] k x lt e = absurd (omega (arith, lt))
+    index (a ∷ al) zero x lt e = (let q : 0 < suc (length (al ++ at ∷ [])) = omega arith in q, e)
+    index (a ∷ al) (suc k) x lt e = let r = index al k x (let q : suc k < suc (length al) = lt in omega (arith, q)) e in (let q : k < length (al ++ at ∷ []) = r.0 in omega (arith, q), r.1)
+
+    behind : (al : List Pos) (x : Pos) → Contains al x → Contains (al ++ at ∷ []) x
+    behind al x c = let r = index al c.0 x c.1 c.2 in (c.0, r.0, r.1)
+
+summaries_more : (xs : List code.Summary) (x : code.Summary) → map summary_of (xs ++ x ∷ []) ≡ map summary_of xs ++ summary_of x ∷ []
+summaries_more [] x = refl
+summaries_more (y ∷ xs) x = ap (λ rest. summary_of y ∷ rest) (summaries_more xs x)
+
+pub learnt_more : (p : Program) (al : List Pos) (xs ys : List code.Summary) (x : code.Summary) → ys ≡ xs ++ x ∷ [] → AreSound p al (map summary_of xs) → IsSound p al (summary_of x) → AreSound p al (map summary_of ys)
+learnt_more p al xs ys x e h g = let P : List code.Summary → Type 0 = λ ys. AreSound p al (map summary_of ys) in let Q : List Summary → Type 0 = AreSound p al in
+    subst P (sym e) (subst Q (sym (summaries_more xs x)) (one_more_sound p al (map summary_of xs) (summary_of x) h g))
+
+-- ---- objects before the run, one by one
+
+pub adds_object : (before after : FirstObjects) (k : AbsValue) (lengths : Vec ℕ Global) (l : List ℕ) (t : Tree) → after.known.items ≡ before.known.items ++ k ∷ [] → after.outer.items ≡ before.outer.items ++ lengths ∷ [] → lengths.items ≡ l → TreeIs k l t → Adds before t after
+adds_object before after k lengths l t ek eo el m store h = more_known before.known.items after.known.items before.outer.items after.outer.items store (store ++ t ∷ []) k lengths l t h ek eo el m refl
+
+pub text_known : (texts : List (Vec ℕ Global)) (n : ℕ) (d : Vec ℕ Global) (text : List ℕ) (a b : FirstObjects) → n < length texts → text ≡ (get_or texts n d).items → Adds a (literal_object text) b → FirstAre a (map literal_object (texts_of (take n texts))) →
+    FirstAre b (map literal_object (texts_of (take (n + 1) texts)))
+text_known texts n d text a b lt e h g =
+    let P : Store → Type 0 = λ store. FirstAre b store in
+    let Q : List ℕ → Type 0 = λ text. FirstAre b (map literal_object (texts_of (take n texts)) ++ literal_object text ∷ []) in
+    subst P (sym (text_objects texts n d lt)) (subst Q e (h (map literal_object (texts_of (take n texts))) g))
+
+pub all_texts : (texts : List (Vec ℕ Global)) (n : ℕ) (a : FirstObjects) → length texts ≤ n → FirstAre a (map literal_object (texts_of (take n texts))) → FirstAre a (map literal_object (texts_of texts))
+all_texts texts n a le h = let P : List (Vec ℕ Global) → Type 0 = λ texts. FirstAre a (map literal_object (texts_of texts)) in subst P (take_all n texts le) h
+
+pub static_known : (before : Store) (objects : List held.Static) (n : ℕ) (d : held.Static) (a b : FirstObjects) → n < length objects → Adds a (static_object (static_of (get_or objects n d))) b → FirstAre a (before ++ map static_object (map static_of (take n objects))) →
+    FirstAre b (before ++ map static_object (map static_of (take (n + 1) objects)))
+static_known before objects n d a b lt h g = let P : Store → Type 0 = λ store. FirstAre b store in
+    subst P (sym (static_objects before objects n d lt)) (h (before ++ map static_object (map static_of (take n objects))) g)
+
+pub begin_statics : (before : Store) (a : FirstObjects) → FirstAre a before → FirstAre a (before ++ [])
+begin_statics before a h = let P : Store → Type 0 = λ store. FirstAre a store in subst P (sym (no_statics before)) h
+
+pub all_statics : (before : Store) (objects : List held.Static) (n : ℕ) (a : FirstObjects) → length objects ≤ n → FirstAre a (before ++ map static_object (map static_of (take n objects))) → FirstAre a (before ++ map static_object (map static_of objects))
+all_statics before objects n a le h = let P : List held.Static → Type 0 = λ objects. FirstAre a (before ++ map static_object (map static_of objects)) in subst P (take_all n objects le) h

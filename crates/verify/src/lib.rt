@@ -2,7 +2,10 @@
 #![tactic(auto)]
 
 mod bodies;
-mod first;
+mod first_objects;
+#[cfg(test)]
+mod tests;
 mod verdict;
+mod work;
 
 pub use verdict::{Verdict, verify};

@@ -7,20 +7,23 @@ use Rattle.typing_spec.specs.Program as typed
 use Rattle.typing_spec.specs.Program.{Value, Statement, Statements}
 use Rattle.typed_ast.specs.declared.types.ObjectType as held_type
 use Rattle.typed_ast.specs.declared.statements.Statement as held
-use Rattle.typed_ast.specs.View.{object_type_of, statement_of, statements_of}
+use Rattle.typed_ast.specs.declared.expressions.Value as held_value
+use Rattle.typed_ast.specs.View.{object_type_of, option_value, statement_of, statements_of, value_of}
 use Rattle.csem.specs.Machine.{State}
 use Rattle.verify_logic.specs.declared.abstract_values.Interval.{Interval}
 use Rattle.verify_logic.specs.declared.abstract_values.AbsValue.{AbsValue}
 use Rattle.verify_logic.specs.States.{Frame, ValueIs, Reaches, Implies, Entails, shape_of, Writes, Replaces}
 use Rattle.verify_logic.specs.Judgements.{Evaluates, Tests, Converts}
-use Rattle.verify_logic.specs.Statements.{Ways, Executes, ExecutesAll, Continues, Follows, WaysImply, Renews, RenewsOne, Initialises, EvaluatesOr, only_normal}
-use Rattle.verify_logic.proofs.StatementRules.{executes_more, begins, ended, followed, follows_rule, block_rule, branch_rule, branches_rule, with_normal, only_returned, return_value_rule, evaluates_some, evaluates_none}
+use Rattle.verify_logic.specs.Statements.{Ways, Executes, ExecutesAll, Continues, Follows, WaysImply, Renews, RenewsOne, Initialises, EvaluatesOr, TestsOr, only_normal}
+use Rattle.verify_logic.proofs.StatementRules.{executes_more, begins, ended, followed, follows_rule, block_rule, branch_rule, branches_rule, with_normal, only_returned, return_value_rule, evaluates_some, evaluates_none, tests_none}
 use Rattle.verify_logic.proofs.Runs.{weaker}
 use Rattle.verify_logic.proofs.Objects.{implies_same}
 use Rattle.csem.specs.Expressions.{evaluate_or}
 use Rattle.csem.specs.Meaning.{calling}
 use Rattle.verify_logic.proofs.Begun.{define_rule, one_value_rule, shape_at, renew_rule, none_renewed, more_renewed}
 use Rattle.verify_expressions.specs.declared.stop.Stop.{Stop}
+use Rattle.verify_expressions.specs.declared.state.AbsState.{AbsState}
+use Rattle.verify_expressions.specs.declared.conditions.Tested.{Tested}
 use Rattle.verify_expressions.specs.Views.{state_of}
 use Rattle.verify_statements.specs.declared.ways.Left.{Left}
 use Rattle.verify_statements.specs.Ways.{ways_of}
@@ -101,3 +104,16 @@ evaluated_none fr o = evaluates_none fr o o (implies_same o)
 
 pub evaluates_more : (fr : Frame) (e : Option Value) (o o2 o3 : Option (List AbsValue)) → EvaluatesOr fr e o o2 → Implies o2 o3 → EvaluatesOr fr e o o3
 evaluates_more fr e o o2 o3 h f = record { runs = λ d s c. weaker fr.listed (evaluate_or fr.program (calling fr.program d) e s) (λ v s2. Reaches fr o2 s2) (λ v s2. Reaches fr o3 s2) (h.runs d s c) (λ v s2 m. f.is fr s2 m) }
+
+pub evaluated_or_none : (fr : Frame) (e : Option held_value.Value) (o : Option (List AbsValue)) → e ≡ None → EvaluatesOr fr (option_value e) o o
+evaluated_or_none fr e o q = let P : Option held_value.Value → Type 0 = λ e. EvaluatesOr fr (option_value e) o o in subst P (sym q) (evaluated_none fr o)
+
+pub evaluated_or_some : (fr : Frame) (e : Option held_value.Value) (x : held_value.Value) (o : Option (List AbsValue)) (r : Result AbsState Stop) → e ≡ Some x → IfOk r (λ r. EvaluatesOr fr (Some (value_of x)) o (state_of r)) → IfOk r (λ r. EvaluatesOr fr (option_value e) o (state_of r))
+evaluated_or_some fr e x o r q h = let P : Option held_value.Value → Type 0 = λ e. IfOk r (λ r. EvaluatesOr fr (option_value e) o (state_of r)) in subst P (sym q) h
+
+pub tested_or_none : (fr : Frame) (e : Option held_value.Value) (o : Option (List AbsValue)) → e ≡ None → TestsOr fr (option_value e) o o None
+tested_or_none fr e o q = let P : Option held_value.Value → Type 0 = λ e. TestsOr fr (option_value e) o o None in subst P (sym q) (tests_none fr o)
+
+pub tested_or_some : (fr : Frame) (e : Option held_value.Value) (x : held_value.Value) (o : Option (List AbsValue)) (r : Result Tested Stop) → e ≡ Some x → IfOk r (λ r. TestsOr fr (Some (value_of x)) o (state_of r.on) (state_of r.off)) →
+    IfOk r (λ r. TestsOr fr (option_value e) o (state_of r.on) (state_of r.off))
+tested_or_some fr e x o r q h = let P : Option held_value.Value → Type 0 = λ e. IfOk r (λ r. TestsOr fr (option_value e) o (state_of r.on) (state_of r.off)) in subst P (sym q) h

@@ -84,17 +84,28 @@ fn returned_value(scope: &Scope<'_>, state: AbsState, ty: IntType, e: &Value) ->
     })
 }
 
+fn evaluated_behind(scope: &Scope<'_>, state: AbsState, e: &Value) -> Result<AbsState, Stop>
+    ensures { IfOk result (λ r. EvaluatesOr (frame_of scope.now) (Some (value_of e.now)) (state_of state) (state_of r)) }
+{
+    let v = evaluate(scope, state, e)?;
+    Ok(v.state)
+}
+
 /// An expression that may be left out.
 fn evaluated_or(scope: &Scope<'_>, state: AbsState, e: &Option<Value>) -> Result<AbsState, Stop>
     ensures { IfOk result (λ r. EvaluatesOr (frame_of scope.now) (option_value e.now) (state_of state) (state_of r)) }
 {
     match e {
         None => Ok(state),
-        Some(e) => {
-            let v = evaluate(scope, state, e)?;
-            Ok(v.state)
-        }
+        Some(e) => evaluated_behind(scope, state, e),
     }
+}
+
+fn tested_behind(scope: &Scope<'_>, state: AbsState, e: &Value) -> Result<Tested, Stop>
+    ensures { IfOk result (λ r. TestsOr (frame_of scope.now) (Some (value_of e.now)) (state_of state) (state_of r.on) (state_of r.off)) }
+{
+    let t = test(scope, state, e)?;
+    Ok(t)
 }
 
 /// A test that may be left out, and then goes on (6.8.5.3p2).
@@ -106,10 +117,7 @@ fn tested_or(scope: &Scope<'_>, state: AbsState, e: &Option<Value>) -> Result<Te
             on: state,
             off: AbsState { objects: None },
         }),
-        Some(e) => {
-            let t = test(scope, state, e)?;
-            Ok(t)
-        }
+        Some(e) => tested_behind(scope, state, e),
     }
 }
 

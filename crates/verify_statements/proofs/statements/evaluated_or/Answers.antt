@@ -1,8 +1,8 @@
-use Rattle.verify_statements.proofs.Steps.{evaluated_some, evaluated_none}
+use Rattle.verify_statements.proofs.Steps.{evaluated_or_none, evaluated_or_some}
 use Rattle.verify_statements.proofs.statements.evaluated_or.Goals as goal
 
 pub returns-in-None : goal.returns-in-None
-returns-in-None c = evaluated_none _ _
+returns-in-None c = evaluated_or_none _ c.args.e.now _ c.in-None.is
 
 pub returns-in-Some : goal.returns-in-Some
-returns-in-Some c = evaluated_some _ _ _ _ _ c.in_ok-v.ensures
+returns-in-Some c = evaluated_or_some _ c.args.e.now c.in-Some.e.now _ c.evaluated_behind.result c.in-Some.is c.evaluated_behind.ensures

@@ -6,7 +6,7 @@ ghost use Rattle.csem.specs.Store.{literal_object, static_object};
 ghost use Rattle.verify_logic.specs.States.{In, ObjectsAre, TreeIs};
 ghost use Rattle.verify_logic.specs.Calls.{Begins, EachIn};
 ghost use Rattle.verify_expressions.specs.Views.{shapes_in};
-ghost use Rattle.verify.specs.Says.{FirstAre, texts_of};
+ghost use Rattle.verify.specs.Says.{Adds, FirstAre, texts_of};
 
 use std::alloc::Global;
 use typed_ast::{Program, Static};
@@ -16,12 +16,13 @@ use verify_logic::{AbsValue, Interval};
 
 /// The lengths of objects, and what is known of them.
 #[derive(Drop)]
-pub struct First {
+pub struct FirstObjects {
     pub outer: Vec<Vec<u32>>,
     pub known: Vec<AbsValue>,
 }
 
 /// The least interval that holds 0 and each of the values.
+#[tactic(auto, using(crate::proofs::Steps::value_step, crate::proofs::Steps::whole_values))]
 fn values_in(values: &[i64]) -> Interval
     ensures each { EachIn result values.now }
     ensures zero { In result (pos 0) }
@@ -46,6 +47,7 @@ fn static_value(object: &Static) -> AbsValue
 }
 
 /// The greatest character, or 0.
+#[tactic(auto, using(crate::proofs::Steps::text_step, crate::proofs::Steps::whole_text))]
 fn greatest_in(text: &[u8]) -> i64
     ensures { EachIn (record { low = pos 0; high = result }) (map (λ c. pos c) text.now) }
 {
@@ -89,49 +91,79 @@ fn copied_lengths(alloc: Global, lengths: &[u32]) -> Result<Vec<u32>, Stop>
     }
 }
 
+/// One more object.
+fn added(before: FirstObjects, lengths: Vec<u32>, k: AbsValue) -> Result<FirstObjects, Stop>
+    ensures known { IfOk result (λ r. r.known.items ≡ before.known.items ++ k ∷ []) }
+    ensures outer { IfOk result (λ r. r.outer.items ≡ before.outer.items ++ lengths ∷ []) }
+{
+    let mut outer = before.outer;
+    let Ok(()) = outer.push(lengths) else {
+        return Err(Stop::Memory);
+    };
+    let mut known = before.known;
+    let Ok(()) = known.push(k) else {
+        return Err(Stop::Memory);
+    };
+    Ok(FirstObjects { outer, known })
+}
+
+/// One more string literal.
+fn with_literal(alloc: Global, before: FirstObjects, text: &[u8]) -> Result<FirstObjects, Stop>
+    ensures { IfOk result (λ r. Adds before (literal_object text.now) r) }
+{
+    let lengths = text_lengths(alloc, text)?;
+    let k = text_value(text);
+    let all = added(before, lengths, k)?;
+    Ok(all)
+}
+
+/// One more object with static storage.
+fn with_static(alloc: Global, before: FirstObjects, object: &Static) -> Result<FirstObjects, Stop>
+    ensures { IfOk result (λ r. Adds before (static_object (static_of object.now)) r) }
+{
+    let lengths = copied_lengths(alloc, &object.object_type.lengths)?;
+    let k = static_value(object);
+    let all = added(before, lengths, k)?;
+    Ok(all)
+}
+
+fn none(alloc: Global) -> FirstObjects
+    ensures { FirstAre result [] }
+{
+    FirstObjects {
+        outer: Vec::new(alloc),
+        known: Vec::new(alloc),
+    }
+}
+
 /// String literals.
-fn literals(alloc: Global, texts: &[Vec<u8>]) -> Result<First, Stop>
+fn literals(alloc: Global, texts: &[Vec<u8>]) -> Result<FirstObjects, Stop>
     ensures { IfOk result (λ r. FirstAre r (map literal_object (texts_of texts.now))) }
 {
-    let mut outer = Vec::new(alloc);
-    let mut known = Vec::new(alloc);
+    let mut current = none(alloc);
     for n in 0..texts.len() {
-        let lengths = text_lengths(alloc, &texts[n])?;
-        let k = text_value(&texts[n]);
-        let Ok(()) = outer.push(lengths) else {
-            return Err(Stop::Memory);
-        };
-        let Ok(()) = known.push(k) else {
-            return Err(Stop::Memory);
-        };
+        let next = with_literal(alloc, current, &texts[n])?;
+        current = next;
     }
-    Ok(First { outer, known })
+    Ok(current)
 }
 
 /// Then objects with static storage.
-fn statics(alloc: Global, texts: &[Vec<u8>], objects: &[Static]) -> Result<First, Stop>
+fn statics(alloc: Global, texts: &[Vec<u8>], objects: &[Static]) -> Result<FirstObjects, Stop>
     ensures { IfOk result (λ r. FirstAre r (map literal_object (texts_of texts.now) ++ map static_object (map static_of objects.now))) }
 {
-    let before = literals(alloc, texts)?;
-    let mut outer = before.outer;
-    let mut known = before.known;
+    let mut current = literals(alloc, texts)?;
     for n in 0..objects.len() {
-        let lengths = copied_lengths(alloc, &objects[n].object_type.lengths)?;
-        let k = static_value(&objects[n]);
-        let Ok(()) = outer.push(lengths) else {
-            return Err(Stop::Memory);
-        };
-        let Ok(()) = known.push(k) else {
-            return Err(Stop::Memory);
-        };
+        let next = with_static(alloc, current, &objects[n])?;
+        current = next;
     }
-    Ok(First { outer, known })
+    Ok(current)
 }
 
 /// The objects before the run.
 ///
 /// Errors: memory ran out.
-pub fn first(alloc: Global, program: &Program) -> Result<First, Stop>
+pub fn objects_at_start(alloc: Global, program: &Program) -> Result<FirstObjects, Stop>
     ensures { IfOk result (λ r. Begins (program_of program.now) (shapes_in r.outer.items) r.known.items) }
 {
     let all = statics(alloc, &program.literals, &program.statics)?;

@@ -1,0 +1,5 @@
+use Rattle.verify.proofs.Steps.{learnt_more}
+use Rattle.verify.proofs.verdict.learnt.Goals as goal
+
+pub returns : goal.returns
+returns c = learnt_more _ _ _ _ _ c.in-Ok.ensures.items c.requires.sound c.requires.new
