@@ -43,124 +43,39 @@ pub(crate) fn put_specifiers(
     Ok(())
 }
 
-#[cycle(expression_forms)]
-fn put_type(out: &mut Writer<'_>, name: &TypeName) -> Result<(), AllocError> {
+/// Opens the node of a type name; its array sizes follow.
+fn begin_type(out: &mut Writer<'_>, name: &TypeName) -> Result<(), AllocError> {
     out.begin_at("type", name.specifiers.pos)?;
-    put_specifiers(out, name.specifiers.list.as_slice())?;
-    put_all(out, name.sizes.as_slice())?;
-    out.end()
+    put_specifiers(out, name.specifiers.list.as_slice())
 }
 
-#[cycle(expression_forms)]
-pub(crate) fn put_all(out: &mut Writer<'_>, all: &[Expr]) -> Result<(), AllocError> {
-    for e in all {
-        put_expression(out, e)?;
-    }
-    Ok(())
-}
-
-/// A node with an operator and one part.
-#[cycle(expression_forms)]
-fn put_one(
-    out: &mut Writer<'_>,
-    node: &str,
-    op: &str,
-    at: Pos,
-    a: &Expr,
-) -> Result<(), AllocError> {
+/// Opens a node with an operator.
+fn begin_operator(out: &mut Writer<'_>, node: &str, op: &str, at: Pos) -> Result<(), AllocError> {
     out.begin(node)?;
     out.word("op", op)?;
-    out.place(at)?;
-    put_expression(out, a)?;
-    out.end()
+    out.place(at)
 }
 
-/// A node with an operator and two parts.
-#[cycle(expression_forms)]
-fn put_two(
-    out: &mut Writer<'_>,
-    node: &str,
-    op: &str,
-    at: Pos,
-    a: &Expr,
-    b: &Expr,
-) -> Result<(), AllocError> {
-    out.begin(node)?;
-    out.word("op", op)?;
-    out.place(at)?;
-    put_expression(out, a)?;
-    put_expression(out, b)?;
-    out.end()
-}
-
-#[cycle(expression_forms)]
-fn put_call(
-    out: &mut Writer<'_>,
-    at: Pos,
-    name: usize,
-    arguments: &[Expr],
-) -> Result<(), AllocError> {
-    out.begin("call")?;
-    out.name("name", name)?;
-    out.place(at)?;
-    put_all(out, arguments)?;
-    out.end()
-}
-
-#[cycle(expression_forms)]
-fn put_cast(
-    out: &mut Writer<'_>,
-    node: &str,
-    at: Pos,
-    name: &TypeName,
-    a: Option<&Expr>,
-) -> Result<(), AllocError> {
-    out.begin_at(node, at)?;
-    put_type(out, name)?;
-    if let Some(a) = a {
-        put_expression(out, a)?;
-    }
-    out.end()
-}
-
-#[cycle(expression_forms)]
-fn put_conditional(
-    out: &mut Writer<'_>,
-    at: Pos,
-    c: &Expr,
-    a: &Expr,
-    b: &Expr,
-) -> Result<(), AllocError> {
-    out.begin_at("conditional", at)?;
-    put_expression(out, c)?;
-    put_expression(out, a)?;
-    put_expression(out, b)?;
-    out.end()
-}
-
-/// An identifier, a constant or a string literal.
-fn put_primary(out: &mut Writer<'_>, e: &Expr) -> Result<(), AllocError> {
+/// Opens the node of an identifier, a constant or a string literal.
+fn begin_primary(out: &mut Writer<'_>, e: &Expr) -> Result<(), AllocError> {
     match e {
         Expr::Name(at, name) => {
             out.begin("name")?;
             out.name("name", *name)?;
-            out.place(*at)?;
-            out.end()
+            out.place(*at)
         }
         Expr::Constant(at, ty, value) => {
             out.begin("constant")?;
             out.word("type", type_word(*ty))?;
             out.number("value", value_in(ty.is_signed(), *value))?;
-            out.place(*at)?;
-            out.end()
+            out.place(*at)
         }
         Expr::StringLiteral(at, text) => {
             out.begin("string")?;
             out.count("number", *text)?;
-            out.place(*at)?;
-            out.end()
+            out.place(*at)
         }
-        _ => Ok(()),
+        _ => out.begin("parentheses"),
     }
 }
 
@@ -174,25 +89,66 @@ fn value_in(is_signed: bool, word: u32) -> i64 {
     }
 }
 
+/// Opens the node of an expression: all that it says before its parts.
+fn begin_expression(out: &mut Writer<'_>, e: &Expr) -> Result<(), AllocError> {
+    match e {
+        Expr::Call(at, name, _) => {
+            out.begin("call")?;
+            out.name("name", *name)?;
+            out.place(*at)
+        }
+        Expr::Subscript(at, _, _) => begin_operator(out, "subscript", "[]", *at),
+        Expr::After(at, op, _) => begin_operator(out, "postfix", step_word(*op), *at),
+        Expr::Before(at, op, _) => begin_operator(out, "prefix", step_word(*op), *at),
+        Expr::Prefix(at, op, _) => begin_operator(out, "unary", prefix_word(*op), *at),
+        Expr::SizeofExpr(at, _) | Expr::SizeofType(at, _) => out.begin_at("sizeof", *at),
+        Expr::Cast(at, _, _) => out.begin_at("cast", *at),
+        Expr::Binary(at, op, _, _) => begin_operator(out, "binary", binary_word(*op), *at),
+        Expr::Conditional(at, _, _, _) => out.begin_at("conditional", *at),
+        Expr::Assign(at, op, _, _) => begin_operator(out, "assignment", assign_word(*op), *at),
+        _ => begin_primary(out, e),
+    }
+}
+
 #[cycle(expression_forms)]
 pub(crate) fn put_expression(out: &mut Writer<'_>, e: &Expr) -> Result<(), AllocError> {
+    begin_expression(out, e)?;
     match e {
-        Expr::Paren(a) => {
-            out.begin("parentheses")?;
-            put_expression(out, a)?;
-            out.end()
+        Expr::Name(_, _) | Expr::Constant(_, _, _) | Expr::StringLiteral(_, _) => {}
+        Expr::Paren(a)
+        | Expr::After(_, _, a)
+        | Expr::Before(_, _, a)
+        | Expr::Prefix(_, _, a)
+        | Expr::SizeofExpr(_, a) => put_expression(out, a)?,
+        Expr::Call(_, _, arguments) => put_all(out, arguments.as_slice())?,
+        Expr::SizeofType(_, name) => {
+            begin_type(out, name)?;
+            put_all(out, name.sizes.as_slice())?;
+            out.end()?;
         }
-        Expr::Call(at, name, arguments) => put_call(out, *at, *name, arguments.as_slice()),
-        Expr::Subscript(at, a, i) => put_two(out, "subscript", "[]", *at, a, i),
-        Expr::After(at, op, a) => put_one(out, "postfix", step_word(*op), *at, a),
-        Expr::Before(at, op, a) => put_one(out, "prefix", step_word(*op), *at, a),
-        Expr::Prefix(at, op, a) => put_one(out, "unary", prefix_word(*op), *at, a),
-        Expr::SizeofExpr(at, a) => put_one(out, "sizeof", "sizeof", *at, a),
-        Expr::SizeofType(at, name) => put_cast(out, "sizeof", *at, name, None),
-        Expr::Cast(at, name, a) => put_cast(out, "cast", *at, name, Some(a)),
-        Expr::Binary(at, op, a, b) => put_two(out, "binary", binary_word(*op), *at, a, b),
-        Expr::Conditional(at, c, a, b) => put_conditional(out, *at, c, a, b),
-        Expr::Assign(at, op, a, b) => put_two(out, "assignment", assign_word(*op), *at, a, b),
-        _ => put_primary(out, e),
+        Expr::Cast(_, name, a) => {
+            begin_type(out, name)?;
+            put_all(out, name.sizes.as_slice())?;
+            out.end()?;
+            put_expression(out, a)?;
+        }
+        Expr::Subscript(_, a, b) | Expr::Binary(_, _, a, b) | Expr::Assign(_, _, a, b) => {
+            put_expression(out, a)?;
+            put_expression(out, b)?;
+        }
+        Expr::Conditional(_, c, a, b) => {
+            put_expression(out, c)?;
+            put_expression(out, a)?;
+            put_expression(out, b)?;
+        }
     }
+    out.end()
+}
+
+#[cycle(expression_forms)]
+pub(crate) fn put_all(out: &mut Writer<'_>, all: &[Expr]) -> Result<(), AllocError> {
+    for e in all {
+        put_expression(out, e)?;
+    }
+    Ok(())
 }

@@ -162,21 +162,6 @@ fn put_declaration(out: &mut Writer<'_>, declaration: &Declaration) -> Result<()
     }
 }
 
-/// A statement of an expression and one inner statement.
-#[cycle(statement_forms)]
-fn put_controlled(
-    out: &mut Writer<'_>,
-    node: &str,
-    at: Pos,
-    e: &Expr,
-    a: &Stmt,
-) -> Result<(), AllocError> {
-    out.begin_at(node, at)?;
-    put_expression(out, e)?;
-    put_statement(out, a)?;
-    out.end()
-}
-
 fn put_start(out: &mut Writer<'_>, start: &ForStart) -> Result<(), AllocError> {
     match start {
         ForStart::Expression(e) => put_option(out, e),
@@ -184,13 +169,57 @@ fn put_start(out: &mut Writer<'_>, start: &ForStart) -> Result<(), AllocError> {
     }
 }
 
-#[cycle(statement_forms)]
-fn put_for(out: &mut Writer<'_>, at: Pos, head: &ForHead, a: &Stmt) -> Result<(), AllocError> {
-    out.begin_at("for", at)?;
+fn put_head(out: &mut Writer<'_>, head: &ForHead) -> Result<(), AllocError> {
     put_start(out, &head.start)?;
     put_option(out, &head.test)?;
-    put_option(out, &head.step)?;
-    put_statement(out, a)?;
+    put_option(out, &head.step)
+}
+
+/// Opens the node of a statement.
+fn begin_statement(out: &mut Writer<'_>, s: &Stmt) -> Result<(), AllocError> {
+    match s {
+        Stmt::Empty(at) => out.begin_at("empty", *at),
+        Stmt::Expression(at, _) => out.begin_at("expression", *at),
+        Stmt::Block(at, _) => out.begin_at("block", *at),
+        Stmt::If(at, _, _) | Stmt::IfElse(at, _, _, _) => out.begin_at("if", *at),
+        Stmt::Switch(at, _, _) => out.begin_at("switch", *at),
+        Stmt::Case(at, _, _) => out.begin_at("case", *at),
+        Stmt::Default(at, _) => out.begin_at("default", *at),
+        Stmt::While(at, _, _) => out.begin_at("while", *at),
+        Stmt::DoWhile(at, _, _) => out.begin_at("do", *at),
+        Stmt::For(at, _, _) => out.begin_at("for", *at),
+        Stmt::Break(at) => out.begin_at("break", *at),
+        Stmt::Continue(at) => out.begin_at("continue", *at),
+        Stmt::Return(at, _) => out.begin_at("return", *at),
+    }
+}
+
+#[cycle(statement_forms)]
+fn put_statement(out: &mut Writer<'_>, s: &Stmt) -> Result<(), AllocError> {
+    begin_statement(out, s)?;
+    match s {
+        Stmt::Empty(_) | Stmt::Break(_) | Stmt::Continue(_) | Stmt::Return(_, None) => {}
+        Stmt::Expression(_, e) | Stmt::Return(_, Some(e)) => put_expression(out, e)?,
+        Stmt::Block(_, items) => put_pieces(out, items.as_slice())?,
+        Stmt::Default(_, a) => put_statement(out, a)?,
+        Stmt::If(_, e, a) | Stmt::Switch(_, e, a) | Stmt::Case(_, e, a) | Stmt::While(_, e, a) => {
+            put_expression(out, e)?;
+            put_statement(out, a)?;
+        }
+        Stmt::IfElse(_, e, a, b) => {
+            put_expression(out, e)?;
+            put_statement(out, a)?;
+            put_statement(out, b)?;
+        }
+        Stmt::DoWhile(_, a, e) => {
+            put_statement(out, a)?;
+            put_expression(out, e)?;
+        }
+        Stmt::For(_, head, a) => {
+            put_head(out, head)?;
+            put_statement(out, a)?;
+        }
+    }
     out.end()
 }
 
@@ -203,65 +232,6 @@ fn put_pieces(out: &mut Writer<'_>, items: &[BlockItem]) -> Result<(), AllocErro
         }
     }
     Ok(())
-}
-
-#[cycle(statement_forms)]
-fn put_else(out: &mut Writer<'_>, at: Pos, e: &Expr, a: &Stmt, b: &Stmt) -> Result<(), AllocError> {
-    out.begin_at("if", at)?;
-    put_expression(out, e)?;
-    put_statement(out, a)?;
-    put_statement(out, b)?;
-    out.end()
-}
-
-/// A statement with no other in it.
-fn put_simple(out: &mut Writer<'_>, s: &Stmt) -> Result<(), AllocError> {
-    match s {
-        Stmt::Empty(at) => out.begin_at("empty", *at)?,
-        Stmt::Expression(at, e) => {
-            out.begin_at("expression", *at)?;
-            put_expression(out, e)?;
-        }
-        Stmt::Break(at) => out.begin_at("break", *at)?,
-        Stmt::Continue(at) => out.begin_at("continue", *at)?,
-        Stmt::Return(at, e) => {
-            out.begin_at("return", *at)?;
-            if let Some(e) = e {
-                put_expression(out, e)?;
-            }
-        }
-        _ => out.begin("statement")?,
-    }
-    out.end()
-}
-
-#[cycle(statement_forms)]
-fn put_statement(out: &mut Writer<'_>, s: &Stmt) -> Result<(), AllocError> {
-    match s {
-        Stmt::Block(at, items) => {
-            out.begin_at("block", *at)?;
-            put_pieces(out, items.as_slice())?;
-            out.end()
-        }
-        Stmt::If(at, e, a) => put_controlled(out, "if", *at, e, a),
-        Stmt::IfElse(at, e, a, b) => put_else(out, *at, e, a, b),
-        Stmt::Switch(at, e, a) => put_controlled(out, "switch", *at, e, a),
-        Stmt::Case(at, e, a) => put_controlled(out, "case", *at, e, a),
-        Stmt::Default(at, a) => {
-            out.begin_at("default", *at)?;
-            put_statement(out, a)?;
-            out.end()
-        }
-        Stmt::While(at, e, a) => put_controlled(out, "while", *at, e, a),
-        Stmt::DoWhile(at, a, e) => {
-            out.begin_at("do", *at)?;
-            put_statement(out, a)?;
-            put_expression(out, e)?;
-            out.end()
-        }
-        Stmt::For(at, head, a) => put_for(out, *at, head, a),
-        _ => put_simple(out, s),
-    }
 }
 
 fn put_function(out: &mut Writer<'_>, function: &Function) -> Result<(), AllocError> {

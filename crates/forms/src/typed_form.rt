@@ -83,33 +83,14 @@ fn put_statements(
     Ok(())
 }
 
-/// The parts of a node of a value and statements, and its end.
-#[cycle(typed_statements)]
-fn put_controlled(
+fn put_control(
     out: &mut Writer<'_>,
     program: &Program,
-    e: &Value,
-    a: &Statement,
-) -> Result<(), AllocError> {
-    put_value(out, program, e)?;
-    put_statement(out, program, a)?;
-    out.end()
-}
-
-#[cycle(typed_statements)]
-fn put_for(
-    out: &mut Writer<'_>,
-    program: &Program,
-    declared: &[Statement],
     control: &ForControl,
-    a: &Statement,
 ) -> Result<(), AllocError> {
-    put_statements(out, program, declared)?;
     put_option(out, program, &control.start)?;
     put_option(out, program, &control.test)?;
-    put_option(out, program, &control.step)?;
-    put_statement(out, program, a)?;
-    out.end()
+    put_option(out, program, &control.step)
 }
 
 /// What a statement is called.
@@ -133,56 +114,55 @@ fn node_of(s: &Statement) -> &'static str {
     }
 }
 
-/// A statement with no other in it: its parts, and its end.
+/// The parts of a statement with no other in it.
 fn put_simple(out: &mut Writer<'_>, program: &Program, s: &Statement) -> Result<(), AllocError> {
     match s {
-        Statement::Evaluate(_, e) => put_value(out, program, e)?,
-        Statement::Declare(_, object) => out.count("automatic", *object)?,
+        Statement::Evaluate(_, e) => put_value(out, program, e),
+        Statement::Declare(_, object) => out.count("automatic", *object),
         Statement::Define(_, object, i) => {
             out.count("automatic", *object)?;
-            put_initialiser(out, program, i)?;
+            put_initialiser(out, program, i)
         }
-        Statement::Case(_, value) => out.number("value", *value)?,
+        Statement::Case(_, value) => out.number("value", *value),
         Statement::ReturnValue(_, ty, e) => {
             out.word("type", type_word(*ty))?;
-            put_value(out, program, e)?;
+            put_value(out, program, e)
         }
-        _ => {}
+        _ => Ok(()),
     }
-    out.end()
 }
 
 #[cycle(typed_statements)]
 fn put_statement(out: &mut Writer<'_>, program: &Program, s: &Statement) -> Result<(), AllocError> {
     out.begin_at(node_of(s), s.place())?;
     match s {
-        Statement::Block(_, _, _, all) => {
-            put_statements(out, program, all.as_slice())?;
-            out.end()
+        Statement::Block(_, _, _, all) => put_statements(out, program, all.as_slice())?,
+        Statement::If(_, e, a) | Statement::While(_, e, a) => {
+            put_value(out, program, e)?;
+            put_statement(out, program, a)?;
         }
-        Statement::If(_, e, a) | Statement::While(_, e, a) => put_controlled(out, program, e, a),
         Statement::IfElse(_, e, a, b) => {
             put_value(out, program, e)?;
             put_statement(out, program, a)?;
             put_statement(out, program, b)?;
-            out.end()
         }
         Statement::Switch(_, ty, e, _, _, all) => {
             out.word("type", type_word(*ty))?;
             put_value(out, program, e)?;
             put_statements(out, program, all.as_slice())?;
-            out.end()
         }
         Statement::DoWhile(_, a, e) => {
             put_statement(out, program, a)?;
             put_value(out, program, e)?;
-            out.end()
         }
         Statement::For(_, declared, control, a) => {
-            put_for(out, program, declared.as_slice(), control, a)
+            put_statements(out, program, declared.as_slice())?;
+            put_control(out, program, control)?;
+            put_statement(out, program, a)?;
         }
-        _ => put_simple(out, program, s),
+        _ => put_simple(out, program, s)?,
     }
+    out.end()
 }
 
 fn put_parameters(out: &mut Writer<'_>, all: &[ParameterType]) -> Result<(), AllocError> {

@@ -37,182 +37,129 @@ fn put_callee(out: &mut Writer<'_>, program: &Program, callee: Callee) -> Result
     }
 }
 
-#[cycle(value_forms)]
-pub(crate) fn put_place(
+/// Opens a node with a type.
+fn begin_typed(out: &mut Writer<'_>, node: &str, ty: Option<IntType>) -> Result<(), AllocError> {
+    out.begin(node)?;
+    out.word("type", result_word(ty))
+}
+
+/// Opens a node with an operator and a type.
+fn begin_operator(
     out: &mut Writer<'_>,
-    program: &Program,
-    place: &Place,
+    node: &str,
+    op: &str,
+    ty: IntType,
 ) -> Result<(), AllocError> {
+    out.begin(node)?;
+    out.word("op", op)?;
+    out.word("type", type_word(ty))
+}
+
+/// Opens the node of an operation or of an assignment.
+fn begin_operation(out: &mut Writer<'_>, e: &Value) -> Result<(), AllocError> {
+    match e {
+        Value::Unary(at, op, ty, _) => {
+            begin_operator(out, "unary", prefix_word(*op), *ty)?;
+            out.place(*at)
+        }
+        Value::Binary(at, op, ty, _, _) => {
+            begin_operator(out, "binary", operation_word(*op), *ty)?;
+            out.place(*at)
+        }
+        Value::Assigned(at, ty, _, _) => {
+            begin_typed(out, "assignment", Some(*ty))?;
+            out.place(*at)
+        }
+        Value::Compound(at, op, ty, of, _, _) => {
+            begin_operator(out, "compound", operation_word(*op), *ty)?;
+            out.word("in", type_word(*of))?;
+            out.place(*at)
+        }
+        Value::Stepped(at, moment, op, ty, of, _) => {
+            begin_operator(out, moment_word(*moment), step_word(*op), *ty)?;
+            out.word("in", type_word(*of))?;
+            out.place(*at)
+        }
+        _ => out.begin("value"),
+    }
+}
+
+fn moment_word(moment: Moment) -> &'static str {
+    match moment {
+        Moment::After => "postfix",
+        Moment::Before => "prefix",
+    }
+}
+
+/// Opens the node of a value: all that it says before its parts.
+fn begin_value(out: &mut Writer<'_>, program: &Program, e: &Value) -> Result<(), AllocError> {
+    match e {
+        Value::Constant(ty, value) => {
+            begin_typed(out, "constant", Some(*ty))?;
+            out.number("value", *value)
+        }
+        Value::Read(ty, _) => begin_typed(out, "read", Some(*ty)),
+        Value::BothTrue(_, _) => out.begin("and"),
+        Value::OneTrue(_, _) => out.begin("or"),
+        Value::Sequence(_, _) => out.begin("comma"),
+        Value::Chosen(ty, _, _, _) => begin_typed(out, "conditional", *ty),
+        Value::Cast(ty, _) => begin_typed(out, "cast", Some(*ty)),
+        Value::Discarded(_) => begin_typed(out, "cast", None),
+        Value::Call(at, callee, ty, _, _) => {
+            out.begin("call")?;
+            put_callee(out, program, *callee)?;
+            out.word("type", result_word(*ty))?;
+            out.place(*at)
+        }
+        _ => begin_operation(out, e),
+    }
+}
+
+/// Opens the node of a place.
+fn begin_place(out: &mut Writer<'_>, program: &Program, place: &Place) -> Result<(), AllocError> {
     match place {
         Place::Named(at, storage) => {
             out.begin("object")?;
             put_storage(out, program, *storage)?;
-            out.place(*at)?;
-            out.end()
+            out.place(*at)
         }
-        Place::Element(at, array, index) => {
-            out.begin_at("element", *at)?;
+        Place::Element(at, _, _) => out.begin_at("element", *at),
+    }
+}
+
+#[cycle(value_forms)]
+fn put_place(out: &mut Writer<'_>, program: &Program, place: &Place) -> Result<(), AllocError> {
+    begin_place(out, program, place)?;
+    match place {
+        Place::Named(_, _) => {}
+        Place::Element(_, array, index) => {
             put_place(out, program, array)?;
             put_value(out, program, index)?;
-            out.end()
         }
     }
+    out.end()
 }
 
 #[cycle(value_forms)]
-fn put_argument(
+fn put_arguments(
     out: &mut Writer<'_>,
     program: &Program,
-    argument: &Argument,
-) -> Result<(), AllocError> {
-    match argument {
-        Argument::Number(ty, value) => {
-            out.begin("converted")?;
-            out.word("type", type_word(*ty))?;
-            put_value(out, program, value)?;
-            out.end()
-        }
-        Argument::Array(place) => {
-            out.begin("reference")?;
-            put_place(out, program, place)?;
-            out.end()
-        }
-    }
-}
-
-#[cycle(value_forms)]
-fn put_call(
-    out: &mut Writer<'_>,
-    program: &Program,
-    at: Pos,
-    callee: Callee,
-    ty: Option<IntType>,
     arguments: &[Argument],
 ) -> Result<(), AllocError> {
-    out.begin("call")?;
-    put_callee(out, program, callee)?;
-    out.word("type", result_word(ty))?;
-    out.place(at)?;
     for argument in arguments {
-        put_argument(out, program, argument)?;
+        match argument {
+            Argument::Number(ty, value) => {
+                begin_typed(out, "converted", Some(*ty))?;
+                put_value(out, program, value)?;
+            }
+            Argument::Array(place) => {
+                out.begin("reference")?;
+                put_place(out, program, place)?;
+            }
+        }
+        out.end()?;
     }
-    out.end()
-}
-
-/// A node of this kind and type with two parts.
-#[cycle(value_forms)]
-fn put_both(
-    out: &mut Writer<'_>,
-    program: &Program,
-    node: &str,
-    a: &Value,
-    b: &Value,
-) -> Result<(), AllocError> {
-    out.begin(node)?;
-    put_value(out, program, a)?;
-    put_value(out, program, b)?;
-    out.end()
-}
-
-/// The parts of a node that stores into an element.
-#[cycle(value_forms)]
-fn put_stored(
-    out: &mut Writer<'_>,
-    program: &Program,
-    at: Pos,
-    place: &Place,
-    value: Option<&Value>,
-) -> Result<(), AllocError> {
-    out.place(at)?;
-    put_place(out, program, place)?;
-    if let Some(value) = value {
-        put_value(out, program, value)?;
-    }
-    out.end()
-}
-
-#[cycle(value_forms)]
-fn put_step(out: &mut Writer<'_>, program: &Program, e: &Value) -> Result<(), AllocError> {
-    match e {
-        Value::Assigned(at, ty, place, value) => {
-            out.begin("assignment")?;
-            out.word("type", type_word(*ty))?;
-            put_stored(out, program, *at, place, Some(value))
-        }
-        Value::Compound(at, op, ty, of, place, value) => {
-            out.begin("compound")?;
-            out.word("op", operation_word(*op))?;
-            out.word("type", type_word(*ty))?;
-            out.word("in", type_word(*of))?;
-            put_stored(out, program, *at, place, Some(value))
-        }
-        Value::Stepped(at, moment, op, ty, of, place) => {
-            out.begin(match moment {
-                Moment::After => "postfix",
-                Moment::Before => "prefix",
-            })?;
-            out.word("op", step_word(*op))?;
-            out.word("type", type_word(*ty))?;
-            out.word("in", type_word(*of))?;
-            put_stored(out, program, *at, place, None)
-        }
-        _ => Ok(()),
-    }
-}
-
-#[cycle(value_forms)]
-fn put_operation(out: &mut Writer<'_>, program: &Program, e: &Value) -> Result<(), AllocError> {
-    match e {
-        Value::Unary(at, op, ty, a) => {
-            out.begin("unary")?;
-            out.word("op", prefix_word(*op))?;
-            out.word("type", type_word(*ty))?;
-            out.place(*at)?;
-            put_value(out, program, a)?;
-            out.end()
-        }
-        Value::Binary(at, op, ty, a, b) => {
-            out.begin("binary")?;
-            out.word("op", operation_word(*op))?;
-            out.word("type", type_word(*ty))?;
-            out.place(*at)?;
-            put_value(out, program, a)?;
-            put_value(out, program, b)?;
-            out.end()
-        }
-        _ => put_step(out, program, e),
-    }
-}
-
-#[cycle(value_forms)]
-fn put_converted(
-    out: &mut Writer<'_>,
-    program: &Program,
-    node: &str,
-    ty: Option<IntType>,
-    a: &Value,
-) -> Result<(), AllocError> {
-    out.begin(node)?;
-    out.word("type", result_word(ty))?;
-    put_value(out, program, a)?;
-    out.end()
-}
-
-#[cycle(value_forms)]
-fn put_choice(
-    out: &mut Writer<'_>,
-    program: &Program,
-    ty: Option<IntType>,
-    c: &Value,
-    a: &Value,
-    b: &Value,
-) -> Result<(), AllocError> {
-    out.begin("conditional")?;
-    out.word("type", result_word(ty))?;
-    put_value(out, program, c)?;
-    put_value(out, program, a)?;
-    put_value(out, program, b)?;
-    out.end()
+    Ok(())
 }
 
 #[cycle(value_forms)]
@@ -221,28 +168,34 @@ pub(crate) fn put_value(
     program: &Program,
     e: &Value,
 ) -> Result<(), AllocError> {
+    begin_value(out, program, e)?;
     match e {
-        Value::Constant(ty, value) => {
-            out.begin("constant")?;
-            out.word("type", type_word(*ty))?;
-            out.number("value", *value)?;
-            out.end()
-        }
-        Value::Read(ty, place) => {
-            out.begin("read")?;
-            out.word("type", type_word(*ty))?;
+        Value::Constant(_, _) => {}
+        Value::Read(_, place) | Value::Stepped(_, _, _, _, _, place) => {
             put_place(out, program, place)?;
-            out.end()
         }
-        Value::BothTrue(a, b) => put_both(out, program, "and", a, b),
-        Value::OneTrue(a, b) => put_both(out, program, "or", a, b),
-        Value::Chosen(ty, c, a, b) => put_choice(out, program, *ty, c, a, b),
-        Value::Sequence(a, b) => put_both(out, program, "comma", a, b),
-        Value::Cast(ty, a) => put_converted(out, program, "cast", Some(*ty), a),
-        Value::Discarded(a) => put_converted(out, program, "cast", None, a),
-        Value::Call(at, callee, ty, _, arguments) => {
-            put_call(out, program, *at, *callee, *ty, arguments.as_slice())
+        Value::Assigned(_, _, place, a) | Value::Compound(_, _, _, _, place, a) => {
+            put_place(out, program, place)?;
+            put_value(out, program, a)?;
         }
-        _ => put_operation(out, program, e),
+        Value::Unary(_, _, _, a) | Value::Cast(_, a) | Value::Discarded(a) => {
+            put_value(out, program, a)?;
+        }
+        Value::BothTrue(a, b)
+        | Value::OneTrue(a, b)
+        | Value::Sequence(a, b)
+        | Value::Binary(_, _, _, a, b) => {
+            put_value(out, program, a)?;
+            put_value(out, program, b)?;
+        }
+        Value::Chosen(_, c, a, b) => {
+            put_value(out, program, c)?;
+            put_value(out, program, a)?;
+            put_value(out, program, b)?;
+        }
+        Value::Call(_, _, _, _, arguments) => {
+            put_arguments(out, program, arguments.as_slice())?;
+        }
     }
+    out.end()
 }
