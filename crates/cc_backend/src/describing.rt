@@ -3,7 +3,7 @@
 ghost use Rattle.typed_ast.specs.View.{program_of};
 ghost use Rattle.cc_backend.specs.Made.{IsReady};
 
-use crate::flat_code::flat_code;
+use crate::flat_code::flat_program;
 use crate::image::code_image;
 use asm::{Item, item_addresses};
 use elf_out::StackSize;
@@ -264,7 +264,7 @@ fn starts_of(alloc: Global, program: &Program) -> Result<Starts, AllocError>
 pub fn code_map(alloc: Global, program: &Program, stack: StackSize) -> Result<CodeMap, AllocError>
     requires ready { IsReady (program_of program.now) }
 {
-    let code = flat_code(alloc, program)?;
+    let code = flat_program(alloc, program)?;
     let firsts = first_labels(alloc, &code.functions)?;
     let count = label_count(&code.functions);
     let made = code_image(alloc, code, stack)?;

@@ -63,7 +63,7 @@ fn flat_functions(
 }
 
 /// The flat code of a program, with the words in front that are used most.
-pub fn flat_code(alloc: Global, program: &Program) -> Result<FlatProgram, AllocError>
+pub fn flat_program(alloc: Global, program: &Program) -> Result<FlatProgram, AllocError>
     requires { IsReady (program_of program.now) }
     ensures { IfOk result (λ f. IsFlatCodeOf (program_of program.now) (flat.program_of f)) }
 {

@@ -6,7 +6,7 @@ ghost use Rattle.frames_code.specs.Code as flat;
 ghost use Rattle.cc_backend.specs.Runs.{RunsAs};
 ghost use Rattle.cc_backend.specs.Made.{IsReady, IsFileOf, AreItemsOf};
 
-use crate::flat_code::{flat_code, want_of_memory};
+use crate::flat_code::{flat_program, want_of_memory};
 use crate::image::code_image;
 use crate::sizes::frame_sizes;
 use asm::Items;
@@ -29,7 +29,7 @@ pub fn generate(alloc: Global, program: &Program, stack: StackSize) -> Result<Ge
     ensures runs { IfOk result (λ g. RunsAs stack (program_of program.now) g.frames.items g.elf.items) }
     ensures file { IfOk result (λ g. IsFileOf stack (program_of program.now) g.elf.items g.frames.items) }
 {
-    let code = flat_code(alloc, program)?;
+    let code = flat_program(alloc, program)?;
     let frames = frame_sizes(alloc, &code)?;
     let made = code_image(alloc, code, stack)?;
     drop(made.items);
@@ -44,7 +44,7 @@ pub fn items(alloc: Global, program: &Program, stack: StackSize) -> Result<Items
     requires ready { IsReady (program_of program.now) }
     ensures items { IfOk result (λ items. AreItemsOf stack (program_of program.now) items) }
 {
-    let code = flat_code(alloc, program)?;
+    let code = flat_program(alloc, program)?;
     match code_image(alloc, code, stack) {
         Ok(made) => Ok(made.items),
         Err(error) => Err(error),

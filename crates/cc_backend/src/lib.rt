@@ -10,7 +10,7 @@ mod laws;
 mod sizes;
 
 pub use describing::{CodeMap, CodeRow, DataObject, FunctionCode, Reference, code_map};
-pub use flat_code::flat_code;
+pub use flat_code::flat_program;
 pub use generating::{Generated, generate, items};
 pub use laws::{
     code_fits, file_simulates_program, flat_simulates_program, flat_simulates_tac,

@@ -8,7 +8,7 @@ use crate::tree_form::put_unit;
 use crate::typed_form::put_program;
 use crate::writer::{Style, Writer};
 use cc::{StackSize, checked_program};
-use cc_backend::flat_code;
+use cc_backend::flat_program;
 use lexer::tokens;
 use parser::parse;
 use pp::preprocess;
@@ -94,7 +94,7 @@ fn show_typed(
     let written = match form {
         Form::Typed => typed_text(alloc, &program, &names, style),
         Form::Tac => tac_text(alloc, &program, &names, style),
-        _ => match flat_code(alloc, &program) {
+        _ => match flat_program(alloc, &program) {
             Ok(code) => flat_text(alloc, &program, &code, &names, style),
             Err(error) => Err(error),
         },

@@ -8,7 +8,7 @@ use Rattle.frames.specs.Layout.{starts_of}
 use Rattle.frames.specs.layer.Alone.{starts_in, with_data}
 use Rattle.cc_backend.specs.inside.FlatFunctions.{AreFlatFunctionsOf}
 use Rattle.cc_backend.proofs.FlatFunctions.{program_in}
-use Rattle.cc_backend.proofs.flat_code.flat_code.Goals as goal
+use Rattle.cc_backend.proofs.flat_code.flat_program.Goals as goal
 
 pub new-requires : goal.new-requires
 new-requires c =
