@@ -36,7 +36,8 @@ impl<'l> SourceLines<'l> {
         })
     }
 
-    /// Puts each line whose code begins at an address, but none twice in a row.
+    /// Puts the line whose code begins at an address, but none twice in a row. Of statements that begin at one address it is the
+    /// last: those before it have no code of their own.
     pub(crate) fn put_at(
         &mut self,
         alloc: Global,
@@ -48,16 +49,18 @@ impl<'l> SourceLines<'l> {
         let Some(function) = table.functions.get(self.function) else {
             return Ok(());
         };
+        let mut begun = None;
         for line in function.lines.get(self.passed..).unwrap_or_default() {
             if line.address > address {
                 break;
             }
             self.passed = self.passed.saturating_add(1);
-            if line.address == address {
-                self.put(alloc, *line, text)?;
-            }
+            begun = Some(*line);
         }
-        Ok(())
+        match begun {
+            Some(line) => self.put(alloc, line, text),
+            None => Ok(()),
+        }
     }
 
     /// Goes on to the next function where it begins at this address.

@@ -183,6 +183,9 @@ def objects():
             if row:
                 named = re.fullmatch(r'(\w+)(?:\+(\d+))?', row[1])
                 at = loaded(rows, number)
+                if row[1] == 'string literal':
+                    check('objects: a literal lies before them', at < min(starts), line)
+                    continue
                 check('objects: ' + line, named and at == found[named[1]][0] + int(named[2] or 0) and int(named[2] or 0) < sizes[named[1]], found)
                 seen.add(named and named[1])
         check('objects: named', seen == set(sizes), seen)
@@ -264,9 +267,9 @@ def told(work, port, words):
     """What gdb tells of the program under qemu."""
     server = subprocess.Popen(['qemu-riscv32', '-g', str(port), './s'], cwd=work, stdout=subprocess.DEVNULL, stderr=subprocess.DEVNULL)
     try:
-        asked = ['set architecture riscv:rv32', 'symbol-file s.sym.elf', 'target remote :%d' % port, *words, 'kill']
+        asked = ['set trust-readonly-sections on', 'file s.sym.elf', 'target remote :%d' % port, *words, 'kill']
         return subprocess.run(['gdb-multiarch', '-batch', *[word for line in asked for word in ('-ex', line)]],
-                              cwd=work, stdin=subprocess.DEVNULL, stdout=subprocess.PIPE, stderr=subprocess.STDOUT, timeout=120).stdout.decode()
+                              cwd=work, stdin=subprocess.DEVNULL, stdout=subprocess.PIPE, stderr=subprocess.STDOUT, timeout=60).stdout.decode()
     finally:
         server.kill()
         server.wait()
