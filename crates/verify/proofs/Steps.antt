@@ -10,7 +10,8 @@ use Rattle.std.specs.declared.alloc.Global.{Global}
 use Rattle.typing_spec.specs.Types.{ObjectType}
 use Rattle.typing_spec.specs.Program.{Function, Program}
 use Rattle.typed_ast.specs.declared.units.Static as held
-use Rattle.typed_ast.specs.View.{static_of}
+use Rattle.typed_ast.specs.declared.units.Function as code_function
+use Rattle.typed_ast.specs.View.{function_of, static_of}
 use Rattle.csem.specs.Store.{Tree, Store, literal_object, static_object, first_store}
 use Rattle.csem.specs.Machine.{State, Ended, Undefined, TicksUsed, Run, Goes, Stops, then_do, ticks}
 use Rattle.csem.specs.Statements.{Flow, execute}
@@ -233,3 +234,26 @@ begin_statics before a h = let P : Store → Type 0 = λ store. FirstAre a store
 
 pub all_statics : (before : Store) (objects : List held.Static) (n : ℕ) (a : FirstObjects) → length objects ≤ n → FirstAre a (before ++ map static_object (map static_of (take n objects))) → FirstAre a (before ++ map static_object (map static_of objects))
 all_statics before objects n a le h = let P : List held.Static → Type 0 = λ objects. FirstAre a (before ++ map static_object (map static_of objects)) in subst P (take_all n objects le) h
+
+pub text_at : (texts : List (Vec ℕ Global)) (n : ℕ) (x : Vec ℕ Global) (text : List ℕ) (a b : FirstObjects) → n < length texts → x ≡ get_or texts n x → text ≡ x.items → Adds a (literal_object text) b → FirstAre a (map literal_object (texts_of (take n texts))) →
+    FirstAre b (map literal_object (texts_of (take (n + 1) texts)))
+text_at texts n x text a b lt ex et h g = text_known texts n x text a b lt (et ∙ ap (λ v. v.items) ex) h g
+
+pub static_at : (before : Store) (objects : List held.Static) (n : ℕ) (x : held.Static) (a b : FirstObjects) → n < length objects → x ≡ get_or objects n x → Adds a (static_object (static_of x)) b → FirstAre a (before ++ map static_object (map static_of (take n objects))) →
+    FirstAre b (before ++ map static_object (map static_of (take (n + 1) objects)))
+static_at before objects n x a b lt ex h g = let P : held.Static → Type 0 = λ y. Adds a (static_object (static_of y)) b in static_known before objects n x a b lt (subst P ex h) g
+
+pub main_body_at : (p : Program) (wk : Work) (outer outer2 : List (Vec ℕ Global)) (g : Function) (first : List AbsValue) (count : ℕ) (entry : List AbsValue) (w : Ways) → outer ≡ outer2 → IsSoundWork p wk → slice_get p.functions p.main ≡ Some g → Begins p (shapes_in outer2) first →
+    count ≡ length g.objects → EntersMain first count entry → Executes (frame_in p wk outer g) g.body (Some entry) w → IsDefinedBut p wk.listed.items
+main_body_at p wk outer outer2 g first count entry w eo sound eg hb ec en h = let P : List (Vec ℕ Global) → Type 0 = λ outer. Executes (frame_in p wk outer g) g.body (Some entry) w in
+    main_body p wk outer2 g first count entry w sound eg hb ec en (subst P eo h)
+
+pub summary_at : (p : Program) (wk : Work) (outer outer2 : List (Vec ℕ Global)) (g : Function) (f : ℕ) (entry given : List AbsValue) (w : Ways) (value : AbsValue) (left : Option (List AbsValue)) → outer ≡ outer2 → IsSoundWork p wk → slice_get p.functions f ≡ Some g →
+    entry ≡ given → Executes (frame_in p wk outer g) g.body (Some entry) w → FunctionEnds p f w value left → IsSound p wk.listed.items (record { function = f; outer = shapes_in outer2; entry = given; value = value; left = left })
+summary_at p wk outer outer2 g f entry given w value left eo sound eg e h ends = let P : List (Vec ℕ Global) → Type 0 = λ outer. Executes (frame_in p wk outer g) g.body (Some entry) w in
+    summary_sound p wk outer2 g f entry given w value left sound eg e (subst P eo h) ends
+
+pub function_there : (functions : List code_function.Function) (f : ℕ) (g : code_function.Function) → slice_get functions f ≡ Some g → slice_get (map function_of functions) f ≡ Some (function_of g)
+function_there [] f g e = absurd (cc e)
+function_there (x ∷ functions) zero g e = let q : x ≡ g = cc e in ap (λ x. Some (function_of x)) q
+function_there (x ∷ functions) (suc f) g e = function_there functions f g e

@@ -1,6 +1,6 @@
 //! Bodies of functions (6.9.1).
 
-ghost use Rattle.std.specs.Prelude.{◌≡◌, ◌++◌, IfOk, None, Some, false, slice_get};
+ghost use Rattle.std.specs.Prelude.{◌≡◌, ◌++◌, length, nat_eq, IfOk, None, Some, false, slice_get};
 ghost use Rattle.typed_ast.specs.View.{function_of, program_of};
 ghost use Rattle.csem.specs.Meaning.{value_at_end};
 ghost use Rattle.verify_logic.specs.States.{ValueIs};
@@ -79,6 +79,18 @@ fn entered(alloc: Global, known: Vec<AbsValue>, count: usize) -> Result<Vec<AbsV
     Ok(entry)
 }
 
+fn object_count(function: &Function) -> usize
+    ensures { result ≡ length (function_of function.now).objects }
+{
+    function.objects.len()
+}
+
+fn is_entry(program: &Program, f: usize) -> bool
+    ensures { result ≡ nat_eq f (program_of program.now).main }
+{
+    f == program.main
+}
+
 fn function_shown(
     alloc: Global,
     program: &Program,
@@ -92,7 +104,7 @@ fn function_shown(
     ensures { IfOk result (λ u. IsDefinedBut (program_of program.now) work.now.listed.items) }
 {
     let outer = before.outer;
-    let entry = entered(alloc, before.known, function.objects.len())?;
+    let entry = entered(alloc, before.known, object_count(function))?;
     let _left = body_executed(alloc, program, work, &outer, function, entry)?;
     Ok(())
 }
@@ -133,7 +145,7 @@ pub struct BodyEnd {
 fn joined_end(alloc: Global, program: &Program, f: usize, w: Left) -> Result<BodyEnd, Stop>
     ensures { IfOk result (λ r. FunctionEnds (program_of program.now) f (ways_of w) r.value (state_of r.state)) }
 {
-    let is_main = f == program.main;
+    let is_main = is_entry(program, f);
     let end = end_value(is_main);
     let value = either(w.value, end);
     let two = joined(alloc, w.normal, w.broken)?;
@@ -193,6 +205,12 @@ fn copied_values(alloc: Global, xs: &[AbsValue]) -> Result<Vec<AbsValue>, Stop>
     }
 }
 
+fn wanted_entry(alloc: Global, wanted: &Wanted) -> Result<Vec<AbsValue>, Stop>
+    ensures { IfOk result (λ r. r.items ≡ wanted.now.entry.items) }
+{
+    copied_values(alloc, &wanted.entry)
+}
+
 fn wanted_shown(
     alloc: Global,
     program: &Program,
@@ -204,7 +222,7 @@ fn wanted_shown(
     requires called { slice_get (program_of program.now).functions wanted.now.function ≡ Some (function_of function.now) }
     ensures { IfOk result (λ r. Shows (program_of program.now) work.now wanted.now r) }
 {
-    let entry = copied_values(alloc, &wanted.entry)?;
+    let entry = wanted_entry(alloc, wanted)?;
     let left = body_executed(alloc, program, work, &wanted.outer, function, entry)?;
     let end = body_end(alloc, program, wanted.function, left)?;
     Ok(end)
