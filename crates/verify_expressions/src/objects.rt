@@ -167,6 +167,7 @@ pub fn content_at(state: &AbsState, x: usize) -> Option<AbsValue>
     }
 }
 
+/// The values with another one at `x`.
 pub fn set(mut xs: Vec<AbsValue>, x: usize, k: AbsValue) -> Vec<AbsValue>
     requires { x < vec_len xs }
     ensures { result.items ≡ slice_set xs.items x k }

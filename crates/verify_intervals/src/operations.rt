@@ -116,6 +116,7 @@ fn quotient(ty: IntType, i: Interval, j: Interval) -> Option<Interval>
     )
 }
 
+/// The values of a truth (6.5.8p6).
 pub fn truths() -> Interval
     ensures { result ≡ range_of IntType.Bool }
 {
