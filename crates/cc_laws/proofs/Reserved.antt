@@ -270,12 +270,14 @@ leave_free f =
     (both (change_sp (frame_bytes f)) _ (change_free (frame_bytes f)) (low 0 (omega arith), tt)))
 
 put_free : (f : Function) → FreesAll (put_byte f)
-put_free f = both (address_of 11 (byte_home f)) _ (address_free 11 (byte_home f) (high 11 (omega arith))) (tt, (high 10 (omega arith), (high 12 (omega arith), (high 17 (omega arith), (tt, tt)))))
+put_free f =
+    both (address_of 11 (byte_home f)) _ (address_free 11 (byte_home f) (high 11 (omega arith)))
+    (tt, (high 10 (omega arith), (high 12 (omega arith), (high 17 (omega arith), (tt, (high 10 (omega arith), (tt, (high 10 (omega arith), (high 17 (omega arith), (tt, tt))))))))))
 
 get_free : (f : Function) → FreesAll (get_byte f)
 get_free f =
     both (address_of 11 (byte_home f)) _ (address_free 11 (byte_home f) (high 11 (omega arith)))
-    (high 10 (omega arith), (high 12 (omega arith), (high 17 (omega arith), (tt, (high 11 (omega arith), (high 10 (omega arith), (high 10 (omega arith), tt)))))))
+    (high 10 (omega arith), (high 12 (omega arith), (high 17 (omega arith), (tt, (high 11 (omega arith), (high 10 (omega arith), (high 10 (omega arith), (high 10 (omega arith), (high 10 (omega arith), tt)))))))))
 
 module _ (f : Function) (first : ℕ) where
   items_free : (x : Instruction) → FreesAll (items_of f first x)

@@ -5,4 +5,4 @@ pub returns-in-None : goal.returns-in-None
 returns-in-None c = tested_or_none _ c.args.e.now _ c.in-None.is
 
 pub returns-in-Some : goal.returns-in-Some
-returns-in-Some c = tested_or_some _ c.args.e.now c.in-Some.e.now _ c.tested_behind.result c.in-Some.is c.tested_behind.ensures
+returns-in-Some c = tested_or_some _ c.args.e.now c.in-Some.e _ c.tested_behind.result c.in-Some.is c.tested_behind.ensures

@@ -1,4 +1,0 @@
-use Rattle.verify.proofs.bodies.entered.Goals as goal
-
-pub returns : goal.returns
-returns c = record { own = c.in_ok-own.own.items; fresh = c.in_ok-own.ensures; all = ? }

@@ -1,5 +1,0 @@
-use Rattle.verify.proofs.Steps.{learnt_more}
-use Rattle.verify.proofs.verdict.learnt.Goals as goal
-
-pub returns : goal.returns
-returns c = learnt_more _ _ _ _ _ c.in-Ok.ensures.items c.requires.sound c.requires.new
