@@ -8,13 +8,17 @@ use symbol_table::{SymbolTable, symbol_table};
 
 /// An executable file, and what is told of it.
 #[derive(Drop)]
-pub struct Seen {
+pub struct Described {
     pub built: Built,
     pub table: SymbolTable,
 }
 
 /// The executable file of a program, looked into; or the exit status, where the fault is said.
-pub fn seen(rt: &HostRuntime, program: &Program<'_>, sources: &Sources<'_>) -> Result<Seen, u8> {
+pub fn describe(
+    rt: &HostRuntime,
+    program: &Program<'_>,
+    sources: &Sources<'_>,
+) -> Result<Described, u8> {
     let stack = stack_size(program);
     match compile_with(rt.alloc(), &sources.set, sources.main, stack) {
         Ok(built) => looked_into(rt, program, sources, built),
@@ -27,10 +31,10 @@ fn looked_into(
     program: &Program<'_>,
     sources: &Sources<'_>,
     built: Built,
-) -> Result<Seen, u8> {
+) -> Result<Described, u8> {
     let stack = stack_size(program);
     match symbol_table(rt.alloc(), &sources.set, sources.main, stack, &built) {
-        Ok(table) => Ok(Seen { built, table }),
+        Ok(table) => Ok(Described { built, table }),
         Err(fault) => Err(say(rt, &sources.told(rt.alloc(), fault))),
     }
 }

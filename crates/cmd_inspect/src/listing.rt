@@ -1,6 +1,6 @@
 //! `list` with labels, with the names that registers have in calls, or with lines of the sources.
 
-use crate::building::seen;
+use crate::building::describe;
 use crate::listing_text::listing_text;
 use cc::{Cmd, perform};
 use cli_args::Program;
@@ -34,7 +34,7 @@ pub fn list_code(rt: &HostRuntime, program: &Program<'_>, out: &str, form: ListF
     if sources.are_at(rt, out) {
         return say_usage(rt, TAKEN);
     }
-    match seen(rt, program, &sources) {
+    match describe(rt, program, &sources) {
         Ok(seen) => list_seen(rt, program, &sources, &seen.table, out, form),
         Err(status) => status,
     }

@@ -1,6 +1,6 @@
 //! `frames`: what each function takes.
 
-use crate::building::{Seen, seen};
+use crate::building::{Described, describe};
 use cli_args::Program;
 use cli_io::{put_out, say, say_memory};
 use cli_sources::read_sources;
@@ -14,13 +14,13 @@ pub fn show_frames(rt: &HostRuntime, program: &Program<'_>, has_sizes: bool) -> 
         Ok(sources) => sources,
         Err(fault) => return say(rt, &fault),
     };
-    match seen(rt, program, &sources) {
+    match describe(rt, program, &sources) {
         Ok(seen) => show_seen(rt, &seen, has_sizes),
         Err(status) => status,
     }
 }
 
-fn show_seen(rt: &HostRuntime, seen: &Seen, has_sizes: bool) -> u8 {
+fn show_seen(rt: &HostRuntime, seen: &Described, has_sizes: bool) -> u8 {
     match table(rt.alloc(), seen, has_sizes) {
         Ok(text) => put_out(rt, text.as_bytes(), 0),
         Err(_) => say_memory(rt),
@@ -28,7 +28,7 @@ fn show_seen(rt: &HostRuntime, seen: &Seen, has_sizes: bool) -> u8 {
 }
 
 /// The table of the functions, and behind it, where sizes are shown, what the whole file takes.
-fn table(alloc: Global, seen: &Seen, has_sizes: bool) -> Result<String, AllocError> {
+fn table(alloc: Global, seen: &Described, has_sizes: bool) -> Result<String, AllocError> {
     if !has_sizes {
         return frames_table(alloc, &seen.table);
     }

@@ -1,6 +1,6 @@
 //! `symbols`: an ELF file of symbols.
 
-use crate::building::seen;
+use crate::building::describe;
 use cli_args::Program;
 use cli_io::{TAKEN, put_file, say, say_memory, say_usage};
 use cli_sources::{is_taken, read_sources};
@@ -18,7 +18,7 @@ pub fn write_symbols(rt: &HostRuntime, program: &Program<'_>, out: &str) -> u8 {
     if sources.are_at(rt, out) {
         return say_usage(rt, TAKEN);
     }
-    match seen(rt, program, &sources) {
+    match describe(rt, program, &sources) {
         Ok(seen) => write_seen(rt, &seen.table, out),
         Err(status) => status,
     }
