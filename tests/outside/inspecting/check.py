@@ -277,7 +277,7 @@ def told(work, port, words):
 def stepped(work, count):
     """The lines that a debugger comes to by `step` from the begin of main on."""
     said = told(work, 17346, ['break main', 'continue'] + ['step'] * count)
-    return [int(row) for row in re.findall(r'^(?:\d+\t|.* at s\.c:)(\d+)?', said, re.M) if row] or said
+    return [int(row) for row in re.findall(r'^(\d+)\t', said, re.M)] or said
 
 def sizes():
     """`size` and `frames --sizes`, held against the program headers and the listing."""

@@ -232,7 +232,7 @@ def under_an_emulator(checks, programs):
     """A built file where the system's own calls fail: a read is the input's end, a write ends the program with 126."""
     program = programs.place('failing')
     with open(program + '.c', 'w') as file:
-        file.write(NAMES + 'int main(void) { int n = 0; while (rv_getbyte() >= 0) n++; if (n != 0) text("some"); return n == 0 ? 40 : 50; }')
+        file.write(NAMES + 'int main(void) { int n = 0; while (rv_getbyte() >= 0) n++; if (n != 0) text("some"); return n == 0 ? 40 : 50; }\n')
     subprocess.run([programs.program, 'build', 'failing.c', '-o', 'failing'], cwd=programs.folder, check=True)
     run = ['qemu-riscv32', program]
     closed = ['sh', '-c', 'exec qemu-riscv32 "$0" <&-', program]
