@@ -494,10 +494,10 @@ bad 'too much memory' 139 '\0010' '907 too much memory'
 # The largest budget; just enough; one too few; few.
 go "$cc" run hello --max 9223372036854775807
 expect '--max 9223372036854775807' 42 48 ''
-go "$cc" run --max 20 hello
-expect '--max 20, all instructions of hello' 42 48 ''
-go "$cc" run hello --max 19
-expect '--max 19' 124 48 'cc: budget used'
+go "$cc" run --max 22 hello
+expect '--max 22, all instructions of hello' 42 48 ''
+go "$cc" run hello --max 21
+expect '--max 21' 124 48 'cc: budget used'
 go "$cc" run hello --max 5
 expect '--max 5' 124 - 'cc: budget used'
 go "$cc" run hello --max 1

@@ -189,7 +189,7 @@ def main():
     chosen = [row for row in meaning_rows()][:COUNT]
     counted.expect('programs of ../meaning', len(chosen), COUNT)
     kept = kept_digests()
-    counted.expect('digests', len(kept), 92)
+    counted.expect('digests', len(kept), 76)
     with concurrent.futures.ThreadPoolExecutor(os.cpu_count()) as pool:
         asked = [pool.submit(single_rows, compiler)]
         asked += [pool.submit(at_and_over, compiler, number, row, stack) for number, row in enumerate(chosen) for stack in SIZES]
