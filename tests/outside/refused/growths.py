@@ -107,6 +107,11 @@ def commands(cc, preload):
     yield plain('symbols', ['symbols', 'main.c', '-o', 'out'], files, 'out')
     yield plain('frames', ['frames', 'main.c', '--sizes'], files)
     yield plain('list with labels', ['list', 'main.c', '--labels', '--abi'], files)
+    yield plain('list with the sources', ['list', 'main.c', '--source'], files)
+    for form in ('tokens', 'tree', 'typed', 'tac', 'flat'):
+        yield plain('show ' + form, ['show', form, 'main.c'], files)
+    yield plain('show as JSON', ['show', 'typed', 'main.c', '--json'], files)
+    # `check` has no row: it does not answer 801 for each refused growth (docs/WARNINGS.md, Memory)
     yield plain('pp with lines', ['pp', 'main.c', '--lines'], files)
     yield plain('interp told', ['interp', 'main.c', '--trace-file', 'out'], files, 'out')
     two = {'main.c': b'#include "a.h"\nint main(void) { return N; }\n', 'inc/a.h': b'#define A 1\n'}
