@@ -16,7 +16,7 @@ jobs=${JOBS:-$(getconf _NPROCESSORS_ONLN 2>/dev/null || echo 1)}
 usage='usage: sh test.sh [-k WORD].. [--quick] [--junit FILE] [CC]
        sh test.sh --list'
 # Those that take seconds.
-quick=' conditions macros variadic stack tables version shown rows_calls rows_answers rows_machine rows_flat rows_tac rows_stream const mistakes warnings '
+quick=' conditions macros variadic stack tables version shown rows_calls rows_answers rows_machine rows_flat rows_tac rows_stream const mistakes warnings wanted '
 words=
 junit=
 listed=
@@ -96,6 +96,7 @@ stack        | python3                                  | python3 tests/outside/
 beyond       | python3                                  | python3 tests/outside/stack/beyond.py "$cc"
 mistakes     | python3                                  | python3 tests/outside/mistakes/check.py "$cc"
 warnings     | python3                                  | python3 tests/outside/warnings/check.py "$cc"
+wanted       | python3                                  | python3 tests/outside/mistakes/wanted.py "$cc"
 inspecting   | python3                                  | python3 tests/outside/inspecting/check.py "$cc"
 forms        | python3                                  | python3 tests/outside/forms/check.py "$cc"
 tables       | python3                                  | python3 share/tables.py "$cc" --check

@@ -4,7 +4,7 @@ use cc::Cmd;
 use cli_args::{Command, Program, Request, Role, Trace};
 use cmd_build::{build, interp, list_files, print_lines, print_text, run};
 use cmd_check::{Warned, check_program};
-use cmd_explain::{Told, explain_program};
+use cmd_explain::{Told, explain_program, show_line};
 use cmd_inspect::{
     ListForm, list_code, show_form, show_frames, show_image, show_size, write_symbols,
 };
@@ -14,7 +14,17 @@ use cmd_trace::{RunForm, interp_traced, run_traced};
 pub fn answer(rt: &HostRuntime, request: &Request<'_>) -> u8 {
     let program = &request.program;
     match request.command {
-        Command::Build { out, rule } => build(rt, program, out, rule),
+        Command::Build {
+            out,
+            rule,
+            is_plain,
+        } => {
+            let status = build(rt, program, out, rule);
+            if status == 1 && !is_plain {
+                show_line(rt, program);
+            }
+            status
+        }
         Command::ListFiles => list_files(rt, program),
         Command::Pp {
             out,
@@ -48,6 +58,7 @@ pub fn answer(rt: &HostRuntime, request: &Request<'_>) -> u8 {
         Command::Explain {
             stage,
             max,
+            errors,
             telling,
             colours,
         } => explain_program(
@@ -56,6 +67,7 @@ pub fn answer(rt: &HostRuntime, request: &Request<'_>) -> u8 {
             Told {
                 stage,
                 max,
+                most: errors as usize,
                 telling,
                 colours,
             },

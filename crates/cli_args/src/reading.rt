@@ -10,6 +10,9 @@ use std::alloc::{AllocError, Global};
 /// How many instructions or ticks a run may take where the words do not say.
 const USUAL_MAX: u64 = 1_000_000_000;
 
+/// How many faults are explained where that is not said.
+const USUAL_ERRORS: u64 = 20;
+
 /// The bytes of the usual stack.
 const USUAL_STACK: u32 = 0x10_0000;
 
@@ -183,6 +186,7 @@ fn build<'a>(inner: &ArgMatches<'a>) -> Result<Command<'a>, &'static str> {
         Some(out) => Ok(Command::Build {
             out,
             rule: rule(inner),
+            is_plain: inner.get_flag("plain"),
         }),
         None => Err(NO_OUT),
     }
@@ -267,6 +271,7 @@ fn explain<'a>(inner: &ArgMatches<'a>) -> Command<'a> {
             _ => Stage::Build,
         },
         max: max(inner),
+        errors: inner.get_one::<u64>("errors").unwrap_or(USUAL_ERRORS),
         telling: telling(inner),
         colours: match inner.get_str("color") {
             Some("always") => Colours::Always,

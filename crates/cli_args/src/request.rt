@@ -114,10 +114,11 @@ pub struct Rule<'a> {
 /// The command of the words, with what belongs to it alone.
 #[derive(Clone, Copy)]
 pub enum Command<'a> {
-    /// Compile to the file at a path, and write the rule.
+    /// Compile to the file at a path, and write the rule. On a terminal the source line of a fault is shown, if that is not to be `is_plain`.
     Build {
         out: &'a str,
         rule: Option<Rule<'a>>,
+        is_plain: bool,
     },
     /// Print the names of the set's files with their paths.
     ListFiles,
@@ -145,9 +146,11 @@ pub enum Command<'a> {
         max: u64,
         trace: Trace<'a>,
     },
+    /// Explain so many faults at most.
     Explain {
         stage: Stage,
         max: u64,
+        errors: u64,
         telling: Telling,
         colours: Colours,
     },

@@ -338,6 +338,30 @@ pub const MAX_EXPLAINED: Row = Row {
     apart: &[],
 };
 
+/// How many faults are explained.
+pub const ERRORS: Row = Row {
+    id: "errors",
+    short: None,
+    long: Some("errors"),
+    value: Some("N"),
+    kind: Kind::Number(1, 1000),
+    default: Some("20"),
+    help: "At most this many faults",
+    apart: &[],
+};
+
+/// Whether a fault is its one line alone, also on a terminal.
+pub const PLAIN: Row = Row {
+    id: "plain",
+    short: None,
+    long: Some("plain"),
+    value: None,
+    kind: Kind::Flag,
+    default: None,
+    help: "Tells a fault in its one line, also on a terminal",
+    apart: &[],
+};
+
 /// Whether each instruction is told.
 pub const TRACE_RUN: Row = Row {
     id: "trace",

@@ -3,12 +3,12 @@
 use cli_args::{Colours, Program, Stage, Telling};
 use cli_io::{put_out, say, say_memory};
 use cli_sources::{Sources, read_sources, stack_size};
-use explain_cmd::{Form, Said, explain_faults, explain_run, explain_unread};
+use explain_cmd::{Bounds, Form, Said, explain_faults, explain_run, explain_unread, fault_source};
 use explain_render::Style;
 use srcset::{Code, Fault};
 use std::alloc::{AllocError, Global};
-use std::env;
-use std::io::{IsTerminal, Read, Write};
+use std::io::{ErrorKind, IsTerminal, Read, Write};
+use std::{env, fs};
 
 /// How a command explains.
 #[derive(Clone, Copy)]
@@ -16,6 +16,8 @@ pub struct Told {
     pub stage: Stage,
     /// At most so many ticks of the interpreter.
     pub max: u64,
+    /// At most so many faults.
+    pub most: usize,
     pub telling: Telling,
     pub colours: Colours,
 }
@@ -27,10 +29,10 @@ pub fn explain_program(rt: &HostRuntime, program: &Program<'_>, told: Told) -> u
         Ok(sources) => sources,
         Err(fault) => return say_unread(rt, fault, form),
     };
-    let Ok(said) = said(rt.alloc(), program, &sources, told.stage, form) else {
+    let Ok(said) = said(rt.alloc(), program, &sources, told, form) else {
         return say_memory(rt);
     };
-    if told.stage == Stage::Interp && said.status == 0 && form != Form::Sarif {
+    if told.stage == Stage::Interp && said.status == 0 {
         return explain_interp(rt, program, &sources, told.max, form);
     }
     put_named(rt, &sources, &said)
@@ -41,34 +43,95 @@ fn said(
     alloc: Global,
     program: &Program<'_>,
     sources: &Sources<'_>,
-    stage: Stage,
+    told: Told,
     form: Form,
 ) -> Result<Said, AllocError> {
     let names = sources.names(alloc)?;
-    let stage = match stage {
+    let stage = match told.stage {
         Stage::Pp => explain::Stage::Preprocessing,
         Stage::Build | Stage::Interp => explain::Stage::Whole,
+    };
+    let bounds = Bounds {
+        stage,
+        stack: stack_size(program),
+        most: told.most,
     };
     explain_faults(
         alloc,
         &sources.set,
         names.as_slice(),
         sources.main,
-        stage,
-        stack_size(program),
+        sources.given,
+        bounds,
         form,
+    )
+}
+
+/// Shows the source line of a fault, with a caret, where standard error is a terminal: what stands behind the one line of `build`. A program on
+/// standard input cannot be read again.
+pub fn show_line(rt: &HostRuntime, program: &Program<'_>) {
+    if !rt.stderr().is_terminal() || reads_input(program) {
+        return;
+    }
+    let Ok(sources) = read_sources(rt, program) else {
+        return;
+    };
+    let style = style(rt, Colours::Auto);
+    if let Ok(text) = line_of(rt.alloc(), program, &sources, style) {
+        let _shown = rt.stderr().write_all(text.as_slice());
+    }
+}
+
+/// Whether a file of the words is standard input.
+fn reads_input(program: &Program<'_>) -> bool {
+    program.main == "-" || program.words.iter().any(|word| word.text == "-")
+}
+
+/// The source line of the fault of a program.
+fn line_of(
+    alloc: Global,
+    program: &Program<'_>,
+    sources: &Sources<'_>,
+    style: Style,
+) -> Result<Vec<u8>, AllocError> {
+    let names = sources.names(alloc)?;
+    fault_source(
+        alloc,
+        &sources.set,
+        names.as_slice(),
+        sources.main,
+        stack_size(program),
+        style,
     )
 }
 
 /// Tells in a form why a file was not read.
 fn say_unread(rt: &HostRuntime, fault: Fault, form: Form) -> u8 {
     if matches!(form, Form::Text(_)) {
-        return say(rt, &fault);
+        let status = say(rt, &fault);
+        say_why(rt, &fault);
+        return status;
     }
     match explain_unread(rt.alloc(), fault, form) {
         Ok(said) => put_said(rt, &said),
         Err(_) => say_memory(rt),
     }
+}
+
+/// Says why a file cannot be read, where it can be told.
+fn say_why(rt: &HostRuntime, fault: &Fault) {
+    if fault.code != Code::CannotRead.number() || fault.file.is_empty() {
+        return;
+    }
+    let why = match fs::open(rt, fault.file.as_str()) {
+        Ok(_) => "it is a folder, or reading it failed",
+        Err(error) => match error.kind() {
+            ErrorKind::NotFound => "there is no such file",
+            ErrorKind::PermissionDenied => "it may not be read: its permissions forbid it",
+            _ => return,
+        },
+    };
+    let _said = eprintln!(rt; "  help: {why}");
 }
 
 /// Interprets the program over standard input, which is read to its end first; writes what it wrote, and explains its undefined

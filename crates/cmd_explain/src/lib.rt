@@ -3,4 +3,4 @@
 
 mod explaining;
 
-pub use explaining::{Told, explain_program};
+pub use explaining::{Told, explain_program, show_line};

@@ -22,6 +22,10 @@ pub struct Place {
 /// What a note is about.
 #[derive(Clone, Copy, Debug, PartialEq, Eq)]
 pub enum Topic {
+    /// What was expected in place of the token, or is wrong with it.
+    Expected,
+    /// Another place that has to do with the fault, as an earlier declaration.
+    Related,
     /// An `#include` that leads to the fault.
     Included,
     /// The macro that made the token.
@@ -48,6 +52,33 @@ pub struct Note {
     pub text: String,
 }
 
+/// A place in a source line.
+#[derive(Clone, Copy, Debug, PartialEq, Eq)]
+pub struct Point {
+    /// The line, counted from 1.
+    pub line: u32,
+    /// The column in bytes, counted from 1.
+    pub column: usize,
+    /// The column in code points of UTF-8, counted from 1.
+    pub points: usize,
+}
+
+/// A change of the file in which a fault stands: what stands from `start` up to `end` becomes `text`.
+#[derive(Drop)]
+pub struct Fix {
+    pub start: Point,
+    pub end: Point,
+    pub text: String,
+}
+
+/// What is known beside a fault's place.
+#[derive(Drop)]
+pub struct Noted {
+    pub notes: Vec<Note>,
+    /// What mends the fault, where that is sure: none or one.
+    pub fixes: Vec<Fix>,
+}
+
 /// What is shown of a place beside what is wrong there.
 #[derive(Drop)]
 pub struct Shown {
@@ -58,6 +89,8 @@ pub struct Shown {
     /// The source line; empty where the file is not known.
     pub source: Vec<u8>,
     pub notes: Vec<Note>,
+    /// A change of the file that mends the fault, where one is sure: none or one.
+    pub fixes: Vec<Fix>,
 }
 
 /// A fault as it is explained.
@@ -68,6 +101,111 @@ pub struct Finding {
     pub shown: Shown,
 }
 
+impl Noted {
+    /// Nothing is known yet.
+    pub fn new(alloc: Global) -> Noted {
+        Noted {
+            notes: Vec::new(alloc),
+            fixes: Vec::new(alloc),
+        }
+    }
+
+    /// Adds a text without a place.
+    pub fn put_text(&mut self, alloc: Global, topic: Topic, text: &str) -> Result<(), AllocError> {
+        if text.is_empty() {
+            return Ok(());
+        }
+        put_note(alloc, &mut self.notes, topic, "", NOWHERE, text)
+    }
+
+    /// Adds a text about a place in a file.
+    pub fn put_at(
+        &mut self,
+        alloc: Global,
+        topic: Topic,
+        file: &str,
+        at: Point,
+        text: &str,
+    ) -> Result<(), AllocError> {
+        put_note(alloc, &mut self.notes, topic, file, at, text)
+    }
+
+    /// Adds a change that mends the fault.
+    pub fn put_fix(
+        &mut self,
+        alloc: Global,
+        start: Point,
+        end: Point,
+        text: &str,
+    ) -> Result<(), AllocError> {
+        let text = String::from_str(alloc, text)?;
+        self.fixes.push(Fix { start, end, text })?;
+        Ok(())
+    }
+}
+
+/// No place.
+const NOWHERE: Point = Point {
+    line: 0,
+    column: 0,
+    points: 0,
+};
+
+fn put_note(
+    alloc: Global,
+    notes: &mut Vec<Note>,
+    topic: Topic,
+    file: &str,
+    at: Point,
+    text: &str,
+) -> Result<(), AllocError> {
+    notes.push(Note {
+        topic,
+        file: String::from_str(alloc, file)?,
+        line: at.line,
+        column: at.column,
+        text: String::from_str(alloc, text)?,
+    })?;
+    Ok(())
+}
+
+/// The place of the byte behind so many in a text.
+pub fn point_at(text: &[u8], place: usize) -> Point {
+    let before = text.get(..place).unwrap_or(text);
+    let start = match before.iter().rposition(|byte| *byte == b'\n') {
+        Some(newline) => newline.saturating_add(1),
+        None => 0,
+    };
+    let row = before.get(start..).unwrap_or_default();
+    Point {
+        line: newlines(before).saturating_add(1),
+        column: row.len().saturating_add(1),
+        points: points(row).saturating_add(1),
+    }
+}
+
+/// How many lines end in these bytes.
+fn newlines(bytes: &[u8]) -> u32 {
+    let mut count: u32 = 0;
+    for byte in bytes {
+        if *byte == b'\n' {
+            count = count.saturating_add(1);
+        }
+    }
+    count
+}
+
+/// How many code points begin in these bytes of UTF-8.
+fn points(bytes: &[u8]) -> usize {
+    let mut count: usize = 0;
+    for byte in bytes {
+        if *byte & 0xc0 != 0x80 {
+            count = count.saturating_add(1);
+        }
+    }
+    count
+}
+
 /// What is shown of a place in a file of the set, or of its line alone.
 pub fn show_place(
     alloc: Global,
@@ -75,7 +213,7 @@ pub fn show_place(
     file: &str,
     line: u32,
     place: Option<Place>,
-    notes: Vec<Note>,
+    noted: Noted,
 ) -> Result<Shown, AllocError> {
     let text = set.get(file).unwrap_or_default();
     let (token, source) = match place {
@@ -89,6 +227,7 @@ pub fn show_place(
         place,
         token: Vec::from_slice(alloc, token)?,
         source: Vec::from_slice(alloc, source)?,
-        notes,
+        notes: noted.notes,
+        fixes: noted.fixes,
     })
 }

@@ -2,6 +2,7 @@
 //! and the faults of the other functions.
 #![tactic(auto)]
 
+mod advising;
 mod asking;
 mod explaining;
 mod finding;
@@ -11,10 +12,13 @@ mod locating;
 mod macro_notes;
 mod near;
 mod noting;
+mod passing;
+mod related;
 mod sources;
+mod undeclared;
 mod undefined;
 
-pub use explaining::{Explained, Stage, explain};
-pub use finding::{Finding, Note, Place, Shown, Topic};
+pub use explaining::{Explained, Stage, USUAL_FAULTS, explain};
+pub use finding::{Finding, Fix, Note, Noted, Place, Point, Shown, Topic};
 pub use sources::{Source, Sources};
-pub use undefined::{Interpretation, Undefined, interpreted};
+pub use undefined::{Interpretation, Undefined, act_help, act_title, interpreted};

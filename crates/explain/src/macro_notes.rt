@@ -1,42 +1,61 @@
 //! The macro that made a token.
 
-use crate::finding::{Note, Topic};
+use crate::finding::{Noted, Topic, point_at};
 use crate::sources::Sources;
-use explain_places::{Tokens, column};
+use explain_places::Tokens;
 use std::alloc::{AllocError, Global};
+
+/// Where a macro is defined.
+#[derive(Clone, Copy)]
+pub struct MacroPlace {
+    /// The number of the file.
+    pub file: usize,
+    /// The number of the directive's `#` among the tokens of the file.
+    pub hash: usize,
+    /// How many bytes stand before the macro's name.
+    start: usize,
+}
+
+/// Where a macro of this name is defined in the files.
+pub fn find_macro(
+    alloc: Global,
+    sources: &Sources,
+    name: &[u8],
+) -> Result<Option<MacroPlace>, AllocError> {
+    for (file, source) in sources.files.iter().enumerate() {
+        if let Some(tokens) = Tokens::of(alloc, source.text.as_slice())? {
+            if let Some((hash, start)) = definition(&tokens, name) {
+                return Ok(Some(MacroPlace { file, hash, start }));
+            }
+        }
+    }
+    Ok(None)
+}
 
 /// Puts a note where a macro of this name is defined in the files.
 pub fn put_macro_note(
     alloc: Global,
     sources: &Sources,
     name: &[u8],
-    notes: &mut Vec<Note>,
+    noted: &mut Noted,
 ) -> Result<(), AllocError> {
-    for (number, file) in sources.files.iter().enumerate() {
-        if let Some(tokens) = Tokens::of(alloc, file.text.as_slice())? {
-            if let Some((line, column)) = definition(sources.text(number), &tokens, name) {
-                notes.push(Note {
-                    topic: Topic::Macro,
-                    file: String::from_str(alloc, file.name.as_str())?,
-                    line,
-                    column,
-                    text: String::from_str(
-                        alloc,
-                        "the token is a macro, or made by one, which is defined here",
-                    )?,
-                })?;
-                return Ok(());
-            }
-        }
+    match find_macro(alloc, sources, name)? {
+        Some(found) => noted.put_at(
+            alloc,
+            Topic::Macro,
+            sources.name(found.file),
+            point_at(sources.text(found.file), found.start),
+            "the token is a macro, or made by one, which is defined here",
+        ),
+        None => Ok(()),
     }
-    Ok(())
 }
 
-/// The line and the column of the name where a macro is defined.
-fn definition(text: &[u8], tokens: &Tokens<'_>, name: &[u8]) -> Option<(u32, usize)> {
+/// The number of the `#` of the directive that defines a macro, and how many bytes stand before the name.
+fn definition(tokens: &Tokens<'_>, name: &[u8]) -> Option<(usize, usize)> {
     let hash = (0..tokens.spots.len()).find(|number| defines(tokens, *number, name))?;
     let spot = tokens.spot(hash.saturating_add(2))?;
-    Some((spot.line, column(text, spot.start)))
+    Some((hash, spot.start))
 }
 
 /// Whether the token with this number begins a directive that defines this name.

@@ -1,8 +1,9 @@
 //! Names that may have been meant.
 
 use crate::sources::Sources;
+use declaration_places::visible;
 use explain_places::Tokens;
-use phases::Kind;
+use instrument::Words;
 use std::alloc::{AllocError, Global};
 use std::str;
 use strsim::osa_distance;
@@ -10,32 +11,12 @@ use strsim::osa_distance;
 /// The longest name that is compared.
 const MAX_NAME: usize = 63;
 
-/// The words that may be meant by a misspelled one at a syntax error, and the calls of the built-in header.
-const WORDS: [&str; 24] = [
-    "break",
-    "case",
-    "char",
-    "const",
-    "continue",
-    "default",
-    "else",
-    "enum",
-    "extern",
-    "int",
-    "long",
-    "return",
-    "short",
-    "signed",
-    "sizeof",
-    "static",
-    "switch",
-    "unsigned",
-    "void",
-    "while",
-    "for",
-    "rv_getbyte",
-    "rv_putbyte",
-    "rv_exit",
+/// The functions of the built-in header.
+const BUILT_INS: [&str; 3] = ["rv_getbyte", "rv_putbyte", "rv_exit"];
+
+/// The words of preprocessing directives.
+const DIRECTIVES: [&str; 10] = [
+    "include", "define", "undef", "ifdef", "ifndef", "endif", "elif", "else", "error", "pragma",
 ];
 
 /// The nearest name so far, and how far it is.
@@ -46,6 +27,14 @@ struct Nearby {
 }
 
 impl Nearby {
+    /// No name yet for one of so many letters: at most a third of them may be others, and one at least.
+    fn of(alloc: Global, length: usize) -> Nearby {
+        Nearby {
+            name: String::new(alloc),
+            distance: (length / 3).max(1).saturating_add(1),
+        }
+    }
+
     /// The name, where one was near.
     fn found(self) -> Option<String> {
         if self.name.is_empty() {
@@ -56,36 +45,97 @@ impl Nearby {
     }
 }
 
-/// The name in the files, or the word, that is nearest to this one: at most a third of its letters away. `None` where
-/// none is.
-pub fn nearest(
+/// The name that is visible at the token with this number and nearest to it: a function's where it is called, and else another's.
+pub fn nearest_visible(
     alloc: Global,
     sources: &Sources,
-    name: &[u8],
-    only_words: bool,
+    words: &Words<'_>,
+    number: usize,
 ) -> Result<Option<String>, AllocError> {
-    let Ok(name) = str::from_utf8(name) else {
+    let Ok(name) = str::from_utf8(words.at(number)) else {
         return Ok(None);
     };
     if name.len() < 2 || name.len() > MAX_NAME {
         return Ok(None);
     }
-    let mut best = Nearby {
-        name: String::new(alloc),
-        distance: (name.len() / 3).max(1).saturating_add(1),
-    };
-    for word in WORDS {
-        if only_words && word == name {
-            return Ok(None);
-        }
-        try_name(alloc, name, word, &mut best)?;
+    let is_call = matches!(words.at(number.saturating_add(1)), b"(");
+    let mut best = Nearby::of(alloc, name.len());
+    try_visible(alloc, words, number, is_call, name, &mut best)?;
+    for file in &sources.files {
+        try_file(
+            alloc,
+            file.text.as_slice(),
+            words.bytes(),
+            is_call,
+            name,
+            &mut best,
+        )?;
     }
-    if !only_words {
-        for file in &sources.files {
-            try_file(alloc, name, file.text.as_slice(), &mut best)?;
+    if is_call {
+        for built_in in BUILT_INS {
+            try_name(alloc, name, built_in, &mut best)?;
         }
     }
     Ok(best.found())
+}
+
+/// Tries the names that are visible at a token.
+fn try_visible(
+    alloc: Global,
+    words: &Words<'_>,
+    number: usize,
+    is_call: bool,
+    name: &str,
+    best: &mut Nearby,
+) -> Result<(), AllocError> {
+    for declared in &visible(alloc, words, number)? {
+        if declared.is_function == is_call {
+            let other = str::from_utf8(words.at(declared.name)).unwrap_or_default();
+            try_name(alloc, name, other, best)?;
+        }
+    }
+    Ok(())
+}
+
+/// Tries the macros of a file, and, where it is another than the one that is asked about, what it declares at file scope.
+fn try_file(
+    alloc: Global,
+    text: &[u8],
+    asked: &[u8],
+    is_call: bool,
+    name: &str,
+    best: &mut Nearby,
+) -> Result<(), AllocError> {
+    if text != asked {
+        if let Some(words) = Words::of(alloc, text)? {
+            try_visible(alloc, &words, words.list.len(), is_call, name, best)?;
+        }
+    }
+    match Tokens::of(alloc, text)? {
+        Some(tokens) => try_macros(alloc, &tokens, name, best),
+        None => Ok(()),
+    }
+}
+
+/// Tries the names of the macros that a file defines.
+fn try_macros(
+    alloc: Global,
+    tokens: &Tokens<'_>,
+    name: &str,
+    best: &mut Nearby,
+) -> Result<(), AllocError> {
+    for (number, spot) in tokens.spots.iter().enumerate() {
+        let defines = spot.in_directive
+            && spot.is_first
+            && tokens.spelling(number.saturating_add(1)) == b"define".as_slice();
+        if defines {
+            let other = str::from_utf8(tokens.spelling(number.saturating_add(
+                2,
+            ))).unwrap_or_default();
+            try_name(alloc, name, other, best)?;
+        }
+    }
+    Ok(())
 }
 
 /// The name of the file that is nearest to the header's name in these quotes; `None` where none is.
@@ -101,34 +151,32 @@ pub fn nearest_file(
     if name.len() > MAX_NAME {
         return Ok(None);
     }
-    let mut best = Nearby {
-        name: String::new(alloc),
-        distance: (name.len() / 3).max(1).saturating_add(1),
-    };
+    let mut best = Nearby::of(alloc, name.len());
     for file in &sources.files {
         try_name(alloc, name, file.name.as_str(), &mut best)?;
     }
     Ok(best.found())
 }
 
-/// Tries the names in a file.
-fn try_file(alloc: Global, name: &str, text: &[u8], best: &mut Nearby) -> Result<(), AllocError> {
-    let Some(tokens) = Tokens::of(alloc, text)? else {
-        return Ok(());
+/// The directive that is nearest to this word; `None` where none is.
+pub fn nearest_directive(alloc: Global, word: &[u8]) -> Result<Option<String>, AllocError> {
+    let Ok(name) = str::from_utf8(word) else {
+        return Ok(None);
     };
-    for token in tokens.all() {
-        if token.kind() == Kind::Identifier {
-            if let Ok(other) = str::from_utf8(token.spelling()) {
-                try_name(alloc, name, other, best)?;
-            }
-        }
+    if name.len() > MAX_NAME {
+        return Ok(None);
     }
-    Ok(())
+    let mut best = Nearby::of(alloc, name.len());
+    for directive in DIRECTIVES {
+        try_name(alloc, name, directive, &mut best)?;
+    }
+    Ok(best.found())
 }
 
 /// Takes a name that is nearer than the nearest so far.
 fn try_name(alloc: Global, name: &str, other: &str, best: &mut Nearby) -> Result<(), AllocError> {
     if other == name
+        || other.is_empty()
         || other.len() > MAX_NAME
         || name.len().abs_diff(other.len()) >= best.distance
     {

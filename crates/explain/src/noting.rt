@@ -1,33 +1,54 @@
 //! The notes beside a fault.
 
-use crate::finding::{Note, Place, Topic};
+use crate::advising::put_advice;
+use crate::finding::{Noted, Place, Topic, point_at};
 use crate::hints::hint;
 use crate::includes::Includes;
 use crate::macro_notes::put_macro_note;
-use crate::near::{nearest, nearest_file};
+use crate::near::{nearest_directive, nearest_file};
+use crate::related::put_related;
 use crate::sources::Sources;
-use explain_places::Tokens;
+use crate::undeclared::put_undeclared;
+use explain_places::{Spot, Tokens};
 use srcset::Fault;
 use std::alloc::{AllocError, Global};
 
-/// The notes of a fault: the macro of its token, the includes that lead to it, a name that may have been meant, a hint,
-/// and the files that nothing includes, where the fault may come from that.
+/// The notes of a fault: the macro of its token, the includes that lead to it, what was expected or meant, the other place that it has to
+/// do with, a hint, and the files that nothing includes, where the fault may come from that.
 pub fn notes(
     alloc: Global,
     sources: &Sources,
     includes: &Includes,
+    main: &str,
     place: Option<Place>,
     fault: &Fault,
-) -> Result<Vec<Note>, AllocError> {
-    let mut notes = Vec::new(alloc);
+) -> Result<Noted, AllocError> {
+    let mut noted = Noted::new(alloc);
     match place {
-        Some(at) => put_place_notes(alloc, sources, includes, at, fault, &mut notes)?,
-        None => put_hint(alloc, hint(fault.code, b"", b""), &mut notes)?,
+        Some(at) => put_place_notes(alloc, sources, includes, main, at, fault, &mut noted)?,
+        None => put_file_notes(alloc, sources, fault, &mut noted)?,
     }
     if matches!(fault.code, 232 | 551 | 552) {
-        put_unused_files(alloc, sources, includes, &mut notes)?;
+        put_unused_files(alloc, sources, includes, &mut noted)?;
     }
-    Ok(notes)
+    Ok(noted)
+}
+
+/// Puts the notes of a fault whose place is not known, or that is about a file.
+fn put_file_notes(
+    alloc: Global,
+    sources: &Sources,
+    fault: &Fault,
+    noted: &mut Noted,
+) -> Result<(), AllocError> {
+    if fault.code == 111 {
+        if let Some(file) = sources.number(fault.file.as_str()) {
+            let text = sources.text(file);
+            let end = point_at(text, text.len());
+            noted.put_fix(alloc, end, end, "\n")?;
+        }
+    }
+    noted.put_text(alloc, Topic::Hint, hint(fault.code, b""))
 }
 
 /// Puts the notes of a fault whose place is known.
@@ -35,104 +56,116 @@ fn put_place_notes(
     alloc: Global,
     sources: &Sources,
     includes: &Includes,
+    main: &str,
     place: Place,
     fault: &Fault,
-    notes: &mut Vec<Note>,
+    noted: &mut Noted,
 ) -> Result<(), AllocError> {
-    let Some(tokens) = Tokens::of(alloc, sources.text(place.file))? else {
-        return Ok(());
-    };
-    let number = number_at(&tokens, place.start);
-    let token = tokens.spelling(number);
-    let before = spelling_before(&tokens, number, 1);
+    let token = sources
+        .text(place.file)
+        .get(place.start..place.end)
+        .unwrap_or_default();
+    match fault.code {
+        401 => put_advice(alloc, sources, main, place, noted)?,
+        528 => put_undeclared(alloc, sources, main, place, fault, noted)?,
+        232 | 233 => put_directive_notes(alloc, sources, place, fault.code, noted)?,
+        code => put_related(alloc, sources, place, code, noted)?,
+    }
     if fault.code > 208 {
-        put_macro_note(alloc, sources, token, notes)?;
+        put_macro_note(alloc, sources, token, noted)?;
     }
-    includes.put_notes(alloc, sources, place.file, notes)?;
-    let meant = match fault.code {
-        528 => nearest(alloc, sources, token, false)?,
-        401 => meant_word(alloc, sources, &tokens, number)?,
-        232 => nearest_file(alloc, sources, token)?,
-        _ => None,
-    };
-    put_suggestion(alloc, meant, notes)?;
-    put_hint(alloc, hint(fault.code, token, before), notes)
+    includes.put_notes(alloc, sources, place.file, &mut noted.notes)?;
+    put_bytes(alloc, fault.code, token, noted)?;
+    noted.put_text(alloc, Topic::Hint, hint(fault.code, token))
 }
 
-/// The number of the token that begins behind so many bytes.
-fn number_at(tokens: &Tokens<'_>, start: usize) -> usize {
-    match tokens.spots.iter().position(|spot| spot.start == start) {
-        Some(number) => number,
-        None => tokens.spots.len(),
-    }
-}
-
-/// The spelling of the token so many before this one; empty where there is none.
-fn spelling_before<'t>(tokens: &'t Tokens<'_>, number: usize, count: usize) -> &'t [u8] {
-    match number.checked_sub(count) {
-        Some(before) => tokens.spelling(before),
-        None => &[],
-    }
-}
-
-/// The word that may have been meant at a syntax error: for its token, or else for the word before it.
-fn meant_word(
+/// Puts what may be meant by a header or a directive, and what is too much in it.
+fn put_directive_notes(
     alloc: Global,
     sources: &Sources,
+    place: Place,
+    code: u16,
+    noted: &mut Noted,
+) -> Result<(), AllocError> {
+    let text = sources.text(place.file);
+    let token = text.get(place.start..place.end).unwrap_or_default();
+    if code == 232 {
+        let meant = nearest_file(alloc, sources, token)?;
+        return put_suggestion(alloc, meant, noted);
+    }
+    let Some(tokens) = Tokens::of(alloc, text)? else {
+        return Ok(());
+    };
+    if matches!(token, b"include") {
+        return put_behind_header(alloc, sources.name(place.file), text, &tokens, place, noted);
+    }
+    let meant = nearest_directive(alloc, token)?;
+    put_suggestion(alloc, meant, noted)
+}
+
+/// Puts what stands behind the header of an `#include`.
+fn put_behind_header(
+    alloc: Global,
+    file: &str,
+    text: &[u8],
     tokens: &Tokens<'_>,
-    number: usize,
-) -> Result<Option<String>, AllocError> {
-    match nearest(alloc, sources, tokens.spelling(number), true)? {
-        Some(word) => Ok(Some(word)),
-        None => nearest(alloc, sources, misspelled(tokens, number), true),
+    place: Place,
+    noted: &mut Noted,
+) -> Result<(), AllocError> {
+    let Some(spot) = token_behind(tokens, place.start) else {
+        return Ok(());
+    };
+    let (start, end) = (point_at(text, spot.start), point_at(text, spot.end));
+    noted.put_at(
+        alloc,
+        Topic::Expected,
+        file,
+        start,
+        "nothing stands behind the header's name",
+    )?;
+    noted.put_fix(alloc, start, end, "")
+}
+
+/// The second token behind the one that begins there, where it is of the same directive.
+fn token_behind(tokens: &Tokens<'_>, start: usize) -> Option<Spot> {
+    let number = tokens.spots.iter().position(|spot| spot.start == start)?;
+    let spot = tokens.spot(number.saturating_add(2))?;
+    if spot.in_directive && !spot.is_first {
+        Some(spot)
+    } else {
+        None
     }
 }
 
-/// The word that may be misspelled where the token of this number is a syntax error: the one before it, or before its `(`.
-fn misspelled<'t>(tokens: &'t Tokens<'_>, number: usize) -> &'t [u8] {
-    match spelling_before(tokens, number, 1) {
-        b"(" => spelling_before(tokens, number, 2),
-        word => word,
+/// Puts the bytes of a literal that are no characters of C, as escapes.
+fn put_bytes(alloc: Global, code: u16, token: &[u8], noted: &mut Noted) -> Result<(), AllocError> {
+    if !matches!(code, 302 | 607) || token.iter().all(|byte| *byte < 0x80) {
+        return Ok(());
     }
+    let mut text = String::from_str(alloc, "write the bytes as escapes: ")?;
+    for byte in token {
+        if *byte < 0x80 {
+            text.push(*byte as char)?;
+        } else {
+            text.push_str(format!(in alloc; "\\x{byte:02x}")?.as_str())?;
+        }
+    }
+    noted.put_text(alloc, Topic::Hint, text.as_str())
 }
 
 fn put_suggestion(
     alloc: Global,
     meant: Option<String>,
-    notes: &mut Vec<Note>,
+    noted: &mut Noted,
 ) -> Result<(), AllocError> {
     match meant {
         Some(name) => {
+            let name = name.as_str();
             let text = format!(in alloc; "did you mean `{name}`?")?;
-            put_text(alloc, Topic::Suggestion, text, notes)
+            noted.put_text(alloc, Topic::Suggestion, text.as_str())
         }
         None => Ok(()),
     }
-}
-
-fn put_hint(alloc: Global, hint: &str, notes: &mut Vec<Note>) -> Result<(), AllocError> {
-    if hint.is_empty() {
-        return Ok(());
-    }
-    let text = String::from_str(alloc, hint)?;
-    put_text(alloc, Topic::Hint, text, notes)
-}
-
-/// Puts a note that has no place.
-pub(crate) fn put_text(
-    alloc: Global,
-    topic: Topic,
-    text: String,
-    notes: &mut Vec<Note>,
-) -> Result<(), AllocError> {
-    notes.push(Note {
-        topic,
-        file: String::new(alloc),
-        line: 0,
-        column: 0,
-        text,
-    })?;
-    Ok(())
 }
 
 /// Puts a note for each file that nothing includes, but the first file.
@@ -140,13 +173,13 @@ fn put_unused_files(
     alloc: Global,
     sources: &Sources,
     includes: &Includes,
-    notes: &mut Vec<Note>,
+    noted: &mut Noted,
 ) -> Result<(), AllocError> {
     for (number, file) in sources.files.iter().enumerate() {
         if includes.passes_by(number) {
             let name = file.name.as_str();
             let text = format!(in alloc; "`{name}` of FILES is included by nothing")?;
-            put_text(alloc, Topic::Hint, text, notes)?;
+            noted.put_text(alloc, Topic::Hint, text.as_str())?;
         }
     }
     Ok(())

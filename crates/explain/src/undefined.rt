@@ -1,9 +1,8 @@
 //! A program interpreted, and the undefined behaviour that it does.
 
-use crate::finding::{Place, Shown, Topic, show_place};
+use crate::finding::{Noted, Place, Shown, Topic, show_place};
 use crate::includes::Includes;
 use crate::locating::{nth_on_line, place_at};
-use crate::noting::put_text;
 use crate::sources::Sources;
 use cc::{Cmd, StackSize, perform};
 use explain_places::{Tokens, laid_out};
@@ -138,14 +137,13 @@ fn explain_act(
     site: Site,
 ) -> Result<Undefined, AllocError> {
     let place = place_of_act(alloc, sources, main, input, max, &site)?;
-    let mut notes = Vec::new(alloc);
+    let mut noted = Noted::new(alloc);
     if let Some(file) = sources.number(site.file.as_str()) {
         let includes = Includes::of(alloc, sources, sources.number(main).unwrap_or(0))?;
-        includes.put_notes(alloc, sources, file, &mut notes)?;
+        includes.put_notes(alloc, sources, file, &mut noted.notes)?;
     }
-    let help = String::from_str(alloc, act_help(site.act))?;
-    put_text(alloc, Topic::Hint, help, &mut notes)?;
-    let shown = show_place(alloc, set, site.file.as_str(), site.line, place, notes)?;
+    noted.put_text(alloc, Topic::Hint, act_help(site.act))?;
+    let shown = show_place(alloc, set, site.file.as_str(), site.line, place, noted)?;
     Ok(Undefined {
         file: site.file,
         line: site.line,
@@ -188,7 +186,7 @@ fn place_of_act(
 }
 
 /// What is undefined about the act of this number, with the section of ISO/IEC 9899:2011.
-fn act_help(act: u32) -> &'static str {
+pub fn act_help(act: u32) -> &'static str {
     match act {
         1 =>
             "6.5p5: the value of a signed operation is not representable in its type: compute with unsigned ints, or test before",
@@ -211,15 +209,20 @@ fn act_help(act: u32) -> &'static str {
 impl Undefined {
     /// The words that head the report: `undefined: ` and what the act is.
     pub fn title(&self) -> &'static str {
-        match self.act {
-            1 => "undefined: signed arithmetic out of range",
-            2 => "undefined: division by zero",
-            3 => "undefined: shift count out of range",
-            4 => "undefined: left shift out of range",
-            5 => "undefined: subscript outside its array",
-            6 => "undefined: element read before it was set",
-            7 => "undefined: string literal written",
-            _ => "undefined: value of a call that gave none",
-        }
+        act_title(self.act)
+    }
+}
+
+/// The words that head the report of the act with this number.
+pub fn act_title(act: u32) -> &'static str {
+    match act {
+        1 => "undefined: signed arithmetic out of range",
+        2 => "undefined: division by zero",
+        3 => "undefined: shift count out of range",
+        4 => "undefined: left shift out of range",
+        5 => "undefined: subscript outside its array",
+        6 => "undefined: element read before it was set",
+        7 => "undefined: string literal written",
+        _ => "undefined: value of a call that gave none",
     }
 }

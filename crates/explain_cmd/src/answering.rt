@@ -10,7 +10,7 @@ use explain::{
 use explain_calls::put_active_calls;
 use explain_render::{
     Style, put_finding, put_json, put_json_undefined, put_sarif_end, put_sarif_result,
-    put_sarif_start, put_undefined,
+    put_sarif_start, put_sarif_undefined, put_source, put_undefined,
 };
 use explain_values::put_values;
 use srcset::{Fault, FileSet};
@@ -38,20 +38,30 @@ pub struct Said {
     pub status: u8,
 }
 
-/// The faults of the program in the file `main` of the set, told in a form; the status is 1 where there are some, else 0. `names` are
-/// those of the files of the set.
+/// How far the faults of a program are looked for.
+#[derive(Clone, Copy, Debug, PartialEq, Eq)]
+pub struct Bounds {
+    pub stage: Stage,
+    /// The stack that the program is built for.
+    pub stack: StackSize,
+    /// How many faults are told at most.
+    pub most: usize,
+}
+
+/// The faults of the program in the file `main` of the set, told in a form; the status is 1 where there are some, else 0. `names` are those of
+/// the files of the set, and `given` is the one by which the main file is told.
 pub fn explain_faults(
     alloc: Global,
     set: &FileSet,
     names: &[&str],
     main: &str,
-    stage: Stage,
-    stack: StackSize,
+    given: &str,
+    bounds: Bounds,
     form: Form,
 ) -> Result<Said, AllocError>
     ensures { IfOk result (λ said. said.status ≤ 1) }
 {
-    let told = explain(alloc, set, names, main, stage, stack)?;
+    let told = named(alloc, set, names, main, given, bounds)?;
     let status = if told.is_some() { 1 } else { 0 };
     let mut out = String::new(alloc);
     let mut err = String::new(alloc);
@@ -75,6 +85,65 @@ pub fn explain_faults(
     })
 }
 
+/// The faults of a program, in which the main file has the name by which it is told.
+fn named(
+    alloc: Global,
+    set: &FileSet,
+    names: &[&str],
+    main: &str,
+    given: &str,
+    bounds: Bounds,
+) -> Result<Option<Explained>, AllocError> {
+    let Bounds { stage, stack, most } = bounds;
+    let told = explain(alloc, set, names, main, stage, stack, most)?;
+    match told {
+        Some(told) => {
+            let mut told = told;
+            put_name(alloc, main, given, &mut told.first)?;
+            for finding in told.further.iter_mut() {
+                put_name(alloc, main, given, finding)?;
+            }
+            Ok(Some(told))
+        }
+        None => Ok(None),
+    }
+}
+
+/// Puts the name by which the main file is told in place of the one that it has in the set.
+fn put_name(
+    alloc: Global,
+    main: &str,
+    given: &str,
+    finding: &mut Finding,
+) -> Result<(), AllocError> {
+    if finding.fault.file.as_str() == main && finding.fault.line <= 1 {
+        finding.fault.file = String::from_str(alloc, given)?;
+    }
+    Ok(())
+}
+
+/// The source line of the fault of a program, with a caret under its token; empty where there is none.
+pub fn fault_source(
+    alloc: Global,
+    set: &FileSet,
+    names: &[&str],
+    main: &str,
+    stack: StackSize,
+    style: Style,
+) -> Result<Vec<u8>, AllocError> {
+    let mut text = String::new(alloc);
+    if let Some(told) = explain(alloc, set, names, main, Stage::Whole, stack, 1)? {
+        put_source(
+            alloc,
+            style,
+            told.first.fault.line,
+            &told.first.shown,
+            &mut text,
+        )?;
+    }
+    Ok(text.into_bytes())
+}
+
 /// Why a file was not read, which no source explains, told in a form; the status is 1.
 pub fn explain_unread(alloc: Global, fault: Fault, form: Form) -> Result<Said, AllocError>
     ensures { IfOk result (λ said. said.status ≡ 1) }
@@ -87,6 +156,7 @@ pub fn explain_unread(alloc: Global, fault: Fault, form: Form) -> Result<Said, A
                 token: Vec::new(alloc),
                 source: Vec::new(alloc),
                 notes: Vec::new(alloc),
+                fixes: Vec::new(alloc),
             },
         },
         further: Vec::new(alloc),
@@ -130,7 +200,11 @@ fn put_objects(alloc: Global, told: &Explained, out: &mut String) -> Result<(), 
 
 /// Puts a log with a result for each fault.
 fn put_log(alloc: Global, told: Option<&Explained>, out: &mut String) -> Result<(), AllocError> {
-    put_sarif_start(alloc, VERSION, out)?;
+    let codes = match told {
+        Some(told) => codes(alloc, told)?,
+        None => Vec::new(alloc),
+    };
+    put_sarif_start(alloc, VERSION, codes.as_slice(), &[], out)?;
     if let Some(told) = told {
         put_sarif_result(alloc, &told.first, true, out)?;
         for finding in &told.further {
@@ -140,8 +214,20 @@ fn put_log(alloc: Global, told: Option<&Explained>, out: &mut String) -> Result<
     put_sarif_end(out)
 }
 
-/// The program in the file `main` of the set interpreted over an input, for at most `max` ticks: what it wrote, which only the text tells beside it, and its
-/// undefined behaviour explained, with the values and the calls behind it, or else the line that `interp` says. The status is that of `interp`.
+/// The codes of the faults, each once.
+fn codes(alloc: Global, told: &Explained) -> Result<Vec<u16>, AllocError> {
+    let mut codes = vec![in alloc; told.first.fault.code]?;
+    for finding in &told.further {
+        let code = finding.fault.code;
+        if !codes.as_slice().contains(&code) {
+            codes.push(code)?;
+        }
+    }
+    Ok(codes)
+}
+
+/// A program interpreted over an input, for at most `max` ticks: what it wrote, which only the text tells beside it, and its undefined
+/// behaviour explained, with the values and the calls behind it, or else the line that `interp` says. The status is that of `interp`.
 pub fn explain_run(
     alloc: Global,
     set: &FileSet,
@@ -158,30 +244,23 @@ pub fn explain_run(
         line,
         undefined,
     } = interpreted(alloc, set, names, main, input, max, stack)?;
+    let is_undefined = undefined.is_some();
     let told = match undefined {
         Some(act) => {
-            let sources = Sources::of(alloc, set, names, stack)?;
-            explained_act(alloc, set, &sources, names, main, input, form, act)?
+            let act = act_known(alloc, set, names, main, input, stack, act)?;
+            told_act(alloc, form, &act)?
         }
-        None => String::new(alloc),
+        None => told_nothing(alloc, form)?,
     };
+    let err = if is_undefined { Vec::new(alloc) } else { line };
     if matches!(form, Form::Text(_)) {
-        let err = if told.is_empty() {
-            line
-        } else {
-            told.into_bytes()
-        };
+        let err = if is_undefined { told.into_bytes() } else { err };
         return Ok(Said {
             out: output,
             err,
             status,
         });
     }
-    let err = if told.is_empty() {
-        line
-    } else {
-        Vec::new(alloc)
-    };
     Ok(Said {
         out: told.into_bytes(),
         err,
@@ -189,24 +268,48 @@ pub fn explain_run(
     })
 }
 
-/// Undefined behaviour in a form, with its values and the calls behind it.
-fn explained_act(
+/// What is told in a form of a run without undefined behaviour: nothing, which as SARIF is a log without results.
+fn told_nothing(alloc: Global, form: Form) -> Result<String, AllocError> {
+    let mut told = String::new(alloc);
+    if form == Form::Sarif {
+        put_log(alloc, None, &mut told)?;
+    }
+    Ok(told)
+}
+
+/// Undefined behaviour in a form.
+fn told_act(alloc: Global, form: Form, act: &Undefined) -> Result<String, AllocError> {
+    let mut told = String::new(alloc);
+    put_act(alloc, form, act, &mut told)?;
+    Ok(told)
+}
+
+/// Undefined behaviour with its values and the calls behind it.
+fn act_known(
     alloc: Global,
     set: &FileSet,
-    sources: &Sources,
     names: &[&str],
     main: &str,
     input: &[u8],
-    form: Form,
+    stack: StackSize,
     act: Undefined,
-) -> Result<String, AllocError> {
+) -> Result<Undefined, AllocError> {
     let mut act = act;
-    put_values(alloc, sources, main, input, &mut act)?;
+    let sources = Sources::of(alloc, set, names, stack)?;
+    put_values(alloc, &sources, main, input, &mut act)?;
     put_active_calls(alloc, set, names, main, input, &mut act)?;
-    let mut told = String::new(alloc);
+    Ok(act)
+}
+
+/// Puts undefined behaviour in a form.
+fn put_act(alloc: Global, form: Form, act: &Undefined, out: &mut String) -> Result<(), AllocError> {
     match form {
-        Form::Text(style) => put_undefined(alloc, style, &act, &mut told)?,
-        Form::Json | Form::Sarif => put_json_undefined(alloc, &act, &mut told)?,
+        Form::Text(style) => put_undefined(alloc, style, act, out),
+        Form::Json => put_json_undefined(alloc, act, out),
+        Form::Sarif => {
+            put_sarif_start(alloc, VERSION, &[], &[act.act], out)?;
+            put_sarif_undefined(alloc, act, out)?;
+            put_sarif_end(out)
+        }
     }
-    Ok(told)
 }

@@ -5,6 +5,8 @@ mod answering;
 mod version;
 mod watching;
 
-pub use answering::{Form, Said, explain_faults, explain_run, explain_unread};
+pub use answering::{
+    Bounds, Form, Said, explain_faults, explain_run, explain_unread, fault_source,
+};
 pub use version::VERSION;
 pub use watching::Watching;

@@ -1,22 +1,22 @@
 //! An explained fault as JSON (RFC 8259).
 
 use crate::text::column_of;
-use explain::{Finding, Note, Shown, Topic, Undefined};
+use explain::{Finding, Fix, Note, Shown, Topic, Undefined};
 use srcset::message;
 use std::alloc::{AllocError, Global};
 
-/// Puts a fault as one object on a line of its own, with the members file, line, column, end, code, text, token and notes.
-/// Columns are counted in bytes from 1, `end` is that behind the token; both are null where they are not known.
+/// Puts a fault as one object on a line of its own, with the members file, line, column, end, code, text, token and notes, and fix
+/// where a change mends it. The code is a string, of digits for a fault. Columns are counted in bytes from 1, `end` is that behind the token; both are null where they are not known.
 pub fn put_json(alloc: Global, finding: &Finding, out: &mut String) -> Result<(), AllocError> {
     let fault = &finding.fault;
     let code = fault.code;
     let text = said(alloc, finding)?;
     put_place(alloc, fault.file.as_str(), fault.line, &finding.shown, out)?;
-    out.push_str(format!(in alloc; ",\"code\":{code}")?.as_str())?;
+    out.push_str(format!(in alloc; ",\"code\":\"{code}\"")?.as_str())?;
     put_rest(alloc, text.as_str(), &finding.shown, out)
 }
 
-/// Puts undefined behaviour in the same form; its code is a string, U1 to U8.
+/// Puts undefined behaviour in the same form; its code is U1 to U8.
 pub fn put_json_undefined(
     alloc: Global,
     undefined: &Undefined,
@@ -48,7 +48,7 @@ fn put_place(
     put_columns(alloc, shown, out)
 }
 
-/// Puts the members text, token and notes, and the end of the line.
+/// Puts the members text, token, notes and fix, and the end of the line.
 fn put_rest(alloc: Global, text: &str, shown: &Shown, out: &mut String) -> Result<(), AllocError> {
     out.push_str(",\"text\":")?;
     put_string(alloc, text, out)?;
@@ -57,7 +57,22 @@ fn put_rest(alloc: Global, text: &str, shown: &Shown, out: &mut String) -> Resul
     put_string(alloc, token.as_str(), out)?;
     out.push_str(",\"notes\":[")?;
     put_notes(alloc, shown.notes.as_slice(), out)?;
-    out.push_str("]}\n")
+    out.push_str("]")?;
+    if let Some(fix) = shown.fixes.first() {
+        put_fix(alloc, fix, out)?;
+    }
+    out.push_str("}\n")
+}
+
+/// Puts the member fix: the lines and columns of what is replaced, and the text that stands there instead.
+fn put_fix(alloc: Global, fix: &Fix, out: &mut String) -> Result<(), AllocError> {
+    let (line, column) = (fix.start.line, fix.start.column);
+    let (end_line, end) = (fix.end.line, fix.end.column);
+    out.push_str(format!(in alloc;
+        ",\"fix\":{{\"line\":{line},\"column\":{column},\"end_line\":{end_line},\"end\":{end},\"text\":"
+    )?.as_str())?;
+    put_string(alloc, fix.text.as_str(), out)?;
+    out.push_str("}")
 }
 
 /// The text of a fault's code, and what the fault adds to it.
@@ -94,6 +109,8 @@ fn put_notes(alloc: Global, notes: &[Note], out: &mut String) -> Result<(), Allo
 fn put_note(alloc: Global, note: &Note, out: &mut String) -> Result<(), AllocError> {
     out.push_str("{\"topic\":\"")?;
     out.push_str(match note.topic {
+        Topic::Expected => "expected",
+        Topic::Related => "related",
         Topic::Included => "included",
         Topic::Macro => "macro",
         Topic::Called => "called",

@@ -6,5 +6,5 @@ mod sarif;
 mod text;
 
 pub use json_lines::{put_json, put_json_undefined};
-pub use sarif::{put_sarif_end, put_sarif_result, put_sarif_start};
-pub use text::{Style, put_finding, put_undefined};
+pub use sarif::{put_sarif_end, put_sarif_result, put_sarif_start, put_sarif_undefined};
+pub use text::{Style, put_finding, put_source, put_undefined};

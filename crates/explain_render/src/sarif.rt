@@ -1,17 +1,112 @@
-//! Explained faults as a log of SARIF 2.1.0 (OASIS, sections 3.13 to 3.30).
+//! Explained faults as a log of SARIF 2.1.0 (OASIS, sections 3.13 to 3.57).
 
 use crate::json_lines::{put_string, said};
-use explain::{Finding, Note, Shown};
+use crate::text::points;
+use explain::{Finding, Fix, Note, Shown, Undefined, act_help, act_title};
+use srcset::message;
 use std::alloc::{AllocError, Global};
 
-/// Puts what stands before the results.
-pub fn put_sarif_start(alloc: Global, version: &str, out: &mut String) -> Result<(), AllocError> {
+/// Puts what stands before the results: the program with its version and its rules, one for each of these codes of faults and each of these
+/// numbers of undefined acts.
+pub fn put_sarif_start(
+    alloc: Global,
+    version: &str,
+    codes: &[u16],
+    acts: &[u32],
+    out: &mut String,
+) -> Result<(), AllocError> {
     out.push_str(
         "{\"$schema\":\"https://json.schemastore.org/sarif-2.1.0.json\",\"version\":\"2.1.0\",\"runs\":[",
     )?;
     out.push_str("{\"tool\":{\"driver\":{\"name\":\"zikorape\",\"version\":")?;
-    put_string(alloc, version, out)?;
-    out.push_str("}},\"columnKind\":\"unicodeCodePoints\",\"results\":[")
+    put_string(alloc, plain_version(version), out)?;
+    out.push_str(",\"rules\":[")?;
+    put_code_rules(alloc, codes, out)?;
+    put_act_rules(alloc, acts, codes.is_empty(), out)?;
+    out.push_str("]}},\"columnKind\":\"unicodeCodePoints\",\"results\":[")
+}
+
+/// The version alone, without what follows a comma.
+fn plain_version(version: &str) -> &str {
+    match version.split_once(',') {
+        Some((plain, _)) => plain,
+        None => version,
+    }
+}
+
+/// Puts a rule for each of these codes (3.49).
+fn put_code_rules(alloc: Global, codes: &[u16], out: &mut String) -> Result<(), AllocError> {
+    let mut is_first = true;
+    for code in codes {
+        let number = *code;
+        put_comma(is_first, out)?;
+        is_first = false;
+        out.push_str(format!(in alloc; "{{\"id\":\"{number}\"")?.as_str())?;
+        put_rule_texts(
+            alloc,
+            message(number),
+            "docs/FAULTS.md has a source with this fault",
+            out,
+        )?;
+    }
+    Ok(())
+}
+
+/// Puts a rule for each of these undefined acts.
+fn put_act_rules(
+    alloc: Global,
+    acts: &[u32],
+    is_first: bool,
+    out: &mut String,
+) -> Result<(), AllocError> {
+    let mut is_first = is_first;
+    for act in acts {
+        let number = *act;
+        put_comma(is_first, out)?;
+        is_first = false;
+        out.push_str(format!(in alloc; "{{\"id\":\"U{number}\"")?.as_str())?;
+        put_rule_texts(alloc, act_title(number), act_help(number), out)?;
+    }
+    Ok(())
+}
+
+fn put_comma(is_first: bool, out: &mut String) -> Result<(), AllocError> {
+    if is_first {
+        return Ok(());
+    }
+    out.push_str(",")
+}
+
+/// Puts the members of a rule behind its id, and its end.
+fn put_rule_texts(
+    alloc: Global,
+    title: &str,
+    help: &str,
+    out: &mut String,
+) -> Result<(), AllocError> {
+    out.push_str(",\"name\":\"")?;
+    put_name(title, out)?;
+    out.push_str("\",\"shortDescription\":{\"text\":")?;
+    put_string(alloc, title, out)?;
+    out.push_str("},\"help\":{\"text\":")?;
+    put_string(alloc, help, out)?;
+    out.push_str("}}")
+}
+
+/// Puts the words of a text as one name, each with a capital letter.
+fn put_name(title: &str, out: &mut String) -> Result<(), AllocError> {
+    let mut begins = true;
+    for letter in title.chars() {
+        if !letter.is_ascii_alphanumeric() {
+            begins = true;
+        } else if begins {
+            out.push(letter.to_ascii_uppercase())?;
+            begins = false;
+        } else {
+            out.push(letter)?;
+        }
+    }
+    Ok(())
 }
 
 /// Puts a fault as a result; a comma stands before each but the first.
@@ -21,21 +116,53 @@ pub fn put_sarif_result(
     is_first: bool,
     out: &mut String,
 ) -> Result<(), AllocError> {
-    let code = finding.fault.code;
-    if !is_first {
-        out.push_str(",")?;
-    }
-    out.push_str(format!(in alloc;
-        "{{\"ruleId\":\"{code}\",\"level\":\"error\",\"message\":{{\"text\":"
-    )?.as_str())?;
-    put_string(alloc, whole_text(alloc, finding)?.as_str(), out)?;
+    let fault = &finding.fault;
+    let (file, code) = (fault.file.as_str(), fault.code);
+    put_comma(is_first, out)?;
+    out.push_str(format!(in alloc; "{{\"ruleId\":\"{code}\"")?.as_str())?;
+    let title = said(alloc, finding)?;
+    put_result_rest(alloc, title.as_str(), file, fault.line, &finding.shown, out)
+}
+
+/// Puts undefined behaviour as the only result.
+pub fn put_sarif_undefined(
+    alloc: Global,
+    undefined: &Undefined,
+    out: &mut String,
+) -> Result<(), AllocError> {
+    let act = undefined.act;
+    out.push_str(format!(in alloc; "{{\"ruleId\":\"U{act}\"")?.as_str())?;
+    put_result_rest(
+        alloc,
+        undefined.title(),
+        undefined.file.as_str(),
+        undefined.line,
+        &undefined.shown,
+        out,
+    )
+}
+
+/// Puts the members of a result behind its rule (3.27), and its end.
+fn put_result_rest(
+    alloc: Global,
+    title: &str,
+    file: &str,
+    line: u32,
+    shown: &Shown,
+    out: &mut String,
+) -> Result<(), AllocError> {
+    out.push_str(",\"level\":\"error\",\"message\":{\"text\":")?;
+    put_string(alloc, whole_text(alloc, title, shown)?.as_str(), out)?;
     out.push_str("}")?;
-    if !finding.fault.file.is_empty() {
+    if !file.is_empty() {
         out.push_str(",\"locations\":[")?;
-        put_location(alloc, finding, out)?;
+        put_location(alloc, file, line, shown, out)?;
         out.push_str("]")?;
     }
-    put_related(alloc, finding.shown.notes.as_slice(), out)?;
+    put_related(alloc, shown.notes.as_slice(), out)?;
+    if let Some(fix) = shown.fixes.first() {
+        put_fix(alloc, file, fix, out)?;
+    }
     out.push_str("}")
 }
 
@@ -44,16 +171,16 @@ pub fn put_sarif_end(out: &mut String) -> Result<(), AllocError> {
     out.push_str("]}]}\n")
 }
 
-/// The text of a fault, its token, and the notes that have no place.
-fn whole_text(alloc: Global, finding: &Finding) -> Result<String, AllocError> {
-    let mut text = said(alloc, finding)?;
-    if !finding.shown.token.is_empty() {
-        let token = String::from_utf8_lossy(alloc, finding.shown.token.as_slice())?;
+/// A title, the token, and the notes that have no place.
+fn whole_text(alloc: Global, title: &str, shown: &Shown) -> Result<String, AllocError> {
+    let mut text = String::from_str(alloc, title)?;
+    if !shown.token.is_empty() {
+        let token = String::from_utf8_lossy(alloc, shown.token.as_slice())?;
         text.push_str(" '")?;
         text.push_str(token.as_str())?;
         text.push_str("'")?;
     }
-    for note in &finding.shown.notes {
+    for note in &shown.notes {
         if note.file.is_empty() {
             text.push_str("; ")?;
             text.push_str(note.text.as_str())?;
@@ -62,14 +189,20 @@ fn whole_text(alloc: Global, finding: &Finding) -> Result<String, AllocError> {
     Ok(text)
 }
 
-/// Puts the place of a fault. A region has lines of 1 or more (3.30.5), so that a fault of the whole file has none.
-fn put_location(alloc: Global, finding: &Finding, out: &mut String) -> Result<(), AllocError> {
-    let column = point_column(&finding.shown);
-    put_file(finding.fault.file.as_str(), out)?;
-    put_line(alloc, finding.fault.line, column, out)?;
-    if finding.fault.line != 0 {
+/// Puts a place. A region has lines of 1 or more (3.30.5), so that a fault of the whole file has none.
+fn put_location(
+    alloc: Global,
+    file: &str,
+    line: u32,
+    shown: &Shown,
+    out: &mut String,
+) -> Result<(), AllocError> {
+    let column = point_column(shown);
+    put_file(file, out)?;
+    put_line(alloc, line, column, out)?;
+    if line != 0 {
         if column != 0 {
-            let end = column.saturating_add(points(finding.shown.token.as_slice()));
+            let end = column.saturating_add(points(shown.token.as_slice()));
             out.push_str(format!(in alloc; ",\"endColumn\":{end}")?.as_str())?;
         }
         out.push_str("}")?;
@@ -89,20 +222,15 @@ fn point_column(shown: &Shown) -> usize {
     }
 }
 
-/// How many code points begin in these bytes of UTF-8.
-fn points(bytes: &[u8]) -> usize {
-    let mut count: usize = 0;
-    for byte in bytes {
-        if *byte & 0xc0 != 0x80 {
-            count = count.saturating_add(1);
-        }
-    }
-    count
-}
-
 /// Puts the beginning of a location, up to the URI of its file.
 fn put_file(name: &str, out: &mut String) -> Result<(), AllocError> {
-    out.push_str("{\"physicalLocation\":{\"artifactLocation\":{\"uri\":\"")?;
+    out.push_str("{\"physicalLocation\":")?;
+    put_artifact(name, out)
+}
+
+/// Puts the beginning of an object that names a file first.
+fn put_artifact(name: &str, out: &mut String) -> Result<(), AllocError> {
+    out.push_str("{\"artifactLocation\":{\"uri\":\"")?;
     put_uri(name, out)?;
     out.push_str("\"}")
 }
@@ -144,6 +272,20 @@ fn put_related(alloc: Global, notes: &[Note], out: &mut String) -> Result<(), Al
         return Ok(());
     }
     out.push_str("]")
+}
+
+/// Puts a change of the file that mends the fault (3.55 to 3.57).
+fn put_fix(alloc: Global, file: &str, fix: &Fix, out: &mut String) -> Result<(), AllocError> {
+    let (line, column) = (fix.start.line, fix.start.points);
+    let (end_line, end) = (fix.end.line, fix.end.points);
+    out.push_str(",\"fixes\":[{\"artifactChanges\":[")?;
+    put_artifact(file, out)?;
+    out.push_str(format!(in alloc;
+        ",\"replacements\":[{{\"deletedRegion\":{{\"startLine\":{line},\"startColumn\":{column},\"endLine\":{end_line},\"endColumn\":{end}}}"
+    )?.as_str())?;
+    out.push_str(",\"insertedContent\":{\"text\":")?;
+    put_string(alloc, fix.text.as_str(), out)?;
+    out.push_str("}}]}]}]")
 }
 
 /// Puts a name as a relative reference: all but letters, digits and `-._~/` is percent-encoded (RFC 3986, 2.1).

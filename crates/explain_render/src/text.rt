@@ -176,7 +176,7 @@ fn put_shown(text: &str, out: &mut String) -> Result<(), AllocError> {
 }
 
 /// Puts the source line, and under it a caret where the token begins.
-fn put_source(
+pub fn put_source(
     alloc: Global,
     style: Style,
     line: u32,
@@ -222,11 +222,22 @@ fn put_blanks(before: &[u8], out: &mut String) -> Result<(), AllocError> {
 fn put_caret(shown: &Shown, column: usize, out: &mut String) -> Result<(), AllocError> {
     out.push('^')?;
     let room = shown.source.len().saturating_sub(column);
-    let more = shown.token.len().saturating_sub(1).min(room);
+    let more = points(shown.token.as_slice()).saturating_sub(1).min(room);
     for _ in 0..more {
         out.push('~')?;
     }
     Ok(())
+}
+
+/// How many code points begin in these bytes of UTF-8.
+pub(crate) fn points(bytes: &[u8]) -> usize {
+    let mut count: usize = 0;
+    for byte in bytes {
+        if *byte & 0xc0 != 0x80 {
+            count = count.saturating_add(1);
+        }
+    }
+    count
 }
 
 /// Puts a note on a line of its own.
@@ -235,7 +246,12 @@ fn put_note(alloc: Global, style: Style, note: &Note, out: &mut String) -> Resul
     out.push_str(style.cyan())?;
     out.push_str(match note.topic {
         Topic::Suggestion | Topic::Hint => "help",
-        Topic::Included | Topic::Macro | Topic::Called | Topic::Value => "note",
+        Topic::Expected
+        | Topic::Related
+        | Topic::Included
+        | Topic::Macro
+        | Topic::Called
+        | Topic::Value => "note",
     })?;
     out.push_str(style.end())?;
     out.push_str(": ")?;

@@ -94,7 +94,7 @@ pub fn ask(
     let (file, at, act) = (undefined.file.as_str(), undefined.line, undefined.act);
     let wanted = format!(in alloc; "{file}:{at}: undefined U{act}\n")?;
     Ok(Some(Answer {
-        seen: seen_in(port.output()),
+        seen: seen_in(alloc, port.output())?,
         is_same: line.as_slice() == wanted.as_bytes(),
     }))
 }

@@ -1,5 +1,7 @@
 //! What the probes at an operation told.
 
+use std::alloc::{AllocError, Global};
+
 /// A value, and whether its type is an unsigned one.
 #[derive(Clone, Copy, Debug, PartialEq, Eq)]
 pub struct Value {
@@ -20,9 +22,11 @@ pub struct Seen {
     pub count: u32,
 }
 
-/// What was told in the output of a run: each event is a byte and what belongs to it. 0: a byte of the program; 1 and 2: the left operand, signed
+/// What was told last in the output of a run: a right operand goes with the left one that was told before it and has none yet, since a call
+/// in the right operand may come to the same operation. Each event is a byte and what belongs to it. 0: a byte of the program; 1 and 2: the left operand, signed
 /// or unsigned; 3 and 4: the right one; 5: the bytes of an array and of its element.
-pub fn seen_in(events: &[u8]) -> Seen {
+pub fn seen_in(alloc: Global, events: &[u8]) -> Result<Seen, AllocError> {
+    let mut waiting = Vec::new(alloc);
     let mut seen = Seen {
         left: None,
         right: None,
@@ -40,26 +44,45 @@ pub fn seen_in(events: &[u8]) -> Seen {
             5 => 8,
             _ => 4,
         };
-        note(&mut seen, *kind, behind);
+        note(&mut seen, &mut waiting, *kind, behind)?;
         rest = behind.get(length..).unwrap_or_default();
     }
-    seen
+    Ok(seen)
 }
 
-/// Notes an event.
-fn note(seen: &mut Seen, kind: u8, body: &[u8]) {
+/// Notes an event; `waiting` are the left operands that have no right one yet.
+fn note(
+    seen: &mut Seen,
+    waiting: &mut Vec<Value>,
+    kind: u8,
+    body: &[u8],
+) -> Result<(), AllocError> {
     let first = word(body);
     match kind {
-        1 => seen.left = Some(signed(first)),
-        2 => seen.left = Some(unsigned(first)),
-        3 => seen.right = Some(signed(first)),
-        4 => seen.right = Some(unsigned(first)),
+        1 => note_left(seen, waiting, signed(first))?,
+        2 => note_left(seen, waiting, unsigned(first))?,
+        3 => note_right(seen, waiting, signed(first)),
+        4 => note_right(seen, waiting, unsigned(first)),
         5 => {
             seen.bytes = first;
             seen.element = word(body.get(4..).unwrap_or_default());
             seen.count = seen.count.saturating_add(1);
         }
         _ => {}
+    }
+    Ok(())
+}
+
+fn note_left(seen: &mut Seen, waiting: &mut Vec<Value>, left: Value) -> Result<(), AllocError> {
+    seen.left = Some(left);
+    waiting.push(left)?;
+    Ok(())
+}
+
+fn note_right(seen: &mut Seen, waiting: &mut Vec<Value>, right: Value) {
+    seen.right = Some(right);
+    if let Some(left) = waiting.pop() {
+        seen.left = Some(left);
     }
 }
 

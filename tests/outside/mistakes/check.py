@@ -66,7 +66,7 @@ def as_json(name, files, place, code):
     file, line, column, token = place
     status, out, err, _ = run(files, ['explain', 'build', '--json', *words_of(files)])
     one = json.loads(out.split('\n')[0])
-    wanted = dict(file=file, line=line, column=column, end=column + len(token), code=code, token=token)
+    wanted = dict(file=file, line=line, column=column, end=column + len(token.encode()), code=str(code), token=token)
     check(name + ': json', status == 1 and err == '' and all(one.get(k) == v for k, v in wanted.items()) and isinstance(one['text'], str)
           and all(set(n) >= {'topic', 'text'} for n in one['notes']), out)
     status, out, err, _ = run(files, ['explain', 'build', '--sarif', *words_of(files)])
@@ -84,7 +84,14 @@ def is_sarif(log):
     for one in log['runs']:
         if not isinstance(one['tool']['driver']['name'], str) or one['columnKind'] not in ('utf16CodeUnits', 'unicodeCodePoints'):
             return False
+        if not re.fullmatch(r'\d+(\.\d+)*', one['tool']['driver']['version']):
+            return False
+        rules = one['tool']['driver']['rules']
+        if not all(isinstance(rule['shortDescription']['text'], str) and isinstance(rule['help']['text'], str) and rule['name'].isalnum() for rule in rules):
+            return False
         for result in one['results']:
+            if [rule['id'] for rule in rules].count(result['ruleId']) != 1 or not all(is_fix(fix) for fix in result.get('fixes', [])):
+                return False
             if not isinstance(result['message']['text'], str) or result['level'] not in ('none', 'note', 'warning', 'error'):
                 return False
             for place in result.get('locations', []) + result.get('relatedLocations', []):
@@ -92,6 +99,12 @@ def is_sarif(log):
                 if not isinstance(physical['artifactLocation']['uri'], str) or any(v < 1 for v in physical.get('region', {}).values()):
                     return False
     return True
+
+def is_fix(fix):
+    """The members of a change (3.55 to 3.57)."""
+    return all(isinstance(change['artifactLocation']['uri'], str) and all(isinstance(one['insertedContent']['text'], str)
+               and all(one['deletedRegion'][key] >= 1 for key in ('startLine', 'startColumn', 'endLine', 'endColumn'))
+               for one in change['replacements']) for change in fix['artifactChanges'])
 
 def further():
     for name, heads, source in FURTHER:
@@ -115,6 +128,9 @@ def undefined():
         wanted = dict(file=file, line=line, column=column, code='U%d' % act, token=token)
         check(name + ': json', status == 123 and err == '' and all(one[k] == v for k, v in wanted.items())
               and one['notes'][0] == dict(topic='value', text=values), out)
+        log = json.loads(run(files, ['explain', 'interp', '--sarif', *words_of(files)], text)[1])
+        result = log['runs'][0]['results'][0]
+        check(name + ': sarif', is_sarif(log) and result['ruleId'] == 'U%d' % act and values in result['message']['text'], log)
     calls = 'int zero(int n) {\n    if (n == 0)\n        return 1 / n;\n    return zero(n - 1);\n}\nint main(void) {\n    int s = 1;\n    s += zero(2);\n    return s;\n}\n'
     err = run({'main.c': calls}, ['explain', 'interp', 'main.c'])[2]
     active = [line for line in err.split('\n') if ': in `' in line]
@@ -129,7 +145,7 @@ def others():
     log = json.loads(run({}, ['explain', 'build', '--sarif', 'main.c'])[1])
     check('a log of what cannot be read', is_sarif(log) and [one['ruleId'] for one in log['runs'][0]['results']] == ['802'], log)
     one = json.loads(run({}, ['explain', 'build', '--json', 'main.c'])[1])
-    check('an object of what cannot be read', (one['file'], one['code'], one['column']) == ('main.c', 802, None), one)
+    check('an object of what cannot be read', (one['file'], one['code'], one['column']) == ('main.c', '802', None), one)
     wide = {'main.c': 'int main(void) { /* \u00e9\U0001F600 */ return cuont; }\n'}
     region = json.loads(run(wide, ['explain', 'build', '--sarif', 'main.c'])[1])['runs'][0]['results'][0]['locations'][0]['physicalLocation']['region']
     check('columns of SARIF', region == dict(startLine=1, startColumn=wide['main.c'].index('cuont') + 1, endColumn=wide['main.c'].index('cuont') + 6), region)
@@ -146,23 +162,34 @@ def others():
         status, out, err, kept = run(good, words)
         check(' '.join(words), status == 2 and out == '' and err != '' and kept, err)
     status, out, err, _ = run({}, ['explain', 'build', 'main.c'])
-    check('no such file', status == 1 and err == 'main.c:0: 802 cannot read\n', err)
+    check('no such file', status == 1 and err == 'main.c:0: 802 cannot read\n  help: there is no such file\n', err)
     unused = {'main.c': 'int twice(int x);\nint main(void) { return twice(1); }\n', 'twice.c': 'int twice(int x) { return 2 * x; }\n'}
     err = run(unused, ['explain', 'build', 'main.c', 'twice.c'])[2]
     check('a file that nothing includes', '`twice.c` of FILES is included by nothing' in err, err)
     bare = {'main.c': 'int main(void) { return x; }\n'}
     check('no colours', '\x1b' not in run(bare, ['explain', 'build', 'main.c'])[2])
     check('colours', '\x1b[1;31m528\x1b[0m' in run(bare, ['explain', 'build', 'main.c', '--color', 'always'])[2])
+    one = json.loads(run({'main.c': 'int f(void) { return 0; }\n'}, ['explain', 'build', '--json', 'main.c', '-D', 'N=1'])[1])
+    check('a fault of the unit with -D', (one['file'], one['code']) == ('main.c', '551'), one)
+    many = {'main.c': ''.join('int f%d(void) { return a; }\n' % n for n in range(9)) + 'int main(void) { return 0; }\n'}
+    check('--errors', run(many, ['explain', 'build', 'main.c', '--errors', '3'])[2].count(' 528 ') == 3)
+    mended = json.loads(run({'main.c': 'int main(void) {\n    return 0\n}\n'}, ['explain', 'build', '--json', 'main.c'])[1])['fix']
+    check('a fix', mended == dict(line=2, column=13, end_line=2, end=13, text=';'), mended)
+    line = "main.c:1: 528 undeclared name\r\n"
+    shown = on_terminal(bare, {'NO_COLOR': '1'}, ['build', 'main.c', '-o', 'out'])
+    check('build on a terminal', shown == line + '    1 | int main(void) { return x; }\r\n      |                         ^\r\n', shown)
+    check('build --plain on a terminal', on_terminal(bare, {'NO_COLOR': '1'}, ['build', '--plain', 'main.c', '-o', 'out']) == line)
+    check('build on no terminal', run(bare, ['build', 'main.c', '-o', 'out'])[2] == 'main.c:1: 528 undeclared name\n')
     for name, env, wanted in (('terminal', {}, True), ('terminal and NO_COLOR', {'NO_COLOR': '1'}, False)):
         check(name, ('\x1b' in on_terminal(bare, env)) == wanted)
 
-def on_terminal(files, env):
+def on_terminal(files, env, words=('explain', 'build', 'main.c')):
     """What is written to standard error where that is a pseudo terminal."""
     with tempfile.TemporaryDirectory() as work:
         for name, body in files.items():
             open(os.path.join(work, name), 'w').write(body)
         ours, theirs = pty.openpty()
-        done = subprocess.Popen([CC, 'explain', 'build', 'main.c'], cwd=work, stdin=subprocess.DEVNULL, stdout=subprocess.DEVNULL, stderr=theirs, env={**{k: v for k, v in os.environ.items() if k != 'NO_COLOR'}, **env})
+        done = subprocess.Popen([CC, *words], cwd=work, stdin=subprocess.DEVNULL, stdout=subprocess.DEVNULL, stderr=theirs, env={**{k: v for k, v in os.environ.items() if k != 'NO_COLOR'}, **env})
         os.close(theirs)
         said = b''
         try:
