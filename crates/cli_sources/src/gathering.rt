@@ -142,6 +142,12 @@ fn found(
     Ok(None)
 }
 
+/// Whether a file of this name lies beside the file at a path.
+pub fn lies_beside(rt: &HostRuntime, includer: &str, name: &str) -> Result<bool, AllocError> {
+    let path = joined(rt.alloc(), folder_of(includer), name)?;
+    Ok(is_file(rt, path.as_str()))
+}
+
 fn is_file(rt: &HostRuntime, path: &str) -> bool {
     match fs::metadata(rt, path) {
         Ok(there) => there.is_file(),

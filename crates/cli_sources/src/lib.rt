@@ -11,7 +11,7 @@ mod rule;
 mod sources;
 
 pub use asked::{is_taken, stack_size};
-pub use gathering::read_sources;
+pub use gathering::{lies_beside, read_sources};
 pub use reading::{read_bytes, read_file};
 pub use rule::{rule_path, rule_text};
 pub use sources::{Source, Sources};

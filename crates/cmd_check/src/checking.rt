@@ -1,5 +1,6 @@
 //! `check`.
 
+use crate::refused::{tell_refused, tell_unread};
 use cc::compile_with;
 use cli_args::{Program, Telling};
 use cli_io::{put_out, say, say_memory, say_usage};
@@ -30,11 +31,17 @@ pub fn check_program(rt: &HostRuntime, program: &Program<'_>, warned: Warned<'_>
     }
     let sources = match read_sources(rt, program) {
         Ok(sources) => sources,
-        Err(fault) => return say(rt, &fault),
+        Err(fault) => return match warned.telling {
+            Telling::Text => say(rt, &fault),
+            Telling::Json | Telling::Sarif => tell_unread(rt, fault, warned.telling),
+        },
     };
     match compile_with(rt.alloc(), &sources.set, sources.main, stack_size(program)) {
         Ok(_) => check_sources(rt, program, &sources, warned),
-        Err(fault) => say(rt, &sources.told(rt.alloc(), fault)),
+        Err(fault) => match warned.telling {
+            Telling::Text => say(rt, &sources.told(rt.alloc(), fault)),
+            Telling::Json | Telling::Sarif => tell_refused(rt, program, &sources, warned.telling),
+        },
     }
 }
 

@@ -2,5 +2,6 @@
 #![tactic(auto)]
 
 mod checking;
+mod refused;
 
 pub use checking::{Warned, check_program};

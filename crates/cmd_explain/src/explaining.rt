@@ -1,9 +1,12 @@
 //! `explain`.
 
+use crate::beside::look_beside;
 use cli_args::{Colours, Program, Stage, Telling};
 use cli_io::{put_out, say, say_memory};
 use cli_sources::{Sources, read_sources, stack_size};
-use explain_cmd::{Bounds, Form, Said, explain_faults, explain_run, explain_unread, fault_source};
+use explain_cmd::{
+    Bounds, Form, Said, explain_run, explain_unread, fault_source, find_faults, tell_faults,
+};
 use explain_render::Style;
 use srcset::{Code, Fault};
 use std::alloc::{AllocError, Global};
@@ -29,7 +32,7 @@ pub fn explain_program(rt: &HostRuntime, program: &Program<'_>, told: Told) -> u
         Ok(sources) => sources,
         Err(fault) => return say_unread(rt, fault, form),
     };
-    let Ok(said) = said(rt.alloc(), program, &sources, told, form) else {
+    let Ok(said) = said(rt, program, &sources, told, form) else {
         return say_memory(rt);
     };
     if told.stage == Stage::Interp && said.status == 0 {
@@ -40,12 +43,13 @@ pub fn explain_program(rt: &HostRuntime, program: &Program<'_>, told: Told) -> u
 
 /// What is said of the faults of a program.
 fn said(
-    alloc: Global,
+    rt: &HostRuntime,
     program: &Program<'_>,
     sources: &Sources<'_>,
     told: Told,
     form: Form,
 ) -> Result<Said, AllocError> {
+    let alloc = rt.alloc();
     let names = sources.names(alloc)?;
     let stage = match told.stage {
         Stage::Pp => explain::Stage::Preprocessing,
@@ -56,15 +60,22 @@ fn said(
         stack: stack_size(program),
         most: told.most,
     };
-    explain_faults(
+    let found = find_faults(
         alloc,
         &sources.set,
         names.as_slice(),
         sources.main,
         sources.given,
         bounds,
-        form,
-    )
+    )?;
+    match found {
+        Some(found) => {
+            let mut found = found;
+            look_beside(rt, sources, &mut found)?;
+            tell_faults(alloc, Some(&found), form)
+        }
+        None => tell_faults(alloc, None, form),
+    }
 }
 
 /// Shows the source line of a fault, with a caret, where standard error is a terminal: what stands behind the one line of `build`. A program on

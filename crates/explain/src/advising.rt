@@ -150,13 +150,15 @@ fn helps_without(
 ) -> Result<bool, AllocError> {
     let mut text = Vec::from_slice(alloc, site.sources.text(file))?;
     blank(text.as_mut_slice(), spot);
-    let Some(set) = site.sources.set_with(alloc, file, &text) else {
+    let Some(set) = site.sources.set_with(alloc, file, &text)? else {
         return Ok(false);
     };
-    Ok(match fault_of(alloc, &set, site.main, site.sources.stack) {
-        Some(fault) => matches!(fault.code, 501..=553 | 620..=623 | 712..=716),
-        None => true,
-    })
+    Ok(
+        match fault_of(alloc, &set, site.main, site.sources.stack)? {
+            Some(fault) => matches!(fault.code, 501..=553 | 620..=623 | 712..=716),
+            None => true,
+        },
+    )
 }
 
 /// Puts a space in the place of a token of one character.
@@ -202,10 +204,10 @@ fn reached(
 ) -> Result<u32, AllocError> {
     let file = site.sources.name(site.file);
     let trial = trial_text(alloc, words, site.number, candidate, file == site.main)?;
-    let Some(set) = site.sources.set_with(alloc, site.file, &trial.text) else {
+    let Some(set) = site.sources.set_with(alloc, site.file, &trial.text)? else {
         return Ok(0);
     };
-    match fault_of(alloc, &set, site.main, site.sources.stack) {
+    match fault_of(alloc, &set, site.main, site.sources.stack)? {
         Some(fault) => Ok(line_reached(&fault, file, &trial)),
         None => Ok(TO_THE_END),
     }

@@ -2,14 +2,23 @@
 
 use crate::sources::Sources;
 use cc::{StackSize, compile_with};
-use srcset::{Fault, FileSet};
-use std::alloc::Global;
+use srcset::{Code, Fault, FileSet};
+use std::alloc::{AllocError, Global};
 
-/// The fault of a set of files, where it has one.
-pub fn fault_of(alloc: Global, set: &FileSet, main: &str, stack: StackSize) -> Option<Fault> {
+/// The fault of a set of files, where it has one. An error: out of memory.
+pub fn fault_of(
+    alloc: Global,
+    set: &FileSet,
+    main: &str,
+    stack: StackSize,
+) -> Result<Option<Fault>, AllocError> {
     match compile_with(alloc, set, main, stack) {
-        Ok(_) => None,
-        Err(fault) => Some(fault),
+        Ok(_) => Ok(None),
+        Err(fault) => if fault.code == Code::OutOfMemory.number() {
+            Err(AllocError)
+        } else {
+            Ok(Some(fault))
+        },
     }
 }
 
@@ -21,9 +30,18 @@ pub fn line_again(
     fault: &Fault,
     number: usize,
     text: &[u8],
-) -> Option<u32> {
-    let set = sources.set_with(alloc, number, text)?;
-    let again = fault_of(alloc, &set, main, sources.stack)?;
+) -> Result<Option<u32>, AllocError> {
+    let Some(set) = sources.set_with(alloc, number, text)? else {
+        return Ok(None);
+    };
+    match fault_of(alloc, &set, main, sources.stack)? {
+        Some(again) => Ok(same_line(&again, fault)),
+        None => Ok(None),
+    }
+}
+
+/// The line of a fault that is of the same code in the same file as another.
+fn same_line(again: &Fault, fault: &Fault) -> Option<u32> {
     if again.code == fault.code && again.file.as_str() == fault.file.as_str() {
         Some(again.line)
     } else {

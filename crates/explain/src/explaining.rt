@@ -115,7 +115,7 @@ fn further(
         if !pass_over(alloc, sources, at, code)? {
             break;
         }
-        let Some(fault) = next_fault(alloc, sources, main, bounds.stage) else {
+        let Some(fault) = next_fault(alloc, sources, main, bounds.stage)? else {
             break;
         };
         place = place_of(alloc, sources, main, &fault)?;
@@ -148,13 +148,18 @@ fn is_behind(one: &Finding, other: &Finding) -> bool {
     }
 }
 
-fn next_fault(alloc: Global, sources: &Sources, main: &str, stage: Stage) -> Option<Fault> {
-    let set = sources.set(alloc)?;
-    let fault = fault_of(alloc, &set, main, sources.stack)?;
-    if fault.code != Code::OutOfMemory.number() && is_of_stage(stage, fault.code) {
-        Some(fault)
-    } else {
-        None
+fn next_fault(
+    alloc: Global,
+    sources: &Sources,
+    main: &str,
+    stage: Stage,
+) -> Result<Option<Fault>, AllocError> {
+    let Some(set) = sources.set(alloc)? else {
+        return Ok(None);
+    };
+    match fault_of(alloc, &set, main, sources.stack)? {
+        Some(fault) if is_of_stage(stage, fault.code) => Ok(Some(fault)),
+        _ => Ok(None),
     }
 }
 

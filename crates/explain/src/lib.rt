@@ -20,5 +20,5 @@ mod undefined;
 
 pub use explaining::{Explained, Stage, USUAL_FAULTS, explain};
 pub use finding::{Finding, Fix, Note, Noted, Place, Point, Shown, Topic};
-pub use sources::{Source, Sources};
-pub use undefined::{Interpretation, Undefined, act_help, act_title, interpreted};
+pub use sources::{Source, Sources, add_file};
+pub use undefined::{Interpretation, Undefined, act_help, act_title, interpreted, wants_memory};

@@ -29,7 +29,7 @@ pub fn place_of(
         Some(hash) => tokens.spot(in_directive(&tokens, hash, fault.code)),
         None => {
             let again = laid_out(alloc, text, &tokens.spots, fault.line)?;
-            match line_again(alloc, sources, main, fault, file, &again) {
+            match line_again(alloc, sources, main, fault, file, &again)? {
                 Some(line) => nth_on_line(
                     &tokens.spots,
                     fault.line,

@@ -1,7 +1,7 @@
 //! The source files that are asked about, which may be laid out otherwise.
 
 use cc::StackSize;
-use srcset::FileSet;
+use srcset::{Code, FileSet};
 use std::alloc::{AllocError, Global};
 
 /// A source file.
@@ -68,13 +68,18 @@ impl Sources {
         }
     }
 
-    /// The set of these files; `None` where a set does not take one of them, as one that is too large, or memory ran out.
-    pub fn set(&self, alloc: Global) -> Option<FileSet> {
+    /// The set of these files; `None` where a set does not take one of them, as one that is too large. An error: out of memory.
+    pub fn set(&self, alloc: Global) -> Result<Option<FileSet>, AllocError> {
         self.set_with(alloc, self.files.len(), &[])
     }
 
     /// The same, with this text in the file of this number.
-    pub fn set_with(&self, alloc: Global, number: usize, text: &[u8]) -> Option<FileSet> {
+    pub fn set_with(
+        &self,
+        alloc: Global,
+        number: usize,
+        text: &[u8],
+    ) -> Result<Option<FileSet>, AllocError> {
         let mut set = FileSet::new(alloc);
         for (at, file) in self.files.iter().enumerate() {
             let bytes = if at == number {
@@ -82,18 +87,23 @@ impl Sources {
             } else {
                 file.text.as_slice()
             };
-            if !add(alloc, &mut set, file.name.as_str(), bytes) {
-                return None;
+            let text = Vec::from_slice(alloc, bytes)?;
+            if !add_file(&mut set, file.name.as_str(), text)? {
+                return Ok(None);
             }
         }
-        Some(set)
+        Ok(Some(set))
     }
 }
 
-/// Adds a copy of a file, or answers that it could not.
-fn add(alloc: Global, set: &mut FileSet, name: &str, bytes: &[u8]) -> bool {
-    match Vec::from_slice(alloc, bytes) {
-        Ok(text) => set.add(name, text).is_ok(),
-        Err(_) => false,
+/// Adds a file to a set; answers false where the set does not take it. An error: out of memory.
+pub fn add_file(set: &mut FileSet, name: &str, text: Vec<u8>) -> Result<bool, AllocError> {
+    match set.add(name, text) {
+        Ok(()) => Ok(true),
+        Err(fault) => if fault.code == Code::OutOfMemory.number() {
+            Err(AllocError)
+        } else {
+            Ok(false)
+        },
     }
 }

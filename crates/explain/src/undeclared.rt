@@ -191,10 +191,10 @@ fn is_cause(
     let mut changed = Vec::from_slice(alloc, text.get(..spot.start).unwrap_or_default())?;
     changed.push(b'0')?;
     changed.extend_from_slice(text.get(spot.end..).unwrap_or_default())?;
-    let Some(set) = sources.set_with(alloc, file, &changed) else {
+    let Some(set) = sources.set_with(alloc, file, &changed)? else {
         return Ok(false);
     };
-    Ok(match fault_of(alloc, &set, main, sources.stack) {
+    Ok(match fault_of(alloc, &set, main, sources.stack)? {
         Some(other) => other.code != fault.code && other.code > 500 || is_later(&other, fault),
         None => true,
     })

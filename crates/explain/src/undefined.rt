@@ -106,6 +106,11 @@ fn run(
     })
 }
 
+/// Whether a run ended with this line because a growth of memory was refused.
+pub fn wants_memory(line: &[u8]) -> bool {
+    line == b"cc: 801 out of memory\n".as_slice() || line == b"cc: port fault 801\n".as_slice()
+}
+
 /// The place in a line `FILE:LINE: undefined UN`.
 fn site_in(alloc: Global, line: &[u8]) -> Result<Option<Site>, AllocError> {
     let Ok(text) = str::from_utf8(line) else {
@@ -169,10 +174,13 @@ fn place_of_act(
         return Ok(None);
     };
     let again = laid_out(alloc, text, &tokens.spots, at.line)?;
-    let Some(set) = sources.set_with(alloc, file, &again) else {
+    let Some(set) = sources.set_with(alloc, file, &again)? else {
         return Ok(None);
     };
     let run = run(alloc, &set, main, input, max, sources.stack)?;
+    if wants_memory(run.line.as_slice()) {
+        return Err(AllocError);
+    }
     let Some(found) = site_in(alloc, run.line.as_slice())? else {
         return Ok(None);
     };

@@ -3,7 +3,7 @@
 use crate::events::{Call, active};
 use crate::probes::{EVENTS, line_of, probed};
 use cc::{Cmd, StackSize, perform};
-use explain::{Note, Sources, Topic, Undefined};
+use explain::{Note, Sources, Topic, Undefined, add_file, wants_memory};
 use io_ports::MemPort;
 use srcset::FileSet;
 use std::alloc::{AllocError, Global};
@@ -32,16 +32,19 @@ pub fn put_active_calls(
     let mut sources = Sources::of(alloc, set, names, StackSize::usual())?;
     let mut functions = Vec::new(alloc);
     put_probes(alloc, &mut sources, &mut functions)?;
-    let Some(mut probing) = sources.set(alloc) else {
+    let Some(mut probing) = sources.set(alloc)? else {
         return Ok(());
     };
     let mut first = Vec::from_slice(alloc, EVENTS)?;
     first.extend_from_slice(format!(in alloc; "#include \"{main}\"\n")?.as_bytes())?;
-    if probing.add(FOLLOWING, first).is_err() {
+    if !add_file(&mut probing, FOLLOWING, first)? {
         return Ok(());
     }
     let mut port = MemPort::new(alloc, Vec::from_slice(alloc, input)?);
     let line = followed(alloc, &probing, &mut port);
+    if wants_memory(line.as_slice()) {
+        return Err(AllocError);
+    }
     let (file, at, act) = (undefined.file.as_str(), undefined.line, undefined.act);
     let wanted = format!(in alloc; "{file}:{at}: undefined U{act}\n")?;
     if line.as_slice() != wanted.as_bytes() {

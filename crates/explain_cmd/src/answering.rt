@@ -61,19 +61,26 @@ pub fn explain_faults(
 ) -> Result<Said, AllocError>
     ensures { IfOk result (λ said. said.status ≤ 1) }
 {
-    let told = named(alloc, set, names, main, given, bounds)?;
+    let told = find_faults(alloc, set, names, main, given, bounds)?;
+    tell_faults(alloc, told.as_ref(), form)
+}
+
+/// What is told in a form of the faults that were found; the status is 1 where there are some, else 0.
+pub fn tell_faults(alloc: Global, told: Option<&Explained>, form: Form) -> Result<Said, AllocError>
+    ensures { IfOk result (λ said. said.status ≤ 1) }
+{
     let status = if told.is_some() { 1 } else { 0 };
     let mut out = String::new(alloc);
     let mut err = String::new(alloc);
     match form {
-        Form::Sarif => put_log(alloc, told.as_ref(), &mut out)?,
+        Form::Sarif => put_log(alloc, told, &mut out)?,
         Form::Json => {
-            if let Some(told) = &told {
+            if let Some(told) = told {
                 put_objects(alloc, told, &mut out)?;
             }
         }
         Form::Text(style) => {
-            if let Some(told) = &told {
+            if let Some(told) = told {
                 put_text(alloc, style, told, &mut err)?;
             }
         }
@@ -86,7 +93,7 @@ pub fn explain_faults(
 }
 
 /// The faults of a program, in which the main file has the name by which it is told.
-fn named(
+pub fn find_faults(
     alloc: Global,
     set: &FileSet,
     names: &[&str],

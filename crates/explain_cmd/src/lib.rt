@@ -6,7 +6,8 @@ mod version;
 mod watching;
 
 pub use answering::{
-    Bounds, Form, Said, explain_faults, explain_run, explain_unread, fault_source,
+    Bounds, Form, Said, explain_faults, explain_run, explain_unread, fault_source, find_faults,
+    tell_faults,
 };
 pub use version::VERSION;
 pub use watching::Watching;

@@ -2,7 +2,7 @@
 
 use crate::events::{Seen, seen_in};
 use cc::{Cmd, StackSize, perform};
-use explain::{Sources, Undefined};
+use explain::{Sources, Undefined, add_file, wants_memory};
 use io_ports::MemPort;
 use std::alloc::{AllocError, Global};
 use std::io;
@@ -70,12 +70,12 @@ pub fn ask(
 ) -> Result<Option<Answer>, AllocError> {
     let Some(mut set) = probed
         .sources
-        .set_with(alloc, probed.file, probed.text.as_slice())
+        .set_with(alloc, probed.file, probed.text.as_slice())?
     else {
         return Ok(None);
     };
     let first = first_file(alloc, probed.main, asked)?;
-    if set.add(ASKING, first).is_err() {
+    if !add_file(&mut set, ASKING, first)? {
         return Ok(None);
     }
     let mut port = MemPort::new(alloc, Vec::from_slice(alloc, probed.input)?);
@@ -91,6 +91,9 @@ pub fn ask(
         &mut line,
         widest(),
     );
+    if wants_memory(line.as_slice()) {
+        return Err(AllocError);
+    }
     let (file, at, act) = (undefined.file.as_str(), undefined.line, undefined.act);
     let wanted = format!(in alloc; "{file}:{at}: undefined U{act}\n")?;
     Ok(Some(Answer {

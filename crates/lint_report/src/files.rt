@@ -2,7 +2,7 @@
 
 use explain_places::{Spot, Tokens};
 use lint_sources::{LaidFile, keeps_lines, laid_file};
-use srcset::FileSet;
+use srcset::{Code, Fault, FileSet};
 use std::alloc::{AllocError, Global};
 
 /// The most bytes of a line that is shown, and in which columns are counted: so a warning takes no more time in a file of one long line.
@@ -60,14 +60,14 @@ impl<'a> Files<'a> {
     }
 
     /// The set of the files as they are laid out; `None` where a set does not take one of them.
-    pub fn laid_set(&self, alloc: Global) -> Option<FileSet> {
+    pub fn laid_set(&self, alloc: Global) -> Result<Option<FileSet>, AllocError> {
         let mut set = FileSet::new(alloc);
         for file in &self.list {
-            if !add(alloc, &mut set, file.name, file.laid_bytes()) {
-                return None;
+            if !add(alloc, &mut set, file.name, file.laid_bytes())? {
+                return Ok(None);
             }
         }
-        Some(set)
+        Ok(Some(set))
     }
 
     /// The number of the file of a name; past all of them where there is none.
@@ -214,9 +214,19 @@ fn laid_of(
 }
 
 /// Adds a copy of a file, or answers that it could not.
-fn add(alloc: Global, set: &mut FileSet, name: &str, bytes: &[u8]) -> bool {
-    match Vec::from_slice(alloc, bytes) {
-        Ok(text) => set.add(name, text).is_ok(),
-        Err(_) => false,
+fn add(alloc: Global, set: &mut FileSet, name: &str, bytes: &[u8]) -> Result<bool, AllocError> {
+    let text = Vec::from_slice(alloc, bytes)?;
+    match set.add(name, text) {
+        Ok(()) => Ok(true),
+        Err(fault) => is_taken(&fault),
+    }
+}
+
+/// That a set does not take a file; a refused growth is told.
+fn is_taken(fault: &Fault) -> Result<bool, AllocError> {
+    if fault.code == Code::OutOfMemory.number() {
+        Err(AllocError)
+    } else {
+        Ok(false)
     }
 }

@@ -1,12 +1,12 @@
 //! The warnings of all phases.
 
-use lexer::tokens;
+use lexer::{Token, tokens};
 use lint::Warning;
 use lint_flow::program_warnings;
 use lint_tree::unit_warnings;
 use parser::parse;
 use pp::preprocess;
-use srcset::{FileSet, Names, Pos};
+use srcset::{Code, Fault, FileSet, Names, Pos};
 use std::alloc::{AllocError, Global};
 use tree::Unit;
 use typed_ast::Program;
@@ -20,11 +20,22 @@ pub(crate) fn gathered(
     stack: u32,
     names: &mut Names,
 ) -> Result<Option<Vec<Warning>>, AllocError> {
-    let Some(unit) = unit_of(alloc, set, main, names) else {
-        return Ok(None);
-    };
+    match unit_of(alloc, set, main, names)? {
+        Some(unit) => with_program(alloc, unit, main, stack, names),
+        None => Ok(None),
+    }
+}
+
+/// The warnings of a tree and of its typed program.
+fn with_program(
+    alloc: Global,
+    unit: Unit,
+    main: &str,
+    stack: u32,
+    names: &Names,
+) -> Result<Option<Vec<Warning>>, AllocError> {
     let found = unit_warnings(alloc, &unit, names)?;
-    match program_of(alloc, unit, main, stack, names) {
+    match program_of(alloc, unit, main, stack, names)? {
         Some(program) => with_flow(alloc, found, &program),
         None => Ok(None),
     }
@@ -43,15 +54,57 @@ fn with_flow(
 }
 
 /// The tree of the sources.
-fn unit_of(alloc: Global, set: &FileSet, main: &str, names: &mut Names) -> Option<Unit> {
-    let list = preprocess(alloc, set, names, main).ok()?;
-    let tokens = tokens(alloc, list.as_slice(), names).ok()?;
-    drop(list);
-    parse(alloc, tokens.as_slice(), names).ok()
+fn unit_of(
+    alloc: Global,
+    set: &FileSet,
+    main: &str,
+    names: &mut Names,
+) -> Result<Option<Unit>, AllocError> {
+    let Some(tokens) = tokens_of(alloc, set, main, names)? else {
+        return Ok(None);
+    };
+    match parse(alloc, tokens.as_slice(), names) {
+        Ok(unit) => Ok(Some(unit)),
+        Err(fault) => refused(&fault),
+    }
+}
+
+/// The tokens of the sources.
+fn tokens_of(
+    alloc: Global,
+    set: &FileSet,
+    main: &str,
+    names: &mut Names,
+) -> Result<Option<Vec<Token>>, AllocError> {
+    match preprocess(alloc, set, names, main) {
+        Ok(list) => match tokens(alloc, list.as_slice(), names) {
+            Ok(tokens) => Ok(Some(tokens)),
+            Err(fault) => refused(&fault),
+        },
+        Err(fault) => refused(&fault),
+    }
 }
 
 /// The typed program of a tree.
-fn program_of(alloc: Global, unit: Unit, main: &str, stack: u32, names: &Names) -> Option<Program> {
+fn program_of(
+    alloc: Global,
+    unit: Unit,
+    main: &str,
+    stack: u32,
+    names: &Names,
+) -> Result<Option<Program>, AllocError> {
     let file = names.find(main.as_bytes()).unwrap_or_default();
-    check(alloc, unit, names, Pos { file, line: 1 }, stack).ok()
+    match check(alloc, unit, names, Pos { file, line: 1 }, stack) {
+        Ok(program) => Ok(Some(program)),
+        Err(fault) => refused(&fault),
+    }
+}
+
+/// What a phase that refuses the files gives: nothing, but a refused growth is told.
+fn refused<T>(fault: &Fault) -> Result<Option<T>, AllocError> {
+    if fault.code == Code::OutOfMemory.number() {
+        Err(AllocError)
+    } else {
+        Ok(None)
+    }
 }

@@ -23,7 +23,7 @@ fn warnings_of(
     names: &mut Names,
 ) -> Result<Vec<Warning>, AllocError> {
     if files.is_laid {
-        if let Some(laid) = files.laid_set(alloc) {
+        if let Some(laid) = files.laid_set(alloc)? {
             if let Some(found) = gathered(alloc, &laid, asked.main, asked.stack, names)? {
                 return Ok(found);
             }

@@ -3,10 +3,10 @@
 use crate::script::Script;
 use crate::trace_port::TracePort;
 use cc::{Cmd, StackSize, perform};
-use explain::Sources;
+use explain::{Sources, add_file};
 use instrument::{Told, Words, put_statement_probes};
 use io_ports::Port;
-use srcset::{Code, FileSet};
+use srcset::FileSet;
 use std::alloc::{AllocError, Global};
 use std::io;
 use std::io::Write;
@@ -63,26 +63,17 @@ pub fn with_probes(
             return Ok(None);
         };
         let text = put_statement_probes(alloc, &words, number, &mut told)?;
-        if !is_added(&mut set, file.name.as_str(), text)? {
+        if !add_file(&mut set, file.name.as_str(), text)? {
             return Ok(None);
         }
     }
     let mut first = String::from_str(alloc, PROBES)?;
     first.push_str(format!(in alloc; "#include \"{main}\"\n")?.as_str())?;
-    if !is_added(&mut set, TRACING, first.into_bytes())? {
+    if !add_file(&mut set, TRACING, first.into_bytes())? {
         return Ok(None);
     }
     let script = Script::new(alloc, sources, told)?;
     Ok(Some(Tracing { set, script }))
-}
-
-/// Adds a file to a set; answers whether the set takes it.
-fn is_added(set: &mut FileSet, name: &str, text: Vec<u8>) -> Result<bool, AllocError> {
-    match set.add(name, text) {
-        Ok(()) => Ok(true),
-        Err(fault) if fault.code == Code::OutOfMemory.number() => Err(AllocError),
-        Err(_) => Ok(false),
-    }
 }
 
 /// Interprets a program with probes for at most so many ticks; its own bytes come from the port and go there, and its trace goes to the writer. What

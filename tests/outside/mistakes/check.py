@@ -171,6 +171,13 @@ def others():
     check('colours', '\x1b[1;31m528\x1b[0m' in run(bare, ['explain', 'build', 'main.c', '--color', 'always'])[2])
     one = json.loads(run({'main.c': 'int f(void) { return 0; }\n'}, ['explain', 'build', '--json', 'main.c', '-D', 'N=1'])[1])
     check('a fault of the unit with -D', (one['file'], one['code']) == ('main.c', '551'), one)
+    beside = {'main.c': '#include "util.h"\nint main(void) { return N; }\n', 'util.h': '#define N 3\n'}
+    help = 'it lies beside the file that includes it: name `util.h` behind MAIN, or give -I .'
+    check('an included file beside', run(beside, ['explain', 'build', 'main.c'])[2] == "main.c:1:10: 232 include file not found '\"util.h\"'\n    1 | #include \"util.h\"\n      |          ^~~~~~~~\n  help: " + help + '\n')
+    notes = json.loads(run(beside, ['explain', 'build', '--json', 'main.c'])[1])['notes']
+    check('an included file beside, as JSON', notes == [dict(topic='hint', text=help)], notes)
+    check('an included file beside, with -I', run(beside, ['explain', 'build', 'main.c', '-I', '.'])[:3] == (0, '', ''))
+    check('an included file that is nowhere', 'it lies beside' not in run({'main.c': beside['main.c']}, ['explain', 'build', 'main.c'])[2])
     many = {'main.c': ''.join('int f%d(void) { return a; }\n' % n for n in range(9)) + 'int main(void) { return 0; }\n'}
     check('--errors', run(many, ['explain', 'build', 'main.c', '--errors', '3'])[2].count(' 528 ') == 3)
     mended = json.loads(run({'main.c': 'int main(void) {\n    return 0\n}\n'}, ['explain', 'build', '--json', 'main.c'])[1])['fix']

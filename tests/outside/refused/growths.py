@@ -111,7 +111,14 @@ def commands(cc, preload):
     for form in ('tokens', 'tree', 'typed', 'tac', 'flat'):
         yield plain('show ' + form, ['show', form, 'main.c'], files)
     yield plain('show as JSON', ['show', 'typed', 'main.c', '--json'], files)
-    # `check` has no row: it does not answer 801 for each refused growth (docs/WARNINGS.md, Memory)
+    unused = {'main.c': b'int main(void) { int unused = 3; int other; return 0; }\n'}
+    wrong = {'main.c': b'int f(void) { return cuont }\nint count;\nint main(void) { return cuont; }\nint g(int a) { return a(1); }\n'}
+    for words in ([], ['--json'], ['--sarif']):
+        yield plain(' '.join(['check', *words]), ['check', 'main.c', *words], unused)
+        yield plain(' '.join(['check of a refused program', *words]), ['check', 'main.c', *words], wrong)
+        yield plain(' '.join(['explain', *words]), ['explain', 'build', 'main.c', *words], wrong)
+        act = {'main.c': b'int f(int n) { return 7 / n; }\nint main(void) { int a[3]; a[0] = f(1); return f(a[0] - 7); }\n'}
+        yield plain(' '.join(['explain interp', *words]), ['explain', 'interp', 'main.c', *words], act)
     yield plain('pp with lines', ['pp', 'main.c', '--lines'], files)
     yield plain('interp told', ['interp', 'main.c', '--trace-file', 'out'], files, 'out')
     two = {'main.c': b'#include "a.h"\nint main(void) { return N; }\n', 'inc/a.h': b'#define A 1\n'}

@@ -118,6 +118,15 @@ with tempfile.TemporaryDirectory() as work:
 ran = subprocess.run([cc, "check", "-"], input="int main(void) { return x; }\n", capture_output=True, text=True, timeout=60)
 built = subprocess.run([cc, "build", "-", "-o", os.devnull], input="int main(void) { return x; }\n", capture_output=True, text=True, timeout=60)
 check("refused", (ran.returncode, ran.stdout, ran.stderr) == (1, "", "stdin.c:1: 528 undeclared name\n") and ran.stderr == built.stderr, ran)
+ran = subprocess.run([cc, "check", "-", "--json"], input="int main(void) { return x; }\n", capture_output=True, text=True, timeout=60)
+one = json.loads(ran.stdout.splitlines()[0])
+check("refused, as JSON", (ran.returncode, ran.stderr, one["code"], one["line"], one["column"], one["token"]) == (1, "", "528", 1, 25, "x"), ran)
+ran = subprocess.run([cc, "check", "-", "--sarif"], input="int main(void) { return x; }\n", capture_output=True, text=True, timeout=60)
+results = json.loads(ran.stdout)["runs"][0]["results"]
+check("refused, as SARIF", (ran.returncode, ran.stderr, [it["ruleId"] for it in results]) == (1, "", ["528"]), ran)
+with tempfile.TemporaryDirectory() as work:
+    ran = subprocess.run([cc, "check", "none.c", "--json"], cwd=work, capture_output=True, text=True, timeout=60)
+check("no such file, as JSON", (ran.returncode, ran.stderr, json.loads(ran.stdout)["code"]) == (1, "", "802"), ran)
 ran = subprocess.run([cc, "check", "-", "--warn=shadow,nonsense"], input="int main(void) { }\n", capture_output=True, text=True, timeout=60)
 check("no such warning", ran.returncode == 2 and ran.stdout == "", ran)
 # where lines mean something there is no column, and the line is right
