@@ -1,6 +1,5 @@
 #!/usr/bin/env python3
-"""Writes the part of docs/ARCHITECTURE.md that tells the crates: under each heading of crates.txt, of each crate the first
-paragraph of its README: one sentence on what the crate is, before what it takes, gives and promises; or these at once.
+"""Writes the list of crates in docs/design/overview.md: each heading of crates.txt, with links to the READMEs of its crates.
 
     python3 tests/architecture.py            writes the page
     python3 tests/architecture.py --check    only compares; also each README's title, and the paths that documents name
@@ -8,7 +7,7 @@ paragraph of its README: one sentence on what the crate is, before what it takes
 Called from the repository's root. With --check the last line counts the checks."""
 import glob, os, re, sys
 
-PAGE, BEGIN, END = 'docs/ARCHITECTURE.md', '<!-- made by tests/architecture.py -->\n', '<!-- end -->\n'
+PAGE, BEGIN, END = 'docs/design/overview.md', '<!-- made by tests/architecture.py -->\n', '<!-- end -->\n'
 counts = [0, 0]
 
 def holds(what, right):
@@ -38,17 +37,11 @@ def groups():
 def crates():
     return [crate for _, _, names in groups() for crate in names]
 
-def first_paragraph(crate):
-    """The title and the first paragraph of a crate's README, the latter on one line."""
-    parts = read('crates/%s/README.md' % crate).split('\n\n')
-    return parts[0], ' '.join(parts[1].split()) if len(parts) > 1 else ''
-
 def made():
-    lines = []
+    lines = ['']
     for name, text, names in groups():
-        lines += ['', '## ' + name, '', text[:1].upper() + text[1:] + '.']
-        for crate in names:
-            lines += ['', '**[%s](../crates/%s/README.md)** %s' % (crate, crate, first_paragraph(crate)[1])]
+        links = ['[%s](../../crates/%s/README.md)' % (crate, crate) for crate in names]
+        lines.append('- **%s**: %s. %s' % (name, text, ', '.join(links)))
     return '\n'.join(lines) + '\n\n'
 
 # ------------------------------------------------------------------ --check
@@ -78,7 +71,7 @@ def stands(path, crate):
 
 def check_paths():
     """The paths in code of each document. Words in capitals stand for any name."""
-    for document in ['README.md'] + sorted(glob.glob('docs/*.md') + glob.glob('bench/*.md') + glob.glob('crates/*/README.md')):
+    for document in ['README.md'] + sorted(glob.glob('docs/*.md') + glob.glob('docs/design/*.md') + glob.glob('bench/*.md') + glob.glob('crates/*/README.md')):
         crate = document.split('/')[1] if document.startswith('crates/') else None
         wrong = []
         for path in re.findall(r'`((?:[a-z_]+/)?(?:crates|specs|proofs|src|tests|bench|docs|must-fail|release|examples)/[^` ]+)`', read(document)):

@@ -1,5 +1,5 @@
 #!/usr/bin/env python3
-"""Holds the pages of docs/decisions and their index, docs/DECISIONS.md, together: each page has a title with its own
+"""Holds the pages of docs/design/decisions and their index, docs/design/decisions.md, together: each page has a title with its own
 number and the three sections, numbers have no gap, each page is in the index exactly once, in at most a dozen words, and
 each link and each path of the repository in backticks is there.
 
@@ -8,7 +8,7 @@ each link and each path of the repository in backticks is there.
 Called from the repository's root. The last line counts the checks."""
 import glob, os, re, sys
 
-INDEX, PAGES = 'docs/DECISIONS.md', 'docs/decisions'
+INDEX, PAGES = 'docs/design/decisions.md', 'docs/design/decisions'
 SECTIONS = ['Context', 'Choice', 'Consequence']
 passed = failed = 0
 

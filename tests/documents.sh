@@ -67,7 +67,7 @@ words=$(grep -c '^[|] [0-9].*[|] [^|]*\*[^|]* [|]$' docs/FAULTS.md)
 [ $(($(wc -l <"$work/sources") + words)) -ge "$(wc -l <"$work/table")" ] && pass || fail 'docs/FAULTS.md has a row whose source is neither built nor told in words'
 
 # --------------------------------------------------------------- the others
-script python3 tests/transcripts.py "$cc" README.md docs/TOUR.md docs/EXPLAIN.md docs/WARNINGS.md docs/INSPECT.md docs/USE.md
+script python3 tests/transcripts.py "$cc" README.md docs/TOUR.md docs/EXPLAIN.md docs/WARNINGS.md docs/INSPECT.md docs/USE.md docs/design/lowering.md docs/FIRMWARE.md
 script python3 tests/language.py "$cc"
 script python3 tests/architecture.py --check
 script python3 tests/trust.py --check
@@ -78,7 +78,7 @@ script python3 tests/doc_comments.py
 script python3 tests/laws.py
 
 # documents tell what is, not what was or will be; README may say what is there at its date
-if grep -nwiE 'today|so far|to come|not yet|at the moment|699' $(ls docs/*.md docs/decisions/*.md | grep -v TRUST) bench/README.md crates/*/README.md >"$work/diary"; then
+if grep -nwiE 'today|so far|to come|not yet|at the moment|699' $(ls docs/*.md docs/design/*.md docs/design/decisions/*.md | grep -v TRUST) bench/README.md crates/*/README.md >"$work/diary"; then
     fail "a document speaks of its day: $(head -n 3 "$work/diary")"
 else
     pass

@@ -16,6 +16,7 @@ RECIPES = {
     'fault': (r'\bLabelTwice\b|\b540\b', ()),
     'built-in': (r'[gG]et_?[bB]yte|\bGotEnd\b|[gG]et_?[fF]ollows|\bPort for\b|(==|≡) 63\b|\beqb \w+ 63\b|\b63 if\b|li +t1, 63\b|\btrait Port\b', ('phases', 'lexer')),
     'instruction': (r'MulHighSignedUnsigned|mulhsu', ()),
+    'option': (r'is_plain|--plain\b', ()),
     'limit': (r'function_node_limit|MAX_FUNCTION_NODES|FunctionNodeLimit|\b710\b', ()),
 }
 
@@ -39,7 +40,7 @@ def flow():
 def lists(name, pattern, without):
     """Of each crate the files in which the names stand, and those of the tests from outside."""
     found = {}
-    for path in list(files('crates', 'tests/outside', 'boards')) + sorted(glob.glob('docs/decisions/*.md')) + ['docs/FAULTS.md', 'docs/LANGUAGE.md', 'docs/MACHINE.md', 'docs/MEANING.md', 'boards/README.md', 'tests/language.py']:
+    for path in list(files('crates', 'tests/outside', 'boards')) + sorted(glob.glob('docs/design/decisions/*.md')) + ['docs/FAULTS.md', 'docs/LANGUAGE.md', 'docs/MACHINE.md', 'docs/design/semantics.md', 'boards/README.md', 'tests/language.py']:
         if name == 'built-in' and path in MERE_PROGRAMS:
             continue
         crate = path.split('/')[1] if path.startswith('crates/') else ''

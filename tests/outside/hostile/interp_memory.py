@@ -1,5 +1,5 @@
 #!/usr/bin/env python3
-"""Holds the memory that `interp` takes of the host to what MEANING says of it.
+"""Holds the memory that `interp` takes of the host to what docs/design/semantics.md says of it.
 
     python3 tests/outside/hostile/interp_memory.py bin/cc
 
