@@ -7,7 +7,8 @@ log, whose members are asked for as the standards name them; further faults; und
 The last line is 'N passed, M failed'."""
 import json, os, pty, re, subprocess, sys, tempfile
 
-sys.path.insert(0, os.path.dirname(os.path.abspath(__file__)))
+sys.path[:0] = [os.path.dirname(os.path.abspath(__file__)), os.path.dirname(os.path.dirname(os.path.abspath(__file__)))]
+import sarif
 from cases import CASES, FURTHER, UNDEFINED
 
 CC = os.path.abspath(sys.argv[1])
@@ -78,8 +79,10 @@ def as_json(name, files, place, code):
           and where['region'] == dict(startLine=line, startColumn=column, endColumn=column + len(token)), out)
 
 def is_sarif(log):
-    """The members that SARIF 2.1.0 requires, with their types (3.13 to 3.30 and the schema's `required`)."""
-    if log.get('version') != '2.1.0' or not isinstance(log.get('runs'), list):
+    """What the schema says, and of each rule its texts, of each result its rule."""
+    wrong = list(sarif.faults(log))
+    if wrong:
+        print('\n'.join(wrong))
         return False
     for one in log['runs']:
         if not isinstance(one['tool']['driver']['name'], str) or one['columnKind'] not in ('utf16CodeUnits', 'unicodeCodePoints'):

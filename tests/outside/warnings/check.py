@@ -12,6 +12,9 @@ import sys
 import tempfile
 
 here = os.path.dirname(os.path.abspath(__file__))
+sys.path.insert(0, os.path.dirname(here))
+import sarif
+
 top = os.path.dirname(os.path.dirname(os.path.dirname(here)))
 cc = os.path.abspath(sys.argv[1] if len(sys.argv) > 1 else os.path.join(top, "bin/cc"))
 passed = failed = 0
@@ -88,6 +91,7 @@ for kind, wanted in WANTED.items():
     found = [(it["file"], it["line"], it["column"]) for it in objects if it["code"] == kind]
     check(f"{kind}: JSON", found == [it[:3] for it in wanted], found)
     status, out, err = run(kind, [*files(kind, "with.c"), f"--warn={kind}", "--sarif"])
+    check(f"{kind}: SARIF by the schema", not list(sarif.faults(json.loads(out))), list(sarif.faults(json.loads(out))))
     log = json.loads(out)["runs"][0]
     regions = [it["locations"][0]["physicalLocation"]["region"] for it in log["results"] if it["ruleId"] == kind]
     check(f"{kind}: SARIF", [(it["startLine"], it["startColumn"]) for it in regions] == [it[1:3] for it in wanted], regions)
