@@ -17,18 +17,19 @@ _zkc() {
     explain:--color) COMPREPLY=($(compgen -W 'auto always never' -- "$word")); return ;;
     explain:--stack) return ;;
     explain:--max) return ;;
+    explain:--errors) return ;;
     show:--stack) return ;;
     check:--stack) return ;;
     frames:--stack) return ;;
     symbols:--stack) return ;;
     esac
     case ${COMP_WORDS[1]} in
-    build) case $word in -*) COMPREPLY=($(compgen -W '--stack -o -I -D -U --depend --depend-file --depend-target --depend-phony -S -E --list-files -h --help' -- "$word")) ;; *) mapfile -t COMPREPLY < <(compgen -f -- "$word") ;; esac ;;
+    build) case $word in -*) COMPREPLY=($(compgen -W '--stack -o --plain -I -D -U --depend --depend-file --depend-target --depend-phony -S -E --list-files -h --help' -- "$word")) ;; *) mapfile -t COMPREPLY < <(compgen -f -- "$word") ;; esac ;;
     pp) case $word in -*) COMPREPLY=($(compgen -W '--lines -o -I -D -U --list-files -h --help' -- "$word")) ;; *) mapfile -t COMPREPLY < <(compgen -f -- "$word") ;; esac ;;
     list) case $word in -*) COMPREPLY=($(compgen -W '--stack --labels --abi --source -o -I -D -U -h --help' -- "$word")) ;; *) mapfile -t COMPREPLY < <(compgen -f -- "$word") ;; esac ;;
     run) case $word in -*) COMPREPLY=($(compgen -W '--max --trace --trace-file --at --map --stack -I -D -U -h --help' -- "$word")) ;; *) mapfile -t COMPREPLY < <(compgen -f -- "$word") ;; esac ;;
     interp) case $word in -*) COMPREPLY=($(compgen -W '--stack --max --trace --trace-file -I -D -U -h --help' -- "$word")) ;; *) mapfile -t COMPREPLY < <(compgen -f -- "$word") ;; esac ;;
-    explain) [ "$COMP_CWORD" = 2 ] && { COMPREPLY=($(compgen -W 'build interp pp' -- "$word")); return; }; case $word in -*) COMPREPLY=($(compgen -W '--json --sarif --color --stack --max -I -D -U -h --help' -- "$word")) ;; *) mapfile -t COMPREPLY < <(compgen -f -- "$word") ;; esac ;;
+    explain) [ "$COMP_CWORD" = 2 ] && { COMPREPLY=($(compgen -W 'build interp pp' -- "$word")); return; }; case $word in -*) COMPREPLY=($(compgen -W '--json --sarif --color --stack --max --errors -I -D -U -h --help' -- "$word")) ;; *) mapfile -t COMPREPLY < <(compgen -f -- "$word") ;; esac ;;
     show) [ "$COMP_CWORD" = 2 ] && { COMPREPLY=($(compgen -W 'tokens tree typed tac flat' -- "$word")); return; }; case $word in -*) COMPREPLY=($(compgen -W '--json --stack -o -I -D -U -h --help' -- "$word")) ;; *) mapfile -t COMPREPLY < <(compgen -f -- "$word") ;; esac ;;
     check) case $word in -*) COMPREPLY=($(compgen -W '--warn --werror --json --sarif --stack -I -D -U -h --help' -- "$word")) ;; *) mapfile -t COMPREPLY < <(compgen -f -- "$word") ;; esac ;;
     frames) case $word in -*) COMPREPLY=($(compgen -W '--stack --sizes -I -D -U -h --help' -- "$word")) ;; *) mapfile -t COMPREPLY < <(compgen -f -- "$word") ;; esac ;;
