@@ -9,6 +9,7 @@ use cmd_inspect::{
     ListForm, list_code, show_form, show_frames, show_image, show_size, write_symbols,
 };
 use cmd_trace::{RunForm, interp_traced, run_traced};
+use cmd_verify::verify_program;
 
 /// Does what is asked; answers the exit status.
 pub fn answer(rt: &HostRuntime, request: &Request<'_>) -> u8 {
@@ -86,6 +87,7 @@ pub fn answer(rt: &HostRuntime, request: &Request<'_>) -> u8 {
                 telling,
             },
         ),
+        Command::Verify => verify_program(rt, program),
         Command::Frames { has_sizes } => show_frames(rt, program, has_sizes),
         Command::Symbols(out) => write_symbols(rt, program, out),
         Command::Image(form) => show_image(rt, program.main, form),

@@ -1,7 +1,7 @@
 //! The form of the command line, made from the table.
 
 use crate::forms::{
-    build, check, explain, frames, image, interp, list, pp, run, show, size, symbols,
+    build, check, explain, frames, image, interp, list, pp, run, show, size, symbols, verify,
 };
 use clap::Command;
 use std::alloc::{AllocError, Global};
@@ -30,6 +30,7 @@ fn with_forms<'a>(alloc: Global, whole: Command<'a>) -> Result<Command<'a>, Allo
     let command = with(command, explain(alloc));
     let command = with(command, show(alloc));
     let command = with(command, check(alloc));
+    let command = with(command, verify(alloc));
     let command = with(command, frames(alloc));
     let command = with(command, symbols(alloc));
     let command = with(command, image(alloc));

@@ -63,6 +63,8 @@ const INTERP_ROWS: &[Row] = &[
     UNDEFINES,
 ];
 
+const VERIFY_ROWS: &[Row] = &[MAIN, FILES, STACK, FOLDERS, DEFINES, UNDEFINES];
+
 const SHOW_ROWS: &[Row] = &[
     FORM, MAIN, FILES, FORM_JSON, STACK, TEXT_OUT, FOLDERS, DEFINES, UNDEFINES,
 ];
@@ -180,6 +182,16 @@ pub fn check<'a>(alloc: Global) -> Result<Command<'a>, AllocError> {
         "check",
         "Warns of what a right program may have by mistake",
         CHECK_ROWS,
+    )
+}
+
+/// The form of `verify`.
+pub fn verify<'a>(alloc: Global) -> Result<Command<'a>, AllocError> {
+    form(
+        alloc,
+        "verify",
+        "Tells whether a program does anything undefined, on any input",
+        VERIFY_ROWS,
     )
 }
 

@@ -362,7 +362,7 @@ const HABITS: &[Habit] = &[
 
 /// The commands that read sources, in which these words may stand.
 const COMPILING: &[&str] = &[
-    "build", "pp", "list", "interp", "explain", "show", "frames", "symbols", "check",
+    "build", "pp", "list", "interp", "explain", "show", "frames", "symbols", "check", "verify",
 ];
 
 /// The words that may stand in place of a command.

@@ -166,6 +166,8 @@ pub enum Command<'a> {
         are_errors: bool,
         telling: Telling,
     },
+    /// Tell whether anything undefined is done, on any input.
+    Verify,
     /// Print what each function takes, with addresses and sizes or without.
     Frames {
         has_sizes: bool,
