@@ -1,0 +1,11 @@
+use Rattle.verify.proofs.Steps.{all_statics, begin_statics, static_at}
+use Rattle.verify.proofs.first_objects.statics.Goals as goal
+
+pub loop-n-init : goal.loop-n-init
+loop-n-init c = begin_statics _ _ c.in_ok-current.ensures
+
+pub loop-n-preserved : goal.loop-n-preserved
+loop-n-preserved c = static_at _ _ _ _ _ _ c.loop-n-test.true c.index-objects-n.is c.in_ok-next.ensures c.loop-n.invariant
+
+pub returns : goal.returns
+returns c = all_statics _ _ _ _ c.loop-n-test.false c.loop-n.invariant
