@@ -1,15 +1,13 @@
 -- What is shown of parts of calls and of assignments.
-use Rattle.std.specs.Prelude.{◌≡◌, ◌≤◌, false, slice_get, ℕ, List, [], ◌∷◌, map, drop, length, Option, Some, Bool, true}
+use Rattle.std.specs.Prelude.{◌≡◌, ◌≤◌, ℕ, List, [], ◌∷◌, map, drop, length, Option, Bool}
 use Rattle.srcset.specs.declared.refusal.Pos.{Pos}
 use Rattle.ctypes.specs.declared.types.IntType.{IntType}
-use Rattle.typing_spec.specs.Types.{ObjectType}
 use Rattle.typing_spec.specs.Program as typed
 use Rattle.typed_ast.specs.declared.expressions.Argument.{Argument}
 use Rattle.typed_ast.specs.View.{Given, argument_of, arguments_of, and_given}
 use Rattle.verify_logic.specs.declared.abstract_values.Interval.{Interval}
 use Rattle.verify_logic.specs.declared.abstract_values.AbsValue.{AbsValue}
-use Rattle.verify_logic.specs.States.{Summary, Frame, Entails, EachEntails, shape_of, shapes_of}
-use Rattle.verify_logic.specs.Calls.{CallValue, cut}
+use Rattle.verify_logic.specs.States.{Frame, shape_of}
 use Rattle.verify_logic.specs.Judgements.{Evaluates}
 use Rattle.verify_logic.specs.Places.{Passes}
 
@@ -29,38 +27,3 @@ pub record VariableAt (fr : Frame) (x depth : ℕ) : Type 0 where
 -- a call of function f with numbers in these intervals has a value in the interval
 pub record CallsAt (fr : Frame) (at : Pos) (f : ℕ) (used : Bool) (is : List Interval) (before : Option (List AbsValue)) (i : Interval) (after : Option (List AbsValue)) : Type 0 where
   pub gives : (t : Option IntType) (arguments : typed.Arguments) (o : Option (List AbsValue)) → Passes fr arguments o is before → Evaluates fr (typed.call at (typed.function f) t used arguments) o i after
-
--- ---- calls by summaries
-
--- parameters that are scalars, with numbers in these intervals
-abbrev pub Parameters : List Interval → List ObjectType → List AbsValue → Type 0
-Parameters [] [] [] = Unit {0}
-Parameters [] [] (k ∷ ks) = ⊥
-Parameters [] (t ∷ objects) ks = ⊥
-Parameters (i ∷ is) [] ks = ⊥
-Parameters (i ∷ is) (t ∷ objects) [] = ⊥
-Parameters (i ∷ is) (t ∷ objects) (k ∷ ks) = (t.lengths ≡ []) × Entails (record { initialised = true; interval = i }) k × Parameters is objects ks
-
--- objects without values
-abbrev pub AreFresh : List AbsValue → Type 0
-AreFresh [] = Unit {0}
-AreFresh (k ∷ ks) = (k.initialised ≡ false) × AreFresh ks
-
--- so many
-abbrev pub Fresh : ℕ → List AbsValue → Type 0
-Fresh count ks = (length ks ≡ count) × AreFresh ks
-
--- the summary is of function f, called from this frame with these objects
-pub record Fits (fr : Frame) (f : ℕ) (entry : List AbsValue) (a : Summary) : Type 0 where
-  pub function : a.function ≡ f
-  pub outer : a.outer ≡ shapes_of fr
-  pub entry_is : EachEntails entry a.entry
-
--- a summary says what such a call gives
-pub record Summarised (fr : Frame) (at : Pos) (f : ℕ) (used : Bool) (entry : List AbsValue) (i : Interval) (after : Option (List AbsValue)) : Type 0 where
-  pub number : ℕ
-  pub summary : Summary
-  pub there : slice_get fr.summaries number ≡ Some summary
-  pub fits : Fits fr f entry summary
-  pub value : CallValue fr at used summary.value i
-  pub left : after ≡ cut (length (shapes_of fr)) summary.left

@@ -131,7 +131,7 @@ summary_rule fr f g is known ks n a eg en ea ef eo le = record { runs = λ d pas
         let O : List (List ℕ) → Type 0 = λ outer. CoversState outer g.objects (Some (known ++ ks)) s1 in
         let cov : CoversState a.outer g.objects (Some a.entry) s1 = covers_more a.outer g.objects (known ++ ks) a.entry s1 le (subst O (sym eo) (enter_covers fr f g passed s known ks is am en c)) in
         let done : Ends fr.listed (body_and_value fr.program a.function d g s1) (λ v s2. ValueIs a.value v × CoversState a.outer g.objects a.left s2) =
-          sound_at fr.program fr.listed fr.summaries n a ea c.sound g (subst F (sym ef) eg) d s1 cov in
+        sound_at fr.program fr.listed fr.summaries n a ea c.sound g (subst F (sym ef) eg) d s1 cov in
         let Q : ℕ → Type 0 = λ x. Ends fr.listed (body_and_value fr.program x d g s1) (λ v s2. ValueIs a.value v × CoversState a.outer g.objects a.left s2) in
         let R : List (List ℕ) → Type 0 = λ outer. Ends fr.listed (body_and_value fr.program f d g s1) (λ v s2. ValueIs a.value v × CoversState outer g.objects a.left s2) in
         subst P (sym eg) (leaving s c (nat_eq f fr.program.main) (body_of fr.program (calling fr.program d) g s1) (subst R eo (subst Q ef done)))
@@ -219,7 +219,7 @@ body_rule fr f g entry w value left ea eo sound eg h e = λ g2 e2 d s c.
         let O : List ObjectType → Type 0 = λ objects. ObjectsAre entry (fr.outer ++ map lengths_in objects) s.store in
         let c1 : Reaches fr (Some entry) s = record { based = c.based; referred = c.referred ∙ sym ea; objects_are = subst O eo c.objects_are; bytes = c.bytes; sound = sound } in
         let T : List ObjectType → Type 0 = λ objects. Ends fr.listed (then_do (then_do (ticks (suc (length g.type.parameters)) s) (λ u s. execute fr.program (calling fr.program d) objects g.body s)) (λ flow s2. Goes (value_left (nat_eq f fr.program.main) flow) s2))
-          (λ v s2. ValueIs value v × CoversState fr.outer objects left s2) in
+        (λ v s2. ValueIs value v × CoversState fr.outer objects left s2) in
         subst T (sym eo) (then_ends fr.listed (then_do (ticks (suc (length g.type.parameters)) s) (λ u s. execute fr.program (calling fr.program d) fr.objects g.body s)) _ (Leaves fr w) (λ v s2. ValueIs value v × CoversState fr.outer fr.objects left s2)
         (then_ends fr.listed (ticks (suc (length g.type.parameters)) s) _ (λ u s2. Reaches fr (Some entry) s2) (Leaves fr w) (ticks_end fr (suc (length g.type.parameters)) s (Some entry) c1) (λ u s2 c2. h.runs d s2 c2))
         (λ flow s2 k. let q = ends (nat_eq f fr.program.main) refl flow s2 k in (q.0, to_covers fr left s2 ea q.1)))

@@ -287,8 +287,8 @@ enters_statement fr entry w a w2 more out e h k = record {
   follows = followed fr w a w2 more out h k.follows;
   jumped = λ d label s lt c.
       let P : List (Option ℤ) → Type 0 = λ labels. label < length (labels ++ labels_of more) →
-          Ends fr.listed (choose (nat_lt label (length labels)) (then_do (execute fr.program (calling fr.program d) fr.objects a s) (λ flow s. next_after flow s (execute_all fr.program (calling fr.program d) fr.objects more)))
-          (execute_from fr.program (calling fr.program d) fr.objects (Some (label - length labels)) more s)) (Leaves fr out) in
+      Ends fr.listed (choose (nat_lt label (length labels)) (then_do (execute fr.program (calling fr.program d) fr.objects a s) (λ flow s. next_after flow s (execute_all fr.program (calling fr.program d) fr.objects more)))
+      (execute_from fr.program (calling fr.program d) fr.objects (Some (label - length labels)) more s)) (Leaves fr out) in
       subst P (sym e) (λ lt.
       let N : ℕ → Type 0 = λ n. Ends fr.listed (execute_from fr.program (calling fr.program d) fr.objects (Some n) more s) (Leaves fr out) in
       let q : label ≡ label - 0 = omega arith in
@@ -308,8 +308,8 @@ enters_label fr entry w a v o w2 more out e fe fw h k = record {
   };
   jumped = λ d label s lt c.
       let P : List (Option ℤ) → Type 0 = λ labels. label < length (labels ++ labels_of more) →
-          Ends fr.listed (choose (nat_lt label (length labels)) (then_do (execute fr.program (calling fr.program d) fr.objects a s) (λ flow s. next_after flow s (execute_all fr.program (calling fr.program d) fr.objects more)))
-          (execute_from fr.program (calling fr.program d) fr.objects (Some (label - length labels)) more s)) (Leaves fr out) in
+      Ends fr.listed (choose (nat_lt label (length labels)) (then_do (execute fr.program (calling fr.program d) fr.objects a s) (λ flow s. next_after flow s (execute_all fr.program (calling fr.program d) fr.objects more)))
+      (execute_from fr.program (calling fr.program d) fr.objects (Some (label - length labels)) more s)) (Leaves fr out) in
       subst P (sym e) (λ lt. by d label s c lt) lt;
 }
   where

@@ -80,4 +80,4 @@ pub record MayRead (fr : Frame) (at : Pos) (k : AbsValue) : Type 0 where
 -- a subscript in the interval leads to a part, or is outside at a place that is listed
 pub record Subscripts (fr : Frame) (at : Pos) (i : Interval) (n : ℕ) : Type 0 where
   pub is : (x : ℕ) (rest : List ℕ) (r : Reference) (v : ℤ) (s : State) (o : Option (List AbsValue)) → In i v → length_of (tree_at s.store r) ≡ n → Refers fr x (n ∷ rest) r → Reaches fr o s →
-    Ends fr.listed (subscripted at r v s) (λ r2 s2. Refers fr x rest r2 × Reaches fr o s2)
+      Ends fr.listed (subscripted at r v s) (λ r2 s2. Refers fr x rest r2 × Reaches fr o s2)
