@@ -11,7 +11,8 @@ use Rattle.typing_spec.specs.Types.{ObjectType}
 use Rattle.typing_spec.specs.Program.{Function, Program}
 use Rattle.typed_ast.specs.declared.units.Static as held
 use Rattle.typed_ast.specs.declared.units.Function as code_function
-use Rattle.typed_ast.specs.View.{function_of, static_of}
+use Rattle.typed_ast.specs.declared.units.Program as code_program
+use Rattle.typed_ast.specs.View.{function_of, program_of, static_of}
 use Rattle.csem.specs.Store.{Tree, Store, literal_object, static_object, first_store}
 use Rattle.csem.specs.Machine.{State, Ended, Undefined, TicksUsed, Run, Goes, Stops, then_do, ticks}
 use Rattle.csem.specs.Statements.{Flow, execute}
@@ -21,10 +22,10 @@ use Rattle.verify_logic.specs.declared.abstract_values.AbsValue.{AbsValue}
 use Rattle.verify_logic.specs.States.{Frame, In, TreeIs, ObjectsAre, AreBytes, Summary, lengths_in, IsSound, AreSound, ValueIs, Entails, Implies, Reaches, Ends}
 use Rattle.verify_logic.specs.Statements.{Ways, Leaves, Executes}
 use Rattle.verify_logic.specs.Calls.{Entered, FunctionEnds, Begins, EachIn}
-use Rattle.verify_logic.specs.Whole.{UndefinedOnlyAt, IsDefinedBut}
+use Rattle.verify_logic.specs.Whole.{UndefinedOnlyAt, IsDefined, IsDefinedBut}
 use Rattle.verify_logic.proofs.Runs.{then_ends, tick_ends}
 use Rattle.verify_logic.proofs.Calls.{both_are, as_long, new_objects, ticks_end, body_rule}
-use Rattle.verify_logic.proofs.Whole.{static_is, literal_is, one_more_object, sound_more, one_more_sound}
+use Rattle.verify_logic.proofs.Whole.{never_undefined, static_is, literal_is, one_more_object, sound_more, one_more_sound}
 use Rattle.verify_expressions.specs.Views.{shapes_in, items_of, state_of, summary_of}
 use Rattle.verify_expressions.specs.declared.scope.Summary as code
 use Rattle.verify_expressions.specs.declared.stop.Stop.{Stop}
@@ -81,29 +82,25 @@ one_more_fresh n ks ks2 k h e d = let P : List AbsValue → Type 0 = Fresh (n + 
 
 -- ---- values
 
-each_wider : (i j : Interval) (vs : List ℤ) → j.low ≤ℤ i.low → i.high ≤ℤ j.high → EachIn i vs → EachIn j vs
-each_wider i j [] l h e = tt
-each_wider i j (v ∷ vs) l h e = ((omega (arith, ints, l, e.0.0), omega (arith, ints, h, e.0.1)), each_wider i j vs l h e.1)
-
 each_more : (i : Interval) (vs : List ℤ) (v : ℤ) → EachIn i vs → In i v → EachIn i (vs ++ v ∷ [])
 each_more i [] v h m = (m, tt)
 each_more i (w ∷ vs) v h m = (h.0, each_more i vs v h.1 m)
 
 -- one step of a loop over them
-pub value_step : (i j : Interval) (vs : List ℤ) (n : ℕ) (d : ℤ) → n < length vs → EachIn i (take n vs) → j.low ≤ℤ i.low → i.high ≤ℤ j.high → In j (get_or vs n d) → EachIn j (take (n + 1) vs)
-value_step i j vs n d lt h l g m = let P : List ℤ → Type 0 = EachIn j in
+pub value_step : (i : Interval) (vs : List ℤ) (n : ℕ) (d : ℤ) → n < length vs → EachIn i (take n vs) → In i (get_or vs n d) → EachIn i (take (n + 1) vs)
+value_step i vs n d lt h m = let P : List ℤ → Type 0 = EachIn i in
     let e : take (suc n) vs ≡ take (n + 1) vs = ap (λ m. take m vs) (sym (add-one n)) in
-    subst P (sym (take-suc vs n d lt) ∙ e) (each_more j (take n vs) (get_or vs n d) (each_wider i j (take n vs) l g h) m)
+    subst P (sym (take-suc vs n d lt) ∙ e) (each_more i (take n vs) (get_or vs n d) h m)
 
 pub whole_values : (i : Interval) (vs : List ℤ) (n : ℕ) → length vs ≤ n → EachIn i (take n vs) → EachIn i vs
 whole_values i vs n le h = let P : List ℤ → Type 0 = EachIn i in subst P (take_all n vs le) h
 
-pub text_step : (i j : Interval) (text : List ℕ) (n d : ℕ) → n < length text → EachIn i (map (λ c. pos c) (take n text)) → j.low ≤ℤ i.low → i.high ≤ℤ j.high → In j (pos (get_or text n d)) → EachIn j (map (λ c. pos c) (take (n + 1) text))
-text_step i j text n d lt h l g m = let P : List ℕ → Type 0 = λ text. EachIn j (map (λ c. pos c) text) in
+pub text_step : (i : Interval) (text : List ℕ) (n d : ℕ) → n < length text → EachIn i (map (λ c. pos c) (take n text)) → In i (pos (get_or text n d)) → EachIn i (map (λ c. pos c) (take (n + 1) text))
+text_step i text n d lt h m = let P : List ℕ → Type 0 = λ text. EachIn i (map (λ c. pos c) text) in
     let e : take (suc n) text ≡ take (n + 1) text = ap (λ m. take m text) (sym (add-one n)) in
-    subst P (sym (take-suc text n d lt) ∙ e) (map_more (take n text) (get_or text n d) (each_more j (map (λ c. pos c) (take n text)) (pos (get_or text n d)) (each_wider i j (map (λ c. pos c) (take n text)) l g h) m))
+    subst P (sym (take-suc text n d lt) ∙ e) (map_more (take n text) (get_or text n d) (each_more i (map (λ c. pos c) (take n text)) (pos (get_or text n d)) h m))
   where
-    map_more : (xs : List ℕ) (x : ℕ) → EachIn j (map (λ c. pos c) xs ++ pos x ∷ []) → EachIn j (map (λ c. pos c) (xs ++ x ∷ []))
+    map_more : (xs : List ℕ) (x : ℕ) → EachIn i (map (λ c. pos c) xs ++ pos x ∷ []) → EachIn i (map (λ c. pos c) (xs ++ x ∷ []))
     map_more [] x h = h
     map_more (y ∷ xs) x h = (h.0, map_more xs x h.1)
 
@@ -133,20 +130,24 @@ more_known ks ks2 outer outer2 store store2 k lengths l t h ek eo el m es =
     shapes_more [] lengths = refl
     shapes_more (x ∷ outer) lengths = ap (λ rest. x.items ∷ rest) (shapes_more outer lengths)
 
-pub text_objects : (texts : List (Vec ℕ Global)) (n : ℕ) (d : Vec ℕ Global) → n < length texts →
-    map literal_object (texts_of (take (n + 1) texts)) ≡ map literal_object (texts_of (take n texts)) ++ literal_object (get_or texts n d).items ∷ []
-text_objects [] n d h = absurd (omega (arith, h))
-text_objects (x ∷ texts) zero d h = refl
-text_objects (x ∷ texts) (suc n) d h = ap (λ rest. literal_object x.items ∷ rest) (text_objects texts n d (let q : suc n < suc (length texts) = h in omega (arith, q)))
+text_objects_suc : (texts : List (Vec ℕ Global)) (n : ℕ) (d : Vec ℕ Global) → n < length texts →
+    map literal_object (texts_of (take (suc n) texts)) ≡ map literal_object (texts_of (take n texts)) ++ literal_object (get_or texts n d).items ∷ []
+text_objects_suc [] n d h = absurd (omega (arith, h))
+text_objects_suc (x ∷ texts) zero d h = refl
+text_objects_suc (x ∷ texts) (suc n) d h = ap (λ rest. literal_object x.items ∷ rest) (text_objects_suc texts n d (let q : suc n < suc (length texts) = h in omega (arith, q)))
 
-pub static_objects : (before : Store) (objects : List held.Static) (n : ℕ) (d : held.Static) → n < length objects →
+text_objects : (texts : List (Vec ℕ Global)) (n : ℕ) (d : Vec ℕ Global) → n < length texts →
+    map literal_object (texts_of (take (n + 1) texts)) ≡ map literal_object (texts_of (take n texts)) ++ literal_object (get_or texts n d).items ∷ []
+text_objects texts n d h = ap (λ m. map literal_object (texts_of (take m texts))) (add-one n) ∙ text_objects_suc texts n d h
+
+own_objects : (objects : List held.Static) (n : ℕ) (d : held.Static) → n < length objects → map static_object (map static_of (take (suc n) objects)) ≡ map static_object (map static_of (take n objects)) ++ static_object (static_of (get_or objects n d)) ∷ []
+own_objects [] n d h = absurd (omega (arith, h))
+own_objects (x ∷ objects) zero d h = refl
+own_objects (x ∷ objects) (suc n) d h = ap (λ rest. static_object (static_of x) ∷ rest) (own_objects objects n d (let q : suc n < suc (length objects) = h in omega (arith, q)))
+
+static_objects : (before : Store) (objects : List held.Static) (n : ℕ) (d : held.Static) → n < length objects →
     before ++ map static_object (map static_of (take (n + 1) objects)) ≡ (before ++ map static_object (map static_of (take n objects))) ++ static_object (static_of (get_or objects n d)) ∷ []
-static_objects [] objects n d h = own objects n d h
-  where
-    own : (objects : List held.Static) (n : ℕ) (d : held.Static) → n < length objects → map static_object (map static_of (take (n + 1) objects)) ≡ map static_object (map static_of (take n objects)) ++ static_object (static_of (get_or objects n d)) ∷ []
-    own [] n d h = absurd (omega (arith, h))
-    own (x ∷ objects) zero d h = refl
-    own (x ∷ objects) (suc n) d h = ap (λ rest. static_object (static_of x) ∷ rest) (own objects n d (let q : suc n < suc (length objects) = h in omega (arith, q)))
+static_objects [] objects n d h = ap (λ m. map static_object (map static_of (take m objects))) (add-one n) ∙ own_objects objects n d h
 static_objects (t ∷ before) objects n d h = ap (λ rest. t ∷ rest) (static_objects before objects n d h)
 
 pub no_statics : (before : Store) → before ++ [] ≡ before
@@ -212,14 +213,16 @@ learnt_more p al xs ys x e h g = let P : List code.Summary → Type 0 = λ ys. A
 -- ---- objects before the run, one by one
 
 pub adds_object : (before after : FirstObjects) (k : AbsValue) (lengths : Vec ℕ Global) (l : List ℕ) (t : Tree) → after.known.items ≡ before.known.items ++ k ∷ [] → after.outer.items ≡ before.outer.items ++ lengths ∷ [] → lengths.items ≡ l → TreeIs k l t → Adds before t after
-adds_object before after k lengths l t ek eo el m store h = more_known before.known.items after.known.items before.outer.items after.outer.items store (store ++ t ∷ []) k lengths l t h ek eo el m refl
+adds_object before after k lengths l t ek eo el m = record {
+  adds = λ store h. record { are = more_known before.known.items after.known.items before.outer.items after.outer.items store (store ++ t ∷ []) k lengths l t h.are ek eo el m refl };
+}
 
 pub text_known : (texts : List (Vec ℕ Global)) (n : ℕ) (d : Vec ℕ Global) (text : List ℕ) (a b : FirstObjects) → n < length texts → text ≡ (get_or texts n d).items → Adds a (literal_object text) b → FirstAre a (map literal_object (texts_of (take n texts))) →
     FirstAre b (map literal_object (texts_of (take (n + 1) texts)))
 text_known texts n d text a b lt e h g =
     let P : Store → Type 0 = λ store. FirstAre b store in
     let Q : List ℕ → Type 0 = λ text. FirstAre b (map literal_object (texts_of (take n texts)) ++ literal_object text ∷ []) in
-    subst P (sym (text_objects texts n d lt)) (subst Q e (h (map literal_object (texts_of (take n texts))) g))
+    subst P (sym (text_objects texts n d lt)) (subst Q e (h.adds (map literal_object (texts_of (take n texts))) g))
 
 pub all_texts : (texts : List (Vec ℕ Global)) (n : ℕ) (a : FirstObjects) → length texts ≤ n → FirstAre a (map literal_object (texts_of (take n texts))) → FirstAre a (map literal_object (texts_of texts))
 all_texts texts n a le h = let P : List (Vec ℕ Global) → Type 0 = λ texts. FirstAre a (map literal_object (texts_of texts)) in subst P (take_all n texts le) h
@@ -227,10 +230,16 @@ all_texts texts n a le h = let P : List (Vec ℕ Global) → Type 0 = λ texts. 
 pub static_known : (before : Store) (objects : List held.Static) (n : ℕ) (d : held.Static) (a b : FirstObjects) → n < length objects → Adds a (static_object (static_of (get_or objects n d))) b → FirstAre a (before ++ map static_object (map static_of (take n objects))) →
     FirstAre b (before ++ map static_object (map static_of (take (n + 1) objects)))
 static_known before objects n d a b lt h g = let P : Store → Type 0 = λ store. FirstAre b store in
-    subst P (sym (static_objects before objects n d lt)) (h (before ++ map static_object (map static_of (take n objects))) g)
+    subst P (sym (static_objects before objects n d lt)) (h.adds (before ++ map static_object (map static_of (take n objects))) g)
 
 pub begin_statics : (before : Store) (a : FirstObjects) → FirstAre a before → FirstAre a (before ++ [])
 begin_statics before a h = let P : Store → Type 0 = λ store. FirstAre a store in subst P (sym (no_statics before)) h
+
+pub statics_there : (a : FirstObjects) (before : Store) (xs ys : List held.Static) → xs ≡ ys → FirstAre a (before ++ map static_object (map static_of xs)) → FirstAre a (before ++ map static_object (map static_of ys))
+statics_there a before xs ys e h = let P : List held.Static → Type 0 = λ xs. FirstAre a (before ++ map static_object (map static_of xs)) in subst P e h
+
+pub begins_there : (a : FirstObjects) (p : code_program.Program) (xs : List (Vec ℕ Global)) → xs ≡ p.literals.items → FirstAre a (map literal_object (texts_of xs) ++ map static_object (program_of p).statics) → Begins (program_of p) (shapes_in a.outer.items) a.known.items
+begins_there a p xs e h = let P : List (Vec ℕ Global) → Type 0 = λ xs. FirstAre a (map literal_object (texts_of xs) ++ map static_object (program_of p).statics) in let k : FirstAre a (first_store (program_of p)) = subst P e h in k.are
 
 pub all_statics : (before : Store) (objects : List held.Static) (n : ℕ) (a : FirstObjects) → length objects ≤ n → FirstAre a (before ++ map static_object (map static_of (take n objects))) → FirstAre a (before ++ map static_object (map static_of objects))
 all_statics before objects n a le h = let P : List held.Static → Type 0 = λ objects. FirstAre a (before ++ map static_object (map static_of objects)) in subst P (take_all n objects le) h
@@ -257,3 +266,8 @@ pub function_there : (functions : List code_function.Function) (f : ℕ) (g : co
 function_there [] f g e = absurd (cc e)
 function_there (x ∷ functions) zero g e = let q : x ≡ g = cc e in ap (λ x. Some (function_of x)) q
 function_there (x ∷ functions) (suc f) g e = function_there functions f g e
+
+-- ---- the verdict
+
+pub nothing_listed : (p : Program) (xs ys : List Pos) → length xs ≡ 0 → xs ≡ ys → IsDefinedBut p ys → IsDefined p
+nothing_listed p xs ys e d h = let P : List Pos → Type 0 = λ xs. length xs ≡ 0 in never_undefined p ys (subst P d e) h

@@ -27,8 +27,8 @@ Says p (Unknown at) = Unit {0}
 abbrev pub texts_of : List (Vec ℕ Global) → List (List ℕ)
 texts_of texts = map (λ text. text.items) texts
 
-abbrev pub FirstAre : FirstObjects → Store → Type 0
-FirstAre f store = ObjectsAre f.known.items (shapes_in f.outer.items) store
+pub record FirstAre (f : FirstObjects) (store : Store) : Type 0 where
+  pub are : ObjectsAre f.known.items (shapes_in f.outer.items) store
 
 -- so many objects without values
 abbrev pub AreFresh : List AbsValue → Type 0
@@ -63,8 +63,8 @@ pub record OnlyReturns (w : Ways) : Type 0 where
   pub continued : w.continued ≡ None
 
 -- one more object behind others
-abbrev pub Adds : FirstObjects → Tree → FirstObjects → Type 0
-Adds before t after = (store : Store) → FirstAre before store → FirstAre after (store ++ t ∷ [])
+pub record Adds (before : FirstObjects) (t : Tree) (after : FirstObjects) : Type 0 where
+  pub adds : (store : Store) → FirstAre before store → FirstAre after (store ++ t ∷ [])
 
 -- what was shown of a call
 abbrev pub summary_by : Wanted → BodyEnd → Summary

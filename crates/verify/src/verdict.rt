@@ -1,6 +1,6 @@
 //! The verdict on a program.
 
-ghost use Rattle.std.specs.Prelude.{IfOk};
+ghost use Rattle.std.specs.Prelude.{◌≡◌, length, IfOk, IsTrue};
 ghost use Rattle.typed_ast.specs.View.{program_of};
 ghost use Rattle.verify_logic.specs.Whole.{IsDefinedBut};
 ghost use Rattle.verify.specs.Says.{IsSoundWork, Says, SaysTurn, Shows};
@@ -33,13 +33,19 @@ enum Turn {
     More(Work),
 }
 
+fn are_none(places: &[Pos]) -> bool
+    ensures { IsTrue result → length places.now ≡ 0 }
+{
+    places.is_empty()
+}
+
 /// The verdict where all was followed.
 fn concluded(program: &Program, work: Work) -> Verdict
     requires { IsDefinedBut (program_of program.now) work.listed.items }
     ensures { Says (program_of program.now) result }
 {
-    let places = work.listed.len();
-    if places == 0 {
+    let none = are_none(&work.listed);
+    if none {
         Verdict::Defined
     } else {
         Verdict::DefinedBut(work.listed, work.alarms)
