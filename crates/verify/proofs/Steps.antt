@@ -1,9 +1,8 @@
 -- Rules as the functions have them.
-use Rattle.std.proofs.Common.{◌≡◌, ◌≤◌, ◌<◌, ◌+◌, ℕ, zero, suc, ℤ, pos, ◌≤ℤ◌, List, [], ◌∷◌, ◌++◌, map, take, length, get_or, refl, ap, sym, subst, ◌∙◌, arith, add-one}
-use Rattle.std.proofs.lemmas.Int.{ints}
+use Rattle.std.proofs.Common.{◌≡◌, ◌≤◌, ◌<◌, ◌+◌, ℕ, zero, suc, ℤ, pos, List, [], ◌∷◌, ◌++◌, map, take, length, get_or, refl, ap, sym, subst, ◌∙◌, arith, add-one}
 use Rattle.std.proofs.lemmas.List.{take_all}
 use Rattle.std.proofs.Math.Seq.{take-suc}
-use Rattle.std.specs.Prelude.{Option, Some, None, Bool, true, false, nat_eq, slice_get, slice_index_or, Contains, Result, Ok, Err, IfOk}
+use Rattle.std.specs.Prelude.{Option, Some, None, Bool, true, false, nat_eq, slice_get, slice_index_or, Contains}
 use Rattle.srcset.specs.declared.refusal.Pos.{Pos}
 use Rattle.std.specs.declared.vec.Vec.{Vec}
 use Rattle.std.specs.declared.alloc.Global.{Global}
@@ -19,16 +18,15 @@ use Rattle.csem.specs.Statements.{Flow, execute}
 use Rattle.csem.specs.Meaning.{enter, leave, value_at_end, value_left, body_of, call_defined, calling, start, end_with, ending_of}
 use Rattle.verify_logic.specs.declared.abstract_values.Interval.{Interval}
 use Rattle.verify_logic.specs.declared.abstract_values.AbsValue.{AbsValue}
-use Rattle.verify_logic.specs.States.{Frame, In, TreeIs, ObjectsAre, AreBytes, Summary, lengths_in, IsSound, AreSound, ValueIs, Entails, Implies, Reaches, Ends}
+use Rattle.verify_logic.specs.States.{Frame, In, TreeIs, ObjectsAre, Summary, lengths_in, IsSound, AreSound, ValueIs, Entails, Implies, Reaches, Ends}
 use Rattle.verify_logic.specs.Statements.{Ways, Leaves, Executes}
 use Rattle.verify_logic.specs.Calls.{Entered, FunctionEnds, Begins, EachIn}
 use Rattle.verify_logic.specs.Whole.{UndefinedOnlyAt, IsDefined, IsDefinedBut}
-use Rattle.verify_logic.proofs.Runs.{then_ends, tick_ends}
+use Rattle.verify_logic.proofs.Runs.{then_ends}
 use Rattle.verify_logic.proofs.Calls.{both_are, as_long, new_objects, ticks_end, body_rule}
 use Rattle.verify_logic.proofs.Whole.{never_undefined, static_is, literal_is, one_more_object, sound_more, one_more_sound}
-use Rattle.verify_expressions.specs.Views.{shapes_in, items_of, state_of, summary_of}
+use Rattle.verify_expressions.specs.Views.{shapes_in, summary_of}
 use Rattle.verify_expressions.specs.declared.scope.Summary as code
-use Rattle.verify_expressions.specs.declared.stop.Stop.{Stop}
 use Rattle.verify.specs.Says.{AreFresh, Fresh, EntersMain, IsSoundWork, OnlyReturns, frame_in, texts_of, Adds, FirstAre}
 use Rattle.verify.specs.declared.first_objects.FirstObjects.{FirstObjects}
 use Rattle.verify.specs.declared.work.Work.{Work}

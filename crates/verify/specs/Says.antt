@@ -1,6 +1,5 @@
 -- What a verdict says of a program.
 use Rattle.std.specs.Prelude.{◌≡◌, ◌++◌, ◌∷◌, [], ℕ, List, None, map, length, false}
-use Rattle.srcset.specs.declared.refusal.Pos.{Pos}
 use Rattle.std.specs.declared.vec.Vec.{Vec}
 use Rattle.std.specs.declared.alloc.Global.{Global}
 use Rattle.typing_spec.specs.Program.{Function, Program}
