@@ -53,12 +53,7 @@ fn tell(
     }
 }
 
-fn text(
-    alloc: Global,
-    main: &str,
-    names: &Names,
-    verdict: &Verdict,
-) -> Result<String, AllocError> {
+fn text(alloc: Global, main: &str, names: &Names, verdict: &Verdict) -> Result<String, AllocError> {
     match verdict {
         Verdict::Defined => defined_line(alloc, main),
         Verdict::DefinedBut(_, alarms) => alarm_lines(alloc, names, alarms.as_slice()),

@@ -37,15 +37,49 @@ fn put_alarm(
     out.push_str("\n")
 }
 
-/// The lines of alarms, in the order in which they were found.
+fn is_before(a: Pos, b: Pos) -> bool {
+    a.file < b.file || (a.file == b.file && a.line < b.line)
+}
+
+fn is_behind(at: Pos, last: Option<Pos>) -> bool {
+    match last {
+        None => true,
+        Some(last) => is_before(last, at),
+    }
+}
+
+fn is_nearer(at: Pos, best: Option<Alarm>) -> bool {
+    match best {
+        None => true,
+        Some(best) => is_before(at, best.at),
+    }
+}
+
+/// The first alarm behind a place, in the order of the sources.
+fn next_alarm(alarms: &[Alarm], last: Option<Pos>) -> Option<Alarm> {
+    let mut best = None;
+    for alarm in alarms {
+        if is_behind(alarm.at, last) && is_nearer(alarm.at, best) {
+            best = Some(*alarm);
+        }
+    }
+    best
+}
+
+/// The lines of alarms, in the order of the sources, each place once.
 pub(crate) fn alarm_lines(
     alloc: Global,
     names: &Names,
     alarms: &[Alarm],
 ) -> Result<String, AllocError> {
     let mut out = String::new(alloc);
-    for alarm in alarms {
-        put_alarm(alloc, names, alarm, &mut out)?;
+    let mut last = None;
+    for _turn in 0..alarms.len() {
+        let Some(alarm) = next_alarm(alarms, last) else {
+            return Ok(out);
+        };
+        put_alarm(alloc, names, &alarm, &mut out)?;
+        last = Some(alarm.at);
     }
     Ok(out)
 }
