@@ -1,0 +1,6 @@
+use Rattle.std.proofs.Common.{◌∙◌}
+use Rattle.verify.proofs.Steps.{adds_object}
+use Rattle.verify.proofs.first_objects.with_static.Goals as goal
+
+pub returns : goal.returns
+returns c = adds_object _ _ _ _ _ _ c.in_ok-all.ensures.known c.in_ok-all.ensures.outer (c.in_ok-lengths.ensures ∙ c.deref.ensures.value) c.in-Some.ensures

@@ -1,0 +1,73 @@
+-- What a verdict says of a program.
+use Rattle.std.specs.Prelude.{◌≡◌, ◌++◌, ◌∷◌, [], ℕ, List, None, map, length, false}
+use Rattle.std.specs.declared.vec.Vec.{Vec}
+use Rattle.std.specs.declared.alloc.Global.{Global}
+use Rattle.typing_spec.specs.Program.{Function, Program}
+use Rattle.csem.specs.Store.{Tree, Store}
+use Rattle.verify_logic.specs.declared.abstract_values.AbsValue.{AbsValue}
+use Rattle.verify_logic.specs.States.{Frame, Summary, IsSound, AreSound, ObjectsAre}
+use Rattle.verify_logic.specs.Statements.{Ways}
+use Rattle.verify_logic.specs.Whole.{IsDefined, IsDefinedBut}
+use Rattle.verify_expressions.specs.Views.{shapes_in, state_of, summary_of}
+use Rattle.verify_expressions.specs.declared.stop.Wanted.{Wanted}
+use Rattle.verify.specs.declared.first_objects.FirstObjects.{FirstObjects}
+use Rattle.verify.specs.declared.verdict.Verdict.{Verdict}
+use Rattle.verify.specs.declared.verdict.Verdict.TheVariants.{Defined, DefinedBut, Unknown}
+use Rattle.verify.specs.declared.verdict.Turn.{Turn}
+use Rattle.verify.specs.declared.verdict.Turn.TheVariants.{Done, More}
+use Rattle.verify.specs.declared.work.Work.{Work}
+use Rattle.verify.specs.declared.bodies.BodyEnd.{BodyEnd}
+
+abbrev pub Says : Program → Verdict → Type 0
+Says p Defined = IsDefined p
+Says p (DefinedBut places alarms) = IsDefinedBut p places.items
+Says p (Unknown at) = Unit {0}
+
+abbrev pub texts_of : List (Vec ℕ Global) → List (List ℕ)
+texts_of texts = map (λ text. text.items) texts
+
+pub record FirstAre (f : FirstObjects) (store : Store) : Type 0 where
+  pub are : ObjectsAre f.known.items (shapes_in f.outer.items) store
+
+-- so many objects without values
+abbrev pub AreFresh : List AbsValue → Type 0
+AreFresh [] = Unit {0}
+AreFresh (k ∷ ks) = (k.initialised ≡ false) × AreFresh ks
+
+abbrev pub Fresh : ℕ → List AbsValue → Type 0
+Fresh count ks = (length ks ≡ count) × AreFresh ks
+
+-- the objects before the run, then those of main
+pub record EntersMain (first : List AbsValue) (count : ℕ) (entry : List AbsValue) : Type 0 where
+  pub own : List AbsValue
+  pub fresh : Fresh count own
+  pub all : entry ≡ first ++ own
+
+-- what was shown of calls so far is so
+abbrev pub IsSoundWork : Program → Work → Type 0
+IsSoundWork p w = AreSound p w.listed.items (map summary_of w.summaries.items)
+
+abbrev pub SaysTurn : Program → Turn → Type 0
+SaysTurn p (Done v) = Says p v
+SaysTurn p (More w) = IsSoundWork p w
+
+-- a call of function g
+abbrev pub frame_in : Program → Work → List (Vec ℕ Global) → Function → Frame
+frame_in p w outer g = record { program = p; listed = w.listed.items; summaries = map summary_of w.summaries.items; outer = shapes_in outer; objects = g.objects; arrays = [] }
+
+-- each end is a `return`
+pub record OnlyReturns (w : Ways) : Type 0 where
+  pub normal : w.normal ≡ None
+  pub broken : w.broken ≡ None
+  pub continued : w.continued ≡ None
+
+-- one more object behind others
+pub record Adds (before : FirstObjects) (t : Tree) (after : FirstObjects) : Type 0 where
+  pub adds : (store : Store) → FirstAre before store → FirstAre after (store ++ t ∷ [])
+
+-- what was shown of a call
+abbrev pub summary_by : Wanted → BodyEnd → Summary
+summary_by w end = record { function = w.function; outer = shapes_in w.outer.items; entry = w.entry.items; value = end.value; left = state_of end.state }
+
+abbrev pub Shows : Program → Work → Wanted → BodyEnd → Type 0
+Shows p work w end = IsSound p work.listed.items (summary_by w end)

@@ -1,0 +1,247 @@
+//! Bodies of functions (6.9.1).
+
+ghost use Rattle.std.specs.Prelude.{◌≡◌, ◌++◌, length, nat_eq, IfOk, None, Some, false, slice_get};
+ghost use Rattle.typed_ast.specs.View.{function_of, program_of};
+ghost use Rattle.csem.specs.Meaning.{value_at_end};
+ghost use Rattle.verify_logic.specs.States.{ValueIs};
+ghost use Rattle.verify_logic.specs.Statements.{Executes};
+ghost use Rattle.verify_logic.specs.Calls.{Begins, FunctionEnds};
+ghost use Rattle.verify_logic.specs.Whole.{IsDefinedBut};
+ghost use Rattle.verify_expressions.specs.Views.{shapes_in, state_of};
+ghost use Rattle.verify_statements.specs.Ways.{ways_of};
+ghost use Rattle.verify.specs.Says.{EntersMain, Fresh, IsSoundWork, OnlyReturns, Shows, frame_in};
+
+use crate::first_objects::{FirstObjects, objects_at_start};
+use crate::work::Work;
+use std::alloc::Global;
+use typed_ast::{Function, Program};
+use verify_expressions::{AbsState, Scope, Stop, Wanted, joined};
+use verify_intervals::{either, initialised, single, uninitialised};
+use verify_logic::AbsValue;
+use verify_statements::{Left, statement};
+
+/// New objects.
+fn fresh(alloc: Global, count: usize) -> Result<Vec<AbsValue>, Stop>
+    ensures { IfOk result (λ r. Fresh count r.items) }
+{
+    let mut out = Vec::new(alloc);
+    for _n in 0..count {
+        let k = uninitialised();
+        let Ok(()) = out.push(k) else {
+            return Err(Stop::Memory);
+        };
+    }
+    Ok(out)
+}
+
+/// The body of a function, entered with these objects.
+fn body_executed<'a>(
+    alloc: Global,
+    program: &'a Program,
+    work: &'a Work,
+    outer: &'a [Vec<u32>],
+    function: &'a Function,
+    entry: Vec<AbsValue>,
+) -> Result<Left, Stop>
+    ensures { IfOk result (λ r. Executes (frame_in (program_of program.now) work.now outer.now (function_of function.now)) (function_of function.now).body (Some entry.items) (ways_of r)) }
+{
+    let scope = Scope {
+        alloc,
+        program,
+        listed: &work.listed,
+        summaries: &work.summaries,
+        outer,
+        objects: &function.objects,
+    };
+    let state = AbsState {
+        objects: Some(entry),
+    };
+    let left = statement(&scope, state, &function.body)?;
+    Ok(left)
+}
+
+fn appended(first: Vec<AbsValue>, rest: &[AbsValue]) -> Result<Vec<AbsValue>, Stop>
+    ensures { IfOk result (λ r. r.items ≡ first.items ++ rest.now) }
+{
+    let mut out = first;
+    match out.extend_from_slice(rest) {
+        Ok(()) => Ok(out),
+        Err(_) => Err(Stop::Memory),
+    }
+}
+
+/// The values of all objects as main is entered.
+fn entered(alloc: Global, known: Vec<AbsValue>, count: usize) -> Result<Vec<AbsValue>, Stop>
+    ensures { IfOk result (λ r. EntersMain known.items count r.items) }
+{
+    let own = fresh(alloc, count)?;
+    let entry = appended(known, &own)?;
+    Ok(entry)
+}
+
+fn object_count(function: &Function) -> usize
+    ensures { result ≡ length (function_of function.now).objects }
+{
+    function.objects.len()
+}
+
+fn is_entry(program: &Program, f: usize) -> bool
+    ensures { result ≡ nat_eq f (program_of program.now).main }
+{
+    f == program.main
+}
+
+fn function_shown(
+    alloc: Global,
+    program: &Program,
+    work: &Work,
+    before: FirstObjects,
+    function: &Function,
+) -> Result<(), Stop>
+    requires sound { IsSoundWork (program_of program.now) work.now }
+    requires main { slice_get (program_of program.now).functions (program_of program.now).main ≡ Some (function_of function.now) }
+    requires begins { Begins (program_of program.now) (shapes_in before.outer.items) before.known.items }
+    ensures { IfOk result (λ u. IsDefinedBut (program_of program.now) work.now.listed.items) }
+{
+    let outer = before.outer;
+    let entry = entered(alloc, before.known, object_count(function))?;
+    let _left = body_executed(alloc, program, work, &outer, function, entry)?;
+    Ok(())
+}
+
+/// Analyses the body of main.
+///
+/// Errors: a place is not ruled out, nothing is known of a call, or the analysis does not follow.
+pub fn main_shown(alloc: Global, program: &Program, work: &Work) -> Result<(), Stop>
+    requires { IsSoundWork (program_of program.now) work.now }
+    ensures { IfOk result (λ u. IsDefinedBut (program_of program.now) work.now.listed.items) }
+{
+    let before = objects_at_start(alloc, program)?;
+    match program.functions.get(program.main) {
+        None => Err(Stop::Unfollowed(None)),
+        Some(function) => function_shown(alloc, program, work, before, function),
+    }
+}
+
+/// The value of a function whose body is not left by a `return` (5.1.2.2.3, 6.9.1p12).
+fn end_value(is_main: bool) -> AbsValue
+    ensures { ValueIs result (value_at_end is_main) }
+{
+    if is_main {
+        initialised(single(0))
+    } else {
+        uninitialised()
+    }
+}
+
+/// What a body's ends come to.
+#[derive(Drop)]
+pub struct BodyEnd {
+    pub value: AbsValue,
+    pub state: AbsState,
+}
+
+/// The ends of the body of function `f`.
+fn joined_end(alloc: Global, program: &Program, f: usize, w: Left) -> Result<BodyEnd, Stop>
+    ensures { IfOk result (λ r. FunctionEnds (program_of program.now) f (ways_of w) r.value (state_of r.state)) }
+{
+    let is_main = is_entry(program, f);
+    let end = end_value(is_main);
+    let value = either(w.value, end);
+    let two = joined(alloc, w.normal, w.broken)?;
+    let three = joined(alloc, two, w.continued)?;
+    let state = joined(alloc, three, w.returned)?;
+    Ok(BodyEnd { value, state })
+}
+
+/// The same, where each end is a `return`.
+fn returned_end(program: &Program, f: usize, w: Left) -> Result<BodyEnd, Stop>
+    ensures { IfOk result (λ r. FunctionEnds (program_of program.now) f (ways_of w) r.value (state_of r.state)) }
+{
+    let ends = falls(&w);
+    if ends {
+        return Err(Stop::Unfollowed(None));
+    }
+    Ok(BodyEnd {
+        value: w.value,
+        state: w.returned,
+    })
+}
+
+/// Tests whether a body may be left otherwise than by a `return`.
+fn falls(w: &Left) -> bool
+    ensures { (result ≡ false) → OnlyReturns (ways_of w.now) }
+{
+    is_reached(&w.normal) || is_reached(&w.broken) || is_reached(&w.continued)
+}
+
+fn is_reached(state: &AbsState) -> bool
+    ensures { (result ≡ false) → state_of state.now ≡ None }
+{
+    match &state.objects {
+        None => false,
+        Some(_) => true,
+    }
+}
+
+fn body_end(alloc: Global, program: &Program, f: usize, w: Left) -> Result<BodyEnd, Stop>
+    ensures { IfOk result (λ r. FunctionEnds (program_of program.now) f (ways_of w) r.value (state_of r.state)) }
+{
+    let ends = falls(&w);
+    if ends {
+        joined_end(alloc, program, f, w)
+    } else {
+        returned_end(program, f, w)
+    }
+}
+
+fn copied_values(alloc: Global, xs: &[AbsValue]) -> Result<Vec<AbsValue>, Stop>
+    ensures { IfOk result (λ r. r.items ≡ xs.now) }
+{
+    let mut out = Vec::new(alloc);
+    match out.extend_from_slice(xs) {
+        Ok(()) => Ok(out),
+        Err(_) => Err(Stop::Memory),
+    }
+}
+
+fn wanted_entry(alloc: Global, wanted: &Wanted) -> Result<Vec<AbsValue>, Stop>
+    ensures { IfOk result (λ r. r.items ≡ wanted.now.entry.items) }
+{
+    copied_values(alloc, &wanted.entry)
+}
+
+fn wanted_shown(
+    alloc: Global,
+    program: &Program,
+    work: &Work,
+    wanted: &Wanted,
+    function: &Function,
+) -> Result<BodyEnd, Stop>
+    requires sound { IsSoundWork (program_of program.now) work.now }
+    requires called { slice_get (program_of program.now).functions wanted.now.function ≡ Some (function_of function.now) }
+    ensures { IfOk result (λ r. Shows (program_of program.now) work.now wanted.now r) }
+{
+    let entry = wanted_entry(alloc, wanted)?;
+    let left = body_executed(alloc, program, work, &wanted.outer, function, entry)?;
+    let end = body_end(alloc, program, wanted.function, left)?;
+    Ok(end)
+}
+
+/// Analyses the body of a function that is called.
+///
+/// Errors: a place is not ruled out, nothing is known of a call, or the analysis does not follow.
+pub fn call_shown(
+    alloc: Global,
+    program: &Program,
+    work: &Work,
+    wanted: &Wanted,
+) -> Result<BodyEnd, Stop>
+    requires { IsSoundWork (program_of program.now) work.now }
+    ensures { IfOk result (λ r. Shows (program_of program.now) work.now wanted.now r) }
+{
+    match program.functions.get(wanted.function) {
+        None => Err(Stop::Unfollowed(None)),
+        Some(function) => wanted_shown(alloc, program, work, wanted, function),
+    }
+}

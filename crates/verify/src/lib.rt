@@ -1,0 +1,11 @@
+//! Whether a program does anything undefined, on any input: a proved analysis of the typed program.
+#![tactic(auto)]
+
+mod bodies;
+mod first_objects;
+#[cfg(test)]
+mod tests;
+mod verdict;
+mod work;
+
+pub use verdict::{Verdict, verify};

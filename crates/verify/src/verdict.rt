@@ -1,0 +1,228 @@
+//! The verdict on a program.
+
+ghost use Rattle.std.specs.Prelude.{◌≡◌, length, IfOk, IsTrue};
+ghost use Rattle.typed_ast.specs.View.{program_of};
+ghost use Rattle.verify_logic.specs.Whole.{IsDefinedBut};
+ghost use Rattle.verify.specs.Says.{IsSoundWork, Says, SaysTurn, Shows};
+
+use crate::bodies::{BodyEnd, call_shown, main_shown};
+use crate::work::Work;
+use srcset::Pos;
+use std::alloc::{AllocError, Global};
+use typed_ast::Program;
+use verify_expressions::{Alarm, Stop, Summary, Wanted};
+
+/// How many calls may be entered in one another.
+const DEPTH: usize = 64;
+
+/// What was shown of a program. It is sound and not complete: no verdict says that a program is wrong.
+#[derive(Drop)]
+pub enum Verdict {
+    /// Nothing undefined is met, on any input.
+    Defined,
+    /// Undefined behaviour is met at these places at most, on any input; for each, why it was not ruled out.
+    DefinedBut(Vec<Pos>, Vec<Alarm>),
+    /// The analysis does not follow, near this place.
+    Unknown(Option<Pos>),
+}
+
+/// A verdict, or work that goes on.
+#[derive(Drop)]
+enum Turn {
+    Done(Verdict),
+    More(Work),
+}
+
+fn are_none(places: &[Pos]) -> bool
+    ensures { IsTrue result → length places.now ≡ 0 }
+{
+    places.is_empty()
+}
+
+/// The verdict where all was followed.
+fn concluded(program: &Program, work: Work) -> Verdict
+    requires { IsDefinedBut (program_of program.now) work.listed.items }
+    ensures { Says (program_of program.now) result }
+{
+    let none = are_none(&work.listed);
+    if none {
+        Verdict::Defined
+    } else {
+        Verdict::DefinedBut(work.listed, work.alarms)
+    }
+}
+
+/// Lists the place of an alarm.
+fn alarmed(program: &Program, work: Work, alarm: Alarm) -> Result<Work, AllocError>
+    requires { IsSoundWork (program_of program.now) work }
+    ensures { IfOk result (λ w. IsSoundWork (program_of program.now) w) }
+{
+    let mut listed = work.listed;
+    let Ok(()) = listed.push(alarm.at) else {
+        return Err(AllocError);
+    };
+    let mut alarms = work.alarms;
+    let Ok(()) = alarms.push(alarm) else {
+        return Err(AllocError);
+    };
+    Ok(Work {
+        listed,
+        alarms,
+        summaries: work.summaries,
+        wanted: work.wanted,
+    })
+}
+
+/// Wants something of a call.
+fn asked(program: &Program, work: Work, call: Wanted) -> Result<Work, AllocError>
+    requires { IsSoundWork (program_of program.now) work }
+    ensures { IfOk result (λ w. IsSoundWork (program_of program.now) w) }
+{
+    let mut wanted = work.wanted;
+    let Ok(()) = wanted.push(call) else {
+        return Err(AllocError);
+    };
+    Ok(Work {
+        listed: work.listed,
+        alarms: work.alarms,
+        summaries: work.summaries,
+        wanted,
+    })
+}
+
+/// Adds what was shown of a call.
+fn learnt(program: &Program, work: Work, call: Wanted, end: BodyEnd) -> Result<Work, AllocError>
+    requires sound { IsSoundWork (program_of program.now) work }
+    requires new { Shows (program_of program.now) work call end }
+    ensures { IfOk result (λ w. IsSoundWork (program_of program.now) w) }
+{
+    let summary = Summary {
+        function: call.function,
+        outer: call.outer,
+        entry: call.entry,
+        value: end.value,
+        left: end.state.objects,
+    };
+    let mut summaries = work.summaries;
+    let Ok(()) = summaries.push(summary) else {
+        return Err(AllocError);
+    };
+    Ok(Work {
+        listed: work.listed,
+        alarms: work.alarms,
+        summaries,
+        wanted: work.wanted,
+    })
+}
+
+/// Goes on where an analysis stopped.
+fn stopped(program: &Program, work: Work, stop: Stop) -> Result<Turn, AllocError>
+    requires { IsSoundWork (program_of program.now) work }
+    ensures { IfOk result (λ t. SaysTurn (program_of program.now) t) }
+{
+    match stop {
+        Stop::Memory => Err(AllocError),
+        Stop::Unfollowed(at) => Ok(Turn::Done(Verdict::Unknown(at))),
+        Stop::Alarm(alarm) => {
+            let more = alarmed(program, work, alarm)?;
+            Ok(Turn::More(more))
+        }
+        Stop::Wanted(call) => {
+            if work.wanted.len() >= DEPTH {
+                return Ok(Turn::Done(Verdict::Unknown(None)));
+            }
+            let more = asked(program, work, call)?;
+            Ok(Turn::More(more))
+        }
+    }
+}
+
+fn main_turn(alloc: Global, program: &Program, work: Work) -> Result<Turn, AllocError>
+    requires { IsSoundWork (program_of program.now) work }
+    ensures { IfOk result (λ t. SaysTurn (program_of program.now) t) }
+{
+    match main_shown(alloc, program, &work) {
+        Ok(()) => Ok(Turn::Done(concluded(program, work))),
+        Err(stop) => stopped(program, work, stop),
+    }
+}
+
+fn call_turn(alloc: Global, program: &Program, work: Work, call: Wanted) -> Result<Turn, AllocError>
+    requires { IsSoundWork (program_of program.now) work }
+    ensures { IfOk result (λ t. SaysTurn (program_of program.now) t) }
+{
+    match call_shown(alloc, program, &work, &call) {
+        Ok(end) => {
+            let more = learnt(program, work, call, end)?;
+            Ok(Turn::More(more))
+        }
+        Err(stop) => {
+            let again = asked(program, work, call)?;
+            stopped(program, again, stop)
+        }
+    }
+}
+
+/// The work without the latest call of which something is wanted, and that call.
+#[derive(Drop)]
+struct Popped {
+    work: Work,
+    call: Option<Wanted>,
+}
+
+fn pop_wanted(program: &Program, work: Work) -> Popped
+    requires { IsSoundWork (program_of program.now) work }
+    ensures { IsSoundWork (program_of program.now) result.work }
+{
+    let mut wanted = work.wanted;
+    let call = wanted.pop();
+    Popped {
+        work: Work {
+            listed: work.listed,
+            alarms: work.alarms,
+            summaries: work.summaries,
+            wanted,
+        },
+        call,
+    }
+}
+
+fn turned(alloc: Global, program: &Program, work: Work) -> Result<Turn, AllocError>
+    requires { IsSoundWork (program_of program.now) work }
+    ensures { IfOk result (λ t. SaysTurn (program_of program.now) t) }
+{
+    let Popped { work, call } = pop_wanted(program, work);
+    match call {
+        None => main_turn(alloc, program, work),
+        Some(call) => call_turn(alloc, program, work, call),
+    }
+}
+
+fn nothing(alloc: Global, program: &Program) -> Work
+    ensures { IsSoundWork (program_of program.now) result }
+{
+    Work {
+        listed: Vec::new(alloc),
+        alarms: Vec::new(alloc),
+        summaries: Vec::new(alloc),
+        wanted: Vec::new(alloc),
+    }
+}
+
+/// Analyses a program, in so many turns at most. A turn analyses one body: main's, or that of a function that is called with
+/// arguments of which nothing is known yet. Each place that is not ruled out is listed.
+///
+/// Errors: memory ran out.
+pub fn verify(alloc: Global, program: &Program, turns: u32) -> Result<Verdict, AllocError>
+    ensures { IfOk result (λ v. Says (program_of program.now) v) }
+{
+    let mut work = nothing(alloc, program);
+    for _turn in 0..turns {
+        match turned(alloc, program, work) {
+            Err(fault) => return Err(fault),
+            Ok(Turn::Done(verdict)) => return Ok(verdict),
+            Ok(Turn::More(more)) => work = more,
+        }
+    }
+    Ok(Verdict::Unknown(None))
+}

@@ -1,0 +1,153 @@
+#!/usr/bin/env python3
+"""What `CC verify` says, held against what programs do: `check.py CC`.
+
+Each source that the tests keep, and each of SOME made by a generator with a fixed seed, is verified and interpreted. Where the interpreter meets an
+undefined act, the place is among those that verify lists, or verify goes no further. Programs that are defined, and have to be found so, and such
+with an act at a place that is told by hand, stand here. The last line counts what passed and failed.
+"""
+import concurrent.futures
+import os
+import random
+import re
+import subprocess
+import sys
+import tempfile
+
+HERE = os.path.dirname(os.path.abspath(__file__))
+sys.path.insert(0, os.path.join(HERE, '..', 'library'))
+import sources  # noqa: E402
+
+CC = os.path.abspath(sys.argv[1])
+SOME = int(os.environ.get('SOME', '300'))
+MOST = '3000000'
+passed = failed = 0
+
+# Defined on every input by C, and by means that an analysis of intervals has.
+DEFINED = {
+    'constant': 'int main(void) { return 1 + 2 * 3; }',
+    'loop': 'int main(void) { int i = 0; while (i < 10) i = i + 1; return 100 / i; }',
+    'for': 'int main(void) { unsigned s = 0; for (int i = 0; i < 100; i++) s += i; return s & 127; }',
+    'byte': 'int rv_getbyte(void);\nint main(void) { int c = rv_getbyte(); if (c < 0) return 1; return 1000 / (c + 1); }',
+    'narrowed': 'int rv_getbyte(void);\nint main(void) { int c = rv_getbyte(); int a[4] = { 1, 2, 3, 4 }; if (c >= 0 && c < 4) return a[c]; return 0; }',
+    'remainder': 'int rv_getbyte(void);\nint main(void) { unsigned n = rv_getbyte(); int a[8] = { 0 }; return a[n % 8]; }',
+}
+# The line of an act that some input meets.
+UNDEFINED = {
+    'overflow': ('int rv_getbyte(void);\nint main(void) { int s = 2147483600;\n  s += rv_getbyte();\n  return s; }', 3),
+    'division': ('int rv_getbyte(void);\nint main(void) {\n  return 10 / (rv_getbyte() - 65);\n}', 3),
+    'unset': ('int main(void) { int x;\n  return x; }', 2),
+    'subscript': ('int rv_getbyte(void);\nint main(void) { int a[3] = { 0 };\n  return a[rv_getbyte() & 3]; }', 3),
+    'shift': ('int rv_getbyte(void);\nint main(void) {\n  return 1 << (rv_getbyte() & 63); }', 3),
+    'in a loop': ('int main(void) { int n = 5;\n  while (1) {\n    n = 10 / (n - 1) - 1; }\n}', 3),
+    'static': ('int g = 3;\nvoid f(void) { g = 0; }\nint main(void) { f();\n  return 1 / g; }', 4),
+    'remainder of a negative number': ('int rv_getbyte(void);\nint main(void) { int c = rv_getbyte(); int a[3] = { 0 };\n  return a[c % 3]; }', 3),
+    'a bound that is one too large': ('int rv_getbyte(void);\nint main(void) { int c = rv_getbyte(); int a[3] = { 0 }; if (c >= 0 && c <= 3)\n  return a[c]; return 0; }', 3),
+}
+
+
+def check(name, holds, *more):
+    global passed, failed
+    if holds:
+        passed += 1
+    else:
+        failed += 1
+        print('FAIL', name, *more)
+
+
+def cc(work, *words, given=b''):
+    done = subprocess.run([CC, *words], cwd=work, input=given, capture_output=True, timeout=300)
+    return done.returncode, done.stdout.decode('utf-8', 'replace'), done.stderr.decode('utf-8', 'replace')
+
+
+def verified(files):
+    with tempfile.TemporaryDirectory() as work:
+        for name, text in files:
+            with open(os.path.join(work, name), 'wb') as file:
+                file.write(text)
+        return cc(work, 'verify', *[name for name, _ in files])
+
+
+def interpreted(files, given):
+    with tempfile.TemporaryDirectory() as work:
+        for name, text in files:
+            with open(os.path.join(work, name), 'wb') as file:
+                file.write(text)
+        return cc(work, 'interp', *[name for name, _ in files], '--max', MOST, given=given)
+
+
+def is_sound(files, given):
+    """Whether what verify says is what this run shows; and what was said."""
+    status, out, err = verified(files)
+    if status == 1:
+        return err != '' and out == '', (status, out, err)
+    run, _, said = interpreted(files, given)
+    act = re.search(r'^(.*):(\d+): undefined U(\d)$', said, re.M)
+    if run != 123 or not act:
+        return status in (0, 3) and err == '', (status, out, err)
+    listed = re.findall(r'^(.*):(\d+): may be undefined', out, re.M)
+    return status == 3 and ('not followed' in out or (act[1], act[2]) in listed), (status, out, said)
+
+
+def written():
+    for name, text in DEFINED.items():
+        status, out, err = verified([('a.c', text.encode() + b'\n')])
+        check('defined: ' + name, (status, out, err) == (0, 'a.c: defined on every input\n', ''), status, out, err)
+    for name, (text, line) in UNDEFINED.items():
+        status, out, err = verified([('a.c', text.encode() + b'\n')])
+        check('undefined: ' + name, status == 3 and re.search(r'^a\.c:%d: may be undefined U\d' % line, out, re.M) is not None and err == '', status, out, err)
+    check('a fault', verified([('a.c', b'int main(void) { return x; }\n')])[0::2] == (1, 'a.c:1: 528 undeclared name\n'))
+
+
+class Made:
+    """A program of scalars, arrays, loops and calls, which may do something undefined."""
+
+    def __init__(self, seed):
+        self.random = random.Random(seed)
+
+    def number(self, depth):
+        choose = self.random.random()
+        if depth == 0 or choose < 0.25:
+            return self.random.choice(['x', 'y', 'g', 'a[%s]' % self.random.choice(['x & 7', '3', 'y', 'x % 8', 'i']), str(self.random.choice([0, 1, 2, 7, 31, 255, 65536, 2147483647]))])
+        a, b = self.number(depth - 1), self.number(depth - 1)
+        op = self.random.choice(['+', '-', '*', '/', '%', '<<', '>>', '&', '|', '^', '<', '==', '&&', '||', ','])
+        if choose < 0.85:
+            return '(%s %s %s)' % (a, op, b)
+        return self.random.choice(['(-%s)', '(~%s)', '(!%s)', '((unsigned char)%s)', '((unsigned)%s)', 'f(%s)']) % a if choose < 0.97 else '(%s ? %s : x)' % (a, b)
+
+    def condition(self):
+        return '%s %s %s' % (self.random.choice('xyg'), self.random.choice(['<', '<=', '>', '>=', '==', '!=']), self.random.choice(['x', 'y', '0', '5', '100', '-1']))
+
+    def statement(self, depth):
+        choose = self.random.random()
+        if choose < 0.4 or depth == 0:
+            return '%s %s %s;' % (self.random.choice(['x', 'y', 'g', 'a[i]', 'a[x & 7]']), self.random.choice(['=', '+=', '-=', '=', '=']), self.number(2))
+        if choose < 0.6:
+            return 'if (%s) { %s } else { %s }' % (self.condition(), self.statements(depth - 1), self.statements(depth - 1))
+        if choose < 0.75:
+            return 'for (i = 0; i < %d; i++) { %s }' % (self.random.choice([3, 8, 9]), self.statements(depth - 1))
+        if choose < 0.85:
+            return 'while (%s) { x = x - 1; %s if (y++ > 20) break; }' % (self.condition(), self.statements(depth - 1))
+        return self.random.choice(['rv_putbyte(%s);', 'x = rv_getbyte() + 0 * (%s);', 'if (x > %s) return x & 1;']) % self.number(1)
+
+    def statements(self, depth):
+        return ' '.join(self.statement(depth) for _ in range(self.random.randint(1, 3)))
+
+    def text(self):
+        first = self.random.choice(['int y;', 'int y = 2;', 'int y = 0;'])
+        return ('int rv_getbyte(void);\nvoid rv_putbyte(int c);\nstatic int g = 1;\nint f(int n) { if (n > 3) g = n; return n %s 2; }\n'
+                'int main(void)\n{\n    int x = rv_getbyte(), i = 0, a[8] = { 1, 2, 3 }; %s\n    %s\n    return 0;\n}\n'
+                % (self.random.choice('+*/'), first, '\n    '.join(self.statement(2) for _ in range(self.random.randint(3, 7)))))
+
+
+def sound():
+    kept = [(name, files, given) for name, files, given in sources.all_of_them()]
+    made = [('made %d' % seed, [('m.c', Made(seed).text().encode())], bytes(random.Random(seed).randbytes(40))) for seed in range(SOME)]
+    with concurrent.futures.ThreadPoolExecutor(os.cpu_count()) as pool:
+        for (name, _, _), (holds, seen) in zip(kept + made, pool.map(lambda one: is_sound(one[1], one[2]), kept + made)):
+            check('sound: ' + name, holds, seen)
+
+
+written()
+sound()
+print('%d passed, %d failed' % (passed, failed))
+sys.exit(failed != 0)
