@@ -3,8 +3,6 @@
 
 mod bodies;
 mod first_objects;
-#[cfg(test)]
-mod tests;
 mod verdict;
 mod work;
 
