@@ -37,12 +37,15 @@ fn binary(alloc: Global, line: u32, op: BinOp, a: Value, b: Value) -> Result<Val
 }
 
 fn assign(alloc: Global, n: usize, e: Value) -> Result<Statement, Fail> {
-    Ok(Statement::Evaluate(Value::Assigned(
-        at(1),
-        IntType::Int,
-        Box::new(alloc, variable(n))?,
-        Box::new(alloc, e)?,
-    )))
+    Ok(Statement::Evaluate(
+        at(2),
+        Value::Assigned(
+            at(2),
+            IntType::Int,
+            Box::new(alloc, variable(n))?,
+            Box::new(alloc, e)?,
+        ),
+    ))
 }
 
 fn ints(alloc: Global, count: usize) -> Result<Vec<ObjectType>, Fail> {
@@ -83,17 +86,21 @@ fn program(alloc: Global, objects: usize, body: Statement) -> Result<Program, Fa
 fn counted(alloc: Global, first: Option<i64>, less: i64) -> Result<Program, Fail> {
     let mut all = Vec::new(alloc);
     match first {
-        Some(v) => all.push(Statement::Define(0, Initialiser::One(IntType::Int, number(v))))?,
-        None => all.push(Statement::Declare(0))?,
+        Some(v) => all.push(Statement::Define(
+            at(1),
+            0,
+            Initialiser::One(IntType::Int, number(v)),
+        ))?,
+        None => all.push(Statement::Declare(at(1), 0))?,
     }
     let more = binary(alloc, 2, BinOp::Add, read(alloc, 0)?, number(1))?;
     let below = binary(alloc, 2, BinOp::Less, read(alloc, 0)?, number(10))?;
     let step = assign(alloc, 0, more)?;
-    all.push(Statement::While(below, Box::new(alloc, step)?))?;
+    all.push(Statement::While(at(2), below, Box::new(alloc, step)?))?;
     let divisor = binary(alloc, 3, BinOp::Sub, read(alloc, 0)?, number(less))?;
     let last = binary(alloc, 3, BinOp::Div, number(100), divisor)?;
-    all.push(Statement::ReturnValue(IntType::Int, last))?;
-    program(alloc, 1, Statement::Block(0, 1, all))
+    all.push(Statement::ReturnValue(at(3), IntType::Int, last))?;
+    program(alloc, 1, Statement::Block(at(1), 0, 1, all))
 }
 
 fn is_defined(alloc: Global, p: &Program) -> Result<bool, Fail> {
