@@ -3,7 +3,7 @@
 
 Each source that the tests keep, and each of SOME made by a generator with a fixed seed, is verified and interpreted. Where the interpreter meets an
 undefined act, the place is among those that verify lists, or verify goes no further. Programs that are defined, and have to be found so, and such
-with an act at a place that is told by hand, stand here. The last line counts what passed and failed.
+with an act at a known place, stand here. The last line counts what passed and failed.
 """
 import concurrent.futures
 import os
@@ -27,21 +27,31 @@ DEFINED = {
     'constant': 'int main(void) { return 1 + 2 * 3; }',
     'loop': 'int main(void) { int i = 0; while (i < 10) i = i + 1; return 100 / i; }',
     'for': 'int main(void) { unsigned s = 0; for (int i = 0; i < 100; i++) s += i; return s & 127; }',
+    'do': 'int rv_getbyte(void);\nint main(void) { int c; do c = rv_getbyte(); while (c >= 0); return 10 + c; }',
     'byte': 'int rv_getbyte(void);\nint main(void) { int c = rv_getbyte(); if (c < 0) return 1; return 1000 / (c + 1); }',
-    'narrowed': 'int rv_getbyte(void);\nint main(void) { int c = rv_getbyte(); int a[4] = { 1, 2, 3, 4 }; if (c >= 0 && c < 4) return a[c]; return 0; }',
-    'remainder': 'int rv_getbyte(void);\nint main(void) { unsigned n = rv_getbyte(); int a[8] = { 0 }; return a[n % 8]; }',
+    'narrowed': 'int rv_getbyte(void);\nstatic int a[4] = { 1, 2, 3, 4 };\nint main(void) { int c = rv_getbyte(); if (c >= 0 && c < 4) return a[c]; return 0; }',
+    'capitals': 'int rv_getbyte(void);\nvoid rv_putbyte(int c);\nint main(void) { int c; while ((c = rv_getbyte()) != -1) rv_putbyte(c >= 97 && c <= 122 ? c - 32 : c); return 0; }',
+    'behind an exit': 'void rv_exit(int status);\nint main(void) { int z = 0; rv_exit(3); return 1 / z; }',
+    'literal': 'int rv_getbyte(void);\nint main(void) { int c = rv_getbyte(); if (c < 0 || c > 3) return 0; return 100 / ("abc"[c] + 1); }',
 }
 # The line of an act that some input meets.
 UNDEFINED = {
     'overflow': ('int rv_getbyte(void);\nint main(void) { int s = 2147483600;\n  s += rv_getbyte();\n  return s; }', 3),
     'division': ('int rv_getbyte(void);\nint main(void) {\n  return 10 / (rv_getbyte() - 65);\n}', 3),
     'unset': ('int main(void) { int x;\n  return x; }', 2),
-    'subscript': ('int rv_getbyte(void);\nint main(void) { int a[3] = { 0 };\n  return a[rv_getbyte() & 3]; }', 3),
+    'subscript': ('int rv_getbyte(void);\nstatic int a[3];\nint main(void) {\n  return a[rv_getbyte() & 3]; }', 4),
     'shift': ('int rv_getbyte(void);\nint main(void) {\n  return 1 << (rv_getbyte() & 63); }', 3),
     'in a loop': ('int main(void) { int n = 5;\n  while (1) {\n    n = 10 / (n - 1) - 1; }\n}', 3),
-    'static': ('int g = 3;\nvoid f(void) { g = 0; }\nint main(void) { f();\n  return 1 / g; }', 4),
-    'remainder of a negative number': ('int rv_getbyte(void);\nint main(void) { int c = rv_getbyte(); int a[3] = { 0 };\n  return a[c % 3]; }', 3),
-    'a bound that is one too large': ('int rv_getbyte(void);\nint main(void) { int c = rv_getbyte(); int a[3] = { 0 }; if (c >= 0 && c <= 3)\n  return a[c]; return 0; }', 3),
+    'remainder of a negative number': ('int rv_getbyte(void);\nstatic int a[3];\nint main(void) { int c = rv_getbyte();\n  return a[c % 3]; }', 4),
+    'a bound that is one too large': ('int rv_getbyte(void);\nstatic int a[3];\nint main(void) { int c = rv_getbyte(); if (c >= 0 && c <= 3)\n  return a[c]; return 0; }', 4),
+    'least number': ('int rv_getbyte(void);\nint main(void) { int n = -2147483647 - (rv_getbyte() == 65);\n  return n / -1; }', 3),
+}
+# An act behind a call, which need not be followed: never said to be defined.
+BEHIND = {
+    'static': 'int g = 3;\nvoid f(void) { g = 0; }\nint main(void) { f();\n  return 1 / g; }',
+    'argument': 'int f(int n) { return 10 / n; }\nint main(void) { return f(0); }',
+    'array': 'int f(int a[], int n) { return a[n]; }\nint main(void) { int a[2] = { 1, 2 }; return f(a, 2); }',
+    'switch': 'int rv_getbyte(void);\nint main(void) { int z = 1; switch (rv_getbyte()) { case 65: z = 0; default: return 1 / z; } }',
 }
 
 
@@ -95,6 +105,9 @@ def written():
     for name, (text, line) in UNDEFINED.items():
         status, out, err = verified([('a.c', text.encode() + b'\n')])
         check('undefined: ' + name, status == 3 and re.search(r'^a\.c:%d: may be undefined U\d' % line, out, re.M) is not None and err == '', status, out, err)
+    for name, text in BEHIND.items():
+        status, out, err = verified([('a.c', text.encode() + b'\n')])
+        check('behind: ' + name, status == 3 and err == '' and 'defined on every input' not in out, status, out, err)
     check('a fault', verified([('a.c', b'int main(void) { return x; }\n')])[0::2] == (1, 'a.c:1: 528 undeclared name\n'))
 
 
