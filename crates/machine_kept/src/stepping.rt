@@ -3,14 +3,17 @@
 ghost use Rattle.std.specs.Prelude.{◌≡◌, ◌⊎◌, ◌<◌, ◌≤◌, ◌+◌, ◌↔◌, ℕ, List, Option, IsTrue, length, slice_index};
 ghost use Rattle.rv32.specs.Space.{space_of};
 ghost use Rattle.rv32.specs.Step.{machine_of};
-ghost use Rattle.sim.specs.Runs.{World, rvrun};
-ghost use Rattle.sim.specs.Meets.{At, RunMeets};
-ghost use Rattle.zikorape.specs.Stepped.{Passes, shown_byte};
+ghost use Rattle.sim.specs.Runs.{World, rvrun, start_of};
+ghost use Rattle.sim.specs.Meets.{At, RunMeets, Blames};
+ghost use Rattle.loader.specs.Loading.{loaded_image};
+ghost use Rattle.machine_kept.specs.Standing as standing;
+ghost use Rattle.machine_kept.specs.Standing.{Passes, shown_byte};
 
 use crate::ticking::tick;
 use io_ports::Port;
 use rv32::memory::Memory;
-use rv32::state::State;
+use loader::Loaded;
+use rv32::state::{Cause, State};
 use sim::Outcome;
 
 /// How far a run came.
@@ -34,6 +37,7 @@ pub fn run_to<P: Port>(state: &mut State, port: &mut P, count: u64, halt: Halt) 
         RunMeets o w result.steps result.outcome (machine_of state.new) (P.seen port.new) }
     ensures passes { (o : Option (List ℕ)) (w : World) → At o w (machine_of state.old) (P.seen port.old) →
         (k : ℕ) → k < result.steps → Passes halt k (rvrun k w) }
+    ensures fault { Blames (P.refused_with port.new) result.outcome }
     ensures most { result.steps ≤ count }
     ensures halts { result.outcome ≡ Outcome.Budget → (result.steps ≡ count) ⊎ ((halt.after ≤ result.steps) × (state.new.pc ≡ halt.at)) }
 {
@@ -85,5 +89,33 @@ fn byte_at(memory: &Memory, address: u64) -> u8
             None => 0,
         },
         Err(_) => 0,
+    }
+}
+
+/// The machine before its first instruction.
+pub fn start(program: Loaded) -> State
+    ensures { machine_of result ≡ start_of (loaded_image program) }
+{
+    let pc = program.entry();
+    State {
+        registers: [0; 32],
+        pc,
+        memory: program.into_memory(),
+    }
+}
+
+/// The number of a cause.
+pub fn cause_number(cause: Cause) -> u32
+    ensures { result ≡ standing.cause_number cause }
+{
+    match cause {
+        Cause::Illegal => 1,
+        Cause::FetchFault => 2,
+        Cause::Target => 3,
+        Cause::Misaligned => 4,
+        Cause::LoadFault => 5,
+        Cause::StoreFault => 6,
+        Cause::Break => 7,
+        Cause::BadCall => 8,
     }
 }

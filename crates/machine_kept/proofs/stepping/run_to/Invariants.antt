@@ -2,8 +2,8 @@ use Rattle.std.proofs.Common.{◌≡◌, ◌<◌, ◌≤◌, ◌-◌, ℕ, List,
 use Rattle.rv32.specs.Step.{machine_of}
 use Rattle.sim.specs.Runs.{World, Running, rvrun}
 use Rattle.sim.specs.Meets.{At}
-use Rattle.zikorape.specs.Stepped.{Passes}
-use Rattle.zikorape.proofs.stepping.run_to.Given as goal
+use Rattle.machine_kept.specs.Standing.{Passes}
+use Rattle.machine_kept.proofs.stepping.run_to.Given as goal
 
 abbrev pub invariant-loop-steps : goal.invariant-loop-steps
 invariant-loop-steps g l = record {

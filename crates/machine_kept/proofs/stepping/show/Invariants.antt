@@ -1,8 +1,8 @@
 use Rattle.std.proofs.Common.{◌≡◌, ◌<◌, ◌+◌, ℕ, length}
 use Rattle.std.specs.Prelude.{slice_index}
 use Rattle.rv32.specs.Space.{space_of}
-use Rattle.zikorape.specs.Stepped.{shown_byte}
-use Rattle.zikorape.proofs.stepping.show.Given as goal
+use Rattle.machine_kept.specs.Standing.{shown_byte}
+use Rattle.machine_kept.proofs.stepping.show.Given as goal
 
 abbrev pub invariant-loop-i : goal.invariant-loop-i
 invariant-loop-i l = record {

@@ -1,9 +1,9 @@
 use Rattle.std.proofs.Common.{◌+◌, Some, subst, arith}
 use Rattle.sim.specs.declared.machine.Outcome.{Outcome}
 use Rattle.sim.proofs.Composing.{run_stops, run_goes_on}
-use Rattle.zikorape.specs.inside.Stopping.{Stops}
-use Rattle.zikorape.proofs.Runs.{passes_more}
-use Rattle.zikorape.proofs.stepping.run_to.Goals as goal
+use Rattle.machine_kept.specs.inside.Stopping.{Stops}
+use Rattle.machine_kept.proofs.Runs.{passes_more}
+use Rattle.machine_kept.proofs.stepping.run_to.Goals as goal
 
 pub loop-steps-preserved : goal.loop-steps-preserved
 loop-steps-preserved g c =
@@ -28,6 +28,7 @@ returns-in-Some g c =
       passes = λ o w h.
           let v = c.loop-steps.invariant.came o w h in
           passes_more c.args.halt c.loop-steps.steps w v.0 _ _ c.if-is_halted.false c.is_halted.ensures v.2.machine_is v.1 (c.loop-steps.invariant.passed o w h);
+      fault = c.in-Some.ensures.fault;
       most = omega arith;
       halts = λ e.
           let P : Outcome → Type 0 = λ x. Stops (Some x) in

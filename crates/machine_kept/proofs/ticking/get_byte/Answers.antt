@@ -3,8 +3,8 @@ use Rattle.rv32.specs.Step.{Machine, machine_of}
 use Rattle.rv32.specs.Space.{Space, space_of, with_bytes, byte_put}
 use Rattle.sim.specs.Runs.{answered, with_space}
 use Rattle.sim.proofs.Ticks.{got_byte, got_end, refused}
-use Rattle.zikorape.proofs.Stores.{now_stored}
-use Rattle.zikorape.proofs.ticking.get_byte.Goals as goal
+use Rattle.machine_kept.proofs.Stores.{now_stored}
+use Rattle.machine_kept.proofs.ticking.get_byte.Goals as goal
 
 pub returns-in-Ok-Some-clause-meets : goal.returns-in-Ok-Some-clause-meets
 returns-in-Ok-Some-clause-meets g c o w h =
