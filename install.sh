@@ -1,6 +1,7 @@
 #!/bin/sh
 # sh install.sh [PREFIX]: puts the program as PREFIX/bin/zkc (the name cc on a PATH would hide the system's), its man page and its completions
-# for bash, zsh and fish, and the library of bindings/out or release, its headers, zikorape.pc and the Python module. PREFIX is /usr/local by default; DESTDIR stands before it. PROGRAM=FILE: that program, in place of bin/cc or release/cc.
+# for bash, zsh and fish, and the library of bindings/out or release, its headers, zikorape.pc and the Python module. PREFIX is /usr/local by
+# default; DESTDIR stands before it. PROGRAM=FILE: that program, in place of bin/cc or release/cc.
 set -eu
 prefix=${1-/usr/local}
 case $prefix in

@@ -1,6 +1,6 @@
 -- What a machine that is kept answers, and what it is then.
-use Rattle.std.specs.Prelude.{◌≡◌, ◌≢◌, ◌⊎◌, ◌<◌, ◌≤◌, ℕ, ◌+◌, ◌-◌, ◌%◌, ◌^◌, ◌++◌, ◌∷◌, ◌==◌, List, [], Bool, true, false, Option, Some, None, Ok, min, vec_len, slice_index, slice_get, nat_lt, if◌then◌else◌, replicate}
-use Rattle.rv32.specs.Space.{Space, space_of, with_bytes, byte_put}
+use Rattle.std.specs.Prelude.{◌≡◌, ◌⊎◌, ◌<◌, ◌≤◌, ℕ, ◌+◌, ◌-◌, ◌%◌, ◌^◌, ◌++◌, ◌∷◌, ◌==◌, List, [], true, false, Option, Some, None, Ok, min, vec_len, slice_get, nat_lt, if◌then◌else◌, replicate}
+use Rattle.rv32.specs.Space.{space_of, with_bytes, byte_put}
 use Rattle.rv32.specs.Step.{Machine, machine_of, register, with_register}
 use Rattle.rv32.specs.declared.state.State.{State}
 use Rattle.srcset.specs.Codes.{number_of}
@@ -9,16 +9,13 @@ use Rattle.loader.specs.Fault.{code_of}
 use Rattle.loader.specs.Loading.{FailsToLoad}
 use Rattle.loader.specs.declared.fault.LoadFault.{LoadFault}
 use Rattle.io_ports.specs.Port.{PortView}
-use Rattle.io_ports.specs.declared.port.PortFault.TheVariants.{Memory, Read, Write}
 use Rattle.sim.specs.declared.machine.Outcome.{Outcome}
 use Rattle.sim.specs.declared.machine.Outcome.TheVariants as outcome
 use Rattle.sim.specs.Runs.{World, start_of, rvrun}
 use Rattle.sim.specs.Meets.{At, RunMeets, Blames}
 use Rattle.machine_kept.specs.Standing.{Passes, shown_byte, answer_of, outcome_detail}
 use Rattle.machine_kept.specs.Feeds.{port_of, Lacks, IsFresh}
-use Rattle.machine_kept.specs.declared.feed.Feed.{Feed}
 use Rattle.machine_kept.specs.declared.kept.Kept.{Kept}
-use Rattle.machine_kept.specs.declared.stepping.Halt.{Halt}
 use Rattle.machine_kept.specs.declared.stepping.Reached.{Reached}
 
 -- its registers, pc and memory

@@ -17,7 +17,11 @@ impl Kept {
         if number < PC {
             return u64::from(self.state.read(Five::new(number as u8)));
         }
-        if number == PC { u64::from(self.state.pc) } else { 0 }
+        if number == PC {
+            u64::from(self.state.pc)
+        } else {
+            0
+        }
     }
 
     /// Gives a register, or the pc, a value, modulo 2^32; a machine that had stopped goes on. Answers 0, or 1 where there is no such register.
@@ -58,7 +62,11 @@ impl Kept {
         if address >= 0x1_0000_0000 {
             return 0;
         }
-        if self.state.memory.store_byte(address as u32, (byte % 0x100) as u8) {
+        if self
+            .state
+            .memory
+            .store_byte(address as u32, (byte % 0x100) as u8)
+        {
             1
         } else {
             0

@@ -11,8 +11,8 @@ ghost use Rattle.machine_kept.specs.Standing.{Passes, shown_byte};
 
 use crate::ticking::tick;
 use io_ports::Port;
-use rv32::memory::Memory;
 use loader::Loaded;
+use rv32::memory::Memory;
 use rv32::state::{Cause, State};
 use sim::Outcome;
 

@@ -38,8 +38,7 @@ use srcset::{FileSet, message};
 use stacking::build_stacked;
 use standing::{Standing, stand};
 use std::alloc::Global;
-use std::mem;
-use std::ptr;
+use std::{mem, ptr};
 use telling::{names_of, tell_functions, tell_image, tell_warnings};
 
 /// The version of the library.

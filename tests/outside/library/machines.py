@@ -249,6 +249,17 @@ def in_c(counted, cc, runs, out, work):
             counted.holds('%s from C by %d' % (name, slice), (done.returncode, done.stdout) == (status, output), done)
 
 
+def documented(counted, out):
+    """The lines of docs/LIBRARY.md."""
+    with open(os.path.join(ROOT, 'docs', 'LIBRARY.md'), encoding='utf-8') as file:
+        found = re.findall(r'```python\n(.*?)```', file.read(), re.S)
+    counted.holds('docs/LIBRARY.md has lines of Python', len(found) == 1, len(found))
+    env = {**os.environ, 'PYTHONPATH': os.path.join(ROOT, 'bindings', 'python'), 'LD_LIBRARY_PATH': out}
+    for text in found:
+        done = subprocess.run([sys.executable, '-c', text], env=env, capture_output=True, timeout=60)
+        counted.holds('the lines of docs/LIBRARY.md', (done.returncode, done.stderr) == (0, b'') and b' 7 ' in done.stdout, done)
+
+
 def main():
     counted = Counted()
     out = os.path.abspath(sys.argv[2] if len(sys.argv) > 2 else os.path.join(ROOT, 'bindings', 'out'))
@@ -270,6 +281,7 @@ def main():
             calls(counted, cc, zk, work)
             in_threads(counted, zk, short)
             in_c(counted, cc, short, out, work)
+            documented(counted, out)
     print('%d passed, %d failed%s' % (counted.passed, counted.failed, ', %d skipped' % counted.skipped if counted.skipped else ''))
     return counted.failed
 

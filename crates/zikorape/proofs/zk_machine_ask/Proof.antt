@@ -1,11 +1,11 @@
 -- A machine behind the caller's pointer is lent to `serve`, and taken back.
-use Rattle.std.proofs.Common.{◌≡◌, ℕ, List, [], ◌∷◌, ◌++◌, refl, ap, w32, w64, MutBor}
+use Rattle.std.proofs.Common.{ℕ, [], ◌∷◌, ◌++◌, refl, w32, w64, MutBor}
 use Rattle.std.proofs.raw_atomic.Walks.{proved}
 use base.Fraction.{full_share}
 use base.Logic.{id⊢}
-use base.Fml.{ftrue, fsep, fex, flft, fres, flent}
+use base.Fml.{ftrue, fsep, fex, flft, flent}
 use mir.Syntax.{named}
-use mir.Val.{Val, vint, vptr}
+use mir.Val.{vint, vptr}
 use prog.Wp.{WpFn}
 use contract.Monad.{fact}
 use contract.Running.{tables}
@@ -21,7 +21,7 @@ use denote.Memory.{mem, part_at}
 use denote.Lend.{lends_ref, ref_back}
 use denote.Plain.{uint_vals, uint_Tells, uint_Makes, uint_Lawful}
 use denote.RawPtr.{Ptr, RawPtr, block_ptr, in_a_block, rawptr_vals, rawptr_Tells}
-use denote.Ref.{MutRef, mut_vals}
+use denote.Ref.{MutRef}
 use denote.Signature.{plain}
 use denote.Steps.{nothing, owned, heard, peeks}
 use denote.Triple.Call.{calls_at}
@@ -37,8 +37,8 @@ use Rattle.machine_kept.specs.contracts.kept.Kept.{the_row as R}
 use Rattle.zikorape.specs.contracts.zk_machine_ask as f
 use Rattle.zikorape.proofs.zk_machine_ask.Statement.{statement}
 use Rattle.zikorape.proofs.zk_machine_ask.Code as code
-use Rattle.machine_kept.specs.contracts.serving.Kept.serve as g
-use Rattle.machine_kept.proofs.serving.Kept.serve.Met.{met}
+use Rattle.machine_kept.specs.contracts.kept.Kept.serve as g
+use Rattle.machine_kept.proofs.kept.Kept.serve.Met.{met}
 
 abbrev stayed : Stays f.ended.signature.params f.ended.kept
 stayed = (stay_dropped _ yes, (stay_dropped _ yes, (stay_dropped _ yes, (stay_dropped _ yes, tt))))
@@ -68,7 +68,7 @@ zk_machine_ask_spec 𝓤 𝓛 𝓜 𝓡 wired =
     nothing ! $ owned ! u64 (Is u64) (uint_Makes 𝓛 w64) second _ (refl, are.1.1.1.0.1) $ join ! $ owned ! u64 (Is u64) (uint_Makes 𝓛 w64) first _ (refl, are.1.1.0.1) $ join ! $
     owned ! u32 (Is u32) (uint_Makes 𝓛 w32) number _ (refl, are.1.0.1) $ join ! $ move ! (1 ∷ 0 ∷ []) $ join ! $
     nothing ! $ move ! (3 ∷ 0 ∷ []) $ join ! $ join ! $ nothing ! $ move ! (1 ∷ 0 ∷ []) $ use2 𝓛 (raw (G.pre z)) (id⊢ 𝓤 _) $
-    calls_at ! (framed 𝓤 𝓛.H 𝓜 (tables 𝓤 𝓛.H 𝓜 𝓡 𝓡.env)) G (met 𝓤 𝓛 𝓜 𝓡 (code.calls-machine_kept::serving::Kept::serve 𝓡.env wired)) z
+    calls_at ! (framed 𝓤 𝓛.H 𝓜 (tables 𝓤 𝓛.H 𝓜 𝓡 𝓡.env)) G (met 𝓤 𝓛 𝓜 𝓡 (code.calls-machine_kept::kept::Kept::serve 𝓡.env wired)) z
     (and_then ! (get ! refl) (and_then ! (get ! refl) (and_then ! (get ! refl) (and_then ! (get ! refl) (no_more !))))) (λ v.
     use1 𝓛 (later (some (λ (r : ℕ). ((‵ (flft (α ∷ []) full_share) ⊛ ‵ ftrue) ⊛ ‵ (u64.own_val r (v ∷ []))) ⊛
     some (λ (ws : Kept × (Unit {0} × (Unit {0} × (Unit {0} × Unit {0})))). ‵ (lasts g.ended z.0.0 z.0.3 ws) ⊛ raw (fact 𝓤 (Answers number first second n r ws.0)))))) (id⊢ 𝓤 _) $
