@@ -105,18 +105,21 @@ def back_again(counted, zk, runs):
 
 def registers(counted, cc, zk, runs, work):
     """Pc and registers as `run --at N` shows them."""
-    for number, (name, input, file, status, output) in enumerate(runs[:40]):
+    for number, (name, input, file, status, output) in enumerate(runs[:60]):
+        with zk.machine(file) as machine:
+            machine.input(input)
+            machine.close_input()
+            machine.run(LONGEST)
+            at = 1 + 37 * number % max(machine.steps - 1, 1)
         path = os.path.join(work, 'at.out')
         with open(path, 'wb') as out:
             out.write(file)
-        at = 3 + 11 * number
         said = subprocess.run([cc.path, 'run', path, '--at', str(at)], input=input, capture_output=True, timeout=60).stderr.decode()
         words = re.findall(r'^pc ([0-9A-F]{8})$|x\d+ +([0-9A-F]{8})', said, re.M)
         with zk.machine(file) as machine:
             machine.input(input)
             machine.close_input()
-            if machine.run(at) != zikorape.GOES_ON:
-                continue
+            machine.run(at)
             counted.holds('%s at %d' % (name, at), [int(pc or register, 16) for pc, register in words] == [machine.pc, *machine.registers], said)
 
 
@@ -155,8 +158,7 @@ def set_by_hand(counted, zk):
         counted.holds('no register 33', raises(ValueError, lambda: machine.set_register(33, 0)))
         stack = 0x80000000 - 4096
         counted.holds('the stack is written', machine.write(stack, b'\1\2\3') == 3 and machine.read(stack - 1, 5) == b'\0\1\2\3\0')
-        text = machine.read(0x11000, 4)
-        counted.holds('the text is not', machine.write(0x11000, b'\1\2\3\4') == 0 and machine.read(0x11000, 4) == text and text != bytes(4))
+        counted.holds('the text is neither written nor read', machine.write(0x11000, b'\1\2\3\4') == 0 and machine.read(0x11000, 4) == bytes(4))
         counted.holds('nor what is not there', machine.write(0, b'\1') == 0 and machine.read(0x7fff_0000_0, 2) == b'\0\0')
         machine.set_register(32, 2)
         counted.holds('a pc that is no multiple of 4', (machine.run(), machine.detail) == (zikorape.TRAPPED, 3))
