@@ -40,7 +40,11 @@ for out in bindings/out release; do
     if [ -e "$out/libzikorape.a" ]; then
         mkdir -p "$to/lib" "$to/include" "$to/share/zikorape"
         cp "$out/libzikorape.a" "$to/lib/"
-        ${CC:-gcc} -shared -o "$to/lib/libzikorape.so" -Wl,--whole-archive "$out/libzikorape.a" -Wl,--no-whole-archive
+        if [ -e "$out/libzikorape.so" ]; then
+            cp "$out/libzikorape.so" "$to/lib/"
+        else
+            ${CC:-gcc} -shared -o "$to/lib/libzikorape.so" -Wl,--whole-archive "$out/libzikorape.a" -Wl,--no-whole-archive
+        fi
         cp include/zikorape.h include/zikorape_machine.h "$to/include/"
         mkdir -p "$to/share/zikorape/zikorape" "$to/lib/cmake/zikorape"
         cp bindings/python/zikorape/__init__.py bindings/python/zikorape/py.typed "$to/share/zikorape/zikorape/"

@@ -1,6 +1,6 @@
 #!/bin/sh
 # sh bindings/build.sh [--prove] OUT: leaves in OUT libzikorape.a, with the heap that it calls, and libzikorape.so. They are of
-# release/libzikorape.a, where that was built from this tree; that needs the C compiler alone.
+# release/, where that was built from this tree.
 # --prove: proves the crate zikorape over the libraries that the gate proved, and builds the archive; its module for LLVM, zikorape.bc, is
 # left in OUT too. That needs the kit, and takes two to three minutes.
 #   KIT    the kit's folder: by default where `rt` lies
@@ -31,7 +31,7 @@ if [ -z "$prove" ]; then
         exit 1
     fi
     cp "$kept" "$out/libzikorape.a"
-    shared
+    if [ -e "$root/release/libzikorape.so" ]; then cp "$root/release/libzikorape.so" "$out/"; else shared; fi
     exit 0
 fi
 KIT=${KIT:-$(cd "$(dirname "$(readlink -f "$(command -v rt)")")/.." && pwd)}

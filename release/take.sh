@@ -23,5 +23,8 @@ if [ "${1:-}" != program ]; then
     [ "$(cat bindings/out/SOURCES 2>/dev/null)" = "$(sh release/digest.sh zikorape)" ] ||
         { echo "no archive of this tree at $built: run sh bindings/build.sh --prove bindings/out" >&2; exit 1; }
     cp "$built" release/libzikorape.a
+    # Where it is small, the shared library goes along, for those who have no C compiler.
+    rm -f release/libzikorape.so
+    if [ "$(wc -c <bindings/out/libzikorape.so)" -lt 3000000 ]; then cp bindings/out/libzikorape.so release/; fi
     sh release/digest.sh zikorape >release/LIBRARY
 fi

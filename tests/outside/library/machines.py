@@ -214,8 +214,8 @@ def calls(counted, cc, zk, work):
     built = zk.build({'echo.c': ECHO}, 'echo.c').check().output
     with open(os.path.join(work, 'echo.out'), 'wb') as file:
         file.write(built)
-    for form in zikorape.IMAGES:
-        status, image = said('image', 'echo.out', '--' + form) if form != 'binary' else said('image', 'echo.out')
+    for form, word in zip(zikorape.IMAGES, ('--bin', '--ihex', '--memh')):
+        status, image = said('image', 'echo.out', word)
         counted.holds('an image: ' + form, status == 0 and image == zk.image(built, form).check().output, image[:80])
     two = b'int f(int a) { return a + 1; }\nint g[3];\nint main(void) { g[0] = f(2); return g[0]; }\n'
     table = json.loads(zk.functions({'two.c': two}, 'two.c').check().output)
