@@ -66,11 +66,16 @@ fi
 cmp $built release/cc && [ "$(sh release/digest.sh)" = "$(cat release/SOURCES)" ]
 told 'release/cc is not what this tree builds: sh release/take.sh takes over what was built; then commit release/' $? |
     tee "$logs/release"
+# So is the archive of the library.
+{ sh bindings/build.sh --prove "$logs/library" && cmp "$logs/library/libzikorape.a" release/libzikorape.a &&
+    [ "$(sh release/digest.sh zikorape)" = "$(cat release/LIBRARY)" ]; } >"$logs/archive.said" 2>&1
+told 'release/libzikorape.a is not what this tree builds: sh bindings/build.sh --prove bindings/out, and sh release/take.sh library; then commit release/' $? |
+    tee "$logs/archive"
 { sh tests/outlives.sh 2>&1; echo $? >"$logs/outlives.status"; } | tee "$logs/outlives"
 { python3 tests/edits/tried.py 2>&1; echo $? >"$logs/tried.status"; } | tee "$logs/tried"
 { sh test.sh bin/cc 2>&1; echo $? >"$logs/test.status"; } | tee "$logs/test"
 
-for part in tools release; do verdict "$logs/$part" 0; done >"$logs/verdicts"
+for part in tools release archive; do verdict "$logs/$part" 0; done >"$logs/verdicts"
 for part in ci outlives tried test; do verdict "$logs/$part" "$(cat "$logs/$part.status")"; done >>"$logs/verdicts"
 # count WORD: the sum of the numbers before WORD in the verdicts.
 count() { sed -n "s/.*\b\([0-9][0-9]*\) $1.*/\1/p" "$logs/verdicts" | awk '{ n += $1 } END { print n + 0 }'; }

@@ -53,6 +53,7 @@ is_wanted() {
 checks() {
     cat <<'END'
 library      | python3                                  | python3 tests/outside/library/check.py "$cc"
+machines     | python3                                  | python3 tests/outside/library/machines.py "$cc"
 packages     | python3                                  | python3 tests/outside/library/packages.py
 page         | python3                                  | sh tests/outside/page/check.sh "$cc"
 boards       | python3                                  | sh tests/outside/boards/check.sh "$cc"

@@ -1,12 +1,39 @@
 #!/bin/sh
-# sh bindings/build.sh OUT: proves the crate zikorape over the libraries that the gate proved, and leaves in OUT libzikorape.a, with the
-# heap that it calls, libzikorape.so, and its module for LLVM, zikorape.bc.
+# sh bindings/build.sh [--prove] OUT: leaves in OUT libzikorape.a, with the heap that it calls, and libzikorape.so. They are of
+# release/, where that was built from this tree.
+# --prove: proves the crate zikorape over the libraries that the gate proved, and builds the archive; its module for LLVM, zikorape.bc, is
+# left in OUT too. That needs the kit, and takes two to three minutes.
 #   KIT    the kit's folder: by default where `rt` lies
 #   RLIBS  a folder with the library of each crate, CRATE.rlib: by default what `rt ci` left in crates/*/out/rlib
 set -eu
 root=$(cd "$(dirname "$0")/.." && pwd)
+prove=
+if [ "${1:-}" = --prove ]; then
+    prove=1
+    shift
+fi
+case ${1:-} in
+    '' | -*)
+        echo 'usage: sh bindings/build.sh [--prove] OUT' >&2
+        exit 2
+        ;;
+esac
 mkdir -p "$1"
 out=$(cd "$1" && pwd)
+
+# shared: the same as a library that is loaded.
+shared() { ${CC:-gcc} -shared -o "$out/libzikorape.so" -Wl,--whole-archive "$out/libzikorape.a" -Wl,--no-whole-archive; }
+
+if [ -z "$prove" ]; then
+    kept=$root/release/libzikorape.a
+    if ! [ -e "$kept" ] || [ "$(sh "$root/release/digest.sh" zikorape)" != "$(cat "$root/release/LIBRARY" 2>/dev/null)" ]; then
+        echo 'release/libzikorape.a is not of this tree: run sh bindings/build.sh --prove OUT, which builds it (it needs the kit)' >&2
+        exit 1
+    fi
+    cp "$kept" "$out/libzikorape.a"
+    if [ -e "$root/release/libzikorape.so" ]; then cp "$root/release/libzikorape.so" "$out/"; else shared; fi
+    exit 0
+fi
 KIT=${KIT:-$(cd "$(dirname "$(readlink -f "$(command -v rt)")")/.." && pwd)}
 work=$(mktemp -d)
 trap 'rm -rf "$work"' EXIT
@@ -54,5 +81,6 @@ mkdir heap && cd heap
 "$KIT/toolchain/bin/llvm-ar" x "$KIT/c/liblibc_c.a"
 "$KIT/toolchain/bin/llvm-ar" rsD "$work/libzikorape.a" ./*.o
 cp "$work/libzikorape.a" "$out/libzikorape.a"
+sh "$root/release/digest.sh" zikorape >"$out/SOURCES"
 for module in "$work"/module.*; do cp "$module" "$out/zikorape.bc"; done
-${CC:-gcc} -shared -o "$out/libzikorape.so" -Wl,--whole-archive "$out/libzikorape.a" -Wl,--no-whole-archive
+shared

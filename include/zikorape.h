@@ -46,6 +46,29 @@ uint32_t zk_build(const uint8_t *texts, size_t texts_length, const struct zk_fil
                   const uint8_t *main, size_t main_length,
                   uint8_t *out, size_t out_length, uint8_t *message, size_t message_length, struct zk_sizes *sizes);
 
+/* The same with a stack of so many bytes, a multiple of 4,096 from 4,096 to 16,777,216 (zk_build: 1,048,576); with another number the
+   status is 256. So it is for zk_functions and zk_warn. */
+uint32_t zk_build_with(const uint8_t *texts, size_t texts_length, const struct zk_file *files, size_t files_length,
+                       const uint8_t *main, size_t main_length, uint32_t stack,
+                       uint8_t *out, size_t out_length, uint8_t *message, size_t message_length, struct zk_sizes *sizes);
+
+/* The functions of the program, in order, and its objects with static storage, by their addresses, as JSON: { "functions": [{ "name", "address",
+   "size", "frame", "weight", "calls": [names] }], "objects": [{ "name", which a string literal has not, "address", "size" }] }; sizes, frames and
+   weights are bytes. */
+uint32_t zk_functions(const uint8_t *texts, size_t texts_length, const struct zk_file *files, size_t files_length,
+                      const uint8_t *main, size_t main_length, uint32_t stack,
+                      uint8_t *out, size_t out_length, uint8_t *message, size_t message_length, struct zk_sizes *sizes);
+
+/* The warnings of the program, as JSON, an object a line: those that `zkc check --json` tells. A program that is refused has its fault. */
+uint32_t zk_warn(const uint8_t *texts, size_t texts_length, const struct zk_file *files, size_t files_length,
+                 const uint8_t *main, size_t main_length, uint32_t stack,
+                 uint8_t *out, size_t out_length, uint8_t *message, size_t message_length, struct zk_sizes *sizes);
+
+/* The bytes that an executable file, which a message calls by this name, loads: `form` 0 as they are from the first to the last, 1 as Intel's
+   hexadecimal records, 2 as Verilog's $readmemh reads them; with another number the status is 256. */
+uint32_t zk_image(const uint8_t *file, size_t file_length, const uint8_t *name, size_t name_length, uint32_t form,
+                  uint8_t *out, size_t out_length, uint8_t *message, size_t message_length, struct zk_sizes *sizes);
+
 /* A line for each function, in order: its name, the bytes of its frame on the stack, and its weight, a bound on these that the
    source alone gives; one space between. */
 uint32_t zk_frames(const uint8_t *texts, size_t texts_length, const struct zk_file *files, size_t files_length,
@@ -94,6 +117,35 @@ struct zk_machine { uint32_t detail, pc, registers[32]; uint64_t steps, output; 
 uint32_t zk_step(const uint8_t *file, size_t file_length, const uint8_t *input, size_t input_length,
                  uint64_t count, uint64_t after, uint32_t halt, uint32_t from, uint8_t *window, size_t window_length,
                  uint8_t *out, size_t out_length, struct zk_machine *machine);
+
+/* A machine that is kept. It lives in the caller's memory: zk_machine_size tells how many bytes it takes, at an address that is a
+   multiple of 16. Place it there before all else, and clear it before the memory goes; between, nobody else writes there, and it does
+   not move. A machine is asked by one thread at a time, and many machines by many. zikorape_machine.h has a function for each question.
+
+   zk_machine_ask asks what has this number, and answers:
+     ZK_FILE a          one byte more of its file: 0, or 801
+     ZK_LOAD            it stands before the first instruction of its file, without input and output: 0, or the code for which the file is
+                        not loaded (801, 901 to 907): then it is as it was
+     ZK_INPUT a         one byte more of the input: 0; 1 where the input is closed; 801
+     ZK_CLOSE           the input has its end here: 0
+     ZK_RUN a b         at most a instructions, or, after one, to where that at the address b is next (none is at an odd one): 0 it goes
+                        on, 1 it ended, 2 it trapped, 3 memory ran out for the output, 5 it wants input. After 1 and 2 it answers the same
+                        again; after 3 and 5 it stands before the call that was refused, and asks again.
+     ZK_DETAIL          the status with which it ended, or the number of why it trapped; else 0
+     ZK_STEPS           how many instructions it took, with that at which it ended or trapped
+     ZK_OUTPUT          the next byte of the output that was not taken; 256 where there is none
+     ZK_REGISTER a      the register a; the pc for 32
+     ZK_READ a          the byte at the address a, 0 where the program can't read it
+     ZK_SET_REGISTER a b, ZK_WRITE a b   outside the theorem, for faults that are put in: the register a, or the pc, is b: 0, or 1 where there
+                        is none; the byte at the address a is b, where the program may write it: 1, else 0. What the machine then does is
+                        what such a machine does, and says nothing of the program.
+     another number     256
+   A byte is its low 8 bits, a value its low 32; where it answers 801 it is as it was. */
+enum { ZK_FILE, ZK_LOAD, ZK_INPUT, ZK_CLOSE, ZK_RUN, ZK_DETAIL, ZK_STEPS, ZK_OUTPUT, ZK_REGISTER, ZK_SET_REGISTER, ZK_READ, ZK_WRITE };
+uint64_t zk_machine_size(void);
+void zk_machine_place(void *at);
+uint64_t zk_machine_ask(void *at, uint32_t number, uint64_t a, uint64_t b);
+void zk_machine_clear(void *at);
 
 /* The text of the fault with this code, which is empty where there is none; answers how long it is. */
 uint64_t zk_message(uint16_t code, uint8_t *out, size_t out_length);

@@ -1,6 +1,6 @@
 #!/bin/sh
 # sh page/build.sh [MODULE]: makes page/zikorape.wasm, writes what it was made of to page/SOURCES, and prints the file's size. MODULE is the
-# library's module for LLVM; without it `sh bindings/build.sh bindings/out` makes it first, over what the gate proved. That takes
+# library's module for LLVM; without it `sh bindings/build.sh --prove bindings/out` makes it first, over what the gate proved. That takes
 # two to three minutes, and 40 seconds more are for WebAssembly.
 #   KIT       the kit's folder: by default where `rt` lies
 #   RLIBS     as for bindings/build.sh
@@ -13,7 +13,7 @@ KIT=${KIT:-$(cd "$(dirname "$(readlink -f "$(command -v rt)")")/.." && pwd)}
 WASM_OPT=${WASM_OPT:-wasm-opt}
 command -v "$WASM_OPT" >/dev/null || { echo "no $WASM_OPT: install the package binaryen" >&2; exit 1; }
 if [ $# = 0 ]; then
-    sh "$page/../bindings/build.sh" "$page/../bindings/out"
+    sh "$page/../bindings/build.sh" --prove "$page/../bindings/out"
     set -- "$page/../bindings/out/zikorape.bc"
 fi
 module=$(cd "$(dirname "$1")" && pwd)/$(basename "$1")
@@ -23,7 +23,7 @@ cd "$work"
 clang=$KIT/toolchain/bin/clang
 flags='--target=wasm64-unknown-unknown -O2 -mbulk-memory -msign-ext'
 layout='e-m:e-p:64:64-p10:8:8-p20:8:8-i64:64-i128:128-n32:64-S128-ni:1:10:20'
-exports='build frames preprocess list form interpret run step message version malloc free'
+exports='build build_with functions warn image frames preprocess list form interpret run step machine_size machine_place machine_ask machine_clear message version malloc free'
 
 # The same module for another target.
 "$clang" --target=x86_64-unknown-linux-gnu -x ir "$module" -S -emit-llvm -O0 -o native.ll

@@ -72,6 +72,61 @@ export function open(module) {
     return got.wants ? step(file, input, count, after, halt, from, length, got.wants) : got;
   }
 
+  // A machine that is kept, before the first instruction of the file. Its memory is that of the module: free() gives it back.
+  function machine(file) {
+    const at = take(Number(c.zk_machine_size()));
+    const ask = (number, a = 0, b = 0) => Number(c.zk_machine_ask(at, number, BigInt(a), BigInt(b)));
+    let given = [], closed = false, taken = 0;
+    const free = () => { c.zk_machine_clear(at); c.zk_free(at); };
+    const must = code => { if (code) throw new Error(code === 801 ? '801 out of memory' : `${code} not loaded`); };
+    c.zk_machine_place(at);
+    try {
+      for (const byte of bytesOf(file)) must(ask(0, byte));
+      must(ask(1));
+    } catch (error) { free(); throw error; }
+    const self = {
+      // 0 it goes on, 1 it ended, 2 it trapped, 3 memory ran out, 5 it wants input
+      run: (max = 1e9, to = 1) => ask(4, max, to),
+      step: () => ask(4, 1, 1),
+      detail: () => ask(5),
+      steps: () => ask(6),
+      pc: () => ask(8, 32),
+      registers: () => Array.from({ length: 32 }, (_, k) => ask(8, k)),
+      read: (from, length) => Uint8Array.from({ length }, (_, k) => ask(10, from + k)),
+      // outside the theorem
+      write: (from, bytes) => [...bytes].reduce((n, byte, k) => n + ask(11, from + k, byte), 0),
+      setRegister: (number, value) => ask(9, number, value >>> 0) === 0,
+      input(text) {
+        for (const byte of bytesOf(text)) {
+          const code = ask(2, byte);
+          if (code === 1) throw new Error('the input is closed');
+          must(code);
+          given.push(byte);
+        }
+      },
+      closeInput() { ask(3); closed = true; },
+      output() {
+        const found = [];
+        for (let byte = ask(7); byte < 256; byte = ask(7)) found.push(byte);
+        taken += found.length;
+        return Uint8Array.from(found);
+      },
+      snapshot: () => ({ steps: ask(6), given: [...given], closed, taken }),
+      // by a run from the start over what had been given
+      restore(snapshot) {
+        must(ask(1));
+        given = []; closed = false; taken = 0;
+        self.input(Uint8Array.from(snapshot.given));
+        if (snapshot.closed) self.closeInput();
+        ask(4, snapshot.steps, 1);
+        if (ask(6) !== snapshot.steps) must(801);
+        while (taken < snapshot.taken && ask(7) < 256) taken++;
+      },
+      free,
+    };
+    return self;
+  }
+
   const text = call => lending(({ room }) => {
     const out = room(256), length = Number(call(out, 256n));
     return new TextDecoder().decode(view(out, Math.min(length, 256)));
@@ -79,6 +134,10 @@ export function open(module) {
 
   return {
     build: (files, main) => over(c.zk_build, files, main),
+    buildWith: (files, main, stack) => over(c.zk_build_with, files, main, stack),
+    functions: (files, main, stack = 1 << 20) => over(c.zk_functions, files, main, stack),
+    warnings: (files, main, stack = 1 << 20) => over(c.zk_warn, files, main, stack),
+    image: (file, form = 0, name = 'a.out') => answer(({ slice }, rooms) => c.zk_image(...slice(file), ...slice(name), form, ...rooms)),
     frames: (files, main) => over(c.zk_frames, files, main),
     preprocess: (files, main) => over(c.zk_preprocess, files, main),
     list: (files, main) => over(c.zk_list, files, main),
@@ -87,6 +146,7 @@ export function open(module) {
     run: (file, name, input = '', max = 1e9) =>
       answer(({ slice }, rooms) => c.zk_run(...slice(file), ...slice(name), ...slice(input), BigInt(max), ...rooms)),
     step,
+    machine,
     message: code => text((out, n) => c.zk_message(code, out, n)),
     version: () => text((out, n) => c.zk_version(out, n)),
     memory: () => c.memory.buffer.byteLength,

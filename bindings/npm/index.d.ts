@@ -21,8 +21,46 @@ export interface Machine {
   output: Uint8Array;
 }
 
+/** Where a kept machine stood. */
+export interface Snapshot {
+  readonly steps: number;
+  readonly given: readonly number[];
+  readonly closed: boolean;
+  readonly taken: number;
+}
+
+/** A machine that is kept. A run answers 0 where it goes on, 1 it ended, 2 it trapped, 3 memory ran out for the output, 5 it wants input. */
+export interface KeptMachine {
+  run(max?: number, to?: number): number;
+  step(): number;
+  /** The status, or the number of the cause. */
+  detail(): number;
+  steps(): number;
+  pc(): number;
+  registers(): number[];
+  read(from: number, length: number): Uint8Array;
+  /** Outside the theorem. */
+  write(from: number, bytes: Iterable<number>): number;
+  /** Outside the theorem; 32 is the pc. */
+  setRegister(number: number, value: number): boolean;
+  input(text: Text): void;
+  closeInput(): void;
+  output(): Uint8Array;
+  snapshot(): Snapshot;
+  restore(snapshot: Snapshot): void;
+  free(): void;
+}
+
 export interface Library {
   build(files: Files, main: string): Answer;
+  /** With a stack of so many bytes, a multiple of 4,096 up to 16,777,216. */
+  buildWith(files: Files, main: string, stack: number): Answer;
+  /** JSON: functions with addresses, sizes, frames, weights and calls, and objects. */
+  functions(files: Files, main: string, stack?: number): Answer;
+  /** JSON, an object a line. */
+  warnings(files: Files, main: string, stack?: number): Answer;
+  /** The bytes that a file loads: 0 as they are, 1 Intel's hexadecimal records, 2 for Verilog. */
+  image(file: Uint8Array, form?: number, name?: string): Answer;
   frames(files: Files, main: string): Answer;
   preprocess(files: Files, main: string): Answer;
   list(files: Files, main: string): Answer;
@@ -31,6 +69,8 @@ export interface Library {
   interpret(files: Files, main: string, input?: Text, max?: number): Answer;
   run(file: Uint8Array, name: string, input?: Text, max?: number): Answer;
   step(file: Uint8Array, input: Text, count: number, after: number, halt: number, from: number, length: number): Machine;
+  /** Throws where the file is not loaded. */
+  machine(file: Uint8Array): KeptMachine;
   message(code: number): string;
   version(): string;
   memory(): number;

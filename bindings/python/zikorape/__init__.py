@@ -1,10 +1,16 @@
-"""Zikorape from Python, by ctypes: `build`, `frames`, `preprocess`, `listing`, `form`, `interpret`, `run`, `step`, `message`,
-`version`.
+"""Zikorape from Python, by ctypes: `build`, `functions`, `frames`, `warnings`, `preprocess`, `listing`, `form`, `interpret`, `run`,
+`step`, `machine`, `image`, `message`, `version`.
 
     import zikorape
     zk = zikorape.Library()
     answer = zk.build({'main.c': b'int main(void) { return 42; }\n'}, 'main.c')      # files by name, or a list of pairs
     zk.run(answer.check().output).status             # 42; check() raises a Fault where the program is refused
+
+A machine that is kept runs in slices, takes input while it runs, shows itself, and goes back to where it stood:
+
+    with zk.machine(answer.output) as machine:
+        while machine.run(1000) == zikorape.GOES_ON:
+            print(machine.steps, machine.pc)
 
 A text (of a file, an input, a built file) is bytes, str (UTF-8), or a path (pathlib.Path), whose file is read; anything else is a TypeError.
 The library is shared: `gcc -shared -o libzikorape.so -Wl,--whole-archive libzikorape.a`, which
@@ -17,6 +23,10 @@ from dataclasses import dataclass
 
 MAX = 1_000_000_000
 FORMS = ('tokens', 'tree', 'typed', 'tac', 'flat')
+IMAGES = ('binary', 'intel', 'verilog')
+STACK = 1 << 20
+GOES_ON, ENDED, TRAPPED, OUT_OF_MEMORY, WANTS_INPUT = 0, 1, 2, 3, 5
+_FILE, _LOAD, _INPUT, _CLOSE, _RUN, _DETAIL, _STEPS, _OUTPUT, _REGISTER, _SET_REGISTER, _READ, _WRITE = range(12)
 
 
 class File(ctypes.Structure):
@@ -69,6 +79,137 @@ class Machine:
     output: bytes
 
 
+@dataclass(frozen=True)
+class Snapshot:
+    """Where a machine stood: how many instructions it had taken, over which input, and how many bytes of the output had been taken."""
+    steps: int
+    given: bytes
+    closed: bool
+    taken: int
+
+
+class KeptMachine:
+    """A machine that is kept (`Library.machine`). A run answers IMAGES = ('binary', 'intel', 'verilog')
+STACK = 1 << 20
+GOES_ON, ENDED, TRAPPED, OUT_OF_MEMORY or WANTS_INPUT; `detail` has the status
+    or the number of the cause. Only one thread may use it."""
+
+    def __init__(self, library, file):
+        self._c = library._c
+        size = self._c.zk_machine_size()
+        self._room = ctypes.create_string_buffer(size + 15)
+        self._at = ctypes.c_void_p((ctypes.addressof(self._room) + 15) // 16 * 16)
+        self._c.zk_machine_place(self._at)
+        self._given, self._closed, self._taken = bytearray(), False, 0
+        for byte in _bytes(file):
+            self._must(self._ask(_FILE, byte))
+        self._must(self._ask(_LOAD))
+
+    def close(self):
+        """Gives back its memory; nothing may be asked then."""
+        if self._at is not None:
+            self._c.zk_machine_clear(self._at)
+            self._at = None
+
+    def __enter__(self):
+        return self
+
+    def __exit__(self, *_):
+        self.close()
+
+    def __del__(self):
+        if getattr(self, '_at', None) is not None:
+            self.close()
+
+    def _ask(self, number, a=0, b=0):
+        if self._at is None:
+            raise ValueError('the machine is closed')
+        return self._c.zk_machine_ask(self._at, number, a, b)
+
+    def _must(self, code):
+        if code == 801:
+            raise MemoryError('801 out of memory')
+        if code:
+            raise Fault('cc: %d not loaded\n' % code)
+
+    def run(self, max=MAX, to=1) -> int:
+        """At most `max` instructions, or, after one, to where that at the address `to` is next."""
+        return self._ask(_RUN, max, to)
+
+    def step(self) -> int:
+        return self.run(1)
+
+    @property
+    def detail(self) -> int:
+        return self._ask(_DETAIL)
+
+    @property
+    def steps(self) -> int:
+        return self._ask(_STEPS)
+
+    @property
+    def pc(self) -> int:
+        return self._ask(_REGISTER, 32)
+
+    @property
+    def registers(self) -> list:
+        return [self._ask(_REGISTER, k) for k in range(32)]
+
+    def read(self, start: int, length: int) -> bytes:
+        """Bytes of its memory; 0 for each that the program can't read."""
+        return bytes(self._ask(_READ, start + k) for k in range(length))
+
+    def write(self, start: int, data: bytes) -> int:
+        """Outside the theorem: sets bytes, where the program may write them; answers how many were set."""
+        return sum(self._ask(_WRITE, start + k, byte) for k, byte in enumerate(data))
+
+    def set_register(self, number: int, value: int):
+        """Outside the theorem: sets a register, or the pc by 32."""
+        if self._ask(_SET_REGISTER, number, value & 0xffffffff):
+            raise ValueError('no register %d' % number)
+
+    def input(self, data):
+        """Gives input."""
+        for byte in _bytes(data):
+            answer = self._ask(_INPUT, byte)
+            if answer == 1:
+                raise ValueError('the input is closed')
+            self._must(answer)
+            self._given.append(byte)
+
+    def close_input(self):
+        """The input ends here: a program that reads on is told so, and does not wait."""
+        self._ask(_CLOSE)
+        self._closed = True
+
+    def output(self) -> bytes:
+        """What it has put since the last call."""
+        found = bytearray()
+        while True:
+            byte = self._ask(_OUTPUT)
+            if byte > 255:
+                self._taken += len(found)
+                return bytes(found)
+            found.append(byte)
+
+    def snapshot(self) -> Snapshot:
+        """Where it stands. What was set by `write` and `set_register` is no part of it."""
+        return Snapshot(self.steps, bytes(self._given), self._closed, self._taken)
+
+    def restore(self, snapshot: Snapshot):
+        """Stands there again, by a run from the start over what had been given."""
+        self._must(self._ask(_LOAD))
+        self._given, self._closed, self._taken = bytearray(), False, 0
+        self.input(snapshot.given)
+        if snapshot.closed:
+            self.close_input()
+        self.run(snapshot.steps)
+        if self.steps != snapshot.steps:
+            raise MemoryError('801 out of memory')
+        while self._taken < snapshot.taken and self._ask(_OUTPUT) < 256:
+            self._taken += 1
+
+
 def _bytes(text):
     """The bytes of a text: a path (os.PathLike) stands for what its file holds. A number is none, for which `bytes` would make zeros."""
     if isinstance(text, str):
@@ -99,13 +240,33 @@ def _beside() -> str:
 class Library:
     def __init__(self, path=None):
         self._c = ctypes.CDLL(os.fspath(path) if path is not None else _beside())
-        for name in ('build', 'frames', 'preprocess', 'list', 'form', 'interpret', 'run', 'step'):
+        for name in ('build', 'build_with', 'functions', 'warn', 'image', 'frames', 'preprocess', 'list', 'form', 'interpret', 'run', 'step'):
             getattr(self._c, 'zk_' + name).restype = ctypes.c_uint32
         for name in ('message', 'version'):
             getattr(self._c, 'zk_' + name).restype = ctypes.c_uint64
+        c = self._c
+        c.zk_machine_size.restype, c.zk_machine_size.argtypes = ctypes.c_uint64, []
+        c.zk_machine_ask.restype, c.zk_machine_ask.argtypes = ctypes.c_uint64, [ctypes.c_void_p, ctypes.c_uint32, ctypes.c_uint64, ctypes.c_uint64]
+        for name in ('zk_machine_place', 'zk_machine_clear'):
+            getattr(c, name).restype, getattr(c, name).argtypes = None, [ctypes.c_void_p]
 
-    def build(self, files, main):
-        return self._over(self._c.zk_build, files, main)
+    def build(self, files, main, stack=None):
+        """The executable file, with a stack of so many bytes; without it 1,048,576."""
+        if stack is None:
+            return self._over(self._c.zk_build, files, main)
+        return self._over(self._c.zk_build_with, files, main, ctypes.c_uint32(stack))
+
+    def functions(self, files, main, stack=STACK):
+        """The functions, with addresses, sizes, frames, weights and calls, and the objects, as JSON (zikorape.h)."""
+        return self._over(self._c.zk_functions, files, main, ctypes.c_uint32(stack))
+
+    def warnings(self, files, main, stack=STACK):
+        """The warnings as JSON, an object a line."""
+        return self._over(self._c.zk_warn, files, main, ctypes.c_uint32(stack))
+
+    def image(self, file, form='binary', name='a.out'):
+        """The bytes that a built file loads: one of IMAGES."""
+        return self._call(self._c.zk_image, *_slice(_bytes(file)), *_slice(_name(name)), ctypes.c_uint32(IMAGES.index(form)))
 
     def frames(self, files, main):
         return self._over(self._c.zk_frames, files, main)
@@ -137,6 +298,10 @@ class Library:
             if seen.output <= room:
                 return Machine(outcome, seen.detail, seen.steps, seen.pc, list(seen.registers), window.raw[:length], out.raw[:seen.output])
             room = seen.output
+
+    def machine(self, file) -> KeptMachine:
+        """A machine that is kept, before the first instruction of a built file; a Fault where the file is not loaded."""
+        return KeptMachine(self, file)
 
     def message(self, code):
         return self._text(self._c.zk_message, ctypes.c_uint16(code))

@@ -34,6 +34,7 @@ struct Seen {
 type Out = *mut u8;
 type In = *const u8;
 type Over = unsafe extern "C" fn(In, usize, *const File, usize, In, usize, Out, usize, Out, usize, *mut Sizes) -> u32;
+type OverStack = unsafe extern "C" fn(In, usize, *const File, usize, In, usize, u32, Out, usize, Out, usize, *mut Sizes) -> u32;
 
 extern "C" {
     fn zk_build(texts: In, n: usize, files: *const File, k: usize, main: In, m: usize, out: Out, o: usize, message: Out, l: usize, sizes: *mut Sizes) -> u32;
@@ -53,6 +54,20 @@ extern "C" {
     fn zk_step(
         file: In, n: usize, input: In, i: usize, count: u64, after: u64, halt: u32, from: u32, window: Out, w: usize, out: Out, o: usize, seen: *mut Seen,
     ) -> u32;
+    fn zk_build_with(
+        texts: In, n: usize, files: *const File, k: usize, main: In, m: usize, stack: u32, out: Out, o: usize, message: Out, l: usize, sizes: *mut Sizes,
+    ) -> u32;
+    fn zk_functions(
+        texts: In, n: usize, files: *const File, k: usize, main: In, m: usize, stack: u32, out: Out, o: usize, message: Out, l: usize, sizes: *mut Sizes,
+    ) -> u32;
+    fn zk_warn(
+        texts: In, n: usize, files: *const File, k: usize, main: In, m: usize, stack: u32, out: Out, o: usize, message: Out, l: usize, sizes: *mut Sizes,
+    ) -> u32;
+    fn zk_image(file: In, n: usize, name: In, m: usize, form: u32, out: Out, o: usize, message: Out, l: usize, sizes: *mut Sizes) -> u32;
+    fn zk_machine_size() -> u64;
+    fn zk_machine_place(at: *mut u8);
+    fn zk_machine_ask(at: *mut u8, number: u32, a: u64, b: u64) -> u64;
+    fn zk_machine_clear(at: *mut u8);
     fn zk_message(code: u16, out: Out, o: usize) -> u64;
     fn zk_version(out: Out, o: usize) -> u64;
 }
@@ -134,6 +149,44 @@ fn over(call: Over, files: &[(&str, &[u8])], main: &str) -> Answer {
     with_room(|out, message, sizes| unsafe {
         call(texts.as_ptr(), texts.len(), lengths.as_ptr(), lengths.len(), main.as_ptr(), main.len(),
             out.as_mut_ptr(), out.len(), message.as_mut_ptr(), message.len(), sizes)
+    })
+}
+
+fn over_stack(call: OverStack, files: &[(&str, &[u8])], main: &str, stack: u32) -> Answer {
+    let (texts, lengths) = given(files);
+    with_room(|out, message, sizes| unsafe {
+        call(texts.as_ptr(), texts.len(), lengths.as_ptr(), lengths.len(), main.as_ptr(), main.len(), stack,
+            out.as_mut_ptr(), out.len(), message.as_mut_ptr(), message.len(), sizes)
+    })
+}
+
+/// The executable file of the program in the file `main`, with a stack of so many bytes, a multiple of 4,096 up to 16,777,216.
+pub fn build_with(files: &[(&str, &[u8])], main: &str, stack: u32) -> Answer {
+    over_stack(zk_build_with, files, main, stack)
+}
+
+/// The functions of that program, with addresses, sizes, frames, weights and calls, and its objects, as JSON.
+pub fn functions(files: &[(&str, &[u8])], main: &str, stack: u32) -> Answer {
+    over_stack(zk_functions, files, main, stack)
+}
+
+/// The warnings of that program as JSON, an object a line.
+pub fn warnings(files: &[(&str, &[u8])], main: &str, stack: u32) -> Answer {
+    over_stack(zk_warn, files, main, stack)
+}
+
+/// How the bytes that a file loads are written.
+#[derive(Clone, Copy, Debug, PartialEq, Eq)]
+pub enum Image {
+    Binary,
+    Intel,
+    Verilog,
+}
+
+/// The bytes that an executable file of this name loads.
+pub fn image(file: &[u8], name: &str, form: Image) -> Answer {
+    with_room(|out, message, sizes| unsafe {
+        zk_image(file.as_ptr(), file.len(), name.as_ptr(), name.len(), form as u32, out.as_mut_ptr(), out.len(), message.as_mut_ptr(), message.len(), sizes)
     })
 }
 
@@ -252,6 +305,176 @@ pub fn step(file: &[u8], input: &[u8], count: u64, halt: Halt, from: u32, length
             _ => Outcome::NotLoaded(seen.detail),
         };
         return Machine { outcome, pc: seen.pc, registers: seen.registers, steps: seen.steps, window, output: out };
+    }
+}
+
+/// What a run of a kept machine came to.
+#[derive(Clone, Copy, Debug, PartialEq, Eq)]
+pub enum Ran {
+    GoesOn,
+    /// It ended with this status.
+    Ended(u32),
+    /// It trapped for the cause with this number (`zikorape.h`).
+    Trapped(u32),
+    /// Memory ran out for the output.
+    OutOfMemory,
+    /// It reads, and the input that was given is used up and not closed.
+    WantsInput,
+}
+
+/// Where a machine stood.
+#[derive(Clone, Debug, PartialEq, Eq)]
+pub struct Snapshot {
+    steps: u64,
+    given: Vec<u8>,
+    closed: bool,
+    taken: usize,
+}
+
+/// A machine that is kept: it runs in slices, takes input while it runs, shows itself, and goes back to where it stood.
+///
+/// ```no_run
+/// # let elf = [];
+/// let mut machine = zikorape::KeptMachine::new(&elf).unwrap();
+/// while machine.run(1000) == zikorape::Ran::GoesOn {
+///     println!("{} {:#x}", machine.steps(), machine.pc());
+/// }
+/// ```
+///
+/// It stays on its thread.
+pub struct KeptMachine {
+    memory: Vec<u128>,
+    given: Vec<u8>,
+    closed: bool,
+    taken: usize,
+    here: std::marker::PhantomData<*mut u8>,
+}
+
+impl KeptMachine {
+    /// A machine before the first instruction of the file; or the code for which the file is not loaded.
+    pub fn new(file: &[u8]) -> Result<Self, u32> {
+        let size = unsafe { zk_machine_size() } as usize;
+        let mut machine =
+            KeptMachine { memory: vec![0; size.div_ceil(16)], given: Vec::new(), closed: false, taken: 0, here: std::marker::PhantomData };
+        unsafe { zk_machine_place(machine.memory.as_mut_ptr().cast()) };
+        for byte in file {
+            machine.must(0, u64::from(*byte))?;
+        }
+        machine.must(1, 0)?;
+        Ok(machine)
+    }
+
+    fn ask(&mut self, number: u32, a: u64, b: u64) -> u64 {
+        unsafe { zk_machine_ask(self.memory.as_mut_ptr().cast(), number, a, b) }
+    }
+
+    fn must(&mut self, number: u32, a: u64) -> Result<(), u32> {
+        match self.ask(number, a, 0) as u32 {
+            0 => Ok(()),
+            code => Err(code),
+        }
+    }
+
+    /// At most `max` instructions more.
+    pub fn run(&mut self, max: u64) -> Ran {
+        self.run_to(max, 1)
+    }
+
+    /// The same, or, after one, to where the instruction at the address `halt` is next.
+    pub fn run_to(&mut self, max: u64, halt: u32) -> Ran {
+        match self.ask(4, max, u64::from(halt)) {
+            0 => Ran::GoesOn,
+            1 => Ran::Ended(self.ask(5, 0, 0) as u32),
+            2 => Ran::Trapped(self.ask(5, 0, 0) as u32),
+            3 => Ran::OutOfMemory,
+            _ => Ran::WantsInput,
+        }
+    }
+
+    /// How many instructions it took.
+    pub fn steps(&mut self) -> u64 {
+        self.ask(6, 0, 0)
+    }
+
+    /// The address of the instruction that is next.
+    pub fn pc(&mut self) -> u32 {
+        self.ask(8, 32, 0) as u32
+    }
+
+    pub fn registers(&mut self) -> [u32; 32] {
+        std::array::from_fn(|k| self.ask(8, k as u64, 0) as u32)
+    }
+
+    /// Bytes of its memory, 0 for each that the program can't read.
+    pub fn read(&mut self, from: u32, length: usize) -> Vec<u8> {
+        (0..length).map(|k| self.ask(10, u64::from(from) + k as u64, 0) as u8).collect()
+    }
+
+    /// Outside the theorem: sets bytes, where the program may write them; answers how many were set.
+    pub fn write(&mut self, from: u32, bytes: &[u8]) -> usize {
+        bytes.iter().enumerate().map(|(k, byte)| self.ask(11, u64::from(from) + k as u64, u64::from(*byte)) as usize).sum()
+    }
+
+    /// Outside the theorem: sets a register, or the pc by 32; answers whether there is such a one.
+    pub fn set_register(&mut self, number: u32, value: u32) -> bool {
+        self.ask(9, u64::from(number), u64::from(value)) == 0
+    }
+
+    /// Gives input; answers how many bytes it took: fewer where the input is closed or memory runs out.
+    pub fn input(&mut self, bytes: &[u8]) -> usize {
+        for (k, byte) in bytes.iter().enumerate() {
+            if self.ask(2, u64::from(*byte), 0) != 0 {
+                return k;
+            }
+            self.given.push(*byte);
+        }
+        bytes.len()
+    }
+
+    /// The input ends here: a program that reads on is told so, and does not wait.
+    pub fn close_input(&mut self) {
+        self.ask(3, 0, 0);
+        self.closed = true;
+    }
+
+    /// What it has put since the last call.
+    pub fn output(&mut self) -> Vec<u8> {
+        let found: Vec<u8> = std::iter::from_fn(|| u8::try_from(self.ask(7, 0, 0)).ok()).collect();
+        self.taken += found.len();
+        found
+    }
+
+    /// Where it stands. What was set by `write` and `set_register` is no part of it.
+    pub fn snapshot(&mut self) -> Snapshot {
+        Snapshot { steps: self.steps(), given: self.given.clone(), closed: self.closed, taken: self.taken }
+    }
+
+    /// Stands there again, by a run from the start over what had been given. The error is 801, out of memory.
+    pub fn restore(&mut self, snapshot: &Snapshot) -> Result<(), u32> {
+        self.must(1, 0)?;
+        self.given.clear();
+        self.closed = false;
+        self.taken = 0;
+        if self.input(&snapshot.given) < snapshot.given.len() {
+            return Err(801);
+        }
+        if snapshot.closed {
+            self.close_input();
+        }
+        self.run(snapshot.steps);
+        if self.steps() != snapshot.steps {
+            return Err(801);
+        }
+        while self.taken < snapshot.taken && self.ask(7, 0, 0) < 256 {
+            self.taken += 1;
+        }
+        Ok(())
+    }
+}
+
+impl Drop for KeptMachine {
+    fn drop(&mut self) {
+        unsafe { zk_machine_clear(self.memory.as_mut_ptr().cast()) }
     }
 }
 

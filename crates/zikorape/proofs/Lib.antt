@@ -2,4 +2,3 @@ pub mod GivenLemmas
 pub mod HandingOut
 pub mod Performing
 pub mod Runs
-pub mod Stores

@@ -7,7 +7,7 @@ use Rattle.io_ports.specs.declared.port.PortFault.TheVariants as port_fault
 use Rattle.io_ports.specs.Port.{PortView}
 use Rattle.io_ports.specs.Memory.{MemoryView, port_of}
 use Rattle.cc.specs.declared.compiling.Built.{Built}
-use Rattle.cc.specs.MemoryMap.{usual_stack}
+use Rattle.cc.specs.MemoryMap.{IsStackSize, usual_stack}
 use Rattle.cc.specs.Compiled.{Compiles, frames_of}
 use Rattle.cc.specs.Refused.{IsRefused}
 use Rattle.cc.specs.declared.performing.Cmd.{Cmd}
@@ -50,12 +50,22 @@ OverFiles given status Does output line =
 
 -- ---- what `compile` answers
 
--- 0, and `text` says of the compiled program what the output is; or 1, and the line of a fault for which `compile` may refuse the set
-abbrev pub Compiled : (Built → List ℕ) → List ℕ → ℕ → Files → List ℕ → List ℕ → Type 0
-Compiled text name status set output line =
-    ((status ≡ 0) × (line ≡ []) × ((built : Built) × Compiles usual_stack set name built × (output ≡ text built)))
-    ⊎ ((status ≡ 1) × (output ≡ []) × ((fault : Fault) × IsRefused usual_stack set name fault × IsLineOf fault line))
+-- 0, and `text` says of the program that was compiled with this stack what the output is; or 1, and the line of a fault for which the set
+-- may be refused
+abbrev pub CompiledWith : ℕ → (Built → List ℕ) → List ℕ → ℕ → Files → List ℕ → List ℕ → Type 0
+CompiledWith stack text name status set output line =
+    ((status ≡ 0) × (line ≡ []) × ((built : Built) × Compiles stack set name built × (output ≡ text built)))
+    ⊎ ((status ≡ 1) × (output ≡ []) × ((fault : Fault) × IsRefused stack set name fault × IsLineOf fault line))
     ⊎ Wants status output line
+
+-- the same with the usual stack
+abbrev pub Compiled : (Built → List ℕ) → List ℕ → ℕ → Files → List ℕ → List ℕ → Type 0
+Compiled = CompiledWith usual_stack
+
+-- the stack has such a size, and this was done; or it has not: then 256, and nothing
+abbrev pub WithStack : ℕ → ℕ → (List ℕ → List ℕ → Type 0) → List ℕ → List ℕ → Type 0
+WithStack stack status Does output line =
+    (IsStackSize stack × Does output line) ⊎ ((IsStackSize stack → ⊥) × (status ≡ 256) × (output ≡ []) × (line ≡ []))
 
 -- the executable file
 abbrev pub file_text : Built → List ℕ

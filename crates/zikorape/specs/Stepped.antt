@@ -1,9 +1,7 @@
 -- What a caller sees of a machine at an instruction.
-use Rattle.std.specs.Prelude.{◌≡◌, ◌≢◌, ◌⊎◌, ◌<◌, ◌≤◌, ℕ, ◌+◌, ◌^◌, List, [], Some, Ok, length, slice_index, nat_lt, if◌then◌else◌}
+use Rattle.std.specs.Prelude.{◌≡◌, ◌⊎◌, ◌<◌, ◌≤◌, ℕ, ◌+◌, List, [], Some, Ok, length, slice_index}
 use Rattle.rv32.specs.Space.{Space}
 use Rattle.rv32.specs.Step.{Machine}
-use Rattle.rv32.specs.declared.state.Cause.{Cause}
-use Rattle.rv32.specs.declared.state.Cause.TheVariants as cause
 use Rattle.srcset.specs.Codes.{number_of}
 use Rattle.loader.specs.File.{Image, file_image}
 use Rattle.loader.specs.Fault.{code_of}
@@ -12,28 +10,14 @@ use Rattle.loader.specs.declared.fault.LoadFault.{LoadFault}
 use Rattle.io_ports.specs.Memory.{MemoryView, port_of}
 use Rattle.sim.specs.declared.machine.Outcome.{Outcome}
 use Rattle.sim.specs.declared.machine.Outcome.TheVariants as outcome
-use Rattle.sim.specs.Runs.{Progress, Running, Ended, Trapped, start_world, rvrun}
+use Rattle.sim.specs.Runs.{start_world, rvrun}
 use Rattle.sim.specs.Meets.{RunMeets}
 use Rattle.zikorape.specs.Got.{Buffer, Got}
 use Rattle.zikorape.specs.declared.standing.Standing.{Standing}
-use Rattle.zikorape.specs.declared.stepping.Halt.{Halt}
+use Rattle.machine_kept.specs.Standing.{shown_byte, cause_number, Passes}
+use Rattle.machine_kept.specs.declared.stepping.Halt.{Halt}
 
 -- ---- numbers
-
--- the byte at an address, where it may be read, and else 0
-abbrev pub shown_byte : Space → ℕ → ℕ
-shown_byte s a = if nat_lt a (2 ^ 32) then (if s.can_read a then s.byte a else 0) else 0
-
--- the number of a cause
-abbrev pub cause_number : Cause → ℕ
-cause_number cause.Illegal = 1
-cause_number cause.FetchFault = 2
-cause_number cause.Target = 3
-cause_number cause.Misaligned = 4
-cause_number cause.LoadFault = 5
-cause_number cause.StoreFault = 6
-cause_number cause.Break = 7
-cause_number cause.BadCall = 8
 
 -- 0 where it goes on, 1 where it ended, 2 where it trapped, 3 when out of memory
 abbrev pub outcome_number : Outcome → ℕ
@@ -63,12 +47,6 @@ pub record Shows (window : Window) (s : Space) : Type 0 where
   pub bytes_are : (i : ℕ) → i < length window.before → slice_index window.after i ≡ shown_byte s (window.from + i)
 
 -- ---- how far
-
--- after k instructions the run goes on, and is not to halt there
-abbrev pub Passes : Halt → ℕ → Progress → Type 0
-Passes halt k (Running w) = halt.after ≤ k → w.machine.pc ≢ halt.at
-Passes halt k (Ended s w) = ⊥
-Passes halt k (Trapped c w) = ⊥
 
 -- the file has an image, from which so many instructions over the input, at most `count`, come to this machine, output and outcome.
 -- They are as few as they can be: before the last of them the run went on and was not to halt; where it goes on behind them,

@@ -1,3 +1,2 @@
 -- What only proofs and private clauses need.
 pub mod Refusing
-pub mod Stopping

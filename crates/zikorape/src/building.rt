@@ -3,10 +3,10 @@
 ghost use Rattle.std.specs.Prelude.{◌≡◌, ◌++◌, IfOk, OnOk, take, map, codes, decimal};
 ghost use Rattle.cc.specs.Compiled.{shown_entry};
 ghost use Rattle.zikorape.specs.Got.{Buffer, HandsOut};
-ghost use Rattle.zikorape.specs.Answered.{Compiled, file_text, frames_text, entries_text, entry_text};
+ghost use Rattle.zikorape.specs.Answered.{Compiled, CompiledWith, file_text, frames_text, entries_text, entry_text};
 
 use crate::giving::{OUT_OF_MEMORY, Sizes, hand_fault, hand_out};
-use cc::compile;
+use cc::{StackSize, compile, compile_with};
 use itoa::Buffer as Digits;
 use srcset::FileSet;
 use std::alloc::{AllocError, Global};
@@ -25,6 +25,32 @@ pub fn build(
         (record { before = message.old; after = message.new; told = sizes.new.message }) }
 {
     match compile(alloc, set, main) {
+        Ok(built) => {
+            hand_out(built.elf.as_slice(), b"", out, message, sizes);
+            0
+        }
+        Err(fault) => {
+            hand_fault(alloc, &fault, out, message, sizes);
+            1
+        }
+    }
+}
+
+/// The same with a stack of this size.
+pub fn build_with(
+    alloc: Global,
+    set: &FileSet,
+    main: &str,
+    stack: StackSize,
+    out: &mut [u8],
+    message: &mut [u8],
+    sizes: &mut Sizes,
+) -> u32
+    ensures { HandsOut (CompiledWith stack file_text main.now result set.now)
+        (record { before = out.old; after = out.new; told = sizes.new.output })
+        (record { before = message.old; after = message.new; told = sizes.new.message }) }
+{
+    match compile_with(alloc, set, main, stack) {
         Ok(built) => {
             hand_out(built.elf.as_slice(), b"", out, message, sizes);
             0

@@ -10,26 +10,36 @@ mod files;
 mod giving;
 mod refusing;
 mod showing;
+mod stacking;
 mod standing;
-mod stepping;
-mod ticking;
+mod telling;
 
 ghost use Rattle.std.specs.Prelude.{◌⊎◌, []};
 ghost use Rattle.srcset.specs.Codes.{message_of};
 ghost use Rattle.zikorape.specs.Got.{Buffer, Got, HandsOut};
 ghost use Rattle.zikorape.specs.Given.{text_or_empty};
-ghost use Rattle.zikorape.specs.Answered.{OverFiles, Compiled, Writes, Puts, file_text, frames_text, version};
+ghost use Rattle.zikorape.specs.Answered.{OverFiles, Compiled, CompiledWith, WithStack, Writes, Puts, file_text, frames_text, version};
 ghost use Rattle.zikorape.specs.Stepped.{Window, Stands, FailsToStand};
+ghost use Rattle.std.specs.Ptr.{points_to, room_at};
+ghost use Rattle.machine_kept.specs.declared.kept.Kept.{Kept as KeptMachine};
+ghost use Rattle.machine_kept.specs.contracts.kept.Kept.{the_row as kept_row};
+ghost use Rattle.machine_kept.specs.Kept.{IsNew};
+ghost use Rattle.machine_kept.specs.Served.{Answers};
+ghost use types.Logic.{sem};
+ghost use base.Fml.{fex, fsep, ftrue};
 
-use cc::Cmd;
+use cc::{Cmd, StackSize};
 use files::{FileLengths, text_or_empty};
-use giving::{Sizes, give, hand_out};
+use giving::{OUT_OF_MEMORY, Sizes, give, hand_out};
+use machine_kept::{Halt, Kept};
 use refusing::{NO_FILES, given, refuse};
 use showing::{form_of, show_form};
 use srcset::{FileSet, message};
+use stacking::build_stacked;
 use standing::{Standing, stand};
 use std::alloc::Global;
-use stepping::Halt;
+use std::{mem, ptr};
+use telling::{names_of, tell_functions, tell_image, tell_warnings};
 
 /// The version of the library.
 const VERSION: &[u8] = b"zikorape 1.0";
@@ -53,6 +63,100 @@ pub extern "C" fn zk_build(
         Ok(set) => building::build(alloc, &set, text_or_empty(main), out, message, sizes),
         Err(refusal) => refuse(alloc, &refusal, out, message, sizes),
     }
+}
+
+/// The same with a stack of so many bytes, a multiple of 4,096 from 4,096 to 16,777,216; for another number it answers 256.
+#[unsafe(no_mangle)]
+pub extern "C" fn zk_build_with(
+    alloc: Global,
+    texts: &[u8],
+    files: &[FileLengths],
+    main: &[u8],
+    stack: u32,
+    out: &mut [u8],
+    message: &mut [u8],
+    sizes: &mut Sizes,
+) -> u32
+    ensures { HandsOut (WithStack stack result (OverFiles (record { texts = texts.now; lengths = files.now }) result (CompiledWith stack file_text (text_or_empty main.now) result)))
+        (record { before = out.old; after = out.new; told = sizes.new.output })
+        (record { before = message.old; after = message.new; told = sizes.new.message }) }
+{
+    build_stacked(alloc, texts, files, main, stack, out, message, sizes)
+}
+
+/// The functions of the program in the file `main` with their addresses, sizes, frames, weights and calls, and its objects, as JSON. It has
+/// no clause but that it is safe.
+#[unsafe(no_mangle)]
+pub extern "C" fn zk_functions(
+    alloc: Global,
+    texts: &[u8],
+    files: &[FileLengths],
+    main: &[u8],
+    stack: u32,
+    out: &mut [u8],
+    message: &mut [u8],
+    sizes: &mut Sizes,
+) -> u32 {
+    let Some(stack) = StackSize::new(stack) else {
+        hand_out(b"", b"", out, message, sizes);
+        return NO_FILES;
+    };
+    match given(alloc, texts, files) {
+        Ok(set) => tell_functions(alloc, &set, text_or_empty(main), stack, out, message, sizes),
+        Err(refusal) => refuse(alloc, &refusal, out, message, sizes),
+    }
+}
+
+/// The warnings of the program in the file `main`, as JSON, an object a line. It has no clause but that it is safe.
+#[unsafe(no_mangle)]
+pub extern "C" fn zk_warn(
+    alloc: Global,
+    texts: &[u8],
+    files: &[FileLengths],
+    main: &[u8],
+    stack: u32,
+    out: &mut [u8],
+    message: &mut [u8],
+    sizes: &mut Sizes,
+) -> u32 {
+    let Some(stack) = StackSize::new(stack) else {
+        hand_out(b"", b"", out, message, sizes);
+        return NO_FILES;
+    };
+    match given(alloc, texts, files) {
+        Ok(set) => match names_of(alloc, texts, files) {
+            Ok(names) => tell_warnings(
+                alloc,
+                &set,
+                names.as_slice(),
+                text_or_empty(main),
+                stack,
+                out,
+                message,
+                sizes,
+            ),
+            Err(_) => {
+                hand_out(b"", OUT_OF_MEMORY, out, message, sizes);
+                1
+            }
+        },
+        Err(refusal) => refuse(alloc, &refusal, out, message, sizes),
+    }
+}
+
+/// The bytes that an executable file loads: 0 as they are, 1 as Intel's hexadecimal records, 2 as Verilog's `$readmemh` reads them. For
+/// another number it answers 256. It has no clause but that it is safe.
+#[unsafe(no_mangle)]
+pub extern "C" fn zk_image(
+    alloc: Global,
+    file: &[u8],
+    name: &[u8],
+    form: u32,
+    out: &mut [u8],
+    message: &mut [u8],
+    sizes: &mut Sizes,
+) -> u32 {
+    tell_image(alloc, file, text_or_empty(name), form, out, message, sizes)
 }
 
 /// The frame and the weight of each function of the program in the file `main`.
@@ -250,6 +354,47 @@ pub extern "C" fn zk_step(
         out,
         standing,
     )
+}
+
+/// How many bytes of the caller's memory a machine takes that is kept there, at an address that is a multiple of 16.
+#[unsafe(no_mangle)]
+pub extern "C" fn zk_machine_size() -> u64 {
+    mem::size_of::<Kept>() as u64
+}
+
+/// Puts a machine into the caller's memory: it has no file, no memory and no input.
+#[unsafe(no_mangle)]
+pub unsafe extern "C" fn zk_machine_place(alloc: Global, at: *mut u8)
+    requires* { sem 𝓛 (room_at kept_row at) }
+    ensures* { sem 𝓛 (fex KeptMachine (λ m. fsep (points_to kept_row at m) (fex (IsNew m) (λ _. ftrue)))) }
+{
+    ptr::write(at as *mut Kept, Kept::new(alloc))
+}
+
+/// Asks the machine that is kept there what has this number, with two numbers more, and answers it.
+#[unsafe(no_mangle)]
+pub unsafe extern "C" fn zk_machine_ask(at: *mut u8, number: u32, a: u64, b: u64) -> u64
+    ghost old: { KeptMachine }
+    requires* { sem 𝓛 (points_to kept_row at old) }
+    ensures* { sem 𝓛 (fex KeptMachine (λ new. fsep (points_to kept_row at new) (fex (Answers number a b old result new) (λ _. ftrue)))) }
+{
+    let kept = &mut *(at as *mut Kept);
+    kept.serve(number, a, b)
+}
+
+/// Gives back what the machine that is kept there took of the heap; its memory is the caller's again.
+#[unsafe(no_mangle)]
+pub unsafe extern "C" fn zk_machine_clear(at: *mut u8)
+    ghost old: { KeptMachine }
+    requires* { sem 𝓛 (points_to kept_row at old) }
+    ensures* { sem 𝓛 (room_at kept_row at) }
+{
+    end(ptr::read(at as *mut Kept))
+}
+
+/// Drops a machine.
+fn end(machine: Kept) {
+    mem::drop(machine)
 }
 
 /// The text of the fault with this number, which is empty where there is none; answers how long it is.

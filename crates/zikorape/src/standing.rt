@@ -1,18 +1,14 @@
 //! Where a machine stands after so many instructions.
 
 ghost use Rattle.std.specs.Prelude.{◌≡◌, ◌⊎◌, [], IfOk};
-ghost use Rattle.rv32.specs.Step.{machine_of};
 ghost use Rattle.srcset.specs.Codes.{number_of};
-ghost use Rattle.loader.specs.Loading.{loaded_image};
-ghost use Rattle.sim.specs.Runs.{start_of};
 ghost use Rattle.zikorape.specs.Got.{Buffer};
-ghost use Rattle.zikorape.specs.Stepped.{Window, Stands, FailsToStand, cause_number, outcome_number, detail_of};
+ghost use Rattle.zikorape.specs.Stepped.{Window, Stands, FailsToStand, outcome_number, detail_of};
 
 use crate::giving::give;
-use crate::stepping::{Halt, run_to, show};
 use io_ports::MemPort;
-use loader::{Loaded, load};
-use rv32::state::{Cause, State};
+use loader::load;
+use machine_kept::{Halt, cause_number, run_to, show, start};
 use sim::Outcome;
 use srcset::Code;
 use std::alloc::{AllocError, Global};
@@ -78,18 +74,6 @@ fn port_over(alloc: Global, input: &[u8]) -> Result<MemPort, AllocError>
     Ok(MemPort::new(alloc, input))
 }
 
-/// The machine before its first instruction.
-fn start(program: Loaded) -> State
-    ensures { machine_of result ≡ start_of (loaded_image program) }
-{
-    let pc = program.entry();
-    State {
-        registers: [0; 32],
-        pc,
-        memory: program.into_memory(),
-    }
-}
-
 /// Tells why the file is not loaded.
 fn fail(code: Code, standing: &mut Standing) -> u32
     ensures answer { result ≡ 4 }
@@ -121,20 +105,5 @@ fn detail(outcome: Outcome) -> u32
         Outcome::Ended(status) => u32::from(status),
         Outcome::Trapped(_, cause) => cause_number(cause),
         Outcome::Port(_) => 0,
-    }
-}
-
-fn cause_number(cause: Cause) -> u32
-    ensures { result ≡ cause_number cause }
-{
-    match cause {
-        Cause::Illegal => 1,
-        Cause::FetchFault => 2,
-        Cause::Target => 3,
-        Cause::Misaligned => 4,
-        Cause::LoadFault => 5,
-        Cause::StoreFault => 6,
-        Cause::Break => 7,
-        Cause::BadCall => 8,
     }
 }

@@ -131,13 +131,17 @@ def rust(work):
 
 
 C = """#include <string.h>
-#include <zikorape.h>
+#include <zikorape_machine.h>
 int main(void) {
     static unsigned char out[65536], line[256];
     const char text[] = "main.cint main(void) { return 42; }\\n";
     struct zk_file file = { 6, sizeof text - 1 - 6 };
     struct zk_sizes sizes;
     if (zk_build((const uint8_t *)text, sizeof text - 1, &file, 1, (const uint8_t *)"main.c", 6, out, sizeof out, line, sizeof line, &sizes) != 0) return 1;
+    uint32_t why;
+    zk_kept *m = zk_machine_new(out, sizes.output, &why);
+    if (!m || zk_machine_run(m, 1000) != 1 || zk_machine_detail(m) != 42) return 2;
+    zk_machine_free(m);
     return (int)zk_run(out, sizes.output, (const uint8_t *)"a.out", 5, line, 0, 1000000, line, 0, line, sizeof line, &sizes) - 42;
 }
 """

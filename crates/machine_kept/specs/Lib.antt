@@ -1,0 +1,11 @@
+pub use Rattle.rv32.specs.Step
+pub use Rattle.loader.specs.File
+pub use Rattle.loader.specs.Loading
+pub use Rattle.io_ports.specs.Port
+pub use Rattle.sim.specs.Runs
+pub use Rattle.sim.specs.Meets
+pub mod Standing
+pub mod Feeds
+pub mod Kept
+pub mod Served
+pub mod inside

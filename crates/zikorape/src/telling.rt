@@ -1,0 +1,241 @@
+//! What is told of a program beside its file: its functions and objects, its warnings, and the images of a file. Nothing here has a clause
+//! but that it is safe.
+
+use crate::files::{FileLengths, text_or_empty};
+use crate::giving::{OUT_OF_MEMORY, Sizes, hand_fault, hand_out};
+use cc::{StackSize, compile_with};
+use image_export::{Piece, binary, entry, intel_hex, pieces, verilog_memory};
+use lint_report::{Asked, Form};
+use lint_unit::warn_of_sources;
+use loader::LoadFault;
+use srcset::{Code, Fault, FileSet};
+use std::alloc::{AllocError, Global};
+use symbol_table::{Function, Object, SymbolTable, symbol_table};
+
+/// The answer where there is no such form.
+const NO_FORM: u32 = 256;
+
+/// The functions and the objects of the program in the file `main` of the set, as JSON.
+pub fn tell_functions(
+    alloc: Global,
+    set: &FileSet,
+    main: &str,
+    stack: StackSize,
+    out: &mut [u8],
+    message: &mut [u8],
+    sizes: &mut Sizes,
+) -> u32 {
+    match functions_of(alloc, set, main, stack) {
+        Ok(table) => hand_text(json_of(alloc, &table), out, message, sizes),
+        Err(fault) => {
+            hand_fault(alloc, &fault, out, message, sizes);
+            1
+        }
+    }
+}
+
+/// The warnings of that program, as JSON.
+pub fn tell_warnings(
+    alloc: Global,
+    set: &FileSet,
+    names: &[&str],
+    main: &str,
+    stack: StackSize,
+    out: &mut [u8],
+    message: &mut [u8],
+    sizes: &mut Sizes,
+) -> u32 {
+    match compile_with(alloc, set, main, stack) {
+        Ok(_) => hand_text(
+            warnings_of(alloc, set, names, main, stack),
+            out,
+            message,
+            sizes,
+        ),
+        Err(fault) => {
+            hand_fault(alloc, &fault, out, message, sizes);
+            1
+        }
+    }
+}
+
+/// The bytes that an executable file loads, in the form with this number.
+pub fn tell_image(
+    alloc: Global,
+    file: &[u8],
+    name: &str,
+    form: u32,
+    out: &mut [u8],
+    message: &mut [u8],
+    sizes: &mut Sizes,
+) -> u32 {
+    if form > 2 {
+        hand_out(b"", b"", out, message, sizes);
+        return NO_FORM;
+    }
+    match image_of(alloc, file, form) {
+        Ok(image) => {
+            hand_out(image.as_slice(), b"", out, message, sizes);
+            0
+        }
+        Err(LoadFault::Memory) => {
+            hand_out(b"", OUT_OF_MEMORY, out, message, sizes);
+            1
+        }
+        Err(fault) => {
+            let fault = Fault::at(alloc, fault.code(), name, 0);
+            hand_fault(alloc, &fault, out, message, sizes);
+            1
+        }
+    }
+}
+
+/// Gives a text, or the line of 801.
+fn hand_text(
+    text: Result<String, AllocError>,
+    out: &mut [u8],
+    message: &mut [u8],
+    sizes: &mut Sizes,
+) -> u32 {
+    match text {
+        Ok(text) => {
+            hand_out(text.as_bytes(), b"", out, message, sizes);
+            0
+        }
+        Err(_) => {
+            hand_out(b"", OUT_OF_MEMORY, out, message, sizes);
+            1
+        }
+    }
+}
+
+fn functions_of(
+    alloc: Global,
+    set: &FileSet,
+    main: &str,
+    stack: StackSize,
+) -> Result<SymbolTable, Fault> {
+    match compile_with(alloc, set, main, stack) {
+        Ok(built) => symbol_table(alloc, set, main, stack, &built),
+        Err(fault) => Err(fault),
+    }
+}
+
+fn json_of(alloc: Global, table: &SymbolTable) -> Result<String, AllocError> {
+    let mut text = String::new(alloc);
+    text.push_str("{\"functions\":[")?;
+    for (k, function) in table.functions.iter().enumerate() {
+        text.push_str(if k == 0 { "" } else { "," })?;
+        put_function(alloc, table, function, &mut text)?;
+    }
+    text.push_str("],\"objects\":[")?;
+    for (k, object) in table.objects.iter().enumerate() {
+        text.push_str(if k == 0 { "" } else { "," })?;
+        put_object(alloc, object, &mut text)?;
+    }
+    text.push_str("]}\n")?;
+    Ok(text)
+}
+
+fn put_function(
+    alloc: Global,
+    table: &SymbolTable,
+    function: &Function,
+    text: &mut String,
+) -> Result<(), AllocError> {
+    let (start, size, frame, weight) = (
+        function.start,
+        function.size,
+        function.frame,
+        function.weight,
+    );
+    text.push_str("{\"name\":\"")?;
+    text.push_str(function.name.as_str())?;
+    let numbers = format!(in alloc;
+        "\",\"address\":{start},\"size\":{size},\"frame\":{frame},\"weight\":{weight},\"calls\":["
+    )?;
+    text.push_str(numbers.as_str())?;
+    for (k, number) in function.calls.iter().enumerate() {
+        text.push_str(if k == 0 { "\"" } else { ",\"" })?;
+        if let Some(called) = table.functions.get(*number) {
+            text.push_str(called.name.as_str())?;
+        }
+        text.push_str("\"")?;
+    }
+    text.push_str("]}")
+}
+
+fn put_object(alloc: Global, object: &Object, text: &mut String) -> Result<(), AllocError> {
+    match &object.name {
+        Some(name) => {
+            text.push_str("{\"name\":\"")?;
+            text.push_str(name.as_str())?;
+            text.push_str("\",")?;
+        }
+        None => text.push_str("{")?,
+    }
+    let (address, size) = (object.address, object.size);
+    let numbers = format!(in alloc; "\"address\":{address},\"size\":{size}}}")?;
+    text.push_str(numbers.as_str())
+}
+
+fn warnings_of(
+    alloc: Global,
+    set: &FileSet,
+    names: &[&str],
+    main: &str,
+    stack: StackSize,
+) -> Result<String, AllocError> {
+    let asked = Asked {
+        names,
+        main,
+        given: main,
+        stack: stack.get(),
+        words: "all",
+        are_errors: false,
+        form: Form::Json,
+        version: "zikorape",
+    };
+    let said = warn_of_sources(alloc, set, asked)?;
+    Ok(said.out)
+}
+
+/// The names of the files, in their order.
+pub fn names_of<'a>(
+    alloc: Global,
+    texts: &'a [u8],
+    files: &[FileLengths],
+) -> Result<Vec<&'a str>, AllocError> {
+    let mut names = Vec::new(alloc);
+    let mut at: usize = 0;
+    for file in files {
+        let end = at.saturating_add(file.name as usize);
+        names.push(text_or_empty(texts.get(at..end).unwrap_or_default()))?;
+        at = end.saturating_add(file.bytes as usize);
+    }
+    Ok(names)
+}
+
+fn image_of(alloc: Global, file: &[u8], form: u32) -> Result<Vec<u8>, LoadFault> {
+    match pieces(alloc, file) {
+        Ok(found) => match written(alloc, file, found.as_slice(), form) {
+            Ok(Some(image)) => Ok(image),
+            Ok(None) => Err(LoadFault::TooMuch),
+            Err(_) => Err(LoadFault::Memory),
+        },
+        Err(fault) => Err(fault),
+    }
+}
+
+fn written(
+    alloc: Global,
+    file: &[u8],
+    found: &[Piece],
+    form: u32,
+) -> Result<Option<Vec<u8>>, AllocError> {
+    match form {
+        0 => binary(alloc, file, found),
+        1 => Ok(Some(intel_hex(alloc, file, found, entry(file))?)),
+        _ => Ok(Some(verilog_memory(alloc, file, found)?)),
+    }
+}
