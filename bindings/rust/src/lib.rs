@@ -63,6 +63,9 @@ extern "C" {
     fn zk_warn(
         texts: In, n: usize, files: *const File, k: usize, main: In, m: usize, stack: u32, out: Out, o: usize, message: Out, l: usize, sizes: *mut Sizes,
     ) -> u32;
+    fn zk_explain(
+        texts: In, n: usize, files: *const File, k: usize, main: In, m: usize, stack: u32, out: Out, o: usize, message: Out, l: usize, sizes: *mut Sizes,
+    ) -> u32;
     fn zk_image(file: In, n: usize, name: In, m: usize, form: u32, out: Out, o: usize, message: Out, l: usize, sizes: *mut Sizes) -> u32;
     fn zk_machine_size() -> u64;
     fn zk_machine_place(at: *mut u8);
@@ -173,6 +176,11 @@ pub fn functions(files: &[(&str, &[u8])], main: &str, stack: u32) -> Answer {
 /// The warnings of that program as JSON, an object a line.
 pub fn warnings(files: &[(&str, &[u8])], main: &str, stack: u32) -> Answer {
     over_stack(zk_warn, files, main, stack)
+}
+
+/// Why that program is refused, as JSON, an object a fault; nothing where it is not.
+pub fn explain(files: &[(&str, &[u8])], main: &str, stack: u32) -> Answer {
+    over_stack(zk_explain, files, main, stack)
 }
 
 /// How the bytes that a file loads are written.

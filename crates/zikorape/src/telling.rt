@@ -4,6 +4,8 @@
 use crate::files::{FileLengths, text_or_empty};
 use crate::giving::{OUT_OF_MEMORY, Sizes, hand_fault, hand_out};
 use cc::{StackSize, compile_with};
+use explain::{Stage, USUAL_FAULTS, explain};
+use explain_render::put_json;
 use image_export::{Piece, binary, entry, intel_hex, pieces, verilog_memory};
 use lint_report::{Asked, Form};
 use lint_unit::warn_of_sources;
@@ -57,6 +59,21 @@ pub fn tell_warnings(
             1
         }
     }
+}
+
+/// The faults of that program, explained, as JSON; nothing where it has none.
+pub fn tell_faults(
+    alloc: Global,
+    set: &FileSet,
+    names: &[&str],
+    main: &str,
+    stack: StackSize,
+    out: &mut [u8],
+    message: &mut [u8],
+    sizes: &mut Sizes,
+) -> u32 {
+    let faults = faults_of(alloc, set, names, main, stack);
+    hand_text(faults, out, message, sizes)
 }
 
 /// The bytes that an executable file loads, in the form with this number.
@@ -177,6 +194,23 @@ fn put_object(alloc: Global, object: &Object, text: &mut String) -> Result<(), A
     let (address, size) = (object.address, object.size);
     let numbers = format!(in alloc; "\"address\":{address},\"size\":{size}}}")?;
     text.push_str(numbers.as_str())
+}
+
+fn faults_of(
+    alloc: Global,
+    set: &FileSet,
+    names: &[&str],
+    main: &str,
+    stack: StackSize,
+) -> Result<String, AllocError> {
+    let mut text = String::new(alloc);
+    if let Some(told) = explain(alloc, set, names, main, Stage::Whole, stack, USUAL_FAULTS)? {
+        put_json(alloc, &told.first, &mut text)?;
+        for finding in &told.further {
+            put_json(alloc, finding, &mut text)?;
+        }
+    }
+    Ok(text)
 }
 
 fn warnings_of(

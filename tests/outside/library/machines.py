@@ -231,7 +231,25 @@ def calls(counted, cc, zk, work):
         file.write(worse)
     wanted = said('check', 'worse.c', '--json')[1]
     counted.holds('warnings', wanted != b'' and zk.warnings({'worse.c': worse}, 'worse.c').check().output == wanted, wanted)
+    explained(counted, zk, said, work)
     counted.holds('warnings of what is refused', zk.warnings({'w.c': b'int main(void) { return x; }\n'}, 'w.c').message == 'w.c:1: 528 undeclared name\n')
+
+
+def explained(counted, zk, said, work):
+    """Faults explained, as the program tells them as JSON, of each mistake of tests/outside/mistakes."""
+    sys.path.insert(0, os.path.join(ROOT, 'tests/outside/mistakes'))
+    from cases import CASES, FURTHER
+    for name, source in [(case[0], case[2]) for case in CASES + FURTHER]:
+        given = {'main.c': source} if isinstance(source, str) else source
+        files = {file: text.replace('«', '').replace('»', '').encode() for file, text in given.items()}
+        for file, text in files.items():
+            with open(os.path.join(work, file), 'wb') as out:
+                out.write(text)
+        status, told = said('explain', 'build', *files, '--json')
+        answer = zk.explain(files, 'main.c')
+        counted.holds('explained: ' + name, status == 1 and told != b'' and (answer.status, answer.output) == (0, told), answer.output[:200])
+    fine = zk.explain({'main.c': ECHO}, 'main.c')
+    counted.holds('nothing to explain', (fine.status, fine.output) == (0, b''), fine)
 
 
 def in_c(counted, cc, runs, out, work):
