@@ -98,6 +98,7 @@ beyond       | python3                                  | python3 tests/outside/
 mistakes     | python3                                  | python3 tests/outside/mistakes/check.py "$cc"
 warnings     | python3                                  | python3 tests/outside/warnings/check.py "$cc"
 wanted       | python3                                  | python3 tests/outside/mistakes/wanted.py "$cc"
+verify       | python3                                  | python3 tests/outside/verify/check.py "$cc"
 inspecting   | python3                                  | python3 tests/outside/inspecting/check.py "$cc"
 forms        | python3                                  | python3 tests/outside/forms/check.py "$cc"
 tables       | python3                                  | python3 share/tables.py "$cc" --check

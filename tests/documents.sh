@@ -67,7 +67,7 @@ words=$(grep -c '^[|] [0-9].*[|] [^|]*\*[^|]* [|]$' docs/FAULTS.md)
 [ $(($(wc -l <"$work/sources") + words)) -ge "$(wc -l <"$work/table")" ] && pass || fail 'docs/FAULTS.md has a row whose source is neither built nor told in words'
 
 # --------------------------------------------------------------- the others
-script python3 tests/transcripts.py "$cc" README.md docs/TOUR.md docs/EXPLAIN.md docs/WARNINGS.md docs/INSPECT.md docs/USE.md docs/design/lowering.md docs/FIRMWARE.md
+script python3 tests/transcripts.py "$cc" README.md docs/TOUR.md docs/EXPLAIN.md docs/WARNINGS.md docs/INSPECT.md docs/USE.md docs/design/lowering.md docs/FIRMWARE.md docs/VERIFY.md
 script python3 tests/language.py "$cc"
 script python3 tests/architecture.py --check
 script python3 tests/trust.py --check
