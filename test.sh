@@ -6,8 +6,10 @@
 #   sh test.sh --list
 #
 # CC is the program; by default that of release/, where this tree is what it was proved and built from, else bin/cc as it
-# was built. -k: only the checks whose name has the word, which may be given more than once. --quick: only those that take
-# seconds. --junit: writes the results to FILE too, as JUnit's XML. --list prints the names and needs of all checks.
+# was built. -k: only the checks whose name has the word, which may be given more than once; where none has it, the cases
+# inside the checks that have it (`-k collatz`). --quick: only those that take seconds. --junit: writes the results to FILE
+# too, as JUnit's XML, a case each. --list prints the names and needs of all checks; python3 tests/NAME/check.py CC --list the
+# cases of one.
 # The last line counts all checks; the exit status is 0 where none failed and some passed, 2 for words that are no use.
 # JOBS=N: so many checks side by side (a processor each, by default). As root on Debian, sh tests/outside/tools.sh installs
 # the tools of others.
@@ -17,6 +19,8 @@ usage='usage: sh test.sh [-k WORD].. [--quick] [--junit FILE] [CC]
        sh test.sh --list'
 # Those that take seconds.
 quick=' conditions macros variadic stack tables version shown rows_calls rows_answers rows_machine rows_flat rows_tac rows_stream const mistakes warnings wanted '
+newline='
+'
 words=
 junit=
 listed=
@@ -27,7 +31,7 @@ while [ $# -gt 0 ]; do
         -k | --junit) [ $# -gt 1 ] || { echo "$usage" >&2; exit 2; } ;;
     esac
     case $1 in
-        -k) words="$words $2"; shift ;;
+        -k) words=$words$2$newline; shift ;;
         --junit) junit=$2; shift ;;
         --quick) chosen=$quick ;;
         --list) listed=1 ;;
@@ -38,18 +42,27 @@ while [ $# -gt 0 ]; do
     shift
 done
 
-# is_wanted NAME: whether the check is one of those asked for.
+# is_wanted NAME: whether the check is one of those asked for by its name.
 is_wanted() {
     case $chosen in '') ;; *" $1 "*) ;; *) return 1 ;; esac
-    [ -z "$words" ] && return 0
-    for word in $words; do
-        case $1 in *"$word"*) return 0 ;; esac
+    [ -z "$words" ] || printf '%s' "$words" | {
+        while IFS= read -r word; do
+            case $1 in *"$word"*) exit 0 ;; esac
+        done
+        exit 1
+    }
+}
+
+# inside: the words that are in the name of no check, and so are looked for in the names of cases.
+inside() {
+    printf '%s' "$words" | while IFS= read -r word; do
+        checks | cut -d '|' -f 1 | grep -qF -- "$word" || printf '%s\n' "$word"
     done
-    return 1
 }
 
 # A check a line, the longest first: its name | what it needs (tools, files) | its command, whose last line is
-# 'N passed, M failed' or 'N passed, M failed, K skipped'. A further check is a further line here.
+# 'N passed, M failed' or 'N passed, M failed, K skipped'. A further check is a further line here. `cases` in place of python3:
+# a script that stands on tests/harness, takes -k, --list and --cases, and so can run a case alone.
 checks() {
     cat <<'END'
 library      | python3                                  | python3 tests/outside/library/check.py "$cc"
@@ -67,7 +80,9 @@ scalars      | python3                                  | python3 tests/outside/
 constraints  | python3                                  | python3 tests/outside/constraints/check.py "$cc"
 front        | python3                                  | python3 tests/outside/front/check.py "$cc"
 machine      | python3                                  | python3 tests/outside/machine/check.py "$cc"
-outside      |                                          | ALLOW_SKIPPED=1 sh tests/outside/check.sh "$cc"
+run          | python3                                  | cases tests/run/check.py "$cc"
+faults       | python3                                  | cases tests/faults/check.py "$cc"
+cli          | python3                                  | cases tests/cli/check.py "$cc"
 conditions   |                                          | sh tests/outside/pp/check.sh "$cc" conditions
 macros       |                                          | sh tests/outside/pp/check.sh "$cc"
 units        | python3                                  | python3 tests/outside/pp/units.py "$cc"
@@ -144,22 +159,46 @@ missing() {
     done
 }
 
-# What cannot be tried is told now, and the others are written down, a file each.
+# The checks that are wanted by their own name, and those with a case that has one of the other words.
 checks | grep -v '^ *$' | while IFS='|' read -r name needs command; do
-    if is_wanted $name; then printf '%s|%s|%s\n' "$name" "$needs" "$command"; fi
+    name=${name%% *}
+    if is_wanted "$name"; then
+        printf '%s|%s|%s\n' "$name" "$needs" "$command"
+    elif [ -n "$words" ]; then
+        case $chosen in '' | *" $name "*) printf '%s|%s|%s\n' "$name" "$needs" "$command" >>"$logs/others" ;; esac
+    fi
 done >"$logs/checks"
+inside >"$logs/inside"
+if [ -s "$logs/inside" ] && [ -s "$logs/others" ]; then
+    while IFS='|' read -r name needs command; do
+        case $command in
+            ' cases '*) ;;
+            *) continue ;;
+        esac
+        # shellcheck disable=SC2086 # the needs are words
+        [ -z "$(missing $needs)" ] && echo "$command" | sed 's/^ cases /python3 /' >"$logs/$name.names" && echo "$name"
+    done <"$logs/others" | xargs -n 1 -P "$jobs" sh -c 'sh -c "$(cat "$logs/$1.names") --list" >"$logs/$1.listed" 2>/dev/null' names
+    while IFS='|' read -r name needs command; do
+        [ -s "$logs/$name.listed" ] && grep -qFf "$logs/inside" "$logs/$name.listed" || continue
+        only=$(sed "s/'/'\\\\''/g; s/.*/ -k '&'/" "$logs/inside" | tr -d '\n')
+        printf '%s|%s|%s\n' "$name" "$needs" "$command$only"
+    done <"$logs/others" >>"$logs/checks"
+fi
 if [ ! -s "$logs/checks" ]; then
-    echo "no check has such a name; sh test.sh --list prints them" >&2
+    echo "no check and no case has such a name; sh test.sh --list prints those of the checks" >&2
     exit 2
 fi
+# What cannot be tried is told now, and the others are written down, a file each.
 while IFS='|' read -r name needs command; do
-    name=$(echo $name)
     lacking=$(missing $needs)
     if [ -n "$lacking" ]; then
         echo "SKIPPED $name, for want of $lacking"
         echo '0 passed, 0 failed, 1 skipped' >"$logs/$name.verdict"
     else
-        printf '%s\n' "$command" >"$logs/$name.command"
+        case $command in
+            ' cases '*) printf 'python3 %s --cases "$logs/%s.cases"\n' "${command# cases }" "$name" >"$logs/$name.command" ;;
+            *) printf '%s\n' "$command" >"$logs/$name.command" ;;
+        esac
         echo "$name"
     fi
 done <"$logs/checks" >"$logs/told"
@@ -190,7 +229,7 @@ grep -v '^SKIPPED ' "$logs/told" | xargs -n 1 -P "$jobs" sh -c '
     cat "$logs/$1.told"
 ' check
 
-# A test case a check, which fails with what was said (https://github.com/testmoapp/junitxml).
+# A test case a check, which fails with what was said (https://github.com/testmoapp/junitxml); of those that know cases, one each.
 if [ -n "$junit" ]; then
     escaped() { sed -e 's/&/\&amp;/g; s/</\&lt;/g; s/>/\&gt;/g' -e 's/[^[:print:][:space:]]/?/g' "$1"; }
     {
@@ -198,6 +237,10 @@ if [ -n "$junit" ]; then
         echo '<testsuite name="zikorape">'
         for file in "$logs"/*.verdict; do
             name=$(basename "$file" .verdict)
+            if [ -s "$logs/$name.cases" ]; then
+                sed "s/^<testcase /&classname=\"$name\" /" "$logs/$name.cases"
+                continue
+            fi
             echo "<testcase name=\"$name\">"
             case $(cat "$file") in
                 '0 passed, 0 failed, 1 skipped') echo '<skipped/>' ;;

@@ -20,8 +20,8 @@ RECIPES = {
 }
 
 # tests that name rv_getbyte in a sample program alone
-MERE_PROGRAMS = ['tests/outside/' + name for name in (
-    'boards/lines.py', 'check.sh', 'inspecting/check.py', 'mistakes/cases.py', 'refused/bytes.py', 'scalars/generate.py', 'scalars/worked.py', 'streams/check.py')]
+MERE_PROGRAMS = ['tests/cli/test_interp.py', 'tests/run/check.py'] + ['tests/outside/' + name for name in (
+    'boards/lines.py', 'inspecting/check.py', 'mistakes/cases.py', 'refused/bytes.py', 'scalars/generate.py', 'scalars/worked.py', 'streams/check.py')]
 
 def read(path):
     with open(path, encoding='utf-8') as file:
@@ -39,7 +39,7 @@ def flow():
 def lists(name, pattern, without):
     """Of each crate the files in which the names stand, and those of the tests from outside."""
     found = {}
-    for path in list(files('crates', 'tests/outside', 'boards')) + sorted(glob.glob('docs/decisions/*.md')) + ['docs/FAULTS.md', 'docs/LANGUAGE.md', 'docs/MACHINE.md', 'docs/MEANING.md', 'boards/README.md', 'tests/language.py']:
+    for path in list(files('crates', 'tests/cli', 'tests/run', 'tests/outside', 'boards')) + sorted(glob.glob('docs/decisions/*.md')) + ['docs/FAULTS.md', 'docs/LANGUAGE.md', 'docs/MACHINE.md', 'docs/MEANING.md', 'boards/README.md', 'tests/language.py']:
         if name == 'built-in' and path in MERE_PROGRAMS:
             continue
         crate = path.split('/')[1] if path.startswith('crates/') else ''
