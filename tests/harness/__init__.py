@@ -10,12 +10,12 @@
 - `rows`: files of rows with tabs
 
 README.md beside this folder says how a case is added and run."""
-from .cases import Case, Row, classes_of, main, needs
+from .cases import Case, Current, Row, classes_of, main, needs, parts
 from .compare import short
 from .program import Done, Program, in_folder
 from .rows import blocks, bytes_of, code_and_line, fields, lines
 from .seeds import seeded
 from .verdict import Verdict, side_by_side
 
-__all__ = ['Case', 'Done', 'Program', 'Row', 'Verdict', 'blocks', 'bytes_of', 'classes_of', 'code_and_line', 'fields', 'in_folder', 'lines', 'main', 'needs',
+__all__ = ['Case', 'Current', 'Done', 'Program', 'Row', 'Verdict', 'blocks', 'bytes_of', 'classes_of', 'code_and_line', 'fields', 'in_folder', 'lines', 'main', 'needs', 'parts',
            'seeded', 'short', 'side_by_side']

@@ -10,6 +10,7 @@ import concurrent.futures
 import os
 import shutil
 import sys
+import threading
 import time
 import traceback
 import unittest
@@ -19,6 +20,7 @@ from .program import Program
 from .verdict import Verdict, jobs
 
 PROGRAMS = {}
+RUNNING = threading.local()
 
 
 def program_at(path):
@@ -42,7 +44,7 @@ class Case(unittest.TestCase):
 
     def __init__(self, method='runTest'):
         super().__init__(method)
-        self.verdict = Verdict(quiet=True)
+        self.verdict, self.left = Verdict(quiet=True), None
 
     @property
     def program(self):
@@ -62,12 +64,23 @@ class Case(unittest.TestCase):
     def skip(self, count, why):
         self.verdict.skip(count, why)
 
+    def leave(self, why):
+        """Lets the case be without a check, and says why: another test makes it."""
+        self.left = why
+
     def tool(self, name, checks=1):
         """A tool's path, or None where it is missing: then so many checks are skipped."""
         path = shutil.which(name)
         if not path:
             self.skip(checks, f'{name} is missing')
         return path
+
+
+class Current:
+    """Stands for the case that runs in this thread, so that functions which make checks need not be handed it."""
+
+    def __getattr__(self, name):
+        return getattr(RUNNING.case, name)
 
 
 class Row(Case):
@@ -101,6 +114,12 @@ class Told(unittest.TestResult):
         test.verdict.fail(f'{test.name()}: {err[0].__name__}: {err[1]} ({os.path.basename(where.filename)}, line {where.lineno})')
 
 
+def parts(*functions):
+    """Functions as cases, which make their checks by `Current`."""
+    for function in functions:
+        yield Row(function.__name__, lambda _, function=function: function())
+
+
 def classes_of(*modules):
     """The cases of the classes of modules."""
     for module in modules:
@@ -119,10 +138,11 @@ def flat(tests):
 def run(test):
     """Runs one case in an empty folder; its seconds."""
     program_at(test.path).fresh()
+    RUNNING.case = test
     begun = time.monotonic()
     test.run(Told())
     made = test.verdict
-    if made.passed + made.failed + made.skipped == 0:
+    if made.passed + made.failed + made.skipped == 0 and not test.left:
         made.fail(f'{test.name()}: the case makes no check')
     return time.monotonic() - begun
 
@@ -134,7 +154,7 @@ def as_junit(test, seconds):
     if made.failed:
         inside = '<failure>%s</failure>' % escape(printable('\n'.join(made.lines)))
     elif not made.passed:
-        inside = '<skipped message=%s/>' % quoteattr(printable('; '.join(made.reasons)))
+        inside = '<skipped message=%s/>' % quoteattr(printable(test.left or '; '.join(made.reasons)))
     return '<testcase name=%s time="%.3f">%s</testcase>\n' % (quoteattr(printable(test.name())), seconds, inside)
 
 

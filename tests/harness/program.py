@@ -37,7 +37,7 @@ class Done:
         return self.err.decode('latin-1').rstrip('\n')
 
 
-def bounded(memory, stack, cpu, more):
+def bounded(memory=None, stack=None, cpu=None, more=None):
     """What the child does before it becomes the program: takes its limits."""
     def before():
         resource.setrlimit(resource.RLIMIT_CORE, (0, 0))

@@ -9,6 +9,14 @@ from . import elf
 
 QEMU = shutil.which('qemu-riscv32')
 TEXT = 0x11000
+# rvio.h for the host: what is read and written are the standard streams.
+PORT = '''#include <stdio.h>
+#include <stdlib.h>
+int rv_getbyte(void) { int c = getchar(); return c == EOF ? -1 : c; }
+void rv_putbyte(int c) { putchar(c & 255); }
+void rv_exit(int status) { exit(status & 255); }
+'''
+RVIO = 'int rv_getbyte(void);\nvoid rv_putbyte(int c);\nvoid rv_exit(int status);\n'
 
 
 class Sources:

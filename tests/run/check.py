@@ -13,14 +13,6 @@ sys.path.insert(0, os.path.dirname(HERE))
 import harness
 from harness import ways
 
-# rvio.h for the host: what is read and written are the standard streams.
-PORT = '''#include <stdio.h>
-#include <stdlib.h>
-int rv_getbyte(void) { return getchar(); }
-void rv_putbyte(int c) { putchar(c & 255); }
-void rv_exit(int status) { exit(status & 255); }
-'''
-RVIO = 'int rv_getbyte(void);\nvoid rv_putbyte(int c);\nvoid rv_exit(int status);\n'
 # Programs with an object of their own in the data: a string literal.
 WITH_DATA = ('hello',)
 
@@ -39,8 +31,8 @@ def by_gcc(case, source, given, wanted):
     if not case.tool('gcc', 2):
         return
     program = case.program
-    program.write('port.c', PORT)
-    program.write('rvio.h', RVIO)
+    program.write('port.c', ways.PORT)
+    program.write('rvio.h', ways.RVIO)
     program.write('host.c', source)
     words = ['gcc', '-std=c11', '-w', '-fno-builtin', '-I.', 'host.c', 'port.c', '-o', 'host']
     made = subprocess.run(words, cwd=program.folder(), capture_output=True, text=True, check=False)

@@ -8,8 +8,8 @@ import sys
 
 HERE = os.path.dirname(os.path.abspath(__file__))
 CRATE = os.path.join(HERE, '..', '..', '..', 'crates/test_machine')
-sys.path.insert(0, os.path.dirname(HERE))
-import asking
+sys.path.insert(0, os.path.dirname(os.path.dirname(HERE)))
+import harness
 
 NOTHING = 0x13
 FAULTS = {'801': 'Memory', '802': 'Read', '803': 'Write'}
@@ -230,7 +230,7 @@ def main():
         wanted += [line + '\n' for _, line in made]
     files = {'stdin': ''.join(given), 'stdout': ''.join(wanted)}
     if sys.argv[1:] == ['--check']:
-        counted = asking.Counted()
+        counted = harness.Verdict()
         for name, text in files.items():
             with open(os.path.join(CRATE, name), encoding='ascii') as file:
                 counted.expect(f'crates/test_machine/{name} is what the rows make', file.read() == text, True)

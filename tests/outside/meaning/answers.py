@@ -6,8 +6,8 @@ import sys
 
 HERE = os.path.dirname(os.path.abspath(__file__))
 CRATE = os.path.join(HERE, '..', '..', '..', 'crates/test_answers')
-sys.path.insert(0, os.path.dirname(HERE))
-import asking
+sys.path.insert(0, os.path.dirname(os.path.dirname(HERE)))
+import harness
 
 ROWS = 121
 
@@ -44,7 +44,7 @@ def main():
     assert len(given) == ROWS
     files = {'data/programs.txt': '@\n'.join(given), 'stdout': ''.join(wanted)}
     if sys.argv[1:] == ['--check']:
-        counted = asking.Counted()
+        counted = harness.Verdict()
         for name, text in files.items():
             with open(os.path.join(CRATE, name), encoding='ascii') as file:
                 counted.expect(f'crates/test_answers/{name} is what the rows make', file.read() == text, True)

@@ -15,7 +15,7 @@ HERE = os.path.dirname(os.path.abspath(__file__))
 FRONT = os.path.join(HERE, '..', 'front')
 CRATE = os.path.join(HERE, '..', '..', '..', 'crates/test_stream')
 sys.path[:0] = [os.path.dirname(HERE), FRONT]
-import asking
+import harness
 import model
 import plain
 
@@ -203,7 +203,7 @@ def conditions():
 
 
 def front(name):
-    return asking.fields(os.path.join(FRONT, name))
+    return harness.fields(os.path.join(FRONT, name))
 
 
 def scanned(text, code=None):
@@ -260,7 +260,7 @@ def main():
     found, left_out = rows()
     files = {'stdin': '@\n'.join(source for source, _ in found), 'stdout': ''.join(wanted + '\n' for _, wanted in found)}
     if sys.argv[1:] == ['--check']:
-        counted = asking.Counted()
+        counted = harness.Verdict()
         for name, text in files.items():
             with open(os.path.join(CRATE, name), 'rb') as file:
                 counted.expect(f'crates/test_stream/{name} is what the rows make', file.read() == text.encode('latin-1'), True)
