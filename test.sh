@@ -18,7 +18,7 @@ jobs=${JOBS:-$(getconf _NPROCESSORS_ONLN 2>/dev/null || echo 1)}
 usage='usage: sh test.sh [-k WORD].. [--quick] [--junit FILE] [CC]
        sh test.sh --list'
 # Those that take seconds.
-quick=' conditions macros variadic stack tables version shown rows_calls rows_answers rows_machine rows_flat rows_tac rows_stream const mistakes warnings wanted '
+quick=' conditions macros variadic stack tables version shown rows_calls rows_answers rows_machine rows_flat rows_tac rows_stream const mistakes warnings wanted faults cli meaning sets commands harness names '
 newline='
 '
 words=
@@ -69,30 +69,30 @@ library      | python3                                  | python3 tests/outside/
 packages     | python3                                  | python3 tests/outside/library/packages.py
 page         | python3                                  | sh tests/outside/page/check.sh "$cc"
 boards       | python3                                  | sh tests/outside/boards/check.sh "$cc"
-hostile      | python3                                  | python3 tests/outside/hostile/check.py "$cc"
-bombs        | python3                                  | python3 tests/outside/hostile/bombs.py "$cc"
-memory       | python3                                  | python3 tests/outside/hostile/interp_memory.py "$cc"
-widths       | python3                                  | python3 tests/outside/widths/check.py "$cc"
-limits       | python3                                  | python3 tests/outside/limits/check.py "$cc"
+hostile      | python3                                  | cases tests/outside/hostile/check.py "$cc"
+bombs        | python3                                  | cases tests/outside/hostile/bombs.py "$cc"
+memory       | python3                                  | cases tests/outside/hostile/interp_memory.py "$cc"
+widths       | python3                                  | cases tests/outside/widths/check.py "$cc"
+limits       | python3                                  | cases tests/outside/limits/check.py "$cc"
 mutated      | python3                                  | python3 tests/outside/hostile/mutate.py "$cc" 600 1500
-includes     | python3                                  | python3 tests/outside/pp/includes.py "$cc"
-scalars      | python3                                  | python3 tests/outside/scalars/check.py "$cc"
-constraints  | python3                                  | python3 tests/outside/constraints/check.py "$cc"
-front        | python3                                  | python3 tests/outside/front/check.py "$cc"
-machine      | python3                                  | python3 tests/outside/machine/check.py "$cc"
+includes     | python3                                  | cases tests/outside/pp/includes.py "$cc"
+scalars      | python3                                  | cases tests/outside/scalars/check.py "$cc"
+constraints  | python3                                  | cases tests/outside/constraints/check.py "$cc"
+front        | python3                                  | cases tests/outside/front/check.py "$cc"
+machine      | python3                                  | cases tests/outside/machine/check.py "$cc"
 run          | python3                                  | cases tests/run/check.py "$cc"
 faults       | python3                                  | cases tests/faults/check.py "$cc"
 cli          | python3                                  | cases tests/cli/check.py "$cc"
-conditions   |                                          | sh tests/outside/pp/check.sh "$cc" conditions
-macros       |                                          | sh tests/outside/pp/check.sh "$cc"
-units        | python3                                  | python3 tests/outside/pp/units.py "$cc"
-nested       | python3                                  | python3 tests/outside/pp/nested.py "$cc"
-interp       | python3                                  | python3 tests/outside/interp/check.py "$cc"
-const        | python3                                  | python3 tests/outside/const/check.py "$cc"
-meaning      | python3                                  | python3 tests/outside/meaning/check.py "$cc"
-sets         | python3                                  | python3 tests/outside/pp/sets.py "$cc"
-commands     | python3                                  | python3 tests/outside/cc/check.py "$cc"
-people       | python3                                  | python3 tests/outside/cc/people.py "$cc"
+conditions   | python3                                  | cases tests/outside/pp/check.py "$cc" conditions
+macros       | python3                                  | cases tests/outside/pp/check.py "$cc" macros
+units        | python3                                  | cases tests/outside/pp/units.py "$cc"
+nested       | python3                                  | cases tests/outside/pp/nested.py "$cc"
+interp       | python3                                  | cases tests/outside/interp/check.py "$cc"
+const        | python3                                  | cases tests/outside/const/check.py "$cc"
+meaning      | python3                                  | cases tests/outside/meaning/check.py "$cc"
+sets         | python3                                  | cases tests/outside/pp/sets.py "$cc"
+commands     | python3                                  | cases tests/outside/cc/check.py "$cc"
+people       | python3                                  | cases tests/outside/cc/people.py "$cc"
 flat         | python3 crates/test_flat/out/test_flat   | python3 tests/outside/flat/check.py crates/test_flat/out/test_flat
 tac          | python3 crates/test_tac/out/test_tac     | python3 tests/outside/tac/check.py crates/test_tac/out/test_tac
 streamed     | python3 crates/test_stream/out/test_stream | python3 tests/outside/pp/streamed.py crates/test_stream/out/test_stream
@@ -103,20 +103,22 @@ test_flat    | python3                                  | python3 tests/outside/
 test_tac     | python3                                  | python3 tests/outside/tac/rows.py --check
 test_stream  | python3                                  | python3 tests/outside/pp/stream.py --check
 growths      | python3 gcc                              | python3 tests/outside/refused/growths.py "$cc"
-bytes        | python3 gcc                              | python3 tests/outside/refused/bytes.py "$cc"
-signals      | python3                                  | python3 tests/outside/refused/signals.py "$cc"
-variadic     | python3 gcc                              | python3 tests/outside/pp/variadic.py "$cc"
-streams      | python3                                  | python3 tests/outside/streams/check.py "$cc"
-stack        | python3                                  | python3 tests/outside/stack/check.py "$cc"
+bytes        | python3 gcc                              | cases tests/outside/refused/bytes.py "$cc"
+signals      | python3                                  | cases tests/outside/refused/signals.py "$cc"
+variadic     | python3 gcc                              | cases tests/outside/pp/variadic.py "$cc"
+streams      | python3                                  | cases tests/outside/streams/check.py "$cc"
+stack        | python3                                  | cases tests/outside/stack/check.py "$cc"
 beyond       | python3                                  | python3 tests/outside/stack/beyond.py "$cc"
 mistakes     | python3                                  | python3 tests/outside/mistakes/check.py "$cc"
 warnings     | python3                                  | python3 tests/outside/warnings/check.py "$cc"
 wanted       | python3                                  | python3 tests/outside/mistakes/wanted.py "$cc"
-inspecting   | python3                                  | python3 tests/outside/inspecting/check.py "$cc"
-forms        | python3                                  | python3 tests/outside/forms/check.py "$cc"
+inspecting   | python3                                  | cases tests/outside/inspecting/check.py "$cc"
+forms        | python3                                  | cases tests/outside/forms/check.py "$cc"
 tables       | python3                                  | python3 share/tables.py "$cc" --check
 version      |                                          | sh share/version.sh --check "$cc"
 documents    |                                          | sh tests/documents.sh "$cc"
+harness      | python3                                  | cases tests/harness/check.py "$cc"
+names        | python3                                  | python3 tests/names.py
 shown        |                                          | sh run.sh "$cc"
 END
 }
@@ -258,7 +260,7 @@ count() { cat "$logs"/*.verdict | sed -n "s/.*\b\([0-9][0-9]*\) $1.*/\1/p" | awk
 passed=$(count passed)
 failed=$(count failed)
 skipped=$(count skipped)
-made=$(ls "$logs" | grep -c '\.verdict$')
+made=$(cat "$logs"/*.verdict | grep -c .)
 wanted=$(grep -c . "$logs/checks")
 if [ "$made" -ne "$wanted" ]; then
     echo "FAIL $made of $wanted checks were made"

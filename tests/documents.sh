@@ -78,7 +78,9 @@ script python3 tests/doc_comments.py
 script python3 tests/laws.py
 
 # documents tell what is, not what was or will be; README may say what is there at its date
-if grep -nwiE 'today|so far|to come|not yet|at the moment|699' $(ls docs/*.md docs/decisions/*.md | grep -v TRUST) bench/README.md crates/*/README.md >"$work/diary"; then
+set -- bench/README.md crates/*/README.md
+for page in docs/*.md docs/decisions/*.md; do [ "$page" = docs/TRUST.md ] || set -- "$@" "$page"; done
+if grep -nwiE 'today|so far|to come|not yet|at the moment|699' "$@" >"$work/diary"; then
     fail "a document speaks of its day: $(head -n 3 "$work/diary")"
 else
     pass

@@ -1,6 +1,6 @@
 """ELF files made of fields, changed and cut: by the gABI (chapter 4, "ELF Header"; chapter 5, "Program Header") and the RISC-V psABI."""
 import struct
-from dataclasses import dataclass, field, replace
+from dataclasses import dataclass, field
 
 EXECUTABLE, RISCV = 2, 243
 LOAD = 1
@@ -92,4 +92,4 @@ def words_of(file):
 
 
 __all__ = ['EXECUTABLE', 'EXECUTE', 'File', 'HEADER', 'LOAD', 'PAGE', 'PROGRAM_HEADER', 'READ', 'RISCV', 'Segment', 'WRITE', 'at', 'changed', 'of_words',
-           'replace', 'segments_of', 'text_of', 'words_of']
+           'segments_of', 'text_of', 'words_of']

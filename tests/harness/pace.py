@@ -44,17 +44,31 @@ def of_program(path):
         return SHORT_RUNS[path]
 
 
+class Deadline:
+    """So many short runs from now. Where they have passed, the short run is made again before that is believed."""
+
+    def __init__(self, pace, times):
+        self.pace, self.times, self.begun = pace, times, time.monotonic()
+
+    def left(self):
+        """The seconds that are left, and at least a moment."""
+        return max(0.01, self.pace.allowed(self.times) - (time.monotonic() - self.begun))
+
+    def has_passed(self):
+        if time.monotonic() - self.begun < self.pace.allowed(self.times):
+            return False
+        self.pace.measure()
+        return time.monotonic() - self.begun >= self.pace.allowed(self.times)
+
+
 def communicate(process, pace, times, given=None):
-    """Output and errors of a process, which has so many short runs. Where they pass, the short run is made again: the process has more
-    time where the machine has become slower; where it has not, the process is killed, and TimeoutExpired is raised."""
-    begun = time.monotonic()
+    """Output and errors of a process, which has so many short runs. Past its time it is killed, and TimeoutExpired is raised."""
+    end = Deadline(pace, times)
     while True:
-        left = pace.allowed(times) - (time.monotonic() - begun)
         try:
-            return process.communicate(given, timeout=max(left, 0.01))
+            return process.communicate(given, timeout=end.left())
         except subprocess.TimeoutExpired:
             given = None
-            pace.measure()
-            if time.monotonic() - begun >= pace.allowed(times):
+            if end.has_passed():
                 process.kill()
                 raise

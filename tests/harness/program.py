@@ -118,9 +118,9 @@ class Program:
         `memory` and `stack` in bytes, `cpu` in seconds, `times` in short runs. Further streams are those of Popen."""
         plumbing = {'stdin': subprocess.PIPE, 'stdout': subprocess.PIPE, 'stderr': subprocess.PIPE, **streams}
         command = [*by, *words] if by else [self.path, *words]
-        pace, allowed = self.pace(), times or self.times
-        begun = time.monotonic()
+        allowed, begun = times or self.times, time.monotonic()
         try:
+            pace = self.pace()
             with subprocess.Popen(command, cwd=folder or self.folder(), preexec_fn=bounded(memory, stack, cpu, before), **plumbing) as process:
                 out, err = paces.communicate(process, pace, allowed, None if 'stdin' in streams else given)
         except subprocess.TimeoutExpired:

@@ -7,7 +7,7 @@ faults(SOURCE) gives the codes and lines that stand in a source, or none. It rea
 error. Of the preprocessor it knows object-like macros and two headers alone.
 """
 import pathlib, re, sys
-from dataclasses import dataclass, replace, field
+from dataclasses import dataclass, replace
 from typing import Any
 
 sys.setrecursionlimit(20000)

@@ -26,6 +26,7 @@ holds() {
 # add FILE: what a check said, and the counts of its last line; without such a line it failed.
 add() {
     grep -v ' passed, ' "$1"
+    # shellcheck disable=SC2046 # two words
     set -- $(tail -n 1 "$1" | sed -n 's/^\([0-9]*\) passed, \([0-9]*\) failed.*/\1 \2/p')
     passed=$((passed + ${1:-0}))
     failed=$((failed + ${2:-1}))
@@ -58,7 +59,7 @@ in_browser() {
     mkdir -p "$shots"
     node "$here/serve.mjs" "$root/page" >"$work/port" &
     server=$!
-    for turn in 1 2 3 4 5 6 7 8 9 10; do [ -s "$work/port" ] && break; sleep 1; done
+    while [ ! -s "$work/port" ] && kill -0 $server 2>/dev/null; do sleep 1; done
     CHROMIUM=$browser node --experimental-websocket "$here/browser.mjs" "http://127.0.0.1:$(cat "$work/port")/index.html" "$shots" >"$work/browser" 2>&1
     add "$work/browser"
 }
