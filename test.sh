@@ -68,7 +68,7 @@ checks() {
 library      | python3                                  | python3 tests/outside/library/check.py "$cc"
 packages     | python3                                  | python3 tests/outside/library/packages.py
 page         | python3                                  | sh tests/outside/page/check.sh "$cc"
-boards       | python3                                  | sh tests/outside/boards/check.sh "$cc"
+boards       | python3                                  | cases tests/outside/boards/check.py "$cc"
 hostile      | python3                                  | cases tests/outside/hostile/check.py "$cc"
 bombs        | python3                                  | cases tests/outside/hostile/bombs.py "$cc"
 memory       | python3                                  | cases tests/outside/hostile/interp_memory.py "$cc"

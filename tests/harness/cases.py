@@ -172,8 +172,9 @@ def words():
     return parser.parse_args()
 
 
-def main(cases):
-    """Runs the cases that `cases(PATH, *MORE)` gives, and returns the exit status."""
+def main(cases, checks=None, most=None):
+    """Runs the cases that `cases(PATH, *MORE)` gives, and returns the exit status. `checks`: so many there are of all; `most`: so many cases
+    at most go side by side."""
     given = words()
     Case.path = os.path.abspath(given.cc)
     tests = [test for test in flat(cases(Case.path, *given.more)) if not given.k or any(word in test.name() for word in given.k)]
@@ -182,12 +183,15 @@ def main(cases):
             print(test.name().replace('\n', ' '))
         return 0
     verdict, junit = Verdict(), []
-    with concurrent.futures.ThreadPoolExecutor(jobs()) as pool:
+    with concurrent.futures.ThreadPoolExecutor(min(jobs(), most or jobs())) as pool:
         for test, seconds in zip(tests, pool.map(run, tests)):
             verdict.add(test.verdict)
             if given.cases:
                 junit.append(as_junit(test, seconds))
             test.verdict.lines = []
+    made = verdict.passed + verdict.failed + verdict.skipped
+    if checks is not None and made != checks and not given.k and not given.more:
+        verdict.fail(f'{made} checks were made, not {checks}')
     if given.cases:
         with open(given.cases, 'w', encoding='utf-8') as file:
             file.writelines(junit)

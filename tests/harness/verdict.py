@@ -53,6 +53,8 @@ class Verdict:
 
     def skip(self, count, why):
         """So many checks are left out, and why."""
+        if not count:
+            return
         with self.lock:
             self.skipped += count
             self.reasons[why] = self.reasons.get(why, 0) + count

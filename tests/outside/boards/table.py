@@ -50,7 +50,7 @@ def check(compiler, on):
             if QEMU:
                 counted.expect('table.s, qemu-riscv32', boards.run([QEMU, made]), wanted)
             else:
-                counted.skipped += 1
+                counted.skip(1, 'qemu-riscv32 is missing')
             for board in on:
                 counted.expect('table.s, ' + board.name, board.run(file), wanted)
     return counted

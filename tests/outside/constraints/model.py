@@ -65,7 +65,7 @@ HEADERS = {
     'iso646': {'and': '&&', 'and_eq': '&=', 'bitand': '&', 'bitor': '|', 'compl': '~', 'not': '!', 'not_eq': '!=', 'or': '||',
                'or_eq': '|=', 'xor': '^', 'xor_eq': '^='}}
 def lex(source):
-    macros, out, line = {}, [], 0
+    macros, out = {}, []
     def scan(text, at, hide, dest, moving):
         for m in TOKEN.finditer(text):
             kind = m.lastgroup
