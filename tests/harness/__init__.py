@@ -7,15 +7,16 @@
 - `elf`: ELF files made of fields, changed and cut
 - `compare`: differences in a line
 - `seeds`: seeded random sources; every failure tells the seed
-- `rows`: files of rows with tabs
+- `rows`: files of rows; `made`: files of a crate that are made of rows
 
 README.md beside this folder says how a case is added and run."""
-from .cases import Case, Current, Row, classes_of, main, needs, parts
+from .cases import Case, Current, Row, classes_of, main, needs, number_of, parts
 from .compare import short
+from .made import made
 from .program import Done, Program, in_folder
 from .rows import blocks, bytes_of, code_and_line, fields, lines
 from .seeds import seeded
 from .verdict import Verdict, side_by_side
 
-__all__ = ['Case', 'Current', 'Done', 'Program', 'Row', 'Verdict', 'blocks', 'bytes_of', 'classes_of', 'code_and_line', 'fields', 'in_folder', 'lines', 'main', 'needs', 'parts',
+__all__ = ['Case', 'Current', 'Done', 'Program', 'Row', 'Verdict', 'blocks', 'bytes_of', 'classes_of', 'code_and_line', 'fields', 'in_folder', 'lines', 'made', 'main', 'needs', 'number_of', 'parts',
            'seeded', 'short', 'side_by_side']

@@ -97,6 +97,11 @@ class Row(Case):
         self.function(self, *self.values)
 
 
+def number_of(name, found, wanted):
+    """A case: so many there are, so that rows which are lost do not go unseen."""
+    return Row(f'number of {name}', lambda case: case.expect('', found, wanted))
+
+
 class Told(unittest.TestResult):
     """Takes what `unittest` says of one case into its verdict."""
 

@@ -113,16 +113,12 @@ def held(case, ask, given, wanted):
     case.expect(given, ask(case.program, given), wanted)
 
 
-def number_of(case, found, wanted):
-    case.expect('rows', found, wanted)
-
-
 def cases(_):
     for ask, count, rows in SUBJECTS:
         all_of_them = list(harness.fields(os.path.join(HERE, ask.__name__)))
         for number, row in enumerate(all_of_them):
             yield harness.Row(f'{ask.__name__} {number}', held, ask, row[:count], row[count:])
-        yield harness.Row(f'number of {ask.__name__}', number_of, len(all_of_them), rows)
+        yield harness.number_of(ask.__name__, len(all_of_them), rows)
 
 
 if __name__ == '__main__':

@@ -75,10 +75,6 @@ def held_of_many(case):
     case.expect('sources', len(asked), COUNTS['many'])
 
 
-def number_of(case, found, wanted):
-    case.expect('sources', found, wanted)
-
-
 def model_reads(case):
     reading = subprocess.run([sys.executable, os.path.join(HERE, 'model.py')], capture_output=True, text=True, check=False)
     case.expect('', reading.stdout.split('\n')[-2:-1], [f'{READ} passed, 0 failed'])
@@ -90,7 +86,7 @@ def cases(_):
         asked = list(kind())
         for name, text, wanted in asked:
             yield harness.Row(f'{kind.__name__} {name}', held, text, wanted)
-        yield harness.Row(f'number of {kind.__name__}', number_of, len(asked), COUNTS[kind.__name__])
+        yield harness.number_of(kind.__name__, len(asked), COUNTS[kind.__name__])
     yield harness.Row('model.py', model_reads)
 
 

@@ -10,6 +10,9 @@ import pathlib, re, sys
 from dataclasses import dataclass, replace
 from typing import Any
 
+sys.path.insert(0, str(pathlib.Path(__file__).resolve().parents[2]))
+from harness import verdict
+
 sys.setrecursionlimit(20000)
 
 class Broken(Exception):
@@ -1022,7 +1025,7 @@ def main():
             else:
                 failed += 1
                 print(f'FAIL {name}: {got}, not {want}')
-    print(f'{passed} passed, {failed} failed')
+    print(verdict.line(passed, failed))
     return failed != 0
 
 if __name__ == '__main__': sys.exit(main())

@@ -12,7 +12,7 @@ import sys
 HERE = os.path.dirname(os.path.abspath(__file__))
 ROOT = os.path.join(HERE, '..', '..', '..')
 CRATE = os.path.join(ROOT, 'crates/test_calls')
-sys.path[:0] = [os.path.dirname(HERE), os.path.join(HERE, '..', 'const')]
+sys.path[:0] = [os.path.dirname(os.path.dirname(HERE)), os.path.join(HERE, '..', 'const')]
 import harness
 import plain
 
@@ -147,17 +147,7 @@ def main():
         wanted += [line for _, line in made]
     wanted += list(twos())
     files = {'stdin': b'\n'.join(given) + b'\n', 'stdout': b'\n'.join(wanted) + b'\n'}
-    if sys.argv[1:] == ['--check']:
-        counted = harness.Verdict()
-        for name, text in files.items():
-            with open(os.path.join(CRATE, name), 'rb') as file:
-                counted.expect(f'crates/test_calls/{name} is what the rows make', file.read() == text, True)
-        return counted.end()
-    for name, text in files.items():
-        with open(os.path.join(CRATE, name), 'wb') as file:
-            file.write(text)
-    print(f'{len(given)} rows, {len(wanted) - len(given)} lines of texts of two bytes')
-    return 0
+    return harness.made(CRATE, files)
 
 
 if __name__ == '__main__':

@@ -210,10 +210,6 @@ def asked(case, ask, row):
         case.expect('', found, wanted)
 
 
-def number_of(case, found, wanted):
-    case.expect('rows', found, wanted)
-
-
 def asked_of_two_bytes(case, first):
     for text, found, wanted in two_bytes(case.program, first):
         case.expect(text, found, wanted)
@@ -224,7 +220,7 @@ def cases(_):
         all_of_them = list(harness.fields(os.path.join(HERE, name)))
         for row in all_of_them:
             yield harness.Row(f'{name} {row[0].decode("latin-1")}', asked, ask, row)
-        yield harness.Row(f'number of {name}', number_of, len(all_of_them), rows)
+        yield harness.number_of(name, len(all_of_them), rows)
     for first in range(256):
         yield harness.Row(f'two bytes from {first:02x}', asked_of_two_bytes, first)
     for pair in ((first, second) for first in EDGES for second in EDGES):

@@ -53,10 +53,6 @@ def unending(case, statements):
         case.expect(f'with {bound} ticks', interpret(case, row, bound), (*STOPPED, b''))
 
 
-def number_of(case, found, count):
-    case.expect('programs', found, count)
-
-
 def cases(_):
     for statements in UNENDING:
         yield harness.Row(statements, unending, statements)
@@ -64,7 +60,7 @@ def cases(_):
         all_of_them = rows.read(os.path.join(HERE, name))
         for row in all_of_them:
             yield harness.Row(f'{name} {row.name}', held, row)
-        yield harness.Row(f'number of {name}', number_of, len(all_of_them), count)
+        yield harness.number_of(name, len(all_of_them), count)
 
 
 if __name__ == '__main__':

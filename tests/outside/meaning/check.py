@@ -43,15 +43,11 @@ def held(case, ticks, given, ending, output, source):
     case.expect('with one tick less', ((less[0], less[2]), output.startswith(less[1])), (STOPPED, True))
 
 
-def number_of(case, found):
-    case.expect('rows', found, ROWS)
-
-
 def cases(_):
     all_of_them = rows()
     for row in all_of_them:
         yield harness.Row(row[4], held, *row)
-    yield harness.Row('number of rows', number_of, len(all_of_them))
+    yield harness.number_of('rows', len(all_of_them), ROWS)
 
 
 if __name__ == '__main__':

@@ -48,10 +48,6 @@ def fault(case, source, line):
     case.expect('', case.program.run('pp', 'main.c'), (1, b'', line.encode('latin-1') + b'\n'))
 
 
-def number_of(case, found, wanted):
-    case.expect('', found, wanted)
-
-
 # ---- macros
 
 def of_blocks(name):
@@ -120,7 +116,7 @@ def macros():
     for name, count in FILES.items():
         rows = list(of_blocks(name))
         yield from rows
-        yield harness.Row(f'number of {name}', number_of, len(rows), count)
+        yield harness.number_of(name, len(rows), count)
     for name, *row in large():
         yield harness.Row(name, *row)
 
@@ -139,7 +135,7 @@ def conditions():
     for code, text in rows:
         if code in FAULTS:
             yield harness.Row(f'#if {text}', fault, '\n'.join(prelude) + f'\n#if {text}\n#endif\n', f'main.c:{len(prelude) + 1}: {FAULTS[code]}')
-    yield harness.Row('number of conditions', number_of, (len(valued), len(rows)), (1740, 2000))
+    yield harness.number_of('conditions', (len(valued), len(rows)), (1740, 2000))
 
 
 def cases(_, what='macros'):

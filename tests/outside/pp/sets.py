@@ -38,15 +38,11 @@ def held(case, row):
     case.expect('', ask(case.program, row), row[1])
 
 
-def number_of(case, found):
-    case.expect('rows', found, ROWS)
-
-
 def cases(_):
     all_of_them = list(rows())
     for row in all_of_them:
         yield harness.Row(row[0], held, row)
-    yield harness.Row('number of rows', number_of, len(all_of_them))
+    yield harness.number_of('rows', len(all_of_them), ROWS)
 
 
 if __name__ == '__main__':

@@ -71,15 +71,11 @@ def held(case, name, count, digest):
     case.holds("other tokens, %d and not %s words" % (len(tokens.split()), count), done.out.endswith(b"\n") and hashlib.sha256(tokens).hexdigest() == digest)
 
 
-def number_of(case, found):
-    case.expect("", found, UNITS)
-
-
 def cases(_):
     rows = [row.split() for row in (HERE / "units.txt").read_text().splitlines()]
     for row in rows:
         yield harness.Row(row[0], held, *row)
-    yield harness.Row("number of sources", number_of, len(rows))
+    yield harness.number_of("sources", len(rows), UNITS)
 
 
 if __name__ == "__main__":

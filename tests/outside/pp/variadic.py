@@ -257,16 +257,12 @@ def held_at_random(case, count):
         held(case, text, want, name + ": ")
 
 
-def number_of(case, found):
-    case.expect("", found, ROWS)
-
-
 def cases(_, count="300"):
     yield harness.Row("random", held_at_random, int(count))
     rows = list(chain(by_hand(), limits()))
     for name, text, want in rows:
         yield harness.Row(name, held, text, want)
-    yield harness.Row("number of sources by hand", number_of, len(rows))
+    yield harness.number_of("sources by hand", len(rows), ROWS)
 
 
 if __name__ == "__main__":

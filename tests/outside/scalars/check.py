@@ -35,17 +35,13 @@ def other(case, row):
         case.expect('build', ways.Sources(case.program, row.source, row.files).build(), (0, b'', b''))
 
 
-def number_of(case, found, wanted):
-    case.expect('rows', found, wanted)
-
-
 def cases(_):
     for folder, prefix, programs, held in ((HERE, '', PROGRAMS, known), (INTERP, 'interp/', OTHERS, other)):
         for name, count in programs.items():
             found = rows.read(os.path.join(folder, name))
             for row in found:
                 yield harness.Row(f'{prefix}{name} {row.name}', held, row)
-            yield harness.Row(f'number of {prefix}{name}', number_of, len(found), count)
+            yield harness.number_of(f'{prefix}{name}', len(found), count)
     yield from worked.cases(None)
 
 

@@ -167,16 +167,12 @@ def kept_digests():
         return dict(reversed(line.split(' ', 1)) for line in file.read().splitlines())
 
 
-def number_of(case, found, wanted):
-    case.expect('', found, wanted)
-
-
 def cases(_):
     for name, *row in single_rows():
         yield harness.Row(name, *row)
     chosen, kept = list(meaning_rows())[:COUNT], kept_digests()
-    yield harness.Row('number of programs of ../meaning', number_of, len(chosen), COUNT)
-    yield harness.Row('number of digests', number_of, len(kept), 76)
+    yield harness.number_of('programs of ../meaning', len(chosen), COUNT)
+    yield harness.number_of('digests', len(kept), 76)
     for number, row in enumerate(chosen):
         for stack in SIZES:
             yield harness.Row(f'program {number} with {stack} bytes', at_and_over, row, stack)

@@ -70,19 +70,5 @@ def made():
     return files
 
 
-def main():
-    if sys.argv[1:] == ['--check']:
-        counted = harness.Verdict()
-        for name, text in made().items():
-            with open(os.path.join(CRATE, name), encoding='ascii') as file:
-                counted.expect(f'crates/test_tac/{name} is what the rows make', file.read() == text, True)
-        return counted.end()
-    os.makedirs(os.path.join(CRATE, 'data'), exist_ok=True)
-    for name, text in made().items():
-        with open(os.path.join(CRATE, name), 'w', encoding='ascii') as file:
-            file.write(text)
-    return 0
-
-
 if __name__ == '__main__':
-    sys.exit(main())
+    sys.exit(harness.made(CRATE, made()))
