@@ -6,8 +6,10 @@
 #   sh test.sh --list
 #
 # CC is the program; by default that of release/, where this tree is what it was proved and built from, else bin/cc as it
-# was built. -k: only the checks whose name has the word, which may be given more than once. --quick: only those that take
-# seconds. --junit: writes the results to FILE too, as JUnit's XML. --list prints the names and needs of all checks.
+# was built. -k: only the checks whose name has the word, which may be given more than once; where none has it, the cases
+# inside the checks that have it (`-k collatz`). --quick: only those that take seconds. --junit: writes the results to FILE
+# too, as JUnit's XML, a case each. --list prints the names and needs of all checks; python3 tests/NAME/check.py CC --list the
+# cases of one.
 # The last line counts all checks; the exit status is 0 where none failed and some passed, 2 for words that are no use.
 # JOBS=N: so many checks side by side (a processor each, by default). As root on Debian, sh tests/outside/tools.sh installs
 # the tools of others.
@@ -16,7 +18,9 @@ jobs=${JOBS:-$(getconf _NPROCESSORS_ONLN 2>/dev/null || echo 1)}
 usage='usage: sh test.sh [-k WORD].. [--quick] [--junit FILE] [CC]
        sh test.sh --list'
 # Those that take seconds.
-quick=' conditions macros variadic stack tables version shown rows_calls rows_answers rows_machine rows_flat rows_tac rows_stream const mistakes warnings wanted '
+quick=' conditions macros variadic stack tables version shown rows_calls rows_answers rows_machine rows_flat rows_tac rows_stream const mistakes warnings wanted faults cli meaning sets commands harness names '
+newline='
+'
 words=
 junit=
 listed=
@@ -27,7 +31,7 @@ while [ $# -gt 0 ]; do
         -k | --junit) [ $# -gt 1 ] || { echo "$usage" >&2; exit 2; } ;;
     esac
     case $1 in
-        -k) words="$words $2"; shift ;;
+        -k) words=$words$2$newline; shift ;;
         --junit) junit=$2; shift ;;
         --quick) chosen=$quick ;;
         --list) listed=1 ;;
@@ -38,47 +42,58 @@ while [ $# -gt 0 ]; do
     shift
 done
 
-# is_wanted NAME: whether the check is one of those asked for.
+# is_wanted NAME: whether the check is one of those asked for by its name.
 is_wanted() {
     case $chosen in '') ;; *" $1 "*) ;; *) return 1 ;; esac
-    [ -z "$words" ] && return 0
-    for word in $words; do
-        case $1 in *"$word"*) return 0 ;; esac
+    [ -z "$words" ] || printf '%s' "$words" | {
+        while IFS= read -r word; do
+            case $1 in *"$word"*) exit 0 ;; esac
+        done
+        exit 1
+    }
+}
+
+# inside: the words that are in the name of no check, and so are looked for in the names of cases.
+inside() {
+    printf '%s' "$words" | while IFS= read -r word; do
+        checks | cut -d '|' -f 1 | grep -qF -- "$word" || printf '%s\n' "$word"
     done
-    return 1
 }
 
 # A check a line, the longest first: its name | what it needs (tools, files) | its command, whose last line is
-# 'N passed, M failed' or 'N passed, M failed, K skipped'. A further check is a further line here.
+# 'N passed, M failed' or 'N passed, M failed, K skipped'. A further check is a further line here. `cases` in place of python3:
+# a script that stands on tests/harness, takes -k, --list and --cases, and so can run a case alone.
 checks() {
     cat <<'END'
 library      | python3                                  | python3 tests/outside/library/check.py "$cc"
 machines     | python3                                  | python3 tests/outside/library/machines.py "$cc"
 packages     | python3                                  | python3 tests/outside/library/packages.py
 page         | python3                                  | sh tests/outside/page/check.sh "$cc"
-boards       | python3                                  | sh tests/outside/boards/check.sh "$cc"
-hostile      | python3                                  | python3 tests/outside/hostile/check.py "$cc"
-bombs        | python3                                  | python3 tests/outside/hostile/bombs.py "$cc"
-memory       | python3                                  | python3 tests/outside/hostile/interp_memory.py "$cc"
-widths       | python3                                  | python3 tests/outside/widths/check.py "$cc"
-limits       | python3                                  | python3 tests/outside/limits/check.py "$cc"
+boards       | python3                                  | cases tests/outside/boards/check.py "$cc"
+hostile      | python3                                  | cases tests/outside/hostile/check.py "$cc"
+bombs        | python3                                  | cases tests/outside/hostile/bombs.py "$cc"
+memory       | python3                                  | cases tests/outside/hostile/interp_memory.py "$cc"
+widths       | python3                                  | cases tests/outside/widths/check.py "$cc"
+limits       | python3                                  | cases tests/outside/limits/check.py "$cc"
 mutated      | python3                                  | python3 tests/outside/hostile/mutate.py "$cc" 600 1500
-includes     | python3                                  | python3 tests/outside/pp/includes.py "$cc"
-scalars      | python3                                  | python3 tests/outside/scalars/check.py "$cc"
-constraints  | python3                                  | python3 tests/outside/constraints/check.py "$cc"
-front        | python3                                  | python3 tests/outside/front/check.py "$cc"
-machine      | python3                                  | python3 tests/outside/machine/check.py "$cc"
-outside      |                                          | ALLOW_SKIPPED=1 sh tests/outside/check.sh "$cc"
-conditions   |                                          | sh tests/outside/pp/check.sh "$cc" conditions
-macros       |                                          | sh tests/outside/pp/check.sh "$cc"
-units        | python3                                  | python3 tests/outside/pp/units.py "$cc"
-nested       | python3                                  | python3 tests/outside/pp/nested.py "$cc"
-interp       | python3                                  | python3 tests/outside/interp/check.py "$cc"
-const        | python3                                  | python3 tests/outside/const/check.py "$cc"
-meaning      | python3                                  | python3 tests/outside/meaning/check.py "$cc"
-sets         | python3                                  | python3 tests/outside/pp/sets.py "$cc"
-commands     | python3                                  | python3 tests/outside/cc/check.py "$cc"
-people       | python3                                  | python3 tests/outside/cc/people.py "$cc"
+includes     | python3                                  | cases tests/outside/pp/includes.py "$cc"
+scalars      | python3                                  | cases tests/outside/scalars/check.py "$cc"
+constraints  | python3                                  | cases tests/outside/constraints/check.py "$cc"
+front        | python3                                  | cases tests/outside/front/check.py "$cc"
+machine      | python3                                  | cases tests/outside/machine/check.py "$cc"
+run          | python3                                  | cases tests/run/check.py "$cc"
+faults       | python3                                  | cases tests/faults/check.py "$cc"
+cli          | python3                                  | cases tests/cli/check.py "$cc"
+conditions   | python3                                  | cases tests/outside/pp/check.py "$cc" conditions
+macros       | python3                                  | cases tests/outside/pp/check.py "$cc" macros
+units        | python3                                  | cases tests/outside/pp/units.py "$cc"
+nested       | python3                                  | cases tests/outside/pp/nested.py "$cc"
+interp       | python3                                  | cases tests/outside/interp/check.py "$cc"
+const        | python3                                  | cases tests/outside/const/check.py "$cc"
+meaning      | python3                                  | cases tests/outside/meaning/check.py "$cc"
+sets         | python3                                  | cases tests/outside/pp/sets.py "$cc"
+commands     | python3                                  | cases tests/outside/cc/check.py "$cc"
+people       | python3                                  | cases tests/outside/cc/people.py "$cc"
 flat         | python3 crates/test_flat/out/test_flat   | python3 tests/outside/flat/check.py crates/test_flat/out/test_flat
 tac          | python3 crates/test_tac/out/test_tac     | python3 tests/outside/tac/check.py crates/test_tac/out/test_tac
 streamed     | python3 crates/test_stream/out/test_stream | python3 tests/outside/pp/streamed.py crates/test_stream/out/test_stream
@@ -89,21 +104,23 @@ test_flat    | python3                                  | python3 tests/outside/
 test_tac     | python3                                  | python3 tests/outside/tac/rows.py --check
 test_stream  | python3                                  | python3 tests/outside/pp/stream.py --check
 growths      | python3 gcc                              | python3 tests/outside/refused/growths.py "$cc"
-bytes        | python3 gcc                              | python3 tests/outside/refused/bytes.py "$cc"
-signals      | python3                                  | python3 tests/outside/refused/signals.py "$cc"
-variadic     | python3 gcc                              | python3 tests/outside/pp/variadic.py "$cc"
-streams      | python3                                  | python3 tests/outside/streams/check.py "$cc"
-stack        | python3                                  | python3 tests/outside/stack/check.py "$cc"
+bytes        | python3 gcc                              | cases tests/outside/refused/bytes.py "$cc"
+signals      | python3                                  | cases tests/outside/refused/signals.py "$cc"
+variadic     | python3 gcc                              | cases tests/outside/pp/variadic.py "$cc"
+streams      | python3                                  | cases tests/outside/streams/check.py "$cc"
+stack        | python3                                  | cases tests/outside/stack/check.py "$cc"
 beyond       | python3                                  | python3 tests/outside/stack/beyond.py "$cc"
 mistakes     | python3                                  | python3 tests/outside/mistakes/check.py "$cc"
 warnings     | python3                                  | python3 tests/outside/warnings/check.py "$cc"
 wanted       | python3                                  | python3 tests/outside/mistakes/wanted.py "$cc"
 verify       | python3                                  | python3 tests/outside/verify/check.py "$cc"
-inspecting   | python3                                  | python3 tests/outside/inspecting/check.py "$cc"
-forms        | python3                                  | python3 tests/outside/forms/check.py "$cc"
+inspecting   | python3                                  | cases tests/outside/inspecting/check.py "$cc"
+forms        | python3                                  | cases tests/outside/forms/check.py "$cc"
 tables       | python3                                  | python3 share/tables.py "$cc" --check
 version      |                                          | sh share/version.sh --check "$cc"
 documents    |                                          | sh tests/documents.sh "$cc"
+harness      | python3                                  | cases tests/harness/check.py "$cc"
+names        | python3                                  | python3 tests/names.py
 shown        |                                          | sh run.sh "$cc"
 END
 }
@@ -146,22 +163,46 @@ missing() {
     done
 }
 
-# What cannot be tried is told now, and the others are written down, a file each.
+# The checks that are wanted by their own name, and those with a case that has one of the other words.
 checks | grep -v '^ *$' | while IFS='|' read -r name needs command; do
-    if is_wanted $name; then printf '%s|%s|%s\n' "$name" "$needs" "$command"; fi
+    name=${name%% *}
+    if is_wanted "$name"; then
+        printf '%s|%s|%s\n' "$name" "$needs" "$command"
+    elif [ -n "$words" ]; then
+        case $chosen in '' | *" $name "*) printf '%s|%s|%s\n' "$name" "$needs" "$command" >>"$logs/others" ;; esac
+    fi
 done >"$logs/checks"
+inside >"$logs/inside"
+if [ -s "$logs/inside" ] && [ -s "$logs/others" ]; then
+    while IFS='|' read -r name needs command; do
+        case $command in
+            ' cases '*) ;;
+            *) continue ;;
+        esac
+        # shellcheck disable=SC2086 # the needs are words
+        [ -z "$(missing $needs)" ] && echo "$command" | sed 's/^ cases /python3 /' >"$logs/$name.names" && echo "$name"
+    done <"$logs/others" | xargs -n 1 -P "$jobs" sh -c 'sh -c "$(cat "$logs/$1.names") --list" >"$logs/$1.listed" 2>/dev/null' names
+    while IFS='|' read -r name needs command; do
+        [ -s "$logs/$name.listed" ] && grep -qFf "$logs/inside" "$logs/$name.listed" || continue
+        only=$(sed "s/'/'\\\\''/g; s/.*/ -k '&'/" "$logs/inside" | tr -d '\n')
+        printf '%s|%s|%s\n' "$name" "$needs" "$command$only"
+    done <"$logs/others" >>"$logs/checks"
+fi
 if [ ! -s "$logs/checks" ]; then
-    echo "no check has such a name; sh test.sh --list prints them" >&2
+    echo "no check and no case has such a name; sh test.sh --list prints those of the checks" >&2
     exit 2
 fi
+# What cannot be tried is told now, and the others are written down, a file each.
 while IFS='|' read -r name needs command; do
-    name=$(echo $name)
     lacking=$(missing $needs)
     if [ -n "$lacking" ]; then
         echo "SKIPPED $name, for want of $lacking"
         echo '0 passed, 0 failed, 1 skipped' >"$logs/$name.verdict"
     else
-        printf '%s\n' "$command" >"$logs/$name.command"
+        case $command in
+            ' cases '*) printf 'python3 %s --cases "$logs/%s.cases"\n' "${command# cases }" "$name" >"$logs/$name.command" ;;
+            *) printf '%s\n' "$command" >"$logs/$name.command" ;;
+        esac
         echo "$name"
     fi
 done <"$logs/checks" >"$logs/told"
@@ -192,7 +233,7 @@ grep -v '^SKIPPED ' "$logs/told" | xargs -n 1 -P "$jobs" sh -c '
     cat "$logs/$1.told"
 ' check
 
-# A test case a check, which fails with what was said (https://github.com/testmoapp/junitxml).
+# A test case a check, which fails with what was said (https://github.com/testmoapp/junitxml); of those that know cases, one each.
 if [ -n "$junit" ]; then
     escaped() { sed -e 's/&/\&amp;/g; s/</\&lt;/g; s/>/\&gt;/g' -e 's/[^[:print:][:space:]]/?/g' "$1"; }
     {
@@ -200,6 +241,10 @@ if [ -n "$junit" ]; then
         echo '<testsuite name="zikorape">'
         for file in "$logs"/*.verdict; do
             name=$(basename "$file" .verdict)
+            if [ -s "$logs/$name.cases" ]; then
+                sed "s/^<testcase /&classname=\"$name\" /" "$logs/$name.cases"
+                continue
+            fi
             echo "<testcase name=\"$name\">"
             case $(cat "$file") in
                 '0 passed, 0 failed, 1 skipped') echo '<skipped/>' ;;
@@ -217,7 +262,7 @@ count() { cat "$logs"/*.verdict | sed -n "s/.*\b\([0-9][0-9]*\) $1.*/\1/p" | awk
 passed=$(count passed)
 failed=$(count failed)
 skipped=$(count skipped)
-made=$(ls "$logs" | grep -c '\.verdict$')
+made=$(cat "$logs"/*.verdict | grep -c .)
 wanted=$(grep -c . "$logs/checks")
 if [ "$made" -ne "$wanted" ]; then
     echo "FAIL $made of $wanted checks were made"

@@ -7,13 +7,11 @@
 Called from the repository's root. With --check the last line counts the checks."""
 import glob, os, re, sys
 
-PAGE, BEGIN, END = 'docs/design/overview.md', '<!-- made by tests/architecture.py -->\n', '<!-- end -->\n'
-counts = [0, 0]
+import harness
 
-def holds(what, right):
-    counts[not right] += 1
-    if not right:
-        print('FAIL', what)
+PAGE, BEGIN, END = 'docs/design/overview.md', '<!-- made by tests/architecture.py -->\n', '<!-- end -->\n'
+verdict = harness.Verdict()
+holds = verdict.holds
 
 def read(path):
     with open(path, encoding='utf-8') as file:
@@ -91,8 +89,7 @@ def main():
         holds('%s is not what tests/architecture.py writes' % PAGE, part == made())
         check_readmes()
         check_paths()
-        print('%d passed, %d failed' % tuple(counts))
-        sys.exit(0 if not counts[1] else 1)
+        sys.exit(verdict.end())
     with open(PAGE, 'w', encoding='utf-8') as file:
         file.write(head + begin + made() + end + tail)
 

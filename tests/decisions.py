@@ -8,17 +8,14 @@ each link and each path of the repository in backticks is there.
 Called from the repository's root. The last line counts the checks."""
 import glob, os, re, sys
 
+import harness
+
 INDEX, PAGES = 'docs/design/decisions.md', 'docs/design/decisions'
 SECTIONS = ['Context', 'Choice', 'Consequence']
-passed = failed = 0
+verdict = harness.Verdict()
 
 def check(holds, text):
-    global passed, failed
-    if holds:
-        passed += 1
-    else:
-        failed += 1
-        print('FAIL ' + text)
+    verdict.holds(text, holds)
 
 def read(path):
     with open(path, encoding='utf-8') as file:
@@ -60,7 +57,6 @@ def main():
         numbers = re.findall(r'^- \[(\d{4})\]', part, re.M)
         check(numbers and numbers == sorted(numbers), '%s: %s: the lines are not in the order of their numbers' % (INDEX, part.split('\n')[0]))
     paths(INDEX, index)
-    print('%d passed, %d failed' % (passed, failed))
-    sys.exit(1 if failed else 0)
+    sys.exit(verdict.end())
 
 main()

@@ -8,6 +8,8 @@ import glob
 import os
 import re
 
+import harness
+
 FUNCTION = re.compile(r'\s*pub (const |unsafe )*fn (\w+)')
 
 
@@ -25,14 +27,11 @@ def bare(path):
 
 
 def main():
-    passed = failed = 0
+    verdict = harness.Verdict()
     for folder in sorted(it for it in glob.glob('crates/*/src') if not it.startswith('crates/test_')):
         lacking = [it for at, _, names in os.walk(folder) for name in sorted(names) if name.endswith('.rt') for it in bare(f'{at}/{name}')]
-        for it in lacking:
-            print(f'FAIL {it} has no doc comment')
-        passed, failed = passed + (not lacking), failed + bool(lacking)
-    print(f'{passed} passed, {failed} failed')
-    return failed != 0 or passed == 0
+        verdict.holds(f'{folder}: no doc comment: {", ".join(lacking)}', not lacking)
+    return verdict.end()
 
 
 if __name__ == '__main__':

@@ -13,30 +13,18 @@ case $cc in /*) ;; *) cc=$(pwd)/$cc ;; esac
 work=$(mktemp -d) || exit 1
 trap 'rm -rf "$work"' EXIT
 
-passed=0
-failed=0
-skipped=0
-pass() { passed=$((passed + 1)); }
-fail() { failed=$((failed + 1)); echo "FAIL $*"; }
+. tests/harness/verdict.sh
 same() { if cmp -s "$2" "$3"; then pass; else fail "$1"; diff "$2" "$3" | head -n 6; fi; }
 
 # script COMMAND..: a script that ends with `N passed, M failed`, whose counts are added.
 script() {
     if ! command -v "$1" >/dev/null 2>&1; then
-        skipped=$((skipped + 1))
-        echo "skipped: $*: $1 is missing"
+        leave_out "$*: $1 is missing"
         return
     fi
     "$@" >"$work/said" 2>&1
-    told=$(tail -n 1 "$work/said" | sed -n 's/^\([0-9][0-9]*\) passed, \([0-9][0-9]*\) failed$/\1 \2/p')
-    if [ -z "$told" ]; then
-        fail "$*"
-        tail -n 6 "$work/said"
-    else
-        grep FAIL "$work/said"
-        passed=$((passed + ${told% *}))
-        failed=$((failed + ${told#* }))
-    fi
+    add "$work/said" >"$work/shown"
+    grep FAIL "$work/shown" || tail -n 1 "$work/said" | grep -q ' passed, ' || tail -n 6 "$work/said"
 }
 
 # ------------------------------------------------- the faults and their texts
@@ -78,15 +66,12 @@ script python3 tests/doc_comments.py
 script python3 tests/laws.py
 
 # documents tell what is, not what was or will be; README may say what is there at its date
-if grep -nwiE 'today|so far|to come|not yet|at the moment|699' $(ls docs/*.md docs/design/*.md docs/design/decisions/*.md | grep -v TRUST) bench/README.md crates/*/README.md >"$work/diary"; then
+set -- bench/README.md crates/*/README.md
+for page in docs/*.md docs/design/*.md docs/design/decisions/*.md; do [ "$page" = docs/TRUST.md ] || set -- "$@" "$page"; done
+if grep -nwiE 'today|so far|to come|not yet|at the moment|699' "$@" >"$work/diary"; then
     fail "a document speaks of its day: $(head -n 3 "$work/diary")"
 else
     pass
 fi
 
-if [ $skipped -gt 0 ]; then
-    echo "$passed passed, $failed failed, $skipped skipped"
-else
-    echo "$passed passed, $failed failed"
-fi
-[ $failed = 0 ]
+verdict

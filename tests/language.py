@@ -8,22 +8,14 @@ programs with the output that the page shows.
 Called from the repository's root. The last line counts the checks."""
 import os, re, struct, subprocess, sys, tempfile
 
+import harness
+from harness import ways
+
 PAGE = open('docs/LANGUAGE.md').read()
 MAIN = 'int main(void) { return 0; }\n'
-SHIM = '''#include <stdio.h>
-#include <stdlib.h>
-int rv_getbyte(void) { int c = getchar(); return c == EOF ? -1 : c; }
-void rv_putbyte(int c) { putchar(c & 255); }
-void rv_exit(int status) { exit(status & 255); }
-'''
-HEADER = 'int rv_getbyte(void);\nvoid rv_putbyte(int c);\nvoid rv_exit(int status);\n'
 HOST = ['gcc', '-std=c11', '-w', '-funsigned-char', '-I', 'host']
-counts = [0, 0]
-
-def holds(what, right):
-    counts[not right] += 1
-    if not right:
-        print('FAIL', what)
+verdict = harness.Verdict()
+holds = verdict.holds
 
 def put(name, text):
     if os.path.dirname(name):
@@ -209,8 +201,8 @@ def limits(cc):
 # ----------------------------------------------------------------- by gcc
 
 def by_host():
-    put('host/rvio.h', HEADER)
-    put('host/rvio.c', SHIM)
+    put('host/rvio.h', ways.RVIO)
+    put('host/rvio.c', ways.PORT)
     files, commands = programs()
     for name, text in files.items():
         put(name, text)
@@ -237,7 +229,6 @@ def main():
         else:
             by_compiler(cc)
         os.chdir('/')
-    print('%d passed, %d failed' % tuple(counts))
-    sys.exit(0 if counts[0] and not counts[1] else 1)
+    sys.exit(verdict.end())
 
 main()

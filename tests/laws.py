@@ -8,6 +8,8 @@ Called from the repository's root. A check for each lemma that is cited; the las
 import os
 import re
 
+import harness
+
 # To become laws with the next change of their crates.
 OPEN = {('rv32', 'Spaces', 'shows_read')}
 IMPORT = re.compile(r'use Rattle\.(\w+)\.proofs\.([\w.+]+)\.\{(.*)\}')
@@ -65,16 +67,11 @@ def laws(crate):
 
 def main():
     layer = layers()
-    kept, passed, failed = {}, 0, 0
+    kept, verdict = {}, harness.Verdict()
     for (of, module, name), path in sorted(cited(layer).items()):
         kept.setdefault(of, laws(of))
-        if name in kept[of] or (of, module, name) in OPEN:
-            passed += 1
-        else:
-            print(f'FAIL {path} cites {of}.proofs.{module}.{name}, which is no law of {of}')
-            failed += 1
-    print(f'{passed} passed, {failed} failed')
-    return failed != 0 or passed == 0
+        verdict.holds(f'{path} cites {of}.proofs.{module}.{name}, which is no law of {of}', name in kept[of] or (of, module, name) in OPEN)
+    return verdict.end()
 
 
 if __name__ == '__main__':

@@ -12,10 +12,7 @@ room=$(mktemp -d) || exit 1
 trap 'rm -rf "$room"' EXIT
 trap 'exit 1' HUP INT TERM
 
-passed=0
-failed=0
-pass() { passed=$((passed + 1)); }
-fail() { failed=$((failed + 1)); echo "FAIL $*"; }
+. tests/harness/verdict.sh
 
 # library NAME: where its proved library lies.
 library() { echo "${LIBRARIES:-$PWD/crates/$1/out/rlib}/$1.rlib"; }
@@ -117,5 +114,4 @@ case $status:$(tail -n 1 "$room/lent/said") in
     *) fail "lent: status $status: $(head -n 3 "$room/lent/said")" ;;
 esac
 
-echo "$passed passed, $failed failed"
-[ "$failed" = 0 ] && [ "$passed" -gt 0 ]
+verdict

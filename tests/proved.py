@@ -7,13 +7,13 @@ test is there, and each wrong body is planted where it says, in must-fail or in 
 NAME prints where that edit stands. Called from the repository's root. The last line counts the checks."""
 import glob, os, re, sys
 
+import harness
+
 PAGE = open('docs/PROVED.md', encoding='utf-8').read()
-counts = [0, 0]
+verdict = harness.Verdict()
 
 def holds(what, right):
-    counts[not right] += 1
-    if not right:
-        print('FAIL docs/PROVED.md:', what)
+    verdict.holds('docs/PROVED.md: %s' % what, right)
 
 def clauses_of(crate, function):
     """The names of the clauses of a public function, or None where the crate has none of this name."""
@@ -72,7 +72,6 @@ def main():
     check_clauses()
     check_promises()
     check_edits()
-    print('%d passed, %d failed' % tuple(counts))
-    sys.exit(0 if not counts[1] else 1)
+    sys.exit(verdict.end())
 
 main()

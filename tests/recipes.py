@@ -8,6 +8,8 @@ which is there already, by its names in the code, in the definitions and in the 
 Called from the repository's root. With --check the last line counts the checks."""
 import glob, os, re, sys
 
+import harness
+
 PAGE = 'docs/HACKING.md'
 # of each recipe: the names of what is there already, and the crates that have another thing of that name
 RECIPES = {
@@ -21,8 +23,8 @@ RECIPES = {
 }
 
 # tests that name rv_getbyte in a sample program alone
-MERE_PROGRAMS = ['tests/outside/' + name for name in (
-    'boards/lines.py', 'check.sh', 'inspecting/check.py', 'mistakes/cases.py', 'refused/bytes.py', 'scalars/generate.py', 'scalars/worked.py', 'streams/check.py')]
+MERE_PROGRAMS = ['tests/cli/test_interp.py'] + ['tests/outside/' + name for name in (
+    'boards/lines.py', 'inspecting/check.py', 'mistakes/cases.py', 'refused/bytes.py', 'scalars/generate.py', 'scalars/worked.py', 'streams/check.py')]
 
 def read(path):
     with open(path, encoding='utf-8') as file:
@@ -40,7 +42,7 @@ def flow():
 def lists(name, pattern, without):
     """Of each crate the files in which the names stand, and those of the tests from outside."""
     found = {}
-    for path in list(files('crates', 'tests/outside', 'boards')) + sorted(glob.glob('docs/design/decisions/*.md')) + ['docs/FAULTS.md', 'docs/LANGUAGE.md', 'docs/MACHINE.md', 'docs/design/semantics.md', 'boards/README.md', 'tests/language.py']:
+    for path in list(files('crates', 'tests/harness', 'tests/cli', 'tests/outside', 'boards')) + sorted(glob.glob('docs/design/decisions/*.md')) + ['docs/FAULTS.md', 'docs/LANGUAGE.md', 'docs/MACHINE.md', 'docs/design/semantics.md', 'boards/README.md', 'tests/language.py']:
         if name == 'built-in' and path in MERE_PROGRAMS:
             continue
         crate = path.split('/')[1] if path.startswith('crates/') else ''
@@ -67,8 +69,9 @@ def main():
     page = read(PAGE)
     made = written(page)
     if sys.argv[1:] == ['--check']:
-        print('1 passed, 0 failed' if made == page else 'FAIL %s is not what tests/recipes.py writes\n0 passed, 1 failed' % PAGE)
-        sys.exit(0 if made == page else 1)
+        verdict = harness.Verdict()
+        verdict.holds('%s is not what tests/recipes.py writes' % PAGE, made == page)
+        sys.exit(verdict.end())
     with open(PAGE, 'w', encoding='utf-8') as file:
         file.write(made)
 

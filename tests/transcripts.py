@@ -8,6 +8,8 @@ Called from the repository's root; `bin/cc` in a command is CC, and so is `zkc`.
 out and told. The last line counts the checks."""
 import os, re, shutil, subprocess, sys, tempfile
 
+import harness
+
 def commands(text):
     """The commands of a page, each with what is shown under it."""
     for command, output in re.findall(r'^    \$ (.*)\n((?:    (?!\$ ).*\n)*)', text, re.M):
@@ -18,9 +20,9 @@ def fits(shown, said):
     return re.fullmatch(pattern, said) is not None
 
 def main():
-    cc, root = os.path.abspath(sys.argv[1]), os.getcwd()
+    cc = os.path.abspath(sys.argv[1])
     pages = [(name, open(name, encoding='utf-8').read()) for name in sys.argv[2:]]
-    passed = failed = 0
+    verdict = harness.Verdict()
     with tempfile.TemporaryDirectory() as work:
         shutil.copytree('examples', work + '/examples')
         os.mkdir(work + '/bin')
@@ -30,19 +32,11 @@ def main():
         for name, text in pages:
             for command, shown in commands(text):
                 if 'qemu-riscv32' in command and not shutil.which('qemu-riscv32'):
-                    print('left out, since qemu-riscv32 is missing:', command)
+                    verdict.skip(1, f'qemu-riscv32 is missing: {command}')
                     continue
                 done = subprocess.run(['sh', '-c', command], cwd=work, env=path, stdout=subprocess.PIPE, stderr=subprocess.STDOUT, stdin=subprocess.DEVNULL)
                 said = done.stdout.decode('latin-1')
-                if fits(shown, said):
-                    passed += 1
-                else:
-                    failed += 1
-                    print('FAIL %s: %s\n%s' % (name, command, said), end='')
-        if not passed:
-            failed += 1
-            print('FAIL no command in', ' '.join(sys.argv[2:]))
-    print('%d passed, %d failed' % (passed, failed))
-    sys.exit(0 if not failed else 1)
+                verdict.holds(f'{name}: {command}\n{said}', fits(shown, said))
+    sys.exit(verdict.end())
 
 main()

@@ -10,6 +10,8 @@ name. The second has what the other public clauses need besides. Both are found 
 Called from the repository's root. It prints the lines of both tiers; with --check the last line counts the checks."""
 import os, re, sys
 
+import harness
+
 PAGE, MARK = 'docs/TRUST.md', '<!-- made by tests/trust.py -->'
 # the crate, the function and the clauses that are the headline: `made` says how the file came about
 HEADLINE = ('cc', 'compile', ('built', 'refused'))
@@ -322,10 +324,9 @@ def main():
     head, _, stands = page.partition(MARK + '\n')
     print('The headline needs %s.\nOther public clauses need %s besides; none needs %s.' % tuple(sums))
     if sys.argv[1:] == ['--check']:
-        right = stands == text
-        print('' if right else 'FAIL docs/TRUST.md is not what tests/trust.py writes\n', end='')
-        print('1 passed, 0 failed' if right else '0 passed, 1 failed')
-        sys.exit(0 if right else 1)
+        verdict = harness.Verdict()
+        verdict.holds('docs/TRUST.md is not what tests/trust.py writes', stands == text)
+        sys.exit(verdict.end())
     with open(PAGE, 'w', encoding='utf-8') as file:
         file.write(head + MARK + '\n' + text)
 

@@ -5,36 +5,25 @@ import shutil
 import signal
 import struct
 import subprocess
+import sys
 import tempfile
 import time
 
 HERE = os.path.dirname(os.path.abspath(__file__))
+sys.path.insert(0, os.path.dirname(os.path.dirname(HERE)))
+import harness
+
 ROOT = os.path.abspath(os.path.join(HERE, '..', '..', '..'))
 SECONDS = 240
 BEGINS = {'virt': '0x80000000', 'flat': '0x1000'}
 TEXT, DATA_FLAGS = 1, 6
 
 
-class Counted:
-    """Checks that passed and failed; a failed one is a line that says what differs."""
+class Counted(harness.Verdict):
+    """Checks of one task, which are added to those of its case."""
 
     def __init__(self):
-        self.passed, self.skipped, self.lines = 0, 0, []
-
-    def expect(self, name, found, wanted):
-        if found == wanted:
-            self.passed += 1
-        else:
-            self.lines.append('FAIL %s: %s, not %s' % (name, shortened(found), shortened(wanted)))
-
-    def add(self, other):
-        self.passed, self.skipped = self.passed + other.passed, self.skipped + other.skipped
-        self.lines += other.lines
-
-
-def shortened(answer):
-    text = repr(answer)
-    return text if len(text) < 300 else text[:150] + ' .. ' + text[-150:]
+        super().__init__(quiet=True)
 
 
 def run(words, data=b'', seconds=SECONDS, environment=None, folder=None):

@@ -1,11 +1,13 @@
 #!/usr/bin/env python3
-"""Holds the boards against `cc run`: `check.py CC [PART ..]`. The last line counts what passed, failed and was skipped."""
-import concurrent.futures
+"""Holds the boards against `cc run`: `check.py CC [PART ..]`. The last line counts what passed, failed and was skipped. Where
+qemu-system-misc or binutils-riscv64-unknown-elf is missing, all is skipped."""
 import os
+import shutil
 import sys
-import time
 
-import boards
+HERE = os.path.dirname(os.path.abspath(__file__))
+sys.path.insert(0, os.path.dirname(os.path.dirname(HERE)))
+import harness
 import lines
 import mutants
 import page
@@ -13,36 +15,38 @@ import programs
 import table
 import traps
 
-# The long ones first. At most so many processes run side by side.
+# The long ones first.
 PARTS = {'table': table, 'lines': lines, 'page': page, 'mutants': mutants, 'traps': traps, 'programs': programs}
-PROCESSES = min(4, os.cpu_count() or 1)
+TOOLS = ('qemu-system-riscv32', 'riscv64-unknown-elf-as', 'riscv64-unknown-elf-ld', 'riscv64-unknown-elf-objcopy')
+# So many checks there are: rows that are lost do not go unseen.
+CHECKS = 1302
 
 
-def answered(task):
-    """What a task counts; one that breaks down is a failure."""
-    try:
-        return task[0](*task[1])
-    except Exception as error:  # noqa: BLE001
-        counted = boards.Counted()
-        counted.expect('%s.%s%s' % (task[0].__module__, task[0].__name__, str(task[1])[:100]), repr(error), 'an answer')
-        return counted
+def told(value):
+    """What a case is called by: a text, the name of a board or of a row."""
+    if isinstance(value, (list, tuple)):
+        return ' '.join(filter(None, map(told, value)))
+    return value if isinstance(value, str) else str(getattr(value, 'name', ''))
 
 
-def main():
-    compiler = os.path.abspath(sys.argv[1])
-    parts = sys.argv[2:] or list(PARTS)
-    tasks = [task for name in parts for task in PARTS[name].all_checks(compiler)]
-    counted, began = boards.Counted(), time.time()
-    with concurrent.futures.ThreadPoolExecutor(PROCESSES) as pool:
-        for one in pool.map(answered, tasks):
-            counted.add(one)
-            for line in one.lines:
-                print(line, flush=True)
-    if os.environ.get('TIMED'):
-        print('%d tasks in %d s' % (len(tasks), time.time() - began))
-    print('%d passed, %d failed' % (counted.passed, len(counted.lines)) + (', %d skipped' % counted.skipped if counted.skipped else ''))
-    return len(counted.lines)
+def held(case, function, words):
+    case.verdict.add(function(*words))
+
+
+def left_out(case, tool):
+    case.skip(CHECKS, f'{tool} is missing')
+
+
+def cases(compiler, *parts):
+    for tool in TOOLS:
+        if not shutil.which(tool):
+            yield harness.Row('boards', left_out, tool)
+            return
+    for name in parts or PARTS:
+        for function, words in PARTS[name].all_checks(compiler):
+            called = told([word for word in words if word != compiler])
+            yield harness.Row(f'{name} {function.__name__} {called}'.strip()[:200], held, function, words)
 
 
 if __name__ == '__main__':
-    sys.exit(main() != 0)
+    sys.exit(harness.main(cases, checks=CHECKS, most=4))

@@ -117,7 +117,7 @@ def every_way(compiler):
                 ('flat', boards.Board('flat').words(console))]
         found = [('qemu-riscv32', shutil.which('qemu-riscv32') and ['qemu-riscv32', console]), ('gcc', shutil.which('gcc') and [by_gcc(folder)])]
         ways += [way for way in found if way[1]]
-        counted.skipped += sum(1 + len(ODD) for way in found if not way[1])
+        counted.skip(sum(1 + len(ODD) for way in found if not way[1]), 'a tool of this way is missing')
         for name, way in ways:
             data = ''.join(line + '\n' for line in words).encode()
             counted.expect('the session, ' + name, boards.run(way, data), (status, wanted.encode(), b''))

@@ -5,29 +5,23 @@ digits. The last line counts."""
 import os
 import resource
 import signal
-import struct
 import subprocess
 import sys
 
 HERE = os.path.dirname(os.path.abspath(__file__))
-sys.path.insert(0, os.path.dirname(HERE))
-import asking
+sys.path.insert(0, os.path.dirname(os.path.dirname(HERE)))
+import harness
+from harness import elf
 
 TWO_BYTES = 'void rv_putbyte(int c); int main(void) { rv_putbyte(65); rv_putbyte(66); return 0; }\n'
 
 
 def build(program, source):
     """The status and the line of a build as `out`, and the bytes of the file, none where there is none."""
-    out = os.path.join(program.folder(), 'out')
-    if os.path.exists(out):
-        os.remove(out)
+    program.remove('out')
     program.write('main.c', source)
     status, output, line = program.run('build', 'main.c', '-o', 'out')
-    file = b''
-    if os.path.exists(out):
-        with open(out, 'rb') as built:
-            file = built.read()
-    return status, output + line, file
+    return status, output + line, program.read('out')
 
 
 def number(status):
@@ -73,10 +67,8 @@ def cut(program, given):
 def texts(program, given):
     """A file of a text at 0x11000, by hand from the gABI: an ELF header, and program headers for the text and a stack."""
     text = given[0]
-    header = b'\x7fELF\1\1\1' + bytes(9) + struct.pack('<HHIIIIIHHHHHH', 2, 243, 1, 0x11000, 52, 0, 0, 52, 32, 2, 0, 0, 0)
-    loads = struct.pack('<8I', 1, 0x1000, 0x11000, 0x11000, len(text), len(text), 5, 0x1000)
-    loads += struct.pack('<8I', 1, 0, 0x7ff00000, 0x7ff00000, 0, 0x100000, 6, 0x1000)
-    return run_file(program, (header + loads).ljust(0x1000, b'\0') + text, given[1].decode())
+    segments = [elf.Segment(0x11000, len(text), elf.PAGE), elf.Segment(0x7ff00000, 0, flags=elf.READ | elf.WRITE, memsz=0x100000)]
+    return run_file(program, elf.File(0x11000, segments, text, elf.PAGE).bytes(), given[1].decode())
 
 
 def narrow(program, given):
@@ -90,9 +82,8 @@ def narrow(program, given):
         resource.setrlimit(resource.RLIMIT_FSIZE, (room, room))
     words = {'build': ['build', 'main.c', '-o', 'out2'], 'run': ['run', 'out', '--max', '1000'], 'interp': ['interp', 'main.c', '--max', '1000']}[command]
     with open(os.path.join(program.folder(), 'written'), 'wb') as written:
-        done = subprocess.run([program.path, *words], stdin=subprocess.DEVNULL, stdout=written, stderr=subprocess.PIPE, cwd=program.folder(),
-                              timeout=asking.SECONDS, preexec_fn=limited, check=False)
-    return [number(done.returncode), done.stderr.replace(b'out2:', b'out:')]
+        done = program.go(*words, stdin=subprocess.DEVNULL, stdout=written, before=limited)
+    return [number(done.status), done.err.replace(b'out2:', b'out:')]
 
 
 def printed(program, given):
@@ -118,15 +109,17 @@ SUBJECTS = [(runs, 1, 12), (refused, 1, 50), (parts, 3, 2), (deep, 1, 2), (cut, 
             (listed, 1, 2), (interpreted, 3, 35)]
 
 
-def main():
-    program, counted = asking.program_of_words(), asking.Counted()
+def held(case, ask, given, wanted):
+    case.expect(given, ask(case.program, given), wanted)
+
+
+def cases(_):
     for ask, count, rows in SUBJECTS:
-        all_of_them = list(asking.fields(os.path.join(HERE, ask.__name__)))
-        for row, found in zip(all_of_them, asking.side_by_side(lambda row: ask(program, row[:count]), all_of_them)):
-            counted.expect(f'{ask.__name__}, {row[:count]}', found, row[count:])
-        counted.expect(f'rows of {ask.__name__}', len(all_of_them), rows)
-    return counted.end()
+        all_of_them = list(harness.fields(os.path.join(HERE, ask.__name__)))
+        for number, row in enumerate(all_of_them):
+            yield harness.Row(f'{ask.__name__} {number}', held, ask, row[:count], row[count:])
+        yield harness.number_of(ask.__name__, len(all_of_them), rows)
 
 
 if __name__ == '__main__':
-    sys.exit(main())
+    sys.exit(harness.main(cases))

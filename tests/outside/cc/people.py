@@ -14,11 +14,12 @@ import tempfile
 
 HERE = os.path.dirname(os.path.abspath(__file__))
 ROOT = os.path.dirname(os.path.dirname(os.path.dirname(HERE)))
-sys.path.insert(0, os.path.dirname(HERE))
-import asking
+sys.path.insert(0, os.path.dirname(os.path.dirname(HERE)))
+import harness
+from harness import program
 
 CC = os.path.abspath(sys.argv[1])
-counted = asking.Counted()
+counted, PROGRAM = harness.Current(), harness.Program(CC)
 MAIN = 'int main(void) { return 3; }\n'
 NO_OBJECTS = 'error: there are no object files: a program is one unit; write zkc build MAIN -I DIR -o OUT, and in MAIN #include of the others\n'
 NO_LINKER = 'error: nothing is linked: leave the word out\n'
@@ -26,14 +27,9 @@ OTHER_MACHINE = 'error: the code is for RV32IM with the calling convention ILP32
 OTHER_LANGUAGE = 'error: the language is a part of C11: leave the word out, or write -std=c11\n'
 
 
-def small():
-    import resource
-    resource.setrlimit(resource.RLIMIT_STACK, (1 << 20, 1 << 20))
-
-
 def zkc(work, *words, given=b''):
-    done = subprocess.run([CC, *words], cwd=work, input=given, capture_output=True, timeout=asking.SECONDS, preexec_fn=small, check=False)
-    return done.returncode, done.stdout.decode('latin-1'), done.stderr.decode('latin-1')
+    status, out, err = PROGRAM.run(*words, folder=work, given=given, stack=1 << 20)
+    return status, out.decode('latin-1'), err.decode('latin-1')
 
 
 def put(work, **files):
@@ -219,7 +215,7 @@ def firmware():
         shutil.copytree(os.path.join(ROOT, 'examples', 'firmware'), work)
 
         def make():
-            done = subprocess.run(['make', 'ZKC=' + CC], cwd=work, capture_output=True, preexec_fn=small, check=False)
+            done = subprocess.run(['make', 'ZKC=' + CC], cwd=work, capture_output=True, preexec_fn=program.bounded(stack=1 << 20), check=False)
             return done.returncode, len(re.findall(r' build ', done.stdout.decode()))
 
         counted.expect('make', make(), (0, 1))
@@ -293,6 +289,9 @@ def scripts():
     counted.expect('run.sh foo', (done.returncode, done.stderr.count(b'\n'), b'usage: ' in done.stderr), (2, 1, True))
 
 
-for part in (habits, texts, includes, macros, rules, firmware, page, packages, scripts):
-    part()
-sys.exit(counted.end())
+def cases(_):
+    return harness.parts(habits, texts, includes, macros, rules, firmware, page, packages, scripts)
+
+
+if __name__ == '__main__':
+    sys.exit(harness.main(cases))

@@ -11,8 +11,8 @@ import re
 import sys
 
 HERE = os.path.dirname(os.path.abspath(__file__))
-sys.path.insert(0, os.path.dirname(HERE))
-import asking
+sys.path.insert(0, os.path.dirname(os.path.dirname(HERE)))
+import harness
 
 ROWS = 379
 SIZES = {'_Bool': 1, 'char': 1, 'signed char': 1, 'unsigned char': 1, 'short': 2, 'unsigned short': 2, 'int': 4, 'unsigned int': 4, 'long': 4, 'unsigned long': 4}
@@ -56,15 +56,17 @@ def ask(program, row):
     return [(program.checked(good), 'ok'), (program.checked(bad), f'main.c:{line}: 523 static assertion failed')]
 
 
-def main():
-    program, counted = asking.program_of_words(), asking.Counted()
+def held(case, row):
+    for found, wanted in ask(case.program, row):
+        case.expect('', found, wanted)
+
+
+def cases(_):
     all_of_them = list(rows())
-    for (source, _), pairs in zip(all_of_them, asking.side_by_side(lambda row: ask(program, row), all_of_them)):
-        for found, wanted in pairs:
-            counted.expect(source, found, wanted)
-    counted.expect('rows', len(all_of_them), ROWS)
-    return counted.end()
+    for row in all_of_them:
+        yield harness.Row(row[0], held, row)
+    yield harness.number_of('rows', len(all_of_them), ROWS)
 
 
 if __name__ == '__main__':
-    sys.exit(main())
+    sys.exit(harness.main(cases))

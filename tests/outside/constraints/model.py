@@ -7,8 +7,11 @@ faults(SOURCE) gives the codes and lines that stand in a source, or none. It rea
 error. Of the preprocessor it knows object-like macros and two headers alone.
 """
 import pathlib, re, sys
-from dataclasses import dataclass, replace, field
+from dataclasses import dataclass, replace
 from typing import Any
+
+sys.path.insert(0, str(pathlib.Path(__file__).resolve().parents[2]))
+from harness import verdict
 
 sys.setrecursionlimit(20000)
 
@@ -65,7 +68,7 @@ HEADERS = {
     'iso646': {'and': '&&', 'and_eq': '&=', 'bitand': '&', 'bitor': '|', 'compl': '~', 'not': '!', 'not_eq': '!=', 'or': '||',
                'or_eq': '|=', 'xor': '^', 'xor_eq': '^='}}
 def lex(source):
-    macros, out, line = {}, [], 0
+    macros, out = {}, []
     def scan(text, at, hide, dest, moving):
         for m in TOKEN.finditer(text):
             kind = m.lastgroup
@@ -1022,7 +1025,7 @@ def main():
             else:
                 failed += 1
                 print(f'FAIL {name}: {got}, not {want}')
-    print(f'{passed} passed, {failed} failed')
+    print(verdict.line(passed, failed))
     return failed != 0
 
 if __name__ == '__main__': sys.exit(main())

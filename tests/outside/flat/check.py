@@ -10,7 +10,7 @@ import rows
 
 
 def main():
-    program, counted = os.path.abspath(sys.argv[1]), machine.asking.Counted()
+    program, counted = os.path.abspath(sys.argv[1]), machine.harness.Verdict()
     count, seed = (sys.argv[2:4] + ['500', '1'][len(sys.argv[2:4]):])
     random_rows = list(rows.read(machine.written(os.path.join(HERE, 'generate.py'), count, seed)))
     for some in (rows.of_file(os.path.join(HERE, 'programs.txt')), random_rows):

@@ -5,8 +5,8 @@ import subprocess
 import sys
 import tempfile
 
-sys.path.insert(0, os.path.join(os.path.dirname(os.path.abspath(__file__)), '..'))
-import asking
+sys.path.insert(0, os.path.dirname(os.path.dirname(os.path.dirname(os.path.abspath(__file__)))))
+import harness
 
 QEMU = shutil.which('qemu-riscv32')
 
@@ -26,19 +26,18 @@ def told(program, text, folder):
     return {name: said for name, _, said in lines if 'instructions of at most' not in said}
 
 
-def under_qemu(folder, row):
+def under_qemu(program, folder, row):
     """The status, and the bytes put."""
     path = os.path.join(folder, row.name)
-    try:
-        os.chmod(path, 0o755)
-        done = subprocess.run([QEMU, path], input=row.data, capture_output=True, timeout=asking.SECONDS, check=False)
-    except (OSError, subprocess.TimeoutExpired) as error:
-        return str(error)
-    return done.returncode, done.stdout
+    if not os.path.exists(path):
+        return 'no file'
+    os.chmod(path, 0o755)
+    return program.run(path, given=row.data, by=[QEMU])[:2]
 
 
 def try_rows(counted, program, rows, given, ends):
     """Tries rows: `given` is what the program reads of one, and `ends` what it prints."""
+    emulated = harness.Program(program)
     with tempfile.TemporaryDirectory() as folder:
         said = told(program, ''.join(given(row) for row in rows), folder)
         for row in rows:
@@ -46,6 +45,6 @@ def try_rows(counted, program, rows, given, ends):
         if not QEMU:
             counted.skip(len(rows), 'qemu-riscv32 is missing')
             return
-        for row, answer in zip(rows, asking.side_by_side(lambda row: under_qemu(folder, row), rows)):
+        for row, answer in zip(rows, harness.side_by_side(lambda row: under_qemu(emulated, folder, row), rows)):
             output = b''.join(bytes.fromhex(word[4:]) for word in row.trace if word.startswith('put:'))
             counted.expect(f'{row.name} under qemu-riscv32', answer, (row.status, output))

@@ -9,9 +9,12 @@ import subprocess
 import sys
 import tempfile
 
+sys.path.insert(0, os.path.dirname(os.path.dirname(os.path.dirname(os.path.abspath(__file__)))))
+import harness
+
 CC = os.path.abspath(sys.argv[1])
 FORMS = ('tokens', 'tree', 'typed', 'tac', 'flat')
-passed = failed = 0
+checks = harness.Current()
 
 SMALL = '''#define TWO 2
 static char c;
@@ -149,12 +152,7 @@ TYPED = '''program
 
 
 def check(name, holds, *more):
-    global passed, failed
-    if holds:
-        passed += 1
-    else:
-        failed += 1
-        print('FAIL', name, *more)
+    checks.holds(' '.join(map(str, (name, *more)))[:3000], holds)
 
 
 def cc(work, *words):
@@ -251,15 +249,28 @@ def refused(work):
     check('OUT is a source', cc(work, 'show', 'tree', 's.c', '-o', 's.c')[0] == 2 and open(os.path.join(work, 's.c')).read() == SMALL)
 
 
-with tempfile.TemporaryDirectory() as work:
-    by_hand(work)
-    places(work)
-    refused(work)
-    examples = os.path.join(os.path.dirname(os.path.abspath(__file__)), '..', '..', '..', 'examples')
-    for name in sorted(os.listdir(examples)):
+def examples(work):
+    folder = os.path.join(os.path.dirname(os.path.abspath(__file__)), '..', '..', '..', 'examples')
+    for name in sorted(os.listdir(folder)):
         if name.endswith('.c') and name != 'library.c':
-            both_styles(work, [(name, open(os.path.join(examples, name)).read())])
+            with open(os.path.join(folder, name)) as file:
+                both_styles(work, [(name, file.read())])
+
+
+def two_files(work):
     both_styles(work, [('two.c', '#include "two.h"\nint main(void) { return one("\\a\\"\\\\\\x7f"[0]) + (sizeof(int[2]) ? 1, 2 : (char)3); }\n'),
                        ('two.h', 'enum e { A, B = 3 };\nstatic int one(int x) { switch (x) { case A: return 1; default: do x--; while (x > B); } for (int i = 0; i < 2; i++) continue; return x; }\n_Static_assert(A == 0, "a");\nextern int late[];\nint late[2] = { 1 };\n')])
-print('%d passed, %d failed' % (passed, failed))
-sys.exit(failed != 0)
+
+
+def within(case, part):
+    with tempfile.TemporaryDirectory() as work:
+        part(work)
+
+
+def cases(_):
+    for part in (by_hand, places, refused, examples, two_files):
+        yield harness.Row(part.__name__, within, part)
+
+
+if __name__ == '__main__':
+    sys.exit(harness.main(cases))

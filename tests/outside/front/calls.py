@@ -12,8 +12,8 @@ import sys
 HERE = os.path.dirname(os.path.abspath(__file__))
 ROOT = os.path.join(HERE, '..', '..', '..')
 CRATE = os.path.join(ROOT, 'crates/test_calls')
-sys.path[:0] = [os.path.dirname(HERE), os.path.join(HERE, '..', 'const')]
-import asking
+sys.path[:0] = [os.path.dirname(os.path.dirname(HERE)), os.path.join(HERE, '..', 'const')]
+import harness
 import plain
 
 TYPES = {'_Bool': 'Bool', 'char': 'Char', 'signed char': 'SChar', 'unsigned char': 'UChar', 'short': 'Short', 'unsigned short': 'UShort', 'int': 'Int',
@@ -42,7 +42,7 @@ def fault_line(code, line):
 
 
 def rows(name):
-    return asking.fields(os.path.join(HERE, name))
+    return harness.fields(os.path.join(HERE, name))
 
 
 def text_row(text, spellings=None):
@@ -147,17 +147,7 @@ def main():
         wanted += [line for _, line in made]
     wanted += list(twos())
     files = {'stdin': b'\n'.join(given) + b'\n', 'stdout': b'\n'.join(wanted) + b'\n'}
-    if sys.argv[1:] == ['--check']:
-        counted = asking.Counted()
-        for name, text in files.items():
-            with open(os.path.join(CRATE, name), 'rb') as file:
-                counted.expect(f'crates/test_calls/{name} is what the rows make', file.read() == text, True)
-        return counted.end()
-    for name, text in files.items():
-        with open(os.path.join(CRATE, name), 'wb') as file:
-            file.write(text)
-    print(f'{len(given)} rows, {len(wanted) - len(given)} lines of texts of two bytes')
-    return 0
+    return harness.made(CRATE, files)
 
 
 if __name__ == '__main__':

@@ -9,8 +9,8 @@ import os
 import sys
 
 HERE = os.path.dirname(os.path.abspath(__file__))
-sys.path.insert(0, os.path.dirname(HERE))
-import asking
+sys.path.insert(0, os.path.dirname(os.path.dirname(HERE)))
+import harness
 import plain
 
 NAMES = {'Bool': '_Bool', 'Char': 'char', 'SChar': 'signed char', 'UChar': 'unsigned char', 'Short': 'short', 'UShort': 'unsigned short', 'Int': 'int',
@@ -31,7 +31,7 @@ def fault_of(program, text):
     """The code and the line of the fault with which a build of the text ends."""
     program.write('main.c', text)
     status, _, line = program.run('build', 'main.c', '-o', 'out')
-    return asking.code_and_line(line.decode('latin-1').rstrip('\n')) if status == 1 else f'status {status}'
+    return harness.code_and_line(line.decode('latin-1').rstrip('\n')) if status == 1 else f'status {status}'
 
 
 # ---- phases 1 to 3
@@ -204,25 +204,29 @@ SUBJECTS = [('texts', texts, 65), ('trigraphs', texts, 95), ('faults', faults, 1
 EDGES = b"\n\r\\?/*'\"a0 .#<%:=L\t\xff\x00@"
 
 
-def main():
-    program, counted = asking.program_of_words(), asking.Counted()
+def asked(case, ask, row):
+    case.leave('a row of crates/test_calls alone')
+    for found, wanted in ask(case.program, row):
+        case.expect('', found, wanted)
+
+
+def asked_of_two_bytes(case, first):
+    for text, found, wanted in two_bytes(case.program, first):
+        case.expect(text, found, wanted)
+
+
+def cases(_):
     for name, ask, rows in SUBJECTS:
-        all_of_them = list(asking.fields(os.path.join(HERE, name)))
-        for row, pairs in zip(all_of_them, asking.side_by_side(lambda row: ask(program, row), all_of_them)):
-            for found, wanted in pairs:
-                counted.expect(f'{name}, {row}', found, wanted)
-        counted.expect(f'rows of {name}', len(all_of_them), rows)
-    for row in asking.side_by_side(lambda first: two_bytes(program, first), range(256)):
-        for text, found, wanted in row:
-            counted.expect(text, found, wanted)
-    edges = [(first, second) for first in EDGES for second in EDGES]
-    for pair, found in zip(edges, asking.side_by_side(lambda pair: open_texts(program, pair), edges)):
-        for is_so, wanted in found:
-            counted.expect(bytes(pair), is_so, wanted)
-    for found, wanted in limits(program, None):
-        counted.expect('limits', found, wanted)
-    return counted.end()
+        all_of_them = list(harness.fields(os.path.join(HERE, name)))
+        for row in all_of_them:
+            yield harness.Row(f'{name} {row[0].decode("latin-1")}', asked, ask, row)
+        yield harness.number_of(name, len(all_of_them), rows)
+    for first in range(256):
+        yield harness.Row(f'two bytes from {first:02x}', asked_of_two_bytes, first)
+    for pair in ((first, second) for first in EDGES for second in EDGES):
+        yield harness.Row('open text %02x %02x' % pair, asked, open_texts, pair)
+    yield harness.Row('limits', asked, limits, None)
 
 
 if __name__ == '__main__':
-    sys.exit(main())
+    sys.exit(harness.main(cases))

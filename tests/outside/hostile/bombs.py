@@ -1,20 +1,20 @@
 #!/usr/bin/env python3
 """Gives preprocessing short sources that ask for much, under a limit of memory: each has its exact answer, or takes more than that.
 
-    python3 tests/outside/hostile/bombs.py bin/cc [WORD]
+    python3 tests/outside/hostile/bombs.py bin/cc [-k WORD]
 
 Each source is made by a rule that says what comes of it: its tokens, or the code of its fault. That follows from the language
 and its limits: 1,048,576 tokens (708), as many replacements (706), files 32 deep (707), however much stands in between. `pp` has
 2 GB of address space, as by `ulimit -v`, and five minutes; 801 is the answer where the tokens of an argument, which have to stand
-at once, take more. The most resident memory and the time are printed beside each row, and held to nothing. With WORD only rows
+at once, take more. The most resident memory and the time are printed beside each row, and held to nothing. With -k WORD only rows
 that have it in their name are tried.
 The last line is 'N passed, M failed'."""
 import os
 import re
-import resource
-import subprocess
 import sys
-import tempfile
+
+sys.path.insert(0, os.path.join(os.path.dirname(os.path.abspath(__file__)), '..', '..'))
+import harness
 
 MOST_BYTES = 2 << 30
 MOST_SECONDS = 300
@@ -102,29 +102,6 @@ ROWS = [
 ]
 
 
-def limits():
-    resource.setrlimit(resource.RLIMIT_AS, (MOST_BYTES, MOST_BYTES))
-    resource.setrlimit(resource.RLIMIT_CPU, (MOST_SECONDS, MOST_SECONDS))
-    resource.setrlimit(resource.RLIMIT_CORE, (0, 0))
-
-
-def ran(cc, folder, source, others):
-    """The status, the tokens without white space, what was said, the most resident memory in megabytes and the seconds."""
-    for name in ('out', 'err'):
-        if os.path.exists(f'{folder}/{name}'):
-            os.remove(f'{folder}/{name}')
-    for name, text in {'bomb.c': source, **others}.items():
-        with open(f'{folder}/{name}', 'w', encoding='utf-8') as file:
-            file.write(text)
-    with open(f'{folder}/out', 'wb') as out, open(f'{folder}/err', 'wb') as err:
-        child = subprocess.Popen([cc, 'pp', 'bomb.c', *others], cwd=folder, stdin=subprocess.DEVNULL, stdout=out, stderr=err, preexec_fn=limits)
-        # That process alone: RUSAGE_CHILDREN would have the greatest of all rows.
-        _, status, used = os.wait4(child.pid, 0)
-        child.returncode = os.waitstatus_to_exitcode(status)
-    with open(f'{folder}/out', encoding='utf-8') as out, open(f'{folder}/err', encoding='utf-8') as err:
-        return child.returncode, re.sub(r'\s', '', out.read()), err.read(), used.ru_maxrss / 1024, used.ru_utime + used.ru_stime
-
-
 def differs(wanted, status, tokens, said):
     """What is not as it is to be; empty where all is."""
     if isinstance(wanted, int):
@@ -134,20 +111,20 @@ def differs(wanted, status, tokens, said):
     return '' if wanted is None or tokens == wanted else f'other tokens: {tokens[:60]}'
 
 
-def main():
-    cc, word = os.path.abspath(sys.argv[1]), sys.argv[2] if len(sys.argv) > 2 else ''
-    passed = failed = 0
-    with tempfile.TemporaryDirectory() as folder:
-        for name, source, wanted, *others in ROWS:
-            if word not in name:
-                continue
-            status, tokens, said, peak, seconds = ran(cc, folder, source, others[0] if others else {})
-            wrong = differs(wanted, status, tokens, said)
-            print(f'{"FAIL" if wrong else "ok  "} {peak:6.1f} MB {seconds:5.1f} s  {name} ({len(source)} bytes) {wrong}'.rstrip(), flush=True)
-            passed, failed = passed + (not wrong), failed + bool(wrong)
-    print(f'{passed} passed, {failed} failed')
-    return 1 if failed or not passed else 0
+def held(case, source, wanted, others=None):
+    others = others or {}
+    for name, text in {'bomb.c': source, **others}.items():
+        case.program.write(name, text)
+    done = case.program.measured('pp', 'bomb.c', *others, memory=MOST_BYTES, cpu=MOST_SECONDS)
+    wrong = differs(wanted, done.status, re.sub(r'\s', '', done.out.decode('utf-8')), done.line)
+    print(f'{done.megabytes:6.1f} MB {done.seconds:5.1f} s  {case.name()} ({len(source)} bytes)', flush=True)
+    case.holds(wrong, not wrong)
+
+
+def cases(_):
+    for name, *row in ROWS:
+        yield harness.Row(name, held, *row)
 
 
 if __name__ == '__main__':
-    sys.exit(main())
+    sys.exit(harness.main(cases))

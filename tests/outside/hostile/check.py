@@ -5,14 +5,14 @@
 
 Each list that a source may have is made as long as the limits allow, by macros or by hand, and each construct as deep; pp, build,
 list, interp and run each have so much stack (1024 KiB by default; that of most systems is 8192), 1.5 GB of address space
-and 60 seconds. What each source comes to follows from the rules of the language: its status, or the code of its fault.
+and a time measured against a short run. What each source comes to follows from the rules of the language: its status, or the code of its fault.
 The last line is 'N passed, M failed'."""
 import os
-import resource
 import subprocess
 import sys
-import tempfile
-from concurrent.futures import ThreadPoolExecutor
+
+sys.path.insert(0, os.path.join(os.path.dirname(os.path.abspath(__file__)), '..', '..'))
+import harness
 
 MAIN = 'int main(void) { return 0; }\n'
 
@@ -147,57 +147,25 @@ ROWS = [
 ]
 
 
-def limits(stack):
-    def set_them():
-        resource.setrlimit(resource.RLIMIT_STACK, (stack * 1024, stack * 1024))
-        resource.setrlimit(resource.RLIMIT_AS, (1500 << 20, 1500 << 20))
-        resource.setrlimit(resource.RLIMIT_CORE, (0, 0))
-
-    return set_them
-
-
-def ran(words, stack, folder):
-    """The status of a command and the first line of what it said; 'no end' where it takes too long."""
-    try:
-        done = subprocess.run(words, cwd=folder, stdin=subprocess.DEVNULL, stdout=subprocess.DEVNULL, stderr=subprocess.PIPE, preexec_fn=limits(stack), timeout=60)
-    except subprocess.TimeoutExpired:
-        return 'no end', ''
-    return done.returncode, done.stderr.decode(errors='replace').split('\n')[0]
-
-
-def tried(cc, stack, folder, number, row):
-    """What differs, a line each."""
-    name, source, code, status = row
-    file, out = f'{number}.c', f'{number}.out'
-    with open(f'{folder}/{file}', 'w') as it:
-        it.write(source)
-    wrong = []
+def held(case, stack, source, code, status):
+    """Each command ends as it is to, or with the code of the fault."""
+    case.program.write('main.c', source)
     # (preprocessing alone does not meet what the grammar and the constraints refuse)
     early = code is not None and (code < 400 or code in (705, 707))
     wanted = {'pp': 1 if early else 0, 'build': 1 if code else 0, 'list': 1 if code else 0, 'interp': 1 if code else status}
-    words = {'pp': ['pp', file], 'build': ['build', file, '-o', out], 'list': ['list', file], 'interp': ['interp', file]}
+    words = {'pp': ['main.c'], 'build': ['main.c', '-o', 'out'], 'list': ['main.c'], 'interp': ['main.c']}
     if code is None:
-        wanted['run'], words['run'] = status, ['run', out]
+        wanted['run'], words['run'] = status, ['out']
     for command, these in words.items():
-        got, said = ran([cc, *these], stack, folder)
-        if got != wanted[command]:
-            wrong.append(f'{name}: {command} ends with {got} and not {wanted[command]} {said[:100]}')
-        elif code and got == 1 and f' {code} ' not in said:
-            wrong.append(f'{name}: {command} says {said[:100]} and not {code}')
-    return len(words), wrong
+        done = case.program.go(command, *these, stdin=subprocess.DEVNULL, stdout=subprocess.DEVNULL, stack=stack, memory=1500 << 20)
+        told = f' {code} ' in done.line.split('\n')[0] if code and done.status == 1 else True
+        case.expect(f'{command} {done.line[:100]}', (done.status, told), (wanted[command], True))
 
 
-def main():
-    cc, stack = os.path.abspath(sys.argv[1]), int(sys.argv[2]) if len(sys.argv) > 2 else 1024
-    passed = failed = 0
-    with tempfile.TemporaryDirectory() as folder, ThreadPoolExecutor(os.cpu_count()) as pool:
-        for count, wrong in pool.map(lambda it: tried(cc, stack, folder, *it), enumerate(ROWS)):
-            passed, failed = passed + count - len(wrong), failed + len(wrong)
-            for line in wrong:
-                print('FAIL', line)
-    print(f'{passed} passed, {failed} failed')
-    return 1 if failed or not passed else 0
+def cases(_, stack='1024'):
+    for name, *row in ROWS:
+        yield harness.Row(name, held, int(stack) * 1024, *row)
 
 
 if __name__ == '__main__':
-    sys.exit(main())
+    sys.exit(harness.main(cases))

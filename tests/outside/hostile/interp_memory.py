@@ -9,10 +9,10 @@ which does nothing is taken off it; what is left is held to so many bytes an ele
 call of one int are what was asked for; those of the other calls are what was measured and some room, so that a run which takes more is seen.
 The last line is 'N passed, M failed'."""
 import os
-import resource
-import subprocess
 import sys
-import tempfile
+
+sys.path.insert(0, os.path.join(os.path.dirname(os.path.abspath(__file__)), '..', '..'))
+import harness
 
 TICKS = 10000000
 MEBI = 1 << 20
@@ -35,39 +35,26 @@ ROWS = [
 ]
 
 
-def limits():
-    resource.setrlimit(resource.RLIMIT_AS, (2 << 30, 2 << 30))
-    resource.setrlimit(resource.RLIMIT_CPU, (120, 120))
-    resource.setrlimit(resource.RLIMIT_CORE, (0, 0))
-
-
-def ran(cc, folder, source):
+def measured(case, source):
     """The status and the most resident memory in bytes."""
-    with open(f'{folder}/many.c', 'w', encoding='utf-8') as file:
-        file.write(source)
-    child = subprocess.Popen(
-        [cc, 'interp', 'many.c', '--max', str(TICKS)], cwd=folder, stdin=subprocess.DEVNULL, stdout=subprocess.DEVNULL, stderr=subprocess.DEVNULL,
-        preexec_fn=limits)
-    # That process alone: RUSAGE_CHILDREN would have the greatest of all rows.
-    _, status, used = os.wait4(child.pid, 0)
-    child.returncode = os.waitstatus_to_exitcode(status)
-    return child.returncode, used.ru_maxrss * 1024
+    case.program.write('many.c', source)
+    done = case.program.measured('interp', 'many.c', '--max', str(TICKS), memory=2 << 30, cpu=120)
+    return done.status, done.megabytes * MEBI
 
 
-def main():
-    cc = os.path.abspath(sys.argv[1])
-    passed = failed = 0
-    with tempfile.TemporaryDirectory() as folder:
-        _, nothing = ran(cc, folder, EMPTY)
-        for name, source, wanted, count, what, most in ROWS:
-            status, peak = ran(cc, folder, source)
-            each = (peak - nothing) / count
-            wrong = f'status {status} and not {wanted}' if status != wanted else '' if each <= most else f'more than {most}'
-            print(f'{"FAIL" if wrong else "ok  "} {peak / MEBI:6.1f} MB  {each:6.1f} bytes of each {what}  {name} {wrong}'.rstrip(), flush=True)
-            passed, failed = passed + (not wrong), failed + bool(wrong)
-    print(f'{passed} passed, {failed} failed')
-    return 1 if failed or not passed else 0
+def held(case, source, wanted, count, what, most):
+    _, nothing = measured(case, EMPTY)
+    status, peak = measured(case, source)
+    each = (peak - nothing) / count
+    print(f'{peak / MEBI:6.1f} MB  {each:6.1f} bytes of each {what}  {case.name()}', flush=True)
+    wrong = f'status {status} and not {wanted}' if status != wanted else '' if each <= most else f'{each:.1f} bytes of each {what}, more than {most}'
+    case.holds(wrong, not wrong)
+
+
+def cases(_):
+    for name, *row in ROWS:
+        yield harness.Row(name, held, *row)
 
 
 if __name__ == '__main__':
-    sys.exit(main())
+    sys.exit(harness.main(cases))

@@ -9,16 +9,14 @@ line of standard error that is a fault's. 5,000 ELF files, made of built ones by
 loaded by run beside a reader of the headers that is written here from the gABI: the same fault, or none.
 It takes minutes, so sh test.sh tries a part (600 and 1,500). The last line is 'N passed, M failed'."""
 import os
-import random
 import re
-import resource
 import struct
-import subprocess
 import sys
-import tempfile
-from concurrent.futures import ThreadPoolExecutor
 
 HERE = os.path.dirname(os.path.abspath(__file__))
+sys.path.insert(0, os.path.dirname(os.path.dirname(HERE)))
+import harness
+
 LINE = re.compile(rb'(cc: 801 [^\n]*|[^\n]*:\d+: \d{3} [^\n]*)\n')
 MOST = 134217728
 
@@ -57,27 +55,17 @@ def mutated(chance, sources):
     return bytes(text[:200000])
 
 
-def limits():
-    resource.setrlimit(resource.RLIMIT_AS, (1500 << 20, 1500 << 20))
-    resource.setrlimit(resource.RLIMIT_CORE, (0, 0))
+def ran(program, words):
+    return program.run(*words, given=b'0123456789\n', memory=1500 << 20)
 
 
-def ran(words, folder):
-    try:
-        done = subprocess.run(words, cwd=folder, input=b'0123456789\n', stdout=subprocess.PIPE, stderr=subprocess.PIPE, preexec_fn=limits, timeout=60)
-    except subprocess.TimeoutExpired:
-        return 'no end', b'', b''
-    return done.returncode, done.stdout, done.stderr
-
-
-def source_answers(cc, folder, name, text):
+def source_answers(program, text):
     """What is wrong with the answers to a source."""
-    file = f'{name}.c'
-    with open(f'{folder}/{file}', 'wb') as it:
-        it.write(text)
+    program.fresh()
+    program.write('main.c', text)
     wrong = []
-    for words in (['pp', file], ['build', file, '-o', name], ['interp', file, '--max', '200000']):
-        status, _, said = ran([cc, *words], folder)
+    for words in (['pp', 'main.c'], ['build', 'main.c', '-o', 'out'], ['interp', 'main.c', '--max', '200000']):
+        status, _, said = ran(program, words)
         plain = words[0] != 'interp'
         # (a program of interp may end with any status; what it says then is nothing)
         if not isinstance(status, int) or status < 0 or plain and status > 1:
@@ -86,12 +74,10 @@ def source_answers(cc, folder, name, text):
             wrong.append(f'{words[0]} ends with {status} and says {said[:80]!r}')
         elif not plain and said and not re.fullmatch(rb'[^\n]*\n', said):
             wrong.append(f'interp says {said[:80]!r}')
-    if os.path.exists(f'{folder}/{name}'):
-        status, _, said = ran([cc, 'run', name, '--max', '2000000'], folder)
+    if os.path.exists(program.at('out')):
+        status, _, said = ran(program, ['run', 'out', '--max', '2000000'])
         if not isinstance(status, int) or status < 0 or status == 1 and LINE.fullmatch(said) or said and not re.fullmatch(rb'[^\n]*\n', said):
             wrong.append(f'run ends with {status} and says {said[:80]!r}')
-        os.remove(f'{folder}/{name}')
-    os.remove(f'{folder}/{file}')
     return wrong
 
 
@@ -145,11 +131,9 @@ def changed(chance, files):
     return bytes(file) or b'\0'
 
 
-def file_answer(cc, folder, name, file):
-    with open(f'{folder}/{name}', 'wb') as it:
-        it.write(file)
-    status, _, said = ran([cc, 'run', name, '--max', '20000'], folder)
-    os.remove(f'{folder}/{name}')
+def file_answer(program, file):
+    program.write('file', file)
+    status, _, said = ran(program, ['run', 'file', '--max', '20000'])
     wanted = fault_of(file)
     told = re.fullmatch(rb'[^\n]*:0: (9\d\d) [^\n]*\n', said)
     found = int(told.group(1)) if told else None
@@ -158,32 +142,27 @@ def file_answer(cc, folder, name, file):
     return []
 
 
+def built(program, sources):
+    """The files of the first sources that build."""
+    for text in sources[:40]:
+        program.fresh()
+        program.write('main.c', text)
+        if ran(program, ['build', 'main.c', '-o', 'out'])[0] == 0:
+            yield program.read('out')
+
+
 def main():
-    cc = os.path.abspath(sys.argv[1])
+    program, verdict = harness.Program(sys.argv[1]), harness.Verdict()
     count, files, seed = (int(word) for word in (sys.argv[2:] + ['20000', '5000', '20261126'][len(sys.argv) - 2:])[:3])
-    chance, sources = random.Random(seed), programs()
-    passed = failed = 0
-    with tempfile.TemporaryDirectory() as folder, ThreadPoolExecutor(os.cpu_count()) as pool:
-        made = []
-        for k, text in enumerate(sources[:40]):
-            with open(f'{folder}/b{k}.c', 'wb') as it:
-                it.write(text)
-            if ran([cc, 'build', f'b{k}.c', '-o', f'b{k}'], folder)[0] == 0:
-                with open(f'{folder}/b{k}', 'rb') as it:
-                    made.append(it.read())
-        texts = [mutated(chance, sources) for _ in range(count)]
-        images = [changed(chance, made) for _ in range(files)]
-        answers = pool.map(lambda it: source_answers(cc, folder, f's{it[0]}', it[1]), enumerate(texts))
-        for text, wrong in zip(texts, answers):
-            passed, failed = passed + (not wrong), failed + bool(wrong)
-            for line in wrong[:1]:
-                print('FAIL', line, 'of', repr(text[:300]))
-        for wrong in pool.map(lambda it: file_answer(cc, folder, f'f{it[0]}', it[1]), enumerate(images)):
-            passed, failed = passed + (not wrong), failed + bool(wrong)
-            for line in wrong:
-                print('FAIL', line)
-    print(f'{passed} passed, {failed} failed')
-    return 1 if failed or not passed else 0
+    chance, sources = harness.seeded(seed), programs()
+    made = list(built(program, sources))
+    texts = [mutated(chance, sources) for _ in range(count)]
+    images = [changed(chance, made) for _ in range(files)]
+    for text, wrong in zip(texts, harness.side_by_side(lambda text: source_answers(program, text), texts)):
+        verdict.holds(f'{"".join(wrong[:1])} of {text[:300]!r}', not wrong)
+    for wrong in harness.side_by_side(lambda file: file_answer(program, file), images):
+        verdict.holds(''.join(wrong), not wrong)
+    return verdict.end()
 
 
 if __name__ == '__main__':

@@ -8,9 +8,12 @@ and gdb-multiarch where they are there; an image is held against the program hea
 against the listing and the run; completions are asked of the shells that are there. The last line is 'N passed, M failed'."""
 import os, pty, re, select, shutil, struct, subprocess, sys, tempfile, time
 
+sys.path.insert(0, os.path.dirname(os.path.dirname(os.path.dirname(os.path.abspath(__file__)))))
+import harness
+
 CC = os.path.abspath(sys.argv[1])
 ROOT = os.path.dirname(os.path.dirname(os.path.dirname(os.path.dirname(os.path.abspath(__file__)))))
-passed = failed = skipped = 0
+checks = harness.Current()
 
 FACT = '''int fact(int n) { if (n < 2) return 1; return n * fact(n - 1); }
 static int twice(int x) { return x + x; }
@@ -34,12 +37,7 @@ int main(void) { return far(268435456); }
 '''
 
 def check(name, holds, *more):
-    global passed, failed
-    if holds:
-        passed += 1
-    else:
-        failed += 1
-        print('FAIL', name, *more)
+    checks.holds(' '.join(map(str, (name, *more)))[:3000], holds)
 
 def cc(work, *words, text=b''):
     done = subprocess.run([CC, *words], cwd=work, input=text, stdout=subprocess.PIPE, stderr=subprocess.PIPE, timeout=120)
@@ -238,7 +236,6 @@ def lines():
         cc(work, 'build', 's.c', '-o', 's')
         cc(work, 'symbols', 's.c', '-o', 's.sym.elf')
         check('lines: of statements', {line for _, line in read_lines(work, 's.sym.elf').values()} <= STEP_LINES, read_lines(work, 's.sym.elf'))
-        rows = listing(work, 's.c')
         status, out, err = cc(work, 'list', 's.c', '--source')
         said = out.decode().splitlines()
         check('source: the listing', (status, err) == (0, '') and [line for line in said if not line.startswith('#')] == cc(work, 'list', 's.c')[1].decode().splitlines(), said[:5])
@@ -552,8 +549,6 @@ def statements():
         # every example ends as it does without a trace
         for name in sorted(os.listdir(os.path.join(ROOT, 'examples'))):
             if name.endswith('.c'):
-                path = os.path.join(ROOT, 'examples', name)
-                more = [os.path.join(ROOT, 'examples', other) for other in sorted(os.listdir(os.path.join(ROOT, 'examples'))) if other.endswith('.h')]
                 plain = cc(os.path.join(ROOT, 'examples'), 'interp', name, '--max', '200000', text=b'12 7 hello\n')
                 traced = cc(os.path.join(ROOT, 'examples'), 'interp', name, '--trace-file', os.path.join(work, 'log'), '--max', '4000000', text=b'12 7 hello\n')
                 check('statements: ' + name, plain[0] == 124 or traced == plain, plain, traced)
@@ -634,13 +629,8 @@ def terminals():
             piped.stderr.close()
 
 def there(tool):
-    """Whether a tool is there; what is left out is told."""
-    global skipped
-    if shutil.which(tool):
-        return True
-    skipped += 1
-    print('SKIPPED for want of', tool)
-    return False
+    """Whether a tool is there; what is left out is reported."""
+    return bool(checks.tool(tool))
 
 def on_terminal(shell, setup, keys, wanted):
     """What a shell on a pseudo terminal shows once these keys are typed."""
@@ -692,18 +682,10 @@ def surroundings():
         done = subprocess.run(['sh', os.path.join(ROOT, 'install.sh'), work], cwd=ROOT, stdout=subprocess.PIPE, stderr=subprocess.PIPE)
         check('install', done.returncode == 0 and all(os.path.exists(os.path.join(work, p)) for p in ('bin/zkc', 'share/man/man1/zkc.1', 'share/bash-completion/completions/zkc')), done.stdout, done.stderr)
 
-frames()
-labels()
-sizes()
-objects()
-lines()
-symbols()
-image()
-traces()
-statements()
-refused()
-kept()
-terminals()
-surroundings()
-print('%d passed, %d failed' % (passed, failed) + (', %d skipped' % skipped if skipped else ''))
-sys.exit(failed != 0)
+
+def cases(_):
+    return harness.parts(frames, labels, sizes, objects, lines, symbols, image, traces, statements, refused, kept, terminals, surroundings)
+
+
+if __name__ == '__main__':
+    sys.exit(harness.main(cases))

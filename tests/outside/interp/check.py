@@ -4,15 +4,14 @@
 Each program is interpreted without a bound, with just its ticks, and with one tick less, with which it must not end, having written
 a beginning of its output. Those of UNENDING are interpreted with some bounds, at each of which they are stopped.
 """
-import concurrent.futures
 import os
-import subprocess
 import sys
-import tempfile
-
-import rows
 
 HERE = os.path.dirname(os.path.abspath(__file__))
+sys.path.insert(0, os.path.dirname(os.path.dirname(HERE)))
+import harness
+import rows
+
 PROGRAMS = {'random.txt': 300, 'by_hand.txt': 103, 'undefined.txt': 77}
 STOPPED = (124, b'cc: budget used\n')
 # Loops that no turn leaves, whose turns take one, two or more ticks.
@@ -28,67 +27,41 @@ def wanted(row):
     return 123, ('%s: undefined %s\n' % (place, act)).encode('latin-1')
 
 
-def interpret(program, folder, row, bound):
-    words = [program, 'interp', 'main.c', *[name for name, _ in row.files]] + ([] if bound is None else ['--max', str(bound)])
-    try:
-        done = subprocess.run(words, input=row.input, capture_output=True, cwd=folder, timeout=30)
-    except (OSError, subprocess.TimeoutExpired) as error:
-        return str(error), b'', b''
-    return done.returncode, done.stderr, done.stdout
+def interpret(case, row, bound):
+    """Status, errors and output of a run with so many ticks."""
+    names = ['main.c', *[name for name, _ in row.files]]
+    status, output, line = case.program.run('interp', *names, *([] if bound is None else ['--max', str(bound)]), given=row.input)
+    return status, line, output
 
 
-def failures(program, row):
-    """How many runs of a program were tried, and what is wrong with them."""
-    found = []
-    with tempfile.TemporaryDirectory() as folder:
-        for name, text in [('main.c', row.source), *row.files]:
-            with open(os.path.join(folder, name), 'w', encoding='latin-1') as file:
-                file.write(text)
-        bounds = [None] if row.ticks == '*' else [None, int(row.ticks)]
-        for bound in bounds:
-            answer = interpret(program, folder, row, bound)
-            if answer != (*wanted(row), row.output):
-                found.append('with %s ticks: %s, not %s' % (bound or 'ample', answer, (*wanted(row), row.output)))
-        if row.ticks == '*':
-            return 1, found
-        status, line, output = interpret(program, folder, row, int(row.ticks) - 1)
-        if (status, line) != STOPPED or not row.output.startswith(output):
-            found.append('with %d ticks: %s' % (int(row.ticks) - 1, (status, line, output)))
-    return 3, found
+def held(case, row):
+    for name, text in [('main.c', row.source), *row.files]:
+        case.program.write(name, text)
+    bounds = [None] if row.ticks == '*' else [None, int(row.ticks)]
+    for bound in bounds:
+        case.expect(f'with {bound or "ample"} ticks', interpret(case, row, bound), (*wanted(row), row.output))
+    if row.ticks != '*':
+        status, line, output = interpret(case, row, int(row.ticks) - 1)
+        case.expect('with one tick less', (status, line, row.output.startswith(output)), (*STOPPED, True))
 
 
-def unending_failures(program, statements):
-    """What is wrong with the runs of a program that does not end."""
+def unending(case, statements):
+    """Stopped at each bound."""
     row = rows.Row('%s | - | * | - | -' % statements)
-    row.add('int main(void) { %s }\n' % statements)
-    with tempfile.TemporaryDirectory() as folder:
-        with open(os.path.join(folder, 'main.c'), 'w', encoding='ascii') as file:
-            file.write(row.source)
-        answers = [(bound, interpret(program, folder, row, bound)) for bound in BOUNDS]
-    return ['with %d ticks: %s' % answer for answer in answers if answer[1] != (*STOPPED, b'')]
+    case.program.write('main.c', 'int main(void) { %s }\n' % statements)
+    for bound in BOUNDS:
+        case.expect(f'with {bound} ticks', interpret(case, row, bound), (*STOPPED, b''))
 
 
-def main():
-    program = os.path.abspath(sys.argv[1])
-    passed = failed = 0
+def cases(_):
     for statements in UNENDING:
-        wrong = unending_failures(program, statements)
-        for text in wrong:
-            print('FAIL %s %s' % (statements, text))
-        passed, failed = passed + len(BOUNDS) - len(wrong), failed + len(wrong)
+        yield harness.Row(statements, unending, statements)
     for name, count in PROGRAMS.items():
         all_of_them = rows.read(os.path.join(HERE, name))
-        with concurrent.futures.ThreadPoolExecutor(os.cpu_count()) as pool:
-            for row, (tried, wrong) in zip(all_of_them, pool.map(lambda row: failures(program, row), all_of_them)):
-                for text in wrong:
-                    print('FAIL %s, %s %s' % (name, row.name, text))
-                passed, failed = passed + tried - len(wrong), failed + len(wrong)
-        if len(all_of_them) != count:
-            print('FAIL %s has %d programs, not %d' % (name, len(all_of_them), count))
-            failed += 1
-    print('%d passed, %d failed' % (passed, failed))
-    return failed
+        for row in all_of_them:
+            yield harness.Row(f'{name} {row.name}', held, row)
+        yield harness.number_of(name, len(all_of_them), count)
 
 
 if __name__ == '__main__':
-    sys.exit(main() != 0)
+    sys.exit(harness.main(cases))

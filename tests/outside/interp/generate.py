@@ -572,7 +572,6 @@ class Maker:
     def switch_statement(self, depth):
         one = self.full(2)
         self.emit('switch (%s) {' % (self.within(one, 7).text if self.happens(0.7) else one.text))
-        loops, self.loops = self.loops, self.loops
         self.labels += 1
         cases = self.chance.sample(range(-7, 8), self.chance.randint(1, 6))
         default = self.chance.randrange(len(cases) + 2)

@@ -8,11 +8,11 @@ Time and greatest memory are printed beside each, and not judged.
 The last line is 'N passed, M failed'."""
 import os
 import re
-import resource
-import subprocess
 import sys
-import tempfile
-import time
+
+sys.path.insert(0, os.path.join(os.path.dirname(os.path.abspath(__file__)), '..', '..'))
+import harness
+from harness import elf
 
 MAIN = 'int main(void) { return 0; }\n'
 
@@ -94,88 +94,76 @@ ROWS = [
     ('functions, past', 'build', ''.join(f'int f{i}(void) {{ return 0; }}\n' for i in range(16384)) + MAIN, '715'),
 ]
 
-# bytes of the file of `int main(void) { return 42; }` that are changed: from, to; the code of the fault
+TEXT, DATA, STACK = 0, 1, 2
+# Fields of the file of `int main(void) { return 42; }` that are changed: the offset, the new bytes; the code of the fault.
 CHANGES = [
-    ('a word at byte 4', 4, b'\x02', '902'), ('its kind', 16, b'\x03', '903'), ('its machine', 18, b'\xf2', '904'), ('its headers', 44, b'\x00', '905'),
-    ('data at the place of the text', 92, b'\x00\x10\x01\x00', '906'), ('a stack of 128 MiB', 136, b'\x00\x00\x00\x08', '907'),
-    ('a stack past the end', 136, b'\x01\x00\x10\x80', '906'), ('a stack to the end', 136, b'\x00\x00\x10\x80', '907'),
-    ('no entry', 24, b'\x00\x00\x00\x00', 'cc: trap FetchFault at 0x00000000'), ('an odd entry', 24, b'\x02\x10\x01\x00', 'cc: trap Target at 0x00011002'),
+    ('64 bits', elf.at('class'), b'\x02', '902'), ('a shared object', elf.at('type'), b'\x03', '903'), ('another machine', elf.at('machine'), b'\xf2', '904'),
+    ('no program headers', elf.at('phnum'), b'\x00', '905'), ('data at the place of the text', elf.at('vaddr', DATA), b'\x00\x10\x01\x00', '906'),
+    ('a stack of 128 MiB', elf.at('memsz', STACK), b'\x00\x00\x00\x08', '907'), ('a stack past the end', elf.at('memsz', STACK), b'\x01\x00\x10\x80', '906'),
+    ('a stack to the end', elf.at('memsz', STACK), b'\x00\x00\x10\x80', '907'),
+    ('no entry', elf.at('entry'), b'\x00\x00\x00\x00', 'cc: trap FetchFault at 0x00000000'),
+    ('an odd entry', elf.at('entry'), b'\x02\x10\x01\x00', 'cc: trap Target at 0x00011002'),
 ]
 
 
-def limited():
-    resource.setrlimit(resource.RLIMIT_AS, (4 << 30, 4 << 30))
-    resource.setrlimit(resource.RLIMIT_CORE, (0, 0))
+def code_of(done):
+    """The code of the fault that was told, None where there was none."""
+    found = re.match(r'[^:]*(?::\d+)?: (\d{3}) ', done.line)
+    return None if done.status == 0 else found.group(1) if found else done.line
 
 
-def measured(words, folder):
-    """Status, output, what was said, seconds, megabytes."""
-    with open(f'{folder}/said', 'w+b') as said, open(f'{folder}/printed', 'w+b') as printed:
-        begun = time.monotonic()
-        child = subprocess.Popen(words, cwd=folder, stdin=subprocess.DEVNULL, stdout=printed, stderr=said, preexec_fn=limited)
-        _, status, usage = os.wait4(child.pid, 0)
-        child.returncode = os.waitstatus_to_exitcode(status)
-        seconds = time.monotonic() - begun
-        said.seek(0)
-        text = said.read().decode(errors='replace').strip()
-    return child.returncode, text, seconds, usage.ru_maxrss / 1024
+def measured(case, *words):
+    """A run within 4 GB, whose time and memory are printed, and not judged."""
+    done = case.program.measured(*words, memory=4 << 30)
+    print(f'{case.name()}: {done.line[:80]}; {done.seconds:.2f} s, {done.megabytes:.0f} MB', flush=True)
+    return done
 
 
-class Told:
-    def __init__(self):
-        self.passed = self.failed = 0
-
-    def row(self, name, right, what, seconds, megabytes):
-        self.passed, self.failed = self.passed + right, self.failed + (not right)
-        print(f'{"" if right else "FAIL "}{name}: {what[:80]}; {seconds:.2f} s, {megabytes:.0f} MB')
-
-
-def code_of(status, said):
-    """The code of the fault that was said, None where there was none."""
-    found = re.match(r'[^:]*(?::\d+)?: (\d{3}) ', said)
-    return None if status == 0 else found.group(1) if found else said
+def held(case, command, files, wanted):
+    files = files if isinstance(files, dict) else {'main.c': files}
+    for name, text in files.items():
+        case.program.write(name, text)
+    names = ['main.c'] + [name for name in files if name != 'main.c']
+    found = code_of(measured(case, command, *names, *(['-o', 'out'] if command == 'build' else [])))
+    if isinstance(wanted, int) and found is None:
+        found = measured(case, 'run', 'out').status
+    case.expect('', found, wanted)
 
 
-def try_rows(cc, told):
-    for name, command, files, wanted in ROWS:
-        with tempfile.TemporaryDirectory() as folder:
-            files = files if isinstance(files, dict) else {'main.c': files}
-            for path, text in files.items():
-                with open(f'{folder}/{path}', 'w') as file:
-                    file.write(text)
-            names = ['main.c'] + [path for path in files if path != 'main.c']
-            status, said, seconds, megabytes = measured([cc, command, *names] + (['-o', 'out'] if command == 'build' else []), folder)
-            found = code_of(status, said)
-            if isinstance(wanted, int) and found is None:
-                found = measured([cc, 'run', 'out'], folder)[0]
-            told.row(name, found == wanted, f'{found}' + ('' if found == wanted else f', not {wanted} ({said[:60]})'), seconds, megabytes)
+def built(case):
+    """The bytes of the file of the smallest program."""
+    case.program.write('main.c', body('return 42;'))
+    case.program.run('build', 'main.c', '-o', 'out')
+    return case.program.read('out')
 
 
-def try_changes(cc, told):
-    with tempfile.TemporaryDirectory() as folder:
-        with open(f'{folder}/main.c', 'w') as file:
-            file.write(body('return 42;'))
-        measured([cc, 'build', 'main.c', '-o', 'out'], folder)
-        with open(f'{folder}/out', 'rb') as file:
-            built = file.read()
-        files = [(f'cut to {length} bytes', built[:length], '901' if length < 52 else '905') for length in (0, 1, 51, 52, 147, 148, len(built) - 1)]
-        files += [(name, built[:at] + new + built[at + len(new):], wanted) for name, at, new, wanted in CHANGES]
-        for name, data, wanted in files:
-            with open(f'{folder}/file', 'wb') as file:
-                file.write(data)
-            status, said, seconds, megabytes = measured([cc, 'run', 'file'], folder)
-            right = said == wanted and status == 125 if wanted.startswith('cc:') else f': {wanted} ' in said and status == 1
-            told.row(name, right, said, seconds, megabytes)
+def file_is(case, file, wanted):
+    case.program.write('file', file)
+    done = measured(case, 'run', 'file')
+    if wanted.startswith('cc:'):
+        case.expect('', (done.status, done.line), (125, wanted))
+    else:
+        case.expect('', (done.status, code_of(done)), (1, wanted))
 
 
-def main():
-    cc = os.path.abspath(sys.argv[1])
-    told = Told()
-    try_rows(cc, told)
-    try_changes(cc, told)
-    print(f'{told.passed} passed, {told.failed} failed')
-    return 1 if told.failed or not told.passed else 0
+def cut(case, length):
+    """Cut to a length; below zero, to so many bytes less."""
+    file = built(case)[:length]
+    file_is(case, file, '901' if len(file) < elf.HEADER else '905')
+
+
+def changed(case, offset, new, wanted):
+    file_is(case, elf.changed(built(case), offset, new), wanted)
+
+
+def cases(_):
+    for name, *row in ROWS:
+        yield harness.Row(name, held, *row)
+    for length in (0, 1, 51, 52, 147, 148, -1):
+        yield harness.Row(f'a file cut to {length} bytes', cut, length)
+    for name, *row in CHANGES:
+        yield harness.Row(name, changed, *row)
 
 
 if __name__ == '__main__':
-    sys.exit(main())
+    sys.exit(harness.main(cases))

@@ -6,8 +6,8 @@ import re
 import sys
 
 HERE = os.path.dirname(os.path.abspath(__file__))
-sys.path.insert(0, os.path.dirname(HERE))
-import asking
+sys.path.insert(0, os.path.dirname(os.path.dirname(HERE)))
+import harness
 import rows
 
 
@@ -33,15 +33,17 @@ def cuts():
             yield f'cut to {length}', rows.sample()[:length], wanted
 
 
-def main():
-    program, counted = asking.program_of_words(), asking.Counted()
+def held(case, file, wanted):
+    case.expect('', told(case.program, file), wanted)
+
+
+def cases(_):
     for kind, count in ((files, 23), (cuts, 8208)):
         asked = list(kind())
-        for (name, _, wanted), found in zip(asked, asking.side_by_side(lambda row: told(program, row[1]), asked)):
-            counted.expect(name, found, wanted)
-        counted.expect(f'rows of {kind.__name__}', len(asked), count)
-    return counted.end()
+        for name, file, wanted in asked:
+            yield harness.Row(name, held, file, wanted)
+        yield harness.number_of(kind.__name__, len(asked), count)
 
 
 if __name__ == '__main__':
-    sys.exit(main())
+    sys.exit(harness.main(cases))

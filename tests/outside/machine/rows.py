@@ -8,8 +8,8 @@ import sys
 
 HERE = os.path.dirname(os.path.abspath(__file__))
 CRATE = os.path.join(HERE, '..', '..', '..', 'crates/test_machine')
-sys.path.insert(0, os.path.dirname(HERE))
-import asking
+sys.path.insert(0, os.path.dirname(os.path.dirname(HERE)))
+import harness
 
 NOTHING = 0x13
 FAULTS = {'801': 'Memory', '802': 'Read', '803': 'Write'}
@@ -229,17 +229,7 @@ def main():
         given += [row + '\n' for row, _ in made]
         wanted += [line + '\n' for _, line in made]
     files = {'stdin': ''.join(given), 'stdout': ''.join(wanted)}
-    if sys.argv[1:] == ['--check']:
-        counted = asking.Counted()
-        for name, text in files.items():
-            with open(os.path.join(CRATE, name), encoding='ascii') as file:
-                counted.expect(f'crates/test_machine/{name} is what the rows make', file.read() == text, True)
-        return counted.end()
-    for name, text in files.items():
-        with open(os.path.join(CRATE, name), 'w', encoding='ascii') as file:
-            file.write(text)
-    print(len(given), 'rows')
-    return 0
+    return harness.made(CRATE, files)
 
 
 if __name__ == '__main__':

@@ -6,8 +6,8 @@ import sys
 
 HERE = os.path.dirname(os.path.abspath(__file__))
 CRATE = os.path.join(HERE, '..', '..', '..', 'crates/test_answers')
-sys.path.insert(0, os.path.dirname(HERE))
-import asking
+sys.path.insert(0, os.path.dirname(os.path.dirname(HERE)))
+import harness
 
 ROWS = 121
 
@@ -43,17 +43,7 @@ def main():
         wanted.append(f'{ending(run)}, greatest {greatest}, put{numbers(output)}, left{numbers(left)}\n')
     assert len(given) == ROWS
     files = {'data/programs.txt': '@\n'.join(given), 'stdout': ''.join(wanted)}
-    if sys.argv[1:] == ['--check']:
-        counted = asking.Counted()
-        for name, text in files.items():
-            with open(os.path.join(CRATE, name), encoding='ascii') as file:
-                counted.expect(f'crates/test_answers/{name} is what the rows make', file.read() == text, True)
-        return counted.end()
-    for name, text in files.items():
-        with open(os.path.join(CRATE, name), 'w', encoding='ascii') as file:
-            file.write(text)
-    print(len(given), 'rows')
-    return 0
+    return harness.made(CRATE, files)
 
 
 if __name__ == '__main__':

@@ -5,8 +5,8 @@ import os
 import sys
 
 HERE = os.path.dirname(os.path.abspath(__file__))
-sys.path.insert(0, os.path.dirname(HERE))
-import asking
+sys.path.insert(0, os.path.dirname(os.path.dirname(HERE)))
+import harness
 
 ROWS = 121
 STOPPED = (124, b'cc: budget used\n')
@@ -36,22 +36,19 @@ def wanted(run):
     return (int(parts[0]), b'') if kind == 'ended' else STOPPED
 
 
-def ask(program, row):
-    ticks, given, _, _, source = row
-    program.write('main.c', source)
-    return [program.run('interp', 'main.c', '--max', str(most), given=given) for most in (ticks, ticks - 1)]
+def held(case, ticks, given, ending, output, source):
+    case.program.write('main.c', source)
+    whole, less = [case.program.run('interp', 'main.c', '--max', str(most), given=given) for most in (ticks, ticks - 1)]
+    case.expect('', whole, (ending[0], output, ending[1]))
+    case.expect('with one tick less', ((less[0], less[2]), output.startswith(less[1])), (STOPPED, True))
 
 
-def main():
-    program, counted = asking.program_of_words(), asking.Counted()
+def cases(_):
     all_of_them = rows()
-    for row, (whole, less) in zip(all_of_them, asking.side_by_side(lambda row: ask(program, row), all_of_them)):
-        _, _, ending, output, source = row
-        counted.expect(source, whole, (ending[0], output, ending[1]))
-        counted.expect(f'{source}with one tick less', ((less[0], less[2]), output.startswith(less[1])), (STOPPED, True))
-    counted.expect('rows', len(all_of_them), ROWS)
-    return counted.end()
+    for row in all_of_them:
+        yield harness.Row(row[4], held, *row)
+    yield harness.number_of('rows', len(all_of_them), ROWS)
 
 
 if __name__ == '__main__':
-    sys.exit(main())
+    sys.exit(harness.main(cases))

@@ -7,8 +7,9 @@ log, whose members are asked for as the standards name them; further faults; und
 The last line is 'N passed, M failed'."""
 import json, os, pty, re, subprocess, sys, tempfile
 
-sys.path[:0] = [os.path.dirname(os.path.abspath(__file__)), os.path.dirname(os.path.dirname(os.path.abspath(__file__)))]
+sys.path[:0] = [os.path.dirname(os.path.abspath(__file__)), os.path.join(os.path.dirname(os.path.abspath(__file__)), '..'), os.path.join(os.path.dirname(os.path.abspath(__file__)), '..', '..')]
 import sarif
+from harness import verdict
 from cases import CASES, FURTHER, UNDEFINED
 
 CC = os.path.abspath(sys.argv[1])
@@ -218,5 +219,5 @@ mistakes()
 further()
 undefined()
 others()
-print('%d passed, %d failed' % (passed, failed))
+print(verdict.line(passed, failed))
 sys.exit(failed != 0)

@@ -7,6 +7,8 @@ The last line is 'N passed, M failed'."""
 import os, subprocess, sys
 
 HERE = os.path.dirname(os.path.abspath(__file__))
+sys.path.insert(0, os.path.dirname(os.path.dirname(HERE)))
+from harness import verdict
 CC = os.path.abspath(sys.argv[1])
 
 def rows():
@@ -36,5 +38,5 @@ if names == set(os.listdir(os.path.join(HERE, 'sources'))):
 else:
     failed += 1
     print('FAIL not each file of sources/ has its line')
-print('%d passed, %d failed' % (passed, failed))
+print(verdict.line(passed, failed))
 sys.exit(failed != 0)

@@ -11,25 +11,9 @@ browser=${CHROMIUM:-chromium}
 work=$(mktemp -d)
 server=
 trap 'rm -rf "$work"; [ -z "$server" ] || kill "$server" 2>/dev/null' EXIT
-passed=0
-failed=0
-skipped=0
+. "$root/tests/harness/verdict.sh"
 
-leave_out() { echo "left out: $*"; skipped=$((skipped + 1)); }
 has() { command -v "$1" >/dev/null 2>&1; }
-# holds WHAT COMMAND..
-holds() {
-    what=$1
-    shift
-    if "$@"; then passed=$((passed + 1)); else failed=$((failed + 1)); echo "FAIL $what"; fi
-}
-# add FILE: what a check said, and the counts of its last line; without such a line it failed.
-add() {
-    grep -v ' passed, ' "$1"
-    set -- $(tail -n 1 "$1" | sed -n 's/^\([0-9]*\) passed, \([0-9]*\) failed.*/\1 \2/p')
-    passed=$((passed + ${1:-0}))
-    failed=$((failed + ${2:-1}))
-}
 is_young() { [ "$(sh "$root/page/digest.sh")" = "$(cat "$root/page/SOURCES")" ]; }
 is_small() { [ "$(wc -c <"$root/page/zikorape.wasm")" -lt 1400000 ]; }
 
@@ -58,7 +42,7 @@ in_browser() {
     mkdir -p "$shots"
     node "$here/serve.mjs" "$root/page" >"$work/port" &
     server=$!
-    for turn in 1 2 3 4 5 6 7 8 9 10; do [ -s "$work/port" ] && break; sleep 1; done
+    while [ ! -s "$work/port" ] && kill -0 $server 2>/dev/null; do sleep 1; done
     CHROMIUM=$browser node --experimental-websocket "$here/browser.mjs" "http://127.0.0.1:$(cat "$work/port")/index.html" "$shots" >"$work/browser" 2>&1
     add "$work/browser"
 }
@@ -79,9 +63,4 @@ else
         in_browser
     fi
 fi
-if [ "$skipped" -gt 0 ]; then
-    echo "$passed passed, $failed failed, $skipped skipped"
-else
-    echo "$passed passed, $failed failed"
-fi
-[ "$failed" -eq 0 ]
+verdict

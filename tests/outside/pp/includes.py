@@ -10,11 +10,12 @@ say what comes of each; they are given texts of the built-in headers. Each tenth
 not opened; PROGRAM has to name the file and the line that are known here.
 """
 
-import random
-import subprocess
 import sys
-import tempfile
 from pathlib import Path
+
+HERE = Path(__file__).resolve().parent
+sys.path.insert(0, str(HERE.parent.parent))
+import harness
 
 NAMES = ["A", "B", "C", "D"]
 HEADERS = 7
@@ -136,42 +137,38 @@ class Maker:
         return "broken.h", 2, 231
 
 
-def run(words, folder):
-    done = subprocess.run(words, cwd=folder, capture_output=True, text=True, timeout=120)
-    # clang names a header in quotes by a path
-    return done.returncode, done.stdout.replace('"./', '"').split(), done.stderr
+def words_of(done):
+    """Status, words and errors; clang names a header in quotes by a path."""
+    status, out, err = done
+    return status, out.decode("latin-1").replace('"./', '"').split(), err.decode("latin-1")
 
 
-def main():
-    program = str(Path(sys.argv[1]).resolve())
-    count = int(sys.argv[2]) if len(sys.argv) > 2 else 300
-    rng = random.Random(20260202)
-    failed = 0
-    for number in range(count):
-        with tempfile.TemporaryDirectory() as folder:
-            maker = Maker(rng)
-            files = maker.made()
-            known = maker.broken() if number % 10 == 9 else None
-            for name, lines in files.items():
-                (Path(folder) / name).write_text("\n".join(lines) + "\n")
-            built_in = Path(folder) / "built_in"
-            built_in.mkdir()
-            (built_in / "limits.h").write_text(LIMITS)
-            (built_in / "stdbool.h").write_text(BOOLEANS)
-            others = sorted(name for name in files if name != "main.c")
-            ours = run([program, "pp", "main.c"] + others, folder)
-            words = ["-E", "-P", "-std=c11", "-w", "-nostdinc", "-Ibuilt_in", "main.c"]
-            theirs = [run([peer] + words, folder) for peer in ("gcc", "clang")]
-            if known is None:
-                good = ours[0] == 0 and all(status == 0 and tokens == ours[1] for status, tokens, _ in theirs)
-            else:
-                good = ours[0] == 1 and ours[2].startswith("%s:%d: %d " % known) and all(status != 0 for status, _, _ in theirs)
-            if not good:
-                failed += 1
-                print("FAIL set %d: the others %s, the program %d: %s" % (number, [status for status, _, _ in theirs], ours[0], ours[2].splitlines()[:1]))
-    print("%d passed, %d failed" % (count - failed, failed))
-    return failed != 0
+def held(case, files, known):
+    """The words of gcc and clang; or, where the set has a fault, that they refuse it too, and its file and line."""
+    peers = harness.needs("gcc", "clang")
+    for name, lines in files.items():
+        case.program.write(name, "\n".join(lines) + "\n")
+    Path(case.program.at("built_in")).mkdir()
+    case.program.write("built_in/limits.h", LIMITS)
+    case.program.write("built_in/stdbool.h", BOOLEANS)
+    others = sorted(name for name in files if name != "main.c")
+    ours = words_of(case.program.run("pp", "main.c", *others))
+    words = ["-E", "-P", "-std=c11", "-w", "-nostdinc", "-Ibuilt_in", "main.c"]
+    theirs = [words_of(case.program.run(*words, by=[peer])) for peer in peers]
+    if known is None:
+        good = ours[0] == 0 and all(status == 0 and tokens == ours[1] for status, tokens, _ in theirs)
+    else:
+        good = ours[0] == 1 and ours[2].startswith("%s:%d: %d " % known) and all(status != 0 for status, _, _ in theirs)
+    case.holds("the others %s, the program %s: %s" % ([status for status, _, _ in theirs], ours[0], ours[2].splitlines()[:1]), good)
+
+
+def cases(_, count="300"):
+    rng = harness.seeded(20260202)
+    for number in range(int(count)):
+        maker = Maker(rng)
+        files = maker.made()
+        yield harness.Row("set %d" % number, held, files, maker.broken() if number % 10 == 9 else None)
 
 
 if __name__ == "__main__":
-    sys.exit(main())
+    sys.exit(harness.main(cases))

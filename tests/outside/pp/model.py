@@ -3,7 +3,7 @@
     python3 model.py pp FILE      speaks like `cc pp FILE`
 
 It is written for the data of this folder and not for speed: make.py asks it beside gcc and clang, so that a
-source on which the standard leaves a choice does not come among the data unseen. check.sh does not use it.
+source on which the standard leaves a choice does not come among the data unseen. check.py does not use it.
 """
 import re
 import sys

@@ -8,11 +8,12 @@ of conditional, macros that are defined and undefined within them, #line, text a
 #endif, has one too many or a branch behind its #else; both have to refuse it, and PROGRAM has to name the line that is known here.
 """
 
-import random
-import subprocess
 import sys
-import tempfile
 from pathlib import Path
+
+HERE = Path(__file__).resolve().parent
+sys.path.insert(0, str(HERE.parent.parent))
+import harness
 
 NAMES = ["A", "B", "C", "D", "E"]
 
@@ -129,11 +130,6 @@ def made(rng):
     return file
 
 
-def run(words, folder):
-    done = subprocess.run(words, cwd=folder, capture_output=True, text=True, timeout=60)
-    return done.returncode, done.stdout.split(), done.stderr
-
-
 def broken(rng, file):
     """The file with a fault at its end, and the line that is told."""
     kind = rng.randrange(3)
@@ -152,32 +148,27 @@ def broken(rng, file):
     return line
 
 
-def main():
-    program = str(Path(sys.argv[1]).resolve())
-    count = int(sys.argv[2]) if len(sys.argv) > 2 else 200
-    rng = random.Random(20260101)
-    failed = 0
-    with tempfile.TemporaryDirectory() as folder:
-        source = Path(folder) / "main.c"
-        for number in range(count):
-            file = made(rng)
-            line = None
-            if number % 10 == 9:
-                file.lines = [l for l in file.lines if not l.startswith("#line")]
-                line = broken(rng, file)
-            source.write_text("\n".join(file.lines) + "\n")
-            theirs = run(["gcc", "-E", "-P", "-std=c11", "-w", "main.c"], folder)
-            ours = run([program, "pp", "main.c"], folder)
-            if line is None:
-                good = theirs[0] == 0 and ours[0] == 0 and ours[1] == theirs[1]
-            else:
-                good = theirs[0] != 0 and ours[0] == 1 and ours[2].startswith("main.c:%d: 231 " % line)
-            if not good:
-                failed += 1
-                print("FAIL file %d: gcc %d, the program %d: %s" % (number, theirs[0], ours[0], (ours[2] or theirs[2]).splitlines()[:1]))
-    print("%d passed, %d failed" % (count - failed, failed))
-    return failed != 0
+def held(case, text, line):
+    """The words of gcc; or, where the file has a fault, that gcc refuses it too, and its line."""
+    gcc = harness.needs("gcc")
+    case.program.write("main.c", text)
+    theirs = case.program.run("-E", "-P", "-std=c11", "-w", "main.c", by=[gcc])
+    ours = case.program.run("pp", "main.c")
+    if line is None:
+        case.expect("", (theirs[0], ours[0], ours[1].split()), (0, 0, theirs[1].split()))
+    else:
+        case.holds("gcc %s, the program %s: %r" % (theirs[0], ours[0], ours[2][:100]), theirs[0] != 0 and ours[0] == 1 and ours[2].startswith(b"main.c:%d: 231 " % line))
+
+
+def cases(_, count="200"):
+    rng = harness.seeded(20260101)
+    for number in range(int(count)):
+        file, line = made(rng), None
+        if number % 10 == 9:
+            file.lines = [l for l in file.lines if not l.startswith("#line")]
+            line = broken(rng, file)
+        yield harness.Row("file %d" % number, held, "\n".join(file.lines) + "\n", line)
 
 
 if __name__ == "__main__":
-    sys.exit(main())
+    sys.exit(harness.main(cases))

@@ -6,8 +6,8 @@ import re
 import sys
 
 HERE = os.path.dirname(os.path.abspath(__file__))
-sys.path.insert(0, os.path.dirname(HERE))
-import asking
+sys.path.insert(0, os.path.dirname(os.path.dirname(HERE)))
+import harness
 
 ROWS = 110
 
@@ -34,14 +34,16 @@ def ask(program, row):
     return f'status {status}, {output[:80]!r}, {line[:80]!r}'
 
 
-def main():
-    program, counted = asking.program_of_words(), asking.Counted()
+def held(case, row):
+    case.expect('', ask(case.program, row), row[1])
+
+
+def cases(_):
     all_of_them = list(rows())
-    for row, found in zip(all_of_them, asking.side_by_side(lambda row: ask(program, row), all_of_them)):
-        counted.expect(row[0], found, row[1])
-    counted.expect('rows', len(all_of_them), ROWS)
-    return counted.end()
+    for row in all_of_them:
+        yield harness.Row(row[0], held, row)
+    yield harness.number_of('rows', len(all_of_them), ROWS)
 
 
 if __name__ == '__main__':
-    sys.exit(main())
+    sys.exit(harness.main(cases))

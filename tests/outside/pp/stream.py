@@ -14,8 +14,8 @@ import sys
 HERE = os.path.dirname(os.path.abspath(__file__))
 FRONT = os.path.join(HERE, '..', 'front')
 CRATE = os.path.join(HERE, '..', '..', '..', 'crates/test_stream')
-sys.path[:0] = [os.path.dirname(HERE), FRONT]
-import asking
+sys.path[:0] = [os.path.dirname(os.path.dirname(HERE)), FRONT]
+import harness
 import model
 import plain
 
@@ -186,7 +186,7 @@ def sets():
 
 
 def conditions():
-    """Those with a value are one source, as in check.sh; each fault is a source of its own."""
+    """Those with a value are one source, as in check.py; each fault is a source of its own."""
     with open(os.path.join(HERE, 'conditions.txt'), encoding='ascii') as file:
         lines = file.read().splitlines()
     prelude = [line for line in lines if line.startswith('#define ')]
@@ -203,7 +203,7 @@ def conditions():
 
 
 def front(name):
-    return asking.fields(os.path.join(FRONT, name))
+    return harness.fields(os.path.join(FRONT, name))
 
 
 def scanned(text, code=None):
@@ -259,18 +259,10 @@ def rows():
 def main():
     found, left_out = rows()
     files = {'stdin': '@\n'.join(source for source, _ in found), 'stdout': ''.join(wanted + '\n' for _, wanted in found)}
-    if sys.argv[1:] == ['--check']:
-        counted = asking.Counted()
-        for name, text in files.items():
-            with open(os.path.join(CRATE, name), 'rb') as file:
-                counted.expect(f'crates/test_stream/{name} is what the rows make', file.read() == text.encode('latin-1'), True)
-        return counted.end()
-    for name, text in files.items():
-        with open(os.path.join(CRATE, name), 'wb') as file:
-            file.write(text.encode('latin-1'))
-    for name, count in COUNTS.items():
-        print(f'{name}: {count}, {left_out[name]} left out')
-    return 0
+    if sys.argv[1:] != ['--check']:
+        for name, count in COUNTS.items():
+            print(f'{name}: {count}, {left_out[name]} left out')
+    return harness.made(CRATE, files)
 
 
 if __name__ == '__main__':

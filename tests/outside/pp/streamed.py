@@ -104,7 +104,7 @@ def main():
     chance, others = random.Random(seed), sources()
     made = [mutated(chance, others) for _ in range(count)]
     batches = [made[at:at + BATCH] for at in range(0, count, BATCH)]
-    counted = stream.asking.Counted()
+    counted = stream.harness.Verdict()
     with ThreadPoolExecutor(os.cpu_count()) as pool:
         for batch, lines in zip(batches, pool.map(lambda batch: answers(program, batch), batches)):
             for source, line in zip(batch, lines):

@@ -8,15 +8,17 @@ that it includes, directly or through others.
 """
 
 import hashlib
-import os
 import re
-import subprocess
 import sys
 import tarfile
 import tempfile
+import threading
 from pathlib import Path
 
 HERE = Path(__file__).resolve().parent
+sys.path.insert(0, str(HERE.parent.parent))
+import harness
+
 INCLUDE = re.compile(rb'^[ \t]*#[ \t]*include[ \t]*"([^"\n]+)"', re.M)
 UNITS = 1026
 
@@ -40,39 +42,41 @@ def needed(root, name, known):
     return sorted(seen - {name})
 
 
-def check(program, root, row, known):
-    """None, or what is wrong with the tokens of a source."""
-    name, count, digest = row.split()
-    done = subprocess.run([program, "pp", name, *needed(root, name, known)], cwd=root, stdout=subprocess.PIPE,
-                          stderr=subprocess.PIPE, check=False)
-    if done.returncode or done.stderr:
-        return "%s: status %d: %s" % (name, done.returncode, done.stderr.decode("latin-1").strip())
-    tokens = done.stdout[:-1]
-    if done.stdout.endswith(b"\n") and hashlib.sha256(tokens).hexdigest() == digest:
-        return None
-    return "%s: other tokens, %d and not %s words" % (name, len(tokens.split()), count)
+class Sources:
+    """The sources and headers, unpacked once for all cases."""
+
+    def __init__(self):
+        self.folder, self.lock, self.unpacked, self.known = tempfile.TemporaryDirectory(), threading.Lock(), False, {}
+
+    def root(self):
+        with self.lock:
+            if not self.unpacked:
+                with tarfile.open(HERE / "units.tar.xz") as archive:
+                    archive.extractall(self.folder.name)
+                self.unpacked = True
+        return Path(self.folder.name)
 
 
-def main():
-    program = os.path.abspath(sys.argv[1])
-    passed = failed = 0
-    known = {}
-    with tempfile.TemporaryDirectory() as folder:
-        root = Path(folder)
-        with tarfile.open(HERE / "units.tar.xz") as archive:
-            archive.extractall(root)
-        for row in (HERE / "units.txt").read_text().splitlines():
-            wrong = check(program, root, row, known)
-            passed += wrong is None
-            failed += wrong is not None
-            if wrong:
-                print("FAIL " + wrong)
-    if passed + failed != UNITS:
-        print("FAIL %d sources, not %d" % (passed + failed, UNITS))
-        failed += 1
-    print("%d passed, %d failed" % (passed, failed))
-    sys.exit(failed != 0)
+SOURCES = Sources()
+
+
+def held(case, name, count, digest):
+    """The tokens of a source are those of gcc and clang."""
+    root = SOURCES.root()
+    done = case.program.go("pp", name, *needed(root, name, SOURCES.known), folder=root)
+    if done.status or done.err:
+        case.expect("", (done.status, done.err), (0, b""))
+        return
+    tokens = done.out[:-1]
+    case.holds("other tokens, %d and not %s words" % (len(tokens.split()), count), done.out.endswith(b"\n") and hashlib.sha256(tokens).hexdigest() == digest)
+
+
+def cases(_):
+    rows = [row.split() for row in (HERE / "units.txt").read_text().splitlines()]
+    for row in rows:
+        yield harness.Row(row[0], held, *row)
+    yield harness.number_of("sources", len(rows), UNITS)
 
 
 if __name__ == "__main__":
-    main()
+    sys.exit(harness.main(cases))

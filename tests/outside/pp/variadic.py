@@ -10,16 +10,16 @@ one thing is wrong that the standard forbids: gcc has to refuse it, and PROGRAM 
 The last line is 'N passed, M failed'.
 """
 
-import random
 import subprocess
 import sys
-import tempfile
 from itertools import chain
 from pathlib import Path
 
+HERE = Path(__file__).resolve().parent
+sys.path.insert(0, str(HERE.parent.parent))
+import harness
 from model import spellings
 
-HERE = Path(__file__).parent
 # so many sources stand in variadic.txt and in limits()
 ROWS = 118 + 12
 TEXTS = {
@@ -218,7 +218,7 @@ def of_gcc(text):
 
 def sources(count):
     """The name, the text and the answer of each random source."""
-    rng = random.Random(6103)
+    rng = harness.seeded(6103)
     made = 0
     while made < count:
         source = Source(rng)
@@ -243,36 +243,27 @@ def sources(count):
 # ---- asking
 
 
-class Asked:
-    def __init__(self, program):
-        self.program = str(Path(program).resolve())
-        self.passed = 0
-        self.failed = 0
-
-    def check(self, name, text, want):
-        """What is wanted is a line of tokens, or the line of a fault."""
-        with tempfile.TemporaryDirectory() as folder:
-            (Path(folder) / "main.c").write_text(text)
-            told = subprocess.run([self.program, "pp", "main.c"], cwd=folder, capture_output=True, text=True, timeout=60, check=False)
-        wanted = (1, "", want + "\n") if isinstance(want, Fault) else (0, want + "\n", "")
-        found = (told.returncode, told.stdout, told.stderr)
-        if found == wanted:
-            self.passed += 1
-            return
-        self.failed += 1
-        print("FAIL %s\n%s  wanted %r\n  found  %r" % (name, text, wanted, found))
+def held(case, text, want, name=""):
+    """What is wanted is a line of tokens, or the line of a fault."""
+    case.program.write("main.c", text)
+    wanted = (1, b"", want.encode() + b"\n") if isinstance(want, Fault) else (0, want.encode() + b"\n", b"")
+    case.expect(name + text, case.program.run("pp", "main.c"), wanted)
 
 
-def main():
-    asked = Asked(sys.argv[1])
-    count = int(sys.argv[2]) if len(sys.argv) > 2 else 300
-    for name, text, want in chain(by_hand(), limits(), sources(count)):
-        asked.check(name, text, want)
-    if asked.passed + asked.failed != ROWS + count:
-        asked.failed += 1
-        print("FAIL not %d sources" % (ROWS + count))
-    print("%d passed, %d failed" % (asked.passed, asked.failed))
-    return asked.failed != 0
+def held_at_random(case, count):
+    """So many sources of the seed. They are made when the case runs, since gcc is asked of each."""
+    harness.needs("gcc")
+    for name, text, want in sources(count):
+        held(case, text, want, name + ": ")
 
 
-sys.exit(main())
+def cases(_, count="300"):
+    yield harness.Row("random", held_at_random, int(count))
+    rows = list(chain(by_hand(), limits()))
+    for name, text, want in rows:
+        yield harness.Row(name, held, text, want)
+    yield harness.number_of("sources by hand", len(rows), ROWS)
+
+
+if __name__ == "__main__":
+    sys.exit(harness.main(cases))

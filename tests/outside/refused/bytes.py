@@ -11,32 +11,16 @@ import shutil
 import subprocess
 import sys
 import tempfile
-from concurrent.futures import ThreadPoolExecutor
+import threading
+import unittest
 
 HERE = os.path.dirname(os.path.abspath(__file__))
+sys.path.insert(0, os.path.dirname(os.path.dirname(HERE)))
+import harness
+
 COPY = '#include <rvio.h>\n'\
        'int main(void) { int c; while ((c = rv_getbyte()) != -1) rv_putbyte(c); return 0; }\n'
 BYTES = bytes(range(256))
-
-
-def copied(cc, preload, folder, case):
-    """What is wrong with a copy of so many bytes, by what fails; None where nothing is."""
-    words, name, count = case
-    env = {'PATH': os.environ.get('PATH', ''), 'LD_PRELOAD': preload, name: str(count)}
-    done = subprocess.run([cc, *words], cwd=folder, env=env, input=BYTES, capture_output=True, timeout=120)
-    code = b'802' if name == 'READ_UP_TO' else b'803'
-    wanted = (126, BYTES[:count], b'cc: port fault ' + code + b'\n')
-    found = (done.returncode, done.stdout, done.stderr)
-    return None if found == wanted else f'{words[0]}, {name} {count}: {found!r}'
-
-
-def copies(cc, preload, folder, pool):
-    """How many copies there were, and what is wrong with them."""
-    with open(os.path.join(folder, 'copy.c'), 'w') as file:
-        file.write(COPY)
-    subprocess.run([cc, 'build', 'copy.c', '-o', 'copy'], cwd=folder, check=True)
-    cases = [(words, name, count) for words in (['run', 'copy'], ['interp', 'copy.c']) for name in ('READ_UP_TO', 'WRITE_UP_TO') for count in range(256)]
-    return len(cases), [line for line in pool.map(lambda case: copied(cc, preload, folder, case), cases) if line]
 
 
 def library(folder):
@@ -49,20 +33,39 @@ def library(folder):
     return target
 
 
-def main():
-    cc = os.path.abspath(sys.argv[1])
-    with tempfile.TemporaryDirectory() as folder, ThreadPoolExecutor(os.cpu_count() or 1) as pool:
-        preload = library(folder)
-        if not preload:
-            print('no compiler for refusing.c')
-            print('0 passed, 0 failed, 1 skipped')
-            return 0
-        count, wrong = copies(cc, preload, folder, pool)
-    for line in wrong[:5]:
-        print('FAIL', line)
-    print(f'{count - len(wrong)} passed, {len(wrong)} failed')
-    return 1 if wrong or not count else 0
+class Library:
+    """refusing.c, built once for all cases."""
+
+    def __init__(self):
+        self.folder, self.lock, self.path = tempfile.TemporaryDirectory(), threading.Lock(), None
+
+    def built(self):
+        with self.lock:
+            if self.path is None:
+                self.path = library(self.folder.name) or ''
+        if not self.path:
+            raise unittest.SkipTest('no compiler for refusing.c')
+        return self.path
+
+
+PRELOADED = Library()
+
+
+def copied(case, words, name):
+    """Copies of so many bytes, by what fails: its output is those bytes, and one line."""
+    case.program.write('copy.c', COPY)
+    case.expect('build', case.program.run('build', 'copy.c', '-o', 'copy'), (0, b'', b''))
+    code = b'802' if name == 'READ_UP_TO' else b'803'
+    for count in range(256):
+        env = {'PATH': os.environ.get('PATH', ''), 'LD_PRELOAD': PRELOADED.built(), name: str(count)}
+        case.expect(f'{count} bytes', case.program.run(*words, given=BYTES, env=env), (126, BYTES[:count], b'cc: port fault ' + code + b'\n'))
+
+
+def cases(_):
+    for words in (['run', 'copy'], ['interp', 'copy.c']):
+        for name in ('READ_UP_TO', 'WRITE_UP_TO'):
+            yield harness.Row(f'{words[0]} {name}', copied, words, name)
 
 
 if __name__ == '__main__':
-    sys.exit(main())
+    sys.exit(harness.main(cases))

@@ -11,9 +11,8 @@ import os
 import subprocess
 import sys
 import tempfile
-from concurrent.futures import ThreadPoolExecutor
 
-from bytes import library
+from bytes import harness, library
 
 RVIO = '#include <rvio.h>\n'
 SOURCES = {
@@ -139,25 +138,19 @@ def numbers(calls):
 
 
 def main():
-    cc = os.path.abspath(sys.argv[1])
-    passed = failed = 0
+    cc, verdict = os.path.abspath(sys.argv[1]), harness.Verdict()
     with tempfile.TemporaryDirectory() as folder:
         preload = library(folder)
         if not preload:
-            print('no compiler for refusing.c')
-            print('0 passed, 0 failed, 1 skipped')
-            return 0
-        with ThreadPoolExecutor(os.cpu_count() or 1) as pool:
-            for command in commands(cc, preload):
-                wanted, calls = command.ask(count=True)
-                cases = [(at, on) for on in (False, True) for at in numbers(calls)]
-                wrong = [line for line in pool.map(lambda case: command.judge(wanted, *case), cases) if line]
-                for line in wrong[:5]:
-                    print('FAIL', line)
-                print(f'{command.name}: {calls} growths, {len(wrong)} wrong answers of {len(cases)}')
-                passed, failed = passed + (not wrong and calls > 0), failed + (bool(wrong) or calls == 0)
-    print(f'{passed} passed, {failed} failed')
-    return 0 if failed == 0 else 1
+            verdict.skip(1, 'no compiler for refusing.c')
+            return verdict.end()
+        for command in commands(cc, preload):
+            wanted, calls = command.ask(count=True)
+            asked = [(at, on) for on in (False, True) for at in numbers(calls)]
+            wrong = [line for line in harness.side_by_side(lambda one: command.judge(wanted, *one), asked) if line]
+            print(f'{command.name}: {calls} growths, {len(wrong)} wrong answers of {len(asked)}')
+            verdict.holds(f'{command.name}: {calls} growths: {"; ".join(wrong[:5])}', not wrong and calls > 0)
+    return verdict.end()
 
 
 if __name__ == '__main__':

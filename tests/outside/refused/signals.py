@@ -10,7 +10,9 @@ import resource
 import signal
 import subprocess
 import sys
-import tempfile
+
+sys.path.insert(0, os.path.join(os.path.dirname(os.path.abspath(__file__)), '..', '..'))
+import harness
 
 # main writes 100,000 bytes; its listing and its tokens are longer than the limit too
 SOURCE = b'#include <rvio.h>\n' + b''.join(b'int x%d;\n' % n for n in range(300)) + \
@@ -27,52 +29,43 @@ def restrict():
     resource.setrlimit(resource.RLIMIT_FSIZE, (LIMIT, LIMIT))
 
 
-def answer(cc, folder, words, out, preexec=None):
-    done = subprocess.run([cc, *words], cwd=folder, stdin=subprocess.DEVNULL, stdout=out, stderr=subprocess.PIPE, preexec_fn=preexec,
-                          restore_signals=preexec is None, timeout=120)
-    return done.returncode, done.stderr
+def answer(case, words, out, before=None):
+    """Status and what was said."""
+    case.program.write('main.c', SOURCE)
+    case.expect('build', case.program.run('build', 'main.c', '-o', 'built'), (0, b'', b''))
+    done = case.program.go(*words, stdin=subprocess.DEVNULL, stdout=out, before=before, restore_signals=before is None)
+    return done.status, done.err
 
 
-def to_nobody(cc, folder, words):
+def to_nobody(case, words):
     reader, writer = os.pipe()
     os.close(reader)
     try:
-        return answer(cc, folder, words, writer)
+        return answer(case, words, writer)
     finally:
         os.close(writer)
 
 
-def to_short_file(cc, folder, words):
-    with open(os.path.join(folder, 'written'), 'wb') as out:
-        return answer(cc, folder, words, out, restrict)
+def to_short_file(case, words):
+    with open(case.program.at('written'), 'wb') as out:
+        return answer(case, words, out, restrict)
 
 
-def cases(cc, folder):
-    """A name, what was answered and what is wanted."""
+def held(case, way, words, wanted):
+    case.expect('', way(case, words), wanted)
+
+
+def build_to_short_file(case):
+    case.expect('', to_short_file(case, ['build', 'main.c', '-o', 'other']), (1, b'other:0: 803 cannot write\n'))
+    case.holds('what is left of the file', os.path.getsize(case.program.at('other')) <= LIMIT)
+
+
+def cases(_):
     for name, (words, wanted) in COMMANDS.items():
-        yield name + ' to nobody', to_nobody(cc, folder, words), wanted
-        yield name + ' to a short file', to_short_file(cc, folder, words), wanted
-    yield 'build to a short file', to_short_file(cc, folder, ['build', 'main.c', '-o', 'other']), (1, b'other:0: 803 cannot write\n')
-    size = os.path.getsize(os.path.join(folder, 'other'))
-    yield 'what is left of the file', size <= LIMIT, True
-
-
-def main():
-    cc = os.path.abspath(sys.argv[1])
-    passed = failed = 0
-    with tempfile.TemporaryDirectory() as folder:
-        with open(os.path.join(folder, 'main.c'), 'wb') as file:
-            file.write(SOURCE)
-        subprocess.run([cc, 'build', 'main.c', '-o', 'built'], cwd=folder, check=True)
-        for name, found, wanted in cases(cc, folder):
-            if found == wanted:
-                passed += 1
-            else:
-                failed += 1
-                print(f'FAIL {name}: {found!r}, and not {wanted!r}')
-    print(f'{passed} passed, {failed} failed')
-    return 1 if failed or not passed else 0
+        yield harness.Row(name + ' to nobody', held, to_nobody, words, wanted)
+        yield harness.Row(name + ' to a short file', held, to_short_file, words, wanted)
+    yield harness.Row('build to a short file', build_to_short_file)
 
 
 if __name__ == '__main__':
-    sys.exit(main())
+    sys.exit(harness.main(cases))

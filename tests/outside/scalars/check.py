@@ -4,74 +4,46 @@
 Each is interpreted with just its ticks, built, run by `cc run` with 60 instructions for each tick and 66 more, and run by qemu-riscv32;
 its listing has to be that of the file.
 """
-import concurrent.futures
 import os
 import sys
 
-import four
-import outsiders
-import worked
-
-import rows
-
 HERE = os.path.dirname(os.path.abspath(__file__))
 INTERP = os.path.join(HERE, '..', 'interp')
+sys.path[:0] = [os.path.join(HERE, '..', '..'), INTERP]
+import harness
+import rows
+import worked
+from harness import ways
+
 PROGRAMS = {'random.txt': 340, 'by_hand.txt': 81, 'arrays.txt': 40}
 OTHERS = {'by_hand.txt': 103, 'undefined.txt': 77, 'random.txt': 300}
 
 
-def known(compiler, row):
+def known(case, row):
     """One of the programs kept here."""
-    counted = four.Counted()
-    with four.Program(compiler, row.source, row.files) as program:
-        ticks = None if row.ticks == '*' else int(row.ticks)
-        if four.four_ways(counted, row.name, program, row.input, int(row.status), row.output, ticks):
-            four.listed(counted, row.name, program)
-    return counted
+    sources = ways.Sources(case.program, row.source, row.files)
+    ticks = None if row.ticks == '*' else int(row.ticks)
+    if ways.four_ways(case, 'program', sources, row.input, int(row.status), row.output, ticks):
+        ways.listed(case, 'program', sources)
 
 
-def other(compiler, row):
-    """One of the programs for the interpreter: one with an undefined act is built too, and not run."""
+def other(case, row):
+    """One of the programs for the interpreter: one with undefined behaviour is built too, and not run."""
     if row.status.isdigit():
-        return known(compiler, row)
-    counted = four.Counted()
-    with four.Program(compiler, row.source, row.files) as program:
-        counted.expect('interp/%s, build' % row.name, program.build(), (0, b'', b''))
-    return counted
+        known(case, row)
+    else:
+        case.expect('build', ways.Sources(case.program, row.source, row.files).build(), (0, b'', b''))
 
 
-def all_rows():
-    """Each row with the function that tries it; a missing row is no function's."""
-    for name, count in PROGRAMS.items():
-        found = rows.read(os.path.join(HERE, name))
-        yield from ((known, (row,)) for row in found)
-        yield counted_rows, (name, len(found), count)
-    for name, count in OTHERS.items():
-        found = rows.read(os.path.join(INTERP, name))
-        yield from ((other, (row,)) for row in found)
-        yield counted_rows, ('interp/' + name, len(found), count)
-
-
-def counted_rows(_, name, found, wanted):
-    counted = four.Counted()
-    counted.expect('rows of ' + name, found, wanted)
-    return counted
-
-
-def main():
-    compiler = os.path.abspath(sys.argv[1])
-    counted = four.Counted()
-    if not four.QEMU:
-        print('no qemu-riscv32: three ways alone')
-    with concurrent.futures.ThreadPoolExecutor(os.cpu_count()) as pool:
-        for one in pool.map(lambda task: task[0](compiler, *task[1]), list(all_rows())):
-            counted.add(one)
-    counted.add(worked.check(compiler))
-    for line in counted.lines:
-        print(line)
-    print('%d passed, %d failed' % (counted.passed, counted.failed) + (', %d skipped' % counted.skipped if counted.skipped else ''))
-    return counted.failed
+def cases(_):
+    for folder, prefix, programs, held in ((HERE, '', PROGRAMS, known), (INTERP, 'interp/', OTHERS, other)):
+        for name, count in programs.items():
+            found = rows.read(os.path.join(folder, name))
+            for row in found:
+                yield harness.Row(f'{prefix}{name} {row.name}', held, row)
+            yield harness.number_of(f'{prefix}{name}', len(found), count)
+    yield from worked.cases(None)
 
 
 if __name__ == '__main__':
-    sys.exit(main() != 0)
+    sys.exit(harness.main(cases))

@@ -3,7 +3,11 @@
 import os
 import sys
 
-import four
+sys.path.insert(0, os.path.join(os.path.dirname(os.path.abspath(__file__)), '..', '..'))
+import harness
+from harness import ways
+
+HEADER = '#include <rvio.h>\n'
 
 UNDEFINED = [
     ('unsigned short a = 65535; return a * a;', 'U1'),
@@ -47,92 +51,78 @@ REFUSED = [
 
 
 def main_of(body, before=''):
-    return four.HEADER + (before + '\n' if before else '') + 'int main(void) { %s }\n' % body
+    return HEADER + (before + '\n' if before else '') + 'int main(void) { %s }\n' % body
 
 
-def undefined(counted, compiler, body, act):
-    """It builds; interpreted, its first undefined act is said."""
-    with four.Program(compiler, 'int main(void) { %s }\n' % body) as program:
-        counted.expect(body + ' interp', program.interpret(), (123, b'', b'main.c:1: undefined %s\n' % act.encode()))
-        counted.expect(body + ' build', program.build(), (0, b'', b''))
+def undefined(case, body, act):
+    """It builds; interpreted, its first undefined behaviour is told."""
+    sources = ways.Sources(case.program, 'int main(void) { %s }\n' % body)
+    case.expect('interp', sources.interpret(), (123, b'', b'main.c:1: undefined %s\n' % act.encode()))
+    case.expect('build', sources.build(), (0, b'', b''))
 
 
-def refused(counted, compiler, source, fault):
-    with four.Program(compiler, source + '\n') as program:
-        counted.expect(source[:60] + ' build', program.build(), (1, b'', b'main.c:1: %s\n' % fault.encode()))
-        counted.expect(source[:60] + ' file', os.path.exists(os.path.join(program.folder, 'program')), False)
+def refused(case, source, fault):
+    sources = ways.Sources(case.program, source + '\n')
+    case.expect('build', sources.build(), (1, b'', b'main.c:1: %s\n' % fault.encode()))
+    case.expect('file', sources.file(), b'')
 
 
-def echo(counted, compiler):
-    body = 'int c; while ((c = rv_getbyte()) != -1) rv_putbyte(c); return 0;'
-    for data in (b'', bytes(range(256)), bytes(range(255, -1, -1)) * 4):
-        with four.Program(compiler, main_of(body)) as program:
-            four.four_ways(counted, 'echo of %d bytes' % len(data), program, data, 0, data)
+def does(case, source, data, status, output):
+    ways.four_ways(case, 'program', ways.Sources(case.program, source), data, status, output)
 
 
-def endless(counted, compiler):
-    with four.Program(compiler, main_of('for (;;) rv_putbyte(65);')) as program:
-        counted.expect('endless, build', program.build(), (0, b'', b''))
-        for way in (program.interpret, program.simulate):
-            status, output, line = way(b'', 1000)
-            counted.expect('endless, %s' % way.__name__, (status, output.strip(b'A'), line, len(output) > 10), (124, b'', b'cc: budget used\n', True))
+def endless(case):
+    sources = ways.Sources(case.program, main_of('for (;;) rv_putbyte(65);'))
+    case.expect('build', sources.build(), (0, b'', b''))
+    for way in (sources.interpret, sources.simulate):
+        status, output, line = way(b'', 1000)
+        case.expect(way.__name__, (status, output.strip(b'A'), line, len(output) > 10), (124, b'', b'cc: budget used\n', True))
 
 
-def counts(counted, compiler):
+def counts(case):
     """Instructions by ticks."""
-    with four.Program(compiler, main_of('int i; for (i = 0; i < 5; i++) ; return i;')) as program:
-        program.build()
-        ticks = four.least(lambda most: program.interpret(b'', most)[0] != 124)
-        instructions = four.least(lambda most: program.simulate(b'', most)[0] != 124)
-        counted.expect('%d instructions for %d ticks' % (instructions, ticks), instructions <= 60 * ticks + 66, True)
+    sources = ways.Sources(case.program, main_of('int i; for (i = 0; i < 5; i++) ; return i;'))
+    sources.build()
+    ticks = ways.least(lambda most: sources.interpret(b'', most)[0] != 124)
+    instructions = ways.least(lambda most: sources.simulate(b'', most)[0] != 124)
+    case.holds('%d instructions for %d ticks' % (instructions, ticks), instructions <= 60 * ticks + 66)
 
 
-def deep(counted, compiler):
+def deep(case):
     """A recursion past the stack traps, and writes nothing that the meaning does not."""
     before = 'int f(int n) { if (n == 0) return 0; return f(n - 1); }'
-    with four.Program(compiler, main_of('return f(1000000);', before)) as program:
-        counted.expect('a deep recursion, build', program.build(), (0, b'', b''))
-        status, output, line = program.simulate(b'')
-        counted.expect('a deep recursion, run', (status, output), (125, b''))
+    sources = ways.Sources(case.program, main_of('return f(1000000);', before))
+    case.expect('build', sources.build(), (0, b'', b''))
+    status, output, _ = sources.simulate(b'')
+    case.expect('run', (status, output), (125, b''))
 
 
-def largest(counted, compiler):
-    """The largest function, the largest program, and the most functions that there may be, built and run."""
-    with four.Program(compiler, main_of('rv_putbyte(65); ' * 2664 + 'return 1 + 1 + 1;')) as program:
-        four.four_ways(counted, 'a function of 8,000 nodes', program, b'', 3, b'A' * 2664)
+def largest():
+    """The largest function, the largest program, and the most functions that there may be."""
+    yield 'a function of 8,000 nodes', main_of('rv_putbyte(65); ' * 2664 + 'return 1 + 1 + 1;'), 3, b'A' * 2664
     whole = ''.join('int m%d(void) {%s}\n' % (number, ';' * 7998) for number in range(32)) + 'int main(void) {%s}\n' % (';' * 6142)
-    with four.Program(compiler, whole) as program:
-        four.four_ways(counted, 'a program of 262,144 nodes', program, b'', 0, b'')
+    yield 'a program of 262,144 nodes', whole, 0, b''
     whole = ''.join('int f%d(int a) { return %s; }\n' % (number, 'f%d(a + 1)' % (number - 1) if number % 500 else 'a') for number in range(16380))
-    with four.Program(compiler, whole + 'int main(void) { return f16379(0) + f499(1); }\n') as program:
-        four.four_ways(counted, '16,381 functions', program, b'', (379 + 499 + 1) & 255, b'')
+    yield '16,381 functions', whole + 'int main(void) { return f16379(0) + f499(1); }\n', (379 + 499 + 1) & 255, b''
 
 
-def check(compiler):
-    counted = four.Counted()
+def cases(_):
+    for name, source, status, output in largest():
+        yield harness.Row(name, does, source, b'', status, output)
     for body, status in ROWS:
-        source = 'int main(void) { %s }\n' % body
-        with four.Program(compiler, source) as program:
-            four.four_ways(counted, 'M{%s}' % body[:60], program, b'', status, b'')
+        yield harness.Row('M{%s}' % body[:60], does, 'int main(void) { %s }\n' % body, b'', status, b'')
     for before, body, status, output in PROGRAMS:
-        with four.Program(compiler, main_of(body, before)) as program:
-            four.four_ways(counted, '%s M{%s}' % (before[:40], body[:60]), program, b'', status, output)
+        yield harness.Row('%s M{%s}' % (before[:40], body[:60]), does, main_of(body, before), b'', status, output)
     for body, act in UNDEFINED:
-        undefined(counted, compiler, body, act)
+        yield harness.Row('undefined: ' + body, undefined, body, act)
     for source, fault in REFUSED:
-        refused(counted, compiler, source, fault)
-    for part in (echo, endless, counts, deep, largest):
-        part(counted, compiler)
-    return counted
-
-
-def main():
-    counted = check(os.path.abspath(sys.argv[1]))
-    for line in counted.lines:
-        print(line)
-    print('%d passed, %d failed' % (counted.passed, counted.failed))
-    return counted.failed
+        yield harness.Row('refused: ' + source[:60], refused, source, fault)
+    echo = main_of('int c; while ((c = rv_getbyte()) != -1) rv_putbyte(c); return 0;')
+    for data in (b'', bytes(range(256)), bytes(range(255, -1, -1)) * 4):
+        yield harness.Row('echo of %d bytes' % len(data), does, echo, data, 0, data)
+    for part in (endless, counts, deep):
+        yield harness.Row(part.__name__, part)
 
 
 if __name__ == '__main__':
-    sys.exit(main() != 0)
+    sys.exit(harness.main(cases))

@@ -11,13 +11,12 @@ behaviour is a beginning of what the file writes within a bound of instructions.
 Input: a program that reads no more bytes than it was given does the same whatever comes behind them.
 """
 import os
-import random
 import re
 import sys
 
 HERE = os.path.dirname(os.path.abspath(__file__))
-sys.path.insert(0, os.path.dirname(HERE))
-import asking
+sys.path.insert(0, os.path.dirname(os.path.dirname(HERE)))
+import harness
 
 HEADER = '#include <rvio.h>\n'
 TICKS = 3000000
@@ -66,7 +65,7 @@ def risky(rng):
     return ''.join(lines)
 
 
-class Beyond(asking.Counted):
+class Beyond(harness.Verdict):
     def __init__(self, cc):
         super().__init__()
         self.cc = cc
@@ -119,11 +118,11 @@ def main():
     if len(sys.argv) not in (2, 3):
         sys.exit(__doc__)
     count = int(sys.argv[2]) if len(sys.argv) == 3 else 150
-    beyond = Beyond(asking.Program(sys.argv[1]))
-    rng = random.Random(20261127)
+    beyond = Beyond(harness.Program(sys.argv[1]))
+    rng = harness.seeded(20261127)
     for k in range(count):
         beyond.overflow(f'overflow {k}', recursive(rng), rng.choice([4096, 4096, 8192, 12288, 16384]))
-    rng = random.Random(20261128)
+    rng = harness.seeded(20261128)
     for k in range(count):
         source = risky(rng)
         beyond.undefined(f'undefined {k}', source, bytes(rng.randrange(256) for _ in range(rng.randrange(0, 8))))

@@ -6,19 +6,17 @@ of five stack sizes they are interpreted, built, run by `cc run`, by qemu-riscv3
 where the sum is of several calls, still a program. Without --stack each of 200 programs is built to the same bytes as with
 --stack 1048576; those of usual.txt, whose code has not changed since, to the bytes that the compiler wrote before it had the option.
 """
-import concurrent.futures
 import hashlib
 import os
 import re
-import struct
 import sys
 
 HERE = os.path.dirname(os.path.abspath(__file__))
 OUTSIDE = os.path.dirname(HERE)
-for folder in ('scalars', 'interp', 'meaning'):
-    sys.path.insert(0, os.path.join(OUTSIDE, folder))
-import four
+sys.path[:0] = [os.path.dirname(OUTSIDE), os.path.join(OUTSIDE, 'interp')]
+import harness
 import rows
+from harness import elf, ways
 
 SIZES = (4096, 8192, 65536, 1048576, 16777216)
 NO_SIZES = ('0', '1', '4095', '4097', '5000', '16777217', '16781312', '2147483648', '4294967296', '4294971392', '18446744073709551616', '-4096', 'x', '')
@@ -31,31 +29,9 @@ THIRD = '01000000 00000000 00F0FF7F 00F0FF7F 00000000 00100000 06000000 00100000
 RECURSION = 'int f(int n) { if (n == 0) return 0; return f(n - 1); } int main(void) { char pad[%d]; return f(%d); }'
 
 
-class Sized(four.Program):
+def sized(case, source, stack):
     """A program with a stack of so many bytes."""
-
-    def __init__(self, compiler, source, stack):
-        super().__init__(compiler, source if source.endswith('\n') else source + '\n')
-        self.stack = [] if stack is None else ['--stack', str(stack)]
-
-    def ask(self, command, *more, data=b''):
-        return four.run([self.compiler, command, *self.names, *self.stack, *more], self.folder, data)
-
-    def interpret(self, data=b'', most=None):
-        return self.ask('interp', *self.bound(most), data=data)
-
-    def build(self):
-        return self.ask('build', '-o', 'program')
-
-    def listing(self):
-        return self.ask('list')
-
-    def file(self):
-        """The built file, or nothing where there is none."""
-        if not os.path.exists(os.path.join(self.folder, 'program')):
-            return b''
-        with open(os.path.join(self.folder, 'program'), 'rb') as file:
-            return file.read()
+    return ways.Sources(case.program, source if source.endswith('\n') else source + '\n', stack=stack)
 
 
 def meaning_rows():
@@ -91,65 +67,78 @@ def calls(source):
     return re.search(r'\)\s*{', source[:source.index(MAIN)]) is not None
 
 
-def at_and_over(compiler, number, row, stack):
+def at_and_over(case, row, stack):
     given, status, output, greatest, source = row
-    counted = four.Counted()
-    name = 'program %d with %d bytes' % (number, stack)
-    with Sized(compiler, padded(source, stack - greatest), stack) as program:
-        if four.four_ways(counted, name, program, given, status, output):
-            four.listed(counted, name, program)
-            counted.expect(name + ', header', program.file()[116:148], header(stack))
-    with Sized(compiler, padded(source, stack - greatest + 16), stack) as program:
-        answers = [program.ask(*words) for words in (('build', '-o', 'program'), ('list',), ('interp',))]
-        if calls(source):
-            counted.expect(name + ', one past, of several calls', answers[0], (0, b'', b''))
-        else:
-            counted.expect(name + ', one past', [(answer[0], answer[1], answer[2].split(b' ')[1:2]) for answer in answers], [(1, b'', [b'714'])] * 3)
-            counted.expect(name + ', no file one past', os.path.exists(os.path.join(program.folder, 'program')), False)
-    return counted
+    program = sized(case, padded(source, stack - greatest), stack)
+    if ways.four_ways(case, 'at', program, given, status, output):
+        ways.listed(case, 'at', program)
+        case.expect('header', program.file()[116:148], header(stack))
+    program = sized(case, padded(source, stack - greatest + 16), stack)
+    answers = [program.ask(*words) for words in (('build', '-o', 'program'), ('list',), ('interp',))]
+    if calls(source):
+        case.expect('one past, of several calls', answers[0], (0, b'', b''))
+    else:
+        case.expect('one past', [(answer[0], answer[1], answer[2].split(b' ')[1:2]) for answer in answers], [(1, b'', [b'714'])] * 3)
+        case.expect('no file one past', program.file(), b'')
 
 
 def header(stack):
     """The third program header (gABI, chapter 5): loadable, of no bytes of the file, for reading and writing, below 0x80000000."""
-    return struct.pack('<8I', 1, 0, 0x80000000 - stack, 0x80000000 - stack, 0, stack, 6, 4096)
+    return elf.Segment(0x80000000 - stack, 0, flags=elf.READ | elf.WRITE, memsz=stack).bytes()
 
 
-def ends(counted, name, compiler, source, stack, status, most=None):
-    with Sized(compiler, source, stack) as program:
-        counted.expect(name + ', build', program.build(), (0, b'', b''))
-        counted.expect(name + ', run', program.simulate(most=most), (status, b'', b''))
-        if four.QEMU:
-            counted.expect(name + ', qemu-riscv32', program.emulate(), (status, b'', b''))
-        counted.expect(name + ', interp', program.interpret(), (status, b'', b''))
+def ends(case, source, stack, status, most=None):
+    program = sized(case, source, stack)
+    case.expect('build', program.build(), (0, b'', b''))
+    case.expect('run', program.simulate(most=most), (status, b'', b''))
+    if ways.QEMU:
+        case.expect('qemu-riscv32', program.emulate(), (status, b'', b''))
+    else:
+        case.skip(1, 'qemu-riscv32 is missing')
+    case.expect('interp', program.interpret(), (status, b'', b''))
 
 
-def single_rows(compiler):
-    counted = four.Counted()
-    with Sized(compiler, MAIN + ' return 42; }', 4096) as program:
-        counted.expect('build', program.build(), (0, b'', b''))
-        counted.expect('third header', program.file()[116:148], bytes.fromhex(THIRD))
+def third_header(case):
+    program = sized(case, MAIN + ' return 42; }', 4096)
+    case.expect('build', program.build(), (0, b'', b''))
+    case.expect('third header', program.file()[116:148], bytes.fromhex(THIRD))
+
+
+def elements(case, number, code):
+    program = sized(case, MAIN + ' char a[%d]; return 0; }' % number, 4096)
+    for words in (('build', '-o', 'program'), ('list',), ('interp',)):
+        status, _, line = program.ask(*words)
+        case.expect(words[0], (status, line.split(b' ')[1:2]), (len(code), code))
+
+
+def no_size(case, size):
+    program = sized(case, MAIN + ' return 0; }', size)
+    for words in (('build', '-o', 'program'), ('list',), ('interp',)):
+        status, text, line = program.ask(*words)
+        case.expect(words[0], (status, text, line != b''), (2, b'', True))
+    case.expect('a file was made', program.file(), b'')
+
+
+def no_option(case):
+    program = sized(case, MAIN + ' return 0; }', 4096)
+    case.expect('pp has no --stack', program.ask('pp')[0], 2)
+    case.expect('run has no --stack', program.ask('run')[0], 2)
+
+
+def single_rows():
+    yield 'third header', third_header
     # 448 + 12 * 304 and 368 + 55187 * 304
-    ends(counted, 'sum of 4096', compiler, RECURSION % (272, 11), 4096, 0)
-    ends(counted, 'sum of 16777216', compiler, RECURSION % (192, 55186), 16777216, 0)
-    for elements, code in ((3936, []), (3937, [b'714'])):
-        with Sized(compiler, MAIN + ' char a[%d]; return 0; }' % elements, 4096) as program:
-            for words in (('build', '-o', 'program'), ('list',), ('interp',)):
-                status, _, line = program.ask(*words)
-                counted.expect('%d elements, %s' % (elements, words[0]), (status, line.split(b' ')[1:2]), (len(code), code))
+    yield 'sum of 4096', ends, RECURSION % (272, 11), 4096, 0
+    yield 'sum of 16777216', ends, RECURSION % (192, 55186), 16777216, 0
+    yield '3936 elements', elements, 3936, []
+    yield '3937 elements', elements, 3937, [b'714']
     # 64 n + 64 instructions for 4 ticks, and for 24
     for stack in SIZES:
-        ends(counted, '320 instructions with %d bytes' % stack, compiler, MAIN + ' return 42; }', stack, 42, 320)
-        ends(counted, '1600 instructions with %d bytes' % stack, compiler, MAIN + ' int i; for (i = 0; i < 2; i++) ; return i; }', stack, 2, 1600)
+        yield f'320 instructions with {stack} bytes', ends, MAIN + ' return 42; }', stack, 42, 320
+        yield f'1600 instructions with {stack} bytes', ends, MAIN + ' int i; for (i = 0; i < 2; i++) ; return i; }', stack, 2, 1600
     for size in NO_SIZES:
-        with Sized(compiler, MAIN + ' return 0; }', size) as program:
-            for words in (('build', '-o', 'program'), ('list',), ('interp',)):
-                status, text, line = program.ask(*words)
-                counted.expect('--stack %r, %s' % (size, words[0]), (status, text, line != b''), (2, b'', True))
-            counted.expect('--stack %r makes no file' % size, os.path.exists(os.path.join(program.folder, 'program')), False)
-    with Sized(compiler, MAIN + ' return 0; }', 4096) as program:
-        counted.expect('pp has no --stack', program.ask('pp')[0], 2)
-        counted.expect('run has no --stack', program.ask('run')[0], 2)
-    return counted
+        yield f'--stack {size!r}', no_size, size
+    yield 'commands without --stack', no_option
 
 
 def usual_programs():
@@ -160,22 +149,17 @@ def usual_programs():
     return found[:PROGRAMS]
 
 
-def digest(compiler, source, files, *words):
-    with four.Program(compiler, source, files) as program:
-        answer = four.run([compiler, 'build', *program.names, '-o', 'program', *words], program.folder)
-        if answer[0] != 0:
-            return repr(answer)
-        with open(os.path.join(program.folder, 'program'), 'rb') as file:
-            return hashlib.sha256(file.read()).hexdigest()
+def digest(case, source, files, stack=None):
+    program = ways.Sources(case.program, source, files, stack)
+    answer = program.build()
+    return hashlib.sha256(program.file()).hexdigest() if answer[0] == 0 else repr(answer)
 
 
-def usual_bytes(compiler, name, source, files, wanted):
-    counted = four.Counted()
-    usual = digest(compiler, source, files)
-    counted.expect(name + ', --stack 1048576', digest(compiler, source, files, '--stack', '1048576'), usual)
+def usual_bytes(case, source, files, wanted):
+    usual = digest(case, source, files)
+    case.expect('--stack 1048576', digest(case, source, files, 1048576), usual)
     if wanted:
-        counted.expect(name + ', as ever', usual, wanted)
-    return counted
+        case.expect('as ever', usual, wanted)
 
 
 def kept_digests():
@@ -183,24 +167,18 @@ def kept_digests():
         return dict(reversed(line.split(' ', 1)) for line in file.read().splitlines())
 
 
-def main():
-    compiler = os.path.abspath(sys.argv[1])
-    counted = four.Counted()
-    chosen = [row for row in meaning_rows()][:COUNT]
-    counted.expect('programs of ../meaning', len(chosen), COUNT)
-    kept = kept_digests()
-    counted.expect('digests', len(kept), 76)
-    with concurrent.futures.ThreadPoolExecutor(os.cpu_count()) as pool:
-        asked = [pool.submit(single_rows, compiler)]
-        asked += [pool.submit(at_and_over, compiler, number, row, stack) for number, row in enumerate(chosen) for stack in SIZES]
-        asked += [pool.submit(usual_bytes, compiler, name, source, files, kept.get(name)) for name, source, files in usual_programs()]
-        for one in asked:
-            counted.add(one.result())
-    for line in counted.lines:
-        print(line)
-    print('%d passed, %d failed' % (counted.passed, counted.failed) + (', %d skipped' % counted.skipped if counted.skipped else ''))
-    return 1 if counted.failed or not counted.passed else 0
+def cases(_):
+    for name, *row in single_rows():
+        yield harness.Row(name, *row)
+    chosen, kept = list(meaning_rows())[:COUNT], kept_digests()
+    yield harness.number_of('programs of ../meaning', len(chosen), COUNT)
+    yield harness.number_of('digests', len(kept), 76)
+    for number, row in enumerate(chosen):
+        for stack in SIZES:
+            yield harness.Row(f'program {number} with {stack} bytes', at_and_over, row, stack)
+    for name, source, files in usual_programs():
+        yield harness.Row('usual ' + name, usual_bytes, source, files, kept.get(name))
 
 
 if __name__ == '__main__':
-    sys.exit(main())
+    sys.exit(harness.main(cases))

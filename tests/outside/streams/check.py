@@ -2,22 +2,24 @@
 """Holds `CC run` and `CC interp` against what others see of their output: `check.py CC`. The last line counts what passed and failed.
 
 Partners sit at a pseudo terminal, at two pipes, behind a file, a full device and a closed pipe. What they have to see is written here by
-hand. No check is of speed; each has a time after which it fails.
+hand. No check is of speed; each has a time after which it fails, of so many short runs of the program on this machine.
 """
 import os
 import pty
-import random
 import select
-import shutil
 import signal
 import subprocess
 import sys
-import tempfile
 import termios
 import time
 
-# So long a check waits for what has to come.
-PATIENCE = float(os.environ.get("PATIENCE", "60"))
+HERE = os.path.dirname(os.path.abspath(__file__))
+sys.path.insert(0, os.path.dirname(os.path.dirname(HERE)))
+import harness
+from harness import pace
+
+# So many short runs a check waits for what has to come.
+PATIENCE = 10000
 # Steps or ticks that are not used up within that time.
 ENDLESS = str(2 ** 63 - 1)
 COMMANDS = ('run', 'interp')
@@ -66,20 +68,6 @@ SOURCES = {
 }
 
 
-class Checks:
-    """What passed and what failed."""
-
-    def __init__(self):
-        self.passed = self.failed = 0
-
-    def holds(self, name, found, wanted):
-        if found == wanted:
-            self.passed += 1
-        else:
-            self.failed += 1
-            print('FAIL %s: %r, not %r' % (name, found, wanted))
-
-
 class Programs:
     """The words that run a program of SOURCES by one of the commands."""
 
@@ -97,13 +85,20 @@ class Programs:
         return [self.program, command, self.place(name if command == 'run' else name + '.c'), '--max', most]
 
 
+def deadline():
+    """When what has to come is no longer waited for."""
+    return pace.Deadline(pace.of_program(harness.Case.path), PATIENCE)
+
+
 def read_until(descriptor, wanted):
     """What comes, until so many bytes came, or nothing more does."""
-    found, end = b'', time.monotonic() + PATIENCE
+    found, end = b'', deadline()
     while len(found) < wanted:
-        ready, _, _ = select.select([descriptor], [], [], max(0.0, end - time.monotonic()))
+        ready, _, _ = select.select([descriptor], [], [], end.left())
         if not ready:
-            break
+            if end.has_passed():
+                break
+            continue
         try:
             some = os.read(descriptor, wanted - len(found))
         except OSError:
@@ -114,25 +109,32 @@ def read_until(descriptor, wanted):
     return found
 
 
+def nothing_more(descriptor):
+    """What comes of an output that has to have ended."""
+    return read_until(descriptor, 1)
+
+
 def ended(process):
     """The status of a process that has to end."""
-    try:
-        return process.wait(timeout=PATIENCE)
-    except subprocess.TimeoutExpired:
-        process.kill()
-        process.wait()
-        return 'no end'
+    end = deadline()
+    while not end.has_passed():
+        try:
+            return process.wait(timeout=end.left())
+        except subprocess.TimeoutExpired:
+            pass
+    process.kill()
+    process.wait()
+    return 'no end'
 
 
-def finished(words, **streams):
+def finished(words, given=None, **streams):
     """Status, output and errors of a process that has to end."""
     process = subprocess.Popen(words, **streams)
     try:
-        output, errors = process.communicate(timeout=PATIENCE)
+        output, errors = pace.communicate(process, pace.of_program(harness.Case.path), PATIENCE, given)
     except subprocess.TimeoutExpired:
-        process.kill()
         process.communicate()
-        return 'no end'
+        return 'no end', b'', b''
     return process.returncode, output, errors
 
 
@@ -145,10 +147,10 @@ def at_terminal(checks, programs, command):
     termios.tcsetattr(theirs, termios.TCSANOW, settings)
     process = subprocess.Popen(programs.words(command, 'ask'), stdin=theirs, stdout=theirs, stderr=subprocess.DEVNULL)
     os.close(theirs)
-    checks.holds(command + ': the prompt on a terminal', read_until(ours, 6), b'name? ')
+    checks.expect(command + ': the prompt on a terminal', read_until(ours, 6), b'name? ')
     os.write(ours, b'Ada\n')
-    checks.holds(command + ': the greeting on a terminal', read_until(ours, 10), b'hello Ada\n')
-    checks.holds(command + ': the status on a terminal', ended(process), 7)
+    checks.expect(command + ': the greeting on a terminal', read_until(ours, 10), b'hello Ada\n')
+    checks.expect(command + ': the status on a terminal', ended(process), 7)
     os.close(ours)
 
 
@@ -162,10 +164,10 @@ def talk(checks, programs, command, name, lines, answer):
         found.append(read_until(process.stdout.fileno(), len(answer(line))))
         if found[-1] != answer(line):
             break
-    checks.holds('%s %s: answers at two pipes' % (command, name), found, [answer(line) for line in lines])
+    checks.expect('%s %s: answers at two pipes' % (command, name), found, [answer(line) for line in lines])
     process.stdin.close()
-    checks.holds('%s %s: nothing more at two pipes' % (command, name), read_until(process.stdout.fileno(), 1), b'')
-    checks.holds('%s %s: the status at two pipes' % (command, name), ended(process), 0)
+    checks.expect('%s %s: nothing more at two pipes' % (command, name), nothing_more(process.stdout.fileno()), b'')
+    checks.expect('%s %s: the status at two pipes' % (command, name), ended(process), 0)
     process.stdout.close()
 
 
@@ -180,30 +182,30 @@ def while_it_goes_on(checks, programs, command):
     """Output is seen while the run goes on without reading."""
     for name, wanted in (('spin', b'before'), ('calls', b'before'), ('drip', b'....')):
         process = subprocess.Popen(programs.words(command, name), stdin=subprocess.DEVNULL, stdout=subprocess.PIPE)
-        checks.holds('%s %s: output of a run that goes on' % (command, name), read_until(process.stdout.fileno(), len(wanted)), wanted)
+        checks.expect('%s %s: output of a run that goes on' % (command, name), read_until(process.stdout.fileno(), len(wanted)), wanted)
         process.kill()
         process.communicate()
 
 
 def interrupted(checks, programs, command):
     """What was written before an interruption is in the file. The time until it is there is waited for, as the machine may be slow."""
-    place = programs.place('written')
+    place = programs.place('written by ' + command)
     for number in (signal.SIGINT, signal.SIGTERM):
         with open(place, 'wb') as file:
             process = subprocess.Popen(programs.words(command, 'spin'), stdin=subprocess.DEVNULL, stdout=file)
-        end = time.monotonic() + PATIENCE
+        end = deadline()
         time.sleep(2)
-        while os.path.getsize(place) < 6 and time.monotonic() < end:
+        while os.path.getsize(place) < 6 and not end.has_passed():
             time.sleep(0.1)
         process.send_signal(number)
-        checks.holds('%s: killed by %s' % (command, number.name), ended(process), -number)
+        checks.expect('%s: killed by %s' % (command, number.name), ended(process), -number)
         with open(place, 'rb') as file:
-            checks.holds('%s: output before %s' % (command, number.name), file.read(), b'before')
+            checks.expect('%s: output before %s' % (command, number.name), file.read(), b'before')
 
 
 def refused(checks, name, words, output, error, stdin=subprocess.DEVNULL):
     found = finished(words, stdin=stdin, stdout=output, stderr=subprocess.PIPE)
-    checks.holds(name, found, (126, None, b'cc: port fault %d\n' % error))
+    checks.expect(name, found, (126, None, b'cc: port fault %d\n' % error))
 
 
 def over_refusals(checks, programs, command):
@@ -222,7 +224,7 @@ def over_a_folder(checks, programs, command):
     """Input that cannot be read is told, and what was written before it is seen."""
     folder = os.open(programs.folder, os.O_RDONLY)
     found = finished(programs.words(command, 'ask'), stdin=folder, stdout=subprocess.PIPE, stderr=subprocess.PIPE)
-    checks.holds(command + ': a folder as input', found, (126, b'name? ', b'cc: port fault 802\n'))
+    checks.expect(command + ': a folder as input', found, (126, b'name? ', b'cc: port fault 802\n'))
     with open('/dev/full', 'wb') as full:
         refused(checks, command + ': a folder as input, a full device as output', programs.words(command, 'ask'), full, 802, folder)
     os.close(folder)
@@ -236,65 +238,67 @@ def under_an_emulator(checks, programs):
     subprocess.run([programs.program, 'build', 'failing.c', '-o', 'failing'], cwd=programs.folder, check=True)
     run = ['qemu-riscv32', program]
     closed = ['sh', '-c', 'exec qemu-riscv32 "$0" <&-', program]
-    checks.holds('emulator: no input', finished(run, stdin=subprocess.DEVNULL, stdout=subprocess.PIPE), (40, b'', None))
-    checks.holds('emulator: a closed input', finished(closed, stdin=subprocess.DEVNULL, stdout=subprocess.PIPE), (40, b'', None))
+    checks.expect('emulator: no input', finished(run, stdin=subprocess.DEVNULL, stdout=subprocess.PIPE), (40, b'', None))
+    checks.expect('emulator: a closed input', finished(closed, stdin=subprocess.DEVNULL, stdout=subprocess.PIPE), (40, b'', None))
     folder = os.open('/', os.O_RDONLY)
-    checks.holds('emulator: a folder as input', finished(run, stdin=folder, stdout=subprocess.PIPE), (40, b'', None))
+    checks.expect('emulator: a folder as input', finished(run, stdin=folder, stdout=subprocess.PIPE), (40, b'', None))
     os.close(folder)
     ours, theirs = os.pipe()
     os.set_blocking(ours, False)
-    checks.holds('emulator: an input that has nothing yet', finished(run, stdin=ours, stdout=subprocess.PIPE), (40, b'', None))
+    checks.expect('emulator: an input that has nothing yet', finished(run, stdin=ours, stdout=subprocess.PIPE), (40, b'', None))
     os.write(theirs, bytes(range(256)))
-    checks.holds('emulator: an input with bytes, and nothing more yet', finished(run, stdin=ours, stdout=subprocess.PIPE), (50, b'some', None))
+    checks.expect('emulator: an input with bytes, and nothing more yet', finished(run, stdin=ours, stdout=subprocess.PIPE), (50, b'some', None))
     os.write(theirs, b'x')
     full = os.open('/dev/full', os.O_WRONLY)
-    checks.holds('emulator: a full device', finished(run, stdin=ours, stdout=full)[0], 126)
+    checks.expect('emulator: a full device', finished(run, stdin=ours, stdout=full)[0], 126)
     os.close(full)
     os.write(theirs, b'x')
     broken = ['sh', '-c', 'exec qemu-riscv32 "$0" >&-', program]
-    checks.holds('emulator: a closed output', finished(broken, stdin=ours, stdout=subprocess.PIPE)[0], 126)
+    checks.expect('emulator: a closed output', finished(broken, stdin=ours, stdout=subprocess.PIPE)[0], 126)
     os.close(ours)
     os.close(theirs)
 
 
 def copies(checks, programs, command, size):
     """Bytes of a file are copied as they are, from a file and from a pipe."""
-    data = random.Random(20261126).randbytes(size)
-    place = programs.place('data')
+    data = harness.seeded(20261126).randbytes(size)
+    place = programs.place('data of ' + command)
     with open(place, 'wb') as file:
         file.write(data)
     with open(place, 'rb') as file:
         found = finished(programs.words(command, 'copy'), stdin=file, stdout=subprocess.PIPE, stderr=subprocess.PIPE)
-    checks.holds('%s: a copy of a file' % command, found == (0, data, b''), True)
-    process = subprocess.Popen(programs.words(command, 'copy'), stdin=subprocess.PIPE, stdout=subprocess.PIPE)
-    try:
-        output, _ = process.communicate(data, timeout=PATIENCE)
-    except subprocess.TimeoutExpired:
-        process.kill()
-        output, _ = process.communicate()
-    checks.holds('%s: a copy of what a pipe gave' % command, (process.returncode, output == data), (0, True))
+    checks.expect('%s: a copy of a file' % command, found == (0, data, b''), True)
+    status, output, _ = finished(programs.words(command, 'copy'), data, stdin=subprocess.PIPE, stdout=subprocess.PIPE)
+    checks.expect('%s: a copy of what a pipe gave' % command, (status, output == data), (0, True))
 
 
-def main():
-    checks = Checks()
-    with tempfile.TemporaryDirectory() as folder:
-        programs = Programs(os.path.abspath(sys.argv[1]), folder)
-        for command in COMMANDS:
-            at_terminal(checks, programs, command)
-            with_partners(checks, programs, command)
-            while_it_goes_on(checks, programs, command)
-            interrupted(checks, programs, command)
-            over_refusals(checks, programs, command)
-            over_a_folder(checks, programs, command)
-            copies(checks, programs, command, (16 if command == 'run' else 1) * 2 ** 20)
-        if shutil.which('qemu-riscv32'):
-            under_an_emulator(checks, programs)
-        else:
-            print('SKIPPED under an emulator: there is no qemu-riscv32')
-    skipped = '' if shutil.which('qemu-riscv32') else ', 1 skipped'
-    print('%d passed, %d failed%s' % (checks.passed, checks.failed, skipped))
-    return checks.failed
+def by_command(part):
+    """The part as a case of each command."""
+    for command in COMMANDS:
+        yield harness.Row(f'{part.__name__} {command}', lambda case, command=command: part(case, built_programs(case), command))
+
+
+def built_programs(case):
+    """The programs in the case's folder."""
+    return Programs(case.path, case.program.folder())
+
+
+def emulated(case):
+    harness.needs('qemu-riscv32')
+    under_an_emulator(case, built_programs(case))
+
+
+def copied(case, command):
+    copies(case, built_programs(case), command, (16 if command == 'run' else 1) * 2 ** 20)
+
+
+def cases(_):
+    for part in (at_terminal, with_partners, while_it_goes_on, interrupted, over_refusals, over_a_folder):
+        yield from by_command(part)
+    for command in COMMANDS:
+        yield harness.Row(f'copies {command}', copied, command)
+    yield harness.Row('under_an_emulator', emulated)
 
 
 if __name__ == '__main__':
-    sys.exit(main() != 0)
+    sys.exit(harness.main(cases))

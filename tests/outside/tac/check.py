@@ -13,7 +13,7 @@ import machine
 
 
 def main():
-    program, counted = os.path.abspath(sys.argv[1]), machine.asking.Counted()
+    program, counted = os.path.abspath(sys.argv[1]), machine.harness.Verdict()
     count, seed = (sys.argv[2:4] + ['500', '1'][len(sys.argv[2:4]):])
     by_hand = os.path.join(HERE, 'programs.txt')
     told = subprocess.run([sys.executable, os.path.join(HERE, 'interpreter.py'), by_hand], capture_output=True, text=True, check=False).stdout

@@ -271,7 +271,6 @@ class Maker:
         self.code.append('move o%d %d' % (counter, self.chance.randint(1, 6)))
         self.locked.add(counter)
         self.lose()
-        kept, references = set(self.kept), dict(self.references)
         self.kept, self.references = set(), {}
         start = len(self.code)
         self.block(self.chance.randint(1, 4), depth - 1)

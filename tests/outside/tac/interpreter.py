@@ -5,7 +5,11 @@ say they come to.
 It is written from tac/specs/Run.antt and tac/specs/Costs.antt, with ISO/IEC 9899:2011 6.5 for what operations are, and has no part of the
 compiler. The form of a program is told in crates/test_tac/README.md.
 """
+import os
 import sys
+
+sys.path.insert(0, os.path.join(os.path.dirname(os.path.abspath(__file__)), '..', '..'))
+from harness import verdict
 
 FULL = 2 ** 32
 SIZES = {'bool': 1, 'char': 1, 'schar': 1, 'uchar': 1, 'short': 2, 'ushort': 2, 'int': 4, 'uint': 4, 'long': 4, 'ulong': 4}
@@ -448,7 +452,7 @@ def main():
             else:
                 failed += 1
                 print('FAIL %s: %s at costs of %s, not %s of %s' % (program.name, ' '.join(found), spent, ' '.join(said), costs))
-    print('%d passed, %d failed' % (passed, failed))
+    print(verdict.line(passed, failed))
 
 
 if __name__ == '__main__':

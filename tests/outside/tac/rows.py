@@ -10,8 +10,8 @@ import sys
 
 HERE = os.path.dirname(os.path.abspath(__file__))
 CRATE = os.path.join(HERE, '..', '..', '..', 'crates/test_tac')
-sys.path.insert(0, os.path.dirname(HERE))
-import asking
+sys.path.insert(0, os.path.dirname(os.path.dirname(HERE)))
+import harness
 
 COUNTS = {'programs.txt': 89, 'random.txt': 60}
 AROUND = 4 + 2
@@ -70,19 +70,5 @@ def made():
     return files
 
 
-def main():
-    if sys.argv[1:] == ['--check']:
-        counted = asking.Counted()
-        for name, text in made().items():
-            with open(os.path.join(CRATE, name), encoding='ascii') as file:
-                counted.expect(f'crates/test_tac/{name} is what the rows make', file.read() == text, True)
-        return counted.end()
-    os.makedirs(os.path.join(CRATE, 'data'), exist_ok=True)
-    for name, text in made().items():
-        with open(os.path.join(CRATE, name), 'w', encoding='ascii') as file:
-            file.write(text)
-    return 0
-
-
 if __name__ == '__main__':
-    sys.exit(main())
+    sys.exit(harness.made(CRATE, made()))

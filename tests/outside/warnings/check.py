@@ -11,13 +11,16 @@ import subprocess
 import sys
 import tempfile
 
+sys.path.insert(0, os.path.dirname(os.path.dirname(os.path.dirname(os.path.abspath(__file__)))))
+import harness
+
 here = os.path.dirname(os.path.abspath(__file__))
 sys.path.insert(0, os.path.dirname(here))
 import sarif
 
 top = os.path.dirname(os.path.dirname(os.path.dirname(here)))
 cc = os.path.abspath(sys.argv[1] if len(sys.argv) > 1 else os.path.join(top, "bin/cc"))
-passed = failed = 0
+verdict = harness.Verdict()
 
 WANTED = {
     "unused-variable": [("with.c", 3, 12, "never_read"), ("with.c", 7, 9, "unused"), ("with.c", 8, 9, "unset")],
@@ -46,12 +49,7 @@ WANTED = {
 
 
 def check(what, holds, said=""):
-    global passed, failed
-    if holds:
-        passed += 1
-    else:
-        failed += 1
-        print(f"FAIL {what}: {said}")
+    verdict.holds(f"{what}: {said}", holds)
 
 
 def run(folder, words):
@@ -141,5 +139,4 @@ check("__LINE__", ran.stderr.startswith("stdin.c:3: warning: ") and "'unused' [u
 ran = subprocess.run([cc, "check", "-", "-D", "N=4 + 1"], input="int main(void) {\n    int unused = N;\n    return 0;\n}\n", capture_output=True, text=True, timeout=60)
 check("-D", ran.stderr.startswith("stdin.c:2:9: warning: ") and ran.stderr.count("warning") == 1, ran.stderr)
 
-print(f"{passed} passed, {failed} failed")
-sys.exit(failed != 0)
+sys.exit(verdict.end())

@@ -7,14 +7,12 @@ Each row is a source with what it comes to, by the rules of the language: the st
 that is right is built, run, run by qemu-riscv32 where it is there, listed (a line for each word of the file's text) and interpreted.
 The last line is 'N passed, M failed'."""
 import os
-import shutil
-import struct
 import sys
 
-sys.path.insert(0, os.path.join(os.path.dirname(os.path.abspath(__file__)), '..'))
-from asking import Counted, Program, side_by_side
+sys.path.insert(0, os.path.join(os.path.dirname(os.path.abspath(__file__)), '..', '..'))
+import harness
+from harness import elf
 
-QEMU = shutil.which('qemu-riscv32')
 EDGES = (255, 256, 257, 65535, 65536, 65537)
 PUT = 'void rv_putbyte(int c);\n'
 
@@ -39,7 +37,7 @@ def arrays():
         yield f'rows, automatic, {n}', body(f'char a[{n}][2] = {{ {{ 1, 2 }}, {{ 3 }} }}; a[{n - 1}][1] = 9; return a[0][1] + a[1][0] + a[{n - 1}][0] + a[{n - 1}][1];'), 14, b''
         yield f'short rows, automatic, {n}', body(f'char a[2][{n}] = {{ {{ 1, 2 }}, {{ 3 }} }}; a[1][{n - 1}] = 9; return a[0][1] + a[1][0] + a[0][{n - 1}] + a[1][{n - 1}];'), 14, b''
         yield f'by a loop, {n}', body(f'static int a[{n}]; int s = 0; for (int i = 0; i < {n}; i++) a[i] = i; for (int i = 0; i < {n}; i++) s ^= a[i]; return s & 255;'), xor_to(n) & 255, b''
-        yield f'by reference, {n}', f'int f(int a[], int i) {{ return a[i]; }}\n' + body(f'int a[{n}] = {{ 5 }}; a[{n - 1}] = 9; return f(a, {n - 1}) - f(a, 0) + f(a, 1);'), 4, b''
+        yield f'by reference, {n}', 'int f(int a[], int i) { return a[i]; }\n' + body(f'int a[{n}] = {{ 5 }}; a[{n - 1}] = 9; return f(a, {n - 1}) - f(a, 0) + f(a, 1);'), 4, b''
         values = [(7 * i + 3) % 251 for i in range(n)]
         yield f'first values, static, {n}', f'unsigned char a[{n}] = {{ {listed(values)} }};\n' + body(f'unsigned s = 0; for (int i = 0; i < {n}; i++) s = s * 31 + a[i]; return s >> 24;'), folded(values) >> 24, b''
         yield f'size by first values, {n}', f'short a[] = {{ {listed(values)} }};\n' + body(f'return sizeof a == {2 * n} && a[{n - 1}] == {values[-1]};'), 1, b''
@@ -167,56 +165,45 @@ def limits():
         yield f'the constant {value}', body(f'return {value}u == 4294967295u;'), wanted, b'' if wanted < 256 else None
 
 
-def answers(cc, row):
-    """What each command comes to: (what was asked, what came, what was wanted)."""
-    name, source, wanted, output = row
+def held(case, source, wanted, output):
+    """What each command comes to."""
+    cc = case.program
     cc.write('main.c', source)
-    told = []
     if output is None and isinstance(wanted, int):
         for words in (('build', 'main.c', '-o', 'out'), ('interp', 'main.c'), ('list', 'main.c')):
             status, _, line = cc.run(*words)
-            code = line.decode('latin-1').split(': ', 1)[-1].split(' ')[0]
-            told.append((f'{name}: {words[0]}', (status, code), (1, str(wanted))))
-        return told
-    if wanted == 'endless':
-        told.append((f'{name}: interp', cc.run('interp', 'main.c', '--max', '100000')[0], 124))
-        told.append((f'{name}: build', cc.run('build', 'main.c', '-o', 'out')[0], 0))
-        told.append((f'{name}: run', cc.run('run', 'out', '--max', '100000')[0], 124))
-        return told
-    if isinstance(wanted, str):
+            case.expect(words[0], (status, line.decode('latin-1').split(': ', 1)[-1].split(' ')[0]), (1, str(wanted)))
+    elif wanted == 'endless':
+        case.expect('interp', cc.run('interp', 'main.c', '--max', '100000')[0], 124)
+        case.expect('build', cc.run('build', 'main.c', '-o', 'out')[0], 0)
+        case.expect('run', cc.run('run', 'out', '--max', '100000')[0], 124)
+    elif isinstance(wanted, str):
         status, _, line = cc.run('interp', 'main.c')
-        told.append((f'{name}: interp', (status, line.decode('latin-1').strip().split(' ')[-1]), (123, wanted)))
-        told.append((f'{name}: build', cc.run('build', 'main.c', '-o', 'out')[0], 0))
-        return told
-    told.append((f'{name}: interp', cc.run('interp', 'main.c')[:2], (wanted, output)))
+        case.expect('interp', (status, line.decode('latin-1').strip().split(' ')[-1]), (123, wanted))
+        case.expect('build', cc.run('build', 'main.c', '-o', 'out')[0], 0)
+    else:
+        held_all_ways(case, wanted, output)
+
+
+def held_all_ways(case, status, output):
+    cc = case.program
+    case.expect('interp', cc.run('interp', 'main.c')[:2], (status, output))
     built = cc.run('build', 'main.c', '-o', 'out')
-    told.append((f'{name}: build', built, (0, b'', b'')))
+    case.expect('build', built, (0, b'', b''))
     if built[0] != 0:
-        return told
-    told.append((f'{name}: run', cc.run('run', 'out')[:2], (wanted, output)))
-    path = os.path.join(cc.folder(), 'out')
-    with open(path, 'rb') as file:
-        words = struct.unpack('<I', file.read()[68:72])[0] // 4
-    status, lines, _ = cc.run('list', 'main.c')
-    told.append((f'{name}: list', (status, lines.count(b'\n')), (0, words)))
-    if QEMU:
-        os.chmod(path, 0o755)
-        by = Program(QEMU)
-        by.here = cc.here
-        told.append((f'{name}: qemu', by.run(path)[:2], (wanted, output)))
-    return told
+        return
+    case.expect('run', cc.run('run', 'out')[:2], (status, output))
+    listed, lines, _ = cc.run('list', 'main.c')
+    case.expect('list', (listed, lines.count(b'\n')), (0, len(elf.words_of(cc.read('out')))))
+    if qemu := case.tool('qemu-riscv32'):
+        case.expect('qemu-riscv32', cc.run('./out', by=[qemu])[:2], (status, output))
 
 
-def main():
-    cc = Program(sys.argv[1])
-    counted = Counted()
-    rows = [row for part in (arrays, texts, functions, programs, limits) for row in part()]
-    for told in side_by_side(lambda row: answers(cc, row), rows):
-        for asked, came, wanted in told:
-            counted.expect(asked, came, wanted)
-    if not QEMU:
-        counted.skip(len(rows), 'qemu-riscv32 is missing')
-    return counted.end()
+def cases(_):
+    for part in (arrays, texts, functions, programs, limits):
+        for name, *row in part():
+            yield harness.Row(name, held, *row)
 
 
-sys.exit(main())
+if __name__ == '__main__':
+    sys.exit(harness.main(cases))

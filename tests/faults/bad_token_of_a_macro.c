@@ -1,0 +1,3 @@
+/* 3: 301 not a token */ #define X 08
+int main(void) {
+return X; }

@@ -1,0 +1,1 @@
+/* 1: 301 not a token */ int main(void) { return 0; } 

@@ -1,0 +1,1 @@
+/* 1: 531 wrong number of arguments */ void rv_putbyte(int c); int main(void) { rv_putbyte(); return 0; }

@@ -1,0 +1,1 @@
+/* 1: 401 syntax error */ int main(void) { return (int){1}; }

@@ -1,0 +1,1 @@
+/* 1: 609 left out: long long constant */ int main(void) { return 4294967297; }

@@ -1,0 +1,2 @@
+/* 1: 234 #error stop */ #error stop
+int main(void) { return 08; }

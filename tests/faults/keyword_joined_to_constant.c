@@ -1,0 +1,1 @@
+/* 1: 528 undeclared name */ int main(void) { return0; }

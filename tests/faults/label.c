@@ -1,0 +1,1 @@
+/* 1: 401 syntax error */ int main(void) { a: return 0; }

@@ -1,0 +1,1 @@
+/* 1: 401 syntax error */ intmain(void) { return 0; }

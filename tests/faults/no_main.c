@@ -1,0 +1,1 @@
+/* 1: 551 no int main(void) */ void rv_putbyte(int c);

@@ -1,0 +1,3 @@
+/* 3: 401 syntax error */ int main(void)
+{
+return return 0; }

@@ -1,0 +1,2 @@
+/* 2: 714 limit: function weight */ 
+int main(void) { char a[1048576]; return 0; }

@@ -1,0 +1,1 @@
+void rv_putbyte(int c); int main(void) { return 7; }

@@ -1,0 +1,1 @@
+int main(void) { return 1 - 200 + 300 - 400 + 500 - 6; }

@@ -1,0 +1,1 @@
+int main(void) { return (((7))) - ((2) - (1)); }

@@ -1,0 +1,1 @@
+void rv_putbyte(int); int main(void) { return 0; }

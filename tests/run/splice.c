@@ -1,0 +1,2 @@
+int main(void) { re\
+turn 0; }

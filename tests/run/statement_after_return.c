@@ -1,0 +1,1 @@
+void rv_putbyte(int c); int main(void) { return 0; rv_putbyte(65); }

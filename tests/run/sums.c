@@ -1,0 +1,1 @@
+../../examples/sums.c

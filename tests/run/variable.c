@@ -1,0 +1,1 @@
+int main(void) { int a; return 0; }
