@@ -31,7 +31,6 @@ DEFINED = {
     'byte': 'int rv_getbyte(void);\nint main(void) { int c = rv_getbyte(); if (c < 0) return 1; return 1000 / (c + 1); }',
     'narrowed': 'int rv_getbyte(void);\nstatic int a[4] = { 1, 2, 3, 4 };\nint main(void) { int c = rv_getbyte(); if (c >= 0 && c < 4) return a[c]; return 0; }',
     'capitals': 'int rv_getbyte(void);\nvoid rv_putbyte(int c);\nint main(void) { int c; while ((c = rv_getbyte()) != -1) rv_putbyte(c >= 97 && c <= 122 ? c - 32 : c); return 0; }',
-    'behind an exit': 'void rv_exit(int status);\nint main(void) { int z = 0; rv_exit(3); return 1 / z; }',
     'remainder': 'int rv_getbyte(void);\nstatic int a[8];\nint main(void) { unsigned n = rv_getbyte(); return a[n % 8]; }',
     'mask': 'int rv_getbyte(void);\nstatic int a[8];\nint main(void) { return a[rv_getbyte() & 7]; }',
     'shifts': 'int rv_getbyte(void);\nint main(void) { unsigned n = rv_getbyte(); return (int)((1u << (n & 31)) >> 3 & 1); }',
