@@ -1,6 +1,6 @@
 //! Intervals as sets that lie in one another, and checked arithmetic on their bounds.
 
-ghost use Rattle.std.specs.Prelude.{◌≡◌, ◌≤ℤ◌, ◌<ℤ◌, ◌+◌, ◌+ℤ◌, ◌-ℤ◌, ◌*ℤ◌, ◌⊎◌, pos, IfSome, IsTrue};
+ghost use Rattle.std.specs.Prelude.{◌≡◌, ◌≤ℤ◌, ◌<ℤ◌, ◌+◌, ◌+ℤ◌, ◌-ℤ◌, ◌*ℤ◌, ◌⊎◌, int_div, pos, IfSome, IsTrue};
 ghost use Rattle.verify_logic.specs.States.{Below, just};
 
 use verify_logic::Interval;
@@ -93,6 +93,61 @@ pub fn multiply(a: i64, b: i64) -> Option<i64>
     ensures { IfSome result (λ r. r ≡ a *ℤ b) }
 {
     a.checked_mul(b)
+}
+
+/// The quotient by a number above zero, cut towards zero.
+pub fn divide(a: i64, b: i64) -> i64
+    requires { pos 0 <ℤ b }
+    ensures { result ≡ int_div a b }
+{
+    a / b
+}
+
+/// The quotients of both bounds.
+pub fn divided_by(i: Interval, d: i64) -> Interval
+    requires { pos 0 <ℤ d }
+    ensures low { result.low ≡ int_div i.low d }
+    ensures high { result.high ≡ int_div i.high d }
+{
+    let low = divide(i.low, d);
+    let high = divide(i.high, d);
+    Interval { low, high }
+}
+
+/// From 0 to the product, where it fits.
+pub fn up_to_product(a: i64, b: i64) -> Option<Interval>
+    ensures low { IfSome result (λ k. k.low ≡ pos 0) }
+    ensures high { IfSome result (λ k. k.high ≡ a *ℤ b) }
+{
+    let Some(high) = multiply(a, b) else {
+        return None;
+    };
+    Some(Interval { low: 0, high })
+}
+
+/// The product below and above 0, where it fits.
+pub fn around_product(a: i64, b: i64) -> Option<Interval>
+    ensures low { IfSome result (λ k. k.low ≡ pos 0 -ℤ (a *ℤ b)) }
+    ensures high { IfSome result (λ k. k.high ≡ a *ℤ b) }
+{
+    let Some(high) = multiply(a, b) else {
+        return None;
+    };
+    let Some(low) = subtract(0, high) else {
+        return None;
+    };
+    Some(Interval { low, high })
+}
+
+/// The greatest magnitude of the numbers in the interval, where it fits.
+pub fn greatest_magnitude(i: Interval) -> Option<i64>
+    ensures { IfSome result (λ m. Below i (record { low = pos 0 -ℤ m; high = m })) }
+{
+    let Some(opposite) = subtract(0, i.low) else {
+        return None;
+    };
+    let m = greater(opposite, i.high);
+    Some(m)
 }
 
 /// The sum of two sizes, where it fits.

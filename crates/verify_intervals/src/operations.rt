@@ -1,12 +1,17 @@
 //! What operators give on intervals (6.5.3.3, 6.5.5 to 6.5.12). No answer says that undefined behaviour is not ruled out.
 
-ghost use Rattle.std.specs.Prelude.{◌≡◌, IfSome, pos};
+ghost use Rattle.std.specs.Prelude.{◌≡◌, ◌≤ℤ◌, ◌<ℤ◌, ◌-ℤ◌, ◌^◌, ℤ, IfSome, IsTrue, pos};
+ghost use Rattle.ctypes.specs.Arithmetic.{magnitude};
 ghost use Rattle.verify_logic.specs.Judgements.{Computes, Converts, ConvertsRight, Operates, Ranges, Signs};
-ghost use Rattle.verify_logic.specs.States.{range_of};
-ghost use Rattle.verify_logic.specs.States.{just};
+ghost use Rattle.ctypes.specs.Types.{bits_of};
+ghost use Rattle.verify_logic.specs.States.{Below, In, just, range_of};
 ghost use Rattle.csem.specs.Expressions.{step_operation};
 
-use crate::intervals::{add, lies_in, multiply, single, subtract};
+use crate::intervals::{
+    add, around_product, divided_by, greater, greatest_magnitude, lesser, lies_in, multiply,
+    single, subtract, up_to_product,
+};
+use crate::relations::{cut_above, cut_below};
 use ctypes::{BinOp, IntType};
 use tree::{PrefixOp, StepOp};
 use verify_logic::Interval;
@@ -88,7 +93,7 @@ fn difference(ty: IntType, i: Interval, j: Interval) -> Option<Interval>
 }
 
 /// The product of numbers that are not negative.
-fn product(ty: IntType, i: Interval, j: Interval) -> Option<Interval>
+fn natural_product(ty: IntType, i: Interval, j: Interval) -> Option<Interval>
     ensures { IfSome result (λ r. Computes BinOp.Mul ty i j r) }
 {
     if i.low < 0 || j.low < 0 {
@@ -100,20 +105,223 @@ fn product(ty: IntType, i: Interval, j: Interval) -> Option<Interval>
     ranged(ty, Interval { low: 0, high })
 }
 
-/// The quotient or the remainder by numbers that are above zero.
+/// The product of any numbers, by their greatest magnitudes.
+fn signed_product(ty: IntType, i: Interval, j: Interval) -> Option<Interval>
+    ensures { IfSome result (λ r. Computes BinOp.Mul ty i j r) }
+{
+    let Some(a) = greatest_magnitude(i) else {
+        return None;
+    };
+    let Some(b) = greatest_magnitude(j) else {
+        return None;
+    };
+    let Some(k) = around_product(a, b) else {
+        return None;
+    };
+    ranged(ty, k)
+}
+
+/// A product that goes modulo.
+fn modulo_product(ty: IntType, i: Interval, j: Interval) -> Option<Interval>
+    ensures { IfSome result (λ r. Computes BinOp.Mul ty i j r) }
+{
+    if ty.is_signed() {
+        return None;
+    }
+    Some(all_of(ty))
+}
+
+fn product(ty: IntType, i: Interval, j: Interval) -> Option<Interval>
+    ensures { IfSome result (λ r. Computes BinOp.Mul ty i j r) }
+{
+    match natural_product(ty, i, j) {
+        Some(r) => Some(r),
+        None => match signed_product(ty, i, j) {
+            Some(r) => Some(r),
+            None => modulo_product(ty, i, j),
+        },
+    }
+}
+
+/// An interval that holds 0, too.
+fn with_zero(i: Interval) -> Interval
+    ensures all { Below i result }
+    ensures low { result.low ≤ℤ pos 0 }
+    ensures high { pos 0 ≤ℤ result.high }
+{
+    let low = lesser(i.low, 0);
+    let high = greater(i.high, 0);
+    Interval { low, high }
+}
+
+/// The quotient by numbers that are above zero.
 fn quotient(ty: IntType, i: Interval, j: Interval) -> Option<Interval>
     ensures { IfSome result (λ r. Computes BinOp.Div ty i j r) }
 {
-    if i.low < 0 || j.low <= 0 {
+    if j.low <= 0 {
         return None;
     }
-    ranged(
-        ty,
-        Interval {
-            low: 0,
-            high: i.high,
-        },
-    )
+    let whole = with_zero(i);
+    let k = divided_by(whole, j.low);
+    ranged(ty, k)
+}
+
+/// What is below the divisor, and has the sign of the dividend.
+fn cut_remainder(whole: Interval, top: i64) -> Option<Interval>
+    ensures { IfSome result (λ r. (v : ℤ) → In whole v → (pos 0 -ℤ top) <ℤ v → v <ℤ top → In r v) }
+{
+    let Some(most) = subtract(top, 1) else {
+        return None;
+    };
+    let Some(least) = subtract(1, top) else {
+        return None;
+    };
+    let upper = cut_above(whole, most);
+    let both = cut_below(upper, least);
+    Some(both)
+}
+
+/// The remainder by numbers that are above zero.
+fn remainder(ty: IntType, i: Interval, j: Interval) -> Option<Interval>
+    ensures { IfSome result (λ r. Computes BinOp.Rem ty i j r) }
+{
+    if j.low <= 0 {
+        return None;
+    }
+    let whole = with_zero(i);
+    let all = all_of(ty);
+    let fits = lies_in(whole, all);
+    if fits {
+        cut_remainder(whole, j.high)
+    } else {
+        None
+    }
+}
+
+/// Tests whether all are shift counts of the type (6.5.7p3).
+fn are_counts(ty: IntType, j: Interval) -> bool
+    ensures least { IsTrue result → (pos 0 ≤ℤ j.low) × (j.low <ℤ pos 32) }
+    ensures most { IsTrue result → (pos 0 ≤ℤ j.high) × (j.high <ℤ pos (bits_of ty)) }
+    ensures width { IsTrue result → j.high <ℤ pos 32 }
+{
+    let width = i64::from(ty.width());
+    0 <= j.low && j.low < 32 && 0 <= j.high && j.high < width && j.high < 32
+}
+
+/// Two to the `count`.
+fn power(count: i64) -> i64
+    requires least { pos 0 ≤ℤ count }
+    requires most { count <ℤ pos 32 }
+    ensures value { result ≡ pos (2 ^ magnitude count) }
+    ensures positive { pos 0 <ℤ result }
+{
+    1_i64 << count
+}
+
+fn left_by(ty: IntType, i: Interval, j: Interval) -> Option<Interval>
+    requires least { (pos 0 ≤ℤ j.low) × (j.low <ℤ pos 32) }
+    requires most { (pos 0 ≤ℤ j.high) × (j.high <ℤ pos (bits_of ty)) }
+    requires width { j.high <ℤ pos 32 }
+    ensures { IfSome result (λ r. Computes BinOp.Shl ty i j r) }
+{
+    if i.low < 0 {
+        return None;
+    }
+    let most = power(j.high);
+    let Some(k) = up_to_product(i.high, most) else {
+        return None;
+    };
+    ranged(ty, k)
+}
+
+/// Numbers that are not negative, shifted to the left (6.5.7p4).
+fn shifted_left(ty: IntType, i: Interval, j: Interval) -> Option<Interval>
+    ensures { IfSome result (λ r. Computes BinOp.Shl ty i j r) }
+{
+    let counts = are_counts(ty, j);
+    if counts { left_by(ty, i, j) } else { None }
+}
+
+fn right_by(ty: IntType, i: Interval, j: Interval) -> Interval
+    requires least { (pos 0 ≤ℤ j.low) × (j.low <ℤ pos 32) }
+    requires most { (pos 0 ≤ℤ j.high) × (j.high <ℤ pos (bits_of ty)) }
+    ensures { Computes BinOp.Shr ty i j result }
+{
+    let least = power(j.low);
+    let whole = with_zero(i);
+    let k = divided_by(whole, least);
+    with_low(whole.low, k)
+}
+
+fn with_low(low: i64, k: Interval) -> Interval
+    ensures low { result.low ≡ low }
+    ensures high { result.high ≡ k.high }
+{
+    Interval { low, high: k.high }
+}
+
+/// Shifted to the right, which rounds down (6.5.7p5).
+fn shifted_right(ty: IntType, i: Interval, j: Interval) -> Option<Interval>
+    ensures { IfSome result (λ r. Computes BinOp.Shr ty i j r) }
+{
+    let counts = are_counts(ty, j);
+    if counts {
+        Some(right_by(ty, i, j))
+    } else {
+        None
+    }
+}
+
+/// The bits of a number that is not negative, and no others.
+fn left_mask(ty: IntType, i: Interval, j: Interval) -> Option<Interval>
+    ensures { IfSome result (λ r. Computes BinOp.BitAnd ty i j r) }
+{
+    let all = all_of(ty);
+    if i.low < 0 || all.high < i.high {
+        return None;
+    }
+    let r = with_low(0, i);
+    Some(r)
+}
+
+fn right_mask(ty: IntType, i: Interval, j: Interval) -> Option<Interval>
+    ensures { IfSome result (λ r. Computes BinOp.BitAnd ty i j r) }
+{
+    let all = all_of(ty);
+    if j.low < 0 || all.high < j.high {
+        return None;
+    }
+    let r = with_low(0, j);
+    Some(r)
+}
+
+fn masked_right(ty: IntType, i: Interval, j: Interval) -> Interval
+    ensures { Computes BinOp.BitAnd ty i j result }
+{
+    match right_mask(ty, i, j) {
+        Some(r) => r,
+        None => all_of(ty),
+    }
+}
+
+fn masked_both(ty: IntType, i: Interval, j: Interval, left: Interval) -> Interval
+    requires { Computes BinOp.BitAnd ty i j left }
+    ensures { Computes BinOp.BitAnd ty i j result }
+{
+    match right_mask(ty, i, j) {
+        Some(right) => if right.high < left.high { right } else { left },
+        None => left,
+    }
+}
+
+/// The bits that both have.
+fn masked(ty: IntType, i: Interval, j: Interval) -> Interval
+    ensures { Computes BinOp.BitAnd ty i j result }
+{
+    match left_mask(ty, i, j) {
+        Some(left) => masked_both(ty, i, j, left),
+        None => masked_right(ty, i, j),
+    }
 }
 
 /// What a truth value may be: 0 or 1.
@@ -130,18 +338,18 @@ fn computed(op: BinOp, ty: IntType, i: Interval, j: Interval) -> Option<Interval
     match op {
         BinOp::Mul => product(ty, i, j),
         BinOp::Div => quotient(ty, i, j),
-        BinOp::Rem => None,
+        BinOp::Rem => remainder(ty, i, j),
         BinOp::Add => sum(ty, i, j),
         BinOp::Sub => difference(ty, i, j),
-        BinOp::Shl => None,
-        BinOp::Shr => None,
+        BinOp::Shl => shifted_left(ty, i, j),
+        BinOp::Shr => shifted_right(ty, i, j),
         BinOp::Less => Some(truths()),
         BinOp::Greater => Some(truths()),
         BinOp::LessEqual => Some(truths()),
         BinOp::GreaterEqual => Some(truths()),
         BinOp::Equal => Some(truths()),
         BinOp::NotEqual => Some(truths()),
-        BinOp::BitAnd => Some(all_of(ty)),
+        BinOp::BitAnd => Some(masked(ty, i, j)),
         BinOp::BitXor => Some(all_of(ty)),
         BinOp::BitOr => Some(all_of(ty)),
     }

@@ -142,7 +142,7 @@ pub struct Pair {
 }
 
 /// What does not lie above.
-fn cut_above(i: Interval, top: i64) -> Interval
+pub fn cut_above(i: Interval, top: i64) -> Interval
     ensures { CutsAbove i top result }
 {
     if top < i.high {
@@ -156,7 +156,7 @@ fn cut_above(i: Interval, top: i64) -> Interval
 }
 
 /// What does not lie below.
-fn cut_below(i: Interval, bottom: i64) -> Interval
+pub fn cut_below(i: Interval, bottom: i64) -> Interval
     ensures { CutsBelow i bottom result }
 {
     if i.low < bottom {

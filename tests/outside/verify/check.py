@@ -31,6 +31,10 @@ DEFINED = {
     'byte': 'int rv_getbyte(void);\nint main(void) { int c = rv_getbyte(); if (c < 0) return 1; return 1000 / (c + 1); }',
     'narrowed': 'int rv_getbyte(void);\nstatic int a[4] = { 1, 2, 3, 4 };\nint main(void) { int c = rv_getbyte(); if (c >= 0 && c < 4) return a[c]; return 0; }',
     'capitals': 'int rv_getbyte(void);\nvoid rv_putbyte(int c);\nint main(void) { int c; while ((c = rv_getbyte()) != -1) rv_putbyte(c >= 97 && c <= 122 ? c - 32 : c); return 0; }',
+    'remainder': 'int rv_getbyte(void);\nstatic int a[8];\nint main(void) { unsigned n = rv_getbyte(); return a[n % 8]; }',
+    'mask': 'int rv_getbyte(void);\nstatic int a[8];\nint main(void) { return a[rv_getbyte() & 7]; }',
+    'shifts': 'int rv_getbyte(void);\nint main(void) { unsigned n = rv_getbyte(); return (int)((1u << (n & 31)) >> 3 & 1); }',
+    'signs': 'int rv_getbyte(void);\nint main(void) { int c = rv_getbyte(); return c * c - c * 3 + c / 2 + c % 7; }',
     'literal': 'int rv_getbyte(void);\nint main(void) { int c = rv_getbyte(); if (c < 0 || c > 3) return 0; return 100 / ("abc"[c] + 1); }',
 }
 # The line of an act that some input meets.
@@ -43,6 +47,10 @@ UNDEFINED = {
     'in a loop': ('int main(void) { int n = 5;\n  while (1) {\n    n = 10 / (n - 1) - 1; }\n}', 3),
     'remainder of a negative number': ('int rv_getbyte(void);\nstatic int a[3];\nint main(void) { int c = rv_getbyte();\n  return a[c % 3]; }', 4),
     'a bound that is one too large': ('int rv_getbyte(void);\nstatic int a[3];\nint main(void) { int c = rv_getbyte(); if (c >= 0 && c <= 3)\n  return a[c]; return 0; }', 4),
+    'remainder that is negative': ('int rv_getbyte(void);\nstatic int a[3];\nint main(void) { int c = rv_getbyte() - 5;\n  return a[c % 3]; }', 4),
+    'a mask that is one too large': ('int rv_getbyte(void);\nstatic int a[7];\nint main(void) {\n  return a[rv_getbyte() & 7]; }', 4),
+    'a shift out of range': ('int rv_getbyte(void);\nint main(void) {\n  return (rv_getbyte() & 255) << 24; }', 3),
+    'a product out of range': ('int rv_getbyte(void);\nint main(void) { int c = rv_getbyte() * -9000;\n  return c * 1000; }', 3),
     'least number': ('int rv_getbyte(void);\nint main(void) { int n = -2147483647 - (rv_getbyte() == 65);\n  return n / -1; }', 3),
 }
 # An act behind a call, which need not be followed: never said to be defined.

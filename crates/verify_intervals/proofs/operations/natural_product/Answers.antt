@@ -2,7 +2,7 @@ use Rattle.std.proofs.Common.{◌≡◌, ◌∙◌, ◌*ℤ◌, arith, ap, to_z,
 use Rattle.std.proofs.lemmas.Int.{ints}
 use Rattle.std.proofs.Math.Facts.{to_z-of_z}
 use Rattle.verify_intervals.proofs.Operators.{product_some}
-use Rattle.verify_intervals.proofs.operations.product.Goals as goal
+use Rattle.verify_intervals.proofs.operations.natural_product.Goals as goal
 
 pub returns : goal.returns
 returns c =
