@@ -3,7 +3,7 @@ _zkc() {
     local word=${COMP_WORDS[COMP_CWORD]} before=${COMP_WORDS[COMP_CWORD-1]}
     COMPREPLY=()
     if [ "$COMP_CWORD" = 1 ]; then
-        COMPREPLY=($(compgen -W 'build pp list run interp explain show check frames symbols image size -h --help -V --version' -- "$word"))
+        COMPREPLY=($(compgen -W 'build pp list run interp explain show check verify frames symbols image size -h --help -V --version' -- "$word"))
         return
     fi
     case ${COMP_WORDS[1]}:$before in
@@ -20,6 +20,7 @@ _zkc() {
     explain:--errors) return ;;
     show:--stack) return ;;
     check:--stack) return ;;
+    verify:--stack) return ;;
     frames:--stack) return ;;
     symbols:--stack) return ;;
     esac
@@ -32,6 +33,7 @@ _zkc() {
     explain) [ "$COMP_CWORD" = 2 ] && { COMPREPLY=($(compgen -W 'build interp pp' -- "$word")); return; }; case $word in -*) COMPREPLY=($(compgen -W '--json --sarif --color --stack --max --errors -I -D -U -h --help' -- "$word")) ;; *) mapfile -t COMPREPLY < <(compgen -f -- "$word") ;; esac ;;
     show) [ "$COMP_CWORD" = 2 ] && { COMPREPLY=($(compgen -W 'tokens tree typed tac flat' -- "$word")); return; }; case $word in -*) COMPREPLY=($(compgen -W '--json --stack -o -I -D -U -h --help' -- "$word")) ;; *) mapfile -t COMPREPLY < <(compgen -f -- "$word") ;; esac ;;
     check) case $word in -*) COMPREPLY=($(compgen -W '--warn --werror --json --sarif --stack -I -D -U -h --help' -- "$word")) ;; *) mapfile -t COMPREPLY < <(compgen -f -- "$word") ;; esac ;;
+    verify) case $word in -*) COMPREPLY=($(compgen -W '--stack -I -D -U -h --help' -- "$word")) ;; *) mapfile -t COMPREPLY < <(compgen -f -- "$word") ;; esac ;;
     frames) case $word in -*) COMPREPLY=($(compgen -W '--stack --sizes -I -D -U -h --help' -- "$word")) ;; *) mapfile -t COMPREPLY < <(compgen -f -- "$word") ;; esac ;;
     symbols) case $word in -*) COMPREPLY=($(compgen -W '--stack -o -I -D -U -h --help' -- "$word")) ;; *) mapfile -t COMPREPLY < <(compgen -f -- "$word") ;; esac ;;
     image) case $word in -*) COMPREPLY=($(compgen -W '--bin --ihex --memh -h --help' -- "$word")) ;; *) mapfile -t COMPREPLY < <(compgen -f -- "$word") ;; esac ;;
