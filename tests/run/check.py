@@ -3,7 +3,8 @@
 
 NAME.c is built, and does with the input NAME.in what NAME.out (bytes) and NAME.status say: interpreted, run, run by qemu-riscv32, and as gcc
 of this machine compiles it. A file that is not there is empty, a status 0. readelf reads the file's headers without a complaint, and the
-listing has a line for each word. A further case is a further file. The wanted bytes and statuses are those of gcc."""
+listing has a line for each word. A further case is a further file; those of EXAMPLES have their source in examples/. The wanted bytes and
+statuses are those of gcc."""
 import os
 import subprocess
 import sys
@@ -13,6 +14,8 @@ sys.path.insert(0, os.path.dirname(HERE))
 import harness
 from harness import ways
 
+# Cases of examples/, each with its source there.
+EXAMPLES = {'collatz': 'collatz.c', 'collatz_27': 'collatz.c', 'hello': 'hello.c', 'nested': 'nested.c', 'sums': 'sums.c', 'tour': 'tour.c'}
 # Programs with an object of their own in the data: a string literal.
 WITH_DATA = ('hello',)
 
@@ -23,6 +26,13 @@ def beside(name, suffix):
     if not os.path.exists(path):
         return b''
     with open(path, 'rb') as file:
+        return file.read()
+
+
+def source_of(name):
+    if name not in EXAMPLES:
+        return beside(name, '.c')
+    with open(os.path.join(HERE, '..', '..', 'examples', EXAMPLES[name]), 'rb') as file:
         return file.read()
 
 
@@ -50,11 +60,10 @@ def does(case, source, given, status, output, objects=False):
 
 
 def cases(_):
-    for file in sorted(os.listdir(HERE)):
-        if file.endswith('.c'):
-            name = file.removesuffix('.c')
-            status = int(beside(name, '.status') or 0)
-            yield harness.Row(name, does, beside(name, '.c'), beside(name, '.in'), status, beside(name, '.out'), name in WITH_DATA)
+    names = {file.removesuffix('.c') for file in os.listdir(HERE) if file.endswith('.c')}
+    for name in sorted(names | set(EXAMPLES)):
+        status = int(beside(name, '.status') or 0)
+        yield harness.Row(name, does, source_of(name), beside(name, '.in'), status, beside(name, '.out'), name in WITH_DATA)
 
 
 if __name__ == '__main__':
