@@ -9,6 +9,7 @@ use explain_cmd::VERSION;
 use lint::unknown_word;
 use lint_report::{Asked, Form, Said};
 use lint_unit::warn_of_sources;
+use srcset::{Code, Fault};
 use std::alloc::{AllocError, Global};
 use std::io::Write;
 
@@ -31,17 +32,35 @@ pub fn check_program(rt: &HostRuntime, program: &Program<'_>, warned: Warned<'_>
     }
     let sources = match read_sources(rt, program) {
         Ok(sources) => sources,
-        Err(fault) => return match warned.telling {
-            Telling::Text => say(rt, &fault),
-            Telling::Json | Telling::Sarif => tell_unread(rt, fault, warned.telling),
-        },
+        Err(fault) => return unread(rt, fault, warned.telling),
     };
     match compile_with(rt.alloc(), &sources.set, sources.main, stack_size(program)) {
         Ok(_) => check_sources(rt, program, &sources, warned),
-        Err(fault) => match warned.telling {
-            Telling::Text => say(rt, &sources.told(rt.alloc(), fault)),
-            Telling::Json | Telling::Sarif => tell_refused(rt, program, &sources, warned.telling),
-        },
+        Err(fault) => refused(rt, program, &sources, fault, warned.telling),
+    }
+}
+
+/// Tells why a file was not read, which as a want of memory is the line of 801 in each form; answers the exit status.
+fn unread(rt: &HostRuntime, fault: Fault, telling: Telling) -> u8 {
+    if telling == Telling::Text || fault.code == Code::OutOfMemory.number() {
+        say(rt, &fault)
+    } else {
+        tell_unread(rt, fault, telling)
+    }
+}
+
+/// Tells why a program is refused, which as a want of memory is the line of 801 in each form; answers the exit status.
+fn refused(
+    rt: &HostRuntime,
+    program: &Program<'_>,
+    sources: &Sources<'_>,
+    fault: Fault,
+    telling: Telling,
+) -> u8 {
+    if telling == Telling::Text || fault.code == Code::OutOfMemory.number() {
+        say(rt, &sources.told(rt.alloc(), fault))
+    } else {
+        tell_refused(rt, program, sources, telling)
     }
 }
 

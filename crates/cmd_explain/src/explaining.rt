@@ -2,7 +2,7 @@
 
 use crate::beside::look_beside;
 use cli_args::{Colours, Program, Stage, Telling};
-use cli_io::{put_out, say, say_memory};
+use cli_io::{put_out, say, say_memory, unread};
 use cli_sources::{Sources, read_sources, stack_size};
 use explain_cmd::{
     Bounds, Form, Said, explain_run, explain_unread, fault_source, find_faults, tell_faults,
@@ -118,7 +118,7 @@ fn line_of(
 
 /// Tells in a form why a file was not read.
 fn say_unread(rt: &HostRuntime, fault: Fault, form: Form) -> u8 {
-    if matches!(form, Form::Text(_)) {
+    if matches!(form, Form::Text(_)) || fault.code == Code::OutOfMemory.number() {
         let status = say(rt, &fault);
         say_why(rt, &fault);
         return status;
@@ -155,8 +155,8 @@ fn explain_interp(
     form: Form,
 ) -> u8 {
     let mut input = Vec::new(rt.alloc());
-    if rt.stdin().read_to_end(&mut input).is_err() {
-        return say(rt, &Fault::at(rt.alloc(), Code::CannotRead, "", 0));
+    if let Err(error) = rt.stdin().read_to_end(&mut input) {
+        return say(rt, &unread(rt.alloc(), "", &error));
     }
     match run_said(rt.alloc(), program, sources, input.as_slice(), max, form) {
         Ok(said) => put_said(rt, &said),
