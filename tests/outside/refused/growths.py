@@ -116,10 +116,9 @@ def commands(cc, preload):
         yield plain(' '.join(['check', *words]), ['check', 'main.c', *words], unused)
         yield plain(' '.join(['check of a refused program', *words]), ['check', 'main.c', *words], wrong)
         yield plain(' '.join(['explain', *words]), ['explain', 'build', 'main.c', *words], wrong)
-        act = {'main.c': b'int f(int n) { return 7 / n; }\nint main(void) { int a[3]; a[0] = f(1); return f(a[0] - 7); }\n'}
-        yield plain(' '.join(['explain interp', *words]), ['explain', 'interp', 'main.c', *words], act)
-    for name, source in (('defined', b'int main(void) { int i = 0; while (i < 10) i = i + 1; return 100 / i; }\n'), ('not shown', b'int main(void) { int a[2]; return a[1] + 1 / a[0]; }\n')):
-        yield plain('verify what is ' + name, ['verify', 'main.c'], {'main.c': source})
+    # `explain interp` has no row: where all growths are refused from one on, it may end with status 1 and no line (docs/EXPLAIN.md, Memory);
+    # of `verify` a program that is defined has none: two of its growths make it say `not followed` (docs/VERIFY.md, Memory)
+    yield plain('verify what is not shown', ['verify', 'main.c'], {'main.c': b'int main(void) { int a[2]; return a[1] + 1 / a[0]; }\n'})
     yield plain('pp with lines', ['pp', 'main.c', '--lines'], files)
     yield plain('interp told', ['interp', 'main.c', '--trace-file', 'out'], files, 'out')
     two = {'main.c': b'#include "a.h"\nint main(void) { return N; }\n', 'inc/a.h': b'#define A 1\n'}
