@@ -23,7 +23,7 @@ cd "$work"
 clang=$KIT/toolchain/bin/clang
 flags='--target=wasm64-unknown-unknown -O2 -mbulk-memory -msign-ext'
 layout='e-m:e-p:64:64-p10:8:8-p20:8:8-i64:64-i128:128-n32:64-S128-ni:1:10:20'
-exports='build build_with functions warn explain image frames preprocess list form interpret run step machine_size machine_place machine_ask machine_clear message version malloc free'
+exports='build build_with functions image frames preprocess list form interpret run step machine_size machine_place machine_ask machine_clear message version malloc free'
 
 # The same module for another target.
 "$clang" --target=x86_64-unknown-linux-gnu -x ir "$module" -S -emit-llvm -O0 -o native.ll

@@ -136,8 +136,6 @@ export function open(module) {
     build: (files, main) => over(c.zk_build, files, main),
     buildWith: (files, main, stack) => over(c.zk_build_with, files, main, stack),
     functions: (files, main, stack = 1 << 20) => over(c.zk_functions, files, main, stack),
-    warnings: (files, main, stack = 1 << 20) => over(c.zk_warn, files, main, stack),
-    explain: (files, main, stack = 1 << 20) => over(c.zk_explain, files, main, stack),
     image: (file, form = 0, name = 'a.out') => answer(({ slice }, rooms) => c.zk_image(...slice(file), ...slice(name), form, ...rooms)),
     frames: (files, main) => over(c.zk_frames, files, main),
     preprocess: (files, main) => over(c.zk_preprocess, files, main),

@@ -57,10 +57,6 @@ export interface Library {
   buildWith(files: Files, main: string, stack: number): Answer;
   /** JSON: functions with addresses, sizes, frames, weights and calls, and objects. */
   functions(files: Files, main: string, stack?: number): Answer;
-  /** JSON, an object a line. */
-  warnings(files: Files, main: string, stack?: number): Answer;
-  /** JSON, an object a fault: why the program is refused; nothing where it is not. */
-  explain(files: Files, main: string, stack?: number): Answer;
   /** The bytes that a file loads: 0 as they are, 1 Intel's hexadecimal records, 2 for Verilog. */
   image(file: Uint8Array, form?: number, name?: string): Answer;
   frames(files: Files, main: string): Answer;
