@@ -577,12 +577,15 @@ def refused():
                  ['image'], ['image', 'a', '--hex'], ['image', 'a', 'b', '--bin'], ['interp', 'a.c', '--trace-file'], ['interp', 'a.c', '--trace', '--stack', '5000'], ['interp', '--trace'],
                  ['run', 'a', '--map', 'a.c', '--stack', '5000'], ['run', 'a', '--trace-file'], ['run', 'a', '--at', '-1'], ['frames', 'a.c', '--json'], ['explained', 'a.c'])
         faults = (['frames', 'none.c'], ['frames', 'a'], ['symbols', 'none.c', '-o', 'x'], ['symbols', 'a.c', '-o', 'none/x'], ['image', 'none', '--bin'], ['image', 'a.c', '--memh'], ['interp', 'none.c', '--trace'],
-                  ['interp', 'none.c', '--trace-file', 'x'], ['run', 'none', '--trace'], ['run', 'a', '--map', 'none.c'], ['run', 'a', '--trace-file', 'none/x'], ['explain', 'build', 'none.c'])
+                  ['interp', 'none.c', '--trace-file', 'x'], ['run', 'none', '--trace'], ['run', 'a', '--map', 'none.c'], ['run', 'a', '--trace-file', 'none/x'])
         for status, rows in ((2, usage), (1, faults)):
             for words in rows:
                 done = cc(work, *words)
                 lines = done[2].splitlines()
                 check('refused: ' + ' '.join(words), done[:2] == (status, b'') and lines and (lines[0].startswith('error: ') if status == 2 else len(lines) == 1) and sorted(os.listdir(work)) == before, done)
+        # explain says in a second line why
+        done = cc(work, 'explain', 'build', 'none.c')
+        check('refused: explain build none.c', done == (1, b'', 'none.c:0: 802 cannot read\n  help: there is no such file\n') and sorted(os.listdir(work)) == before, done)
 
 def kept():
     """No file that is read is written over, by whatever path."""
