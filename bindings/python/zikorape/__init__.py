@@ -240,7 +240,7 @@ def _beside() -> str:
 class Library:
     def __init__(self, path=None):
         self._c = ctypes.CDLL(os.fspath(path) if path is not None else _beside())
-        for name in ('build', 'build_with', 'functions', 'warn', 'explain', 'image', 'frames', 'preprocess', 'list', 'form', 'interpret', 'run', 'step'):
+        for name in ('build', 'build_with', 'functions', 'warn', 'verify', 'explain', 'image', 'frames', 'preprocess', 'list', 'form', 'interpret', 'run', 'step'):
             getattr(self._c, 'zk_' + name).restype = ctypes.c_uint32
         for name in ('message', 'version'):
             getattr(self._c, 'zk_' + name).restype = ctypes.c_uint64
@@ -263,6 +263,10 @@ class Library:
     def warnings(self, files, main, stack=STACK):
         """The warnings as JSON, an object a line."""
         return self._over(self._c.zk_warn, files, main, ctypes.c_uint32(stack))
+
+    def verify(self, files, main, stack=STACK):
+        """Whether it does anything undefined, on any input: status 0 where it is defined, 3 where that was not shown, with the places as JSON, an object a line."""
+        return self._over(self._c.zk_verify, files, main, ctypes.c_uint32(stack))
 
     def explain(self, files, main, stack=STACK):
         """Why the program is refused, as JSON, an object a fault; nothing where it is not."""
