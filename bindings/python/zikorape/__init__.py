@@ -89,9 +89,7 @@ class Snapshot:
 
 
 class KeptMachine:
-    """A machine that is kept (`Library.machine`). A run answers IMAGES = ('binary', 'intel', 'verilog')
-STACK = 1 << 20
-GOES_ON, ENDED, TRAPPED, OUT_OF_MEMORY or WANTS_INPUT; `detail` has the status
+    """A machine that is kept (`Library.machine`). A run answers GOES_ON, ENDED, TRAPPED, OUT_OF_MEMORY or WANTS_INPUT; `detail` has the status
     or the number of the cause. Only one thread may use it."""
 
     def __init__(self, library, file):
