@@ -2,5 +2,6 @@
 #![tactic(auto)]
 
 mod bounds;
+mod calls;
 
 pub use bounds::Bound;
