@@ -1,5 +1,4 @@
 pub mod Sizes
-pub mod Steps
 pub mod Runs
 pub mod Trees
 pub mod Whole

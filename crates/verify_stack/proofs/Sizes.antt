@@ -1,8 +1,8 @@
 -- Sizes of the parts of a program, by which adding their calls ends.
-use Rattle.std.proofs.Common.{◌≡◌, ℕ, ◌+◌, refl}
+use Rattle.std.specs.Prelude.{ℕ, ◌+◌}
 use Rattle.typing_spec.specs.Program as typed
 use Rattle.typing_spec.specs.Program.{Place, Value, Arguments, Initialiser, Initialisers, Statement, Statements}
-use Rattle.typed_ast.specs.View.{Given, number_given, array_given, and_given}
+use Rattle.typed_ast.specs.View.{Given, number_given, array_given}
 
 abbrev mutual
   pub place_size : Place → ℕ
@@ -33,10 +33,6 @@ abbrev mutual
 abbrev pub given_size : Given → ℕ
 given_size (number_given t e) = value_size e
 given_size (array_given place) = place_size place
-
-pub and_given_size : (a : Given) (more : Arguments) → arguments_size (and_given a more) ≡ given_size a + arguments_size more + 2
-and_given_size (number_given t e) more = refl
-and_given_size (array_given place) more = refl
 
 abbrev mutual
   pub initialiser_size : Initialiser → ℕ

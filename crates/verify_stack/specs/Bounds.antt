@@ -2,6 +2,7 @@
 use Rattle.std.specs.Prelude.{ℕ, ◌≤◌, List}
 use Rattle.typing_spec.specs.Program.{Program}
 use Rattle.csem.specs.Meaning.{answer}
+use Rattle.verify_stack.specs.Recursions.{Recurses}
 use Rattle.verify_stack.specs.declared.bounds.Bound.{Bound}
 use Rattle.verify_stack.specs.declared.bounds.Bound.TheVariants.{AtMost, Recursive, Unknown}
 
@@ -11,5 +12,5 @@ StaysWithin most p = (n : ℕ) (input : List ℕ) → (answer n p input).greates
 
 abbrev pub Says : Program → Bound → Type 0
 Says p (AtMost most) = StaysWithin most p
-Says p (Recursive chain) = Unit {0}
+Says p (Recursive r) = Recurses p r
 Says p Unknown = Unit {0}

@@ -1,3 +1,4 @@
 pub mod Calls
 pub mod Needs
+pub mod Recursions
 pub mod Bounds

@@ -3,5 +3,8 @@
 
 mod bounds;
 mod calls;
+mod needs;
+mod recursions;
+mod search;
 
-pub use bounds::Bound;
+pub use bounds::{Bound, Recursion, stack_bound};
