@@ -1,18 +1,32 @@
 //! The test of a recursion.
 
-ghost use Rattle.std.specs.Prelude.{Contains, IfOk, IsTrue};
-ghost use Rattle.typed_ast.specs.View.{program_of};
+ghost use Rattle.std.specs.Prelude.{◌≡◌, slice_get, Contains, IfOk, IsTrue, Some};
+ghost use Rattle.typed_ast.specs.View.{function_of, program_of};
 ghost use Rattle.verify_stack.specs.Recursions.{calls_in, Leads, Recurses};
 
 use crate::bounds::Recursion;
 use crate::calls::body_calls;
 use std::alloc::{AllocError, Global};
-use typed_ast::Program;
+use typed_ast::{Function, Program};
 
 fn is_among(g: usize, calls: &[usize]) -> bool
     ensures { IsTrue result → Contains calls.now g }
 {
     calls.contains(&g)
+}
+
+fn body_calls_it(
+    alloc: Global,
+    program: &Program,
+    f: usize,
+    function: &Function,
+    g: usize,
+) -> Result<bool, AllocError>
+    requires { slice_get (program_of program.now).functions f ≡ Some (function_of function.now) }
+    ensures { IfOk result (λ b. IsTrue b → Contains (calls_in (program_of program.now) f) g) }
+{
+    let calls = body_calls(alloc, function)?;
+    Ok(is_among(g, &calls))
 }
 
 /// Tests whether the body of function `f` calls function `g`.
@@ -21,10 +35,7 @@ fn calls_it(alloc: Global, program: &Program, f: usize, g: usize) -> Result<bool
 {
     match program.functions.get(f) {
         None => Ok(false),
-        Some(function) => {
-            let calls = body_calls(alloc, function)?;
-            Ok(is_among(g, &calls))
-        }
+        Some(function) => body_calls_it(alloc, program, f, function, g),
     }
 }
 
