@@ -1,6 +1,5 @@
 -- Parts of a run within which the calls that are active stay the same, and no sum of their weights is greater than allowed.
-use Rattle.std.proofs.Common.{◌≡◌, ℕ, zero, suc, ◌+◌, ◌≤◌, List, [], ◌∷◌, ◌++◌, Bool, true, false, refl, sym, ap, subst, arith}
-use Rattle.std.specs.Prelude.{max}
+use Rattle.std.proofs.Common.{◌≡◌, ℕ, zero, suc, ◌+◌, ◌≤◌, List, [], ◌∷◌, ◌++◌, Bool, true, false, sym, ap, subst, arith}
 use Rattle.csem_events.specs.Events.{Event}
 use Rattle.csem.specs.History.{Entry, Did, Entered, Left, active, without_innermost, sum_of, greatest_sum}
 use Rattle.csem.specs.Machine.{State, Ending, Run, Goes, Stops, then_do, choose, tick_of, tick, ticks}

@@ -1,5 +1,5 @@
 -- Steps of functions of the code.
-use Rattle.std.proofs.Common.{◌≡◌, ℕ, List, Option, Some, sym, ap, ◌∙◌, subst}
+use Rattle.std.proofs.Common.{◌≡◌, ℕ, List, Some, sym, ap, ◌∙◌, subst}
 use Rattle.std.specs.Prelude.{Contains, slice_get}
 use Rattle.typing_spec.specs.Program.{Function, Program}
 use Rattle.verify_stack.specs.Calls.{statement_calls}

@@ -1,5 +1,5 @@
 -- A part of a program keeps within the limits where each call in it does.
-use Rattle.std.proofs.Common.{◌≡◌, ℕ, zero, suc, ◌-◌, ◌*◌, List, [], ◌∷◌, ◌++◌, Option, Some, None, Bool, true, false, ℤ, pos, negsuc, refl, ◌∙◌, length}
+use Rattle.std.proofs.Common.{ℕ, zero, suc, ◌-◌, ◌*◌, List, [], ◌∷◌, ◌++◌, Option, Some, None, Bool, true, false, ℤ, pos, negsuc, refl, ◌∙◌, length}
 use Rattle.std.specs.Prelude.{slice_get, nat_lt, Result, Ok, Err}
 use Rattle.srcset.specs.declared.refusal.Pos.{Pos}
 use Rattle.ctypes.specs.declared.types.IntType.{IntType}
@@ -12,7 +12,7 @@ use Rattle.typing_spec.specs.Operators.{operated, sign_of}
 use Rattle.typing_spec.specs.Program as typed
 use Rattle.typing_spec.specs.Program.{Storage, Callee, Place, Value, Arguments, Initialiser, Initialisers, Statement, Statements, Program}
 use Rattle.csem.specs.Store.{Reference, into, length_of, tree_at, value_at}
-use Rattle.csem.specs.Machine.{State, Run, Goes, Stops, Ended, Undefined, TicksUsed, then_do, choose, tick, ticks, undefined, computed_at, designated, subscripted, value_or_undefined, read, stored, write}
+use Rattle.csem.specs.Machine.{State, Run, Goes, Ended, Undefined, TicksUsed, choose, ticks, undefined, computed_at, designated, subscripted, value_or_undefined, read, stored, write}
 use Rattle.csem.specs.Expressions.{Passed, Number, Referred, Calling, call_value, get_byte, put_byte, first_number, call_of, position_of, step_operation, step_value, converted_or_none, find, evaluate, pass, evaluate_or}
 use Rattle.csem.specs.Statements.{zeros, clear, characters, first_length, inner_lengths, text_or_none, initialise, initialise_all, own, renewed, all_renewed, Flow, Normal, Broken, Continued, Returned, next_after, after_body, after_switch, turns, labels_at, labels_of, same_value, label_for, define_object, execute, execute_all, execute_from}
 use Rattle.verify_stack.specs.Calls.{callee_calls, place_calls, value_calls, argument_calls, option_calls, initialiser_calls, initialisers_calls, statement_calls, statements_calls}

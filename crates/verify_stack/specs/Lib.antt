@@ -1,4 +1,4 @@
 pub mod Calls
-pub mod Needs
+pub mod Usages
 pub mod Recursions
 pub mod Bounds

@@ -2,12 +2,12 @@
 
 ghost use Rattle.std.specs.Prelude.{◌≡◌, slice_get, IfOk, IfSome, Some};
 ghost use Rattle.typed_ast.specs.View.{program_of};
-ghost use Rattle.verify_stack.specs.Needs.{AreNeeds};
+ghost use Rattle.verify_stack.specs.Usages.{AreUsages};
 ghost use Rattle.verify_stack.specs.Bounds.{Says};
 
-use crate::needs::are_needs;
 use crate::recursions::recurses;
-use crate::search::{Found, find_needs};
+use crate::search::{Found, find_usages};
+use crate::usages::are_usages;
 use std::alloc::{AllocError, Global};
 use typed_ast::Program;
 
@@ -28,43 +28,51 @@ pub enum Bound {
     AtMost(u64),
     /// A function that main reaches may call itself. What it is called with is not looked at, so its calls may still be bounded.
     Recursive(Recursion),
-    /// The sum is past 64 bits.
+    /// No bound is found: a sum is past 64 bits.
     Unknown,
 }
 
-fn need_of(needs: &[Option<u64>], f: usize) -> Option<u64>
-    ensures { IfSome result (λ need. slice_get needs.now f ≡ Some (Some need)) }
+fn usage_of(usages: &[Option<u64>], f: usize) -> Option<u64>
+    ensures { IfSome result (λ usage. slice_get usages.now f ≡ Some (Some usage)) }
 {
-    match needs.get(f) {
-        Some(Some(need)) => Some(*need),
+    match usages.get(f) {
+        Some(Some(usage)) => Some(*usage),
         Some(None) => None,
         None => None,
     }
 }
 
-/// The bound where these are needs.
-fn bound_of(program: &Program, needs: &[Option<u64>]) -> Bound
-    requires { AreNeeds (program_of program.now) needs.now }
+/// The bound by these usages.
+fn bound_of(program: &Program, usages: &[Option<u64>]) -> Bound
+    requires { AreUsages (program_of program.now) usages.now }
     ensures { Says (program_of program.now) result }
 {
-    match need_of(needs, program.main) {
+    match usage_of(usages, program.main) {
         Some(most) => Bound::AtMost(most),
         None => Bound::Unknown,
     }
 }
 
-fn tested_needs(alloc: Global, program: &Program, needs: &[Option<u64>]) -> Result<Bound, AllocError>
+fn tested_usages(
+    alloc: Global,
+    program: &Program,
+    usages: &[Option<u64>],
+) -> Result<Bound, AllocError>
     ensures { IfOk result (λ b. Says (program_of program.now) b) }
 {
-    let tested = are_needs(alloc, program, needs)?;
+    let tested = are_usages(alloc, program, usages)?;
     if tested {
-        Ok(bound_of(program, needs))
+        Ok(bound_of(program, usages))
     } else {
         Ok(Bound::Unknown)
     }
 }
 
-fn tested_recursion(alloc: Global, program: &Program, recursion: Recursion) -> Result<Bound, AllocError>
+fn tested_recursion(
+    alloc: Global,
+    program: &Program,
+    recursion: Recursion,
+) -> Result<Bound, AllocError>
     ensures { IfOk result (λ b. Says (program_of program.now) b) }
 {
     let tested = recurses(alloc, program, &recursion)?;
@@ -82,8 +90,8 @@ fn tested_recursion(alloc: Global, program: &Program, recursion: Recursion) -> R
 pub fn stack_bound(alloc: Global, program: &Program) -> Result<Bound, AllocError>
     ensures { IfOk result (λ b. Says (program_of program.now) b) }
 {
-    match find_needs(alloc, program)? {
-        Found::Needs(needs) => tested_needs(alloc, program, &needs),
+    match find_usages(alloc, program)? {
+        Found::Usages(usages) => tested_usages(alloc, program, &usages),
         Found::Recursion(recursion) => tested_recursion(alloc, program, recursion),
     }
 }

@@ -80,7 +80,11 @@ fn add_value(e: &Value, calls: &mut Vec<usize>) -> Result<(), AllocError>
 }
 
 #[cycle(values)]
-fn add_called(callee: Callee, arguments: &[Argument], calls: &mut Vec<usize>) -> Result<(), AllocError>
+fn add_called(
+    callee: Callee,
+    arguments: &[Argument],
+    calls: &mut Vec<usize>,
+) -> Result<(), AllocError>
     ensures { IfOk result (λ u. calls.new.items ≡ calls.old.items ++ (argument_calls (arguments_of (map argument_of arguments.now)) ++ callee_calls (callee_of callee))) }
 {
     add_arguments(arguments, calls)?;

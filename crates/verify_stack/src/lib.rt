@@ -3,8 +3,10 @@
 
 mod bounds;
 mod calls;
-mod needs;
 mod recursions;
 mod search;
+#[cfg(test)]
+mod tests;
+mod usages;
 
 pub use bounds::{Bound, Recursion, stack_bound};

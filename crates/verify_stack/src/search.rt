@@ -1,4 +1,5 @@
-//! The search for what functions need, or for a recursion. Nothing rests on it: what it finds is tested.
+//! The search for the stack usage of functions, or for a recursion: depth first, from main on. Nothing rests on it, since what it finds is
+//! checked.
 
 use crate::bounds::Recursion;
 use crate::calls::body_calls;
@@ -11,7 +12,7 @@ struct Visit {
     function: usize,
     weight: u64,
     calls: Vec<usize>,
-    /// How many of the calls are done, and the greatest need of these.
+    /// How many of the calls are done, and the greatest usage among them.
     done: usize,
     most: u64,
 }
@@ -20,7 +21,7 @@ struct Visit {
 /// call in the one before. The visits are kept here and not on the host's stack, which a long chain of calls would exhaust.
 #[derive(Drop)]
 struct Progress {
-    needs: Vec<Option<u64>>,
+    usages: Vec<Option<u64>>,
     begun: Vec<bool>,
     visits: Vec<Visit>,
 }
@@ -28,14 +29,19 @@ struct Progress {
 /// What a search comes to.
 #[derive(Drop)]
 pub enum Found {
-    /// What each function that main reaches needs.
-    Needs(Vec<Option<u64>>),
+    /// The usage of each function that main reaches.
+    Usages(Vec<Option<u64>>),
     /// A function that calls itself.
     Recursion(Recursion),
 }
 
 /// Begins to visit a function.
-fn begin(alloc: Global, program: &Program, progress: &mut Progress, f: usize) -> Result<(), AllocError> {
+fn begin(
+    alloc: Global,
+    program: &Program,
+    progress: &mut Progress,
+    f: usize,
+) -> Result<(), AllocError> {
     let Some(function) = program.functions.get(f) else {
         return Ok(());
     };
@@ -79,8 +85,8 @@ fn recursion(alloc: Global, visits: &[Visit], function: usize) -> Result<Recursi
 
 /// Ends the visit of a function.
 fn end(progress: &mut Progress, visit: &Visit) {
-    if let Some(need) = progress.needs.get_mut(visit.function) {
-        *need = Some(visit.weight.saturating_add(visit.most));
+    if let Some(usage) = progress.usages.get_mut(visit.function) {
+        *usage = Some(visit.weight.saturating_add(visit.most));
     }
 }
 
@@ -91,22 +97,22 @@ fn is_begun(progress: &Progress, f: usize) -> bool {
     }
 }
 
-/// What a function needs, where that is found; none needs more than a function that is not there.
-fn need(progress: &Progress, f: usize) -> Option<u64> {
-    match progress.needs.get(f) {
+/// The usage of a function, where that is found. A function that is not there uses nothing.
+fn usage(progress: &Progress, f: usize) -> Option<u64> {
+    match progress.usages.get(f) {
         None => Some(0),
-        Some(need) => *need,
+        Some(usage) => *usage,
     }
 }
 
-/// The same visit, behind a call of a function with such a need.
-fn behind_call(visit: Visit, need: u64) -> Visit {
+/// The same visit, behind a call of a function with this usage.
+fn behind_call(visit: Visit, usage: u64) -> Visit {
     Visit {
         function: visit.function,
         weight: visit.weight,
         calls: visit.calls,
         done: visit.done.saturating_add(1),
-        most: visit.most.max(need),
+        most: visit.most.max(usage),
     }
 }
 
@@ -118,9 +124,9 @@ fn follow(
     visit: Visit,
     f: usize,
 ) -> Result<Option<usize>, AllocError> {
-    match need(progress, f) {
-        Some(need) => {
-            progress.visits.push(behind_call(visit, need))?;
+    match usage(progress, f) {
+        Some(usage) => {
+            progress.visits.push(behind_call(visit, usage))?;
             Ok(None)
         }
         None => {
@@ -154,12 +160,12 @@ fn turn(
 }
 
 fn nothing(alloc: Global, count: usize) -> Result<Progress, AllocError> {
-    let mut needs = Vec::new(alloc);
-    needs.resize(count, None)?;
+    let mut usages = Vec::new(alloc);
+    usages.resize(count, None)?;
     let mut begun = Vec::new(alloc);
     begun.resize(count, false)?;
     Ok(Progress {
-        needs,
+        usages,
         begun,
         visits: Vec::new(alloc),
     })
@@ -168,7 +174,7 @@ fn nothing(alloc: Global, count: usize) -> Result<Progress, AllocError> {
 /// Searches a program from main on. It takes a turn for each function, and two for each call.
 ///
 /// Errors: memory ran out.
-pub fn find_needs(alloc: Global, program: &Program) -> Result<Found, AllocError> {
+pub fn find_usages(alloc: Global, program: &Program) -> Result<Found, AllocError> {
     let mut progress = nothing(alloc, program.functions.len())?;
     begin(alloc, program, &mut progress, program.main)?;
     for _turn in 0..u64::MAX {
@@ -176,12 +182,8 @@ pub fn find_needs(alloc: Global, program: &Program) -> Result<Found, AllocError>
             break;
         };
         if let Some(again) = turn(alloc, program, &mut progress, visit)? {
-            return Ok(Found::Recursion(recursion(
-                alloc,
-                &progress.visits,
-                again,
-            )?));
+            return Ok(Found::Recursion(recursion(alloc, &progress.visits, again)?));
         }
     }
-    Ok(Found::Needs(progress.needs))
+    Ok(Found::Usages(progress.usages))
 }
