@@ -1,0 +1,5 @@
+pub mod Sizes
+pub mod Steps
+pub mod Runs
+pub mod Trees
+pub mod Whole

@@ -1,0 +1,4 @@
+pub mod Calls
+pub mod Usages
+pub mod Recursions
+pub mod Bounds

@@ -1,0 +1,12 @@
+//! How much stack a program takes at most, on any input: a bound of the sums of the weights of its calls.
+#![tactic(auto)]
+
+mod bounds;
+mod calls;
+mod recursions;
+mod search;
+#[cfg(test)]
+mod tests;
+mod usages;
+
+pub use bounds::{Bound, Recursion, stack_bound};

@@ -1,0 +1,100 @@
+//! The check of stack usages.
+
+ghost use Rattle.std.specs.Prelude.{map, slice_get, IfOk, IsTrue};
+ghost use Rattle.typed_ast.specs.View.{function_of, program_of};
+ghost use Rattle.verify_stack.specs.Usages.{AreUsages, Covers, CoversIfSaid, EachCovers, EachFits, FitsIn};
+
+use crate::calls::body_calls;
+use std::alloc::{AllocError, Global};
+use typed_ast::{Function, Program};
+
+fn fits(usages: &[Option<u64>], room: u64, f: usize) -> bool
+    ensures { IsTrue result → FitsIn room (slice_get usages.now f) }
+{
+    match usages.get(f) {
+        None => false,
+        Some(None) => false,
+        Some(Some(usage)) => *usage <= room,
+    }
+}
+
+/// Tests whether there is room for each of these calls.
+fn each_fits(usages: &[Option<u64>], room: u64, calls: &[usize]) -> bool
+    ensures { IsTrue result → EachFits usages.now room calls.now }
+{
+    let mut rest = calls;
+    while let Some((f, more)) = rest.split_first() {
+        let there = fits(usages, room, *f);
+        if !there {
+            return false;
+        }
+        rest = more;
+    }
+    true
+}
+
+fn covers(
+    alloc: Global,
+    usages: &[Option<u64>],
+    function: &Function,
+    usage: u64,
+) -> Result<bool, AllocError>
+    ensures { IfOk result (λ b. IsTrue b → Covers usages.now (function_of function.now) usage) }
+{
+    let weight = function.weight;
+    if usage < weight {
+        return Ok(false);
+    }
+    let calls = body_calls(alloc, function)?;
+    Ok(each_fits(usages, usage - weight, &calls))
+}
+
+fn covers_if_said(
+    alloc: Global,
+    usages: &[Option<u64>],
+    function: &Function,
+    usage: Option<u64>,
+) -> Result<bool, AllocError>
+    ensures { IfOk result (λ b. IsTrue b → CoversIfSaid usages.now (function_of function.now) usage) }
+{
+    match usage {
+        None => Ok(true),
+        Some(usage) => covers(alloc, usages, function, usage),
+    }
+}
+
+fn each_covers(
+    alloc: Global,
+    usages: &[Option<u64>],
+    functions: &[Function],
+) -> Result<bool, AllocError>
+    ensures { IfOk result (λ b. IsTrue b → EachCovers usages.now (map function_of functions.now) usages.now) }
+{
+    let mut rest = functions;
+    let mut left = usages;
+    while let Some((function, functions)) = rest.split_first() {
+        let Some((usage, others)) = left.split_first() else {
+            return Ok(true);
+        };
+        let covered = covers_if_said(alloc, usages, function, *usage)?;
+        if !covered {
+            return Ok(false);
+        }
+        rest = functions;
+        left = others;
+    }
+    Ok(true)
+}
+
+/// Tests whether these are stack usages of functions, by their numbers; none says nothing of a function.
+///
+/// Errors: memory ran out.
+pub fn are_usages(
+    alloc: Global,
+    program: &Program,
+    usages: &[Option<u64>],
+) -> Result<bool, AllocError>
+    ensures { IfOk result (λ b. IsTrue b → AreUsages (program_of program.now) usages.now) }
+{
+    each_covers(alloc, usages, &program.functions)
+}
