@@ -64,8 +64,8 @@ uint32_t zk_warn(const uint8_t *texts, size_t texts_length, const struct zk_file
                  const uint8_t *main, size_t main_length, uint32_t stack,
                  uint8_t *out, size_t out_length, uint8_t *message, size_t message_length, struct zk_sizes *sizes);
 
-/* Whether the program does anything undefined, on any input: the status is 0 where it is defined, and 3 where that was not shown, with the places as
-   JSON, an object a line: those that `zkc verify --json` tells. A program that is refused has its fault. */
+/* Whether the program does anything undefined, on any input, and how much of its stack it takes: the status is 0 where it is defined and the stack
+   suffices, and 3 where that was not shown; with the places and the verdict as JSON, an object a line, as `zkc verify --json` tells them. A program that is refused has its fault. */
 uint32_t zk_verify(const uint8_t *texts, size_t texts_length, const struct zk_file *files, size_t files_length,
                    const uint8_t *main, size_t main_length, uint32_t stack,
                    uint8_t *out, size_t out_length, uint8_t *message, size_t message_length, struct zk_sizes *sizes);

@@ -263,7 +263,8 @@ class Library:
         return self._over(self._c.zk_warn, files, main, ctypes.c_uint32(stack))
 
     def verify(self, files, main, stack=STACK):
-        """Whether it does anything undefined, on any input: status 0 where it is defined, 3 where that was not shown, with the places as JSON, an object a line."""
+        """Whether it does anything undefined, on any input, and how much of its stack it takes: status 0 where it is defined and the stack suffices, 3 where
+        that was not shown, with the places and the verdict as JSON, an object a line."""
         return self._over(self._c.zk_verify, files, main, ctypes.c_uint32(stack))
 
     def explain(self, files, main, stack=STACK):

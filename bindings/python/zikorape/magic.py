@@ -31,7 +31,8 @@ def _explained(text):
     for line in text.splitlines():
         one = json.loads(line)
         column = ':%d' % one['column'] if one['column'] else ''
-        yield '%s:%d%s: %s %s' % (one['file'], one['line'], column, one['code'], one['text'])
+        line = ':%d' % one['line'] if one['line'] else ''
+        yield '%s%s%s: %s %s' % (one['file'], line, column, one['code'], one['text'])
         yield from ('    ' + note['text'] for note in one['notes'])
 
 
@@ -43,8 +44,7 @@ def told(zk, line, cell):
     if built.status:
         return '\n'.join(_explained(zk.explain(files, NAME).output.decode()))
     if words.verify:
-        answer = zk.verify(files, NAME)
-        return 'defined on every input' if answer.status == 0 else '\n'.join(_explained(answer.output.decode()))
+        return '\n'.join(_explained(zk.verify(files, NAME).output.decode()))
     if words.show:
         shown = {'listing': zk.listing, 'frames': zk.frames}.get(words.show)
         return (shown(files, NAME) if shown else zk.form(files, NAME, words.show)).check().output.decode()

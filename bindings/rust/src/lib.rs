@@ -181,7 +181,8 @@ pub fn warnings(files: &[(&str, &[u8])], main: &str, stack: u32) -> Answer {
     over_stack(zk_warn, files, main, stack)
 }
 
-/// Whether that program does anything undefined, on any input: status 0 where it is defined, 3 where that was not shown, with the places as JSON, an object a line.
+/// Whether that program does anything undefined, on any input, and how much of its stack it takes: status 0 where it is defined and the stack suffices, 3 where that was not
+/// shown, with the places and the verdict as JSON, an object a line.
 pub fn verify(files: &[(&str, &[u8])], main: &str, stack: u32) -> Answer {
     over_stack(zk_verify, files, main, stack)
 }

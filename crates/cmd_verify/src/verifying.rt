@@ -8,11 +8,11 @@ use srcset::Fault;
 use std::alloc::{AllocError, Global};
 use verify_report::{Asked, Said, verify_sources};
 
-/// The exit status of a program of which it could not be shown that it is defined.
+/// The exit status of a program of which it could not be shown that it is defined and that its stack suffices.
 const NOT_SHOWN: u8 = 3;
 
-/// Tells whether a program does anything undefined, on any input; answers the exit status: 0 where nothing is, 3 where that was not shown, 1
-/// where the program is refused.
+/// Tells whether a program does anything undefined, on any input, and how much of its stack it takes; answers the exit status: 0 where it is defined and the stack suffices,
+/// 3 where that was not shown, 1 where the program is refused.
 pub fn verify_program(rt: &HostRuntime, program: &Program<'_>, telling: Telling) -> u8 {
     let sources = match read_sources(rt, program) {
         Ok(sources) => sources,
@@ -45,6 +45,6 @@ fn said(
 }
 
 fn put_said(rt: &HostRuntime, said: &Said) -> u8 {
-    let status = if said.is_defined { 0 } else { NOT_SHOWN };
+    let status = if said.is_shown { 0 } else { NOT_SHOWN };
     put_out(rt, said.out.as_bytes(), status)
 }

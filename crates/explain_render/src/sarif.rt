@@ -63,6 +63,15 @@ fn put_code_rules(alloc: Global, codes: &[u16], out: &mut String) -> Result<(), 
     Ok(())
 }
 
+/// Puts the rules of these undefined acts, where no other stands before them.
+pub fn put_sarif_act_rules(
+    alloc: Global,
+    acts: &[u32],
+    out: &mut String,
+) -> Result<(), AllocError> {
+    put_act_rules(alloc, acts, true, out)
+}
+
 /// Puts a rule for each of these undefined acts.
 fn put_act_rules(
     alloc: Global,

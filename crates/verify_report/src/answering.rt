@@ -1,6 +1,7 @@
 //! The verdict on a set of files.
 
 use crate::placing::{Placed, by_lines, by_tokens, have_same_lines};
+use crate::stack::{Stack, stack_of};
 use crate::telling::{tell_acts, tell_defined, tell_not_followed};
 use cc::{StackSize, checked_program};
 use lint_report::{Files, Form};
@@ -42,11 +43,11 @@ impl<'a> Asked<'a> {
 #[derive(Drop)]
 pub struct Said {
     pub out: String,
-    /// Whether the program is defined on every input.
-    pub is_defined: bool,
+    /// Whether the program is defined on every input, and its stack suffices.
+    pub is_shown: bool,
 }
 
-/// Tells whether the program of these sources does anything undefined, on any input.
+/// Tells whether the program of these sources does anything undefined, on any input, and how much of its stack it takes.
 ///
 /// Refuses as `cc::checked_program` does.
 pub fn verify_sources(alloc: Global, set: &FileSet, asked: Asked<'_>) -> Result<Said, Fault> {
@@ -65,18 +66,19 @@ fn said(
     names: &Names,
     asked: Asked<'_>,
 ) -> Result<Said, AllocError> {
+    let stack = stack_of(alloc, program, names, asked.stack)?;
     match verify(alloc, program, TURNS)? {
         Verdict::Defined => Ok(Said {
-            out: tell_defined(alloc, asked)?,
-            is_defined: true,
+            out: tell_defined(alloc, &stack, asked)?,
+            is_shown: stack.suffices(),
         }),
         Verdict::DefinedBut(_, alarms) => Ok(Said {
-            out: with_alarms(alloc, set, names, alarms.as_slice(), asked)?,
-            is_defined: false,
+            out: with_alarms(alloc, set, names, alarms.as_slice(), &stack, asked)?,
+            is_shown: false,
         }),
         Verdict::Unknown(at) => Ok(Said {
-            out: tell_not_followed(alloc, names, at, asked)?,
-            is_defined: false,
+            out: tell_not_followed(alloc, names, at, &stack, asked)?,
+            is_shown: false,
         }),
     }
 }
@@ -87,6 +89,7 @@ fn with_alarms(
     set: &FileSet,
     names: &Names,
     alarms: &[Alarm],
+    stack: &Stack,
     asked: Asked<'_>,
 ) -> Result<String, AllocError> {
     let files = Files::of(alloc, set, asked.names, asked.made_file())?;
@@ -99,7 +102,7 @@ fn with_alarms(
     } else {
         plain.as_slice()
     };
-    tell_acts(alloc, &files, list, asked)
+    tell_acts(alloc, &files, list, stack, asked)
 }
 
 /// The alarms of the program laid out a token a line; none where that is not to be had.

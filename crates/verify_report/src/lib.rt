@@ -3,6 +3,7 @@
 
 mod answering;
 mod placing;
+mod stack;
 mod telling;
 
 pub use answering::{Asked, Said, verify_sources};

@@ -2,11 +2,12 @@
 
 use crate::answering::Asked;
 use crate::placing::Placed;
+use crate::stack::Stack;
 use ctypes::Undef;
 use explain_findings::{Certainty, Noted, Place, Shown, Topic, Undefined, act_help, act_title};
 use explain_render::{
-    Report, Style, put_json_report, put_json_undefined, put_sarif_end, put_sarif_report,
-    put_sarif_results, put_sarif_rule, put_sarif_start, put_sarif_tool, put_source,
+    Report, Style, put_json_report, put_json_undefined, put_sarif_act_rules, put_sarif_end,
+    put_sarif_report, put_sarif_results, put_sarif_rule, put_sarif_tool, put_source,
 };
 use lint_report::{Files, Form};
 use srcset::{Names, Pos};
@@ -17,20 +18,25 @@ const NOT_FOLLOWED: &str = "not-followed";
 
 const NO_FURTHER: &str = "not followed: the analysis goes no further here";
 
-/// What is told of a program that is defined: a line, and in the other forms nothing, which as SARIF is a log without results.
-pub(crate) fn tell_defined(alloc: Global, asked: Asked<'_>) -> Result<String, AllocError> {
+/// The code of a stack that may not suffice.
+const STACK: &str = "stack";
+
+/// How the verdict on a program begins that is defined.
+const DEFINED: &str = "defined on every input; ";
+
+/// What is told of a program that is defined.
+pub(crate) fn tell_defined(
+    alloc: Global,
+    stack: &Stack,
+    asked: Asked<'_>,
+) -> Result<String, AllocError> {
     let mut out = String::new(alloc);
-    match asked.form {
-        Form::Text => {
-            let main = asked.given;
-            out.push_str(format!(in alloc; "{main}: defined on every input\n")?.as_str())?;
-        }
-        Form::Json => {}
-        Form::Sarif => {
-            put_sarif_start(alloc, asked.version, &[], &[], &mut out)?;
-            put_sarif_end(&mut out)?;
-        }
+    if asked.form == Form::Sarif {
+        put_sarif_tool(alloc, asked.version, &mut out)?;
+        put_stack_rule(alloc, stack, true, &mut out)?;
+        put_sarif_results(&mut out)?;
     }
+    put_verdict(alloc, stack, asked, DEFINED, true, &mut out)?;
     Ok(out)
 }
 
@@ -39,6 +45,7 @@ pub(crate) fn tell_not_followed(
     alloc: Global,
     names: &Names,
     at: Option<Pos>,
+    stack: &Stack,
     asked: Asked<'_>,
 ) -> Result<String, AllocError> {
     let mut out = String::new(alloc);
@@ -67,12 +74,112 @@ pub(crate) fn tell_not_followed(
                 "docs/VERIFY.md says what the analysis does not follow",
                 &mut out,
             )?;
+            put_stack_rule(alloc, stack, false, &mut out)?;
             put_sarif_results(&mut out)?;
             put_sarif_report(alloc, report, true, &mut out)?;
-            put_sarif_end(&mut out)?;
         }
     }
+    put_verdict(alloc, stack, asked, "", false, &mut out)?;
     Ok(out)
+}
+
+/// Puts the rule of a stack that may not suffice, where it is needed; a comma stands before it where it is not the first.
+fn put_stack_rule(
+    alloc: Global,
+    stack: &Stack,
+    is_first: bool,
+    out: &mut String,
+) -> Result<(), AllocError> {
+    if stack.suffices() {
+        return Ok(());
+    }
+    out.push_str(if is_first { "" } else { "," })?;
+    put_sarif_rule(
+        alloc,
+        STACK,
+        "the stack may not suffice",
+        "docs/VERIFY.md says how a program takes a bounded stack: it has no recursion",
+        out,
+    )
+}
+
+/// Puts the verdict on the whole, which begins with these words: in the text a line, in JSON an object behind the others, in SARIF a result where the
+/// stack may not suffice.
+fn put_verdict(
+    alloc: Global,
+    stack: &Stack,
+    asked: Asked<'_>,
+    words: &str,
+    is_first: bool,
+    out: &mut String,
+) -> Result<(), AllocError> {
+    let mut text = String::from_str(alloc, words)?;
+    stack.put(alloc, &mut text)?;
+    let main = asked.given;
+    match asked.form {
+        Form::Text => {
+            let text = text.as_str();
+            out.push_str(format!(in alloc; "{main}: {text}\n")?.as_str())
+        }
+        Form::Json => put_object(alloc, stack, main, text.as_str(), !words.is_empty(), out),
+        Form::Sarif => {
+            if !stack.suffices() {
+                put_short_stack(alloc, main, text.as_str(), is_first, out)?;
+            }
+            put_sarif_end(out)
+        }
+    }
+}
+
+/// Puts that the stack may not suffice as a result about the main file.
+fn put_short_stack(
+    alloc: Global,
+    main: &str,
+    text: &str,
+    is_first: bool,
+    out: &mut String,
+) -> Result<(), AllocError> {
+    let shown = nothing_shown(alloc);
+    let report = Report {
+        code: STACK,
+        text,
+        level: "warning",
+        file: main,
+        line: 0,
+        shown: &shown,
+    };
+    put_sarif_report(alloc, report, is_first, out)
+}
+
+/// Puts the verdict as an object with the members of a report, and `defined`, `stack` and `stack_most` (null where no bound is known).
+fn put_object(
+    alloc: Global,
+    stack: &Stack,
+    main: &str,
+    text: &str,
+    is_defined: bool,
+    out: &mut String,
+) -> Result<(), AllocError> {
+    let shown = nothing_shown(alloc);
+    let report = Report {
+        code: "verdict",
+        text,
+        level: "note",
+        file: main,
+        line: 0,
+        shown: &shown,
+    };
+    let mut object = String::new(alloc);
+    put_json_report(alloc, report, &mut object)?;
+    out.push_str(object.as_str().strip_suffix("}\n").unwrap_or_default())?;
+    let size = stack.size;
+    out.push_str(format!(in alloc; ",\"defined\":{is_defined},\"stack\":{size}")?.as_str())?;
+    match stack.most {
+        Some(most) => {
+            out.push_str(format!(in alloc; ",\"stack_most\":{most}}}\n")?.as_str())
+        }
+        None => out.push_str(",\"stack_most\":null}\n"),
+    }
 }
 
 fn put_not_followed(
@@ -94,11 +201,15 @@ pub(crate) fn tell_acts(
     alloc: Global,
     files: &Files<'_>,
     list: &[Placed<'_>],
+    stack: &Stack,
     asked: Asked<'_>,
 ) -> Result<String, AllocError> {
     let mut out = String::new(alloc);
     if asked.form == Form::Sarif {
-        put_sarif_start(alloc, asked.version, &[], acts(alloc, list)?.as_slice(), &mut out)?;
+        put_sarif_tool(alloc, asked.version, &mut out)?;
+        put_sarif_act_rules(alloc, acts(alloc, list)?.as_slice(), &mut out)?;
+        put_stack_rule(alloc, stack, list.is_empty(), &mut out)?;
+        put_sarif_results(&mut out)?;
     }
     for (number, placed) in list.iter().enumerate() {
         let act = act_at(alloc, files, placed)?;
@@ -108,9 +219,7 @@ pub(crate) fn tell_acts(
             Form::Sarif => put_result(alloc, &act, number == 0, &mut out)?,
         }
     }
-    if asked.form == Form::Sarif {
-        put_sarif_end(&mut out)?;
-    }
+    put_verdict(alloc, stack, asked, "", list.is_empty(), &mut out)?;
     Ok(out)
 }
 

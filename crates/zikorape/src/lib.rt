@@ -144,8 +144,8 @@ pub extern "C" fn zk_warn(
     }
 }
 
-/// Whether the program in the file `main` does anything undefined, on any input: 0 where it is defined, 3 where that was not shown, with the places as JSON,
-/// an object a line. It has no clause but that it is safe.
+/// Whether the program in the file `main` does anything undefined, on any input, and how much of its stack it takes: 0 where it is defined and the stack suffices,
+/// 3 where that was not shown; with the places and the verdict as JSON, an object a line. It has no clause but that it is safe.
 #[unsafe(no_mangle)]
 pub extern "C" fn zk_verify(
     alloc: Global,

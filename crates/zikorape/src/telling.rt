@@ -80,7 +80,7 @@ pub fn tell_faults(
     hand_text(faults, out, message, sizes)
 }
 
-/// Whether that program does anything undefined, on any input, as JSON; 0 where it is defined, 3 where that was not shown.
+/// Whether that program does anything undefined, on any input, and how much of its stack it takes, as JSON; 0 where it is defined and the stack suffices, 3 where that was not shown.
 pub fn tell_verdict(
     alloc: Global,
     set: &FileSet,
@@ -102,7 +102,7 @@ pub fn tell_verdict(
     match verify_sources(alloc, set, question) {
         Ok(said) => {
             hand_out(said.out.as_bytes(), b"", out, message, sizes);
-            if said.is_defined { 0 } else { NOT_SHOWN }
+            if said.is_shown { 0 } else { NOT_SHOWN }
         }
         Err(fault) => {
             hand_fault(alloc, &fault, out, message, sizes);

@@ -243,7 +243,7 @@ def verdicts(counted, zk, said, work):
             file.write(text)
         status, told = said('verify', 'main.c', '--json')
         answer = zk.verify({'main.c': text}, 'main.c')
-        counted.holds('verified: ' + name, (status, answer.status, answer.output) == (wanted, wanted, told) and (told == b'') == (wanted == 0), (status, told, answer))
+        counted.holds('verified: ' + name, (status, answer.status, answer.output) == (wanted, wanted, told) and json.loads(told.splitlines()[-1])['defined'] == (wanted == 0), (status, told, answer))
     refused = zk.verify({'w.c': b'int main(void) { return x; }\n'}, 'w.c')
     counted.holds('verified: refused', (refused.status, refused.message) == (1, 'w.c:1: 528 undeclared name\n'), refused)
 
