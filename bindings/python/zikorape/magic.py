@@ -27,12 +27,11 @@ _words.add_argument('--verify', action='store_true')
 
 
 def _explained(text):
-    """Faults and places as `explain` and `verify` give them, an object a line, as lines with a caret."""
-    for line in text.splitlines():
-        one = json.loads(line)
-        column = ':%d' % one['column'] if one['column'] else ''
-        line = ':%d' % one['line'] if one['line'] else ''
-        yield '%s%s%s: %s %s' % (one['file'], line, column, one['code'], one['text'])
+    """Faults and places as `explain` and `verify` give them, an object a line, each as a line with its notes under it."""
+    for object_ in text.splitlines():
+        one = json.loads(object_)
+        place = ':'.join([one['file'], *[str(number) for number in (one['line'], one['column']) if number]])
+        yield '%s: %s %s' % (place, one['code'], one['text'])
         yield from ('    ' + note['text'] for note in one['notes'])
 
 
