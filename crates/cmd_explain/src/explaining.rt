@@ -180,7 +180,7 @@ fn run_said(
         &sources.set,
         names.as_slice(),
         sources.main,
-        Run {
+        &Run {
             input,
             max,
             stack: stack_size(program),

@@ -57,7 +57,7 @@ pub fn interpreted(
     set: &FileSet,
     names: &[&str],
     main: &str,
-    run: Run<'_>,
+    run: &Run<'_>,
 ) -> Result<Interpretation, AllocError> {
     let end = end_of(alloc, set, main, run)?;
     let undefined = match site_in(alloc, end.line.as_slice())? {
@@ -79,7 +79,7 @@ fn end_of(
     alloc: Global,
     set: &FileSet,
     main: &str,
-    run: Run<'_>,
+    run: &Run<'_>,
 ) -> Result<RunEnd, AllocError> {
     let mut port = MemPort::new(alloc, Vec::from_slice(alloc, run.input)?);
     let mut line = room_for_line(alloc)?;
@@ -127,7 +127,7 @@ fn explain_act(
     set: &FileSet,
     sources: &Sources,
     main: &str,
-    run: Run<'_>,
+    run: &Run<'_>,
     site: Site,
 ) -> Result<Undefined, AllocError> {
     let place = place_of_act(alloc, sources, main, run, &site)?;
@@ -152,7 +152,7 @@ fn place_of_act(
     alloc: Global,
     sources: &Sources,
     main: &str,
-    run: Run<'_>,
+    run: &Run<'_>,
     at: &Site,
 ) -> Result<Option<Place>, AllocError> {
     let Some(file) = sources.number(at.file.as_str()) else {

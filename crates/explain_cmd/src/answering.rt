@@ -239,7 +239,7 @@ pub fn explain_run(
     set: &FileSet,
     names: &[&str],
     main: &str,
-    run: Run<'_>,
+    run: &Run<'_>,
     form: Form,
 ) -> Result<Said, AllocError> {
     let Interpretation {
