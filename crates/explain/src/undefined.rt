@@ -75,12 +75,7 @@ pub fn interpreted(
     })
 }
 
-fn end_of(
-    alloc: Global,
-    set: &FileSet,
-    main: &str,
-    run: &Run<'_>,
-) -> Result<RunEnd, AllocError> {
+fn end_of(alloc: Global, set: &FileSet, main: &str, run: &Run<'_>) -> Result<RunEnd, AllocError> {
     let mut port = MemPort::new(alloc, Vec::from_slice(alloc, run.input)?);
     let mut line = room_for_line(alloc)?;
     let status = perform(

@@ -67,10 +67,7 @@ fn order(placed: &Placed<'_>) -> (usize, u32, usize) {
 }
 
 /// The same, of each place the first.
-fn each_once<'a>(
-    alloc: Global,
-    sorted: &[Placed<'a>],
-) -> Result<Vec<Placed<'a>>, AllocError> {
+fn each_once<'a>(alloc: Global, sorted: &[Placed<'a>]) -> Result<Vec<Placed<'a>>, AllocError> {
     let mut kept = Vec::new(alloc);
     let mut last = None;
     for placed in sorted {

@@ -175,9 +175,7 @@ fn put_object(
     let size = stack.size;
     out.push_str(format!(in alloc; ",\"defined\":{is_defined},\"stack\":{size}")?.as_str())?;
     match stack.most {
-        Some(most) => {
-            out.push_str(format!(in alloc; ",\"stack_most\":{most}}}\n")?.as_str())
-        }
+        Some(most) => { out.push_str(format!(in alloc; ",\"stack_most\":{most}}}\n")?.as_str()) }
         None => out.push_str(",\"stack_most\":null}\n"),
     }
 }
@@ -274,11 +272,7 @@ fn put_text(alloc: Global, act: &Undefined, out: &mut String) -> Result<(), Allo
 }
 
 /// An alarm as undefined behaviour that is possible, with what is shown of it.
-fn act_at(
-    alloc: Global,
-    files: &Files<'_>,
-    placed: &Placed<'_>,
-) -> Result<Undefined, AllocError> {
+fn act_at(alloc: Global, files: &Files<'_>, placed: &Placed<'_>) -> Result<Undefined, AllocError> {
     let act = u32::from(placed.alarm.act.number());
     let mut noted = Noted::new(alloc);
     put_numbers(alloc, placed, &mut noted)?;
