@@ -41,7 +41,7 @@ fn said(
         form: report_form(telling),
         version: plain_version(),
     };
-    Ok(verify_sources(alloc, &sources.set, asked))
+    Ok(verify_sources(alloc, &sources.set, &asked))
 }
 
 fn put_said(rt: &HostRuntime, said: &Said) -> u8 {

@@ -1,6 +1,6 @@
 //! The verdict on a set of files.
 
-use crate::placing::{Placed, by_lines, by_tokens, have_same_lines};
+use crate::placing::{by_lines, by_tokens, have_same_lines};
 use crate::stack::{Stack, stack_of};
 use crate::telling::{tell_acts, tell_defined, tell_not_followed};
 use cc::{StackSize, checked_program};
@@ -30,7 +30,7 @@ pub struct Asked<'a> {
 
 impl<'a> Asked<'a> {
     /// The name of the file that no person wrote; empty where there is none.
-    fn made_file(self) -> &'a str {
+    fn made_file(&self) -> &'a str {
         if self.main == self.given {
             ""
         } else {
@@ -50,36 +50,41 @@ pub struct Said {
 /// Tells whether the program of these sources does anything undefined, on any input, and how much of its stack it takes.
 ///
 /// Refuses as `cc::checked_program` does.
-pub fn verify_sources(alloc: Global, set: &FileSet, asked: Asked<'_>) -> Result<Said, Fault> {
+pub fn verify_sources(alloc: Global, set: &FileSet, asked: &Asked<'_>) -> Result<Said, Fault> {
     let mut names = Names::new(alloc);
     let program = checked_program(alloc, set, asked.main, &mut names, asked.stack)?;
-    match said(alloc, set, &program, &names, asked) {
+    match judged(alloc, set, &program, &names, asked) {
         Ok(said) => Ok(said),
         Err(_) => Err(Fault::memory(alloc)),
     }
 }
 
-fn said(
+fn judged(
     alloc: Global,
     set: &FileSet,
     program: &Program,
     names: &Names,
-    asked: Asked<'_>,
+    asked: &Asked<'_>,
 ) -> Result<Said, AllocError> {
     let stack = stack_of(alloc, program, names, asked.stack)?;
-    match verify(alloc, program, TURNS)? {
-        Verdict::Defined => Ok(Said {
-            out: tell_defined(alloc, &stack, asked)?,
-            is_shown: stack.suffices(),
-        }),
-        Verdict::DefinedBut(_, alarms) => Ok(Said {
-            out: with_alarms(alloc, set, names, alarms.as_slice(), &stack, asked)?,
-            is_shown: false,
-        }),
-        Verdict::Unknown(at) => Ok(Said {
-            out: tell_not_followed(alloc, names, at, &stack, asked)?,
-            is_shown: false,
-        }),
+    let verdict = verify(alloc, program, TURNS)?;
+    let out = match &verdict {
+        Verdict::Defined => tell_defined(alloc, &stack, asked)?,
+        Verdict::DefinedBut(_, alarms) => {
+            with_alarms(alloc, set, names, alarms.as_slice(), &stack, asked)?
+        }
+        Verdict::Unknown(at) => tell_not_followed(alloc, names, *at, &stack, asked)?,
+    };
+    Ok(Said {
+        out,
+        is_shown: is_defined(&verdict) && stack.suffices(),
+    })
+}
+
+fn is_defined(verdict: &Verdict) -> bool {
+    match verdict {
+        Verdict::Defined => true,
+        Verdict::DefinedBut(_, _) | Verdict::Unknown(_) => false,
     }
 }
 
@@ -90,19 +95,18 @@ fn with_alarms(
     names: &Names,
     alarms: &[Alarm],
     stack: &Stack,
-    asked: Asked<'_>,
+    asked: &Asked<'_>,
 ) -> Result<String, AllocError> {
     let files = Files::of(alloc, set, asked.names, asked.made_file())?;
-    let plain = by_lines(alloc, names, alarms)?;
+    let plain = by_lines(alloc, alarms)?;
     let mut laid_names = Names::new(alloc);
     let laid = laid_alarms(alloc, &files, &mut laid_names, asked)?;
     let exact = by_tokens(alloc, &files, &laid_names, laid.as_slice())?;
-    let list: &[Placed<'_>] = if have_same_lines(plain.as_slice(), exact.as_slice()) {
-        exact.as_slice()
+    if have_same_lines(names, plain.as_slice(), &laid_names, exact.as_slice()) {
+        tell_acts(alloc, &files, &laid_names, exact.as_slice(), stack, asked)
     } else {
-        plain.as_slice()
-    };
-    tell_acts(alloc, &files, list, stack, asked)
+        tell_acts(alloc, &files, names, plain.as_slice(), stack, asked)
+    }
 }
 
 /// The alarms of the program laid out a token a line; none where that is not to be had.
@@ -110,7 +114,7 @@ fn laid_alarms(
     alloc: Global,
     files: &Files<'_>,
     names: &mut Names,
-    asked: Asked<'_>,
+    asked: &Asked<'_>,
 ) -> Result<Vec<Alarm>, AllocError> {
     if !files.is_laid {
         return Ok(Vec::new(alloc));

@@ -7,9 +7,7 @@ use verify_expressions::Alarm;
 
 /// An alarm with its place.
 #[derive(Clone, Copy)]
-pub(crate) struct Placed<'a> {
-    /// The name of its file.
-    pub(crate) file: &'a str,
+pub(crate) struct Placed {
     /// The line, counted from 1.
     pub(crate) line: u32,
     /// How many bytes of the file stand before its token, and before the token's end; both 0 where the token is not known.
@@ -19,15 +17,10 @@ pub(crate) struct Placed<'a> {
 }
 
 /// Alarms by the lines on which they stand.
-pub(crate) fn by_lines<'a>(
-    alloc: Global,
-    names: &'a Names,
-    alarms: &[Alarm],
-) -> Result<Vec<Placed<'a>>, AllocError> {
+pub(crate) fn by_lines(alloc: Global, alarms: &[Alarm]) -> Result<Vec<Placed>, AllocError> {
     let mut all = Vec::new(alloc);
     for alarm in alarms {
         all.push(Placed {
-            file: names.file_name(alarm.at.file),
             line: alarm.at.line,
             start: 0,
             end: 0,
@@ -39,18 +32,16 @@ pub(crate) fn by_lines<'a>(
 }
 
 /// Alarms of the files as they are laid out, by their tokens.
-pub(crate) fn by_tokens<'a>(
+pub(crate) fn by_tokens(
     alloc: Global,
     files: &Files<'_>,
-    names: &'a Names,
+    names: &Names,
     alarms: &[Alarm],
-) -> Result<Vec<Placed<'a>>, AllocError> {
+) -> Result<Vec<Placed>, AllocError> {
     let mut all = Vec::new(alloc);
     for alarm in alarms {
-        let file = names.file_name(alarm.at.file);
-        let place = files.place(file, alarm.at.line);
+        let place = files.place(names.file_name(alarm.at.file), alarm.at.line);
         all.push(Placed {
-            file,
             line: place.line,
             start: place.start,
             end: place.end,
@@ -62,12 +53,12 @@ pub(crate) fn by_tokens<'a>(
 }
 
 /// By file, line and token.
-fn order(placed: &Placed<'_>) -> (usize, u32, usize) {
+fn order(placed: &Placed) -> (usize, u32, usize) {
     (placed.alarm.at.file, placed.line, placed.start)
 }
 
 /// The same, of each place the first.
-fn each_once<'a>(alloc: Global, sorted: &[Placed<'a>]) -> Result<Vec<Placed<'a>>, AllocError> {
+fn each_once(alloc: Global, sorted: &[Placed]) -> Result<Vec<Placed>, AllocError> {
     let mut kept = Vec::new(alloc);
     let mut last = None;
     for placed in sorted {
@@ -80,27 +71,39 @@ fn each_once<'a>(alloc: Global, sorted: &[Placed<'a>]) -> Result<Vec<Placed<'a>>
     Ok(kept)
 }
 
-/// Whether both lists, which are in order, speak of the same lines.
-pub(crate) fn have_same_lines(plain: &[Placed<'_>], exact: &[Placed<'_>]) -> bool {
+/// Whether both lists, which are in order, speak of the same lines; each has names of its own.
+pub(crate) fn have_same_lines(
+    names: &Names,
+    plain: &[Placed],
+    laid_names: &Names,
+    exact: &[Placed],
+) -> bool {
     let mut next: usize = 0;
     for one in exact {
-        if !is_on_line(plain, next.checked_sub(1), one) {
-            if !is_on_line(plain, Some(next), one) {
+        let file = laid_names.file_name(one.alarm.at.file);
+        if !is_on_line(names, plain, next.checked_sub(1), file, one.line) {
+            if !is_on_line(names, plain, Some(next), file, one.line) {
                 return false;
             }
-            next += 1;
+            next = next.saturating_add(1);
         }
     }
     next == plain.len()
 }
 
-/// Whether an alarm stands on the line of the one with this number.
-fn is_on_line(list: &[Placed<'_>], number: Option<usize>, one: &Placed<'_>) -> bool {
+/// Whether the alarm with this number stands on a line of a file.
+fn is_on_line(
+    names: &Names,
+    list: &[Placed],
+    number: Option<usize>,
+    file: &str,
+    line: u32,
+) -> bool {
     let Some(number) = number else {
         return false;
     };
     match list.get(number) {
-        Some(other) => other.line == one.line && other.file == one.file,
+        Some(other) => other.line == line && names.file_name(other.alarm.at.file) == file,
         None => false,
     }
 }

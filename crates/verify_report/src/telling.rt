@@ -19,7 +19,7 @@ const NOT_FOLLOWED: &str = "not-followed";
 const NO_FURTHER: &str = "not followed: the analysis goes no further here";
 
 /// The code of a stack that may not suffice.
-const STACK: &str = "stack";
+const SHORT_STACK: &str = "stack";
 
 /// How the verdict on a program begins that is defined.
 const DEFINED: &str = "defined on every input; ";
@@ -28,7 +28,7 @@ const DEFINED: &str = "defined on every input; ";
 pub(crate) fn tell_defined(
     alloc: Global,
     stack: &Stack,
-    asked: Asked<'_>,
+    asked: &Asked<'_>,
 ) -> Result<String, AllocError> {
     let mut out = String::new(alloc);
     if asked.form == Form::Sarif {
@@ -46,38 +46,30 @@ pub(crate) fn tell_not_followed(
     names: &Names,
     at: Option<Pos>,
     stack: &Stack,
-    asked: Asked<'_>,
+    asked: &Asked<'_>,
 ) -> Result<String, AllocError> {
     let mut out = String::new(alloc);
-    let (file, line) = match at {
-        Some(at) => (names.file_name(at.file), at.line),
-        None => (asked.given, 0),
-    };
-    let shown = nothing_shown(alloc);
-    let report = Report {
-        code: NOT_FOLLOWED,
-        text: NO_FURTHER,
-        level: "warning",
-        file,
-        line,
-        shown: &shown,
-    };
-    match asked.form {
-        Form::Text => put_not_followed(alloc, file, line, &mut out)?,
-        Form::Json => put_json_report(alloc, report, &mut out)?,
-        Form::Sarif => {
-            put_sarif_tool(alloc, asked.version, &mut out)?;
-            put_sarif_rule(
-                alloc,
-                NOT_FOLLOWED,
-                "not followed",
-                "docs/VERIFY.md says what the analysis does not follow",
-                &mut out,
-            )?;
-            put_stack_rule(alloc, stack, false, &mut out)?;
-            put_sarif_results(&mut out)?;
-            put_sarif_report(alloc, report, true, &mut out)?;
-        }
+    if asked.form == Form::Sarif {
+        put_sarif_tool(alloc, asked.version, &mut out)?;
+        put_sarif_rule(
+            alloc,
+            NOT_FOLLOWED,
+            "not followed",
+            "docs/VERIFY.md says what the analysis does not follow",
+            &mut out,
+        )?;
+        put_stack_rule(alloc, stack, false, &mut out)?;
+        put_sarif_results(&mut out)?;
+    }
+    match at {
+        Some(at) => put_not_followed(
+            alloc,
+            names.file_name(at.file),
+            at.line,
+            asked.form,
+            &mut out,
+        )?,
+        None => put_not_followed(alloc, asked.given, 0, asked.form, &mut out)?,
     }
     put_verdict(alloc, stack, asked, "", false, &mut out)?;
     Ok(out)
@@ -96,7 +88,7 @@ fn put_stack_rule(
     out.push_str(if is_first { "" } else { "," })?;
     put_sarif_rule(
         alloc,
-        STACK,
+        SHORT_STACK,
         "the stack may not suffice",
         "docs/VERIFY.md says how a program takes a bounded stack: it has no recursion",
         out,
@@ -108,7 +100,7 @@ fn put_stack_rule(
 fn put_verdict(
     alloc: Global,
     stack: &Stack,
-    asked: Asked<'_>,
+    asked: &Asked<'_>,
     words: &str,
     is_first: bool,
     out: &mut String,
@@ -141,7 +133,7 @@ fn put_short_stack(
 ) -> Result<(), AllocError> {
     let shown = nothing_shown(alloc);
     let report = Report {
-        code: STACK,
+        code: SHORT_STACK,
         text,
         level: "warning",
         file: main,
@@ -180,27 +172,41 @@ fn put_object(
     }
 }
 
+/// Puts that the analysis does not follow, at a line of a file, or, where that is 0, somewhere in it.
 fn put_not_followed(
     alloc: Global,
     file: &str,
     line: u32,
+    form: Form,
     out: &mut String,
 ) -> Result<(), AllocError> {
-    let text = if line == 0 {
-        format!(in alloc; "{file}: not followed: the analysis goes no further\n")?
-    } else {
-        format!(in alloc; "{file}:{line}: {NO_FURTHER}\n")?
+    let shown = nothing_shown(alloc);
+    let report = Report {
+        code: NOT_FOLLOWED,
+        text: NO_FURTHER,
+        level: "warning",
+        file,
+        line,
+        shown: &shown,
     };
-    out.push_str(text.as_str())
+    match form {
+        Form::Text if line == 0 => out.push_str(format!(in alloc;
+            "{file}: not followed: the analysis goes no further\n"
+        )?.as_str()),
+        Form::Text => { out.push_str(format!(in alloc; "{file}:{line}: {NO_FURTHER}\n")?.as_str()) }
+        Form::Json => put_json_report(alloc, report, out),
+        Form::Sarif => put_sarif_report(alloc, report, true, out),
+    }
 }
 
 /// What is told of places at which undefined behaviour was not ruled out.
 pub(crate) fn tell_acts(
     alloc: Global,
     files: &Files<'_>,
-    list: &[Placed<'_>],
+    names: &Names,
+    list: &[Placed],
     stack: &Stack,
-    asked: Asked<'_>,
+    asked: &Asked<'_>,
 ) -> Result<String, AllocError> {
     let mut out = String::new(alloc);
     if asked.form == Form::Sarif {
@@ -210,7 +216,8 @@ pub(crate) fn tell_acts(
         put_sarif_results(&mut out)?;
     }
     for (number, placed) in list.iter().enumerate() {
-        let act = act_at(alloc, files, placed)?;
+        let file = names.file_name(placed.alarm.at.file);
+        let act = act_at(alloc, files, file, placed)?;
         match asked.form {
             Form::Text => put_text(alloc, &act, &mut out)?,
             Form::Json => put_json_undefined(alloc, &act, &mut out)?,
@@ -222,7 +229,7 @@ pub(crate) fn tell_acts(
 }
 
 /// The numbers of the acts, each once.
-fn acts(alloc: Global, list: &[Placed<'_>]) -> Result<Vec<u32>, AllocError> {
+fn acts(alloc: Global, list: &[Placed]) -> Result<Vec<u32>, AllocError> {
     let mut acts = Vec::new(alloc);
     for placed in list {
         let act = u32::from(placed.alarm.act.number());
@@ -272,22 +279,27 @@ fn put_text(alloc: Global, act: &Undefined, out: &mut String) -> Result<(), Allo
 }
 
 /// An alarm as undefined behaviour that is possible, with what is shown of it.
-fn act_at(alloc: Global, files: &Files<'_>, placed: &Placed<'_>) -> Result<Undefined, AllocError> {
+fn act_at(
+    alloc: Global,
+    files: &Files<'_>,
+    file: &str,
+    placed: &Placed,
+) -> Result<Undefined, AllocError> {
     let act = u32::from(placed.alarm.act.number());
     let mut noted = Noted::new(alloc);
     put_numbers(alloc, placed, &mut noted)?;
     noted.put_text(alloc, Topic::Hint, act_help(act))?;
     Ok(Undefined {
-        file: String::from_str(alloc, placed.file)?,
+        file: String::from_str(alloc, file)?,
         line: placed.line,
         act,
         certainty: Certainty::Possible,
-        shown: shown_at(alloc, files, placed, noted)?,
+        shown: shown_at(alloc, files, file, placed, noted)?,
     })
 }
 
 /// Puts the numbers that were found possible, where the act is one of numbers.
-fn put_numbers(alloc: Global, placed: &Placed<'_>, noted: &mut Noted) -> Result<(), AllocError> {
+fn put_numbers(alloc: Global, placed: &Placed, noted: &mut Noted) -> Result<(), AllocError> {
     if matches!(placed.alarm.act, Undef::U6 | Undef::U7 | Undef::U8) {
         return Ok(());
     }
@@ -300,10 +312,11 @@ fn put_numbers(alloc: Global, placed: &Placed<'_>, noted: &mut Noted) -> Result<
 fn shown_at(
     alloc: Global,
     files: &Files<'_>,
-    placed: &Placed<'_>,
+    name: &str,
+    placed: &Placed,
     noted: Noted,
 ) -> Result<Shown, AllocError> {
-    let number = files.number(placed.file);
+    let number = files.number(name);
     let mut shown = nothing_shown(alloc);
     shown.notes = noted.notes;
     let Some(file) = files.list.get(number) else {

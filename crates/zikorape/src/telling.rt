@@ -99,7 +99,7 @@ pub fn tell_verdict(
         form: Form::Json,
         version: "zikorape",
     };
-    match verify_sources(alloc, set, question) {
+    match verify_sources(alloc, set, &question) {
         Ok(said) => {
             hand_out(said.out.as_bytes(), b"", out, message, sizes);
             if said.is_shown { 0 } else { NOT_SHOWN }
