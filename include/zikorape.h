@@ -47,7 +47,7 @@ uint32_t zk_build(const uint8_t *texts, size_t texts_length, const struct zk_fil
                   uint8_t *out, size_t out_length, uint8_t *message, size_t message_length, struct zk_sizes *sizes);
 
 /* The same with a stack of so many bytes, a multiple of 4,096 from 4,096 to 16,777,216 (zk_build: 1,048,576); with another number the
-   status is 256. So it is for zk_functions, zk_warn and zk_explain. */
+   status is 256. So it is for zk_functions, zk_warn, zk_verify and zk_explain. */
 uint32_t zk_build_with(const uint8_t *texts, size_t texts_length, const struct zk_file *files, size_t files_length,
                        const uint8_t *main, size_t main_length, uint32_t stack,
                        uint8_t *out, size_t out_length, uint8_t *message, size_t message_length, struct zk_sizes *sizes);
@@ -63,6 +63,12 @@ uint32_t zk_functions(const uint8_t *texts, size_t texts_length, const struct zk
 uint32_t zk_warn(const uint8_t *texts, size_t texts_length, const struct zk_file *files, size_t files_length,
                  const uint8_t *main, size_t main_length, uint32_t stack,
                  uint8_t *out, size_t out_length, uint8_t *message, size_t message_length, struct zk_sizes *sizes);
+
+/* Whether the program does anything undefined, on any input, and how much of its stack it takes: the status is 0 where it is defined and the stack
+   suffices, and 3 where that was not shown; with the places and the verdict as JSON, an object a line, as `zkc verify --json` tells them. A program that is refused has its fault. */
+uint32_t zk_verify(const uint8_t *texts, size_t texts_length, const struct zk_file *files, size_t files_length,
+                   const uint8_t *main, size_t main_length, uint32_t stack,
+                   uint8_t *out, size_t out_length, uint8_t *message, size_t message_length, struct zk_sizes *sizes);
 
 /* Why the program is refused, as JSON, an object a fault: those that `zkc explain build --json` tells, the one that zk_build answers first, at most
    20. The status is 0, also where the program is not refused and the text is empty. */

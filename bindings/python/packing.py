@@ -32,7 +32,7 @@ def _metadata():
 
 def _files():
     """The files of the wheel, each with its bytes."""
-    for name in ('__init__.py', 'py.typed'):
+    for name in ('__init__.py', 'magic.py', 'py.typed'):
         with open(os.path.join(HERE, NAME, name), 'rb') as file:
             yield '%s/%s' % (NAME, name), file.read()
     with open(_library(), 'rb') as file:

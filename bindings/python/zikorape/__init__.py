@@ -89,9 +89,7 @@ class Snapshot:
 
 
 class KeptMachine:
-    """A machine that is kept (`Library.machine`). A run answers IMAGES = ('binary', 'intel', 'verilog')
-STACK = 1 << 20
-GOES_ON, ENDED, TRAPPED, OUT_OF_MEMORY or WANTS_INPUT; `detail` has the status
+    """A machine that is kept (`Library.machine`). A run answers GOES_ON, ENDED, TRAPPED, OUT_OF_MEMORY or WANTS_INPUT; `detail` has the status
     or the number of the cause. Only one thread may use it."""
 
     def __init__(self, library, file):
@@ -240,7 +238,7 @@ def _beside() -> str:
 class Library:
     def __init__(self, path=None):
         self._c = ctypes.CDLL(os.fspath(path) if path is not None else _beside())
-        for name in ('build', 'build_with', 'functions', 'warn', 'explain', 'image', 'frames', 'preprocess', 'list', 'form', 'interpret', 'run', 'step'):
+        for name in ('build', 'build_with', 'functions', 'warn', 'verify', 'explain', 'image', 'frames', 'preprocess', 'list', 'form', 'interpret', 'run', 'step'):
             getattr(self._c, 'zk_' + name).restype = ctypes.c_uint32
         for name in ('message', 'version'):
             getattr(self._c, 'zk_' + name).restype = ctypes.c_uint64
@@ -263,6 +261,11 @@ class Library:
     def warnings(self, files, main, stack=STACK):
         """The warnings as JSON, an object a line."""
         return self._over(self._c.zk_warn, files, main, ctypes.c_uint32(stack))
+
+    def verify(self, files, main, stack=STACK):
+        """Whether it does anything undefined, on any input, and how much of its stack it takes: status 0 where it is defined and the stack suffices, 3 where
+        that was not shown, with the places and the verdict as JSON, an object a line."""
+        return self._over(self._c.zk_verify, files, main, ctypes.c_uint32(stack))
 
     def explain(self, files, main, stack=STACK):
         """Why the program is refused, as JSON, an object a fault; nothing where it is not."""

@@ -63,6 +63,9 @@ extern "C" {
     fn zk_warn(
         texts: In, n: usize, files: *const File, k: usize, main: In, m: usize, stack: u32, out: Out, o: usize, message: Out, l: usize, sizes: *mut Sizes,
     ) -> u32;
+    fn zk_verify(
+        texts: In, n: usize, files: *const File, k: usize, main: In, m: usize, stack: u32, out: Out, o: usize, message: Out, l: usize, sizes: *mut Sizes,
+    ) -> u32;
     fn zk_explain(
         texts: In, n: usize, files: *const File, k: usize, main: In, m: usize, stack: u32, out: Out, o: usize, message: Out, l: usize, sizes: *mut Sizes,
     ) -> u32;
@@ -176,6 +179,12 @@ pub fn functions(files: &[(&str, &[u8])], main: &str, stack: u32) -> Answer {
 /// The warnings of that program as JSON, an object a line.
 pub fn warnings(files: &[(&str, &[u8])], main: &str, stack: u32) -> Answer {
     over_stack(zk_warn, files, main, stack)
+}
+
+/// Whether that program does anything undefined, on any input, and how much of its stack it takes: status 0 where it is defined and the stack suffices, 3 where that was not
+/// shown, with the places and the verdict as JSON, an object a line.
+pub fn verify(files: &[(&str, &[u8])], main: &str, stack: u32) -> Answer {
+    over_stack(zk_verify, files, main, stack)
 }
 
 /// Why that program is refused, as JSON, an object a fault; nothing where it is not.

@@ -87,7 +87,7 @@ pub fn answer(rt: &HostRuntime, request: &Request<'_>) -> u8 {
                 telling,
             },
         ),
-        Command::Verify => verify_program(rt, program),
+        Command::Verify(telling) => verify_program(rt, program, telling),
         Command::Frames { has_sizes } => show_frames(rt, program, has_sizes),
         Command::Symbols(out) => write_symbols(rt, program, out),
         Command::Image(form) => show_image(rt, program.main, form),

@@ -167,7 +167,7 @@ pub enum Command<'a> {
         telling: Telling,
     },
     /// Tell whether anything undefined is done, on any input.
-    Verify,
+    Verify(Telling),
     /// Print what each function takes, with addresses and sizes or without.
     Frames {
         has_sizes: bool,

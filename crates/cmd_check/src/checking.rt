@@ -1,15 +1,14 @@
 //! `check`.
 
-use crate::refused::{tell_refused, tell_unread};
+use crate::refused::{put_refused, put_unread};
 use cc::compile_with;
 use cli_args::{Program, Telling};
-use cli_io::{put_out, say, say_memory, say_usage};
+use cli_io::{put_out, say_memory, say_usage};
 use cli_sources::{Sources, read_sources, stack_size};
 use explain_cmd::VERSION;
 use lint::unknown_word;
 use lint_report::{Asked, Form, Said};
 use lint_unit::warn_of_sources;
-use srcset::{Code, Fault};
 use std::alloc::{AllocError, Global};
 use std::io::Write;
 
@@ -32,35 +31,11 @@ pub fn check_program(rt: &HostRuntime, program: &Program<'_>, warned: Warned<'_>
     }
     let sources = match read_sources(rt, program) {
         Ok(sources) => sources,
-        Err(fault) => return unread(rt, fault, warned.telling),
+        Err(fault) => return put_unread(rt, fault, warned.telling),
     };
     match compile_with(rt.alloc(), &sources.set, sources.main, stack_size(program)) {
         Ok(_) => check_sources(rt, program, &sources, warned),
-        Err(fault) => refused(rt, program, &sources, fault, warned.telling),
-    }
-}
-
-/// Tells why a file was not read, which as a want of memory is the line of 801 in each form; answers the exit status.
-fn unread(rt: &HostRuntime, fault: Fault, telling: Telling) -> u8 {
-    if telling == Telling::Text || fault.code == Code::OutOfMemory.number() {
-        say(rt, &fault)
-    } else {
-        tell_unread(rt, fault, telling)
-    }
-}
-
-/// Tells why a program is refused, which as a want of memory is the line of 801 in each form; answers the exit status.
-fn refused(
-    rt: &HostRuntime,
-    program: &Program<'_>,
-    sources: &Sources<'_>,
-    fault: Fault,
-    telling: Telling,
-) -> u8 {
-    if telling == Telling::Text || fault.code == Code::OutOfMemory.number() {
-        say(rt, &sources.told(rt.alloc(), fault))
-    } else {
-        tell_refused(rt, program, sources, telling)
+        Err(fault) => put_refused(rt, program, &sources, fault, warned.telling),
     }
 }
 
@@ -91,7 +66,7 @@ fn said(
         stack: program.stack,
         words: warned.words,
         are_errors: warned.are_errors,
-        form: form(warned.telling),
+        form: report_form(warned.telling),
         version: plain_version(),
     };
     warn_of_sources(alloc, &sources.set, asked)
@@ -107,7 +82,8 @@ fn put_said(rt: &HostRuntime, said: &Said, are_errors: bool) -> u8 {
     written
 }
 
-fn form(telling: Telling) -> Form {
+/// The form of a report.
+pub fn report_form(telling: Telling) -> Form {
     match telling {
         Telling::Text => Form::Text,
         Telling::Json => Form::Json,
@@ -116,7 +92,7 @@ fn form(telling: Telling) -> Form {
 }
 
 /// The version without the kit.
-fn plain_version() -> &'static str {
+pub fn plain_version() -> &'static str {
     match VERSION.find(',') {
         Some(end) => VERSION.get(..end).unwrap_or_default(),
         None => VERSION,

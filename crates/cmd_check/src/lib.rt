@@ -4,4 +4,5 @@
 mod checking;
 mod refused;
 
-pub use checking::{Warned, check_program};
+pub use checking::{Warned, check_program, plain_version, report_form};
+pub use refused::{put_refused, put_unread};

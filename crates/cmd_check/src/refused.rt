@@ -1,27 +1,46 @@
 //! The faults of a program that is refused, in the forms for tools.
 
 use cli_args::{Program, Telling};
-use cli_io::{put_out, say_memory};
+use cli_io::{put_out, say, say_memory};
 use cli_sources::{Sources, stack_size};
 use explain::{Stage, USUAL_FAULTS};
 use explain_cmd::{Bounds, Form, Said, explain_faults, explain_unread};
 use explain_render::Style;
-use srcset::Fault;
+use srcset::{Code, Fault};
 use std::alloc::{AllocError, Global};
 
+/// Tells why a file was not read, which as a want of memory is the line of 801 in each form; answers the exit status.
+pub fn put_unread(rt: &HostRuntime, fault: Fault, telling: Telling) -> u8 {
+    if telling == Telling::Text || fault.code == Code::OutOfMemory.number() {
+        say(rt, &fault)
+    } else {
+        put_told(rt, explain_unread(rt.alloc(), fault, form(telling)))
+    }
+}
+
+/// Tells why a program is refused, which as a want of memory is the line of 801 in each form; answers the exit status.
+pub fn put_refused(
+    rt: &HostRuntime,
+    program: &Program<'_>,
+    sources: &Sources<'_>,
+    fault: Fault,
+    telling: Telling,
+) -> u8 {
+    if telling == Telling::Text || fault.code == Code::OutOfMemory.number() {
+        say(rt, &sources.told(rt.alloc(), fault))
+    } else {
+        tell_refused(rt, program, sources, telling)
+    }
+}
+
 /// Tells why a program is refused, as `explain` does in this form; answers the exit status.
-pub(crate) fn tell_refused(
+fn tell_refused(
     rt: &HostRuntime,
     program: &Program<'_>,
     sources: &Sources<'_>,
     telling: Telling,
 ) -> u8 {
     put_told(rt, refused(rt.alloc(), program, sources, form(telling)))
-}
-
-/// Tells why a file was not read; answers the exit status.
-pub(crate) fn tell_unread(rt: &HostRuntime, fault: Fault, telling: Telling) -> u8 {
-    put_told(rt, explain_unread(rt.alloc(), fault, form(telling)))
 }
 
 fn refused(

@@ -1,7 +1,8 @@
 //! Included files that the command does not name, and that lie beside the file that includes them.
 
 use cli_sources::{Sources, lies_beside};
-use explain::{Explained, Finding, Note, Topic};
+use explain::Explained;
+use explain_findings::{Finding, Note, Topic};
 use srcset::Code;
 use std::alloc::AllocError;
 

@@ -4,6 +4,7 @@ use crate::beside::look_beside;
 use cli_args::{Colours, Program, Stage, Telling};
 use cli_io::{put_out, say, say_memory, unread};
 use cli_sources::{Sources, read_sources, stack_size};
+use explain::Run;
 use explain_cmd::{
     Bounds, Form, Said, explain_run, explain_unread, fault_source, find_faults, tell_faults,
 };
@@ -179,9 +180,11 @@ fn run_said(
         &sources.set,
         names.as_slice(),
         sources.main,
-        input,
-        max,
-        stack_size(program),
+        &Run {
+            input,
+            max,
+            stack: stack_size(program),
+        },
         form,
     )
 }

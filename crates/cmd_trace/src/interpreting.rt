@@ -42,7 +42,7 @@ fn probed(
     sources: &Sources<'_>,
 ) -> Result<Option<Tracing>, AllocError> {
     let names = sources.names(alloc)?;
-    let texts = explain::Sources::of(alloc, &sources.set, names.as_slice(), stack_size(program))?;
+    let texts = explain_findings::Sources::of(alloc, &sources.set, names.as_slice())?;
     with_probes(alloc, &texts, sources.main)
 }
 

@@ -2,6 +2,5 @@
 #![tactic(auto)]
 
 mod verifying;
-mod words;
 
 pub use verifying::verify_program;

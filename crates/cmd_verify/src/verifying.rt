@@ -1,62 +1,50 @@
 //! A program that is verified.
 
-use crate::words::{alarm_lines, defined_line, unknown_line};
-use cc::checked_program;
-use cli_args::Program;
-use cli_io::{put_out, say, say_memory};
+use cli_args::{Program, Telling};
+use cli_io::{put_out, say_memory};
 use cli_sources::{Sources, read_sources, stack_size};
-use srcset::Names;
+use cmd_check::{plain_version, put_refused, put_unread, report_form};
+use srcset::Fault;
 use std::alloc::{AllocError, Global};
-use verify::{Verdict, verify};
+use verify_report::{Asked, Said, verify_sources};
 
-/// How many bodies are analysed at most.
-const TURNS: u32 = 20_000;
-
-/// The exit status of a program of which it could not be shown that it is defined.
+/// The exit status of a program of which it could not be shown that it is defined and that its stack suffices.
 const NOT_SHOWN: u8 = 3;
 
-/// Tells whether a program does anything undefined, on any input; answers the exit status: 0 where nothing is, 3 where that was not shown, 1
-/// where the program is refused.
-pub fn verify_program(rt: &HostRuntime, program: &Program<'_>) -> u8 {
+/// Tells whether a program does anything undefined, on any input, and how much of its stack it takes; answers the exit status: 0 where it is defined and the stack suffices,
+/// 3 where that was not shown, 1 where the program is refused.
+pub fn verify_program(rt: &HostRuntime, program: &Program<'_>, telling: Telling) -> u8 {
     let sources = match read_sources(rt, program) {
         Ok(sources) => sources,
-        Err(fault) => return say(rt, &fault),
+        Err(fault) => return put_unread(rt, fault, telling),
     };
-    verify_sources(rt, program, &sources)
-}
-
-fn verify_sources(rt: &HostRuntime, program: &Program<'_>, sources: &Sources<'_>) -> u8 {
-    let mut names = Names::new(rt.alloc());
-    let stack = stack_size(program);
-    match checked_program(rt.alloc(), &sources.set, sources.main, &mut names, stack) {
-        Ok(typed) => tell(rt, sources, &names, verify(rt.alloc(), &typed, TURNS)),
-        Err(fault) => say(rt, &sources.told(rt.alloc(), fault)),
-    }
-}
-
-fn tell(
-    rt: &HostRuntime,
-    sources: &Sources<'_>,
-    names: &Names,
-    verdict: Result<Verdict, AllocError>,
-) -> u8 {
-    let Ok(verdict) = verdict else {
-        return say_memory(rt);
-    };
-    let status = match verdict {
-        Verdict::Defined => 0,
-        _ => NOT_SHOWN,
-    };
-    match text(rt.alloc(), sources.given, names, &verdict) {
-        Ok(text) => put_out(rt, text.as_bytes(), status),
+    match said(rt.alloc(), program, &sources, telling) {
+        Ok(Ok(said)) => put_said(rt, &said),
+        Ok(Err(fault)) => put_refused(rt, program, &sources, fault, telling),
         Err(_) => say_memory(rt),
     }
 }
 
-fn text(alloc: Global, main: &str, names: &Names, verdict: &Verdict) -> Result<String, AllocError> {
-    match verdict {
-        Verdict::Defined => defined_line(alloc, main),
-        Verdict::DefinedBut(_, alarms) => alarm_lines(alloc, names, alarms.as_slice()),
-        Verdict::Unknown(at) => unknown_line(alloc, names, main, *at),
-    }
+/// What is told of the program, or the fault for which it is refused.
+fn said(
+    alloc: Global,
+    program: &Program<'_>,
+    sources: &Sources<'_>,
+    telling: Telling,
+) -> Result<Result<Said, Fault>, AllocError> {
+    let names = sources.names(alloc)?;
+    let asked = Asked {
+        names: names.as_slice(),
+        main: sources.main,
+        given: sources.given,
+        stack: stack_size(program),
+        form: report_form(telling),
+        version: plain_version(),
+    };
+    Ok(verify_sources(alloc, &sources.set, asked))
+}
+
+fn put_said(rt: &HostRuntime, said: &Said) -> u8 {
+    let status = if said.is_shown { 0 } else { NOT_SHOWN };
+    put_out(rt, said.out.as_bytes(), status)
 }

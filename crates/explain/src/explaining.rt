@@ -1,16 +1,14 @@
 //! The faults of a program, explained.
 
-ghost use Rattle.std.specs.Prelude.{◌≡◌, IfOk, IfSome};
+ghost use Rattle.std.specs.Prelude.{◌≡◌, IfNone, IfOk, IfSome, IsTrue};
 ghost use Rattle.cc.specs.Refused.{IsRefused};
+ghost use Rattle.explain.specs.Accepted.{IsAccepted};
 
-use crate::asking::fault_of;
-use crate::finding::{Finding, Place, show_place};
-use crate::includes::Includes;
-use crate::locating::place_of;
-use crate::noting::notes;
-use crate::passing::spots_to_pass;
-use crate::sources::Sources;
 use cc::{StackSize, compile_with};
+use explain_findings::{
+    Answer, Asking, Compiler, Finding, Includes, Place, Sources, notes, place_of, show_place,
+    spots_to_pass,
+};
 use explain_places::blank;
 use srcset::{Code, Fault, FileSet};
 use std::alloc::{AllocError, Global};
@@ -47,7 +45,8 @@ pub fn explain(
     stack: StackSize,
     most: usize,
 ) -> Result<Option<Explained>, AllocError>
-    ensures { IfOk result (λ told. IfSome told (λ explained. IsRefused stack set.now main.now explained.first.fault)) }
+    ensures refused { IfOk result (λ told. IfSome told (λ explained. IsRefused stack set.now main.now explained.first.fault)) }
+    ensures accepted { stage ≡ Whole → IfOk result (λ told. IfNone told (IsAccepted stack set.now main.now)) }
 {
     let fault = match compile_with(alloc, set, main, stack) {
         Ok(_) => return Ok(None),
@@ -59,71 +58,128 @@ pub fn explain(
     if fault.code == Code::OutOfMemory.number() {
         return Err(AllocError);
     }
-    let mut sources = Sources::of(alloc, set, names, stack)?;
+    let sources = Sources::of(alloc, set, names)?;
     let includes = Includes::of(alloc, &sources, sources.number(main).unwrap_or(0))?;
-    let place = place_of(alloc, &sources, main, &fault)?;
-    let first = told(alloc, set, &sources, &includes, main, place, fault)?;
-    let bounds = Bounds { stage, most };
-    let last = Last {
-        place,
-        code: first.fault.code,
+    let mut looking = Looking {
+        set,
+        sources,
+        includes,
+        main,
+        compiler: ForStack { stack },
     };
-    let further = further(alloc, set, &mut sources, &includes, main, bounds, last)?;
+    let first = looking.told(alloc, fault)?;
+    let further = looking.further(alloc, stage, most, &first)?;
     Ok(Some(Explained { first, further }))
 }
 
-/// How far further faults are looked for.
-#[derive(Clone, Copy)]
-struct Bounds {
-    stage: Stage,
-    /// How many faults are told at most.
-    most: usize,
+/// The compiler, for a size of the stack.
+#[derive(Drop)]
+struct ForStack {
+    stack: StackSize,
 }
 
-/// The fault that was told last.
-#[derive(Clone, Copy)]
-struct Last {
-    place: Option<Place>,
-    code: u16,
+impl Compiler for ForStack {
+    fn fault_of(
+        &self,
+        alloc: Global,
+        set: &FileSet,
+        main: &str,
+    ) -> Result<Option<Fault>, AllocError> {
+        match compile_with(alloc, set, main, self.stack) {
+            Ok(_) => Ok(None),
+            Err(fault) => if fault.code == Code::OutOfMemory.number() {
+                Err(AllocError)
+            } else {
+                Ok(Some(fault))
+            },
+        }
+    }
 }
 
 /// Whether a fault of this code is met so far.
-fn is_of_stage(stage: Stage, code: u16) -> bool {
+fn is_of_stage(stage: Stage, code: u16) -> bool
+    ensures { stage ≡ Whole → IsTrue result }
+{
     match stage {
         Stage::Whole => true,
         Stage::Preprocessing => matches!(code, 101..=235 | 701..=708 | 801..=907),
     }
 }
 
-/// The next faults: each time the statement or the function body in which the last one stands is passed over.
-fn further(
-    alloc: Global,
-    set: &FileSet,
-    sources: &mut Sources,
-    includes: &Includes,
-    main: &str,
-    bounds: Bounds,
-    last: Last,
-) -> Result<Vec<Finding>, AllocError> {
-    let mut found = Vec::new(alloc);
-    let mut place = last.place;
-    let mut code = last.code;
-    for _ in 1..bounds.most {
-        let Some(at) = place else {
-            break;
-        };
-        if !pass_over(alloc, sources, at, code)? {
-            break;
+/// A program whose faults are looked for.
+#[derive(Drop)]
+struct Looking<'a> {
+    set: &'a FileSet,
+    /// Its sources, in which what was passed over is blank.
+    sources: Sources,
+    includes: Includes,
+    main: &'a str,
+    compiler: ForStack,
+}
+
+impl<'a> Looking<'a> {
+    fn asking(&self) -> Asking<'_, ForStack> {
+        Asking {
+            sources: &self.sources,
+            main: self.main,
+            compiler: &self.compiler,
         }
-        let Some(fault) = next_fault(alloc, sources, main, bounds.stage)? else {
-            break;
-        };
-        place = place_of(alloc, sources, main, &fault)?;
-        code = fault.code;
-        let finding = told(alloc, set, sources, includes, main, place, fault)?;
-        put_sorted(&mut found, finding)?;
     }
-    Ok(found)
+
+    /// A fault with what is known of it. The set has the texts as they were given.
+    fn told(&self, alloc: Global, fault: Fault) -> Result<Finding, AllocError>
+        ensures { IfOk result (λ found. found.fault ≡ fault) }
+    {
+        let asking = self.asking();
+        let place = place_of(alloc, &asking, &fault)?;
+        let noted = notes(alloc, &asking, &self.includes, place, &fault)?;
+        let shown = show_place(
+            alloc,
+            self.set,
+            fault.file.as_str(),
+            fault.line,
+            place,
+            noted,
+        )?;
+        Ok(Finding { fault, shown })
+    }
+
+    /// The next faults: each time the statement or the function body in which the last one stands is passed over.
+    fn further(
+        &mut self,
+        alloc: Global,
+        stage: Stage,
+        most: usize,
+        first: &Finding,
+    ) -> Result<Vec<Finding>, AllocError> {
+        let mut found = Vec::new(alloc);
+        let mut place = first.shown.place;
+        let mut code = first.fault.code;
+        for _ in 1..most {
+            let Some(at) = place else {
+                break;
+            };
+            if !pass_over(alloc, &mut self.sources, at, code)? {
+                break;
+            }
+            let Some(fault) = self.next_fault(alloc, stage)? else {
+                break;
+            };
+            let finding = self.told(alloc, fault)?;
+            place = finding.shown.place;
+            code = finding.fault.code;
+            put_sorted(&mut found, finding)?;
+        }
+        Ok(found)
+    }
+
+    fn next_fault(&self, alloc: Global, stage: Stage) -> Result<Option<Fault>, AllocError> {
+        let none = self.sources.files.len();
+        match self.asking().answer_with(alloc, none, b"")? {
+            Answer::Refused(fault) if is_of_stage(stage, fault.code) => Ok(Some(fault)),
+            _ => Ok(None),
+        }
+    }
 }
 
 /// Puts a finding behind those that stand before it in the sources.
@@ -148,21 +204,6 @@ fn is_behind(one: &Finding, other: &Finding) -> bool {
     }
 }
 
-fn next_fault(
-    alloc: Global,
-    sources: &Sources,
-    main: &str,
-    stage: Stage,
-) -> Result<Option<Fault>, AllocError> {
-    let Some(set) = sources.set(alloc)? else {
-        return Ok(None);
-    };
-    match fault_of(alloc, &set, main, sources.stack)? {
-        Some(fault) if is_of_stage(stage, fault.code) => Ok(Some(fault)),
-        _ => Ok(None),
-    }
-}
-
 /// Makes the statement around a place empty, or else the function body; answers whether there is one.
 fn pass_over(
     alloc: Global,
@@ -179,21 +220,4 @@ fn pass_over(
         None => return Ok(false),
     }
     Ok(true)
-}
-
-/// A fault with what is known of it. The set has the texts as they were given.
-fn told(
-    alloc: Global,
-    set: &FileSet,
-    sources: &Sources,
-    includes: &Includes,
-    main: &str,
-    place: Option<Place>,
-    fault: Fault,
-) -> Result<Finding, AllocError>
-    ensures { IfOk result (λ found. found.fault ≡ fault) }
-{
-    let noted = notes(alloc, sources, includes, main, place, &fault)?;
-    let shown = show_place(alloc, set, fault.file.as_str(), fault.line, place, noted)?;
-    Ok(Finding { fault, shown })
 }

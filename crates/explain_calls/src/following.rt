@@ -3,7 +3,7 @@
 use crate::events::{Call, active};
 use crate::probes::{EVENTS, line_of, probed};
 use cc::{Cmd, StackSize, perform};
-use explain::{Note, Sources, Topic, Undefined, add_file, wants_memory};
+use explain_findings::{Note, Sources, Topic, Undefined, add_file, room_for_line, wants_memory};
 use io_ports::MemPort;
 use srcset::FileSet;
 use std::alloc::{AllocError, Global};
@@ -29,7 +29,7 @@ pub fn put_active_calls(
     input: &[u8],
     undefined: &mut Undefined,
 ) -> Result<(), AllocError> {
-    let mut sources = Sources::of(alloc, set, names, StackSize::usual())?;
+    let mut sources = Sources::of(alloc, set, names)?;
     let mut functions = Vec::new(alloc);
     put_probes(alloc, &mut sources, &mut functions)?;
     let Some(mut probing) = sources.set(alloc)? else {
@@ -41,7 +41,7 @@ pub fn put_active_calls(
         return Ok(());
     }
     let mut port = MemPort::new(alloc, Vec::from_slice(alloc, input)?);
-    let line = followed(alloc, &probing, &mut port);
+    let line = followed(alloc, &probing, &mut port)?;
     if wants_memory(line.as_slice()) {
         return Err(AllocError);
     }
@@ -87,8 +87,8 @@ fn put_probes(
 }
 
 /// Interprets the set over a port; gives what is said on standard error.
-fn followed(alloc: Global, set: &FileSet, port: &mut MemPort) -> Vec<u8> {
-    let mut line = Vec::new(alloc);
+fn followed(alloc: Global, set: &FileSet, port: &mut MemPort) -> Result<Vec<u8>, AllocError> {
+    let mut line = room_for_line(alloc)?;
     let _status = perform(
         alloc,
         Cmd::Interp(MAX_TICKS),
@@ -100,7 +100,7 @@ fn followed(alloc: Global, set: &FileSet, port: &mut MemPort) -> Vec<u8> {
         &mut line,
         widest(),
     );
-    line
+    Ok(line)
 }
 
 /// The greatest stack, since probes take room.

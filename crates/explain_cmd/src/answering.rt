@@ -4,10 +4,9 @@ ghost use Rattle.std.specs.Prelude.{◌≡◌, ◌≤◌, IfOk};
 
 use crate::version::VERSION;
 use cc::StackSize;
-use explain::{
-    Explained, Finding, Interpretation, Shown, Sources, Stage, Undefined, explain, interpreted,
-};
+use explain::{Explained, Interpretation, Run, Stage, explain, interpreted};
 use explain_calls::put_active_calls;
+use explain_findings::{Finding, Shown, Sources, Undefined};
 use explain_render::{
     Style, put_finding, put_json, put_json_undefined, put_sarif_end, put_sarif_result,
     put_sarif_start, put_sarif_undefined, put_source, put_undefined,
@@ -233,16 +232,14 @@ fn codes(alloc: Global, told: &Explained) -> Result<Vec<u16>, AllocError> {
     Ok(codes)
 }
 
-/// A program interpreted over an input, for at most `max` ticks: what it wrote, which only the text tells beside it, and its undefined
+/// A program interpreted: what it wrote, which only the text tells beside it, and its undefined
 /// behaviour explained, with the values and the calls behind it, or else the line that `interp` says. The status is that of `interp`.
 pub fn explain_run(
     alloc: Global,
     set: &FileSet,
     names: &[&str],
     main: &str,
-    input: &[u8],
-    max: u64,
-    stack: StackSize,
+    run: &Run<'_>,
     form: Form,
 ) -> Result<Said, AllocError> {
     let Interpretation {
@@ -250,11 +247,11 @@ pub fn explain_run(
         output,
         line,
         undefined,
-    } = interpreted(alloc, set, names, main, input, max, stack)?;
+    } = interpreted(alloc, set, names, main, run)?;
     let is_undefined = undefined.is_some();
     let told = match undefined {
         Some(act) => {
-            let act = act_known(alloc, set, names, main, input, stack, act)?;
+            let act = act_known(alloc, set, names, main, run.input, act)?;
             told_act(alloc, form, &act)?
         }
         None => told_nothing(alloc, form)?,
@@ -298,11 +295,10 @@ fn act_known(
     names: &[&str],
     main: &str,
     input: &[u8],
-    stack: StackSize,
     act: Undefined,
 ) -> Result<Undefined, AllocError> {
     let mut act = act;
-    let sources = Sources::of(alloc, set, names, stack)?;
+    let sources = Sources::of(alloc, set, names)?;
     put_values(alloc, &sources, main, input, &mut act)?;
     put_active_calls(alloc, set, names, main, input, &mut act)?;
     Ok(act)

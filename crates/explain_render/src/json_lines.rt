@@ -1,7 +1,8 @@
 //! An explained fault as JSON (RFC 8259).
 
+use crate::report::Report;
 use crate::text::column_of;
-use explain::{Finding, Fix, Note, Shown, Topic, Undefined};
+use explain_findings::{Finding, Fix, Note, Shown, Topic, Undefined};
 use srcset::message;
 use std::alloc::{AllocError, Global};
 
@@ -11,9 +12,16 @@ pub fn put_json(alloc: Global, finding: &Finding, out: &mut String) -> Result<()
     let fault = &finding.fault;
     let code = fault.code;
     let text = said(alloc, finding)?;
-    put_place(alloc, fault.file.as_str(), fault.line, &finding.shown, out)?;
-    out.push_str(format!(in alloc; ",\"code\":\"{code}\"")?.as_str())?;
-    put_rest(alloc, text.as_str(), &finding.shown, out)
+    let code = format!(in alloc; "{code}")?;
+    let report = Report {
+        code: code.as_str(),
+        text: text.as_str(),
+        level: "error",
+        file: fault.file.as_str(),
+        line: fault.line,
+        shown: &finding.shown,
+    };
+    put_json_report(alloc, report, out)
 }
 
 /// Puts undefined behaviour in the same form; its code is U1 to U8.
@@ -23,15 +31,20 @@ pub fn put_json_undefined(
     out: &mut String,
 ) -> Result<(), AllocError> {
     let act = undefined.act;
-    put_place(
-        alloc,
-        undefined.file.as_str(),
-        undefined.line,
-        &undefined.shown,
-        out,
-    )?;
-    out.push_str(format!(in alloc; ",\"code\":\"U{act}\"")?.as_str())?;
-    put_rest(alloc, undefined.title(), &undefined.shown, out)
+    let code = format!(in alloc; "U{act}")?;
+    put_json_report(alloc, Report::of_act(undefined, code.as_str()), out)
+}
+
+/// Puts a report in the same form.
+pub fn put_json_report(
+    alloc: Global,
+    report: Report<'_>,
+    out: &mut String,
+) -> Result<(), AllocError> {
+    put_place(alloc, report.file, report.line, report.shown, out)?;
+    out.push_str(",\"code\":")?;
+    put_string(alloc, report.code, out)?;
+    put_rest(alloc, report.text, report.shown, out)
 }
 
 /// Puts the members that tell a place.

@@ -1,8 +1,9 @@
 //! Explained faults as a log of SARIF 2.1.0 (OASIS, sections 3.13 to 3.57).
 
 use crate::json_lines::{put_string, said};
+use crate::report::Report;
 use crate::text::points;
-use explain::{Finding, Fix, Note, Shown, Undefined, act_help, act_title};
+use explain_findings::{Finding, Fix, Note, Shown, Undefined, act_help, act_title};
 use srcset::message;
 use std::alloc::{AllocError, Global};
 
@@ -15,14 +16,24 @@ pub fn put_sarif_start(
     acts: &[u32],
     out: &mut String,
 ) -> Result<(), AllocError> {
+    put_sarif_tool(alloc, version, out)?;
+    put_code_rules(alloc, codes, out)?;
+    put_act_rules(alloc, acts, codes.is_empty(), out)?;
+    put_sarif_results(out)
+}
+
+/// Puts what stands before the rules: the program with its version.
+pub fn put_sarif_tool(alloc: Global, version: &str, out: &mut String) -> Result<(), AllocError> {
     out.push_str(
         "{\"$schema\":\"https://json.schemastore.org/sarif-2.1.0.json\",\"version\":\"2.1.0\",\"runs\":[",
     )?;
     out.push_str("{\"tool\":{\"driver\":{\"name\":\"zikorape\",\"version\":")?;
     put_string(alloc, plain_version(version), out)?;
-    out.push_str(",\"rules\":[")?;
-    put_code_rules(alloc, codes, out)?;
-    put_act_rules(alloc, acts, codes.is_empty(), out)?;
+    out.push_str(",\"rules\":[")
+}
+
+/// Puts what stands between the rules and the results.
+pub fn put_sarif_results(out: &mut String) -> Result<(), AllocError> {
     out.push_str("]}},\"columnKind\":\"unicodeCodePoints\",\"results\":[")
 }
 
@@ -41,15 +52,24 @@ fn put_code_rules(alloc: Global, codes: &[u16], out: &mut String) -> Result<(), 
         let number = *code;
         put_comma(is_first, out)?;
         is_first = false;
-        out.push_str(format!(in alloc; "{{\"id\":\"{number}\"")?.as_str())?;
-        put_rule_texts(
+        put_sarif_rule(
             alloc,
+            format!(in alloc; "{number}")?.as_str(),
             message(number),
             "docs/FAULTS.md has a source with this fault",
             out,
         )?;
     }
     Ok(())
+}
+
+/// Puts the rules of these undefined acts, where no other stands before them.
+pub fn put_sarif_act_rules(
+    alloc: Global,
+    acts: &[u32],
+    out: &mut String,
+) -> Result<(), AllocError> {
+    put_act_rules(alloc, acts, true, out)
 }
 
 /// Puts a rule for each of these undefined acts.
@@ -64,8 +84,8 @@ fn put_act_rules(
         let number = *act;
         put_comma(is_first, out)?;
         is_first = false;
-        out.push_str(format!(in alloc; "{{\"id\":\"U{number}\"")?.as_str())?;
-        put_rule_texts(alloc, act_title(number), act_help(number), out)?;
+        let id = format!(in alloc; "U{number}")?;
+        put_sarif_rule(alloc, id.as_str(), act_title(number), act_help(number), out)?;
     }
     Ok(())
 }
@@ -77,13 +97,16 @@ fn put_comma(is_first: bool, out: &mut String) -> Result<(), AllocError> {
     out.push_str(",")
 }
 
-/// Puts the members of a rule behind its id, and its end.
-fn put_rule_texts(
+/// Puts a rule (3.49).
+pub fn put_sarif_rule(
     alloc: Global,
+    id: &str,
     title: &str,
     help: &str,
     out: &mut String,
 ) -> Result<(), AllocError> {
+    out.push_str("{\"id\":")?;
+    put_string(alloc, id, out)?;
     out.push_str(",\"name\":\"")?;
     put_name(title, out)?;
     out.push_str("\",\"shortDescription\":{\"text\":")?;
@@ -117,11 +140,18 @@ pub fn put_sarif_result(
     out: &mut String,
 ) -> Result<(), AllocError> {
     let fault = &finding.fault;
-    let (file, code) = (fault.file.as_str(), fault.code);
-    put_comma(is_first, out)?;
-    out.push_str(format!(in alloc; "{{\"ruleId\":\"{code}\"")?.as_str())?;
-    let title = said(alloc, finding)?;
-    put_result_rest(alloc, title.as_str(), file, fault.line, &finding.shown, out)
+    let number = fault.code;
+    let code = format!(in alloc; "{number}")?;
+    let text = said(alloc, finding)?;
+    let report = Report {
+        code: code.as_str(),
+        text: text.as_str(),
+        level: "error",
+        file: fault.file.as_str(),
+        line: fault.line,
+        shown: &finding.shown,
+    };
+    put_sarif_report(alloc, report, is_first, out)
 }
 
 /// Puts undefined behaviour as the only result.
@@ -131,37 +161,34 @@ pub fn put_sarif_undefined(
     out: &mut String,
 ) -> Result<(), AllocError> {
     let act = undefined.act;
-    out.push_str(format!(in alloc; "{{\"ruleId\":\"U{act}\"")?.as_str())?;
-    put_result_rest(
-        alloc,
-        undefined.title(),
-        undefined.file.as_str(),
-        undefined.line,
-        &undefined.shown,
-        out,
-    )
+    let code = format!(in alloc; "U{act}")?;
+    put_sarif_report(alloc, Report::of_act(undefined, code.as_str()), true, out)
 }
 
-/// Puts the members of a result behind its rule (3.27), and its end.
-fn put_result_rest(
+/// Puts a report as a result (3.27); a comma stands before each but the first.
+pub fn put_sarif_report(
     alloc: Global,
-    title: &str,
-    file: &str,
-    line: u32,
-    shown: &Shown,
+    report: Report<'_>,
+    is_first: bool,
     out: &mut String,
 ) -> Result<(), AllocError> {
-    out.push_str(",\"level\":\"error\",\"message\":{\"text\":")?;
-    put_string(alloc, whole_text(alloc, title, shown)?.as_str(), out)?;
+    let shown = report.shown;
+    put_comma(is_first, out)?;
+    out.push_str("{\"ruleId\":")?;
+    put_string(alloc, report.code, out)?;
+    out.push_str(",\"level\":\"")?;
+    out.push_str(report.level)?;
+    out.push_str("\",\"message\":{\"text\":")?;
+    put_string(alloc, whole_text(alloc, report.text, shown)?.as_str(), out)?;
     out.push_str("}")?;
-    if !file.is_empty() {
+    if !report.file.is_empty() {
         out.push_str(",\"locations\":[")?;
-        put_location(alloc, file, line, shown, out)?;
+        put_location(alloc, report.file, report.line, shown, out)?;
         out.push_str("]")?;
     }
     put_related(alloc, shown.notes.as_slice(), out)?;
     if let Some(fix) = shown.fixes.first() {
-        put_fix(alloc, file, fix, out)?;
+        put_fix(alloc, report.file, fix, out)?;
     }
     out.push_str("}")
 }

@@ -1,6 +1,6 @@
 //! An explained fault as text.
 
-use explain::{Finding, Note, Shown, Topic, Undefined};
+use explain_findings::{Finding, Note, Shown, Topic, Undefined};
 use srcset::message;
 use std::alloc::{AllocError, Global};
 

@@ -2,7 +2,7 @@
 
 use crate::events::{Seen, seen_in};
 use cc::{Cmd, StackSize, perform};
-use explain::{Sources, Undefined, add_file, wants_memory};
+use explain_findings::{Sources, Undefined, add_file, room_for_line, wants_memory};
 use io_ports::MemPort;
 use std::alloc::{AllocError, Global};
 use std::io;
@@ -79,7 +79,7 @@ pub fn ask(
         return Ok(None);
     }
     let mut port = MemPort::new(alloc, Vec::from_slice(alloc, probed.input)?);
-    let mut line = Vec::new(alloc);
+    let mut line = room_for_line(alloc)?;
     let _status = perform(
         alloc,
         Cmd::Interp(max),

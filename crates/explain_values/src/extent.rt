@@ -2,7 +2,7 @@
 
 use crate::asking::{Asked, Probed, ask};
 use crate::events::Value;
-use explain::Undefined;
+use explain_findings::Undefined;
 use std::alloc::{AllocError, Global};
 
 /// How many ticks a trial takes at most.

@@ -4,7 +4,7 @@ use crate::asking::{Answer, Asked, Probed, ask};
 use crate::events::{Seen, Value};
 use crate::extent::extent;
 use crate::telling::{negation_text, operands_text, subscript_text};
-use explain::{Note, Sources, Topic, Undefined};
+use explain_findings::{Note, Sources, Topic, Undefined};
 use instrument::{Operation, OperationForm, Words, operation_at, put_operation_probes};
 use std::alloc::{AllocError, Global};
 

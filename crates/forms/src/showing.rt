@@ -2,19 +2,14 @@
 
 ghost use Rattle.std.specs.Prelude.{◌≡◌, []};
 
-use crate::code_form::{put_flat, put_tac};
-use crate::token_form::put_tokens;
-use crate::tree_form::put_unit;
-use crate::typed_form::put_program;
-use crate::writer::{Style, Writer};
 use cc::{StackSize, checked_program};
 use cc_backend::flat_program;
+use forms_text::{Style, flat_text, tac_text, tokens_text, tree_text, typed_text};
 use lexer::tokens;
 use parser::parse;
 use pp::preprocess;
 use srcset::{Fault, FileSet, Names};
 use std::alloc::{AllocError, Global};
-use typed_ast::Program;
 
 /// Which form of a program is shown.
 #[derive(Clone, Copy, Debug, PartialEq, Eq)]
@@ -61,11 +56,7 @@ fn told(alloc: Global, written: Result<String, AllocError>) -> Result<String, Fa
 fn show_tokens(alloc: Global, set: &FileSet, main: &str, style: Style) -> Result<String, Fault> {
     let mut names = Names::new(alloc);
     let list = preprocess(alloc, set, &mut names, main)?;
-    let mut out = Writer::new(alloc, &names, style);
-    match put_tokens(&mut out, list.as_slice()) {
-        Ok(()) => told(alloc, out.into_text()),
-        Err(_) => Err(Fault::memory(alloc)),
-    }
+    told(alloc, tokens_text(alloc, list.as_slice(), &names, style))
 }
 
 fn show_tree(alloc: Global, set: &FileSet, main: &str, style: Style) -> Result<String, Fault> {
@@ -74,11 +65,7 @@ fn show_tree(alloc: Global, set: &FileSet, main: &str, style: Style) -> Result<S
     let tokens = tokens(alloc, list.as_slice(), &mut names)?;
     drop(list);
     let unit = parse(alloc, tokens.as_slice(), &names)?;
-    let mut out = Writer::new(alloc, &names, style);
-    match put_unit(&mut out, &unit) {
-        Ok(()) => told(alloc, out.into_text()),
-        Err(_) => Err(Fault::memory(alloc)),
-    }
+    told(alloc, tree_text(alloc, &unit, &names, style))
 }
 
 fn show_typed(
@@ -100,38 +87,4 @@ fn show_typed(
         },
     };
     told(alloc, written)
-}
-
-fn typed_text(
-    alloc: Global,
-    program: &Program,
-    names: &Names,
-    style: Style,
-) -> Result<String, AllocError> {
-    let mut out = Writer::new(alloc, names, style);
-    put_program(&mut out, program)?;
-    out.into_text()
-}
-
-fn tac_text(
-    alloc: Global,
-    program: &Program,
-    names: &Names,
-    style: Style,
-) -> Result<String, AllocError> {
-    let mut out = Writer::new(alloc, names, style);
-    put_tac(alloc, &mut out, program)?;
-    out.into_text()
-}
-
-fn flat_text(
-    alloc: Global,
-    program: &Program,
-    code: &frames_code::FlatProgram,
-    names: &Names,
-    style: Style,
-) -> Result<String, AllocError> {
-    let mut out = Writer::new(alloc, names, style);
-    put_flat(alloc, &mut out, program, code)?;
-    out.into_text()
 }

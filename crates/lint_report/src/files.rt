@@ -71,7 +71,7 @@ impl<'a> Files<'a> {
     }
 
     /// The number of the file of a name; past all of them where there is none.
-    pub(crate) fn number(&self, name: &str) -> usize {
+    pub fn number(&self, name: &str) -> usize {
         match self.list.iter().position(|file| file.name == name) {
             Some(number) => number,
             None => self.list.len(),
@@ -79,7 +79,7 @@ impl<'a> Files<'a> {
     }
 
     /// The place that a line of a file of this name tells.
-    pub(crate) fn place(&self, name: &str, line: u32) -> Place {
+    pub fn place(&self, name: &str, line: u32) -> Place {
         let number = self.number(name);
         let spot = match self.list.get(number) {
             Some(file) if self.is_laid => file.spot_on(line),
@@ -126,7 +126,7 @@ impl<'a> File<'a> {
     }
 
     /// How many bytes stand before a line, and its bytes without their end; `None` where there is no such line, or it is too long to be shown.
-    pub(crate) fn line(&self, line: u32) -> Option<(usize, &[u8])> {
+    pub fn line(&self, line: u32) -> Option<(usize, &[u8])> {
         let number = (line as usize).checked_sub(1)?;
         let start = self.starts.get(number).copied()?;
         let end = match self.starts.get(number.saturating_add(1)) {

@@ -1,7 +1,7 @@
 //! What the events of a run are shown as.
 
 use crate::events::Event;
-use explain::Sources;
+use explain_findings::Sources;
 use instrument::Told;
 use std::alloc::{AllocError, Global};
 

@@ -3,7 +3,7 @@
 use crate::script::Script;
 use crate::trace_port::TracePort;
 use cc::{Cmd, StackSize, perform};
-use explain::{Sources, add_file};
+use explain_findings::{Sources, add_file};
 use instrument::{Told, Words, put_statement_probes};
 use io_ports::Port;
 use srcset::FileSet;

@@ -27,8 +27,8 @@ theorem stack most set name built made defined within fits =
       out.1,
       λ input bytes. (
         (out.2.2 input bytes).within_stack (λ n.
-        let below : (answer n p input).greatest ≤ stack = omega (arith, within n input, fits) in
-        (is_defined (answer n p input).ending (defined n input (are_bytes input bytes)), below)),
-        λ n. within n input
+            let below : (answer n p input).greatest ≤ stack = omega (arith, within n input, fits) in
+            (is_defined (answer n p input).ending (defined n input (are_bytes input bytes)), below)),
+        λ n. within n input,
       ),
     )

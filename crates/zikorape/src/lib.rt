@@ -39,7 +39,7 @@ use stacking::build_stacked;
 use standing::{Standing, stand};
 use std::alloc::Global;
 use std::{mem, ptr};
-use telling::{names_of, tell_faults, tell_functions, tell_image, tell_warnings};
+use telling::{names_of, tell_faults, tell_functions, tell_image, tell_verdict, tell_warnings};
 
 /// The version of the library.
 const VERSION: &[u8] = b"zikorape 1.0";
@@ -126,6 +126,44 @@ pub extern "C" fn zk_warn(
     match given(alloc, texts, files) {
         Ok(set) => match names_of(alloc, texts, files) {
             Ok(names) => tell_warnings(
+                alloc,
+                &set,
+                names.as_slice(),
+                text_or_empty(main),
+                stack,
+                out,
+                message,
+                sizes,
+            ),
+            Err(_) => {
+                hand_out(b"", OUT_OF_MEMORY, out, message, sizes);
+                1
+            }
+        },
+        Err(refusal) => refuse(alloc, &refusal, out, message, sizes),
+    }
+}
+
+/// Whether the program in the file `main` does anything undefined, on any input, and how much of its stack it takes: 0 where it is defined and the stack suffices,
+/// 3 where that was not shown; with the places and the verdict as JSON, an object a line. It has no clause but that it is safe.
+#[unsafe(no_mangle)]
+pub extern "C" fn zk_verify(
+    alloc: Global,
+    texts: &[u8],
+    files: &[FileLengths],
+    main: &[u8],
+    stack: u32,
+    out: &mut [u8],
+    message: &mut [u8],
+    sizes: &mut Sizes,
+) -> u32 {
+    let Some(stack) = StackSize::new(stack) else {
+        hand_out(b"", b"", out, message, sizes);
+        return NO_FILES;
+    };
+    match given(alloc, texts, files) {
+        Ok(set) => match names_of(alloc, texts, files) {
+            Ok(names) => tell_verdict(
                 alloc,
                 &set,
                 names.as_slice(),

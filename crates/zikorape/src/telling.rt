@@ -1,4 +1,4 @@
-//! What is told of a program beside its file: its functions and objects, its warnings, and the images of a file. Nothing here has a clause
+//! What is told of a program beside its file: its functions and objects, its warnings, what verifying shows, and the images of a file. Nothing here has a clause
 //! but that it is safe.
 
 use crate::files::{FileLengths, text_or_empty};
@@ -13,9 +13,13 @@ use loader::LoadFault;
 use srcset::{Code, Fault, FileSet};
 use std::alloc::{AllocError, Global};
 use symbol_table::{Function, Object, SymbolTable, symbol_table};
+use verify_report::{Asked as Question, verify_sources};
 
 /// The answer where there is no such form.
 const NO_FORM: u32 = 256;
+
+/// The answer where a program was not shown to be defined.
+const NOT_SHOWN: u32 = 3;
 
 /// The functions and the objects of the program in the file `main` of the set, as JSON.
 pub fn tell_functions(
@@ -74,6 +78,37 @@ pub fn tell_faults(
 ) -> u32 {
     let faults = faults_of(alloc, set, names, main, stack);
     hand_text(faults, out, message, sizes)
+}
+
+/// Whether that program does anything undefined, on any input, and how much of its stack it takes, as JSON; 0 where it is defined and the stack suffices, 3 where that was not shown.
+pub fn tell_verdict(
+    alloc: Global,
+    set: &FileSet,
+    names: &[&str],
+    main: &str,
+    stack: StackSize,
+    out: &mut [u8],
+    message: &mut [u8],
+    sizes: &mut Sizes,
+) -> u32 {
+    let question = Question {
+        names,
+        main,
+        given: main,
+        stack,
+        form: Form::Json,
+        version: "zikorape",
+    };
+    match verify_sources(alloc, set, question) {
+        Ok(said) => {
+            hand_out(said.out.as_bytes(), b"", out, message, sizes);
+            if said.is_shown { 0 } else { NOT_SHOWN }
+        }
+        Err(fault) => {
+            hand_fault(alloc, &fault, out, message, sizes);
+            1
+        }
+    }
 }
 
 /// The bytes that an executable file loads, in the form with this number.

@@ -232,7 +232,20 @@ def calls(counted, cc, zk, work):
     wanted = said('check', 'worse.c', '--json')[1]
     counted.holds('warnings', wanted != b'' and zk.warnings({'worse.c': worse}, 'worse.c').check().output == wanted, wanted)
     explained(counted, zk, said, work)
+    verdicts(counted, zk, said, work)
     counted.holds('warnings of what is refused', zk.warnings({'w.c': b'int main(void) { return x; }\n'}, 'w.c').message == 'w.c:1: 528 undeclared name\n')
+
+
+def verdicts(counted, zk, said, work):
+    """What verifying tells, as the program tells it as JSON: of a program that is defined, of one that was not shown to be, and of one that is refused."""
+    for name, text, wanted in (('defined', b'int main(void) { return 42; }\n', 0), ('not shown', b'int rv_getbyte(void);\nint main(void) { return 7 / rv_getbyte(); }\n', 3)):
+        with open(os.path.join(work, 'main.c'), 'wb') as file:
+            file.write(text)
+        status, told = said('verify', 'main.c', '--json')
+        answer = zk.verify({'main.c': text}, 'main.c')
+        counted.holds('verified: ' + name, (status, answer.status, answer.output) == (wanted, wanted, told) and json.loads(told.splitlines()[-1])['defined'] == (wanted == 0), (status, told, answer))
+    refused = zk.verify({'w.c': b'int main(void) { return x; }\n'}, 'w.c')
+    counted.holds('verified: refused', (refused.status, refused.message) == (1, 'w.c:1: 528 undeclared name\n'), refused)
 
 
 def explained(counted, zk, said, work):

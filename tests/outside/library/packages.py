@@ -13,6 +13,7 @@ OUT = os.path.abspath(sys.argv[1] if len(sys.argv) > 1 else os.path.join(ROOT, '
 passed = failed = skipped = 0
 
 RIGHT = 'int main(void) { return 42; }\n'
+ADDS = '#include <rvio.h>\nint main(void) { rv_putbyte(rv_getbyte() + 1); return 42; }\n'
 WRONG = 'int main(void)\n{\n    return x;\n}\n'
 
 
@@ -77,7 +78,16 @@ const wrong = zk.build([['w.c', %s]], 'w.c');
 if (!wrong.message.startsWith('w.c:3: 528 ')) throw new Error(wrong.message);
 const tree = JSON.parse(new TextDecoder().decode(zk.form([['main.c', %s]], 'main.c', 1).output));
 if (tree.node !== 'unit') throw new Error('tree');
-""" % tuple(repr(text) for text in (RIGHT, WRONG, RIGHT))
+const machine = zk.machine(zk.build([['main.c', %s]], 'main.c').output);
+if (machine.run(1000) !== 5) throw new Error('it waits for input');
+const there = machine.snapshot();
+for (const [byte, put] of [['a', 'b'], ['x', 'y']]) {
+  machine.input(byte);
+  if (machine.run(1000) !== 1 || machine.detail() !== 42 || new TextDecoder().decode(machine.output()) !== put) throw new Error(byte);
+  machine.restore(there);
+}
+machine.free();
+""" % tuple(repr(text) for text in (RIGHT, WRONG, RIGHT, ADDS))
 
 
 def node(work):
@@ -106,8 +116,17 @@ RUST = """fn main() {
         Err(zikorape::Error::Fault { file, line, code, .. }) => assert_eq!((file.as_str(), line, code), ("w.c", 3, 528)),
         other => panic!("{other:?}"),
     }
+    let mut machine = zikorape::KeptMachine::new(&zikorape::build(&[("main.c", %s.as_bytes())], "main.c").check().unwrap().output).unwrap();
+    assert_eq!(machine.run(1000), zikorape::Ran::WantsInput);
+    let there = machine.snapshot();
+    for (byte, put) in [(b"a", b"b"), (b"x", b"y")] {
+        assert_eq!(machine.input(byte), 1);
+        assert_eq!(machine.run(1000), zikorape::Ran::Ended(42));
+        assert_eq!(machine.output(), put);
+        machine.restore(&there).unwrap();
+    }
 }
-""" % tuple('"%s"' % text.replace('\n', '\\n') for text in (RIGHT, WRONG))
+""" % tuple('"%s"' % text.replace('\n', '\\n') for text in (RIGHT, WRONG, ADDS))
 
 
 def rust(work):
@@ -171,10 +190,79 @@ def c_user(work):
         leave_out('CMake')
 
 
+GRADED = {
+    'right.c': ('#include <rvio.h>\nint main(void) { int n = 0; for (int c = rv_getbyte(); c != -1; c = rv_getbyte()) { rv_putbyte(c + 1); n = n + (c == 122); } return n ? 3 : 0; }\n',
+                'right.c: 3 of 3\n'),
+    'unset.c': ('#include <rvio.h>\nint main(void) { int n; for (int c = rv_getbyte(); c != -1; c = rv_getbyte()) rv_putbyte(c + 1); return n == 3 ? 3 : 0; }\n',
+                'unset.c: 0 of 3\n    letters: unset.c:2: undefined U6\n    none: unset.c:2: undefined U6\n    zs: unset.c:2: undefined U6\n'),
+    'refused.c': ('int main(void) { return cuont; }\n', 'refused.c: 0 of 3\n    refused.c:1:25: 528 undeclared name\n'),
+    'long.c': ('int main(void) { for (;;) ; }\n', 'long.c: 0 of 3\n' + ''.join('    %s: no end within 10000000 instructions\n' % name for name in ('letters', 'none', 'zs'))),
+    'other.c': ('#include <rvio.h>\nint main(void) { for (int c = rv_getbyte(); c != -1; c = rv_getbyte()) rv_putbyte(c == 99 ? 99 : c + 1); return 0; }\n',
+                "other.c: 1 of 3\n    letters: byte 2 is 'c' and not 'd'\n    zs: status 0 and not 3\n"),
+}
+
+
+def grader(work):
+    """examples/grader over five sources and three tests."""
+    for name, text in {'tests/letters.in': 'abc', 'tests/letters.out': 'bcd', 'tests/none.in': '', 'tests/zs.in': 'zz', 'tests/zs.out': '{{', 'tests/zs.status': '3',
+                       **{name: text for name, (text, _) in GRADED.items()}}.items():
+        os.makedirs(os.path.dirname(os.path.join(work, name)), exist_ok=True)
+        with open(os.path.join(work, name), 'w') as file:
+            file.write(text)
+    status, out, err = call([sys.executable, os.path.join(ROOT, 'examples', 'grader', 'grade.py'), 'tests', *GRADED], work, ZIKORAPE=os.path.join(OUT, 'libzikorape.so'))
+    check('the grader', (status, out, err) == (1, ''.join(told for _, told in GRADED.values()), ''), out, err)
+
+
+def fuzz_target(work):
+    """examples/fuzz over an input that is defined and one that is not, and by libFuzzer, which finds the second kind."""
+    folder = os.path.join(ROOT, 'examples', 'fuzz')
+    words = ['-I' + os.path.join(ROOT, 'include'), '-DPROGRAM="%s"' % os.path.join(folder, 'checksum.c'), os.path.join(folder, 'target.c'), os.path.join(OUT, 'libzikorape.a'), '-lpthread', '-o']
+    for name, bytes_ in (('defined', b'abc{{'), ('undefined', b'{' * 20)):
+        with open(os.path.join(work, name), 'wb') as file:
+            file.write(bytes_)
+    if shutil.which('gcc'):
+        status, out, err = call(['gcc', '-DWITH_MAIN', *words, 'tried'], work)
+        check('the fuzz target by gcc', status == 0, out, err)
+        check('an input that is defined', call(['./tried', 'defined'], work)[0] == 0)
+        status, out, err = call(['./tried', 'undefined'], work)
+        check('one that is not', status == -6 and 'program.c:11: undefined U5\n' in err, status, err)
+    else:
+        leave_out('the fuzz target: no gcc')
+    if not shutil.which('clang') or call(['clang', '-g', '-fsanitize=fuzzer', *words, 'fuzz'], work)[0] != 0:
+        return leave_out('the fuzz target by libFuzzer: no clang with it')
+    status, out, err = call(['./fuzz', '-seed=1', '-runs=2000000', '-max_len=64', '-max_total_time=120'], work)
+    check('libFuzzer finds it', status != 0 and 'undefined U5' in err, status, err)
+
+
+NOTEBOOK = """
+import sys
+sys.path.insert(0, %r)
+from IPython.core.interactiveshell import InteractiveShell
+import zikorape
+zikorape._beside = lambda: %r
+shell = InteractiveShell.instance()
+shell.run_line_magic('load_ext', 'zikorape.magic')
+for words, cell in (('--input "ab c"', '#include <rvio.h>\\nint main(void) { for (int c = rv_getbyte(); c != -1; c = rv_getbyte()) rv_putbyte(c ^ 32); return 42; }\\n'),
+                    ('', 'int main(void) { return cuont; }\\n'), ('', 'int main(void) { int a[2]; return a[0]; }\\n'),
+                    ('--verify', 'int main(void) { return 0; }\\n'), ('--verify', 'int rv_getbyte(void);\\nint main(void) { return 7 / rv_getbyte(); }\\n')):
+    shell.run_cell_magic('zikorape', words, cell)
+"""
+
+
+def notebook(work):
+    """The magic of a notebook, in IPython's own shell."""
+    if call([sys.executable, '-c', 'import IPython'], work)[0] != 0:
+        return leave_out('the magic: no IPython')
+    status, out, err = call([sys.executable, '-c', NOTEBOOK % (os.path.join(ROOT, 'bindings', 'python'), os.path.join(OUT, 'libzikorape.so'))], work, IPYTHONDIR=work)
+    wanted = ['AB\0Cstatus 42', 'cell.c:1:25: 528 undeclared name', 'cell.c:1: undefined U6', 'cell.c: verdict defined on every input; stack at most 128 of 1048576 bytes']
+    lines = out.split('\n')
+    check('the magic', status == 0 and lines[:4] == wanted and lines[4].startswith('cell.c:2:27: U2 may be undefined: division by zero'), out, err)
+
+
 if not os.path.exists(os.path.join(OUT, 'libzikorape.so')):
     leave_out('the packages: there is no library at %s: sh bindings/build.sh bindings/out' % OUT)
 else:
-    for part in (python, node, rust, c_user):
+    for part in (python, node, rust, c_user, grader, fuzz_target, notebook):
         with tempfile.TemporaryDirectory() as work:
             part(work)
 print('%d passed, %d failed%s' % (passed, failed, ', %d skipped' % skipped if skipped else ''))

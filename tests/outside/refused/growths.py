@@ -116,9 +116,16 @@ def commands(cc, preload):
         yield plain(' '.join(['check', *words]), ['check', 'main.c', *words], unused)
         yield plain(' '.join(['check of a refused program', *words]), ['check', 'main.c', *words], wrong)
         yield plain(' '.join(['explain', *words]), ['explain', 'build', 'main.c', *words], wrong)
-    # `explain interp` has no row: where all growths are refused from one on, it may end with status 1 and no line (docs/EXPLAIN.md, Memory);
-    # of `verify` a program that is defined has none: two of its growths make it say `not followed` (docs/VERIFY.md, Memory)
-    yield plain('verify what is not shown', ['verify', 'main.c'], {'main.c': b'int main(void) { int a[2]; return a[1] + 1 / a[0]; }\n'})
+    outside = {'main.c': b'int a[2];\nint at(int i) { return a[i]; }\nint main(void) { return at(1) + at(2); }\n'}
+    told = {'main.c': RUNS['a trap'].encode()}
+    for words in ([], ['--json'], ['--sarif']):
+        yield plain(' '.join(['explain interp', *words]), ['explain', 'interp', 'main.c', *words], outside)
+        yield plain(' '.join(['explain interp of what is defined', *words]), ['explain', 'interp', 'main.c', *words], told)
+    halved = {'main.c': b'int main(void) { int n = 100; int i = 0; while (n > 0) { n = n / 2; i = i + 1; if (i > 40) n = 0; } return i; }\n'}
+    unset = {'main.c': b'int main(void) { int a[2]; return a[1] + 1 / a[0]; }\n'}
+    for words in ([], ['--json'], ['--sarif']):
+        yield plain(' '.join(['verify what is defined', *words]), ['verify', 'main.c', *words], halved)
+        yield plain(' '.join(['verify what is not shown', *words]), ['verify', 'main.c', *words], unset)
     yield plain('pp with lines', ['pp', 'main.c', '--lines'], files)
     yield plain('interp told', ['interp', 'main.c', '--trace-file', 'out'], files, 'out')
     two = {'main.c': b'#include "a.h"\nint main(void) { return N; }\n', 'inc/a.h': b'#define A 1\n'}

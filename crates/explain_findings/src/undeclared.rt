@@ -1,7 +1,7 @@
 //! A name that nothing declares (528).
 
 use crate::advising::token_point;
-use crate::asking::fault_of;
+use crate::asking::{Answer, Asking, Compiler};
 use crate::finding::{Noted, Place, Topic, point_at};
 use crate::macro_notes::{MacroPlace, find_macro};
 use crate::near::nearest_visible;
@@ -16,14 +16,14 @@ use std::alloc::{AllocError, Global};
 const MAX_TRIED: usize = 16;
 
 /// Puts what may be meant by the undeclared name at this place, or what declares it.
-pub fn put_undeclared(
+pub fn put_undeclared<C: Compiler>(
     alloc: Global,
-    sources: &Sources,
-    main: &str,
+    asking: &Asking<'_, C>,
     place: Place,
     fault: &Fault,
     noted: &mut Noted,
 ) -> Result<(), AllocError> {
+    let sources = asking.sources;
     let Some(words) = Words::of(alloc, sources.text(place.file))? else {
         return Ok(());
     };
@@ -31,7 +31,7 @@ pub fn put_undeclared(
         return Ok(());
     };
     if let Some(found) = find_macro(alloc, sources, words.at(number))? {
-        return put_name_in_macro(alloc, sources, main, fault, found, noted);
+        return put_name_in_macro(alloc, asking, fault, found, noted);
     }
     let known = library_help(words.at(number));
     if !known.is_empty() {
@@ -141,15 +141,14 @@ fn library_help(name: &[u8]) -> &'static str {
 }
 
 /// Puts which name of a macro nothing declares: the one without which the fault is another.
-fn put_name_in_macro(
+fn put_name_in_macro<C: Compiler>(
     alloc: Global,
-    sources: &Sources,
-    main: &str,
+    asking: &Asking<'_, C>,
     fault: &Fault,
     found: MacroPlace,
     noted: &mut Noted,
 ) -> Result<(), AllocError> {
-    let text = sources.text(found.file);
+    let text = asking.sources.text(found.file);
     let Some(tokens) = Tokens::of(alloc, text)? else {
         return Ok(());
     };
@@ -157,9 +156,9 @@ fn put_name_in_macro(
     let mut is_found = false;
     for number in first..first.saturating_add(MAX_TRIED) {
         if !is_found && is_of_macro(&tokens, number) {
-            is_found = is_cause(alloc, sources, main, fault, found.file, &tokens, number)?;
+            is_found = is_cause(alloc, asking, fault, found.file, &tokens, number)?;
             if is_found {
-                put_inner(alloc, sources, found.file, &tokens, number, noted)?;
+                put_inner(alloc, asking.sources, found.file, &tokens, number, noted)?;
             }
         }
     }
@@ -175,10 +174,9 @@ fn is_of_macro(tokens: &Tokens<'_>, number: usize) -> bool {
 }
 
 /// Whether the fault is another where this token is a number.
-fn is_cause(
+fn is_cause<C: Compiler>(
     alloc: Global,
-    sources: &Sources,
-    main: &str,
+    asking: &Asking<'_, C>,
     fault: &Fault,
     file: usize,
     tokens: &Tokens<'_>,
@@ -187,16 +185,16 @@ fn is_cause(
     let Some(spot) = tokens.spot(number) else {
         return Ok(false);
     };
-    let text = sources.text(file);
+    let text = asking.sources.text(file);
     let mut changed = Vec::from_slice(alloc, text.get(..spot.start).unwrap_or_default())?;
     changed.push(b'0')?;
     changed.extend_from_slice(text.get(spot.end..).unwrap_or_default())?;
-    let Some(set) = sources.set_with(alloc, file, &changed)? else {
-        return Ok(false);
-    };
-    Ok(match fault_of(alloc, &set, main, sources.stack)? {
-        Some(other) => other.code != fault.code && other.code > 500 || is_later(&other, fault),
-        None => true,
+    Ok(match asking.answer_with(alloc, file, &changed)? {
+        Answer::Accepted => true,
+        Answer::Refused(other) => {
+            other.code != fault.code && other.code > 500 || is_later(&other, fault)
+        }
+        Answer::NotTaken => false,
     })
 }
 

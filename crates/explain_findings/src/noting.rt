@@ -1,6 +1,7 @@
 //! The notes beside a fault.
 
 use crate::advising::put_advice;
+use crate::asking::{Asking, Compiler};
 use crate::finding::{Noted, Place, Topic, point_at};
 use crate::hints::hint;
 use crate::includes::Includes;
@@ -15,21 +16,20 @@ use std::alloc::{AllocError, Global};
 
 /// The notes of a fault: the macro of its token, the includes that lead to it, what was expected or meant, the other place that it has to
 /// do with, a hint, and the files that nothing includes, where the fault may come from that.
-pub fn notes(
+pub fn notes<C: Compiler>(
     alloc: Global,
-    sources: &Sources,
+    asking: &Asking<'_, C>,
     includes: &Includes,
-    main: &str,
     place: Option<Place>,
     fault: &Fault,
 ) -> Result<Noted, AllocError> {
     let mut noted = Noted::new(alloc);
     match place {
-        Some(at) => put_place_notes(alloc, sources, includes, main, at, fault, &mut noted)?,
-        None => put_file_notes(alloc, sources, fault, &mut noted)?,
+        Some(at) => put_place_notes(alloc, asking, includes, at, fault, &mut noted)?,
+        None => put_file_notes(alloc, asking.sources, fault, &mut noted)?,
     }
     if matches!(fault.code, 232 | 551 | 552) {
-        put_unused_files(alloc, sources, includes, &mut noted)?;
+        put_unused_files(alloc, asking.sources, includes, &mut noted)?;
     }
     Ok(noted)
 }
@@ -52,22 +52,22 @@ fn put_file_notes(
 }
 
 /// Puts the notes of a fault whose place is known.
-fn put_place_notes(
+fn put_place_notes<C: Compiler>(
     alloc: Global,
-    sources: &Sources,
+    asking: &Asking<'_, C>,
     includes: &Includes,
-    main: &str,
     place: Place,
     fault: &Fault,
     noted: &mut Noted,
 ) -> Result<(), AllocError> {
+    let sources = asking.sources;
     let token = sources
         .text(place.file)
         .get(place.start..place.end)
         .unwrap_or_default();
     match fault.code {
-        401 => put_advice(alloc, sources, main, place, noted)?,
-        528 => put_undeclared(alloc, sources, main, place, fault, noted)?,
+        401 => put_advice(alloc, asking, place, noted)?,
+        528 => put_undeclared(alloc, asking, place, fault, noted)?,
         232 | 233 => put_directive_notes(alloc, sources, place, fault.code, noted)?,
         code => put_related(alloc, sources, place, code, noted)?,
     }

@@ -1,6 +1,5 @@
 //! The source files that are asked about, which may be laid out otherwise.
 
-use cc::StackSize;
 use srcset::{Code, FileSet};
 use std::alloc::{AllocError, Global};
 
@@ -11,21 +10,15 @@ pub struct Source {
     pub text: Vec<u8>,
 }
 
-/// The source files of a command, in its order, and the stack that they are built for.
+/// The source files of a command, in its order.
 #[derive(Drop)]
 pub struct Sources {
     pub files: Vec<Source>,
-    pub stack: StackSize,
 }
 
 impl Sources {
     /// A copy of the files of a set that have these names.
-    pub fn of(
-        alloc: Global,
-        set: &FileSet,
-        names: &[&str],
-        stack: StackSize,
-    ) -> Result<Sources, AllocError> {
+    pub fn of(alloc: Global, set: &FileSet, names: &[&str]) -> Result<Sources, AllocError> {
         let mut files = Vec::new(alloc);
         for name in names {
             if let Some(bytes) = set.get(name) {
@@ -34,7 +27,7 @@ impl Sources {
                 files.push(Source { name, text })?;
             }
         }
-        Ok(Sources { files, stack })
+        Ok(Sources { files })
     }
 
     /// The number of the file with this name.

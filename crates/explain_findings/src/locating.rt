@@ -1,27 +1,25 @@
 //! Which token a fault speaks of.
 
-use crate::asking::line_again;
+use crate::asking::{Asking, Compiler};
 use crate::finding::Place;
-use crate::sources::Sources;
 use explain_places::{Spot, Tokens, column, laid_out};
 use srcset::Fault;
 use std::alloc::{AllocError, Global};
 
 /// The place of a fault. A line of a directive has it by what the fault speaks of; for any other, the line is laid out
 /// anew, a token a line, and the compiler asked again.
-pub fn place_of(
+pub fn place_of<C: Compiler>(
     alloc: Global,
-    sources: &Sources,
-    main: &str,
+    asking: &Asking<'_, C>,
     fault: &Fault,
 ) -> Result<Option<Place>, AllocError> {
     if !speaks_of_token(fault.code) {
         return Ok(None);
     }
-    let Some(file) = sources.number(fault.file.as_str()) else {
+    let Some(file) = asking.sources.number(fault.file.as_str()) else {
         return Ok(None);
     };
-    let text = sources.text(file);
+    let text = asking.sources.text(file);
     let Some(tokens) = Tokens::of(alloc, text)? else {
         return Ok(None);
     };
@@ -29,7 +27,7 @@ pub fn place_of(
         Some(hash) => tokens.spot(in_directive(&tokens, hash, fault.code)),
         None => {
             let again = laid_out(alloc, text, &tokens.spots, fault.line)?;
-            match line_again(alloc, sources, main, fault, file, &again)? {
+            match asking.line_again(alloc, fault, file, &again)? {
                 Some(line) => nth_on_line(
                     &tokens.spots,
                     fault.line,
@@ -50,7 +48,8 @@ fn speaks_of_token(code: u16) -> bool {
     !matches!(code, 101..=113 | 551 | 701..=703 | 708 | 711 | 713 | 715 | 716 | 801..=907)
 }
 
-pub(crate) fn place_at(file: usize, text: &[u8], spot: Spot) -> Place {
+/// The place of a token of a file with this number and text.
+pub fn place_at(file: usize, text: &[u8], spot: Spot) -> Place {
     Place {
         file,
         start: spot.start,
@@ -61,7 +60,7 @@ pub(crate) fn place_at(file: usize, text: &[u8], spot: Spot) -> Place {
 }
 
 /// The token of a line behind so many; those of directives do not count.
-pub(crate) fn nth_on_line(spots: &[Spot], line: u32, count: u32) -> Option<Spot> {
+pub fn nth_on_line(spots: &[Spot], line: u32, count: u32) -> Option<Spot> {
     spots
         .iter()
         .filter(|spot| spot.line == line && !spot.in_directive)

@@ -1,6 +1,6 @@
 //! What was expected at a syntax error: changes of the source are tried, and the one with which it is read furthest tells.
 
-use crate::asking::fault_of;
+use crate::asking::{Answer, Asking, Compiler};
 use crate::finding::{Noted, Place, Point, Topic, point_at};
 use crate::macro_notes::{MacroPlace, find_macro};
 use crate::sources::Sources;
@@ -23,20 +23,19 @@ const MAIN_FORM: &str = "a program begins with `int main(void)`, which takes no 
 #[derive(Clone, Copy)]
 struct Site<'a> {
     sources: &'a Sources,
-    main: &'a str,
     file: usize,
     // The number of the token that does not fit.
     number: usize,
 }
 
 /// Puts what was expected at this place, where a change of the source that is tried moves the fault on.
-pub fn put_advice<'a>(
+pub fn put_advice<C: Compiler>(
     alloc: Global,
-    sources: &'a Sources,
-    main: &'a str,
+    asking: &Asking<'_, C>,
     place: Place,
     noted: &mut Noted,
 ) -> Result<(), AllocError> {
+    let sources = asking.sources;
     let Some(words) = Words::of(alloc, sources.text(place.file))? else {
         return Ok(());
     };
@@ -45,7 +44,6 @@ pub fn put_advice<'a>(
     };
     let site = Site {
         sources,
-        main,
         file: place.file,
         number,
     };
@@ -54,11 +52,11 @@ pub fn put_advice<'a>(
     }
     let maker = find_macro(alloc, sources, words.at(number))?;
     if let Some(found) = maker {
-        if put_macro_body(alloc, site, found, noted)? {
+        if put_macro_body(alloc, asking, found, noted)? {
             return Ok(());
         }
     }
-    match best(alloc, site, &words, maker.is_some())? {
+    match best(alloc, asking, site, &words, maker.is_some())? {
         Some(candidate) => put_candidate(alloc, site, &words, candidate, noted),
         None => put_open_at_end(alloc, site, &words, noted),
     }
@@ -89,26 +87,26 @@ fn put_open_at_end(
 }
 
 /// Puts what is too much in the macro that makes the token; answers whether the source can be read without it.
-fn put_macro_body(
+fn put_macro_body<C: Compiler>(
     alloc: Global,
-    site: Site<'_>,
+    asking: &Asking<'_, C>,
     found: MacroPlace,
     noted: &mut Noted,
 ) -> Result<bool, AllocError> {
-    let text = site.sources.text(found.file);
+    let text = asking.sources.text(found.file);
     let Some(tokens) = Tokens::of(alloc, text)? else {
         return Ok(false);
     };
     let Some(spot) = stray_token(&tokens, found.hash) else {
         return Ok(false);
     };
-    if !helps_without(alloc, site, found.file, spot)? {
+    if !helps_without(alloc, asking, found.file, spot)? {
         return Ok(false);
     }
     noted.put_at(
         alloc,
         Topic::Expected,
-        site.sources.name(found.file),
+        asking.sources.name(found.file),
         point_at(text, spot.start),
         "this is a part of what the macro stands for",
     )?;
@@ -142,23 +140,19 @@ fn last_of_directive(tokens: &Tokens<'_>, first: usize) -> usize {
 }
 
 /// Whether the source has no syntax error without this token.
-fn helps_without(
+fn helps_without<C: Compiler>(
     alloc: Global,
-    site: Site<'_>,
+    asking: &Asking<'_, C>,
     file: usize,
     spot: Spot,
 ) -> Result<bool, AllocError> {
-    let mut text = Vec::from_slice(alloc, site.sources.text(file))?;
+    let mut text = Vec::from_slice(alloc, asking.sources.text(file))?;
     blank(text.as_mut_slice(), spot);
-    let Some(set) = site.sources.set_with(alloc, file, &text)? else {
-        return Ok(false);
-    };
-    Ok(
-        match fault_of(alloc, &set, site.main, site.sources.stack)? {
-            Some(fault) => matches!(fault.code, 501..=553 | 620..=623 | 712..=716),
-            None => true,
-        },
-    )
+    Ok(match asking.answer_with(alloc, file, &text)? {
+        Answer::Accepted => true,
+        Answer::Refused(fault) => matches!(fault.code, 501..=553 | 620..=623 | 712..=716),
+        Answer::NotTaken => false,
+    })
 }
 
 /// Puts a space in the place of a token of one character.
@@ -169,8 +163,9 @@ fn blank(text: &mut [u8], spot: Spot) {
 }
 
 /// The change with which the source is read furthest, the first of those; `None` where none moves the fault on.
-fn best(
+fn best<C: Compiler>(
     alloc: Global,
+    asking: &Asking<'_, C>,
     site: Site<'_>,
     words: &Words<'_>,
     is_macro: bool,
@@ -185,7 +180,7 @@ fn best(
     for (number, candidate) in list.iter().enumerate() {
         let is_apt = !is_macro || candidate.start == candidate.end;
         if is_apt && furthest != TO_THE_END {
-            let reached = reached(alloc, site, words, *candidate)?;
+            let reached = reached(alloc, asking, site, words, *candidate)?;
             if reached > furthest {
                 furthest = reached;
                 best = number;
@@ -196,20 +191,19 @@ fn best(
 }
 
 /// The line up to which the source is read with a change; 0 where it does not help.
-fn reached(
+fn reached<C: Compiler>(
     alloc: Global,
+    asking: &Asking<'_, C>,
     site: Site<'_>,
     words: &Words<'_>,
     candidate: Candidate,
 ) -> Result<u32, AllocError> {
     let file = site.sources.name(site.file);
-    let trial = trial_text(alloc, words, site.number, candidate, file == site.main)?;
-    let Some(set) = site.sources.set_with(alloc, site.file, &trial.text)? else {
-        return Ok(0);
-    };
-    match fault_of(alloc, &set, site.main, site.sources.stack)? {
-        Some(fault) => Ok(line_reached(&fault, file, &trial)),
-        None => Ok(TO_THE_END),
+    let trial = trial_text(alloc, words, site.number, candidate, file == asking.main)?;
+    match asking.answer_with(alloc, site.file, &trial.text)? {
+        Answer::Accepted => Ok(TO_THE_END),
+        Answer::Refused(fault) => Ok(line_reached(&fault, file, &trial)),
+        Answer::NotTaken => Ok(0),
     }
 }
 

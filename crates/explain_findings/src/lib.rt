@@ -1,0 +1,26 @@
+//! What is found out about a fault beside what the compiler answers: its token, the macro and the includes behind it, what was expected or meant.
+#![tactic(auto)]
+
+mod acts;
+mod advising;
+mod asking;
+mod finding;
+mod hints;
+mod includes;
+mod locating;
+mod macro_notes;
+mod near;
+mod noting;
+mod passing;
+mod related;
+mod sources;
+mod undeclared;
+
+pub use acts::{Certainty, Undefined, act_help, act_title, room_for_line, wants_memory};
+pub use asking::{Answer, Asking, Compiler};
+pub use finding::{Finding, Fix, Note, Noted, Place, Point, Shown, Topic, show_place};
+pub use includes::Includes;
+pub use locating::{nth_on_line, place_at, place_of};
+pub use noting::notes;
+pub use passing::spots_to_pass;
+pub use sources::{Source, Sources, add_file};

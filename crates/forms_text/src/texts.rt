@@ -1,0 +1,74 @@
+//! Each form as text or as JSON, with a newline behind it.
+
+use crate::code_form::{put_flat, put_tac};
+use crate::token_form::put_tokens;
+use crate::tree_form::put_unit;
+use crate::typed_form::put_program;
+use crate::writer::{Style, Writer};
+use frames_code::FlatProgram;
+use phases::PpToken;
+use srcset::Names;
+use std::alloc::{AllocError, Global};
+use tree::Unit;
+use typed_ast::Program;
+
+/// Preprocessing tokens.
+pub fn tokens_text(
+    alloc: Global,
+    list: &[PpToken<'_>],
+    names: &Names,
+    style: Style,
+) -> Result<String, AllocError> {
+    let mut out = Writer::new(alloc, names, style);
+    put_tokens(&mut out, list)?;
+    out.into_text()
+}
+
+/// A syntax tree.
+pub fn tree_text(
+    alloc: Global,
+    unit: &Unit,
+    names: &Names,
+    style: Style,
+) -> Result<String, AllocError> {
+    let mut out = Writer::new(alloc, names, style);
+    put_unit(&mut out, unit)?;
+    out.into_text()
+}
+
+/// A typed program.
+pub fn typed_text(
+    alloc: Global,
+    program: &Program,
+    names: &Names,
+    style: Style,
+) -> Result<String, AllocError> {
+    let mut out = Writer::new(alloc, names, style);
+    put_program(&mut out, program)?;
+    out.into_text()
+}
+
+/// The three-address code of a program.
+pub fn tac_text(
+    alloc: Global,
+    program: &Program,
+    names: &Names,
+    style: Style,
+) -> Result<String, AllocError> {
+    let mut out = Writer::new(alloc, names, style);
+    put_tac(alloc, &mut out, program)?;
+    out.into_text()
+}
+
+/// The flat code of a program.
+pub fn flat_text(
+    alloc: Global,
+    program: &Program,
+    code: &FlatProgram,
+    names: &Names,
+    style: Style,
+) -> Result<String, AllocError> {
+    let mut out = Writer::new(alloc, names, style);
+    put_flat(alloc, &mut out, program, code)?;
+    out.into_text()
+}
