@@ -140,7 +140,7 @@ fn follow(
     }
 }
 
-/// One turn of the progress.
+/// One turn of the search.
 fn turn(
     alloc: Global,
     program: &Program,
@@ -177,6 +177,7 @@ fn nothing(alloc: Global, count: usize) -> Result<Progress, AllocError> {
 pub fn find_usages(alloc: Global, program: &Program) -> Result<Found, AllocError> {
     let mut progress = nothing(alloc, program.functions.len())?;
     begin(alloc, program, &mut progress, program.main)?;
+    // The search ends long before so many turns: that it ends at all is plain from the range.
     for _turn in 0..u64::MAX {
         let Some(visit) = progress.visits.pop() else {
             break;

@@ -1,6 +1,5 @@
 -- The theorem about the compiler, with both premises met.
-use Rattle.std.proofs.Common.{◌≡◌, ◌<◌, ◌≤◌, ◌^◌, ℕ, zero, suc, List, [], ◌∷◌, Some, refl, lit≤, arith}
-use Rattle.std.specs.Prelude.{slice_get}
+use Rattle.std.proofs.Common.{◌≤◌, ℕ, zero, suc, List, [], ◌∷◌, refl, arith}
 use Rattle.csem.specs.Machine.{Ending, Ended, Undefined, TicksUsed}
 use Rattle.csem.specs.Meaning.{answer}
 use Rattle.cc_backend.specs.Runs.{IsInput}
