@@ -232,27 +232,46 @@ fn branches(
     joined_ways(scope.alloc, left, right)
 }
 
-/// What one turn of a loop that begins so leaves for the next, joined with it. It is a guess: nothing rests on it.
+/// What one turn of a loop that begins so leaves for the next. It is a guess: nothing rests on it.
 #[cycle(execute)]
 fn turned(scope: &Scope<'_>, state: AbsState, e: &Value, a: &Statement) -> Result<AbsState, Stop> {
-    let kept = copied(scope.alloc, &state)?;
     let tested = test(scope, state, e)?;
     let left = statement(scope, tested.on, a)?;
-    let again = joined(scope.alloc, left.normal, left.continued)?;
-    joined(scope.alloc, kept, again)
+    joined(scope.alloc, left.normal, left.continued)
+}
+
+/// What begins the loop and what a turn leaves, where that holds at each turn; else the wider guess.
+#[cycle(execute)]
+fn narrowed(
+    scope: &Scope<'_>,
+    first: AbsState,
+    wide: AbsState,
+    again: AbsState,
+    e: &Value,
+    a: &Statement,
+) -> Result<AbsState, Stop> {
+    let narrow = joined(scope.alloc, first, again)?;
+    let start = copied(scope.alloc, &narrow)?;
+    let next = turned(scope, start, e, a)?;
+    if imply(&next, &narrow) {
+        Ok(narrow)
+    } else {
+        Ok(wide)
+    }
 }
 
 /// A state that may hold at each turn. It is a guess: nothing rests on it.
 #[cycle(execute)]
 fn guessed(scope: &Scope<'_>, state: AbsState, e: &Value, a: &Statement) -> Result<AbsState, Stop> {
+    let first = copied(scope.alloc, &state)?;
     let mut kept = state;
     for turn in 0..GUESSES {
         let before = copied(scope.alloc, &kept)?;
-        let next = turned(scope, kept, e, a)?;
-        if imply(&next, &before) {
-            return Ok(before);
+        let again = turned(scope, kept, e, a)?;
+        if imply(&again, &before) {
+            return narrowed(scope, first, before, again, e, a);
         }
-        let wider = widened(scope.alloc, &before, next, turn)?;
+        let wider = widened(scope, before, again, turn)?;
         kept = wider;
     }
     Err(Stop::Unfollowed(None))
@@ -324,12 +343,30 @@ fn turned_for(
     control: &ForControl,
     a: &Statement,
 ) -> Result<AbsState, Stop> {
-    let kept = copied(scope.alloc, &state)?;
     let tested = tested_or(scope, state, &control.test)?;
     let left = statement(scope, tested.on, a)?;
     let behind = joined(scope.alloc, left.normal, left.continued)?;
-    let again = evaluated_or(scope, behind, &control.step)?;
-    joined(scope.alloc, kept, again)
+    evaluated_or(scope, behind, &control.step)
+}
+
+/// As `narrowed`, for a `for`.
+#[cycle(execute)]
+fn narrowed_for(
+    scope: &Scope<'_>,
+    first: AbsState,
+    wide: AbsState,
+    again: AbsState,
+    control: &ForControl,
+    a: &Statement,
+) -> Result<AbsState, Stop> {
+    let narrow = joined(scope.alloc, first, again)?;
+    let start = copied(scope.alloc, &narrow)?;
+    let next = turned_for(scope, start, control, a)?;
+    if imply(&next, &narrow) {
+        Ok(narrow)
+    } else {
+        Ok(wide)
+    }
 }
 
 /// As `guessed`, for a `for`.
@@ -340,14 +377,15 @@ fn guessed_for(
     control: &ForControl,
     a: &Statement,
 ) -> Result<AbsState, Stop> {
+    let first = copied(scope.alloc, &state)?;
     let mut kept = state;
     for turn in 0..GUESSES {
         let before = copied(scope.alloc, &kept)?;
-        let next = turned_for(scope, kept, control, a)?;
-        if imply(&next, &before) {
-            return Ok(before);
+        let again = turned_for(scope, kept, control, a)?;
+        if imply(&again, &before) {
+            return narrowed_for(scope, first, before, again, control, a);
         }
-        let wider = widened(scope.alloc, &before, next, turn)?;
+        let wider = widened(scope, before, again, turn)?;
         kept = wider;
     }
     Err(Stop::Unfollowed(None))

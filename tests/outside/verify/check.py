@@ -36,6 +36,11 @@ DEFINED = {
     'shifts': 'int rv_getbyte(void);\nint main(void) { unsigned n = rv_getbyte(); return (int)((1u << (n & 31)) >> 3 & 1); }',
     'signs': 'int rv_getbyte(void);\nint main(void) { int c = rv_getbyte(); return c * c - c * 3 + c / 2 + c % 7; }',
     'literal': 'int rv_getbyte(void);\nint main(void) { int c = rv_getbyte(); if (c < 0 || c > 3) return 0; return 100 / ("abc"[c] + 1); }',
+    'call': 'int f(int n) { return 10 / n; }\nint main(void) { return f(5) + f(2); }',
+    'call of a call': 'int rv_getbyte(void);\nint g(int n) { return n + 2; }\nint f(int n) { return g(n) * 2; }\nint main(void) { return 100 / f(rv_getbyte()); }',
+    'static of a call': 'static int g;\nvoid f(int n) { g = n; }\nint main(void) { f(3); return 10 / g; }',
+    'call in a loop': 'static unsigned s;\nvoid f(unsigned n) { s += n; }\nint main(void) { for (int i = 0; i < 50; i++) f(i); return s & 1; }',
+    'less than another': 'int rv_getbyte(void);\nstatic int a[4];\nint main(void) { int x = rv_getbyte() & 7, y = 4; if (x < y) return a[x]; return 0; }',
 }
 # The line of an act that some input meets.
 UNDEFINED = {
@@ -51,14 +56,22 @@ UNDEFINED = {
     'a mask that is one too large': ('int rv_getbyte(void);\nstatic int a[7];\nint main(void) {\n  return a[rv_getbyte() & 7]; }', 4),
     'a shift out of range': ('int rv_getbyte(void);\nint main(void) {\n  return (rv_getbyte() & 255) << 24; }', 3),
     'a product out of range': ('int rv_getbyte(void);\nint main(void) { int c = rv_getbyte() * -9000;\n  return c * 1000; }', 3),
+    'more than there are': ('int rv_getbyte(void);\nstatic int a[4];\nint main(void) { int x = rv_getbyte() & 7, y = 5; if (x < y)\n  return a[x]; return 0; }', 4),
+    'a static that a call writes': ('int g = 3;\nvoid f(void) { g = 0; }\nint main(void) { f();\n  return 1 / g; }', 4),
+    'a static that a call of a call writes': ('int g = 3;\nvoid h(void) { g = 0; }\nvoid f(void) { h(); }\nint main(void) { f();\n  return 1 / g; }', 5),
+    'an argument': ('int f(int n) {\n  return 10 / n; }\nint main(void) { return f(1) + f(0); }', 2),
+    'a call that gives no value': ('int rv_getbyte(void);\nint f(int n) { if (n > 0) return 1; }\nint main(void) {\n  return f(rv_getbyte()); }', 4),
+    'one element of an array': ('int main(void) { int a[3]; a[0] = 1;\n  return a[1]; }', 2),
+    'an element that a loop left out': ('int main(void) { int a[3]; for (int i = 0; i < 2; i++) a[i] = i;\n  return a[2]; }', 2),
+    'a loop that counts on': ('int rv_getbyte(void);\nint main(void) { unsigned n = 0; while (rv_getbyte() >= 0) n++;\n  return 10 / (n - 5); }', 3),
     'least number': ('int rv_getbyte(void);\nint main(void) { int n = -2147483647 - (rv_getbyte() == 65);\n  return n / -1; }', 3),
 }
-# An act behind a call, which need not be followed: never said to be defined.
+# An act behind what is not followed: never said to be defined.
 BEHIND = {
-    'static': 'int g = 3;\nvoid f(void) { g = 0; }\nint main(void) { f();\n  return 1 / g; }',
-    'argument': 'int f(int n) { return 10 / n; }\nint main(void) { return f(0); }',
     'array': 'int f(int a[], int n) { return a[n]; }\nint main(void) { int a[2] = { 1, 2 }; return f(a, 2); }',
+    'recursion': 'int f(int n) { return n < 1 ? 1 / n : f(n - 1); }\nint main(void) { return f(3); }',
     'switch': 'int rv_getbyte(void);\nint main(void) { int z = 1; switch (rv_getbyte()) { case 65: z = 0; default: return 1 / z; } }',
+    'list': 'int main(void) { int a[2] = { 0, 0 }; return 1 / a[0]; }',
 }
 
 

@@ -28,13 +28,19 @@ abbrev pub decreases-turned : goal.decreases-turned
 decreases-turned l = work (statement_of l.a.now) + 2
 
 abbrev pub decreases-guessed : goal.decreases-guessed
-decreases-guessed l = work (statement_of l.a.now) + 3
+decreases-guessed l = work (statement_of l.a.now) + 4
+
+abbrev pub decreases-narrowed : goal.decreases-narrowed
+decreases-narrowed l = work (statement_of l.a.now) + 3
+
+abbrev pub decreases-narrowed_for : goal.decreases-narrowed_for
+decreases-narrowed_for l = work (statement_of l.a.now) + 3
 
 abbrev pub decreases-looped : goal.decreases-looped
-decreases-looped l = work (statement_of l.a.now) + 4
+decreases-looped l = work (statement_of l.a.now) + 5
 
 abbrev pub decreases-while_loop : goal.decreases-while_loop
-decreases-while_loop l = work (statement_of l.a.now) + 5
+decreases-while_loop l = work (statement_of l.a.now) + 6
 
 abbrev pub decreases-do_loop : goal.decreases-do_loop
 decreases-do_loop l = work (statement_of l.a.now) + 6
@@ -43,10 +49,10 @@ abbrev pub decreases-turned_for : goal.decreases-turned_for
 decreases-turned_for l = work (statement_of l.a.now) + 2
 
 abbrev pub decreases-guessed_for : goal.decreases-guessed_for
-decreases-guessed_for l = work (statement_of l.a.now) + 3
+decreases-guessed_for l = work (statement_of l.a.now) + 4
 
 abbrev pub decreases-looped_for : goal.decreases-looped_for
-decreases-looped_for l = work (statement_of l.a.now) + 4
+decreases-looped_for l = work (statement_of l.a.now) + 5
 
 abbrev pub decreases-for_loop : goal.decreases-for_loop
 decreases-for_loop l = work_all (statements_of (map statement_of l.declared.now)) + work (statement_of l.a.now) + 6
