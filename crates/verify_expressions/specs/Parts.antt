@@ -12,6 +12,9 @@ use Rattle.verify_logic.specs.States.{Summary, Frame, Entails, EachEntails, shap
 use Rattle.verify_logic.specs.Calls.{CallValue, cut}
 use Rattle.verify_logic.specs.Judgements.{Evaluates}
 use Rattle.verify_logic.specs.Places.{Passes}
+use Rattle.ctypes.specs.declared.operators.BinOp.{BinOp}
+use Rattle.verify_logic.specs.declared.operands.Operand.{Operand}
+use Rattle.verify_logic.specs.Relations.{Learns}
 
 -- these arguments are numbers in the intervals
 abbrev pub PassesAll : Frame → List Argument → Option (List AbsValue) → List Interval → Option (List AbsValue) → Type 0
@@ -58,3 +61,9 @@ pub record Summarised (fr : Frame) (at : Pos) (f : ℕ) (used : Bool) (entry : L
   pub fits : Fits fr f entry summary
   pub value : CallValue fr at used summary.value i
   pub left : after ≡ cut (length (shapes_of fr)) summary.left
+
+-- ---- comparisons
+
+-- what is known where a comparison is true, and where it is false
+abbrev pub LearnsBoth : BinOp → Operand → Interval → Operand → Interval → (o on off : Option (List AbsValue)) → Type 0
+LearnsBoth op x i y j o on off = Learns op true x i y j o on × Learns op false x i y j o off
