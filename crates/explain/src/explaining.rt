@@ -3,6 +3,7 @@
 ghost use Rattle.std.specs.Prelude.{◌≡◌, IfNone, IfOk, IfSome, IsTrue};
 ghost use Rattle.cc.specs.Refused.{IsRefused};
 ghost use Rattle.explain.specs.Accepted.{IsAccepted};
+ghost use Rattle.explain.specs.declared.explaining.Stage.TheVariants.{Whole};
 
 use cc::{StackSize, compile_with};
 use explain_findings::{

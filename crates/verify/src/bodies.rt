@@ -1,6 +1,6 @@
 //! Bodies of functions (6.9.1).
 
-ghost use Rattle.std.specs.Prelude.{◌≡◌, ◌++◌, length, nat_eq, IfOk, None, Some, false, slice_get};
+ghost use Rattle.std.specs.Prelude.{◌≡◌, ◌++◌, length, nat_eq, IfOk, Some, false, slice_get};
 ghost use Rattle.typed_ast.specs.View.{function_of, program_of};
 ghost use Rattle.csem.specs.Meaning.{value_at_end};
 ghost use Rattle.verify_logic.specs.States.{ValueIs};
@@ -15,7 +15,7 @@ use crate::first_objects::{FirstObjects, objects_at_start};
 use crate::work::Work;
 use std::alloc::Global;
 use typed_ast::{Function, Program};
-use verify_expressions::{AbsState, Scope, Stop, Wanted, joined};
+use verify_expressions::{AbsState, Memory, Scope, Stop, Wanted, enter_body, is_reached, joined};
 use verify_intervals::{either, initialised, single, uninitialised};
 use verify_logic::AbsValue;
 use verify_statements::{Left, statement};
@@ -36,7 +36,7 @@ fn fresh(alloc: Global, count: usize) -> Result<Vec<AbsValue>, Stop>
 
 /// The body of a function, entered with these objects.
 fn body_executed<'a>(
-    alloc: Global,
+    memory: &'a Memory,
     program: &'a Program,
     work: &'a Work,
     outer: &'a [Vec<u32>],
@@ -45,13 +45,15 @@ fn body_executed<'a>(
 ) -> Result<Left, Stop>
     ensures { IfOk result (λ r. Executes (frame_in (program_of program.now) work.now outer.now (function_of function.now)) (function_of function.now).body (Some entry.items) (ways_of r)) }
 {
+    enter_body(memory);
     let scope = Scope {
-        alloc,
+        alloc: memory.alloc,
         program,
         listed: &work.listed,
         summaries: &work.summaries,
         outer,
         objects: &function.objects,
+        memory,
     };
     let state = AbsState {
         objects: Some(entry),
@@ -92,7 +94,7 @@ fn is_entry(program: &Program, f: usize) -> bool
 }
 
 fn function_shown(
-    alloc: Global,
+    memory: &Memory,
     program: &Program,
     work: &Work,
     before: FirstObjects,
@@ -104,22 +106,22 @@ fn function_shown(
     ensures { IfOk result (λ u. IsDefinedBut (program_of program.now) work.now.listed.items) }
 {
     let outer = before.outer;
-    let entry = entered(alloc, before.known, object_count(function))?;
-    let _left = body_executed(alloc, program, work, &outer, function, entry)?;
+    let entry = entered(memory.alloc, before.known, object_count(function))?;
+    let _left = body_executed(memory, program, work, &outer, function, entry)?;
     Ok(())
 }
 
 /// Analyses the body of main.
 ///
 /// Errors: a place is not ruled out, nothing is known of a call, or the analysis does not follow.
-pub fn main_shown(alloc: Global, program: &Program, work: &Work) -> Result<(), Stop>
+pub fn main_shown(memory: &Memory, program: &Program, work: &Work) -> Result<(), Stop>
     requires { IsSoundWork (program_of program.now) work.now }
     ensures { IfOk result (λ u. IsDefinedBut (program_of program.now) work.now.listed.items) }
 {
-    let before = objects_at_start(alloc, program)?;
+    let before = objects_at_start(memory.alloc, program)?;
     match program.functions.get(program.main) {
         None => Err(Stop::Unfollowed(None)),
-        Some(function) => function_shown(alloc, program, work, before, function),
+        Some(function) => function_shown(memory, program, work, before, function),
     }
 }
 
@@ -175,15 +177,6 @@ fn falls(w: &Left) -> bool
     is_reached(&w.normal) || is_reached(&w.broken) || is_reached(&w.continued)
 }
 
-fn is_reached(state: &AbsState) -> bool
-    ensures { (result ≡ false) → state_of state.now ≡ None }
-{
-    match &state.objects {
-        None => false,
-        Some(_) => true,
-    }
-}
-
 fn body_end(alloc: Global, program: &Program, f: usize, w: Left) -> Result<BodyEnd, Stop>
     ensures { IfOk result (λ r. FunctionEnds (program_of program.now) f (ways_of w) r.value (state_of r.state)) }
 {
@@ -212,7 +205,7 @@ fn wanted_entry(alloc: Global, wanted: &Wanted) -> Result<Vec<AbsValue>, Stop>
 }
 
 fn wanted_shown(
-    alloc: Global,
+    memory: &Memory,
     program: &Program,
     work: &Work,
     wanted: &Wanted,
@@ -222,9 +215,9 @@ fn wanted_shown(
     requires called { slice_get (program_of program.now).functions wanted.now.function ≡ Some (function_of function.now) }
     ensures { IfOk result (λ r. Shows (program_of program.now) work.now wanted.now r) }
 {
-    let entry = wanted_entry(alloc, wanted)?;
-    let left = body_executed(alloc, program, work, &wanted.outer, function, entry)?;
-    let end = body_end(alloc, program, wanted.function, left)?;
+    let entry = wanted_entry(memory.alloc, wanted)?;
+    let left = body_executed(memory, program, work, &wanted.outer, function, entry)?;
+    let end = body_end(memory.alloc, program, wanted.function, left)?;
     Ok(end)
 }
 
@@ -232,7 +225,7 @@ fn wanted_shown(
 ///
 /// Errors: a place is not ruled out, nothing is known of a call, or the analysis does not follow.
 pub fn call_shown(
-    alloc: Global,
+    memory: &Memory,
     program: &Program,
     work: &Work,
     wanted: &Wanted,
@@ -242,6 +235,6 @@ pub fn call_shown(
 {
     match program.functions.get(wanted.function) {
         None => Err(Stop::Unfollowed(None)),
-        Some(function) => wanted_shown(alloc, program, work, wanted, function),
+        Some(function) => wanted_shown(memory, program, work, wanted, function),
     }
 }

@@ -10,10 +10,13 @@ use crate::work::Work;
 use srcset::Pos;
 use std::alloc::{AllocError, Global};
 use typed_ast::Program;
-use verify_expressions::{Alarm, Stop, Summary, Wanted};
+use verify_expressions::{Alarm, Memory, Stop, Summary, Wanted, new_memory};
 
 /// How many calls may be entered in one another.
 const DEPTH: usize = 64;
+
+/// How many steps the analysis takes at most: a statement and a comparison take one each time, and more where there are many objects.
+const STEPS: u64 = 15_000_000;
 
 /// What was shown of a program. It is sound and not complete: no verdict says that a program is wrong.
 #[derive(Drop)]
@@ -137,21 +140,26 @@ fn stopped(program: &Program, work: Work, stop: Stop) -> Result<Turn, AllocError
     }
 }
 
-fn main_turn(alloc: Global, program: &Program, work: Work) -> Result<Turn, AllocError>
+fn main_turn(memory: &Memory, program: &Program, work: Work) -> Result<Turn, AllocError>
     requires { IsSoundWork (program_of program.now) work }
     ensures { IfOk result (λ t. SaysTurn (program_of program.now) t) }
 {
-    match main_shown(alloc, program, &work) {
+    match main_shown(memory, program, &work) {
         Ok(()) => Ok(Turn::Done(concluded(program, work))),
         Err(stop) => stopped(program, work, stop),
     }
 }
 
-fn call_turn(alloc: Global, program: &Program, work: Work, call: Wanted) -> Result<Turn, AllocError>
+fn call_turn(
+    memory: &Memory,
+    program: &Program,
+    work: Work,
+    call: Wanted,
+) -> Result<Turn, AllocError>
     requires { IsSoundWork (program_of program.now) work }
     ensures { IfOk result (λ t. SaysTurn (program_of program.now) t) }
 {
-    match call_shown(alloc, program, &work, &call) {
+    match call_shown(memory, program, &work, &call) {
         Ok(end) => {
             let more = learnt(program, work, call, end)?;
             Ok(Turn::More(more))
@@ -187,14 +195,14 @@ fn pop_wanted(program: &Program, work: Work) -> Popped
     }
 }
 
-fn turned(alloc: Global, program: &Program, work: Work) -> Result<Turn, AllocError>
+fn turned(memory: &Memory, program: &Program, work: Work) -> Result<Turn, AllocError>
     requires { IsSoundWork (program_of program.now) work }
     ensures { IfOk result (λ t. SaysTurn (program_of program.now) t) }
 {
     let Popped { work, call } = pop_wanted(program, work);
     match call {
-        None => main_turn(alloc, program, work),
-        Some(call) => call_turn(alloc, program, work, call),
+        None => main_turn(memory, program, work),
+        Some(call) => call_turn(memory, program, work, call),
     }
 }
 
@@ -209,16 +217,17 @@ fn nothing(alloc: Global, program: &Program) -> Work
     }
 }
 
-/// Analyses a program, in so many turns at most. A turn analyses one body: main's, or that of a function that is called with
-/// arguments of which nothing is known yet. Each place that is not ruled out is listed.
+/// Analyses a program, in so many turns at most, and so long as its work is bounded. A turn analyses one body: main's, or that of a
+/// function that is called with arguments of which nothing is known yet. Each place that is not ruled out is listed.
 ///
 /// Errors: memory ran out.
 pub fn verify(alloc: Global, program: &Program, turns: u32) -> Result<Verdict, AllocError>
     ensures { IfOk result (λ v. Says (program_of program.now) v) }
 {
+    let memory = new_memory(alloc, STEPS);
     let mut work = nothing(alloc, program);
     for _turn in 0..turns {
-        match turned(alloc, program, work) {
+        match turned(&memory, program, work) {
             Err(fault) => return Err(fault),
             Ok(Turn::Done(verdict)) => return Ok(verdict),
             Ok(Turn::More(more)) => work = more,

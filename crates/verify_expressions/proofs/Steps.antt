@@ -32,7 +32,7 @@ use Rattle.std.specs.declared.vec.Vec.{Vec}
 use Rattle.std.specs.declared.alloc.Global.{Global}
 use Rattle.verify_logic.specs.declared.abstract_values.Interval.{Interval}
 use Rattle.verify_logic.specs.declared.abstract_values.AbsValue.{AbsValue}
-use Rattle.verify_logic.specs.States.{Frame, In, just, range_of, shape_of, shapes_of, or_scalar, lengths_in, Refers, Contents, Replaces, Writes, Implies, Entails, TreeIs, ObjectIs, Reaches}
+use Rattle.verify_logic.specs.States.{Frame, In, just, Below, range_of, shape_of, shapes_of, or_scalar, lengths_in, Refers, Contents, Replaces, Writes, Implies, Entails, TreeIs, ObjectIs, Reaches}
 use Rattle.verify_logic.specs.Judgements.{Evaluates, Tests, Operates, OperatesAt, Signs, SignsAt, GivesOr, MayRead, Subscripts, Converts}
 use Rattle.verify_logic.specs.Places.{NonZero, Splits, Designates, Finds, FindsAt, Passes, got, step_interval, ConvertsOr}
 use Rattle.verify_logic.proofs.Runs.{gives_or}
@@ -40,17 +40,17 @@ use Rattle.verify_logic.proofs.Rules.{constant_rule, named_rule, finds_at, eleme
 use Rattle.verify_logic.specs.declared.operands.Operand.{Operand}
 use Rattle.verify_logic.specs.declared.operands.Operand.TheVariants.{Number, Object}
 use Rattle.verify_logic.specs.declared.operands.Relation.{Relation}
-use Rattle.verify_logic.specs.Relations.{Tells, Narrows, Restricts, RestrictsBoth, Learns}
+use Rattle.verify_logic.specs.Relations.{Tells, Narrows, Looks, Restricts, RestrictsBoth, Learns}
 use Rattle.verify_logic.proofs.Objects.{put_is, tree_entails}
 use Rattle.verify_logic.proofs.Splits.{nonzero_same}
-use Rattle.verify_logic.proofs.Compares.{set_restricts, learns_straight, learns_swapped, whole_path}
+use Rattle.verify_logic.proofs.Compares.{set_restricts, learns_straight, learns_swapped, compare_fits, whole_path}
 use Rattle.verify_expressions.specs.declared.state.AbsState.{AbsState}
 use Rattle.verify_expressions.specs.declared.stop.Stop.{Stop}
 use Rattle.verify_expressions.specs.declared.expressions.Evaluated.{Evaluated}
 use Rattle.verify_expressions.specs.declared.conditions.Tested.{Tested}
 use Rattle.verify_expressions.specs.Views.{state_of, shapes_in, items_of, shape_in, own_shape_in}
 use Rattle.verify_expressions.proofs.Work.{work_arguments}
-use Rattle.verify_expressions.specs.Parts.{PassesAll, PassesOne, VariableAt, CallsAt}
+use Rattle.verify_expressions.specs.Parts.{PassesAll, PassesOne, VariableAt, CallsAt, LearnsBoth}
 
 -- ---- operators at their places
 
@@ -197,17 +197,29 @@ set_restricted xs ys x i k e d = let P : Interval → Type 0 = λ i. Restricts (
 pub object_some : (a : Operand) (x : ℕ) (i : Interval) (o : Option (List AbsValue)) (r : Option AbsState) → a ≡ Object x → IfSome r (λ f. Restricts (Object x) i o (state_of f)) → IfSome r (λ f. Restricts a i o (state_of f))
 object_some a x i o r e h = let P : Operand → Type 0 = λ a. IfSome r (λ f. Restricts a i o (state_of f)) in subst P (sym e) h
 
-pub straight_some : (op : BinOp) (b sw : Bool) (r : Relation) (x y : Operand) (i j i2 j2 : Interval) (o o2 : Option (List AbsValue)) (f : Option AbsState) → sw ≡ false → o2 ≡ o → Tells op b sw r → Narrows r i j i2 j2 →
-    IfSome f (λ g. RestrictsBoth x i2 y j2 o2 (state_of g)) → IfSome f (λ g. Learns op b x i y j o (state_of g))
-straight_some op b sw r x y i j i2 j2 o o2 None e eo t n h = tt
-straight_some op b sw r x y i j i2 j2 o o2 (Some g) e eo t n h = let P : Bool → Type 0 = λ sw. Tells op b sw r in
-    let Q : Option (List AbsValue) → Type 0 = λ o. RestrictsBoth x i2 y j2 o (state_of g) in learns_straight op b r x y i j i2 j2 o (state_of g) (subst P e t) n (subst Q eo h)
+pub straight_some : (op : BinOp) (b sw : Bool) (r : Relation) (x y : Operand) (i j i2 j2 : Interval) (o : Option (List AbsValue)) (f : Option AbsState) → sw ≡ false → Tells op b sw r → Narrows r i j i2 j2 →
+    IfSome f (λ g. RestrictsBoth x i2 y j2 o (state_of g)) → IfSome f (λ g. Learns op b x i y j o (state_of g))
+straight_some op b sw r x y i j i2 j2 o None e t n h = tt
+straight_some op b sw r x y i j i2 j2 o (Some g) e t n h = let P : Bool → Type 0 = λ sw. Tells op b sw r in
+    learns_straight op b r x y i j i2 j2 o (state_of g) (subst P e t) n h
 
-pub swapped_some : (op : BinOp) (b sw : Bool) (r : Relation) (x y : Operand) (i j i2 j2 : Interval) (o o2 : Option (List AbsValue)) (f : Option AbsState) → sw ≡ true → o2 ≡ o → Tells op b sw r → Narrows r j i j2 i2 →
-    IfSome f (λ g. RestrictsBoth y j2 x i2 o2 (state_of g)) → IfSome f (λ g. Learns op b x i y j o (state_of g))
-swapped_some op b sw r x y i j i2 j2 o o2 None e eo t n h = tt
-swapped_some op b sw r x y i j i2 j2 o o2 (Some g) e eo t n h = let P : Bool → Type 0 = λ sw. Tells op b sw r in
-    let Q : Option (List AbsValue) → Type 0 = λ o. RestrictsBoth y j2 x i2 o (state_of g) in learns_swapped op b r x y i j i2 j2 o (state_of g) (subst P e t) n (subst Q eo h)
+pub swapped_some : (op : BinOp) (b sw : Bool) (r : Relation) (x y : Operand) (i j i2 j2 : Interval) (o : Option (List AbsValue)) (f : Option AbsState) → sw ≡ true → Tells op b sw r → Narrows r j i j2 i2 →
+    IfSome f (λ g. RestrictsBoth y j2 x i2 o (state_of g)) → IfSome f (λ g. Learns op b x i y j o (state_of g))
+swapped_some op b sw r x y i j i2 j2 o None e t n h = tt
+swapped_some op b sw r x y i j i2 j2 o (Some g) e t n h = let P : Bool → Type 0 = λ sw. Tells op b sw r in
+    learns_swapped op b r x y i j i2 j2 o (state_of g) (subst P e t) n h
+
+pub learns_both : (op : BinOp) (x y : Operand) (i j : Interval) (o o1 o2 on off : Option (List AbsValue)) → o1 ≡ o → o2 ≡ o → Learns op true x i y j o1 on → Learns op false x i y j o2 off → LearnsBoth op x i y j o on off
+learns_both op x y i j o o1 o2 on off e1 e2 t f =
+    let P : Option (List AbsValue) → Type 0 = λ o. Learns op true x i y j o on in
+    let Q : Option (List AbsValue) → Type 0 = λ o. Learns op false x i y j o off in
+    (subst P e1 t, subst Q e2 f)
+
+pub compared_some : (fr : Frame) (at : Pos) (op : BinOp) (t : IntType) (a b : Value) (o : Option (List AbsValue)) (x y : Operand) (i j all : Interval) (r : Result (Option Tested) Stop) → all ≡ range_of t → Looks fr a o x i → Looks fr b o y j →
+    Below i all → Below j all → IfOk r (λ q. IfSome q (λ z. LearnsBoth op x i y j o (state_of z.on) (state_of z.off))) → IfOk r (λ q. IfSome q (λ z. Tests fr (typed.binary at op t a b) o (state_of z.on) (state_of z.off)))
+compared_some fr at op t a b o x y i j all (Err e) ea ha hb bi bj l = tt
+compared_some fr at op t a b o x y i j all (Ok None) ea ha hb bi bj l = tt
+compared_some fr at op t a b o x y i j all (Ok (Some z)) ea ha hb bi bj l = compare_fits fr at op t a b o x y i j all (state_of z.on) (state_of z.off) ea ha hb bi bj l.0 l.1
 
 -- ---- what is read
 
@@ -319,3 +331,11 @@ pub element_behind : (fr : Frame) (at : Pos) (array : Place) (index : Value) (o 
     Finds fr (typed.element at array index) o x (drop depth2 (shape_of fr x)) o3
 element_behind fr at array index o x depth n o2 i o3 k depth2 ed e f h g q = let P : ℕ → Type 0 = λ m. Finds fr (typed.element at array index) o x (drop m (shape_of fr x)) o3 in
     subst P (sym ed) (element_finds fr at array index o x depth n o2 i o3 k e f h g q)
+
+-- ---- where no run comes
+
+pub never_evaluates : (fr : Frame) (e : Value) (o : Option (List AbsValue)) (i : Interval) (o2 : Option (List AbsValue)) → o ≡ None → Evaluates fr e o i o2
+never_evaluates fr e o i o2 q = let P : Option (List AbsValue) → Type 0 = λ o. Evaluates fr e o i o2 in subst P (sym q) (record { runs = λ d s c. absurd c })
+
+pub never_tests : (fr : Frame) (e : Value) (o on off : Option (List AbsValue)) → o ≡ None → Tests fr e o on off
+never_tests fr e o on off q = let P : Option (List AbsValue) → Type 0 = λ o. Tests fr e o on off in subst P (sym q) (record { runs = λ d s c. absurd c })

@@ -1,15 +1,20 @@
 -- What is shown of parts of calls and of assignments.
-use Rattle.std.specs.Prelude.{◌≡◌, ◌≤◌, ℕ, List, [], ◌∷◌, map, drop, length, Option, Bool}
+use Rattle.std.specs.Prelude.{◌≡◌, ◌≤◌, false, slice_get, ℕ, List, [], ◌∷◌, map, drop, length, Option, None, Some, Bool, true}
 use Rattle.srcset.specs.declared.refusal.Pos.{Pos}
 use Rattle.ctypes.specs.declared.types.IntType.{IntType}
+use Rattle.typing_spec.specs.Types.{ObjectType}
 use Rattle.typing_spec.specs.Program as typed
 use Rattle.typed_ast.specs.declared.expressions.Argument.{Argument}
 use Rattle.typed_ast.specs.View.{Given, argument_of, arguments_of, and_given}
 use Rattle.verify_logic.specs.declared.abstract_values.Interval.{Interval}
 use Rattle.verify_logic.specs.declared.abstract_values.AbsValue.{AbsValue}
-use Rattle.verify_logic.specs.States.{Frame, shape_of}
+use Rattle.verify_logic.specs.States.{Summary, Frame, Entails, EachEntails, shape_of, shapes_of}
+use Rattle.verify_logic.specs.Calls.{CallValue, cut}
 use Rattle.verify_logic.specs.Judgements.{Evaluates}
 use Rattle.verify_logic.specs.Places.{Passes}
+use Rattle.ctypes.specs.declared.operators.BinOp.{BinOp}
+use Rattle.verify_logic.specs.declared.operands.Operand.{Operand}
+use Rattle.verify_logic.specs.Relations.{Learns}
 
 -- these arguments are numbers in the intervals
 abbrev pub PassesAll : Frame → List Argument → Option (List AbsValue) → List Interval → Option (List AbsValue) → Type 0
@@ -27,3 +32,38 @@ pub record VariableAt (fr : Frame) (x depth : ℕ) : Type 0 where
 -- a call of function f with numbers in these intervals has a value in the interval
 pub record CallsAt (fr : Frame) (at : Pos) (f : ℕ) (used : Bool) (is : List Interval) (before : Option (List AbsValue)) (i : Interval) (after : Option (List AbsValue)) : Type 0 where
   pub gives : (t : Option IntType) (arguments : typed.Arguments) (o : Option (List AbsValue)) → Passes fr arguments o is before → Evaluates fr (typed.call at (typed.function f) t used arguments) o i after
+
+-- ---- calls by summaries
+
+-- a scalar parameter to which such a number is passed
+abbrev pub Gets : Interval → ObjectType → AbsValue → Type 0
+Gets i t k = (t.lengths ≡ []) × Entails (record { initialised = true; interval = i }) k
+
+abbrev pub Enters : Option Interval → ObjectType → AbsValue → Type 0
+Enters None t k = k.initialised ≡ false
+Enters (Some i) t k = Gets i t k
+
+-- object n of a call that passes these numbers
+abbrev pub EntersAt : List Interval → ℕ → ObjectType → AbsValue → Type 0
+EntersAt is n t k = Enters (slice_get is n) t k
+
+-- the summary is of function f, called from this frame with these objects
+pub record Fits (fr : Frame) (f : ℕ) (entry : List AbsValue) (a : Summary) : Type 0 where
+  pub function : a.function ≡ f
+  pub outer : a.outer ≡ shapes_of fr
+  pub entry_is : EachEntails entry a.entry
+
+-- a summary says what such a call gives
+pub record Summarised (fr : Frame) (at : Pos) (f : ℕ) (used : Bool) (entry : List AbsValue) (i : Interval) (after : Option (List AbsValue)) : Type 0 where
+  pub number : ℕ
+  pub summary : Summary
+  pub there : slice_get fr.summaries number ≡ Some summary
+  pub fits : Fits fr f entry summary
+  pub value : CallValue fr at used summary.value i
+  pub left : after ≡ cut (length (shapes_of fr)) summary.left
+
+-- ---- comparisons
+
+-- what is known where a comparison is true, and where it is false
+abbrev pub LearnsBoth : BinOp → Operand → Interval → Operand → Interval → (o on off : Option (List AbsValue)) → Type 0
+LearnsBoth op x i y j o on off = Learns op true x i y j o on × Learns op false x i y j o off

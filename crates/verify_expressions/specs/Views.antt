@@ -44,3 +44,7 @@ shape_in outer objects x = or_scalar (slice_get (shapes_in outer ++ map lengths_
 -- of object n of the call
 abbrev pub own_shape_in : List held.ObjectType → ℕ → List ℕ
 own_shape_in objects n = or_scalar (slice_get (map lengths_in (map object_type_of objects)) n)
+
+-- of all objects
+abbrev pub shapes_at : List (Vec ℕ Global) → List held.ObjectType → List (List ℕ)
+shapes_at outer objects = shapes_in outer ++ map lengths_in (map object_type_of objects)

@@ -1,17 +1,443 @@
-//! Calls of functions (6.5.2.2, 6.9.1), by what was shown of their bodies.
+//! Calls of functions (6.5.2.2, 6.9.1), by what was shown of their bodies. What a summary would have to say is guessed, and then tested.
 
-ghost use Rattle.std.specs.Prelude.{◌≡◌, IfOk};
-ghost use Rattle.verify_expressions.specs.Views.{frame_of, state_of};
-ghost use Rattle.verify_expressions.specs.Parts.{CallsAt};
+ghost use Rattle.std.specs.Prelude.{◌≡◌, ◌≤◌, ◌+◌, ◌++◌, [], false, length, map, take, IfOk, IfSome, IsTrue, Some, slice_get};
+ghost use Rattle.typed_ast.specs.View.{function_of, object_type_of};
+ghost use Rattle.verify_logic.specs.States.{EachEntails, shapes_of};
+ghost use Rattle.verify_logic.specs.Calls.{CallValue, Entered, cut};
+ghost use Rattle.verify_expressions.specs.Views.{frame_of, objects_or_none, shapes_at, shapes_in, state_of, summary_of};
+ghost use Rattle.verify_expressions.specs.Parts.{CallsAt, EntersAt, Fits, Gets, Summarised};
 
 use crate::expressions::Evaluated;
-use crate::scope::Scope;
+use crate::objects::{copied_objects, objects_entail};
+use crate::operators::is_listed;
+use crate::places::shape;
+use crate::scope::{Scope, Summary};
 use crate::state::AbsState;
-use crate::stop::Stop;
+use crate::stop::{Alarm, Stop, Wanted};
+use ctypes::Undef;
 use srcset::Pos;
-use verify_logic::Interval;
+use std::alloc::Global;
+use typed_ast::{Function, ObjectType};
+use verify_intervals::{entails, hull, initialised, single, uninitialised};
+use verify_logic::{AbsValue, Interval};
+
+// ---- the objects of a call
+
+fn first_value(passed: &[Interval], n: usize) -> AbsValue {
+    match passed.get(n) {
+        Some(i) => initialised(*i),
+        None => uninitialised(),
+    }
+}
+
+/// What the objects of a call are as it begins. It is a guess: nothing rests on it.
+fn guessed_objects(
+    alloc: Global,
+    count: usize,
+    passed: &[Interval],
+) -> Result<Vec<AbsValue>, Stop> {
+    let mut out = Vec::new(alloc);
+    for n in 0..count {
+        let Ok(()) = out.push(first_value(passed, n)) else {
+            return Err(Stop::Memory);
+        };
+    }
+    Ok(out)
+}
+
+fn is_scalar_type(object: &ObjectType) -> bool
+    ensures { IsTrue result → (object_type_of object.now).lengths ≡ [] }
+{
+    object.lengths.is_empty()
+}
+
+fn gets(i: Interval, object: &ObjectType, k: AbsValue) -> bool
+    ensures { IsTrue result → Gets i (object_type_of object.now) k }
+{
+    let scalar = is_scalar_type(object);
+    let whole = initialised(i);
+    let within = entails(whole, k);
+    scalar && within
+}
+
+fn is_unset(k: AbsValue) -> bool
+    ensures { IsTrue result → k.initialised ≡ false }
+{
+    !k.initialised
+}
+
+/// Tests whether object `n` of a call begins so: as the number that is passed, or without a value.
+#[tactic(auto, using(crate::proofs::Summaries::enters_set, crate::proofs::Summaries::enters_unset))]
+fn enters(passed: &[Interval], n: usize, object: &ObjectType, k: AbsValue) -> bool
+    ensures { IsTrue result → EntersAt passed.now n (object_type_of object.now) k }
+{
+    if n < passed.len() {
+        gets(passed[n], object, k)
+    } else {
+        is_unset(k)
+    }
+}
+
+fn are_as_many(passed: &[Interval], objects: &[ObjectType], own: &[AbsValue]) -> bool
+    ensures objects { IsTrue result → length objects.now ≡ length own.now }
+    ensures passed { IsTrue result → length passed.now ≤ length own.now }
+{
+    objects.len() == own.len() && passed.len() <= own.len()
+}
+
+/// Tests whether the objects of a call that passes these numbers begin so.
+fn is_entered(passed: &[Interval], objects: &[ObjectType], own: &[AbsValue]) -> bool
+    ensures { IsTrue result → Entered passed.now (map object_type_of objects.now) own.now }
+{
+    let alike = are_as_many(passed, objects, own);
+    if !alike {
+        return false;
+    }
+    each_enters(passed, objects, own)
+}
+
+fn each_enters(passed: &[Interval], objects: &[ObjectType], own: &[AbsValue]) -> bool
+    requires objects { length objects.now ≡ length own.now }
+    requires passed { length passed.now ≤ length own.now }
+    ensures { IsTrue result → Entered passed.now (map object_type_of objects.now) own.now }
+{
+    for n in 0..own.len() {
+        let right = enters(passed, n, &objects[n], own[n]);
+        if !right {
+            return false;
+        }
+    }
+    true
+}
+
+/// The objects of a call that passes these numbers, as it begins.
+fn entered(
+    alloc: Global,
+    objects: &[ObjectType],
+    passed: &[Interval],
+) -> Result<Vec<AbsValue>, Stop>
+    ensures { IfOk result (λ r. Entered passed.now (map object_type_of objects.now) r.items) }
+{
+    let own = guessed_objects(alloc, objects.len(), passed)?;
+    let right = is_entered(passed, objects, &own);
+    if right {
+        Ok(own)
+    } else {
+        Err(Stop::Unfollowed(None))
+    }
+}
+
+/// These objects, then those.
+fn appended(first: Vec<AbsValue>, rest: &[AbsValue]) -> Result<Vec<AbsValue>, Stop>
+    ensures { IfOk result (λ r. r.items ≡ first.items ++ rest.now) }
+{
+    let mut out = first;
+    match out.extend_from_slice(rest) {
+        Ok(()) => Ok(out),
+        Err(_) => Err(Stop::Memory),
+    }
+}
+
+// ---- whether a summary fits
+
+fn same(a: &[u32], b: &[u32]) -> bool
+    ensures { IsTrue result → a.now ≡ b.now }
+{
+    a == b
+}
+
+fn are_together(xs: &[Vec<u32>], outer: &[Vec<u32>], objects: &[ObjectType]) -> bool
+    ensures { IsTrue result → length xs.now ≡ length outer.now + length objects.now }
+{
+    match outer.len().checked_add(objects.len()) {
+        Some(n) => xs.len() == n,
+        None => false,
+    }
+}
+
+/// Tests whether these are the lengths of all objects.
+fn same_shapes(xs: &[Vec<u32>], outer: &[Vec<u32>], objects: &[ObjectType]) -> bool
+    ensures { IsTrue result → shapes_in xs.now ≡ shapes_at outer.now objects.now }
+{
+    let together = are_together(xs, outer, objects);
+    if !together {
+        return false;
+    }
+    each_same(xs, outer, objects)
+}
+
+fn each_same(xs: &[Vec<u32>], outer: &[Vec<u32>], objects: &[ObjectType]) -> bool
+    requires { length xs.now ≡ length outer.now + length objects.now }
+    ensures { IsTrue result → shapes_in xs.now ≡ shapes_at outer.now objects.now }
+{
+    for n in 0..xs.len() {
+        let lengths = shape(outer, objects, n);
+        let equal = same(&xs[n], lengths);
+        if !equal {
+            return false;
+        }
+    }
+    true
+}
+
+fn same_outer(scope: &Scope<'_>, a: &Summary) -> bool
+    ensures { IsTrue result → (summary_of a.now).outer ≡ shapes_of (frame_of scope.now) }
+{
+    same_shapes(&a.outer, scope.outer, scope.objects)
+}
+
+fn same_function(a: &Summary, f: usize) -> bool
+    ensures { IsTrue result → (summary_of a.now).function ≡ f }
+{
+    a.function == f
+}
+
+fn admits(a: &Summary, entry: &[AbsValue]) -> bool
+    ensures { IsTrue result → EachEntails entry.now (summary_of a.now).entry }
+{
+    objects_entail(entry, &a.entry)
+}
+
+/// Tests whether the summary says what a call does that begins with these objects.
+fn fits(scope: &Scope<'_>, f: usize, a: &Summary, entry: &[AbsValue]) -> bool
+    ensures { IsTrue result → Fits (frame_of scope.now) f entry.now (summary_of a.now) }
+{
+    let called = same_function(a, f);
+    if !called {
+        return false;
+    }
+    let alike = same_outer(scope, a);
+    if !alike {
+        return false;
+    }
+    admits(a, entry)
+}
+
+// ---- what a summary says
+
+/// The value of a call (6.9.1p12).
+fn value_at(scope: &Scope<'_>, at: Pos, used: bool, value: AbsValue) -> Result<Interval, Stop>
+    ensures { IfOk result (λ r. CallValue (frame_of scope.now) at used value r) }
+{
+    let always = value.initialised;
+    if always {
+        return Ok(value.interval);
+    }
+    let zero = single(0);
+    let either = hull(value.interval, zero);
+    if !used {
+        return Ok(either);
+    }
+    let admitted = is_listed(scope, at);
+    if admitted {
+        Ok(either)
+    } else {
+        Err(Stop::Alarm(Alarm {
+            at,
+            act: Undef::U8,
+            interval: value.interval,
+        }))
+    }
+}
+
+fn front(alloc: Global, xs: &[AbsValue], n: usize) -> Result<AbsState, Stop>
+    ensures { IfOk result (λ r. state_of r ≡ Some (take n xs.now)) }
+{
+    let mut out = copied_objects(alloc, xs)?;
+    out.truncate(n);
+    Ok(AbsState { objects: Some(out) })
+}
+
+/// The first `n` objects.
+fn front_of(alloc: Global, left: &Option<Vec<AbsValue>>, n: usize) -> Result<AbsState, Stop>
+    ensures { IfOk result (λ r. state_of r ≡ cut n (objects_or_none left.now)) }
+{
+    match left {
+        None => Ok(AbsState { objects: None }),
+        Some(xs) => front(alloc, xs, n),
+    }
+}
+
+fn object_count(scope: &Scope<'_>) -> Option<usize>
+    ensures { IfSome result (λ n. n ≡ length scope.now.outer.now + length scope.now.objects.now) }
+{
+    scope.outer.len().checked_add(scope.objects.len())
+}
+
+/// What is known behind a call of which this is known behind its body.
+fn behind(scope: &Scope<'_>, left: &Option<Vec<AbsValue>>) -> Result<AbsState, Stop>
+    ensures { IfOk result (λ r. state_of r ≡ cut (length (shapes_of (frame_of scope.now))) (objects_or_none left.now)) }
+{
+    let Some(n) = object_count(scope) else {
+        return Err(Stop::Unfollowed(None));
+    };
+    let state = front_of(scope.alloc, left, n)?;
+    Ok(state)
+}
+
+fn by_summary(
+    scope: &Scope<'_>,
+    at: Pos,
+    f: usize,
+    used: bool,
+    entry: &[AbsValue],
+    n: usize,
+    a: &Summary,
+) -> Result<Evaluated, Stop>
+    requires { slice_get (frame_of scope.now).summaries n ≡ Some (summary_of a.now) }
+    ensures { IfOk result (λ e. Summarised (frame_of scope.now) at f used entry.now e.interval (state_of e.state)) }
+{
+    let fit = fits(scope, f, a, entry);
+    if !fit {
+        return Err(Stop::Unfollowed(Some(at)));
+    }
+    let interval = value_at(scope, at, used, a.value)?;
+    let state = behind(scope, &a.left)?;
+    Ok(Evaluated { interval, state })
+}
+
+/// What summary `n` says of a call of function `f` that begins with these objects.
+fn summarised(
+    scope: &Scope<'_>,
+    at: Pos,
+    f: usize,
+    used: bool,
+    entry: &[AbsValue],
+    n: usize,
+) -> Result<Evaluated, Stop>
+    ensures { IfOk result (λ e. Summarised (frame_of scope.now) at f used entry.now e.interval (state_of e.state)) }
+{
+    match scope.summaries.get(n) {
+        None => Err(Stop::Unfollowed(Some(at))),
+        Some(a) => by_summary(scope, at, f, used, entry, n, a),
+    }
+}
+
+/// A summary that fits, if there is one. It is a guess: nothing rests on it.
+fn fitting(scope: &Scope<'_>, f: usize, entry: &[AbsValue]) -> Option<usize> {
+    for n in 0..scope.summaries.len() {
+        if fits(scope, f, &scope.summaries[n], entry) {
+            return Some(n);
+        }
+    }
+    None
+}
+
+fn copied_lengths(alloc: Global, lengths: &[u32]) -> Result<Vec<u32>, Stop> {
+    let mut out = Vec::new(alloc);
+    match out.extend_from_slice(lengths) {
+        Ok(()) => Ok(out),
+        Err(_) => Err(Stop::Memory),
+    }
+}
+
+/// The lengths of all objects.
+fn all_lengths(scope: &Scope<'_>) -> Result<Vec<Vec<u32>>, Stop> {
+    let mut outer = Vec::new(scope.alloc);
+    let Some(count) = object_count(scope) else {
+        return Err(Stop::Unfollowed(None));
+    };
+    for n in 0..count {
+        let copy = copied_lengths(scope.alloc, shape(scope.outer, scope.objects, n))?;
+        let Ok(()) = outer.push(copy) else {
+            return Err(Stop::Memory);
+        };
+    }
+    Ok(outer)
+}
+
+fn call_wanted(scope: &Scope<'_>, f: usize, entry: &[AbsValue]) -> Result<Wanted, Stop> {
+    let outer = all_lengths(scope)?;
+    let entry = copied_objects(scope.alloc, entry)?;
+    Ok(Wanted {
+        function: f,
+        outer,
+        entry,
+    })
+}
+
+/// The call of which nothing is known yet, as a reason to stop.
+fn wanted(scope: &Scope<'_>, f: usize, entry: &[AbsValue]) -> Stop {
+    match call_wanted(scope, f, entry) {
+        Ok(call) => Stop::Wanted(call),
+        Err(stop) => stop,
+    }
+}
+
+/// A call of function `f` that begins with these objects.
+fn begun(
+    scope: &Scope<'_>,
+    at: Pos,
+    f: usize,
+    used: bool,
+    entry: &[AbsValue],
+) -> Result<Evaluated, Stop>
+    ensures { IfOk result (λ e. Summarised (frame_of scope.now) at f used entry.now e.interval (state_of e.state)) }
+{
+    match fitting(scope, f, entry) {
+        None => Err(wanted(scope, f, entry)),
+        Some(n) => summarised(scope, at, f, used, entry, n),
+    }
+}
+
+// ---- the call
+
+fn defined_called(
+    scope: &Scope<'_>,
+    known: Vec<AbsValue>,
+    at: Pos,
+    f: usize,
+    used: bool,
+    passed: &[Interval],
+    function: &Function,
+) -> Result<Evaluated, Stop>
+    requires { slice_get (frame_of scope.now).program.functions f ≡ Some (function_of function.now) }
+    ensures { IfOk result (λ r. CallsAt (frame_of scope.now) at f used passed.now (Some known.items) r.interval (state_of r.state)) }
+{
+    let own = own_objects(scope.alloc, function, passed)?;
+    let entry = all_objects(known, &own)?;
+    let e = begun(scope, at, f, used, &entry)?;
+    Ok(e)
+}
+
+fn all_objects(known: Vec<AbsValue>, own: &Vec<AbsValue>) -> Result<Vec<AbsValue>, Stop>
+    ensures { IfOk result (λ r. r.items ≡ known.items ++ own.now.items) }
+{
+    let all = appended(known, own)?;
+    Ok(all)
+}
+
+fn own_objects(
+    alloc: Global,
+    function: &Function,
+    passed: &[Interval],
+) -> Result<Vec<AbsValue>, Stop>
+    ensures { IfOk result (λ r. Entered passed.now (function_of function.now).objects r.items) }
+{
+    let own = entered(alloc, &function.objects, passed)?;
+    Ok(own)
+}
+
+fn reached_called(
+    scope: &Scope<'_>,
+    known: Vec<AbsValue>,
+    at: Pos,
+    f: usize,
+    used: bool,
+    passed: &[Interval],
+) -> Result<Evaluated, Stop>
+    ensures { IfOk result (λ r. CallsAt (frame_of scope.now) at f used passed.now (Some known.items) r.interval (state_of r.state)) }
+{
+    match scope.program.functions.get(f) {
+        None => Err(Stop::Unfollowed(Some(at))),
+        Some(function) => defined_called(scope, known, at, f, used, passed, function),
+    }
+}
 
 /// A call of function `f`.
+///
+/// Errors: nothing is known of such a call yet, its value may be used where it has none, or the analysis does not follow.
+#[tactic(auto, using(crate::proofs::Summaries::none_calls))]
 pub fn function_called(
     scope: &Scope<'_>,
     state: AbsState,
@@ -22,5 +448,11 @@ pub fn function_called(
 ) -> Result<Evaluated, Stop>
     ensures { IfOk result (λ r. CallsAt (frame_of scope.now) at f used passed.now (state_of state) r.interval (state_of r.state)) }
 {
-    Err(Stop::Unfollowed(Some(at)))
+    match state.objects {
+        None => Ok(Evaluated {
+            interval: single(0),
+            state: AbsState { objects: None },
+        }),
+        Some(known) => reached_called(scope, known, at, f, used, passed),
+    }
 }

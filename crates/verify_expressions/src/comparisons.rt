@@ -1,6 +1,6 @@
 //! What a comparison tells of its operands (6.5.8, 6.5.9).
 
-ghost use Rattle.std.specs.Prelude.{◌≡◌, [], Some, IfSome};
+ghost use Rattle.std.specs.Prelude.{◌≡◌, [], Some, IfOk, IfSome};
 ghost use Rattle.typing_spec.specs.Program as typed;
 ghost use Rattle.typed_ast.specs.View.{place_of, storage_of, value_of};
 ghost use Rattle.verify_logic.specs.States.{shape_of};
@@ -8,15 +8,17 @@ ghost use Rattle.verify_logic.specs.Judgements.{Tests};
 ghost use Rattle.verify_logic.specs.Places.{FindsAt};
 ghost use Rattle.verify_logic.specs.Relations.{Learns, Looks, Restricts, RestrictsBoth};
 ghost use Rattle.verify_expressions.specs.Views.{frame_of, state_of};
+ghost use Rattle.verify_expressions.specs.Parts.{LearnsBoth};
 
 use crate::conditions::Tested;
+use crate::memory::take_step;
 use crate::objects::{content_at, copied, set};
 use crate::places::{is_scalar, object};
 use crate::scope::Scope;
 use crate::state::AbsState;
+use crate::stop::Stop;
 use ctypes::{BinOp, IntType};
 use srcset::Pos;
-use std::alloc::Global;
 use typed_ast::{Place, Value};
 use verify_intervals::{all_of, initialised, is_empty, lies_in, narrowed, single, tell};
 use verify_logic::{AbsValue, Interval, Operand};
@@ -151,35 +153,52 @@ fn both_restricted(
 }
 
 /// What a comparison tells by its truth.
-fn learnt(
-    alloc: Global,
-    state: &AbsState,
-    op: BinOp,
-    truth: bool,
-    x: Looked,
-    y: Looked,
-) -> Option<AbsState>
-    ensures { IfSome result (λ r. Learns op truth x.operand x.interval y.operand y.interval (state_of state.now) (state_of r)) }
+fn learnt(state: AbsState, op: BinOp, truth: bool, x: Looked, y: Looked) -> Option<AbsState>
+    ensures { IfSome result (λ r. Learns op truth x.operand x.interval y.operand y.interval (state_of state) (state_of r)) }
 {
-    let Ok(copy) = copied(alloc, state) else {
-        return None;
-    };
     let Some(said) = tell(op, truth) else {
         return None;
     };
     let swapped = said.swapped;
     if swapped {
         let turned = narrowed(said.relation, y.interval, x.interval);
-        let done = both_restricted(copy, y.operand, turned.left, x.operand, turned.right);
+        let done = both_restricted(state, y.operand, turned.left, x.operand, turned.right);
         done
     } else {
         let pair = narrowed(said.relation, x.interval, y.interval);
-        let ready = both_restricted(copy, x.operand, pair.left, y.operand, pair.right);
+        let ready = both_restricted(state, x.operand, pair.left, y.operand, pair.right);
         ready
     }
 }
 
-/// A comparison of two operands that are looked at.
+/// What a comparison tells where it is true, and where it is false.
+fn both_learnt(
+    scope: &Scope<'_>,
+    state: &AbsState,
+    op: BinOp,
+    x: Looked,
+    y: Looked,
+) -> Result<Option<Tested>, Stop>
+    ensures { IfOk result (λ o. IfSome o (λ r. LearnsBoth op x.operand x.interval y.operand y.interval (state_of state.now) (state_of r.on) (state_of r.off))) }
+{
+    let goes_on = take_step(scope);
+    if !goes_on {
+        return Err(Stop::Unfollowed(None));
+    }
+    let first = copied(scope.alloc, state)?;
+    let second = copied(scope.alloc, state)?;
+    let Some(on) = learnt(first, op, true, x, y) else {
+        return Ok(None);
+    };
+    let Some(off) = learnt(second, op, false, x, y) else {
+        return Ok(None);
+    };
+    Ok(Some(Tested { on, off }))
+}
+
+/// A comparison of two operands that are looked at, if it is one.
+///
+/// Errors: memory ran out.
 pub fn compared(
     scope: &Scope<'_>,
     state: &AbsState,
@@ -188,29 +207,23 @@ pub fn compared(
     ty: IntType,
     a: &Value,
     b: &Value,
-) -> Option<Tested>
-    ensures { IfSome result (λ r. Tests (frame_of scope.now) (typed.binary at.now op ty (value_of a.now) (value_of b.now)) (state_of state.now) (state_of r.on) (state_of r.off)) }
+) -> Result<Option<Tested>, Stop>
+    ensures { IfOk result (λ o. IfSome o (λ r. Tests (frame_of scope.now) (typed.binary at.now op ty (value_of a.now) (value_of b.now)) (state_of state.now) (state_of r.on) (state_of r.off))) }
 {
     let Some(x) = look(scope, state, a) else {
-        return None;
+        return Ok(None);
     };
     let Some(y) = look(scope, state, b) else {
-        return None;
+        return Ok(None);
     };
     let all = all_of(ty);
     let left_fits = lies_in(x.interval, all);
     if !left_fits {
-        return None;
+        return Ok(None);
     }
     let right_fits = lies_in(y.interval, all);
     if !right_fits {
-        return None;
+        return Ok(None);
     }
-    let Some(on) = learnt(scope.alloc, state, op, true, x, y) else {
-        return None;
-    };
-    let Some(off) = learnt(scope.alloc, state, op, false, x, y) else {
-        return None;
-    };
-    Some(Tested { on, off })
+    both_learnt(scope, state, op, x, y)
 }

@@ -1,6 +1,6 @@
 //! Expressions (6.5), a function for each kind. What one gives holds of every run that begins with what is known before it.
 
-ghost use Rattle.std.specs.Prelude.{◌≡◌, ◌≤◌, [], drop, length, map, IfOk, IsTrue};
+ghost use Rattle.std.specs.Prelude.{◌≡◌, ◌≤◌, [], drop, length, map, IfOk, IsTrue, None};
 ghost use Rattle.typing_spec.specs.Program as typed;
 ghost use Rattle.typed_ast.specs.View.{argument_of, arguments_of, callee_of, number_given, moment_of, place_of, program_of, storage_of, value_of};
 ghost use Rattle.verify_logic.specs.States.{shape_of};
@@ -18,13 +18,13 @@ use crate::operators::{operation_at, read_at, sign_at, step_at, subscript_at};
 use crate::parts::{choice_conversion, got_byte, position, value_stepped};
 use crate::places::{is_element, length_at, literal_count, object};
 use crate::scope::Scope;
-use crate::state::{AbsState, unreachable};
+use crate::state::{AbsState, is_reached, unreachable};
 use crate::stop::Stop;
 use ctypes::{BinOp, IntType};
 use srcset::Pos;
 use tree::{PrefixOp, StepOp};
 use typed_ast::{Argument, Callee, Moment, Place, Storage, Value};
-use verify_intervals::{add_usize, conversion, hull, single, truths};
+use verify_intervals::{add_usize, conversion, hull, nothing, single, truths};
 use verify_logic::Interval;
 
 /// The interval of a value, and what is known behind it.
@@ -117,9 +117,31 @@ fn variable(scope: &Scope<'_>, state: AbsState, a: &Place) -> Result<Placed, Sto
     Ok(found)
 }
 
+/// An expression to which no run comes.
+fn never_evaluated(scope: &Scope<'_>, state: &AbsState, e: &Value) -> Evaluated
+    requires { state_of state.now ≡ None }
+    ensures { Evaluates (frame_of scope.now) (value_of e.now) (state_of state.now) result.interval (state_of result.state) }
+{
+    Evaluated {
+        interval: nothing(),
+        state: unreachable(),
+    }
+}
+
 /// An expression.
 #[cycle(analyse)]
 pub fn evaluate(scope: &Scope<'_>, state: AbsState, e: &Value) -> Result<Evaluated, Stop>
+    ensures { IfOk result (λ r. Evaluates (frame_of scope.now) (value_of e.now) (state_of state) r.interval (state_of r.state)) }
+{
+    let reached = is_reached(&state);
+    if !reached {
+        return Ok(never_evaluated(scope, &state, e));
+    }
+    by_form(scope, state, e)
+}
+
+#[cycle(analyse)]
+fn by_form(scope: &Scope<'_>, state: AbsState, e: &Value) -> Result<Evaluated, Stop>
     ensures { IfOk result (λ r. Evaluates (frame_of scope.now) (value_of e.now) (state_of state) r.interval (state_of r.state)) }
 {
     match e {
@@ -488,9 +510,31 @@ fn one_tested(scope: &Scope<'_>, state: AbsState, a: &Value, b: &Value) -> Resul
     Ok(Tested { on, off: right.off })
 }
 
+/// A test to which no run comes.
+fn never_tested(scope: &Scope<'_>, state: &AbsState, e: &Value) -> Tested
+    requires { state_of state.now ≡ None }
+    ensures { Tests (frame_of scope.now) (value_of e.now) (state_of state.now) (state_of result.on) (state_of result.off) }
+{
+    Tested {
+        on: unreachable(),
+        off: unreachable(),
+    }
+}
+
 /// An expression, by whether its value is zero.
 #[cycle(analyse)]
 pub fn test(scope: &Scope<'_>, state: AbsState, e: &Value) -> Result<Tested, Stop>
+    ensures { IfOk result (λ r. Tests (frame_of scope.now) (value_of e.now) (state_of state) (state_of r.on) (state_of r.off)) }
+{
+    let reached = is_reached(&state);
+    if !reached {
+        return Ok(never_tested(scope, &state, e));
+    }
+    test_by_form(scope, state, e)
+}
+
+#[cycle(analyse)]
+fn test_by_form(scope: &Scope<'_>, state: AbsState, e: &Value) -> Result<Tested, Stop>
     ensures { IfOk result (λ r. Tests (frame_of scope.now) (value_of e.now) (state_of state) (state_of r.on) (state_of r.off)) }
 {
     match e {
@@ -501,7 +545,8 @@ pub fn test(scope: &Scope<'_>, state: AbsState, e: &Value) -> Result<Tested, Sto
         Value::Stepped(_, _, _, _, _, _) => by_value(scope, state, e),
         Value::Unary(_, _, _, _) => by_value(scope, state, e),
         Value::Binary(at, op, ty, a, b) => {
-            match compared(scope, &state, at, *op, *ty, a, b) {
+            let found = compared(scope, &state, at, *op, *ty, a, b)?;
+            match found {
                 Some(t) => Ok(t),
                 None => by_value(scope, state, e),
             }

@@ -7,6 +7,7 @@ mod calls;
 mod comparisons;
 mod conditions;
 mod expressions;
+mod memory;
 mod objects;
 mod operators;
 mod parts;
@@ -17,8 +18,12 @@ mod stop;
 
 pub use conditions::Tested;
 pub use expressions::{Evaluated, evaluate, test};
-pub use objects::{copied, imply, joined, replaced, written};
+pub use memory::{
+    Memory, enter_body, enter_loop, first_guess, leave_loop, new_memory, recalled, remember,
+    take_step,
+};
+pub use objects::{content_at, copied, imply, joined, replaced, written};
 pub use places::{is_scalar, literal_count, shape};
 pub use scope::{Scope, Summary};
-pub use state::{AbsState, unreachable};
+pub use state::{AbsState, is_reached, unreachable};
 pub use stop::{Alarm, Stop, Wanted};

@@ -1,5 +1,6 @@
 //! In which call an expression stands.
 
+use crate::memory::Memory;
 use srcset::Pos;
 use std::alloc::Global;
 use typed_ast::{ObjectType, Program};
@@ -31,4 +32,5 @@ pub struct Scope<'a> {
     pub outer: &'a [Vec<u32>],
     /// The objects of the call.
     pub objects: &'a [ObjectType],
+    pub memory: &'a Memory,
 }

@@ -1,6 +1,6 @@
 //! Abstract states.
 
-ghost use Rattle.std.specs.Prelude.{◌≡◌, None};
+ghost use Rattle.std.specs.Prelude.{◌≡◌, false, None};
 ghost use Rattle.verify_expressions.specs.Views.{state_of};
 
 use verify_logic::AbsValue;
@@ -16,4 +16,14 @@ pub fn unreachable() -> AbsState
     ensures { state_of result ≡ None }
 {
     AbsState { objects: None }
+}
+
+/// Tests whether a run may come here.
+pub fn is_reached(state: &AbsState) -> bool
+    ensures { (result ≡ false) → state_of state.now ≡ None }
+{
+    match &state.objects {
+        None => false,
+        Some(_) => true,
+    }
 }

@@ -26,6 +26,7 @@ use Rattle.verify_expressions.specs.declared.state.AbsState.{AbsState}
 use Rattle.verify_expressions.specs.declared.conditions.Tested.{Tested}
 use Rattle.verify_expressions.specs.Views.{state_of}
 use Rattle.verify_statements.specs.declared.ways.Left.{Left}
+use Rattle.verify_statements.specs.Loops.{Loops}
 use Rattle.verify_statements.specs.Ways.{ways_of}
 use Rattle.verify_statements.proofs.Work.{work, work_all}
 
@@ -117,3 +118,15 @@ tested_or_none fr e o q = let P : Option held_value.Value → Type 0 = λ e. Tes
 pub tested_or_some : (fr : Frame) (e : Option held_value.Value) (x : held_value.Value) (o : Option (List AbsValue)) (r : Result Tested Stop) → e ≡ Some x → IfOk r (λ r. TestsOr fr (Some (value_of x)) o (state_of r.on) (state_of r.off)) →
     IfOk r (λ r. TestsOr fr (option_value e) o (state_of r.on) (state_of r.off))
 tested_or_some fr e x o r q h = let P : Option held_value.Value → Type 0 = λ e. IfOk r (λ r. TestsOr fr (option_value e) o (state_of r.on) (state_of r.off)) in subst P (sym q) h
+
+pub never_executes : (fr : Frame) (a : Statement) (o : Option (List AbsValue)) (w : Ways) → o ≡ None → Executes fr a o w
+never_executes fr a o w q = let P : Option (List AbsValue) → Type 0 = λ o. Executes fr a o w in subst P (sym q) (record { runs = λ d s c. absurd c })
+
+-- a loop that was met before
+
+pub loops_some : (fr : Frame) (test step : Option Value) (a : Statement) (o2 o : Option (List AbsValue)) (q : Option Left) (l : Left) → q ≡ Some l → o2 ≡ o → IfSome q (λ r. Loops fr test step a o2 (ways_of r)) → Loops fr test step a o (ways_of l)
+loops_some fr test step a o2 o q l eq eo h =
+    let P : Option Left → Type 0 = λ q. IfSome q (λ r. Loops fr test step a o2 (ways_of r)) in
+    let Q : Option (List AbsValue) → Type 0 = λ o. Loops fr test step a o (ways_of l) in
+    let k : Loops fr test step a o2 (ways_of l) = subst P eq h in
+    subst Q eo k

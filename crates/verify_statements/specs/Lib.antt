@@ -1,2 +1,5 @@
 pub mod Ways
 pub mod Loops
+pub mod Switches
+pub mod Quiet
+pub mod Fills

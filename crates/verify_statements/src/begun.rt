@@ -8,11 +8,12 @@ ghost use Rattle.verify_logic.specs.Statements.{Executes, Renews, RenewsOne};
 ghost use Rattle.verify_expressions.specs.Views.{frame_of, state_of};
 ghost use Rattle.verify_statements.specs.Ways.{ways_of};
 
+use crate::initialisers::{Filling, anything, filled, opened};
 use crate::ways::{Left, only};
 use ctypes::IntType;
 use typed_ast::{Initialiser, ObjectType, Value};
 use verify_expressions::{AbsState, Scope, Stop, evaluate, is_scalar, replaced, written};
-use verify_intervals::{add_usize, conversion, uninitialised};
+use verify_intervals::{add_usize, conversion, initialised, uninitialised};
 
 fn base(scope: &Scope<'_>) -> usize
     ensures { result ≡ length (frame_of scope.now).outer }
@@ -104,14 +105,58 @@ fn defined_by(
     Ok(only(state3))
 }
 
+/// Object `n` of the call gets a first value, of which the interval holds all elements.
+fn array_begun(
+    scope: &Scope<'_>,
+    state: AbsState,
+    n: usize,
+    object: &ObjectType,
+    i: &Initialiser,
+) -> Result<Left, Stop>
+    requires { slice_get (frame_of scope.now).objects n ≡ Some (object_type_of object.now) }
+    ensures { IfOk result (λ r. Executes (frame_of scope.now) (typed.define n (initialiser_of i.now)) (state_of state) (ways_of r)) }
+{
+    let Some(x) = add_usize(base(scope), n) else {
+        return Err(Stop::Unfollowed(None));
+    };
+    let state2 = renewed(scope, state, n)?;
+    let value = anything();
+    let wide = opened(scope.alloc, &state2, x, value)?;
+    let filling = Filling {
+        state: &wide,
+        object: x,
+        value,
+        element: object.element,
+    };
+    let j = filled(scope, &filling, &object.lengths, i)?;
+    let new = initialised(j);
+    let state3 = replaced(wide, x, new)?;
+    Ok(only(state3))
+}
+
+/// A list, a text or a value in braces for the object (6.7.9p14, p17).
+fn array_defined(
+    scope: &Scope<'_>,
+    state: AbsState,
+    n: usize,
+    i: &Initialiser,
+) -> Result<Left, Stop>
+    ensures { IfOk result (λ r. Executes (frame_of scope.now) (typed.define n (initialiser_of i.now)) (state_of state) (ways_of r)) }
+{
+    match scope.objects.get(n) {
+        None => Err(Stop::Unfollowed(None)),
+        Some(object) => array_begun(scope, state, n, object, i),
+    }
+}
+
 /// A declarator with a first value.
 pub fn defined(scope: &Scope<'_>, state: AbsState, n: usize, i: &Initialiser) -> Result<Left, Stop>
     ensures { IfOk result (λ r. Executes (frame_of scope.now) (typed.define n (initialiser_of i.now)) (state_of state) (ways_of r)) }
 {
     match i {
         Initialiser::One(ty, e) => defined_by(scope, state, n, *ty, e),
-        Initialiser::Text(_) => Err(Stop::Unfollowed(None)),
-        Initialiser::InBraces(_) => Err(Stop::Unfollowed(None)),
-        Initialiser::List(_) => Err(Stop::Unfollowed(None)),
+        Initialiser::Text(_) => array_defined(scope, state, n, i),
+        Initialiser::InBraces(_) => array_defined(scope, state, n, i),
+        Initialiser::List(_) => array_defined(scope, state, n, i),
     }
 }

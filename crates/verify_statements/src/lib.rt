@@ -3,6 +3,9 @@
 #![tactic(auto)]
 
 mod begun;
+mod effects;
+mod initialisers;
+mod labels;
 mod statements;
 mod ways;
 mod widening;

@@ -1,19 +1,25 @@
 //! Statements (6.8), a function for each kind.
 
-ghost use Rattle.std.specs.Prelude.{◌≡◌, map, IfOk, None, Some};
+ghost use Rattle.std.specs.Prelude.{◌≡◌, map, IfOk, IfSome, None, Some};
 ghost use Rattle.typing_spec.specs.Program as typed;
 ghost use Rattle.typed_ast.specs.View.{option_value, statement_of, statements_of, value_of};
 ghost use Rattle.verify_logic.specs.Statements.{EvaluatesOr, Executes, ExecutesAll, Follows, TestsOr};
 ghost use Rattle.verify_expressions.specs.Views.{frame_of, state_of};
 ghost use Rattle.verify_statements.specs.Loops.{Loops};
+ghost use Rattle.verify_statements.specs.Switches.{EntersAll, EntersLabel, EntersOne};
 ghost use Rattle.verify_statements.specs.Ways.{ways_of};
 
 use crate::begun::{all_renewed, declared, defined};
+use crate::labels::{any_default, behind_switch, cased, defaulted, is_label};
 use crate::ways::{Left, joined_ways, no_return, only};
 use crate::widening::widened;
 use ctypes::IntType;
+use srcset::Pos;
 use typed_ast::{ForControl, Statement, Value};
-use verify_expressions::{AbsState, Scope, Stop, Tested, copied, evaluate, imply, joined, test};
+use verify_expressions::{
+    AbsState, Scope, Stop, Tested, copied, enter_loop, evaluate, first_guess, imply, is_reached,
+    joined, leave_loop, recalled, remember, take_step, test, unreachable,
+};
 use verify_intervals::{conversion, initialised, uninitialised};
 
 /// How many guesses of a loop's invariant are tried.
@@ -121,11 +127,34 @@ fn tested_or(scope: &Scope<'_>, state: AbsState, e: &Option<Value>) -> Result<Te
     }
 }
 
+/// A statement to which no run comes.
+fn never_executed(scope: &Scope<'_>, state: &AbsState, a: &Statement) -> Left
+    requires { state_of state.now ≡ None }
+    ensures { Executes (frame_of scope.now) (statement_of a.now) (state_of state.now) (ways_of result) }
+{
+    only(unreachable())
+}
+
 /// A statement.
 ///
 /// Errors: something undefined is not ruled out, a call is not known yet, or the analysis does not follow.
 #[cycle(execute)]
 pub fn statement(scope: &Scope<'_>, state: AbsState, a: &Statement) -> Result<Left, Stop>
+    ensures { IfOk result (λ r. Executes (frame_of scope.now) (statement_of a.now) (state_of state) (ways_of r)) }
+{
+    let goes_on = take_step(scope);
+    if !goes_on {
+        return Err(Stop::Unfollowed(None));
+    }
+    let reached = is_reached(&state);
+    if !reached {
+        return Ok(never_executed(scope, &state, a));
+    }
+    by_kind(scope, state, a)
+}
+
+#[cycle(execute)]
+fn by_kind(scope: &Scope<'_>, state: AbsState, a: &Statement) -> Result<Left, Stop>
     ensures { IfOk result (λ r. Executes (frame_of scope.now) (statement_of a.now) (state_of state) (ways_of r)) }
 {
     match a {
@@ -136,12 +165,16 @@ pub fn statement(scope: &Scope<'_>, state: AbsState, a: &Statement) -> Result<Le
         Statement::Block(_, first, count, all) => block(scope, state, *first, *count, all),
         Statement::If(_, e, a) => branch(scope, state, e, a),
         Statement::IfElse(_, e, a, b) => branches(scope, state, e, a, b),
-        Statement::Switch(_, _, _, _, _, _) => Err(Stop::Unfollowed(None)),
-        Statement::Case(_, _) => Err(Stop::Unfollowed(None)),
-        Statement::Default(_) => Err(Stop::Unfollowed(None)),
-        Statement::While(_, e, a) => while_loop(scope, state, e, a),
-        Statement::DoWhile(_, a, e) => do_loop(scope, state, a, e),
-        Statement::For(_, declared, control, a) => for_loop(scope, state, declared, control, a),
+        Statement::Switch(_, ty, e, first, count, all) => {
+            switched(scope, state, *ty, e, *first, *count, all)
+        }
+        Statement::Case(_, v) => cased(scope, state, *v),
+        Statement::Default(_) => defaulted(scope, state),
+        Statement::While(at, e, a) => while_loop(scope, state, at, e, a),
+        Statement::DoWhile(at, a, e) => do_loop(scope, state, at, a, e),
+        Statement::For(at, declared, control, a) => {
+            for_loop(scope, state, at, declared, control, a)
+        }
         Statement::Break(_) => broken(scope, state),
         Statement::Continue(_) => continued(scope, state),
         Statement::ReturnNothing(_) => returned_nothing(scope, state),
@@ -232,79 +265,306 @@ fn branches(
     joined_ways(scope.alloc, left, right)
 }
 
-/// What one turn of a loop that begins so leaves for the next, joined with it. It is a guess: nothing rests on it.
-#[cycle(execute)]
-fn turned(scope: &Scope<'_>, state: AbsState, e: &Value, a: &Statement) -> Result<AbsState, Stop> {
-    let kept = copied(scope.alloc, &state)?;
-    let tested = test(scope, state, e)?;
-    let left = statement(scope, tested.on, a)?;
-    let again = joined(scope.alloc, left.normal, left.continued)?;
-    joined(scope.alloc, kept, again)
-}
+// ---- switch (6.8.4.2)
 
-/// A state that may hold at each turn. It is a guess: nothing rests on it.
+/// A label of a switch: it may be jumped to with what is known before the statements of the switch.
 #[cycle(execute)]
-fn guessed(scope: &Scope<'_>, state: AbsState, e: &Value, a: &Statement) -> Result<AbsState, Stop> {
-    let mut kept = state;
-    for turn in 0..GUESSES {
-        let before = copied(scope.alloc, &kept)?;
-        let next = turned(scope, kept, e, a)?;
-        if imply(&next, &before) {
-            return Ok(before);
-        }
-        let wider = widened(scope.alloc, &before, next, turn)?;
-        kept = wider;
-    }
-    Err(Stop::Unfollowed(None))
-}
-
-/// A loop that begins with its test.
-#[cycle(execute)]
-fn looped(scope: &Scope<'_>, state: AbsState, e: &Value, a: &Statement) -> Result<Left, Stop>
-    ensures { IfOk result (λ r. Loops (frame_of scope.now) (Some (value_of e.now)) None (statement_of a.now) (state_of state) (ways_of r)) }
+fn labelled(scope: &Scope<'_>, so_far: Left, entry: &AbsState, a: &Statement) -> Result<Left, Stop>
+    ensures { IfOk result (λ r. EntersLabel (frame_of scope.now) (state_of entry.now) (ways_of so_far) (statement_of a.now) (ways_of r)) }
 {
-    let first = copied(scope.alloc, &state)?;
-    let kept = guessed(scope, first, e, a)?;
-    let starts = imply(&state, &kept);
-    if !starts {
-        return Err(Stop::Unfollowed(None));
+    let copy = copied(scope.alloc, entry)?;
+    let normal = joined(scope.alloc, copy, so_far.normal)?;
+    let before = Left {
+        normal,
+        broken: so_far.broken,
+        continued: so_far.continued,
+        returned: so_far.returned,
+        value: so_far.value,
+    };
+    let next = followed(scope, before, a)?;
+    Ok(next)
+}
+
+/// A statement of a switch, behind others.
+#[cycle(execute)]
+fn entered(scope: &Scope<'_>, so_far: Left, entry: &AbsState, a: &Statement) -> Result<Left, Stop>
+    ensures { IfOk result (λ r. EntersOne (frame_of scope.now) (state_of entry.now) (ways_of so_far) (statement_of a.now) (ways_of r)) }
+{
+    let label = is_label(a);
+    if label {
+        let reached = labelled(scope, so_far, entry, a)?;
+        Ok(reached)
+    } else {
+        let next = followed(scope, so_far, a)?;
+        Ok(next)
     }
-    let again = copied(scope.alloc, &kept)?;
-    let tested = test(scope, again, e)?;
-    let left = statement(scope, tested.on, a)?;
-    let ends = imply(&left.normal, &kept);
-    if !ends {
-        return Err(Stop::Unfollowed(None));
+}
+
+/// The statements of a switch, before which this is known.
+#[cycle(execute)]
+fn cases(scope: &Scope<'_>, entry: &AbsState, all: &[Statement]) -> Result<Left, Stop>
+    ensures { IfOk result (λ r. EntersAll (frame_of scope.now) (state_of entry.now) (statements_of (map statement_of all.now)) (ways_of r)) }
+{
+    let mut so_far = Left {
+        normal: AbsState { objects: None },
+        broken: AbsState { objects: None },
+        continued: AbsState { objects: None },
+        returned: AbsState { objects: None },
+        value: no_return(),
+    };
+    let mut rest = all;
+    while let Some((a, more)) = rest.split_first() {
+        let next = entered(scope, so_far, entry, a)?;
+        so_far = next;
+        rest = more;
     }
-    let continues = imply(&left.continued, &kept);
-    if !continues {
-        return Err(Stop::Unfollowed(None));
-    }
-    let out = joined(scope.alloc, left.broken, tested.off)?;
+    Ok(so_far)
+}
+
+#[cycle(execute)]
+fn switched(
+    scope: &Scope<'_>,
+    state: AbsState,
+    ty: IntType,
+    e: &Value,
+    first: usize,
+    count: usize,
+    all: &[Statement],
+) -> Result<Left, Stop>
+    ensures { IfOk result (λ r. Executes (frame_of scope.now) (typed.switch ty (value_of e.now) first count (statements_of (map statement_of all.now))) (state_of state) (ways_of r)) }
+{
+    let v = evaluate(scope, state, e)?;
+    let entry = all_renewed(scope, v.state, first, count)?;
+    let left = cases(scope, &entry, all)?;
+    let both = joined(scope.alloc, left.normal, left.broken)?;
+    let any = any_default(all);
+    let out = behind_switch(scope.alloc, both, entry, any)?;
     Ok(Left {
         normal: out,
         broken: AbsState { objects: None },
-        continued: AbsState { objects: None },
+        continued: left.continued,
         returned: left.returned,
         value: left.value,
     })
 }
 
+// ---- what holds at each turn of a loop. It is guessed, and nothing rests on it
+
+/// What controls a loop.
+#[derive(Clone, Copy)]
+enum Control<'a> {
+    Test(&'a Value),
+    For(&'a ForControl),
+}
+
+/// A loop: where it stands, and what each turn does.
+#[derive(Clone, Copy)]
+struct Turning<'a> {
+    at: Pos,
+    control: Control<'a>,
+    body: &'a Statement,
+}
+
+fn tested_by(scope: &Scope<'_>, state: AbsState, control: Control<'_>) -> Result<Tested, Stop> {
+    match control {
+        Control::Test(e) => test(scope, state, e),
+        Control::For(all) => tested_or(scope, state, &all.test),
+    }
+}
+
+fn stepped_by(scope: &Scope<'_>, state: AbsState, control: Control<'_>) -> Result<AbsState, Stop> {
+    match control {
+        Control::Test(_) => Ok(state),
+        Control::For(all) => evaluated_or(scope, state, &all.step),
+    }
+}
+
+/// The body of a loop.
 #[cycle(execute)]
-fn while_loop(scope: &Scope<'_>, state: AbsState, e: &Value, a: &Statement) -> Result<Left, Stop>
+fn body(scope: &Scope<'_>, state: AbsState, a: &Statement) -> Result<Left, Stop>
+    ensures { IfOk result (λ r. Executes (frame_of scope.now) (statement_of a.now) (state_of state) (ways_of r)) }
+{
+    enter_loop(scope.memory);
+    let left = statement(scope, state, a)?;
+    leave_loop(scope.memory);
+    Ok(left)
+}
+
+/// What one turn of a loop that begins so leaves for the next.
+#[cycle(execute)]
+fn turned(scope: &Scope<'_>, state: AbsState, turning: &Turning<'_>) -> Result<AbsState, Stop> {
+    let tested = tested_by(scope, state, turning.control)?;
+    let left = body(scope, tested.on, turning.body)?;
+    let behind = joined(scope.alloc, left.normal, left.continued)?;
+    stepped_by(scope, behind, turning.control)
+}
+
+/// What begins the loop and what a turn leaves, where that holds at each turn; else the wider guess.
+#[cycle(execute)]
+fn narrowed(
+    scope: &Scope<'_>,
+    first: AbsState,
+    wide: AbsState,
+    again: AbsState,
+    turning: &Turning<'_>,
+) -> Result<AbsState, Stop> {
+    let narrow = joined(scope.alloc, first, again)?;
+    if imply(&wide, &narrow) {
+        return Ok(wide);
+    }
+    let start = copied(scope.alloc, &narrow)?;
+    let next = turned(scope, start, turning)?;
+    if imply(&next, &narrow) {
+        Ok(narrow)
+    } else {
+        Ok(wide)
+    }
+}
+
+/// A state that may hold at each turn.
+#[cycle(execute)]
+fn guessed(scope: &Scope<'_>, state: AbsState, turning: &Turning<'_>) -> Result<AbsState, Stop> {
+    let first = copied(scope.alloc, &state)?;
+    let mut kept = first_guess(scope, turning.at, state)?;
+    for turn in 0..GUESSES {
+        let before = copied(scope.alloc, &kept)?;
+        let again = turned(scope, kept, turning)?;
+        if imply(&again, &before) {
+            return narrowed(scope, first, before, again, turning);
+        }
+        let wider = widened(scope, before, again, turn)?;
+        kept = wider;
+    }
+    Err(Stop::Unfollowed(Some(turning.at)))
+}
+
+// ---- loops that begin with their test (6.8.5.1)
+
+/// A loop at each of whose turns this holds; none where that is not so.
+#[cycle(execute)]
+fn checked(
+    scope: &Scope<'_>,
+    state: AbsState,
+    kept: AbsState,
+    e: &Value,
+    a: &Statement,
+) -> Result<Option<Left>, Stop>
+    ensures { IfOk result (λ o. IfSome o (λ r. Loops (frame_of scope.now) (Some (value_of e.now)) None (statement_of a.now) (state_of state) (ways_of r))) }
+{
+    let starts = imply(&state, &kept);
+    if !starts {
+        return Ok(None);
+    }
+    let again = copied(scope.alloc, &kept)?;
+    let tested = test(scope, again, e)?;
+    let left = body(scope, tested.on, a)?;
+    let ends = imply(&left.normal, &kept);
+    if !ends {
+        return Ok(None);
+    }
+    let continues = imply(&left.continued, &kept);
+    if !continues {
+        return Ok(None);
+    }
+    let out = joined(scope.alloc, left.broken, tested.off)?;
+    Ok(Some(Left {
+        normal: out,
+        broken: AbsState { objects: None },
+        continued: AbsState { objects: None },
+        returned: left.returned,
+        value: left.value,
+    }))
+}
+
+/// A loop that was met before with this known before it.
+#[cycle(execute)]
+fn looped_again(
+    scope: &Scope<'_>,
+    state: AbsState,
+    at: &Pos,
+    e: &Value,
+    a: &Statement,
+) -> Result<Option<Left>, Stop>
+    ensures { IfOk result (λ o. IfSome o (λ r. Loops (frame_of scope.now) (Some (value_of e.now)) None (statement_of a.now) (state_of state) (ways_of r))) }
+{
+    let known = recalled(scope, *at, &state)?;
+    match known {
+        None => Ok(None),
+        Some(kept) => checked(scope, state, kept, e, a),
+    }
+}
+
+/// A loop of which nothing is remembered, or with less known before it.
+#[cycle(execute)]
+fn looped_anew<'a>(
+    scope: &Scope<'_>,
+    state: AbsState,
+    at: &Pos,
+    e: &'a Value,
+    a: &'a Statement,
+) -> Result<Left, Stop>
+    ensures { IfOk result (λ r. Loops (frame_of scope.now) (Some (value_of e.now)) None (statement_of a.now) (state_of state) (ways_of r)) }
+{
+    let first = copied(scope.alloc, &state)?;
+    let turning = Turning {
+        at: *at,
+        control: Control::Test(e),
+        body: a,
+    };
+    let kept = guessed(scope, first, &turning)?;
+    remember(scope, *at, &state, &kept)?;
+    let done = checked(scope, state, kept, e, a)?;
+    match done {
+        None => Err(Stop::Unfollowed(Some(*at))),
+        Some(left) => Ok(left),
+    }
+}
+
+#[cycle(execute)]
+fn looped(
+    scope: &Scope<'_>,
+    state: AbsState,
+    at: &Pos,
+    e: &Value,
+    a: &Statement,
+) -> Result<Left, Stop>
+    ensures { IfOk result (λ r. Loops (frame_of scope.now) (Some (value_of e.now)) None (statement_of a.now) (state_of state) (ways_of r)) }
+{
+    let first = copied(scope.alloc, &state)?;
+    let quick = looped_again(scope, first, at, e, a)?;
+    match quick {
+        None => looped_anew(scope, state, at, e, a),
+        Some(left) => Ok(left),
+    }
+}
+
+#[cycle(execute)]
+fn while_loop(
+    scope: &Scope<'_>,
+    state: AbsState,
+    at: &Pos,
+    e: &Value,
+    a: &Statement,
+) -> Result<Left, Stop>
     ensures { IfOk result (λ r. Executes (frame_of scope.now) (typed.while (value_of e.now) (statement_of a.now)) (state_of state) (ways_of r)) }
 {
-    let left = looped(scope, state, e, a)?;
+    let left = looped(scope, state, at, e, a)?;
     Ok(left)
 }
 
 #[cycle(execute)]
-fn do_loop(scope: &Scope<'_>, state: AbsState, a: &Statement, e: &Value) -> Result<Left, Stop>
+fn do_loop(
+    scope: &Scope<'_>,
+    state: AbsState,
+    at: &Pos,
+    a: &Statement,
+    e: &Value,
+) -> Result<Left, Stop>
     ensures { IfOk result (λ r. Executes (frame_of scope.now) (typed.do_while (statement_of a.now) (value_of e.now)) (state_of state) (ways_of r)) }
 {
     let first = statement(scope, state, a)?;
     let kept = joined(scope.alloc, first.normal, first.continued)?;
-    let again = looped(scope, kept, e, a)?;
+    let again = looped(scope, kept, at, e, a)?;
     let before = Left {
         normal: first.broken,
         broken: AbsState { objects: None },
@@ -316,41 +576,84 @@ fn do_loop(scope: &Scope<'_>, state: AbsState, a: &Statement, e: &Value) -> Resu
     Ok(left)
 }
 
-/// As `turned`, for a `for`.
+// ---- for (6.8.5.3)
+
+/// As `checked`, for a `for`.
 #[cycle(execute)]
-fn turned_for(
+fn checked_for(
     scope: &Scope<'_>,
     state: AbsState,
+    kept: AbsState,
     control: &ForControl,
     a: &Statement,
-) -> Result<AbsState, Stop> {
-    let kept = copied(scope.alloc, &state)?;
-    let tested = tested_or(scope, state, &control.test)?;
-    let left = statement(scope, tested.on, a)?;
+) -> Result<Option<Left>, Stop>
+    ensures { IfOk result (λ o. IfSome o (λ r. Loops (frame_of scope.now) (option_value control.now.test) (option_value control.now.step) (statement_of a.now) (state_of state) (ways_of r))) }
+{
+    let starts = imply(&state, &kept);
+    if !starts {
+        return Ok(None);
+    }
+    let again = copied(scope.alloc, &kept)?;
+    let tested = tested_or(scope, again, &control.test)?;
+    let left = body(scope, tested.on, a)?;
     let behind = joined(scope.alloc, left.normal, left.continued)?;
-    let again = evaluated_or(scope, behind, &control.step)?;
-    joined(scope.alloc, kept, again)
+    let next = evaluated_or(scope, behind, &control.step)?;
+    let holds = imply(&next, &kept);
+    if !holds {
+        return Ok(None);
+    }
+    let out = joined(scope.alloc, left.broken, tested.off)?;
+    Ok(Some(Left {
+        normal: out,
+        broken: AbsState { objects: None },
+        continued: AbsState { objects: None },
+        returned: left.returned,
+        value: left.value,
+    }))
 }
 
-/// As `guessed`, for a `for`.
+/// As `looped_again`, for a `for`.
 #[cycle(execute)]
-fn guessed_for(
+fn looped_for_again(
     scope: &Scope<'_>,
     state: AbsState,
+    at: &Pos,
     control: &ForControl,
     a: &Statement,
-) -> Result<AbsState, Stop> {
-    let mut kept = state;
-    for turn in 0..GUESSES {
-        let before = copied(scope.alloc, &kept)?;
-        let next = turned_for(scope, kept, control, a)?;
-        if imply(&next, &before) {
-            return Ok(before);
-        }
-        let wider = widened(scope.alloc, &before, next, turn)?;
-        kept = wider;
+) -> Result<Option<Left>, Stop>
+    ensures { IfOk result (λ o. IfSome o (λ r. Loops (frame_of scope.now) (option_value control.now.test) (option_value control.now.step) (statement_of a.now) (state_of state) (ways_of r))) }
+{
+    let known = recalled(scope, *at, &state)?;
+    match known {
+        None => Ok(None),
+        Some(kept) => checked_for(scope, state, kept, control, a),
     }
-    Err(Stop::Unfollowed(None))
+}
+
+/// As `looped_anew`, for a `for`.
+#[cycle(execute)]
+fn looped_for_anew<'a>(
+    scope: &Scope<'_>,
+    state: AbsState,
+    at: &Pos,
+    control: &'a ForControl,
+    a: &'a Statement,
+) -> Result<Left, Stop>
+    ensures { IfOk result (λ r. Loops (frame_of scope.now) (option_value control.now.test) (option_value control.now.step) (statement_of a.now) (state_of state) (ways_of r)) }
+{
+    let first = copied(scope.alloc, &state)?;
+    let turning = Turning {
+        at: *at,
+        control: Control::For(control),
+        body: a,
+    };
+    let kept = guessed(scope, first, &turning)?;
+    remember(scope, *at, &state, &kept)?;
+    let done = checked_for(scope, state, kept, control, a)?;
+    match done {
+        None => Err(Stop::Unfollowed(Some(*at))),
+        Some(left) => Ok(left),
+    }
 }
 
 /// The turns of a `for`.
@@ -358,40 +661,25 @@ fn guessed_for(
 fn looped_for(
     scope: &Scope<'_>,
     state: AbsState,
+    at: &Pos,
     control: &ForControl,
     a: &Statement,
 ) -> Result<Left, Stop>
     ensures { IfOk result (λ r. Loops (frame_of scope.now) (option_value control.now.test) (option_value control.now.step) (statement_of a.now) (state_of state) (ways_of r)) }
 {
     let first = copied(scope.alloc, &state)?;
-    let kept = guessed_for(scope, first, control, a)?;
-    let starts = imply(&state, &kept);
-    if !starts {
-        return Err(Stop::Unfollowed(None));
+    let quick = looped_for_again(scope, first, at, control, a)?;
+    match quick {
+        None => looped_for_anew(scope, state, at, control, a),
+        Some(left) => Ok(left),
     }
-    let again = copied(scope.alloc, &kept)?;
-    let tested = tested_or(scope, again, &control.test)?;
-    let left = statement(scope, tested.on, a)?;
-    let behind = joined(scope.alloc, left.normal, left.continued)?;
-    let next = evaluated_or(scope, behind, &control.step)?;
-    let holds = imply(&next, &kept);
-    if !holds {
-        return Err(Stop::Unfollowed(None));
-    }
-    let out = joined(scope.alloc, left.broken, tested.off)?;
-    Ok(Left {
-        normal: out,
-        broken: AbsState { objects: None },
-        continued: AbsState { objects: None },
-        returned: left.returned,
-        value: left.value,
-    })
 }
 
 #[cycle(execute)]
 fn for_loop(
     scope: &Scope<'_>,
     state: AbsState,
+    at: &Pos,
     declared: &[Statement],
     control: &ForControl,
     a: &Statement,
@@ -412,6 +700,6 @@ fn for_loop(
         return Err(Stop::Unfollowed(None));
     }
     let started = evaluated_or(scope, before.normal, &control.start)?;
-    let left = looped_for(scope, started, control, a)?;
+    let left = looped_for(scope, started, at, control, a)?;
     Ok(left)
 }

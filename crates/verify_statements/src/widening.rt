@@ -1,10 +1,9 @@
 //! Guesses of what holds at each turn of a loop. Nothing rests on them: a guess is tested before it is used.
 
-use std::alloc::Global;
-use verify_expressions::{AbsState, Stop};
+use verify_expressions::{AbsState, Scope, Stop, copied, joined};
 use verify_logic::{AbsValue, Interval};
 
-/// Where bounds move that keep growing: the bounds of the types, and 0 and 1 between them.
+/// Where bounds move that keep growing, beside the lengths of arrays: the bounds of the types, and 0 and 1 between them.
 const STEPS: [i64; 12] = [
     -2147483648,
     -32768,
@@ -30,7 +29,7 @@ fn floor(v: i64) -> i64 {
     found
 }
 
-fn ceiling(v: i64) -> i64 {
+fn type_ceiling(v: i64) -> i64 {
     for s in STEPS {
         if v <= s {
             return s;
@@ -39,14 +38,40 @@ fn ceiling(v: i64) -> i64 {
     i64::MAX
 }
 
-fn wider(old: AbsValue, new: AbsValue) -> AbsValue {
+fn closer(v: i64, step: i64, best: i64) -> i64 {
+    if v <= step && step < best { step } else { best }
+}
+
+/// The closer of a bound and the last subscripts and the lengths of arrays.
+fn length_ceiling(v: i64, lengths: &[u32], best: i64) -> i64 {
+    let mut found = best;
+    for n in lengths {
+        let n = i64::from(*n);
+        found = closer(v, n - 1, found);
+        found = closer(v, n, found);
+    }
+    found
+}
+
+fn ceiling(scope: &Scope<'_>, v: i64) -> i64 {
+    let mut found = type_ceiling(v);
+    for lengths in scope.outer {
+        found = length_ceiling(v, lengths, found);
+    }
+    for object in scope.objects {
+        found = length_ceiling(v, &object.lengths, found);
+    }
+    found
+}
+
+fn wider(scope: &Scope<'_>, old: AbsValue, new: AbsValue) -> AbsValue {
     let low = if new.interval.low < old.interval.low {
         floor(new.interval.low)
     } else {
         new.interval.low
     };
     let high = if old.interval.high < new.interval.high {
-        ceiling(new.interval.high)
+        ceiling(scope, new.interval.high)
     } else {
         new.interval.high
     };
@@ -56,11 +81,15 @@ fn wider(old: AbsValue, new: AbsValue) -> AbsValue {
     }
 }
 
-fn each_wider(alloc: Global, olds: &[AbsValue], news: &[AbsValue]) -> Result<Vec<AbsValue>, Stop> {
-    let mut out = Vec::new(alloc);
+fn each_wider(
+    scope: &Scope<'_>,
+    olds: &[AbsValue],
+    news: &[AbsValue],
+) -> Result<Vec<AbsValue>, Stop> {
+    let mut out = Vec::new(scope.alloc);
     for i in 0..news.len() {
         let k = if i < olds.len() {
-            wider(olds[i], news[i])
+            wider(scope, olds[i], news[i])
         } else {
             news[i]
         };
@@ -71,23 +100,35 @@ fn each_wider(alloc: Global, olds: &[AbsValue], news: &[AbsValue]) -> Result<Vec
     Ok(out)
 }
 
-/// The values of the second state, those bounds that differ from the first moved out to the next step, from the third turn on.
-///
-/// Errors: memory ran out.
-pub fn widened(alloc: Global, old: &AbsState, new: AbsState, turn: u32) -> Result<AbsState, Stop> {
-    if turn < 2 {
-        return Ok(new);
-    }
+fn moved(scope: &Scope<'_>, old: &AbsState, new: AbsState) -> Result<AbsState, Stop> {
     match new.objects {
         None => Ok(AbsState { objects: None }),
         Some(news) => match &old.objects {
             None => Ok(AbsState {
                 objects: Some(news),
             }),
-            Some(olds) => match each_wider(alloc, olds, &news) {
+            Some(olds) => match each_wider(scope, olds, &news) {
                 Err(stop) => Err(stop),
                 Ok(out) => Ok(AbsState { objects: Some(out) }),
             },
         },
+    }
+}
+
+/// The values of both states, those bounds that differ from the first moved out to the next step, from the third turn on.
+///
+/// Errors: memory ran out.
+pub fn widened(
+    scope: &Scope<'_>,
+    old: AbsState,
+    new: AbsState,
+    turn: u32,
+) -> Result<AbsState, Stop> {
+    let kept = copied(scope.alloc, &old)?;
+    let both = joined(scope.alloc, old, new)?;
+    if turn < 2 {
+        Ok(both)
+    } else {
+        moved(scope, &kept, both)
     }
 }

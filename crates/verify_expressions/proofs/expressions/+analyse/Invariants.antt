@@ -17,7 +17,10 @@ abbrev pub decreases-variable : goal.decreases-variable
 decreases-variable l = 2 * work_place (place_of l.a.now) + 1
 
 abbrev pub decreases-evaluate : goal.decreases-evaluate
-decreases-evaluate l = 2 * work (value_of l.e.now)
+decreases-evaluate l = 2 * work (value_of l.e.now) + 1
+
+abbrev pub decreases-by_form : goal.decreases-by_form
+decreases-by_form l = 2 * work (value_of l.e.now)
 
 abbrev pub decreases-read : goal.decreases-read
 decreases-read l = 2 * work_place (place_of l.a.now) + 3
@@ -68,7 +71,7 @@ abbrev pub decreases-called : goal.decreases-called
 decreases-called l = 2 * work_arguments (arguments_of (map argument_of l.arguments.now)) + 6
 
 abbrev pub decreases-by_value : goal.decreases-by_value
-decreases-by_value l = 2 * work (value_of l.e.now) + 1
+decreases-by_value l = 2 * work (value_of l.e.now) + 2
 
 abbrev pub decreases-both_tested : goal.decreases-both_tested
 decreases-both_tested l = 2 * (work (value_of l.a.now) + work (value_of l.b.now)) + 5
@@ -77,7 +80,10 @@ abbrev pub decreases-one_tested : goal.decreases-one_tested
 decreases-one_tested l = 2 * (work (value_of l.a.now) + work (value_of l.b.now)) + 5
 
 abbrev pub decreases-test : goal.decreases-test
-decreases-test l = 2 * work (value_of l.e.now) + 2
+decreases-test l = 2 * work (value_of l.e.now) + 4
+
+abbrev pub decreases-test_by_form : goal.decreases-test_by_form
+decreases-test_by_form l = 2 * work (value_of l.e.now) + 3
 
 abbrev pub decreases-passed-loop-a : goal.decreases-passed-loop-a
 decreases-passed-loop-a l = length l.rest

@@ -1,16 +1,19 @@
 use Rattle.std.proofs.Common.{◌+◌, ◌≤◌, map, length}
 use Rattle.typed_ast.specs.View.{statement_of, statements_of}
-use Rattle.verify_logic.specs.Statements.{Ways, Continues}
-use Rattle.verify_expressions.specs.Views.{frame_of}
+use Rattle.verify_logic.specs.Statements.{Ways, Continues, Enters}
+use Rattle.verify_expressions.specs.Views.{frame_of, state_of}
 use Rattle.verify_statements.specs.Ways.{ways_of}
 use Rattle.verify_statements.proofs.Work.{work, work_all}
 use Rattle.verify_statements.proofs.statements.+execute.Given as goal
 
 abbrev pub decreases-statement : goal.decreases-statement
-decreases-statement l = work (statement_of l.a.now)
+decreases-statement l = work (statement_of l.a.now) + 1
+
+abbrev pub decreases-by_kind : goal.decreases-by_kind
+decreases-by_kind l = work (statement_of l.a.now)
 
 abbrev pub decreases-followed : goal.decreases-followed
-decreases-followed l = work (statement_of l.a.now) + 1
+decreases-followed l = work (statement_of l.a.now) + 2
 
 abbrev pub decreases-block : goal.decreases-block
 decreases-block l = work_all (statements_of (map statement_of l.all.now)) + 2
@@ -24,32 +27,71 @@ decreases-branch l = work (statement_of l.a.now) + 2
 abbrev pub decreases-branches : goal.decreases-branches
 decreases-branches l = work (statement_of l.a.now) + work (statement_of l.b.now) + 2
 
+abbrev pub decreases-body : goal.decreases-body
+decreases-body l = work (statement_of l.a.now) + 2
+
 abbrev pub decreases-turned : goal.decreases-turned
-decreases-turned l = work (statement_of l.a.now) + 2
+decreases-turned l = work (statement_of l.turning.now.body.now) + 3
+
+abbrev pub decreases-narrowed : goal.decreases-narrowed
+decreases-narrowed l = work (statement_of l.turning.now.body.now) + 4
 
 abbrev pub decreases-guessed : goal.decreases-guessed
-decreases-guessed l = work (statement_of l.a.now) + 3
+decreases-guessed l = work (statement_of l.turning.now.body.now) + 5
+
+abbrev pub decreases-checked : goal.decreases-checked
+decreases-checked l = work (statement_of l.a.now) + 3
+
+abbrev pub decreases-looped_again : goal.decreases-looped_again
+decreases-looped_again l = work (statement_of l.a.now) + 4
+
+abbrev pub decreases-looped_anew : goal.decreases-looped_anew
+decreases-looped_anew l = work (statement_of l.a.now) + 6
 
 abbrev pub decreases-looped : goal.decreases-looped
-decreases-looped l = work (statement_of l.a.now) + 4
+decreases-looped l = work (statement_of l.a.now) + 7
 
-abbrev pub decreases-while_loop : goal.decreases-while_loop
-decreases-while_loop l = work (statement_of l.a.now) + 5
+abbrev pub decreases-checked_for : goal.decreases-checked_for
+decreases-checked_for l = work (statement_of l.a.now) + 3
 
-abbrev pub decreases-do_loop : goal.decreases-do_loop
-decreases-do_loop l = work (statement_of l.a.now) + 6
+abbrev pub decreases-looped_for_again : goal.decreases-looped_for_again
+decreases-looped_for_again l = work (statement_of l.a.now) + 4
 
-abbrev pub decreases-turned_for : goal.decreases-turned_for
-decreases-turned_for l = work (statement_of l.a.now) + 2
-
-abbrev pub decreases-guessed_for : goal.decreases-guessed_for
-decreases-guessed_for l = work (statement_of l.a.now) + 3
+abbrev pub decreases-looped_for_anew : goal.decreases-looped_for_anew
+decreases-looped_for_anew l = work (statement_of l.a.now) + 6
 
 abbrev pub decreases-looped_for : goal.decreases-looped_for
-decreases-looped_for l = work (statement_of l.a.now) + 4
+decreases-looped_for l = work (statement_of l.a.now) + 7
+
+abbrev pub decreases-while_loop : goal.decreases-while_loop
+decreases-while_loop l = work (statement_of l.a.now) + 8
+
+abbrev pub decreases-do_loop : goal.decreases-do_loop
+decreases-do_loop l = work (statement_of l.a.now) + 8
 
 abbrev pub decreases-for_loop : goal.decreases-for_loop
-decreases-for_loop l = work_all (statements_of (map statement_of l.declared.now)) + work (statement_of l.a.now) + 6
+decreases-for_loop l = work_all (statements_of (map statement_of l.declared.now)) + work (statement_of l.a.now) + 9
+
+abbrev pub decreases-labelled : goal.decreases-labelled
+decreases-labelled l = work (statement_of l.a.now) + 3
+
+abbrev pub decreases-entered : goal.decreases-entered
+decreases-entered l = work (statement_of l.a.now) + 4
+
+abbrev pub decreases-cases : goal.decreases-cases
+decreases-cases l = work_all (statements_of (map statement_of l.all.now)) + 2
+
+abbrev pub decreases-switched : goal.decreases-switched
+decreases-switched l = work_all (statements_of (map statement_of l.all.now)) + 3
+
+abbrev pub decreases-cases-loop-a : goal.decreases-cases-loop-a
+decreases-cases-loop-a l = length l.rest
+
+abbrev pub invariant-cases-loop-a : goal.invariant-cases-loop-a
+invariant-cases-loop-a l = record {
+  below : work_all (statements_of (map statement_of l.rest)) ≤ work_all (statements_of (map statement_of l.all));
+  leads : (out : Ways) → Enters (frame_of l.scope) (state_of l.entry) (ways_of l.so_far) (statements_of (map statement_of l.rest)) out → Enters (frame_of l.scope) (state_of l.entry) (ways_of l.initial.so_far) (statements_of (map statement_of l.all)) out;
+}
 
 abbrev pub decreases-statements-loop-a : goal.decreases-statements-loop-a
 decreases-statements-loop-a l = length l.rest
