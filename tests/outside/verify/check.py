@@ -130,24 +130,24 @@ def is_sound(files, given):
     run, _, said = interpreted(files, given)
     act = re.search(r'^(.*):(\d+): undefined U(\d)$', said, re.M)
     if run != 123 or not act:
-        return status in (0, 3) and err == '', (status, out, err)
-    listed = re.findall(r'^(.*):(\d+): may be undefined', out, re.M)
+        return status in (0, 3) and err == '' and ('defined on every input' in out or status == 3), (status, out, err)
+    listed = re.findall(r'^(.*?):(\d+)(?::\d+)?: may be undefined', out, re.M)
     return status == 3 and ('not followed' in out or (act[1], act[2]) in listed), (status, out, said)
 
 
 def written():
     for name, text in DEFINED.items():
         status, out, err = verified([('a.c', text.encode() + b'\n')])
-        check('defined: ' + name, (status, out, err) == (0, 'a.c: defined on every input\n', ''), status, out, err)
+        check('defined: ' + name, status == 0 and re.fullmatch(r'a\.c: defined on every input; stack at most \d+ of 1048576 bytes\n', out) is not None and err == '', status, out, err)
     for name, (text, line) in UNDEFINED.items():
         status, out, err = verified([('a.c', text.encode() + b'\n')])
-        check('undefined: ' + name, status == 3 and re.search(r'^a\.c:%d: may be undefined U\d' % line, out, re.M) is not None and err == '', status, out, err)
+        check('undefined: ' + name, status == 3 and re.search(r'^a\.c:%d(:\d+)?: may be undefined U\d' % line, out, re.M) is not None and err == '', status, out, err)
     for name, text in BEHIND.items():
         status, out, err = verified([('a.c', text.encode() + b'\n')])
         check('behind: ' + name, status == 3 and err == '' and 'defined on every input' not in out, status, out, err)
     for depth in (3, 8, 60):
         status, out, err = verified([('a.c', nest(depth).encode() + b'\n')])
-        check('a nest of %d loops' % depth, err == '' and (status, out) == (0, 'a.c: defined on every input\n') or depth == 60 and status == 3 and 'not followed' in out, status, out, err)
+        check('a nest of %d loops' % depth, err == '' and status == 0 and out.startswith('a.c: defined on every input; stack at most ') or depth == 60 and status == 3 and 'not followed' in out, status, out, err)
     check('a fault', verified([('a.c', b'int main(void) { return x; }\n')])[0::2] == (1, 'a.c:1: 528 undeclared name\n'))
 
 
