@@ -8,6 +8,7 @@ ghost use Rattle.verify_expressions.specs.Views.{frame_of, objects_or_none, shap
 ghost use Rattle.verify_expressions.specs.Parts.{CallsAt, EntersAt, Fits, Gets, Summarised};
 
 use crate::expressions::Evaluated;
+use crate::memory::{take_search, take_step};
 use crate::objects::{copied_objects, objects_entail};
 use crate::operators::is_listed;
 use crate::places::shape;
@@ -313,10 +314,23 @@ fn summarised(
     }
 }
 
+/// Tests whether the summary is of function `f` and fits, as far as there is work left.
+fn is_found(scope: &Scope<'_>, f: usize, a: &Summary, entry: &[AbsValue]) -> bool {
+    if a.function != f {
+        return false;
+    }
+    let goes_on = take_step(scope);
+    goes_on && fits(scope, f, a, entry)
+}
+
 /// A summary that fits, if there is one. It is a guess: nothing rests on it.
 fn fitting(scope: &Scope<'_>, f: usize, entry: &[AbsValue]) -> Option<usize> {
+    let goes_on = take_search(scope);
+    if !goes_on {
+        return None;
+    }
     for n in 0..scope.summaries.len() {
-        if fits(scope, f, &scope.summaries[n], entry) {
+        if is_found(scope, f, &scope.summaries[n], entry) {
             return Some(n);
         }
     }

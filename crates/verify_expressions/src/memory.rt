@@ -12,6 +12,9 @@ use std::cell::{Cell, RefCell};
 /// Of how many objects knowledge is copied for the price of one more step.
 const OBJECTS_A_STEP: usize = 16;
 
+/// How many summaries are passed over for the price of a step.
+const SUMMARIES_A_STEP: usize = 32;
+
 /// A loop that was met, by its line and the loops around it: what was known before it, and what held at each turn.
 #[derive(Drop)]
 struct MetLoop {
@@ -55,16 +58,29 @@ pub fn leave_loop(memory: &Memory) {
     memory.depth.set(memory.depth.get().saturating_sub(1));
 }
 
-/// Takes the step of a statement or a comparison, which costs more where there are many objects. Tells whether the work left is enough.
+/// Takes so many steps. Tells whether the work left is enough; if not, none is left.
+fn take(memory: &Memory, cost: u64) -> bool {
+    let left = memory.steps.get();
+    if left < cost {
+        memory.steps.set(0);
+        return false;
+    }
+    memory.steps.set(left - cost);
+    true
+}
+
+/// Takes the step of a statement, a comparison or a look at a summary, which costs more where there are many objects. Tells whether the work
+/// left is enough.
 pub fn take_step(scope: &Scope<'_>) -> bool {
     let objects = scope.outer.len().saturating_add(scope.objects.len());
     let cost = 1 + ((objects / OBJECTS_A_STEP) as u64);
-    let left = scope.memory.steps.get();
-    if left < cost {
-        return false;
-    }
-    scope.memory.steps.set(left - cost);
-    true
+    take(scope.memory, cost)
+}
+
+/// Takes the steps of a search among all summaries. Tells whether the work left is enough.
+pub fn take_search(scope: &Scope<'_>) -> bool {
+    let cost = 1 + ((scope.summaries.len() / SUMMARIES_A_STEP) as u64);
+    take(scope.memory, cost)
 }
 
 fn number_of(loops: &[MetLoop], at: Pos, depth: u32) -> Option<usize> {
