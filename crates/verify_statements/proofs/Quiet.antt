@@ -99,4 +99,4 @@ module _ (p : Program) (call : Calling) where
         tick_stays s _ (λ s2. then_stays s2 (evaluate p call a s2) _ (evaluate_stays a s2 q.0) (λ v s3. evaluate_stays b s3 q.1))
     evaluate_stays (typed.cast t x) s e = tick_stays s _ (λ s2. then_stays s2 (evaluate p call x s2) _ (evaluate_stays x s2 e) (λ v s3. same_self s3))
     evaluate_stays (typed.discarded x) s e = tick_stays s _ (λ s2. then_stays s2 (evaluate p call x s2) _ (evaluate_stays x s2 e) (λ v s3. same_self s3))
-    evaluate_stays (typed.call at callee result used arguments) s e = absurd (cc e)
+    evaluate_stays (typed.call at callee result used passed) s e = absurd (cc e)

@@ -18,7 +18,7 @@ abbrev mutual
   quiet (typed.sequence a b) = quiet a && quiet b
   quiet (typed.cast t e) = quiet e
   quiet (typed.discarded e) = quiet e
-  quiet (typed.call at callee result used arguments) = false
+  quiet (typed.call at callee result used passed) = false
 
   pub quiet_place : Place → Bool
   quiet_place (typed.named at what) = true
