@@ -1,0 +1,10 @@
+#include <rvio.h>
+
+static int seen[10];
+
+int main(void) {
+    int n = 0;
+    for (int c = rv_getbyte(); c != -1 && n < 10; c = rv_getbyte())
+        seen[n++] = c;
+    return n > 0 ? seen[0] / n : 0;
+}
