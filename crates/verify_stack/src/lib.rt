@@ -5,8 +5,6 @@ mod bounds;
 mod calls;
 mod recursions;
 mod search;
-#[cfg(test)]
-mod tests;
 mod usages;
 
 pub use bounds::{Bound, Recursion, stack_bound};

@@ -88,6 +88,57 @@ BEHIND = {
 }
 
 
+# The calls from main whose weights are the bound of the stack: by hand, of calls in each place where one may stand.
+DEEPEST = {
+    'the greatest': ('void f(void) { }\nvoid g(void) { int big[100]; big[0] = 1; }\nint main(void) { f(); g(); f(); return 0; }', ['main', 'g']),
+    'a condition': ('int f(void) { return 1; }\nint main(void) { if (f()) return 1; return 0; }', ['main', 'f']),
+    'an initialiser': ('int f(void) { return 1; }\nint main(void) { int x = f(); return x; }', ['main', 'f']),
+    'the third part of a for': ('void f(void) { }\nint main(void) { for (int i = 0; i < 1; i++, f()) ; return 0; }', ['main', 'f']),
+    'an argument of a built-in function': ('void rv_putbyte(int c);\nint f(void) { return 65; }\nint main(void) { rv_putbyte(f()); return 0; }', ['main', 'f']),
+    'a call of a call': ('int h(int n) { return n; }\nint g(int n) { return h(n); }\nint f(void) { return 2; }\nint main(void) { return f() + g(3); }', ['main', 'g', 'h']),
+    'what no run comes to': ('int f(void) { return 1; }\nint main(void) { return 0 && f(); }', ['main', 'f']),
+    'a recursion that main does not reach': ('int f(int n) { return f(n); }\nint main(void) { return 0; }', ['main']),
+}
+# How functions call one another without end.
+RECURSIONS = {
+    'itself': ('int f(int n) { return n < 1 ? 0 : f(n - 1); }\nint main(void) { return f(3); }', 'f calls itself'),
+    'each other': ('int g(int n);\nint f(int n) { return n < 1 ? 0 : g(n - 1); }\nint g(int n) { return f(n); }\nint main(void) { return f(3); }', 'f calls g, which calls f'),
+    'main': ('int main(void) { return main(); }', 'main calls itself'),
+}
+
+
+def weights(text):
+    """The weight of each function, as `zkc frames` has it."""
+    with tempfile.TemporaryDirectory() as work:
+        with open(os.path.join(work, 'a.c'), 'w') as file:
+            file.write(text)
+        lines = [line.split() for line in cc(work, 'frames', 'a.c')[1].split('\n')[1:]]
+    return {words[0]: int(words[2]) for words in lines if len(words) > 2 and words[2].isdigit()}
+
+
+def chain(count):
+    """So many functions, each of which calls the next twice."""
+    return 'int f0(void) { return 1; }\n' + ''.join('int f%d(void) { return f%d() & f%d(); }\n' % (n, n - 1, n - 1) for n in range(1, count)) + 'int main(void) { return f%d(); }' % (count - 1)
+
+
+def stacks():
+    for name, (text, way) in DEEPEST.items():
+        most = sum(weights(text + '\n')[function] for function in way)
+        for stack, wanted in ((1 << 20, 'stack at most %d of 1048576 bytes' % most), (4096, 'stack at most %d of 4096 bytes' % most)):
+            with tempfile.TemporaryDirectory() as work:
+                with open(os.path.join(work, 'a.c'), 'w') as file:
+                    file.write(text + '\n')
+                said = cc(work, 'verify', 'a.c', '--stack', str(stack))
+            check('stack: %s, of %d' % (name, stack), said[1].endswith(wanted + '\n') and said[2] == '', said)
+    for name, (text, told) in RECURSIONS.items():
+        status, out, err = verified([('a.c', text.encode() + b'\n')])
+        check('recursion: ' + name, (status, err) == (3, '') and out.split('\n')[-2].endswith('the stack may not suffice: ' + told), status, out, err)
+    text = chain(3000) + '\n'
+    status, out, err = verified([('a.c', text.encode())])
+    most = sum(weights(text).values())
+    check('a chain of 3,000 functions', err == '' and ('stack at most %d of' % most in out if most <= 1 << 20 else status == 3 and 'the stack may not suffice: %d of' % most in out), status, out[-300:], err)
+
+
 def nest(depth):
     return 'int main(void) { unsigned s = 0; %s s++; return s & 1; }' % ' '.join('for (int i%d = 0; i%d < 2; i%d++)' % (n, n, n) for n in range(depth))
 
@@ -201,6 +252,7 @@ def sound():
 
 
 written()
+stacks()
 sound()
 print('%d passed, %d failed' % (passed, failed))
 sys.exit(failed != 0)
