@@ -1,5 +1,5 @@
 #!/bin/sh
-# Compares the documents with what they speak of: the table of faults with the compiler's codes, and builds its sources;
+# Compares the documents with what they speak of: the tables of faults and of undefined acts with the compiler's codes, and their sources;
 # the commands that are shown, the language, the crates, the promises, the decisions and the definitions that have to be believed.
 #
 #   sh tests/documents.sh [CC]
@@ -53,6 +53,16 @@ done <"$work/sources"
 # the rows that are not built have their source in words
 words=$(grep -c '^[|] [0-9].*[|] [^|]*\*[^|]* [|]$' docs/FAULTS.md)
 [ $(($(wc -l <"$work/sources") + words)) -ge "$(wc -l <"$work/table")" ] && pass || fail 'docs/FAULTS.md has a row whose source is neither built nor told in words'
+
+# each undefined act, interpreted: at the last line of its source, and explained with the table's text
+awk -F ' [|] ' '/^[|] U[1-8] / && $3 ~ /^`[^`]*`$/ { sub(/^[|] /, "", $1); gsub("`", "", $3); print $1 "|" $2 "|" $3 }' docs/FAULTS.md >"$work/acts"
+while IFS='|' read -r act text source; do
+    printf '%s\n' "$source" >"$work/main.c"
+    said=$(cd "$work" && "$cc" interp main.c 2>&1 </dev/null)
+    told=$(cd "$work" && "$cc" explain interp main.c 2>&1 </dev/null | sed -n '1s/^[^ ]* //p')
+    case "$said|$told" in "main.c:1: undefined $act|$act undefined: $text '"*) pass ;; *) fail "$source: '$said', '$told', not $act" ;; esac
+done <"$work/acts"
+[ "$(wc -l <"$work/acts")" -eq 8 ] && pass || fail 'docs/FAULTS.md has not each undefined act'
 
 # --------------------------------------------------------------- the others
 script python3 tests/transcripts.py "$cc" README.md docs/TOUR.md docs/EXPLAIN.md docs/WARNINGS.md docs/INSPECT.md docs/USE.md docs/design/lowering.md docs/FIRMWARE.md docs/VERIFY.md

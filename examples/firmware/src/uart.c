@@ -5,8 +5,11 @@ void say(int letter) {
     rv_putbyte(letter);
 }
 
+/* Says a number from 0 to 9999, without zeros before it. */
 void say_number(int n) {
-    if (n >= 10)
-        say_number(n / 10);
-    say('0' + n % 10);
+    for (int unit = 1000; unit > 0; unit /= 10) {
+        int digit = n / unit % 10;
+        if (n >= unit || unit == 1)
+            say('0' + digit);
+    }
 }

@@ -285,12 +285,25 @@ def in_c(counted, cc, runs, out, work):
 def documented(counted, out):
     """The lines of docs/LIBRARY.md."""
     with open(os.path.join(ROOT, 'docs', 'LIBRARY.md'), encoding='utf-8') as file:
-        found = re.findall(r'```python\n(.*?)```', file.read(), re.S)
+        page = file.read()
+    found = re.findall(r'```python\n(.*?)```', page, re.S)
     counted.holds('docs/LIBRARY.md has lines of Python', len(found) == 1, len(found))
     env = {**os.environ, 'PYTHONPATH': os.path.join(ROOT, 'bindings', 'python'), 'LD_LIBRARY_PATH': out}
     for text in found:
         done = subprocess.run([sys.executable, '-c', text], env=env, capture_output=True, timeout=60)
         counted.holds('the lines of docs/LIBRARY.md', (done.returncode, done.stderr) == (0, b'') and b' 7 ' in done.stdout, done)
+    found = re.findall(r'```c\n(.*?)```', page, re.S)
+    counted.holds('docs/LIBRARY.md has lines of C', len(found) == 1, len(found))
+    if not shutil.which('gcc'):
+        return counted.leave_out('the lines of C: no gcc')
+    with tempfile.TemporaryDirectory() as work:
+        with open(os.path.join(work, 'first.c'), 'w', encoding='utf-8') as target:
+            target.write(''.join(found))
+        program, said = library.c_program(out, work, os.path.join(work, 'first.c'), 'first')
+        counted.holds('the lines of C are compiled', program, said)
+        if program:
+            done = subprocess.run([program], capture_output=True, timeout=60)
+            counted.holds('the lines of C', (done.returncode, done.stderr) == (0, b'') and done.stdout.startswith(b'status 0, a file of '), done)
 
 
 def main():
