@@ -1,5 +1,7 @@
 //! The verdict on a set of files.
 
+ghost use Rattle.std.specs.Prelude.{◌≡◌, []};
+
 use crate::placing::{by_lines, by_tokens, have_same_lines};
 use crate::stack::{Stack, stack_of};
 use crate::telling::{tell_acts, tell_defined, tell_not_followed};
@@ -115,7 +117,9 @@ fn laid_alarms(
     files: &Files<'_>,
     names: &mut Names,
     asked: &Asked<'_>,
-) -> Result<Vec<Alarm>, AllocError> {
+) -> Result<Vec<Alarm>, AllocError>
+    requires { names.old ≡ [] }
+{
     if !files.is_laid {
         return Ok(Vec::new(alloc));
     }

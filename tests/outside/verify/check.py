@@ -244,7 +244,7 @@ class Made:
 
 
 def sound():
-    kept = sources.all_of_them()
+    kept = list(sources.all_of_them())
     made = [('made %d' % seed, [('m.c', Made(seed).text().encode())], bytes(random.Random(seed).randbytes(40))) for seed in range(SOME)]
     with concurrent.futures.ThreadPoolExecutor(os.cpu_count()) as pool:
         for (name, _, _), (holds, seen) in zip(kept + made, pool.map(lambda one: is_sound(one[1], one[2]), kept + made)):
