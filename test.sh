@@ -18,7 +18,7 @@ jobs=${JOBS:-$(getconf _NPROCESSORS_ONLN 2>/dev/null || echo 1)}
 usage='usage: sh test.sh [-k WORD].. [--quick] [--junit FILE] [CC]
        sh test.sh --list'
 # Those that take seconds.
-quick=' conditions macros variadic stack tables version shown rows_calls rows_answers rows_machine rows_flat rows_tac rows_stream const mistakes warnings wanted faults cli meaning sets commands harness names '
+quick=' conditions macros variadic stack tables version shown test_calls test_code const mistakes warnings wanted faults cli meaning sets commands harness names '
 newline='
 '
 words=
@@ -94,15 +94,11 @@ meaning      | python3                                  | cases tests/outside/me
 sets         | python3                                  | cases tests/outside/pp/sets.py "$cc"
 commands     | python3                                  | cases tests/outside/cc/check.py "$cc"
 people       | python3                                  | cases tests/outside/cc/people.py "$cc"
-flat         | python3 crates/test_flat/out/test_flat   | python3 tests/outside/flat/check.py crates/test_flat/out/test_flat
-tac          | python3 crates/test_tac/out/test_tac     | python3 tests/outside/tac/check.py crates/test_tac/out/test_tac
-streamed     | python3 crates/test_stream/out/test_stream | python3 tests/outside/pp/streamed.py crates/test_stream/out/test_stream
-test_calls   | python3                                  | python3 tests/outside/front/calls.py --check
-test_answers | python3                                  | python3 tests/outside/meaning/answers.py --check
-test_machine | python3                                  | python3 tests/outside/machine/rows.py --check
-test_flat    | python3                                  | python3 tests/outside/flat/rows.py --check
-test_tac     | python3                                  | python3 tests/outside/tac/rows.py --check
-test_stream  | python3                                  | python3 tests/outside/pp/stream.py --check
+flat         | python3 crates/test_code/out/test_code   | python3 tests/outside/flat/check.py crates/test_code/out/test_code
+tac          | python3 crates/test_code/out/test_code   | python3 tests/outside/tac/check.py crates/test_code/out/test_code
+streamed     | python3 crates/test_calls/out/test_calls | python3 tests/outside/pp/streamed.py crates/test_calls/out/test_calls
+test_calls   | python3                                  | python3 tests/outside/rows.py test_calls --check
+test_code    | python3                                  | python3 tests/outside/rows.py test_code --check
 growths      | python3 gcc                              | python3 tests/outside/refused/growths.py "$cc"
 bytes        | python3 gcc                              | cases tests/outside/refused/bytes.py "$cc"
 signals      | python3                                  | cases tests/outside/refused/signals.py "$cc"

@@ -2,15 +2,15 @@
 # Measures the kernels of flat.txt, which select and the assembler translate, beside the same in C by gcc -O0 and -Os: executed
 # instructions and bytes of text, and how many flat instructions a second select and assemble take.
 #
-#   bash bench/flat.sh [FLAT_ROWS [CC]]
+#   bash bench/flat.sh [CODE [CC]]
 #
-# Called from the repository's root; crates/test_flat/out/test_flat and release/cc by default. A gcc program's instructions are the least
+# Called from the repository's root; crates/test_code/out/test_code and release/cc by default. A gcc program's instructions are the least
 # budget that is enough for `cc run`, its status is that under qemu-riscv32, and the flat program's has to be the same.
 set -u
 LC_ALL=C
 export LC_ALL
 root=$(pwd)
-rows=$(realpath "${1:-crates/test_flat/out/test_flat}")
+rows=$(realpath "${1:-crates/test_code/out/test_code}")
 cc=$(realpath "${2:-release/cc}")
 work=$(mktemp -d) || exit 1
 trap 'rm -rf "$work"' EXIT
@@ -44,13 +44,14 @@ for kernel in 1 2 3 4 5 6; do
     done
     sed -i "s/^ends @$kernel\$/ends $last/" flat.txt
 done
-"$rows" flat.txt >told || exit 1
-grep -v ' instructions of at most ' told >ended
-awk '$1 == "program" { name = $2 } $1 == "ends" { print name ": ends " $2 }' flat.txt | diff - ended
+for subject in flat flat_took; do
+    python3 "$root/tests/outside/flat/rows.py" $subject <flat.txt | "$rows" >$subject || exit 1
+done
+awk '$1 == "program" { name = $2 } $1 == "ends" { print name ": ends " $2 }' flat.txt | diff - flat
 printf '%-10s %28s %28s\n' '' 'instructions' 'bytes'
 printf '%-10s %9s %9s %9s %9s %8s %8s\n' kernel flat -O0 -Os flat -O0 -Os
 kernel=0
-grep ' instructions of at most ' told | tr -d ',:' | while read -r name instructions _ _ _ _ _ bytes _; do
+grep ' instructions of at most ' flat_took | tr -d ',:' | while read -r name instructions _ _ _ _ _ bytes _; do
     kernel=$((kernel + 1))
     printf '%-10s %9s %9s %9s %9s %8s %8s\n' "$name" "$instructions" "$(count $kernel-0)" "$(count $kernel-s)" "$bytes" \
         "$(riscv64-unknown-elf-size $kernel-0 | awk 'NR == 2 { print $1 }')" "$(riscv64-unknown-elf-size $kernel-s | awk 'NR == 2 { print $1 }')"
@@ -85,7 +86,8 @@ mix() {
 
 # least TIMES: the least nanoseconds of processor time, of eight runs, to make the text of mix.txt so many times.
 least() {
-    python3 - "$rows" "$1" <<'PY'
+    python3 "$root/tests/outside/flat/rows.py" flat_times "$1" <mix.txt >mix-row
+    python3 - "$rows" <<'PY'
 import resource, subprocess, sys
 def spent():
     usage = resource.getrusage(resource.RUSAGE_CHILDREN)
@@ -93,17 +95,18 @@ def spent():
 best = 1e9
 for _ in range(8):
     before = spent()
-    subprocess.run([sys.argv[1], 'mix.txt', '--times', sys.argv[2]], stdout=subprocess.DEVNULL, check=True)
+    with open('mix-row') as row:
+        subprocess.run([sys.argv[1]], stdin=row, stdout=subprocess.DEVNULL, check=True)
     best = min(best, spent() - before)
 print(int(best * 1e9))
 PY
 }
 
 echo
-for files in "$root/bench/flat.txt" "$root/crates/test_flat/data/random.txt"; do
+for files in "$root/bench/flat.txt" "$root/tests/outside/flat/random.txt"; do
     mix 200000 "$files" >mix.txt
     once=$(least 1)
     often=$(least 31)
-    count=$("$rows" mix.txt --times 1 | awk '{ print $1 }')
+    count=$("$rows" <mix-row | awk '{ print $1 }')
     echo "$(basename "$files") $count $once $often" | awk '{ printf "%-10s %6.2f million flat instructions a second, select and assemble (%d, thirty times, in %.3f s)\n", $1, $2 * 3e4 / ($4 - $3), $2, ($4 - $3) / 1e9 }'
 done

@@ -14,7 +14,7 @@ PAGE = 'docs/HACKING.md'
 # of each recipe: the names of what is there already, and the crates that have another thing of that name
 RECIPES = {
     'statement': (r'DoWhile|do_while|\bDo\b', ()),
-    'operator': (r'\b(?:Rem|Percent)\b', ('rv32', 'asm', 'loader', 'sim', 'test_machine')),
+    'operator': (r'\b(?:Rem|Percent)\b', ('rv32', 'asm', 'loader', 'sim')),
     'fault': (r'\bLabelTwice\b|\b540\b', ()),
     'built-in': (r'[gG]et_?[bB]yte|\bGotEnd\b|[gG]et_?[fF]ollows|\bPort for\b|(==|≡) 63\b|\beqb \w+ 63\b|\b63 if\b|li +t1, 63\b|\btrait Port\b', ('phases', 'lexer')),
     'instruction': (r'MulHighSignedUnsigned|mulhsu', ()),

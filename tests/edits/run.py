@@ -37,7 +37,8 @@ def library(crate):
 def words(crate, all_of_them):
     """What `rattle check` is given of a crate."""
     own = tried.below(crate, all_of_them)
-    given = ['--crate-name', crate, 'src/lib.rt']
+    roots = [root for root in ('src/main.rt', 'src/lib.rt') if os.path.isfile(os.path.join(tried.ROOT, 'crates', crate, root))]
+    given = ['--crate-name', crate, *roots]
     for name in ['std'] + [it for it in all_of_them[crate] if it not in all_of_them]:
         given += ['--extern', f'{name}={KIT}/rlibs/{name}.rlib']
     given += ['-L', f'dependency={KIT}/rlibs']

@@ -14,9 +14,9 @@ from .cases import Case, Current, Row, classes_of, main, needs, number_of, parts
 from .compare import short
 from .made import made
 from .program import Done, Program, in_folder
-from .rows import blocks, bytes_of, code_and_line, fields, lines
+from .rows import blocks, bytes_of, code_and_line, field_of, fields, lines, row_of
 from .seeds import seeded
 from .verdict import Verdict, side_by_side
 
-__all__ = ['Case', 'Current', 'Done', 'Program', 'Row', 'Verdict', 'blocks', 'bytes_of', 'classes_of', 'code_and_line', 'fields', 'in_folder', 'lines', 'made', 'main', 'needs', 'number_of', 'parts',
+__all__ = ['Case', 'Current', 'Done', 'Program', 'Row', 'Verdict', 'blocks', 'bytes_of', 'classes_of', 'code_and_line', 'field_of', 'fields', 'in_folder', 'lines', 'made', 'main', 'needs', 'number_of', 'parts', 'row_of',
            'seeded', 'short', 'side_by_side']

@@ -9,6 +9,17 @@ def bytes_of(field):
     return re.sub(rb'\\x([0-9a-f]{2})|\\[\\nt]', lambda m: bytes([int(m.group(1), 16)]) if m.group(1) else PLAIN[m.group()], field)
 
 
+def field_of(data):
+    """The field of these bytes, as `bytes_of` reads it."""
+    plain = {92: b'\\\\', 10: b'\\n', 9: b'\\t'}
+    return b''.join(plain.get(byte) or (bytes([byte]) if 0x20 <= byte <= 0x7e else b'\\x%02x' % byte) for byte in data)
+
+
+def row_of(*parts):
+    """A row for a program of rows: its subject and its fields, texts or bytes."""
+    return b'\t'.join(field_of(part if isinstance(part, bytes) else str(part).encode()) for part in parts)
+
+
 def fields(path):
     """The rows of a file of fields with tabs between them, after its first line."""
     with open(path, 'rb') as file:

@@ -1,87 +1,62 @@
 //! The types and values of constant expressions.
 
-use crate::scanned::{file_names, write_fault};
+use crate::arithmetic::int_type;
+use crate::scanned::{file_names, show_line};
 use crate::tokens::read;
-use anyhow::Result;
 use const_expr::value;
-use ctypes::IntType;
 use parser::parse;
 use srcset::{Fault, Names};
 use std::alloc::Global;
+use test_rows::{Answer, Fields, Words};
 use tree::{Declaration, Expr, External, Specifier, Unit};
 use typed_ast::{DeclaredType, ObjectType, Storage};
 use typing_scopes::{Linkage, Meaning, Scope, State};
 
-fn enter(
-    alloc: Global,
-    names: &mut Names,
-    scope: &mut Scope,
-    name: &[u8],
-    meaning: Meaning,
-) -> std::result::Result<(), Fault> {
-    let name = names.intern(name)?;
-    match scope.with_name(name, meaning, Linkage::External, State::Tentative) {
-        Ok(()) => Ok(()),
-        Err(refusal) => Err(refusal.to_fault(alloc, names)),
-    }
-}
-
-/// An object. To a constant expression its storage is nothing.
-fn object(alloc: Global, element: IntType, sizes: &[u32]) -> Result<Meaning> {
+/// An object of a type's letter and the lengths behind it. To a constant expression its storage is nothing.
+fn object(alloc: Global, words: &mut Words<'_>, answer: &mut Answer) -> Meaning {
+    let letter = words.word();
     let mut lengths = Vec::new(alloc);
-    lengths.extend_from_slice(sizes)?;
+    for _ in 0..8 {
+        if words.is_over() {
+            break;
+        }
+        if lengths
+            .push(u32::try_from(words.number()).unwrap_or(0))
+            .is_err()
+        {
+            answer.fail();
+        }
+    }
     let object_type = ObjectType {
-        element,
+        element: int_type(*letter.first().unwrap_or(&0)),
         constant: false,
         lengths,
     };
-    Ok(Meaning::Object(Storage::Static(0), DeclaredType::Complete(object_type)))
+    Meaning::Object(Storage::Static(0), DeclaredType::Complete(object_type))
 }
 
-/// A scope with no name.
-fn file_scope(alloc: Global, names: &Names) -> std::result::Result<Scope, Fault> {
-    match Scope::file(alloc, Vec::new(alloc)) {
-        Ok(scope) => Ok(scope),
-        Err(refusal) => Err(refusal.to_fault(alloc, names)),
-    }
-}
-
-/// The names of the rows: `enum t { A = 3, B, C = -2, D = 'z', F = -1, G, H }; char c; char z[3]; short s[3]; unsigned long
-/// m[2][5]; _Bool b;`.
-fn scope(alloc: Global, names: &mut Names) -> Result<Scope> {
-    let mut scope = file_scope(alloc, names)?;
-    let enumerators: [(&[u8], i64); 7] = [
-        (b"A", 3),
-        (b"B", 4),
-        (b"C", -2),
-        (b"D", 122),
-        (b"F", -1),
-        (b"G", 0),
-        (b"H", 1),
-    ];
-    for (name, number) in enumerators {
-        enter(alloc, names, &mut scope, name, Meaning::Enumerator(number))?;
-    }
-    let objects: [(&[u8], IntType, &[u32]); 5] = [
-        (b"c", IntType::Char, &[]),
-        (b"z", IntType::Char, &[3]),
-        (b"s", IntType::Short, &[3]),
-        (b"m", IntType::ULong, &[2, 5]),
-        (b"b", IntType::Bool, &[]),
-    ];
-    for (name, element, sizes) in objects {
-        enter(
-            alloc,
-            names,
-            &mut scope,
+/// Enters `NAME value NUMBER`, `NAME tag` or `NAME object LETTER LENGTH ..`.
+fn enter(names: &mut Names, scope: &mut Scope, field: &[u8], answer: &mut Answer) {
+    let mut words = Words::new(field, b' ');
+    let Ok(name) = names.intern(words.word()) else {
+        answer.fail();
+        return;
+    };
+    let entered = match words.word() {
+        [b'v', ..] => scope.with_name(
             name,
-            object(alloc, element, sizes)?,
-        )?;
-    }
-    let tag = names.intern(b"t")?;
-    match scope.with_tag(tag, true) {
-        Ok(()) => Ok(scope),
-        Err(refusal) => Err(refusal.to_fault(alloc, names))?,
+            Meaning::Enumerator(words.number()),
+            Linkage::External,
+            State::Tentative,
+        ),
+        [b't', ..] => scope.with_tag(name, true),
+        _ => {
+            let meaning = object(answer.alloc(), &mut words, answer);
+            scope.with_name(name, meaning, Linkage::External, State::Tentative)
+        }
+    };
+    if entered.is_err() {
+        answer.fail();
     }
 }
 
@@ -96,21 +71,41 @@ fn first_expression(unit: &Unit) -> Option<&Expr> {
     list.first()?.value.as_ref()
 }
 
-/// The type and the value of the expression in `enum { e = EXPRESSION };`, or the line of the fault.
-pub fn write_constant(alloc: Global, output: &mut Vec<u8>, source: &[u8]) -> Result<()> {
-    let mut names = file_names(alloc)?;
-    let scope = scope(alloc, &mut names)?;
-    let tokens = read(alloc, source, &mut names)?;
-    let unit = parse(alloc, tokens.as_slice(), &names)?;
-    let Some(expression) = first_expression(&unit) else {
-        return Ok(());
+/// The tree of a source.
+fn unit_of(alloc: Global, source: &[u8], names: &mut Names) -> Result<Unit, Fault> {
+    match read(alloc, source, names) {
+        Ok(tokens) => parse(alloc, tokens.as_slice(), names),
+        Err(fault) => Err(fault),
+    }
+}
+
+fn show_value(unit: &Unit, scope: &Scope, names: &Names, answer: &mut Answer) {
+    let Some(expression) = first_expression(unit) else {
+        return;
     };
-    match value(alloc, expression, &scope, &names) {
+    match value(answer.alloc(), expression, scope, names) {
         Ok((of, value)) => {
-            let text = format!(in alloc; "{of:?} {value}")?;
-            output.extend_from_slice(text.as_bytes())?;
-            Ok(())
+            answer.debug(&of);
+            answer.write(b" ");
+            answer.show(&value);
         }
-        Err(fault) => write_fault(alloc, output, &fault),
+        Err(fault) => show_line(&fault, answer),
+    }
+}
+
+/// `constant SOURCE NAME NAME ..`: the type and the value of the expression in `enum { e = EXPRESSION };`, where these names are declared.
+pub fn constant(row: &Fields, answer: &mut Answer) {
+    let alloc = answer.alloc();
+    let mut names = file_names(alloc);
+    let Ok(mut scope) = Scope::file(alloc, Vec::new(alloc)) else {
+        answer.fail();
+        return;
+    };
+    for at in 2..row.count() {
+        enter(&mut names, &mut scope, row.field(at), answer);
+    }
+    match unit_of(alloc, row.field(1), &mut names) {
+        Ok(unit) => show_value(&unit, &scope, &names, answer),
+        Err(fault) => show_line(&fault, answer),
     }
 }

@@ -1,53 +1,128 @@
-//! Prints what calls of the front answer for the rows of its input, a line each, and then what the scanner answers for
-//! all texts of two bytes.
+//! Prints what calls of libraries answer for the rows of its input, a line each.
 #![tactic(auto)]
 
 mod arithmetic;
+mod assembly;
 mod constants;
-mod row;
+mod declarations;
+mod expressions;
+mod faults;
+mod files;
+mod items;
+mod memory;
+mod narrow;
+mod piece;
+mod ports;
+mod pulling;
+mod runs;
+mod same;
 mod scanned;
+mod sets;
+mod statements;
+mod streams;
 mod tokens;
+mod trees;
 mod twos;
+mod words;
 
-use anyhow::Result;
-use row::{bytes_of, field};
-use std::alloc::Global;
 use std::io::{Read, Write};
 use std::process::ExitCode;
+use test_rows::{Answer, Fields, Subjects, answer_rows};
+
+/// The subjects of calls.
+struct Calls;
+
+impl Subjects for Calls {
+    fn answer(row: &Fields, answer: &mut Answer) {
+        let is_known = of_sources(row, answer)
+            || of_numbers(row, answer)
+            || of_items(row, answer)
+            || of_machine(row, answer);
+        if !is_known {
+            answer.write(b"no such subject");
+        }
+    }
+}
 
 fn main(rt: HostRuntime) -> ExitCode {
-    match print_rows(&rt) {
+    let mut input = Vec::new(rt.alloc());
+    if rt.stdin().read_to_end(&mut input).is_err() {
+        return ExitCode::FAILURE;
+    }
+    let mut answer = Answer::new(rt.alloc());
+    answer_rows::<Calls>(input.as_slice(), &mut answer);
+    let Some(text) = answer.text() else {
+        return ExitCode::FAILURE;
+    };
+    match rt.stdout().write_all(text) {
         Ok(()) => ExitCode::SUCCESS,
         Err(_) => ExitCode::FAILURE,
     }
 }
 
-fn print_rows(rt: &HostRuntime) -> Result<()> {
-    let mut input = Vec::new(rt.alloc());
-    rt.stdin().read_to_end(&mut input)?;
-    let mut output = Vec::new(rt.alloc());
-    for line in input.split(|byte| *byte == b'\n') {
-        if !line.is_empty() {
-            write_row(rt.alloc(), &mut output, line)?;
-            output.push(b'\n')?;
-        }
+/// Sets, names and faults, and what texts are read as.
+fn of_sources(row: &Fields, answer: &mut Answer) -> bool {
+    match row.text(0) {
+        "file" => sets::file(row, answer),
+        "refused" => sets::refused(row, answer),
+        "header" => sets::header(row, answer),
+        "names" => sets::numbers(row, answer),
+        "many" => sets::many(row, answer),
+        "message" => faults::message_of(row, answer),
+        "messages" => faults::messages(answer),
+        "fault" => faults::fault_line(row, answer),
+        "refusal" => faults::refusal_line(row, answer),
+        "out_of_memory" => faults::out_of_memory(answer),
+        "write" => faults::write(row, answer),
+        _ => return false,
     }
-    twos::write_all(rt.alloc(), &mut output)?;
-    rt.stdout().write_all(output.as_slice())?;
-    Ok(())
+    true
 }
 
-/// Writes what is answered for a row: its first field says what is called, the others are what it is called with.
-fn write_row(alloc: Global, output: &mut Vec<u8>, row: &[u8]) -> Result<()> {
-    let text = bytes_of(alloc, field(row, 1))?;
-    match field(row, 0) {
-        b"text" => scanned::write_text(alloc, output, text.as_slice()),
-        b"lines" => scanned::write_lines(alloc, output, text.as_slice()),
-        b"tokens" => tokens::write_tokens(alloc, output, text.as_slice()),
-        b"constant" => constants::write_constant(alloc, output, text.as_slice()),
-        b"operation" => arithmetic::write_operation(alloc, output, row),
-        b"conversion" => arithmetic::write_conversion(alloc, output, row),
-        b"type" => arithmetic::write_type(alloc, output, row),
-        _ => arithmetic::write_pair(alloc, output, row),
+/// Tokens, trees, and numbers.
+fn of_numbers(row: &Fields, answer: &mut Answer) -> bool {
+    match row.text(0) {
+        "text" => scanned::text(row, answer),
+        "lines" => scanned::lines(row, answer),
+        "twos" => twos::twos(row, answer),
+        "tokens" => tokens::tokens_of(row, answer),
+        "stream" => streams::stream(row, answer),
+        "tree" => trees::tree_of(row, answer),
+        "counts" => trees::counts_of(row, answer),
+        "constant" => constants::constant(row, answer),
+        "operation" => arithmetic::operation(row, answer),
+        "conversion" => arithmetic::conversion(row, answer),
+        "type" => arithmetic::type_of(row, answer),
+        "pair" => arithmetic::pair(row, answer),
+        _ => return false,
     }
+    true
+}
+
+/// Instructions and items.
+fn of_items(row: &Fields, answer: &mut Answer) -> bool {
+    match row.text(0) {
+        "word" => assembly::word(row, answer),
+        "code" => assembly::code(row, answer),
+        "size" => assembly::size(row, answer),
+        "jump" => assembly::jump(row, answer),
+        "listing" => assembly::listing(row, answer),
+        "sound" => assembly::sound(row, answer),
+        "low" => assembly::low(row, answer),
+        _ => return false,
+    }
+    true
+}
+
+/// Memory and runs.
+fn of_machine(row: &Fields, answer: &mut Answer) -> bool {
+    match row.text(0) {
+        "memory" => memory::calls_of_text(row, answer),
+        "image" => memory::calls_of_image(row, answer),
+        "run" => runs::run(row, answer),
+        "port" => ports::run(row, answer),
+        "silent" => ports::run_silent(row, answer),
+        _ => return false,
+    }
+    true
 }

@@ -1,82 +1,70 @@
-//! All texts of two bytes, and each with a newline behind it.
+//! Texts of two bytes and what stands behind them.
 
-use crate::row::write_field;
-use crate::scanned::{file_names, write_fault};
-use anyhow::Result;
+use crate::scanned::{file_names, show_line};
 use phases::{PpToken, scan};
 use srcset::Names;
-use std::alloc::Global;
+use test_rows::{Answer, Fields};
 
-/// A token, with its spelling as the first (`a`), the second (`b`) or both (`ab`) of the text's bytes, if it is that.
-fn write_token(
-    alloc: Global,
-    output: &mut Vec<u8>,
-    text: &[u8],
-    token: &PpToken<'_>,
-) -> Result<()> {
-    let kind = token.kind();
-    let line = token.pos().line;
-    let space = token.space_before();
-    let spelling = token.spelling();
+/// Writes the spelling of a token as the first (`a`), the second (`b`) or both (`ab`) of the text's bytes, if it is that.
+fn show_spelling(text: &[u8], spelling: &[u8], answer: &mut Answer) {
     if Some(spelling) == text.get(0..2) {
-        output.extend_from_slice(b"ab")?;
+        answer.write(b"ab");
     } else if Some(spelling) == text.get(0..1) {
-        output.push(b'a')?;
+        answer.write(b"a");
     } else if Some(spelling) == text.get(1..2) {
-        output.push(b'b')?;
+        answer.write(b"b");
     } else {
-        write_field(output, spelling)?;
+        answer.field(spelling);
     }
-    let text = format!(in alloc; ":{kind:?}:{line}:{space} ")?;
-    output.extend_from_slice(text.as_bytes())?;
-    Ok(())
+}
+
+fn show_token(text: &[u8], token: &PpToken<'_>, answer: &mut Answer) {
+    show_spelling(text, token.spelling(), answer);
+    answer.write(b":");
+    answer.debug(&token.kind());
+    answer.write(b":");
+    answer.show(&token.pos().line);
+    answer.write(b":");
+    answer.show(&token.space_before());
+    answer.write(b" ");
 }
 
 /// The lines of a text's tokens, or the line of its fault.
-fn shape(alloc: Global, names: &Names, text: &[u8]) -> Result<Vec<u8>> {
-    let mut output = Vec::new(alloc);
+fn shape(names: &Names, text: &[u8], answer: &mut Answer) {
     if text.len() > 8 {
-        return Ok(output);
+        return;
     }
-    match scan(alloc, text, 0, names) {
+    match scan(answer.alloc(), text, 0, names) {
         Ok(lines) => {
             for index in 0..lines.len() {
                 for token in lines.get(index).unwrap_or(&[]) {
-                    write_token(alloc, &mut output, text, token)?;
+                    show_token(text, token, answer);
                 }
-                output.push(b'|')?;
+                answer.write(b"|");
             }
         }
-        Err(fault) => write_fault(alloc, &mut output, &fault)?,
+        Err(fault) => show_line(&fault, answer),
     }
-    Ok(output)
 }
 
-/// Writes what texts come to that begin with a byte: second bytes that follow one another and whose texts come to the same
-/// have one line.
-fn write_first(alloc: Global, output: &mut Vec<u8>, first: u8, behind: &[u8]) -> Result<()> {
-    let names = file_names(alloc)?;
-    let mut before = Vec::new(alloc);
+/// `twos FIRST BEHIND`: what texts come to that begin with a byte. Second bytes that follow one another and whose texts come to the same
+/// are told once.
+pub fn twos(row: &Fields, answer: &mut Answer) {
+    let names = file_names(answer.alloc());
+    let mut before = Answer::new(answer.alloc());
     for second in 0..=255_u8 {
-        let mut text = Vec::new(alloc);
-        text.extend_from_slice(&[first, second])?;
-        text.extend_from_slice(behind)?;
-        let found = shape(alloc, &names, text.as_slice())?;
-        if found.as_slice() != before.as_slice() {
-            write_field(output, text.as_slice())?;
-            output.push(b' ')?;
-            output.extend_from_slice(found.as_slice())?;
-            output.push(b'\n')?;
+        let mut text = Answer::new(answer.alloc());
+        text.write(&[row.letter(1), second]);
+        text.write(row.field(2));
+        let text = text.text().unwrap_or(b"");
+        let mut found = Answer::new(answer.alloc());
+        shape(&names, text, &mut found);
+        if found.text() != before.text() {
+            answer.field(text);
+            answer.write(b" ");
+            answer.write(found.text().unwrap_or(b""));
+            answer.write(b"\t");
         }
         before = found;
     }
-    Ok(())
-}
-
-pub fn write_all(alloc: Global, output: &mut Vec<u8>) -> Result<()> {
-    for first in 0..=255_u8 {
-        write_first(alloc, output, first, b"")?;
-        write_first(alloc, output, first, b"\n")?;
-    }
-    Ok(())
 }

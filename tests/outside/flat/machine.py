@@ -1,4 +1,4 @@
-"""Programs on the machine, by test_flat or test_tac, and their files under qemu-riscv32."""
+"""Programs on the machine, by test_code, and their files under qemu-riscv32."""
 import os
 import shutil
 import subprocess
@@ -16,14 +16,27 @@ def written(script, *words):
     return subprocess.run([sys.executable, script, *words], capture_output=True, text=True, check=True).stdout.splitlines(True)
 
 
-def told(program, text, folder):
-    """What the program prints of each program of a file, by name; it says beside what each took."""
-    path = os.path.join(folder, 'programs')
-    with open(path, 'w', encoding='ascii') as file:
-        file.write(text)
-    done = subprocess.run([program, path, folder], capture_output=True, text=True, check=False)
-    lines = [line.partition(': ') for line in done.stdout.splitlines()]
-    return {name: said for name, _, said in lines if 'instructions of at most' not in said}
+def answers(program, rows):
+    """The lines that the program prints of rows."""
+    done = subprocess.run([program], input=b''.join(row + b'\n' for row in rows), capture_output=True, check=False)
+    return done.stdout.decode('ascii').splitlines()
+
+
+def told(program, rows):
+    """What the program prints of each row, by the name of the row's program."""
+    lines = [line.partition(': ') for line in answers(program, rows)]
+    return {name: said for name, _, said in lines}
+
+
+def write_files(program, rows, names, folder):
+    """Writes the file of each row to the folder, under its name."""
+    for name, digits in zip(names, answers(program, rows)):
+        try:
+            data = bytes.fromhex(digits)
+        except ValueError:
+            continue
+        with open(os.path.join(folder, name), 'wb') as file:
+            file.write(data)
 
 
 def under_qemu(program, folder, row):
@@ -35,13 +48,14 @@ def under_qemu(program, folder, row):
     return program.run(path, given=row.data, by=[QEMU])[:2]
 
 
-def try_rows(counted, program, rows, given, ends):
-    """Tries rows: `given` is what the program reads of one, and `ends` what it prints."""
+def try_rows(counted, program, subject, rows, script):
+    """Tries rows of a subject: the script gives what the program reads of one, and says what it prints."""
     emulated = harness.Program(program)
     with tempfile.TemporaryDirectory() as folder:
-        said = told(program, ''.join(given(row) for row in rows), folder)
+        said = told(program, [script.given(subject, row) for row in rows])
         for row in rows:
-            counted.expect(row.name, said.get(row.name), ends(row))
+            counted.expect(row.name, said.get(row.name), script.said(row))
+        write_files(program, [script.given(subject + '_file', row) for row in rows], [row.name for row in rows], folder)
         if not QEMU:
             counted.skip(len(rows), 'qemu-riscv32 is missing')
             return

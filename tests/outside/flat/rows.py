@@ -1,6 +1,6 @@
 #!/usr/bin/env python3
-"""Writes the programs of crates/test_flat and what it must print, from programs.txt and random.txt: `python3 rows.py [--check]`. With --check it
-compares them with what stands there, and the last line counts.
+"""The rows of flat programs of crates/test_code, from programs.txt and random.txt; `../rows.py` writes them. As a script it reads programs and
+writes a row of each: `python3 rows.py SUBJECT [TIMES] <PROGRAMS`, where the subject is `flat_took`, or `flat_times` with a number of times.
 
 A program's line `ends STATUS EVENTS` is what it comes to. Its costs, the most instructions of the machine that the table of
 `frames_code` has for the steps that it takes, are counted by the interpreter of generate.py, which has to end with the same.
@@ -9,13 +9,21 @@ import os
 import sys
 
 HERE = os.path.dirname(os.path.abspath(__file__))
-CRATE = os.path.join(HERE, '..', '..', '..', 'crates/test_flat')
-sys.path.insert(0, os.path.dirname(os.path.dirname(HERE)))
+sys.path[:0] = [os.path.dirname(os.path.dirname(HERE)), HERE]
 import harness
 
 import generate
 
-COUNTS = {'programs.txt': 69, 'random.txt': 100}
+# what the crate takes for the names of instructions: letters, and the places in these lists
+LETTERS = {'nothing': 'n', 'put': 'p', 'get': 'g', 'exit': 'x', 'return': 'r', 'jump': 'j', 'call': 'c', 'branch': 'b', 'load': 'l', 'store': 's', 'address': 'a',
+           'element': 'e', 'move': 'm'}
+WIDTHS = ['byte', 'signed_byte', 'half', 'signed_half', 'word']
+TESTS = ['equal', 'not_equal', 'less', 'greater_equal', 'less_unsigned', 'greater_equal_unsigned']
+CONVERSIONS = ['to_byte', 'to_signed_byte', 'to_half', 'to_signed_half', 'to_truth']
+OPERATIONS = ['equal', 'not_equal', 'add', 'sub', 'shift_left', 'less', 'less_unsigned', 'xor', 'shift_right', 'shift_right_arithmetic', 'or', 'and', 'mul', 'mul_high',
+              'mul_high_signed_unsigned', 'mul_high_unsigned', 'div', 'div_unsigned', 'rem', 'rem_unsigned']
+# the most instructions of a program whose costs are not told
+ENOUGH = 100000000
 # frames_code/specs/Costs: the most instructions of each; a call's beginning; the program's beginning, with the entry of main, and its end
 ENTRY = 42
 AROUND = 4 + ENTRY + 2
@@ -24,15 +32,27 @@ COSTS = {'nothing': 0, 'move': 6, 'load': 7, 'store': 7, 'address': 6, 'element'
 MOST = 1000000
 
 
+def encoded(words):
+    """An instruction as the crate takes it."""
+    name, *rest = words
+    if name in CONVERSIONS:
+        return ' '.join(['v', str(CONVERSIONS.index(name)), *rest])
+    if name in OPERATIONS:
+        return ' '.join(['o', str(OPERATIONS.index(name)), *rest])
+    places = {'branch': TESTS, 'load': WIDTHS, 'store': WIDTHS}
+    if name in places:
+        rest[0] = str(places[name].index(rest[0]))
+    return ' '.join([LETTERS[name], *rest])
+
+
 class Row:
     """A program: its lines, what it is run on, and what it comes to."""
 
     def __init__(self, name):
-        self.name, self.lines, self.functions = name, ['program ' + name], []
+        self.name, self.lines, self.functions = name, [], []
         self.data, self.statics, self.main, self.status, self.trace = b'', b'', 0, None, []
 
     def take(self, line):
-        self.lines.append(line)
         words = line.split()
         if words[0] == 'input':
             self.data = bytes.fromhex(words[1])
@@ -42,14 +62,17 @@ class Row:
             for word in words[1:]:
                 text, _, times = word.partition('*')
                 self.statics += bytes.fromhex(text) * int(times or 1)
+                self.lines.append(f'd {text} {times or 1}')
         elif words[0] == 'function':
             self.functions.append(generate.Function(*[int(word) for word in words[1:]]))
+            self.lines.append(' '.join(['f', *words[1:]]))
         else:
             if words[0].endswith(':'):
                 assert int(words[0][:-1]) == len(self.functions[-1].code), line
                 words = words[1:]
             times = int(words.pop(0)[:-1]) if words[0].endswith('*') else 1
             self.functions[-1].code += [' '.join(words)] * times
+            self.lines.append((f'* {times} ' if times > 1 else '') + encoded(words))
 
     def end(self, words):
         self.status, self.trace = int(words[0]), joined(words[1:])
@@ -101,8 +124,13 @@ def ends(status, trace):
     return ' '.join(['ends', str(status), *trace])
 
 
-def given(row):
-    """The lines of a program for test_flat, with its costs and without what it comes to."""
+def row_of(subject, row, costs):
+    """A row of the crate for a program."""
+    return harness.row_of(subject, row.name, row.data, costs, 0, row.main, *row.lines)
+
+
+def costs_of(row):
+    """The most instructions that it may take, by the interpreter, which has to end as the row says."""
     run = Run(row.functions, row.statics, row.main, row.data)
     try:
         found = ends(run.run(MOST), joined(run.trace))
@@ -111,20 +139,34 @@ def given(row):
     wanted = ends(row.status, row.trace)
     if found != wanted:
         raise AssertionError(f'{row.name}: {found} by generate.py, not {wanted}')
-    return '\n'.join(row.lines + [f'costs {run.spent}', 'ends']) + '\n'
+    return run.spent
 
 
-def made():
-    """The files of the crate."""
-    files, wanted = {}, ''
-    for name, count in COUNTS.items():
-        rows = of_file(os.path.join(HERE, name))
-        assert len(rows) == count, (name, len(rows))
-        files['data/' + name] = ''.join(given(row) for row in rows)
-        wanted += ''.join(f'{row.name}: {ends(row.status, row.trace)}\n' for row in rows)
-    files['stdout'] = wanted
-    return files
+def given(subject, row):
+    return row_of(subject, row, costs_of(row))
+
+
+def said(row):
+    return ends(row.status, row.trace)
+
+
+def flat(name):
+    def rows():
+        for row in of_file(os.path.join(HERE, name)):
+            yield given('flat', row), f'{row.name}: {said(row)}'
+    rows.__name__ = name
+    return rows
+
+
+# so many rows there are of each
+KINDS = [(flat('programs.txt'), 69), (flat('random.txt'), 100)]
+
+
+def main():
+    subject, *times = sys.argv[1:]
+    for row in read(sys.stdin):
+        sys.stdout.buffer.write(row_of(subject, row, times[0] if times else ENOUGH) + b'\n')
 
 
 if __name__ == '__main__':
-    sys.exit(harness.made(CRATE, made()))
+    main()

@@ -1,6 +1,5 @@
 #!/usr/bin/env python3
-"""Writes the input of crates/test_calls and what it must print, from the rows here and of tests/outside/const: `python3 calls.py [--check]`.
-With --check it compares them with what stands there, and the last line counts.
+"""The rows of crates/test_calls that are made of the rows here and of tests/outside/const; `../rows.py` writes them.
 
 What is wanted is what the rows say; of each text's tokens the kinds, places and white space are those of plain.py, whose
 spellings have to be the rows'. The texts of faults are those of docs/FAULTS.md.
@@ -11,21 +10,28 @@ import sys
 
 HERE = os.path.dirname(os.path.abspath(__file__))
 ROOT = os.path.join(HERE, '..', '..', '..')
-CRATE = os.path.join(ROOT, 'crates/test_calls')
-sys.path[:0] = [os.path.dirname(os.path.dirname(HERE)), os.path.join(HERE, '..', 'const')]
+sys.path[:0] = [os.path.dirname(os.path.dirname(HERE)), os.path.join(HERE, '..', 'const'), HERE]
 import harness
 import plain
+from harness import field_of as field
 
 TYPES = {'_Bool': 'Bool', 'char': 'Char', 'signed char': 'SChar', 'unsigned char': 'UChar', 'short': 'Short', 'unsigned short': 'UShort', 'int': 'Int',
          'unsigned int': 'UInt', 'long': 'Long', 'unsigned long': 'ULong'}
+# the letters by which the crate takes types and operators
+LETTERS = {b'Bool': b'b', b'Char': b'c', b'SChar': b'a', b'UChar': b'h', b'Short': b's', b'UShort': b't', b'Int': b'i', b'UInt': b'j', b'Long': b'l', b'ULong': b'm'}
+SIGNS = {b'Mul': b'*', b'Div': b'/', b'Rem': b'%', b'Add': b'+', b'Sub': b'-', b'Shl': b'L', b'Shr': b'R', b'Less': b'<', b'Greater': b'>', b'LessEqual': b'l',
+         b'GreaterEqual': b'g', b'Equal': b'=', b'NotEqual': b'!', b'BitAnd': b'&', b'BitXor': b'^', b'BitOr': b'|'}
 
-# the names of heads that differ from the common one, as crates/test_calls has them
-OWN = {'char s[3];\n': {'s': 'z'}, 'enum { A = -1, B, C };\n': {'A': 'F', 'B': 'G', 'C': 'H'}, 'enum t { A };\n': {'A': 'G'}, 'enum t { A = -1 };\n': {'A': 'F'}}
-
-
-def field(text):
-    plain_bytes = {92: b'\\\\', 10: b'\\n', 9: b'\\t'}
-    return b''.join(plain_bytes.get(byte) or (bytes([byte]) if 0x20 <= byte <= 0x7e else b'\\x%02x' % byte) for byte in text)
+# what heads of constant expressions declare, as the crate takes it
+HEADS = {
+    '': [],
+    "enum t { A = 3, B, C = -2, D = 'z' }; char c; short s[3]; unsigned long m[2][5]; _Bool b;\n":
+        ['A value 3', 'B value 4', 'C value -2', 'D value 122', 't tag', 'c object c', 's object s 3', 'm object m 2 5', 'b object b'],
+    'char s[3];\n': ['s object c 3'],
+    'enum { A = -1, B, C };\n': ['A value -1', 'B value 0', 'C value 1'],
+    'enum t { A };\n': ['A value 0', 't tag'],
+    'enum t { A = -1 };\n': ['A value -1', 't tag'],
+}
 
 
 def messages():
@@ -84,29 +90,25 @@ def tokens():
 def arithmetic():
     for name in ('operations', 'worked_operations'):
         for row in rows(name):
-            yield b'\t'.join([b'operation', *row[:5]]), b' '.join(row[5:])
+            yield b'\t'.join([b'operation', LETTERS[row[0]], row[1], SIGNS[row[2]], LETTERS[row[3]], row[4]]), b' '.join(row[5:])
     for row in rows('conversions'):
-        yield b'\t'.join([b'conversion', *row[:2]]), b'%s %s' % (row[2], b'true' if row[1] == row[2] else b'false')
+        yield b'\t'.join([b'conversion', LETTERS[row[0]], row[1]]), b'%s %s' % (row[2], b'true' if row[1] == row[2] else b'false')
     for row in rows('types'):
-        yield b'type\t' + row[0], b' '.join([*row[1:5], b'true' if row[5] == b'signed' else b'false'])
+        yield b'type\t' + LETTERS[row[0]], b' '.join([*row[1:5], b'true' if row[5] == b'signed' else b'false'])
     for left, right, alike, greater, common in rows('pairs_of_types'):
         told = [alike == b'compatible', greater == b'second', greater == b'first']
-        yield b'\t'.join([b'pair', left, right]), b' '.join([b'true' if it else b'false' for it in told] + [common])
+        yield b'\t'.join([b'pair', LETTERS[left], LETTERS[right]]), b' '.join([b'true' if it else b'false' for it in told] + [common])
 
 
 def constants():
-    """The constant expressions with a value. A name of a row's own head is called as the one of the crate's scope that means the same."""
+    """The constant expressions with a value, and what their heads declare."""
     import check as const_rows
-    head = "enum t { A = 3, B, C = -2, D = 'z' }; char c; short s[3]; unsigned long m[2][5]; _Bool b;\n"
     for source, wanted in const_rows.rows():
         if wanted.startswith('main.c:'):
             continue
-        before, text = re.fullmatch(r'(.*?)enum \{ e = (.*) \};\n', source, re.S).groups()
-        own = OWN.get(before, {})
-        assert own or before in ('', head), before
-        text = re.sub(r'\b[A-Cs]\b', lambda m: own.get(m.group(), m.group()), text)
+        head, text = re.fullmatch(r'(.*?)(enum \{ e = .* \};\n)', source, re.S).groups()
         of, value = wanted.rsplit(' ', 1)
-        yield b'constant\t' + field(f'enum {{ e = {text} }};\n'.encode()), f'{TYPES[of]} {value}'.encode()
+        yield harness.row_of('constant', text, *HEADS[head]), f'{TYPES[of]} {value}'.encode()
 
 
 def shape(text):
@@ -124,31 +126,18 @@ def shape(text):
 
 
 def twos():
-    """Texts of two bytes: a line where what they come to is another than before."""
+    """Texts of two bytes: of each first byte what they come to, where that is another than for the second byte before."""
     for first in range(256):
         for behind in (b'', b'\n'):
-            before = b''
+            before, wanted = b'', b''
             for second in range(256):
                 text = bytes([first, second]) + behind
                 found = shape(text)
                 if found != before:
-                    yield field(text) + b' ' + found
+                    wanted += field(text) + b' ' + found + b'\t'
                 before = found
+            yield harness.row_of('twos', bytes([first]), behind), wanted
 
 
-def main():
-    # so many rows there are of each
-    kinds = [(texts, 162), (tokens, 946), (arithmetic, 313), (constants, 224)]
-    given, wanted = [], []
-    for kind, count in kinds:
-        made = list(kind())
-        assert len(made) == count, (kind.__name__, len(made))
-        given += [row for row, _ in made]
-        wanted += [line for _, line in made]
-    wanted += list(twos())
-    files = {'stdin': b'\n'.join(given) + b'\n', 'stdout': b'\n'.join(wanted) + b'\n'}
-    return harness.made(CRATE, files)
-
-
-if __name__ == '__main__':
-    sys.exit(main())
+# so many rows there are of each
+KINDS = [(texts, 162), (tokens, 946), (arithmetic, 313), (constants, 224), (twos, 512)]

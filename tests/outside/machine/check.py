@@ -1,6 +1,6 @@
 #!/usr/bin/env python3
 """check.py CC: runs the sample file with the bytes of files.txt changed, and cut to each length of cuts.txt: the code of the fault, if it does not
-load. The last line counts. What else stands here are rows of crates/test_machine (rows.py)."""
+load. The last line counts. What else stands here are rows of crates/test_calls (rows.py)."""
 import os
 import re
 import sys

@@ -1,17 +1,19 @@
 #!/usr/bin/env python3
-"""Writes the input of crates/test_machine and what it must print, from the rows here: `python3 rows.py [--check]`. With --check it compares them
-with what stands there, and the last line counts. The first lines of each file say what its rows are and where what they want comes from."""
+"""The rows of crates/test_calls that are made of the rows here; `../rows.py` writes them. The first lines of each file say what its rows are and
+where what they want comes from."""
 import os
 import re
 import struct
 import sys
 
 HERE = os.path.dirname(os.path.abspath(__file__))
-CRATE = os.path.join(HERE, '..', '..', '..', 'crates/test_machine')
 sys.path.insert(0, os.path.dirname(os.path.dirname(HERE)))
 import harness
 
 NOTHING = 0x13
+# the letters by which the crate takes calls
+CALLS = {'step': 's', 'pc': 'p', 'advance': 'a', 'jump': 'j', 'read': 'r', 'write': 'w', 'fetch': 'f', 'load_word': 'W', 'load_half': 'H', 'load_byte': 'B',
+         'can_write': 'c', 'store_word': 'o', 'store_half': 'h', 'store_byte': 'b'}
 FAULTS = {'801': 'Memory', '802': 'Read', '803': 'Write'}
 
 
@@ -146,9 +148,15 @@ def answer(call, told):
     return 'None' if told == 'none' else 'Some(%d)' % int(told, 16)
 
 
+def letters(call):
+    """A call as the crate takes it."""
+    name, *rest = call.split(' ')
+    return ' '.join([CALLS[name], *rest])
+
+
 def calls(script):
     pairs = [line.split('=') for line in script.split(';')]
-    return ';'.join(call for call, _ in pairs), ''.join(answer(call, told) + ';' for call, told in pairs)
+    return ';'.join(letters(call) for call, _ in pairs), ''.join(answer(call, told) + ';' for call, told in pairs)
 
 
 def memory_rows():
@@ -219,18 +227,14 @@ def port_rows():
         yield f'silent|{echo}|{" ".join(steps for steps, _ in parts)}', ''.join(f'{outcome(text)} {failures};' for text, failures in told)
 
 
-def main():
-    # so many rows there are of each
-    kinds = [(word_rows, 454), (item_rows, 80), (memory_rows, 3), (run_rows, 10), (call_rows, 10), (port_rows, 4)]
-    given, wanted = [], []
-    for kind, count in kinds:
-        made = list(kind())
-        assert len(made) == count, (kind.__name__, len(made))
-        given += [row + '\n' for row, _ in made]
-        wanted += [line + '\n' for _, line in made]
-    files = {'stdin': ''.join(given), 'stdout': ''.join(wanted)}
-    return harness.made(CRATE, files)
+def called(kind):
+    """The rows of a kind, with tabs between their fields, and what is wanted."""
+    def rows():
+        for row, wanted in kind():
+            yield harness.row_of(*row.split('|')), wanted.encode()
+    rows.__name__ = kind.__name__
+    return rows
 
 
-if __name__ == '__main__':
-    sys.exit(main())
+# so many rows there are of each
+KINDS = [(called(kind), count) for kind, count in [(word_rows, 454), (item_rows, 80), (memory_rows, 3), (run_rows, 10), (call_rows, 10), (port_rows, 4)]]

@@ -1,15 +1,11 @@
 #!/usr/bin/env python3
-"""Writes the programs of crates/test_answers and what it must print, from programs.txt: `python3 answers.py [--check]`. With --check it compares
-them with what stands there, and the last line counts."""
+"""The rows of crates/test_code that interpret the programs of programs.txt; `../rows.py` writes them."""
 import os
 import sys
 
 HERE = os.path.dirname(os.path.abspath(__file__))
-CRATE = os.path.join(HERE, '..', '..', '..', 'crates/test_answers')
-sys.path.insert(0, os.path.dirname(os.path.dirname(HERE)))
+sys.path[:0] = [os.path.dirname(os.path.dirname(HERE)), HERE]
 import harness
-
-ROWS = 121
 
 
 def rows():
@@ -36,15 +32,14 @@ def ending(run):
     return f'Ended({parts[0]})' if kind == 'ended' else 'TicksUsed'
 
 
-def main():
-    given, wanted = [], []
+def bytes_in(text):
+    return b'' if text == '-' else bytes(int(word) for word in text.split())
+
+
+def interpreted():
     for (ticks, data, run, output, left, greatest), source in rows():
-        given.append(ticks + numbers(data) + '\n' + source)
-        wanted.append(f'{ending(run)}, greatest {greatest}, put{numbers(output)}, left{numbers(left)}\n')
-    assert len(given) == ROWS
-    files = {'data/programs.txt': '@\n'.join(given), 'stdout': ''.join(wanted)}
-    return harness.made(CRATE, files)
+        yield harness.row_of('interpreted', ticks, bytes_in(data), source), f'{ending(run)}, greatest {greatest}, put{numbers(output)}, left{numbers(left)}'
 
 
-if __name__ == '__main__':
-    sys.exit(main())
+# so many rows there are
+KINDS = [(interpreted, 121)]

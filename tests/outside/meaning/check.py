@@ -1,6 +1,6 @@
 #!/usr/bin/env python3
 """check.py CC: interprets the programs of programs.txt with their ticks, and with one tick less, with which each is stopped, having written
-a beginning of its output. The last line counts. (The input left and the greatest sum of weights are told by crates/test_answers.)"""
+a beginning of its output. The last line counts. (The input left and the greatest sum of weights are told by crates/test_code.)"""
 import os
 import sys
 

@@ -1,6 +1,5 @@
 #!/usr/bin/env python3
-"""Writes the input of crates/test_stream and what it must print: `python3 stream.py [--check]`. With --check it compares them with what stands
-there, and the last line counts.
+"""The rows of streams of crates/test_calls, which `../rows.py` writes.
 
 The sources are those of this folder and of tests/outside/front that are one file, and those of BY_HAND. What is wanted is what their rows say:
 the fault and its line, or the tokens, which are counted. What C tokens become of them is counted here by ISO/IEC 9899:2011 6.4 and the codes of
@@ -13,8 +12,7 @@ import sys
 
 HERE = os.path.dirname(os.path.abspath(__file__))
 FRONT = os.path.join(HERE, '..', 'front')
-CRATE = os.path.join(HERE, '..', '..', '..', 'crates/test_stream')
-sys.path[:0] = [os.path.dirname(os.path.dirname(HERE)), FRONT]
+sys.path[:0] = [os.path.dirname(os.path.dirname(HERE)), HERE, FRONT]
 import harness
 import model
 import plain
@@ -256,14 +254,15 @@ def rows():
     return found, left_out
 
 
-def main():
-    found, left_out = rows()
-    files = {'stdin': '@\n'.join(source for source, _ in found), 'stdout': ''.join(wanted + '\n' for _, wanted in found)}
-    if sys.argv[1:] != ['--check']:
-        for name, count in COUNTS.items():
-            print(f'{name}: {count}, {left_out[name]} left out')
-    return harness.made(CRATE, files)
+def row(source):
+    """The row of a source."""
+    return harness.row_of('stream', source.encode('latin-1'))
 
 
-if __name__ == '__main__':
-    sys.exit(main())
+def streams():
+    for source, wanted in rows()[0]:
+        yield row(source), wanted.encode()
+
+
+# so many rows there are
+KINDS = [(streams, sum(COUNTS.values()))]

@@ -1,10 +1,10 @@
 #!/usr/bin/env python3
 """Mutated sources, from a fixed seed: phase 4 and the C tokens come to the same, whole and as streams.
 
-    python3 tests/outside/pp/streamed.py ROWS_STREAM [COUNT [SEED]]
+    python3 tests/outside/pp/streamed.py CALLS [COUNT [SEED]]
 
 COUNT sources (3,000) are made of those of this folder and of examples: lines are left out, doubled and swapped, tokens put in and moved between
-sources, bytes changed. ROWS_STREAM (crates/test_stream, as the gate builds it) has to end with status 0, and to say of each that both were the
+sources, bytes changed. CALLS (crates/test_calls, as the gate builds it) has to end with status 0, and to say of each that both were the
 same. The last line is 'N passed, M failed'."""
 import glob
 import os
@@ -86,16 +86,15 @@ def limits():
 
 def answers(program, batch):
     """What the program says of each source, or once what is wrong with its run."""
-    # the first row is empty, since a source begins behind a separator
-    given = ''.join('@\n' + source for source in batch).encode('latin-1')
+    given = b''.join(stream.row(source) + b'\n' for source in batch)
     try:
         done = subprocess.run([program], input=given, capture_output=True, timeout=300, check=False, preexec_fn=limits)
     except subprocess.TimeoutExpired:
         return ['no end'] * len(batch)
     lines = done.stdout.decode('latin-1').splitlines()
-    if done.returncode or done.stderr or len(lines) != len(batch) + 1:
+    if done.returncode or done.stderr or len(lines) != len(batch):
         return [f'status {done.returncode}, {len(lines)} lines, {done.stderr[:80]!r}'] * len(batch)
-    return lines[1:]
+    return lines
 
 
 def main():

@@ -1,5 +1,5 @@
 #!/usr/bin/env python3
-"""check.py ROWS_TAC [COUNT [SEED]]: the three-address programs by hand and so many random ones, on the machine by test_tac, and their files under
+"""check.py CODE [COUNT [SEED]]: the three-address programs by hand and so many random ones, on the machine by test_code, and their files under
 qemu-riscv32; those by hand on the interpreter here as well. The last line counts all."""
 import os
 import re
@@ -21,7 +21,7 @@ def main():
     print('\n'.join(told.splitlines()[:-1]))
     counted.passed, counted.failed = int(counts.group(1)), int(counts.group(2))
     for some in (rows.of_file(by_hand), list(rows.read(machine.written(os.path.join(HERE, 'generate.py'), count, seed)))):
-        machine.try_rows(counted, program, some, rows.given, lambda row: row.said)
+        machine.try_rows(counted, program, 'tac', some, rows)
     return counted.end()
 
 

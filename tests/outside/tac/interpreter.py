@@ -3,7 +3,7 @@
 say they come to.
 
 It is written from tac/specs/Run.antt and tac/specs/Costs.antt, with ISO/IEC 9899:2011 6.5 for what operations are, and has no part of the
-compiler. The form of a program is told in crates/test_tac/README.md.
+compiler. The form of a program is told in README.md.
 """
 import os
 import sys
