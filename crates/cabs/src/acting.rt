@@ -13,6 +13,7 @@ ghost use Rattle.interp_store.specs.layer.Views.{found_of, passed_of, step_of};
 ghost use Rattle.cabs.specs.Interpreting.{Blames, Counts};
 ghost use Rattle.cabs.specs.inside.Standing.{ActMeets, BlamesUntil, CountsUntil, IsLeft, Nears, NearsFrom, Stands, StoppedBy, StoppingBy, Whole};
 
+use crate::observing::Observer;
 use crate::outcome::Run;
 use crate::state::Interpreter;
 use interp_store::frames::{Found, Passed, Step};
@@ -46,9 +47,10 @@ pub fn finish<P: Port>(interpreter: &mut Interpreter<'_>, port: &mut P, stop: St
 /// What is found goes to the innermost frame.
 ///
 /// Errors: how the run stops. Where nothing waits its ticks go by: the run of a program never comes there.
-fn act_found<'p, P: Port>(
+fn act_found<'p, P: Port, O: Observer>(
     interpreter: &mut Interpreter<'p>,
     port: &mut P,
+    observer: &mut O,
     found: Found,
 ) -> Result<Step<'p>, Run>
     ensures meets { (p : typed.Program) (whole : Whole) (o : Option (List ℕ)) (sent : List ℕ) →
@@ -61,8 +63,12 @@ fn act_found<'p, P: Port>(
         return Err(Run::TicksUsed);
     };
     interpreter.count_end(&frame, &found);
+    observer.finds(&frame, &found, &interpreter.machine.scene);
     match leave(&mut interpreter.machine, frame, found) {
-        Ok(step) => Ok(step),
+        Ok(step) => {
+            observer.has_done(&interpreter.machine.scene);
+            Ok(step)
+        }
         Err(stop) => Err(finish(interpreter, port, stop)),
     }
 }
@@ -70,7 +76,11 @@ fn act_found<'p, P: Port>(
 /// The next byte of the input, or -1 at its end.
 ///
 /// Errors: the port refused; no byte may wait.
-fn get<'p, P: Port>(interpreter: &mut Interpreter<'p>, port: &mut P) -> Result<Step<'p>, Run>
+fn get<'p, P: Port, O: Observer>(
+    interpreter: &mut Interpreter<'p>,
+    port: &mut P,
+    observer: &mut O,
+) -> Result<Step<'p>, Run>
     ensures meets { (p : typed.Program) (whole : Whole) (o : Option (List ℕ)) (sent : List ℕ) (at : Pos) (used : Bool) (passed : List meaning.Passed) →
         Stands p whole o sent interpreter.old (on.calls at typed.get_byte used passed) (P.seen port.old) → ActMeets p whole o sent result interpreter.new (P.seen port.new) }
     ensures found { IfOk result (λ x. IsLeft x) }
@@ -82,8 +92,14 @@ fn get<'p, P: Port>(interpreter: &mut Interpreter<'p>, port: &mut P) -> Result<S
         return Err(Run::Memory);
     }
     match port.get() {
-        Ok(Some(byte)) => Ok(Step::Leaves(Found::Value(i64::from(byte)))),
-        Ok(None) => Ok(Step::Leaves(Found::Value(-1))),
+        Ok(Some(byte)) => {
+            observer.gets(Some(byte));
+            Ok(Step::Leaves(Found::Value(i64::from(byte))))
+        }
+        Ok(None) => {
+            observer.gets(None);
+            Ok(Step::Leaves(Found::Value(-1)))
+        }
         Err(fault) => Err(Run::Port(fault)),
     }
 }
@@ -91,7 +107,11 @@ fn get<'p, P: Port>(interpreter: &mut Interpreter<'p>, port: &mut P) -> Result<S
 /// A byte is to be put.
 ///
 /// Errors: no other byte may wait.
-fn put<'p>(interpreter: &mut Interpreter<'p>, byte: u8) -> Result<Step<'p>, Run>
+fn put<'p, O: Observer>(
+    interpreter: &mut Interpreter<'p>,
+    observer: &mut O,
+    byte: u8,
+) -> Result<Step<'p>, Run>
     ensures meets { (p : typed.Program) (whole : Whole) (o : Option (List ℕ)) (sent : List ℕ) (at : Pos) (used : Bool) (passed : List meaning.Passed) (port : PortView) →
         byte ≡ modulo 8 (meaning.first_number passed) →
         Stands p whole o sent interpreter.old (on.calls at typed.put_byte used passed) port → ActMeets p whole o sent result interpreter.new port }
@@ -103,17 +123,31 @@ fn put<'p>(interpreter: &mut Interpreter<'p>, byte: u8) -> Result<Step<'p>, Run>
         Some(_) => Err(Run::Memory),
         None => {
             interpreter.kept = Some(byte);
+            observer.puts(byte);
             Ok(Step::Leaves(Found::Value(0)))
         }
+    }
+}
+
+/// Tells that a function of the program was entered.
+fn tell_call<O: Observer>(
+    interpreter: &Interpreter<'_>,
+    observer: &mut O,
+    callee: Callee,
+    passed: &[Passed],
+) {
+    if let Callee::Function(f) = callee {
+        observer.enters(f, passed, &interpreter.machine.scene);
     }
 }
 
 /// A call whose arguments are done.
 ///
 /// Errors: how the run stops.
-fn act_call<'p, P: Port>(
+fn act_call<'p, P: Port, O: Observer>(
     interpreter: &mut Interpreter<'p>,
     port: &mut P,
+    observer: &mut O,
     at: Pos,
     callee: Callee,
     used: bool,
@@ -131,9 +165,12 @@ fn act_call<'p, P: Port>(
         Err(_) => return Err(Run::Memory),
     }
     match call(&mut interpreter.machine, at, callee, used, passed) {
-        Ok(Called::Step(step)) => Ok(step),
-        Ok(Called::Gets) => get(interpreter, port),
-        Ok(Called::Puts(byte)) => put(interpreter, byte),
+        Ok(Called::Step(step)) => {
+            tell_call(interpreter, observer, callee, passed);
+            Ok(step)
+        }
+        Ok(Called::Gets) => get(interpreter, port, observer),
+        Ok(Called::Puts(byte)) => put(interpreter, observer, byte),
         Err(stop) => Err(finish(interpreter, port, stop)),
     }
 }
@@ -141,9 +178,10 @@ fn act_call<'p, P: Port>(
 /// One step, which takes no tick: a node stays.
 ///
 /// Errors: how the run stops.
-pub fn act<'p, P: Port>(
+pub fn act<'p, P: Port, O: Observer>(
     interpreter: &mut Interpreter<'p>,
     port: &mut P,
+    observer: &mut O,
     next: Step<'p>,
 ) -> Result<Step<'p>, Run>
     ensures meets { (p : typed.Program) (whole : Whole) (o : Option (List ℕ)) (sent : List ℕ) →
@@ -154,9 +192,17 @@ pub fn act<'p, P: Port>(
 {
     match next {
         Step::Enters(node) => Ok(Step::Enters(node)),
-        Step::Leaves(found) => act_found(interpreter, port, found),
+        Step::Leaves(found) => act_found(interpreter, port, observer, found),
         Step::Calls(at, callee, used, passed) => {
-            act_call(interpreter, port, at, callee, used, passed.as_slice())
+            act_call(
+                interpreter,
+                port,
+                observer,
+                at,
+                callee,
+                used,
+                passed.as_slice(),
+            )
         }
     }
 }

@@ -3,11 +3,13 @@
 
 mod acting;
 mod first_objects;
+mod observing;
 mod outcome;
 mod quick_parts;
 mod resting;
 mod running;
 mod state;
 
+pub use observing::{Observer, Unobserved};
 pub use outcome::{Interpreted, Run};
-pub use running::interpret;
+pub use running::{interpret, observe};

@@ -1,14 +1,17 @@
 //! Ticks, and the run.
 
-ghost use Rattle.std.specs.Prelude.{◌≡◌, ◌<◌, [], ℕ, List, Option, Some};
+ghost use Rattle.std.specs.Bool.{OnTrue};
+ghost use Rattle.std.specs.Prelude.{◌≡◌, ◌<◌, [], ℕ, List, Option, Some, true};
 ghost use Rattle.typing_spec.specs.Program as typed;
 ghost use Rattle.typed_ast.specs.View.{program_of};
 ghost use Rattle.interp_store.specs.layer.Frames as on;
 ghost use Rattle.interp_store.specs.layer.Views.{node_of, step_of};
+ghost use Rattle.interp_eval.specs.layer.Quick.{quick_node};
 ghost use Rattle.cabs.specs.Interpreting.{Blames, Counts, RunMeets};
 ghost use Rattle.cabs.specs.inside.Standing.{BlamesUntil, CountsUntil, Fresh, MeetsAt, RunStops, Runs, SettleMeets, Spends, Stands, Whole};
 
 use crate::acting::{act, finish};
+use crate::observing::{Observer, Unobserved};
 use crate::outcome::{Interpreted, Run};
 use crate::quick_parts::at_once;
 use crate::resting::{PERIOD, rest_at, rest_before};
@@ -44,9 +47,10 @@ fn reach<'p, P: Port>(
 /// The node that takes the next tick, behind steps that take none.
 ///
 /// Errors: how the run stops before.
-fn settle<'p, P: Port>(
+fn settle<'p, P: Port, O: Observer>(
     interpreter: &mut Interpreter<'p>,
     port: &mut P,
+    observer: &mut O,
     first: Step<'p>,
 ) -> Result<Node<'p>, Run>
     ensures meets { (p : typed.Program) (whole : Whole) (o : Option (List ℕ)) (sent : List ℕ) →
@@ -59,19 +63,28 @@ fn settle<'p, P: Port>(
         if let Step::Enters(node) = next {
             return reach(interpreter, port, node);
         }
-        match act(interpreter, port, next) {
+        match act(interpreter, port, observer, next) {
             Ok(then) => next = then,
             Err(run) => return Err(run),
         }
     }
 }
 
+/// Whether a node is done as a whole: it calls nothing, and nobody is told of its ticks.
+#[inline(always)]
+fn is_whole<O: Observer>(observer: &O, node: &Node<'_>) -> bool
+    ensures { OnTrue result (quick_node (node_of node.now) ≡ true) }
+{
+    !observer.wants_ticks() && is_quick_node(node)
+}
+
 /// What takes the next tick: as a whole where it calls nothing, else one tick and the step behind it.
 ///
 /// Errors: how the run stops.
-fn tick<'p, P: Port>(
+fn tick<'p, P: Port, O: Observer>(
     interpreter: &mut Interpreter<'p>,
     port: &mut P,
+    observer: &mut O,
     next: Step<'p>,
     spent: &mut u64,
     limit: u64,
@@ -83,15 +96,16 @@ fn tick<'p, P: Port>(
     ensures counts { CountsUntil result (P.seen port.old).failures (P.seen port.new).failures }
     ensures fault { BlamesUntil (P.refused_with port.new) result }
 {
-    let node = match settle(interpreter, port, next) {
+    let node = match settle(interpreter, port, observer, next) {
         Ok(node) => node,
         Err(run) => return Err(run),
     };
-    if is_quick_node(&node) {
+    if is_whole(observer, &node) {
         rest_before(port, &node);
         return at_once(interpreter, &node, spent, limit);
     }
     *spent += 1;
+    observer.begins(&node, &interpreter.machine.scene);
     match enter(&mut interpreter.machine, node) {
         Ok(then) => Ok(then),
         Err(stop) => Err(finish(interpreter, port, stop)),
@@ -99,9 +113,10 @@ fn tick<'p, P: Port>(
 }
 
 /// At most so many ticks.
-fn run_on<'p, P: Port>(
+fn run_on<'p, P: Port, O: Observer>(
     interpreter: &mut Interpreter<'p>,
     port: &mut P,
+    observer: &mut O,
     first: Step<'p>,
     ticks: u64,
 ) -> Run
@@ -115,19 +130,24 @@ fn run_on<'p, P: Port>(
     let mut due = PERIOD;
     while spent < ticks {
         due = rest_at(port, spent, due);
-        match tick(interpreter, port, next, &mut spent, ticks) {
+        match tick(interpreter, port, observer, next, &mut spent, ticks) {
             Ok(then) => next = then,
             Err(run) => return run,
         }
     }
-    match settle(interpreter, port, next) {
+    match settle(interpreter, port, observer, next) {
         Ok(_) => Run::TicksUsed,
         Err(run) => run,
     }
 }
 
 /// The run from the call of `main` on (5.1.2.2.1).
-fn start<P: Port>(interpreter: &mut Interpreter<'_>, port: &mut P, ticks: u64) -> Run
+fn start<P: Port, O: Observer>(
+    interpreter: &mut Interpreter<'_>,
+    port: &mut P,
+    observer: &mut O,
+    ticks: u64,
+) -> Run
     ensures meets { (input : List ℕ) → (P.seen port.old).input ≡ Some input →
         Fresh interpreter.old → RunMeets (program_of interpreter.old.machine.program.now) input ticks result interpreter.new.tally.greatest (P.seen port.old) (P.seen port.new) }
     ensures counts { Counts result (P.seen port.old).failures (P.seen port.new).failures }
@@ -139,7 +159,10 @@ fn start<P: Port>(interpreter: &mut Interpreter<'_>, port: &mut P, ticks: u64) -
         Err(_) => return Run::Memory,
     }
     match call_function(&mut interpreter.machine, Back::ToEnd, main, &[]) {
-        Ok(first) => run_on(interpreter, port, first, ticks),
+        Ok(first) => {
+            observer.enters(main, &[], &interpreter.machine.scene);
+            run_on(interpreter, port, observer, first, ticks)
+        }
         Err(stop) => finish(interpreter, port, stop),
     }
 }
@@ -156,6 +179,23 @@ pub fn interpret<P: Port>(alloc: Global, program: &Program, port: &mut P, ticks:
     ensures counts { Counts result.run (P.seen port.old).failures (P.seen port.new).failures }
     ensures fault { Blames (P.refused_with port.new) result.run }
 {
+    let mut nobody = Unobserved;
+    observe(alloc, program, port, ticks, &mut nobody)
+}
+
+/// What `interpret` answers, and while the program runs the observer is told what it does.
+pub fn observe<P: Port, O: Observer>(
+    alloc: Global,
+    program: &Program,
+    port: &mut P,
+    ticks: u64,
+    observer: &mut O,
+) -> Interpreted
+    ensures meets { (input : List ℕ) → (P.seen port.old).input ≡ Some input →
+        RunMeets (program_of program.now) input ticks result.run result.greatest (P.seen port.old) (P.seen port.new) }
+    ensures counts { Counts result.run (P.seen port.old).failures (P.seen port.new).failures }
+    ensures fault { Blames (P.refused_with port.new) result.run }
+{
     let mut interpreter = match Interpreter::new(alloc, program) {
         Ok(interpreter) => interpreter,
         Err(_) => {
@@ -165,7 +205,7 @@ pub fn interpret<P: Port>(alloc: Global, program: &Program, port: &mut P, ticks:
             };
         }
     };
-    let run = start(&mut interpreter, port, ticks);
+    let run = start(&mut interpreter, port, observer, ticks);
     Interpreted {
         run,
         greatest: interpreter.tally.greatest,

@@ -12,10 +12,11 @@ mod token_stream;
 mod transfer;
 mod writing;
 
+pub use cabs::{Observer, Unobserved};
 pub use cc_backend::{CodeMap, CodeRow, DataObject, FunctionCode, Reference};
 pub use compiling::{Built, compile, compile_with};
 pub use elf_out::StackSize;
 pub use mapping::{checked_program, map_of};
-pub use performing::{Cmd, perform};
+pub use performing::{Cmd, interpret_observed, perform};
 pub use reading::read_source;
 pub use writing::write_out;

@@ -1,7 +1,8 @@
 //! One command over a port and two writers.
 
 ghost use Rattle.std.specs.Prelude.{◌≡◌, ◌≢◌, ◌⊎◌, List, [], ℕ, MatchResult, IfOk, IfErr, Some, Ok};
-ghost use Rattle.cc.specs.Performed.{Performs, Runs, Interprets, interpreted_status, Builds, BuildsInto, FailsBuild, Prints, PrintsAll, FailsPrint, ListsCode, ListsAll, FailsList, exit_status};
+ghost use Rattle.typed_ast.specs.View.{program_of};
+ghost use Rattle.cc.specs.Performed.{InterpretedAs, Performs, Runs, Interprets, interpreted_status, Builds, BuildsInto, FailsBuild, Prints, PrintsAll, FailsPrint, ListsCode, ListsAll, FailsList, exit_status};
 ghost use Rattle.cc.specs.inside.Stops.{Stops, HasItems, load_stop};
 ghost use Rattle.cc.specs.Reported.{SaysOutcome, SaysRun};
 
@@ -11,7 +12,7 @@ use crate::reporting::{say_budget, say_fault, say_memory, say_port, say_trap, sa
 use crate::stopping::Stop;
 use crate::writing::write_out;
 use asm::{Items, list};
-use cabs::{Run, interpret};
+use cabs::{Observer, Run, Unobserved, observe};
 use cc_backend::items;
 use elf_out::StackSize;
 use io_ports::Port;
@@ -22,6 +23,7 @@ use sim::{Machine, Outcome};
 use srcset::{Code, Fault, FileSet, Names};
 use std::alloc::Global;
 use std::io::Write;
+use typed_ast::Program;
 
 /// What is asked of the program.
 #[derive(Clone, Copy, Debug, PartialEq, Eq)]
@@ -270,14 +272,31 @@ fn interp<P: Port, E: Write>(
     let mut names = Names::new(alloc);
     match checked_unit(alloc, set, main, &mut names, stack) {
         Ok(program) => {
-            let done = interpret(alloc, &program, port, max);
-            run_status(&names, done.run, err)
+            let mut nobody = Unobserved;
+            interpret_observed(alloc, &program, &names, port, max, err, &mut nobody)
         }
         Err(stop) => {
             say_fault(alloc, &stop.to_fault(alloc, main), err);
             1
         }
     }
+}
+
+/// Does what a program with these names means, over the port and for at most so many ticks, as `Interp` of `perform` does of the program of
+/// a set, and tells the observer what it does. Answers the exit status.
+pub fn interpret_observed<P: Port, E: Write, O: Observer>(
+    alloc: Global,
+    program: &Program,
+    names: &Names,
+    port: &mut P,
+    max: u64,
+    err: &mut E,
+    observer: &mut O,
+) -> u8
+    ensures { InterpretedAs names.now (program_of program.now) max (P.refused_with port.new) (P.seen port.old) (P.seen port.new) (record { before = E.contents err.old; after = E.contents err.new }) result }
+{
+    let done = observe(alloc, program, port, max, observer);
+    run_status(names, done.run, err)
 }
 
 /// The exit status of a program that was interpreted, and its line where it did not end by itself.

@@ -8,15 +8,7 @@ returns-in-Ok g c = inl (record {
   unit = c.in-Ok.ensures.program.0;
   program = program_of c.in-Ok.program;
   has_program = c.in-Ok.ensures.program.1;
-  interpreted_as = record {
-    run = c.interpret-done.result.run;
-    greatest = c.interpret-done.result.greatest;
-    status_is = c.run_status.ensures.status;
-    says = c.run_status.ensures.says;
-    meets = c.interpret-done.ensures.meets;
-    counts = c.interpret-done.ensures.counts;
-    blames = c.interpret-done.ensures.fault;
-  };
+  interpreted_as = c.interpret_observed.ensures;
 })
 
 pub returns : goal.returns
