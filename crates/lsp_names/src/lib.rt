@@ -2,6 +2,7 @@
 #![tactic(auto)]
 
 mod calls;
+mod declaring;
 mod directives;
 mod folding;
 mod frames;

@@ -3,8 +3,8 @@
 //! as far as braces and semicolons tell.
 
 use crate::frames::{Frame, Frames, Inside, Stage};
-use crate::symbols::{Parameter, Place, SymbolKind};
-use crate::table::{Declared, Table, place_of};
+use crate::symbols::{Parameter, Place};
+use crate::table::Table;
 use crate::words::{Class, Word};
 use std::alloc::{AllocError, Global};
 
@@ -64,7 +64,7 @@ impl Scanner {
         Ok(())
     }
 
-    fn last_class(&self) -> Class {
+    pub(crate) fn last_class(&self) -> Class {
         match self.last {
             Some(word) => word.class,
             None => Class::Other,
@@ -91,7 +91,7 @@ impl Scanner {
         self.frames.pop();
     }
 
-    fn set_stage(&mut self, stage: Stage) -> Result<(), AllocError> {
+    pub(crate) fn set_stage(&mut self, stage: Stage) -> Result<(), AllocError> {
         let mut top = self.frames.top();
         top.stage = stage;
         self.frames.set_top(top)
@@ -116,7 +116,7 @@ impl Scanner {
     }
 
     /// A word of declaration specifiers.
-    fn specifier(&mut self, at: At) -> Result<(), AllocError> {
+    pub(crate) fn specifier(&mut self, at: At) -> Result<(), AllocError> {
         let mut top = self.frames.top();
         if top.stage != Stage::Start {
             return Ok(());
@@ -128,95 +128,6 @@ impl Scanner {
         };
         top.begin = at.word.start;
         top.symbol = None;
-        self.frames.set_top(top)
-    }
-
-    fn identifier(&mut self, at: At) -> Result<(), AllocError> {
-        if self.last_class() == Class::Enum {
-            return self.tag(at);
-        }
-        match self.frames.top().stage {
-            Stage::Start => self.first_name(at),
-            Stage::Specifiers if self.is_specifier(at) => self
-                .table
-                .use_name(at.file, at.word, false),
-            Stage::Specifiers | Stage::Declarator => self.declarator(at),
-            Stage::Behind | Stage::Initialiser | Stage::Expression => {
-                self.table.use_name(at.file, at.word, false)
-            }
-        }
-    }
-
-    /// Whether a name behind specifiers is one of them, or a macro.
-    fn is_specifier(&self, at: At) -> bool {
-        self.table.macro_of(at.word.name).is_some()
-            || matches!(at.next, Class::Identifier | Class::TypeWord)
-    }
-
-    /// A name with which a statement, a declaration or an enumerator begins.
-    fn first_name(&mut self, at: At) -> Result<(), AllocError> {
-        if self.frames.top().inside == Inside::Enumerators {
-            return self.enumerator(at);
-        }
-        if self.begins_declaration(at) {
-            self.specifier(at)?;
-        } else {
-            self.set_stage(Stage::Expression)?;
-        }
-        self.table.use_name(at.file, at.word, false)
-    }
-
-    /// Whether a name stands for a type: a macro for one, or a name that nothing declares with a name behind it.
-    fn begins_declaration(&self, at: At) -> bool {
-        let name = at.word.name;
-        let is_unknown = self.table.macro_of(name).is_none()
-            && self.table.meant(name, false).is_none();
-        self.table.is_type(name) || is_unknown && at.next == Class::Identifier
-    }
-
-    /// The tag behind `enum`: with braces behind it a declaration.
-    fn tag(&mut self, at: At) -> Result<(), AllocError> {
-        if at.next != Class::OpenBrace && self.table.meant(at.word.name, true).is_some() {
-            return self.table.use_name(at.file, at.word, true);
-        }
-        self.declare(at, SymbolKind::Tag)
-    }
-
-    fn enumerator(&mut self, at: At) -> Result<(), AllocError> {
-        let mut top = self.frames.top();
-        top.begin = at.word.start;
-        top.stage = Stage::Behind;
-        self.frames.set_top(top)?;
-        self.declare(at, SymbolKind::Enumerator)
-    }
-
-    /// A declared name.
-    fn declarator(&mut self, at: At) -> Result<(), AllocError> {
-        let top = self.frames.top();
-        let kind = if top.inside == Inside::Parameters {
-            SymbolKind::Parameter
-        } else if at.next == Class::OpenRound {
-            SymbolKind::Function
-        } else {
-            SymbolKind::Object
-        };
-        self.declare(at, kind)?;
-        self.set_stage(Stage::Behind)
-    }
-
-    /// Notes a declaration in the innermost part.
-    fn declare(&mut self, at: At, kind: SymbolKind) -> Result<(), AllocError> {
-        let mut top = self.frames.top();
-        let place = place_of(at.file, at.word);
-        let number = self.table.declare(Declared {
-            kind,
-            name: at.word.name,
-            at: place,
-            begin: top.begin,
-            is_global: self.frames.is_global(),
-        })?;
-        top.symbol = Some(number);
-        top.at = place;
         self.frames.set_top(top)
     }
 
@@ -297,8 +208,9 @@ impl Scanner {
         let top = self.frames.top();
         if let Some(mark) = self.prototype.take() {
             if let Some(number) = top.symbol {
+                let end = self.last_end();
                 self.table.define(number, top.at, top.begin);
-                self.table.end_head(number, top.at, self.last_end());
+                self.table.end_head(number, top.at, end);
             }
             return self.frames.push(Frame::new(Inside::Block, mark));
         }
@@ -320,7 +232,8 @@ impl Scanner {
                 return Ok(());
             }
             if top.inside == Inside::Enumerators {
-                self.end_declarator(self.last_end());
+                let end = self.last_end();
+                self.end_declarator(end);
             }
             self.pop(at.word.start);
             if top.has_braces() {
@@ -386,11 +299,13 @@ impl Scanner {
             return self.begin_item();
         }
         if top.inside == Inside::Enumerators {
-            self.end_declarator(self.last_end());
+            let end = self.last_end();
+            self.end_declarator(end);
             return self.begin_item();
         }
         if top.has_declarator() {
-            self.end_declarator(self.last_end());
+            let end = self.last_end();
+            self.end_declarator(end);
             return self.set_stage(Stage::Declarator);
         }
         Ok(())
@@ -419,8 +334,9 @@ impl Scanner {
             return self.begin_expression();
         }
         if let Some(number) = top.symbol {
+            let end = self.last_end();
             self.table.define(number, top.at, top.begin);
-            self.table.end_head(number, top.at, self.last_end());
+            self.table.end_head(number, top.at, end);
         }
         self.set_stage(Stage::Initialiser)
     }
