@@ -4,7 +4,7 @@ use crate::host::Host;
 use crate::json::{put_comma, put_span, put_text_member};
 use crate::server::{Outcome, Server};
 use crate::view::View;
-use lsp_names::{Fold, Symbol, SymbolKind};
+use lsp_names::{Fold, Mention, Symbol, SymbolKind};
 use lsp_wire::put_number;
 use std::alloc::{AllocError, Global};
 
@@ -12,8 +12,8 @@ impl<H: Host + Drop> Server<H> {
     /// `textDocument/documentSymbol`: what a file has for the whole unit, in the order of the places.
     pub(crate) fn document_symbols(&self, view: &View, file: usize) -> Result<Outcome, AllocError> {
         let mut out = String::from_str(self.alloc, "[")?;
-        for symbol in &view.index.symbols {
-            if symbol.is_global && symbol.at.file == file {
+        for mention in &view.index.mentions {
+            if let Some(symbol) = symbol_at(view, mention, file) {
                 put_symbol(self.alloc, view, symbol, &mut out)?;
             }
         }
@@ -29,6 +29,16 @@ impl<H: Host + Drop> Server<H> {
         }
         out.push_str("]")?;
         Ok(Outcome::Answer(out))
+    }
+}
+
+/// The symbol of the whole unit whose shown declaration has this mention, in this file.
+fn symbol_at<'v>(view: &'v View, mention: &Mention, file: usize) -> Option<&'v Symbol> {
+    let symbol = view.index.symbols.get(mention.symbol)?;
+    if symbol.is_global && symbol.at == mention.place && symbol.at.file == file {
+        Some(symbol)
+    } else {
+        None
     }
 }
 
