@@ -4,6 +4,7 @@ use crate::host::Host;
 use crate::params::{place_of, text_at};
 use crate::paths::path_of;
 use crate::server::{Outcome, Phase, Server};
+use crate::unit_files::is_part;
 use crate::view::View;
 use lsp_text::Position;
 use lsp_wire::{Call, Id, RpcError, result_reply};
@@ -145,9 +146,10 @@ impl<H: Host + Drop> Server<H> {
         }
         self.view = None;
         let encoding = self.options.encoding;
-        for root in self.roots()? {
-            let files = self.files_of(root.as_str())?;
-            if files.iter().any(|file| file.path.as_str() == path) {
+        let programs = self.programs()?;
+        for (number, program) in programs.iter().enumerate() {
+            if program.has_path(path) && !is_part(programs.as_slice(), number) {
+                let files = self.files_of(program.root())?;
                 self.view = Some(View::of(self.alloc, files, encoding)?);
                 return Ok(());
             }

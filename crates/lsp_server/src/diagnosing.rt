@@ -3,7 +3,7 @@
 use crate::host::{Host, Question, Unit};
 use crate::problems::{Severity, published, read_problems};
 use crate::server::Server;
-use crate::unit_files::{Places, UnitFile, gather, names_of, set_of};
+use crate::unit_files::{Places, Program, UnitFile, gather, is_part, names_of, set_of};
 use lsp_wire::notification;
 use std::alloc::{AllocError, Global};
 
@@ -13,28 +13,40 @@ const MAX_PROGRAMS: usize = 32;
 impl<H: Host + Drop> Server<H> {
     /// Looks again at each program that has the file at a path, and tells what is found.
     pub(crate) fn look_again(&mut self, path: &str) -> Result<(), AllocError> {
-        self.view = None;
-        for root in self.roots()? {
-            let files = self.files_of(root.as_str())?;
-            if has_path(files.as_slice(), path) {
-                self.look_at(files.as_slice(), root.as_str(), false)?;
-            }
-        }
+        self.look_at_all(path, false)?;
         self.forget_closed()?;
         self.publish()
     }
 
-    /// Looks at the programs that have a file that was saved, and verifies them.
+    /// Looks at the programs that have a file that was saved, and verifies them where that is wanted.
     pub(crate) fn look_at_saved(&mut self, path: &str) -> Result<(), AllocError> {
-        self.view = None;
         let verifies = self.options.verifies;
-        for root in self.roots()? {
-            let files = self.files_of(root.as_str())?;
-            if has_path(files.as_slice(), path) {
-                self.look_at(files.as_slice(), root.as_str(), verifies)?;
+        self.look_at_all(path, verifies)?;
+        self.publish()
+    }
+
+    /// Looks at each program that has the file at a path. One whose main file another includes is a part of that.
+    fn look_at_all(&mut self, path: &str, verifies: bool) -> Result<(), AllocError> {
+        self.view = None;
+        let programs = self.programs()?;
+        for (number, program) in programs.iter().enumerate() {
+            if is_part(programs.as_slice(), number) {
+                self.drop_problems_of(program.root())?;
+            } else if program.has_path(path) {
+                self.look_at(program.files.as_slice(), program.root(), verifies)?;
             }
         }
-        self.publish()
+        Ok(())
+    }
+
+    /// The programs that are looked at.
+    pub(crate) fn programs(&self) -> Result<Vec<Program>, AllocError> {
+        let mut programs = Vec::new(self.alloc);
+        for root in self.roots()? {
+            let files = self.files_of(root.as_str())?;
+            programs.push(Program { files })?;
+        }
+        Ok(programs)
     }
 
     /// The files of the program with this main file.
@@ -170,11 +182,6 @@ impl<H: Host + Drop> Server<H> {
         }
         Ok(())
     }
-}
-
-/// Whether one of the files lies at a path.
-fn has_path(files: &[UnitFile], path: &str) -> bool {
-    files.iter().any(|file| file.path.as_str() == path)
 }
 
 fn has_text(texts: &[String], text: &str) -> bool {

@@ -22,8 +22,42 @@ pub(crate) struct UnitFile {
     pub(crate) lines: LineTable,
 }
 
+/// The files of a program, the main one first.
+#[derive(Drop)]
+pub(crate) struct Program {
+    pub(crate) files: Vec<UnitFile>,
+}
+
+impl Program {
+    /// The path of the main file; empty where it cannot be read.
+    pub(crate) fn root(&self) -> &str {
+        match self.files.first() {
+            Some(file) => file.path.as_str(),
+            None => "",
+        }
+    }
+
+    /// Whether one of the files lies at a path.
+    pub(crate) fn has_path(&self, path: &str) -> bool {
+        self.files.iter().any(|file| file.path.as_str() == path)
+    }
+}
+
+/// Whether the main file of the program with this number is included in another program.
+pub(crate) fn is_part(programs: &[Program], number: usize) -> bool {
+    let Some(program) = programs.get(number) else {
+        return false;
+    };
+    for other in programs {
+        if other.root() != program.root() && other.has_path(program.root()) {
+            return true;
+        }
+    }
+    false
+}
+
 /// Where files are looked for.
-#[derive(Clone, Copy)]
+#[derive(Drop)]
 pub(crate) struct Places<'a, H> {
     pub(crate) host: &'a H,
     pub(crate) documents: &'a [OpenDocument],
