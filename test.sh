@@ -110,6 +110,8 @@ mistakes     | python3                                  | python3 tests/outside/
 warnings     | python3                                  | python3 tests/outside/warnings/check.py "$cc"
 wanted       | python3                                  | python3 tests/outside/mistakes/wanted.py "$cc"
 verify       | python3                                  | python3 tests/outside/verify/check.py "$cc"
+lsp          | python3                                  | python3 tests/outside/lsp/check.py "$cc"
+nvim         | nvim                                     | nvim --clean --headless -l tests/outside/lsp/nvim.lua "$cc"
 inspecting   | python3                                  | cases tests/outside/inspecting/check.py "$cc"
 forms        | python3                                  | cases tests/outside/forms/check.py "$cc"
 tables       | python3                                  | python3 share/tables.py "$cc" --check

@@ -8,6 +8,7 @@ use cmd_explain::{Told, explain_program, show_line};
 use cmd_inspect::{
     ListForm, list_code, show_form, show_frames, show_image, show_size, write_symbols,
 };
+use cmd_lsp::serve;
 use cmd_trace::{RunForm, interp_traced, run_traced};
 use cmd_verify::verify_program;
 
@@ -92,6 +93,7 @@ pub fn answer(rt: &HostRuntime, request: &Request<'_>) -> u8 {
         Command::Symbols(out) => write_symbols(rt, program, out),
         Command::Image(form) => show_image(rt, program.main, form),
         Command::Size => show_size(rt, program.main),
+        Command::Lsp => serve(rt),
     }
 }
 

@@ -1,7 +1,7 @@
 //! The form of the command line, made from the table.
 
 use crate::forms::{
-    build, check, explain, frames, image, interp, list, pp, run, show, size, symbols, verify,
+    build, check, explain, frames, image, interp, list, lsp, pp, run, show, size, symbols, verify,
 };
 use clap::Command;
 use std::alloc::{AllocError, Global};
@@ -34,7 +34,8 @@ fn with_forms<'a>(alloc: Global, whole: Command<'a>) -> Result<Command<'a>, Allo
     let command = with(command, frames(alloc));
     let command = with(command, symbols(alloc));
     let command = with(command, image(alloc));
-    with(command, size(alloc))
+    let command = with(command, size(alloc));
+    with(command, lsp(alloc))
 }
 
 /// The command with one more below it, where there was memory for both. A call joins the steps and not `?`, at each of which both would be let go, and that

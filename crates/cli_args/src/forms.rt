@@ -5,8 +5,8 @@ use crate::rows::{
     ABI, ASSEMBLY, AT, BINARY, BUILT_STACK, COLOR, DEFINES, DEPEND, DEPEND_FILE, DEPEND_PHONY,
     DEPEND_TARGET, ERRORS, EXECUTABLE, FILES, FOLDERS, FORM, FORM_JSON, INTEL, JSON, LABELS, LINES,
     LIST_FILES, MAIN, MAP, MAX_EXPLAINED, MAX_RUN, MAX_TICKS, OUT, PLAIN, PREPROCESSED, SARIF,
-    SIZES, SOURCE, STACK, SYMBOLS_OUT, TEXT_OUT, TRACE_FILE, TRACE_INTERP, TRACE_RUN, UNDEFINES,
-    VERIFIED_OUT, VERILOG, WARN, WARN_ERRORS, WHAT,
+    SIZES, SOURCE, STACK, STDIO, SYMBOLS_OUT, TEXT_OUT, TRACE_FILE, TRACE_INTERP, TRACE_RUN,
+    UNDEFINES, VERIFIED_OUT, VERILOG, WARN, WARN_ERRORS, WHAT,
 };
 use crate::table::Row;
 use clap::Command;
@@ -114,6 +114,8 @@ const SYMBOLS_ROWS: &[Row] = &[MAIN, FILES, STACK, SYMBOLS_OUT, FOLDERS, DEFINES
 const IMAGE_ROWS: &[Row] = &[EXECUTABLE, BINARY, INTEL, VERILOG];
 
 const SIZE_ROWS: &[Row] = &[EXECUTABLE];
+
+const LSP_ROWS: &[Row] = &[STDIO];
 
 /// The form of `build`.
 pub fn build<'a>(alloc: Global) -> Result<Command<'a>, AllocError> {
@@ -242,5 +244,15 @@ pub fn size<'a>(alloc: Global) -> Result<Command<'a>, AllocError> {
         "size",
         "Prints how many bytes of code, data and stack an executable file has",
         SIZE_ROWS,
+    )
+}
+
+/// The form of `lsp`.
+pub fn lsp<'a>(alloc: Global) -> Result<Command<'a>, AllocError> {
+    form(
+        alloc,
+        "lsp",
+        "Serves an editor by the Language Server Protocol, on standard input and output",
+        LSP_ROWS,
     )
 }

@@ -60,6 +60,7 @@ pub fn read<'a>(alloc: Global, matches: &ArgMatches<'a>) -> Result<Reading<'a>, 
         "symbols" => symbols(inner),
         "image" => image(inner),
         "size" => Ok(Command::Size),
+        "lsp" => Ok(Command::Lsp),
         _ => Err(NO_COMMAND),
     };
     match found {

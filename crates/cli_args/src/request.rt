@@ -181,6 +181,8 @@ pub enum Command<'a> {
     Image(ImageForm),
     /// Print how large the parts of an executable file are.
     Size,
+    /// Serve an editor over the standard streams.
+    Lsp,
 }
 
 /// What the words of a command line ask for.

@@ -541,3 +541,15 @@ pub const VERILOG: Row = Row {
     help: "The form that $readmemh reads, a byte a number",
     apart: &[],
 };
+
+/// That the standard streams are spoken over, which clients say and which is always so.
+pub const STDIO: Row = Row {
+    id: "stdio",
+    short: None,
+    long: Some("stdio"),
+    value: None,
+    kind: Kind::Flag,
+    default: None,
+    help: "Speaks over the standard streams, as always",
+    apart: &[],
+};

@@ -1,0 +1,124 @@
+//! What the server asks: files of the disk, and findings of the compiler.
+
+use cc::StackSize;
+use cli_sources::read_bytes;
+use cmd_check::plain_version;
+use explain::Stage;
+use explain_cmd::{Bounds, Form, explain_faults};
+use lint_report::{Asked, Form as ReportForm};
+use lint_unit::warn_of_sources;
+use lsp_server::{Host, Question, Unit};
+use srcset::Code;
+use std::alloc::{AllocError, Global};
+use std::fs;
+use verify_report::{Asked as Verified, verify_sources};
+
+/// How many faults of a program are told at most.
+const MAX_FAULTS: usize = 10;
+
+/// The process in which a server runs.
+#[derive(Drop)]
+pub(crate) struct Console<'a> {
+    pub(crate) rt: &'a HostRuntime,
+}
+
+impl<'a> Host for Console<'a> {
+    fn read(&self, alloc: Global, path: &str) -> Result<Option<Vec<u8>>, AllocError> {
+        let _alloc = alloc;
+        if !is_file(self.rt, path) {
+            return Ok(None);
+        }
+        match read_bytes(self.rt, path, path) {
+            Ok(bytes) => Ok(Some(bytes)),
+            Err(fault) if fault.code == Code::OutOfMemory.number() => Err(AllocError),
+            Err(_) => Ok(None),
+        }
+    }
+
+    fn findings(
+        &self,
+        alloc: Global,
+        question: Question,
+        unit: Unit<'_>,
+    ) -> Result<String, AllocError> {
+        match question {
+            Question::Faults => faults(alloc, unit),
+            Question::Warnings => warnings(alloc, unit),
+            Question::Unverified => unverified(alloc, unit),
+        }
+    }
+}
+
+/// Whether a path is absolute and leads to a file.
+fn is_file(rt: &HostRuntime, path: &str) -> bool {
+    if !path.starts_with("/") {
+        return false;
+    }
+    match fs::metadata(rt, path) {
+        Ok(there) => there.is_file(),
+        Err(_) => false,
+    }
+}
+
+fn stack_of(unit: Unit<'_>) -> StackSize {
+    match StackSize::new(unit.stack) {
+        Some(size) => size,
+        None => StackSize::usual(),
+    }
+}
+
+/// What `zkc explain --json` tells.
+fn faults(alloc: Global, unit: Unit<'_>) -> Result<String, AllocError> {
+    let bounds = Bounds {
+        stage: Stage::Whole,
+        stack: stack_of(unit),
+        most: MAX_FAULTS,
+    };
+    let said = explain_faults(
+        alloc,
+        unit.set,
+        unit.names,
+        unit.main,
+        unit.main,
+        bounds,
+        Form::Json,
+    )?;
+    let text = String::from_utf8_lossy(alloc, said.out.as_slice())?;
+    String::from_str(alloc, text.as_str())
+}
+
+/// What `zkc check --json` tells.
+fn warnings(alloc: Global, unit: Unit<'_>) -> Result<String, AllocError> {
+    let said = warn_of_sources(
+        alloc,
+        unit.set,
+        Asked {
+            names: unit.names,
+            main: unit.main,
+            given: unit.main,
+            stack: stack_of(unit).get(),
+            words: "all",
+            are_errors: false,
+            form: ReportForm::Json,
+            version: plain_version(),
+        },
+    )?;
+    String::from_str(alloc, said.out.as_str())
+}
+
+/// What `zkc verify --json` tells.
+fn unverified(alloc: Global, unit: Unit<'_>) -> Result<String, AllocError> {
+    let asked = Verified {
+        names: unit.names,
+        main: unit.main,
+        given: unit.main,
+        stack: stack_of(unit),
+        form: ReportForm::Json,
+        version: plain_version(),
+    };
+    match verify_sources(alloc, unit.set, &asked) {
+        Ok(said) => String::from_str(alloc, said.out.as_str()),
+        Err(fault) if fault.code == Code::OutOfMemory.number() => Err(AllocError),
+        Err(_) => Ok(String::new(alloc)),
+    }
+}

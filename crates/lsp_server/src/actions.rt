@@ -1,0 +1,72 @@
+//! Code actions: the changes that mend faults.
+
+use crate::host::Host;
+use crate::json::{put_comma, put_edit, put_text_member};
+use crate::params::{span_of, text_at};
+use crate::problems::{Fix, Problem, put_problem};
+use crate::server::{Outcome, Server};
+use lsp_text::{Position, Span};
+use lsp_wire::{RpcError, put_string};
+use serde_json::Value;
+use std::alloc::{AllocError, Global};
+
+impl<H: Host + Drop> Server<H> {
+    /// `textDocument/codeAction`: a quick fix for each problem in the range that has one.
+    pub(crate) fn code_actions(&self, params: &Value) -> Result<Outcome, AllocError> {
+        let uri = text_at(params, "/textDocument/uri");
+        let span = params.pointer("/range").and_then(span_of);
+        let (Some(uri), Some(span)) = (uri, span) else {
+            return Ok(Outcome::Refused(RpcError::InvalidParams, RpcError::InvalidParams.text()));
+        };
+        let mut out = String::from_str(self.alloc, "[")?;
+        for problem in &self.problems {
+            if problem.uri.as_str() == uri && meet(problem.span, span) {
+                if let Some(fix) = &problem.fix {
+                    put_action(self.alloc, problem, fix, &mut out)?;
+                }
+            }
+        }
+        out.push_str("]")?;
+        Ok(Outcome::Answer(out))
+    }
+}
+
+/// Whether two ranges have a place in common, their ends among them; whole lines count.
+fn meet(one: Span, other: Span) -> bool {
+    is_before(one.start, other.end) && is_before(other.start, one.end)
+}
+
+fn is_before(one: Position, other: Position) -> bool {
+    one.line <= other.line
+}
+
+/// A `CodeAction`.
+fn put_action(
+    alloc: Global,
+    problem: &Problem,
+    fix: &Fix,
+    out: &mut String,
+) -> Result<(), AllocError> {
+    put_comma(1, out)?;
+    out.push_str("{\"kind\":\"quickfix\",\"isPreferred\":true")?;
+    put_text_member(alloc, "title", title(alloc, fix)?.as_str(), out)?;
+    out.push_str(",\"diagnostics\":[")?;
+    put_problem(alloc, problem, out)?;
+    out.push_str("],\"edit\":{\"changes\":{")?;
+    put_string(alloc, problem.uri.as_str(), out)?;
+    out.push_str(":[")?;
+    put_edit(alloc, fix.span, fix.text.as_str(), out)?;
+    out.push_str("]}}}")
+}
+
+/// What an action does, in words.
+fn title(alloc: Global, fix: &Fix) -> Result<String, AllocError> {
+    let text = fix.text.as_str();
+    if text.is_empty() {
+        return String::from_str(alloc, "remove this");
+    }
+    if fix.span.start == fix.span.end {
+        return format!(in alloc; "insert '{text}'");
+    }
+    format!(in alloc; "replace this by '{text}'")
+}

@@ -1,0 +1,94 @@
+//! What a client says of itself and of the program when a session begins.
+
+use crate::params::{flag_at, number_at, text_at};
+use crate::paths::{joined, path_of};
+use lsp_text::Encoding;
+use serde_json::Value;
+use std::alloc::{AllocError, Global};
+
+/// The stack of a program where no other is named, in bytes.
+const USUAL_STACK: u32 = 1_048_576;
+
+/// The options of a session.
+#[derive(Drop)]
+pub(crate) struct Options {
+    pub(crate) encoding: Encoding,
+    /// The folders in which includes are looked for.
+    pub(crate) folders: Vec<String>,
+    /// The path of the main file; empty where each open file that no other includes is one.
+    pub(crate) main: String,
+    /// The bytes of the stack.
+    pub(crate) stack: u32,
+    /// Whether a file that is saved is verified.
+    pub(crate) verifies: bool,
+}
+
+impl Options {
+    /// The options of a client that says nothing.
+    pub(crate) fn usual(alloc: Global) -> Options {
+        Options {
+            encoding: Encoding::Utf16,
+            folders: Vec::new(alloc),
+            main: String::new(alloc),
+            stack: USUAL_STACK,
+            verifies: true,
+        }
+    }
+
+    /// The options in the parameters of `initialize`.
+    pub(crate) fn of(alloc: Global, params: &Value) -> Result<Options, AllocError> {
+        let root = root_of(alloc, params)?;
+        let mut options = Options::usual(alloc);
+        options.encoding = encoding_of(params);
+        options.folders = folders_of(alloc, root.as_str(), params)?;
+        if let Some(main) = text_at(params, "/initializationOptions/main") {
+            options.main = joined(alloc, root.as_str(), main)?;
+        }
+        options.stack = number_at(params, "/initializationOptions/stack").unwrap_or(USUAL_STACK);
+        options.verifies = flag_at(params, "/initializationOptions/verify").unwrap_or(true);
+        Ok(options)
+    }
+}
+
+/// The folder of the workspace; empty where the client names none.
+fn root_of(alloc: Global, params: &Value) -> Result<String, AllocError> {
+    if let Some(uri) = text_at(params, "/workspaceFolders/0/uri") {
+        return path_of(alloc, uri);
+    }
+    if let Some(uri) = text_at(params, "/rootUri") {
+        return path_of(alloc, uri);
+    }
+    String::from_str(alloc, text_at(params, "/rootPath").unwrap_or_default())
+}
+
+/// The units of positions: UTF-8 where the client has it, and else UTF-16.
+fn encoding_of(params: &Value) -> Encoding {
+    let offered = params
+        .pointer("/capabilities/general/positionEncodings")
+        .and_then(Value::as_array);
+    let Some(offered) = offered else {
+        return Encoding::Utf16;
+    };
+    for encoding in offered {
+        if encoding.as_str() == Some("utf-8") {
+            return Encoding::Utf8;
+        }
+    }
+    Encoding::Utf16
+}
+
+/// The folders of the option `include`.
+fn folders_of(alloc: Global, root: &str, params: &Value) -> Result<Vec<String>, AllocError> {
+    let mut folders = Vec::new(alloc);
+    let listed = params
+        .pointer("/initializationOptions/include")
+        .and_then(Value::as_array);
+    if let Some(listed) = listed {
+        for folder in listed {
+            if let Some(folder) = folder.as_str() {
+                folders.push(joined(alloc, root, folder)?)?;
+            }
+        }
+    }
+    Ok(folders)
+}

@@ -1,0 +1,243 @@
+//! Diagnostics: what the compiler finds, with the places that the protocol has.
+
+use crate::json::{put_comma, put_span, put_text_member};
+use crate::params::{number_at, text_at};
+use crate::unit_files::UnitFile;
+use lsp_text::{Encoding, Span};
+use lsp_wire::{put_number, put_string};
+use serde_json::Value;
+use std::alloc::{AllocError, Global};
+
+/// How severe a problem is (`DiagnosticSeverity`).
+#[derive(Clone, Copy, Debug, PartialEq, Eq)]
+pub(crate) enum Severity {
+    Error = 1,
+    Warning = 2,
+    Information = 3,
+}
+
+/// A change of a text.
+#[derive(Drop)]
+pub(crate) struct Fix {
+    pub(crate) span: Span,
+    pub(crate) text: String,
+}
+
+/// A problem in a file.
+#[derive(Drop)]
+pub(crate) struct Problem {
+    /// The URI of its file.
+    pub(crate) uri: String,
+    /// The path of the main file of the program that has it.
+    pub(crate) root: String,
+    pub(crate) span: Span,
+    pub(crate) severity: Severity,
+    pub(crate) code: String,
+    pub(crate) text: String,
+    /// What mends it, where that is sure.
+    pub(crate) fix: Option<Fix>,
+}
+
+/// Reads findings, an object of JSON on each line; those about files that are not there are left out.
+pub(crate) fn read_problems(
+    alloc: Global,
+    lines: &str,
+    severity: Severity,
+    files: &[UnitFile],
+    encoding: Encoding,
+) -> Result<Vec<Problem>, AllocError> {
+    let mut problems = Vec::new(alloc);
+    for line in lines.split('\n') {
+        if !line.is_empty() {
+            if let Some(problem) = read_problem(alloc, line, severity, files, encoding)? {
+                problems.push(problem)?;
+            }
+        }
+    }
+    Ok(problems)
+}
+
+fn read_problem(
+    alloc: Global,
+    line: &str,
+    severity: Severity,
+    files: &[UnitFile],
+    encoding: Encoding,
+) -> Result<Option<Problem>, AllocError> {
+    let value = match Value::from_str(alloc, line) {
+        Ok(value) => value,
+        Err(error) if error.is_memory() => return Err(AllocError),
+        Err(_) => return Ok(None),
+    };
+    let code = text_at(&value, "/code").unwrap_or_default();
+    if code == "verdict" {
+        return Ok(None);
+    }
+    let name = text_at(&value, "/file").unwrap_or_default();
+    let (Some(file), Some(main)) = (file_named(files, name), files.first()) else {
+        return Ok(None);
+    };
+    Ok(Some(Problem {
+        uri: String::from_str(alloc, file.uri.as_str())?,
+        root: String::from_str(alloc, main.path.as_str())?,
+        span: place_in(file, &value, encoding),
+        severity,
+        code: String::from_str(alloc, code)?,
+        text: whole_text(alloc, &value)?,
+        fix: fix_of(alloc, file, &value, encoding)?,
+    }))
+}
+
+/// The file of a finding: the main one, where no file has the name.
+fn file_named<'f>(files: &'f [UnitFile], name: &str) -> Option<&'f UnitFile> {
+    for file in files {
+        if file.name.as_str() == name && !file.path.is_empty() {
+            return Some(file);
+        }
+    }
+    files.first()
+}
+
+/// The place of a finding: its token, or else its line.
+fn place_in(file: &UnitFile, value: &Value, encoding: Encoding) -> Span {
+    let text = file.text.as_slice();
+    let line = number_at(value, "/line").unwrap_or(1);
+    let (start, end) = line_bounds(text, line);
+    let column = number_at(value, "/column");
+    let behind = number_at(value, "/end");
+    match (column, behind) {
+        (Some(column), Some(behind)) => file.lines.span(
+            text,
+            at_column(start, column),
+            at_column(start, behind).min(text.len()),
+            encoding,
+        ),
+        _ => file
+            .lines
+            .span(text, past_blanks(text, start, end), end, encoding),
+    }
+}
+
+/// The offset of a column, which is counted from 1.
+fn at_column(start: usize, column: u32) -> usize {
+    start.saturating_add((column as usize).saturating_sub(1))
+}
+
+/// Where a line begins and ends; the compiler ends lines with LF alone, and counts them from 1.
+fn line_bounds(text: &[u8], line: u32) -> (usize, usize) {
+    let mut start = 0;
+    let mut number: u32 = 1;
+    for (at, byte) in text.iter().enumerate() {
+        if *byte == b'\n' {
+            if number >= line {
+                return (start, at);
+            }
+            number = number.saturating_add(1);
+            start = at.saturating_add(1);
+        }
+    }
+    (start, text.len())
+}
+
+/// The first byte of a line that is no blank.
+fn past_blanks(text: &[u8], start: usize, end: usize) -> usize {
+    let row = text.get(start..end).unwrap_or_default();
+    match row.iter().position(|byte| *byte != b' ' && *byte != b'\t') {
+        Some(count) => start.saturating_add(count),
+        None => start,
+    }
+}
+
+/// The text of a finding, with its notes on lines of their own.
+fn whole_text(alloc: Global, value: &Value) -> Result<String, AllocError> {
+    let mut text = String::from_str(alloc, text_at(value, "/text").unwrap_or_default())?;
+    let Some(notes) = value.pointer("/notes").and_then(Value::as_array) else {
+        return Ok(text);
+    };
+    for note in notes {
+        let said = text_at(note, "/text").unwrap_or_default();
+        if !said.is_empty() {
+            text.push_str("\n")?;
+            put_note_place(alloc, note, &mut text)?;
+            text.push_str(said)?;
+        }
+    }
+    Ok(text)
+}
+
+/// Where the thing stands of which a note speaks.
+fn put_note_place(alloc: Global, note: &Value, text: &mut String) -> Result<(), AllocError> {
+    let file = text_at(note, "/file").unwrap_or_default();
+    let line = number_at(note, "/line").unwrap_or(0);
+    if file.is_empty() || line == 0 {
+        return Ok(());
+    }
+    text.push_str(format!(in alloc; "{file}:{line}: ")?.as_str())
+}
+
+/// The change that mends a finding.
+fn fix_of(
+    alloc: Global,
+    file: &UnitFile,
+    value: &Value,
+    encoding: Encoding,
+) -> Result<Option<Fix>, AllocError> {
+    let Some(fix) = value.pointer("/fix") else {
+        return Ok(None);
+    };
+    let (Some(start), Some(end)) = (
+        point(file, fix, "/line", "/column"),
+        point(file, fix, "/end_line", "/end"),
+    ) else {
+        return Ok(None);
+    };
+    let text = text_at(fix, "/text").unwrap_or_default();
+    Ok(Some(Fix {
+        span: file.lines.span(file.text.as_slice(), start, end, encoding),
+        text: String::from_str(alloc, text)?,
+    }))
+}
+
+/// The offset of a line and a column.
+fn point(file: &UnitFile, value: &Value, line: &str, column: &str) -> Option<usize> {
+    let line = number_at(value, line)?;
+    let column = number_at(value, column)?;
+    let (start, _) = line_bounds(file.text.as_slice(), line);
+    Some(at_column(start, column))
+}
+
+/// A `Diagnostic`.
+pub(crate) fn put_problem(
+    alloc: Global,
+    problem: &Problem,
+    out: &mut String,
+) -> Result<(), AllocError> {
+    out.push_str("{\"range\":")?;
+    put_span(alloc, problem.span, out)?;
+    out.push_str(",\"severity\":")?;
+    put_number(alloc, i64::from(problem.severity as u8), out)?;
+    put_text_member(alloc, "code", problem.code.as_str(), out)?;
+    put_text_member(alloc, "source", "zkc", out)?;
+    put_text_member(alloc, "message", problem.text.as_str(), out)?;
+    out.push_str("}")
+}
+
+/// The parameters of `textDocument/publishDiagnostics` for a file.
+pub(crate) fn published(
+    alloc: Global,
+    uri: &str,
+    problems: &[Problem],
+) -> Result<String, AllocError> {
+    let mut out = String::from_str(alloc, "{\"uri\":")?;
+    put_string(alloc, uri, &mut out)?;
+    out.push_str(",\"diagnostics\":[")?;
+    let begin = out.len();
+    for problem in problems {
+        if problem.uri.as_str() == uri {
+            put_comma(begin, &mut out)?;
+            put_problem(alloc, problem, &mut out)?;
+        }
+    }
+    out.push_str("]}")?;
+    Ok(out)
+}
