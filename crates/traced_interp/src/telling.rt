@@ -178,7 +178,7 @@ impl<'a, W: Write + Drop> Trace<'a, W> {
         self.write(text);
     }
 
-    /// A statement begins. What only holds others, or stands before them, is not told.
+    /// A statement begins. What only holds others, or stands before them, is not told; of the declarators of a line one is.
     pub(crate) fn begin(&mut self, statement: &Statement) {
         match statement {
             Statement::Empty(_) | Statement::Block(_, _, _, _) => {}
@@ -191,8 +191,9 @@ impl<'a, W: Write + Drop> Trace<'a, W> {
                 self.tell_line(*at);
                 self.open_loop(test_place(*at, test));
             }
+            Statement::Declare(at, _) => self.tell_place(*at),
             Statement::Define(at, object, _) => {
-                self.tell_line(*at);
+                self.tell_place(*at);
                 self.calls.define(*at, *object);
             }
             _ => self.tell_line(statement.place()),
