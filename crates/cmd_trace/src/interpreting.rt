@@ -88,12 +88,7 @@ fn trace_to(rt: &HostRuntime, found: Shown, form: InterpForm<'_>) -> u8 {
 }
 
 /// Interprets a program over standard input and output; its trace goes to the writer.
-fn run_told<W: Write + Drop>(
-    rt: &HostRuntime,
-    found: Shown,
-    form: InterpForm<'_>,
-    out: W,
-) -> u8 {
+fn run_told<W: Write + Drop>(rt: &HostRuntime, found: Shown, form: InterpForm<'_>, out: W) -> u8 {
     let Ok(mut port) = streams(rt) else {
         return say_memory(rt);
     };

@@ -119,9 +119,7 @@ fn element_text(
 ) -> Result<Option<String>, AllocError> {
     match act {
         6 => Ok(Some(format!(in alloc; "element {index} of `{name}` has no value")?)),
-        7 => Ok(Some(format!(in alloc;
-            "element {index} of `{name}` is of a string literal"
-        )?)),
+        7 => Ok(Some(format!(in alloc; "element {index} of `{name}` is of a string literal")?)),
         _ => Ok(None),
     }
 }

@@ -128,7 +128,13 @@ fn put_function(
     let mut declared = Vec::new(alloc);
     put_declared(&function.body, &mut declared)?;
     if are_same(declarators.as_slice(), declared.as_slice()) {
-        put_objects(alloc, declarators.as_slice(), declared.as_slice(), names, put)?;
+        put_objects(
+            alloc,
+            declarators.as_slice(),
+            declared.as_slice(),
+            names,
+            put,
+        )?;
     }
     Ok(())
 }
