@@ -31,6 +31,14 @@ impl ProgramNames {
         }
     }
 
+    /// The name of the object with this number in a function; empty where that is not known.
+    pub fn object_name(&self, function: usize, number: usize) -> &str {
+        match self.object(function, number) {
+            Some(object) => object.name.as_str(),
+            None => "",
+        }
+    }
+
     /// What a reference leads to in the present call, which is one of the function with this number: the array of a parameter where it
     /// begins with that, else an object.
     pub fn designated(&self, function: usize, scene: &Scene, r: &Reference) -> Designation<'_> {
@@ -73,10 +81,7 @@ impl ProgramNames {
         let Some(number) = object.checked_sub(base) else {
             return "";
         };
-        match self.object(function, number) {
-            Some(object) => object.name.as_str(),
-            None => "",
-        }
+        self.object_name(function, number)
     }
 
     /// What a reference leads to, as the source may write it: a name and subscripts, or `object` and a number where the name is not known.

@@ -254,10 +254,7 @@ impl<'a, W: Write + Drop> Trace<'a, W> {
     }
 
     fn tell_further(&mut self, object: usize) {
-        let name = match self.objects.object(self.calls.function(), object) {
-            Some(object) => object.name.as_str(),
-            None => "",
-        };
+        let name = self.objects.object_name(self.calls.function(), object);
         let text = further(self.alloc, self.form, name);
         self.write(text);
     }
