@@ -29,7 +29,7 @@ _zkc() {
     pp) case $word in -*) COMPREPLY=($(compgen -W '--lines -o -I -D -U --list-files -h --help' -- "$word")) ;; *) mapfile -t COMPREPLY < <(compgen -f -- "$word") ;; esac ;;
     list) case $word in -*) COMPREPLY=($(compgen -W '--stack --labels --abi --source -o -I -D -U -h --help' -- "$word")) ;; *) mapfile -t COMPREPLY < <(compgen -f -- "$word") ;; esac ;;
     run) case $word in -*) COMPREPLY=($(compgen -W '--max --trace --trace-file --at --map --stack -I -D -U -h --help' -- "$word")) ;; *) mapfile -t COMPREPLY < <(compgen -f -- "$word") ;; esac ;;
-    interp) case $word in -*) COMPREPLY=($(compgen -W '--stack --max --trace --trace-file -I -D -U -h --help' -- "$word")) ;; *) mapfile -t COMPREPLY < <(compgen -f -- "$word") ;; esac ;;
+    interp) case $word in -*) COMPREPLY=($(compgen -W '--stack --max --trace --trace-file --json -I -D -U -h --help' -- "$word")) ;; *) mapfile -t COMPREPLY < <(compgen -f -- "$word") ;; esac ;;
     explain) [ "$COMP_CWORD" = 2 ] && { COMPREPLY=($(compgen -W 'build interp pp' -- "$word")); return; }; case $word in -*) COMPREPLY=($(compgen -W '--json --sarif --color --stack --max --errors -I -D -U -h --help' -- "$word")) ;; *) mapfile -t COMPREPLY < <(compgen -f -- "$word") ;; esac ;;
     show) [ "$COMP_CWORD" = 2 ] && { COMPREPLY=($(compgen -W 'tokens tree typed tac flat' -- "$word")); return; }; case $word in -*) COMPREPLY=($(compgen -W '--json --stack -o -I -D -U -h --help' -- "$word")) ;; *) mapfile -t COMPREPLY < <(compgen -f -- "$word") ;; esac ;;
     check) case $word in -*) COMPREPLY=($(compgen -W '--warn --werror --json --sarif --stack -I -D -U -h --help' -- "$word")) ;; *) mapfile -t COMPREPLY < <(compgen -f -- "$word") ;; esac ;;

@@ -50,6 +50,7 @@ complete -c zkc -n '__fish_seen_subcommand_from interp' -l stack -x -d 'The byte
 complete -c zkc -n '__fish_seen_subcommand_from interp' -l max -x -d 'At most this many ticks [default: 1000000000]'
 complete -c zkc -n '__fish_seen_subcommand_from interp' -l trace -d 'Tells each statement and what it changes on standard error'
 complete -c zkc -n '__fish_seen_subcommand_from interp' -l trace-file -r -d 'Writes the trace to a file'
+complete -c zkc -n '__fish_seen_subcommand_from interp' -l json -d 'Tells the trace as JSON, an object a line'
 complete -c zkc -n '__fish_seen_subcommand_from interp' -s I -r -d 'Reads what is included too: beside the including file, or in this folder'
 complete -c zkc -n '__fish_seen_subcommand_from interp' -s D -r -d 'Defines a macro, as 1 where there is no value'
 complete -c zkc -n '__fish_seen_subcommand_from interp' -s U -r -d 'Leaves the definition of a macro out'

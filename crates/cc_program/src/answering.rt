@@ -9,7 +9,7 @@ use cmd_inspect::{
     ListForm, list_code, show_form, show_frames, show_image, show_size, write_symbols,
 };
 use cmd_lsp::serve;
-use cmd_trace::{RunForm, interp_traced, run_traced};
+use cmd_trace::{InterpForm, RunForm, interp_traced, run_traced};
 use cmd_verify::verify_program;
 
 /// Does what is asked; answers the exit status.
@@ -55,8 +55,21 @@ pub fn answer(rt: &HostRuntime, request: &Request<'_>) -> u8 {
         Command::Interp {
             max,
             trace: Trace::None,
+            is_json: _,
         } => interp(rt, program, max),
-        Command::Interp { max, trace } => interp_traced(rt, program, max, trace),
+        Command::Interp {
+            max,
+            trace,
+            is_json,
+        } => interp_traced(
+            rt,
+            program,
+            InterpForm {
+                max,
+                trace,
+                is_json,
+            },
+        ),
         Command::Explain {
             stage,
             max,

@@ -27,6 +27,8 @@ const BAD_STACK: &str =
 
 const BAD_MACRO: &str = "a macro is written -D NAME, -D NAME=VALUE or -U NAME, on one line";
 
+const NEEDS_TRACE: &str = "--json is for --trace or --trace-file here";
+
 const NEEDS_MAP: &str = "--stack, -I, -D and -U are for --map here";
 
 /// What the words ask for, or what is wrong with them.
@@ -46,7 +48,7 @@ pub fn read<'a>(alloc: Global, matches: &ArgMatches<'a>) -> Result<Reading<'a>, 
         "pp" => Ok(pp(inner)),
         "list" => Ok(list(inner)),
         "run" => run(inner),
-        "interp" => Ok(interp(inner)),
+        "interp" => interp(inner),
         "explain" => Ok(explain(inner)),
         "show" => Ok(show(inner)),
         "check" => Ok(check(inner)),
@@ -249,11 +251,17 @@ fn run<'a>(inner: &ArgMatches<'a>) -> Result<Command<'a>, &'static str> {
     })
 }
 
-fn interp<'a>(inner: &ArgMatches<'a>) -> Command<'a> {
-    Command::Interp {
-        max: max(inner),
-        trace: trace(inner),
+fn interp<'a>(inner: &ArgMatches<'a>) -> Result<Command<'a>, &'static str> {
+    let trace = trace(inner);
+    let is_json = inner.get_flag("json");
+    if is_json && trace == Trace::None {
+        return Err(NEEDS_TRACE);
     }
+    Ok(Command::Interp {
+        max: max(inner),
+        trace,
+        is_json,
+    })
 }
 
 fn max(inner: &ArgMatches<'_>) -> u64 {

@@ -141,10 +141,11 @@ pub enum Command<'a> {
         at: Option<u64>,
         trace: Trace<'a>,
     },
-    /// Interpret for at most so many ticks.
+    /// Interpret for at most so many ticks, with a trace as JSON or as text.
     Interp {
         max: u64,
         trace: Trace<'a>,
+        is_json: bool,
     },
     /// Explain so many faults at most.
     Explain {

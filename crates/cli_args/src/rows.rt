@@ -410,6 +410,18 @@ pub const TRACE_FILE: Row = Row {
     apart: &[],
 };
 
+/// Whether a trace is JSON.
+pub const TRACE_JSON: Row = Row {
+    id: "json",
+    short: None,
+    long: Some("json"),
+    value: None,
+    kind: Kind::Flag,
+    default: None,
+    help: "Tells the trace as JSON, an object a line",
+    apart: &[],
+};
+
 /// After how many instructions the machine is shown.
 pub const AT: Row = Row {
     id: "at",

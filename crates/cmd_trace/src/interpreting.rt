@@ -1,95 +1,137 @@
 //! `interp` with a trace.
 
-use cc::compile_with;
+use cc::{checked_program, interpret_observed};
 use cli_args::{Program, Trace};
 use cli_io::{Line, OutFile, TAKEN, say, say_memory, say_port, say_unwritten, say_usage, tell};
 use cli_sources::{Sources, is_taken, read_sources, stack_size};
 use io_ports::IoPort;
+use object_names::names_of_set;
+use srcset::Names;
 use std::alloc::{AllocError, Global};
 use std::io;
 use std::io::{BufReader, BufWriter, Stdin, Stdout, Write};
-use traced_interp::{Tracing, interpret_traced, with_probes};
+use traced_interp::{SourceLines, Trace as Tracing, TraceForm};
 
-/// What `interp` says where memory runs out.
-const NO_MEMORY: &[u8] = b"cc: 801 ";
+/// How a run of the interpreter is told.
+#[derive(Clone, Copy)]
+pub struct InterpForm<'a> {
+    /// At most so many ticks.
+    pub max: u64,
+    pub trace: Trace<'a>,
+    /// Whether each event is told as a JSON object.
+    pub is_json: bool,
+}
 
-/// Interprets a program with a trace, for at most so many ticks; answers the exit status.
-pub fn interp_traced(rt: &HostRuntime, program: &Program<'_>, max: u64, trace: Trace<'_>) -> u8 {
-    if is_taken(rt, program, trace_path(trace)) {
+/// A program that is to be interpreted, with what its trace shows.
+#[derive(Drop)]
+struct Shown {
+    typed: typed_ast::Program,
+    names: Names,
+    objects: object_names::ProgramNames,
+    lines: SourceLines,
+}
+
+/// Interprets a program with a trace; answers the exit status.
+pub fn interp_traced(rt: &HostRuntime, program: &Program<'_>, form: InterpForm<'_>) -> u8 {
+    if is_taken(rt, program, trace_path(form.trace)) {
         return say_usage(rt, TAKEN);
     }
     let sources = match read_sources(rt, program) {
         Ok(sources) => sources,
         Err(fault) => return say(rt, &fault),
     };
-    if sources.are_at(rt, trace_path(trace)) {
+    if sources.are_at(rt, trace_path(form.trace)) {
         return say_usage(rt, TAKEN);
     }
-    if let Err(fault) = compile_with(rt.alloc(), &sources.set, sources.main, stack_size(program)) {
-        return say(rt, &sources.told(rt.alloc(), fault));
-    }
-    match probed(rt.alloc(), program, &sources) {
-        Ok(Some(found)) => trace_to(rt, found, max, trace),
-        Ok(None) => untraced(rt),
-        Err(_) => say_memory(rt),
+    let mut names = Names::new(rt.alloc());
+    let stack = stack_size(program);
+    match checked_program(rt.alloc(), &sources.set, sources.main, &mut names, stack) {
+        Ok(typed) => match shown(rt.alloc(), &sources, names, typed) {
+            Ok(found) => trace_to(rt, found, form),
+            Err(_) => say_memory(rt),
+        },
+        Err(fault) => say(rt, &sources.told(rt.alloc(), fault)),
     }
 }
 
-/// The program with probes; `None` where it can't have them.
-fn probed(
+/// What the trace of a program shows.
+fn shown(
     alloc: Global,
-    program: &Program<'_>,
     sources: &Sources<'_>,
-) -> Result<Option<Tracing>, AllocError> {
-    let names = sources.names(alloc)?;
-    let texts = explain_findings::Sources::of(alloc, &sources.set, names.as_slice())?;
-    with_probes(alloc, &texts, sources.main)
+    names: Names,
+    typed: typed_ast::Program,
+) -> Result<Shown, AllocError> {
+    let mut names = names;
+    let objects = names_of_set(alloc, &sources.set, sources.main, &mut names, &typed)?;
+    let files = sources.names(alloc)?;
+    let lines = SourceLines::of(alloc, &sources.set, files.as_slice())?;
+    Ok(Shown {
+        typed,
+        names,
+        objects,
+        lines,
+    })
 }
 
-/// Interprets a program with probes; its trace goes where the words say.
-fn trace_to(rt: &HostRuntime, found: Tracing, max: u64, trace: Trace<'_>) -> u8 {
-    match trace {
+/// Interprets a program; its trace goes where the words say.
+fn trace_to(rt: &HostRuntime, found: Shown, form: InterpForm<'_>) -> u8 {
+    match form.trace {
         Trace::File(path) => match BufWriter::new(rt.alloc(), OutFile::plain(rt, path)) {
-            Ok(out) => run_probed(rt, found, max, out, path),
+            Ok(out) => run_told(rt, found, form, out),
             Err(_) => say_memory(rt),
         },
         Trace::Shown | Trace::None => match BufWriter::new(rt.alloc(), rt.stderr()) {
-            Ok(out) => run_probed(rt, found, max, out, ""),
+            Ok(out) => run_told(rt, found, form, out),
             Err(_) => say_memory(rt),
         },
     }
 }
 
-/// Interprets a program with probes over standard input and output; its trace goes to the writer, whose file has this path.
-fn run_probed<W: Write + Drop>(
-    rt: &HostRuntime,
-    found: Tracing,
-    max: u64,
-    out: W,
-    path: &str,
-) -> u8 {
-    let Ok(port) = streams(rt) else {
+/// Interprets a program over standard input and output; its trace goes to the writer.
+fn run_told<W: Write + Drop>(rt: &HostRuntime, found: Shown, form: InterpForm<'_>, out: W) -> u8 {
+    let Ok(mut port) = streams(rt) else {
         return say_memory(rt);
     };
     let Ok(mut line) = Line::new(rt.alloc()) else {
         return say_memory(rt);
     };
-    let mut traced = interpret_traced(rt.alloc(), found, port, out, max, &mut line);
-    let status = traced.status;
-    if let Err(fault) = traced.port.finish() {
+    let Shown {
+        typed,
+        names,
+        objects,
+        lines,
+    } = found;
+    let mut trace = Tracing::new(rt.alloc(), &names, objects, lines, trace_form(form), out);
+    let max = form.max;
+    let status = interpret_observed(
+        rt.alloc(),
+        &typed,
+        &names,
+        &mut port,
+        max,
+        &mut line,
+        &mut trace,
+    );
+    let written = trace.finish();
+    if let Err(fault) = port.finish() {
         return say_port(rt, fault);
     }
-    if status == 1 && !line.is_empty() && !line.begins_with(NO_MEMORY) {
-        return untraced(rt);
-    }
-    if !traced.has_memory {
+    if !written.has_memory {
         return say_memory(rt);
     }
     let status = tell(rt, &mut line, status);
-    if traced.is_whole {
+    if written.is_whole {
         status
     } else {
-        say_unwritten(rt, path)
+        say_unwritten(rt, trace_path(form.trace))
+    }
+}
+
+fn trace_form(form: InterpForm<'_>) -> TraceForm {
+    if form.is_json {
+        TraceForm::Json
+    } else {
+        TraceForm::Text
     }
 }
 
@@ -108,10 +150,4 @@ pub fn trace_path<'a>(trace: Trace<'a>) -> &'a str {
         Trace::File(path) => path,
         Trace::Shown | Trace::None => "",
     }
-}
-
-/// Says that the program can't be traced; answers the exit status.
-fn untraced(rt: &HostRuntime) -> u8 {
-    let _said = eprintln!(rt; "cc: the program has statements that can't be traced");
-    1
 }

@@ -4,5 +4,5 @@
 mod interpreting;
 mod running;
 
-pub use interpreting::interp_traced;
+pub use interpreting::{InterpForm, interp_traced};
 pub use running::{RunForm, run_traced};

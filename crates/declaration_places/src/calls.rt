@@ -1,7 +1,7 @@
 //! Calls, and the parameters of what they call.
 
 use crate::forms::{close_behind, separator_from};
-use instrument::{Span, Words};
+use source_words::{Span, Words};
 
 /// A call of a function.
 #[derive(Clone, Copy, Debug, PartialEq, Eq)]

@@ -1,6 +1,6 @@
 //! A declaration.
 
-use instrument::Words;
+use source_words::Words;
 
 /// The declaration of a name.
 #[derive(Clone, Copy, Debug, PartialEq, Eq)]

@@ -1,6 +1,6 @@
 //! The forms of tokens, and what stands between parentheses.
 
-use instrument::{Span, Words};
+use source_words::{Span, Words};
 
 fn is_opening(token: &[u8]) -> bool {
     matches!(token, b"(" | b"[" | b"{")

@@ -1,6 +1,6 @@
 //! Labels of a `switch` (ISO/IEC 9899:2011 6.8.1).
 
-use instrument::Words;
+use source_words::Words;
 
 /// How many tokens a constant has at most that is compared.
 const MAX_TOKENS: usize = 16;

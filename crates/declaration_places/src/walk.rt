@@ -2,7 +2,7 @@
 
 use crate::declared::Declared;
 use crate::forms::{close_behind, is_identifier, is_type_word, separator_from};
-use instrument::Words;
+use source_words::Words;
 use std::alloc::{AllocError, Global};
 
 /// A `for` whose head declares something.

@@ -2,16 +2,15 @@
 
 ghost use Rattle.std.specs.Prelude.{◌≡◌, ◌≤◌, IfOk};
 
+use crate::knowing::put_known;
 use crate::version::VERSION;
 use cc::StackSize;
 use explain::{Explained, Interpretation, Run, Stage, explain, interpreted};
-use explain_calls::put_active_calls;
-use explain_findings::{Finding, Shown, Sources, Undefined, wants_memory};
+use explain_findings::{Finding, Shown, Undefined, wants_memory};
 use explain_render::{
     Style, put_finding, put_json, put_json_undefined, put_sarif_end, put_sarif_result,
     put_sarif_start, put_sarif_undefined, put_source, put_undefined,
 };
-use explain_values::put_values;
 use srcset::{Fault, FileSet};
 use std::alloc::{AllocError, Global};
 
@@ -251,7 +250,7 @@ pub fn explain_run(
     let is_undefined = undefined.is_some();
     let told = match undefined {
         Some(act) => {
-            let act = act_known(alloc, set, names, main, run.input, act)?;
+            let act = act_known(alloc, set, main, run, act)?;
             told_act(alloc, form, &act)?
         }
         None => told_nothing(alloc, form, line.as_slice())?,
@@ -293,15 +292,12 @@ fn told_act(alloc: Global, form: Form, act: &Undefined) -> Result<String, AllocE
 fn act_known(
     alloc: Global,
     set: &FileSet,
-    names: &[&str],
     main: &str,
-    input: &[u8],
+    run: &Run<'_>,
     act: Undefined,
 ) -> Result<Undefined, AllocError> {
     let mut act = act;
-    let sources = Sources::of(alloc, set, names)?;
-    put_values(alloc, &sources, main, input, &mut act)?;
-    put_active_calls(alloc, set, names, main, input, &mut act)?;
+    put_known(alloc, set, main, run, &mut act)?;
     Ok(act)
 }
 

@@ -2,6 +2,7 @@
 #![tactic(auto)]
 
 mod answering;
+mod knowing;
 mod version;
 mod watching;
 

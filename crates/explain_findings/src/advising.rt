@@ -5,7 +5,7 @@ use crate::finding::{Noted, Place, Point, Topic, point_at};
 use crate::macro_notes::{MacroPlace, find_macro};
 use crate::sources::Sources;
 use explain_places::{Spot, Tokens};
-use instrument::Words;
+use source_words::Words;
 use srcset::Fault;
 use std::alloc::{AllocError, Global};
 use syntax_advice::{

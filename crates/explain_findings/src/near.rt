@@ -3,7 +3,7 @@
 use crate::sources::Sources;
 use declaration_places::visible;
 use explain_places::Tokens;
-use instrument::Words;
+use source_words::Words;
 use std::alloc::{AllocError, Global};
 use std::str;
 use strsim::osa_distance;

@@ -2,7 +2,7 @@
 
 use declaration_places::{close_behind, is_identifier, is_type_word, open_before};
 use explain_places::{Spot, Tokens, bodies};
-use instrument::{Span, Words};
+use source_words::{Span, Words};
 use std::alloc::{AllocError, Global};
 
 /// The places of the tokens that are passed over for a fault of this code at the byte behind so many: of its statement, where nothing else

@@ -7,7 +7,7 @@ use declaration_places::{
     Declared, call_at, close_behind, function_around, is_array, is_const, is_identifier,
     last_named, parameter_at, parameter_count, same_label_before, specifiers, visible,
 };
-use instrument::{Span, Words};
+use source_words::{Span, Words};
 use std::alloc::{AllocError, Global};
 
 /// A file in which a fault is looked for, and the number of its token.

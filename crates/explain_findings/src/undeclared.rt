@@ -8,7 +8,7 @@ use crate::near::nearest_visible;
 use crate::sources::Sources;
 use declaration_places::{is_identifier, last_named, visible};
 use explain_places::Tokens;
-use instrument::Words;
+use source_words::Words;
 use srcset::Fault;
 use std::alloc::{AllocError, Global};
 

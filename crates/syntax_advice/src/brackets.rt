@@ -1,7 +1,7 @@
 //! Parentheses, brackets and braces.
 
 use crate::vocabulary::{has_head, is_type_word};
-use instrument::Words;
+use source_words::Words;
 
 /// Whether a token opens a bracket.
 pub fn is_opening(token: &[u8]) -> bool {

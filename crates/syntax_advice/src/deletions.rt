@@ -3,7 +3,7 @@
 use crate::brackets::{close_behind, is_closing, open_before};
 use crate::expectation::{Candidate, Expected, inserted, replaced, tried};
 use crate::vocabulary::{is_identifier, is_keyword, is_type_word};
-use instrument::Words;
+use source_words::Words;
 
 /// Two tokens in a row that stand for one operator of C.
 pub fn operator(words: &Words<'_>, number: usize) -> Option<Candidate> {

@@ -1,7 +1,7 @@
 //! `else` where no `if` waits for it (ISO/IEC 9899:2011 6.8.4.1).
 
 use crate::brackets::{close_behind, is_closing, is_opening};
-use instrument::Words;
+use source_words::Words;
 
 /// Why an `else` has no `if`.
 #[derive(Clone, Copy, Debug, PartialEq, Eq)]

@@ -1,6 +1,6 @@
 //! A change that may mend a syntax error, and what it says of it.
 
-use instrument::Words;
+use source_words::Words;
 
 /// What was expected at a token that does not fit, or what is wrong with it.
 #[derive(Clone, Copy, Debug, PartialEq, Eq)]

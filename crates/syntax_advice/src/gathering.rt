@@ -9,7 +9,7 @@ use crate::expectation::{Candidate, Expected, inserted};
 use crate::insertions::put_insertions;
 use crate::spelling::put_words;
 use crate::type_names::{known_type_name, type_name};
-use instrument::Words;
+use source_words::Words;
 use std::alloc::{AllocError, Global};
 
 /// The most changes that are tried, each of them one more reading of the source.

@@ -3,7 +3,7 @@
 use crate::brackets::{open_before, wants_colon, wants_statement};
 use crate::expectation::{Candidate, Expected, inserted, replaced, tried};
 use crate::vocabulary::{has_head, is_identifier, is_type_word};
-use instrument::Words;
+use source_words::Words;
 use std::alloc::AllocError;
 
 /// Puts what may be missing before the token with this number.

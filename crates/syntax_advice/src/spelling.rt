@@ -3,7 +3,7 @@
 use crate::brackets::open_before;
 use crate::expectation::{Candidate, Expected, replaced};
 use crate::vocabulary::is_identifier;
-use instrument::Words;
+use source_words::Words;
 use std::alloc::{AllocError, Global};
 use std::str;
 use strsim::osa_distance;

@@ -1,7 +1,7 @@
 //! A source file with a change, laid out so that the line of its next fault tells how far it is read.
 
 use crate::expectation::Candidate;
-use instrument::Words;
+use source_words::Words;
 use std::alloc::{AllocError, Global};
 
 /// What stands behind the main file: where it is read up to its last line, all before it fits. A block cannot hold its first line.

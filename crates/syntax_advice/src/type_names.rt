@@ -2,7 +2,7 @@
 
 use crate::expectation::{Candidate, Expected, replaced, tried};
 use crate::vocabulary::{is_front, is_identifier};
-use instrument::Words;
+use source_words::Words;
 
 /// The type of the language for a name that people know from elsewhere; empty where it is none of these.
 pub fn known_type(name: &[u8]) -> &'static str {

@@ -1,9 +1,14 @@
-//! A program interpreted with a line for each statement, and the objects that it changed.
+//! A run of the interpreter told while it goes on: each statement, each object that gets a value, each function entered and left.
 #![tactic(auto)]
 
-mod events;
-mod script;
-mod trace_port;
-mod tracing;
+mod calls;
+mod lines;
+mod observing;
+mod parts;
+mod places;
+mod telling;
+mod wording;
 
-pub use tracing::{Traced, Tracing, interpret_traced, with_probes};
+pub use lines::SourceLines;
+pub use telling::{Trace, Written};
+pub use wording::TraceForm;

@@ -6,7 +6,7 @@
 Frames are held against the listing (the first instruction of a function lowers sp by its frame); symbols are read by readelf, and by objdump
 and gdb-multiarch where they are there; an image is held against the program headers, and where objcopy is there against its forms; a trace
 against the listing and the run; completions are asked of the shells that are there. The last line is 'N passed, M failed'."""
-import os, pty, re, select, shutil, struct, subprocess, sys, tempfile, time
+import json, os, pty, re, select, shutil, struct, subprocess, sys, tempfile, time
 
 sys.path.insert(0, os.path.dirname(os.path.dirname(os.path.dirname(os.path.abspath(__file__)))))
 import harness
@@ -541,7 +541,8 @@ def statements():
         check('statements of two files', status == 42 and 'util.h:2: return x + x;\nleave twice: 42\n' in err, err)
         check('statements: budget', cc(work, 'interp', 'a.c', '--trace', '--max', '20')[0] == 124)
         put(work, 'braces.c', '#define BEGIN {\n#define END }\nint main(void) BEGIN return 3; END\n')
-        check('statements: no functions seen', cc(work, 'interp', 'braces.c', '--trace')[:2] == (3, b''))
+        said = (3, b'', 'enter main\nbraces.c:3: int main(void) BEGIN return 3; END\nleave main: 3\n')
+        check('statements: braces of macros', cc(work, 'interp', 'braces.c', '--trace') == said, cc(work, 'interp', 'braces.c', '--trace'))
         put(work, 'bad.c', 'int main(void) { return x; }\n')
         check('statements of no program', cc(work, 'interp', 'bad.c', '--trace') == (1, b'', 'bad.c:1: 528 undeclared name\n'))
         check('statements: OUT is a source', cc(work, 'interp', 'a.c', '--trace-file', 'a.c')[:2] == (2, b'') and open(os.path.join(work, 'a.c')).read() == TRACED)
@@ -549,9 +550,70 @@ def statements():
         # every example ends as it does without a trace
         for name in sorted(os.listdir(os.path.join(ROOT, 'examples'))):
             if name.endswith('.c'):
-                plain = cc(os.path.join(ROOT, 'examples'), 'interp', name, '--max', '200000', text=b'12 7 hello\n')
-                traced = cc(os.path.join(ROOT, 'examples'), 'interp', name, '--trace-file', os.path.join(work, 'log'), '--max', '4000000', text=b'12 7 hello\n')
-                check('statements: ' + name, plain[0] == 124 or traced == plain, plain, traced)
+                same(os.path.join(ROOT, 'examples'), name, b'12 7 hello\n', work, '200000')
+        # ticks are those of the plain run, and memory does not grow with them
+        put(work, 'long.c', 'int f(int n) { return n + 1; }\nint main(void) { unsigned n = 0; for (;;) n = f(n & 7); }\n')
+        asked = subprocess.Popen([CC, 'interp', 'long.c', '--trace-file', '/dev/null', '--max', '10000000'], cwd=work, stderr=subprocess.PIPE)
+        said = asked.stderr.read()
+        asked.stderr.close()
+        status, usage = os.wait4(asked.pid, 0)[1:]
+        asked.returncode = os.waitstatus_to_exitcode(status)
+        check('statements: 10^7 ticks', (asked.returncode, said) == (124, b'cc: budget used\n') and usage.ru_maxrss < 100000, asked.returncode, said, usage.ru_maxrss)
+
+def same(folder, name, text, work, most):
+    """A program ends with a trace as it does without; answers the exit status."""
+    plain = cc(folder, 'interp', name, '--max', most, text=text)
+    traced = cc(folder, 'interp', name, '--max', most, '--trace-file', os.path.join(work, 'log'), text=text)
+    check('as without a trace: ' + name, traced == plain, plain, traced)
+    return plain[0]
+
+def by_hand():
+    """The programs of trace/, whose traces are by hand."""
+    folder = os.path.join(os.path.dirname(os.path.abspath(__file__)), 'trace')
+    names = sorted(name[:-2] for name in os.listdir(folder) if name.endswith('.c'))
+    check('by hand: programs', len(names) == 13, names)
+    for name in names:
+        lines = open(os.path.join(folder, name + '.c')).read().split('\n')
+        told = open(os.path.join(folder, name + '.told')).read().splitlines()
+        shown = ['%s.c:%s: %s' % (name, line, lines[int(line) - 1].strip()) if line.isdigit() else line for line in told[:-1]]
+        wanted = (int(told[-1].split()[1]), b'', '\n'.join(shown) + '\n')
+        check('by hand: ' + name, cc(folder, 'interp', name + '.c', '--trace') == wanted, cc(folder, 'interp', name + '.c', '--trace'))
+
+def everywhere():
+    """Each source of these tests, accepted or refused, does with a trace what it does without."""
+    accepted = 0
+    with tempfile.TemporaryDirectory() as work:
+        for folder, _, names in sorted(os.walk(os.path.join(ROOT, 'tests', 'outside'))):
+            for name in sorted(names):
+                if name.endswith('.c'):
+                    accepted += same(folder, name, b'12 7 hello\n', work, '20000') != 1
+        for line in open(os.path.join(ROOT, 'tests', 'outside', 'constraints', 'accepted.txt')):
+            if line.split():
+                accepted += same(os.path.join(ROOT, 'tests', 'outside', 'constraints', 'accepted'), line.split()[0] + '.c', b'a b 12\n', work, '300000') != 1
+    check('everywhere: programs that are traced', accepted > 500, accepted)
+
+def objects_of_json():
+    """A trace as JSON: each line is an object, and they tell what the text tells, and the bytes."""
+    with tempfile.TemporaryDirectory() as work:
+        put(work, 'a.c', TRACED)
+        status, out, err = cc(work, 'interp', 'a.c', '--trace', '--json')
+        events = [json.loads(line) for line in err.splitlines()]
+        check('json: ends as without', (status, out) == (3, b'h'), status, out)
+        check('json: bytes', [one for one in events if one['event'] in ('put', 'get')] == [dict(event='put', byte=104)], events)
+        check('json: begins', events[:5] == [dict(event='enter', function='main'), dict(event='statement', file='a.c', line=7), dict(event='set', name='s', path=[], value=0),
+                                             dict(event='statement', file='a.c', line=8), dict(event='set', name='i', path=[], value=0)], events[:5])
+        check('json: an element', dict(event='set', name='a', path=[1], value=2) in events and events[-1] == dict(event='leave', function='main', value=3), events)
+        lines = TRACED.splitlines()
+        text = {'enter': lambda e: 'enter ' + e['function'], 'leave': lambda e: 'leave %s: %d' % (e['function'], e['value']),
+                'statement': lambda e: '%s:%d: %s' % (e['file'], e['line'], lines[e['line'] - 1].strip()),
+                'set': lambda e: '    %s%s = %d' % (e['name'], ''.join('[%d]' % k for k in e['path']), e['value'])}
+        check('json: as the text', ''.join(text[e['event']](e) + '\n' for e in events if e['event'] in text) == TOLD, err)
+        put(work, 'echo.c', '#include <rvio.h>\nvoid f(void) { rv_getbyte(); }\nint main(void) { f(); f(); return 0; }\n')
+        events = [json.loads(line) for line in cc(work, 'interp', 'echo.c', '--trace', '--json', text=b'h')[2].splitlines()]
+        check('json: got', [one['byte'] for one in events if one['event'] == 'get'] == [104, None] and dict(event='leave', function='f', value=None) in events, events)
+        status, out, err = cc(work, 'interp', 'a.c', '--trace-file', 'log', '--json')
+        check('json: to a file', (status, err) == (3, '') and all(json.loads(line) for line in open(os.path.join(work, 'log'))), err)
+        check('json: of no trace', cc(work, 'interp', 'a.c', '--json')[:2] == (2, b''))
 
 def follows(lines):
     """Whether the registers that a trace tells are those that its additions of constants give."""
@@ -575,7 +637,7 @@ def refused():
         before = sorted(os.listdir(work))
         usage = (['frames', 'a.c', '--stack', '5000'], ['frames', 'a.c', '--stack', '0'], ['symbols', 'a.c'], ['symbols', '-o', 'x'], ['symbols', 'a.c', '-o', 'x', '--stack', '5000'],
                  ['image'], ['image', 'a', '--hex'], ['image', 'a', 'b', '--bin'], ['interp', 'a.c', '--trace-file'], ['interp', 'a.c', '--trace', '--stack', '5000'], ['interp', '--trace'],
-                 ['run', 'a', '--map', 'a.c', '--stack', '5000'], ['run', 'a', '--trace-file'], ['run', 'a', '--at', '-1'], ['frames', 'a.c', '--json'], ['explained', 'a.c'])
+                 ['run', 'a', '--map', 'a.c', '--stack', '5000'], ['run', 'a', '--trace-file'], ['run', 'a', '--at', '-1'], ['interp', 'a.c', '--json'], ['frames', 'a.c', '--json'], ['explained', 'a.c'])
         faults = (['frames', 'none.c'], ['frames', 'a'], ['symbols', 'none.c', '-o', 'x'], ['symbols', 'a.c', '-o', 'none/x'], ['image', 'none', '--bin'], ['image', 'a.c', '--memh'], ['interp', 'none.c', '--trace'],
                   ['interp', 'none.c', '--trace-file', 'x'], ['run', 'none', '--trace'], ['run', 'a', '--map', 'none.c'], ['run', 'a', '--trace-file', 'none/x'])
         for status, rows in ((2, usage), (1, faults)):
@@ -687,7 +749,7 @@ def surroundings():
 
 
 def cases(_):
-    return harness.parts(frames, labels, sizes, objects, lines, symbols, image, traces, statements, refused, kept, terminals, surroundings)
+    return harness.parts(frames, labels, sizes, objects, lines, symbols, image, traces, statements, by_hand, everywhere, objects_of_json, refused, kept, terminals, surroundings)
 
 
 if __name__ == '__main__':

@@ -115,5 +115,9 @@ UNDEFINED = [
     ('negative subscript of a parameter', 5, 'void put(char a[], int i) { a«[»i] = 1; }\nint main(void) {\n    char b[100];\n    put(b, 99);\n    put(b, -3);\n    return 0;\n}\n', b'', '', 'index -3 of 100 elements of `a`'),
     ('no value', 6, 'int main(void) {\n    int a[3];\n    a[0] = 1;\n    return a«[»2];\n}\n', b'', '', 'element 2 of `a` has no value'),
     ('behind input and output', 2, '#include <rvio.h>\nint main(void) {\n    int n = rv_getbyte() - 48;\n    rv_putbyte(111);\n    return 1 «%» n;\n}\n', b'0', 'o', '1 % 0'),
+    ('no value of an object', 6, 'int main(void) { int x; return «x»; }\n', b'', '', '`x` has no value'),
+    ('a compound whose index changes', 1, 'int main(void) { int a[2] = { 2147483647, 0 }; int i = 0; a[i++] «+=» 1; return 0; }\n', b'', '', '2147483647 + 1 is 2147483648' + INT),
+    ('a literal written', 7, 'void f(char a[]) { a[1] «=» 0; }\nint main(void) { f("abc"); return 0; }\n', b'', '', 'element 1 of `a` is of a string literal'),
+    ('a subscript that a macro makes', 5, '#define AT(a, i) a[i]\nint b[3];\nint main(void) { int i = 3; return «AT»(b, i); }\n', b'', '', 'index 3 of 3 elements of `b`'),
     ('operands that a macro makes', 1, '#define N 2147483647\nint main(void) { return N «+» 1; }\n', b'', '', '2147483647 + 1 is 2147483648' + INT),
 ]

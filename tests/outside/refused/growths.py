@@ -130,6 +130,7 @@ def commands(cc, preload):
         yield plain(' '.join(['verify what is not shown', *words]), ['verify', 'main.c', *words], unset)
     yield plain('pp with lines', ['pp', 'main.c', '--lines'], files)
     yield plain('interp told', ['interp', 'main.c', '--trace-file', 'out'], files, 'out')
+    yield plain('interp told as JSON', ['interp', 'main.c', '--trace-file', 'out', '--json'], files, 'out')
     two = {'main.c': b'#include "a.h"\nint main(void) { return N; }\n', 'inc/a.h': b'#define A 1\n'}
     yield plain('includes', ['build', '-I', 'inc', '-DN=A', 'main.c', '-o', 'out', '-MF', 'd'], two, 'out')
     yield plain('the files of a program', ['build', '-I', 'inc', '-DN=A', 'main.c', '--list-files'], two)

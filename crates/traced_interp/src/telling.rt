@@ -1,0 +1,321 @@
+//! An observer that writes what it is told.
+
+use crate::calls::{Calls, Defined};
+use crate::lines::SourceLines;
+use crate::parts::{Parts, first_parts};
+use crate::places::place_of;
+use crate::wording::{TraceForm, begun, entered, further, got, left, put, set};
+use interp_store::Reference;
+use interp_store::frames::{Flow, FlowFrame, Found, Passed};
+use interp_store::scene::Scene;
+use object_names::ProgramNames;
+use srcset::{Names, Pos, write_text};
+use std::alloc::{AllocError, Global};
+use std::io::Write;
+use typed_ast::{Statement, Value};
+
+/// An element that is to get a value, and the place of the assignment.
+#[derive(Drop)]
+struct Pending {
+    at: Pos,
+    element: Reference,
+}
+
+/// How the writing of a trace ended.
+#[derive(Clone, Copy, Debug, PartialEq, Eq)]
+pub struct Written {
+    /// Whether the whole trace was written.
+    pub is_whole: bool,
+    /// Whether there was memory for the whole trace.
+    pub has_memory: bool,
+}
+
+/// An observer that writes to a writer each statement with its line, each object that gets a value, each function that is entered and left.
+#[derive(Drop)]
+pub struct Trace<'a, W: Write + Drop> {
+    alloc: Global,
+    names: &'a Names,
+    objects: ProgramNames,
+    lines: SourceLines,
+    form: TraceForm,
+    out: W,
+    calls: Calls,
+    pending: Option<Pending>,
+    // The line that was written last, where nothing was written behind it.
+    last: Option<Pos>,
+    is_whole: bool,
+    has_memory: bool,
+}
+
+impl<'a, W: Write + Drop> Trace<'a, W> {
+    /// A trace to a writer, in a form, of a program with these names, objects and source lines.
+    pub fn new(
+        alloc: Global,
+        names: &'a Names,
+        objects: ProgramNames,
+        lines: SourceLines,
+        form: TraceForm,
+        out: W,
+    ) -> Self {
+        Trace {
+            alloc,
+            names,
+            objects,
+            lines,
+            form,
+            out,
+            calls: Calls::new(alloc),
+            pending: None,
+            last: None,
+            is_whole: true,
+            has_memory: true,
+        }
+    }
+
+    /// Flushes the writer. Answers whether the whole trace was written, and whether there was memory for it.
+    pub fn finish(self) -> Written {
+        let mut out = self.out;
+        let is_flushed = out.flush().is_ok();
+        Written {
+            is_whole: self.is_whole && is_flushed,
+            has_memory: self.has_memory,
+        }
+    }
+
+    /// Memory ran out: the trace ends.
+    fn refuse(&mut self) {
+        self.is_whole = false;
+        self.has_memory = false;
+    }
+
+    /// Writes a text. At the first one that cannot be written the trace ends.
+    fn write(&mut self, text: Result<String, AllocError>) {
+        if !self.is_whole {
+            return;
+        }
+        self.last = None;
+        match text {
+            Ok(text) => {
+                if !write_text(&mut self.out, text.as_bytes()) {
+                    self.is_whole = false;
+                }
+            }
+            Err(_) => self.refuse(),
+        }
+    }
+
+    /// Tells a line, unless that was told last.
+    fn tell_line(&mut self, at: Pos) {
+        if self.last == Some(at) {
+            return;
+        }
+        let file = self.names.file_name(at.file);
+        let source = self.lines.line(file, at.line);
+        let text = begun(self.alloc, self.form, file, at.line, source);
+        self.write(text);
+        self.last = Some(at);
+        self.calls.tell(at);
+    }
+
+    /// Tells a line, unless it is the last one that was told of the present call.
+    fn tell_place(&mut self, at: Pos) {
+        if !self.calls.has_told(at) {
+            self.tell_line(at);
+        }
+    }
+
+    /// Tells the value of an element.
+    fn tell_value(&mut self, scene: &Scene, element: &Reference) {
+        let Some(value) = scene.store.value(element) else {
+            return;
+        };
+        let text = self.value_text(scene, element, value);
+        self.write(text);
+    }
+
+    fn value_text(
+        &self,
+        scene: &Scene,
+        element: &Reference,
+        value: i64,
+    ) -> Result<String, AllocError> {
+        let found = self
+            .objects
+            .designated(self.calls.function(), scene, element);
+        let subscripts = element.path.subscripts();
+        let path = subscripts.get(found.skipped..).unwrap_or_default();
+        if found.name.is_empty() {
+            let number = element.object;
+            let name = format!(in self.alloc; "object {number}")?;
+            return set(self.alloc, self.form, name.as_str(), path, value);
+        }
+        set(self.alloc, self.form, found.name, path, value)
+    }
+
+    /// A function is entered.
+    pub(crate) fn enter(&mut self, function: usize, passed: &[Passed], scene: &Scene) {
+        let text = entered(self.alloc, self.form, self.objects.function(function));
+        self.write(text);
+        if self.calls.push(function).is_err() {
+            self.refuse();
+        }
+        let mut object = scene.base;
+        for one in passed {
+            if let Passed::Number(_) = one {
+                self.tell_value(scene, &Reference::whole(object));
+                object = object.saturating_add(1);
+            }
+        }
+    }
+
+    /// The present call ends.
+    fn leave(&mut self, is_main: bool, flow: Flow) {
+        let Some(function) = self.calls.pop() else {
+            return;
+        };
+        let name = self.objects.function(function);
+        let text = left(self.alloc, self.form, name, value_left(is_main, flow));
+        self.write(text);
+    }
+
+    /// A statement begins. What only holds others, or stands before them, is not told; of the declarators of a line one is.
+    pub(crate) fn begin(&mut self, statement: &Statement) {
+        match statement {
+            Statement::Empty(_) | Statement::Block(_, _, _, _) => {}
+            Statement::Case(_, _) | Statement::Default(_) => {}
+            Statement::While(at, _, _) | Statement::For(at, _, _, _) => {
+                self.tell_line(*at);
+                self.open_loop(*at);
+            }
+            Statement::DoWhile(at, _, test) => {
+                self.tell_line(*at);
+                self.open_loop(test_place(*at, test));
+            }
+            Statement::Declare(at, _) => self.tell_place(*at),
+            Statement::Define(at, object, _) => {
+                self.tell_place(*at);
+                self.calls.define(*at, *object);
+            }
+            _ => self.tell_line(statement.place()),
+        }
+    }
+
+    /// A loop begins, of which this place is told as it goes on.
+    fn open_loop(&mut self, at: Pos) {
+        if self.calls.open_loop(at).is_err() {
+            self.refuse();
+        }
+    }
+
+    /// The innermost loop goes on.
+    fn continue_loop(&mut self) {
+        if let Some(at) = self.calls.loop_place() {
+            self.tell_line(at);
+        }
+    }
+
+    /// The innermost loop ends.
+    pub(crate) fn close_loop(&mut self) {
+        self.calls.close_loop();
+    }
+
+    /// A turn of the innermost loop ends so.
+    fn end_turn(&mut self, flow: Flow) {
+        match flow {
+            Flow::Normal | Flow::Continued => self.continue_loop(),
+            Flow::Broken | Flow::Returned(_) => self.close_loop(),
+        }
+    }
+
+    /// The object that was to get its first value has it.
+    pub(crate) fn tell_first(&mut self, scene: &Scene) {
+        let Some(defined) = self.calls.defined() else {
+            return;
+        };
+        let first = scene.base.saturating_add(defined.object);
+        let parts = match self.objects.object(self.calls.function(), defined.object) {
+            Some(object) => first_parts(self.alloc, first, object.lengths.as_slice()),
+            None => return,
+        };
+        match parts {
+            Ok(parts) => self.tell_parts(scene, defined, &parts),
+            Err(_) => self.refuse(),
+        }
+    }
+
+    fn tell_parts(&mut self, scene: &Scene, defined: Defined, parts: &Parts) {
+        self.tell_place(defined.at);
+        for element in &parts.list {
+            self.tell_value(scene, element);
+        }
+        if parts.has_more {
+            self.tell_further(defined.object);
+        }
+    }
+
+    fn tell_further(&mut self, object: usize) {
+        let name = self.objects.object_name(self.calls.function(), object);
+        let text = further(self.alloc, self.form, name);
+        self.write(text);
+    }
+
+    /// A byte was got, or the end of the input.
+    pub(crate) fn tell_got(&mut self, byte: Option<u8>) {
+        if self.form == TraceForm::Json {
+            let text = got(self.alloc, byte);
+            self.write(text);
+        }
+    }
+
+    /// A byte is put.
+    pub(crate) fn tell_put(&mut self, byte: u8) {
+        if self.form == TraceForm::Json {
+            let text = put(self.alloc, byte);
+            self.write(text);
+        }
+    }
+
+    /// What was to get a value has it.
+    pub(crate) fn tell_pending(&mut self, scene: &Scene) {
+        if let Some(pending) = self.pending.take() {
+            self.tell_place(pending.at);
+            self.tell_value(scene, &pending.element);
+        }
+    }
+
+    /// An element is to get a value.
+    pub(crate) fn expect(&mut self, at: Pos, element: &Reference) {
+        match element.copied(self.alloc) {
+            Ok(element) => self.pending = Some(Pending { at, element }),
+            Err(_) => self.refuse(),
+        }
+    }
+
+    /// A statement, or the test of a loop, has come to this.
+    pub(crate) fn flow_found(&mut self, frame: &FlowFrame<'_>, found: &Found) {
+        let Found::Flow(flow) = found else {
+            return;
+        };
+        match frame {
+            FlowFrame::Returns(back) => self.leave(back.is_main, *flow),
+            FlowFrame::Turn(_) => self.end_turn(*flow),
+            FlowFrame::Rest(_, _) | FlowFrame::InSwitch | FlowFrame::ForStarts(_, _) => {}
+        }
+    }
+}
+
+/// The value of a call whose body is left so; that of `main` is 0 where it has none of its own (5.1.2.2.3p1).
+fn value_left(is_main: bool, flow: Flow) -> Option<i64> {
+    match flow {
+        Flow::Returned(value) => value,
+        Flow::Normal | Flow::Broken | Flow::Continued => if is_main { Some(0) } else { None },
+    }
+}
+
+/// Where the test of a `do` stands, which begins at `at`.
+fn test_place(at: Pos, test: &Value) -> Pos {
+    match place_of(test) {
+        Some(place) => place,
+        None => at,
+    }
+}
