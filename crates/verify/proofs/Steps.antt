@@ -18,6 +18,7 @@ use Rattle.csem.specs.Statements.{Flow, execute}
 use Rattle.csem.specs.Meaning.{enter, leave, value_at_end, value_left, body_of, call_defined, calling, start, end_with, ending_of}
 use Rattle.verify_logic.specs.declared.abstract_values.Interval.{Interval}
 use Rattle.verify_logic.specs.declared.abstract_values.AbsValue.{AbsValue}
+use Rattle.verify_logic.specs.declared.abstract_values.ArrayArgument.{ArrayArgument}
 use Rattle.verify_logic.specs.States.{Frame, In, TreeIs, ObjectsAre, Summary, lengths_in, IsSound, AreSound, ValueIs, Entails, Implies, Reaches, Ends}
 use Rattle.verify_logic.specs.Statements.{Ways, Leaves, Executes}
 use Rattle.verify_logic.specs.Calls.{Entered, FunctionEnds, Begins, EachIn}
@@ -46,17 +47,17 @@ entered_fresh (t ∷ objects) [] e h = absurd (cc e)
 entered_fresh (t ∷ objects) (k ∷ ks) e h = (h.0, entered_fresh objects ks (let q : suc (length ks) ≡ suc (length objects) = e in omega (arith, q)) h.1)
 
 pub main_body : (p : Program) (wk : Work) (outer : List (Vec ℕ Global)) (g : Function) (first : List AbsValue) (count : ℕ) (entry : List AbsValue) (w : Ways) → IsSoundWork p wk → slice_get p.functions p.main ≡ Some g → Begins p (shapes_in outer) first → count ≡ length g.objects →
-    EntersMain first count entry → Executes (frame_in p wk outer g) g.body (Some entry) w → IsDefinedBut p wk.listed.items
+    EntersMain first count entry → Executes (frame_in p wk outer [] g) g.body (Some entry) w → IsDefinedBut p wk.listed.items
 main_body p wk outer g first count entry w sound eg hb ec en h n input bytes =
     let listed : List Pos = wk.listed.items in
-    let fr : Frame = frame_in p wk outer g in
+    let fr : Frame = frame_in p wk outer [] g in
     let s : State = start n p input in
     let s1 : State = enter p.main g [] s in
     let P : Option Function → Type 0 = λ o. UndefinedOnlyAt listed (ending_of (then_do (call_defined p (calling p n) o p.main [] s) end_with)) in
     let K : List AbsValue → Type 0 = λ known. Reaches fr (Some known) s1 in
     let c0 : Reaches fr (Some (first ++ en.own)) s1 = record {
       based = as_long first (shapes_in outer) (first_store p) hb;
-      referred = refl;
+      referred = tt;
       objects_are = both_are first (shapes_in outer) (first_store p) en.own (map lengths_in g.objects) _ hb (new_objects g.objects en.own (entered_fresh g.objects en.own (en.fresh.0 ∙ ec) en.fresh.1));
       bytes = bytes;
       sound = sound;
@@ -181,11 +182,11 @@ all_end p f b w end value two three o eb m ev ee n2 b2 t3 c3 o3 r3 =
 
 -- ---- summaries
 
-pub summary_sound : (p : Program) (wk : Work) (outer : List (Vec ℕ Global)) (g : Function) (f : ℕ) (entry given : List AbsValue) (w : Ways) (value : AbsValue) (left : Option (List AbsValue)) → IsSoundWork p wk → slice_get p.functions f ≡ Some g →
-    entry ≡ given → Executes (frame_in p wk outer g) g.body (Some entry) w → FunctionEnds p f w value left → IsSound p wk.listed.items (record { function = f; outer = shapes_in outer; entry = given; value = value; left = left })
-summary_sound p wk outer g f entry given w value left sound eg e h ends =
-    let Q : List AbsValue → Type 0 = λ known. IsSound p wk.listed.items (record { function = f; outer = shapes_in outer; entry = known; value = value; left = left }) in
-    subst Q e (body_rule (frame_in p wk outer g) f g entry w value left refl refl sound eg h ends)
+pub summary_sound : (p : Program) (wk : Work) (outer : List (Vec ℕ Global)) (ps : List ArrayArgument) (g : Function) (f : ℕ) (entry given : List AbsValue) (w : Ways) (value : AbsValue) (left : Option (List AbsValue)) → IsSoundWork p wk → slice_get p.functions f ≡ Some g →
+    entry ≡ given → Executes (frame_in p wk outer ps g) g.body (Some entry) w → FunctionEnds p f w value left → IsSound p wk.listed.items (record { function = f; outer = shapes_in outer; arrays = ps; entry = given; value = value; left = left })
+summary_sound p wk outer ps g f entry given w value left sound eg e h ends =
+    let Q : List AbsValue → Type 0 = λ known. IsSound p wk.listed.items (record { function = f; outer = shapes_in outer; arrays = ps; entry = known; value = value; left = left }) in
+    subst Q e (body_rule (frame_in p wk outer ps g) f g entry w value left refl sound eg h ends)
 
 -- ---- more places
 
@@ -250,15 +251,17 @@ pub static_at : (before : Store) (objects : List held.Static) (n : ℕ) (x : hel
     FirstAre b (before ++ map static_object (map static_of (take (n + 1) objects)))
 static_at before objects n x a b lt ex h g = let P : held.Static → Type 0 = λ y. Adds a (static_object (static_of y)) b in static_known before objects n x a b lt (subst P ex h) g
 
-pub main_body_at : (p : Program) (wk : Work) (outer outer2 : List (Vec ℕ Global)) (g : Function) (first : List AbsValue) (count : ℕ) (entry : List AbsValue) (w : Ways) → outer ≡ outer2 → IsSoundWork p wk → slice_get p.functions p.main ≡ Some g → Begins p (shapes_in outer2) first →
-    count ≡ length g.objects → EntersMain first count entry → Executes (frame_in p wk outer g) g.body (Some entry) w → IsDefinedBut p wk.listed.items
-main_body_at p wk outer outer2 g first count entry w eo sound eg hb ec en h = let P : List (Vec ℕ Global) → Type 0 = λ outer. Executes (frame_in p wk outer g) g.body (Some entry) w in
-    main_body p wk outer2 g first count entry w sound eg hb ec en (subst P eo h)
+pub main_body_at : (p : Program) (wk : Work) (outer outer2 : List (Vec ℕ Global)) (ps : List ArrayArgument) (g : Function) (first : List AbsValue) (count : ℕ) (entry : List AbsValue) (w : Ways) → outer ≡ outer2 → ps ≡ [] → IsSoundWork p wk → slice_get p.functions p.main ≡ Some g → Begins p (shapes_in outer2) first →
+    count ≡ length g.objects → EntersMain first count entry → Executes (frame_in p wk outer ps g) g.body (Some entry) w → IsDefinedBut p wk.listed.items
+main_body_at p wk outer outer2 ps g first count entry w eo ep sound eg hb ec en h = let P : List (Vec ℕ Global) → Type 0 = λ outer. Executes (frame_in p wk outer ps g) g.body (Some entry) w in
+    let Q : List ArrayArgument → Type 0 = λ ps. Executes (frame_in p wk outer2 ps g) g.body (Some entry) w in
+    main_body p wk outer2 g first count entry w sound eg hb ec en (subst Q ep (subst P eo h))
 
-pub summary_at : (p : Program) (wk : Work) (outer outer2 : List (Vec ℕ Global)) (g : Function) (f : ℕ) (entry given : List AbsValue) (w : Ways) (value : AbsValue) (left : Option (List AbsValue)) → outer ≡ outer2 → IsSoundWork p wk → slice_get p.functions f ≡ Some g →
-    entry ≡ given → Executes (frame_in p wk outer g) g.body (Some entry) w → FunctionEnds p f w value left → IsSound p wk.listed.items (record { function = f; outer = shapes_in outer2; entry = given; value = value; left = left })
-summary_at p wk outer outer2 g f entry given w value left eo sound eg e h ends = let P : List (Vec ℕ Global) → Type 0 = λ outer. Executes (frame_in p wk outer g) g.body (Some entry) w in
-    summary_sound p wk outer2 g f entry given w value left sound eg e (subst P eo h) ends
+pub summary_at : (p : Program) (wk : Work) (outer outer2 : List (Vec ℕ Global)) (ps ps2 : List ArrayArgument) (g : Function) (f : ℕ) (entry given : List AbsValue) (w : Ways) (value : AbsValue) (left : Option (List AbsValue)) → outer ≡ outer2 → ps ≡ ps2 → IsSoundWork p wk → slice_get p.functions f ≡ Some g →
+    entry ≡ given → Executes (frame_in p wk outer ps g) g.body (Some entry) w → FunctionEnds p f w value left → IsSound p wk.listed.items (record { function = f; outer = shapes_in outer2; arrays = ps2; entry = given; value = value; left = left })
+summary_at p wk outer outer2 ps ps2 g f entry given w value left eo ep sound eg e h ends = let P : List (Vec ℕ Global) → Type 0 = λ outer. Executes (frame_in p wk outer ps g) g.body (Some entry) w in
+    let Q : List ArrayArgument → Type 0 = λ ps. Executes (frame_in p wk outer2 ps g) g.body (Some entry) w in
+    summary_sound p wk outer2 ps2 g f entry given w value left sound eg e (subst Q ep (subst P eo h)) ends
 
 pub function_there : (functions : List code_function.Function) (f : ℕ) (g : code_function.Function) → slice_get functions f ≡ Some g → slice_get (map function_of functions) f ≡ Some (function_of g)
 function_there [] f g e = absurd (cc e)

@@ -5,6 +5,7 @@ use Rattle.std.specs.declared.alloc.Global.{Global}
 use Rattle.typing_spec.specs.Program.{Function, Program}
 use Rattle.csem.specs.Store.{Tree, Store}
 use Rattle.verify_logic.specs.declared.abstract_values.AbsValue.{AbsValue}
+use Rattle.verify_logic.specs.declared.abstract_values.ArrayArgument.{ArrayArgument}
 use Rattle.verify_logic.specs.States.{Frame, Summary, IsSound, AreSound, ObjectsAre}
 use Rattle.verify_logic.specs.Statements.{Ways}
 use Rattle.verify_logic.specs.Whole.{IsDefined, IsDefinedBut}
@@ -51,9 +52,9 @@ abbrev pub SaysTurn : Program → Turn → Type 0
 SaysTurn p (Done v) = Says p v
 SaysTurn p (More w) = IsSoundWork p w
 
--- a call of function g
-abbrev pub frame_in : Program → Work → List (Vec ℕ Global) → Function → Frame
-frame_in p w outer g = record { program = p; listed = w.listed.items; summaries = map summary_of w.summaries.items; outer = shapes_in outer; objects = g.objects; arrays = [] }
+-- a call of function g that passes these arrays
+abbrev pub frame_in : Program → Work → List (Vec ℕ Global) → List ArrayArgument → Function → Frame
+frame_in p w outer ps g = record { program = p; listed = w.listed.items; summaries = map summary_of w.summaries.items; outer = shapes_in outer; objects = g.objects; arrays = ps }
 
 -- each end is a `return`
 pub record OnlyReturns (w : Ways) : Type 0 where
@@ -67,7 +68,7 @@ pub record Adds (before : FirstObjects) (t : Tree) (after : FirstObjects) : Type
 
 -- what was shown of a call
 abbrev pub summary_by : Wanted → BodyEnd → Summary
-summary_by w end = record { function = w.function; outer = shapes_in w.outer.items; entry = w.entry.items; value = end.value; left = state_of end.state }
+summary_by w end = record { function = w.function; outer = shapes_in w.outer.items; arrays = w.arrays.items; entry = w.entry.items; value = end.value; left = state_of end.state }
 
 abbrev pub Shows : Program → Work → Wanted → BodyEnd → Type 0
 Shows p work w end = IsSound p work.listed.items (summary_by w end)

@@ -17,7 +17,7 @@ use std::alloc::Global;
 use typed_ast::{Function, Program};
 use verify_expressions::{AbsState, Memory, Scope, Stop, Wanted, enter_body, is_reached, joined};
 use verify_intervals::{either, initialised, single, uninitialised};
-use verify_logic::AbsValue;
+use verify_logic::{AbsValue, ArrayArgument};
 use verify_statements::{Left, statement};
 
 /// New objects.
@@ -40,10 +40,11 @@ fn body_executed<'a>(
     program: &'a Program,
     work: &'a Work,
     outer: &'a [Vec<u32>],
+    arrays: &'a [ArrayArgument],
     function: &'a Function,
     entry: Vec<AbsValue>,
 ) -> Result<Left, Stop>
-    ensures { IfOk result (λ r. Executes (frame_in (program_of program.now) work.now outer.now (function_of function.now)) (function_of function.now).body (Some entry.items) (ways_of r)) }
+    ensures { IfOk result (λ r. Executes (frame_in (program_of program.now) work.now outer.now arrays.now (function_of function.now)) (function_of function.now).body (Some entry.items) (ways_of r)) }
 {
     enter_body(memory);
     let scope = Scope {
@@ -53,6 +54,7 @@ fn body_executed<'a>(
         summaries: &work.summaries,
         outer,
         objects: &function.objects,
+        arrays,
         memory,
     };
     let state = AbsState {
@@ -107,7 +109,7 @@ fn function_shown(
 {
     let outer = before.outer;
     let entry = entered(memory.alloc, before.known, object_count(function))?;
-    let _left = body_executed(memory, program, work, &outer, function, entry)?;
+    let _left = body_executed(memory, program, work, &outer, &[], function, entry)?;
     Ok(())
 }
 
@@ -216,7 +218,15 @@ fn wanted_shown(
     ensures { IfOk result (λ r. Shows (program_of program.now) work.now wanted.now r) }
 {
     let entry = wanted_entry(memory.alloc, wanted)?;
-    let left = body_executed(memory, program, work, &wanted.outer, function, entry)?;
+    let left = body_executed(
+        memory,
+        program,
+        work,
+        &wanted.outer,
+        &wanted.arrays,
+        function,
+        entry,
+    )?;
     let end = body_end(memory.alloc, program, wanted.function, left)?;
     Ok(end)
 }

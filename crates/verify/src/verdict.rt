@@ -102,6 +102,7 @@ fn learnt(program: &Program, work: Work, call: Wanted, end: BodyEnd) -> Result<W
     let summary = Summary {
         function: call.function,
         outer: call.outer,
+        arrays: call.arrays,
         entry: call.entry,
         value: end.value,
         left: end.state.objects,

@@ -32,11 +32,12 @@ use Rattle.std.specs.declared.vec.Vec.{Vec}
 use Rattle.std.specs.declared.alloc.Global.{Global}
 use Rattle.verify_logic.specs.declared.abstract_values.Interval.{Interval}
 use Rattle.verify_logic.specs.declared.abstract_values.AbsValue.{AbsValue}
+use Rattle.verify_logic.specs.declared.abstract_values.ArrayArgument.{ArrayArgument}
 use Rattle.verify_logic.specs.States.{Frame, In, just, Below, range_of, shape_of, shapes_of, or_scalar, lengths_in, Refers, Contents, Replaces, Writes, Implies, Entails, TreeIs, ObjectIs, Reaches}
 use Rattle.verify_logic.specs.Judgements.{Evaluates, Tests, Operates, OperatesAt, Signs, SignsAt, GivesOr, MayRead, Subscripts, Converts}
 use Rattle.verify_logic.specs.Places.{NonZero, Splits, Designates, Finds, FindsAt, Passes, got, step_interval, ConvertsOr}
 use Rattle.verify_logic.proofs.Runs.{gives_or}
-use Rattle.verify_logic.proofs.Rules.{constant_rule, named_rule, finds_at, element_rule, read_rule, has_value, listed_value, bounds_subscript, listed_subscript, assigned_rule, compound_rule, stepped_rule, both_rule, one_rule, discarded_rule, get_byte_rule, put_byte_rule, exit_rule, number_rule, no_arguments_rule, value_tests}
+use Rattle.verify_logic.proofs.Rules.{constant_rule, named_rule, finds_at, element_rule, read_rule, has_value, listed_value, bounds_subscript, listed_subscript, assigned_rule, compound_rule, stepped_rule, both_rule, one_rule, discarded_rule, get_byte_rule, put_byte_rule, exit_rule, number_rule, array_rule, parameter_designates, no_arguments_rule, value_tests}
 use Rattle.verify_logic.specs.declared.operands.Operand.{Operand}
 use Rattle.verify_logic.specs.declared.operands.Operand.TheVariants.{Number, Object}
 use Rattle.verify_logic.specs.declared.operands.Relation.{Relation}
@@ -85,25 +86,28 @@ steps_listed fr at op t i r al er = operates_listed fr at (step_operation op) t 
 
 -- ---- places
 
-pub literal_named : (fr : Frame) (n : ℕ) (what : stored.Storage) → what ≡ kind.Literal n → Designates fr (storage_of what) n
-literal_named fr n what e = let P : stored.Storage → Type 0 = λ what. Designates fr (storage_of what) n in subst P (sym e) (record { is = λ s b a. record { object = refl; path = refl } })
+pub literal_named : (fr : Frame) (n : ℕ) (what : stored.Storage) → what ≡ kind.Literal n → Designates fr (storage_of what) n 0
+literal_named fr n what e = let P : stored.Storage → Type 0 = λ what. Designates fr (storage_of what) n 0 in subst P (sym e) (record { is = λ s b a. record { object = refl; path = refl } })
 
-static_some : (fr : Frame) (count n : ℕ) (r : Option ℕ) → count ≡ length fr.program.literals → IfSome r (λ x. x ≡ count + n) → IfSome r (λ x. Designates fr (typed.static n) x)
+static_some : (fr : Frame) (count n : ℕ) (r : Option ℕ) → count ≡ length fr.program.literals → IfSome r (λ x. x ≡ count + n) → IfSome r (λ x. Designates fr (typed.static n) x 0)
 static_some fr count n None e h = tt
 static_some fr count n (Some x) e h = record { is = λ s b a. record { object = (let q : length fr.program.literals + n ≡ x = omega (arith, e, h) in q); path = refl } }
 
-pub static_named : (fr : Frame) (count n : ℕ) (what : stored.Storage) (r : Option ℕ) → what ≡ kind.Static n → count ≡ length fr.program.literals → IfSome r (λ x. x ≡ count + n) → IfSome r (λ x. Designates fr (storage_of what) x)
-static_named fr count n what r w e h = let P : stored.Storage → Type 0 = λ what. IfSome r (λ x. Designates fr (storage_of what) x) in subst P (sym w) (static_some fr count n r e h)
+pub static_named : (fr : Frame) (count n : ℕ) (what : stored.Storage) (r : Option ℕ) → what ≡ kind.Static n → count ≡ length fr.program.literals → IfSome r (λ x. x ≡ count + n) → IfSome r (λ x. Designates fr (storage_of what) x 0)
+static_named fr count n what r w e h = let P : stored.Storage → Type 0 = λ what. IfSome r (λ x. Designates fr (storage_of what) x 0) in subst P (sym w) (static_some fr count n r e h)
 
-automatic_some : (fr : Frame) (base n : ℕ) (r : Option ℕ) → base ≡ length fr.outer → IfSome r (λ x. x ≡ base + n) → IfSome r (λ x. Designates fr (typed.automatic n) x)
+automatic_some : (fr : Frame) (base n : ℕ) (r : Option ℕ) → base ≡ length fr.outer → IfSome r (λ x. x ≡ base + n) → IfSome r (λ x. Designates fr (typed.automatic n) x 0)
 automatic_some fr base n None e h = tt
 automatic_some fr base n (Some x) e h = record { is = λ s b a. record { object = (let q : s.base + n ≡ x = omega (arith, e, b, h) in q); path = refl } }
 
-pub automatic_named : (fr : Frame) (base n : ℕ) (what : stored.Storage) (r : Option ℕ) → what ≡ kind.Automatic n → base ≡ length fr.outer → IfSome r (λ x. x ≡ base + n) → IfSome r (λ x. Designates fr (storage_of what) x)
-automatic_named fr base n what r w e h = let P : stored.Storage → Type 0 = λ what. IfSome r (λ x. Designates fr (storage_of what) x) in subst P (sym w) (automatic_some fr base n r e h)
+pub automatic_named : (fr : Frame) (base n : ℕ) (what : stored.Storage) (r : Option ℕ) → what ≡ kind.Automatic n → base ≡ length fr.outer → IfSome r (λ x. x ≡ base + n) → IfSome r (λ x. Designates fr (storage_of what) x 0)
+automatic_named fr base n what r w e h = let P : stored.Storage → Type 0 = λ what. IfSome r (λ x. Designates fr (storage_of what) x 0) in subst P (sym w) (automatic_some fr base n r e h)
 
-pub named_finds : (fr : Frame) (at : Pos) (what : typed.Storage) (x : ℕ) (o : Option (List AbsValue)) → Designates fr what x → Finds fr (typed.named at what) o x (drop 0 (shape_of fr x)) o
-named_finds fr at what x o h = finds_at fr (typed.named at what) x (shape_of fr x) o (named_rule fr at what x (shape_of fr x) refl h)
+pub parameter_named : (fr : Frame) (what : stored.Storage) (n : ℕ) (r : Option ArrayArgument) → what ≡ kind.Parameter n → IfSome r (λ a. Designates fr (typed.parameter n) a.object a.depth) → IfSome r (λ a. Designates fr (storage_of what) a.object a.depth)
+parameter_named fr what n r e h = let P : stored.Storage → Type 0 = λ what. IfSome r (λ a. Designates fr (storage_of what) a.object a.depth) in subst P (sym e) h
+
+pub named_finds : (fr : Frame) (at : Pos) (what : typed.Storage) (x depth : ℕ) (o : Option (List AbsValue)) → Designates fr what x depth → Finds fr (typed.named at what) o x (drop depth (shape_of fr x)) o
+named_finds fr at what x depth o h = finds_at fr (typed.named at what) x (drop depth (shape_of fr x)) o (named_rule fr at what x depth (drop depth (shape_of fr x)) refl h)
 
 pub element_finds : (fr : Frame) (at : Pos) (array : Place) (index : Value) (o : Option (List AbsValue)) (x depth n : ℕ) (o2 : Option (List AbsValue)) (i : Interval) (o3 : Option (List AbsValue)) (k : AbsValue) →
     drop depth (shape_of fr x) ≡ n ∷ drop (depth + 1) (shape_of fr x) → Finds fr array o x (drop depth (shape_of fr x)) o2 → Evaluates fr index o2 i o3 → Contents o3 x k → Subscripts fr at i n →
@@ -114,8 +118,8 @@ element_finds fr at array index o x depth n o2 i o3 k e f h g q = let P : List �
 pub finds_rest : (fr : Frame) (a : Place) (o : Option (List AbsValue)) (x depth : ℕ) (o2 : Option (List AbsValue)) → drop depth (shape_of fr x) ≡ [] → Finds fr a o x (drop depth (shape_of fr x)) o2 → Finds fr a o x [] o2
 finds_rest fr a o x depth o2 e h = let P : List ℕ → Type 0 = λ rest. Finds fr a o x rest o2 in subst P e h
 
-pub scalar_finds : (fr : Frame) (at : Pos) (what : typed.Storage) (x : ℕ) → shape_of fr x ≡ [] → Designates fr what x → FindsAt fr (typed.named at what) x []
-scalar_finds fr at what x e h = named_rule fr at what x [] e h
+pub scalar_finds : (fr : Frame) (at : Pos) (what : typed.Storage) (x : ℕ) → shape_of fr x ≡ [] → Designates fr what x 0 → FindsAt fr (typed.named at what) x []
+scalar_finds fr at what x e h = named_rule fr at what x 0 [] e h
 
 -- ---- the lengths of objects
 
@@ -147,31 +151,43 @@ pub one_value : (fr : Frame) (a b : Value) (o on off : Option (List AbsValue)) (
 one_value fr a b o on off j r o2 out e ha hb f g = let P : Interval → Type 0 = λ r. Evaluates fr (typed.one_true a b) o r out in
     subst P (sym e) (one_rule fr a b o on off j o2 out ha hb f g)
 
-pub gets : (fr : Frame) (at : Pos) (c : callee.Callee) (t : Option IntType) (used : Bool) (arguments : Arguments) (o : Option (List AbsValue)) (is : List Interval) (o2 : Option (List AbsValue)) (r : Interval) → c ≡ called.GetByte → r ≡ got →
-    Passes fr arguments o is o2 → Evaluates fr (typed.call at (callee_of c) t used arguments) o r o2
-gets fr at c t used arguments o is o2 r e d h = let P : callee.Callee → Type 0 = λ c. Evaluates fr (typed.call at (callee_of c) t used arguments) o r o2 in
+pub gets : (fr : Frame) (at : Pos) (c : callee.Callee) (t : Option IntType) (used : Bool) (arguments : Arguments) (o : Option (List AbsValue)) (is : List Interval) (ps : List ArrayArgument) (o2 : Option (List AbsValue)) (r : Interval) → c ≡ called.GetByte → r ≡ got →
+    Passes fr arguments o is ps o2 → Evaluates fr (typed.call at (callee_of c) t used arguments) o r o2
+gets fr at c t used arguments o is ps o2 r e d h = let P : callee.Callee → Type 0 = λ c. Evaluates fr (typed.call at (callee_of c) t used arguments) o r o2 in
     let Q : Interval → Type 0 = λ r. Evaluates fr (typed.call at typed.get_byte t used arguments) o r o2 in
-    subst P (sym e) (subst Q (sym d) (get_byte_rule fr at t used arguments o is o2 h))
+    subst P (sym e) (subst Q (sym d) (get_byte_rule fr at t used arguments o is ps o2 h))
 
-pub puts : (fr : Frame) (at : Pos) (c : callee.Callee) (t : Option IntType) (used : Bool) (arguments : Arguments) (o : Option (List AbsValue)) (is : List Interval) (o2 : Option (List AbsValue)) (r : Interval) → c ≡ called.PutByte → r ≡ just (pos 0) →
-    Passes fr arguments o is o2 → Evaluates fr (typed.call at (callee_of c) t used arguments) o r o2
-puts fr at c t used arguments o is o2 r e d h = let P : callee.Callee → Type 0 = λ c. Evaluates fr (typed.call at (callee_of c) t used arguments) o r o2 in
-    subst P (sym e) (put_byte_rule fr at t used arguments o is o2 r h (in_just r (pos 0) d))
+pub puts : (fr : Frame) (at : Pos) (c : callee.Callee) (t : Option IntType) (used : Bool) (arguments : Arguments) (o : Option (List AbsValue)) (is : List Interval) (ps : List ArrayArgument) (o2 : Option (List AbsValue)) (r : Interval) → c ≡ called.PutByte → r ≡ just (pos 0) →
+    Passes fr arguments o is ps o2 → Evaluates fr (typed.call at (callee_of c) t used arguments) o r o2
+puts fr at c t used arguments o is ps o2 r e d h = let P : callee.Callee → Type 0 = λ c. Evaluates fr (typed.call at (callee_of c) t used arguments) o r o2 in
+    subst P (sym e) (put_byte_rule fr at t used arguments o is ps o2 r h (in_just r (pos 0) d))
 
-pub exits : (fr : Frame) (at : Pos) (c : callee.Callee) (t : Option IntType) (used : Bool) (arguments : Arguments) (o : Option (List AbsValue)) (is : List Interval) (o2 o3 : Option (List AbsValue)) (r : Interval) → c ≡ called.Exit →
-    Passes fr arguments o is o2 → Evaluates fr (typed.call at (callee_of c) t used arguments) o r o3
-exits fr at c t used arguments o is o2 o3 r e h = let P : callee.Callee → Type 0 = λ c. Evaluates fr (typed.call at (callee_of c) t used arguments) o r o3 in
-    subst P (sym e) (exit_rule fr at t used arguments o is o2 o3 r h)
+pub exits : (fr : Frame) (at : Pos) (c : callee.Callee) (t : Option IntType) (used : Bool) (arguments : Arguments) (o : Option (List AbsValue)) (is : List Interval) (ps : List ArrayArgument) (o2 o3 : Option (List AbsValue)) (r : Interval) → c ≡ called.Exit →
+    Passes fr arguments o is ps o2 → Evaluates fr (typed.call at (callee_of c) t used arguments) o r o3
+exits fr at c t used arguments o is ps o2 o3 r e h = let P : callee.Callee → Type 0 = λ c. Evaluates fr (typed.call at (callee_of c) t used arguments) o r o3 in
+    subst P (sym e) (exit_rule fr at t used arguments o is ps o2 o3 r h)
 
-pub calls_some : (fr : Frame) (at : Pos) (f : ℕ) (t : Option IntType) (used : Bool) (arguments : Arguments) (o : Option (List AbsValue)) (is : List Interval) (o2 : Option (List AbsValue)) (i : Interval) (o3 : Option (List AbsValue)) (c : callee.Callee) →
-    c ≡ called.Function f → Passes fr arguments o is o2 → CallsAt fr at f used is o2 i o3 → Evaluates fr (typed.call at (callee_of c) t used arguments) o i o3
-calls_some fr at f t used arguments o is o2 i o3 c e h g = let P : callee.Callee → Type 0 = λ c. Evaluates fr (typed.call at (callee_of c) t used arguments) o i o3 in subst P (sym e) (g.gives t arguments o h)
+pub calls_some : (fr : Frame) (at : Pos) (f : ℕ) (t : Option IntType) (used : Bool) (arguments : Arguments) (o : Option (List AbsValue)) (is : List Interval) (ps : List ArrayArgument) (o2 : Option (List AbsValue)) (i : Interval) (o3 : Option (List AbsValue)) (c : callee.Callee) →
+    c ≡ called.Function f → Passes fr arguments o is ps o2 → CallsAt fr at f used is ps o2 i o3 → Evaluates fr (typed.call at (callee_of c) t used arguments) o i o3
+calls_some fr at f t used arguments o is ps o2 i o3 c e h g = let P : callee.Callee → Type 0 = λ c. Evaluates fr (typed.call at (callee_of c) t used arguments) o i o3 in subst P (sym e) (g.gives t arguments o h)
 
 -- ---- arguments
 
-pub number_passes : (fr : Frame) (t : IntType) (e : Value) (o : Option (List AbsValue)) (i r : Interval) (o2 : Option (List AbsValue)) → Evaluates fr e o i o2 → Converts t i r → (more : Arguments) (is : List Interval) (o3 : Option (List AbsValue)) →
-    Passes fr more o2 is o3 → Passes fr (typed.and_number t e more) o (r ∷ is) o3
-number_passes fr t e o i r o2 h g more is o3 p = number_rule fr t e more o i r o2 is o3 h g p
+pub number_passes : (fr : Frame) (t : IntType) (e : Value) (o : Option (List AbsValue)) (i r : Interval) (o2 o3 : Option (List AbsValue)) (is : List Interval) (ps : List ArrayArgument) → Evaluates fr e o i o2 → Converts t i r → is ≡ r ∷ [] → ps ≡ [] → o3 ≡ o2 →
+    PassesOne fr (number_given t e) o is ps o3
+number_passes fr t e o i r o2 o3 is ps h g ei ep eo =
+    let P : List Interval → Type 0 = λ is. PassesOne fr (number_given t e) o is ps o3 in
+    let Q : List ArrayArgument → Type 0 = λ ps. PassesOne fr (number_given t e) o (r ∷ []) ps o3 in
+    let R : Option (List AbsValue) → Type 0 = λ o3. PassesOne fr (number_given t e) o (r ∷ []) [] o3 in
+    subst P (sym ei) (subst Q (sym ep) (subst R (sym eo) (record { passes = λ more js qs o4 p. number_rule fr t e more o i r o2 js qs o4 h g p })))
+
+pub array_passes : (fr : Frame) (array : Place) (o : Option (List AbsValue)) (a : ArrayArgument) (o2 o3 : Option (List AbsValue)) (is : List Interval) (ps : List ArrayArgument) → a.object < length (shapes_of fr) → Finds fr array o a.object (drop a.depth (shape_of fr a.object)) o2 →
+    is ≡ [] → ps ≡ a ∷ [] → o3 ≡ o2 → PassesOne fr (array_given array) o is ps o3
+array_passes fr array o a o2 o3 is ps lt f ei ep eo =
+    let P : List Interval → Type 0 = λ is. PassesOne fr (array_given array) o is ps o3 in
+    let Q : List ArrayArgument → Type 0 = λ ps. PassesOne fr (array_given array) o [] ps o3 in
+    let R : Option (List AbsValue) → Type 0 = λ o3. PassesOne fr (array_given array) o [] (a ∷ []) o3 in
+    subst P (sym ei) (subst Q (sym ep) (subst R (sym eo) (record { passes = λ more js qs o4 p. array_rule fr array more o a o2 js qs o4 lt f p })))
 
 -- ---- writes
 
@@ -249,30 +265,36 @@ variable_found fr a o x depth o2 v h = finds_rest fr a o x depth o2 v.element h
 
 -- ---- arguments, in their order
 
-append_assoc_one : (xs : List Interval) (i : Interval) (ys : List Interval) → xs ++ (i ∷ ys) ≡ (xs ++ i ∷ []) ++ ys
-append_assoc_one [] i ys = refl
-append_assoc_one (x ∷ xs) i ys = ap (λ zs. x ∷ zs) (append_assoc_one xs i ys)
+append_assoc : {A : Type 0} (xs ys zs : List A) → xs ++ (ys ++ zs) ≡ (xs ++ ys) ++ zs
+append_assoc [] ys zs = refl
+append_assoc (x ∷ xs) ys zs = ap (λ rest. x ∷ rest) (append_assoc xs ys zs)
 
-append_none : (xs : List Interval) → xs ++ [] ≡ xs
+append_none : {A : Type 0} (xs : List A) → xs ++ [] ≡ xs
 append_none [] = refl
 append_none (x ∷ xs) = ap (λ zs. x ∷ zs) (append_none xs)
 
-pub pass_step : (fr : Frame) (xs : List Argument) (x : Argument) (more : List Argument) (o : Option (List AbsValue)) (i : Interval) (o2 : Option (List AbsValue)) (done done2 is : List Interval) (o3 : Option (List AbsValue)) (all : List Argument)
-    (before : Option (List AbsValue)) → xs ≡ x ∷ more → done2 ≡ done ++ i ∷ [] → PassesOne fr (argument_of x) o i o2 → ((is : List Interval) (o3 : Option (List AbsValue)) → PassesAll fr xs o is o3 → PassesAll fr all before (done ++ is) o3) →
-    PassesAll fr more o2 is o3 → PassesAll fr all before (done2 ++ is) o3
-pass_step fr xs x more o i o2 done done2 is o3 all before e ed h leads p =
-    let P : List Argument → Type 0 = λ xs. PassesAll fr xs o (i ∷ is) o3 in
-    let Q : List Interval → Type 0 = λ is. PassesAll fr all before is o3 in
-    let R : List Interval → Type 0 = λ done2. PassesAll fr all before (done2 ++ is) o3 in
-    subst R (sym ed) (subst Q (append_assoc_one done i is) (leads (i ∷ is) o3 (subst P (sym e) (h.passes (arguments_of (map argument_of more)) is o3 p))))
+-- the arguments so far are such numbers and arrays, before whatever the rest is
+abbrev pub LeadsTo : Frame → List Argument → Option (List AbsValue) → List Argument → Option (List AbsValue) → List Interval → List ArrayArgument → Type 0
+LeadsTo fr xs o all before done pdone = (is : List Interval) (ps : List ArrayArgument) (o3 : Option (List AbsValue)) → PassesAll fr xs o is ps o3 → PassesAll fr all before (done ++ is) (pdone ++ ps) o3
 
-pub pass_end : (fr : Frame) (xs : List Argument) (o : Option (List AbsValue)) (done : List Interval) (all : List Argument) (before : Option (List AbsValue)) → length xs ≡ 0 →
-    ((is : List Interval) (o3 : Option (List AbsValue)) → PassesAll fr xs o is o3 → PassesAll fr all before (done ++ is) o3) → PassesAll fr all before done o
-pass_end fr [] o done all before e leads = let Q : List Interval → Type 0 = λ is. PassesAll fr all before is o in subst Q (append_none done) (leads [] o (no_arguments_rule fr o))
-pass_end fr (x ∷ xs) o done all before e leads = absurd (cc e)
+pub pass_step : (fr : Frame) (xs : List Argument) (x : Argument) (more : List Argument) (o : Option (List AbsValue)) (js : List Interval) (qs : List ArrayArgument) (o2 : Option (List AbsValue)) (done done2 : List Interval) (pdone pdone2 : List ArrayArgument) (all : List Argument)
+    (before : Option (List AbsValue)) → xs ≡ x ∷ more → done2 ≡ done ++ js → pdone2 ≡ pdone ++ qs → PassesOne fr (argument_of x) o js qs o2 → LeadsTo fr xs o all before done pdone → LeadsTo fr more o2 all before done2 pdone2
+pass_step fr xs x more o js qs o2 done done2 pdone pdone2 all before e ed ep h leads = λ is ps o3 p.
+    let P : List Argument → Type 0 = λ xs. PassesAll fr xs o (js ++ is) (qs ++ ps) o3 in
+    let Q : List Interval → Type 0 = λ is2. PassesAll fr all before is2 (pdone ++ (qs ++ ps)) o3 in
+    let Q2 : List ArrayArgument → Type 0 = λ ps2. PassesAll fr all before ((done ++ js) ++ is) ps2 o3 in
+    let R : List Interval → Type 0 = λ done2. PassesAll fr all before (done2 ++ is) (pdone2 ++ ps) o3 in
+    let R2 : List ArrayArgument → Type 0 = λ pdone2. PassesAll fr all before ((done ++ js) ++ is) (pdone2 ++ ps) o3 in
+    subst R (sym ed) (subst R2 (sym ep) (subst Q2 (append_assoc pdone qs ps) (subst Q (append_assoc done js is) (leads (js ++ is) (qs ++ ps) o3 (subst P (sym e) (h.passes (arguments_of (map argument_of more)) is ps o3 p))))))
 
-pub pass_begins : (fr : Frame) (all : List Argument) (o : Option (List AbsValue)) (done : List Interval) → done ≡ [] → (is : List Interval) (o3 : Option (List AbsValue)) → PassesAll fr all o is o3 → PassesAll fr all o (done ++ is) o3
-pass_begins fr all o done e is o3 h = let Q : List Interval → Type 0 = λ done. PassesAll fr all o (done ++ is) o3 in subst Q (sym e) h
+pub pass_end : (fr : Frame) (xs : List Argument) (o : Option (List AbsValue)) (done : List Interval) (pdone : List ArrayArgument) (all : List Argument) (before : Option (List AbsValue)) → length xs ≡ 0 → LeadsTo fr xs o all before done pdone → PassesAll fr all before done pdone o
+pass_end fr [] o done pdone all before e leads = let Q : List Interval → Type 0 = λ is. PassesAll fr all before is pdone o in let R : List ArrayArgument → Type 0 = λ ps. PassesAll fr all before (done ++ []) ps o in
+    subst Q (append_none done) (subst R (append_none pdone) (leads [] [] o (no_arguments_rule fr o)))
+pass_end fr (x ∷ xs) o done pdone all before e leads = absurd (cc e)
+
+pub pass_begins : (fr : Frame) (all : List Argument) (o : Option (List AbsValue)) (done : List Interval) (pdone : List ArrayArgument) → done ≡ [] → pdone ≡ [] → LeadsTo fr all o all o done pdone
+pass_begins fr all o done pdone e ep = λ is ps o3 h. let Q : List Interval → Type 0 = λ done. PassesAll fr all o (done ++ is) (pdone ++ ps) o3 in let R : List ArrayArgument → Type 0 = λ pdone. PassesAll fr all o is (pdone ++ ps) o3 in
+    subst Q (sym e) (subst R (sym ep) h)
 
 pub fewer : (xs : List Argument) (x : Argument) (more : List Argument) (n : ℕ) → xs ≡ x ∷ more → work_arguments (arguments_of (map argument_of xs)) ≤ n → work_arguments (arguments_of (map argument_of more)) ≤ n
 fewer xs x more n e h =
@@ -315,11 +337,11 @@ own_found [] n x e = absurd (cc e)
 own_found (y ∷ objects) zero x e = let q : y ≡ x = cc e in let P : held.ObjectType → Type 0 = λ x. y.lengths.items ≡ x.lengths.items in subst P q refl
 own_found (y ∷ objects) (suc n) x e = own_found objects n x e
 
-pub calls_found : (fr : Frame) (at : Pos) (f : ℕ) (t : Option IntType) (used : Bool) (arguments : Arguments) (o : Option (List AbsValue)) (is is2 : List Interval) (o2 : Option (List AbsValue)) (c : callee.Callee) (r : Result Evaluated Stop) →
-    c ≡ called.Function f → is2 ≡ is → Passes fr arguments o is o2 → IfOk r (λ r. CallsAt fr at f used is2 o2 r.interval (state_of r.state)) → IfOk r (λ r. Evaluates fr (typed.call at (callee_of c) t used arguments) o r.interval (state_of r.state))
-calls_found fr at f t used arguments o is is2 o2 c (Err e) ec ei h g = tt
-calls_found fr at f t used arguments o is is2 o2 c (Ok r) ec ei h g = let P : List Interval → Type 0 = λ is. CallsAt fr at f used is o2 r.interval (state_of r.state) in
-    calls_some fr at f t used arguments o is o2 r.interval (state_of r.state) c ec h (subst P ei g)
+pub calls_found : (fr : Frame) (at : Pos) (f : ℕ) (t : Option IntType) (used : Bool) (arguments : Arguments) (o : Option (List AbsValue)) (is is2 : List Interval) (ps ps2 : List ArrayArgument) (o2 : Option (List AbsValue)) (c : callee.Callee) (r : Result Evaluated Stop) →
+    c ≡ called.Function f → is2 ≡ is → ps2 ≡ ps → Passes fr arguments o is ps o2 → IfOk r (λ r. CallsAt fr at f used is2 ps2 o2 r.interval (state_of r.state)) → IfOk r (λ r. Evaluates fr (typed.call at (callee_of c) t used arguments) o r.interval (state_of r.state))
+calls_found fr at f t used arguments o is is2 ps ps2 o2 c (Err e) ec ei ep h g = tt
+calls_found fr at f t used arguments o is is2 ps ps2 o2 c (Ok r) ec ei ep h g = let P : List Interval → Type 0 = λ is. CallsAt fr at f used is ps o2 r.interval (state_of r.state) in let Q : List ArrayArgument → Type 0 = λ ps. CallsAt fr at f used is2 ps o2 r.interval (state_of r.state) in
+    calls_some fr at f t used arguments o is ps o2 r.interval (state_of r.state) c ec h (subst P ei (subst Q ep g))
 
 pub value_split : (fr : Frame) (e : Value) (o : Option (List AbsValue)) (i : Interval) (o2 : Option (List AbsValue)) (r : Result Tested Stop) → Evaluates fr e o i o2 → IfOk r (λ r. Splits i o2 (state_of r.on) (state_of r.off)) →
     IfOk r (λ r. Tests fr e o (state_of r.on) (state_of r.off))

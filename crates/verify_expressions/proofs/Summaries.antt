@@ -1,6 +1,7 @@
 -- Calls by summaries, as the functions have them.
 use Rattle.std.proofs.Common.{◌≡◌, ◌≤◌, ◌<◌, ◌+◌, ◌-◌, ℕ, zero, suc, List, [], ◌∷◌, ◌++◌, length, map, take, get_or, refl, sym, ap, subst, ◌∙◌, arith, add-one}
 use Rattle.std.proofs.lemmas.List.{take_all}
+use Rattle.std.proofs.Math.Seq.{take-suc}
 use Rattle.std.specs.Prelude.{◌≤ℤ◌, Option, Some, None, IfOk, IfSome, Bool, true, false, slice_get, Contains, Result, Ok, Err}
 use Rattle.std.proofs.Common.{ℤ, pos}
 use Rattle.srcset.specs.declared.refusal.Pos.{Pos}
@@ -13,6 +14,7 @@ use Rattle.std.specs.declared.vec.Vec.{Vec}
 use Rattle.std.specs.declared.alloc.Global.{Global}
 use Rattle.verify_logic.specs.declared.abstract_values.Interval.{Interval}
 use Rattle.verify_logic.specs.declared.abstract_values.AbsValue.{AbsValue}
+use Rattle.verify_logic.specs.declared.abstract_values.ArrayArgument.{ArrayArgument}
 use Rattle.verify_logic.specs.States.{Summary, Frame, In, just, Below, Entails, EachEntails, or_scalar, lengths_in, shapes_of}
 use Rattle.verify_logic.specs.Calls.{Entered, CallGives, CallValue, cut}
 use Rattle.verify_logic.specs.Places.{Passes}
@@ -69,6 +71,16 @@ entered_end is objects ks n eo li le h =
     let K : List AbsValue → Type 0 = λ xs. Entered is (map object_type_of objects) xs in
     subst K (take_all n ks le) (subst O (take_all n objects (omega (arith, eo, le))) (subst I (take_all n is (omega (arith, li, le))) h))
 
+-- ---- the arrays
+
+pub same_step : (xs ys : List ArrayArgument) (n : ℕ) (d d2 : ArrayArgument) → n < length xs → length xs ≡ length ys → get_or xs n d ≡ get_or ys n d2 → take n xs ≡ take n ys → take (n + 1) xs ≡ take (n + 1) ys
+same_step xs ys n d d2 lt el e h =
+    let lt2 : n < length ys = omega (arith, lt, el) in
+    ap (λ m. take m xs) (add-one n) ∙ take-suc xs n d lt ∙ ap (λ zs. zs ++ get_or xs n d ∷ []) h ∙ ap (λ z. take n ys ++ z ∷ []) e ∙ sym (take-suc ys n d2 lt2) ∙ ap (λ m. take m ys) (sym (add-one n))
+
+pub same_end : (xs ys : List ArrayArgument) (n : ℕ) → length xs ≤ n → length xs ≡ length ys → take n xs ≡ take n ys → xs ≡ ys
+same_end xs ys n le el h = sym (take_all n xs le) ∙ h ∙ take_all n ys (omega (arith, le, el))
+
 -- ---- the lengths of objects
 
 shape_suc : (ys : List (List ℕ)) (n : ℕ) → n < length ys → take n ys ++ or_scalar (slice_get ys n) ∷ [] ≡ take (suc n) ys
@@ -123,24 +135,27 @@ hull_unused fr at used value z r e ez b0 b1 = value_unused fr at used value r e 
 pub hull_listed : (fr : Frame) (at : Pos) (used : Bool) (value : AbsValue) (zero r : Interval) → Contains fr.listed at → zero ≡ just (pos 0) → Below value.interval r → Below zero r → CallValue fr at used value r
 hull_listed fr at used value z r e ez b0 b1 = value_listed fr at used value r e (λ v m. below value.interval r v b0 m) (below z r (pos 0) b1 (in_just z (pos 0) ez))
 
-pub none_calls : (fr : Frame) (at : Pos) (f : ℕ) (used : Bool) (is : List Interval) (i : Interval) (o : Option (List AbsValue)) → CallsAt fr at f used is None i o
-none_calls fr at f used is i o = record { gives = λ t arguments o0 p. function_rule fr at f t used arguments o0 is None (record { initialised = true; interval = i }) o i p (no_call fr f is _ o) (value_used fr at used (record { initialised = true; interval = i }) refl) }
+pub none_calls : (fr : Frame) (at : Pos) (f : ℕ) (used : Bool) (is : List Interval) (ps : List ArrayArgument) (i : Interval) (o : Option (List AbsValue)) → CallsAt fr at f used is ps None i o
+none_calls fr at f used is ps i o = record { gives = λ t arguments o0 p. function_rule fr at f t used arguments o0 is ps None (record { initialised = true; interval = i }) o i p (no_call fr f is ps _ o) (value_used fr at used (record { initialised = true; interval = i }) refl) }
 
-pub called_by : (fr : Frame) (at : Pos) (f : ℕ) (used : Bool) (is : List Interval) (known own entry : List AbsValue) (g : Function) (i : Interval) (o : Option (List AbsValue)) → slice_get fr.program.functions f ≡ Some g → Entered is g.objects own → entry ≡ known ++ own →
-    Summarised fr at f used entry i o → CallsAt fr at f used is (Some known) i o
-called_by fr at f used is known own entry g i o eg en ee h = record {
+pub called_by : (fr : Frame) (at : Pos) (f : ℕ) (used : Bool) (is : List Interval) (ps : List ArrayArgument) (known own entry : List AbsValue) (g : Function) (i : Interval) (o : Option (List AbsValue)) → slice_get fr.program.functions f ≡ Some g → Entered is g.objects own → entry ≡ known ++ own →
+    Summarised fr at f used ps entry i o → CallsAt fr at f used is ps (Some known) i o
+called_by fr at f used is ps known own entry g i o eg en ee h = record {
   gives = λ t arguments o0 p.
       let a : Summary = h.summary in
       let E : List AbsValue → Type 0 = λ entry. EachEntails entry a.entry in
-      let G : Option (List AbsValue) → Type 0 = λ o. CallGives fr f is (Some known) a.value o in
-      let gives : CallGives fr f is (Some known) a.value o = subst G (sym h.left) (summary_rule fr f g is known own h.number a eg en h.there h.fits.function h.fits.outer (subst E ee h.fits.entry_is)) in
-      function_rule fr at f t used arguments o0 is (Some known) a.value o i p gives h.value;
+      let G : Option (List AbsValue) → Type 0 = λ o. CallGives fr f is ps (Some known) a.value o in
+      let gives : CallGives fr f is ps (Some known) a.value o = subst G (sym h.left) (summary_rule fr f g is ps known own h.number a eg en h.there h.fits.function h.fits.outer h.fits.arrays (subst E ee h.fits.entry_is)) in
+      function_rule fr at f t used arguments o0 is ps (Some known) a.value o i p gives h.value;
 }
 
 pub summary_there : (xs : List code.Summary) (n : ℕ) (a : code.Summary) → slice_get xs n ≡ Some a → slice_get (map summary_of xs) n ≡ Some (summary_of a)
 summary_there [] n a e = absurd (cc e)
 summary_there (x ∷ xs) zero a e = let q : x ≡ a = cc e in ap (λ x. Some (summary_of x)) q
 summary_there (x ∷ xs) (suc n) a e = summary_there xs n a e
+
+pub array_there : (outer : List (Vec ℕ Global)) (objects : List held.ObjectType) (x n : ℕ) → n ≡ length outer + length objects → x < n → x < length (shapes_at outer objects)
+array_there outer objects x n e lt = let P : ℕ → Type 0 = λ m. x < m in subst P (shapes_count outer objects n e) lt
 
 pub function_there : (functions : List code_function.Function) (f : ℕ) (g : code_function.Function) → slice_get functions f ≡ Some g → slice_get (map function_of functions) f ≡ Some (function_of g)
 function_there [] f g e = absurd (cc e)

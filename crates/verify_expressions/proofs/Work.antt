@@ -28,8 +28,8 @@ abbrev mutual
   pub work_arguments : Arguments → ℕ
   work_arguments typed.no_arguments = 1
   work_arguments (typed.and_number t e more) = work e + work_arguments more + 4
-  work_arguments (typed.and_array array more) = work_arguments more + 4
+  work_arguments (typed.and_array array more) = work_place array + work_arguments more + 4
 
 abbrev pub work_given : Given → ℕ
 work_given (number_given t e) = work e
-work_given (array_given place) = 0
+work_given (array_given place) = work_place place

@@ -1,5 +1,5 @@
 -- What is shown of parts of calls and of assignments.
-use Rattle.std.specs.Prelude.{◌≡◌, ◌≤◌, false, slice_get, ℕ, List, [], ◌∷◌, map, drop, length, Option, None, Some, Bool, true}
+use Rattle.std.specs.Prelude.{◌≡◌, ◌≤◌, false, slice_get, ℕ, List, [], ◌++◌, map, drop, length, Option, None, Some, Bool, true}
 use Rattle.srcset.specs.declared.refusal.Pos.{Pos}
 use Rattle.ctypes.specs.declared.types.IntType.{IntType}
 use Rattle.typing_spec.specs.Types.{ObjectType}
@@ -8,6 +8,7 @@ use Rattle.typed_ast.specs.declared.expressions.Argument.{Argument}
 use Rattle.typed_ast.specs.View.{Given, argument_of, arguments_of, and_given}
 use Rattle.verify_logic.specs.declared.abstract_values.Interval.{Interval}
 use Rattle.verify_logic.specs.declared.abstract_values.AbsValue.{AbsValue}
+use Rattle.verify_logic.specs.declared.abstract_values.ArrayArgument.{ArrayArgument}
 use Rattle.verify_logic.specs.States.{Summary, Frame, Entails, EachEntails, shape_of, shapes_of}
 use Rattle.verify_logic.specs.Calls.{CallValue, cut}
 use Rattle.verify_logic.specs.Judgements.{Evaluates}
@@ -16,22 +17,22 @@ use Rattle.ctypes.specs.declared.operators.BinOp.{BinOp}
 use Rattle.verify_logic.specs.declared.operands.Operand.{Operand}
 use Rattle.verify_logic.specs.Relations.{Learns}
 
--- these arguments are numbers in the intervals
-abbrev pub PassesAll : Frame → List Argument → Option (List AbsValue) → List Interval → Option (List AbsValue) → Type 0
-PassesAll fr arguments before is after = Passes fr (arguments_of (map argument_of arguments)) before is after
+-- these arguments are numbers in the intervals and these arrays
+abbrev pub PassesAll : Frame → List Argument → Option (List AbsValue) → List Interval → List ArrayArgument → Option (List AbsValue) → Type 0
+PassesAll fr arguments before is ps after = Passes fr (arguments_of (map argument_of arguments)) before is ps after
 
--- this argument, before others, is a number in the interval
-pub record PassesOne (fr : Frame) (given : Given) (before : Option (List AbsValue)) (i : Interval) (after : Option (List AbsValue)) : Type 0 where
-  pub passes : (more : typed.Arguments) (is : List Interval) (o : Option (List AbsValue)) → Passes fr more after is o → Passes fr (and_given given more) before (i ∷ is) o
+-- this argument, before others, is such numbers and arrays
+pub record PassesOne (fr : Frame) (given : Given) (before : Option (List AbsValue)) (is : List Interval) (ps : List ArrayArgument) (after : Option (List AbsValue)) : Type 0 where
+  pub passes : (more : typed.Arguments) (js : List Interval) (qs : List ArrayArgument) (o : Option (List AbsValue)) → Passes fr more after js qs o → Passes fr (and_given given more) before (is ++ js) (ps ++ qs) o
 
 -- so many subscripts lead to an element, and not of a string literal
 pub record VariableAt (fr : Frame) (x depth : ℕ) : Type 0 where
   pub element : drop depth (shape_of fr x) ≡ []
   pub above : length fr.program.literals ≤ x
 
--- a call of function f with numbers in these intervals has a value in the interval
-pub record CallsAt (fr : Frame) (at : Pos) (f : ℕ) (used : Bool) (is : List Interval) (before : Option (List AbsValue)) (i : Interval) (after : Option (List AbsValue)) : Type 0 where
-  pub gives : (t : Option IntType) (arguments : typed.Arguments) (o : Option (List AbsValue)) → Passes fr arguments o is before → Evaluates fr (typed.call at (typed.function f) t used arguments) o i after
+-- a call of function f with numbers in these intervals and these arrays has a value in the interval
+pub record CallsAt (fr : Frame) (at : Pos) (f : ℕ) (used : Bool) (is : List Interval) (ps : List ArrayArgument) (before : Option (List AbsValue)) (i : Interval) (after : Option (List AbsValue)) : Type 0 where
+  pub gives : (t : Option IntType) (arguments : typed.Arguments) (o : Option (List AbsValue)) → Passes fr arguments o is ps before → Evaluates fr (typed.call at (typed.function f) t used arguments) o i after
 
 -- ---- calls by summaries
 
@@ -47,18 +48,19 @@ Enters (Some i) t k = Gets i t k
 abbrev pub EntersAt : List Interval → ℕ → ObjectType → AbsValue → Type 0
 EntersAt is n t k = Enters (slice_get is n) t k
 
--- the summary is of function f, called from this frame with these objects
-pub record Fits (fr : Frame) (f : ℕ) (entry : List AbsValue) (a : Summary) : Type 0 where
+-- the summary is of function f, called from this frame with these arrays and objects
+pub record Fits (fr : Frame) (f : ℕ) (ps : List ArrayArgument) (entry : List AbsValue) (a : Summary) : Type 0 where
   pub function : a.function ≡ f
   pub outer : a.outer ≡ shapes_of fr
+  pub arrays : a.arrays ≡ ps
   pub entry_is : EachEntails entry a.entry
 
 -- a summary says what such a call gives
-pub record Summarised (fr : Frame) (at : Pos) (f : ℕ) (used : Bool) (entry : List AbsValue) (i : Interval) (after : Option (List AbsValue)) : Type 0 where
+pub record Summarised (fr : Frame) (at : Pos) (f : ℕ) (used : Bool) (ps : List ArrayArgument) (entry : List AbsValue) (i : Interval) (after : Option (List AbsValue)) : Type 0 where
   pub number : ℕ
   pub summary : Summary
   pub there : slice_get fr.summaries number ≡ Some summary
-  pub fits : Fits fr f entry summary
+  pub fits : Fits fr f ps entry summary
   pub value : CallValue fr at used summary.value i
   pub left : after ≡ cut (length (shapes_of fr)) summary.left
 

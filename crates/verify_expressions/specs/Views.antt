@@ -1,5 +1,5 @@
 -- What the code's values stand for.
-use Rattle.std.specs.Prelude.{ℕ, List, [], ◌++◌, map, Option, Some, None, slice_get}
+use Rattle.std.specs.Prelude.{ℕ, List, ◌++◌, map, Option, Some, None, slice_get}
 use Rattle.std.specs.declared.vec.Vec.{Vec}
 use Rattle.std.specs.declared.alloc.Global.{Global}
 use Rattle.typed_ast.specs.declared.types.ObjectType as held
@@ -25,7 +25,7 @@ abbrev pub shapes_in : List (Vec ℕ Global) → List (List ℕ)
 shapes_in outer = map items_of outer
 
 abbrev pub summary_of : Summary → logic.Summary
-summary_of a = record { function = a.function; outer = shapes_in a.outer.items; entry = a.entry.items; value = a.value; left = objects_or_none a.left }
+summary_of a = record { function = a.function; outer = shapes_in a.outer.items; arrays = a.arrays.items; entry = a.entry.items; value = a.value; left = objects_or_none a.left }
 
 abbrev pub frame_of : Scope → Frame
 frame_of sc = record {
@@ -34,7 +34,7 @@ frame_of sc = record {
   summaries = map summary_of sc.summaries.now;
   outer = shapes_in sc.outer.now;
   objects = map object_type_of sc.objects.now;
-  arrays = [];
+  arrays = sc.arrays.now;
 }
 
 -- the lengths of object x

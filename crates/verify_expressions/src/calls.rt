@@ -11,7 +11,7 @@ use crate::expressions::Evaluated;
 use crate::memory::{take_search, take_step};
 use crate::objects::{copied_objects, objects_entail};
 use crate::operators::is_listed;
-use crate::places::shape;
+use crate::places::{object_count, shape};
 use crate::scope::{Scope, Summary};
 use crate::state::AbsState;
 use crate::stop::{Alarm, Stop, Wanted};
@@ -20,7 +20,7 @@ use srcset::Pos;
 use std::alloc::Global;
 use typed_ast::{Function, ObjectType};
 use verify_intervals::{entails, hull, initialised, single, uninitialised};
-use verify_logic::{AbsValue, Interval};
+use verify_logic::{AbsValue, ArrayArgument, Interval};
 
 // ---- the objects of a call
 
@@ -187,6 +187,41 @@ fn same_outer(scope: &Scope<'_>, a: &Summary) -> bool
     same_shapes(&a.outer, scope.outer, scope.objects)
 }
 
+fn is_same(a: ArrayArgument, b: ArrayArgument) -> bool
+    ensures { IsTrue result → a ≡ b }
+{
+    a == b
+}
+
+fn each_equal(xs: &[ArrayArgument], ys: &[ArrayArgument]) -> bool
+    requires { length xs.now ≡ length ys.now }
+    ensures { IsTrue result → xs.now ≡ ys.now }
+{
+    for n in 0..xs.len() {
+        let equal = is_same(xs[n], ys[n]);
+        if !equal {
+            return false;
+        }
+    }
+    true
+}
+
+fn are_same(xs: &[ArrayArgument], ys: &[ArrayArgument]) -> bool
+    ensures { IsTrue result → xs.now ≡ ys.now }
+{
+    if xs.len() == ys.len() {
+        each_equal(xs, ys)
+    } else {
+        false
+    }
+}
+
+fn same_arrays(a: &Summary, arrays: &[ArrayArgument]) -> bool
+    ensures { IsTrue result → (summary_of a.now).arrays ≡ arrays.now }
+{
+    are_same(&a.arrays, arrays)
+}
+
 fn same_function(a: &Summary, f: usize) -> bool
     ensures { IsTrue result → (summary_of a.now).function ≡ f }
 {
@@ -200,8 +235,14 @@ fn admits(a: &Summary, entry: &[AbsValue]) -> bool
 }
 
 /// Tests whether the summary says what a call does that begins with these objects.
-fn fits(scope: &Scope<'_>, f: usize, a: &Summary, entry: &[AbsValue]) -> bool
-    ensures { IsTrue result → Fits (frame_of scope.now) f entry.now (summary_of a.now) }
+fn fits(
+    scope: &Scope<'_>,
+    f: usize,
+    a: &Summary,
+    arrays: &[ArrayArgument],
+    entry: &[AbsValue],
+) -> bool
+    ensures { IsTrue result → Fits (frame_of scope.now) f arrays.now entry.now (summary_of a.now) }
 {
     let called = same_function(a, f);
     if !called {
@@ -209,6 +250,10 @@ fn fits(scope: &Scope<'_>, f: usize, a: &Summary, entry: &[AbsValue]) -> bool
     }
     let alike = same_outer(scope, a);
     if !alike {
+        return false;
+    }
+    let passed = same_arrays(a, arrays);
+    if !passed {
         return false;
     }
     admits(a, entry)
@@ -259,12 +304,6 @@ fn front_of(alloc: Global, left: &Option<Vec<AbsValue>>, n: usize) -> Result<Abs
     }
 }
 
-fn object_count(scope: &Scope<'_>) -> Option<usize>
-    ensures { IfSome result (λ n. n ≡ length scope.now.outer.now + length scope.now.objects.now) }
-{
-    scope.outer.len().checked_add(scope.objects.len())
-}
-
 /// What is known behind a call of which this is known behind its body.
 fn behind(scope: &Scope<'_>, left: &Option<Vec<AbsValue>>) -> Result<AbsState, Stop>
     ensures { IfOk result (λ r. state_of r ≡ cut (length (shapes_of (frame_of scope.now))) (objects_or_none left.now)) }
@@ -281,14 +320,15 @@ fn by_summary(
     at: Pos,
     f: usize,
     used: bool,
+    arrays: &[ArrayArgument],
     entry: &[AbsValue],
     n: usize,
     a: &Summary,
 ) -> Result<Evaluated, Stop>
     requires { slice_get (frame_of scope.now).summaries n ≡ Some (summary_of a.now) }
-    ensures { IfOk result (λ e. Summarised (frame_of scope.now) at f used entry.now e.interval (state_of e.state)) }
+    ensures { IfOk result (λ e. Summarised (frame_of scope.now) at f used arrays.now entry.now e.interval (state_of e.state)) }
 {
-    let fit = fits(scope, f, a, entry);
+    let fit = fits(scope, f, a, arrays, entry);
     if !fit {
         return Err(Stop::Unfollowed(Some(at)));
     }
@@ -303,34 +343,46 @@ fn summarised(
     at: Pos,
     f: usize,
     used: bool,
+    arrays: &[ArrayArgument],
     entry: &[AbsValue],
     n: usize,
 ) -> Result<Evaluated, Stop>
-    ensures { IfOk result (λ e. Summarised (frame_of scope.now) at f used entry.now e.interval (state_of e.state)) }
+    ensures { IfOk result (λ e. Summarised (frame_of scope.now) at f used arrays.now entry.now e.interval (state_of e.state)) }
 {
     match scope.summaries.get(n) {
         None => Err(Stop::Unfollowed(Some(at))),
-        Some(a) => by_summary(scope, at, f, used, entry, n, a),
+        Some(a) => by_summary(scope, at, f, used, arrays, entry, n, a),
     }
 }
 
 /// Tests whether the summary is of function `f` and fits, as far as there is work left.
-fn is_found(scope: &Scope<'_>, f: usize, a: &Summary, entry: &[AbsValue]) -> bool {
+fn is_found(
+    scope: &Scope<'_>,
+    f: usize,
+    a: &Summary,
+    arrays: &[ArrayArgument],
+    entry: &[AbsValue],
+) -> bool {
     if a.function != f {
         return false;
     }
     let goes_on = take_step(scope);
-    goes_on && fits(scope, f, a, entry)
+    goes_on && fits(scope, f, a, arrays, entry)
 }
 
 /// A summary that fits, if there is one. It is a guess: nothing rests on it.
-fn fitting(scope: &Scope<'_>, f: usize, entry: &[AbsValue]) -> Option<usize> {
+fn fitting(
+    scope: &Scope<'_>,
+    f: usize,
+    arrays: &[ArrayArgument],
+    entry: &[AbsValue],
+) -> Option<usize> {
     let goes_on = take_search(scope);
     if !goes_on {
         return None;
     }
     for n in 0..scope.summaries.len() {
-        if is_found(scope, f, &scope.summaries[n], entry) {
+        if is_found(scope, f, &scope.summaries[n], arrays, entry) {
             return Some(n);
         }
     }
@@ -360,19 +412,34 @@ fn all_lengths(scope: &Scope<'_>) -> Result<Vec<Vec<u32>>, Stop> {
     Ok(outer)
 }
 
-fn call_wanted(scope: &Scope<'_>, f: usize, entry: &[AbsValue]) -> Result<Wanted, Stop> {
+fn copied_arrays(alloc: Global, arrays: &[ArrayArgument]) -> Result<Vec<ArrayArgument>, Stop> {
+    let mut out = Vec::new(alloc);
+    match out.extend_from_slice(arrays) {
+        Ok(()) => Ok(out),
+        Err(_) => Err(Stop::Memory),
+    }
+}
+
+fn call_wanted(
+    scope: &Scope<'_>,
+    f: usize,
+    arrays: &[ArrayArgument],
+    entry: &[AbsValue],
+) -> Result<Wanted, Stop> {
     let outer = all_lengths(scope)?;
+    let arrays = copied_arrays(scope.alloc, arrays)?;
     let entry = copied_objects(scope.alloc, entry)?;
     Ok(Wanted {
         function: f,
         outer,
+        arrays,
         entry,
     })
 }
 
 /// The call of which nothing is known yet, as a reason to stop.
-fn wanted(scope: &Scope<'_>, f: usize, entry: &[AbsValue]) -> Stop {
-    match call_wanted(scope, f, entry) {
+fn wanted(scope: &Scope<'_>, f: usize, arrays: &[ArrayArgument], entry: &[AbsValue]) -> Stop {
+    match call_wanted(scope, f, arrays, entry) {
         Ok(call) => Stop::Wanted(call),
         Err(stop) => stop,
     }
@@ -384,13 +451,14 @@ fn begun(
     at: Pos,
     f: usize,
     used: bool,
+    arrays: &[ArrayArgument],
     entry: &[AbsValue],
 ) -> Result<Evaluated, Stop>
-    ensures { IfOk result (λ e. Summarised (frame_of scope.now) at f used entry.now e.interval (state_of e.state)) }
+    ensures { IfOk result (λ e. Summarised (frame_of scope.now) at f used arrays.now entry.now e.interval (state_of e.state)) }
 {
-    match fitting(scope, f, entry) {
-        None => Err(wanted(scope, f, entry)),
-        Some(n) => summarised(scope, at, f, used, entry, n),
+    match fitting(scope, f, arrays, entry) {
+        None => Err(wanted(scope, f, arrays, entry)),
+        Some(n) => summarised(scope, at, f, used, arrays, entry, n),
     }
 }
 
@@ -403,14 +471,15 @@ fn defined_called(
     f: usize,
     used: bool,
     passed: &[Interval],
+    arrays: &[ArrayArgument],
     function: &Function,
 ) -> Result<Evaluated, Stop>
     requires { slice_get (frame_of scope.now).program.functions f ≡ Some (function_of function.now) }
-    ensures { IfOk result (λ r. CallsAt (frame_of scope.now) at f used passed.now (Some known.items) r.interval (state_of r.state)) }
+    ensures { IfOk result (λ r. CallsAt (frame_of scope.now) at f used passed.now arrays.now (Some known.items) r.interval (state_of r.state)) }
 {
     let own = own_objects(scope.alloc, function, passed)?;
     let entry = all_objects(known, &own)?;
-    let e = begun(scope, at, f, used, &entry)?;
+    let e = begun(scope, at, f, used, arrays, &entry)?;
     Ok(e)
 }
 
@@ -439,12 +508,13 @@ fn reached_called(
     f: usize,
     used: bool,
     passed: &[Interval],
+    arrays: &[ArrayArgument],
 ) -> Result<Evaluated, Stop>
-    ensures { IfOk result (λ r. CallsAt (frame_of scope.now) at f used passed.now (Some known.items) r.interval (state_of r.state)) }
+    ensures { IfOk result (λ r. CallsAt (frame_of scope.now) at f used passed.now arrays.now (Some known.items) r.interval (state_of r.state)) }
 {
     match scope.program.functions.get(f) {
         None => Err(Stop::Unfollowed(Some(at))),
-        Some(function) => defined_called(scope, known, at, f, used, passed, function),
+        Some(function) => { defined_called(scope, known, at, f, used, passed, arrays, function) },
     }
 }
 
@@ -459,14 +529,15 @@ pub fn function_called(
     f: usize,
     used: bool,
     passed: &[Interval],
+    arrays: &[ArrayArgument],
 ) -> Result<Evaluated, Stop>
-    ensures { IfOk result (λ r. CallsAt (frame_of scope.now) at f used passed.now (state_of state) r.interval (state_of r.state)) }
+    ensures { IfOk result (λ r. CallsAt (frame_of scope.now) at f used passed.now arrays.now (state_of state) r.interval (state_of r.state)) }
 {
     match state.objects {
         None => Ok(Evaluated {
             interval: single(0),
             state: AbsState { objects: None },
         }),
-        Some(known) => reached_called(scope, known, at, f, used, passed),
+        Some(known) => reached_called(scope, known, at, f, used, passed, arrays),
     }
 }

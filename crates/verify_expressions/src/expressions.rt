@@ -2,21 +2,21 @@
 
 ghost use Rattle.std.specs.Prelude.{◌≡◌, ◌≤◌, [], drop, length, map, IfOk, IsTrue, None};
 ghost use Rattle.typing_spec.specs.Program as typed;
-ghost use Rattle.typed_ast.specs.View.{argument_of, arguments_of, callee_of, number_given, moment_of, place_of, program_of, storage_of, value_of};
+ghost use Rattle.typed_ast.specs.View.{argument_of, arguments_of, array_given, callee_of, number_given, moment_of, place_of, program_of, storage_of, value_of};
 ghost use Rattle.verify_logic.specs.States.{shape_of};
 ghost use Rattle.verify_logic.specs.Judgements.{Evaluates, Tests};
 ghost use Rattle.verify_logic.specs.Places.{Finds};
 ghost use Rattle.verify_expressions.specs.Views.{frame_of, state_of};
 ghost use Rattle.verify_expressions.specs.Parts.{PassesAll, PassesOne, VariableAt};
 
-use crate::arguments::Passed;
+use crate::arguments::{Passed, one_array, one_number};
 use crate::calls::function_called;
 use crate::comparisons::compared;
 use crate::conditions::{Tested, split};
 use crate::objects::{content_at, joined, written};
 use crate::operators::{operation_at, read_at, sign_at, step_at, subscript_at};
 use crate::parts::{choice_conversion, got_byte, position, value_stepped};
-use crate::places::{is_element, length_at, literal_count, object};
+use crate::places::{designated, is_element, is_object, length_at, literal_count};
 use crate::scope::Scope;
 use crate::state::{AbsState, is_reached, unreachable};
 use crate::stop::Stop;
@@ -25,7 +25,7 @@ use srcset::Pos;
 use tree::{PrefixOp, StepOp};
 use typed_ast::{Argument, Callee, Moment, Place, Storage, Value};
 use verify_intervals::{add_usize, conversion, hull, nothing, single, truths};
-use verify_logic::Interval;
+use verify_logic::{ArrayArgument, Interval};
 
 /// The interval of a value, and what is known behind it.
 #[derive(Drop)]
@@ -45,12 +45,12 @@ pub struct Placed {
 fn named(scope: &Scope<'_>, state: AbsState, at: &Pos, what: Storage) -> Result<Placed, Stop>
     ensures { IfOk result (λ r. Finds (frame_of scope.now) (typed.named at.now (storage_of what)) (state_of state) r.object (drop r.depth (shape_of (frame_of scope.now) r.object)) (state_of r.state)) }
 {
-    let Some(x) = object(scope, what) else {
+    let Some(found) = designated(scope, what) else {
         return Err(Stop::Unfollowed(Some(*at)));
     };
     Ok(Placed {
-        object: x,
-        depth: 0,
+        object: found.object,
+        depth: found.depth,
         state,
     })
 }
@@ -397,38 +397,58 @@ fn discarded(scope: &Scope<'_>, state: AbsState, e: &Value) -> Result<Evaluated,
 }
 
 #[cycle(analyse)]
-fn number(scope: &Scope<'_>, state: AbsState, ty: IntType, e: &Value) -> Result<Evaluated, Stop>
-    ensures { IfOk result (λ r. PassesOne (frame_of scope.now) (number_given ty (value_of e.now)) (state_of state) r.interval (state_of r.state)) }
+fn number(scope: &Scope<'_>, state: AbsState, ty: IntType, e: &Value) -> Result<Passed, Stop>
+    ensures { IfOk result (λ r. PassesOne (frame_of scope.now) (number_given ty (value_of e.now)) (state_of state) r.intervals.items r.arrays.items (state_of r.state)) }
 {
     let v = evaluate(scope, state, e)?;
     let interval = conversion(ty, v.interval);
-    Ok(Evaluated {
-        interval,
-        state: v.state,
-    })
+    let given = one_number(scope.alloc, interval, v.state)?;
+    Ok(given)
+}
+
+/// An object, or a row of one, to which a parameter refers (6.9.1p10).
+#[cycle(analyse)]
+fn array_passed(scope: &Scope<'_>, state: AbsState, a: &Place) -> Result<Passed, Stop>
+    ensures { IfOk result (λ r. PassesOne (frame_of scope.now) (array_given (place_of a.now)) (state_of state) r.intervals.items r.arrays.items (state_of r.state)) }
+{
+    let found = place(scope, state, a)?;
+    let there = is_object(scope, found.object);
+    if !there {
+        return Err(Stop::Unfollowed(Some(position(a))));
+    }
+    let to = ArrayArgument {
+        object: found.object,
+        depth: found.depth,
+    };
+    let given = one_array(scope.alloc, to, found.state)?;
+    Ok(given)
 }
 
 #[cycle(analyse)]
-fn argument(scope: &Scope<'_>, state: AbsState, a: &Argument) -> Result<Evaluated, Stop>
-    ensures { IfOk result (λ r. PassesOne (frame_of scope.now) (argument_of a.now) (state_of state) r.interval (state_of r.state)) }
+fn argument(scope: &Scope<'_>, state: AbsState, a: &Argument) -> Result<Passed, Stop>
+    ensures { IfOk result (λ r. PassesOne (frame_of scope.now) (argument_of a.now) (state_of state) r.intervals.items r.arrays.items (state_of r.state)) }
 {
     match a {
         Argument::Number(ty, e) => number(scope, state, *ty, e),
-        Argument::Array(a) => Err(Stop::Unfollowed(Some(position(a)))),
+        Argument::Array(a) => array_passed(scope, state, a),
     }
 }
 
 /// The arguments of a call, in their order.
 #[cycle(analyse)]
 fn passed(scope: &Scope<'_>, state: AbsState, arguments: &[Argument]) -> Result<Passed, Stop>
-    ensures { IfOk result (λ r. PassesAll (frame_of scope.now) arguments.now (state_of state) r.intervals.items (state_of r.state)) }
+    ensures { IfOk result (λ r. PassesAll (frame_of scope.now) arguments.now (state_of state) r.intervals.items r.arrays.items (state_of r.state)) }
 {
     let mut intervals = Vec::new(scope.alloc);
+    let mut arrays = Vec::new(scope.alloc);
     let mut current = state;
     let mut rest = arguments;
     while let Some((a, more)) = rest.split_first() {
         let v = argument(scope, current, a)?;
-        let Ok(()) = intervals.push(v.interval) else {
+        let Ok(()) = intervals.extend_from_slice(&v.intervals) else {
+            return Err(Stop::Memory);
+        };
+        let Ok(()) = arrays.extend_from_slice(&v.arrays) else {
             return Err(Stop::Memory);
         };
         current = v.state;
@@ -436,6 +456,7 @@ fn passed(scope: &Scope<'_>, state: AbsState, arguments: &[Argument]) -> Result<
     }
     Ok(Passed {
         intervals,
+        arrays,
         state: current,
     })
 }
@@ -456,7 +477,17 @@ fn called(
 {
     let given = passed(scope, state, arguments)?;
     match callee {
-        Callee::Function(f) => function_called(scope, given.state, *at, f, used, &given.intervals),
+        Callee::Function(f) => {
+            function_called(
+                scope,
+                given.state,
+                *at,
+                f,
+                used,
+                &given.intervals,
+                &given.arrays,
+            )
+        }
         Callee::GetByte => {
             let byte = got_byte();
             Ok(Evaluated {

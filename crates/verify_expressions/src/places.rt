@@ -1,14 +1,16 @@
 //! What names designate, and the lengths of objects (6.2.4, 6.5.2.1).
 
-ghost use Rattle.std.specs.Prelude.{◌≡◌, ◌≤◌, ◌∷◌, ◌+◌, [], drop, length, IfSome, IsTrue};
+ghost use Rattle.std.specs.Prelude.{◌≡◌, ◌≤◌, ◌∷◌, ◌+◌, [], drop, length, ◌<◌, IfSome, IsTrue};
+ghost use Rattle.typing_spec.specs.Program as typed;
 ghost use Rattle.typed_ast.specs.View.{program_of, storage_of};
-ghost use Rattle.verify_logic.specs.States.{shape_of};
+ghost use Rattle.verify_logic.specs.States.{shape_of, shapes_of};
 ghost use Rattle.verify_logic.specs.Places.{Designates};
 ghost use Rattle.verify_expressions.specs.Views.{frame_of, own_shape_in, shape_in};
 
 use crate::scope::Scope;
 use typed_ast::{ObjectType, Storage};
 use verify_intervals::add_usize;
+use verify_logic::ArrayArgument;
 
 /// How many string literals the program has.
 pub fn literal_count(scope: &Scope<'_>) -> usize
@@ -17,15 +19,72 @@ pub fn literal_count(scope: &Scope<'_>) -> usize
     scope.program.literals.len()
 }
 
-/// The number in the store of what a name designates.
+/// The number in the store of the object that a name designates, where it is none of the array parameters.
 pub fn object(scope: &Scope<'_>, what: Storage) -> Option<usize>
-    ensures { IfSome result (λ x. Designates (frame_of scope.now) (storage_of what) x) }
+    ensures { IfSome result (λ x. Designates (frame_of scope.now) (storage_of what) x 0) }
 {
     match what {
         Storage::Literal(n) => Some(n),
         Storage::Static(n) => add_usize(literal_count(scope), n),
         Storage::Automatic(n) => add_usize(scope.outer.len(), n),
         Storage::Parameter(_) => None,
+    }
+}
+
+fn whole(scope: &Scope<'_>, what: Storage) -> Option<ArrayArgument>
+    ensures { IfSome result (λ a. Designates (frame_of scope.now) (storage_of what) a.object a.depth) }
+{
+    let Some(x) = object(scope, what) else {
+        return None;
+    };
+    Some(ArrayArgument {
+        object: x,
+        depth: 0,
+    })
+}
+
+/// What array parameter `n` refers to.
+fn parameter(scope: &Scope<'_>, n: usize) -> Option<ArrayArgument>
+    ensures { IfSome result (λ a. Designates (frame_of scope.now) (typed.parameter n) a.object a.depth) }
+{
+    match scope.arrays.get(n) {
+        None => None,
+        Some(a) => Some(*a),
+    }
+}
+
+/// What a name designates: an object, or the object or row to which an array parameter refers.
+pub fn designated(scope: &Scope<'_>, what: Storage) -> Option<ArrayArgument>
+    ensures { IfSome result (λ a. Designates (frame_of scope.now) (storage_of what) a.object a.depth) }
+{
+    match what {
+        Storage::Literal(_) => whole(scope, what),
+        Storage::Static(_) => whole(scope, what),
+        Storage::Automatic(_) => whole(scope, what),
+        Storage::Parameter(n) => parameter(scope, n),
+    }
+}
+
+/// The number of all objects, where it fits.
+pub fn object_count(scope: &Scope<'_>) -> Option<usize>
+    ensures { IfSome result (λ n. n ≡ length scope.now.outer.now + length scope.now.objects.now) }
+{
+    scope.outer.len().checked_add(scope.objects.len())
+}
+
+fn is_below(x: usize, n: usize) -> bool
+    ensures { IsTrue result → x < n }
+{
+    x < n
+}
+
+/// Tests whether there is an object `x`.
+pub fn is_object(scope: &Scope<'_>, x: usize) -> bool
+    ensures { IsTrue result → x < length (shapes_of (frame_of scope.now)) }
+{
+    match object_count(scope) {
+        None => false,
+        Some(n) => is_below(x, n),
     }
 }
 

@@ -4,7 +4,7 @@ use crate::memory::Memory;
 use srcset::Pos;
 use std::alloc::Global;
 use typed_ast::{ObjectType, Program};
-use verify_logic::AbsValue;
+use verify_logic::{AbsValue, ArrayArgument};
 
 /// What was shown of a function's body: entered so, it ends with such a value and leaves the objects so.
 #[derive(Drop)]
@@ -13,6 +13,8 @@ pub struct Summary {
     pub function: usize,
     /// The lengths of each object that lives before the call.
     pub outer: Vec<Vec<u32>>,
+    /// What the array parameters refer to.
+    pub arrays: Vec<ArrayArgument>,
     /// What is known of all objects as the call begins.
     pub entry: Vec<AbsValue>,
     pub value: AbsValue,
@@ -32,5 +34,7 @@ pub struct Scope<'a> {
     pub outer: &'a [Vec<u32>],
     /// The objects of the call.
     pub objects: &'a [ObjectType],
+    /// What the array parameters of the call refer to.
+    pub arrays: &'a [ArrayArgument],
     pub memory: &'a Memory,
 }

@@ -2,7 +2,7 @@
 
 use ctypes::Undef;
 use srcset::Pos;
-use verify_logic::{AbsValue, Interval};
+use verify_logic::{AbsValue, ArrayArgument, Interval};
 
 /// Undefined behaviour that is not ruled out.
 #[derive(Clone, Copy, PartialEq, Eq, Debug)]
@@ -22,6 +22,8 @@ pub struct Wanted {
     pub function: usize,
     /// The lengths of each object that lives before the call.
     pub outer: Vec<Vec<u32>>,
+    /// What the array parameters refer to.
+    pub arrays: Vec<ArrayArgument>,
     /// What is known of all objects as the call begins.
     pub entry: Vec<AbsValue>,
 }

@@ -8,14 +8,15 @@ use Rattle.typing_spec.specs.Program as typed
 use Rattle.typing_spec.specs.Program.{Arguments, Function, Program}
 use Rattle.csem.specs.Store.{Tree, Element, Array, Store, Reference, indeterminate}
 use Rattle.csem.specs.Machine.{State, Ended, Undefined, TicksUsed, Run, Goes, Stops, then_do, tick, ticks}
-use Rattle.csem.specs.Expressions.{Passed, Number, Referred, Calling, pass, evaluate, call_value, call_of}
+use Rattle.csem.specs.Expressions.{Passed, Calling, pass, evaluate, call_value, call_of}
 use Rattle.csem.specs.Statements.{Flow, Normal, Broken, Continued, Returned, execute}
 use Rattle.csem.specs.Meaning.{numbers_of, arrays_of, objects_of, enter, leave, value_at_end, value_left, body_of, call_defined, calling}
 use Rattle.verify_logic.specs.declared.abstract_values.Interval.{Interval}
 use Rattle.verify_logic.specs.declared.abstract_values.AbsValue.{AbsValue}
+use Rattle.verify_logic.specs.declared.abstract_values.ArrayArgument.{ArrayArgument}
 use Rattle.verify_logic.specs.States.{Summary, Frame, In, just, ValueIs, TreeIs, ObjectsAre, lengths_in, shapes_of, Covers, CoversState, body_and_value, IsSound, AreSound, Holds, Reaches, Ends, Entails, EachEntails}
 use Rattle.verify_logic.specs.Judgements.{Evaluates}
-use Rattle.verify_logic.specs.Places.{Are, Passes}
+use Rattle.verify_logic.specs.Places.{NumbersAre, Are, Passes}
 use Rattle.verify_logic.specs.Statements.{Ways, Leaves, Executes}
 use Rattle.verify_logic.specs.Calls.{Entered, CallGives, CallOr, CallValue, FunctionEnds, cut}
 use Rattle.verify_logic.proofs.Runs.{then_ends, tick_ends, weaker}
@@ -48,53 +49,40 @@ front_are [] (l ∷ shapes) more store h = absurd h
 front_are (k ∷ ks) (l ∷ shapes) more [] h = absurd h
 front_are (k ∷ ks) (l ∷ shapes) more (t ∷ store) h = (h.0, front_are ks shapes more store h.1)
 
-as_many : (is : List Interval) (passed : List Passed) → Are is passed → length (numbers_of passed) ≡ length is
-as_many [] [] h = refl
-as_many [] (x ∷ more) h = absurd h
-as_many (i ∷ is) [] h = absurd h
-as_many (i ∷ is) (Number v ∷ more) h = ap suc (as_many is more h.1)
-as_many (i ∷ is) (Referred r ∷ more) h = absurd h
-
-no_arrays : (is : List Interval) (passed : List Passed) → Are is passed → arrays_of passed ≡ []
-no_arrays [] [] h = refl
-no_arrays [] (x ∷ more) h = absurd h
-no_arrays (i ∷ is) [] h = absurd h
-no_arrays (i ∷ is) (Number v ∷ more) h = no_arrays is more h.1
-no_arrays (i ∷ is) (Referred r ∷ more) h = absurd h
-
 pub new_objects : (objects : List ObjectType) (ks : List AbsValue) → Entered [] objects ks → ObjectsAre ks (map lengths_in objects) (map indeterminate objects)
 new_objects [] [] h = tt
 new_objects [] (k ∷ ks) h = absurd h
 new_objects (t ∷ objects) [] h = absurd h
 new_objects (t ∷ objects) (k ∷ ks) h = (new_is k h.0 t.lengths, new_objects objects ks h.1)
 
-entered_are : (is : List Interval) (objects : List ObjectType) (ks : List AbsValue) (passed : List Passed) → Are is passed → Entered is objects ks → ObjectsAre ks (map lengths_in objects) (objects_of objects passed)
+entered_are : (is : List Interval) (objects : List ObjectType) (ks : List AbsValue) (ts : List Tree) → NumbersAre is ts → Entered is objects ks → ObjectsAre ks (map lengths_in objects) (ts ++ map indeterminate (drop (length ts) objects))
 entered_are [] objects ks [] a h = new_objects objects ks h
-entered_are [] objects ks (x ∷ more) a h = absurd a
+entered_are [] objects ks (t ∷ ts) a h = absurd a
 entered_are (i ∷ is) objects ks [] a h = absurd a
-entered_are (i ∷ is) objects ks (Referred r ∷ more) a h = absurd a
-entered_are (i ∷ is) [] [] (Number v ∷ more) a h = absurd h
-entered_are (i ∷ is) [] (k ∷ ks) (Number v ∷ more) a h = absurd h
-entered_are (i ∷ is) (t ∷ objects) [] (Number v ∷ more) a h = absurd h
-entered_are (i ∷ is) (t ∷ objects) (k ∷ ks) (Number v ∷ more) a h =
+entered_are (i ∷ is) objects ks (Array row ∷ ts) a h = absurd a
+entered_are (i ∷ is) objects ks (Element None ∷ ts) a h = absurd a
+entered_are (i ∷ is) [] [] (Element (Some v) ∷ ts) a h = absurd h
+entered_are (i ∷ is) [] (k ∷ ks) (Element (Some v) ∷ ts) a h = absurd h
+entered_are (i ∷ is) (t ∷ objects) [] (Element (Some v) ∷ ts) a h = absurd h
+entered_are (i ∷ is) (t ∷ objects) (k ∷ ks) (Element (Some v) ∷ ts) a h =
     let P : List ℕ → Type 0 = λ l. TreeIs k l (Element (Some v)) in
-    (subst P (sym h.0) (h.1.is (Some v) a.0), entered_are is objects ks more a.1 h.2)
+    (subst P (sym h.0) (h.1.is (Some v) a.0), entered_are is objects ks ts a.1 h.2)
 
-pub enter_covers : (fr : Frame) (f : ℕ) (g : Function) (passed : List Passed) (s : State) (known ks : List AbsValue) (is : List Interval) → Are is passed → Entered is g.objects ks → Reaches fr (Some known) s →
-    CoversState (shapes_of fr) g.objects (Some (known ++ ks)) (enter f g passed s)
-enter_covers fr f g passed s known ks is a e h = record {
+pub enter_covers : (fr : Frame) (f : ℕ) (g : Function) (passed : List Passed) (s : State) (known ks : List AbsValue) (is : List Interval) (ps : List ArrayArgument) → Are fr is ps passed → Entered is g.objects ks → Reaches fr (Some known) s →
+    CoversState (shapes_of fr) ps g.objects (Some (known ++ ks)) (enter f g passed s)
+enter_covers fr f g passed s known ks is ps a e h = record {
   based = as_long known (shapes_of fr) s.store h.objects_are;
-  referred = no_arrays is passed a;
-  objects_are = both_are known (shapes_of fr) s.store ks (map lengths_in g.objects) (objects_of g.objects passed) h.objects_are (entered_are is g.objects ks passed a e);
+  referred = a.arrays_are;
+  objects_are = both_are known (shapes_of fr) s.store ks (map lengths_in g.objects) (objects_of g.objects passed) h.objects_are (entered_are is g.objects ks (numbers_of passed) a.numbers e);
   bytes = h.bytes;
 }
 
 -- ---- the objects of the call end
 
-pub leave_reaches : (fr : Frame) (objects : List ObjectType) (o : Option (List AbsValue)) (known : List AbsValue) (caller s : State) → Reaches fr (Some known) caller → CoversState (shapes_of fr) objects o s →
+pub leave_reaches : (fr : Frame) (ps : List ArrayArgument) (objects : List ObjectType) (o : Option (List AbsValue)) (known : List AbsValue) (caller s : State) → Reaches fr (Some known) caller → CoversState (shapes_of fr) ps objects o s →
     Reaches fr (cut (length (shapes_of fr)) o) (leave caller s)
-leave_reaches fr objects None known caller s h k = absurd k
-leave_reaches fr objects (Some left) known caller s h k =
+leave_reaches fr ps objects None known caller s h k = absurd k
+leave_reaches fr ps objects (Some left) known caller s h k =
     let P : ℕ → Type 0 = λ n. ObjectsAre (take (length (shapes_of fr)) left) (shapes_of fr) (take n s.store) in
     let e : length caller.store ≡ length (shapes_of fr) = as_long known (shapes_of fr) caller.store h.objects_are in
     record {
@@ -110,54 +98,55 @@ sound_at p listed [] n a e h = absurd (cc e)
 sound_at p listed (b ∷ more) zero a e h = let q : b ≡ a = cc e in let P : Summary → Type 0 = IsSound p listed in subst P q h.0
 sound_at p listed (b ∷ more) (suc n) a e h = sound_at p listed more n a e h.1
 
-covers_more : (outer : List (List ℕ)) (objects : List ObjectType) (xs ys : List AbsValue) (s : State) → EachEntails xs ys → CoversState outer objects (Some xs) s → CoversState outer objects (Some ys) s
-covers_more outer objects xs ys s h c = record { based = c.based; referred = c.referred; objects_are = objects_entail xs ys (outer ++ map lengths_in objects) s.store h c.objects_are; bytes = c.bytes }
+covers_more : (outer : List (List ℕ)) (ps : List ArrayArgument) (objects : List ObjectType) (xs ys : List AbsValue) (s : State) → EachEntails xs ys → CoversState outer ps objects (Some xs) s → CoversState outer ps objects (Some ys) s
+covers_more outer ps objects xs ys s h c = record { based = c.based; referred = c.referred; objects_are = objects_entail xs ys (outer ++ map lengths_in objects) s.store h c.objects_are; bytes = c.bytes }
 
 -- a summary that fits gives what the call gives
-pub summary_rule : (fr : Frame) (f : ℕ) (g : Function) (is : List Interval) (known ks : List AbsValue) (n : ℕ) (a : Summary) → slice_get fr.program.functions f ≡ Some g → Entered is g.objects ks → slice_get fr.summaries n ≡ Some a →
-    a.function ≡ f → a.outer ≡ shapes_of fr → EachEntails (known ++ ks) a.entry → CallGives fr f is (Some known) a.value (cut (length (shapes_of fr)) a.left)
-summary_rule fr f g is known ks n a eg en ea ef eo le = record { runs = λ d passed s am c. runs d passed s am c }
+pub summary_rule : (fr : Frame) (f : ℕ) (g : Function) (is : List Interval) (ps : List ArrayArgument) (known ks : List AbsValue) (n : ℕ) (a : Summary) → slice_get fr.program.functions f ≡ Some g → Entered is g.objects ks → slice_get fr.summaries n ≡ Some a →
+    a.function ≡ f → a.outer ≡ shapes_of fr → a.arrays ≡ ps → EachEntails (known ++ ks) a.entry → CallGives fr f is ps (Some known) a.value (cut (length (shapes_of fr)) a.left)
+summary_rule fr f g is ps known ks n a eg en ea ef eo ep le = record { runs = λ d passed s am c. runs d passed s am c }
   where
     post : Option ℤ → State → Type 0
     post v s2 = ValueIs a.value v × Reaches fr (cut (length (shapes_of fr)) a.left) s2
 
-    runs : (d : ℕ) (passed : List Passed) (s : State) → Are is passed → Reaches fr (Some known) s →
+    runs : (d : ℕ) (passed : List Passed) (s : State) → Are fr is ps passed → Reaches fr (Some known) s →
         Ends fr.listed (calling fr.program d f passed s) (λ v s2. ValueIs a.value v × Reaches fr (cut (length (shapes_of fr)) a.left) s2)
     runs zero passed s am c = tt
     runs (suc d) passed s am c =
         let P : Option Function → Type 0 = λ o. Ends fr.listed (call_defined fr.program (calling fr.program d) o f passed s) (λ v s2. ValueIs a.value v × Reaches fr (cut (length (shapes_of fr)) a.left) s2) in
         let F : ℕ → Type 0 = λ x. slice_get fr.program.functions x ≡ Some g in
         let s1 : State = enter f g passed s in
-        let O : List (List ℕ) → Type 0 = λ outer. CoversState outer g.objects (Some (known ++ ks)) s1 in
-        let cov : CoversState a.outer g.objects (Some a.entry) s1 = covers_more a.outer g.objects (known ++ ks) a.entry s1 le (subst O (sym eo) (enter_covers fr f g passed s known ks is am en c)) in
-        let done : Ends fr.listed (body_and_value fr.program a.function d g s1) (λ v s2. ValueIs a.value v × CoversState a.outer g.objects a.left s2) =
+        let O : List (List ℕ) → Type 0 = λ outer. CoversState outer a.arrays g.objects (Some (known ++ ks)) s1 in
+        let A : List ArrayArgument → Type 0 = λ ps. CoversState (shapes_of fr) ps g.objects (Some (known ++ ks)) s1 in
+        let cov : CoversState a.outer a.arrays g.objects (Some a.entry) s1 = covers_more a.outer a.arrays g.objects (known ++ ks) a.entry s1 le (subst O (sym eo) (subst A (sym ep) (enter_covers fr f g passed s known ks is ps am en c))) in
+        let done : Ends fr.listed (body_and_value fr.program a.function d g s1) (λ v s2. ValueIs a.value v × CoversState a.outer a.arrays g.objects a.left s2) =
         sound_at fr.program fr.listed fr.summaries n a ea c.sound g (subst F (sym ef) eg) d s1 cov in
-        let Q : ℕ → Type 0 = λ x. Ends fr.listed (body_and_value fr.program x d g s1) (λ v s2. ValueIs a.value v × CoversState a.outer g.objects a.left s2) in
-        let R : List (List ℕ) → Type 0 = λ outer. Ends fr.listed (body_and_value fr.program f d g s1) (λ v s2. ValueIs a.value v × CoversState outer g.objects a.left s2) in
+        let Q : ℕ → Type 0 = λ x. Ends fr.listed (body_and_value fr.program x d g s1) (λ v s2. ValueIs a.value v × CoversState a.outer a.arrays g.objects a.left s2) in
+        let R : List (List ℕ) → Type 0 = λ outer. Ends fr.listed (body_and_value fr.program f d g s1) (λ v s2. ValueIs a.value v × CoversState outer a.arrays g.objects a.left s2) in
         subst P (sym eg) (leaving s c (nat_eq f fr.program.main) (body_of fr.program (calling fr.program d) g s1) (subst R eo (subst Q ef done)))
       where
-        leaving : (s : State) → Reaches fr (Some known) s → (b : Bool) (r : Run Flow) → Ends fr.listed (then_do r (λ flow s2. Goes (value_left b flow) s2)) (λ v s2. ValueIs a.value v × CoversState (shapes_of fr) g.objects a.left s2) →
+        leaving : (s : State) → Reaches fr (Some known) s → (b : Bool) (r : Run Flow) → Ends fr.listed (then_do r (λ flow s2. Goes (value_left b flow) s2)) (λ v s2. ValueIs a.value v × CoversState (shapes_of fr) a.arrays g.objects a.left s2) →
             Ends fr.listed (then_do r (λ flow s2. Goes (value_left b flow) (leave s s2))) (λ v s2. ValueIs a.value v × Reaches fr (cut (length (shapes_of fr)) a.left) s2)
-        leaving s c b (Goes flow s2) q = (q.0, leave_reaches fr g.objects a.left known s s2 c q.1)
+        leaving s c b (Goes flow s2) q = (q.0, leave_reaches fr a.arrays g.objects a.left known s s2 c q.1)
         leaving s c b (Stops (Ended k) s2) q = tt
         leaving s c b (Stops (Undefined act place) s2) q = q
         leaving s c b (Stops TicksUsed s2) q = tt
 
 -- where no run comes to the call
-pub no_call : (fr : Frame) (f : ℕ) (is : List Interval) (value : AbsValue) (o : Option (List AbsValue)) → CallGives fr f is None value o
-no_call fr f is value o = record { runs = λ d passed s am c. absurd c }
+pub no_call : (fr : Frame) (f : ℕ) (is : List Interval) (ps : List ArrayArgument) (value : AbsValue) (o : Option (List AbsValue)) → CallGives fr f is ps None value o
+no_call fr f is ps value o = record { runs = λ d passed s am c. absurd c }
 
 value_ends : (al : List Pos) (at : Pos) (used : Bool) (r : Interval) (v : Option ℤ) (s : State) (rest : State → Type 0) → CallOr al at used r v → rest s → Ends al (call_value used at v s) (λ v s2. In r v × rest s2)
 value_ends al at used r (Some v) s rest h c = (h, c)
 value_ends al at true r None s rest h c = h
 value_ends al at false r None s rest h c = (h, c)
 
-pub function_rule : (fr : Frame) (at : Pos) (f : ℕ) (t : Option IntType) (used : Bool) (arguments : Arguments) (o : Option (List AbsValue)) (is : List Interval) (o2 : Option (List AbsValue)) (value : AbsValue) (o3 : Option (List AbsValue)) (r : Interval) →
-    Passes fr arguments o is o2 → CallGives fr f is o2 value o3 → CallValue fr at used value r → Evaluates fr (typed.call at (typed.function f) t used arguments) o r o3
-function_rule fr at f t used arguments o is o2 value o3 r h g v = record {
+pub function_rule : (fr : Frame) (at : Pos) (f : ℕ) (t : Option IntType) (used : Bool) (arguments : Arguments) (o : Option (List AbsValue)) (is : List Interval) (ps : List ArrayArgument) (o2 : Option (List AbsValue)) (value : AbsValue) (o3 : Option (List AbsValue)) (r : Interval) →
+    Passes fr arguments o is ps o2 → CallGives fr f is ps o2 value o3 → CallValue fr at used value r → Evaluates fr (typed.call at (typed.function f) t used arguments) o r o3
+function_rule fr at f t used arguments o is ps o2 value o3 r h g v = record {
   runs = λ d s c.
       let post : ℤ → State → Type 0 = λ u s2. In r u × Reaches fr o3 s2 in
-      arguments_then fr d arguments o is o2 s (λ passed s. call_of (calling fr.program d) at (typed.function f) used passed s) post h c (λ passed s2 am c2.
+      arguments_then fr d arguments o is ps o2 s (λ passed s. call_of (calling fr.program d) at (typed.function f) used passed s) post h c (λ passed s2 am c2.
       then_ends fr.listed (calling fr.program d f passed s2) (λ v s. call_value used at v s) (λ u s3. ValueIs value u × Reaches fr o3 s3) post (g.runs d passed s2 am c2) (λ u s3 q.
       value_ends fr.listed at used r u s3 (λ s2. Reaches fr o3 s2) (v.is u q.0) q.1));
 }
@@ -187,22 +176,19 @@ value_unused fr at used value r e f z = record { is = λ v h. by used v e h }
 
 -- ---- a function's body
 
-abbrev pub frame_of_body : Program → List Pos → List Summary → List (List ℕ) → List ObjectType → Frame
-frame_of_body p listed summaries outer objects = record { program = p; listed = listed; summaries = summaries; outer = outer; objects = objects; arrays = [] }
-
-to_covers : (fr : Frame) (o : Option (List AbsValue)) (s : State) → fr.arrays ≡ [] → Reaches fr o s → CoversState fr.outer fr.objects o s
-to_covers fr None s e h = absurd h
-to_covers fr (Some known) s e h = record { based = h.based; referred = h.referred ∙ e; objects_are = h.objects_are; bytes = h.bytes }
+to_covers : (fr : Frame) (o : Option (List AbsValue)) (s : State) → Reaches fr o s → CoversState fr.outer fr.arrays fr.objects o s
+to_covers fr None s h = absurd h
+to_covers fr (Some known) s h = record { based = h.based; referred = h.referred; objects_are = h.objects_are; bytes = h.bytes }
 
 pub ticks_end : (fr : Frame) (k : ℕ) (s : State) (o : Option (List AbsValue)) → Reaches fr o s → Ends fr.listed (ticks k s) (λ u s2. Reaches fr o s2)
 ticks_end fr zero s o h = h
 ticks_end fr (suc k) s o h = tick_ends fr.listed s _ (λ u s2. Reaches fr o s2) (λ n. ticks_end fr k (record s { clock = n }) o h)
 
-pub body_rule : (fr : Frame) (f : ℕ) (g : Function) (entry : List AbsValue) (w : Ways) (value : AbsValue) (left : Option (List AbsValue)) → fr.arrays ≡ [] → g.objects ≡ fr.objects → AreSound fr.program fr.listed fr.summaries →
-    slice_get fr.program.functions f ≡ Some g → Executes fr g.body (Some entry) w → FunctionEnds fr.program f w value left → IsSound fr.program fr.listed (record { function = f; outer = fr.outer; entry = entry; value = value; left = left })
-body_rule fr f g entry w value left ea eo sound eg h e = λ g2 e2 d s c.
+pub body_rule : (fr : Frame) (f : ℕ) (g : Function) (entry : List AbsValue) (w : Ways) (value : AbsValue) (left : Option (List AbsValue)) → g.objects ≡ fr.objects → AreSound fr.program fr.listed fr.summaries →
+    slice_get fr.program.functions f ≡ Some g → Executes fr g.body (Some entry) w → FunctionEnds fr.program f w value left → IsSound fr.program fr.listed (record { function = f; outer = fr.outer; arrays = fr.arrays; entry = entry; value = value; left = left })
+body_rule fr f g entry w value left eo sound eg h e = λ g2 e2 d s c.
     let q : g ≡ g2 = same g g2 (sym eg ∙ e2) in
-    let P : Function → Type 0 = λ g. CoversState fr.outer g.objects (Some entry) s → Ends fr.listed (body_and_value fr.program f d g s) (λ v s2. ValueIs value v × CoversState fr.outer g.objects left s2) in
+    let P : Function → Type 0 = λ g. CoversState fr.outer fr.arrays g.objects (Some entry) s → Ends fr.listed (body_and_value fr.program f d g s) (λ v s2. ValueIs value v × CoversState fr.outer fr.arrays g.objects left s2) in
     subst P q (λ c. at d s c) c
   where
     same : (g g2 : Function) → Some g ≡ Some g2 → g ≡ g2
@@ -214,12 +200,12 @@ body_rule fr f g entry w value left ea eo sound eg h e = λ g2 e2 d s c.
     ends b q Continued s k = let P : Bool → Type 0 = λ b. ValueIs value (value_at_end b) × Reaches fr left s in subst P (sym q) (e.continued fr s k)
     ends b q (Returned v) s k = e.returned fr v s k.0 k.1
 
-    at : (d : ℕ) (s : State) → CoversState fr.outer g.objects (Some entry) s → Ends fr.listed (body_and_value fr.program f d g s) (λ v s2. ValueIs value v × CoversState fr.outer g.objects left s2)
+    at : (d : ℕ) (s : State) → CoversState fr.outer fr.arrays g.objects (Some entry) s → Ends fr.listed (body_and_value fr.program f d g s) (λ v s2. ValueIs value v × CoversState fr.outer fr.arrays g.objects left s2)
     at d s c =
         let O : List ObjectType → Type 0 = λ objects. ObjectsAre entry (fr.outer ++ map lengths_in objects) s.store in
-        let c1 : Reaches fr (Some entry) s = record { based = c.based; referred = c.referred ∙ sym ea; objects_are = subst O eo c.objects_are; bytes = c.bytes; sound = sound } in
+        let c1 : Reaches fr (Some entry) s = record { based = c.based; referred = c.referred; objects_are = subst O eo c.objects_are; bytes = c.bytes; sound = sound } in
         let T : List ObjectType → Type 0 = λ objects. Ends fr.listed (then_do (then_do (ticks (suc (length g.type.parameters)) s) (λ u s. execute fr.program (calling fr.program d) objects g.body s)) (λ flow s2. Goes (value_left (nat_eq f fr.program.main) flow) s2))
-        (λ v s2. ValueIs value v × CoversState fr.outer objects left s2) in
-        subst T (sym eo) (then_ends fr.listed (then_do (ticks (suc (length g.type.parameters)) s) (λ u s. execute fr.program (calling fr.program d) fr.objects g.body s)) _ (Leaves fr w) (λ v s2. ValueIs value v × CoversState fr.outer fr.objects left s2)
+        (λ v s2. ValueIs value v × CoversState fr.outer fr.arrays objects left s2) in
+        subst T (sym eo) (then_ends fr.listed (then_do (ticks (suc (length g.type.parameters)) s) (λ u s. execute fr.program (calling fr.program d) fr.objects g.body s)) _ (Leaves fr w) (λ v s2. ValueIs value v × CoversState fr.outer fr.arrays fr.objects left s2)
         (then_ends fr.listed (ticks (suc (length g.type.parameters)) s) _ (λ u s2. Reaches fr (Some entry) s2) (Leaves fr w) (ticks_end fr (suc (length g.type.parameters)) s (Some entry) c1) (λ u s2 c2. h.runs d s2 c2))
-        (λ flow s2 k. let q = ends (nat_eq f fr.program.main) refl flow s2 k in (q.0, to_covers fr left s2 ea q.1)))
+        (λ flow s2 k. let q = ends (nat_eq f fr.program.main) refl flow s2 k in (q.0, to_covers fr left s2 q.1)))

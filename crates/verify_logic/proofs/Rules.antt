@@ -1,5 +1,5 @@
 -- Rules for expressions.
-use Rattle.std.proofs.Common.{◌≡◌, ◌≤◌, ◌<◌, ◌+◌, ℕ, zero, suc, ℤ, pos, negsuc, List, [], ◌∷◌, ◌++◌, length, map, refl, sym, ap, subst, ◌∙◌, arith}
+use Rattle.std.proofs.Common.{◌≡◌, ◌≤◌, ◌<◌, ◌+◌, ℕ, zero, suc, ℤ, pos, negsuc, List, [], ◌∷◌, ◌++◌, length, map, drop, refl, sym, ap, subst, ◌∙◌, arith}
 use Rattle.std.proofs.lemmas.Int.{ints}
 use Rattle.std.proofs.lemmas.Bool.Decides.{nat_tests}
 use Rattle.std.specs.Prelude.{◌≤ℤ◌, ◌<ℤ◌, Option, Some, None, IfOk, Bool, true, false, nat_lt, slice_get, Result, Ok, Err, Contains}
@@ -16,12 +16,13 @@ use Rattle.typing_spec.specs.Operators.{operated, sign_of}
 use Rattle.typing_spec.specs.Program as typed
 use Rattle.typing_spec.specs.Program.{Moment, Storage, Place, Arguments, Value, Program}
 use Rattle.csem.specs.Store.{Store, Tree, Element, Array, Reference, whole, into, parts, value_of, value_at, tree_at, length_of, at_path}
-use Rattle.csem.specs.Machine.{State, Run, Goes, Stops, then_do, choose, tick, computed_at, designated, undefined, subscripted, value_or_undefined, read, write, stored}
+use Rattle.csem.specs.Machine.{State, Run, Goes, Stops, then_do, choose, tick, computed_at, or_first, designated, undefined, subscripted, value_or_undefined, read, write, stored}
 use Rattle.csem.specs.Expressions.{Calling, Passed, Number, find, pass, evaluate, call_of, get_byte, step_operation, step_value, position_of, converted_or_none}
 use Rattle.csem.specs.Meaning.{calling}
 use Rattle.verify_logic.specs.declared.abstract_values.Interval.{Interval}
 use Rattle.verify_logic.specs.declared.abstract_values.AbsValue.{AbsValue}
-use Rattle.verify_logic.specs.States.{Frame, In, just, ValueIs, TreeIs, ReachesAt, Reaches, Ends, Below, range_of, Implies, shape_of, Along, Refers, ObjectIs, Contents, Writes}
+use Rattle.verify_logic.specs.declared.abstract_values.ArrayArgument.{ArrayArgument}
+use Rattle.verify_logic.specs.States.{Frame, In, just, ValueIs, TreeIs, ReachesAt, Reaches, Ends, Below, range_of, Implies, shapes_of, rest_of, ArrayIs, ArraysAre, or_scalar, shape_of, Along, Refers, ObjectIs, Contents, Writes}
 use Rattle.verify_logic.specs.Judgements.{Evaluates, Tests, ReadsOr, MayRead, GivesOr, OperatesAt, SignsAt, Subscripts, Converts, either_way}
 use Rattle.verify_logic.specs.Places.{Designates, Finds, FindsAt, Are, Passes, step_interval, ConvertsOr, Splits, got}
 use Rattle.verify_logic.proofs.Runs.{then_ends, tick_ends, weaker, computed_ends, computed_then, choose_ends, second, first}
@@ -51,16 +52,36 @@ pub based : (fr : Frame) (o : Option (List AbsValue)) (s : State) → Reaches fr
 based fr None s h = absurd h
 based fr (Some k) s h = h.based
 
-pub referred : (fr : Frame) (o : Option (List AbsValue)) (s : State) → Reaches fr o s → s.arrays ≡ fr.arrays
+pub referred : (fr : Frame) (o : Option (List AbsValue)) (s : State) → Reaches fr o s → ArraysAre fr.outer fr.arrays s.arrays
 referred fr None s h = absurd h
 referred fr (Some k) s h = h.referred
 
-pub named_rule : (fr : Frame) (at : Pos) (what : Storage) (x : ℕ) (rest : List ℕ) → shape_of fr x ≡ rest → Designates fr what x → FindsAt fr (typed.named at what) x rest
-named_rule fr at what x rest e h = record {
+pub named_rule : (fr : Frame) (at : Pos) (what : Storage) (x depth : ℕ) (rest : List ℕ) → rest_of (shapes_of fr) x depth ≡ rest → Designates fr what x depth → FindsAt fr (typed.named at what) x rest
+named_rule fr at what x depth rest e h = record {
   runs = λ d o s c.
       let P : List ℕ → Type 0 = λ rest. Ends fr.listed (find fr.program (calling fr.program d) (typed.named at what) s) (λ r s2. Refers fr x rest r × Reaches fr o s2 × (s2.store ≡ s.store)) in
-      subst P e (tick_ends fr.listed s (λ s. Goes (designated fr.program what s) s) (λ r s2. Refers fr x (shape_of fr x) r × Reaches fr o s2 × (s2.store ≡ s.store))
+      subst P e (tick_ends fr.listed s (λ s. Goes (designated fr.program what s) s) (λ r s2. Refers fr x (rest_of (shapes_of fr) x depth) r × Reaches fr o s2 × (s2.store ≡ s.store))
       (λ n. (h.is (record s { clock = n }) (based fr o s c) (referred fr o s c), c, refl)));
+}
+
+-- what an array parameter refers to (6.9.1p10)
+array_found : (shapes : List (List ℕ)) (ps : List ArrayArgument) (rs : List Reference) (n : ℕ) (a : ArrayArgument) → ArraysAre shapes ps rs → slice_get ps n ≡ Some a → ArrayIs shapes a (or_first (slice_get rs n))
+array_found shapes [] rs n a h e = absurd (cc e)
+array_found shapes (p ∷ ps) [] n a h e = absurd h
+array_found shapes (p ∷ ps) (r ∷ rs) zero a h e = let q : p ≡ a = cc e in let P : ArrayArgument → Type 0 = λ a. ArrayIs shapes a r in subst P q h.0
+array_found shapes (p ∷ ps) (r ∷ rs) (suc n) a h e = array_found shapes ps rs n a h.1 e
+
+shape_in_front : (xs ys : List (List ℕ)) (x : ℕ) → x < length xs → slice_get (xs ++ ys) x ≡ slice_get xs x
+shape_in_front [] ys x h = absurd (omega (arith, h))
+shape_in_front (l ∷ xs) ys zero h = refl
+shape_in_front (l ∷ xs) ys (suc x) h = shape_in_front xs ys x (let q : suc x < suc (length xs) = h in omega (arith, q))
+
+pub parameter_designates : (fr : Frame) (n : ℕ) (a : ArrayArgument) → slice_get fr.arrays n ≡ Some a → Designates fr (typed.parameter n) a.object a.depth
+parameter_designates fr n a e = record {
+  is = λ s b h.
+      let i = array_found fr.outer fr.arrays s.arrays n a h e in
+      let P : Option (List ℕ) → Type 0 = λ o. Along (or_scalar o) (or_first (slice_get s.arrays n)).path (drop a.depth (or_scalar o)) in
+      record { object = i.object; path = subst P (sym (shape_in_front fr.outer _ a.object i.lives)) i.path };
 }
 
 pub finds_at : (fr : Frame) (place : Place) (x : ℕ) (rest : List ℕ) (o : Option (List AbsValue)) → FindsAt fr place x rest → Finds fr place o x rest o
@@ -344,23 +365,34 @@ discarded_rule fr e o i r o2 h g = record {
 
 -- ---- arguments and calls of built-in functions (6.5.2.2)
 
-pub no_arguments_rule : (fr : Frame) (o : Option (List AbsValue)) → Passes fr typed.no_arguments o [] o
-no_arguments_rule fr o = record { runs = λ d s c. (tt, c) }
+pub no_arguments_rule : (fr : Frame) (o : Option (List AbsValue)) → Passes fr typed.no_arguments o [] [] o
+no_arguments_rule fr o = record { runs = λ d s c. (record { numbers = tt; arrays_are = tt }, c) }
 
-pub number_rule : (fr : Frame) (t : IntType) (e : Value) (more : Arguments) (o : Option (List AbsValue)) (i r : Interval) (o2 : Option (List AbsValue)) (is : List Interval) (o3 : Option (List AbsValue)) →
-    Evaluates fr e o i o2 → Converts t i r → Passes fr more o2 is o3 → Passes fr (typed.and_number t e more) o (r ∷ is) o3
-number_rule fr t e more o i r o2 is o3 h cv g = record {
+pub number_rule : (fr : Frame) (t : IntType) (e : Value) (more : Arguments) (o : Option (List AbsValue)) (i r : Interval) (o2 : Option (List AbsValue)) (is : List Interval) (ps : List ArrayArgument) (o3 : Option (List AbsValue)) →
+    Evaluates fr e o i o2 → Converts t i r → Passes fr more o2 is ps o3 → Passes fr (typed.and_number t e more) o (r ∷ is) ps o3
+number_rule fr t e more o i r o2 is ps o3 h cv g = record {
   runs = λ d s c.
-      let post : List Passed → State → Type 0 = λ passed s2. Are (r ∷ is) passed × Reaches fr o3 s2 in
+      let post : List Passed → State → Type 0 = λ passed s2. Are fr (r ∷ is) ps passed × Reaches fr o3 s2 in
       value_then fr d e o i o2 s _ post h c (λ v s2 m c2.
-      then_ends fr.listed (pass fr.program (calling fr.program d) more s2) _ (λ passed s3. Are is passed × Reaches fr o3 s3) post (g.runs d s2 c2) (λ passed s3 q. ((cv.gives v m, q.0), q.1)));
+      then_ends fr.listed (pass fr.program (calling fr.program d) more s2) _ (λ passed s3. Are fr is ps passed × Reaches fr o3 s3) post (g.runs d s2 c2) (λ passed s3 q.
+      (record { numbers = (cv.gives v m, q.0.numbers); arrays_are = q.0.arrays_are }, q.1)));
 }
 
-pub arguments_then : (fr : Frame) (d : ℕ) (arguments : Arguments) (o : Option (List AbsValue)) (is : List Interval) (o2 : Option (List AbsValue)) (s : State) (go : List Passed → State → Run ℤ) (post : ℤ → State → Type 0) →
-    Passes fr arguments o is o2 → Reaches fr o s → ((passed : List Passed) (s2 : State) → Are is passed → Reaches fr o2 s2 → Ends fr.listed (go passed s2) post) →
+pub array_rule : (fr : Frame) (array : Place) (more : Arguments) (o : Option (List AbsValue)) (a : ArrayArgument) (o2 : Option (List AbsValue)) (is : List Interval) (ps : List ArrayArgument) (o3 : Option (List AbsValue)) → a.object < length (shapes_of fr) →
+    Finds fr array o a.object (rest_of (shapes_of fr) a.object a.depth) o2 → Passes fr more o2 is ps o3 → Passes fr (typed.and_array array more) o is (a ∷ ps) o3
+array_rule fr array more o a o2 is ps o3 lt f g = record {
+  runs = λ d s c.
+      let post : List Passed → State → Type 0 = λ passed s2. Are fr is (a ∷ ps) passed × Reaches fr o3 s2 in
+      place_then fr d array o a.object (rest_of (shapes_of fr) a.object a.depth) o2 s _ post f c (λ r s2 m c2.
+      then_ends fr.listed (pass fr.program (calling fr.program d) more s2) _ (λ passed s3. Are fr is ps passed × Reaches fr o3 s3) post (g.runs d s2 c2) (λ passed s3 q.
+      (record { numbers = q.0.numbers; arrays_are = (record { object = m.object; lives = lt; path = m.path }, q.0.arrays_are) }, q.1)));
+}
+
+pub arguments_then : (fr : Frame) (d : ℕ) (arguments : Arguments) (o : Option (List AbsValue)) (is : List Interval) (ps : List ArrayArgument) (o2 : Option (List AbsValue)) (s : State) (go : List Passed → State → Run ℤ) (post : ℤ → State → Type 0) →
+    Passes fr arguments o is ps o2 → Reaches fr o s → ((passed : List Passed) (s2 : State) → Are fr is ps passed → Reaches fr o2 s2 → Ends fr.listed (go passed s2) post) →
     Ends fr.listed (tick s (λ s. then_do (pass fr.program (calling fr.program d) arguments s) go)) post
-arguments_then fr d arguments o is o2 s go post h c next = tick_ends fr.listed s (λ s. then_do (pass fr.program (calling fr.program d) arguments s) go) post (λ n.
-    then_ends fr.listed (pass fr.program (calling fr.program d) arguments (record s { clock = n })) go (λ passed s2. Are is passed × Reaches fr o2 s2) post (h.runs d (record s { clock = n }) c) (λ passed s2 m. next passed s2 m.0 m.1))
+arguments_then fr d arguments o is ps o2 s go post h c next = tick_ends fr.listed s (λ s. then_do (pass fr.program (calling fr.program d) arguments s) go) post (λ n.
+    then_ends fr.listed (pass fr.program (calling fr.program d) arguments (record s { clock = n })) go (λ passed s2. Are fr is ps passed × Reaches fr o2 s2) post (h.runs d (record s { clock = n }) c) (λ passed s2 m. next passed s2 m.0 m.1))
 
 less_input : (fr : Frame) (o : Option (List AbsValue)) (base : ℕ) (arrays : List Reference) (store : Store) (b : ℕ) (more : List ℕ) → ReachesAt fr o base arrays store (b ∷ more) → (b < 256) × ReachesAt fr o base arrays store more
 less_input fr None base arrays store b more h = absurd h
@@ -370,25 +402,25 @@ got_byte : (fr : Frame) (o : Option (List AbsValue)) (s : State) (input : List �
 got_byte fr o s [] h c = ((omega (arith, ints), omega (arith, ints)), c)
 got_byte fr o s (b ∷ more) h c = let k = less_input fr o s.base s.arrays s.store b more h in ((omega (arith, ints), omega (arith, ints, k.0)), k.1)
 
-pub get_byte_rule : (fr : Frame) (at : Pos) (t : Option IntType) (used : Bool) (arguments : Arguments) (o : Option (List AbsValue)) (is : List Interval) (o2 : Option (List AbsValue)) → Passes fr arguments o is o2 →
+pub get_byte_rule : (fr : Frame) (at : Pos) (t : Option IntType) (used : Bool) (arguments : Arguments) (o : Option (List AbsValue)) (is : List Interval) (ps : List ArrayArgument) (o2 : Option (List AbsValue)) → Passes fr arguments o is ps o2 →
     Evaluates fr (typed.call at typed.get_byte t used arguments) o got o2
-get_byte_rule fr at t used arguments o is o2 h = record {
+get_byte_rule fr at t used arguments o is ps o2 h = record {
   runs = λ d s c.
-      arguments_then fr d arguments o is o2 s _ (Both got fr o2) h c (λ passed s2 a c2. got_byte fr o2 s2 s2.input c2 c2);
+      arguments_then fr d arguments o is ps o2 s _ (Both got fr o2) h c (λ passed s2 a c2. got_byte fr o2 s2 s2.input c2 c2);
 }
 
-pub put_byte_rule : (fr : Frame) (at : Pos) (t : Option IntType) (used : Bool) (arguments : Arguments) (o : Option (List AbsValue)) (is : List Interval) (o2 : Option (List AbsValue)) (r : Interval) → Passes fr arguments o is o2 → In r (pos 0) →
+pub put_byte_rule : (fr : Frame) (at : Pos) (t : Option IntType) (used : Bool) (arguments : Arguments) (o : Option (List AbsValue)) (is : List Interval) (ps : List ArrayArgument) (o2 : Option (List AbsValue)) (r : Interval) → Passes fr arguments o is ps o2 → In r (pos 0) →
     Evaluates fr (typed.call at typed.put_byte t used arguments) o r o2
-put_byte_rule fr at t used arguments o is o2 r h g = record {
+put_byte_rule fr at t used arguments o is ps o2 r h g = record {
   runs = λ d s c.
-      arguments_then fr d arguments o is o2 s _ (Both r fr o2) h c (λ passed s2 a c2. (g, c2));
+      arguments_then fr d arguments o is ps o2 s _ (Both r fr o2) h c (λ passed s2 a c2. (g, c2));
 }
 
-pub exit_rule : (fr : Frame) (at : Pos) (t : Option IntType) (used : Bool) (arguments : Arguments) (o : Option (List AbsValue)) (is : List Interval) (o2 o3 : Option (List AbsValue)) (r : Interval) → Passes fr arguments o is o2 →
+pub exit_rule : (fr : Frame) (at : Pos) (t : Option IntType) (used : Bool) (arguments : Arguments) (o : Option (List AbsValue)) (is : List Interval) (ps : List ArrayArgument) (o2 o3 : Option (List AbsValue)) (r : Interval) → Passes fr arguments o is ps o2 →
     Evaluates fr (typed.call at typed.exit t used arguments) o r o3
-exit_rule fr at t used arguments o is o2 o3 r h = record {
+exit_rule fr at t used arguments o is ps o2 o3 r h = record {
   runs = λ d s c.
-      arguments_then fr d arguments o is o2 s _ (Both r fr o3) h c (λ passed s2 a c2. tt);
+      arguments_then fr d arguments o is ps o2 s _ (Both r fr o3) h c (λ passed s2 a c2. tt);
 }
 
 -- ---- tests

@@ -10,7 +10,8 @@ use Rattle.csem.specs.Statements.{Flow}
 use Rattle.csem.specs.Meaning.{enter, leave, value_left, body_of, call_defined, calling, start, end_with, ending_of}
 use Rattle.verify_logic.specs.declared.abstract_values.Interval.{Interval}
 use Rattle.verify_logic.specs.declared.abstract_values.AbsValue.{AbsValue}
-use Rattle.verify_logic.specs.States.{Summary, In, ValueIs, EachPart, TreeIs, ObjectsAre, AreBytes, lengths_in, CoversState, Covers, body_and_value, IsSound, AreSound, Ends}
+use Rattle.verify_logic.specs.declared.abstract_values.ArrayArgument.{ArrayArgument}
+use Rattle.verify_logic.specs.States.{Summary, In, ValueIs, EachPart, TreeIs, ObjectsAre, ArraysAre, AreBytes, lengths_in, CoversState, Covers, body_and_value, IsSound, AreSound, Ends}
 use Rattle.verify_logic.specs.Calls.{Entered, Begins, EachIn}
 use Rattle.verify_logic.specs.Whole.{UndefinedOnlyAt, IsDefinedBut, NotUndefined, IsDefined}
 use Rattle.verify_logic.proofs.Calls.{both_are, as_long, new_objects}
@@ -33,23 +34,24 @@ leaving listed (Stops (Ended n) s) value caller post h = tt
 leaving listed (Stops (Undefined act at) s) value caller post h = h
 leaving listed (Stops TicksUsed s) value caller post h = tt
 
-pub main_rule : (p : Program) (listed : List Pos) (g : Function) (first ks : List AbsValue) (a : Summary) → slice_get p.functions p.main ≡ Some g → Begins p a.outer first → Entered [] g.objects ks → a.function ≡ p.main → a.entry ≡ first ++ ks →
+pub main_rule : (p : Program) (listed : List Pos) (g : Function) (first ks : List AbsValue) (a : Summary) → slice_get p.functions p.main ≡ Some g → Begins p a.outer first → Entered [] g.objects ks → a.function ≡ p.main → a.arrays ≡ [] → a.entry ≡ first ++ ks →
     IsSound p listed a → IsDefinedBut p listed
-main_rule p listed g first ks a eg hb he ef ee h n input bytes =
+main_rule p listed g first ks a eg hb he ef ea ee h n input bytes =
     let s : State = start n p input in
     let s1 : State = enter p.main g [] s in
     let P : Option Function → Type 0 = λ o. UndefinedOnlyAt listed (ending_of (then_do (call_defined p (calling p n) o p.main [] s) end_with)) in
     let F : ℕ → Type 0 = λ x. slice_get p.functions x ≡ Some g in
-    let K : List AbsValue → Type 0 = λ known. CoversState a.outer g.objects (Some known) s1 in
-    let cov : CoversState a.outer g.objects (Some (first ++ ks)) s1 = record {
+    let K : List AbsValue → Type 0 = λ known. CoversState a.outer a.arrays g.objects (Some known) s1 in
+    let A : List ArrayArgument → Type 0 = λ ps. ArraysAre a.outer ps [] in
+    let cov : CoversState a.outer a.arrays g.objects (Some (first ++ ks)) s1 = record {
       based = as_long first a.outer (first_store p) hb;
-      referred = refl;
+      referred = subst A (sym ea) tt;
       objects_are = both_are first a.outer (first_store p) ks (map lengths_in g.objects) _ hb (new_objects g.objects ks he);
       bytes = bytes;
     } in
     let done = h g (subst F (sym ef) eg) n s1 (subst K (sym ee) cov) in
-    let Q : ℕ → Type 0 = λ x. Ends listed (body_and_value p x n g s1) (λ v s2. ValueIs a.value v × CoversState a.outer g.objects a.left s2) in
-    subst P (sym eg) (only_at listed (call_defined p (calling p n) (Some g) p.main [] s) (leaving listed (body_of p (calling p n) g s1) (value_left (nat_eq p.main p.main)) s (λ v s2. ValueIs a.value v × CoversState a.outer g.objects a.left s2) (subst Q ef done)))
+    let Q : ℕ → Type 0 = λ x. Ends listed (body_and_value p x n g s1) (λ v s2. ValueIs a.value v × CoversState a.outer a.arrays g.objects a.left s2) in
+    subst P (sym eg) (only_at listed (call_defined p (calling p n) (Some g) p.main [] s) (leaving listed (body_of p (calling p n) g s1) (value_left (nat_eq p.main p.main)) s (λ v s2. ValueIs a.value v × CoversState a.outer a.arrays g.objects a.left s2) (subst Q ef done)))
 
 pub never_undefined : (p : Program) (listed : List Pos) → length listed ≡ 0 → IsDefinedBut p listed → IsDefined p
 never_undefined p listed e h n input bytes = by _ (h n input bytes)
@@ -73,7 +75,7 @@ ends_more al al2 (Stops TicksUsed s) post f h = tt
 
 pub sound_more : (p : Program) (al al2 : List Pos) (summaries : List Summary) → ((at : Pos) → Contains al at → Contains al2 at) → AreSound p al summaries → AreSound p al2 summaries
 sound_more p al al2 [] f h = tt
-sound_more p al al2 (a ∷ more) f h = (λ g e d s c. ends_more al al2 (body_and_value p a.function d g s) (λ v s2. ValueIs a.value v × CoversState a.outer g.objects a.left s2) f (h.0 g e d s c), sound_more p al al2 more f h.1)
+sound_more p al al2 (a ∷ more) f h = (λ g e d s c. ends_more al al2 (body_and_value p a.function d g s) (λ v s2. ValueIs a.value v × CoversState a.outer a.arrays g.objects a.left s2) f (h.0 g e d s c), sound_more p al al2 more f h.1)
 
 pub one_more_sound : (p : Program) (al : List Pos) (summaries : List Summary) (a : Summary) → AreSound p al summaries → IsSound p al a → AreSound p al (summaries ++ a ∷ [])
 one_more_sound p al [] a h g = (g, tt)

@@ -9,6 +9,7 @@ use Rattle.csem.specs.Expressions.{Passed}
 use Rattle.csem.specs.Meaning.{value_at_end, calling}
 use Rattle.verify_logic.specs.declared.abstract_values.Interval.{Interval}
 use Rattle.verify_logic.specs.declared.abstract_values.AbsValue.{AbsValue}
+use Rattle.verify_logic.specs.declared.abstract_values.ArrayArgument.{ArrayArgument}
 use Rattle.verify_logic.specs.States.{Frame, In, ValueIs, ObjectsAre, Reaches, Ends, Entails}
 use Rattle.verify_logic.specs.Places.{Are}
 use Rattle.verify_logic.specs.Statements.{Ways}
@@ -23,9 +24,9 @@ Entered (i ∷ is) [] ks = ⊥
 Entered (i ∷ is) (t ∷ objects) [] = ⊥
 Entered (i ∷ is) (t ∷ objects) (k ∷ ks) = (t.lengths ≡ []) × Entails (record { initialised = true; interval = i }) k × Entered is objects ks
 
--- a call of function f from this frame, with numbers in these intervals, ends with such a value and leaves the objects as said
-pub record CallGives (fr : Frame) (f : ℕ) (is : List Interval) (before : Option (List AbsValue)) (value : AbsValue) (after : Option (List AbsValue)) : Type 0 where
-  pub runs : (d : ℕ) (passed : List Passed) (s : State) → Are is passed → Reaches fr before s → Ends fr.listed (calling fr.program d f passed s) (λ v s2. ValueIs value v × Reaches fr after s2)
+-- a call of function f from this frame, with numbers in these intervals and these arrays, ends with such a value and leaves the objects as said
+pub record CallGives (fr : Frame) (f : ℕ) (is : List Interval) (arrays : List ArrayArgument) (before : Option (List AbsValue)) (value : AbsValue) (after : Option (List AbsValue)) : Type 0 where
+  pub runs : (d : ℕ) (passed : List Passed) (s : State) → Are fr is arrays passed → Reaches fr before s → Ends fr.listed (calling fr.program d f passed s) (λ v s2. ValueIs value v × Reaches fr after s2)
 
 -- the first n objects
 abbrev pub cut : ℕ → Option (List AbsValue) → Option (List AbsValue)

@@ -1,21 +1,22 @@
 -- What is shown of places and of the parts of expressions.
-use Rattle.std.specs.Prelude.{◌≡◌, ◌≤◌, ℕ, ℤ, pos, negsuc, List, [], ◌∷◌, length, Option, true, false}
+use Rattle.std.specs.Prelude.{◌≡◌, ◌≤◌, ℕ, ℤ, pos, negsuc, List, [], ◌∷◌, length, Option, Some, true, false}
 use Rattle.ctypes.specs.declared.types.IntType.{IntType}
 use Rattle.ctypes.specs.Types.{truth}
 use Rattle.typing_spec.specs.Program as typed
 use Rattle.typing_spec.specs.Program.{Moment, Storage, Place, Arguments}
-use Rattle.csem.specs.Store.{Reference}
+use Rattle.csem.specs.Store.{Tree, Element, Reference}
 use Rattle.csem.specs.Machine.{State, designated}
-use Rattle.csem.specs.Expressions.{Passed, Number, Referred, find, pass, converted_or_none}
-use Rattle.csem.specs.Meaning.{calling}
+use Rattle.csem.specs.Expressions.{Passed, find, pass, converted_or_none}
+use Rattle.csem.specs.Meaning.{numbers_of, arrays_of, calling}
 use Rattle.verify_logic.specs.declared.abstract_values.Interval.{Interval}
 use Rattle.verify_logic.specs.declared.abstract_values.AbsValue.{AbsValue}
-use Rattle.verify_logic.specs.States.{Frame, In, Reaches, Ends, Refers, shape_of}
+use Rattle.verify_logic.specs.declared.abstract_values.ArrayArgument.{ArrayArgument}
+use Rattle.verify_logic.specs.States.{Frame, In, ArraysAre, Reaches, Ends, Refers, shapes_of, rest_of}
 use Rattle.verify_logic.specs.Judgements.{either_way}
 
--- a name designates object x
-pub record Designates (fr : Frame) (what : Storage) (x : ℕ) : Type 0 where
-  pub is : (s : State) → s.base ≡ length fr.outer → s.arrays ≡ fr.arrays → Refers fr x (shape_of fr x) (designated fr.program what s)
+-- a name designates object x, or a row of it behind so many subscripts
+pub record Designates (fr : Frame) (what : Storage) (x depth : ℕ) : Type 0 where
+  pub is : (s : State) → s.base ≡ length fr.outer → ArraysAre fr.outer fr.arrays s.arrays → Refers fr x (rest_of (shapes_of fr) x depth) (designated fr.program what s)
 
 -- a place lies in object x: an array of these lengths, or an element
 pub record Finds (fr : Frame) (place : Place) (before : Option (List AbsValue)) (x : ℕ) (rest : List ℕ) (after : Option (List AbsValue)) : Type 0 where
@@ -25,17 +26,22 @@ pub record Finds (fr : Frame) (place : Place) (before : Option (List AbsValue)) 
 pub record FindsAt (fr : Frame) (place : Place) (x : ℕ) (rest : List ℕ) : Type 0 where
   pub runs : (d : ℕ) (o : Option (List AbsValue)) (s : State) → Reaches fr o s → Ends fr.listed (find fr.program (calling fr.program d) place s) (λ r s2. Refers fr x rest r × Reaches fr o s2 × (s2.store ≡ s.store))
 
--- numbers that are passed
-abbrev pub Are : List Interval → List Passed → Type 0
-Are [] [] = Unit {0}
-Are [] (x ∷ more) = ⊥
-Are (i ∷ is) [] = ⊥
-Are (i ∷ is) (Number v ∷ more) = In i v × Are is more
-Are (i ∷ is) (Referred r ∷ more) = ⊥
+-- the objects of parameters that are numbers in the intervals
+abbrev pub NumbersAre : List Interval → List Tree → Type 0
+NumbersAre [] [] = Unit {0}
+NumbersAre [] (t ∷ ts) = ⊥
+NumbersAre (i ∷ is) [] = ⊥
+NumbersAre (i ∷ is) (Element (Some v) ∷ ts) = In i v × NumbersAre is ts
+NumbersAre (i ∷ is) (t ∷ ts) = ⊥
 
--- arguments are numbers in the intervals
-pub record Passes (fr : Frame) (arguments : Arguments) (before : Option (List AbsValue)) (is : List Interval) (after : Option (List AbsValue)) : Type 0 where
-  pub runs : (d : ℕ) (s : State) → Reaches fr before s → Ends fr.listed (pass fr.program (calling fr.program d) arguments s) (λ passed s2. Are is passed × Reaches fr after s2)
+-- numbers in the intervals and these arrays are passed
+pub record Are (fr : Frame) (is : List Interval) (arrays : List ArrayArgument) (passed : List Passed) : Type 0 where
+  pub numbers : NumbersAre is (numbers_of passed)
+  pub arrays_are : ArraysAre (shapes_of fr) arrays (arrays_of passed)
+
+-- arguments are numbers in the intervals and these arrays
+pub record Passes (fr : Frame) (arguments : Arguments) (before : Option (List AbsValue)) (is : List Interval) (arrays : List ArrayArgument) (after : Option (List AbsValue)) : Type 0 where
+  pub runs : (d : ℕ) (s : State) → Reaches fr before s → Ends fr.listed (pass fr.program (calling fr.program d) arguments s) (λ passed s2. Are fr is arrays passed × Reaches fr after s2)
 
 -- the value of `++` or `--` (6.5.2.4, 6.5.3.1)
 abbrev pub step_interval : Moment → (old new : Interval) → Interval

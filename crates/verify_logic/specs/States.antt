@@ -1,5 +1,5 @@
 -- What is known of a state of the abstract machine, and what it means.
-use Rattle.std.specs.Prelude.{◌≡◌, ◌<◌, ℕ, zero, suc, ℤ, ◌≤ℤ◌, List, [], ◌∷◌, ◌++◌, map, length, Option, Some, None, Bool, true, false, Contains, nat_eq, slice_get, Result, Ok, Err}
+use Rattle.std.specs.Prelude.{◌≡◌, ◌<◌, ℕ, zero, suc, ℤ, ◌≤ℤ◌, List, [], ◌∷◌, ◌++◌, map, drop, length, Option, Some, None, Bool, true, false, Contains, nat_eq, slice_get, Result, Ok, Err}
 use Rattle.srcset.specs.declared.refusal.Pos.{Pos}
 use Rattle.ctypes.specs.declared.types.IntType.{IntType}
 use Rattle.ctypes.specs.Types.{least, greatest}
@@ -10,12 +10,14 @@ use Rattle.csem.specs.Machine.{State, Ended, Undefined, TicksUsed, Run, Goes, St
 use Rattle.csem.specs.Meaning.{body_of, value_left, calling}
 use Rattle.verify_logic.specs.declared.abstract_values.Interval.{Interval}
 use Rattle.verify_logic.specs.declared.abstract_values.AbsValue.{AbsValue}
+use Rattle.verify_logic.specs.declared.abstract_values.ArrayArgument.{ArrayArgument}
 
 -- what was shown of a function's body: entered with these values of all objects, of which those before the call have these lengths,
--- it ends with such a value and leaves the objects as said
+-- and with these arrays, it ends with such a value and leaves the objects as said
 pub record Summary : Type 0 where
   pub function : ℕ
   pub outer : List (List ℕ)
+  pub arrays : List ArrayArgument
   pub entry : List AbsValue
   pub value : AbsValue
   pub left : Option (List AbsValue)
@@ -29,7 +31,7 @@ pub record Frame : Type 0 where
   pub summaries : List Summary
   pub outer : List (List ℕ)
   pub objects : List ObjectType
-  pub arrays : List Reference
+  pub arrays : List ArrayArgument
 
 abbrev pub lengths_in : ObjectType → List ℕ
 lengths_in t = t.lengths
@@ -83,23 +85,47 @@ or_scalar (Some lengths) = lengths
 abbrev pub shape_of : Frame → ℕ → List ℕ
 shape_of fr x = or_scalar (slice_get (shapes_of fr) x)
 
+-- ---- arrays that are passed (6.5.2.1, 6.9.1p10)
+
+-- subscripts that lie within these lengths lead to a row or an element of the rest of them
+abbrev pub Along : List ℕ → (path : List ℕ) → (rest : List ℕ) → Type 0
+Along lengths [] rest = lengths ≡ rest
+Along [] (i ∷ path) rest = ⊥
+Along (n ∷ lengths) (i ∷ path) rest = (i < n) × Along lengths path rest
+
+-- the lengths of a row behind so many subscripts of object x
+abbrev pub rest_of : List (List ℕ) → (x depth : ℕ) → List ℕ
+rest_of shapes x depth = drop depth (or_scalar (slice_get shapes x))
+
+-- among objects of these lengths, a reference to such an array
+pub record ArrayIs (shapes : List (List ℕ)) (a : ArrayArgument) (r : Reference) : Type 0 where
+  pub object : r.object ≡ a.object
+  pub lives : a.object < length shapes
+  pub path : Along (or_scalar (slice_get shapes a.object)) r.path (rest_of shapes a.object a.depth)
+
+abbrev pub ArraysAre : List (List ℕ) → List ArrayArgument → List Reference → Type 0
+ArraysAre shapes [] [] = Unit {0}
+ArraysAre shapes [] (r ∷ rs) = ⊥
+ArraysAre shapes (a ∷ ps) [] = ⊥
+ArraysAre shapes (a ∷ ps) (r ∷ rs) = ArrayIs shapes a r × ArraysAre shapes ps rs
+
 -- ---- states
 
 abbrev pub AreBytes : List ℕ → Type 0
 AreBytes [] = Unit {0}
 AreBytes (b ∷ more) = (b < 256) × AreBytes more
 
--- the objects are such values, those of the call behind the others, no array is passed, and the input left is of bytes
-pub record Covers (outer : List (List ℕ)) (objects : List ObjectType) (known : List AbsValue) (base : ℕ) (arrays : List Reference) (store : Store) (input : List ℕ) : Type 0 where
+-- the objects are such values, those of the call behind the others, these arrays are passed, and the input left is of bytes
+pub record Covers (outer : List (List ℕ)) (passed : List ArrayArgument) (objects : List ObjectType) (known : List AbsValue) (base : ℕ) (arrays : List Reference) (store : Store) (input : List ℕ) : Type 0 where
   pub based : base ≡ length outer
-  pub referred : arrays ≡ []
+  pub referred : ArraysAre outer passed arrays
   pub objects_are : ObjectsAre known (outer ++ map lengths_in objects) store
   pub bytes : AreBytes input
 
 -- where nothing is said of the objects, no run comes here
-abbrev pub CoversState : (outer : List (List ℕ)) → (objects : List ObjectType) → Option (List AbsValue) → State → Type 0
-CoversState outer objects None s = ⊥
-CoversState outer objects (Some known) s = Covers outer objects known s.base s.arrays s.store s.input
+abbrev pub CoversState : (outer : List (List ℕ)) → (passed : List ArrayArgument) → (objects : List ObjectType) → Option (List AbsValue) → State → Type 0
+CoversState outer passed objects None s = ⊥
+CoversState outer passed objects (Some known) s = Covers outer passed objects known s.base s.arrays s.store s.input
 
 -- a part of a run goes on as said, ends, or uses its ticks; undefined behaviour it meets only at one of the places
 abbrev pub Ends : {A : Type 0} → List Pos → Run A → (A → State → Type 0) → Type 0
@@ -114,8 +140,8 @@ body_and_value p f d g s = then_do (body_of p (calling p d) g s) (λ flow s2. Go
 
 -- what the summary says is so, with calls at most d deep
 abbrev pub IsSound : Program → List Pos → Summary → Type 0
-IsSound p listed a = (g : Function) → slice_get p.functions a.function ≡ Some g → (d : ℕ) (s : State) → CoversState a.outer g.objects (Some a.entry) s →
-    Ends listed (body_and_value p a.function d g s) (λ v s2. ValueIs a.value v × CoversState a.outer g.objects a.left s2)
+IsSound p listed a = (g : Function) → slice_get p.functions a.function ≡ Some g → (d : ℕ) (s : State) → CoversState a.outer a.arrays g.objects (Some a.entry) s →
+    Ends listed (body_and_value p a.function d g s) (λ v s2. ValueIs a.value v × CoversState a.outer a.arrays g.objects a.left s2)
 
 abbrev pub AreSound : Program → List Pos → List Summary → Type 0
 AreSound p listed [] = Unit {0}
@@ -124,7 +150,7 @@ AreSound p listed (a ∷ more) = IsSound p listed a × AreSound p listed more
 -- the objects are such values, the call is that of the frame, and what the frame knows of calls is so
 pub record Holds (fr : Frame) (known : List AbsValue) (base : ℕ) (arrays : List Reference) (store : Store) (input : List ℕ) : Type 0 where
   pub based : base ≡ length fr.outer
-  pub referred : arrays ≡ fr.arrays
+  pub referred : ArraysAre fr.outer fr.arrays arrays
   pub objects_are : ObjectsAre known (shapes_of fr) store
   pub bytes : AreBytes input
   pub sound : AreSound fr.program fr.listed fr.summaries
@@ -156,12 +182,6 @@ pub record Implies (o o2 : Option (List AbsValue)) : Type 0 where
   pub is : (fr : Frame) (s : State) → Reaches fr o s → Reaches fr o2 s
 
 -- ---- references (6.5.2.1)
-
--- subscripts that lie within these lengths lead to a row or an element of the rest of them
-abbrev pub Along : List ℕ → (path : List ℕ) → (rest : List ℕ) → Type 0
-Along lengths [] rest = lengths ≡ rest
-Along [] (i ∷ path) rest = ⊥
-Along (n ∷ lengths) (i ∷ path) rest = (i < n) × Along lengths path rest
 
 -- a reference into object x, to an array of these lengths or an element
 pub record Refers (fr : Frame) (x : ℕ) (rest : List ℕ) (r : Reference) : Type 0 where

@@ -7,6 +7,15 @@ pub struct Interval {
     pub high: i64,
 }
 
+/// What an array parameter refers to: object `object`, or a row of it behind so many subscripts.
+#[derive(Clone, Copy, PartialEq, Eq, Debug)]
+pub struct ArrayArgument {
+    /// The number of the object in the store.
+    pub object: usize,
+    /// How many subscripts lead to the row, 0 for the whole object.
+    pub depth: usize,
+}
+
 /// What is known of each element of an object.
 #[derive(Clone, Copy, PartialEq, Eq, Debug)]
 pub struct AbsValue {

@@ -5,5 +5,5 @@
 mod abstract_values;
 mod operands;
 
-pub use abstract_values::{AbsValue, Interval};
+pub use abstract_values::{AbsValue, ArrayArgument, Interval};
 pub use operands::{Operand, Relation};

@@ -1,9 +1,7 @@
-use Rattle.std.proofs.Common.{◌+◌, ◌*◌, ◌≤◌, ◌++◌, List, Option, map, length}
+use Rattle.std.proofs.Common.{◌+◌, ◌*◌, ◌≤◌, map, length}
 use Rattle.typed_ast.specs.View.{argument_of, arguments_of, place_of, value_of}
-use Rattle.verify_logic.specs.declared.abstract_values.Interval.{Interval}
-use Rattle.verify_logic.specs.declared.abstract_values.AbsValue.{AbsValue}
 use Rattle.verify_expressions.specs.Views.{frame_of, state_of}
-use Rattle.verify_expressions.specs.Parts.{PassesAll}
+use Rattle.verify_expressions.proofs.Steps.{LeadsTo}
 use Rattle.verify_expressions.proofs.Work.{work, work_place, work_arguments, work_given}
 use Rattle.verify_expressions.proofs.expressions.+analyse.Given as goal
 
@@ -61,6 +59,9 @@ decreases-discarded l = 2 * work (value_of l.e.now) + 3
 abbrev pub decreases-number : goal.decreases-number
 decreases-number l = 2 * work (value_of l.e.now) + 3
 
+abbrev pub decreases-array_passed : goal.decreases-array_passed
+decreases-array_passed l = 2 * work_place (place_of l.a.now) + 3
+
 abbrev pub decreases-argument : goal.decreases-argument
 decreases-argument l = 2 * work_given (argument_of l.a.now) + 5
 
@@ -91,5 +92,5 @@ decreases-passed-loop-a l = length l.rest
 abbrev pub invariant-passed-loop-a : goal.invariant-passed-loop-a
 invariant-passed-loop-a l = record {
   below : work_arguments (arguments_of (map argument_of l.rest)) ≤ work_arguments (arguments_of (map argument_of l.arguments));
-  leads : (is : List Interval) (o : Option (List AbsValue)) → PassesAll (frame_of l.scope) l.rest (state_of l.current) is o → PassesAll (frame_of l.scope) l.arguments (state_of l.initial.current) (l.intervals.items ++ is) o;
+  leads : LeadsTo (frame_of l.scope) l.rest (state_of l.current) l.arguments (state_of l.initial.current) l.intervals.items l.arrays.items;
 }
