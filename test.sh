@@ -111,7 +111,7 @@ warnings     | python3                                  | python3 tests/outside/
 wanted       | python3                                  | python3 tests/outside/mistakes/wanted.py "$cc"
 verify       | python3                                  | python3 tests/outside/verify/check.py "$cc"
 lsp          | python3                                  | python3 tests/outside/lsp/check.py "$cc"
-nvim         | nvim                                     | nvim --clean --headless -l tests/outside/lsp/nvim.lua "$cc"
+nvim         | nvim                                     | ZKC="$cc" nvim --clean --headless -c 'luafile tests/outside/lsp/nvim.lua'
 inspecting   | python3                                  | cases tests/outside/inspecting/check.py "$cc"
 forms        | python3                                  | cases tests/outside/forms/check.py "$cc"
 tables       | python3                                  | python3 share/tables.py "$cc" --check

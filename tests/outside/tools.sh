@@ -26,6 +26,7 @@ riscv64-unknown-elf-readelf binutils-riscv64-unknown-elf
 gdb-multiarch gdb-multiarch
 zsh zsh
 fish fish
+nvim neovim
 man man-db
 END
 exit $lacking

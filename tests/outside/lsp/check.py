@@ -135,7 +135,7 @@ def check_rename():
     verdict.expect('rename ring_put', found, [('main.c', 5, 8), ('ring.c', 3, 5), ('ring.h', 3, 5)])
     for name, new in (('a keyword', 'while'), ('no name', '1x'), ('a name that is taken', 'count')):
         answer = asked(RING, 'ring.c', lambda it: it.at('rename', 'ring.c', 3, 6, newName=new))
-        verdict.expect(f'rename to {name}', (answer.get('error') or {}).get('code'), -32803)
+        verdict.expect(f'rename to {name}', code_of(answer), -32803)
 
 
 # A text with a fault: a missing semicolon. The line and the characters of the token behind it in UTF-16 and in UTF-8, by hand.
@@ -171,18 +171,23 @@ def check_faults():
     verdict.expect('unsaved header', shown(notices, session.uri('main.c')), [])
 
 
+def code_of(answer):
+    """The number of the error of an answer."""
+    return ((answer or {}).get('error') or {}).get('code')
+
+
 def check_errors():
     session = Session(program({}))
     unknown = session.ask('textDocument/unknown', {})
     invalid = session.ask('textDocument/hover', {'textDocument': 1})
     status, answers, _ = session.run(cc)
     verdict.expect('errors: the status', status, 0)
-    verdict.expect('no such method', answers[unknown]['error']['code'], -32601)
-    verdict.expect('wrong parameters', answers[invalid]['error']['code'], -32602)
+    verdict.expect('no such method', code_of(answers.get(unknown)), -32601)
+    verdict.expect('wrong parameters', code_of(answers.get(invalid)), -32602)
     session = Session(program({}))
     session.sent = [frame(request(9, 'shutdown', None)), frame(b'{'), frame([1])] + session.sent
     status, answers, _ = session.run(cc)
-    verdict.expect('before initialize', answers[9]['error']['code'], -32002)
+    verdict.expect('before initialize', code_of(answers.get(9)), -32002)
     verdict.expect('early: the status', status, 0)
 
 

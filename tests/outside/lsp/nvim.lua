@@ -1,9 +1,9 @@
 -- Neovim without a screen as a client of `zkc lsp`:
 --
---     nvim --clean --headless -l tests/outside/lsp/nvim.lua CC
+--     ZKC=bin/cc nvim --clean --headless -c 'luafile tests/outside/lsp/nvim.lua'
 --
--- It shows a fault, mends it by a code action, jumps to a definition and renames. The last line is `N passed, M failed`.
-local cc = vim.fn.fnamemodify(_G.arg[1] or "bin/cc", ":p")
+-- Neovim 0.7, which Debian has, or later. It shows a fault, mends it by a code action, jumps to a definition and renames. The last line is `N passed, M failed`.
+local cc = vim.fn.fnamemodify(vim.env.ZKC or "bin/cc", ":p")
 local here = vim.fn.fnamemodify(debug.getinfo(1, "S").source:sub(2), ":p:h")
 local passed, failed = 0, 0
 
@@ -12,7 +12,7 @@ local function expect(name, found, wanted)
     passed = passed + 1
   else
     failed = failed + 1
-    print("FAIL " .. name .. ": " .. vim.inspect(found) .. " and not " .. vim.inspect(wanted))
+    io.stdout:write("FAIL " .. name .. ": " .. vim.inspect(found) .. " and not " .. vim.inspect(wanted) .. "\n")
   end
 end
 
@@ -101,5 +101,5 @@ expect("the renamed prototype", vim.api.nvim_buf_get_lines(header, 0, 1, false),
 for _, each in ipairs((vim.lsp.get_clients or vim.lsp.get_active_clients)()) do
   each.stop()
 end
-print(passed .. " passed, " .. failed .. " failed")
+io.stdout:write(passed .. " passed, " .. failed .. " failed\n")
 vim.cmd(failed == 0 and "qall!" or "cquit!")
