@@ -217,6 +217,36 @@ def written():
     check('a fault', verified([('a.c', b'int main(void) { return x; }\n')])[0::2] == (1, 'a.c:1: 528 undeclared name\n'))
 
 
+def built(words, text):
+    """The status, what was said, and the file that was written, if any."""
+    with tempfile.TemporaryDirectory() as work:
+        with open(os.path.join(work, 'a.c'), 'w') as file:
+            file.write(text + '\n')
+        status, out, err = cc(work, *words)
+        try:
+            with open(os.path.join(work, 'a'), 'rb') as file:
+                return status, out, err, file.read(), os.access(os.path.join(work, 'a'), os.X_OK)
+        except OSError:
+            return status, out, err, None, False
+
+
+def builds():
+    """With -o the program that is shown is built, the file is that of build, and no other program is built."""
+    for name, text in DEFINED.items():
+        for stack in ('1048576', '65536'):
+            status, out, err, file, can_run = built(['verify', 'a.c', '-o', 'a', '--stack', stack], text)
+            check('built: %s, %s' % (name, stack), status == 0 and err == '' and can_run and file == built(['build', 'a.c', '-o', 'a', '--stack', stack], text)[3], status, out, err)
+    for name, (text, _) in UNDEFINED.items():
+        status, out, err, file, _ = built(['verify', 'a.c', '-o', 'a'], text)
+        check('not built: ' + name, (status, err, file) == (3, '', None), status, out, err)
+    for name, (text, _) in RECURSIONS.items():
+        check('not built: ' + name, built(['verify', 'a.c', '-o', 'a'], text)[0::3] == (3, None))
+    check('a fault is not built', built(['verify', 'a.c', '-o', 'a'], 'int main(void) { return x; }')[0::3] == (1, None))
+    check('not over the source', built(['verify', 'a.c', '-o', 'a.c'], 'int main(void) { return 0; }')[0::2] == (2, 'cc: OUT is one of the files that are read\n'))
+    check('not to the stream of the verdict', built(['verify', 'a.c', '-o', '-'], 'int main(void) { return 0; }')[0::2] == (2, 'cc: the verdict goes to standard output: -o OUT wants a path\n'))
+    check('no folder', built(['verify', 'a.c', '-o', 'no/a'], 'int main(void) { return 0; }')[0] == 1)
+
+
 class Made:
     """A program of scalars, arrays, loops and calls, which may do something undefined."""
 
@@ -267,6 +297,7 @@ def sound():
 
 
 written()
+builds()
 stacks()
 sound()
 print('%d passed, %d failed' % (passed, failed))
