@@ -91,7 +91,7 @@ pub fn compile_checked(
     stack: StackSize,
 ) -> Result<Built, AllocError>
     requires { IsReady (program_of program.now) }
-    ensures made { IfOk result (λ built. MakesProgram stack names.now (program_of program.now) built) }
+    ensures { IfOk result (λ built. MakesProgram stack names.now (program_of program.now) built) }
 {
     let generated = match generate(alloc, program, stack) {
         Ok(generated) => generated,

@@ -9,8 +9,8 @@ use Rattle.cc.proofs.compiling.compile_checked.Goals as goal
 pub put_entries-requires : goal.put_entries-requires
 put_entries-requires c = subst (λ (fs : List unit.Function). AreLight (map function_of fs)) (sym c.deref.ensures.value) (are_light (program_of c.args.program.now) c.requires)
 
-pub returns-in-Ok-put_entries-clause-made : goal.returns-in-Ok-put_entries-clause-made
-returns-in-Ok-put_entries-clause-made c = record {
+pub returns-in-Ok-put_entries : goal.returns-in-Ok-put_entries
+returns-in-Ok-put_entries c = record {
   builds = record {
     frames = c.in-Ok.generated.frames.items;
     each = c.in-Ok.ensures.file.frames_fit.0;
