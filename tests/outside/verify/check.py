@@ -102,7 +102,6 @@ UNDEFINED = {
 }
 # An act behind what is not followed: never said to be defined.
 BEHIND = {
-    'array': 'int f(int a[], int n) { return a[n]; }\nint main(void) { int a[2] = { 1, 2 }; return f(a, 2); }',
     'recursion': 'int f(int n) { return n < 1 ? 1 / n : f(n - 1); }\nint main(void) { return f(3); }',
     'call in a list': 'int f(void) { return 0; }\nint main(void) { int a[2] = { f(), f() }; return 1 / a[0]; }',
 }
@@ -161,6 +160,37 @@ def stacks():
 
 def nest(depth):
     return 'int main(void) { unsigned s = 0; %s s++; return s & 1; }' % ' '.join('for (int i%d = 0; i%d < 2; i%d++)' % (n, n, n) for n in range(depth))
+
+
+def documented():
+    """The ten programs of docs/LANGUAGE.md and the kernels of bench: each as (name, its files)."""
+    root = os.path.join(HERE, '..', '..', '..')
+    with open(os.path.join(root, 'docs', 'LANGUAGE.md'), encoding='utf-8') as file:
+        text = file.read()
+    files = dict(re.findall(r'\*\*([a-z]+\.[ch])\*\*\n\n```c\n(.*?)```', text[text.index('## Ten programs'):], re.S))
+    for name, source in files.items():
+        if name.endswith('.c'):
+            used = [(other, files[other].encode()) for other in files if '"%s"' % other in source]
+            yield 'LANGUAGE/' + name, [(name, source.encode())] + used
+    folder = os.path.join(root, 'bench', 'kernels')
+    for name in sorted(os.listdir(folder)):
+        with open(os.path.join(folder, name), 'rb') as file:
+            yield 'bench/' + name, [(name, file.read())]
+
+
+# They pass arrays, and no call of theirs is deep.
+PASS_ARRAYS = ['LANGUAGE/sum.c', 'LANGUAGE/sort.c', 'LANGUAGE/records.c', 'bench/search.c']
+
+
+def documents():
+    said = {name: verified(files) for name, files in documented()}
+    for name in PASS_ARRAYS:
+        status, out, err = said[name]
+        check('followed: ' + name, status in (0, 3) and err == '' and 'not followed' not in out, status, out, err)
+    check('defined: LANGUAGE/capitals.c', said['LANGUAGE/capitals.c'][0] == 0, said['LANGUAGE/capitals.c'])
+    defined = [name for name in said if said[name][0] == 0]
+    stopped = [name for name in said if 'not followed' in said[name][1]]
+    print('%d programs of the documents and of bench: %d defined on every input (%s), %d not followed (%s)' % (len(said), len(defined), ', '.join(defined), len(stopped), ', '.join(stopped)))
 
 
 def check(name, holds, *more):
@@ -272,6 +302,7 @@ def sound():
 
 
 written()
+documents()
 stacks()
 sound()
 print('%d passed, %d failed' % (passed, failed))
