@@ -46,7 +46,7 @@ pub fn interp_traced(rt: &HostRuntime, program: &Program<'_>, form: InterpForm<'
     let mut names = Names::new(rt.alloc());
     let stack = stack_size(program);
     match checked_program(rt.alloc(), &sources.set, sources.main, &mut names, stack) {
-        Ok(typed) => match shown(rt.alloc(), &sources, names, typed) {
+        Ok(typed) => match find_shown(rt.alloc(), &sources, names, typed) {
             Ok(found) => trace_to(rt, found, form),
             Err(_) => say_memory(rt),
         },
@@ -55,7 +55,7 @@ pub fn interp_traced(rt: &HostRuntime, program: &Program<'_>, form: InterpForm<'
 }
 
 /// What the trace of a program shows.
-fn shown(
+fn find_shown(
     alloc: Global,
     sources: &Sources<'_>,
     names: Names,

@@ -1,7 +1,7 @@
 -- Rules as the functions have them.
-use Rattle.std.proofs.Common.{◌≡◌, ◌≤◌, ◌<◌, ◌+◌, ℕ, zero, suc, ℤ, pos, negsuc, List, [], ◌∷◌, ◌++◌, length, map, drop, get_or, refl, sym, ap, subst, ◌∙◌, arith}
+use Rattle.std.proofs.Common.{◌≡◌, ◌≤◌, ◌<◌, ◌+◌, ℕ, zero, suc, ℤ, pos, List, [], ◌∷◌, ◌++◌, length, map, drop, get_or, refl, sym, ap, subst, arith}
 use Rattle.std.proofs.lemmas.Int.{ints}
-use Rattle.std.specs.Prelude.{◌≤ℤ◌, ◌<ℤ◌, Option, Some, None, IfOk, IfSome, Bool, true, false, slice_get, slice_set, Result, Ok, Err, Contains}
+use Rattle.std.specs.Prelude.{Option, Some, None, IfOk, IfSome, Bool, true, false, slice_get, slice_set, Result, Ok, Err, Contains}
 use Rattle.srcset.specs.declared.refusal.Pos.{Pos}
 use Rattle.ctypes.specs.declared.types.IntType.{IntType}
 use Rattle.ctypes.specs.declared.types.IntType.TheVariants as ty
@@ -12,7 +12,6 @@ use Rattle.ctypes.specs.Arithmetic.{result_type}
 use Rattle.tree.specs.declared.expression.PrefixOp.{PrefixOp}
 use Rattle.tree.specs.declared.expression.StepOp.{StepOp}
 use Rattle.tree.specs.declared.expression.StepOp.TheVariants.{Increment, Decrement}
-use Rattle.typing_spec.specs.Types as type
 use Rattle.typing_spec.specs.Operators.{operated, sign_of, signed_type}
 use Rattle.typing_spec.specs.Program as typed
 use Rattle.typing_spec.specs.Program.{Moment, Place, Value, Arguments}
@@ -22,7 +21,7 @@ use Rattle.typed_ast.specs.declared.storage_places.Callee as callee
 use Rattle.typed_ast.specs.declared.storage_places.Callee.TheVariants as called
 use Rattle.typed_ast.specs.declared.storage_places.Storage as stored
 use Rattle.typed_ast.specs.declared.storage_places.Storage.TheVariants as kind
-use Rattle.typed_ast.specs.View.{Given, number_given, array_given, argument_of, arguments_of, and_given, callee_of, object_type_of, storage_of}
+use Rattle.typed_ast.specs.View.{Given, number_given, array_given, argument_of, arguments_of, and_given, callee_of, storage_of}
 use Rattle.csem.specs.Store.{Tree, Element, Store, Reference, put_at, put_in}
 use Rattle.csem.specs.Machine.{State}
 use Rattle.csem.specs.Machine as machine
@@ -33,13 +32,13 @@ use Rattle.std.specs.declared.alloc.Global.{Global}
 use Rattle.verify_logic.specs.declared.abstract_values.Interval.{Interval}
 use Rattle.verify_logic.specs.declared.abstract_values.AbsValue.{AbsValue}
 use Rattle.verify_logic.specs.declared.abstract_values.ArrayArgument.{ArrayArgument}
-use Rattle.verify_logic.specs.States.{Frame, In, just, Below, range_of, shape_of, shapes_of, or_scalar, lengths_in, Refers, Contents, Replaces, Writes, Implies, Entails, TreeIs, ObjectIs, Reaches}
+use Rattle.verify_logic.specs.States.{Frame, In, just, Below, range_of, shape_of, shapes_of, Refers, Contents, Replaces, Writes, Implies, Entails, TreeIs, ObjectIs, Reaches}
 use Rattle.verify_logic.specs.Judgements.{Evaluates, Tests, Operates, OperatesAt, Signs, SignsAt, GivesOr, MayRead, Subscripts, Converts}
-use Rattle.verify_logic.specs.Places.{NonZero, Splits, Designates, Finds, FindsAt, Passes, got, step_interval, ConvertsOr}
+use Rattle.verify_logic.specs.Places.{NonZero, Splits, Designates, Finds, FindsAt, Passes, got, step_interval}
 use Rattle.verify_logic.proofs.Runs.{gives_or}
-use Rattle.verify_logic.proofs.Rules.{constant_rule, named_rule, finds_at, element_rule, read_rule, has_value, listed_value, bounds_subscript, listed_subscript, assigned_rule, compound_rule, stepped_rule, both_rule, one_rule, discarded_rule, get_byte_rule, put_byte_rule, exit_rule, number_rule, array_rule, parameter_designates, no_arguments_rule, value_tests}
+use Rattle.verify_logic.proofs.Rules.{named_rule, finds_at, element_rule, read_rule, compound_rule, stepped_rule, both_rule, one_rule, get_byte_rule, put_byte_rule, exit_rule, number_rule, array_rule, no_arguments_rule, value_tests}
 use Rattle.verify_logic.specs.declared.operands.Operand.{Operand}
-use Rattle.verify_logic.specs.declared.operands.Operand.TheVariants.{Number, Object}
+use Rattle.verify_logic.specs.declared.operands.Operand.TheVariants.{Object}
 use Rattle.verify_logic.specs.declared.operands.Relation.{Relation}
 use Rattle.verify_logic.specs.Relations.{Tells, Narrows, Looks, Restricts, RestrictsBoth, Learns}
 use Rattle.verify_logic.proofs.Objects.{put_is, tree_entails}
@@ -49,7 +48,7 @@ use Rattle.verify_expressions.specs.declared.state.AbsState.{AbsState}
 use Rattle.verify_expressions.specs.declared.stop.Stop.{Stop}
 use Rattle.verify_expressions.specs.declared.expressions.Evaluated.{Evaluated}
 use Rattle.verify_expressions.specs.declared.conditions.Tested.{Tested}
-use Rattle.verify_expressions.specs.Views.{state_of, shapes_in, items_of, shape_in, own_shape_in}
+use Rattle.verify_expressions.specs.Views.{state_of, shape_in, own_shape_in}
 use Rattle.verify_expressions.proofs.Work.{work_arguments}
 use Rattle.verify_expressions.specs.Parts.{PassesAll, PassesOne, VariableAt, CallsAt, LearnsBoth}
 

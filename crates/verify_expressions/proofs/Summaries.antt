@@ -1,9 +1,9 @@
 -- Calls by summaries, as the functions have them.
-use Rattle.std.proofs.Common.{◌≡◌, ◌≤◌, ◌<◌, ◌+◌, ◌-◌, ℕ, zero, suc, List, [], ◌∷◌, ◌++◌, length, map, take, get_or, refl, sym, ap, subst, ◌∙◌, arith, add-one}
+use Rattle.std.proofs.Common.{◌≡◌, ◌≤◌, ◌<◌, ◌+◌, ℕ, zero, suc, List, [], ◌∷◌, ◌++◌, length, map, take, get_or, refl, sym, ap, subst, ◌∙◌, arith, add-one}
 use Rattle.std.proofs.lemmas.List.{take_all}
 use Rattle.std.proofs.Math.Seq.{take-suc}
-use Rattle.std.specs.Prelude.{◌≤ℤ◌, Option, Some, None, IfOk, IfSome, Bool, true, false, slice_get, Contains, Result, Ok, Err}
-use Rattle.std.proofs.Common.{ℤ, pos}
+use Rattle.std.specs.Prelude.{Option, Some, None, Bool, true, false, slice_get, Contains}
+use Rattle.std.proofs.Common.{pos}
 use Rattle.srcset.specs.declared.refusal.Pos.{Pos}
 use Rattle.typing_spec.specs.Types.{ObjectType}
 use Rattle.typing_spec.specs.Program.{Function}
@@ -15,14 +15,13 @@ use Rattle.std.specs.declared.alloc.Global.{Global}
 use Rattle.verify_logic.specs.declared.abstract_values.Interval.{Interval}
 use Rattle.verify_logic.specs.declared.abstract_values.AbsValue.{AbsValue}
 use Rattle.verify_logic.specs.declared.abstract_values.ArrayArgument.{ArrayArgument}
-use Rattle.verify_logic.specs.States.{Summary, Frame, In, just, Below, Entails, EachEntails, or_scalar, lengths_in, shapes_of}
-use Rattle.verify_logic.specs.Calls.{Entered, CallGives, CallValue, cut}
-use Rattle.verify_logic.specs.Places.{Passes}
+use Rattle.verify_logic.specs.States.{Summary, Frame, just, Below, EachEntails, or_scalar}
+use Rattle.verify_logic.specs.Calls.{Entered, CallGives, CallValue}
 use Rattle.verify_logic.proofs.Objects.{below}
 use Rattle.verify_logic.proofs.Calls.{summary_rule, function_rule, no_call, value_used, value_unused, value_listed}
 use Rattle.verify_expressions.specs.Views.{shapes_in, shape_in, shapes_at, summary_of}
 use Rattle.verify_expressions.specs.declared.scope.Summary as code
-use Rattle.verify_expressions.specs.Parts.{CallsAt, EntersAt, Fits, Gets, Summarised}
+use Rattle.verify_expressions.specs.Parts.{CallsAt, EntersAt, Gets, Summarised}
 use Rattle.verify_expressions.proofs.Steps.{in_just}
 
 -- ---- the objects of a call

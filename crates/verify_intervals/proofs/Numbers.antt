@@ -1,5 +1,5 @@
 -- Bounds of products, quotients, remainders and shifts.
-use Rattle.std.proofs.Common.{◌≡◌, ◌*◌, ◌/◌, ◌%◌, ◌^◌, ◌<◌, ◌≤◌, ℕ, zero, suc, ℤ, pos, negsuc, neg_ℤ, ◌-ℤ◌, ◌*ℤ◌, ◌≤ℤ◌, ◌<ℤ◌, subst, sym, arith, int_div, int_rem}
+use Rattle.std.proofs.Common.{◌≡◌, ◌*◌, ◌/◌, ◌%◌, ◌^◌, ◌<◌, ◌≤◌, ℕ, zero, suc, ℤ, pos, negsuc, neg_ℤ, ◌-ℤ◌, ◌*ℤ◌, ◌≤ℤ◌, ◌<ℤ◌, refl, subst, sym, arith, int_div, int_rem}
 use Rattle.std.proofs.lemmas.Int.{ints}
 use Rattle.std.proofs.lemmas.Nat.{mul-le, le-div, pow_pos}
 use Rattle.std.proofs.Math.Nat.{div-le_self, div-mul-le_self, mod-lt, pow-le-pow_right, zero-div}
@@ -73,6 +73,24 @@ remainder_of a (negsuc b) l h p la ah lz hz = absurd (omega (arith, ints, p))
 remainder_of (pos a) (pos b) l h p la ah lz hz = let e : a % b ≤ a = mod_le_self a b (omega (arith, ints, p)) in (omega (arith, ints, lz), omega (arith, ints, e, ah))
 remainder_of (negsuc a) (pos b) l h p la ah lz hz =
     let n = negative (suc a % b) (suc a) (mod_le_self (suc a) b (omega (arith, ints, p))) in (omega (arith, ints, n.0, la), omega (arith, ints, n.1, hz))
+
+-- ---- by numbers below zero
+
+opposite_of : (n : ℕ) → neg_ℤ (pos n) ≡ pos 0 -ℤ pos n
+opposite_of zero = omega (arith, ints)
+opposite_of (suc n) = omega (arith, ints)
+
+opposite_twice : (n : ℕ) → pos n ≡ pos 0 -ℤ neg_ℤ (pos n)
+opposite_twice zero = omega (arith, ints)
+opposite_twice (suc n) = omega (arith, ints)
+
+pub quotient_turned : (a : ℤ) (b : ℕ) → int_div a (negsuc b) ≡ pos 0 -ℤ int_div a (pos (suc b))
+quotient_turned (pos a) b = opposite_of (a / suc b)
+quotient_turned (negsuc a) b = opposite_twice (suc a / suc b)
+
+pub remainder_turned : (a : ℤ) (b : ℕ) → int_rem a (negsuc b) ≡ int_rem a (pos (suc b))
+remainder_turned (pos a) b = refl
+remainder_turned (negsuc a) b = refl
 
 -- ---- shifts
 

@@ -20,7 +20,7 @@ use Rattle.verify_logic.specs.declared.abstract_values.Interval.{Interval}
 use Rattle.verify_logic.specs.States.{In, Below, range_of}
 use Rattle.verify_logic.specs.Judgements.{GivesIn, Computes, Converts, Ranges, Signs}
 use Rattle.verify_logic.proofs.Objects.{below}
-use Rattle.verify_intervals.proofs.Numbers.{magnitude_in, quotient_in, one_quotient, remainder_in, remainder_of, shifted_in, pow_mono}
+use Rattle.verify_intervals.proofs.Numbers.{magnitude_in, quotient_in, one_quotient, quotient_turned, remainder_turned, remainder_in, remainder_of, shifted_in, pow_mono}
 
 pub converts_within : (t : IntType) (i : Interval) → Below i (range_of t) → Converts t i i
 converts_within t i b = record { gives = λ v m. let P : ℤ → Type 0 = In i in subst P (sym (converted_keeps t v (below i (range_of t) v b m))) m }
@@ -158,6 +158,46 @@ pub remainder_some : (t : IntType) (i j whole : Interval) (r : Option Interval) 
     IfSome r (λ r. (v : ℤ) → In whole v → (pos 0 -ℤ j.high) <ℤ v → v <ℤ j.high → In r v) → IfSome r (λ r. Computes Rem t i j r)
 remainder_some t i j whole None z b lz hz f h = tt
 remainder_some t i j whole (Some r) z b lz hz f h = remainder_rule t i j whole r z b lz hz f h
+
+-- by numbers below zero
+
+quotient_below_rule : (t : IntType) (i j whole k turned r : Interval) (d : ℤ) → j.high <ℤ pos 0 → d ≡ pos 0 -ℤ j.high → Below i whole → whole.low ≤ℤ pos 0 → pos 0 ≤ℤ whole.high → k.low ≡ int_div whole.low d → k.high ≡ int_div whole.high d →
+    turned.low ≡ pos 0 -ℤ k.high → turned.high ≡ pos 0 -ℤ k.low → Ranges t turned r → Computes Div t i j r
+quotient_below_rule t i j whole k turned r d z ed b lz hz el eh tl th h = record { gives = λ v w m n. by v w m n }
+  where
+    by : (v w : ℤ) → In i v → In j w → GivesIn r (if truth w then in_range U1 t (int_div v w) (int_div v w) else Err U2)
+    by v (pos w) m n = absurd (omega (arith, ints, z, n.1))
+    by v (negsuc w) m n =
+        let q = quotient_in v (pos (suc w)) whole.low whole.high d (omega (arith, ints, z, ed)) (omega (arith, ints, ed, n.1)) (omega (arith, ints, b.0, m.0)) (omega (arith, ints, b.1, m.1)) lz hz in
+        let e : int_div v (negsuc w) ≡ pos 0 -ℤ int_div v (pos (suc w)) = quotient_turned v w in
+        h.gives U1 (int_div v (negsuc w)) (omega (arith, ints, tl, eh, e, q.1), omega (arith, ints, th, el, e, q.0))
+
+pub quotient_below_some : (t : IntType) (i j whole k turned : Interval) (d : ℤ) (r : Option Interval) → j.high <ℤ pos 0 → d ≡ pos 0 -ℤ j.high → Below i whole → whole.low ≤ℤ pos 0 → pos 0 ≤ℤ whole.high → k.low ≡ int_div whole.low d → k.high ≡ int_div whole.high d →
+    turned.low ≡ pos 0 -ℤ k.high → turned.high ≡ pos 0 -ℤ k.low → IfSome r (λ r. Ranges t turned r) → IfSome r (λ r. Computes Div t i j r)
+quotient_below_some t i j whole k turned d None z ed b lz hz el eh tl th h = tt
+quotient_below_some t i j whole k turned d (Some r) z ed b lz hz el eh tl th h = quotient_below_rule t i j whole k turned r d z ed b lz hz el eh tl th h
+
+remainder_below_rule : (t : IntType) (i j whole turned r : Interval) (d : ℤ) → j.high <ℤ pos 0 → d ≡ pos 0 -ℤ j.low → Below i whole → whole.low ≤ℤ pos 0 → pos 0 ≤ℤ whole.high → Below whole (range_of t) → turned.low ≡ pos 0 -ℤ whole.high → turned.high ≡ pos 0 -ℤ whole.low →
+    Below turned (range_of t) → ((v : ℤ) → In whole v → (pos 0 -ℤ d) <ℤ v → v <ℤ d → In r v) → Computes Rem t i j r
+remainder_below_rule t i j whole turned r d z ed b lz hz f tl th g h = record { gives = λ v w m n. by v w m n }
+  where
+    by : (v w : ℤ) → In i v → In j w → GivesIn r (if truth w then in_range U1 t (int_div v w) (int_rem v w) else Err U2)
+    by v (pos w) m n = absurd (omega (arith, ints, z, n.1))
+    by v (negsuc w) m n =
+        let lo : whole.low ≤ℤ v = omega (arith, ints, b.0, m.0) in
+        let hi : v ≤ℤ whole.high = omega (arith, ints, b.1, m.1) in
+        let p : pos 0 <ℤ pos (suc w) = omega (arith, ints) in
+        let o = one_quotient whole.low whole.high v (pos (suc w)) p lo hi lz hz in
+        let rem = remainder_of v (pos (suc w)) whole.low whole.high p lo hi lz hz in
+        let cut = remainder_in v (pos (suc w)) d p (omega (arith, ints, ed, n.0)) in
+        let e : int_div v (negsuc w) ≡ pos 0 -ℤ int_div v (pos (suc w)) = quotient_turned v w in
+        let P : ℤ → Type 0 = λ x. GivesIn r (in_range U1 t (int_div v (negsuc w)) x) in
+        subst P (sym (remainder_turned v w)) (remainder_gives U1 t (int_div v (negsuc w)) (int_rem v (pos (suc w))) r (omega (arith, ints, g.0, tl, e, o.1), omega (arith, ints, g.1, th, e, o.0)) (omega (arith, ints, f.0, rem.0), omega (arith, ints, f.1, rem.1)) (h (int_rem v (pos (suc w))) rem cut.0 cut.1))
+
+pub remainder_below_some : (t : IntType) (i j whole turned : Interval) (d : ℤ) (r : Option Interval) → j.high <ℤ pos 0 → d ≡ pos 0 -ℤ j.low → Below i whole → whole.low ≤ℤ pos 0 → pos 0 ≤ℤ whole.high → Below whole (range_of t) → turned.low ≡ pos 0 -ℤ whole.high →
+    turned.high ≡ pos 0 -ℤ whole.low → Below turned (range_of t) → IfSome r (λ r. (v : ℤ) → In whole v → (pos 0 -ℤ d) <ℤ v → v <ℤ d → In r v) → IfSome r (λ r. Computes Rem t i j r)
+remainder_below_some t i j whole turned d None z ed b lz hz f tl th g h = tt
+remainder_below_some t i j whole turned d (Some r) z ed b lz hz f tl th g h = remainder_below_rule t i j whole turned r d z ed b lz hz f tl th g h
 
 -- ---- shifts
 

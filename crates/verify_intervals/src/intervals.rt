@@ -150,6 +150,31 @@ pub fn greatest_magnitude(i: Interval) -> Option<i64>
     Some(m)
 }
 
+/// An interval that holds 0, too.
+pub fn with_zero(i: Interval) -> Interval
+    ensures all { Below i result }
+    ensures low { result.low ≤ℤ pos 0 }
+    ensures high { pos 0 ≤ℤ result.high }
+{
+    let low = lesser(i.low, 0);
+    let high = greater(i.high, 0);
+    Interval { low, high }
+}
+
+/// The numbers of the opposite signs, where they fit.
+pub fn opposite(i: Interval) -> Option<Interval>
+    ensures low { IfSome result (λ k. k.low ≡ pos 0 -ℤ i.high) }
+    ensures high { IfSome result (λ k. k.high ≡ pos 0 -ℤ i.low) }
+{
+    let Some(low) = subtract(0, i.high) else {
+        return None;
+    };
+    let Some(high) = subtract(0, i.low) else {
+        return None;
+    };
+    Some(Interval { low, high })
+}
+
 /// The sum of two sizes, where it fits.
 pub fn add_usize(a: usize, b: usize) -> Option<usize>
     ensures { IfSome result (λ r. r ≡ a + b) }

@@ -2,6 +2,7 @@
 #![tactic(auto)]
 
 mod abstract_values;
+mod divisions;
 mod intervals;
 mod operations;
 mod relations;

@@ -1,17 +1,17 @@
 //! What operators give on intervals (6.5.3.3, 6.5.5 to 6.5.12). No answer says that undefined behaviour is not ruled out.
 
-ghost use Rattle.std.specs.Prelude.{◌≡◌, ◌≤ℤ◌, ◌<ℤ◌, ◌-ℤ◌, ◌^◌, ℤ, IfSome, IsTrue, pos};
+ghost use Rattle.std.specs.Prelude.{◌≡◌, ◌≤ℤ◌, ◌<ℤ◌, ◌^◌, IfSome, IsTrue, pos};
 ghost use Rattle.ctypes.specs.Arithmetic.{magnitude};
 ghost use Rattle.verify_logic.specs.Judgements.{Computes, Converts, ConvertsRight, Operates, Ranges, Signs};
 ghost use Rattle.ctypes.specs.Types.{bits_of};
-ghost use Rattle.verify_logic.specs.States.{Below, In, just, range_of};
+ghost use Rattle.verify_logic.specs.States.{just, range_of};
 ghost use Rattle.csem.specs.Expressions.{step_operation};
 
+use crate::divisions::{quotient, remainder};
 use crate::intervals::{
-    add, around_product, divided_by, greater, greatest_magnitude, lesser, lies_in, multiply,
-    single, subtract, up_to_product,
+    add, around_product, divided_by, greatest_magnitude, lies_in, multiply, subtract,
+    up_to_product, with_zero,
 };
-use crate::relations::{cut_above, cut_below};
 use ctypes::{BinOp, IntType};
 use tree::{PrefixOp, StepOp};
 use verify_logic::Interval;
@@ -58,7 +58,7 @@ fn right_conversion(op: BinOp, ty: IntType, i: Interval) -> Interval
 }
 
 /// An exact result within the type, or one that goes modulo.
-fn ranged(ty: IntType, i: Interval) -> Option<Interval>
+pub fn ranged(ty: IntType, i: Interval) -> Option<Interval>
     ensures { IfSome result (λ r. Ranges ty i r) }
 {
     let all = all_of(ty);
@@ -140,61 +140,6 @@ fn product(ty: IntType, i: Interval, j: Interval) -> Option<Interval>
             Some(r) => Some(r),
             None => modulo_product(ty, i, j),
         },
-    }
-}
-
-/// An interval that holds 0, too.
-fn with_zero(i: Interval) -> Interval
-    ensures all { Below i result }
-    ensures low { result.low ≤ℤ pos 0 }
-    ensures high { pos 0 ≤ℤ result.high }
-{
-    let low = lesser(i.low, 0);
-    let high = greater(i.high, 0);
-    Interval { low, high }
-}
-
-/// The quotient by numbers that are above zero.
-fn quotient(ty: IntType, i: Interval, j: Interval) -> Option<Interval>
-    ensures { IfSome result (λ r. Computes BinOp.Div ty i j r) }
-{
-    if j.low <= 0 {
-        return None;
-    }
-    let whole = with_zero(i);
-    let k = divided_by(whole, j.low);
-    ranged(ty, k)
-}
-
-/// What is below the divisor, and has the sign of the dividend.
-fn cut_remainder(whole: Interval, top: i64) -> Option<Interval>
-    ensures { IfSome result (λ r. (v : ℤ) → In whole v → (pos 0 -ℤ top) <ℤ v → v <ℤ top → In r v) }
-{
-    let Some(most) = subtract(top, 1) else {
-        return None;
-    };
-    let Some(least) = subtract(1, top) else {
-        return None;
-    };
-    let upper = cut_above(whole, most);
-    let both = cut_below(upper, least);
-    Some(both)
-}
-
-/// The remainder by numbers that are above zero.
-fn remainder(ty: IntType, i: Interval, j: Interval) -> Option<Interval>
-    ensures { IfSome result (λ r. Computes BinOp.Rem ty i j r) }
-{
-    if j.low <= 0 {
-        return None;
-    }
-    let whole = with_zero(i);
-    let all = all_of(ty);
-    let fits = lies_in(whole, all);
-    if fits {
-        cut_remainder(whole, j.high)
-    } else {
-        None
     }
 }
 

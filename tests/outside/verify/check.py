@@ -53,6 +53,9 @@ DEFINED = {
     'rows passed': 'static int a[2][3];\nint f(int r[][3], int n) { return r[n][n + 1]; }\nint g(int r[][3], int n) { return f(r, n); }\nint main(void) { return 10 / (g(a, 1) + 1); }',
     'text passed': 'int rv_getbyte(void);\nint f(const char text[], int n) { return 100 / (text[n] + 1); }\nint main(void) { return f("abc", rv_getbyte() & 3); }',
     'two arrays passed': 'static int a[2] = { 1, 2 }, b[3];\nint f(int x[], int n, int y[]) { y[n] = 5; return y[2] / x[1]; }\nint main(void) { return f(a, 2, b); }',
+    'negative divisor': 'int rv_getbyte(void);\nint main(void) { int c = rv_getbyte(), d = -(rv_getbyte() & 3) - 1; return (c / d + c % d + 100 / d) & 127; }',
+    'remainder by a negative number': 'int rv_getbyte(void);\nstatic int a[4];\nint main(void) { int c = rv_getbyte(); if (c < 0) return 0; return a[c % -4]; }',
+    'quotient by a negative number': 'int rv_getbyte(void);\nstatic int a[4];\nint main(void) { int c = -(rv_getbyte() & 7); return a[c / -2]; }',
     'behind a return': 'int main(void) { int z = 0; return z; return 1 / z; }',
     'where no run comes': 'int main(void) { int x = 3; if (x > 5) return 1 / (x - 3); return x > 4 && 1 / (x - 3); }',
     'behind an exit': 'int rv_getbyte(void);\nvoid rv_exit(int status);\nint main(void) { int c = rv_getbyte(); if (c < 1) rv_exit(1); return 100 / c; }',
@@ -68,6 +71,8 @@ UNDEFINED = {
     'remainder of a negative number': ('int rv_getbyte(void);\nstatic int a[3];\nint main(void) { int c = rv_getbyte();\n  return a[c % 3]; }', 4),
     'a bound that is one too large': ('int rv_getbyte(void);\nstatic int a[3];\nint main(void) { int c = rv_getbyte(); if (c >= 0 && c <= 3)\n  return a[c]; return 0; }', 4),
     'remainder that is negative': ('int rv_getbyte(void);\nstatic int a[3];\nint main(void) { int c = rv_getbyte() - 5;\n  return a[c % 3]; }', 4),
+    'quotient that is negative': ('int rv_getbyte(void);\nstatic int a[4];\nint main(void) { int c = rv_getbyte() & 7;\n  return a[c / -2]; }', 4),
+    'remainder of the least number': ('int rv_getbyte(void);\nint main(void) { int n = -2147483647 - (rv_getbyte() == 65);\n  return n % -1; }', 3),
     'a mask that is one too large': ('int rv_getbyte(void);\nstatic int a[7];\nint main(void) {\n  return a[rv_getbyte() & 7]; }', 4),
     'a shift out of range': ('int rv_getbyte(void);\nint main(void) {\n  return (rv_getbyte() & 255) << 24; }', 3),
     'a product out of range': ('int rv_getbyte(void);\nint main(void) { int c = rv_getbyte() * -9000;\n  return c * 1000; }', 3),
@@ -97,7 +102,6 @@ UNDEFINED = {
 }
 # An act behind what is not followed: never said to be defined.
 BEHIND = {
-    'array': 'int f(int a[], int n) { return a[n]; }\nint main(void) { int a[2] = { 1, 2 }; return f(a, 2); }',
     'recursion': 'int f(int n) { return n < 1 ? 1 / n : f(n - 1); }\nint main(void) { return f(3); }',
     'call in a list': 'int f(void) { return 0; }\nint main(void) { int a[2] = { f(), f() }; return 1 / a[0]; }',
 }
@@ -156,6 +160,37 @@ def stacks():
 
 def nest(depth):
     return 'int main(void) { unsigned s = 0; %s s++; return s & 1; }' % ' '.join('for (int i%d = 0; i%d < 2; i%d++)' % (n, n, n) for n in range(depth))
+
+
+def documented():
+    """The ten programs of docs/LANGUAGE.md and the kernels of bench: each as (name, its files)."""
+    root = os.path.join(HERE, '..', '..', '..')
+    with open(os.path.join(root, 'docs', 'LANGUAGE.md'), encoding='utf-8') as file:
+        text = file.read()
+    files = dict(re.findall(r'\*\*([a-z]+\.[ch])\*\*\n\n```c\n(.*?)```', text[text.index('## Ten programs'):], re.S))
+    for name, source in files.items():
+        if name.endswith('.c'):
+            used = [(other, files[other].encode()) for other in files if '"%s"' % other in source]
+            yield 'LANGUAGE/' + name, [(name, source.encode())] + used
+    folder = os.path.join(root, 'bench', 'kernels')
+    for name in sorted(os.listdir(folder)):
+        with open(os.path.join(folder, name), 'rb') as file:
+            yield 'bench/' + name, [(name, file.read())]
+
+
+# They pass arrays, and no call of theirs is deep.
+PASS_ARRAYS = ['LANGUAGE/sum.c', 'LANGUAGE/sort.c', 'LANGUAGE/records.c', 'bench/search.c']
+
+
+def documents():
+    said = {name: verified(files) for name, files in documented()}
+    for name in PASS_ARRAYS:
+        status, out, err = said[name]
+        check('followed: ' + name, status in (0, 3) and err == '' and 'not followed' not in out, status, out, err)
+    check('defined: LANGUAGE/capitals.c', said['LANGUAGE/capitals.c'][0] == 0, said['LANGUAGE/capitals.c'])
+    defined = [name for name in said if said[name][0] == 0]
+    stopped = [name for name in said if 'not followed' in said[name][1]]
+    print('%d programs of the documents and of bench: %d defined on every input (%s), %d not followed (%s)' % (len(said), len(defined), ', '.join(defined), len(stopped), ', '.join(stopped)))
 
 
 def check(name, holds, *more):
@@ -298,6 +333,7 @@ def sound():
 
 written()
 builds()
+documents()
 stacks()
 sound()
 print('%d passed, %d failed' % (passed, failed))

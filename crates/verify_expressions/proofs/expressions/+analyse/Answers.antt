@@ -1,6 +1,6 @@
 use Rattle.std.proofs.Common.{◌∙◌, ◌++◌, ap}
 use Rattle.verify_logic.proofs.Rules.{assigned_rule, unary_rule, binary_rule, chosen_rule, sequence_rule, cast_rule, discarded_rule, both_tests, one_tests}
-use Rattle.verify_expressions.proofs.Steps.{element_behind, variable_found, read_as, compound_as, stepped_as, both_value, one_value, in_just, number_passes, array_passes, pass_step, pass_end, pass_begins, fewer, calls_found, value_split, gets, puts, exits}
+use Rattle.verify_expressions.proofs.Steps.{element_behind, variable_found, read_as, compound_as, stepped_as, both_value, one_value, in_just, number_passes, array_passes, pass_step, pass_end, fewer, calls_found, value_split, gets, puts, exits}
 use Rattle.verify_expressions.proofs.expressions.+analyse.Goals as goal
 
 pub element-returns : goal.element-returns

@@ -1,4 +1,4 @@
-use Rattle.std.proofs.Common.{◌≡◌, ℤ, to_z, of_z, w64, rules}
+use Rattle.std.proofs.Common.{◌≡◌, to_z, of_z, w64, rules}
 use Rattle.std.proofs.Math.Facts.{to_z-of_z}
 use Rattle.verify_logic.proofs.Rules.{constant_rule}
 use Rattle.verify_expressions.proofs.Steps.{in_single}

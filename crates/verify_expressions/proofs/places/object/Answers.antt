@@ -1,5 +1,4 @@
-use Rattle.std.proofs.Common.{refl}
-use Rattle.verify_expressions.proofs.Steps.{literal_named, static_named, automatic_named}
+use Rattle.verify_expressions.proofs.Steps.{literal_named, static_named}
 use Rattle.verify_expressions.proofs.places.object.Goals as goal
 
 pub returns-in-Literal : goal.returns-in-Literal

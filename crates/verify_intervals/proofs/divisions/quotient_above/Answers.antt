@@ -2,7 +2,7 @@ use Rattle.std.proofs.Common.{◌≡◌, ◌∙◌, arith, ap, to_z, of_z, w64, 
 use Rattle.std.proofs.lemmas.Int.{ints}
 use Rattle.std.proofs.Math.Facts.{to_z-of_z}
 use Rattle.verify_intervals.proofs.Operators.{quotient_some}
-use Rattle.verify_intervals.proofs.operations.quotient.Goals as goal
+use Rattle.verify_intervals.proofs.divisions.quotient_above.Goals as goal
 
 pub returns : goal.returns
 returns c =

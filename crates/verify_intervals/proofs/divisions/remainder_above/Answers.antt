@@ -4,7 +4,7 @@ use Rattle.std.proofs.Math.Facts.{to_z-of_z}
 use Rattle.std.specs.Prelude.{IfSome}
 use Rattle.verify_logic.specs.States.{In}
 use Rattle.verify_intervals.proofs.Operators.{remainder_some, within_range}
-use Rattle.verify_intervals.proofs.operations.remainder.Goals as goal
+use Rattle.verify_intervals.proofs.divisions.remainder_above.Goals as goal
 
 pub returns-then-fits : goal.returns-then-fits
 returns-then-fits c =
