@@ -1,7 +1,7 @@
 //! The executable file of the very program that was verified.
 #![tactic(auto)]
 
-ghost use Rattle.std.specs.Prelude.{◌≡◌, ◌×◌, ◌≤◌, IfErr, IfOk, IfSome};
+ghost use Rattle.std.specs.Prelude.{◌≡◌, ◌≤◌, IfErr, IfOk, IfSome};
 ghost use Rattle.std.specs.Bool.{OnTrue};
 ghost use Rattle.typed_ast.specs.View.{program_of};
 ghost use Rattle.cc_backend.specs.Made.{IsReady};
