@@ -237,4 +237,12 @@ impl Observer for Following {
     fn enters(&mut self, function: usize, _passed: &[Passed], _scene: &Scene) {
         self.enter(function);
     }
+
+    fn calls(&mut self, _function: usize) {}
+
+    fn ends(&mut self) {}
+
+    fn gets(&mut self, _byte: Option<u8>) {}
+
+    fn puts(&mut self, _byte: u8) {}
 }

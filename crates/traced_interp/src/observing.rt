@@ -55,6 +55,10 @@ impl<'a, W: Write + Drop> Observer for Trace<'a, W> {
         self.enter(function, passed, scene);
     }
 
+    fn calls(&mut self, _function: usize) {}
+
+    fn ends(&mut self) {}
+
     fn gets(&mut self, byte: Option<u8>) {
         self.tell_got(byte);
     }
