@@ -1,5 +1,5 @@
 -- Where a run stands behind a step that takes no tick, and how it stops there.
-use Rattle.std.proofs.Common.{◌≡◌, ℕ, ℤ, pos, negsuc, List, [], ◌∷◌, ◌++◌, Option, Some, None, refl, sym, ap, ◌∙◌, subst, arith, Bor}
+use Rattle.std.proofs.Common.{◌≡◌, ℕ, ℤ, pos, negsuc, List, [], ◌∷◌, ◌++◌, Option, Some, None, refl, sym, ap, ◌∙◌, subst, Bor}
 use Rattle.std.specs.Prelude.{Ok, Err, Bool, true, false, slice_get}
 use Rattle.std.specs.Io.KnownBytes.{Keeps, Appends}
 use Rattle.srcset.specs.declared.refusal.Pos.{Pos}
@@ -15,7 +15,6 @@ use Rattle.interp_store.specs.declared.stop.Stop.{Stop}
 use Rattle.interp_store.specs.declared.stop.Stop.TheVariants as stop
 use Rattle.interp_store.specs.declared.machine.Machine.{Machine}
 use Rattle.interp_store.specs.declared.scene.Scene.{Scene}
-use Rattle.interp_store.specs.declared.frames.Frame.{Frame}
 use Rattle.interp_store.specs.declared.frames.Step.{Step}
 use Rattle.interp_store.specs.layer.Frames as on
 use Rattle.interp_store.specs.layer.Frames.{moves, halts, leaves, calls, a_value}
@@ -54,11 +53,15 @@ bytes_called p typed.put_byte h = refl
 bytes_called p typed.exit h = refl
 bytes_called p (typed.missing name) h = refl
 
-module _ (p : typed.Program) (whole : Whole) (o : Option (List ℕ)) (sent : List ℕ) where
+-- a call's history, by the program at hand
+pub told_at : (p q : typed.Program) (callee : typed.Callee) (T U : List Entry → Type 0) → q ≡ p → ((h : List Entry) → T h → U (history_called q callee h)) → (h : List Entry) → T h → U (history_called p callee h)
+told_at p q callee T U e t = let P : typed.Program → Type 0 = λ p. (h : List Entry) → T h → U (history_called p callee h) in subst P e t
+
+module _ (T U : List Entry → Type 0) (p : typed.Program) (whole : Whole) (o : Option (List ℕ)) (sent : List ℕ) where
   -- ---- the byte that waits is sent
 
-  pub stop_sent : (e : machine.Ending) (m : Interpreter) (tally : Tally) (old new : PortView) → Stopping p whole o sent e m old → Keeps old.input new.input →
-      Appends old.output new.output (waiting m.kept) → tally ≡ m.tally → Stopped p whole o e tally new
+  pub stop_sent : (e : machine.Ending) (m : Interpreter) (tally : Tally) (old new : PortView) → Stopping T p whole o sent e m old → Keeps old.input new.input →
+      Appends old.output new.output (waiting m.kept) → tally ≡ m.tally → Stopped T p whole o e tally new
   stop_sent e m tally old new s i a t = record {
     input = s.input;
     history = s.history;
@@ -66,19 +69,20 @@ module _ (p : typed.Program) (whole : Whole) (o : Option (List ℕ)) (sent : Lis
     input_is = input_kept old.input new.input s.input i s.input_is;
     output_is = output_as o new.output _ _ (sym s.bytes_are) (output_grown o old.output new.output sent (waiting m.kept) a s.output_is);
     tells = tells_as p s.history s.history m.tally tally refl t s.tells;
+    told = s.told;
   }
 
-  pub stop_refused : (e : machine.Ending) (m : Interpreter) (old new : PortView) → Stopping p whole o sent e m old → Keeps old.output new.output → Appends o new.output sent
+  pub stop_refused : (e : machine.Ending) (m : Interpreter) (old new : PortView) → Stopping T p whole o sent e m old → Keeps old.output new.output → Appends o new.output sent
   stop_refused e m old new s k = output_kept o old.output new.output sent k s.output_is
 
-  pub stopping_as : (a b : Stop) (m : Interpreter) (port : PortView) → a ≡ b → StoppingBy p whole o sent a m port → StoppingBy p whole o sent b m port
-  stopping_as a b m port e h = let P : Stop → Type 0 = λ a. StoppingBy p whole o sent a m port in subst P e h
+  pub stopping_as : (a b : Stop) (m : Interpreter) (port : PortView) → a ≡ b → StoppingBy T p whole o sent a m port → StoppingBy T p whole o sent b m port
+  stopping_as a b m port e h = let P : Stop → Type 0 = λ a. StoppingBy T p whole o sent a m port in subst P e h
 
   -- ---- what is found goes to a frame
 
   module _ (old new : Interpreter) (mid : Machine) (f : on.Frame) (x : on.Found) (port : PortView) (popped : frames_of old.machine ≡ frames_of mid ++ f ∷ []) (scene : mid.scene ≡ old.machine.scene)
-      (program : mid.program ≡ old.machine.program) (tells : (h : List Entry) → Tells p h old.tally → Tells p (history_left f x h) new.tally) (kept : new.kept ≡ old.kept)
-      (s : Stands p whole o sent old (leaves x) port) where
+      (program : mid.program ≡ old.machine.program) (tells : (h : List Entry) → Tells p h old.tally → Tells p (history_left f x h) new.tally) (told : (h : List Entry) → T h → U (history_left f x h)) (kept : new.kept ≡ old.kept)
+      (s : Stands T p whole o sent old (leaves x) port) where
     program_now : program_of mid.program.now ≡ p
     program_now = ap (λ (b : Bor unit.Program). program_of b.now) program ∙ s.program_is
 
@@ -87,7 +91,7 @@ module _ (p : typed.Program) (whole : Whole) (o : Option (List ℕ)) (sent : Lis
         ap (λ (c : Scene). left_of p (frames_of mid ++ f ∷ []) c (leaves x) s.input s.history n) scene
         ∙ ap (λ (fs : List on.Frame). left_of p fs old.machine.scene (leaves x) s.input s.history n) (sym popped) ∙ s.follows n
 
-    pub frame_stands : (y : Step) → Acts (λ p s. left p f x s) mid (Ok y) new.machine → new.machine.program ≡ mid.program → Stands p whole o sent new (step_of y) port
+    pub frame_stands : (y : Step) → Acts (λ p s. left p f x s) mid (Ok y) new.machine → new.machine.program ≡ mid.program → Stands U p whole o sent new (step_of y) port
     frame_stands y acts same =
         let P : typed.Program → Type 0 = λ p. (o : Outside) → onto (frames_of mid) (left_at p f x mid.scene o) ≡ moves (frames_of new.machine) (step_of y) (state_in new.machine.scene (outside_behind (left_at p f x mid.scene o))) in
         record {
@@ -99,10 +103,11 @@ module _ (p : typed.Program) (whole : Whole) (o : Option (List ℕ)) (sent : Lis
           output_is = s.output_is;
           bytes_are = bytes_left (is_flow x) (is_return f) s.history ∙ s.bytes_are ∙ ap (λ k. sent ++ waiting k) (sym kept);
           tells = tells s.history s.tells;
+          told = told s.history s.told;
         }
 
     frame_ends : (e : machine.Ending) → ((o : Outside) → onto (frames_of mid) (left_at (program_of mid.program.now) f x mid.scene o) ≡ halts e (state_in new.machine.scene (outside_behind (left_at (program_of mid.program.now) f x mid.scene o)))) →
-        Stopping p whole o sent e new port
+        Stopping U p whole o sent e new port
     frame_ends e acts =
         let P : typed.Program → Type 0 = λ p. (o : Outside) → onto (frames_of mid) (left_at p f x mid.scene o) ≡ halts e (state_in new.machine.scene (outside_behind (left_at p f x mid.scene o))) in
         record {
@@ -113,21 +118,22 @@ module _ (p : typed.Program) (whole : Whole) (o : Option (List ℕ)) (sent : Lis
           output_is = s.output_is;
           bytes_are = bytes_left (is_flow x) (is_return f) s.history ∙ s.bytes_are ∙ ap (λ k. sent ++ waiting k) (sym kept);
           tells = tells s.history s.tells;
+          told = told s.history s.told;
         }
 
-    pub frame_stopping : (e : Stop) → Acts (λ p s. left p f x s) mid (Err e) new.machine → StoppingBy p whole o sent e new port
+    pub frame_stopping : (e : Stop) → Acts (λ p s. left p f x s) mid (Err e) new.machine → StoppingBy U p whole o sent e new port
     frame_stopping (stop.Ended n) acts = frame_ends (machine.Ended n) acts
     frame_stopping (stop.Undefined act at) acts = frame_ends (machine.Undefined act at) acts
     frame_stopping stop.Memory acts = s.output_is
 
-  pub nothing_waits : (m : Interpreter) (x : on.Found) (port : PortView) → frames_of m.machine ≡ [] → Stands p whole o sent m (leaves x) port → Rests whole
+  pub nothing_waits : (m : Interpreter) (x : on.Found) (port : PortView) → frames_of m.machine ≡ [] → Stands T p whole o sent m (leaves x) port → Rests whole
   nothing_waits m x port e s = rests p (frames_of m.machine) x m.machine.scene s.input s.history whole e s.follows
 
   -- ---- a call
 
   module _ (old new : Interpreter) (mid : Machine) (at : Pos) (callee : typed.Callee) (used : Bool) (passed : List Passed) (port : PortView) (same : mid ≡ old.machine)
-      (tells : (h : List Entry) → Tells p h old.tally → Tells p (history_called p callee h) new.tally) (kept : new.kept ≡ old.kept)
-      (s : Stands p whole o sent old (calls at callee used passed) port) where
+      (tells : (h : List Entry) → Tells p h old.tally → Tells p (history_called p callee h) new.tally) (told : (h : List Entry) → T h → U (history_called p callee h)) (kept : new.kept ≡ old.kept)
+      (s : Stands T p whole o sent old (calls at callee used passed) port) where
     program_called : program_of mid.program.now ≡ p
     program_called = ap (λ (m : Machine). program_of m.program.now) same ∙ s.program_is
 
@@ -135,7 +141,7 @@ module _ (p : typed.Program) (whole : Whole) (o : Option (List ℕ)) (sent : Lis
     follows_called n = ap (λ (m : Machine). left_of p (frames_of m) m.scene (calls at callee used passed) s.input s.history n) same ∙ s.follows n
 
     pub call_stands : (y : Step) → IsInside callee → Acts (λ p s. called p at callee used passed s) mid (Ok y) new.machine → new.machine.program ≡ mid.program →
-        Stands p whole o sent new (step_of y) port
+        Stands U p whole o sent new (step_of y) port
     call_stands y inside acts program =
         let P : typed.Program → Type 0 = λ p. (o : Outside) → onto (frames_of mid) (called_at p at callee used passed mid.scene o) ≡ moves (frames_of new.machine) (step_of y) (state_in new.machine.scene (outside_behind (called_at p at callee used passed mid.scene o))) in
         record {
@@ -147,10 +153,11 @@ module _ (p : typed.Program) (whole : Whole) (o : Option (List ℕ)) (sent : Lis
           output_is = s.output_is;
           bytes_are = bytes_called p callee s.history ∙ s.bytes_are ∙ ap (λ k. sent ++ waiting k) (sym kept);
           tells = tells s.history s.tells;
+          told = told s.history s.told;
         }
 
     call_ends : (e : machine.Ending) → IsInside callee → ((o : Outside) → onto (frames_of mid) (called_at (program_of mid.program.now) at callee used passed mid.scene o) ≡ halts e (state_in new.machine.scene (outside_behind (called_at (program_of mid.program.now) at callee used passed mid.scene o)))) →
-        Stopping p whole o sent e new port
+        Stopping U p whole o sent e new port
     call_ends e inside acts =
         let P : typed.Program → Type 0 = λ p. (o : Outside) → onto (frames_of mid) (called_at p at callee used passed mid.scene o) ≡ halts e (state_in new.machine.scene (outside_behind (called_at p at callee used passed mid.scene o))) in
         record {
@@ -161,20 +168,22 @@ module _ (p : typed.Program) (whole : Whole) (o : Option (List ℕ)) (sent : Lis
           output_is = s.output_is;
           bytes_are = bytes_called p callee s.history ∙ s.bytes_are ∙ ap (λ k. sent ++ waiting k) (sym kept);
           tells = tells s.history s.tells;
+          told = told s.history s.told;
         }
 
-    pub call_stopping : (e : Stop) → IsInside callee → Acts (λ p s. called p at callee used passed s) mid (Err e) new.machine → StoppingBy p whole o sent e new port
+    pub call_stopping : (e : Stop) → IsInside callee → Acts (λ p s. called p at callee used passed s) mid (Err e) new.machine → StoppingBy U p whole o sent e new port
     call_stopping (stop.Ended n) inside acts = call_ends (machine.Ended n) inside acts
     call_stopping (stop.Undefined act at) inside acts = call_ends (machine.Undefined act at) inside acts
     call_stopping stop.Memory inside acts = s.output_is
 
   -- a call that does nothing yet
   pub still_stands : (old new : Interpreter) (at : Pos) (callee byte : typed.Callee) (used : Bool) (passed : List Passed) (port : PortView) → callee ≡ byte → new.machine ≡ old.machine →
-      ((h : List Entry) → Tells p h old.tally → Tells p (history_called p callee h) new.tally) → ((h : List Entry) → history_called p byte h ≡ h) → new.kept ≡ old.kept →
-      Stands p whole o sent old (calls at callee used passed) port → Stands p whole o sent new (calls at byte used passed) port
-  still_stands old new at callee byte used passed port e m tells same kept s =
+      ((h : List Entry) → Tells p h old.tally → Tells p (history_called p callee h) new.tally) → ((h : List Entry) → T h → U (history_called p callee h)) → ((h : List Entry) → history_called p byte h ≡ h) → new.kept ≡ old.kept →
+      Stands T p whole o sent old (calls at callee used passed) port → Stands U p whole o sent new (calls at byte used passed) port
+  still_stands old new at callee byte used passed port e m tells told same kept s =
       let P : typed.Callee → Type 0 = λ c. Tells p (history_called p c s.history) new.tally in
       let Q : List Entry → Type 0 = λ h. Tells p h new.tally in
+      let R : typed.Callee → Type 0 = λ c. U (history_called p c s.history) in
       record {
         input = s.input;
         history = s.history;
@@ -185,6 +194,7 @@ module _ (p : typed.Program) (whole : Whole) (o : Option (List ℕ)) (sent : Lis
         output_is = s.output_is;
         bytes_are = s.bytes_are ∙ ap (λ k. sent ++ waiting k) (sym kept);
         tells = subst Q (same s.history) (subst P e (tells s.history s.tells));
+        told = subst U (same s.history) (subst R e (told s.history s.told));
       }
 
   pub tells_at : (q : typed.Program) (callee : typed.Callee) (a b : Tally) → q ≡ p → ((h : List Entry) → Tells q h a → Tells q (history_called q callee h) b) →
@@ -209,11 +219,11 @@ module _ (p : typed.Program) (whole : Whole) (o : Option (List ℕ)) (sent : Lis
     unfolding left_of
     put_follows input b h e follows n = ap (λ (b : ℕ). left_of p (frames_of m.machine) m.machine.scene (leaves (a_value (pos 0))) input (Did (Put b) ∷ h) n) e ∙ follows n
 
-    pub got_stands : (b : ℕ) (v : ℤ) (old new : PortView) → v ≡ pos b → Gets old new (Some b) → Stands p whole o sent m (calls at typed.get_byte used passed) old →
-        Stands p whole o sent m (leaves (a_value v)) new
-    got_stands b v old new e got s =
+    pub got_stands : (b : ℕ) (v : ℤ) (old new : PortView) → v ≡ pos b → Gets old new (Some b) → ((h : List Entry) → T h → U (Did (Got b) ∷ h)) → Stands T p whole o sent m (calls at typed.get_byte used passed) old →
+        Stands U p whole o sent m (leaves (a_value v)) new
+    got_stands b v old new e got told s =
         let took = first_taken old.input new.input s.input b got.input_moves s.input_is in
-        let P : ℤ → Type 0 = λ v. Stands p whole o sent m (leaves (a_value v)) new in
+        let P : ℤ → Type 0 = λ v. Stands U p whole o sent m (leaves (a_value v)) new in
         subst P (sym e) (record {
           input = took.0;
           history = Did (Got b) ∷ s.history;
@@ -223,10 +233,11 @@ module _ (p : typed.Program) (whole : Whole) (o : Option (List ℕ)) (sent : Lis
           output_is = output_kept o old.output new.output sent got.output_stays s.output_is;
           bytes_are = s.bytes_are;
           tells = did_tells p s.history (Got b) m.tally s.tells;
+          told = told s.history s.told;
         })
 
-    pub end_stands : (old new : PortView) → Gets old new None → Stands p whole o sent m (calls at typed.get_byte used passed) old → Stands p whole o sent m (leaves (a_value (negsuc 0))) new
-    end_stands old new got s =
+    pub end_stands : (old new : PortView) → Gets old new None → ((h : List Entry) → T h → U (Did GotEnd ∷ h)) → Stands T p whole o sent m (calls at typed.get_byte used passed) old → Stands U p whole o sent m (leaves (a_value (negsuc 0))) new
+    end_stands old new got told s =
         let none = none_left old.input new.input s.input got.input_moves s.input_is in
         record {
           input = [];
@@ -237,12 +248,13 @@ module _ (p : typed.Program) (whole : Whole) (o : Option (List ℕ)) (sent : Lis
           output_is = output_kept o old.output new.output sent got.output_stays s.output_is;
           bytes_are = s.bytes_are;
           tells = did_tells p s.history GotEnd m.tally s.tells;
+          told = told s.history s.told;
         }
 
-    pub put_stands : (new : Interpreter) (b : ℕ) (port : PortView) → b ≡ modulo 8 (first_number passed) → m.kept ≡ None → new ≡ record m { kept = Some b } →
-        Stands p whole o sent m (calls at typed.put_byte used passed) port → Stands p whole o sent new (leaves (a_value (pos 0))) port
-    put_stands new b port e none is s =
-        let P : Interpreter → Type 0 = λ m. Stands p whole o sent m (leaves (a_value (pos 0))) port in
+    pub put_stands : (new : Interpreter) (b : ℕ) (port : PortView) → b ≡ modulo 8 (first_number passed) → m.kept ≡ None → new ≡ record m { kept = Some b } → ((h : List Entry) → T h → U (Did (Put b) ∷ h)) →
+        Stands T p whole o sent m (calls at typed.put_byte used passed) port → Stands U p whole o sent new (leaves (a_value (pos 0))) port
+    put_stands new b port e none is told s =
+        let P : Interpreter → Type 0 = λ m. Stands U p whole o sent m (leaves (a_value (pos 0))) port in
         subst P (sym is) (record {
           input = s.input;
           history = Did (Put b) ∷ s.history;
@@ -252,4 +264,5 @@ module _ (p : typed.Program) (whole : Whole) (o : Option (List ℕ)) (sent : Lis
           output_is = s.output_is;
           bytes_are = byte_put b s.history sent m.kept (Some b) none refl s.bytes_are;
           tells = did_tells p s.history (Put b) m.tally s.tells;
+          told = told s.history s.told;
         })

@@ -5,6 +5,7 @@ use Rattle.std.specs.Bool.{OnTrue}
 use Rattle.typing_spec.specs.Program as typed
 use Rattle.typed_ast.specs.declared.units.Program as unit
 use Rattle.typed_ast.specs.View.{program_of}
+use Rattle.csem.specs.History.{Entry}
 use Rattle.csem.specs.Machine as machine
 use Rattle.csem.specs.Machine.{State, Ending, Goes, Stops, then_do}
 use Rattle.interp_store.specs.declared.scene.Scene.{Scene}
@@ -39,8 +40,8 @@ then_resumed : (p : typed.Program) (fs : List on.Frame) (r : machine.Run on.Foun
 then_resumed p fs (Goes x s) = refl
 then_resumed p fs (Stops e s) = sym (resume_stops p (call_in p) fs e s)
 
-module _ (p : typed.Program) (all : Whole) (o : Option (List ℕ)) (limit k : ℕ) (now : List ℕ) (mid : Interpreter) (x : on.Node) (port : PortView)
-    (s : Stands p (λ n. all (n + k)) o now mid (enters x) port) (none : mid.kept ≡ None) where
+module _ (T : List Entry → Type 0) (p : typed.Program) (all : Whole) (o : Option (List ℕ)) (limit k : ℕ) (now : List ℕ) (mid : Interpreter) (x : on.Node) (port : PortView)
+    (s : Stands T p (λ n. all (n + k)) o now mid (enters x) port) (none : mid.kept ≡ None) where
   abbrev pub course : Course
   course = record { whole = all; input = s.input; history = s.history }
 
@@ -65,13 +66,13 @@ module _ (p : typed.Program) (all : Whole) (o : Option (List ℕ)) (limit k : �
 
   -- the run goes on
   pub once_goes : (new : Interpreter) (clock : Clock) (y : Found) → frames_of new.machine ≡ frames_of mid.machine → new.machine.program ≡ mid.machine.program → new.tally ≡ mid.tally → new.kept ≡ mid.kept →
-      k < clock.spent → Comes found_of course (goes_to p (frames_of mid.machine)) limit (Some y) clock new.machine.scene → Runs p all o clock.spent new (leaves (found_of y)) port
+      k < clock.spent → Comes found_of course (goes_to p (frames_of mid.machine)) limit (Some y) clock new.machine.scene → Runs T p all o clock.spent new (leaves (found_of y)) port
   unfolding left_of
   once_goes new clock y frames program t kept more came = record {
     sent = now;
     clock = k;
     clock_is = omega (arith, more);
-    sent_is = bytes_now p all o k now mid x port s none;
+    sent_is = bytes_now T p all o k now mid x port s none;
     stands = record {
       input = s.input;
       history = s.history;
@@ -81,10 +82,11 @@ module _ (p : typed.Program) (all : Whole) (o : Option (List ℕ)) (limit k : �
       output_is = s.output_is;
       bytes_are = s.bytes_are ∙ ap (λ k. now ++ waiting k) (sym kept);
       tells = tells_as p s.history s.history mid.tally new.tally refl t s.tells;
+      told = s.told;
     };
   }
 
-  ends_so : (tally : Tally) (e : Ending) (scene : Scene) (n : ℕ) → tally ≡ mid.tally → all limit ≡ Stops e (state_at course scene n) → EndsAs p (all limit) o e tally port
+  ends_so : (tally : Tally) (e : Ending) (scene : Scene) (n : ℕ) → tally ≡ mid.tally → all limit ≡ Stops e (state_at course scene n) → EndsAs T p (all limit) o e tally port
   ends_so tally e scene n t is = record {
     input = s.input;
     history = s.history;
@@ -92,14 +94,15 @@ module _ (p : typed.Program) (all : Whole) (o : Option (List ℕ)) (limit k : �
     input_is = s.input_is;
     output_is = output_as o port.output _ _ (none_waits s.history now mid.kept none s.bytes_are) s.output_is;
     tells = tells_as p s.history s.history mid.tally tally refl t s.tells;
+    told = s.told;
   }
 
   -- or it is given up
-  pub once_given_up : (tally : Tally) → k < limit → RunStops p all o limit run.Memory tally port
-  once_given_up tally room = (k, (omega (arith, room), output_as o port.output _ _ (bytes_now p all o k now mid x port s none) s.output_is))
+  pub once_given_up : (tally : Tally) → k < limit → RunStops T p all o limit run.Memory tally port
+  once_given_up tally room = (k, (omega (arith, room), output_as o port.output _ _ (bytes_now T p all o k now mid x port s none) s.output_is))
 
   -- or it stops
-  pub once_stops : (tally : Tally) (scene : Scene) (spent : ℕ) (w : Why) → tally ≡ mid.tally → k < limit → spent ≤ limit → part.StopsBy course limit w spent scene → RunStops p all o limit (stopped_for w) tally port
+  pub once_stops : (tally : Tally) (scene : Scene) (spent : ℕ) (w : Why) → tally ≡ mid.tally → k < limit → spent ≤ limit → part.StopsBy course limit w spent scene → RunStops T p all o limit (stopped_for w) tally port
   once_stops tally scene spent why.Ticks t room le h = inl (ends_so tally machine.TicksUsed scene 0 t (ap all (sym h.0) ∙ h.1))
   once_stops tally scene spent (why.Undefined act at) t room le h =
       let same : (limit - spent) + spent ≡ limit = omega (arith, le) in

@@ -1,5 +1,5 @@
 -- What a step that takes no tick does outside the objects, and how it nears the next node.
-use Rattle.std.proofs.Common.{◌≡◌, ◌≤◌, ◌<◌, ℕ, zero, suc, ◌+◌, ◌*◌, ◌-◌, ℤ, pos, negsuc, List, [], ◌∷◌, ◌++◌, length, Option, Some, None, Bool, true, false, refl, sym, ap, ◌∙◌, subst, arith, length-append}
+use Rattle.std.proofs.Common.{◌≡◌, ◌≤◌, ℕ, zero, suc, ◌+◌, ◌*◌, ◌-◌, ℤ, pos, negsuc, List, [], ◌∷◌, ◌++◌, length, Option, Some, None, Bool, true, false, refl, sym, ap, ◌∙◌, arith, length-append}
 use Rattle.std.specs.Prelude.{Result, Ok, Err, nat_lt, slice_get}
 use Rattle.srcset.specs.declared.refusal.Pos.{Pos}
 use Rattle.ctypes.specs.declared.types.IntType.{IntType}
@@ -10,18 +10,18 @@ use Rattle.typing_spec.specs.Operators.{operated, sign_of}
 use Rattle.typing_spec.specs.Program as typed
 use Rattle.typing_spec.specs.Program.{Callee, Value, Arguments, Initialisers, Statement, Statements, Program}
 use Rattle.csem.specs.Store.{Reference, into, length_of, tree_at, value_at, put, filled}
-use Rattle.csem.specs.Machine.{State, Run, Goes, Stops, then_do, choose, computed_at, value_or_undefined, subscripted, read, write, stored, undefined}
+use Rattle.csem.specs.Machine.{State, Run, Goes, Stops, then_do, choose, computed_at, value_or_undefined, subscripted, read, write, stored}
 use Rattle.csem.specs.Expressions.{Passed, Number, Referred, call_value, step_operation, step_value}
 use Rattle.csem.specs.Statements.{Flow, Normal, Broken, Continued, Returned, zeros, characters, text_or_none, after_switch}
 use Rattle.csem.specs.Meaning.{value_left}
 use Rattle.interp_store.specs.layer.Frames as on
 use Rattle.interp_store.specs.layer.Frames.{Found, a_value, a_place, a_flow, initialised, Late, puts_text, puts_zeros, enters_body, Step, enters, leaves, calls, Back, to_caller, to_end, Frame, Moved, moves, halts}
 use Rattle.interp_store.specs.layer.Presents.{back_at}
-use Rattle.interp_store.specs.layer.Steps.{at_once, goes, waits, started, asked_for, turned, looped, looped_after, turned_on, started_after, came_late, counted, listed, left_by_place, left_by_value, went_back, left_by_flow, left_initialised, left, entered_call, called}
+use Rattle.interp_store.specs.layer.Steps.{at_once, started, asked_for, turned, looped, looped_after, turned_on, started_after, came_late, counted, listed, left_by_place, left_by_value, went_back, left_by_flow, left_initialised, left, entered_call, called}
 use Rattle.interp_store.specs.layer.Agrees.{Outside, onto}
 use Rattle.interp_transitions.specs.Acts.{outside_of, outside_behind}
 use Rattle.interp_transitions.specs.Calls.{IsInside}
-use Rattle.cabs.specs.inside.Standing.{is_return, history_left, entered_where, history_called, distance}
+use Rattle.cabs.specs.inside.Standing.{history_left, entered_where, history_called, distance}
 
 -- behind the step this is outside; it goes on with a node, or with less than there was: calls only where they may come
 abbrev pub Calm : Bool → Outside → Moved → Type 0

@@ -1,26 +1,21 @@
 -- What is left of a run is the same behind a step, and how it stops.
-use Rattle.std.proofs.Common.{◌≡◌, ◌≤◌, ◌<◌, ℕ, suc, ◌+◌, ◌*◌, List, [], ◌∷◌, ◌++◌, length, Bool, true, false, Option, refl, sym, ap, ◌∙◌, subst, arith, length-append}
-use Rattle.std.specs.Prelude.{Result, Ok, Err, slice_get}
+use Rattle.std.proofs.Common.{◌≡◌, ◌≤◌, ◌<◌, ℕ, suc, ◌+◌, ◌*◌, List, [], ◌∷◌, ◌++◌, length, Bool, true, false, refl, sym, ap, ◌∙◌, arith, length-append}
 use Rattle.srcset.specs.declared.refusal.Pos.{Pos}
-use Rattle.typing_spec.specs.Program as typed
 use Rattle.typing_spec.specs.Program.{Callee, Program}
 use Rattle.csem.specs.Machine.{State, Ending, Run, Goes, Stops, TicksUsed, then_do, tick}
 use Rattle.csem.specs.Expressions.{Passed, Calling}
 use Rattle.csem.specs.History.{Entry}
-use Rattle.csem.specs.Statements.{Returned}
-use Rattle.csem.specs.Meaning.{start, cstep}
 use Rattle.interp_store.specs.declared.scene.Scene.{Scene}
-use Rattle.interp_store.specs.layer.Frames as on
-use Rattle.interp_store.specs.layer.Frames.{Found, a_flow, Node, Step, enters, leaves, calls, to_end, Frame, Moved, moves, halts}
-use Rattle.interp_store.specs.layer.Presents.{given, present, after, resume, resumed, call_in}
-use Rattle.interp_store.specs.layer.Steps.{entered, left, entered_call, called}
+use Rattle.interp_store.specs.layer.Frames.{Found, Node, Step, enters, leaves, calls, Frame, Moved, moves, halts}
+use Rattle.interp_store.specs.layer.Presents.{present, after, resume, resumed, call_in}
+use Rattle.interp_store.specs.layer.Steps.{entered, left, called}
 use Rattle.interp_store.specs.layer.Agrees.{Outside, state_in, onto}
-use Rattle.interp_store.proofs.Resumes.{node_enters, frame_leaves, call_acts, resume_more, run_begins}
+use Rattle.interp_store.proofs.Resumes.{node_enters, frame_leaves, call_acts, resume_more}
 use Rattle.interp_store.proofs.Adequate.{real}
-use Rattle.interp_transitions.specs.Acts.{outside_of, outside_behind}
+use Rattle.interp_transitions.specs.Acts.{outside_behind}
 use Rattle.interp_transitions.specs.Calls.{IsInside}
-use Rattle.cabs.specs.inside.Standing.{Whole, left_of, history_left, history_called, entered_where, StopsAs, StopsAt, distance}
-use Rattle.cabs.proofs.Calm.{Calm, calm_outside, calm_near, steady_near, left_calm, called_calm, entered_calm}
+use Rattle.cabs.specs.inside.Standing.{Whole, left_of, history_left, history_called, StopsAs, StopsAt, distance}
+use Rattle.cabs.proofs.Calm.{calm_outside, calm_near, steady_near, left_calm, called_calm}
 
 pub resume_stops : (p : Program) (call : Calling) (fs : List Frame) (e : Ending) (s : State) → resume p call fs (Stops e s) ≡ Stops e s
 resume_stops p call [] e s = refl

@@ -1,8 +1,8 @@
 -- What is told of the input, the output and the active calls.
-use Rattle.std.proofs.Common.{◌≡◌, ◌≤◌, ℕ, ◌+◌, List, [], ◌∷◌, ◌++◌, Option, Some, None, refl, sym, ap, ◌∙◌, subst, append_assoc, arith}
+use Rattle.std.proofs.Common.{◌≡◌, ◌≤◌, ℕ, List, [], ◌∷◌, ◌++◌, Option, Some, None, refl, sym, ap, ◌∙◌, subst, append_assoc, arith}
 use Rattle.std.proofs.lemmas.List.{reverse-append}
 use Rattle.std.specs.Io.KnownBytes.{Keeps, Appends, Consumes}
-use Rattle.csem_events.specs.Events.{Event, Got, GotEnd, Put, written, puts}
+use Rattle.csem_events.specs.Events.{Event, Put, puts}
 use Rattle.typing_spec.specs.Program as typed
 use Rattle.csem.specs.History.{Entry, Did, active, weight_in, sum_of, greatest_sum, trace_of}
 use Rattle.interp_transitions.specs.declared.tally.Tally.{Tally}

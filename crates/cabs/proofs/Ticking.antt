@@ -33,7 +33,7 @@ use Rattle.io_ports.specs.Port.{PortView, Flushes}
 use Rattle.cabs.specs.declared.state.Interpreter.{Interpreter}
 use Rattle.cabs.specs.declared.outcome.Run.{Run}
 use Rattle.cabs.specs.declared.outcome.Run.TheVariants as run
-use Rattle.cabs.specs.Interpreting.{IsAnswer, IsGivenUp, RunMeets}
+use Rattle.cabs.specs.Interpreting.{IsAnswer, IsGivenUp, IsTold, RunMeets}
 use Rattle.cabs.specs.inside.Standing.{Whole, left_of, waiting, bytes_of, entered_where, history_called, Stands, StopsAs, Stopping, StoppingBy, Stopped, StoppedBy, SettleMeets, Runs, StopsBy, EndsAs, RunStops, Fresh, NearsFrom, distance}
 use Rattle.cabs.proofs.Calm.{calm_outside, entered_calm}
 use Rattle.cabs.proofs.Following.{outside, goes_on, stops_so, node_follows, node_stops, node_waits}
@@ -41,10 +41,10 @@ use Rattle.cabs.proofs.Telling.{input_kept, output_kept, output_grown, output_as
 
 -- ---- a node is reached
 
-pub node_reached : (p : typed.Program) (whole : Whole) (o : Option (List ℕ)) (sent : List ℕ) (old new : Interpreter) (x : on.Step) (port port2 : PortView) → Stands p whole o sent old x port →
+pub node_reached : (T : List Entry → Type 0) (p : typed.Program) (whole : Whole) (o : Option (List ℕ)) (sent : List ℕ) (old new : Interpreter) (x : on.Step) (port port2 : PortView) → Stands T p whole o sent old x port →
     Keeps port.input port2.input → Appends port.output port2.output (waiting old.kept) → new.machine ≡ old.machine → new.tally ≡ old.tally → new.kept ≡ None →
-    (now : List ℕ) × (Stands p whole o now new x port2 × (new.kept ≡ None))
-node_reached p whole o sent old new x port port2 s i a m t k = (
+    (now : List ℕ) × (Stands T p whole o now new x port2 × (new.kept ≡ None))
+node_reached T p whole o sent old new x port port2 s i a m t k = (
   sent ++ waiting old.kept,
   (
     record {
@@ -56,19 +56,20 @@ node_reached p whole o sent old new x port port2 s i a m t k = (
       output_is = output_grown o port.output port2.output sent (waiting old.kept) a s.output_is;
       bytes_are = s.bytes_are ∙ append_none (sent ++ waiting old.kept) ∙ ap (λ k. (sent ++ waiting old.kept) ++ waiting k) (sym k);
       tells = tells_as p s.history s.history old.tally new.tally refl t s.tells;
+      told = s.told;
     },
     k,
   ),
 )
 
-pub stands_as : (p : typed.Program) (whole : Whole) (o : Option (List ℕ)) (sent : List ℕ) (m : Interpreter) (x y : on.Step) (port : PortView) → x ≡ y → Stands p whole o sent m x port → Stands p whole o sent m y port
-stands_as p whole o sent m x y port e s = let P : on.Step → Type 0 = λ x. Stands p whole o sent m x port in subst P e s
+pub stands_as : (T : List Entry → Type 0) (p : typed.Program) (whole : Whole) (o : Option (List ℕ)) (sent : List ℕ) (m : Interpreter) (x y : on.Step) (port : PortView) → x ≡ y → Stands T p whole o sent m x port → Stands T p whole o sent m y port
+stands_as T p whole o sent m x y port e s = let P : on.Step → Type 0 = λ x. Stands T p whole o sent m x port in subst P e s
 
 -- ---- the port rests
 
-pub stands_rested : (p : typed.Program) (whole : Whole) (o : Option (List ℕ)) (sent : List ℕ) (m : Interpreter) (x : on.Step) (old new : PortView) → Stands p whole o sent m x old →
-    Flushes old new → Stands p whole o sent m x new
-stands_rested p whole o sent m x old new s f = record {
+pub stands_rested : (T : List Entry → Type 0) (p : typed.Program) (whole : Whole) (o : Option (List ℕ)) (sent : List ℕ) (m : Interpreter) (x : on.Step) (old new : PortView) → Stands T p whole o sent m x old →
+    Flushes old new → Stands T p whole o sent m x new
+stands_rested T p whole o sent m x old new s f = record {
   input = s.input;
   history = s.history;
   program_is = s.program_is;
@@ -77,23 +78,24 @@ stands_rested p whole o sent m x old new s f = record {
   output_is = output_kept o old.output new.output sent f.output_stays s.output_is;
   bytes_are = s.bytes_are;
   tells = s.tells;
+  told = s.told;
 }
 
-pub runs_rested : (p : typed.Program) (all : Whole) (o : Option (List ℕ)) (k : ℕ) (m : Interpreter) (x : on.Step) (old new : PortView) → Runs p all o k m x old → Flushes old new →
-    Runs p all o k m x new
-runs_rested p all o k m x old new r f = record {
+pub runs_rested : (T : List Entry → Type 0) (p : typed.Program) (all : Whole) (o : Option (List ℕ)) (k : ℕ) (m : Interpreter) (x : on.Step) (old new : PortView) → Runs T p all o k m x old → Flushes old new →
+    Runs T p all o k m x new
+runs_rested T p all o k m x old new r f = record {
   sent = r.sent;
   clock = r.clock;
   clock_is = r.clock_is;
   sent_is = r.sent_is;
-  stands = stands_rested p (λ n. all (n + k)) o r.sent m x old new r.stands f;
+  stands = stands_rested T p (λ n. all (n + k)) o r.sent m x old new r.stands f;
 }
 
-module _ (p : typed.Program) (all : Whole) (o : Option (List ℕ)) where
+module _ (T : List Entry → Type 0) (p : typed.Program) (all : Whole) (o : Option (List ℕ)) where
   -- ---- how a run stops that has so many ticks
 
   pub stops_by : (k clock : ℕ) (sent : List ℕ) (r : Run) (tally : Tally) (port : PortView) → clock ≤ k → sent ≡ bytes_of (last_of (all clock)).history →
-      StoppedBy p (λ n. all (n + k)) o sent r tally port → StopsBy p all o k r tally port
+      StoppedBy T p (λ n. all (n + k)) o sent r tally port → StopsBy T p all o k r tally port
   stops_by k clock sent (run.Ended status) tally port le e s = s
   stops_by k clock sent (run.Undefined act at) tally port le e s = s
   stops_by k clock sent run.TicksUsed tally port le e s = s
@@ -103,7 +105,7 @@ module _ (p : typed.Program) (all : Whole) (o : Option (List ℕ)) where
   next_clock : (n k : ℕ) → suc n + k ≡ n + (k + 1)
   next_clock n k = omega arith
 
-  stopped_later : (k : ℕ) (e : Ending) (tally : Tally) (port : PortView) → Stopped p (λ n. all (n + k)) o e tally port → Stopped p (λ n. all (n + (k + 1))) o e tally port
+  stopped_later : (k : ℕ) (e : Ending) (tally : Tally) (port : PortView) → Stopped T p (λ n. all (n + k)) o e tally port → Stopped T p (λ n. all (n + (k + 1))) o e tally port
   stopped_later k e tally port s = record {
     input = s.input;
     history = s.history;
@@ -113,9 +115,10 @@ module _ (p : typed.Program) (all : Whole) (o : Option (List ℕ)) where
     input_is = s.input_is;
     output_is = s.output_is;
     tells = s.tells;
+    told = s.told;
   }
 
-  pub stops_later : (k : ℕ) (r : Run) (tally : Tally) (port : PortView) → StopsBy p all o k r tally port → StopsBy p all o (k + 1) r tally port
+  pub stops_later : (k : ℕ) (r : Run) (tally : Tally) (port : PortView) → StopsBy T p all o k r tally port → StopsBy T p all o (k + 1) r tally port
   stops_later k (run.Ended status) tally port s = stopped_later k (machine.Ended status) tally port s
   stops_later k (run.Undefined act at) tally port s = stopped_later k (machine.Undefined act at) tally port s
   stops_later k run.TicksUsed tally port s = λ n.
@@ -124,7 +127,7 @@ module _ (p : typed.Program) (all : Whole) (o : Option (List ℕ)) where
   stops_later k (run.Port fault) tally port s = (s.0, (omega (arith, s.1.0), s.1.1))
   stops_later k run.Memory tally port s = (s.0, (omega (arith, s.1.0), s.1.1))
 
-  ends_at : (k ticks : ℕ) (e : Ending) (tally : Tally) (port : PortView) → k ≤ ticks → Stopped p (λ n. all (n + k)) o e tally port → EndsAs p (all ticks) o e tally port
+  ends_at : (k ticks : ℕ) (e : Ending) (tally : Tally) (port : PortView) → k ≤ ticks → Stopped T p (λ n. all (n + k)) o e tally port → EndsAs T p (all ticks) o e tally port
   ends_at k ticks e tally port le s =
       let same : (ticks - k) + k ≡ ticks = omega arith in
       let P : ℕ → Type 0 = λ k. StopsAs (all k) e s.input s.history in
@@ -135,9 +138,10 @@ module _ (p : typed.Program) (all : Whole) (o : Option (List ℕ)) where
         input_is = s.input_is;
         output_is = s.output_is;
         tells = s.tells;
+        told = s.told;
       }
 
-  pub run_stops : (k ticks : ℕ) (r : Run) (tally : Tally) (port : PortView) → k ≤ ticks → StopsBy p all o k r tally port → RunStops p all o ticks r tally port
+  pub run_stops : (k ticks : ℕ) (r : Run) (tally : Tally) (port : PortView) → k ≤ ticks → StopsBy T p all o k r tally port → RunStops T p all o ticks r tally port
   run_stops k ticks (run.Ended status) tally port le s = ends_at k ticks (machine.Ended status) tally port le s
   run_stops k ticks (run.Undefined act at) tally port le s = ends_at k ticks (machine.Undefined act at) tally port le s
   run_stops k ticks run.TicksUsed tally port le s =
@@ -149,7 +153,7 @@ module _ (p : typed.Program) (all : Whole) (o : Option (List ℕ)) where
 
   -- ---- a tick
 
-  module _ (k : ℕ) (now : List ℕ) (mid : Interpreter) (x : on.Node) (port : PortView) (s : Stands p (λ n. all (n + k)) o now mid (enters x) port) (none : mid.kept ≡ None) where
+  module _ (k : ℕ) (now : List ℕ) (mid : Interpreter) (x : on.Node) (port : PortView) (s : Stands T p (λ n. all (n + k)) o now mid (enters x) port) (none : mid.kept ≡ None) where
     -- without a tick more the run stops before the node
     waits_here : StopsAs (all (0 + k)) machine.TicksUsed s.input s.history
     waits_here = node_waits p (frames_of mid.machine) (frames_of mid.machine) x mid.machine.scene mid.machine.scene s.input s.history (λ n. all (n + k)) s.follows
@@ -167,7 +171,7 @@ module _ (p : typed.Program) (all : Whole) (o : Option (List ℕ)) where
         subst P s.program_is h
 
     pub tick_goes : (new : Interpreter) (y : Step) → new.tally ≡ mid.tally → new.kept ≡ mid.kept → new.machine.program ≡ mid.machine.program → Takes (λ p s. entered p x s) mid.machine (Ok y) new.machine →
-        Runs p all o (k + 1) new (step_of y) port
+        Runs T p all o (k + 1) new (step_of y) port
     tick_goes new y t kept program takes = record {
       sent = now;
       clock = k;
@@ -183,11 +187,12 @@ module _ (p : typed.Program) (all : Whole) (o : Option (List ℕ)) where
         output_is = s.output_is;
         bytes_are = s.bytes_are ∙ ap (λ k. now ++ waiting k) (sym kept);
         tells = tells_as p s.history s.history mid.tally new.tally refl t s.tells;
+        told = s.told;
       };
     }
 
     tick_ends : (new : Interpreter) (e : Ending) → new.tally ≡ mid.tally → new.kept ≡ mid.kept → ((o : Outside) → onto (frames_of mid.machine) (entered p x (state_in mid.machine.scene o)) ≡ halts e (state_in new.machine.scene o)) →
-        Stopping p (λ n. all (n + (k + 1))) o now e new port
+        Stopping T p (λ n. all (n + (k + 1))) o now e new port
     tick_ends new e t kept takes = record {
       input = s.input;
       history = s.history;
@@ -198,18 +203,16 @@ module _ (p : typed.Program) (all : Whole) (o : Option (List ℕ)) where
       output_is = s.output_is;
       bytes_are = s.bytes_are ∙ ap (λ k. now ++ waiting k) (sym kept);
       tells = tells_as p s.history s.history mid.tally new.tally refl t s.tells;
+      told = s.told;
     }
 
     pub tick_stopping : (new : Interpreter) (e : Stop) → new.tally ≡ mid.tally → new.kept ≡ mid.kept → Takes (λ p s. entered p x s) mid.machine (Err e) new.machine →
-        StoppingBy p (λ n. all (n + (k + 1))) o now e new port
+        StoppingBy T p (λ n. all (n + (k + 1))) o now e new port
     tick_stopping new (stop.Ended n) t kept takes = tick_ends new (machine.Ended n) t kept (takes_now (Err (stop.Ended n)) new.machine takes)
     tick_stopping new (stop.Undefined act at) t kept takes = tick_ends new (machine.Undefined act at) t kept (takes_now (Err (stop.Undefined act at)) new.machine takes)
     tick_stopping new stop.Memory t kept takes = s.output_is
 
-    pub tick_stops : (r : Run) (tally : Tally) (port2 : PortView) → StoppedBy p (λ n. all (n + (k + 1))) o now r tally port2 → StopsBy p all o (k + 1) r tally port2
-    tick_stops r tally port2 h = stops_by (k + 1) k now r tally port2 (omega arith) bytes_now h
-
-    pub ticks_used : RunStops p all o k run.TicksUsed mid.tally port
+    pub ticks_used : RunStops T p all o k run.TicksUsed mid.tally port
     ticks_used =
         let same : 0 + k ≡ k = omega arith in
         let P : ℕ → Type 0 = λ k. StopsAs (all k) machine.TicksUsed s.input s.history in
@@ -220,7 +223,12 @@ module _ (p : typed.Program) (all : Whole) (o : Option (List ℕ)) where
           input_is = s.input_is;
           output_is = output_as o port.output _ _ (none_waits s.history now mid.kept none s.bytes_are) s.output_is;
           tells = s.tells;
+          told = s.told;
         })
+
+pub tick_stops : (T U : List Entry → Type 0) (p : typed.Program) (all : Whole) (o : Option (List ℕ)) (k : ℕ) (now : List ℕ) (mid : Interpreter) (x : on.Node) (port : PortView) → Stands T p (λ n. all (n + k)) o now mid (enters x) port →
+    mid.kept ≡ None → (r : Run) (tally : Tally) (port2 : PortView) → StoppedBy U p (λ n. all (n + (k + 1))) o now r tally port2 → StopsBy U p all o (k + 1) r tally port2
+tick_stops T U p all o k now mid x port s none r tally port2 h = stops_by U p all o (k + 1) k now r tally port2 (omega arith) (bytes_now T p all o k now mid x port s none) h
 
 -- ---- the definition's run
 
@@ -259,8 +267,8 @@ bytes_are_output p input n = ap (λ (s : State). bytes_of s.history) (given_last
 
 -- ---- what a run came to is what the definition answers
 
-module _ (p : typed.Program) (input : List ℕ) (ticks : ℕ) (tally : Tally) (old new : PortView) where
-  is_answer : (e : Ending) → EndsAs p (run_of p input ticks) old.output e tally new → IsAnswer (answer ticks p input) e tally.greatest old new
+module _ (T : List Entry → Type 0) (p : typed.Program) (input : List ℕ) (ticks : ℕ) (tally : Tally) (old new : PortView) where
+  is_answer : (e : Ending) → EndsAs T p (run_of p input ticks) old.output e tally new → IsAnswer (answer ticks p input) e tally.greatest old new
   unfolding run_of
   is_answer e h =
       let is : cstep ticks p input ≡ Stops e h.stops.state = given_stops as_found (cstep ticks p input) e h.stops.state h.stops.is in
@@ -278,7 +286,21 @@ module _ (p : typed.Program) (input : List ℕ) (ticks : ℕ) (tally : Tally) (o
   unfolding run_of
   never_rests x s h = never_goes as_found (calling p (suc ticks) p.main [] (start ticks p input)) x s h
 
-  pub answered : (r : Run) → RunStops p (run_of p input) old.output ticks r tally new → RunMeets p input ticks r tally.greatest old new
+  told_so : (e : Ending) → EndsAs T p (run_of p input ticks) old.output e tally new → T (last_of (cstep ticks p input)).history
+  unfolding run_of
+  told_so e h =
+      let is : cstep ticks p input ≡ Stops e h.stops.state = given_stops as_found (cstep ticks p input) e h.stops.state h.stops.is in
+      subst T (sym h.stops.history_is ∙ sym (ap (λ r. (last_of r).history) is)) h.told
+
+  pub told_as : (r : Run) → RunStops T p (run_of p input) old.output ticks r tally new → IsTold T p input ticks r
+  told_as (run.Ended status) h = told_so (machine.Ended status) h
+  told_as (run.Undefined act at) h = told_so (machine.Undefined act at) h
+  told_as run.TicksUsed (inl h) = told_so machine.TicksUsed h
+  told_as run.TicksUsed (inr h) = absurd (never_rests h.0 h.1.0 h.1.1)
+  told_as (run.Port fault) h = tt
+  told_as run.Memory h = tt
+
+  pub answered : (r : Run) → RunStops T p (run_of p input) old.output ticks r tally new → RunMeets p input ticks r tally.greatest old new
   answered (run.Ended status) h = is_answer (machine.Ended status) h
   answered (run.Undefined act at) h = is_answer (machine.Undefined act at) h
   answered run.TicksUsed (inl h) = is_answer machine.TicksUsed h
@@ -323,8 +345,8 @@ bytes_entered (Some g) f = refl
 pub given_up_first : (p : typed.Program) (input : List ℕ) (ticks : ℕ) (port : PortView) → IsGivenUp p input ticks port port
 given_up_first p input ticks port = (0, (omega arith, output_as port.output port.output _ _ (nothing_put p input) (nothing_sent port.output)))
 
-module _ (p : typed.Program) (input : List ℕ) (old new : Interpreter) (mid : Machine) (f : ℕ) (port : PortView) (fresh : Fresh old) (same : mid ≡ old.machine)
-    (prog : program_of mid.program.now ≡ p) (is_main : f ≡ p.main) (told : port.input ≡ Some input) (tells : (h : List Entry) → Tells p h old.tally → Tells p (history_called p (typed.function p.main) h) new.tally) (kept : new.kept ≡ old.kept) where
+module _ (T : List Entry → Type 0) (p : typed.Program) (input : List ℕ) (old new : Interpreter) (mid : Machine) (f : ℕ) (port : PortView) (fresh : Fresh old) (same : mid ≡ old.machine)
+    (prog : program_of mid.program.now ≡ p) (is_main : f ≡ p.main) (given : port.input ≡ Some input) (tells : (h : List Entry) → Tells p h old.tally → Tells p (history_called p (typed.function p.main) h) new.tally) (told : T (history_called p (typed.function p.main) [])) (kept : new.kept ≡ old.kept) where
   none : frames_of mid ≡ []
   none = ap frames_of same ∙ fresh.frames_are
 
@@ -338,7 +360,7 @@ module _ (p : typed.Program) (input : List ℕ) (old new : Interpreter) (mid : M
   no_byte = bytes_entered (slice_get p.functions p.main) p.main ∙ ap waiting (sym (kept ∙ fresh.none_kept))
 
   pub main_runs : (y : Step) → ((o : Outside) → onto (frames_of mid) (called_main (program_of mid.program.now) f mid.scene o) ≡ moves (frames_of new.machine) (step_of y) (state_in new.machine.scene (outside_behind (called_main (program_of mid.program.now) f mid.scene o)))) →
-      new.machine.program ≡ mid.program → Runs p (run_of p input) port.output 0 new (step_of y) port
+      new.machine.program ≡ mid.program → Runs T p (run_of p input) port.output 0 new (step_of y) port
   main_runs y acts program =
       let P : typed.Program → ℕ → List on.Frame → Type 0 = λ p f fs. (o : Outside) → onto fs (called_main p f mid.scene o) ≡ moves (frames_of new.machine) (step_of y) (state_in new.machine.scene (outside_behind (called_main p f mid.scene o))) in
       let begun : P p p.main [] = subst (λ (fs : List on.Frame). P p p.main fs) none (subst (λ (f : ℕ). P p f (frames_of mid)) is_main (subst (λ (p : typed.Program). P p f (frames_of mid)) prog acts)) in
@@ -352,15 +374,16 @@ module _ (p : typed.Program) (input : List ℕ) (old new : Interpreter) (mid : M
           history = first_history p input (frames_of new.machine) mid.scene new.machine.scene starts;
           program_is = ap (λ (b : Bor unit.Program). program_of b.now) program ∙ prog;
           follows = main_follows p input (frames_of new.machine) mid.scene new.machine.scene starts (step_of y) begun;
-          input_is = told;
+          input_is = given;
           output_is = nothing_sent port.output;
           bytes_are = no_byte;
           tells = tells [] (fresh.none_told p);
+          told = told;
         };
       }
 
   main_ends : (e : Ending) → ((o : Outside) → onto (frames_of mid) (called_main (program_of mid.program.now) f mid.scene o) ≡ halts e (state_in new.machine.scene (outside_behind (called_main (program_of mid.program.now) f mid.scene o)))) →
-      Stopping p (λ n. run_of p input (n + 0)) port.output [] e new port
+      Stopping T p (λ n. run_of p input (n + 0)) port.output [] e new port
   main_ends e acts =
       let P : typed.Program → ℕ → List on.Frame → Type 0 = λ p f fs. (o : Outside) → onto fs (called_main p f mid.scene o) ≡ halts e (state_in new.machine.scene (outside_behind (called_main p f mid.scene o))) in
       let begun : P p p.main [] = subst (λ (fs : List on.Frame). P p p.main fs) none (subst (λ (f : ℕ). P p f (frames_of mid)) is_main (subst (λ (p : typed.Program). P p f (frames_of mid)) prog acts)) in
@@ -368,22 +391,23 @@ module _ (p : typed.Program) (input : List ℕ) (old new : Interpreter) (mid : M
         input = input;
         history = first_history p input (frames_of new.machine) mid.scene new.machine.scene starts;
         stops = main_stops p input (frames_of new.machine) mid.scene new.machine.scene starts e begun;
-        input_is = told;
+        input_is = given;
         output_is = nothing_sent port.output;
         bytes_are = no_byte;
         tells = tells [] (fresh.none_told p);
+        told = told;
       }
 
   pub main_stopping : (e : Stop) → Acts (λ p s. entered_call p to_end (slice_get p.functions f) f [] s) mid (Err e) new.machine →
-      StoppingBy p (λ n. run_of p input (n + 0)) port.output [] e new port
+      StoppingBy T p (λ n. run_of p input (n + 0)) port.output [] e new port
   main_stopping (stop.Ended n) acts = main_ends (machine.Ended n) acts
   main_stopping (stop.Undefined act at) acts = main_ends (machine.Undefined act at) acts
   main_stopping stop.Memory acts = nothing_sent port.output
 
-  pub main_stopped : (ticks : ℕ) (r : Run) (tally : Tally) (now : PortView) → StoppedBy p (λ n. run_of p input (n + 0)) port.output [] r tally now → RunMeets p input ticks r tally.greatest port now
-  main_stopped ticks r tally now h =
-      answered p input ticks tally port now r (run_stops p (run_of p input) port.output 0 ticks r tally now (omega arith)
-      (stops_by p (run_of p input) port.output 0 0 [] r tally now (omega arith) (nothing_put p input ∙ sym (bytes_are_output p input 0)) h))
+pub main_stopped : (T : List Entry → Type 0) (p : typed.Program) (input : List ℕ) (port : PortView) (ticks : ℕ) (r : Run) (tally : Tally) (now : PortView) → StoppedBy T p (λ n. run_of p input (n + 0)) port.output [] r tally now →
+    RunStops T p (run_of p input) port.output ticks r tally now
+main_stopped T p input port ticks r tally now h =
+    run_stops T p (run_of p input) port.output 0 ticks r tally now (omega arith) (stops_by T p (run_of p input) port.output 0 0 [] r tally now (omega arith) (nothing_put p input ∙ sym (bytes_are_output p input 0)) h)
 
 -- ---- nearer to the next node
 
@@ -405,18 +429,21 @@ pub meets_new : (a b : Bor unit.Program) (input : List ℕ) (ticks : ℕ) (r : R
     RunMeets (program_of b.now) input ticks r greatest old new
 meets_new a b input ticks r greatest old new e h = let P : Bor unit.Program → Type 0 = λ b. RunMeets (program_of b.now) input ticks r greatest old new in subst P e h
 
+pub told_new : (T : List Entry → Type 0) (a b : Bor unit.Program) (input : List ℕ) (ticks : ℕ) (r : Run) → a ≡ b → IsTold T (program_of a.now) input ticks r → IsTold T (program_of b.now) input ticks r
+told_new T a b input ticks r e h = let P : Bor unit.Program → Type 0 = λ b. IsTold T (program_of b.now) input ticks r in subst P e h
+
 -- ---- behind the last tick
 
-pub used_up : (p : typed.Program) (all : Whole) (o : Option (List ℕ)) (k ticks : ℕ) (sent : List ℕ) (m : Interpreter) (n : Node) (r : Run) (port : PortView) → k ≡ ticks → r ≡ run.TicksUsed →
-    SettleMeets p (λ n. all (n + k)) o sent (Ok n) m port → RunStops p all o ticks r m.tally port
-used_up p all o k ticks sent m n r port e f met =
-    let P : ℕ → Type 0 = λ k. RunStops p all o k run.TicksUsed m.tally port in
-    let Q : Run → Type 0 = λ r. RunStops p all o ticks r m.tally port in
-    subst Q (sym f) (subst P e (ticks_used p all o k met.0 m (node_of n) port met.1.0 met.1.1))
+pub used_up : (T : List Entry → Type 0) (p : typed.Program) (all : Whole) (o : Option (List ℕ)) (k ticks : ℕ) (sent : List ℕ) (m : Interpreter) (n : Node) (r : Run) (port : PortView) → k ≡ ticks → r ≡ run.TicksUsed →
+    SettleMeets T p (λ n. all (n + k)) o sent (Ok n) m port → RunStops T p all o ticks r m.tally port
+used_up T p all o k ticks sent m n r port e f met =
+    let P : ℕ → Type 0 = λ k. RunStops T p all o k run.TicksUsed m.tally port in
+    let Q : Run → Type 0 = λ r. RunStops T p all o ticks r m.tally port in
+    subst Q (sym f) (subst P e (ticks_used T p all o k met.0 m (node_of n) port met.1.0 met.1.1))
 
-pub settle_ends : (p : typed.Program) (all : Whole) (o : Option (List ℕ)) (k ticks : ℕ) (old new : Interpreter) (y : on.Step) (x r : Run) (port port2 : PortView) → k ≡ ticks → r ≡ x → (runs : Runs p all o k old y port) →
-    StoppedBy p (λ n. all (n + k)) o runs.sent x new.tally port2 → RunStops p all o ticks r new.tally port2
-settle_ends p all o k ticks old new y x r port port2 e f runs h =
-    let Q : Run → Type 0 = λ r. RunStops p all o ticks r new.tally port2 in
+pub settle_ends : (U T : List Entry → Type 0) (p : typed.Program) (all : Whole) (o : Option (List ℕ)) (k ticks : ℕ) (old new : Interpreter) (y : on.Step) (x r : Run) (port port2 : PortView) → k ≡ ticks → r ≡ x → (runs : Runs U p all o k old y port) →
+    StoppedBy T p (λ n. all (n + k)) o runs.sent x new.tally port2 → RunStops T p all o ticks r new.tally port2
+settle_ends U T p all o k ticks old new y x r port port2 e f runs h =
+    let Q : Run → Type 0 = λ r. RunStops T p all o ticks r new.tally port2 in
     let le : k ≤ ticks = omega arith in
-    subst Q (sym f) (run_stops p all o k ticks x new.tally port2 le (stops_by p all o k runs.clock runs.sent x new.tally port2 runs.clock_is runs.sent_is h))
+    subst Q (sym f) (run_stops T p all o k ticks x new.tally port2 le (stops_by T p all o k runs.clock runs.sent x new.tally port2 runs.clock_is runs.sent_is h))

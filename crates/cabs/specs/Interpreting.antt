@@ -1,9 +1,11 @@
 -- What interpreting a program comes to, over a port that tells its input, and perhaps its output.
-use Rattle.std.specs.Prelude.{◌≡◌, ◌≤◌, ℕ, List, Some, ⊤}
+use Rattle.std.specs.Prelude.{◌≡◌, ◌≤◌, ℕ, List, Option, None, Some, ⊤}
 use Rattle.std.specs.Io.KnownBytes.{Appends}
 use Rattle.typing_spec.specs.Program.{Program}
 use Rattle.csem.specs.Machine.{Ending, Ended, Undefined, TicksUsed}
-use Rattle.csem.specs.Meaning.{Answer, answer}
+use Rattle.csem_events.specs.Events.{Event, Got, GotEnd}
+use Rattle.csem.specs.History.{Entry}
+use Rattle.csem.specs.Meaning.{Answer, answer, cstep, last_of}
 use Rattle.io_ports.specs.declared.port.PortFault.{PortFault}
 use Rattle.io_ports.specs.Port.{PortView, Rises}
 use Rattle.cabs.specs.declared.outcome.Run.{Run}
@@ -27,6 +29,21 @@ RunMeets p input ticks (run.Undefined act at) greatest old new = IsAnswer (answe
 RunMeets p input ticks run.TicksUsed greatest old new = IsAnswer (answer ticks p input) TicksUsed greatest old new
 RunMeets p input ticks (run.Port fault) greatest old new = IsGivenUp p input ticks old new
 RunMeets p input ticks run.Memory greatest old new = IsGivenUp p input ticks old new
+
+-- ---- what an observer was told
+
+-- what was got: a byte, or that the input is at its end
+abbrev pub got_of : Option ℕ → Event
+got_of None = GotEnd
+got_of (Some b) = Got b
+
+-- where the run was not given up, what was told is the history of the definition's run
+abbrev pub IsTold : (List Entry → Type 0) → Program → List ℕ → ℕ → Run → Type 0
+IsTold T p input ticks (run.Ended status) = T (last_of (cstep ticks p input)).history
+IsTold T p input ticks (run.Undefined act at) = T (last_of (cstep ticks p input)).history
+IsTold T p input ticks run.TicksUsed = T (last_of (cstep ticks p input)).history
+IsTold T p input ticks (run.Port fault) = ⊤
+IsTold T p input ticks run.Memory = ⊤
 
 -- the port's count of failures rose where its fault is answered, and nowhere else
 abbrev pub Counts : Run → ℕ → ℕ → Type 0

@@ -5,13 +5,14 @@ ghost use Rattle.srcset.specs.declared.refusal.Pos.{Pos};
 ghost use Rattle.ctypes.specs.Types.{modulo};
 ghost use Rattle.typed_ast.specs.View.{callee_of};
 ghost use Rattle.csem.specs.Expressions as meaning;
+ghost use Rattle.csem.specs.History.{Entry};
 ghost use Rattle.io_ports.specs.Port.{PortView};
 ghost use Rattle.typing_spec.specs.Program as typed;
 ghost use Rattle.interp_store.specs.layer.Frames as on;
 ghost use Rattle.interp_store.specs.layer.Agrees.{frames_of};
 ghost use Rattle.interp_store.specs.layer.Views.{found_of, passed_of, step_of};
 ghost use Rattle.cabs.specs.Interpreting.{Blames, Counts};
-ghost use Rattle.cabs.specs.inside.Standing.{ActMeets, BlamesUntil, CountsUntil, IsLeft, Nears, NearsFrom, Stands, StoppedBy, StoppingBy, Whole};
+ghost use Rattle.cabs.specs.inside.Standing.{ActMeets, BlamesUntil, CountsUntil, IsLeft, Knows, Nears, NearsFrom, Stands, StoppedBy, StoppingBy, Whole};
 
 use crate::observing::Observer;
 use crate::outcome::Run;
@@ -25,12 +26,18 @@ use srcset::Pos;
 use typed_ast::Callee;
 
 /// The run stops: the byte that waits is put first.
-pub fn finish<P: Port>(interpreter: &mut Interpreter<'_>, port: &mut P, stop: Stop) -> Run
-    ensures meets { (p : typed.Program) (whole : Whole) (o : Option (List ℕ)) (sent : List ℕ) →
-        StoppingBy p whole o sent stop interpreter.old (P.seen port.old) → StoppedBy p whole o sent result interpreter.new.tally (P.seen port.new) }
+pub fn finish<P: Port, O: Observer>(
+    interpreter: &mut Interpreter<'_>,
+    port: &mut P,
+    observer: &mut O,
+    stop: Stop,
+) -> Run
+    ensures meets { (b : Bool) (p : typed.Program) (whole : Whole) (o : Option (List ℕ)) (sent : List ℕ) →
+        StoppingBy (Knows b (O.told observer.old)) p whole o sent stop interpreter.old (P.seen port.old) → StoppedBy (Knows b (O.told observer.new)) p whole o sent result interpreter.new.tally (P.seen port.new) }
     ensures counts { Counts result (P.seen port.old).failures (P.seen port.new).failures }
     ensures fault { Blames (P.refused_with port.new) result }
 {
+    observer.stops(&stop);
     match stop {
         Stop::Memory => Run::Memory,
         Stop::Ended(status) => match interpreter.send(port) {
@@ -53,8 +60,8 @@ fn act_found<'p, P: Port, O: Observer>(
     observer: &mut O,
     found: Found,
 ) -> Result<Step<'p>, Run>
-    ensures meets { (p : typed.Program) (whole : Whole) (o : Option (List ℕ)) (sent : List ℕ) →
-        Stands p whole o sent interpreter.old (on.leaves (found_of found)) (P.seen port.old) → ActMeets p whole o sent result interpreter.new (P.seen port.new) }
+    ensures meets { (b : Bool) (p : typed.Program) (whole : Whole) (o : Option (List ℕ)) (sent : List ℕ) →
+        Stands (Knows b (O.told observer.old)) p whole o sent interpreter.old (on.leaves (found_of found)) (P.seen port.old) → ActMeets (Knows b (O.told observer.new)) p whole o sent result interpreter.new (P.seen port.new) }
     ensures nears { Nears (frames_of interpreter.old.machine) (on.leaves (found_of found)) result (frames_of interpreter.new.machine) }
     ensures counts { CountsUntil result (P.seen port.old).failures (P.seen port.new).failures }
     ensures fault { BlamesUntil (P.refused_with port.new) result }
@@ -62,14 +69,14 @@ fn act_found<'p, P: Port, O: Observer>(
     let Some(frame) = interpreter.machine.pop() else {
         return Err(Run::TicksUsed);
     };
-    interpreter.count_end(&frame, &found);
     observer.finds(&frame, &found, &interpreter.machine.scene);
+    interpreter.count_end(observer, &frame, &found);
     match leave(&mut interpreter.machine, frame, found) {
         Ok(step) => {
             observer.has_done(&interpreter.machine.scene);
             Ok(step)
         }
-        Err(stop) => Err(finish(interpreter, port, stop)),
+        Err(stop) => Err(finish(interpreter, port, observer, stop)),
     }
 }
 
@@ -81,8 +88,8 @@ fn get<'p, P: Port, O: Observer>(
     port: &mut P,
     observer: &mut O,
 ) -> Result<Step<'p>, Run>
-    ensures meets { (p : typed.Program) (whole : Whole) (o : Option (List ℕ)) (sent : List ℕ) (at : Pos) (used : Bool) (passed : List meaning.Passed) →
-        Stands p whole o sent interpreter.old (on.calls at typed.get_byte used passed) (P.seen port.old) → ActMeets p whole o sent result interpreter.new (P.seen port.new) }
+    ensures meets { (b : Bool) (p : typed.Program) (whole : Whole) (o : Option (List ℕ)) (sent : List ℕ) (at : Pos) (used : Bool) (passed : List meaning.Passed) →
+        Stands (Knows b (O.told observer.old)) p whole o sent interpreter.old (on.calls at typed.get_byte used passed) (P.seen port.old) → ActMeets (Knows b (O.told observer.new)) p whole o sent result interpreter.new (P.seen port.new) }
     ensures found { IfOk result (λ x. IsLeft x) }
     ensures machine { interpreter.new.machine ≡ interpreter.old.machine }
     ensures counts { CountsUntil result (P.seen port.old).failures (P.seen port.new).failures }
@@ -112,9 +119,9 @@ fn put<'p, O: Observer>(
     observer: &mut O,
     byte: u8,
 ) -> Result<Step<'p>, Run>
-    ensures meets { (p : typed.Program) (whole : Whole) (o : Option (List ℕ)) (sent : List ℕ) (at : Pos) (used : Bool) (passed : List meaning.Passed) (port : PortView) →
+    ensures meets { (b : Bool) (p : typed.Program) (whole : Whole) (o : Option (List ℕ)) (sent : List ℕ) (at : Pos) (used : Bool) (passed : List meaning.Passed) (port : PortView) →
         byte ≡ modulo 8 (meaning.first_number passed) →
-        Stands p whole o sent interpreter.old (on.calls at typed.put_byte used passed) port → ActMeets p whole o sent result interpreter.new port }
+        Stands (Knows b (O.told observer.old)) p whole o sent interpreter.old (on.calls at typed.put_byte used passed) port → ActMeets (Knows b (O.told observer.new)) p whole o sent result interpreter.new port }
     ensures found { IfOk result (λ x. IsLeft x) }
     ensures machine { interpreter.new.machine ≡ interpreter.old.machine }
     ensures memory { IfErr result (λ run. run ≡ Run.Memory) }
@@ -135,7 +142,9 @@ fn tell_call<O: Observer>(
     observer: &mut O,
     callee: Callee,
     passed: &[Passed],
-) {
+)
+    ensures { (h : List Entry) → O.told observer.old h → O.told observer.new h }
+{
     if let Callee::Function(f) = callee {
         observer.enters(f, passed, &interpreter.machine.scene);
     }
@@ -153,14 +162,14 @@ fn act_call<'p, P: Port, O: Observer>(
     used: bool,
     passed: &[Passed],
 ) -> Result<Step<'p>, Run>
-    ensures meets { (p : typed.Program) (whole : Whole) (o : Option (List ℕ)) (sent : List ℕ) →
-        Stands p whole o sent interpreter.old (on.calls at (callee_of callee) used (map passed_of passed.now)) (P.seen port.old) →
-        ActMeets p whole o sent result interpreter.new (P.seen port.new) }
+    ensures meets { (b : Bool) (p : typed.Program) (whole : Whole) (o : Option (List ℕ)) (sent : List ℕ) →
+        Stands (Knows b (O.told observer.old)) p whole o sent interpreter.old (on.calls at (callee_of callee) used (map passed_of passed.now)) (P.seen port.old) →
+        ActMeets (Knows b (O.told observer.new)) p whole o sent result interpreter.new (P.seen port.new) }
     ensures nears { Nears (frames_of interpreter.old.machine) (on.calls at (callee_of callee) used (map passed_of passed.now)) result (frames_of interpreter.new.machine) }
     ensures counts { CountsUntil result (P.seen port.old).failures (P.seen port.new).failures }
     ensures fault { BlamesUntil (P.refused_with port.new) result }
 {
-    match interpreter.count_call(callee) {
+    match interpreter.count_call(observer, callee) {
         Ok(()) => {}
         Err(_) => return Err(Run::Memory),
     }
@@ -171,7 +180,7 @@ fn act_call<'p, P: Port, O: Observer>(
         }
         Ok(Called::Gets) => get(interpreter, port, observer),
         Ok(Called::Puts(byte)) => put(interpreter, observer, byte),
-        Err(stop) => Err(finish(interpreter, port, stop)),
+        Err(stop) => Err(finish(interpreter, port, observer, stop)),
     }
 }
 
@@ -184,8 +193,8 @@ pub fn act<'p, P: Port, O: Observer>(
     observer: &mut O,
     next: Step<'p>,
 ) -> Result<Step<'p>, Run>
-    ensures meets { (p : typed.Program) (whole : Whole) (o : Option (List ℕ)) (sent : List ℕ) →
-        Stands p whole o sent interpreter.old (step_of next.entry) (P.seen port.old) → ActMeets p whole o sent result interpreter.new (P.seen port.new) }
+    ensures meets { (b : Bool) (p : typed.Program) (whole : Whole) (o : Option (List ℕ)) (sent : List ℕ) →
+        Stands (Knows b (O.told observer.old)) p whole o sent interpreter.old (step_of next.entry) (P.seen port.old) → ActMeets (Knows b (O.told observer.new)) p whole o sent result interpreter.new (P.seen port.new) }
     ensures nears { NearsFrom (frames_of interpreter.old.machine) (step_of next.entry) result (frames_of interpreter.new.machine) }
     ensures counts { CountsUntil result (P.seen port.old).failures (P.seen port.new).failures }
     ensures fault { BlamesUntil (P.refused_with port.new) result }

@@ -1,14 +1,24 @@
 //! Who is told of a run while it goes on.
 
+ghost use Rattle.std.specs.Prelude.{◌∷◌, List};
+ghost use Rattle.csem.specs.History.{Did, Entered, Entry, Left};
+ghost use Rattle.csem_events.specs.Events.{Put};
+ghost use Rattle.cabs.specs.Interpreting.{got_of};
+
 use interp_store::frames::{Found, Frame, Node, Passed};
 use interp_store::scene::Scene;
+use interp_store::stop::Stop;
 
-/// Is told what a run does, in the order in which it does it, and changes nothing of it. By default it is told nothing, and costs nothing.
+/// Is told what a run does, in the order in which it does it, and changes nothing of it.
 ///
-/// A call is told by `calls` and `enters`, its end by `finds` with a frame that waits for a call's body.
+/// Calls that begin and end and bytes that are got and put are the run's history (ISO/IEC 9899:2011 5.1.2.3): an observer can say what it
+/// knows of the history that it was told, and `observe` says that this is the history of the abstract machine.
 pub trait Observer {
-    /// Whether it is told of ticks. Where it is not, parts of the program that call nothing are done as a whole, and only calls, bytes and
-    /// what is found outside such parts are told.
+    // That it was told this history, the newest first. By default nothing is known of it.
+    ghost told: { Self → List Entry → Type 0 } = { λ _ _. Unit {0} };
+
+    /// Whether it is told of all ticks. Where it is not, parts of the program that call nothing are done as a whole, and what is done in
+    /// them is not told.
     #[inline(always)]
     fn wants_ticks(&self) -> bool {
         false
@@ -16,31 +26,65 @@ pub trait Observer {
 
     /// A part of the program takes the next tick.
     #[inline(always)]
-    fn begins(&mut self, _node: &Node<'_>, _scene: &Scene) {}
+    fn begins(&mut self, _node: &Node<'_>, _scene: &Scene)
+        ensures { (h : List Entry) → told self.old h → told self.new h }
+    {}
 
     /// What was found goes to the innermost of what waits.
     #[inline(always)]
-    fn finds(&mut self, _frame: &Frame<'_>, _found: &Found, _scene: &Scene) {}
+    fn finds(&mut self, _frame: &Frame<'_>, _found: &Found, _scene: &Scene)
+        ensures { (h : List Entry) → told self.old h → told self.new h }
+    {}
 
-    /// What was told by `finds` is done, and the objects are as they are behind it. It is not told where the run stops there.
+    /// What `finds` told last is done, and the objects are as they are behind it. It is not told where the run stops there.
     #[inline(always)]
-    fn has_done(&mut self, _scene: &Scene) {}
+    fn has_done(&mut self, _scene: &Scene)
+        ensures { (h : List Entry) → told self.old h → told self.new h }
+    {}
 
-    /// A function of the program, by its number, is entered with these arguments; the objects are those of the call.
+    /// The run stops so.
     #[inline(always)]
-    fn enters(&mut self, _function: usize, _passed: &[Passed], _scene: &Scene) {}
+    fn stops(&mut self, _stop: &Stop)
+        ensures { (h : List Entry) → told self.old h → told self.new h }
+    {}
+
+    /// The function of this number was entered with these arguments, and the objects are those of its call.
+    #[inline(always)]
+    fn enters(&mut self, _function: usize, _passed: &[Passed], _scene: &Scene)
+        ensures { (h : List Entry) → told self.old h → told self.new h }
+    {}
+
+    /// A call of the function of this number begins.
+    fn calls(&mut self, function: usize)
+        ensures { (h : List Entry) → told self.old h → told self.new (Entered function ∷ h) };
+
+    /// The innermost call ends.
+    fn ends(&mut self)
+        ensures { (h : List Entry) → told self.old h → told self.new (Left ∷ h) };
 
     /// A byte of the input was got, or its end.
-    #[inline(always)]
-    fn gets(&mut self, _byte: Option<u8>) {}
+    fn gets(&mut self, byte: Option<u8>)
+        ensures { (h : List Entry) → told self.old h → told self.new (Did (got_of byte) ∷ h) };
 
     /// A byte is put. It goes to the port with the next tick.
-    #[inline(always)]
-    fn puts(&mut self, _byte: u8) {}
+    fn puts(&mut self, byte: u8)
+        ensures { (h : List Entry) → told self.old h → told self.new (Did (Put byte) ∷ h) };
 }
 
 /// Is told nothing.
 #[derive(Clone, Copy, Debug, PartialEq, Eq)]
 pub struct Unobserved;
 
-impl Observer for Unobserved {}
+impl Observer for Unobserved {
+    #[inline(always)]
+    fn calls(&mut self, _function: usize) {}
+
+    #[inline(always)]
+    fn ends(&mut self) {}
+
+    #[inline(always)]
+    fn gets(&mut self, _byte: Option<u8>) {}
+
+    #[inline(always)]
+    fn puts(&mut self, _byte: u8) {}
+}

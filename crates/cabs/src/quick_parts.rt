@@ -2,6 +2,7 @@
 
 ghost use Rattle.std.specs.Prelude.{◌≡◌, ◌≢◌, ◌<◌, ◌≤◌, ◌+◌, ℕ, List, Option, None, true};
 ghost use Rattle.std.specs.Bool.{OnTrue};
+ghost use Rattle.csem.specs.History.{Entry};
 ghost use Rattle.typing_spec.specs.Program as typed;
 ghost use Rattle.interp_store.specs.layer.Frames as on;
 ghost use Rattle.interp_store.specs.layer.Views.{node_of};
@@ -48,9 +49,9 @@ pub fn at_once<'p>(
     limit: u64,
 ) -> Result<Step<'p>, Run>
     requires quick { quick_node (node_of node.now) ≡ true }
-    ensures meets { (p : typed.Program) (all : Whole) (o : Option (List ℕ)) (sent : List ℕ) (port : PortView) → spent.old < limit →
-        Stands p (λ n. all (n + spent.old)) o sent interpreter.old (on.enters (node_of node.now)) port → interpreter.old.kept ≡ None →
-        MeetsAt p all o limit result spent.new interpreter.new port }
+    ensures meets { (h : List Entry) (p : typed.Program) (all : Whole) (o : Option (List ℕ)) (sent : List ℕ) (port : PortView) → spent.old < limit →
+        Stands (λ g. g ≡ h) p (λ n. all (n + spent.old)) o sent interpreter.old (on.enters (node_of node.now)) port → interpreter.old.kept ≡ None →
+        MeetsAt (λ g. g ≡ h) p all o limit result spent.new interpreter.new port }
     ensures spends { Spends result spent.old spent.new limit }
     ensures calm { IsCalm result }
 {

@@ -1,14 +1,15 @@
 //! Ticks, and the run.
 
 ghost use Rattle.std.specs.Bool.{OnTrue};
-ghost use Rattle.std.specs.Prelude.{◌≡◌, ◌<◌, [], ℕ, List, Option, Some, true};
+ghost use Rattle.std.specs.Prelude.{◌≡◌, ◌<◌, [], ℕ, Bool, List, Option, Some, true};
 ghost use Rattle.typing_spec.specs.Program as typed;
 ghost use Rattle.typed_ast.specs.View.{program_of};
 ghost use Rattle.interp_store.specs.layer.Frames as on;
 ghost use Rattle.interp_store.specs.layer.Views.{node_of, step_of};
 ghost use Rattle.interp_eval.specs.layer.Quick.{quick_node};
-ghost use Rattle.cabs.specs.Interpreting.{Blames, Counts, RunMeets};
-ghost use Rattle.cabs.specs.inside.Standing.{BlamesUntil, CountsUntil, Fresh, MeetsAt, RunStops, Runs, SettleMeets, Spends, Stands, Whole};
+ghost use Rattle.csem.specs.History.{Entry};
+ghost use Rattle.cabs.specs.Interpreting.{Blames, Counts, IsTold, RunMeets};
+ghost use Rattle.cabs.specs.inside.Standing.{BlamesUntil, CountsUntil, Fresh, Knows, MeetsAt, RunStops, Runs, SettleMeets, Spends, Stands, Whole};
 
 use crate::acting::{act, finish};
 use crate::observing::{Observer, Unobserved};
@@ -33,8 +34,8 @@ fn reach<'p, P: Port>(
     port: &mut P,
     node: Node<'p>,
 ) -> Result<Node<'p>, Run>
-    ensures meets { (p : typed.Program) (whole : Whole) (o : Option (List ℕ)) (sent : List ℕ) →
-        Stands p whole o sent interpreter.old (on.enters (node_of node.entry)) (P.seen port.old) → SettleMeets p whole o sent result interpreter.new (P.seen port.new) }
+    ensures meets { (h : List Entry) (p : typed.Program) (whole : Whole) (o : Option (List ℕ)) (sent : List ℕ) →
+        Stands (λ g. g ≡ h) p whole o sent interpreter.old (on.enters (node_of node.entry)) (P.seen port.old) → SettleMeets (λ g. g ≡ h) p whole o sent result interpreter.new (P.seen port.new) }
     ensures counts { CountsUntil result (P.seen port.old).failures (P.seen port.new).failures }
     ensures fault { BlamesUntil (P.refused_with port.new) result }
 {
@@ -53,8 +54,8 @@ fn settle<'p, P: Port, O: Observer>(
     observer: &mut O,
     first: Step<'p>,
 ) -> Result<Node<'p>, Run>
-    ensures meets { (p : typed.Program) (whole : Whole) (o : Option (List ℕ)) (sent : List ℕ) →
-        Stands p whole o sent interpreter.old (step_of first.entry) (P.seen port.old) → SettleMeets p whole o sent result interpreter.new (P.seen port.new) }
+    ensures meets { (b : Bool) (p : typed.Program) (whole : Whole) (o : Option (List ℕ)) (sent : List ℕ) →
+        Stands (Knows b (O.told observer.old)) p whole o sent interpreter.old (step_of first.entry) (P.seen port.old) → SettleMeets (Knows b (O.told observer.new)) p whole o sent result interpreter.new (P.seen port.new) }
     ensures counts { CountsUntil result (P.seen port.old).failures (P.seen port.new).failures }
     ensures fault { BlamesUntil (P.refused_with port.new) result }
 {
@@ -90,8 +91,8 @@ fn tick<'p, P: Port, O: Observer>(
     limit: u64,
 ) -> Result<Step<'p>, Run>
     requires room { spent.old < limit }
-    ensures meets { (p : typed.Program) (all : Whole) (o : Option (List ℕ)) →
-        Runs p all o spent.old interpreter.old (step_of next.entry) (P.seen port.old) → MeetsAt p all o limit result spent.new interpreter.new (P.seen port.new) }
+    ensures meets { (b : Bool) (p : typed.Program) (all : Whole) (o : Option (List ℕ)) →
+        Runs (Knows b (O.told observer.old)) p all o spent.old interpreter.old (step_of next.entry) (P.seen port.old) → MeetsAt (Knows b (O.told observer.new)) p all o limit result spent.new interpreter.new (P.seen port.new) }
     ensures spends { Spends result spent.old spent.new limit }
     ensures counts { CountsUntil result (P.seen port.old).failures (P.seen port.new).failures }
     ensures fault { BlamesUntil (P.refused_with port.new) result }
@@ -108,7 +109,7 @@ fn tick<'p, P: Port, O: Observer>(
     observer.begins(&node, &interpreter.machine.scene);
     match enter(&mut interpreter.machine, node) {
         Ok(then) => Ok(then),
-        Err(stop) => Err(finish(interpreter, port, stop)),
+        Err(stop) => Err(finish(interpreter, port, observer, stop)),
     }
 }
 
@@ -120,8 +121,8 @@ fn run_on<'p, P: Port, O: Observer>(
     first: Step<'p>,
     ticks: u64,
 ) -> Run
-    ensures meets { (p : typed.Program) (all : Whole) (o : Option (List ℕ)) →
-        Runs p all o 0 interpreter.old (step_of first.entry) (P.seen port.old) → RunStops p all o ticks result interpreter.new.tally (P.seen port.new) }
+    ensures meets { (b : Bool) (p : typed.Program) (all : Whole) (o : Option (List ℕ)) →
+        Runs (Knows b (O.told observer.old)) p all o 0 interpreter.old (step_of first.entry) (P.seen port.old) → RunStops (Knows b (O.told observer.new)) p all o ticks result interpreter.new.tally (P.seen port.new) }
     ensures counts { Counts result (P.seen port.old).failures (P.seen port.new).failures }
     ensures fault { Blames (P.refused_with port.new) result }
 {
@@ -148,13 +149,13 @@ fn start<P: Port, O: Observer>(
     observer: &mut O,
     ticks: u64,
 ) -> Run
-    ensures meets { (input : List ℕ) → (P.seen port.old).input ≡ Some input →
-        Fresh interpreter.old → RunMeets (program_of interpreter.old.machine.program.now) input ticks result interpreter.new.tally.greatest (P.seen port.old) (P.seen port.new) }
+    ensures meets { (b : Bool) (input : List ℕ) → (P.seen port.old).input ≡ Some input → Fresh interpreter.old → Knows b (O.told observer.old) [] → let p = program_of interpreter.old.machine.program.now in
+        RunMeets p input ticks result interpreter.new.tally.greatest (P.seen port.old) (P.seen port.new) × OnTrue b (IsTold (O.told observer.new) p input ticks result) }
     ensures counts { Counts result (P.seen port.old).failures (P.seen port.new).failures }
     ensures fault { Blames (P.refused_with port.new) result }
 {
     let main = interpreter.machine.program.main;
-    match interpreter.count_call(Callee::Function(main)) {
+    match interpreter.count_call(observer, Callee::Function(main)) {
         Ok(()) => {}
         Err(_) => return Run::Memory,
     }
@@ -163,7 +164,7 @@ fn start<P: Port, O: Observer>(
             observer.enters(main, &[], &interpreter.machine.scene);
             run_on(interpreter, port, observer, first, ticks)
         }
-        Err(stop) => finish(interpreter, port, stop),
+        Err(stop) => finish(interpreter, port, observer, stop),
     }
 }
 
@@ -184,6 +185,8 @@ pub fn interpret<P: Port>(alloc: Global, program: &Program, port: &mut P, ticks:
 }
 
 /// What `interpret` answers, and while the program runs the observer is told what it does.
+///
+/// An observer that was told nothing is told the history of the abstract machine, unless the run is given up.
 pub fn observe<P: Port, O: Observer>(
     alloc: Global,
     program: &Program,
@@ -193,6 +196,7 @@ pub fn observe<P: Port, O: Observer>(
 ) -> Interpreted
     ensures meets { (input : List ℕ) → (P.seen port.old).input ≡ Some input →
         RunMeets (program_of program.now) input ticks result.run result.greatest (P.seen port.old) (P.seen port.new) }
+    ensures told { (input : List ℕ) → (P.seen port.old).input ≡ Some input → O.told observer.old [] → IsTold (O.told observer.new) (program_of program.now) input ticks result.run }
     ensures counts { Counts result.run (P.seen port.old).failures (P.seen port.new).failures }
     ensures fault { Blames (P.refused_with port.new) result.run }
 {

@@ -4,7 +4,7 @@ ghost use Rattle.std.specs.Prelude.{◌≡◌, ◌∷◌, [], Some, None, Ok, Li
 ghost use Rattle.std.specs.Io.KnownBytes.{Appends, Keeps};
 ghost use Rattle.typing_spec.specs.Program as typed;
 ghost use Rattle.typed_ast.specs.View.{callee_of, program_of};
-ghost use Rattle.csem.specs.History.{Entry};
+ghost use Rattle.csem.specs.History.{Entered, Entry, weight_in};
 ghost use Rattle.csem.specs.Store.{first_store};
 ghost use Rattle.interp_store.specs.declared.stop.Stop.TheVariants.{Memory};
 ghost use Rattle.interp_store.specs.layer.Agrees.{Outside, frames_of, state_in};
@@ -14,6 +14,7 @@ ghost use Rattle.io_ports.specs.Port.{Rises};
 ghost use Rattle.cabs.specs.inside.Standing.{history_called, history_left, is_flow, is_return, waiting};
 
 use crate::first_objects::first_store;
+use crate::observing::Observer;
 use interp_store::frames::{FlowFrame, Found, Frame};
 use interp_store::machine::Machine;
 use interp_store::scene::Scene;
@@ -92,27 +93,31 @@ impl<'p> Interpreter<'p> {
 
     /// A call ends, where this frame is one that gets what it waited for.
     #[inline(always)]
-    pub fn count_end(&mut self, frame: &Frame<'p>, found: &Found)
+    pub fn count_end<O: Observer>(&mut self, observer: &mut O, frame: &Frame<'p>, found: &Found)
         ensures tells { (p : typed.Program) (h : List Entry) → Tells p h self.old.tally → Tells p (history_left (frame_of frame.now) (found_of found.now) h) self.new.tally }
+        ensures told { (h : List Entry) → O.told observer.old h → O.told observer.new (history_left (frame_of frame.now) (found_of found.now) h) }
         ensures machine { self.new.machine ≡ self.old.machine }
         ensures kept { self.new.kept ≡ self.old.kept }
     {
         if is_flow(found) && is_return(frame) {
             self.tally.end();
+            observer.ends();
         }
     }
 
     /// A call of a function that has a definition begins.
     ///
     /// Errors: memory ran out.
-    pub fn count_call(&mut self, callee: Callee) -> Result<(), Stop>
+    pub fn count_call<O: Observer>(&mut self, observer: &mut O, callee: Callee) -> Result<(), Stop>
         ensures tells { (h : List Entry) → let p = program_of self.old.machine.program.now in
             Tells p h self.old.tally → OnOk result (Tells p (history_called p (callee_of callee) h) self.new.tally) }
+        ensures told { (h : List Entry) → let p = program_of self.old.machine.program.now in
+            O.told observer.old h → OnOk result (O.told observer.new (history_called p (callee_of callee) h)) }
         ensures machine { self.new.machine ≡ self.old.machine }
         ensures kept { self.new.kept ≡ self.old.kept }
     {
         match callee {
-            Callee::Function(f) => self.count_function(f),
+            Callee::Function(f) => self.count_function(observer, f),
             Callee::GetByte => Ok(()),
             Callee::PutByte => Ok(()),
             Callee::Exit => Ok(()),
@@ -123,16 +128,41 @@ impl<'p> Interpreter<'p> {
     /// A call of function `f` begins, where it has a definition.
     ///
     /// Errors: memory ran out.
-    fn count_function(&mut self, f: usize) -> Result<(), Stop>
+    fn count_function<O: Observer>(&mut self, observer: &mut O, f: usize) -> Result<(), Stop>
         ensures tells { (h : List Entry) → let p = program_of self.old.machine.program.now in
             Tells p h self.old.tally → OnOk result (Tells p (history_called p (typed.function f) h) self.new.tally) }
+        ensures told { (h : List Entry) → let p = program_of self.old.machine.program.now in
+            O.told observer.old h → OnOk result (O.told observer.new (history_called p (typed.function f) h)) }
         ensures machine { self.new.machine ≡ self.old.machine }
         ensures kept { self.new.kept ≡ self.old.kept }
     {
         let program = self.machine.program;
         match program.functions.get(f) {
             None => Ok(()),
-            Some(g) => self.tally.begin(g.weight),
+            Some(g) => self.begin_call(observer, f, g.weight),
+        }
+    }
+
+    /// A call of function `f`, which has this weight, begins.
+    ///
+    /// Errors: memory ran out.
+    fn begin_call<O: Observer>(
+        &mut self,
+        observer: &mut O,
+        f: usize,
+        weight: u64,
+    ) -> Result<(), Stop>
+        ensures tells { (p : typed.Program) (h : List Entry) → weight_in p f ≡ weight → Tells p h self.old.tally → OnOk result (Tells p (Entered f ∷ h) self.new.tally) }
+        ensures told { (h : List Entry) → O.told observer.old h → OnOk result (O.told observer.new (Entered f ∷ h)) }
+        ensures machine { self.new.machine ≡ self.old.machine }
+        ensures kept { self.new.kept ≡ self.old.kept }
+    {
+        match self.tally.begin(weight) {
+            Ok(()) => {
+                observer.calls(f);
+                Ok(())
+            }
+            Err(stop) => Err(stop),
         }
     }
 }

@@ -76,9 +76,26 @@ fn build(alloc: Global, program: &Program, names: &Names, stack: StackSize) -> R
     ensures made { IfOk result (λ built. MakesProgram stack names.now (program_of program.now) built) }
     ensures stops { IfErr result IsMemory }
 {
+    match compile_checked(alloc, program, names, stack) {
+        Ok(built) => Ok(built),
+        Err(_) => Err(Stop::Memory),
+    }
+}
+
+/// The executable file of a program that `checked_program` answered with these names, for a stack of this size. The
+/// error is that memory ran out.
+pub fn compile_checked(
+    alloc: Global,
+    program: &Program,
+    names: &Names,
+    stack: StackSize,
+) -> Result<Built, AllocError>
+    requires { IsReady (program_of program.now) }
+    ensures made { IfOk result (λ built. MakesProgram stack names.now (program_of program.now) built) }
+{
     let generated = match generate(alloc, program, stack) {
         Ok(generated) => generated,
-        Err(_) => return Err(Stop::Memory),
+        Err(_) => return Err(AllocError),
     };
     let mut frames = Vec::new(alloc);
     match put_entries(
@@ -92,7 +109,7 @@ fn build(alloc: Global, program: &Program, names: &Names, stack: StackSize) -> R
             elf: generated.elf,
             frames,
         }),
-        Err(_) => Err(Stop::Memory),
+        Err(_) => Err(AllocError),
     }
 }
 

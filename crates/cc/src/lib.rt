@@ -14,7 +14,7 @@ mod writing;
 
 pub use cabs::{Observer, Unobserved};
 pub use cc_backend::{CodeMap, CodeRow, DataObject, FunctionCode, Reference};
-pub use compiling::{Built, compile, compile_with};
+pub use compiling::{Built, compile, compile_checked, compile_with};
 pub use elf_out::StackSize;
 pub use mapping::{checked_program, map_of};
 pub use performing::{Cmd, interpret_observed, perform};

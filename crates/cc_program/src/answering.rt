@@ -100,7 +100,7 @@ pub fn answer(rt: &HostRuntime, request: &Request<'_>) -> u8 {
                 telling,
             },
         ),
-        Command::Verify(telling) => verify_program(rt, program, telling),
+        Command::Verify { telling, out } => verify_program(rt, program, telling, out),
         Command::Frames { has_sizes } => show_frames(rt, program, has_sizes),
         Command::Symbols(out) => write_symbols(rt, program, out),
         Command::Image(form) => show_image(rt, program.main, form),

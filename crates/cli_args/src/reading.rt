@@ -52,7 +52,10 @@ pub fn read<'a>(alloc: Global, matches: &ArgMatches<'a>) -> Result<Reading<'a>, 
         "explain" => Ok(explain(inner)),
         "show" => Ok(show(inner)),
         "check" => Ok(check(inner)),
-        "verify" => Ok(Command::Verify(telling(inner))),
+        "verify" => Ok(Command::Verify {
+            telling: telling(inner),
+            out: inner.get_str("OUT"),
+        }),
         "frames" => Ok(Command::Frames {
             has_sizes: inner.get_flag("sizes"),
         }),

@@ -167,8 +167,11 @@ pub enum Command<'a> {
         are_errors: bool,
         telling: Telling,
     },
-    /// Tell whether anything undefined is done, on any input.
-    Verify(Telling),
+    /// Tell whether anything undefined is done, on any input; where nothing is, and the stack suffices, compile to the file at a path.
+    Verify {
+        telling: Telling,
+        out: Option<&'a str>,
+    },
     /// Print what each function takes, with addresses and sizes or without.
     Frames {
         has_sizes: bool,

@@ -74,6 +74,18 @@ pub const FORM_JSON: Row = Row {
     apart: &[],
 };
 
+/// The executable file of a program that is verified.
+pub const VERIFIED_OUT: Row = Row {
+    id: "OUT",
+    short: Some('o'),
+    long: None,
+    value: None,
+    kind: Kind::Text,
+    default: None,
+    help: "Builds the program that was verified, where it is defined and its stack suffices",
+    apart: &[],
+};
+
 /// How many bytes the stack has.
 pub const STACK: Row = Row {
     id: "stack",

@@ -11,6 +11,7 @@ pub use line::Line;
 pub use out_file::OutFile;
 pub use overwriting::{is_same, leads_to};
 pub use saying::{
-    TAKEN, put_file, put_out, say, say_memory, say_port, say_unwritten, say_usage, tell, unread,
+    TAKEN, put_executable, put_file, put_out, say, say_memory, say_port, say_unwritten, say_usage,
+    tell, unread,
 };
 pub use watching::Watching;

@@ -65,6 +65,13 @@ pub fn put_file(rt: &HostRuntime, path: &str, bytes: &[u8]) -> u8 {
     if is_whole { 0 } else { say_unwritten(rt, path) }
 }
 
+/// Writes an executable file at a path, or to standard output where that is `-`; answers the exit status.
+pub fn put_executable(rt: &HostRuntime, path: &str, bytes: &[u8]) -> u8 {
+    let mut file = OutFile::executable(rt, path);
+    let is_whole = write_text(&mut file, bytes) && file.flush().is_ok();
+    if is_whole { 0 } else { say_unwritten(rt, path) }
+}
+
 /// Says that a file, or standard output where the path is `-` or empty, cannot be written; answers the exit status.
 pub fn say_unwritten(rt: &HostRuntime, path: &str) -> u8 {
     let shown = if path == "-" { "" } else { path };

@@ -7,14 +7,13 @@ use cli_io::{OutFile, TAKEN, say, say_memory, say_port, say_unwritten, say_usage
 use cli_sources::{Sources, is_taken, read_sources, stack_size};
 use io_ports::{IoPort, Port};
 use loader::{LoadFault, Loaded, load};
-use rv32::State;
-use sim::Outcome;
+use sim::{Machine, Outcome};
 use srcset::Fault;
 use std::alloc::{AllocError, Global};
 use std::io::{BufReader, BufWriter, Stdin, Stdout, Write};
 use std::{fs, io};
 use symbol_table::{SymbolTable, symbol_table};
-use traced_run::{TraceEnd, hart, machine_text, place_text, run_for, traced_run};
+use traced_run::{TraceEnd, machine_text, place_text, traced_run};
 
 /// How a run is told.
 #[derive(Clone, Copy)]
@@ -126,12 +125,12 @@ fn run_over_streams(
     let Ok(mut port) = streams(rt) else {
         return say_memory(rt);
     };
-    let mut state = hart(loaded);
-    let end = run_as_asked(rt, &mut state, &mut port, form, map);
+    let mut machine = Machine::new(loaded);
+    let end = run_as_asked(rt, &mut machine, &mut port, form, map);
     if let Err(fault) = port.finish() {
         return say_port(rt, fault);
     }
-    if form.at.is_some() && !show_machine(rt, &state, map) {
+    if form.at.is_some() && !show_machine(rt, machine.state(), map) {
         return say_memory(rt);
     }
     match end {
@@ -173,24 +172,23 @@ fn show_machine(rt: &HostRuntime, state: &State, map: Option<&SymbolTable>) -> b
 /// A run of so many instructions as the words allow, with its trace where they ask for one.
 fn run_as_asked<P: Port>(
     rt: &HostRuntime,
-    state: &mut State,
+    machine: &mut Machine,
     port: &mut P,
     form: RunForm<'_>,
     map: Option<&SymbolTable>,
 ) -> End {
     match form.trace {
         Trace::File(path) => match BufWriter::new(rt.alloc(), OutFile::plain(rt, path)) {
-            Ok(mut out) => run_to(rt.alloc(), state, port, form.max, map, &mut out),
+            Ok(mut out) => run_to(rt.alloc(), machine, port, form.max, map, &mut out),
             Err(_) => End::Memory,
         },
         Trace::Shown => match BufWriter::new(rt.alloc(), rt.stderr()) {
-            Ok(mut out) => run_to(rt.alloc(), state, port, form.max, map, &mut out),
+            Ok(mut out) => run_to(rt.alloc(), machine, port, form.max, map, &mut out),
             Err(_) => End::Memory,
         },
         Trace::None => {
             let count = form.at.unwrap_or(form.max);
-            let stopped = run_for(state, port, count);
-            End::Told(TraceEnd::Stopped(stopped.unwrap_or(Outcome::Budget)))
+            End::Told(TraceEnd::Stopped(machine.run(port, count)))
         }
     }
 }
@@ -198,13 +196,13 @@ fn run_as_asked<P: Port>(
 /// A run with its trace to a writer, whose last lines are handed on.
 fn run_to<P: Port, W: Write>(
     alloc: Global,
-    state: &mut State,
+    machine: &mut Machine,
     port: &mut P,
     max: u64,
     map: Option<&SymbolTable>,
     out: &mut W,
 ) -> End {
-    match traced_run(alloc, state, port, max, map, out) {
+    match traced_run(alloc, machine, port, max, map, out) {
         Ok(end) => {
             if out.flush().is_ok() {
                 End::Told(end)

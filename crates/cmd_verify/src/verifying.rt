@@ -1,25 +1,45 @@
-//! A program that is verified.
+//! A program that is verified, and built where it is shown.
 
+use cc::StackSize;
 use cli_args::{Program, Telling};
-use cli_io::{put_out, say_memory};
-use cli_sources::{Sources, read_sources, stack_size};
+use cli_io::{TAKEN, put_executable, put_out, say, say_memory, say_usage};
+use cli_sources::{Sources, is_taken, read_sources, stack_size};
 use cmd_check::{plain_version, put_refused, put_unread, report_form};
 use srcset::Fault;
 use std::alloc::{AllocError, Global};
-use verify_report::{Asked, Said, verify_sources};
+use verify_build::verified_build;
+use verify_report::{Asked, Said, TURNS, verify_sources};
 
 /// The exit status of a program of which it could not be shown that it is defined and that its stack suffices.
 const NOT_SHOWN: u8 = 3;
 
-/// Tells whether a program does anything undefined, on any input, and how much of its stack it takes; answers the exit status: 0 where it is defined and the stack suffices,
-/// 3 where that was not shown, 1 where the program is refused.
-pub fn verify_program(rt: &HostRuntime, program: &Program<'_>, telling: Telling) -> u8 {
+/// Standard output has the verdict already.
+const NO_STREAM: &str = "the verdict goes to standard output: -o OUT wants a path";
+
+/// Tells whether a program does anything undefined, on any input, and how much of its stack it takes, and where it is defined and its stack suffices writes its executable
+/// file at the path `out`; answers the exit status: 0 where it is defined and the stack suffices, 3 where that was not shown, 1 where the program is refused.
+pub fn verify_program(
+    rt: &HostRuntime,
+    program: &Program<'_>,
+    telling: Telling,
+    out: Option<&str>,
+) -> u8 {
+    let path = out.unwrap_or_default();
+    if path == "-" {
+        return say_usage(rt, NO_STREAM);
+    }
+    if is_taken(rt, program, path) {
+        return say_usage(rt, TAKEN);
+    }
     let sources = match read_sources(rt, program) {
         Ok(sources) => sources,
         Err(fault) => return put_unread(rt, fault, telling),
     };
+    if sources.are_at(rt, path) {
+        return say_usage(rt, TAKEN);
+    }
     match said(rt.alloc(), program, &sources, telling) {
-        Ok(Ok(said)) => put_said(rt, &said),
+        Ok(Ok(said)) => put_verdict(rt, program, &sources, &said, out),
         Ok(Err(fault)) => put_refused(rt, program, &sources, fault, telling),
         Err(_) => say_memory(rt),
     }
@@ -44,7 +64,27 @@ fn said(
     Ok(verify_sources(alloc, &sources.set, &asked))
 }
 
-fn put_said(rt: &HostRuntime, said: &Said) -> u8 {
+/// Writes the verdict, and the executable file of a program that is shown.
+fn put_verdict(
+    rt: &HostRuntime,
+    program: &Program<'_>,
+    sources: &Sources<'_>,
+    said: &Said,
+    out: Option<&str>,
+) -> u8 {
     let status = if said.is_shown { 0 } else { NOT_SHOWN };
-    put_out(rt, said.out.as_bytes(), status)
+    let status = put_out(rt, said.out.as_bytes(), status);
+    match out {
+        Some(path) if status == 0 => put_verified(rt, sources, path, stack_size(program)),
+        _ => status,
+    }
+}
+
+/// Verifies and builds the program, and writes its executable file.
+fn put_verified(rt: &HostRuntime, sources: &Sources<'_>, path: &str, stack: StackSize) -> u8 {
+    match verified_build(rt.alloc(), &sources.set, sources.main, stack, TURNS) {
+        Ok(Some(verified)) => put_executable(rt, path, verified.built.elf.as_slice()),
+        Ok(None) => NOT_SHOWN,
+        Err(fault) => say(rt, &fault),
+    }
 }

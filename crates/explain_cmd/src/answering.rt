@@ -6,7 +6,7 @@ use crate::knowing::put_known;
 use crate::version::VERSION;
 use cc::StackSize;
 use explain::{Explained, Interpretation, Run, Stage, explain, interpreted};
-use explain_findings::{Finding, Shown, Undefined};
+use explain_findings::{Finding, Shown, Undefined, wants_memory};
 use explain_render::{
     Style, put_finding, put_json, put_json_undefined, put_sarif_end, put_sarif_result,
     put_sarif_start, put_sarif_undefined, put_source, put_undefined,
@@ -253,7 +253,7 @@ pub fn explain_run(
             let act = act_known(alloc, set, main, run, act)?;
             told_act(alloc, form, &act)?
         }
-        None => told_nothing(alloc, form)?,
+        None => told_nothing(alloc, form, line.as_slice())?,
     };
     let err = if is_undefined { Vec::new(alloc) } else { line };
     if matches!(form, Form::Text(_)) {
@@ -271,10 +271,11 @@ pub fn explain_run(
     })
 }
 
-/// What is told in a form of a run without undefined behaviour: nothing, which as SARIF is a log without results.
-fn told_nothing(alloc: Global, form: Form) -> Result<String, AllocError> {
+/// What is told in a form of a run without undefined behaviour that ended with this line: nothing, which as SARIF is a log without results. A
+/// run that ended for want of memory has no log, since nothing was found out of it.
+fn told_nothing(alloc: Global, form: Form, line: &[u8]) -> Result<String, AllocError> {
     let mut told = String::new(alloc);
-    if form == Form::Sarif {
+    if form == Form::Sarif && !wants_memory(line) {
         put_log(alloc, None, &mut told)?;
     }
     Ok(told)

@@ -3,9 +3,7 @@
 
 mod instruction;
 mod shown;
-mod stepping;
 mod tracing;
 
 pub use shown::{machine_text, place_text};
-pub use stepping::{hart, run_for};
 pub use tracing::{TraceEnd, traced_run};

@@ -2,11 +2,10 @@
 
 use crate::instruction::instruction_line;
 use crate::shown::place_text;
-use crate::stepping::tick;
 use io_ports::Port;
 use rv32::state::State;
 use rv32::{Instr, decode};
-use sim::Outcome;
+use sim::{Machine, Outcome};
 use srcset::write_text;
 use std::alloc::{AllocError, Global};
 use std::io::Write;
@@ -27,7 +26,7 @@ pub enum TraceEnd {
 /// loaded from or stored to; with a map a line `NAME+OFFSET:` wherever another function goes on.
 pub fn traced_run<P: Port, W: Write>(
     alloc: Global,
-    state: &mut State,
+    machine: &mut Machine,
     port: &mut P,
     max: u64,
     map: Option<&SymbolTable>,
@@ -37,19 +36,19 @@ pub fn traced_run<P: Port, W: Write>(
     for _ in 0..max {
         let mut line = Vec::new(alloc);
         if let Some(map) = map {
-            start = put_function(alloc, map, state.pc, start, &mut line)?;
+            start = put_function(alloc, map, machine.state().pc, start, &mut line)?;
         }
-        let text = instruction_text(alloc, state)?;
-        let touched = touched(state);
-        let before = state.registers;
-        let stopped = tick(state, port);
-        let effects = effects(alloc, touched, &before, &state.registers)?;
+        let text = instruction_text(alloc, machine.state())?;
+        let touched = touched(machine.state());
+        let before = machine.state().registers;
+        let outcome = machine.run(port, 1);
+        let effects = effects(alloc, touched, &before, &machine.state().registers)?;
         put_columns(text.as_slice(), effects.as_slice(), &mut line)?;
         line.push(b'\n')?;
         if !write_text(out, line.as_slice()) {
             return Ok(TraceEnd::Unwritten);
         }
-        if let Some(outcome) = stopped {
+        if outcome != Outcome::Budget {
             return Ok(TraceEnd::Stopped(outcome));
         }
     }

@@ -14,7 +14,7 @@ use verify::{Verdict, verify};
 use verify_expressions::Alarm;
 
 /// How many bodies are analysed at most.
-const TURNS: u32 = 20_000;
+pub const TURNS: u32 = 20_000;
 
 /// What is asked of a program.
 #[derive(Clone, Copy)]

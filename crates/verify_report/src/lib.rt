@@ -6,5 +6,5 @@ mod placing;
 mod stack;
 mod telling;
 
-pub use answering::{Asked, Said, verify_sources};
+pub use answering::{Asked, Said, TURNS, verify_sources};
 pub use lint_report::Form;

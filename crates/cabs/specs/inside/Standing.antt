@@ -1,5 +1,6 @@
 -- Where a run stands between two steps, and how it stops, over a port that tells its input.
 use Rattle.std.specs.Prelude.{◌≡◌, ◌≤◌, ◌<◌, ◌⊎◌, ℕ, ◌+◌, ◌*◌, List, [], ◌∷◌, ◌++◌, length, Bool, true, false, Option, Some, None, Result, Ok, Err, ⊤, slice_get}
+use Rattle.std.specs.Bool.{OnTrue}
 use Rattle.std.specs.Io.KnownBytes.{Appends}
 use Rattle.csem_events.specs.Events.{written}
 use Rattle.typing_spec.specs.Program as typed
@@ -63,6 +64,12 @@ history_called p typed.put_byte h = h
 history_called p typed.exit h = h
 history_called p (typed.missing name) h = h
 
+-- ---- what an observer was told
+
+-- what is told, where that is asked
+abbrev pub Knows : Bool → (List Entry → Type 0) → List Entry → Type 0
+Knows b T h = OnTrue b (T h)
+
 -- ---- how far it is to the next node
 
 abbrev pub distance : List on.Frame → on.Step → ℕ
@@ -91,7 +98,7 @@ bytes_of h = written (trace_of h)
 
 -- the run `whole`, a function of the ticks that are left, is at this machine and this step; the output was o, and these bytes
 -- were sent since
-pub record Stands (p : typed.Program) (whole : Whole) (o : Option (List ℕ)) (sent : List ℕ) (m : Interpreter) (x : on.Step) (port : PortView) : Type 0 where
+pub record Stands (T : List Entry → Type 0) (p : typed.Program) (whole : Whole) (o : Option (List ℕ)) (sent : List ℕ) (m : Interpreter) (x : on.Step) (port : PortView) : Type 0 where
   pub input : List ℕ
   pub history : List Entry
   pub program_is : program_of m.machine.program.now ≡ p
@@ -100,6 +107,7 @@ pub record Stands (p : typed.Program) (whole : Whole) (o : Option (List ℕ)) (s
   pub output_is : Appends o port.output sent
   pub bytes_are : bytes_of history ≡ sent ++ waiting m.kept
   pub tells : Tells p history m.tally
+  pub told : T history
 
 -- it stops with this input left and this history
 pub record StopsAs (whole : machine.Run on.Found) (e : Ending) (input : List ℕ) (h : List Entry) : Type 0 where
@@ -113,7 +121,7 @@ abbrev pub StopsAt : Whole → Ending → List ℕ → List Entry → Type 0
 StopsAt whole e input h = (n : ℕ) → StopsAs (whole n) e input h
 
 -- before a byte that waits is sent
-pub record Stopping (p : typed.Program) (whole : Whole) (o : Option (List ℕ)) (sent : List ℕ) (e : Ending) (m : Interpreter) (port : PortView) : Type 0 where
+pub record Stopping (T : List Entry → Type 0) (p : typed.Program) (whole : Whole) (o : Option (List ℕ)) (sent : List ℕ) (e : Ending) (m : Interpreter) (port : PortView) : Type 0 where
   pub input : List ℕ
   pub history : List Entry
   pub stops : StopsAt whole e input history
@@ -121,32 +129,34 @@ pub record Stopping (p : typed.Program) (whole : Whole) (o : Option (List ℕ)) 
   pub output_is : Appends o port.output sent
   pub bytes_are : bytes_of history ≡ sent ++ waiting m.kept
   pub tells : Tells p history m.tally
+  pub told : T history
 
-abbrev pub StoppingBy : typed.Program → Whole → Option (List ℕ) → List ℕ → Stop → Interpreter → PortView → Type 0
-StoppingBy p whole o sent (stop.Ended status) m port = Stopping p whole o sent (machine.Ended status) m port
-StoppingBy p whole o sent (stop.Undefined act at) m port = Stopping p whole o sent (machine.Undefined act at) m port
-StoppingBy p whole o sent stop.Memory m port = Appends o port.output sent
+abbrev pub StoppingBy : (List Entry → Type 0) → typed.Program → Whole → Option (List ℕ) → List ℕ → Stop → Interpreter → PortView → Type 0
+StoppingBy T p whole o sent (stop.Ended status) m port = Stopping T p whole o sent (machine.Ended status) m port
+StoppingBy T p whole o sent (stop.Undefined act at) m port = Stopping T p whole o sent (machine.Undefined act at) m port
+StoppingBy T p whole o sent stop.Memory m port = Appends o port.output sent
 
 -- and behind it
-pub record Stopped (p : typed.Program) (whole : Whole) (o : Option (List ℕ)) (e : Ending) (tally : Tally) (port : PortView) : Type 0 where
+pub record Stopped (T : List Entry → Type 0) (p : typed.Program) (whole : Whole) (o : Option (List ℕ)) (e : Ending) (tally : Tally) (port : PortView) : Type 0 where
   pub input : List ℕ
   pub history : List Entry
   pub stops : StopsAt whole e input history
   pub input_is : port.input ≡ Some input
   pub output_is : Appends o port.output (bytes_of history)
   pub tells : Tells p history tally
+  pub told : T history
 
 -- a run that no definition gives: nothing waits, and something is found
 abbrev pub Rests : Whole → Type 0
 Rests whole = (n : ℕ) → (x : on.Found) × ((s : State) × (whole n ≡ Goes x s))
 
 -- how a run stops between two ticks, where these bytes were sent before
-abbrev pub StoppedBy : typed.Program → Whole → Option (List ℕ) → List ℕ → Run → Tally → PortView → Type 0
-StoppedBy p whole o sent (run.Ended status) tally port = Stopped p whole o (machine.Ended status) tally port
-StoppedBy p whole o sent (run.Undefined act at) tally port = Stopped p whole o (machine.Undefined act at) tally port
-StoppedBy p whole o sent run.TicksUsed tally port = Rests whole
-StoppedBy p whole o sent (run.Port fault) tally port = Appends o port.output sent
-StoppedBy p whole o sent run.Memory tally port = Appends o port.output sent
+abbrev pub StoppedBy : (List Entry → Type 0) → typed.Program → Whole → Option (List ℕ) → List ℕ → Run → Tally → PortView → Type 0
+StoppedBy T p whole o sent (run.Ended status) tally port = Stopped T p whole o (machine.Ended status) tally port
+StoppedBy T p whole o sent (run.Undefined act at) tally port = Stopped T p whole o (machine.Undefined act at) tally port
+StoppedBy T p whole o sent run.TicksUsed tally port = Rests whole
+StoppedBy T p whole o sent (run.Port fault) tally port = Appends o port.output sent
+StoppedBy T p whole o sent run.Memory tally port = Appends o port.output sent
 
 abbrev pub IsLeft : Step → Type 0
 IsLeft (step.Enters n) = ⊥
@@ -164,9 +174,9 @@ NearsFrom fs (on.leaves x) r gs = Nears fs (on.leaves x) r gs
 NearsFrom fs (on.calls at callee used passed) r gs = Nears fs (on.calls at callee used passed) r gs
 
 -- what one step came to
-abbrev pub ActMeets : typed.Program → Whole → Option (List ℕ) → List ℕ → Result Step Run → Interpreter → PortView → Type 0
-ActMeets p whole o sent (Ok x) m port = Stands p whole o sent m (step_of x) port
-ActMeets p whole o sent (Err r) m port = StoppedBy p whole o sent r m.tally port
+abbrev pub ActMeets : (List Entry → Type 0) → typed.Program → Whole → Option (List ℕ) → List ℕ → Result Step Run → Interpreter → PortView → Type 0
+ActMeets T p whole o sent (Ok x) m port = Stands T p whole o sent m (step_of x) port
+ActMeets T p whole o sent (Err r) m port = StoppedBy T p whole o sent r m.tally port
 
 -- ---- the count of failures, and the fault
 
@@ -181,29 +191,29 @@ BlamesUntil P (Err r) = Blames P r
 -- ---- nodes and ticks
 
 -- a node takes the next tick, and no byte waits
-abbrev pub SettleMeets : typed.Program → Whole → Option (List ℕ) → List ℕ → Result Node Run → Interpreter → PortView → Type 0
-SettleMeets p whole o sent (Ok n) m port = (now : List ℕ) × (Stands p whole o now m (on.enters (node_of n)) port × (m.kept ≡ None))
-SettleMeets p whole o sent (Err r) m port = StoppedBy p whole o sent r m.tally port
+abbrev pub SettleMeets : (List Entry → Type 0) → typed.Program → Whole → Option (List ℕ) → List ℕ → Result Node Run → Interpreter → PortView → Type 0
+SettleMeets T p whole o sent (Ok n) m port = (now : List ℕ) × (Stands T p whole o now m (on.enters (node_of n)) port × (m.kept ≡ None))
+SettleMeets T p whole o sent (Err r) m port = StoppedBy T p whole o sent r m.tally port
 
 -- the run `all`, a function of its clock, of which so many ticks are spent; what was sent are the bytes of a clock no greater
-pub record Runs (p : typed.Program) (all : Whole) (o : Option (List ℕ)) (spent : ℕ) (m : Interpreter) (x : on.Step) (port : PortView) : Type 0 where
+pub record Runs (T : List Entry → Type 0) (p : typed.Program) (all : Whole) (o : Option (List ℕ)) (spent : ℕ) (m : Interpreter) (x : on.Step) (port : PortView) : Type 0 where
   pub sent : List ℕ
   pub clock : ℕ
   pub clock_is : clock ≤ spent
   pub sent_is : sent ≡ bytes_of (last_of (all clock)).history
-  pub stands : Stands p (λ n. all (n + spent)) o sent m x port
+  pub stands : Stands T p (λ n. all (n + spent)) o sent m x port
 
 -- what was sent are the bytes of a clock no greater
 abbrev pub IsEarlier : Whole → Option (List ℕ) → ℕ → PortView → Type 0
 IsEarlier all o spent port = (clock : ℕ) × ((clock ≤ spent) × Appends o port.output (bytes_of (last_of (all clock)).history))
 
 -- how a run stops that has so many ticks or more
-abbrev pub StopsBy : typed.Program → Whole → Option (List ℕ) → ℕ → Run → Tally → PortView → Type 0
-StopsBy p all o spent (run.Ended status) tally port = Stopped p (λ n. all (n + spent)) o (machine.Ended status) tally port
-StopsBy p all o spent (run.Undefined act at) tally port = Stopped p (λ n. all (n + spent)) o (machine.Undefined act at) tally port
-StopsBy p all o spent run.TicksUsed tally port = Rests (λ n. all (n + spent))
-StopsBy p all o spent (run.Port fault) tally port = IsEarlier all o spent port
-StopsBy p all o spent run.Memory tally port = IsEarlier all o spent port
+abbrev pub StopsBy : (List Entry → Type 0) → typed.Program → Whole → Option (List ℕ) → ℕ → Run → Tally → PortView → Type 0
+StopsBy T p all o spent (run.Ended status) tally port = Stopped T p (λ n. all (n + spent)) o (machine.Ended status) tally port
+StopsBy T p all o spent (run.Undefined act at) tally port = Stopped T p (λ n. all (n + spent)) o (machine.Undefined act at) tally port
+StopsBy T p all o spent run.TicksUsed tally port = Rests (λ n. all (n + spent))
+StopsBy T p all o spent (run.Port fault) tally port = IsEarlier all o spent port
+StopsBy T p all o spent run.Memory tally port = IsEarlier all o spent port
 
 -- ---- the whole run
 
@@ -216,21 +226,22 @@ pub record Fresh (m : Interpreter) : Type 0 where
   pub none_told : (p : typed.Program) → Tells p [] m.tally
 
 -- the run stops so, with this input left and this history
-pub record EndsAs (p : typed.Program) (whole : machine.Run on.Found) (o : Option (List ℕ)) (e : Ending) (tally : Tally) (port : PortView) : Type 0 where
+pub record EndsAs (T : List Entry → Type 0) (p : typed.Program) (whole : machine.Run on.Found) (o : Option (List ℕ)) (e : Ending) (tally : Tally) (port : PortView) : Type 0 where
   pub input : List ℕ
   pub history : List Entry
   pub stops : StopsAs whole e input history
   pub input_is : port.input ≡ Some input
   pub output_is : Appends o port.output (bytes_of history)
   pub tells : Tells p history tally
+  pub told : T history
 
 -- how a run of so many ticks stops
-abbrev pub RunStops : typed.Program → Whole → Option (List ℕ) → ℕ → Run → Tally → PortView → Type 0
-RunStops p all o ticks (run.Ended status) tally port = EndsAs p (all ticks) o (machine.Ended status) tally port
-RunStops p all o ticks (run.Undefined act at) tally port = EndsAs p (all ticks) o (machine.Undefined act at) tally port
-RunStops p all o ticks run.TicksUsed tally port = EndsAs p (all ticks) o machine.TicksUsed tally port ⊎ ((x : on.Found) × ((s : State) × (all ticks ≡ Goes x s)))
-RunStops p all o ticks (run.Port fault) tally port = IsEarlier all o ticks port
-RunStops p all o ticks run.Memory tally port = IsEarlier all o ticks port
+abbrev pub RunStops : (List Entry → Type 0) → typed.Program → Whole → Option (List ℕ) → ℕ → Run → Tally → PortView → Type 0
+RunStops T p all o ticks (run.Ended status) tally port = EndsAs T p (all ticks) o (machine.Ended status) tally port
+RunStops T p all o ticks (run.Undefined act at) tally port = EndsAs T p (all ticks) o (machine.Undefined act at) tally port
+RunStops T p all o ticks run.TicksUsed tally port = EndsAs T p (all ticks) o machine.TicksUsed tally port ⊎ ((x : on.Found) × ((s : State) × (all ticks ≡ Goes x s)))
+RunStops T p all o ticks (run.Port fault) tally port = IsEarlier all o ticks port
+RunStops T p all o ticks run.Memory tally port = IsEarlier all o ticks port
 
 -- ---- parts that are done as a whole
 
@@ -241,9 +252,9 @@ stopped_for why.Memory = run.Memory
 stopped_for why.Elsewhere = run.Memory
 
 -- the run goes on with so many ticks spent, or it stops where so many are allowed
-abbrev pub MeetsAt : typed.Program → Whole → Option (List ℕ) → ℕ → Result Step Run → ℕ → Interpreter → PortView → Type 0
-MeetsAt p all o limit (Ok x) spent m port = Runs p all o spent m (step_of x) port
-MeetsAt p all o limit (Err r) spent m port = RunStops p all o limit r m.tally port
+abbrev pub MeetsAt : (List Entry → Type 0) → typed.Program → Whole → Option (List ℕ) → ℕ → Result Step Run → ℕ → Interpreter → PortView → Type 0
+MeetsAt T p all o limit (Ok x) spent m port = Runs T p all o spent m (step_of x) port
+MeetsAt T p all o limit (Err r) spent m port = RunStops T p all o limit r m.tally port
 
 abbrev pub Spends : Result Step Run → ℕ → ℕ → ℕ → Type 0
 Spends (Ok x) old new limit = (old < new) × (new ≤ limit)

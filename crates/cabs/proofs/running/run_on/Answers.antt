@@ -1,16 +1,19 @@
 use Rattle.std.proofs.Common.{◌+◌, ◌≡◌, ◌∙◌, arith}
+use Rattle.cabs.specs.inside.Standing.{Knows}
 use Rattle.cabs.proofs.Ticking.{runs_rested, used_up, settle_ends}
 use Rattle.cabs.proofs.running.run_on.Goals.{in-Ok-settle, in-Err-settle}
 use Rattle.cabs.proofs.running.run_on.Goals as goal
 
 pub returns-clause-meets : goal.returns-clause-meets
-returns-clause-meets g c p all o r =
-    let runs = c.loop-spent.invariant.runs p all o r in
+returns-clause-meets g c b p all o r =
+    let T = Knows b (g.O.Observer.told c.settle.new.observer) in
+    let U = Knows b (g.O.Observer.told c.loop-spent.observer) in
+    let runs = c.loop-spent.invariant.runs b p all o r in
     let end : c.loop-spent.spent ≡ c.args.ticks = omega (arith, c.loop-spent.invariant.allowed, c.loop-spent-test.false) in
     elim c.match-settle.branch [
-      | in-Ok-settle w ↦ used_up p all o c.loop-spent.spent c.args.ticks runs.sent c.settle.new.interpreter _ c.match-settle.result _ end w.result-is (w.in-Ok-settle.ensures.meets p (λ n. all (n + c.loop-spent.spent)) o runs.sent runs.stands)
-      | in-Err-settle w ↦ settle_ends p all o c.loop-spent.spent c.args.ticks c.loop-spent.interpreter c.settle.new.interpreter _ _ c.match-settle.result _ _ end w.result-is runs
-          (w.in-Err-settle.ensures.meets p (λ n. all (n + c.loop-spent.spent)) o runs.sent runs.stands)
+      | in-Ok-settle w ↦ used_up T p all o c.loop-spent.spent c.args.ticks runs.sent c.settle.new.interpreter _ c.match-settle.result _ end w.result-is (w.in-Ok-settle.ensures.meets b p (λ n. all (n + c.loop-spent.spent)) o runs.sent runs.stands)
+      | in-Err-settle w ↦ settle_ends U T p all o c.loop-spent.spent c.args.ticks c.loop-spent.interpreter c.settle.new.interpreter _ _ c.match-settle.result _ _ end w.result-is runs
+          (w.in-Err-settle.ensures.meets b p (λ n. all (n + c.loop-spent.spent)) o runs.sent runs.stands)
     ]
 
 pub loop-spent-preserved : goal.loop-spent-preserved
@@ -19,8 +22,9 @@ loop-spent-preserved g c =
     record {
       quiet = c.in-Ok.ensures.counts ∙ c.rest_at-due.ensures.not_counted ∙ v.quiet;
       allowed = c.in-Ok.ensures.spends.1;
-      runs = λ p all o r. c.in-Ok.ensures.meets p all o (runs_rested p all o _ _ _ _ _ (v.runs p all o r) c.rest_at-due.ensures);
+      runs = λ b p all o r. c.in-Ok.ensures.meets b p all o (runs_rested (Knows b (g.O.Observer.told c.loop-spent.observer)) p all o _ _ _ _ _ (v.runs b p all o r) c.rest_at-due.ensures);
     }
 
 pub returns-in-Err-clause-meets : goal.returns-in-Err-clause-meets
-returns-in-Err-clause-meets g c p all o r = c.in-Err.ensures.meets p all o (runs_rested p all o _ _ _ _ _ (c.loop-spent.invariant.runs p all o r) c.rest_at-due.ensures)
+returns-in-Err-clause-meets g c b p all o r =
+    c.in-Err.ensures.meets b p all o (runs_rested (Knows b (g.O.Observer.told c.loop-spent.observer)) p all o _ _ _ _ _ (c.loop-spent.invariant.runs b p all o r) c.rest_at-due.ensures)

@@ -1,23 +1,32 @@
-use Rattle.std.proofs.Common.{ap, refl, ◌+◌, ℕ, []}
+use Rattle.std.proofs.Common.{ap, refl, ◌+◌, []}
+use Rattle.typing_spec.specs.Program as typed
 use Rattle.typed_ast.specs.View.{program_of}
 use Rattle.interp_store.specs.declared.machine.Machine.{Machine}
 use Rattle.cabs.specs.declared.state.Interpreter.{Interpreter}
-use Rattle.cabs.proofs.Ticking.{run_of, answered, given_up_first, main_runs, main_stopping, main_stopped}
+use Rattle.cabs.specs.inside.Standing.{Knows, history_called}
+use Rattle.cabs.proofs.Told.{asked, known, nothing_told}
+use Rattle.cabs.proofs.Ticking.{run_of, answered, told_as, given_up_first, main_runs, main_stopping, main_stopped}
 use Rattle.cabs.proofs.running.start.Goals as goal
 
 pub returns-in-Err-clause-meets : goal.returns-in-Err-clause-meets
-returns-in-Err-clause-meets g c input told fresh = given_up_first (program_of c.args.interpreter.now.machine.program.now) input c.args.ticks (g.P.Port.seen c.args.port.now)
+returns-in-Err-clause-meets g c b input given fresh told = (given_up_first (program_of c.args.interpreter.now.machine.program.now) input c.args.ticks (g.P.Port.seen c.args.port.now), nothing_told b)
 
 pub returns-in-Ok-call_function-clause-meets : goal.returns-in-Ok-call_function-clause-meets
-returns-in-Ok-call_function-clause-meets g c input told fresh =
+returns-in-Ok-call_function-clause-meets g c b input given fresh told =
     let old = c.args.interpreter.now in
     let p = program_of old.machine.program.now in
     let mid = c.count_call.new.self.machine in
-    answered p input c.args.ticks _ _ _ _ (c.run_on.ensures.meets p (run_of p input) _ (main_runs p input old _ mid old.machine.program.now.main _ fresh c.in-Ok.ensures.machine
-    (ap (λ (m : Machine). program_of m.program.now) c.in-Ok.ensures.machine) refl told c.in-Ok.ensures.tells c.in-Ok.ensures.kept c.in-Ok-call_function.first c.in-Ok-call_function.ensures.acts c.in-Ok-call_function.ensures.program))
+    let T = g.O.Observer.told c.args.observer.now in
+    let U = g.O.Observer.told c.enters.new.self in
+    let W = g.O.Observer.told c.run_on.new.observer in
+    let called = history_called p (typed.function p.main) in
+    let stops = c.run_on.ensures.meets b p (run_of p input) _ (main_runs (Knows b U) p input old _ mid old.machine.program.now.main _ fresh c.in-Ok.ensures.machine
+    (ap (λ (m : Machine). program_of m.program.now) c.in-Ok.ensures.machine) refl given c.in-Ok.ensures.tells (known b T U called (λ h t. c.enters.ensures (called h) (c.in-Ok.ensures.told h t)) [] told)
+    c.in-Ok.ensures.kept c.in-Ok-call_function.first c.in-Ok-call_function.ensures.acts c.in-Ok-call_function.ensures.program) in
+    (answered (Knows b W) p input c.args.ticks _ _ _ _ stops, asked b W p input c.args.ticks _ (told_as (Knows b W) p input c.args.ticks _ (g.P.Port.seen c.args.port.now) (g.P.Port.seen c.run_on.new.port) _ stops))
 
 pub returns-in-Err-call_function-clause-meets : goal.returns-in-Err-call_function-clause-meets
-returns-in-Err-call_function-clause-meets g c input told fresh =
+returns-in-Err-call_function-clause-meets g c b input given fresh told =
     let old = c.args.interpreter.now in
     let new : Interpreter = record { machine = c.call_function.new.machine; tally = c.count_call.new.self.tally; kept = c.count_call.new.self.kept } in
     let p = program_of old.machine.program.now in
@@ -26,5 +35,10 @@ returns-in-Err-call_function-clause-meets g c input told fresh =
     let main = old.machine.program.now.main in
     let same = c.in-Ok.ensures.machine in
     let prog = ap (λ (m : Machine). program_of m.program.now) c.in-Ok.ensures.machine in
-    main_stopped p input old new mid main port fresh same prog refl told c.in-Ok.ensures.tells c.in-Ok.ensures.kept c.args.ticks _ _ _
-    (c.finish.ensures.meets p (λ n. run_of p input (n + 0)) port.output [] (main_stopping p input old new mid main port fresh same prog refl told c.in-Ok.ensures.tells c.in-Ok.ensures.kept c.in-Err-call_function.stop c.in-Err-call_function.ensures.acts))
+    let T = g.O.Observer.told c.args.observer.now in
+    let U = g.O.Observer.told c.count_call.new.observer in
+    let W = g.O.Observer.told c.finish.new.observer in
+    let begun = known b T U (history_called p (typed.function p.main)) c.in-Ok.ensures.told [] told in
+    let stops = main_stopped (Knows b W) p input port c.args.ticks _ _ (g.P.Port.seen c.finish.new.port)
+    (c.finish.ensures.meets b p (λ n. run_of p input (n + 0)) port.output [] (main_stopping (Knows b U) p input old new mid main port fresh same prog refl given c.in-Ok.ensures.tells begun c.in-Ok.ensures.kept c.in-Err-call_function.stop c.in-Err-call_function.ensures.acts)) in
+    (answered (Knows b W) p input c.args.ticks _ _ _ _ stops, asked b W p input c.args.ticks _ (told_as (Knows b W) p input c.args.ticks _ (g.P.Port.seen c.args.port.now) (g.P.Port.seen c.finish.new.port) _ stops))

@@ -1,0 +1,2 @@
+pub use Rattle.verify_theorem.specs.Theorem as VerifiedTheorem
+pub mod Verified
