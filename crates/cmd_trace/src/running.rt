@@ -7,6 +7,7 @@ use cli_io::{OutFile, TAKEN, say, say_memory, say_port, say_unwritten, say_usage
 use cli_sources::{Sources, is_taken, read_sources, stack_size};
 use io_ports::{IoPort, Port};
 use loader::{LoadFault, Loaded, load};
+use rv32::State;
 use sim::{Machine, Outcome};
 use srcset::Fault;
 use std::alloc::{AllocError, Global};
