@@ -3,7 +3,7 @@ _zkc() {
     local word=${COMP_WORDS[COMP_CWORD]} before=${COMP_WORDS[COMP_CWORD-1]}
     COMPREPLY=()
     if [ "$COMP_CWORD" = 1 ]; then
-        COMPREPLY=($(compgen -W 'build pp list run interp explain show check verify frames symbols image size -h --help -V --version' -- "$word"))
+        COMPREPLY=($(compgen -W 'build pp list run interp explain show check verify frames symbols image size lsp -h --help -V --version' -- "$word"))
         return
     fi
     case ${COMP_WORDS[1]}:$before in
@@ -33,11 +33,12 @@ _zkc() {
     explain) [ "$COMP_CWORD" = 2 ] && { COMPREPLY=($(compgen -W 'build interp pp' -- "$word")); return; }; case $word in -*) COMPREPLY=($(compgen -W '--json --sarif --color --stack --max --errors -I -D -U -h --help' -- "$word")) ;; *) mapfile -t COMPREPLY < <(compgen -f -- "$word") ;; esac ;;
     show) [ "$COMP_CWORD" = 2 ] && { COMPREPLY=($(compgen -W 'tokens tree typed tac flat' -- "$word")); return; }; case $word in -*) COMPREPLY=($(compgen -W '--json --stack -o -I -D -U -h --help' -- "$word")) ;; *) mapfile -t COMPREPLY < <(compgen -f -- "$word") ;; esac ;;
     check) case $word in -*) COMPREPLY=($(compgen -W '--warn --werror --json --sarif --stack -I -D -U -h --help' -- "$word")) ;; *) mapfile -t COMPREPLY < <(compgen -f -- "$word") ;; esac ;;
-    verify) case $word in -*) COMPREPLY=($(compgen -W '--json --sarif --stack -I -D -U -h --help' -- "$word")) ;; *) mapfile -t COMPREPLY < <(compgen -f -- "$word") ;; esac ;;
+    verify) case $word in -*) COMPREPLY=($(compgen -W '-o --json --sarif --stack -I -D -U -h --help' -- "$word")) ;; *) mapfile -t COMPREPLY < <(compgen -f -- "$word") ;; esac ;;
     frames) case $word in -*) COMPREPLY=($(compgen -W '--stack --sizes -I -D -U -h --help' -- "$word")) ;; *) mapfile -t COMPREPLY < <(compgen -f -- "$word") ;; esac ;;
     symbols) case $word in -*) COMPREPLY=($(compgen -W '--stack -o -I -D -U -h --help' -- "$word")) ;; *) mapfile -t COMPREPLY < <(compgen -f -- "$word") ;; esac ;;
     image) case $word in -*) COMPREPLY=($(compgen -W '--bin --ihex --memh -h --help' -- "$word")) ;; *) mapfile -t COMPREPLY < <(compgen -f -- "$word") ;; esac ;;
     size) case $word in -*) COMPREPLY=($(compgen -W '-h --help' -- "$word")) ;; *) mapfile -t COMPREPLY < <(compgen -f -- "$word") ;; esac ;;
+    lsp) case $word in -*) COMPREPLY=($(compgen -W '--stdio -h --help' -- "$word")) ;; *) mapfile -t COMPREPLY < <(compgen -f -- "$word") ;; esac ;;
     esac
 }
 complete -o filenames -F _zkc zkc
