@@ -52,7 +52,7 @@ DEFINED = {
     'row passed': 'int rv_getbyte(void);\nint f(int r[], int n) { return r[n]; }\nint main(void) { int n = rv_getbyte() & 1, a[2][3] = { { 1, 2, 3 }, { 4, 5, 6 } }; return 10 / f(a[n], n + 1); }',
     'rows passed': 'static int a[2][3];\nint f(int r[][3], int n) { return r[n][n + 1]; }\nint g(int r[][3], int n) { return f(r, n); }\nint main(void) { return 10 / (g(a, 1) + 1); }',
     'text passed': 'int rv_getbyte(void);\nint f(const char text[], int n) { return 100 / (text[n] + 1); }\nint main(void) { return f("abc", rv_getbyte() & 3); }',
-    'two arrays passed': 'static int a[2] = { 1, 2 }, b[3];\nint f(int x[], int n, int y[]) { y[n] = 5; return y[2] / x[1]; }\nint main(void) { return f(a, 2, b); }',
+    'two arrays passed': 'static int a[2] = { 1, 2 }, b[3];\nint f(int x[], int n, int y[]) { y[n] = 5; return y[2] - x[1]; }\nint main(void) { return f(a, 2, b); }',
     'negative divisor': 'int rv_getbyte(void);\nint main(void) { int c = rv_getbyte(), d = -(rv_getbyte() & 3) - 1; return (c / d + c % d + 100 / d) & 127; }',
     'remainder by a negative number': 'int rv_getbyte(void);\nstatic int a[4];\nint main(void) { int c = rv_getbyte(); if (c < 0) return 0; return a[c % -4]; }',
     'quotient by a negative number': 'int rv_getbyte(void);\nstatic int a[4];\nint main(void) { int c = -(rv_getbyte() & 7); return a[c / -2]; }',
@@ -277,8 +277,8 @@ def builds():
     for name, (text, _) in RECURSIONS.items():
         check('not built: ' + name, built(['verify', 'a.c', '-o', 'a'], text)[0::3] == (3, None))
     check('a fault is not built', built(['verify', 'a.c', '-o', 'a'], 'int main(void) { return x; }')[0::3] == (1, None))
-    check('not over the source', built(['verify', 'a.c', '-o', 'a.c'], 'int main(void) { return 0; }')[0::2] == (2, 'cc: OUT is one of the files that are read\n'))
-    check('not to the stream of the verdict', built(['verify', 'a.c', '-o', '-'], 'int main(void) { return 0; }')[0::2] == (2, 'cc: the verdict goes to standard output: -o OUT wants a path\n'))
+    check('not over the source', built(['verify', 'a.c', '-o', 'a.c'], 'int main(void) { return 0; }')[0:3:2] == (2, 'error: OUT is one of the files that are read\n'))
+    check('not to the stream of the verdict', built(['verify', 'a.c', '-o', '-'], 'int main(void) { return 0; }')[0:3:2] == (2, 'error: the verdict goes to standard output: -o OUT wants a path\n'))
     check('no folder', built(['verify', 'a.c', '-o', 'no/a'], 'int main(void) { return 0; }')[0] == 1)
 
 
