@@ -20,8 +20,6 @@ mod problems;
 mod renaming;
 mod server;
 mod signature;
-#[cfg(test)]
-mod tests;
 mod token_kinds;
 mod unit_files;
 mod view;
