@@ -10,8 +10,6 @@ mod index;
 mod scanner;
 mod symbols;
 mod table;
-#[cfg(test)]
-mod tests;
 mod walking;
 mod words;
 

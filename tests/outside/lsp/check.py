@@ -35,6 +35,13 @@ LIGHT = {
     'main.c': '#include "light.h"\n#define TWICE(x) ((x) + (x))\nenum light next(enum light now)\n{\n    return now == RED ? GREEN : RED;\n}\n'
               'int main(void)\n{\n    int now = TWICE(GREEN);\n    return next(GREEN) + now;\n}\n',
 }
+# Scopes within scopes (6.2.1), macros, and enumerations without and with their tags.
+SCOPES = {
+    'main.c': 'int x;\nint f(int x) { { int x = 1; x; } for (int x = 0; x; ) x; return x; }\nint main(void) { return f(0); }\n',
+}
+MACROS = {
+    'main.c': '#define SQ(a) ((a)*g)\nint g;\nint y = 2;\nenum e { A, B = A };\nenum e w;\nint main(void) { return SQ(2); }\n',
+}
 
 # Where a name is defined that stands at a place: file, line, first and last character.
 DEFINITIONS = [
@@ -51,6 +58,17 @@ DEFINITIONS = [
     (LIGHT, 'main.c', 2, 6, ('light.h', 0, 5, 10)),
     (LIGHT, 'main.c', 8, 16, ('main.c', 1, 8, 13)),
     (LIGHT, 'main.c', 9, 28, ('main.c', 8, 8, 11)),
+    (SCOPES, 'main.c', 0, 4, ('main.c', 0, 4, 5)),
+    (SCOPES, 'main.c', 1, 10, ('main.c', 1, 10, 11)),
+    (SCOPES, 'main.c', 1, 28, ('main.c', 1, 21, 22)),
+    (SCOPES, 'main.c', 1, 49, ('main.c', 1, 42, 43)),
+    (SCOPES, 'main.c', 1, 54, ('main.c', 1, 42, 43)),
+    (SCOPES, 'main.c', 1, 64, ('main.c', 1, 10, 11)),
+    (MACROS, 'main.c', 0, 16, ('main.c', 0, 11, 12)),
+    (MACROS, 'main.c', 0, 19, ('main.c', 1, 4, 5)),
+    (MACROS, 'main.c', 5, 24, ('main.c', 0, 8, 10)),
+    (MACROS, 'main.c', 3, 16, ('main.c', 3, 9, 10)),
+    (MACROS, 'main.c', 4, 5, ('main.c', 3, 5, 6)),
 ]
 # All places of a name.
 REFERENCES = [
