@@ -118,8 +118,7 @@ def commands(cc, preload):
         yield plain(' '.join(['explain', *words]), ['explain', 'build', 'main.c', *words], wrong)
     outside = {'main.c': b'int a[2];\nint at(int i) { return a[i]; }\nint main(void) { return at(1) + at(2); }\n'}
     told = {'main.c': RUNS['a trap'].encode()}
-    # of what is undefined `explain interp --sarif` has no row: a log without results may stand before the line of 801 (docs/EXPLAIN.md, Memory)
-    for words in ([], ['--json']):
+    for words in ([], ['--json'], ['--sarif']):
         yield plain(' '.join(['explain interp', *words]), ['explain', 'interp', 'main.c', *words], outside)
     for words in ([], ['--json'], ['--sarif']):
         yield plain(' '.join(['explain interp of what is defined', *words]), ['explain', 'interp', 'main.c', *words], told)
