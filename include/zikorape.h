@@ -17,7 +17,7 @@
 
    STATUS, as of the program zkc:
      0    done; zk_interpret and zk_run: the program's own status, 0 to 255
-     1    a fault, which the message tells: FILE:LINE: CODE TEXT (docs/FAULTS.md), or cc: 801 out of memory
+     1    a fault, which the message tells: FILE:LINE: CODE TEXT (docs/DIAGNOSTICS.md), or cc: 801 out of memory
      123  zk_interpret: an undefined act; the message tells which, and where
      124  zk_interpret, zk_run: the program goes on after so many ticks or instructions
      125  zk_run: a trap; the message tells which, and where

@@ -39,7 +39,7 @@ mkdir -p "$folder"
 placed() {
     PROGRAM=release/cc DESTDIR=$1 sh install.sh "$2" >"$work/said" 2>&1 || { cat "$work/said" >&2; exit 1; }
     mkdir -p "$1$2/share/doc/zkc"
-    cp LICENSE LICENSE-MIT LICENSE-APACHE CHANGELOG.md README.md docs/USE.md docs/LANGUAGE.md docs/FAULTS.md "$1$2/share/doc/zkc/"
+    cp LICENSE LICENSE-MIT LICENSE-APACHE CHANGELOG.md README.md docs/TOOLS.md docs/LANGUAGE.md docs/DIAGNOSTICS.md "$1$2/share/doc/zkc/"
     chmod 644 "$1$2"/share/doc/zkc/*
 }
 

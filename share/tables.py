@@ -61,7 +61,7 @@ prints what a flash tool loads.
 .BR qemu-user (1),
 .BR objdump (1)
 .PP
-The project's docs/USE.md, docs/LANGUAGE.md, docs/FAULTS.md and docs/INSPECT.md."""
+The project's docs/TOOLS.md, docs/LANGUAGE.md, docs/DIAGNOSTICS.md and docs/TOOLS.md."""
 
 def said(cc, *words):
     done = subprocess.run([cc, *words, '--help'], stdout=subprocess.PIPE, check=True)

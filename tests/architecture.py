@@ -67,9 +67,19 @@ def stands(path, crate):
     tried = [path, 'crates/' + path, 'crates/%s/%s' % (crate or '*', path)]
     return any(glob.glob(it + end) for it in tried for end in ('', '.antt', '.rt', '.py', '.sh'))
 
+def leads(link, document):
+    """Whether the heading of a page is there to which a link leads; headings have the anchors that GitHub gives them."""
+    path, anchor = link.split('#')
+    page = os.path.join(os.path.dirname(document), path) if path else document
+    if not os.path.isfile(page):
+        return False
+    heads = re.findall(r'^#+ +(.*)$', read(page), re.M)
+    return anchor in [re.sub(r'[^\w\- ]', '', head.lower()).replace(' ', '-') for head in heads]
+
 def check_paths():
     """The paths in code of each document. Words in capitals stand for any name."""
-    for document in ['README.md'] + sorted(glob.glob('docs/*.md') + glob.glob('docs/design/*.md') + glob.glob('bench/*.md') + glob.glob('crates/*/README.md')):
+    for document in ['README.md', 'CONTRIBUTING.md'] + sorted(
+            glob.glob('docs/*.md') + glob.glob('docs/design/**/*.md', recursive=True) + glob.glob('bench/*.md') + glob.glob('boards/*.md') + glob.glob('crates/*/README.md')):
         crate = document.split('/')[1] if document.startswith('crates/') else None
         wrong = []
         for path in re.findall(r'`((?:[a-z_]+/)?(?:crates|specs|proofs|src|tests|bench|docs|must-fail|release|examples)/[^` ]+)`', read(document)):
@@ -77,6 +87,7 @@ def check_paths():
                 wrong.append(path)
         holds('%s names what is not there: %s' % (document, ' '.join(wrong)), not wrong)
         links = [it for it in re.findall(r'\]\(([^)#:]+)(?:#[^)]*)?\)', read(document)) if not os.path.exists(os.path.join(os.path.dirname(document), it))]
+        links += [it for it in re.findall(r'\]\(([^):]*#[^)]*)\)', read(document)) if not leads(it, document)]
         holds('%s links to what is not there: %s' % (document, ' '.join(links)), not links)
 
 def main():

@@ -39,33 +39,33 @@ awk '/Code::[A-Za-z0-9]* => [0-9]+,/ { split($1, n, "::"); gsub(",", "", $3); nu
 while read -r variant rest; do
     if grep -rqw --include='*.rt' --exclude=code.rt "Code::$variant" crates/*/src; then echo "$rest"; fi
 done <"$work/codes" >"$work/told"
-awk -F ' [|] ' '/^[|] [0-9]/ { sub(/^[|] /, "", $1); print $1 " " $2 }' docs/FAULTS.md >"$work/table"
-same 'docs/FAULTS.md has other codes or texts than those that are told' "$work/told" "$work/table"
+awk -F ' [|] ' '/^[|] [0-9]/ { sub(/^[|] /, "", $1); print $1 " " $2 }' docs/DIAGNOSTICS.md >"$work/table"
+same 'docs/DIAGNOSTICS.md has other codes or texts than those that are told' "$work/told" "$work/table"
 
 # each source that is written out, a line for each `..`, built: the table's code and text, at its last line
 awk -F ' [|] ' '/^[|] [0-9]/ && $3 ~ /^`[^`]*`(, `[^`]*`)* [|]$/ {
-    sub(/^[|] /, "", $1); src = $3; sub(/^`/, "", src); sub(/` [|]$/, "", src); print $1 "|" $2 "|" src }' docs/FAULTS.md >"$work/sources"
+    sub(/^[|] /, "", $1); src = $3; sub(/^`/, "", src); sub(/` [|]$/, "", src); print $1 "|" $2 "|" src }' docs/DIAGNOSTICS.md >"$work/sources"
 while IFS='|' read -r code text source; do
     printf '%s\n' "$source" | awk '{ n = split($0, lines, "`, `"); for (i = 1; i <= n; i++) print lines[i] }' >"$work/main.c"
     said=$(cd "$work" && "$cc" build main.c -o program 2>&1 >/dev/null)
     if [ "$said" = "main.c:$(($(wc -l <"$work/main.c"))): $code $text" ]; then pass; else fail "$source: '$said', not $code"; fi
 done <"$work/sources"
 # the rows that are not built have their source in words
-words=$(grep -c '^[|] [0-9].*[|] [^|]*\*[^|]* [|]$' docs/FAULTS.md)
-[ $(($(wc -l <"$work/sources") + words)) -ge "$(wc -l <"$work/table")" ] && pass || fail 'docs/FAULTS.md has a row whose source is neither built nor told in words'
+words=$(grep -c '^[|] [0-9].*[|] [^|]*\*[^|]* [|]$' docs/DIAGNOSTICS.md)
+[ $(($(wc -l <"$work/sources") + words)) -ge "$(wc -l <"$work/table")" ] && pass || fail 'docs/DIAGNOSTICS.md has a row whose source is neither built nor told in words'
 
 # each undefined act, interpreted: at the last line of its source, and explained with the table's text
-awk -F ' [|] ' '/^[|] U[1-8] / && $3 ~ /^`[^`]*`$/ { sub(/^[|] /, "", $1); gsub("`", "", $3); print $1 "|" $2 "|" $3 }' docs/FAULTS.md >"$work/acts"
+awk -F ' [|] ' '/^[|] U[1-8] / && $3 ~ /^`[^`]*`$/ { sub(/^[|] /, "", $1); gsub("`", "", $3); print $1 "|" $2 "|" $3 }' docs/DIAGNOSTICS.md >"$work/acts"
 while IFS='|' read -r act text source; do
     printf '%s\n' "$source" >"$work/main.c"
     said=$(cd "$work" && "$cc" interp main.c 2>&1 </dev/null)
     told=$(cd "$work" && "$cc" explain interp main.c 2>&1 </dev/null | sed -n '1s/^[^ ]* //p')
     case "$said|$told" in "main.c:1: undefined $act|$act undefined: $text '"*) pass ;; *) fail "$source: '$said', '$told', not $act" ;; esac
 done <"$work/acts"
-[ "$(wc -l <"$work/acts")" -eq 8 ] && pass || fail 'docs/FAULTS.md has not each undefined act'
+[ "$(wc -l <"$work/acts")" -eq 8 ] && pass || fail 'docs/DIAGNOSTICS.md has not each undefined act'
 
 # --------------------------------------------------------------- the others
-script python3 tests/transcripts.py "$cc" README.md docs/TOUR.md docs/EXPLAIN.md docs/WARNINGS.md docs/INSPECT.md docs/USE.md docs/design/lowering.md docs/FIRMWARE.md docs/VERIFY.md
+script python3 tests/transcripts.py "$cc" README.md docs/TOUR.md docs/DIAGNOSTICS.md docs/TOOLS.md docs/design/lowering.md docs/FIRMWARE.md docs/VERIFY.md
 script python3 tests/language.py "$cc"
 script python3 tests/architecture.py --check
 script python3 tests/trust.py --check

@@ -39,10 +39,10 @@ def rows(head):
     return [line.strip('|').split(' | ') for line in lines if line.startswith('|')]
 
 def check_promises():
-    promised = open('README.md', encoding='utf-8').read().split('## What is promised')[1].split('\n## ')[0]
+    promised = PAGE.split('## The promises')[1].split('\n\nFor each')[0]
     numbers = re.findall(r'^(\d+)\. ', promised, re.M)
     told = [row[0].split('.')[0].strip() for row in rows('| Promise |') if row[0].strip()[0].isdigit()]
-    holds('README promises %s, the page tells %s' % (' '.join(numbers), ' '.join(told)), numbers and numbers == told)
+    holds('the page promises %s, its table tells %s' % (' '.join(numbers), ' '.join(told)), numbers and numbers == told)
     for row in rows('| Promise |'):
         for path in re.findall(r'`([a-z_0-9]+/specs/\w+)`', row[2]):
             holds('no file %s' % path, os.path.exists('crates/%s.antt' % path))

@@ -1,5 +1,5 @@
 #!/usr/bin/env python3
-"""Writes the lists of files in the recipes of docs/HACKING.md: of each recipe the files that name one thing of the kind
+"""Writes the lists of files in the recipes of CONTRIBUTING.md: of each recipe the files that name one thing of the kind
 which is there already, by its names in the code, in the definitions and in the tests.
 
     python3 tests/recipes.py            writes the page
@@ -10,7 +10,7 @@ import glob, os, re, sys
 
 import harness
 
-PAGE = 'docs/HACKING.md'
+PAGE = 'CONTRIBUTING.md'
 # of each recipe: the names of what is there already, and the crates that have another thing of that name
 RECIPES = {
     'statement': (r'DoWhile|do_while|\bDo\b', ()),
@@ -42,7 +42,7 @@ def flow():
 def lists(name, pattern, without):
     """Of each crate the files in which the names stand, and those of the tests from outside."""
     found = {}
-    for path in list(files('crates', 'tests/harness', 'tests/cli', 'tests/outside', 'boards')) + sorted(glob.glob('docs/design/decisions/*.md')) + ['docs/FAULTS.md', 'docs/LANGUAGE.md', 'docs/MACHINE.md', 'docs/design/semantics.md', 'boards/README.md', 'tests/language.py']:
+    for path in list(files('crates', 'tests/harness', 'tests/cli', 'tests/outside', 'boards')) + sorted(glob.glob('docs/design/decisions/*.md')) + ['docs/DIAGNOSTICS.md', 'docs/LANGUAGE.md', 'docs/TOOLS.md', 'docs/design/semantics.md', 'boards/README.md', 'tests/language.py']:
         if name == 'built-in' and path in MERE_PROGRAMS:
             continue
         crate = path.split('/')[1] if path.startswith('crates/') else ''

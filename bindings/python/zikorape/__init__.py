@@ -42,7 +42,7 @@ class Seen(ctypes.Structure):
 
 
 class Fault(Exception):
-    """A fault of a program: `file`, `line`, `code` (docs/FAULTS.md) and `text`. Where memory ran out, the file is empty and the code 801."""
+    """A fault of a program: `file`, `line`, `code` (docs/DIAGNOSTICS.md) and `text`. Where memory ran out, the file is empty and the code 801."""
 
     def __init__(self, message: str):
         super().__init__(message.strip())

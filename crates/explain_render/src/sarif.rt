@@ -56,7 +56,7 @@ fn put_code_rules(alloc: Global, codes: &[u16], out: &mut String) -> Result<(), 
             alloc,
             format!(in alloc; "{number}")?.as_str(),
             message(number),
-            "docs/FAULTS.md has a source with this fault",
+            "docs/DIAGNOSTICS.md has a source with this fault",
             out,
         )?;
     }

@@ -1,6 +1,6 @@
 //! The kinds of warnings.
 
-/// What a warning is about. docs/WARNINGS.md has a section for each.
+/// What a warning is about. docs/DIAGNOSTICS.md has a section for each.
 #[derive(Clone, Copy, Debug, PartialEq, Eq)]
 pub enum Kind {
     UnusedVariable,
@@ -23,7 +23,7 @@ pub enum Kind {
     MacroParentheses,
 }
 
-/// All kinds, in the order of docs/WARNINGS.md.
+/// All kinds, in the order of docs/DIAGNOSTICS.md.
 const KINDS: &[Kind] = &[
     Kind::UnusedVariable,
     Kind::UnusedButSetVariable,
@@ -46,7 +46,7 @@ const KINDS: &[Kind] = &[
 ];
 
 impl Kind {
-    /// All kinds, in the order of docs/WARNINGS.md.
+    /// All kinds, in the order of docs/DIAGNOSTICS.md.
     pub fn all() -> &'static [Kind] {
         KINDS
     }

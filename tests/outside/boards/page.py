@@ -1,4 +1,4 @@
-"""docs/CONSOLE.md and boards/README.md: the commands that they show, run, and what they say of examples/console.c, counted anew."""
+"""boards/CONSOLE.md and boards/README.md: the commands that they show, run, and what they say of examples/console.c, counted anew."""
 import os
 import re
 import shutil
@@ -53,8 +53,8 @@ def blocks(page):
 
 
 def shown():
-    """Each command that docs/CONSOLE.md shows, and the lines below it."""
-    for block in blocks(text_of('docs', 'CONSOLE.md')):
+    """Each command that boards/CONSOLE.md shows, and the lines below it."""
+    for block in blocks(text_of('boards', 'CONSOLE.md')):
         for line in block:
             if line.startswith('$ '):
                 command, below = line[2:], []
@@ -189,7 +189,7 @@ def heaviest(table, column, name='main'):
 def stack(compiler):
     """The page's table of nodes, weights, frames and calls, and its sums."""
     counted = boards.Counted()
-    page = text_of('docs', 'CONSOLE.md')
+    page = text_of('boards', 'CONSOLE.md')
     rows = re.findall(r'^\| `(\w+)` \| (\d+) \| (\d+) \| (\d+) \| (.*)\|$', page, re.M)
     table = {name: (int(nodes), int(weight), int(frame), set(re.findall(r'`(\w+)`', calls))) for name, nodes, weight, frame, calls in rows}
     counted.expect('CONSOLE.md, nodes and weights', {name: row[:2] for name, row in table.items()}, counted_anew())

@@ -239,8 +239,8 @@ def firmware():
 
 
 def page():
-    """docs/USE.md: vim reads a fault by its errorformat, and the log of the job is one of SARIF 2.1.0 that names the line."""
-    with open(os.path.join(ROOT, 'docs', 'USE.md')) as file:
+    """docs/TOOLS.md: vim reads a fault by its errorformat, and the log of the job is one of SARIF 2.1.0 that names the line."""
+    with open(os.path.join(ROOT, 'docs', 'TOOLS.md')) as file:
         text = file.read()
     with tempfile.TemporaryDirectory() as work:
         put(work, src__main_c='#include "u.h"\nint main(void) { return x; }\n', include__u_h='\n')

@@ -1,6 +1,6 @@
 """Writes the sources of generated.txt to a folder: python3 generate.py FOLDER.
 
-They stand at a limit of the program, and one past it, and are too large to be kept. Sizes by docs/FAULTS.md: 16,777,216 bytes of
+They stand at a limit of the program, and one past it, and are too large to be kept. Sizes by docs/DIAGNOSTICS.md: 16,777,216 bytes of
 static objects and string literals, each rounded up to 4 (713); a function's weight of 1,048,576 = 64 + its objects and
 parameters, each rounded up to 4, + 16 a node (714); 16,384 function definitions (715).
 """

@@ -192,7 +192,7 @@ def made():
 
 
 def write(folder):
-    rows = re.findall(r'^\| (\d+) \| ([^|]*) \|', (HERE / '../../../docs/FAULTS.md').read_text(), re.M)
+    rows = re.findall(r'^\| (\d+) \| ([^|]*) \|', (HERE / '../../../docs/DIAGNOSTICS.md').read_text(), re.M)
     texts = {int(code): text for code, text in rows}
     kept = sorted((HERE / 'rows').glob('*.c')) + sorted((HERE / 'accepted').glob('*.c'))
     sources = [(path.read_text(), answer(path.read_text())) for path in kept] + list(made())

@@ -2,7 +2,7 @@
 """The rows of crates/test_calls that are made of the rows here and of tests/outside/const; `../rows.py` writes them.
 
 What is wanted is what the rows say; of each text's tokens the kinds, places and white space are those of plain.py, whose
-spellings have to be the rows'. The texts of faults are those of docs/FAULTS.md.
+spellings have to be the rows'. The texts of faults are those of docs/DIAGNOSTICS.md.
 """
 import os
 import re
@@ -35,7 +35,7 @@ HEADS = {
 
 
 def messages():
-    with open(os.path.join(ROOT, 'docs/FAULTS.md'), encoding='utf-8') as table:
+    with open(os.path.join(ROOT, 'docs/DIAGNOSTICS.md'), encoding='utf-8') as table:
         rows = [line[2:].split(' | ') for line in table if re.match(r'\| \d+ \|', line)]
     return {int(row[0]): row[1].encode() for row in rows}
 

@@ -82,7 +82,7 @@ def source_answers(program, text):
 
 
 def fault_of(file):
-    """The first of 901 to 907 that stands in an ELF file, or None (System V gABI, chapters 4 and 5; limits of docs/MACHINE.md)."""
+    """The first of 901 to 907 that stands in an ELF file, or None (System V gABI, chapters 4 and 5; limits of docs/TOOLS.md)."""
     if len(file) < 52:
         return 901
     if file[:7] != b'\x7fELF\x01\x01\x01' or struct.unpack_from('<I', file, 20)[0] != 1:

@@ -186,10 +186,10 @@ def raises(wanted, call):
 
 
 def texts(counted, zk):
-    """The text of each code as docs/FAULTS.md has it."""
-    with open(os.path.join(ROOT, 'docs', 'FAULTS.md'), encoding='utf-8') as file:
+    """The text of each code as docs/DIAGNOSTICS.md has it."""
+    with open(os.path.join(ROOT, 'docs', 'DIAGNOSTICS.md'), encoding='utf-8') as file:
         table = re.findall(r'^\| (\d{3}) \| `?([^|`]+?)`? \|', file.read(), re.M)
-    counted.holds('docs/FAULTS.md has codes', len(table) > 80, len(table))
+    counted.holds('docs/DIAGNOSTICS.md has codes', len(table) > 80, len(table))
     for code, text in table:
         counted.holds('text of ' + code, zk.message(int(code)) == text.replace('\\', ''), (zk.message(int(code)), text))
     counted.holds('no code', [zk.message(k) for k in (0, 100, 999, 2**16 - 1)] == [''] * 4)

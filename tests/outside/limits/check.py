@@ -3,7 +3,7 @@
 
     python3 tests/outside/limits/check.py bin/cc
 
-What each row comes to follows from the rules of the language and of the file (docs/LANGUAGE.md, docs/FAULTS.md, docs/MACHINE.md).
+What each row comes to follows from the rules of the language and of the file (docs/LANGUAGE.md, docs/DIAGNOSTICS.md, docs/TOOLS.md).
 Time and greatest memory are printed beside each, and not judged.
 The last line is 'N passed, M failed'."""
 import os

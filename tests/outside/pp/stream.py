@@ -3,7 +3,7 @@
 
 The sources are those of this folder and of tests/outside/front that are one file, and those of BY_HAND. What is wanted is what their rows say:
 the fault and its line, or the tokens, which are counted. What C tokens become of them is counted here by ISO/IEC 9899:2011 6.4 and the codes of
-docs/FAULTS.md; where a token is none, its line has to be known as well: that of the only line of text, of the mark `"use N"` before it, or of
+docs/DIAGNOSTICS.md; where a token is none, its line has to be known as well: that of the only line of text, of the mark `"use N"` before it, or of
 model.py, where that has the row's tokens. Sources with an at sign are left out, and those of tests/outside/front with directives.
 """
 import os

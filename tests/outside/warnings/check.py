@@ -95,10 +95,10 @@ for kind, wanted in WANTED.items():
     check(f"{kind}: SARIF", [(it["startLine"], it["startColumn"]) for it in regions] == [it[1:3] for it in wanted], regions)
     check(f"{kind}: rule", kind in [it["id"] for it in log["tool"]["driver"]["rules"]])
 
-# each kind has a section in docs/WARNINGS.md, and a folder here
-with open(os.path.join(top, "docs/WARNINGS.md")) as document:
-    sections = re.findall(r"^## ([a-z-]+)$", document.read(), re.M)
-check("docs/WARNINGS.md has other sections", sorted(sections) == sorted(WANTED), sections)
+# each kind has a section in docs/DIAGNOSTICS.md, and a folder here
+with open(os.path.join(top, "docs/DIAGNOSTICS.md")) as document:
+    sections = re.findall(r"^### ([a-z-]+)$", document.read(), re.M)
+check("docs/DIAGNOSTICS.md has other sections", sorted(sections) == sorted(WANTED), sections)
 folders = sorted(it for it in os.listdir(here) if os.path.isdir(os.path.join(here, it)) and it != "__pycache__")
 check("folders", folders == sorted(WANTED), folders)
 check("rules", sorted(it["id"] for it in log["tool"]["driver"]["rules"]) == sorted(WANTED))
