@@ -1,5 +1,7 @@
 #!/usr/bin/env python3
 """check.py CC: the harness itself: what fails is counted and told, what is skipped says why, a case alone can be run, seeds are told."""
+import contextlib
+import io
 import os
 import subprocess
 import sys
@@ -82,6 +84,12 @@ def lines(case):
     case.expect('right', counted.expect('', 1, 1), True)
     case.expect('wrong', counted.expect('', 1, 2), False)
     case.expect('counts', (counted.passed, counted.failed), (1, 1))
+    for what, skipped, wanted in (('nothing', 0, 1), ('what is left out with a reason', 3, 0)):
+        counted = verdict.Verdict(quiet=True)
+        if skipped:
+            counted.skip(skipped, 'no tool')
+        with contextlib.redirect_stdout(io.StringIO()):
+            case.expect(what, counted.end(), wanted)
 
 
 def differences(case):

@@ -78,7 +78,7 @@ class Verdict:
         for why, count in sorted(self.reasons.items()):
             print(f'skipped {count}: {why}')
         print(self.line(), flush=True)
-        return 1 if self.failed or not self.passed else 0
+        return 0 if not self.failed and (self.passed or self.skipped) else 1
 
 
 def side_by_side(function, rows):

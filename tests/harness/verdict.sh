@@ -27,12 +27,12 @@ add() {
     skipped=$((skipped + ${3:-0}))
 }
 
-# verdict: the last line, and whether some checks passed and none failed.
+# verdict: the last line, and whether none failed, and some passed or were left out with a reason.
 verdict() {
     if [ "$skipped" -gt 0 ]; then
         echo "$passed passed, $failed failed, $skipped skipped"
     else
         echo "$passed passed, $failed failed"
     fi
-    [ "$failed" -eq 0 ] && [ "$passed" -gt 0 ]
+    [ "$failed" -eq 0 ] && [ $((passed + skipped)) -gt 0 ]
 }
