@@ -2,27 +2,62 @@
 #![tactic(auto)]
 
 ghost use Rattle.std.specs.Prelude.{◌≡◌, ◌≤◌, IfErr, IfOk, IfSome};
-ghost use Rattle.std.specs.Bool.{OnTrue};
 ghost use Rattle.typed_ast.specs.View.{program_of};
 ghost use Rattle.cc_backend.specs.Made.{IsReady};
-ghost use Rattle.cc.specs.Made.{MakesProgram};
 ghost use Rattle.cc.specs.Refused.{IsRefused};
-ghost use Rattle.verify_logic.specs.Whole.{IsDefined};
-ghost use Rattle.verify_stack.specs.Bounds.{StaysWithin};
+ghost use Rattle.verify.specs.declared.verdict.Verdict.TheVariants.{Defined};
+ghost use Rattle.verify_stack.specs.declared.bounds.Bound.TheVariants.{AtMost};
+ghost use Rattle.verify_stack.specs.Bounds.{Says, size_in};
 ghost use Rattle.verify_build.specs.Verified.{IsShown, IsVerified};
+ghost use Rattle.verify_build.specs.Sizes.{frames_listed};
 
 use cc::{Built, StackSize, checked_program, compile_checked};
 use srcset::{Fault, FileSet, Names};
 use std::alloc::{AllocError, Global};
 use typed_ast::Program;
 use verify::{Verdict, verify};
-use verify_stack::{Bound, stack_bound};
+use verify_stack::{Bound, stack_bound_by};
 
-/// The file of a verified program, and how many bytes of weights its calls take at most.
+/// The file of a verified program, and how many bytes of stack its calls take at most.
 #[derive(Drop)]
 pub struct Verified {
     pub built: Built,
     pub most: u64,
+}
+
+/// What was found of a program.
+#[derive(Drop)]
+pub struct Judged {
+    /// Whether it is defined on every input.
+    pub verdict: Verdict,
+    /// How much stack its calls take at most, by the bytes of their frames.
+    pub bound: Bound,
+    /// Its file, where it is shown that nothing undefined is met on any input, and that the stack suffices.
+    pub file: Option<Verified>,
+}
+
+/// Verifies a program that `cc::checked_program` answered with these names, in so many turns of the analysis at most, and builds its file for a stack of this size.
+///
+/// Errors: memory ran out.
+pub fn judge(
+    alloc: Global,
+    program: &Program,
+    names: &Names,
+    stack: StackSize,
+    turns: u32,
+) -> Result<Judged, AllocError>
+    requires { IsReady (program_of program.now) }
+    ensures { IfOk result (λ judged. IfSome judged.file (λ v. IsShown stack names.now (program_of program.now) v.built v.most)) }
+{
+    let verdict = verify(alloc, program, turns)?;
+    let built = compile_checked(alloc, program, names, stack)?;
+    let bound = frames_bound(alloc, program, &built)?;
+    let file = shown(&verdict, &bound, built, stack);
+    Ok(Judged {
+        verdict,
+        bound,
+        file,
+    })
 }
 
 /// Verifies the program in the file `main` of the set, in so many turns of the analysis at most, and builds its file for a stack of this size: `None` where it
@@ -44,84 +79,61 @@ pub fn verified_build(
         Ok(program) => program,
         Err(fault) => return Err(fault),
     };
-    match built_where_shown(alloc, &program, &names, stack, turns) {
-        Ok(file) => Ok(file),
+    match judge(alloc, &program, &names, stack, turns) {
+        Ok(judged) => Ok(judged.file),
         Err(_) => Err(Fault::memory(alloc)),
     }
 }
 
-/// The file of a program, where it is shown.
-fn built_where_shown(
+/// The bytes of each frame.
+fn frame_sizes(alloc: Global, entries: &[(String, u32, u32)]) -> Result<Vec<u64>, AllocError>
+    ensures { IfOk result (λ r. r.items ≡ frames_listed entries.now) }
+{
+    let mut sizes = Vec::new(alloc);
+    let mut rest = entries;
+    while let Some((entry, more)) = rest.split_first() {
+        sizes.push(u64::from(entry.1))?;
+        rest = more;
+    }
+    Ok(sizes)
+}
+
+/// How much stack a program takes at most, by the frames of its file.
+fn frames_bound(alloc: Global, program: &Program, built: &Built) -> Result<Bound, AllocError>
+    ensures { IfOk result (λ b. Says (size_in (frames_listed built.now.frames.items)) (program_of program.now) b) }
+{
+    let sizes = frame_sizes(alloc, &built.frames)?;
+    bound_by(alloc, program, &built.frames, &sizes)
+}
+
+/// The bound by the sizes that these entries have.
+fn bound_by(
     alloc: Global,
     program: &Program,
-    names: &Names,
-    stack: StackSize,
-    turns: u32,
-) -> Result<Option<Verified>, AllocError>
-    requires { IsReady (program_of program.now) }
-    ensures { IfOk result (λ file. IfSome file (λ v. IsShown stack v.most (program_of program.now) × MakesProgram stack names.now (program_of program.now) v.built)) }
+    entries: &[(String, u32, u32)],
+    sizes: &[u64],
+) -> Result<Bound, AllocError>
+    requires { sizes.now ≡ frames_listed entries.now }
+    ensures { IfOk result (λ b. Says (size_in (frames_listed entries.now)) (program_of program.now) b) }
 {
-    let most = match shown_bound(alloc, program, stack, turns) {
-        Ok(Some(most)) => most,
-        Ok(None) => return Ok(None),
-        Err(error) => return Err(error),
+    stack_bound_by(alloc, program, sizes)
+}
+
+/// The file, where nothing undefined is met and the bound is within the stack.
+fn shown(verdict: &Verdict, bound: &Bound, built: Built, stack: StackSize) -> Option<Verified>
+    ensures { IfSome result (λ v. (v.built ≡ built) × (verdict.now ≡ Defined) × (bound.now ≡ AtMost v.most) × (v.most ≤ stack)) }
+{
+    let Verdict::Defined = verdict else {
+        return None;
     };
-    match compile_checked(alloc, program, names, stack) {
-        Ok(built) => Ok(Some(Verified { built, most })),
-        Err(error) => Err(error),
-    }
-}
-
-/// What the calls of a program take at most, where it is shown that nothing undefined is met and that the stack suffices.
-fn shown_bound(
-    alloc: Global,
-    program: &Program,
-    stack: StackSize,
-    turns: u32,
-) -> Result<Option<u64>, AllocError>
-    ensures { IfOk result (λ most. IfSome most (λ most. IsShown stack most (program_of program.now))) }
-{
-    match is_defined(alloc, program, turns) {
-        Ok(true) => bound_within(alloc, program, stack),
-        Ok(false) => Ok(None),
-        Err(error) => Err(error),
-    }
-}
-
-/// Whether it is shown that a program meets nothing undefined.
-fn is_defined(alloc: Global, program: &Program, turns: u32) -> Result<bool, AllocError>
-    ensures { IfOk result (λ defined. OnTrue defined (IsDefined (program_of program.now))) }
-{
-    match verify(alloc, program, turns) {
-        Ok(Verdict::Defined) => Ok(true),
-        Ok(Verdict::DefinedBut(_, _)) => Ok(false),
-        Ok(Verdict::Unknown(_)) => Ok(false),
-        Err(error) => Err(error),
-    }
-}
-
-/// What the calls of a program take at most, where that is no more than the stack has.
-fn bound_within(
-    alloc: Global,
-    program: &Program,
-    stack: StackSize,
-) -> Result<Option<u64>, AllocError>
-    ensures { IfOk result (λ most. IfSome most (λ most. StaysWithin most (program_of program.now) × (most ≤ stack))) }
-{
-    match stack_bound(alloc, program) {
-        Ok(Bound::AtMost(most)) => Ok(within(most, stack)),
-        Ok(Bound::Recursive(_)) => Ok(None),
-        Ok(Bound::Unknown) => Ok(None),
-        Err(error) => Err(error),
-    }
-}
-
-/// A number of bytes, where a stack has as many.
-fn within(most: u64, stack: StackSize) -> Option<u64>
-    ensures { IfSome result (λ m. (m ≡ most) × (m ≤ stack)) }
-{
-    if most <= u64::from(stack.get()) {
-        Some(most)
+    let Bound::AtMost(most) = bound else {
+        return None;
+    };
+    if *most <= u64::from(stack.get()) {
+        Some(Verified {
+            built,
+            most: *most,
+        })
     } else {
         None
     }
