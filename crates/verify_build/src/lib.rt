@@ -1,18 +1,17 @@
-//! The executable file of the very program that was verified.
+//! A program that is verified, and its executable file.
 #![tactic(auto)]
 
-ghost use Rattle.std.specs.Prelude.{◌≡◌, ◌≤◌, IfErr, IfOk, IfSome};
+ghost use Rattle.std.specs.Prelude.{◌≡◌, ◌≤◌, IfOk, IfSome};
 ghost use Rattle.typed_ast.specs.View.{program_of};
 ghost use Rattle.cc_backend.specs.Made.{IsReady};
-ghost use Rattle.cc.specs.Refused.{IsRefused};
 ghost use Rattle.verify.specs.declared.verdict.Verdict.TheVariants.{Defined};
 ghost use Rattle.verify_stack.specs.declared.bounds.Bound.TheVariants.{AtMost};
 ghost use Rattle.verify_stack.specs.Bounds.{Says, size_in};
-ghost use Rattle.verify_build.specs.Verified.{IsShown, IsVerified};
+ghost use Rattle.verify_build.specs.Verified.{IsShown};
 ghost use Rattle.verify_build.specs.Sizes.{frames_listed};
 
-use cc::{Built, StackSize, checked_program, compile_checked};
-use srcset::{Fault, FileSet, Names};
+use cc::{Built, StackSize, compile_checked};
+use srcset::Names;
 use std::alloc::{AllocError, Global};
 use typed_ast::Program;
 use verify::{Verdict, verify};
@@ -60,31 +59,6 @@ pub fn judge(
     })
 }
 
-/// Verifies the program in the file `main` of the set, in so many turns of the analysis at most, and builds its file for a stack of this size: `None` where it
-/// was not shown that nothing undefined is met on any input, and that the stack suffices.
-///
-/// Refuses as `cc::compile_with` does.
-pub fn verified_build(
-    alloc: Global,
-    set: &FileSet,
-    main: &str,
-    stack: StackSize,
-    turns: u32,
-) -> Result<Option<Verified>, Fault>
-    ensures verified { IfOk result (λ file. IfSome file (λ v. IsVerified stack set.now main.now v.built v.most)) }
-    ensures refused { IfErr result (λ fault. IsRefused stack set.now main.now fault) }
-{
-    let mut names = Names::new(alloc);
-    let program = match checked_program(alloc, set, main, &mut names, stack) {
-        Ok(program) => program,
-        Err(fault) => return Err(fault),
-    };
-    match judge(alloc, &program, &names, stack, turns) {
-        Ok(judged) => Ok(judged.file),
-        Err(_) => Err(Fault::memory(alloc)),
-    }
-}
-
 /// The bytes of each frame.
 fn frame_sizes(alloc: Global, entries: &[(String, u32, u32)]) -> Result<Vec<u64>, AllocError>
     ensures { IfOk result (λ r. r.items ≡ frames_listed entries.now) }
@@ -123,18 +97,27 @@ fn bound_by(
 fn shown(verdict: &Verdict, bound: &Bound, built: Built, stack: StackSize) -> Option<Verified>
     ensures { IfSome result (λ v. (v.built ≡ built) × (verdict.now ≡ Defined) × (bound.now ≡ AtMost v.most) × (v.most ≤ stack)) }
 {
-    let Verdict::Defined = verdict else {
-        return None;
-    };
-    let Bound::AtMost(most) = bound else {
-        return None;
-    };
-    if *most <= u64::from(stack.get()) {
-        Some(Verified {
-            built,
-            most: *most,
-        })
-    } else {
-        None
+    match verdict {
+        Verdict::Defined => within(bound, built, stack),
+        Verdict::DefinedBut(_, _) => None,
+        Verdict::Unknown(_) => None,
+    }
+}
+
+/// The file, where the bound is within the stack.
+fn within(bound: &Bound, built: Built, stack: StackSize) -> Option<Verified>
+    ensures { IfSome result (λ v. (v.built ≡ built) × (bound.now ≡ AtMost v.most) × (v.most ≤ stack)) }
+{
+    match bound {
+        Bound::AtMost(most) => if *most <= u64::from(stack.get()) {
+            Some(Verified {
+                built,
+                most: *most,
+            })
+        } else {
+            None
+        },
+        Bound::Recursive(_) => None,
+        Bound::Unknown => None,
     }
 }
