@@ -35,7 +35,7 @@ pub struct Judged {
     pub file: Option<Verified>,
 }
 
-/// Verifies a program that `cc::checked_program` answered with these names, in so many turns of the analysis at most, and builds its file for a stack of this size.
+/// Verifies a program that `cc::checked_program` answered with these names, in so many steps of the analysis at most, and builds its file for a stack of this size.
 ///
 /// Errors: memory ran out.
 pub fn judge(
@@ -43,12 +43,12 @@ pub fn judge(
     program: &Program,
     names: &Names,
     stack: StackSize,
-    turns: u32,
+    effort: u64,
 ) -> Result<Judged, AllocError>
     requires { IsReady (program_of program.now) }
     ensures { IfOk result (λ judged. IfSome judged.file (λ v. IsShown stack names.now (program_of program.now) v.built v.most)) }
 {
-    let verdict = verify(alloc, program, turns)?;
+    let verdict = verify(alloc, program, effort)?;
     let built = compile_checked(alloc, program, names, stack)?;
     let bound = frames_bound(alloc, program, &built)?;
     let file = shown(&verdict, &bound, built, stack);

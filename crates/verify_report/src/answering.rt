@@ -18,9 +18,6 @@ use verify::{Verdict, verify};
 use verify_build::{Verified, judge};
 use verify_expressions::Alarm;
 
-/// How many bodies are analysed at most.
-pub const TURNS: u32 = 20_000;
-
 /// What is asked of a program.
 #[derive(Clone, Copy)]
 pub struct Asked<'a> {
@@ -30,6 +27,8 @@ pub struct Asked<'a> {
     pub main: &'a str,
     pub given: &'a str,
     pub stack: StackSize,
+    /// How many steps an analysis takes at most.
+    pub effort: u64,
     pub form: Form,
     /// The version of the program that tells.
     pub version: &'a str,
@@ -84,7 +83,7 @@ fn judged(
     requires { IsReady (program_of program.now) }
     ensures { IfOk result (λ said. IfSome said.file (λ v. IsShown asked.now.stack names.now (program_of program.now) v.built v.most)) }
 {
-    let judged = judge(alloc, program, names, asked.stack, TURNS)?;
+    let judged = judge(alloc, program, names, asked.stack, asked.effort)?;
     let stack = stack_of(alloc, program, names, &judged.bound, asked.stack)?;
     let out = told(alloc, set, names, &judged.verdict, &stack, asked)?;
     Ok(Said {
@@ -147,7 +146,7 @@ fn laid_alarms(
         return Ok(Vec::new(alloc));
     };
     match checked_program(alloc, &set, asked.main, names, asked.stack) {
-        Ok(program) => alarms_of(alloc, &program),
+        Ok(program) => alarms_of(alloc, &program, asked.effort),
         Err(fault) => if fault.code == Code::OutOfMemory.number() {
             Err(AllocError)
         } else {
@@ -156,8 +155,8 @@ fn laid_alarms(
     }
 }
 
-fn alarms_of(alloc: Global, program: &Program) -> Result<Vec<Alarm>, AllocError> {
-    match verify(alloc, program, TURNS)? {
+fn alarms_of(alloc: Global, program: &Program, effort: u64) -> Result<Vec<Alarm>, AllocError> {
+    match verify(alloc, program, effort)? {
         Verdict::DefinedBut(_, alarms) => Ok(alarms),
         Verdict::Defined | Verdict::Unknown(_) => Ok(Vec::new(alloc)),
     }
