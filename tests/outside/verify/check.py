@@ -273,6 +273,16 @@ def built(words, text):
             return status, out, err, None, False
 
 
+def efforts():
+    """With few steps the analysis ends early and says so; with as many as it takes it says what it says without a bound."""
+    text = 'int main(void) { unsigned s = 0; for (int i = 0; i < 200; i++) s += i; return s & 1; }'
+    for effort, wanted in (('1', 3), ('15000000', 0), ('9223372036854775807', 0)):
+        status, out, err, _, _ = built(['verify', 'a.c', '--effort', effort], text)
+        check('effort: ' + effort, (status, err) == (wanted, '') and ('not followed' in out) == (wanted == 3), status, out, err)
+    for effort in ('0', '-1', 'x', '9223372036854775808'):
+        check('no effort: ' + effort, built(['verify', 'a.c', '--effort', effort], text)[0] == 2)
+
+
 def builds():
     """With -o the program that is shown is built, the file is that of build, and no other program is built."""
     for name, text in DEFINED.items():
@@ -340,6 +350,7 @@ def sound():
 
 
 written()
+efforts()
 builds()
 documents()
 stacks()
