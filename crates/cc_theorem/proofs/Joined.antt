@@ -35,9 +35,9 @@ main_at : (stack : ℕ) (texts : Texts) (file : ℕ) (unit : List ExternalTree) 
 unfolding typed_at
 main_at stack texts file unit p e = units_have_main stack texts (record { file = file; line = 1 }) unit p e
 
-same : {stack : ℕ} {p : Program} {file frames : List ℕ} (made : IsFileOf stack p file frames) (image : Image) (input : List ℕ) → Serves p image input
+same : (stack : ℕ) (p : Program) (file frames : List ℕ) (made : IsFileOf stack p file frames) (image : Image) (input : List ℕ) → Serves p image input
     → CallsAreKept made image input × MainIsKept made image input → DoesTheSame made image input
-same {p = p} made image input m convention = record {
+same stack p file frames made image input m convention = record {
   does_all = whole.all_done p image input m;
   does_no_more = whole.no_more_done p image input m;
   ends_only_so = whole.ends_as_meant p image input m;
@@ -68,9 +68,9 @@ theorem stack set name built made =
         out.2.0,
         out.2.1,
         λ input bytes. record {
-          within_stack = λ fine. same made.file image input (of_one file _ (serves stack p frames file runs) image loads input bytes fine) (of_one file _ (files_keep_convention stack p file frames made.file) image loads input bytes fine);
+          within_stack = λ fine. same stack p file frames made.file image input (of_one file _ (serves stack p frames file runs) image loads input bytes fine) (of_one file _ (files_keep_convention stack p file frames made.file) image loads input bytes fine);
           within_frames = λ fine.
-              same made.file image input (by_frames stack p frames image input (of_one file _ (files_run_within_frames stack p file frames made.file) image loads input bytes) fine)
+              same stack p file frames made.file image input (by_frames stack p frames image input (of_one file _ (files_run_within_frames stack p file frames made.file) image loads input bytes) fine)
               (of_one file _ (files_keep_convention_within_frames stack p file frames made.file) image loads input bytes fine);
           beyond_stack = λ fine. of_one file _ (files_go_up_to_overflow stack p file frames made.file) image loads input bytes fine;
           by_frames = of_one file _ (files_run_within_frames stack p file frames made.file) image loads input bytes;
