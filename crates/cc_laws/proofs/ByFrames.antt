@@ -1,25 +1,34 @@
 -- A file runs as its program does where its frames fit the stack.
-use Rattle.std.proofs.Common.{◌≡◌, ◌≤◌, ◌<◌, ℕ, suc, ◌+◌, ◌*◌, List, length, map, Ok, refl, sym, ap, subst, arith}
+use Rattle.std.proofs.Common.{◌≡◌, ◌≤◌, ◌<◌, ℕ, suc, ◌+◌, ◌-◌, ◌*◌, List, length, map, Ok, refl, sym, ap, ◌∙◌, subst, ⊎_elim, arith}
 use Rattle.std.specs.Prelude.{slice_get}
 use Rattle.std.proofs.Math.Nat.{suc-mul}
+use Rattle.std.proofs.lemmas.Bool.{cases_lt}
 use Rattle.loader.specs.File.{Image, file_image}
 use Rattle.elf_out.specs.Program.{program_image}
 use Rattle.elf_out.proofs.Memory.{written_image}
 use Rattle.typing_spec.specs.Program.{Program}
 use Rattle.csem.specs.History.{trace_of, active, greatest_sum}
-use Rattle.csem.specs.Machine.{State, Stops, Ended, TicksUsed}
-use Rattle.csem.specs.Meaning.{cstep, last_of}
+use Rattle.csem.specs.Machine.{State, Ending, Stops, Ended, Undefined, TicksUsed}
+use Rattle.csem.specs.Meaning.{cstep, ending_of, last_of}
 use Rattle.frames_code.specs.Code as flat
 use Rattle.frames_code.specs.Code.{frame_bytes}
+use Rattle.frames_code.specs.Run as flat_run
 use Rattle.frames_code.specs.Run.{function_at}
+use Rattle.frames.specs.Flattened.{behind}
+use Rattle.frames_correct.proofs.Runs.{run_both}
 use Rattle.cc_backend.specs.Runs.{IsInput}
+use Rattle.cc_backend.specs.FlatImages.{FitStack}
 use Rattle.cc_backend.specs.Made.{IsFileOf}
 use Rattle.cc_backend.specs.Simulation.{Doing, Done, AreWithin, Simulates, both}
 use Rattle.cc_backend.specs.Chain.{of_program, of_flat, of_image, into_flat, into_file}
 use Rattle.cc_backend.proofs.Simulation.{compose}
 use Rattle.cc_backend.proofs.Chain.{frame_known, flat_simulates_program, image_simulates_flat, calls_weigh_within}
 use Rattle.cc_backend.proofs.Making.{way_of}
-use Rattle.cc_laws.specs.Frames.{frame_in, RunsWithinFrames, FilesRunWithinFrames}
+use Rattle.cc_backend.proofs.Forms.{frames_fit}
+use Rattle.cc_laws.specs.Laws.{IsDefined, HasImage, CallsAreKept, MainIsKept}
+use Rattle.cc_laws.specs.Frames.{frame_in, StaysWithinFrames, RunsWithinFrames, FilesRunWithinFrames}
+use Rattle.cc_laws.proofs.Clock.{run_stops}
+use Rattle.cc_laws.proofs.Conventions.{convention}
 
 past : (n a k : ℕ) → n ≤ a * k → 1 ≤ k → n < suc a * k
 past n a k le some = let whole : suc a * k ≡ a * k + k = suc-mul a k in omega (arith, le, some, whole)
@@ -34,7 +43,7 @@ module _ (stack : ℕ) (p : Program) (file frames : List ℕ) (made : IsFileOf s
   abbrev terms : ℕ
   terms = (both into_flat (into_file code)).slack
 
-  own_frame : (g : ℕ) → g < length code.functions → frame_bytes (function_at code g) ≤ frame_in own g
+  pub own_frame : (g : ℕ) → g < length code.functions → frame_bytes (function_at code g) ≤ frame_in own g
   own_frame g lt = let e = frame_known code g (slice_get code.functions g) refl lt in omega (arith, e)
 
   simulates : Simulates (both into_flat (into_file code)) (frame_in own) made.parts.stack (of_program p input) (of_image own (program_image made.parts) input)
@@ -70,4 +79,61 @@ files_run_within_frames stack p file frames made =
       image,
       subst (λ f. file_image f ≡ Ok image) (sym made.file_is) (written_image made.parts made.image_is.size made.image_is.stack.2),
       λ input bytes. runs_within stack p file frames made input bytes,
+    )
+
+-- ---- all frames of the run of flat code
+
+module _ (stack : ℕ) (p : Program) (file frames : List ℕ) (made : IsFileOf stack p file frames) (input : List ℕ) (bytes : IsInput input) (fine : StaysWithinFrames stack frames p input) where
+  abbrev flat_code : flat.Program
+  flat_code = made.code
+
+  abbrev sizes : List ℕ
+  sizes = map frame_bytes made.code.functions
+
+  within : (n : ℕ) → AreWithin (frame_in sizes) made.parts.stack (of_program p input) n
+  within n =
+      let taken : greatest_sum (frame_in sizes) (last_of (cstep n p input)).history ≤ stack = subst (λ xs. greatest_sum (frame_in xs) (last_of (cstep n p input)).history ≤ stack) made.frames_are (fine n).1 in
+      calls_weigh_within (frame_in sizes) p input made.parts.stack n (subst (λ k. greatest_sum (frame_in sizes) (last_of (cstep n p input)).history ≤ k) (sym made.stack_is) taken)
+
+  -- up to step m, where the calls are those of moments of n ticks
+  fit_up_to : (n m : ℕ) → ((calls : List ℕ) → (of_flat flat_code input).Calls m calls → (of_program p input).Calls n calls) → (k : ℕ) → k ≤ m → FitStack made.parts.stack flat_code (behind flat_code input k)
+  fit_up_to n m its k le =
+      frames_fit (frame_in sizes) flat_code made.code_is.sound (own_frame stack p file frames made input bytes) made.parts.stack input k (behind flat_code input k) refl
+      (λ s e. within n (flat_run.active s) (its (flat_run.active s) (k, s, le, e, refl)))
+
+  fits_going : (n : ℕ) (s : State) → cstep n p input ≡ Stops TicksUsed s → FitStack made.parts.stack flat_code (behind flat_code input n)
+  fits_going n s over =
+      let x : Doing = record { trace = trace_of s.history; input = s.input; calls = active s.history } in
+      let c = (flat_simulates_program (frame_in sizes) made.parts.stack p flat_code input (way_of p flat_code made.code_is) bytes).goes_on n x (s, over, refl, refl, refl) (within n) in
+      fit_up_to n c.0 c.5 n (omega (arith, c.1))
+
+  fits_ended : (n status : ℕ) (s : State) → cstep n p input ≡ Stops (Ended status) s → FitStack made.parts.stack flat_code (behind flat_code input n)
+  fits_ended n status s over =
+      let x : Done = record { status = status; trace = trace_of s.history; input = s.input } in
+      let c = (flat_simulates_program (frame_in sizes) made.parts.stack p flat_code input (way_of p flat_code made.code_is) bytes).ends n x (s, over, refl, refl) (within n) in
+      ⊎_elim
+      (λ lt. fit_up_to n c.0 c.3 n (omega (arith, lt)))
+      (λ ge.
+      let sum : n ≡ c.0 + (n - c.0) = omega (arith, ge) in
+      let whole : behind flat_code input n ≡ flat_run.ended status s.input (trace_of s.history) =
+      ap (behind flat_code input) sum ∙ (run_both flat_code c.0 (n - c.0) (flat_run.start flat_code input) ∙ ap (λ x. flat_run.goes_on x (flat_run.run flat_code (n - c.0))) c.2) in
+      subst (FitStack made.parts.stack flat_code) (sym whole) tt)
+      (cases_lt n c.0)
+
+  fits_at : (n : ℕ) (e : Ending) → IsDefined e → cstep n p input ≡ Stops e (last_of (cstep n p input)) → FitStack made.parts.stack flat_code (behind flat_code input n)
+  fits_at n (Ended status) ok stops = fits_ended n status (last_of (cstep n p input)) stops
+  fits_at n (Undefined act there) ok stops = absurd ok
+  fits_at n TicksUsed ok stops = fits_going n (last_of (cstep n p input)) stops
+
+  pub fits_within : (n : ℕ) → FitStack made.parts.stack flat_code (behind flat_code input n)
+  fits_within n = fits_at n (ending_of (cstep n p input)) (fine n).0 (run_stops n p input)
+
+-- where the frames of the active calls are within the stack, each call and main keep the convention
+pub files_keep_convention_within_frames : (stack : ℕ) (p : Program) (file frames : List ℕ) (made : IsFileOf stack p file frames)
+    → HasImage file (λ image. (input : List ℕ) → IsInput input → StaysWithinFrames stack frames p input → CallsAreKept made image input × MainIsKept made image input)
+files_keep_convention_within_frames stack p file frames made =
+    let image = program_image made.parts in (
+      image,
+      subst (λ f. file_image f ≡ Ok image) (sym made.file_is) (written_image made.parts made.image_is.size made.image_is.stack.2),
+      λ input bytes fine. convention stack p file frames made input bytes (fits_within stack p file frames made input bytes fine),
     )

@@ -32,24 +32,14 @@ fit_more few many f flat.stuck le h = tt
 called : (p : flat_code.Program) (s : flat.State) (f : ℕ) → next_of p s ≡ Some (instruction.Call f) → flat.step p s ≡ flat.running (flat.entered s f)
 called p s f e = step_is p s ∙ ap (λ o. o >>= flat.act p s) e
 
-module _ (stack : ℕ) (p : Program) (file frames : List ℕ) (made : IsFileOf stack p file frames) (input : List ℕ) (bytes : IsInput input) (fine : StaysDefined stack p input) where
+-- where all frames of the run of flat code fit the stack, each call and main keep the convention
+module _ (stack : ℕ) (p : Program) (file frames : List ℕ) (made : IsFileOf stack p file frames) (input : List ℕ) (bytes : IsInput input)
+    (fits : (k : ℕ) → FitStack made.parts.stack made.code (flat.run made.code k (flat.start made.code input))) where
   abbrev code : flat_code.Program
   code = made.code
 
   abbrev at : ℕ → flat.Progress
   at k = flat.run code k (flat.start code input)
-
-  fits_ending : (k : ℕ) (e : Ending) → IsDefined e → cstep k p input ≡ Stops e (last_of (cstep k p input)) → FitStack stack code (at k)
-  fits_ending k (Ended status) ok stops =
-      fit_more (answer k p input).greatest stack code (at k) (fine k).1
-      ((frames_are_weighed p code input made.code_is bytes).1 k status (last_of (cstep k p input)) stops k)
-  fits_ending k (Undefined act there) ok stops = absurd ok
-  fits_ending k TicksUsed ok stops =
-      fit_more (answer k p input).greatest stack code (at k) (fine k).1
-      ((frames_are_weighed p code input made.code_is bytes).0 k (last_of (cstep k p input)) stops k (omega arith))
-
-  pub fits : (k : ℕ) → FitStack made.parts.stack code (at k)
-  fits k = subst (λ z. FitStack z code (at k)) (sym made.stack_is) (fits_ending k (ending_of (cstep k p input)) (fine k).0 (run_stops k p input))
 
   -- what a call comes to is what the run comes to behind it
   inner_fits : (n f : ℕ) (s : flat.State) → ComesToCall code input n f s → (j : ℕ) → FitStack made.parts.stack code (flat.run code j (flat.entered s f))
@@ -69,10 +59,30 @@ module _ (stack : ℕ) (p : Program) (file frames : List ℕ) (made : IsFileOf s
       serves_more code (labels made) (data_of made) (λ k. run_of (program_image made.parts) input k) (labels made code.main) (text_start + 16) (flat.start code input) (FitsFor made.parts.stack code (flat.start code input)) Always
       (λ m all j le. fits j) (main_keeps_convention code made.parts input made.image_is bytes (fits 0))
 
+  pub convention : CallsAreKept made (program_image made.parts) input × MainIsKept made (program_image made.parts) input
+  convention = (calls, main)
+
+-- so it is where the weights of the active calls are within the stack
+module _ (stack : ℕ) (p : Program) (file frames : List ℕ) (made : IsFileOf stack p file frames) (input : List ℕ) (bytes : IsInput input) (fine : StaysDefined stack p input) where
+  abbrev run_at : ℕ → flat.Progress
+  run_at k = flat.run made.code k (flat.start made.code input)
+
+  fits_ending : (k : ℕ) (e : Ending) → IsDefined e → cstep k p input ≡ Stops e (last_of (cstep k p input)) → FitStack stack made.code (run_at k)
+  fits_ending k (Ended status) ok stops =
+      fit_more (answer k p input).greatest stack made.code (run_at k) (fine k).1
+      ((frames_are_weighed p made.code input made.code_is bytes).1 k status (last_of (cstep k p input)) stops k)
+  fits_ending k (Undefined act there) ok stops = absurd ok
+  fits_ending k TicksUsed ok stops =
+      fit_more (answer k p input).greatest stack made.code (run_at k) (fine k).1
+      ((frames_are_weighed p made.code input made.code_is bytes).0 k (last_of (cstep k p input)) stops k (omega arith))
+
+  pub fits : (k : ℕ) → FitStack made.parts.stack made.code (run_at k)
+  fits k = subst (λ z. FitStack z made.code (run_at k)) (sym made.stack_is) (fits_ending k (ending_of (cstep k p input)) (fine k).0 (run_stops k p input))
+
 pub files_keep_convention : FilesKeepConvention
 files_keep_convention stack p file frames made =
     let image = program_image made.parts in (
       image,
       subst (λ f. file_image f ≡ Ok image) (sym made.file_is) (written_image made.parts made.image_is.size made.image_is.stack.2),
-      λ input bytes fine. (calls stack p file frames made input bytes fine, main stack p file frames made input bytes fine),
+      λ input bytes fine. convention stack p file frames made input bytes (fits stack p file frames made input bytes fine),
     )

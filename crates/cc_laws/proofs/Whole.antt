@@ -23,21 +23,22 @@ use Rattle.cc_laws.specs.Laws.{StaysDefined, OfEachFile, run_of, done_in, DoesAl
 use Rattle.cc_laws.proofs.Clock.{run_stops, no_ticks}
 use Rattle.cc_laws.proofs.Permissions.{Permits, world_of, run_permits}
 use Rattle.cc_laws.proofs.Steps.{inside_now}
-use Rattle.cc_laws.proofs.Instants.{Stands, same_at, at_some, at_later}
+use Rattle.cc_laws.proofs.Instants.{Stands, same_at, Serves, by_weights, at_some, at_later}
 
 -- it is enough to say it of the image that the file is known to run from
-pub of_each : (Promise : Program → Image → List ℕ → Type 0)
-    → ((stack : ℕ) (p : Program) (frames file : List ℕ) (r : RunsAs stack p frames file) (input : List ℕ) → IsInput input → StaysDefined stack p input → Promise p r.image input)
-    → OfEachFile Promise
-of_each Promise holds stack p frames file r = (r.image, r.loads, holds stack p frames file r)
+of_each : (Promise : Program → Image → List ℕ → Type 0) → ((p : Program) (image : Image) (input : List ℕ) → Serves p image input → Promise p image input) → OfEachFile Promise
+of_each Promise holds stack p frames file r = (r.image, r.loads, λ input bytes fine. holds p r.image input (by_weights stack p frames file r input bytes fine))
 
 -- ---- what the file does
 
+abbrev All : Program → Image → List ℕ → Type 0
+All p image input = (n : ℕ) → (k : ℕ) × (done_in (run_of image input k) ≡ (answer n p input).trace)
+
+pub all_done : (p : Program) (image : Image) (input : List ℕ) → Serves p image input → All p image input
+all_done p image input m n = let found = at_some p image input m n in (found.0, same_at image p input n found.0 found.1)
+
 pub does_all : DoesAll
-does_all = of_each (λ p image input. (n : ℕ) → (k : ℕ) × (done_in (run_of image input k) ≡ (answer n p input).trace))
-    (λ stack p frames file r input bytes fine n.
-    let found = at_some stack p frames file r input bytes fine n in
-    (found.0, same_at r.image p input n found.0 found.1))
+does_all = of_each All all_done
 
 pub done_is : (r : Progress) → done_in r ≡ reverse (trace_of r)
 done_is (Running w) = refl
@@ -51,12 +52,17 @@ begins image input k j =
     let whole = done_is (run_of image input (k + j)) ∙ ap reverse kept.1 ∙ reverse-append kept.0 (trace_of first) in
     (reverse kept.0, whole ∙ ap (λ xs. xs ++ reverse kept.0) (sym (done_is first)))
 
+abbrev NoMore : Program → Image → List ℕ → Type 0
+NoMore p image input = (k : ℕ) → (n : ℕ) × IsBeginning (done_in (run_of image input k)) (answer n p input).trace
+
+pub no_more_done : (p : Program) (image : Image) (input : List ℕ) → Serves p image input → NoMore p image input
+no_more_done p image input m k =
+    let found = at_later p image input m k in
+    let same = same_at image p input found.0 (k + found.1) found.2 in
+    (found.0, subst (IsBeginning (done_in (run_of image input k))) same (begins image input k found.1))
+
 pub does_no_more : DoesNoMore
-does_no_more = of_each (λ p image input. (k : ℕ) → (n : ℕ) × IsBeginning (done_in (run_of image input k)) (answer n p input).trace)
-    (λ stack p frames file r input bytes fine k.
-    let found = at_later stack p frames file r input bytes fine k in
-    let same = same_at r.image p input found.0 (k + found.1) found.2 in
-    (found.0, subst (IsBeginning (done_in (run_of r.image input k))) same (begins r.image input k found.1)))
+does_no_more = of_each NoMore no_more_done
 
 -- ---- where it stays
 
@@ -67,10 +73,10 @@ no_trap_at : (image : Image) (p : Program) (input : List ℕ) (n k : ℕ) (c : C
 no_trap_at image p input n k c w (inl g) e = let both = sym g.runs ∙ e in cc
 no_trap_at image p input n k c w (inr g) e = let both = sym g.runs ∙ e in cc
 
-traps_nowhere : (stack : ℕ) (p : Program) (frames file : List ℕ) (r : RunsAs stack p frames file) (input : List ℕ) → IsInput input → StaysDefined stack p input → TrapsNowhere p r.image input
-traps_nowhere stack p frames file r input bytes fine k c w e =
-    let found = at_later stack p frames file r input bytes fine k in
-    no_trap_at r.image p input found.0 (k + found.1) c w found.2 ((runs_keep k found.1 (start_world r.image input)).2 c w e)
+pub traps_nowhere : (p : Program) (image : Image) (input : List ℕ) → Serves p image input → TrapsNowhere p image input
+traps_nowhere p image input m k c w e =
+    let found = at_later p image input m k in
+    no_trap_at image p input found.0 (k + found.1) c w found.2 ((runs_keep k found.1 (start_world image input)).2 c w e)
 
 pub never_traps : NeverTraps
 never_traps = of_each TrapsNowhere traps_nowhere
@@ -100,12 +106,17 @@ kept_inside s m k h = record {
   puts = λ e which. sym (k.can_read (register m 11)) ∙ h.puts e which;
 }
 
+abbrev Inside : Program → Image → List ℕ → Type 0
+Inside p image input = (k : ℕ) (w : World) → run_of image input k ≡ Running w → IsInside image.space w.machine
+
+pub always_inside : (p : Program) (image : Image) (input : List ℕ) → Serves p image input → Inside p image input
+always_inside p image input m k w e =
+    let kept = subst (λ q. Permits image.space (world_of q).machine.space) e (run_permits k (start_world image input)) in
+    let more = rvrun_more k (start_world image input) w e in
+    kept_inside image.space w.machine kept (inside_now w (λ c v traps. traps_nowhere p image input m (k + 1) c v (more ∙ traps)))
+
 pub stays_inside : StaysInside
-stays_inside = of_each (λ p image input. (k : ℕ) (w : World) → run_of image input k ≡ Running w → IsInside image.space w.machine)
-    (λ stack p frames file r input bytes fine k w e.
-    let kept = subst (λ q. Permits r.image.space (world_of q).machine.space) e (run_permits k (start_world r.image input)) in
-    let more = rvrun_more k (start_world r.image input) w e in
-    kept_inside r.image.space w.machine kept (inside_now w (λ c v traps. traps_nowhere stack p frames file r input bytes fine (k + 1) c v (more ∙ traps))))
+stays_inside = of_each Inside always_inside
 
 -- ---- how it ends
 
@@ -119,11 +130,16 @@ ends_so image p input n k status w (inr g) e =
     let same : g.status ≡ status = cc in
     (n, g.ends ∙ ap Ended same, sym g.same ∙ ap done_in e)
 
+abbrev OnlySo : Program → Image → List ℕ → Type 0
+OnlySo p image input = (k status : ℕ) (w : World) → run_of image input k ≡ sim.Ended status w → EndsSo p image input status w
+
+pub ends_as_meant : (p : Program) (image : Image) (input : List ℕ) → Serves p image input → OnlySo p image input
+ends_as_meant p image input m k status w e =
+    let found = at_later p image input m k in
+    ends_so image p input found.0 (k + found.1) status w found.2 ((runs_keep k found.1 (start_world image input)).1 status w e)
+
 pub ends_only_so : EndsOnlySo
-ends_only_so = of_each (λ p image input. (k status : ℕ) (w : World) → run_of image input k ≡ sim.Ended status w → EndsSo p image input status w)
-    (λ stack p frames file r input bytes fine k status w e.
-    let found = at_later stack p frames file r input bytes fine k in
-    ends_so r.image p input found.0 (k + found.1) status w found.2 ((runs_keep k found.1 (start_world r.image input)).1 status w e))
+ends_only_so = of_each OnlySo ends_as_meant
 
 -- ---- how soon
 

@@ -4,14 +4,18 @@ use Rattle.loader.specs.File.{Image}
 use Rattle.typing_spec.specs.Program.{Program}
 use Rattle.csem.specs.History.{greatest_sum}
 use Rattle.csem.specs.Machine.{State, Stops, Ended, TicksUsed}
-use Rattle.csem.specs.Meaning.{cstep}
+use Rattle.csem.specs.Meaning.{cstep, answer, last_of}
 use Rattle.cc_backend.specs.Runs.{IsInput, bytes_or_none, Reaches, EndsWith, GoesOnWith}
 use Rattle.cc_backend.specs.Made.{IsFileOf}
-use Rattle.cc_laws.specs.Laws.{HasImage}
+use Rattle.cc_laws.specs.Laws.{IsDefined, HasImage}
 
 -- the bytes of the frame of a function by its number
 abbrev pub frame_in : (frames : List ℕ) → ℕ → ℕ
 frame_in frames f = bytes_or_none (slice_get frames f)
+
+-- for every number of ticks, the program meets nothing undefined on this input, and the frames of its active calls never take more than the stack together
+abbrev pub StaysWithinFrames : (stack : ℕ) (frames : List ℕ) → Program → (input : List ℕ) → Type 0
+StaysWithinFrames stack frames p input = (n : ℕ) → IsDefined (answer n p input).ending × (greatest_sum (frame_in frames) (last_of (cstep n p input)).history ≤ stack)
 
 -- Where the frames of the calls that are active at one time never take more than the stack, together, the file does what the abstract machine does: it ends
 -- with its status, or goes on as it does, in at most so many instructions.

@@ -101,7 +101,7 @@ pub fn answer(rt: &HostRuntime, request: &Request<'_>) -> u8 {
                 telling,
             },
         ),
-        Command::Verify { telling, out } => verify_program(rt, program, telling, out),
+        Command::Verify(words) => verify_program(rt, program, &words),
         Command::Frames { has_sizes } => show_frames(rt, program, has_sizes),
         Command::Symbols(out) => write_symbols(rt, program, out),
         Command::Image(form) => show_image(rt, program.main, form),

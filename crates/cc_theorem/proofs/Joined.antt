@@ -12,16 +12,17 @@ use Rattle.cc_backend.specs.Made.{IsFileOf}
 use Rattle.cc.specs.declared.compiling.Built.{Built}
 use Rattle.cc.specs.Compiled.{typed_at}
 use Rattle.cc.specs.Made.{IsMade}
-use Rattle.cc_laws.specs.Laws.{HasImage, HasMain}
+use Rattle.cc_laws.specs.Laws.{StaysDefined, HasImage, HasMain, CallsAreKept, MainIsKept}
+use Rattle.cc_laws.proofs.Instants.{Serves, by_weights, by_frames}
 use Rattle.cc_laws.proofs.Whole as whole
 use Rattle.cc_laws.proofs.Mains.{units_have_main}
 use Rattle.cc_laws.proofs.Made.{files_are_laid_out}
 use Rattle.cc_laws.proofs.Conventions.{files_keep_convention}
 use Rattle.cc_laws.proofs.Overflowing.{files_go_up_to_overflow}
-use Rattle.cc_laws.proofs.ByFrames.{files_run_within_frames}
+use Rattle.cc_laws.proofs.ByFrames.{files_run_within_frames, files_keep_convention_within_frames}
 use Rattle.cc_laws.proofs.Inputs.{does_all_so_far}
 use Rattle.cc_laws.proofs.Reserved.{files_leave_reserved}
-use Rattle.cc_theorem.specs.Theorem.{OnInput, TheTheorem}
+use Rattle.cc_theorem.specs.Theorem.{DoesTheSame, OnInput, TheTheorem}
 
 -- a file has one image
 of_one : (file : List ℕ) (Promise : Image → Type 0) → (has : HasImage file Promise) → (image : Image) → file_image file ≡ Ok image → Promise image
@@ -33,6 +34,22 @@ of_one file Promise has image loads =
 main_at : (stack : ℕ) (texts : Texts) (file : ℕ) (unit : List ExternalTree) (p : Program) → typed_at stack texts file unit ≡ fine p → HasMain p
 unfolding typed_at
 main_at stack texts file unit p e = units_have_main stack texts (record { file = file; line = 1 }) unit p e
+
+same : (stack : ℕ) (p : Program) (file frames : List ℕ) (made : IsFileOf stack p file frames) (image : Image) (input : List ℕ) → Serves p image input
+    → CallsAreKept made image input × MainIsKept made image input → DoesTheSame made image input
+same stack p file frames made image input m convention = record {
+  does_all = whole.all_done p image input m;
+  does_no_more = whole.no_more_done p image input m;
+  ends_only_so = whole.ends_as_meant p image input m;
+  never_traps = whole.traps_nowhere p image input m;
+  stays_inside = whole.always_inside p image input m;
+  calls_are_kept = convention.0;
+  main_is_kept = convention.1;
+}
+
+-- the image from which the file runs serves
+serves : (stack : ℕ) (p : Program) (frames file : List ℕ) → RunsAs stack p frames file → HasImage file (λ image. (input : List ℕ) → IsInput input → StaysDefined stack p input → Serves p image input)
+serves stack p frames file r = (r.image, r.loads, λ input bytes fine. by_weights stack p frames file r input bytes fine)
 
 pub theorem : TheTheorem
 theorem stack set name built made =
@@ -51,17 +68,10 @@ theorem stack set name built made =
         out.2.0,
         out.2.1,
         λ input bytes. record {
-          within_stack = λ fine.
-              let convention = of_one file _ (files_keep_convention stack p file frames made.file) image loads input bytes fine in
-              record {
-                does_all = of_one file _ (whole.does_all stack p frames file runs) image loads input bytes fine;
-                does_no_more = of_one file _ (whole.does_no_more stack p frames file runs) image loads input bytes fine;
-                ends_only_so = of_one file _ (whole.ends_only_so stack p frames file runs) image loads input bytes fine;
-                never_traps = of_one file _ (whole.never_traps stack p frames file runs) image loads input bytes fine;
-                stays_inside = of_one file _ (whole.stays_inside stack p frames file runs) image loads input bytes fine;
-                calls_are_kept = convention.0;
-                main_is_kept = convention.1;
-              };
+          within_stack = λ fine. same stack p file frames made.file image input (of_one file _ (serves stack p frames file runs) image loads input bytes fine) (of_one file _ (files_keep_convention stack p file frames made.file) image loads input bytes fine);
+          within_frames = λ fine.
+              same stack p file frames made.file image input (by_frames stack p frames image input (of_one file _ (files_run_within_frames stack p file frames made.file) image loads input bytes) fine)
+              (of_one file _ (files_keep_convention_within_frames stack p file frames made.file) image loads input bytes fine);
           beyond_stack = λ fine. of_one file _ (files_go_up_to_overflow stack p file frames made.file) image loads input bytes fine;
           by_frames = of_one file _ (files_run_within_frames stack p file frames made.file) image loads input bytes;
           so_far = of_one file _ (does_all_so_far stack p frames file runs) image loads input bytes;

@@ -15,9 +15,9 @@ use Rattle.cc.specs.declared.compiling.Built.{Built}
 use Rattle.cc.specs.Made.{IsMade}
 use Rattle.cc_laws.specs.Laws.{IsDefined, StaysDefined, HasImage, run_of, done_in, IsBeginning, IsInside, IsLaidOut, CallsAreKept, MainIsKept}
 use Rattle.cc_laws.specs.Overflow.{IsAlwaysDefined, GoesUpToOverflow}
-use Rattle.cc_laws.specs.Frames.{RunsWithinFrames}
+use Rattle.cc_laws.specs.Frames.{StaysWithinFrames, RunsWithinFrames}
 
--- Where nothing is undefined, and the stack serves by weights: the file does all that the abstract machine does and nothing else, ends where that ends, never traps and
+-- Where nothing is undefined, and the stack serves: the file does all that the abstract machine does and nothing else, ends where that ends, never traps and
 -- stays in its memory; each call, and main, keeps the calling convention.
 pub record DoesTheSame {stack : ℕ} {p : Program} {file frames : List ℕ} (made : IsFileOf stack p file frames) (image : Image) (input : List ℕ) : Type 0 where
   pub does_all : (n : ℕ) → (k : ℕ) × (done_in (run_of image input k) ≡ (answer n p input).trace)
@@ -30,7 +30,9 @@ pub record DoesTheSame {stack : ℕ} {p : Program} {file frames : List ℕ} (mad
 
 -- on one input of bytes
 pub record OnInput {stack : ℕ} {p : Program} {file frames : List ℕ} (made : IsFileOf stack p file frames) (image : Image) (input : List ℕ) : Type 0 where
+  -- the stack serves by the weights that the source gives, or by the frames in the file, which are never larger
   pub within_stack : StaysDefined stack p input → DoesTheSame made image input
+  pub within_frames : StaysWithinFrames stack frames p input → DoesTheSame made image input
   pub beyond_stack : IsAlwaysDefined p input → GoesUpToOverflow made.parts p image input
   pub by_frames : RunsWithinFrames stack p frames image input
   -- whatever comes later, undefined behaviour too

@@ -74,6 +74,11 @@ const HABITS: &[Habit] = &[
         act: Act::KeepValue,
     },
     Habit {
+        text: "--effort",
+        is_whole: true,
+        act: Act::KeepValue,
+    },
+    Habit {
         text: "--trace-file",
         is_whole: true,
         act: Act::KeepValue,

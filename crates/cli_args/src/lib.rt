@@ -16,5 +16,5 @@ pub use habits::{Refused, plain_words};
 pub use reading::{Reading, macro_name};
 pub use request::{
     Colours, Command, ImageForm, Program, Request, Role, Rule, ShownForm, Stage, Telling, Trace,
-    Word,
+    VerifyWords, Word,
 };

@@ -2,13 +2,16 @@
 
 use crate::request::{
     Colours, Command, ImageForm, Program, Request, Role, Rule, ShownForm, Stage, Telling, Trace,
-    Word,
+    VerifyWords, Word,
 };
 use clap::ArgMatches;
 use std::alloc::{AllocError, Global};
 
 /// How many instructions or ticks a run may take where the words do not say.
 const USUAL_MAX: u64 = 1_000_000_000;
+
+/// How many steps an analysis may take where the words do not say.
+const USUAL_EFFORT: u64 = 15_000_000;
 
 /// How many faults are explained where that is not said.
 const USUAL_ERRORS: u64 = 20;
@@ -52,10 +55,7 @@ pub fn read<'a>(alloc: Global, matches: &ArgMatches<'a>) -> Result<Reading<'a>, 
         "explain" => Ok(explain(inner)),
         "show" => Ok(show(inner)),
         "check" => Ok(check(inner)),
-        "verify" => Ok(Command::Verify {
-            telling: telling(inner),
-            out: inner.get_str("OUT"),
-        }),
+        "verify" => Ok(Command::Verify(verify(inner))),
         "frames" => Ok(Command::Frames {
             has_sizes: inner.get_flag("sizes"),
         }),
@@ -262,6 +262,14 @@ fn interp<'a>(inner: &ArgMatches<'a>) -> Result<Command<'a>, &'static str> {
         trace,
         is_json,
     })
+}
+
+fn verify<'a>(inner: &ArgMatches<'a>) -> VerifyWords<'a> {
+    VerifyWords {
+        effort: inner.get_one::<u64>("effort").unwrap_or(USUAL_EFFORT),
+        telling: telling(inner),
+        out: inner.get_str("OUT"),
+    }
 }
 
 fn max(inner: &ArgMatches<'_>) -> u64 {

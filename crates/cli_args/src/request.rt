@@ -168,10 +168,7 @@ pub enum Command<'a> {
         telling: Telling,
     },
     /// Tell whether anything undefined is done, on any input; where nothing is, and the stack suffices, compile to the file at a path.
-    Verify {
-        telling: Telling,
-        out: Option<&'a str>,
-    },
+    Verify(VerifyWords<'a>),
     /// Print what each function takes, with addresses and sizes or without.
     Frames {
         has_sizes: bool,
@@ -184,6 +181,16 @@ pub enum Command<'a> {
     Size,
     /// Serve an editor over the standard streams.
     Lsp,
+}
+
+/// What `verify` is asked for.
+#[derive(Clone, Copy)]
+pub struct VerifyWords<'a> {
+    /// How many steps the analysis takes at most.
+    pub effort: u64,
+    pub telling: Telling,
+    /// The path of the executable file.
+    pub out: Option<&'a str>,
 }
 
 /// What the words of a command line ask for.

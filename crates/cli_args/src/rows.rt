@@ -326,6 +326,18 @@ pub const MAX_RUN: Row = Row {
     apart: &[],
 };
 
+/// How many steps an analysis may take.
+pub const EFFORT: Row = Row {
+    id: "effort",
+    short: None,
+    long: Some("effort"),
+    value: Some("N"),
+    kind: Kind::Number(1, 9223372036854775807),
+    default: Some("15000000"),
+    help: "At most this many steps of the analysis",
+    apart: &[],
+};
+
 /// How many ticks an interpreter may take.
 pub const MAX_TICKS: Row = Row {
     id: "max",

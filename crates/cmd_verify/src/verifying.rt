@@ -1,14 +1,12 @@
 //! A program that is verified, and built where it is shown.
 
-use cc::StackSize;
-use cli_args::{Program, Telling};
-use cli_io::{TAKEN, put_executable, put_out, say, say_memory, say_usage};
+use cli_args::{Program, VerifyWords};
+use cli_io::{TAKEN, put_executable, put_out, say_memory, say_usage};
 use cli_sources::{Sources, is_taken, read_sources, stack_size};
 use cmd_check::{plain_version, put_refused, put_unread, report_form};
 use srcset::Fault;
 use std::alloc::{AllocError, Global};
-use verify_build::verified_build;
-use verify_report::{Asked, Said, TURNS, verify_sources};
+use verify_report::{Asked, Said, verify_sources};
 
 /// The exit status of a program of which it could not be shown that it is defined and that its stack suffices.
 const NOT_SHOWN: u8 = 3;
@@ -17,14 +15,14 @@ const NOT_SHOWN: u8 = 3;
 const NO_STREAM: &str = "the verdict goes to standard output: -o OUT wants a path";
 
 /// Tells whether a program does anything undefined, on any input, and how much of its stack it takes, and where it is defined and its stack suffices writes its executable
-/// file at the path `out`; answers the exit status: 0 where it is defined and the stack suffices, 3 where that was not shown, 1 where the program is refused.
+/// file at the path that is given; answers the exit status: 0 where it is defined and the stack suffices, 3 where that was not shown, 1 where the program is refused.
 pub fn verify_program(
     rt: &HostRuntime,
     program: &Program<'_>,
-    telling: Telling,
-    out: Option<&str>,
+    words: &VerifyWords<'_>,
 ) -> u8 {
-    let path = out.unwrap_or_default();
+    let telling = words.telling;
+    let path = words.out.unwrap_or_default();
     if path == "-" {
         return say_usage(rt, NO_STREAM);
     }
@@ -38,8 +36,8 @@ pub fn verify_program(
     if sources.are_at(rt, path) {
         return say_usage(rt, TAKEN);
     }
-    match said(rt.alloc(), program, &sources, telling) {
-        Ok(Ok(said)) => put_verdict(rt, program, &sources, &said, out),
+    match said(rt.alloc(), program, &sources, words) {
+        Ok(Ok(said)) => put_verdict(rt, &said, words.out),
         Ok(Err(fault)) => put_refused(rt, program, &sources, fault, telling),
         Err(_) => say_memory(rt),
     }
@@ -50,7 +48,7 @@ fn said(
     alloc: Global,
     program: &Program<'_>,
     sources: &Sources<'_>,
-    telling: Telling,
+    words: &VerifyWords<'_>,
 ) -> Result<Result<Said, Fault>, AllocError> {
     let names = sources.names(alloc)?;
     let asked = Asked {
@@ -58,33 +56,21 @@ fn said(
         main: sources.main,
         given: sources.given,
         stack: stack_size(program),
-        form: report_form(telling),
+        effort: words.effort,
+        form: report_form(words.telling),
         version: plain_version(),
     };
     Ok(verify_sources(alloc, &sources.set, &asked))
 }
 
 /// Writes the verdict, and the executable file of a program that is shown.
-fn put_verdict(
-    rt: &HostRuntime,
-    program: &Program<'_>,
-    sources: &Sources<'_>,
-    said: &Said,
-    out: Option<&str>,
-) -> u8 {
-    let status = if said.is_shown { 0 } else { NOT_SHOWN };
-    let status = put_out(rt, said.out.as_bytes(), status);
+fn put_verdict(rt: &HostRuntime, said: &Said, out: Option<&str>) -> u8 {
+    let Some(verified) = &said.file else {
+        return put_out(rt, said.out.as_bytes(), NOT_SHOWN);
+    };
+    let status = put_out(rt, said.out.as_bytes(), 0);
     match out {
-        Some(path) if status == 0 => put_verified(rt, sources, path, stack_size(program)),
+        Some(path) if status == 0 => put_executable(rt, path, verified.built.elf.as_slice()),
         _ => status,
-    }
-}
-
-/// Verifies and builds the program, and writes its executable file.
-fn put_verified(rt: &HostRuntime, sources: &Sources<'_>, path: &str, stack: StackSize) -> u8 {
-    match verified_build(rt.alloc(), &sources.set, sources.main, stack, TURNS) {
-        Ok(Some(verified)) => put_executable(rt, path, verified.built.elf.as_slice()),
-        Ok(None) => NOT_SHOWN,
-        Err(fault) => say(rt, &fault),
     }
 }

@@ -1,6 +1,7 @@
 //! The objects before the run (6.2.4p3, 6.4.5p6, 6.7.9p10).
 
-ghost use Rattle.std.specs.Prelude.{◌≡◌, ◌++◌, ◌∷◌, [], length, map, pos, IfOk, IfSome, IsTrue};
+ghost use Rattle.std.specs.Prelude.{◌≡◌, ◌≤◌, ◌++◌, ◌∷◌, [], length, map, pos, IfOk, IfSome, IsTrue};
+ghost use Rattle.typing_spec.specs.Types.{elements_in};
 ghost use Rattle.typed_ast.specs.View.{program_of, static_of};
 ghost use Rattle.csem.specs.Store.{literal_object, static_object};
 ghost use Rattle.verify_logic.specs.States.{In, ObjectsAre, TreeIs};
@@ -63,8 +64,57 @@ fn interval_of(values: &[i64]) -> Option<Interval>
     if each && zero { Some(i) } else { None }
 }
 
-/// What the elements of an object with static storage are.
-fn static_value(object: &Static) -> Option<AbsValue>
+/// The least interval that holds each of the values. It is a guess: nothing rests on it.
+fn guessed_alone(values: &[i64]) -> Interval {
+    let first = values.first().copied().unwrap_or(0);
+    let mut low = first;
+    let mut high = first;
+    for v in values {
+        low = lesser(low, *v);
+        high = greater(high, *v);
+    }
+    Interval { low, high }
+}
+
+/// An interval that holds each of the values.
+fn interval_alone(values: &[i64]) -> Option<Interval>
+    ensures { IfSome result (λ i. EachIn i values.now) }
+{
+    let i = guessed_alone(values);
+    let each = holds_each(i, values);
+    if each { Some(i) } else { None }
+}
+
+/// Tests whether there are as many values as elements of an object of these lengths.
+fn are_enough(lengths: &[u32], count: usize) -> bool
+    ensures { IsTrue result → elements_in lengths.now ≤ count }
+{
+    let mut rows: u64 = 1;
+    let mut rest = lengths;
+    while let Some((n, more)) = rest.split_first() {
+        let Some(product) = rows.checked_mul(u64::from(*n)) else {
+            return false;
+        };
+        rows = product;
+        rest = more;
+    }
+    rows <= count as u64
+}
+
+/// What the elements of an object are that has a value for each.
+fn whole_value(object: &Static) -> Option<AbsValue>
+    requires { elements_in (static_of object.now).type.lengths ≤ length object.now.values.items }
+    ensures { IfSome result (λ k. TreeIs k (static_of object.now).type.lengths (static_object (static_of object.now))) }
+{
+    let Some(i) = interval_alone(&object.values) else {
+        return None;
+    };
+    let k = initialised(i);
+    Some(k)
+}
+
+/// What the elements of an object are whose last ones may be 0 (6.7.9p21).
+fn padded_value(object: &Static) -> Option<AbsValue>
     ensures { IfSome result (λ k. TreeIs k (static_of object.now).type.lengths (static_object (static_of object.now))) }
 {
     let Some(i) = interval_of(&object.values) else {
@@ -72,6 +122,18 @@ fn static_value(object: &Static) -> Option<AbsValue>
     };
     let k = initialised(i);
     Some(k)
+}
+
+/// What the elements of an object with static storage are.
+fn static_value(object: &Static) -> Option<AbsValue>
+    ensures { IfSome result (λ k. TreeIs k (static_of object.now).type.lengths (static_object (static_of object.now))) }
+{
+    let enough = are_enough(&object.object_type.lengths, object.values.len());
+    if enough {
+        whole_value(object)
+    } else {
+        padded_value(object)
+    }
 }
 
 /// The least interval from 0 on that holds each character. It is a guess: nothing rests on it.

@@ -6,4 +6,4 @@ mod first_objects;
 mod verdict;
 mod work;
 
-pub use verdict::{Verdict, verify};
+pub use verdict::{USUAL_EFFORT, Verdict, verify};

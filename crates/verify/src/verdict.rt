@@ -15,8 +15,11 @@ use verify_expressions::{Alarm, Memory, Stop, Summary, Wanted, new_memory};
 /// How many calls may be entered in one another.
 const DEPTH: usize = 64;
 
-/// How many steps the analysis takes at most: a statement and a comparison take one each time, and more where there are many objects.
-const STEPS: u64 = 15_000_000;
+/// How many steps the analysis takes at most, where nothing else is asked: a statement and a comparison take one each time, and more where there are many objects.
+pub const USUAL_EFFORT: u64 = 15_000_000;
+
+/// How many bodies are analysed at most.
+const TURNS: u32 = 20_000;
 
 /// What was shown of a program. It is sound and not complete: no verdict says that a program is wrong.
 #[derive(Drop)]
@@ -218,16 +221,16 @@ fn nothing(alloc: Global, program: &Program) -> Work
     }
 }
 
-/// Analyses a program, in so many turns at most, and so long as its work is bounded. A turn analyses one body: main's, or that of a
-/// function that is called with arguments of which nothing is known yet. Each place that is not ruled out is listed.
+/// Analyses a program, in so many steps at most. A turn analyses one body: main's, or that of a function that is called with arguments of which
+/// nothing is known yet. Each place that is not ruled out is listed.
 ///
 /// Errors: memory ran out.
-pub fn verify(alloc: Global, program: &Program, turns: u32) -> Result<Verdict, AllocError>
+pub fn verify(alloc: Global, program: &Program, effort: u64) -> Result<Verdict, AllocError>
     ensures { IfOk result (λ v. Says (program_of program.now) v) }
 {
-    let memory = new_memory(alloc, STEPS);
+    let memory = new_memory(alloc, effort);
     let mut work = nothing(alloc, program);
-    for _turn in 0..turns {
+    for _turn in 0..TURNS {
         match turned(&memory, program, work) {
             Err(fault) => return Err(fault),
             Ok(Turn::Done(verdict)) => return Ok(verdict),

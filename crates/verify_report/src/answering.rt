@@ -1,6 +1,10 @@
 //! The verdict on a set of files.
 
-ghost use Rattle.std.specs.Prelude.{◌≡◌, []};
+ghost use Rattle.std.specs.Prelude.{◌≡◌, [], IfErr, IfOk, IfSome};
+ghost use Rattle.typed_ast.specs.View.{program_of};
+ghost use Rattle.cc_backend.specs.Made.{IsReady};
+ghost use Rattle.cc.specs.Refused.{IsRefused};
+ghost use Rattle.verify_build.specs.Verified.{IsShown, IsVerified};
 
 use crate::placing::{by_lines, by_tokens, have_same_lines};
 use crate::stack::{Stack, stack_of};
@@ -11,10 +15,8 @@ use srcset::{Code, Fault, FileSet, Names};
 use std::alloc::{AllocError, Global};
 use typed_ast::Program;
 use verify::{Verdict, verify};
+use verify_build::{Verified, judge};
 use verify_expressions::Alarm;
-
-/// How many bodies are analysed at most.
-pub const TURNS: u32 = 20_000;
 
 /// What is asked of a program.
 #[derive(Clone, Copy)]
@@ -25,6 +27,8 @@ pub struct Asked<'a> {
     pub main: &'a str,
     pub given: &'a str,
     pub stack: StackSize,
+    /// How many steps an analysis takes at most.
+    pub effort: u64,
     pub form: Form,
     /// The version of the program that tells.
     pub version: &'a str,
@@ -45,48 +49,63 @@ impl<'a> Asked<'a> {
 #[derive(Drop)]
 pub struct Said {
     pub out: String,
-    /// Whether the program is defined on every input, and its stack suffices.
-    pub is_shown: bool,
+    /// The file of the program, where it is defined on every input and its stack suffices.
+    pub file: Option<Verified>,
 }
 
-/// Tells whether the program of these sources does anything undefined, on any input, and how much of its stack it takes.
+/// Tells whether the program of these sources does anything undefined, on any input, and how much of its stack it takes; where it is defined and the stack suffices, answers its
+/// file too.
 ///
-/// Refuses as `cc::checked_program` does.
-pub fn verify_sources(alloc: Global, set: &FileSet, asked: &Asked<'_>) -> Result<Said, Fault> {
+/// Refuses as `cc::compile_with` does.
+pub fn verify_sources(alloc: Global, set: &FileSet, asked: &Asked<'_>) -> Result<Said, Fault>
+    ensures verified { IfOk result (λ said. IfSome said.file (λ v. IsVerified asked.now.stack set.now asked.now.main.now v.built v.most)) }
+    ensures refused { IfErr result (λ fault. IsRefused asked.now.stack set.now asked.now.main.now fault) }
+{
     let mut names = Names::new(alloc);
-    let program = checked_program(alloc, set, asked.main, &mut names, asked.stack)?;
+    let program = match checked_program(alloc, set, asked.main, &mut names, asked.stack) {
+        Ok(program) => program,
+        Err(fault) => return Err(fault),
+    };
     match judged(alloc, set, &program, &names, asked) {
         Ok(said) => Ok(said),
         Err(_) => Err(Fault::memory(alloc)),
     }
 }
 
+/// What is told of a typed program.
 fn judged(
     alloc: Global,
     set: &FileSet,
     program: &Program,
     names: &Names,
     asked: &Asked<'_>,
-) -> Result<Said, AllocError> {
-    let stack = stack_of(alloc, program, names, asked.stack)?;
-    let verdict = verify(alloc, program, TURNS)?;
-    let out = match &verdict {
-        Verdict::Defined => tell_defined(alloc, &stack, asked)?,
-        Verdict::DefinedBut(_, alarms) => {
-            with_alarms(alloc, set, names, alarms.as_slice(), &stack, asked)?
-        }
-        Verdict::Unknown(at) => tell_not_followed(alloc, names, *at, &stack, asked)?,
-    };
+) -> Result<Said, AllocError>
+    requires { IsReady (program_of program.now) }
+    ensures { IfOk result (λ said. IfSome said.file (λ v. IsShown asked.now.stack names.now (program_of program.now) v.built v.most)) }
+{
+    let judged = judge(alloc, program, names, asked.stack, asked.effort)?;
+    let stack = stack_of(alloc, program, names, &judged.bound, asked.stack)?;
+    let out = told(alloc, set, names, &judged.verdict, &stack, asked)?;
     Ok(Said {
         out,
-        is_shown: is_defined(&verdict) && stack.suffices(),
+        file: judged.file,
     })
 }
 
-fn is_defined(verdict: &Verdict) -> bool {
+fn told(
+    alloc: Global,
+    set: &FileSet,
+    names: &Names,
+    verdict: &Verdict,
+    stack: &Stack,
+    asked: &Asked<'_>,
+) -> Result<String, AllocError> {
     match verdict {
-        Verdict::Defined => true,
-        Verdict::DefinedBut(_, _) | Verdict::Unknown(_) => false,
+        Verdict::Defined => tell_defined(alloc, stack, asked),
+        Verdict::DefinedBut(_, alarms) => {
+            with_alarms(alloc, set, names, alarms.as_slice(), stack, asked)
+        }
+        Verdict::Unknown(at) => tell_not_followed(alloc, names, *at, stack, asked),
     }
 }
 
@@ -127,7 +146,7 @@ fn laid_alarms(
         return Ok(Vec::new(alloc));
     };
     match checked_program(alloc, &set, asked.main, names, asked.stack) {
-        Ok(program) => alarms_of(alloc, &program),
+        Ok(program) => alarms_of(alloc, &program, asked.effort),
         Err(fault) => if fault.code == Code::OutOfMemory.number() {
             Err(AllocError)
         } else {
@@ -136,8 +155,8 @@ fn laid_alarms(
     }
 }
 
-fn alarms_of(alloc: Global, program: &Program) -> Result<Vec<Alarm>, AllocError> {
-    match verify(alloc, program, TURNS)? {
+fn alarms_of(alloc: Global, program: &Program, effort: u64) -> Result<Vec<Alarm>, AllocError> {
+    match verify(alloc, program, effort)? {
         Verdict::DefinedBut(_, alarms) => Ok(alarms),
         Verdict::Defined | Verdict::Unknown(_) => Ok(Vec::new(alloc)),
     }

@@ -6,5 +6,6 @@ mod placing;
 mod stack;
 mod telling;
 
-pub use answering::{Asked, Said, TURNS, verify_sources};
+pub use answering::{Asked, Said, verify_sources};
 pub use lint_report::Form;
+pub use verify::USUAL_EFFORT;

@@ -4,7 +4,7 @@ use cc::StackSize;
 use srcset::Names;
 use std::alloc::{AllocError, Global};
 use typed_ast::Program;
-use verify_stack::{Bound, Recursion, stack_bound};
+use verify_stack::{Bound, Recursion};
 
 /// How many functions of a recursion are named at most.
 const MAX_NAMED: usize = 8;
@@ -20,18 +20,19 @@ pub(crate) struct Stack {
     pub(crate) recursion: String,
 }
 
-/// How much of a stack of this size a program takes.
+/// How much of a stack of this size a program with this bound takes.
 pub(crate) fn stack_of(
     alloc: Global,
     program: &Program,
     names: &Names,
+    bound: &Bound,
     size: StackSize,
 ) -> Result<Stack, AllocError> {
     let mut recursion = String::new(alloc);
-    let most = match stack_bound(alloc, program)? {
-        Bound::AtMost(most) => Some(most),
+    let most = match bound {
+        Bound::AtMost(most) => Some(*most),
         Bound::Recursive(found) => {
-            put_recursion(program, names, &found, &mut recursion)?;
+            put_recursion(program, names, found, &mut recursion)?;
             None
         }
         Bound::Unknown => None,

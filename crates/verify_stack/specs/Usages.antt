@@ -1,5 +1,5 @@
--- The stack usage of functions: for each by its number a sum of weights that a call of it takes at most, with the calls within it, or none where
--- nothing is said. How usages were found does not matter: these inequalities are enough, and where weights are above 0 no recursion meets them.
+-- The stack usage of functions: for each by its number a sum of sizes that a call of it takes at most, with the calls within it, or none where
+-- nothing is said. How usages were found does not matter: these inequalities are enough, and where sizes are above 0 no recursion meets them.
 use Rattle.std.specs.Prelude.{ℕ, ◌≤◌, ◌-◌, List, [], ◌∷◌, Option, Some, None, slice_get}
 use Rattle.typing_spec.specs.Program.{Function, Program}
 use Rattle.verify_stack.specs.Calls.{statement_calls}
@@ -14,20 +14,21 @@ abbrev pub EachFits : (usages : List (Option ℕ)) → (room : ℕ) → (calls :
 EachFits usages room [] = Unit {0}
 EachFits usages room (f ∷ calls) = FitsIn room (slice_get usages f) × EachFits usages room calls
 
--- a function uses its weight, and beside it the usage of any of the calls in its body
-pub record Covers (usages : List (Option ℕ)) (g : Function) (usage : ℕ) : Type 0 where
-  pub weight : g.weight ≤ usage
-  pub calls : EachFits usages (usage - g.weight) (statement_calls g.body)
+-- a function uses its own size, and beside it the usage of any of the calls in its body
+pub record Covers (usages : List (Option ℕ)) (size : ℕ) (g : Function) (usage : ℕ) : Type 0 where
+  pub own : size ≤ usage
+  pub calls : EachFits usages (usage - size) (statement_calls g.body)
 
-abbrev pub CoversIfSaid : (usages : List (Option ℕ)) → Function → Option ℕ → Type 0
-CoversIfSaid usages g None = Unit {0}
-CoversIfSaid usages g (Some usage) = Covers usages g usage
+abbrev pub CoversIfSaid : (usages : List (Option ℕ)) (size : ℕ) → Function → Option ℕ → Type 0
+CoversIfSaid usages size g None = Unit {0}
+CoversIfSaid usages size g (Some usage) = Covers usages size g usage
 
--- so it is of each of these functions, whose usages these are
-abbrev pub EachCovers : (usages : List (Option ℕ)) → List Function → List (Option ℕ) → Type 0
-EachCovers usages [] ns = Unit {0}
-EachCovers usages (g ∷ gs) [] = Unit {0}
-EachCovers usages (g ∷ gs) (n ∷ ns) = CoversIfSaid usages g n × EachCovers usages gs ns
+-- so it is of each of these functions, whose usages and sizes these are
+abbrev pub EachCovers : (usages : List (Option ℕ)) → List Function → List (Option ℕ) → (sizes : List ℕ) → Type 0
+EachCovers usages [] ns sizes = Unit {0}
+EachCovers usages (g ∷ gs) [] sizes = Unit {0}
+EachCovers usages (g ∷ gs) (n ∷ ns) [] = ⊥
+EachCovers usages (g ∷ gs) (n ∷ ns) (s ∷ sizes) = CoversIfSaid usages s g n × EachCovers usages gs ns sizes
 
-abbrev pub AreUsages : Program → List (Option ℕ) → Type 0
-AreUsages p usages = EachCovers usages p.functions usages
+abbrev pub AreUsages : Program → (sizes : List ℕ) → List (Option ℕ) → Type 0
+AreUsages p sizes usages = EachCovers usages p.functions usages sizes

@@ -1,4 +1,4 @@
-//! How much stack a program takes at most, on any input: a bound of the sums of the weights of its calls.
+//! How much stack a program takes at most, on any input: a bound of the sums of the weights, or of the frames, of its calls.
 #![tactic(auto)]
 
 mod bounds;
@@ -7,4 +7,4 @@ mod recursions;
 mod search;
 mod usages;
 
-pub use bounds::{Bound, Recursion, stack_bound};
+pub use bounds::{Bound, Recursion, stack_bound, stack_bound_by};

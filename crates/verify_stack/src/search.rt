@@ -10,7 +10,7 @@ use typed_ast::Program;
 #[derive(Drop)]
 struct Visit {
     function: usize,
-    weight: u64,
+    size: u64,
     calls: Vec<usize>,
     /// How many of the calls are done, and the greatest usage among them.
     done: usize,
@@ -39,6 +39,7 @@ pub enum Found {
 fn begin(
     alloc: Global,
     program: &Program,
+    sizes: &[u64],
     progress: &mut Progress,
     f: usize,
 ) -> Result<(), AllocError> {
@@ -51,7 +52,7 @@ fn begin(
     let calls = body_calls(alloc, function)?;
     let visit = Visit {
         function: f,
-        weight: function.weight,
+        size: sizes.get(f).copied().unwrap_or(0),
         calls,
         done: 0,
         most: 0,
@@ -86,7 +87,7 @@ fn recursion(alloc: Global, visits: &[Visit], function: usize) -> Result<Recursi
 /// Ends the visit of a function.
 fn end(progress: &mut Progress, visit: &Visit) {
     if let Some(usage) = progress.usages.get_mut(visit.function) {
-        *usage = Some(visit.weight.saturating_add(visit.most));
+        *usage = Some(visit.size.saturating_add(visit.most));
     }
 }
 
@@ -109,7 +110,7 @@ fn usage(progress: &Progress, f: usize) -> Option<u64> {
 fn behind_call(visit: Visit, usage: u64) -> Visit {
     Visit {
         function: visit.function,
-        weight: visit.weight,
+        size: visit.size,
         calls: visit.calls,
         done: visit.done.saturating_add(1),
         most: visit.most.max(usage),
@@ -120,6 +121,7 @@ fn behind_call(visit: Visit, usage: u64) -> Visit {
 fn follow(
     alloc: Global,
     program: &Program,
+    sizes: &[u64],
     progress: &mut Progress,
     visit: Visit,
     f: usize,
@@ -134,7 +136,7 @@ fn follow(
             if is_begun(progress, f) {
                 return Ok(Some(f));
             }
-            begin(alloc, program, progress, f)?;
+            begin(alloc, program, sizes, progress, f)?;
             Ok(None)
         }
     }
@@ -144,6 +146,7 @@ fn follow(
 fn turn(
     alloc: Global,
     program: &Program,
+    sizes: &[u64],
     progress: &mut Progress,
     visit: Visit,
 ) -> Result<Option<usize>, AllocError> {
@@ -154,7 +157,7 @@ fn turn(
         }
         Some(f) => {
             let f = *f;
-            follow(alloc, program, progress, visit, f)
+            follow(alloc, program, sizes, progress, visit, f)
         }
     }
 }
@@ -174,15 +177,19 @@ fn nothing(alloc: Global, count: usize) -> Result<Progress, AllocError> {
 /// Searches a program from main on. It takes a turn for each function, and two for each call.
 ///
 /// Errors: memory ran out.
-pub fn find_usages(alloc: Global, program: &Program) -> Result<Found, AllocError> {
+pub fn find_usages(
+    alloc: Global,
+    program: &Program,
+    sizes: &[u64],
+) -> Result<Found, AllocError> {
     let mut progress = nothing(alloc, program.functions.len())?;
-    begin(alloc, program, &mut progress, program.main)?;
+    begin(alloc, program, sizes, &mut progress, program.main)?;
     // The search ends long before so many turns: that it ends at all is plain from the range.
     for _turn in 0..u64::MAX {
         let Some(visit) = progress.visits.pop() else {
             break;
         };
-        if let Some(again) = turn(alloc, program, &mut progress, visit)? {
+        if let Some(again) = turn(alloc, program, sizes, &mut progress, visit)? {
             return Ok(Found::Recursion(recursion(alloc, &progress.visits, again)?));
         }
     }

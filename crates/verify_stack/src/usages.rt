@@ -36,30 +36,31 @@ fn each_fits(usages: &[Option<u64>], room: u64, calls: &[usize]) -> bool
 fn covers(
     alloc: Global,
     usages: &[Option<u64>],
+    size: u64,
     function: &Function,
     usage: u64,
 ) -> Result<bool, AllocError>
-    ensures { IfOk result (λ b. IsTrue b → Covers usages.now (function_of function.now) usage) }
+    ensures { IfOk result (λ b. IsTrue b → Covers usages.now size (function_of function.now) usage) }
 {
-    let weight = function.weight;
-    if usage < weight {
+    if usage < size {
         return Ok(false);
     }
     let calls = body_calls(alloc, function)?;
-    Ok(each_fits(usages, usage - weight, &calls))
+    Ok(each_fits(usages, usage - size, &calls))
 }
 
 fn covers_if_said(
     alloc: Global,
     usages: &[Option<u64>],
+    size: u64,
     function: &Function,
     usage: Option<u64>,
 ) -> Result<bool, AllocError>
-    ensures { IfOk result (λ b. IsTrue b → CoversIfSaid usages.now (function_of function.now) usage) }
+    ensures { IfOk result (λ b. IsTrue b → CoversIfSaid usages.now size (function_of function.now) usage) }
 {
     match usage {
         None => Ok(true),
-        Some(usage) => covers(alloc, usages, function, usage),
+        Some(usage) => covers(alloc, usages, size, function, usage),
     }
 }
 
@@ -67,34 +68,41 @@ fn each_covers(
     alloc: Global,
     usages: &[Option<u64>],
     functions: &[Function],
+    sizes: &[u64],
 ) -> Result<bool, AllocError>
-    ensures { IfOk result (λ b. IsTrue b → EachCovers usages.now (map function_of functions.now) usages.now) }
+    ensures { IfOk result (λ b. IsTrue b → EachCovers usages.now (map function_of functions.now) usages.now sizes.now) }
 {
     let mut rest = functions;
     let mut left = usages;
+    let mut own = sizes;
     while let Some((function, functions)) = rest.split_first() {
         let Some((usage, others)) = left.split_first() else {
             return Ok(true);
         };
-        let covered = covers_if_said(alloc, usages, function, *usage)?;
+        let Some((size, more)) = own.split_first() else {
+            return Ok(false);
+        };
+        let covered = covers_if_said(alloc, usages, *size, function, *usage)?;
         if !covered {
             return Ok(false);
         }
         rest = functions;
         left = others;
+        own = more;
     }
     Ok(true)
 }
 
-/// Tests whether these are stack usages of functions, by their numbers; none says nothing of a function.
+/// Tests whether these are stack usages of functions with these sizes, by their numbers; none says nothing of a function.
 ///
 /// Errors: memory ran out.
 pub fn are_usages(
     alloc: Global,
     program: &Program,
+    sizes: &[u64],
     usages: &[Option<u64>],
 ) -> Result<bool, AllocError>
-    ensures { IfOk result (λ b. IsTrue b → AreUsages (program_of program.now) usages.now) }
+    ensures { IfOk result (λ b. IsTrue b → AreUsages (program_of program.now) sizes.now usages.now) }
 {
-    each_covers(alloc, usages, &program.functions)
+    each_covers(alloc, usages, &program.functions, sizes)
 }

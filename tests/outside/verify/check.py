@@ -107,7 +107,7 @@ BEHIND = {
 }
 
 
-# The calls from main whose weights are the bound of the stack: by hand, of calls in each place where one may stand.
+# The calls from main whose frames are the bound of the stack: by hand, of calls in each place where one may stand.
 DEEPEST = {
     'the greatest': ('void f(void) { }\nvoid g(void) { int big[100]; big[0] = 1; }\nint main(void) { f(); g(); f(); return 0; }', ['main', 'g']),
     'a condition': ('int f(void) { return 1; }\nint main(void) { if (f()) return 1; return 0; }', ['main', 'f']),
@@ -126,13 +126,19 @@ RECURSIONS = {
 }
 
 
-def weights(text):
-    """The weight of each function, as `zkc frames` has it."""
+def frames(text):
+    """The bytes of the frame of each function, as `zkc frames` has it."""
     with tempfile.TemporaryDirectory() as work:
         with open(os.path.join(work, 'a.c'), 'w') as file:
             file.write(text)
         lines = [line.split() for line in cc(work, 'frames', 'a.c')[1].split('\n')[1:]]
-    return {words[0]: int(words[2]) for words in lines if len(words) > 2 and words[2].isdigit()}
+    return {words[0]: int(words[1]) for words in lines if len(words) > 2 and words[2].isdigit()}
+
+
+def taken(work):
+    """How many bytes of stack a run of the file `a` takes, by the stack pointers of its trace."""
+    told = re.findall(r'x2=([0-9A-F]{8})', cc(work, 'run', 'a', '--trace')[2])
+    return 0x80000000 - min(int(address, 16) for address in told)
 
 
 def chain(count):
@@ -142,19 +148,21 @@ def chain(count):
 
 def stacks():
     for name, (text, way) in DEEPEST.items():
-        most = sum(weights(text + '\n')[function] for function in way)
+        most = sum(frames(text + '\n')[function] for function in way)
         for stack, wanted in ((1 << 20, 'stack at most %d of 1048576 bytes' % most), (4096, 'stack at most %d of 4096 bytes' % most)):
             with tempfile.TemporaryDirectory() as work:
                 with open(os.path.join(work, 'a.c'), 'w') as file:
                     file.write(text + '\n')
                 said = cc(work, 'verify', 'a.c', '--stack', str(stack))
+                runs = cc(work, 'build', 'a.c', '-o', 'a', '--stack', str(stack))[0] == 0 and taken(work)
             check('stack: %s, of %d' % (name, stack), said[1].endswith(wanted + '\n') and said[2] == '', said)
+            check('taken: %s, of %d' % (name, stack), runs == (most if name != 'what no run comes to' else 16), runs, most)
     for name, (text, told) in RECURSIONS.items():
         status, out, err = verified([('a.c', text.encode() + b'\n')])
         check('recursion: ' + name, (status, err) == (3, '') and out.split('\n')[-2].endswith('the stack may not suffice: ' + told), status, out, err)
     text = chain(3000) + '\n'
     status, out, err = verified([('a.c', text.encode())])
-    most = sum(weights(text).values())
+    most = sum(frames(text).values())
     check('a chain of 3,000 functions', err == '' and ('stack at most %d of' % most in out if most <= 1 << 20 else status == 3 and 'the stack may not suffice: %d of' % most in out), status, out[-300:], err)
 
 
@@ -265,6 +273,16 @@ def built(words, text):
             return status, out, err, None, False
 
 
+def efforts():
+    """With few steps the analysis ends early and says so; with as many as it takes it says what it says without a bound."""
+    text = 'int main(void) { unsigned s = 0; for (int i = 0; i < 200; i++) s += i; return s & 1; }'
+    for effort, wanted in (('1', 3), ('15000000', 0), ('9223372036854775807', 0)):
+        status, out, err, _, _ = built(['verify', 'a.c', '--effort', effort], text)
+        check('effort: ' + effort, (status, err) == (wanted, '') and ('not followed' in out) == (wanted == 3), status, out, err)
+    for effort in ('0', '-1', 'x', '9223372036854775808'):
+        check('no effort: ' + effort, built(['verify', 'a.c', '--effort', effort], text)[0] == 2)
+
+
 def builds():
     """With -o the program that is shown is built, the file is that of build, and no other program is built."""
     for name, text in DEFINED.items():
@@ -332,6 +350,7 @@ def sound():
 
 
 written()
+efforts()
 builds()
 documents()
 stacks()
