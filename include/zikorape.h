@@ -18,11 +18,12 @@
    STATUS, as of the program zkc:
      0    done; zk_interpret and zk_run: the program's own status, 0 to 255
      1    a fault, which the message tells: FILE:LINE: CODE TEXT (docs/FAULTS.md), or cc: 801 out of memory
-     123  zk_interpret: an undefined act; the message tells which, and where
-     124  zk_interpret, zk_run: the program goes on after so many ticks or instructions
+     123  zk_interpret, zk_trace: an undefined act; the message tells which, and where
+     124  zk_interpret, zk_trace, zk_run: the program goes on after so many ticks or instructions
      125  zk_run: a trap; the message tells which, and where
-     126  zk_interpret, zk_run: memory ran out for the output
+     126  zk_interpret, zk_trace, zk_run: memory ran out for the output
      256  the lengths of `files` do not add up to that of `texts`; zk_form: there is no such form
+     257  zk_trace: it wants more input than it was given
    A program can end with any status from 0 to 255; where it ended by itself, the message is empty.
 
    STACK. A call takes up to 2.25 MiB of its thread's stack, for a source of depth 256. A thread of glibc has 8 MiB by default; those
@@ -108,6 +109,17 @@ uint32_t zk_form(const uint8_t *texts, size_t texts_length, const struct zk_file
 uint32_t zk_interpret(const uint8_t *texts, size_t texts_length, const struct zk_file *files, size_t files_length,
                       const uint8_t *main, size_t main_length, const uint8_t *input, size_t input_length, uint64_t max,
                       uint8_t *out, size_t out_length, uint8_t *message, size_t message_length, struct zk_sizes *sizes);
+
+/* The same run, told: JSON lines, as `zkc interp --trace --json` writes them (docs/INSPECT.md), of each statement, each object that gets a value, each function
+   that is entered and left, each byte that is got and put. `max` counts ticks from the start; what comes before the tick `from` is left out, and 0 leaves
+   out nothing. The status is that of zk_interpret, and the output is as far as the run came. Where `is_open` is not 0, the input may go on: a read behind
+   it is answered by 257, and the run waits.
+   Nothing is kept between calls. After 124 the next slice is from `max` + 1 to a greater `max`; after 257 the same slice over more input begins with
+   the lines that this one had. Each call runs from the start, and a tick that is not told costs about what one of zk_interpret does. */
+uint32_t zk_trace(const uint8_t *texts, size_t texts_length, const struct zk_file *files, size_t files_length,
+                  const uint8_t *main, size_t main_length, const uint8_t *input, size_t input_length,
+                  uint32_t is_open, uint64_t max, uint64_t from,
+                  uint8_t *out, size_t out_length, uint8_t *message, size_t message_length, struct zk_sizes *sizes);
 
 /* Runs an executable file, which a message calls by this name, over this input, for at most `max` instructions; the output is
    what it has put. */
