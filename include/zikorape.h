@@ -54,8 +54,10 @@ uint32_t zk_build_with(const uint8_t *texts, size_t texts_length, const struct z
                        uint8_t *out, size_t out_length, uint8_t *message, size_t message_length, struct zk_sizes *sizes);
 
 /* The functions of the program, in order, and its objects with static storage, by their addresses, as JSON: { "functions": [{ "name", "address",
-   "size", "frame", "weight", "calls": [names] }], "objects": [{ "name", which a string literal has not, "address", "size" }] }; sizes, frames and
-   weights are bytes. */
+   "size", "frame", "weight", "calls": [names], "file", "line", "lines": [{ "file", "line", "address" }] }], "objects": [{ "name", which a string
+   literal has not, "address", "size" }] }; sizes, frames and weights are bytes. The file and the line are those of the function's name; its lines begin
+   with that one, at its first instruction, and go on with those of its statements, in the order of their code. Of several at one address those before the
+   last have no code. */
 uint32_t zk_functions(const uint8_t *texts, size_t texts_length, const struct zk_file *files, size_t files_length,
                       const uint8_t *main, size_t main_length, uint32_t stack,
                       uint8_t *out, size_t out_length, uint8_t *message, size_t message_length, struct zk_sizes *sizes);
@@ -88,7 +90,7 @@ uint32_t zk_frames(const uint8_t *texts, size_t texts_length, const struct zk_fi
                    const uint8_t *main, size_t main_length,
                    uint8_t *out, size_t out_length, uint8_t *message, size_t message_length, struct zk_sizes *sizes);
 
-/* The tokens after preprocessing, one space between, and a newline. */
+/* The tokens after preprocessing, one space between, and a newline. With their places: form 0 of zk_form. */
 uint32_t zk_preprocess(const uint8_t *texts, size_t texts_length, const struct zk_file *files, size_t files_length,
                        const uint8_t *main, size_t main_length,
                        uint8_t *out, size_t out_length, uint8_t *message, size_t message_length, struct zk_sizes *sizes);

@@ -55,7 +55,7 @@ export interface Library {
   build(files: Files, main: string): Answer;
   /** With a stack of so many bytes, a multiple of 4,096 up to 16,777,216. */
   buildWith(files: Files, main: string, stack: number): Answer;
-  /** JSON: functions with addresses, sizes, frames, weights and calls, and objects. */
+  /** JSON: functions with addresses, sizes, frames, weights, calls and lines, and objects. */
   functions(files: Files, main: string, stack?: number): Answer;
   /** The bytes that a file loads: 0 as they are, 1 Intel's hexadecimal records, 2 for Verilog. */
   image(file: Uint8Array, form?: number, name?: string): Answer;
@@ -73,6 +73,18 @@ export interface Library {
   version(): string;
   memory(): number;
 }
+
+/** What `serve` asks for input, and gives output to. */
+export interface Service {
+  /** A text; an empty one at the end of the input; null where there is none yet. */
+  get?: () => Text | null;
+  put?: (bytes: Uint8Array) => void;
+  max?: number;
+  slice?: number;
+}
+
+/** At most `max` instructions more of a machine, with input and output by functions. Answers as `run` does. */
+export function serve(machine: KeptMachine, service?: Service): number;
 
 export function load(at?: URL | string): Promise<Library>;
 export function compile(bytes: BufferSource): WebAssembly.Module;

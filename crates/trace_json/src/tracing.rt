@@ -97,14 +97,14 @@ fn run_told(
     );
     let (written, lines) = trace.into_writer();
     if written.is_whole {
-        Ok(told(status, message, lines))
+        Ok(ended(status, message, lines))
     } else {
         Err(AllocError)
     }
 }
 
-/// What is told of a run with this status, message and lines. The port refuses to read only where the input is open and used up.
-fn told(status: u8, message: Vec<u8>, lines: Vec<u8>) -> Told {
+/// What is told of a run that ended with this status and message. The port refuses to read only where the input is open and used up.
+fn ended(status: u8, message: Vec<u8>, lines: Vec<u8>) -> Told {
     let waits = message.as_slice() == CANNOT_READ;
     let mut message = message;
     if waits {

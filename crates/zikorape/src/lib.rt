@@ -7,6 +7,7 @@
 mod building;
 mod commands;
 mod files;
+mod functions;
 mod giving;
 mod refusing;
 mod showing;
@@ -31,6 +32,7 @@ ghost use base.Fml.{fex, fsep, ftrue};
 
 use cc::{Cmd, StackSize};
 use files::{FileLengths, text_or_empty};
+use functions::tell_functions;
 use giving::{OUT_OF_MEMORY, Sizes, give, hand_out};
 use machine_kept::{Halt, Kept};
 use refusing::{NO_FILES, given, refuse};
@@ -41,7 +43,7 @@ use standing::{Standing, stand};
 use std::alloc::Global;
 use std::{mem, ptr};
 use trace_json::Asked;
-use telling::{names_of, tell_faults, tell_functions, tell_image, tell_verdict, tell_warnings};
+use telling::{names_of, tell_faults, tell_image, tell_verdict, tell_warnings};
 use tracing::tell_trace;
 
 /// The version of the library.
@@ -87,8 +89,8 @@ pub extern "C" fn zk_build_with(
     build_stacked(alloc, texts, files, main, stack, out, message, sizes)
 }
 
-/// The functions of the program in the file `main` with their addresses, sizes, frames, weights and calls, and its objects, as JSON. It has
-/// no clause but that it is safe.
+/// The functions of the program in the file `main` with their addresses, sizes, frames, weights, calls and lines, and its objects, as JSON. It
+/// has no clause but that it is safe.
 #[unsafe(no_mangle)]
 pub extern "C" fn zk_functions(
     alloc: Global,
