@@ -65,6 +65,8 @@ export interface Library {
   /** JSON: 0 tokens, 1 syntax tree, 2 typed program, 3 three-address code, 4 flat code. */
   form(files: Files, main: string, form: number): Answer;
   interpret(files: Files, main: string, input?: Text, max?: number): Answer;
+  /** The same run as JSON lines, from the tick `from` on; where the input is open (1), a read behind it is answered by the status 257. */
+  trace(files: Files, main: string, input?: Text, isOpen?: 0 | 1, max?: number, from?: number): Answer;
   run(file: Uint8Array, name: string, input?: Text, max?: number): Answer;
   step(file: Uint8Array, input: Text, count: number, after: number, halt: number, from: number, length: number): Machine;
   /** Throws where the file is not loaded. */
@@ -85,6 +87,31 @@ export interface Service {
 
 /** At most `max` instructions more of a machine, with input and output by functions. Answers as `run` does. */
 export function serve(machine: KeptMachine, service?: Service): number;
+
+/** What a run of the interpreter did: the events of `zkc interp --trace --json`. */
+export type Event =
+  | { event: 'enter'; function: string }
+  | { event: 'statement'; file: string; line: number }
+  | { event: 'set'; name: string; path: number[]; value: number }
+  | { event: 'further'; name: string }
+  | { event: 'leave'; function: string; value: number | null }
+  | { event: 'put'; byte: number }
+  | { event: 'get'; byte: number | null };
+
+/** A run of the interpreter that is kept. */
+export class Interpreter {
+  constructor(zk: Library, files: Files, main: string);
+  /** 0 it goes on, 1 it ended, 2 it did something undefined, 3 memory ran out, 4 the program is refused, 5 it wants input. */
+  readonly outcome: number;
+  /** The status. */
+  readonly detail: number;
+  /** What was undefined and where, or the fault. */
+  readonly message: string;
+  input(text: Text): void;
+  closeInput(): void;
+  /** Goes on to the tick `until`, counted from the start. */
+  run(until?: number): Event[];
+}
 
 export function load(at?: URL | string): Promise<Library>;
 export function compile(bytes: BufferSource): WebAssembly.Module;

@@ -111,6 +111,32 @@ if (serve(endless, { max: 100000 }) !== 0 || endless.steps() !== 100000) throw n
 """ % tuple(repr(text) for text in (RIGHT, WRONG, RIGHT, ADDS, ECHO))
 
 
+KEPT_RUN = """
+import { Interpreter, load } from 'zikorape';
+const zk = await load();
+const files = [['main.c', %s]];
+let whole;
+try { whole = new TextDecoder().decode(zk.trace(files, 'main.c', 'ab', 0, 100000).output); } catch { console.log('no zk_trace'); process.exit(); }
+const run = new Interpreter(zk, files, 'main.c'), told = [], rest = ['a', 'b'];
+for (let until = 3; ; ) {
+  told.push(...run.run(until));
+  if (run.outcome === 0) until += 3;
+  else if (run.outcome !== 5) break;
+  else if (rest.length) run.input(rest.shift());
+  else run.closeInput();
+}
+if (run.outcome !== 1 || run.detail !== 0) throw new Error('it ends: ' + run.outcome);
+if (JSON.stringify(told) !== JSON.stringify(whole.split('\\n').filter(line => line).map(line => JSON.parse(line)))) throw new Error('what is told');
+const wrong = new Interpreter(zk, [['w.c', 'int main(void) { int a; return a; }\\n']], 'w.c');
+wrong.run(100);
+if (wrong.outcome !== 2 || wrong.message !== 'w.c:1: undefined U6') throw new Error(wrong.message);
+const refused = new Interpreter(zk, [['w.c', 'int main(void) { return x; }\\n']], 'w.c');
+refused.run(100);
+if (refused.outcome !== 4 || !refused.message.startsWith('w.c:1: 528')) throw new Error(refused.message);
+console.log('told');
+""" % repr(ECHO)
+
+
 def node(work):
     if not shutil.which('npm') or not shutil.which('node'):
         return leave_out('the npm package: no npm')
@@ -131,6 +157,13 @@ def node(work):
     with open(os.path.join(work, 'documented.mjs'), 'w') as file:
         file.write(documented('js'))
     status, out, err = call(['node', 'documented.mjs'], work)
+    with open(os.path.join(work, 'kept.mjs'), 'w') as file:
+        file.write(KEPT_RUN)
+    if call(['node', 'kept.mjs'], work)[1] == 'no zk_trace\n':
+        leave_out('runs of the interpreter in Node: the module has no zk_trace')
+    else:
+        status, kept, said = call(['node', 'kept.mjs'], work)
+        check('node: a run that is kept', (status, kept) == (0, 'told\n'), kept, said)
     check('node: the lines of docs/LIBRARY.md', (status, out, err) == (0, '1 42 b\n', ''), out, err)
 
 
