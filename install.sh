@@ -45,15 +45,15 @@ for out in bindings/out release; do
         else
             ${CC:-gcc} -shared -o "$to/lib/libzikorape.so" -Wl,--whole-archive "$out/libzikorape.a" -Wl,--no-whole-archive
         fi
-        cp include/zikorape.h include/zikorape_machine.h "$to/include/"
+        cp include/zikorape.h include/zikorape_machine.h include/zikorape_interp.h "$to/include/"
         mkdir -p "$to/share/zikorape/zikorape" "$to/lib/cmake/zikorape"
-        cp bindings/python/zikorape/__init__.py bindings/python/zikorape/py.typed "$to/share/zikorape/zikorape/"
+        cp bindings/python/zikorape/__init__.py bindings/python/zikorape/magic.py bindings/python/zikorape/py.typed "$to/share/zikorape/zikorape/"
         cp share/zikorape-config.cmake "$to/lib/cmake/zikorape/"
         mkdir -p "$to/lib/pkgconfig"
         printf '%s\n' "prefix=$prefix" 'Name: zikorape' 'Description: the compiler zkc as a library' "Version: $("$program" --version | sed 's/^[a-z]* //; s/,.*//')" \
             'Cflags: -I${prefix}/include' 'Libs: -L${prefix}/lib -lzikorape' >"$to/lib/pkgconfig/zikorape.pc"
-        chmod 644 "$to/lib/libzikorape.a" "$to/include/zikorape.h" "$to/include/zikorape_machine.h" "$to/share/zikorape/zikorape/"* "$to/lib/cmake/zikorape/"* "$to/lib/pkgconfig/zikorape.pc"
-        printf '%s\n' "$to/lib/libzikorape.a" "$to/lib/libzikorape.so" "$to/include/zikorape.h" "$to/include/zikorape_machine.h" "$to/share/zikorape/zikorape/__init__.py" "$to/lib/cmake/zikorape/zikorape-config.cmake" "$to/lib/pkgconfig/zikorape.pc"
+        chmod 644 "$to/lib/libzikorape.a" "$to/include/zikorape.h" "$to/include/zikorape_machine.h" "$to/include/zikorape_interp.h" "$to/share/zikorape/zikorape/"* "$to/lib/cmake/zikorape/"* "$to/lib/pkgconfig/zikorape.pc"
+        printf '%s\n' "$to/lib/libzikorape.a" "$to/lib/libzikorape.so" "$to/include/zikorape.h" "$to/include/zikorape_machine.h" "$to/include/zikorape_interp.h" "$to/share/zikorape/zikorape/__init__.py" "$to/lib/cmake/zikorape/zikorape-config.cmake" "$to/lib/pkgconfig/zikorape.pc"
         exit 0
     fi
 done

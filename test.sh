@@ -67,6 +67,7 @@ checks() {
     cat <<'END'
 library      | python3                                  | python3 tests/outside/library/check.py "$cc"
 machines     | python3                                  | python3 tests/outside/library/machines.py "$cc"
+told         | python3                                  | python3 tests/outside/library/told.py "$cc"
 packages     | python3                                  | python3 tests/outside/library/packages.py
 page         | python3                                  | sh tests/outside/page/check.sh "$cc"
 boards       | python3                                  | cases tests/outside/boards/check.py "$cc"

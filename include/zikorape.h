@@ -18,11 +18,12 @@
    STATUS, as of the program zkc:
      0    done; zk_interpret and zk_run: the program's own status, 0 to 255
      1    a fault, which the message tells: FILE:LINE: CODE TEXT (docs/DIAGNOSTICS.md), or cc: 801 out of memory
-     123  zk_interpret: an undefined act; the message tells which, and where
-     124  zk_interpret, zk_run: the program goes on after so many ticks or instructions
+     123  zk_interpret, zk_trace: an undefined act; the message tells which, and where
+     124  zk_interpret, zk_trace, zk_run: the program goes on after so many ticks or instructions
      125  zk_run: a trap; the message tells which, and where
-     126  zk_interpret, zk_run: memory ran out for the output
+     126  zk_interpret, zk_trace, zk_run: memory ran out for the output
      256  the lengths of `files` do not add up to that of `texts`; zk_form: there is no such form
+     257  zk_trace: it wants more input than it was given
    A program can end with any status from 0 to 255; where it ended by itself, the message is empty.
 
    STACK. A call takes up to 2.25 MiB of its thread's stack, for a source of depth 256. A thread of glibc has 8 MiB by default; those
@@ -53,8 +54,10 @@ uint32_t zk_build_with(const uint8_t *texts, size_t texts_length, const struct z
                        uint8_t *out, size_t out_length, uint8_t *message, size_t message_length, struct zk_sizes *sizes);
 
 /* The functions of the program, in order, and its objects with static storage, by their addresses, as JSON: { "functions": [{ "name", "address",
-   "size", "frame", "weight", "calls": [names] }], "objects": [{ "name", which a string literal has not, "address", "size" }] }; sizes, frames and
-   weights are bytes. */
+   "size", "frame", "weight", "calls": [names], "file", "line", "lines": [{ "file", "line", "address" }] }], "objects": [{ "name", which a string
+   literal has not, "address", "size" }] }; sizes, frames and weights are bytes. The file and the line are those of the function's name; its lines begin
+   with that one, at its first instruction, and go on with those of its statements, in the order of their code. Of several at one address those before the
+   last have no code. */
 uint32_t zk_functions(const uint8_t *texts, size_t texts_length, const struct zk_file *files, size_t files_length,
                       const uint8_t *main, size_t main_length, uint32_t stack,
                       uint8_t *out, size_t out_length, uint8_t *message, size_t message_length, struct zk_sizes *sizes);
@@ -87,7 +90,7 @@ uint32_t zk_frames(const uint8_t *texts, size_t texts_length, const struct zk_fi
                    const uint8_t *main, size_t main_length,
                    uint8_t *out, size_t out_length, uint8_t *message, size_t message_length, struct zk_sizes *sizes);
 
-/* The tokens after preprocessing, one space between, and a newline. */
+/* The tokens after preprocessing, one space between, and a newline. With their places: form 0 of zk_form. */
 uint32_t zk_preprocess(const uint8_t *texts, size_t texts_length, const struct zk_file *files, size_t files_length,
                        const uint8_t *main, size_t main_length,
                        uint8_t *out, size_t out_length, uint8_t *message, size_t message_length, struct zk_sizes *sizes);
@@ -108,6 +111,17 @@ uint32_t zk_form(const uint8_t *texts, size_t texts_length, const struct zk_file
 uint32_t zk_interpret(const uint8_t *texts, size_t texts_length, const struct zk_file *files, size_t files_length,
                       const uint8_t *main, size_t main_length, const uint8_t *input, size_t input_length, uint64_t max,
                       uint8_t *out, size_t out_length, uint8_t *message, size_t message_length, struct zk_sizes *sizes);
+
+/* The same run, told: JSON lines, as `zkc interp --trace --json` writes them (docs/TOOLS.md), of each statement, each object that gets a value, each function
+   that is entered and left, each byte that is got and put. `max` counts ticks from the start; what comes before the tick `from` is left out, and 0 leaves
+   out nothing. The status is that of zk_interpret, and the output is as far as the run came. Where `is_open` is not 0, the input may go on: a read behind
+   it is answered by 257, and the run waits.
+   Nothing is kept between calls. After 124 the next slice is from `max` + 1 to a greater `max`; after 257 the same slice over more input begins with
+   the lines that this one had. Each call runs from the start, and a tick that is not told costs about what one of zk_interpret does. */
+uint32_t zk_trace(const uint8_t *texts, size_t texts_length, const struct zk_file *files, size_t files_length,
+                  const uint8_t *main, size_t main_length, const uint8_t *input, size_t input_length,
+                  uint32_t is_open, uint64_t max, uint64_t from,
+                  uint8_t *out, size_t out_length, uint8_t *message, size_t message_length, struct zk_sizes *sizes);
 
 /* Runs an executable file, which a message calls by this name, over this input, for at most `max` instructions; the output is
    what it has put. */

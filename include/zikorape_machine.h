@@ -5,7 +5,9 @@
        zk_machine_input(m, bytes, n);
        while (zk_machine_run(m, 1000) == 0) { .. }          runs in slices; 5: it wants input
        n = zk_machine_output(m, buffer, sizeof buffer);     what it has put since
-       zk_machine_free(m); */
+       zk_machine_free(m);
+
+   or with its input and output by callback: while (zk_machine_serve(m, 1000000, get, put, context) == 0) { .. } */
 #ifndef ZIKORAPE_MACHINE_H
 #define ZIKORAPE_MACHINE_H
 #include <stdlib.h>
@@ -95,6 +97,33 @@ static inline size_t zk_machine_output(zk_kept *m, uint8_t *bytes, size_t room) 
     }
     m->taken += n;
     return n;
+}
+
+/* What a callback that gives input answers in place of a byte: there is no more; there is none yet. */
+enum { ZK_END = -1, ZK_LATER = -2 };
+
+/* At most `max` instructions more, with input and output by callback. `get` answers the next byte of the input, ZK_END or ZK_LATER; `put` takes a byte of the
+   output and answers 0, or another number, which stops the run. Each byte that was put is handed on before the next is asked for, and at the latest after
+   65,536 instructions. Answers as _run does: 0 where `max` were taken or `put` stopped it, and 5 after ZK_LATER; 3 where memory ran out for the input too.
+   Call it again to go on: what a callback does between is the caller's, as to stop a program that has no end. */
+static inline uint32_t zk_machine_serve(zk_kept *m, uint64_t max, int (*get)(void *), int (*put)(void *, uint8_t), void *context) {
+    uint64_t from = zk_machine_steps(m);
+    for (;;) {
+        uint64_t left = max - (zk_machine_steps(m) - from);
+        uint32_t answer = zk_machine_run(m, left < 65536 ? left : 65536);
+        uint8_t byte;
+        while (zk_machine_output(m, &byte, 1))
+            if (put(context, byte)) return 0;
+        if (answer != 5) {
+            if (answer || zk_machine_steps(m) - from >= max) return answer;
+            continue;
+        }
+        int next = get(context);
+        if (next == ZK_LATER) return 5;
+        byte = (uint8_t)next;
+        if (next == ZK_END) zk_machine_close_input(m);
+        else if (!zk_machine_input(m, &byte, 1)) return 3;
+    }
 }
 
 /* Where it stands: free() frees it. Null where memory runs out. What was set by _write and _set is no part of it. */

@@ -55,7 +55,7 @@ export interface Library {
   build(files: Files, main: string): Answer;
   /** With a stack of so many bytes, a multiple of 4,096 up to 16,777,216. */
   buildWith(files: Files, main: string, stack: number): Answer;
-  /** JSON: functions with addresses, sizes, frames, weights and calls, and objects. */
+  /** JSON: functions with addresses, sizes, frames, weights, calls and lines, and objects. */
   functions(files: Files, main: string, stack?: number): Answer;
   /** The bytes that a file loads: 0 as they are, 1 Intel's hexadecimal records, 2 for Verilog. */
   image(file: Uint8Array, form?: number, name?: string): Answer;
@@ -65,6 +65,8 @@ export interface Library {
   /** JSON: 0 tokens, 1 syntax tree, 2 typed program, 3 three-address code, 4 flat code. */
   form(files: Files, main: string, form: number): Answer;
   interpret(files: Files, main: string, input?: Text, max?: number): Answer;
+  /** The same run as JSON lines, from the tick `from` on; where the input is open (1), a read behind it is answered by the status 257. */
+  trace(files: Files, main: string, input?: Text, isOpen?: 0 | 1, max?: number, from?: number): Answer;
   run(file: Uint8Array, name: string, input?: Text, max?: number): Answer;
   step(file: Uint8Array, input: Text, count: number, after: number, halt: number, from: number, length: number): Machine;
   /** Throws where the file is not loaded. */
@@ -72,6 +74,43 @@ export interface Library {
   message(code: number): string;
   version(): string;
   memory(): number;
+}
+
+/** What `serve` asks for input, and gives output to. */
+export interface Service {
+  /** A text; an empty one at the end of the input; null where there is none yet. */
+  get?: () => Text | null;
+  put?: (bytes: Uint8Array) => void;
+  max?: number;
+  slice?: number;
+}
+
+/** At most `max` instructions more of a machine, with input and output by functions. Answers as `run` does. */
+export function serve(machine: KeptMachine, service?: Service): number;
+
+/** What a run of the interpreter did: the events of `zkc interp --trace --json`. */
+export type Event =
+  | { event: 'enter'; function: string }
+  | { event: 'statement'; file: string; line: number }
+  | { event: 'set'; name: string; path: number[]; value: number }
+  | { event: 'further'; name: string }
+  | { event: 'leave'; function: string; value: number | null }
+  | { event: 'put'; byte: number }
+  | { event: 'get'; byte: number | null };
+
+/** A run of the interpreter that is kept. */
+export class Interpreter {
+  constructor(zk: Library, files: Files, main: string);
+  /** 0 it goes on, 1 it ended, 2 it did something undefined, 3 memory ran out, 4 the program is refused, 5 it wants input. */
+  readonly outcome: number;
+  /** The status. */
+  readonly detail: number;
+  /** What was undefined and where, or the fault. */
+  readonly message: string;
+  input(text: Text): void;
+  closeInput(): void;
+  /** Goes on to the tick `until`, counted from the start. */
+  run(until?: number): Event[];
 }
 
 export function load(at?: URL | string): Promise<Library>;

@@ -1,5 +1,5 @@
-"""Zikorape from Python, by ctypes: `build`, `functions`, `frames`, `warnings`, `preprocess`, `listing`, `form`, `interpret`, `run`,
-`step`, `machine`, `image`, `message`, `version`.
+"""Zikorape from Python, by ctypes: `build`, `functions`, `frames`, `warnings`, `verify`, `explain`, `preprocess`, `listing`, `form`, `interpret`,
+`trace`, `interpreter`, `run`, `step`, `machine`, `image`, `message`, `version`.
 
     import zikorape
     zk = zikorape.Library()
@@ -12,20 +12,34 @@ A machine that is kept runs in slices, takes input while it runs, shows itself, 
         while machine.run(1000) == zikorape.GOES_ON:
             print(machine.steps, machine.pc)
 
+Input and output may be callbacks or files, `machine.serve(sys.stdin.buffer, sys.stdout.buffer)`. `zk.interpreter(files, main)` is a run of the source that is
+kept: it goes on by ticks, and tells each statement, each value, each call, each byte.
+
 A text (of a file, an input, a built file) is bytes, str (UTF-8), or a path (pathlib.Path), whose file is read; anything else is a TypeError.
 The library is shared: `gcc -shared -o libzikorape.so -Wl,--whole-archive libzikorape.a`, which
 `sh install.sh` does. Calls release the interpreter's lock, and each thread may make
 them; a thread needs a stack of 2.25 MiB (`threading.stack_size(8 << 20)`), and the main thread has it."""
 import ctypes
+import json
 import os
 import re
 from dataclasses import dataclass
+from typing import Any, BinaryIO, Callable, Dict, Iterable, List, Mapping, Optional, Tuple, Union
+
+Name = Union[str, bytes, 'os.PathLike[Any]']
+Text = Union[bytes, bytearray, memoryview, str, 'os.PathLike[Any]']
+Files = Union[Mapping[Name, Text], Iterable[Tuple[Name, Text]]]
+Getter = Union[Callable[[], Optional[bytes]], BinaryIO, None]
+Putter = Union[Callable[[bytes], Any], BinaryIO, None]
+Event = Dict[str, Any]
 
 MAX = 1_000_000_000
 FORMS = ('tokens', 'tree', 'typed', 'tac', 'flat')
 IMAGES = ('binary', 'intel', 'verilog')
 STACK = 1 << 20
 GOES_ON, ENDED, TRAPPED, OUT_OF_MEMORY, WANTS_INPUT = 0, 1, 2, 3, 5
+UNDEFINED = TRAPPED         # of a run of the interpreter, which stops there as a machine does at a trap
+_WAITS = 257
 _FILE, _LOAD, _INPUT, _CLOSE, _RUN, _DETAIL, _STEPS, _OUTPUT, _REGISTER, _SET_REGISTER, _READ, _WRITE = range(12)
 
 
@@ -103,7 +117,7 @@ class KeptMachine:
             self._must(self._ask(_FILE, byte))
         self._must(self._ask(_LOAD))
 
-    def close(self):
+    def close(self) -> None:
         """Gives back its memory; nothing may be asked then."""
         if self._at is not None:
             self._c.zk_machine_clear(self._at)
@@ -130,7 +144,7 @@ class KeptMachine:
         if code:
             raise Fault('cc: %d not loaded\n' % code)
 
-    def run(self, max=MAX, to=1) -> int:
+    def run(self, max: int = MAX, to: int = 1) -> int:
         """At most `max` instructions, or, after one, to where that at the address `to` is next."""
         return self._ask(_RUN, max, to)
 
@@ -150,7 +164,7 @@ class KeptMachine:
         return self._ask(_REGISTER, 32)
 
     @property
-    def registers(self) -> list:
+    def registers(self) -> List[int]:
         return [self._ask(_REGISTER, k) for k in range(32)]
 
     def read(self, start: int, length: int) -> bytes:
@@ -161,12 +175,12 @@ class KeptMachine:
         """Outside the theorem: sets bytes, where the program may write them; answers how many were set."""
         return sum(self._ask(_WRITE, start + k, byte) for k, byte in enumerate(data))
 
-    def set_register(self, number: int, value: int):
+    def set_register(self, number: int, value: int) -> None:
         """Outside the theorem: sets a register, or the pc by 32."""
         if self._ask(_SET_REGISTER, number, value & 0xffffffff):
             raise ValueError('no register %d' % number)
 
-    def input(self, data):
+    def input(self, data: Text) -> None:
         """Gives input."""
         for byte in _bytes(data):
             answer = self._ask(_INPUT, byte)
@@ -175,7 +189,7 @@ class KeptMachine:
             self._must(answer)
             self._given.append(byte)
 
-    def close_input(self):
+    def close_input(self) -> None:
         """The input ends here: a program that reads on is told so, and does not wait."""
         self._ask(_CLOSE)
         self._closed = True
@@ -190,11 +204,32 @@ class KeptMachine:
                 return bytes(found)
             found.append(byte)
 
+    def serve(self, get: Getter = None, put: Putter = None, max: int = MAX, slice: int = 1 << 16) -> int:
+        """At most `max` instructions more, with input and output by callback. `get` is called where input is wanted, and answers bytes, b'' at the end of the
+        input, or None where there is none yet, which ends the call with WANTS_INPUT; `put` is called with bytes, before input is asked for and at the latest after
+        `slice` instructions. Each may be a binary file in place of a function. An exception of theirs leaves the machine where it stands."""
+        get, put, last = _reading(get), _writing(put), self.steps + max
+        while True:
+            outcome = self.run(min(slice, last - self.steps))
+            found = self.output()
+            if found:
+                put(found)
+            if outcome == WANTS_INPUT:
+                given = get()
+                if given is None:
+                    return outcome
+                if given:
+                    self.input(given)
+                else:
+                    self.close_input()
+            elif outcome != GOES_ON or self.steps >= last:
+                return outcome
+
     def snapshot(self) -> Snapshot:
         """Where it stands. What was set by `write` and `set_register` is no part of it."""
         return Snapshot(self.steps, bytes(self._given), self._closed, self._taken)
 
-    def restore(self, snapshot: Snapshot):
+    def restore(self, snapshot: Snapshot) -> None:
         """Stands there again, by a run from the start over what had been given."""
         self._must(self._ask(_LOAD))
         self._given, self._closed, self._taken = bytearray(), False, 0
@@ -206,6 +241,131 @@ class KeptMachine:
             raise MemoryError('801 out of memory')
         while self._taken < snapshot.taken and self._ask(_OUTPUT) < 256:
             self._taken += 1
+
+
+@dataclass(frozen=True)
+class Place:
+    """Where a run of the interpreter stood (`Interpreter.snapshot`)."""
+    start: int
+    least: int
+    told: int
+    given: bytes
+    closed: bool
+    outcome: int
+    detail: int
+    message: str
+
+
+class Interpreter:
+    """A run of the interpreter that is kept (`Library.interpreter`): it goes on by ticks and tells what it does. What is kept is the input and how much was told; the
+    run is done from the start in each call, so calls that go further by doubling cost a run. A run answers GOES_ON, ENDED, UNDEFINED, OUT_OF_MEMORY or WANTS_INPUT;
+    `detail` has the status where it ended, `message` the undefined act and its place."""
+
+    def __init__(self, library, files, main):
+        self._library, self._main = library, main
+        self._files = [(name, _bytes(text)) for name, text in (files.items() if hasattr(files, 'items') else files)]
+        self._put, self._events = bytearray(), []
+        self.restore(Place(0, 0, 0, b'', False, GOES_ON, 0, ''))
+        self.run(0)
+
+    def run(self, until: int = MAX) -> int:
+        """Goes on to the tick `until`, counted from the start."""
+        until = max(until, self._least)
+        if self.outcome not in (GOES_ON, WANTS_INPUT) or until < self._start:
+            return self.outcome
+        answer = self._library.trace(self._files, self._main, bytes(self._given), until, self._start, not self._closed).check()
+        self._note([json.loads(line) for line in answer.output[self._told:].splitlines()])
+        self._stand(answer, until)
+        return self.outcome
+
+    def _note(self, events):
+        self._events += events
+        self._put += bytes(event['byte'] for event in events if event['event'] == 'put')
+
+    def _stand(self, answer, until):
+        if answer.status == _WAITS:
+            self.outcome, self._told, self._least = WANTS_INPUT, len(answer.output), until
+            return
+        self._told = self._least = 0
+        if not answer.message:
+            self.outcome, self.detail = ENDED, answer.status
+        elif answer.status == 124:
+            self.outcome, self._start = GOES_ON, until + 1
+        else:
+            self.outcome, self.message = UNDEFINED if answer.status == 123 else OUT_OF_MEMORY, answer.message.strip()
+
+    def events(self) -> List[Event]:
+        """What it did since the last call, a dict for each statement, value, call and byte (docs/TOOLS.md)."""
+        found, self._events = self._events, []
+        return found
+
+    def output(self) -> bytes:
+        """What it has put since the last call."""
+        found, self._put = bytes(self._put), bytearray()
+        return found
+
+    def input(self, data: Text) -> None:
+        """Gives input."""
+        if self._closed:
+            raise ValueError('the input is closed')
+        self._given += _bytes(data)
+
+    def close_input(self) -> None:
+        """The input ends here."""
+        self._closed = True
+
+    def serve(self, get: Getter = None, put: Putter = None, observe: Optional[Callable[[Event], Any]] = None, until: int = MAX) -> int:
+        """Goes on to the tick `until` with input and output by callback, as those of a machine, in slices that double; `observe` is called with each event."""
+        get, put, slice = _reading(get), _writing(put), 4096
+        while True:
+            self.run(min(self._start + slice, until))
+            events, found = self.events(), self.output()
+            for event in events if observe else ():
+                observe(event)
+            if found:
+                put(found)
+            if self.outcome == WANTS_INPUT:
+                given = get()
+                if given is None:
+                    return self.outcome
+                if given:
+                    self.input(given)
+                else:
+                    self.close_input()
+            elif self.outcome != GOES_ON or self._start > until:
+                return self.outcome
+            else:
+                slice *= 2
+
+    def snapshot(self) -> Place:
+        return Place(self._start, self._least, self._told, bytes(self._given), self._closed, self.outcome, self.detail, self.message)
+
+    def restore(self, place: Place) -> None:
+        """Stands there again."""
+        self._start, self._least, self._told, self._closed = place.start, place.least, place.told, place.closed
+        self._given, self.outcome, self.detail, self.message = bytearray(place.given), place.outcome, place.detail, place.message
+
+
+def _reading(get):
+    """A callable that answers bytes, of one or of a binary file; of None, one that has no input."""
+    if get is None:
+        return lambda: b''
+    if callable(get):
+        return get
+    return lambda: get.read1(1 << 12) if hasattr(get, 'read1') else get.read(1)
+
+
+def _writing(put):
+    """A callable that takes bytes, of one or of a binary file; of None, one that drops them."""
+    if put is None:
+        return lambda found: None
+    if callable(put):
+        return put
+
+    def write(found):
+        put.write(found)
+        put.flush()
+    return write
 
 
 def _bytes(text):
@@ -236,9 +396,9 @@ def _beside() -> str:
 
 
 class Library:
-    def __init__(self, path=None):
+    def __init__(self, path: Union[str, 'os.PathLike[str]', None] = None):
         self._c = ctypes.CDLL(os.fspath(path) if path is not None else _beside())
-        for name in ('build', 'build_with', 'functions', 'warn', 'verify', 'explain', 'image', 'frames', 'preprocess', 'list', 'form', 'interpret', 'run', 'step'):
+        for name in ('build', 'build_with', 'functions', 'warn', 'verify', 'explain', 'image', 'frames', 'preprocess', 'list', 'form', 'interpret', 'trace', 'run', 'step'):
             getattr(self._c, 'zk_' + name).restype = ctypes.c_uint32
         for name in ('message', 'version'):
             getattr(self._c, 'zk_' + name).restype = ctypes.c_uint64
@@ -248,53 +408,61 @@ class Library:
         for name in ('zk_machine_place', 'zk_machine_clear'):
             getattr(c, name).restype, getattr(c, name).argtypes = None, [ctypes.c_void_p]
 
-    def build(self, files, main, stack=None):
+    def build(self, files: Files, main: Name, stack: Optional[int] = None) -> Answer:
         """The executable file, with a stack of so many bytes; without it 1,048,576."""
         if stack is None:
             return self._over(self._c.zk_build, files, main)
         return self._over(self._c.zk_build_with, files, main, ctypes.c_uint32(stack))
 
-    def functions(self, files, main, stack=STACK):
-        """The functions, with addresses, sizes, frames, weights and calls, and the objects, as JSON (zikorape.h)."""
+    def functions(self, files: Files, main: Name, stack: int = STACK) -> Answer:
+        """The functions, with addresses, sizes, frames, weights, calls and lines, and the objects, as JSON (zikorape.h)."""
         return self._over(self._c.zk_functions, files, main, ctypes.c_uint32(stack))
 
-    def warnings(self, files, main, stack=STACK):
+    def warnings(self, files: Files, main: Name, stack: int = STACK) -> Answer:
         """The warnings as JSON, an object a line."""
         return self._over(self._c.zk_warn, files, main, ctypes.c_uint32(stack))
 
-    def verify(self, files, main, stack=STACK):
+    def verify(self, files: Files, main: Name, stack: int = STACK) -> Answer:
         """Whether it does anything undefined, on any input, and how much of its stack it takes: status 0 where it is defined and the stack suffices, 3 where
         that was not shown, with the places and the verdict as JSON, an object a line."""
         return self._over(self._c.zk_verify, files, main, ctypes.c_uint32(stack))
 
-    def explain(self, files, main, stack=STACK):
+    def explain(self, files: Files, main: Name, stack: int = STACK) -> Answer:
         """Why the program is refused, as JSON, an object a fault; nothing where it is not."""
         return self._over(self._c.zk_explain, files, main, ctypes.c_uint32(stack))
 
-    def image(self, file, form='binary', name='a.out'):
+    def image(self, file: Text, form: str = 'binary', name: Name = 'a.out') -> Answer:
         """The bytes that a built file loads: one of IMAGES."""
         return self._call(self._c.zk_image, *_slice(_bytes(file)), *_slice(_name(name)), ctypes.c_uint32(IMAGES.index(form)))
 
-    def frames(self, files, main):
+    def frames(self, files: Files, main: Name) -> Answer:
         return self._over(self._c.zk_frames, files, main)
 
-    def preprocess(self, files, main):
+    def preprocess(self, files: Files, main: Name) -> Answer:
         return self._over(self._c.zk_preprocess, files, main)
 
-    def listing(self, files, main):
+    def listing(self, files: Files, main: Name) -> Answer:
         return self._over(self._c.zk_list, files, main)
 
-    def form(self, files, main, form):
-        """A form of the program as JSON: one of FORMS."""
+    def form(self, files: Files, main: Name, form: str) -> Answer:
+        """A form of the program as JSON: one of FORMS; 'tokens' are those of `preprocess`, with their places."""
         return self._over(self._c.zk_form, files, main, ctypes.c_uint32(FORMS.index(form)))
 
-    def interpret(self, files, main, input=b'', max=MAX):
+    def interpret(self, files: Files, main: Name, input: Text = b'', max: int = MAX) -> Answer:
         return self._over(self._c.zk_interpret, files, main, *_slice(_bytes(input)), ctypes.c_uint64(max))
 
-    def run(self, file, input=b'', max=MAX, name='a.out'):
+    def trace(self, files: Files, main: Name, input: Text = b'', max: int = MAX, start: int = 0, is_open: bool = False) -> Answer:
+        """The same run, told as JSON lines (docs/TOOLS.md), from the tick `start` on. Where the input is open, a read behind it is answered by the status 257."""
+        return self._over(self._c.zk_trace, files, main, *_slice(_bytes(input)), ctypes.c_uint32(is_open), ctypes.c_uint64(max), ctypes.c_uint64(start))
+
+    def interpreter(self, files: Files, main: Name) -> Interpreter:
+        """A run of the interpreter that is kept, before its first tick; a Fault where the program is refused."""
+        return Interpreter(self, files, main)
+
+    def run(self, file: Text, input: Text = b'', max: int = MAX, name: Name = 'a.out') -> Answer:
         return self._call(self._c.zk_run, *_slice(_bytes(file)), *_slice(_name(name)), *_slice(_bytes(input)), ctypes.c_uint64(max))
 
-    def step(self, file, count, input=b'', after=0, halt=1, start=0, length=0):
+    def step(self, file: Text, count: int, input: Text = b'', after: int = 0, halt: int = 1, start: int = 0, length: int = 0) -> Machine:
         """The machine after `count` instructions, or, once it has done `after`, where the one at the address `halt` is next; with `length`
         bytes of its memory from the address `start` on."""
         file, room, window = _bytes(file), 1 << 16, ctypes.create_string_buffer(max(length, 1))
@@ -306,14 +474,14 @@ class Library:
                 return Machine(outcome, seen.detail, seen.steps, seen.pc, list(seen.registers), window.raw[:length], out.raw[:seen.output])
             room = seen.output
 
-    def machine(self, file) -> KeptMachine:
+    def machine(self, file: Text) -> KeptMachine:
         """A machine that is kept, before the first instruction of a built file; a Fault where the file is not loaded."""
         return KeptMachine(self, file)
 
-    def message(self, code):
+    def message(self, code: int) -> str:
         return self._text(self._c.zk_message, ctypes.c_uint16(code))
 
-    def version(self):
+    def version(self) -> str:
         return self._text(self._c.zk_version)
 
     def _over(self, call, files, main, *more):

@@ -38,7 +38,7 @@ def _explained(text):
 def told(zk, line, cell):
     """What is shown of a cell."""
     words = _words.parse_args(shlex.split(line))
-    files = {NAME: cell}
+    files = {NAME: cell if cell.endswith('\n') else cell + '\n'}
     built = zk.build(files, NAME)
     if built.status:
         return '\n'.join(_explained(zk.explain(files, NAME).output.decode()))

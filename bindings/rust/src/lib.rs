@@ -7,6 +7,8 @@
 //!
 //! A call takes up to 2.25 MiB of its thread's stack: start threads with 4 MiB or more.
 
+use std::io::{self, Read, Write};
+
 #[repr(C)]
 #[derive(Clone, Copy)]
 struct File {
@@ -48,6 +50,10 @@ extern "C" {
     ) -> u32;
     fn zk_interpret(
         texts: In, n: usize, files: *const File, k: usize, main: In, m: usize, input: In, i: usize, max: u64,
+        out: Out, o: usize, message: Out, l: usize, sizes: *mut Sizes,
+    ) -> u32;
+    fn zk_trace(
+        texts: In, n: usize, files: *const File, k: usize, main: In, m: usize, input: In, i: usize, is_open: u32, max: u64, from: u64,
         out: Out, o: usize, message: Out, l: usize, sizes: *mut Sizes,
     ) -> u32;
     fn zk_run(file: In, n: usize, name: In, m: usize, input: In, i: usize, max: u64, out: Out, o: usize, message: Out, l: usize, sizes: *mut Sizes) -> u32;
@@ -171,7 +177,7 @@ pub fn build_with(files: &[(&str, &[u8])], main: &str, stack: u32) -> Answer {
     over_stack(zk_build_with, files, main, stack)
 }
 
-/// The functions of that program, with addresses, sizes, frames, weights and calls, and its objects, as JSON.
+/// The functions of that program, with addresses, sizes, frames, weights, calls and lines, and its objects, as JSON.
 pub fn functions(files: &[(&str, &[u8])], main: &str, stack: u32) -> Answer {
     over_stack(zk_functions, files, main, stack)
 }
@@ -252,6 +258,18 @@ pub fn interpret(files: &[(&str, &[u8])], main: &str, input: &[u8], max: u64) ->
     with_room(|out, message, sizes| unsafe {
         zk_interpret(texts.as_ptr(), texts.len(), lengths.as_ptr(), lengths.len(), main.as_ptr(), main.len(), input.as_ptr(), input.len(), max,
             out.as_mut_ptr(), out.len(), message.as_mut_ptr(), message.len(), sizes)
+    })
+}
+
+/// The status of a traced run that wants more input than it was given.
+pub const WAITS: u32 = 257;
+
+/// The same run told as JSON lines, from the tick `from` on. Where the input is open, a read behind it is answered by the status `WAITS`.
+pub fn trace(files: &[(&str, &[u8])], main: &str, input: &[u8], is_open: bool, max: u64, from: u64) -> Answer {
+    let (texts, lengths) = given(files);
+    with_room(|out, message, sizes| unsafe {
+        zk_trace(texts.as_ptr(), texts.len(), lengths.as_ptr(), lengths.len(), main.as_ptr(), main.len(), input.as_ptr(), input.len(),
+            u32::from(is_open), max, from, out.as_mut_ptr(), out.len(), message.as_mut_ptr(), message.len(), sizes)
     })
 }
 
@@ -461,6 +479,38 @@ impl KeptMachine {
         found
     }
 
+    /// At most `max` instructions more, with input and output by a reader and a writer. What was put is written before more is read, and at the latest after
+    /// 65,536 instructions. Read errors end the run as `Err`; the machine stands where it stood, and goes on in the next call.
+    pub fn serve(&mut self, input: &mut impl Read, output: &mut impl Write, max: u64) -> io::Result<Ran> {
+        let last = self.steps().saturating_add(max);
+        loop {
+            let left = last - self.steps();
+            let ran = self.run(left.min(1 << 16));
+            output.write_all(&self.output())?;
+            match ran {
+                Ran::WantsInput => {
+                    output.flush()?;
+                    self.give(input)?;
+                }
+                Ran::GoesOn if self.steps() < last => {}
+                _ => return output.flush().map(|()| ran),
+            }
+        }
+    }
+
+    /// Gives a byte of a reader, or the end of the input.
+    fn give(&mut self, input: &mut impl Read) -> io::Result<()> {
+        let mut byte = [0];
+        match input.read(&mut byte) {
+            Ok(0) => self.close_input(),
+            Ok(_) if self.input(&byte) == 1 => {}
+            Ok(_) => return Err(io::ErrorKind::OutOfMemory.into()),
+            Err(error) if error.kind() == io::ErrorKind::Interrupted => {}
+            Err(error) => return Err(error),
+        }
+        Ok(())
+    }
+
     /// Where it stands. What was set by `write` and `set_register` is no part of it.
     pub fn snapshot(&mut self) -> Snapshot {
         Snapshot { steps: self.steps(), given: self.given.clone(), closed: self.closed, taken: self.taken }
@@ -492,6 +542,98 @@ impl KeptMachine {
 impl Drop for KeptMachine {
     fn drop(&mut self) {
         unsafe { zk_machine_clear(self.memory.as_mut_ptr().cast()) }
+    }
+}
+
+/// How a run of the interpreter stands.
+#[derive(Clone, Debug, PartialEq, Eq)]
+pub enum Stands {
+    GoesOn,
+    /// It ended with this status.
+    Ended(u32),
+    /// It did something undefined: `FILE:LINE: undefined U`n.
+    Undefined(String),
+    /// Memory ran out.
+    OutOfMemory,
+    /// It reads, and the input that was given is used up and not closed.
+    WantsInput,
+}
+
+/// A run of the interpreter that is kept: it goes on by ticks, and tells what it does. A copy of it is a snapshot.
+///
+/// What is kept is the input and how much was told; the run is done from the start in each call, so calls that go further by doubling cost a run.
+#[derive(Clone)]
+pub struct Interpreter {
+    files: Vec<(String, Vec<u8>)>,
+    main: String,
+    given: Vec<u8>,
+    closed: bool,
+    // The ticks that the next slice is told from, and that it goes to at least; how much of it was told before it wanted input.
+    from: u64,
+    least: u64,
+    told: usize,
+    stands: Stands,
+}
+
+impl Interpreter {
+    /// A run before its first tick.
+    pub fn new(files: &[(&str, &[u8])], main: &str) -> Self {
+        Interpreter {
+            files: files.iter().map(|(name, text)| (name.to_string(), text.to_vec())).collect(),
+            main: main.to_string(),
+            given: Vec::new(),
+            closed: false,
+            from: 0,
+            least: 0,
+            told: 0,
+            stands: Stands::GoesOn,
+        }
+    }
+
+    /// How it stands.
+    pub fn stands(&self) -> &Stands {
+        &self.stands
+    }
+
+    /// Gives input, in vain where it is closed.
+    pub fn input(&mut self, bytes: &[u8]) {
+        if !self.closed {
+            self.given.extend_from_slice(bytes);
+        }
+    }
+
+    /// The input ends here.
+    pub fn close_input(&mut self) {
+        self.closed = true;
+    }
+
+    /// Goes on to the tick `until`, counted from the start. Answers what that tells: JSON lines, of each statement, value, call and byte. The error is why the program
+    /// is refused.
+    pub fn run(&mut self, until: u64) -> Result<String, Error> {
+        let until = until.max(self.least);
+        if !matches!(self.stands, Stands::GoesOn | Stands::WantsInput) || until < self.from {
+            return Ok(String::new());
+        }
+        let files: Vec<(&str, &[u8])> = self.files.iter().map(|(name, text)| (name.as_str(), text.as_slice())).collect();
+        let answer = trace(&files, &self.main, &self.given, !self.closed, until, self.from).check()?;
+        let lines = String::from_utf8_lossy(answer.output.get(self.told..).unwrap_or_default()).into_owned();
+        self.least = 0;
+        self.told = 0;
+        self.stands = match (answer.status, answer.message.is_empty()) {
+            (WAITS, _) => {
+                self.least = until;
+                self.told = answer.output.len();
+                Stands::WantsInput
+            }
+            (status, true) => Stands::Ended(status),
+            (124, _) => {
+                self.from = until.saturating_add(1);
+                Stands::GoesOn
+            }
+            (123, _) => Stands::Undefined(answer.message.trim_end().to_string()),
+            _ => Stands::OutOfMemory,
+        };
+        Ok(lines)
     }
 }
 

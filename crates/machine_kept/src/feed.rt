@@ -1,5 +1,6 @@
 //! A port whose input is given while the run goes on.
 
+ghost use Rattle.std.specs.Prelude.{◌≡◌, []};
 ghost use Rattle.machine_kept.specs.Feeds.{IsFresh};
 
 use io_ports::{Port, PortFault};
@@ -25,6 +26,20 @@ impl Feed {
             input: Vec::new(alloc),
             next: 0,
             closed: false,
+            output: Vec::new(alloc),
+            failures: 0,
+        }
+    }
+
+    /// This input, closed or not, of which nothing was read, and no output.
+    pub fn over(alloc: Global, input: Vec<u8>, is_closed: bool) -> Self
+        ensures input { result ≡ record { input = input; next = 0; closed = is_closed; output = result.output; failures = 0 } }
+        ensures output { result.output.items ≡ [] }
+    {
+        Feed {
+            input,
+            next: 0,
+            closed: is_closed,
             output: Vec::new(alloc),
             failures: 0,
         }

@@ -11,4 +11,4 @@ mod wording;
 
 pub use lines::SourceLines;
 pub use telling::{Trace, Written};
-pub use wording::TraceForm;
+pub use wording::{TraceForm, put_string};

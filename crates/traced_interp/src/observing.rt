@@ -22,6 +22,7 @@ impl<'a, W: Write + Drop> Observer for Trace<'a, W> {
     }
 
     fn begins(&mut self, node: &Node<'_>, _scene: &Scene) {
+        self.count_tick();
         if let Node::Statement(_, statement) = node {
             self.begin(statement);
         }

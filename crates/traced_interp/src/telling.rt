@@ -41,7 +41,10 @@ pub struct Trace<'a, W: Write + Drop> {
     out: W,
     calls: Calls,
     pending: Option<Pending>,
-    // The line that was written last, where nothing was written behind it.
+    // The tick that the run has come to, counted from 1, and that from which on it is told.
+    tick: u64,
+    from: u64,
+    // The line that was told last, where nothing was told behind it.
     last: Option<Pos>,
     is_whole: bool,
     has_memory: bool,
@@ -66,20 +69,50 @@ impl<'a, W: Write + Drop> Trace<'a, W> {
             out,
             calls: Calls::new(alloc),
             pending: None,
+            tick: 0,
+            from: 0,
             last: None,
             is_whole: true,
             has_memory: true,
         }
     }
 
+    /// The same trace without what is told before this tick. What comes before the first tick belongs to tick 0.
+    pub fn since(self, from: u64) -> Self {
+        let mut trace = self;
+        trace.from = from;
+        trace
+    }
+
     /// Flushes the writer. Answers whether the whole trace was written, and whether there was memory for it.
     pub fn finish(self) -> Written {
+        let (written, _out) = self.into_writer();
+        written
+    }
+
+    /// The same, and the writer.
+    pub fn into_writer(self) -> (Written, W) {
         let mut out = self.out;
         let is_flushed = out.flush().is_ok();
-        Written {
+        let written = Written {
             is_whole: self.is_whole && is_flushed,
             has_memory: self.has_memory,
+        };
+        (written, out)
+    }
+
+    /// The next tick begins.
+    pub(crate) fn count_tick(&mut self) {
+        self.tick = self.tick.saturating_add(1);
+    }
+
+    /// Whether what is to be told now is left out: it is of an earlier tick than those that are told, or the trace has ended.
+    fn leaves_out(&mut self) -> bool {
+        if self.tick < self.from {
+            self.last = None;
+            return true;
         }
+        !self.is_whole
     }
 
     /// Memory ran out: the trace ends.
@@ -109,10 +142,12 @@ impl<'a, W: Write + Drop> Trace<'a, W> {
         if self.last == Some(at) {
             return;
         }
-        let file = self.names.file_name(at.file);
-        let source = self.lines.line(file, at.line);
-        let text = begun(self.alloc, self.form, file, at.line, source);
-        self.write(text);
+        if !self.leaves_out() {
+            let file = self.names.file_name(at.file);
+            let source = self.lines.line(file, at.line);
+            let text = begun(self.alloc, self.form, file, at.line, source);
+            self.write(text);
+        }
         self.last = Some(at);
         self.calls.tell(at);
     }
@@ -129,6 +164,9 @@ impl<'a, W: Write + Drop> Trace<'a, W> {
         let Some(value) = scene.store.value(element) else {
             return;
         };
+        if self.leaves_out() {
+            return;
+        }
         let text = self.value_text(scene, element, value);
         self.write(text);
     }
@@ -154,8 +192,10 @@ impl<'a, W: Write + Drop> Trace<'a, W> {
 
     /// A function is entered.
     pub(crate) fn enter(&mut self, function: usize, passed: &[Passed], scene: &Scene) {
-        let text = entered(self.alloc, self.form, self.objects.function(function));
-        self.write(text);
+        if !self.leaves_out() {
+            let text = entered(self.alloc, self.form, self.objects.function(function));
+            self.write(text);
+        }
         if self.calls.push(function).is_err() {
             self.refuse();
         }
@@ -173,6 +213,9 @@ impl<'a, W: Write + Drop> Trace<'a, W> {
         let Some(function) = self.calls.pop() else {
             return;
         };
+        if self.leaves_out() {
+            return;
+        }
         let name = self.objects.function(function);
         let text = left(self.alloc, self.form, name, value_left(is_main, flow));
         self.write(text);
@@ -254,6 +297,9 @@ impl<'a, W: Write + Drop> Trace<'a, W> {
     }
 
     fn tell_further(&mut self, object: usize) {
+        if self.leaves_out() {
+            return;
+        }
         let name = self.objects.object_name(self.calls.function(), object);
         let text = further(self.alloc, self.form, name);
         self.write(text);
@@ -261,7 +307,7 @@ impl<'a, W: Write + Drop> Trace<'a, W> {
 
     /// A byte was got, or the end of the input.
     pub(crate) fn tell_got(&mut self, byte: Option<u8>) {
-        if self.form == TraceForm::Json {
+        if self.form == TraceForm::Json && !self.leaves_out() {
             let text = got(self.alloc, byte);
             self.write(text);
         }
@@ -269,7 +315,7 @@ impl<'a, W: Write + Drop> Trace<'a, W> {
 
     /// A byte is put.
     pub(crate) fn tell_put(&mut self, byte: u8) {
-        if self.form == TraceForm::Json {
+        if self.form == TraceForm::Json && !self.leaves_out() {
             let text = put(self.alloc, byte);
             self.write(text);
         }

@@ -147,7 +147,7 @@ fn put_path(alloc: Global, path: &[usize], out: &mut String) -> Result<(), Alloc
 }
 
 /// Puts a string with its quotes: `"`, `\` and the characters below U+0020 are escaped (RFC 8259, section 7).
-fn put_string(alloc: Global, text: &str, out: &mut String) -> Result<(), AllocError> {
+pub fn put_string(alloc: Global, text: &str, out: &mut String) -> Result<(), AllocError> {
     out.push('"')?;
     for letter in text.chars() {
         match letter {

@@ -7,12 +7,14 @@
 mod building;
 mod commands;
 mod files;
+mod functions;
 mod giving;
 mod refusing;
 mod showing;
 mod stacking;
 mod standing;
 mod telling;
+mod tracing;
 
 ghost use Rattle.std.specs.Prelude.{◌⊎◌, []};
 ghost use Rattle.srcset.specs.Codes.{message_of};
@@ -30,6 +32,7 @@ ghost use base.Fml.{fex, fsep, ftrue};
 
 use cc::{Cmd, StackSize};
 use files::{FileLengths, text_or_empty};
+use functions::tell_functions;
 use giving::{OUT_OF_MEMORY, Sizes, give, hand_out};
 use machine_kept::{Halt, Kept};
 use refusing::{NO_FILES, given, refuse};
@@ -39,7 +42,9 @@ use stacking::build_stacked;
 use standing::{Standing, stand};
 use std::alloc::Global;
 use std::{mem, ptr};
-use telling::{names_of, tell_faults, tell_functions, tell_image, tell_verdict, tell_warnings};
+use trace_json::Asked;
+use telling::{names_of, tell_faults, tell_image, tell_verdict, tell_warnings};
+use tracing::tell_trace;
 
 /// The version of the library.
 const VERSION: &[u8] = b"zikorape 1.0";
@@ -84,8 +89,8 @@ pub extern "C" fn zk_build_with(
     build_stacked(alloc, texts, files, main, stack, out, message, sizes)
 }
 
-/// The functions of the program in the file `main` with their addresses, sizes, frames, weights and calls, and its objects, as JSON. It has
-/// no clause but that it is safe.
+/// The functions of the program in the file `main` with their addresses, sizes, frames, weights, calls and lines, and its objects, as JSON. It
+/// has no clause but that it is safe.
 #[unsafe(no_mangle)]
 pub extern "C" fn zk_functions(
     alloc: Global,
@@ -366,6 +371,35 @@ pub extern "C" fn zk_interpret(
             message,
             sizes,
         ),
+        Err(refusal) => refuse(alloc, &refusal, out, message, sizes),
+    }
+}
+
+/// What the program in the file `main` does over this input, for at most `max` ticks, as JSON lines, from the tick `from` on. Where the input is open, which is
+/// to say where `is_open` is not 0, a read behind it is answered by 257: the run waits for input. It has no clause but that it is safe.
+#[unsafe(no_mangle)]
+pub extern "C" fn zk_trace(
+    alloc: Global,
+    texts: &[u8],
+    files: &[FileLengths],
+    main: &[u8],
+    input: &[u8],
+    is_open: u32,
+    max: u64,
+    from: u64,
+    out: &mut [u8],
+    message: &mut [u8],
+    sizes: &mut Sizes,
+) -> u32 {
+    let asked = Asked {
+        main: text_or_empty(main),
+        input,
+        is_open: is_open != 0,
+        max,
+        from,
+    };
+    match given(alloc, texts, files) {
+        Ok(set) => tell_trace(alloc, &set, asked, out, message, sizes),
         Err(refusal) => refuse(alloc, &refusal, out, message, sizes),
     }
 }

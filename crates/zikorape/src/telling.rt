@@ -1,4 +1,4 @@
-//! What is told of a program beside its file: its functions and objects, its warnings, what verifying shows, and the images of a file. Nothing here has a clause
+//! What is told of a program beside its file: its faults explained, its warnings, what verifying shows, and the images of a file. Nothing here has a clause
 //! but that it is safe.
 
 use crate::files::{FileLengths, text_or_empty};
@@ -12,7 +12,6 @@ use lint_unit::warn_of_sources;
 use loader::LoadFault;
 use srcset::{Code, Fault, FileSet};
 use std::alloc::{AllocError, Global};
-use symbol_table::{Function, Object, SymbolTable, symbol_table};
 use verify_report::{Asked as Question, verify_sources};
 
 /// The answer where there is no such form.
@@ -20,25 +19,6 @@ const NO_FORM: u32 = 256;
 
 /// The answer where a program was not shown to be defined.
 const NOT_SHOWN: u32 = 3;
-
-/// The functions and the objects of the program in the file `main` of the set, as JSON.
-pub fn tell_functions(
-    alloc: Global,
-    set: &FileSet,
-    main: &str,
-    stack: StackSize,
-    out: &mut [u8],
-    message: &mut [u8],
-    sizes: &mut Sizes,
-) -> u32 {
-    match functions_of(alloc, set, main, stack) {
-        Ok(table) => hand_text(json_of(alloc, &table), out, message, sizes),
-        Err(fault) => {
-            hand_fault(alloc, &fault, out, message, sizes);
-            1
-        }
-    }
-}
 
 /// The warnings of that program, as JSON.
 pub fn tell_warnings(
@@ -143,7 +123,7 @@ pub fn tell_image(
 }
 
 /// Gives a text, or the line of 801.
-fn hand_text(
+pub fn hand_text(
     text: Result<String, AllocError>,
     out: &mut [u8],
     message: &mut [u8],
@@ -159,76 +139,6 @@ fn hand_text(
             1
         }
     }
-}
-
-fn functions_of(
-    alloc: Global,
-    set: &FileSet,
-    main: &str,
-    stack: StackSize,
-) -> Result<SymbolTable, Fault> {
-    match compile_with(alloc, set, main, stack) {
-        Ok(built) => symbol_table(alloc, set, main, stack, &built),
-        Err(fault) => Err(fault),
-    }
-}
-
-fn json_of(alloc: Global, table: &SymbolTable) -> Result<String, AllocError> {
-    let mut text = String::new(alloc);
-    text.push_str("{\"functions\":[")?;
-    for (k, function) in table.functions.iter().enumerate() {
-        text.push_str(if k == 0 { "" } else { "," })?;
-        put_function(alloc, table, function, &mut text)?;
-    }
-    text.push_str("],\"objects\":[")?;
-    for (k, object) in table.objects.iter().enumerate() {
-        text.push_str(if k == 0 { "" } else { "," })?;
-        put_object(alloc, object, &mut text)?;
-    }
-    text.push_str("]}\n")?;
-    Ok(text)
-}
-
-fn put_function(
-    alloc: Global,
-    table: &SymbolTable,
-    function: &Function,
-    text: &mut String,
-) -> Result<(), AllocError> {
-    let (start, size, frame, weight) = (
-        function.start,
-        function.size,
-        function.frame,
-        function.weight,
-    );
-    text.push_str("{\"name\":\"")?;
-    text.push_str(function.name.as_str())?;
-    let numbers = format!(in alloc;
-        "\",\"address\":{start},\"size\":{size},\"frame\":{frame},\"weight\":{weight},\"calls\":["
-    )?;
-    text.push_str(numbers.as_str())?;
-    for (k, number) in function.calls.iter().enumerate() {
-        text.push_str(if k == 0 { "\"" } else { ",\"" })?;
-        if let Some(called) = table.functions.get(*number) {
-            text.push_str(called.name.as_str())?;
-        }
-        text.push_str("\"")?;
-    }
-    text.push_str("]}")
-}
-
-fn put_object(alloc: Global, object: &Object, text: &mut String) -> Result<(), AllocError> {
-    match &object.name {
-        Some(name) => {
-            text.push_str("{\"name\":\"")?;
-            text.push_str(name.as_str())?;
-            text.push_str("\",")?;
-        }
-        None => text.push_str("{")?,
-    }
-    let (address, size) = (object.address, object.size);
-    let numbers = format!(in alloc; "\"address\":{address},\"size\":{size}}}")?;
-    text.push_str(numbers.as_str())
 }
 
 fn faults_of(

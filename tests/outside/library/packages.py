@@ -2,7 +2,9 @@
 """The packages of the library, each built and used as its language has it: `packages.py [OUT]`. OUT is where `sh bindings/build.sh OUT` left the
 library, by default bindings/out. What needs a tool that is not there is left out with a word, and counted as skipped.
 """
+import json
 import os
+import re
 import shutil
 import subprocess
 import sys
@@ -14,6 +16,7 @@ passed = failed = skipped = 0
 
 RIGHT = 'int main(void) { return 42; }\n'
 ADDS = '#include <rvio.h>\nint main(void) { rv_putbyte(rv_getbyte() + 1); return 42; }\n'
+ECHO = '#include <rvio.h>\nint main(void) { for (int c = rv_getbyte(); c != -1; c = rv_getbyte()) { rv_putbyte(c); rv_putbyte(c); } return 0; }\n'
 WRONG = 'int main(void)\n{\n    return x;\n}\n'
 
 
@@ -36,6 +39,14 @@ def call(words, work, **more):
     env = {**os.environ, 'ZIKORAPE_LIB': OUT, 'PIP_NO_INDEX': '1', 'npm_config_offline': 'true', 'CARGO_NET_OFFLINE': 'true', **more}
     done = subprocess.run(words, cwd=work, env=env, stdin=subprocess.DEVNULL, capture_output=True, text=True, timeout=600)
     return done.returncode, done.stdout, done.stderr
+
+
+def documented(language):
+    """The lines of docs/LIBRARY.md in a language; the one block of it, or the blocks of Python one after another."""
+    with open(os.path.join(ROOT, 'docs', 'LIBRARY.md'), encoding='utf-8') as file:
+        found = re.findall(r'```%s\n(.*?)```' % language, file.read(), re.S)
+    check('docs/LIBRARY.md has lines of ' + language, len(found) == (2 if language == 'python' else 1), len(found))
+    return ''.join(found)
 
 
 PYTHON = """
@@ -67,10 +78,12 @@ def python(work):
     check('pip install', status == 0, out, err)
     status, out, err = call([own, '-c', PYTHON], work, PYTHONPATH='')
     check('python: ten lines', status == 0 and out.startswith(place), out, err)
+    status, out, err = call([own, '-c', documented('python')], work, PYTHONPATH='')
+    check('python: the lines of docs/LIBRARY.md', status == 0 and "{'event': 'get', 'byte': 97}" in out, out, err)
 
 
 NODE = """
-import { load } from 'zikorape';
+import { load, serve } from 'zikorape';
 const zk = await load();
 const built = zk.build([['main.c', %s]], 'main.c');
 if (built.status !== 0 || zk.run(built.output, 'a.out').status !== 42) throw new Error('status');
@@ -87,7 +100,41 @@ for (const [byte, put] of [['a', 'b'], ['x', 'y']]) {
   machine.restore(there);
 }
 machine.free();
-""" % tuple(repr(text) for text in (RIGHT, WRONG, RIGHT, ADDS))
+const echo = zk.machine(zk.build([['main.c', %s]], 'main.c').output);
+const parts = [], given = ['a', 'bc', null, 'd', ''];
+const text = () => parts.map(part => new TextDecoder().decode(part)).join('');
+const served = { get: () => given.shift(), put: part => parts.push(part) };
+if (serve(echo, served) !== 5 || text() !== 'aabbcc') throw new Error('it waits: ' + text());
+if (serve(echo, served) !== 1 || text() !== 'aabbccdd') throw new Error('it goes on: ' + text());
+const endless = zk.machine(zk.build([['main.c', 'int main(void) { for (;;) ; }\\n']], 'main.c').output);
+if (serve(endless, { max: 100000 }) !== 0 || endless.steps() !== 100000) throw new Error('it is left');
+""" % tuple(repr(text) for text in (RIGHT, WRONG, RIGHT, ADDS, ECHO))
+
+
+KEPT_RUN = """
+import { Interpreter, load } from 'zikorape';
+const zk = await load();
+const files = [['main.c', %s]];
+let whole;
+try { whole = new TextDecoder().decode(zk.trace(files, 'main.c', 'ab', 0, 100000).output); } catch { console.log('no zk_trace'); process.exit(); }
+const run = new Interpreter(zk, files, 'main.c'), told = [], rest = ['a', 'b'];
+for (let until = 3; ; ) {
+  told.push(...run.run(until));
+  if (run.outcome === 0) until += 3;
+  else if (run.outcome !== 5) break;
+  else if (rest.length) run.input(rest.shift());
+  else run.closeInput();
+}
+if (run.outcome !== 1 || run.detail !== 0) throw new Error('it ends: ' + run.outcome);
+if (JSON.stringify(told) !== JSON.stringify(whole.split('\\n').filter(line => line).map(line => JSON.parse(line)))) throw new Error('what is told');
+const wrong = new Interpreter(zk, [['w.c', 'int main(void) { int a; return a; }\\n']], 'w.c');
+wrong.run(100);
+if (wrong.outcome !== 2 || wrong.message !== 'w.c:1: undefined U6') throw new Error(wrong.message);
+const refused = new Interpreter(zk, [['w.c', 'int main(void) { return x; }\\n']], 'w.c');
+refused.run(100);
+if (refused.outcome !== 4 || !refused.message.startsWith('w.c:1: 528')) throw new Error(refused.message);
+console.log('told');
+""" % repr(ECHO)
 
 
 def node(work):
@@ -107,6 +154,17 @@ def node(work):
     check('npm install', status == 0, out, err)
     status, out, err = call(['node', 'use.mjs'], work)
     check('node: ten lines', status == 0, out, err)
+    with open(os.path.join(work, 'documented.mjs'), 'w') as file:
+        file.write(documented('js'))
+    status, out, err = call(['node', 'documented.mjs'], work)
+    with open(os.path.join(work, 'kept.mjs'), 'w') as file:
+        file.write(KEPT_RUN)
+    if call(['node', 'kept.mjs'], work)[1] == 'no zk_trace\n':
+        leave_out('runs of the interpreter in Node: the module has no zk_trace')
+    else:
+        status, kept, said = call(['node', 'kept.mjs'], work)
+        check('node: a run that is kept', (status, kept) == (0, 'told\n'), kept, said)
+    check('node: the lines of docs/LIBRARY.md', (status, out, err) == (0, '1 42 b\n', ''), out, err)
 
 
 RUST = """fn main() {
@@ -125,8 +183,56 @@ RUST = """fn main() {
         assert_eq!(machine.output(), put);
         machine.restore(&there).unwrap();
     }
+    served();
+    traced();
 }
-""" % tuple('"%s"' % text.replace('\n', '\\n') for text in (RIGHT, WRONG, ADDS))
+
+// Input and output by a reader and a writer, and a program without an end that is left.
+fn served() {
+    let mut machine = zikorape::KeptMachine::new(&zikorape::build(&[("main.c", ECHO.as_bytes())], "main.c").check().unwrap().output).unwrap();
+    let mut put = Vec::new();
+    assert_eq!(machine.serve(&mut &b"abc"[..], &mut put, u64::MAX).unwrap(), zikorape::Ran::Ended(0));
+    assert_eq!(put, b"aabbcc");
+    struct Full;
+    impl std::io::Write for Full {
+        fn write(&mut self, _: &[u8]) -> std::io::Result<usize> { Err(std::io::ErrorKind::StorageFull.into()) }
+        fn flush(&mut self) -> std::io::Result<()> { Ok(()) }
+    }
+    let mut machine = zikorape::KeptMachine::new(&zikorape::build(&[("main.c", ECHO.as_bytes())], "main.c").check().unwrap().output).unwrap();
+    assert_eq!(machine.serve(&mut &b"a"[..], &mut Full, 1_000_000).unwrap_err().kind(), std::io::ErrorKind::StorageFull);
+    let endless = "int main(void) { for (;;) ; }\\n";
+    let mut machine = zikorape::KeptMachine::new(&zikorape::build(&[("main.c", endless.as_bytes())], "main.c").check().unwrap().output).unwrap();
+    assert_eq!(machine.serve(&mut &b""[..], &mut put, 100_000).unwrap(), zikorape::Ran::GoesOn);
+    assert_eq!(machine.steps(), 100_000);
+}
+
+// A run of the interpreter in slices, over input that comes while it runs.
+fn traced() {
+    let files = [("main.c", ECHO.as_bytes())];
+    let whole = zikorape::trace(&files, "main.c", b"ab", false, 100_000, 0).check().unwrap();
+    let (mut run, mut told, mut until) = (zikorape::Interpreter::new(&files, "main.c"), String::new(), 3);
+    let mut rest = b"ab".iter();
+    loop {
+        told += &run.run(until).unwrap();
+        match run.stands() {
+            zikorape::Stands::WantsInput => match rest.next() {
+                Some(byte) => run.input(&[*byte]),
+                None => run.close_input(),
+            },
+            zikorape::Stands::GoesOn => until += 3,
+            zikorape::Stands::Ended(status) => break assert_eq!(*status, 0),
+            other => panic!("{other:?}"),
+        }
+    }
+    assert_eq!(told.as_bytes(), whole.output);
+    let mut wrong = zikorape::Interpreter::new(&[("w.c", b"int main(void) { int a; return a; }\\n")], "w.c");
+    wrong.run(100).unwrap();
+    assert_eq!(wrong.stands(), &zikorape::Stands::Undefined("w.c:1: undefined U6".to_string()));
+    assert!(zikorape::Interpreter::new(&[("w.c", b"int main(void) { return x; }\\n")], "w.c").run(100).is_err());
+}
+
+const ECHO: &str = %s;
+""" % tuple('"%s"' % text.replace('\n', '\\n') for text in (RIGHT, WRONG, ADDS, ECHO))
 
 
 def rust(work):
@@ -145,8 +251,13 @@ def rust(work):
         file.write('[package]\nname = "user"\nversion = "1.0.0"\nedition = "2021"\n[dependencies]\nzikorape = { path = "%s" }\n' % crate)
     with open(os.path.join(user, 'src', 'main.rs'), 'w') as file:
         file.write(RUST)
-    status, out, err = call(['cargo', 'run', '--offline', '--quiet'], user, **target)
+    os.mkdir(os.path.join(user, 'src', 'bin'))
+    with open(os.path.join(user, 'src', 'bin', 'documented.rs'), 'w') as file:
+        file.write(documented('rust'))
+    status, out, err = call(['cargo', 'run', '--offline', '--quiet', '--bin', 'user'], user, **target)
     check('rust: ten lines', status == 0, out, err)
+    status, out, err = call(['cargo', 'run', '--offline', '--quiet', '--bin', 'documented'], user, **target)
+    check('rust: the lines of docs/LIBRARY.md', status == 0 and out.startswith('{"event":"enter","function":"main"}\n'), out, err)
 
 
 C = """#include <string.h>
@@ -217,20 +328,21 @@ def fuzz_target(work):
     """examples/fuzz over an input that is defined and one that is not, and by libFuzzer, which finds the second kind."""
     folder = os.path.join(ROOT, 'examples', 'fuzz')
     words = ['-I' + os.path.join(ROOT, 'include'), '-DPROGRAM="%s"' % os.path.join(folder, 'checksum.c'), os.path.join(folder, 'target.c'), os.path.join(OUT, 'libzikorape.a'), '-lpthread', '-o']
-    for name, bytes_ in (('defined', b'abc{{'), ('undefined', b'{' * 20)):
-        with open(os.path.join(work, name), 'wb') as file:
-            file.write(bytes_)
+    with open(os.path.join(work, 'undefined'), 'wb') as file:
+        file.write(b'{' * 20)
     if shutil.which('gcc'):
         status, out, err = call(['gcc', '-DWITH_MAIN', *words, 'tried'], work)
         check('the fuzz target by gcc', status == 0, out, err)
-        check('an input that is defined', call(['./tried', 'defined'], work)[0] == 0)
+        corpus = os.path.join(folder, 'corpus')
+        check('inputs that are defined', call(['./tried', *[os.path.join(corpus, name) for name in sorted(os.listdir(corpus))]], work)[0] == 0)
         status, out, err = call(['./tried', 'undefined'], work)
         check('one that is not', status == -6 and 'program.c:11: undefined U5\n' in err, status, err)
     else:
         leave_out('the fuzz target: no gcc')
     if not shutil.which('clang') or call(['clang', '-g', '-fsanitize=fuzzer', *words, 'fuzz'], work)[0] != 0:
         return leave_out('the fuzz target by libFuzzer: no clang with it')
-    status, out, err = call(['./fuzz', '-seed=1', '-runs=2000000', '-max_len=64', '-max_total_time=120'], work)
+    os.mkdir(os.path.join(work, 'found'))
+    status, out, err = call(['./fuzz', os.path.join(work, 'found'), os.path.join(folder, 'corpus'), '-seed=1', '-runs=2000000', '-max_len=64', '-max_total_time=120'], work)
     check('libFuzzer finds it', status != 0 and 'undefined U5' in err, status, err)
 
 
@@ -249,6 +361,36 @@ for words, cell in (('--input "ab c"', '#include <rvio.h>\\nint main(void) { for
 """
 
 
+CELLS = """
+import json
+import sys
+sys.path.insert(0, %r)
+from IPython.core.interactiveshell import InteractiveShell
+from IPython.utils.capture import capture_output
+import zikorape
+zikorape._beside = lambda: %r
+shell = InteractiveShell.instance()
+with open(%r, encoding='utf-8') as file:
+    cells = [cell for cell in json.load(file)['cells'] if cell['cell_type'] == 'code']
+for cell in cells:
+    with capture_output() as shown:
+        shell.run_cell(''.join(cell['source']))
+    print(json.dumps([shown.stdout + shown.stderr, ''.join(''.join(output['text']) for output in cell['outputs'])]))
+"""
+
+
+def example_notebook(work):
+    """Each cell of examples/jupyter/first.ipynb shows what stands under it, which was written by hand; the weight is that of tests/outside/constraints/model.py."""
+    if call([sys.executable, '-c', 'import IPython'], work)[0] != 0:
+        return leave_out('the notebook: no IPython')
+    path = os.path.join(ROOT, 'examples', 'jupyter', 'first.ipynb')
+    status, out, err = call([sys.executable, '-c', CELLS % (os.path.join(ROOT, 'bindings', 'python'), os.path.join(OUT, 'libzikorape.so'), path)], work, IPYTHONDIR=work)
+    shown = [json.loads(line) for line in out.splitlines() if line.startswith('[')]
+    check('the notebook has cells', status == 0 and len(shown) == 7, out, err)
+    for number, (found, wanted) in enumerate(shown):
+        check('cell %d of the notebook' % number, found == wanted, repr(found), repr(wanted))
+
+
 def notebook(work):
     """The magic of a notebook, in IPython's own shell."""
     if call([sys.executable, '-c', 'import IPython'], work)[0] != 0:
@@ -262,7 +404,7 @@ def notebook(work):
 if not os.path.exists(os.path.join(OUT, 'libzikorape.so')):
     leave_out('the packages: there is no library at %s: sh bindings/build.sh bindings/out' % OUT)
 else:
-    for part in (python, node, rust, c_user, grader, fuzz_target, notebook):
+    for part in (python, node, rust, c_user, grader, fuzz_target, notebook, example_notebook):
         with tempfile.TemporaryDirectory() as work:
             part(work)
 print('%d passed, %d failed%s' % (passed, failed, ', %d skipped' % skipped if skipped else ''))

@@ -1,0 +1,119 @@
+//! The run, and what is told of it.
+
+use cc::{StackSize, checked_program, interpret_observed};
+use machine_kept::Feed;
+use object_names::{ProgramNames, names_of_set};
+use srcset::{Fault, FileSet, Names};
+use std::alloc::{AllocError, Global};
+use traced_interp::{SourceLines, Trace, TraceForm};
+use typed_ast::Program;
+
+/// What is said where the port refused to read: 802.
+const CANNOT_READ: &[u8] = b"cc: port fault 802\n";
+
+/// What is asked of a run.
+#[derive(Clone, Copy)]
+pub struct Asked<'a> {
+    /// The name of the main file.
+    pub main: &'a str,
+    pub input: &'a [u8],
+    /// Whether the input may go on behind these bytes: a read there waits, and is not told that the input ended.
+    pub is_open: bool,
+    /// At most so many ticks.
+    pub max: u64,
+    /// The tick from which on the run is told; what comes before the first tick belongs to tick 0.
+    pub from: u64,
+}
+
+/// What is told of a run.
+#[derive(Drop)]
+pub struct Told {
+    /// A JSON object a line, each with its newline.
+    pub lines: Vec<u8>,
+    /// Why the program did not end by itself, with its newline; empty where it did, and where it waits.
+    pub message: Vec<u8>,
+    /// The exit status of `zkc interp`.
+    pub status: u8,
+    /// Whether the run waits for input: it reads behind an input that is open.
+    pub waits: bool,
+}
+
+/// Does what the program of the set means over the input, and tells it.
+///
+/// Refuses as the compiler does, with the usual stack; and with 801 where memory runs out for what is told.
+pub fn trace(alloc: Global, set: &FileSet, asked: Asked<'_>) -> Result<Told, Fault> {
+    let mut names = Names::new(alloc);
+    match checked_program(alloc, set, asked.main, &mut names, StackSize::usual()) {
+        Ok(typed) => match trace_checked(alloc, set, asked, names, typed) {
+            Ok(told) => Ok(told),
+            Err(_) => Err(Fault::memory(alloc)),
+        },
+        Err(fault) => Err(fault),
+    }
+}
+
+/// Tells the run of a program whose names are numbered in `names`.
+fn trace_checked(
+    alloc: Global,
+    set: &FileSet,
+    asked: Asked<'_>,
+    names: Names,
+    typed: Program,
+) -> Result<Told, AllocError> {
+    let mut names = names;
+    let objects = names_of_set(alloc, set, asked.main, &mut names, &typed)?;
+    let lines = SourceLines::of(alloc, set, &[])?;
+    match asked.input.to_vec(alloc) {
+        Ok(input) => {
+            let port = Feed::over(alloc, input, !asked.is_open);
+            run_told(alloc, asked, port, &typed, &names, objects, lines)
+        }
+        Err(_) => Err(AllocError),
+    }
+}
+
+/// Tells the run of a program over a port. JSON shows no source lines, so there may be none.
+fn run_told(
+    alloc: Global,
+    asked: Asked<'_>,
+    port: Feed,
+    typed: &Program,
+    names: &Names,
+    objects: ProgramNames,
+    lines: SourceLines,
+) -> Result<Told, AllocError> {
+    let mut port = port;
+    let mut message = Vec::new(alloc);
+    let trace = Trace::new(alloc, names, objects, lines, TraceForm::Json, Vec::new(alloc));
+    let mut trace = trace.since(asked.from);
+    let status = interpret_observed(
+        alloc,
+        typed,
+        names,
+        &mut port,
+        asked.max,
+        &mut message,
+        &mut trace,
+    );
+    let (written, lines) = trace.into_writer();
+    if written.is_whole {
+        Ok(ended(status, message, lines))
+    } else {
+        Err(AllocError)
+    }
+}
+
+/// What is told of a run that ended with this status and message. The port refuses to read only where the input is open and used up.
+fn ended(status: u8, message: Vec<u8>, lines: Vec<u8>) -> Told {
+    let waits = message.as_slice() == CANNOT_READ;
+    let mut message = message;
+    if waits {
+        message.clear();
+    }
+    Told {
+        lines,
+        message,
+        status,
+        waits,
+    }
+}
