@@ -1,12 +1,16 @@
 #!/bin/sh
-# sh page/build.sh [MODULE]: makes page/zikorape.wasm, writes what it was made of to page/SOURCES, and prints the file's size. MODULE is the
-# library's module for LLVM; without it `sh bindings/build.sh --prove bindings/out` makes it first, over what the gate proved. That takes
-# two to three minutes, and 40 seconds more are for WebAssembly.
+# sh page/build.sh [MODULE]: makes page/zikorape.wasm and page/diagnostics.wasm, writes what they were made of to page/SOURCES, and prints their sizes.
+# MODULE is the library's module for LLVM; without it `sh bindings/build.sh --prove bindings/out` makes it first, over what the gate proved.
+# That takes two to three minutes, and two more are for WebAssembly.
 #   KIT       the kit's folder: by default where `rt` lies
 #   RLIBS     as for bindings/build.sh
 #   WASM_OPT  wasm-opt of binaryen 108 (Debian's package binaryen): by default that on the PATH
 # The module is for x86-64; it is compiled for wasm64, linked with the page's own heap, and lowered to 32-bit addresses, which every
-# browser has. wasm-opt lowers and does nothing else: its -O2 makes code that is slower here and takes more of the engine's stack.
+# browser has. Two files are made of it: zikorape.wasm compiles, shows, runs and interprets; diagnostics.wasm explains, warns, verifies and
+# traces, and is fetched when that is first wanted: each has what the other has too, and one with both would be too large. Of the former
+# wasm-opt lowers the addresses and does nothing else: its -O2 makes code that is slower here and takes more of the engine's stack. The
+# latter is made for its size.
+# shellcheck disable=SC2086 # flags, features and names are words
 set -eu
 page=$(cd "$(dirname "$0")" && pwd)
 KIT=${KIT:-$(cd "$(dirname "$(readlink -f "$(command -v rt)")")/.." && pwd)}
@@ -21,27 +25,36 @@ work=$(mktemp -d)
 trap 'rm -rf "$work"' EXIT
 cd "$work"
 clang=$KIT/toolchain/bin/clang
-flags='--target=wasm64-unknown-unknown -O2 -mbulk-memory -msign-ext'
+flags='--target=wasm64-unknown-unknown -mbulk-memory -msign-ext'
+features='--enable-memory64 --enable-bulk-memory --enable-sign-ext --enable-mutable-globals --enable-multivalue'
 layout='e-m:e-p:64:64-p10:8:8-p20:8:8-i64:64-i128:128-n32:64-S128-ni:1:10:20'
-exports='build build_with functions image frames preprocess list form interpret run step machine_size machine_place machine_ask machine_clear message version malloc free'
+compiler='build build_with functions image frames preprocess list form interpret run step machine_size machine_place machine_ask machine_clear message version malloc free'
+explainer='explain warn verify trace message version malloc free'
 
 # The same module for another target.
 "$clang" --target=x86_64-unknown-linux-gnu -x ir "$module" -S -emit-llvm -O0 -o native.ll
 sed -e "s/^target datalayout.*/target datalayout = \"$layout\"/" -e 's/^target triple.*/target triple = "wasm64-unknown-unknown"/' \
     -e 's/"probe-stack"="inline-asm"//; s/"stack-probe-size"="[0-9]*"//; s/"target-cpu"="x86-64-v2"//' native.ll >wasm.ll
-"$clang" $flags -c -x ir wasm.ll -o library.o
+"$clang" $flags -O2 -c -x ir wasm.ll -o fast.o
+"$clang" $flags -Oz -c -x ir wasm.ll -o small.o
 
 # What it calls: the heap, and the product of 128 bits.
-"$clang" $flags -c -x ir "$page/glue.ll" -o glue.o
-for part in heap wide; do "$clang" $flags -fno-builtin -Wall -Werror -c "$page/$part.c" -o $part.o; done
-
-# The kit's clang links under the name wasm-ld. The stack stands first in memory, so that too little of it is a trap.
+"$clang" $flags -O2 -c -x ir "$page/glue.ll" -o glue.o
+for part in heap wide; do "$clang" $flags -O2 -fno-builtin -Wall -Werror -c "$page/$part.c" -o $part.o; done
 ln -s "$clang" wasm-ld
-names=
-for name in $exports; do names="$names --export=zk_$name"; done
-./wasm-ld -mwasm64 --no-entry $names --export-memory --stack-first -z stack-size=4194304 library.o heap.o wide.o glue.o -o wide.wasm
-"$WASM_OPT" --enable-memory64 --enable-bulk-memory --enable-sign-ext --enable-mutable-globals --enable-multivalue --memory64-lowering \
-    wide.wasm -o zikorape.wasm
-cp zikorape.wasm "$page/zikorape.wasm"
+
+# made NAME OBJECT EXPORTS [OPTIONS OF wasm-opt]: page/NAME.wasm. The kit's clang links under the name wasm-ld. The stack stands first in memory, so
+# that too little of it is a trap.
+made() {
+    name=$1 object=$2 names=
+    for export in $3; do names="$names --export=zk_$export"; done
+    shift 3
+    ./wasm-ld -mwasm64 --no-entry $names --export-memory --stack-first -z stack-size=4194304 "$object" heap.o wide.o glue.o -o wide.wasm
+    "$WASM_OPT" $features --memory64-lowering "$@" wide.wasm -o "$name.wasm"
+    cp "$name.wasm" "$page/$name.wasm"
+    echo "$name.wasm: $(wc -c <"$name.wasm") bytes, $(gzip -9 -c "$name.wasm" | wc -c) by gzip"
+}
+
+made zikorape fast.o "$compiler"
+made diagnostics small.o "$explainer" -Oz --strip-debug --strip-producers
 sh "$page/digest.sh" >"$page/SOURCES"
-wc -c <"$page/zikorape.wasm"

@@ -1,14 +1,16 @@
-// The machine: registers, memory, the stack in use.
-import { $, beginning, element, hex, row } from './dom.js';
-import { ask } from './asking.js';
-import { NEVER, input, session } from './session.js';
-import { showNext } from './listing.js';
+// The machine: registers, memory, its output, and where it stands in source and listing.
+import { $, beginning, element, hex, number, row } from './dom.js';
+import { askMachine } from './asking.js';
+import { session } from './session.js';
+import { instructionAt, showNext } from './listing.js';
+import { placeAt } from './table.js';
+import { setNext } from './marks.js';
+import { reveal } from './sources.js';
+import { NAMES } from './words.js';
+import { showDepth } from './stack.js';
 
-const NAMES = ['zero', 'ra', 'sp', 'gp', 'tp', 't0', 't1', 't2', 's0', 's1', 'a0', 'a1', 'a2', 'a3', 'a4', 'a5', 'a6', 'a7',
-  's2', 's3', 's4', 's5', 's6', 's7', 's8', 's9', 's10', 's11', 't3', 't4', 't5', 't6'];
 const CAUSES = ['', 'illegal word', 'fetch fault', 'target', 'misaligned', 'load fault', 'store fault', 'break', 'unknown call'];
-const OUTCOMES = ['goes on', 'ended', 'trapped', 'is out of memory', 'is not loaded'];
-const STACK_END = 0x80000000;
+const OUTCOMES = ['goes on', 'ended', 'trapped', 'is out of memory', 'is not loaded', 'waits for input'];
 export const WINDOW = 128;
 
 export const state = seen => seen.outcome === 1 ? `ended with status ${seen.detail}`
@@ -21,17 +23,29 @@ export function windowFrom() {
   return Number.isFinite(address) ? (address & ~15) >>> 0 : 0;
 }
 
+function showOutput({ output, put }) {
+  $('output').textContent = put > output.length ? `${beginning(output.slice(0, output.length / 2))}\n… ${number(put - output.length)} bytes …\n${beginning(output.slice(output.length / 2))}` : beginning(output);
+}
+
+// The line of the statement in which the machine stands, in the source, and its instruction, in the listing.
+function showPlace(seen) {
+  const place = seen.outcome === 0 || seen.outcome === 5 ? placeAt(session.table, seen.pc) : undefined;
+  setNext(place);
+  if (place) reveal(place);
+  showNext(seen.pc);
+  $('where').textContent = `after ${seen.steps} instructions: ${state(seen)}, pc ${hex(seen.pc)}${place ? `, ${place.file}:${place.line}` : ''}`;
+  $('next-instruction').textContent = seen.outcome === 0 || seen.outcome === 5 ? instructionAt(seen.pc) ?? '' : '';
+}
+
 export function showMachine() {
   const { seen, previous } = session;
-  $('output').textContent = beginning(seen.output);
-  $('where').textContent = `after ${seen.steps} instructions: ${state(seen)}, pc ${hex(seen.pc)}`;
+  showOutput(seen);
   $('registers').replaceChildren(...NAMES.map((name, k) => {
     const changed = previous && previous.registers[k] !== seen.registers[k];
-    return element('span', `${name.padEnd(4)} ${hex(seen.registers[k])}`, { title: `x${k}: ${seen.registers[k] | 0}`, className: changed ? 'changed' : '' });
+    return element('span', `${changed ? '*' : ' '}${name.padEnd(4)} ${hex(seen.registers[k])}`, { title: `x${k}: ${seen.registers[k] | 0}${changed ? `, before ${hex(previous.registers[k])}` : ''}`, className: changed ? 'changed' : '' });
   }));
-  showNext(seen.pc);
-  const used = STACK_END - seen.registers[2];
-  $('depth').textContent = seen.registers[2] ? `sp is ${hex(seen.registers[2])}: ${used.toLocaleString('en')} bytes of the stack are in use.` : 'The stack is not set up yet.';
+  showPlace(seen);
+  showDepth();
   showBytes(windowFrom(), seen.window);
 }
 
@@ -45,10 +59,6 @@ function showBytes(from, window) {
 // Memory from another address, of the machine as it stands.
 export async function showMemory() {
   if (!session.seen || session.seen.outcome === 4) return;
-  const from = windowFrom(), got = await ask('step', session.file, input(), session.seen.steps, 0, NEVER, from, WINDOW);
+  const from = windowFrom(), got = await askMachine('state', from, WINDOW);
   if (got.answer) showBytes(from, got.answer.window);
-}
-
-export function showFrames(said) {
-  $('frame-lines').replaceChildren(...said.trimEnd().split('\n').map(line => row(line.split(' '))));
 }

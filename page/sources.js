@@ -1,8 +1,9 @@
-// The files in the editor, the fault under its line, and the address bar's fragment.
-import { $, element } from './dom.js';
+// The files in the editor, and the address bar's fragment.
+import { $ } from './dom.js';
+import { draw, indexOf, markAt } from './marks.js';
 
-const LINE = 20, ABOVE = 6;      // pixels: of a line, and above the first one
-let kept = [['main.c', '']], shown = 0, fault;
+const LINE = 20;      // pixels of a line
+let kept = [['main.c', '']], shown = 0, moved = () => {};
 
 const ended = source => source === '' || source.endsWith('\n') ? source : source + '\n';
 
@@ -15,6 +16,10 @@ export function files() {
 }
 
 export const mainName = () => kept[0][0];
+export const shownName = () => kept[shown][0];
+export const shownText = () => $('source').value;
+export const has = name => kept.some(([other]) => other === name);
+export const lineOf = (name, line) => (kept.find(([other]) => other === name)?.[1] ?? '').split('\n')[line - 1] ?? '';
 
 export function setFiles(list) {
   kept = list.map(([name, source]) => [name, source]);
@@ -27,7 +32,14 @@ function show(index) {
   $('source').value = kept[shown][1];
   $('source').setAttribute('aria-label', `C source, ${kept[shown][0]}`);
   $('remove').disabled = shown === 0;
-  showFault(fault ? fault.line : '');
+  redraw();
+}
+
+export function redraw() {
+  keep();
+  draw(kept[shown][0], $('source').value);
+  scroll();
+  moved();
 }
 
 export function choose(index) {
@@ -49,75 +61,86 @@ export function remove() {
   show(0);
 }
 
-// ---- the fault: FILE:LINE: CODE TEXT
-
-function lineNumbers(faulty) {
-  const count = $('source').value.split('\n').length;
-  $('lines').replaceChildren(...Array.from({ length: count }, (_, k) =>
-    k + 1 === faulty ? element('b', `${k + 1}`) : element('span', `${k + 1}\n`)));
-}
+// ---- places
 
 export function scroll() {
-  $('lines').scrollTop = $('source').scrollTop;
-  if (fault) $('fault').style.top = `${ABOVE + LINE * fault.at - $('source').scrollTop}px`;
+  for (const id of ['lines', 'marks']) $(id).scrollTop = $('source').scrollTop;
+  $('marks').scrollLeft = $('source').scrollLeft;
+  moved();
 }
 
-export function showFault(line) {
-  const found = /^([^:\n]*):(\d+): (.*)\n$/.exec(line);
-  fault = found ? { line, name: found[1], at: Math.max(1, Number(found[2])), says: found[3] } : undefined;
-  const here = fault?.name === kept[shown][0];
-  $('fault').hidden = !here;
-  $('fault').textContent = here ? fault.says : '';
-  $('to-fault').hidden = !fault || !kept.some(([name]) => name === fault.name);
-  $('source').setAttribute('aria-invalid', String(Boolean(here)));
-  lineNumbers(here ? fault.at : 0);
-  scroll();
-}
-
-// Shows the faulty file, and puts the cursor at the beginning of the line.
-export function toFault() {
-  const { line, name, at } = fault;
-  choose(kept.findIndex(([other]) => other === name));
-  showFault(line);
-  const before = $('source').value.split('\n').slice(0, at - 1).join('\n').length;
-  const begin = at > 1 ? before + 1 : 0;
-  $('source').focus();
-  $('source').setSelectionRange(begin, begin);
-  $('source').scrollTop = Math.max(0, LINE * (at - 4));
-}
-
-// Shows a line of a file, and selects it; says whether there is such a file.
-export function mark(name, line) {
-  const index = kept.findIndex(([other]) => other === name);
+// Shows the file of a place, and its line; whether there is such a file.
+export function reveal({ file, line }) {
+  const index = kept.findIndex(([name]) => name === file);
   if (index < 0) return false;
   if (index !== shown) choose(index);
-  const lines = $('source').value.split('\n'), begin = lines.slice(0, line - 1).reduce((sum, one) => sum + one.length + 1, 0);
-  $('source').focus();
-  $('source').setSelectionRange(begin, begin + (lines[line - 1] ?? '').length);
-  $('source').scrollTop = Math.max(0, LINE * (line - 4));
+  const top = LINE * (line - 1), height = $('source').clientHeight;
+  if (top < $('source').scrollTop || top + 2 * LINE > $('source').scrollTop + height) $('source').scrollTop = Math.max(0, top - height / 2);
   return true;
 }
 
-// ---- the fragment: the files and the input
+// Puts the cursor at a place, at the column where it has one.
+export function goTo({ file, line, column }) {
+  if (!reveal({ file, line })) return;
+  const lines = $('source').value.split('\n'), begin = lines.slice(0, line - 1).reduce((sum, one) => sum + one.length + 1, 0);
+  const at = begin + (column ? indexOf(lines[line - 1] ?? '', column) : 0);
+  $('source').focus();
+  $('source').setSelectionRange(at, at);
+}
+
+// The line in which the cursor is.
+export function cursor() {
+  return { file: shownName(), line: $('source').value.slice(0, $('source').selectionStart).split('\n').length };
+}
+
+// Replaces what stands from a line and a column up to others.
+export function replace({ line, column, end_line: last, end, text }) {
+  const lines = $('source').value.split('\n'), start = n => lines.slice(0, n - 1).reduce((sum, one) => sum + one.length + 1, 0);
+  const from = start(line) + indexOf(lines[line - 1], column), to = start(last) + indexOf(lines[last - 1], end);
+  $('source').setRangeText(text, from, to, 'end');
+  keep();
+}
+
+// ---- the fragment: the files, the input, the tab, the step
 
 const toBase64 = bytes => btoa(Array.from(bytes, b => String.fromCharCode(b)).join('')).replaceAll('+', '-').replaceAll('/', '_').replaceAll('=', '');
 const fromBase64 = word => Uint8Array.from(atob(word.replaceAll('-', '+').replaceAll('_', '/')), c => c.charCodeAt(0));
 
-export function fragment() {
+export function fragment(tab, step) {
   keep();
-  return `#f=${toBase64(new TextEncoder().encode(JSON.stringify(kept)))}&i=${encodeURIComponent($('input').value)}`;
+  return `#f=${toBase64(new TextEncoder().encode(JSON.stringify(kept)))}&i=${encodeURIComponent($('input').value)}&t=${tab}&n=${step}`;
 }
 
-// Takes files and input from the address bar; whether it has some.
+// Takes files and input from the address bar; { tab, step } where it has some.
 export function fromFragment() {
   const given = new URLSearchParams(location.hash.slice(1));
   try {
     const list = JSON.parse(new TextDecoder().decode(fromBase64(given.get('f'))));
-    if (!Array.isArray(list) || list.length === 0 || !list.every(one => one.length === 2 && one.every(part => typeof part === 'string'))) return false;
+    if (!Array.isArray(list) || list.length === 0 || !list.every(one => one.length === 2 && one.every(part => typeof part === 'string'))) return undefined;
     setFiles(list);
     $('input').value = given.get('i') ?? '';
-    return true;
+    return { tab: given.get('t') ?? '', step: Math.max(0, Number(given.get('n')) || 0) };
   } catch {
-    return false;
+    return undefined;
   }
+}
+
+// ---- what is told under the mouse
+
+function tip(event) {
+  const found = markAt(event.clientX, event.clientY);
+  $('tip').hidden = !found?.title;
+  if (!found?.title) return;
+  $('tip').textContent = found.title;
+  const box = $('editor').getBoundingClientRect();
+  $('tip').style.left = `${Math.max(0, Math.min(event.clientX - box.left, box.width - 260))}px`;
+  $('tip').style.top = `${event.clientY - box.top + 18}px`;
+}
+
+// `whenMoved` is called when lines have moved on the screen.
+export function begin(whenMoved) {
+  moved = whenMoved;
+  $('source').onscroll = scroll;
+  $('source').addEventListener('mousemove', tip);
+  $('source').addEventListener('mouseleave', () => { $('tip').hidden = true; });
 }

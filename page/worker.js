@@ -1,14 +1,19 @@
-// Does the calls of the page, so that it stays alive. The first message is { module }; each other, { id, what, args }, is answered by
-// { id, answer, ms } or, where the engine has no stack for it here, by { id, failed }.
+// Does the calls of the page, so that it stays alive, and keeps its machine. The first message is { module }; each other, { id, what, args },
+// is answered by { id, answer, ms } or, where the engine has no stack for it here, by { id, failed }.
 import { open } from './zikorape.js';
+import { Kept } from './kept.js';
 
-let module, zk;
+let module, zk, kept;
+
+function calls() {
+  if (!zk) { zk = open(module); kept = new Kept(zk); }
+  return zk;
+}
 
 function answer({ id, what, args }) {
   try {
-    zk ??= open(module);
-    const start = performance.now();
-    const got = zk[what](...args);
+    const zk = calls(), start = performance.now();
+    const got = what === 'kept' ? kept[args[0]](...args.slice(1)) : zk[what](...args);
     postMessage({ id, answer: got, ms: performance.now() - start });
   } catch (error) {
     zk = undefined;      // what a call left that was broken off is in no known state

@@ -141,6 +141,11 @@ export function open(module) {
     preprocess: (files, main) => over(c.zk_preprocess, files, main),
     list: (files, main) => over(c.zk_list, files, main),
     form: (files, main, form) => over(c.zk_form, files, main, form),
+    // of a module that has them
+    warn: (files, main, stack = 1 << 20) => over(c.zk_warn, files, main, stack),
+    verify: (files, main, stack = 1 << 20) => over(c.zk_verify, files, main, stack),
+    explain: (files, main, stack = 1 << 20) => over(c.zk_explain, files, main, stack),
+    trace: (files, main, input = '', isOpen = 0, max = 1e9, from = 0) => over(c.zk_trace, files, main, input, isOpen, BigInt(max), BigInt(from)),
     interpret: (files, main, input = '', max = 1e9) => over(c.zk_interpret, files, main, input, BigInt(max)),
     run: (file, name, input = '', max = 1e9) =>
       answer(({ slice }, rooms) => c.zk_run(...slice(file), ...slice(name), ...slice(input), BigInt(max), ...rooms)),

@@ -37,11 +37,17 @@ class Tab {
     if (said.method === 'Runtime.exceptionThrown') this.thrown.push(said.params.exceptionDetails.exception?.description ?? said.params.exceptionDetails.text);
   }
 
-  send(method, params = {}) {
+  send(method, params = {}, isOfBrowser = false) {
     return new Promise(answered => {
       this.#waiting.set(++this.#last, answered);
-      this.#socket.send(JSON.stringify({ id: this.#last, method, params, sessionId: this.#session }));
+      this.#socket.send(JSON.stringify({ id: this.#last, method, params, sessionId: isOfBrowser ? undefined : this.#session }));
     });
+  }
+
+  // The seconds of processor time that the pages have taken.
+  async cpu() {
+    const { processInfo } = await this.send('SystemInfo.getProcessInfo', {}, true);
+    return processInfo.filter(one => one.type === 'renderer').reduce((sum, one) => sum + one.cpuTime, 0);
   }
 
   // Opens an address in a new tab, where `first` runs before the page's scripts; whether the page became ready.
@@ -72,7 +78,7 @@ class Tab {
   }
 
   async key(name, code, modifiers = 0) {
-    for (const type of ['keyDown', 'keyUp']) await this.send('Input.dispatchKeyEvent', { type, key: name, code: name, windowsVirtualKeyCode: code, modifiers });
+    for (const type of ['rawKeyDown', 'keyUp']) await this.send('Input.dispatchKeyEvent', { type, key: name, code: name, windowsVirtualKeyCode: code, modifiers });
   }
 
   async type(source) {
@@ -84,15 +90,21 @@ class Tab {
     fs.writeFileSync(file, Buffer.from((await this.send('Page.captureScreenshot', { format: 'png' })).data, 'base64'));
   }
 
-  async width(pixels) {
-    if (pixels) await this.send('Emulation.setDeviceMetricsOverride', { width: pixels, height: 740, deviceScaleFactor: 1, mobile: true });
+  // Makes the window so wide, or as it was.
+  async width(pixels, height = 740, mobile = true) {
+    if (pixels) await this.send('Emulation.setDeviceMetricsOverride', { width: pixels, height, deviceScaleFactor: 1, mobile });
     else await this.send('Emulation.clearDeviceMetricsOverride');
-    await pause(300);
+    if (pixels) await this.until(`innerWidth === ${pixels}`);
+    await this.drawn();
   }
+
+  // Two frames later what was changed is laid out and painted.
+  drawn() { return this.run('new Promise(over => requestAnimationFrame(() => requestAnimationFrame(() => over(true))))'); }
 
   async scheme(value) {
     await this.send('Emulation.setEmulatedMedia', { features: [{ name: 'prefers-color-scheme', value }] });
-    await pause(100);
+    await this.until(`matchMedia('(prefers-color-scheme: ${value})').matches`);
+    await this.drawn();
     return this.run('getComputedStyle(document.body).backgroundColor');
   }
 
