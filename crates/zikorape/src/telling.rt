@@ -12,7 +12,7 @@ use lint_unit::warn_of_sources;
 use loader::LoadFault;
 use srcset::{Code, Fault, FileSet};
 use std::alloc::{AllocError, Global};
-use verify_report::{Asked as Question, verify_sources};
+use verify_report::{Asked as Question, USUAL_EFFORT, verify_sources};
 
 /// The answer where there is no such form.
 const NO_FORM: u32 = 256;
@@ -76,13 +76,14 @@ pub fn tell_verdict(
         main,
         given: main,
         stack,
+        effort: USUAL_EFFORT,
         form: Form::Json,
         version: "zikorape",
     };
     match verify_sources(alloc, set, &question) {
         Ok(said) => {
             hand_out(said.out.as_bytes(), b"", out, message, sizes);
-            if said.is_shown { 0 } else { NOT_SHOWN }
+            if said.file.is_some() { 0 } else { NOT_SHOWN }
         }
         Err(fault) => {
             hand_fault(alloc, &fault, out, message, sizes);
