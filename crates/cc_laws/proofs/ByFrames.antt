@@ -3,7 +3,7 @@ use Rattle.std.proofs.Common.{◌≡◌, ◌≤◌, ◌<◌, ℕ, suc, ◌+◌, 
 use Rattle.std.specs.Prelude.{slice_get}
 use Rattle.std.proofs.Math.Nat.{suc-mul}
 use Rattle.std.proofs.lemmas.Bool.{cases_lt}
-use Rattle.loader.specs.File.{Image, file_image}
+use Rattle.loader.specs.File.{file_image}
 use Rattle.elf_out.specs.Program.{program_image}
 use Rattle.elf_out.proofs.Memory.{written_image}
 use Rattle.typing_spec.specs.Program.{Program}

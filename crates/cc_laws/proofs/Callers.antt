@@ -1,5 +1,5 @@
 -- In a run of flat code each call that waits stands behind a call instruction, a step adds at most one frame, and what was done stays done.
-use Rattle.std.proofs.Common.{◌≡◌, ℕ, zero, suc, ◌+◌, ◌*◌, ◌%◌, ◌^◌, ◌<◌, ◌≤◌, List, [], ◌∷◌, ◌++◌, length, Option, Some, None, Bool, true, false, refl, sym, ap, ◌∙◌, subst, arith, eqb}
+use Rattle.std.proofs.Common.{◌≡◌, ℕ, zero, suc, ◌+◌, ◌*◌, ◌%◌, ◌^◌, ◌≤◌, List, [], ◌∷◌, ◌++◌, Option, Some, None, Bool, true, false, refl, sym, ap, ◌∙◌, subst, arith, eqb}
 use Rattle.std.proofs.lemmas.List.{append_assoc}
 use Rattle.csem_events.specs.Events.{Event, Got, GotEnd, Put}
 use Rattle.select_exec.specs.Laws.{IsEndOf}
@@ -10,7 +10,7 @@ use Rattle.frames_code.specs.declared.code.Target.{Target}
 use Rattle.frames_code.specs.declared.code.Target.TheVariants as target
 use Rattle.frames_code.specs.declared.code.Instruction.{Instruction}
 use Rattle.frames_code.specs.declared.code.Instruction.TheVariants as instruction
-use Rattle.frames_code.specs.Code.{Program, frame_bytes}
+use Rattle.frames_code.specs.Code.{Program}
 use Rattle.frames_code.specs.Sound.{IsSoundProgram, most_bytes}
 use Rattle.frames_code.specs.Costs.{next_of}
 use Rattle.frames_code.specs.Run.{Value, Bytes, Frame, State, Progress, running, ended, stuck, value, word_at, reference_in, set, next, past, goes_to, place, memory, name_of, changed_among, with_frames, with_memory, with_element, element_in, gives, gives_word, operate, converted, loaded, stored, put, got, returned, act, step, run, goes_on, function_at, bytes_of, ◌>>=◌}

@@ -1,5 +1,5 @@
 -- The calls that are active at a step of a file's flat code.
-use Rattle.std.proofs.Common.{◌≡◌, ⊎_elim, ℕ, ◌+◌, ◌-◌, ◌≤◌, List, refl, sym, ap, ◌∙◌, subst, arith}
+use Rattle.std.proofs.Common.{◌≡◌, ⊎_elim, ℕ, ◌+◌, ◌-◌, ◌≤◌, List, refl, sym, ap, ◌∙◌, arith}
 use Rattle.std.proofs.lemmas.Bool.{cases_lt}
 use Rattle.typing_spec.specs.Program.{Program}
 use Rattle.csem.specs.History.{Entry, trace_of, active, weight_in, greatest_sum}

@@ -1,5 +1,5 @@
 -- Where a step traps, and would not if more might be read and written, it is a load or a store that is refused.
-use Rattle.std.proofs.Common.{◌≡◌, ◌⊎◌, inl, inr, ℕ, ◌+◌, ◌%◌, ◌^◌, ◌&&◌, List, [], ◌∷◌, Bool, true, false, Option, Some, None, refl, sym, ap, ◌∙◌, subst}
+use Rattle.std.proofs.Common.{◌≡◌, ◌⊎◌, inl, inr, ℕ, ◌+◌, ◌%◌, ◌&&◌, List, [], ◌∷◌, Bool, true, false, Option, Some, None, refl, sym, ap, ◌∙◌, subst}
 use Rattle.std.specs.Prelude.{◌==◌, if◌then◌else◌}
 use Rattle.rv32.specs.declared.instr.Instr.{Instr}
 use Rattle.rv32.specs.declared.instr.Instr.TheVariants.{Lui, Auipc, Jal, Jalr, Branch, Load, Store, Immediate, Shift, Op, Fence, Ecall, Ebreak}
@@ -15,7 +15,7 @@ use Rattle.rv32.specs.Words.{decode_of}
 use Rattle.rv32.specs.Space.{Space, all_four, word_at}
 use Rattle.rv32.specs.Step.{Machine, Stepped, register, step_of, execute_of, decoded, fetched, trapped, gives, jumps, links, loaded, load_of, stored, store_of}
 use Rattle.sim.specs.Runs.{World, Progress, Running, Ended, Trapped, gets, puts, call_of, result_of, tick_of}
-use Rattle.cc_laws.proofs.Loosening.{loose, loose_world, loosened, found_if, NoTrap, NeverTrapped, Allows, step_loose}
+use Rattle.cc_laws.proofs.Loosening.{loose, loose_world, found_if, NoTrap, NeverTrapped, Allows, step_loose}
 
 abbrev pub IsFault : Cause → Type 0
 IsFault c = (c ≡ cause.LoadFault) ⊎ (c ≡ cause.StoreFault)

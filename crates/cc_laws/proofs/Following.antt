@@ -1,5 +1,5 @@
 -- A step of flat code touches nothing of the stack below the stack pointer: where less of the stack may be read and written, the machine follows it too.
-use Rattle.std.proofs.Common.{◌≡◌, ℕ, ◌+◌, ◌-◌, ◌%◌, ◌^◌, ◌<◌, ◌≤◌, List, [], ◌∷◌, length, true, false, ◌&&◌, Ok, None, refl, sym, ap, ◌∙◌, subst, arith, eqb}
+use Rattle.std.proofs.Common.{◌≡◌, ℕ, ◌+◌, ◌-◌, ◌%◌, ◌<◌, ◌≤◌, List, [], ◌∷◌, length, true, false, ◌&&◌, Ok, None, refl, sym, ap, ◌∙◌, subst, arith, eqb}
 use Rattle.std.specs.Prelude.{replicate, if◌then◌else◌}
 use Rattle.std.proofs.lemmas.Bool.Decides.{nat_tests}
 use Rattle.rv32.specs.Words.{decode_of}
@@ -14,8 +14,7 @@ use Rattle.frames_code.specs.Code.{Function, Program, frame_bytes}
 use Rattle.frames_code.specs.Run.{Values, Bytes, Frame, State, Progress, running, ended, stuck, function_at, bytes_of, goes_on, run, step, start}
 use Rattle.csem_events.specs.Events.{Event}
 use Rattle.frames_correct.proofs.Runs.{run_both}
-use Rattle.sim.specs.Runs as sim
-use Rattle.sim.specs.Runs.{World, Running, Trapped, rvrun, start_world, tick_of}
+use Rattle.sim.specs.Runs.{World, Running, rvrun, start_world, tick_of}
 use Rattle.select_exec.specs.Light.{Fixed}
 use Rattle.select_exec.specs.Whole.{Permits, fixed}
 use Rattle.select_exec.specs.Worlds.{world}

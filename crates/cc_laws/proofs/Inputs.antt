@@ -7,7 +7,6 @@ use Rattle.rv32.specs.declared.state.StepResult.{StepResult}
 use Rattle.rv32.specs.declared.state.StepResult.TheVariants.{Went, Call, Trap}
 use Rattle.rv32.specs.Space.{with_bytes, byte_put}
 use Rattle.rv32.specs.Step.{Machine, register, step_of}
-use Rattle.loader.specs.File.{Image}
 use Rattle.sim.specs.Runs as sim
 use Rattle.sim.specs.Runs.{World, Progress, Running, Trapped, answered, with_space, gets, puts, call_of, result_of, tick_of, goes_on, rvrun, start_world}
 use Rattle.select_exec.specs.Laws.{IsEndOf}

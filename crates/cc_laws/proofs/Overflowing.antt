@@ -1,5 +1,5 @@
 -- A file whose calls need more stack than it has does what its program does until an access below the stack traps.
-use Rattle.std.proofs.Common.{◌≡◌, ◌⊎◌, inl, inr, ℕ, zero, suc, ◌+◌, ◌-◌, ◌*◌, ◌^◌, ◌<◌, ◌≤◌, List, [], ◌∷◌, ◌++◌, length, reverse, Ok, refl, sym, ap, ◌∙◌, subst, arith}
+use Rattle.std.proofs.Common.{◌≡◌, ◌⊎◌, inl, inr, ℕ, ◌+◌, ◌-◌, ◌*◌, ◌^◌, ◌<◌, ◌≤◌, List, [], ◌∷◌, ◌++◌, length, reverse, Ok, refl, sym, ap, ◌∙◌, subst, arith}
 use Rattle.std.specs.Prelude.{replicate}
 use Rattle.std.proofs.Math.Nat.{lt_of_mul-lt-mul_left}
 use Rattle.std.proofs.lemmas.List.{append_assoc, reverse-append}
@@ -12,7 +12,7 @@ use Rattle.elf_out.specs.Layout.{Parts}
 use Rattle.elf_out.specs.Program.{program_image, program_space}
 use Rattle.elf_out.proofs.Memory.{written_image}
 use Rattle.typing_spec.specs.Program.{Program}
-use Rattle.csem.specs.History.{Entry, trace_of, active, sum_of}
+use Rattle.csem.specs.History.{trace_of, active, sum_of}
 use Rattle.csem.specs.Machine.{Ending, Ended, Undefined, TicksUsed, Stops}
 use Rattle.csem.specs.Meaning.{cstep, answer, ending_of, last_of}
 use Rattle.frames_code.specs.Code as flat_code
@@ -23,7 +23,6 @@ use Rattle.sim.specs.Runs.{World, Progress, Running, Trapped, rvrun, start_world
 use Rattle.select_exec.specs.Laws.{IsEndOf}
 use Rattle.select_exec.specs.Laws as machine
 use Rattle.select_exec.proofs.Keeping.{runs_keep}
-use Rattle.select_correct.specs.Matches.{HasRoom}
 use Rattle.select_correct.specs.Runs.{slack}
 use Rattle.select_correct.proofs.Real.{goes_on, ends_so, stands}
 use Rattle.cc_backend.specs.Runs.{IsInput}
@@ -33,7 +32,7 @@ use Rattle.cc_backend.specs.Chain.{of_program}
 use Rattle.cc_backend.proofs.Chain.{flat_simulates_program}
 use Rattle.cc_backend.proofs.Making.{way_of}
 use Rattle.cc_backend.proofs.FlatImages as whole
-use Rattle.cc_laws.specs.Laws.{IsDefined, HasImage, run_of, done_in, IsBeginning, IsInside}
+use Rattle.cc_laws.specs.Laws.{IsDefined, run_of, done_in, IsBeginning}
 use Rattle.cc_laws.specs.Overflow.{IsAlwaysDefined, IsOverflow, HasTrapped, GoesUpToOverflow, FilesGoUpToOverflow, data_end}
 use Rattle.cc_laws.proofs.Clock.{run_stops}
 use Rattle.cc_laws.proofs.Loosening.{loose_world, loose_progress, NeverTrapped}

@@ -1,5 +1,5 @@
 -- No instruction of a file writes gp or tp.
-use Rattle.std.proofs.Common.{◌≡◌, ◌⊎◌, inl, inr, ⊎_elim, ◌≤◌, ◌<◌, ℕ, zero, suc, ◌+◌, ◌-◌, ◌*◌, ◌/◌, ◌%◌, ◌^◌, ◌&&◌, List, [], ◌∷◌, ◌++◌, length, Bool, true, false, Option, Some, None, Ok, refl, sym, ap, ◌∙◌, subst, arith}
+use Rattle.std.proofs.Common.{◌≡◌, inl, inr, ⊎_elim, ◌≤◌, ◌<◌, ℕ, zero, suc, ◌+◌, ◌-◌, ◌*◌, ◌%◌, ◌^◌, ◌&&◌, List, [], ◌∷◌, ◌++◌, length, Bool, true, false, Option, Some, None, Ok, refl, sym, ap, ◌∙◌, subst, arith}
 use Rattle.std.specs.Prelude.{◌==◌, if◌then◌else◌, nat_lt, replicate, slice_index, slice_set}
 use Rattle.std.proofs.lemmas.Bool.{cases_lt}
 use Rattle.std.proofs.lemmas.Bool.Decides.{nat_tests}
@@ -23,7 +23,7 @@ use Rattle.rv32.specs.Space.{all_four, word_at}
 use Rattle.rv32.specs.Step.{Machine, Stepped, register, with_register, next, step_of, execute_of, decoded, fetched, trapped, gives, jumps, links, loaded, load_of, stored, store_of}
 use Rattle.asm.specs.declared.item.Item.{Item}
 use Rattle.asm.specs.declared.item.Item.TheVariants as item
-use Rattle.asm.specs.Placed.{Stands, ItemAt}
+use Rattle.asm.specs.Placed.{Stands}
 use Rattle.memory_map.specs.MemoryMap.{text_start}
 use Rattle.loader.specs.File.{file_image}
 use Rattle.elf_out.specs.Layout.{Parts}
@@ -52,7 +52,7 @@ use Rattle.cc_backend.specs.FlatImages.{IsImageOf}
 use Rattle.cc_backend.proofs.FlatImages as whole
 use Rattle.cc_backend.proofs.FlatImages.{within_low}
 use Rattle.cc_backend.proofs.Plain.{and_left, and_right}
-use Rattle.cc_laws.specs.Laws.{run_of, instruction_at}
+use Rattle.cc_laws.specs.Laws.{instruction_at}
 use Rattle.cc_laws.specs.Reserved.{FilesLeaveReserved}
 use Rattle.cc_laws.proofs.Composed.{rvrun_more}
 use Rattle.cc_laws.proofs.Permissions.{Permits, world_of, run_permits}

@@ -19,7 +19,7 @@ use Rattle.typing_spec.specs.Program.{Program}
 use Rattle.csem.specs.Machine.{Ended, Stops}
 use Rattle.csem.specs.Meaning.{cstep, answer, last_of}
 use Rattle.cc_backend.specs.Runs.{RunsAs, IsInput}
-use Rattle.cc_laws.specs.Laws.{StaysDefined, OfEachFile, run_of, done_in, DoesAll, IsBeginning, DoesNoMore, NeverTraps, MayLoad, MayStore, IsInside, StaysInside, EndsOnlySo, HasMain, EndsInTime}
+use Rattle.cc_laws.specs.Laws.{OfEachFile, run_of, done_in, DoesAll, IsBeginning, DoesNoMore, NeverTraps, MayLoad, MayStore, IsInside, StaysInside, EndsOnlySo, HasMain, EndsInTime}
 use Rattle.cc_laws.proofs.Clock.{run_stops, no_ticks}
 use Rattle.cc_laws.proofs.Permissions.{Permits, world_of, run_permits}
 use Rattle.cc_laws.proofs.Steps.{inside_now}

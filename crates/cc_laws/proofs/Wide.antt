@@ -1,7 +1,7 @@
 -- A file's image where all between the data and the end of the stack may be read and written: flat code of any depth that fits is followed there. The run of the file
 -- itself cannot be the same where frames lie far below the stack, since what lies there stays zero, and no call is returned to at address zero.
-use Rattle.std.proofs.Common.{◌≡◌, ◌⊎◌, inl, inr, ℕ, zero, suc, ◌+◌, ◌-◌, ◌*◌, ◌%◌, ◌^◌, ◌<◌, ◌≤◌, List, [], ◌∷◌, length, Bool, true, false, ◌||◌, Some, refl, sym, ap, ◌∙◌, subst, arith}
-use Rattle.std.specs.Prelude.{replicate, nat_le, if◌then◌else◌}
+use Rattle.std.proofs.Common.{◌≡◌, ◌⊎◌, inl, inr, ℕ, zero, suc, ◌+◌, ◌-◌, ◌^◌, ◌<◌, ◌≤◌, List, [], ◌∷◌, length, true, false, refl, sym, ap, ◌∙◌, subst, arith}
+use Rattle.std.specs.Prelude.{nat_le}
 use Rattle.std.proofs.lemmas.Bool.Decides.{nat_tests}
 use Rattle.rv32.specs.Space.{Space, word_at}
 use Rattle.memory_map.specs.MemoryMap.{text_start, data_start, stack_end, stack_start}
@@ -15,11 +15,9 @@ use Rattle.sim.specs.Runs as sim
 use Rattle.sim.specs.Runs.{World, Running, Ended, Trapped, rvrun, start_world}
 use Rattle.select_exec.specs.Light.{Fixed}
 use Rattle.select_exec.specs.Whole.{Permits, fixed}
-use Rattle.select_exec.specs.Worlds.{world}
 use Rattle.select.specs.Selected.{return_home}
-use Rattle.select_correct.specs.Laws.{AreBytes}
-use Rattle.select_correct.specs.Matches.{Ground, Ready, Returns, Waits, Matched, HasRoom, address, file_of, file_below, return_at}
-use Rattle.select_correct.specs.Runs.{Laid, StandsWith, ground_at}
+use Rattle.select_correct.specs.Matches.{Ground, Ready, Waits, HasRoom, address, file_of, file_below, return_at}
+use Rattle.select_correct.specs.Runs.{Laid, ground_at}
 use Rattle.select_correct.specs.Standing.{StandsAt}
 use Rattle.select_correct.proofs.Fits.{function_fits}
 use Rattle.select_correct.proofs.Laying.{is_ready}
@@ -30,10 +28,10 @@ use Rattle.cc_backend.proofs.Plain.{bool_cases}
 use Rattle.cc_laws.specs.Laws.{space_from}
 use Rattle.cc_laws.specs.Overflow.{data_end}
 use Rattle.cc_laws.proofs.Permissions.{world_of, run_permits}
-use Rattle.cc_laws.proofs.Loosening.{Allows, loose_world, loose_progress}
+use Rattle.cc_laws.proofs.Loosening.{loose_world, loose_progress}
 use Rattle.cc_laws.proofs.Touching.{or_more}
 use Rattle.cc_laws.proofs.Refused.{Widens, IsSame}
-use Rattle.cc_laws.proofs.Callers.{IsBehindCall, AreBehindCalls}
+use Rattle.cc_laws.proofs.Callers.{AreBehindCalls}
 
 past_not : (start n a : ℕ) → start + n ≤ a → is_within start n a ≡ false
 past_not start n a le = grind (arith, nat_tests)

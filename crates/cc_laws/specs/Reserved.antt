@@ -1,5 +1,5 @@
 -- The registers that a file leaves alone: gp (x3) and tp (x4), which the psABI reserves ("Integer Register Convention").
-use Rattle.std.specs.Prelude.{◌≡◌, ◌≤◌, ℕ, List}
+use Rattle.std.specs.Prelude.{◌≡◌, ℕ, List}
 use Rattle.rv32.specs.Step.{register}
 use Rattle.sim.specs.Runs.{World, Running}
 use Rattle.typing_spec.specs.Program.{Program}
