@@ -3,4 +3,4 @@
 
 mod tracing;
 
-pub use tracing::{Asked, Told, trace};
+pub use tracing::{Asked, Told, trace_lines};

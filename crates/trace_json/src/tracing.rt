@@ -41,7 +41,7 @@ pub struct Told {
 /// Does what the program of the set means over the input, and tells it.
 ///
 /// Refuses as the compiler does, with the usual stack; and with 801 where memory runs out for what is told.
-pub fn trace(alloc: Global, set: &FileSet, asked: Asked<'_>) -> Result<Told, Fault> {
+pub fn trace_lines(alloc: Global, set: &FileSet, asked: Asked<'_>) -> Result<Told, Fault> {
     let mut names = Names::new(alloc);
     match checked_program(alloc, set, asked.main, &mut names, StackSize::usual()) {
         Ok(typed) => match trace_checked(alloc, set, asked, names, typed) {
@@ -84,7 +84,14 @@ fn run_told(
 ) -> Result<Told, AllocError> {
     let mut port = port;
     let mut message = Vec::new(alloc);
-    let trace = Trace::new(alloc, names, objects, lines, TraceForm::Json, Vec::new(alloc));
+    let trace = Trace::new(
+        alloc,
+        names,
+        objects,
+        lines,
+        TraceForm::Json,
+        Vec::new(alloc),
+    );
     let mut trace = trace.since(asked.from);
     let status = interpret_observed(
         alloc,

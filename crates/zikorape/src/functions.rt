@@ -146,4 +146,3 @@ fn put_object(alloc: Global, object: &Object, text: &mut String) -> Result<(), A
     let numbers = format!(in alloc; "\"address\":{address},\"size\":{size}}}")?;
     text.push_str(numbers.as_str())
 }
-

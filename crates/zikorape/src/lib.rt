@@ -42,8 +42,8 @@ use stacking::build_stacked;
 use standing::{Standing, stand};
 use std::alloc::Global;
 use std::{mem, ptr};
-use trace_json::Asked;
 use telling::{names_of, tell_faults, tell_image, tell_verdict, tell_warnings};
+use trace_json::Asked;
 use tracing::tell_trace;
 
 /// The version of the library.

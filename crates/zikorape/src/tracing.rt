@@ -3,7 +3,7 @@
 use crate::giving::{Sizes, hand_fault, hand_out};
 use srcset::FileSet;
 use std::alloc::Global;
-use trace_json::{Asked, trace};
+use trace_json::{Asked, trace_lines};
 
 /// The answer where the run waits for input.
 const WAITS: u32 = 257;
@@ -17,7 +17,7 @@ pub fn tell_trace(
     message: &mut [u8],
     sizes: &mut Sizes,
 ) -> u32 {
-    match trace(alloc, set, asked) {
+    match trace_lines(alloc, set, asked) {
         Ok(told) => {
             hand_out(
                 told.lines.as_slice(),
@@ -26,7 +26,11 @@ pub fn tell_trace(
                 message,
                 sizes,
             );
-            if told.waits { WAITS } else { u32::from(told.status) }
+            if told.waits {
+                WAITS
+            } else {
+                u32::from(told.status)
+            }
         }
         Err(fault) => {
             hand_fault(alloc, &fault, out, message, sizes);
